@@ -1,0 +1,10 @@
+pub mod Packed
+pub mod Region
+pub mod Decoded
+pub mod Near
+pub mod First
+pub mod Least
+pub mod Encoded
+pub mod Leading
+pub mod Owned
+pub mod Requests

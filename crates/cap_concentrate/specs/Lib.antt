@@ -1,0 +1,4 @@
+pub mod Decoding
+pub mod Rounding
+pub mod Encoding
+pub mod Packing

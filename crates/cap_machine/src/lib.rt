@@ -1,0 +1,18 @@
+//! The capability machine: RV64IM with CHERI capabilities, one row per instruction, over 32 capability registers, a program
+//! counter that is a capability, and tagged memory.
+#![tactic(auto)]
+
+mod capability_rows;
+mod end;
+mod integer_rows;
+mod integers;
+mod machine;
+mod memory_rows;
+mod state;
+mod step;
+
+pub use end::{End, Step};
+pub use machine::Machine;
+
+#[cfg(test)]
+mod tests;

@@ -1,0 +1,254 @@
+//! Small programs, as an assembler writes them, with the results that the instruction sets give.
+ghost use Rattle.std.specs.Prelude.{◌<◌, ◌^◌};
+
+use crate::{End, Machine, Step};
+use cap_concentrate::{Fields, set_bounds};
+use cap_ops::{Cap, Cause, UNSEALED, null, seal_entry, with_address};
+use ck_base::{MemSink, MemSource, SureSink, SureSource};
+use rv_instr::Reg;
+use std::alloc::{AllocError, Global};
+use std::test::Fail;
+use tag_mem::{Mem, Region};
+
+/// The base of 64 bytes of text.
+const TEXT: u64 = 65_536;
+
+/// The base of 64 bytes of data.
+const DATA: u64 = 131_072;
+
+/// A capability of 64 bytes at its base.
+fn capability(base: u64, perms: u8) -> Cap
+    requires { base < 2 ^ 40 }
+{
+    let bounds = set_bounds(base, 64);
+    Cap {
+        tag: true,
+        fields: Fields {
+            user: 0,
+            perms: u16::from(perms),
+            reserved: 0,
+            flag: false,
+            otype: UNSEALED,
+            internal: bounds.internal,
+            t: bounds.t,
+            b: bounds.b,
+            address: base,
+        },
+    }
+}
+
+/// A machine at its first word. c5 is a sentry of the text. The others have the data: c6 without Load, c7 without the
+/// permissions on capabilities, c8 with all permissions but Execute, and c9 with loads alone.
+fn machine(alloc: Global, words: &[u32]) -> Result<Machine, AllocError> {
+    let text = Region {
+        base: TEXT,
+        length: 64,
+    };
+    let data = Region {
+        base: DATA,
+        length: 64,
+    };
+    let mut mem = Mem::new(alloc, &vec![in alloc; text, data]?)?;
+    let mut bytes = Vec::new(alloc);
+    for word in words {
+        bytes.extend_from_slice(&word.to_le_bytes())?;
+    }
+    mem.fill(TEXT, &bytes);
+    let mut regs = [null(0); 32];
+    regs[5] = seal_entry(capability(TEXT, 3));
+    regs[6] = capability(DATA, 9);
+    regs[7] = capability(DATA, 13);
+    regs[8] = capability(DATA, 125);
+    regs[9] = capability(DATA, 21);
+    let pc = capability(TEXT, 3);
+    Ok(Machine { regs, pc, mem })
+}
+
+/// Runs without input.
+fn run(alloc: Global, m: &mut Machine, steps: u64) -> End {
+    m.run(
+        steps,
+        &mut SureSource::new(Vec::new(alloc)),
+        &mut SureSink::new(),
+    )
+}
+
+/// One instruction on x11 and x12 that writes x10.
+#[test]
+fn computes_integers(rt: HostRuntime) -> Result<(), Fail> {
+    for (word, a, b, want) in [
+        (0xfff5_851b, 0, 0, u64::MAX), // addiw x10, x11, -1
+        (0xfff5_851b, 0x8000_0000, 0, 0x7fff_ffff), // addiw x10, x11, -1
+        (0x00c5_d53b, 0x8000_0000, 0, 0xffff_ffff_8000_0000), // srlw
+        (0x00c5_d53b, 0xffff_ffff_8000_0000, 36, 0x0800_0000), // srlw
+        (0x02c5_d53b, 0xffff_ffff, 1, u64::MAX), // divuw
+        (0x02c5_d53b, 7, 0, u64::MAX), // divuw
+        (0x02c5_f53b, 0x8000_0000, 0, 0xffff_ffff_8000_0000), // remuw
+        (0x02c5_f53b, 7, 4, 3), // remuw
+        (0x02c5_853b, 0x1_0000, 0x8000, 0xffff_ffff_8000_0000), // mulw
+        (
+            0x02c5_c533,
+            0x8000_0000_0000_0000,
+            u64::MAX,
+            0x8000_0000_0000_0000,
+        ), // div
+        (0x02c5_e533, 7, 0, 7), // rem
+        (0x40c5_d533, 0x8000_0000_0000_0000, 63, u64::MAX), // sra
+        (0xfff5_a513, 0, 0, 0), // slti x10, x11, -1
+        (0xfff5_b513, 0, 0, 1), // sltiu x10, x11, -1
+        (0x0045_d51b, 0xffff_ffff_8000_0000, 0, 0x0800_0000), // srliw x10, x11, 4
+        (0x8000_0537, 0, 0, 0xffff_ffff_8000_0000), // lui x10, 0x80000
+    ] {
+        let mut m = machine(rt.alloc(), &[word])?;
+        m.write(Reg::numbered(11), null(a));
+        m.write(Reg::numbered(12), null(b));
+        assert_eq!(rt; run(rt.alloc(), &mut m, 1), End::Steps);
+        assert_eq!(rt;
+            m.register(Reg::RESULT),
+            null(want),
+            "{word:#010x} of {a:#x} and {b:#x}"
+        );
+        assert_eq!(rt; m.counter(), TEXT + 4);
+    }
+    Ok(())
+}
+
+#[test]
+fn ends_where_a_check_fails(rt: HostRuntime) -> Result<(), Fail> {
+    for (word, want) in [
+        (0x0084_c023, End::Trap(Cause::Store, TEXT)), // csc c8, 0(c9)
+        (0x0083_c023, End::Trap(Cause::StoreCap, TEXT)), // csc c8, 0(c7)
+        (0x0042_80e7, End::Trap(Cause::Sealed, TEXT)), // cjalr c1, 4(c5)
+        (0x0004_00e7, End::Trap(Cause::Execute, TEXT)), // cjalr c1, 0(c8)
+        (0x0404_0503, End::Trap(Cause::Bounds, TEXT)), // lb x10, 64(c8)
+        (0x0024_2503, End::Trap(Cause::Align, TEXT)), // lw x10, 2(c8)
+        (0x0000_0503, End::Trap(Cause::Tag, TEXT)), // lb x10, 0(c0)
+        (0x0003_0503, End::Trap(Cause::Load, TEXT)), // lb x10, 0(c6)
+        (0x0000_0000, End::Illegal(TEXT)),
+        (0x0010_0073, End::Break(TEXT)), // ebreak
+    ] {
+        let mut m = machine(rt.alloc(), &[word])?;
+        let regs = m.regs;
+        assert_eq!(rt; run(rt.alloc(), &mut m, 9), want, "{word:#010x}");
+        assert_eq!(rt; m.regs, regs);
+        assert_eq!(rt; m.pc, capability(TEXT, 3));
+    }
+    Ok(())
+}
+
+// addi x10, x0, 5; addi x10, x10, -1; bne x10, x0, -4; ebreak
+#[test]
+fn stops_after_the_last_step(rt: HostRuntime) -> Result<(), Fail> {
+    for (steps, want, left) in [
+        (5, End::Steps, 3),
+        (11, End::Steps, 0),
+        (12, End::Break(TEXT + 12), 0),
+    ] {
+        let mut m = machine(
+            rt.alloc(),
+            &[0x0050_0513, 0xfff5_0513, 0xfe05_1ee3, 0x0010_0073],
+        )?;
+        assert_eq!(rt; run(rt.alloc(), &mut m, steps), want);
+        assert_eq!(rt; m.integer(Reg::RESULT), left);
+    }
+    Ok(())
+}
+
+// csc c8, 16(c8); clc c10, 16(c8); clc c11, 16(c7); sb x0, 20(c8); clc c12, 16(c8)
+#[test]
+fn keeps_the_tags_of_memory(rt: HostRuntime) -> Result<(), Fail> {
+    let words = [
+        0x0084_4823,
+        0x0104_250f,
+        0x0103_a58f,
+        0x0004_0a23,
+        0x0104_260f,
+    ];
+    let mut m = machine(rt.alloc(), &words)?;
+    assert_eq!(rt; run(rt.alloc(), &mut m, 5), End::Steps);
+    assert_eq!(rt; m.register(Reg::RESULT), capability(DATA, 125));
+    assert!(rt; !m.register(Reg::numbered(11)).tag);
+    assert_eq!(rt;
+        m.register(Reg::numbered(11)).fields,
+        capability(DATA, 125).fields
+    );
+    assert!(rt; !m.register(Reg::numbered(12)).tag);
+    Ok(())
+}
+
+// cjal c1, 8; auipcc c13, 0; cjalr c0, 0(c1)
+#[test]
+fn links_by_a_sentry(rt: HostRuntime) -> Result<(), Fail> {
+    let mut m = machine(rt.alloc(), &[0x0080_00ef, 0x0000_0697, 0x0000_8067])?;
+    let next = with_address(capability(TEXT, 3), TEXT + 4);
+    assert_eq!(rt; run(rt.alloc(), &mut m, 1), End::Steps);
+    assert_eq!(rt; m.counter(), TEXT + 8);
+    assert_eq!(rt; m.register(Reg::LINK), seal_entry(next));
+    assert_eq!(rt; run(rt.alloc(), &mut m, 1), End::Steps);
+    assert_eq!(rt; m.pc, next);
+    assert_eq!(rt; run(rt.alloc(), &mut m, 1), End::Steps);
+    assert_eq!(rt; m.register(Reg::numbered(13)), next);
+    Ok(())
+}
+
+// csetboundsimm c10, c8, 16; cgetlen x11, c10; cincoffsetimm c10, c10, 4; cgetoffset x12, c10; candperm c13, c8, x12;
+// cgetperm x13, c13; cgetbase x14, c8; cgettag x15, c8
+#[test]
+fn derives_capabilities(rt: HostRuntime) -> Result<(), Fail> {
+    let words = [
+        0x0104_255b,
+        0xfe35_05db,
+        0x0045_155b,
+        0xfe65_065b,
+        0x1ac4_06db,
+        0xfe06_86db,
+        0xfe24_075b,
+        0xfe44_07db,
+    ];
+    let mut m = machine(rt.alloc(), &words)?;
+    assert_eq!(rt; run(rt.alloc(), &mut m, 8), End::Steps);
+    for (register, want) in [
+        (10, DATA + 4),
+        (11, 16),
+        (12, 4),
+        (13, 4),
+        (14, DATA),
+        (15, 1),
+    ] {
+        assert_eq!(rt;
+            m.integer(Reg::numbered(register)),
+            want,
+            "register {register}"
+        );
+    }
+    Ok(())
+}
+
+#[test]
+fn calls_the_environment(rt: HostRuntime) -> Result<(), Fail> {
+    let alloc = rt.alloc();
+    let mut m = machine(alloc, &[0x0000_0073; 5])?;
+    let mut input = MemSource::new(vec![in alloc; 200]?, vec![in alloc; 2]?);
+    let mut out = MemSink::new(alloc, 8, vec![in alloc; 2]?)?;
+    for (service, argument, want, result) in [
+        (2, 0, Step::Next, 200),
+        (2, 5, Step::Ended(End::ReadFault), 5),
+        (2, 5, Step::Next, u64::MAX),
+        (1, 0x241, Step::Next, 0x41),
+        (1, 0x242, Step::Ended(End::WriteFault), 0x242),
+        (3, 0x243, Step::Ended(End::Exit(0x43)), 0x243),
+        (9, 0x244, Step::Ended(End::Illegal(TEXT + 12)), 0x244),
+    ] {
+        m.write(Reg::SERVICE, null(service));
+        m.write(Reg::RESULT, null(argument));
+        assert_eq!(rt;
+            m.step(&mut input, &mut out),
+            want,
+            "service {service} of {argument:#x}"
+        );
+        assert_eq!(rt; m.register(Reg::RESULT), null(result));
+    }
+    assert_eq!(rt; m.counter(), TEXT + 12);
+    assert_eq!(rt; out.bytes(), [0x41].as_slice());
+    Ok(())
+}

@@ -1,0 +1,3 @@
+pub mod Capability
+pub mod Access
+pub mod Bounded

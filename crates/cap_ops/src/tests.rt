@@ -1,0 +1,99 @@
+// Each public call on known values.
+ghost use Rattle.cap_ops.specs.Access.{IsAccess};
+
+mod vectors;
+
+use super::{
+    Access, Cap, add, and_perms, check, clear, narrow, narrow_exact, null, seal_entry, with_address,
+};
+use cap_concentrate::{bounds_of, pack, unpack};
+use vectors::{CHECKS, OPERATIONS};
+
+#[derive(Clone, Copy, Debug)]
+enum Operation {
+    WithAddress,
+    Add,
+    Narrow,
+    NarrowExact,
+    AndPerms,
+    Clear,
+    SealEntry,
+}
+
+#[derive(Clone, Copy, Debug)]
+enum Kind {
+    Load,
+    Store,
+    LoadCap,
+    StoreCap,
+    Jump,
+}
+
+fn access(kind: Kind, length: u8, tagged: bool) -> Access
+    ensures { IsAccess result }
+{
+    let length = match length {
+        1 => 1,
+        2 => 2,
+        4 => 4,
+        _ => 8,
+    };
+    match kind {
+        Kind::Load => Access::Load(length),
+        Kind::Store => Access::Store(length),
+        Kind::LoadCap => Access::LoadCap,
+        Kind::StoreCap => Access::StoreCap(tagged),
+        Kind::Jump => Access::Jump,
+    }
+}
+
+fn result_of(operation: Operation, c: Cap, argument: u64) -> Cap {
+    match operation {
+        Operation::WithAddress => with_address(c, argument),
+        Operation::Add => add(c, argument),
+        Operation::Narrow => narrow(c, argument),
+        Operation::NarrowExact => narrow_exact(c, argument),
+        Operation::AndPerms => and_perms(c, (argument % (1 << 16)) as u16),
+        Operation::Clear => clear(c),
+        Operation::SealEntry => seal_entry(c),
+    }
+}
+
+#[test]
+fn null_has_the_whole_address_space(rt: HostRuntime) {
+    let c = null(77);
+    assert_eq!(rt; c.tag, false);
+    assert_eq!(rt; pack(c.fields), 0x0000_1fff_fc01_8004_0000_0000_0000_004d);
+    assert_eq!(rt; bounds_of(c.fields), (0, 1 << 64));
+}
+
+#[test]
+fn operations_agree_with_the_model(rt: HostRuntime) {
+    for &(operation, tag, bits, argument, result_tag, result_bits) in &OPERATIONS {
+        let fields = unpack(bits);
+        let result = result_of(operation, Cap { tag, fields }, argument);
+        assert_eq!(rt;
+            result.tag,
+            result_tag,
+            "{operation:?} of {bits:#x} by {argument}"
+        );
+        assert_eq!(rt;
+            pack(result.fields),
+            result_bits,
+            "{operation:?} of {bits:#x} by {argument}"
+        );
+    }
+}
+
+#[test]
+fn checks_agree_with_the_model(rt: HostRuntime) {
+    for &(tag, bits, at, kind, length, tagged, cause) in &CHECKS {
+        let fields = unpack(bits);
+        let answer = check(Cap { tag, fields }, at, access(kind, length, tagged));
+        assert_eq!(rt;
+            answer,
+            cause.map_or(Ok(at), Err),
+            "{kind:?} at {at} through {bits:#x}"
+        );
+    }
+}

@@ -1,0 +1,41 @@
+//! The command `cheric`, over the system's files and standard streams.
+#![tactic(auto)]
+
+use cheric_top::cheric;
+use ck_base::{HostFiles, StdError, StdInput, StdOutput};
+use std::env;
+use std::io::{self, BufReader};
+use std::process::ExitCode;
+
+/// The status where there is no memory for the words or the input's buffer.
+const NO_MEMORY: u8 = 30;
+
+/// The words with which the program was called, or none where one isn't UTF-8.
+fn words_of(rt: &HostRuntime) -> io::Result<Vec<String>> {
+    let mut words = Vec::new(rt.alloc());
+    match env::args(rt) {
+        Ok(args) => {
+            for word in args {
+                words.push(word)?;
+            }
+        }
+        Err(e) if e.kind() == io::ErrorKind::OutOfMemory => return Err(e),
+        Err(_) => (),
+    }
+    Ok(words)
+}
+
+/// Does what the words say, and gives the status.
+fn run(rt: &HostRuntime) -> io::Result<u8> {
+    let alloc = rt.alloc();
+    let words = words_of(rt)?;
+    let mut files = HostFiles::new(rt.clone()?);
+    let mut input = StdInput::new(BufReader::new(alloc, rt.reader())?);
+    let mut out = StdOutput::new(rt.stdout());
+    let mut notes: StdError<_> = StdOutput::new(rt.stderr());
+    Ok(cheric(alloc, &words, &mut files, &mut input, &mut out, &mut notes))
+}
+
+fn main(rt: HostRuntime) -> ExitCode {
+    ExitCode::from(run(&rt).unwrap_or(NO_MEMORY))
+}

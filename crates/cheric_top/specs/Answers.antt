@@ -1,0 +1,92 @@
+-- What the command answers: the status and the line of each answer.
+use Rattle.std.specs.Prelude.{◌≡◌, ℕ, zero, suc, ◌<◌, ◌≤◌, List, [], ◌∷◌, ◌++◌, Option, Some, None, codes, decimal}
+use Rattle.std.specs.Io.KnownBytes.{Appends}
+use Rattle.ck_base.specs.Outside.{AppendsPart}
+use Rattle.ck_base.specs.declared.positions.Pos.{Pos}
+use Rattle.cap_ops.specs.declared.access.Cause.{Cause}
+use Rattle.cap_ops.specs.declared.access.Cause.TheVariants as cause
+use Rattle.cap_machine.specs.declared.end.End.{End}
+use Rattle.cap_machine.specs.declared.end.End.TheVariants as end
+use Rattle.elf_file.specs.declared.image.Image.{Image}
+use Rattle.elf_file.specs.declared.image.Line.{Line}
+use Rattle.elf_file.specs.Image.{position_of}
+use Rattle.cheric_top.specs.declared.answer.Answer.{Answer}
+use Rattle.cheric_top.specs.declared.answer.Answer.TheVariants.{Exit, Trap, TrapAt, Stack, Steps, Break, Illegal, Refused, Words, File, Input, Output, Memory}
+
+-- ---- the answer of a run
+
+abbrev pub place_of : Line → Pos
+place_of l = record { line = l.line; col = l.col }
+
+abbrev pub trapped_at : Cause → Line → ℕ → Answer
+trapped_at c l zero = Trap c (place_of l)
+trapped_at c l (suc k) = Stack (place_of l)
+
+abbrev pub trapped : Cause → ℕ → Option Line → Answer
+trapped c pc None = TrapAt c pc
+trapped c pc (Some l) = trapped_at c l l.kind
+
+abbrev pub answer_of : Image → End → Answer
+answer_of image (end.Exit n) = Exit n
+answer_of image (end.Trap c pc) = trapped c pc (position_of image pc)
+answer_of image (end.Break pc) = Break pc
+answer_of image (end.Illegal pc) = Illegal pc
+answer_of image end.Steps = Steps
+answer_of image end.ReadFault = Input
+answer_of image end.WriteFault = Output
+
+-- ---- statuses and lines
+
+abbrev pub status_of : Answer → ℕ
+status_of (Exit zero) = 0
+status_of (Exit (suc n)) = 1
+status_of (Trap c pos) = 2
+status_of (TrapAt c pc) = 2
+status_of (Stack pos) = 3
+status_of Steps = 4
+status_of (Break pc) = 6
+status_of (Illegal pc) = 6
+status_of (Refused code pos) = 10
+status_of Words = 11
+status_of File = 20
+status_of Input = 21
+status_of Output = 22
+status_of Memory = 30
+
+abbrev pub cause_text : Cause → List ℕ
+cause_text cause.Tag = codes "tag"
+cause_text cause.Sealed = codes "sealed"
+cause_text cause.Load = codes "load"
+cause_text cause.Store = codes "store"
+cause_text cause.StoreCap = codes "storecap"
+cause_text cause.Bounds = codes "bounds"
+cause_text cause.Align = codes "align"
+cause_text cause.Execute = codes "execute"
+
+abbrev pub pos_text : Pos → List ℕ
+pos_text pos = decimal pos.line ++ codes ":" ++ decimal pos.col
+
+abbrev pub text_of : Answer → List ℕ
+text_of (Exit n) = codes "exit " ++ decimal n
+text_of (Trap c pos) = codes "trap " ++ cause_text c ++ codes " " ++ pos_text pos
+text_of (TrapAt c pc) = codes "trap " ++ cause_text c ++ codes " at " ++ decimal pc
+text_of (Stack pos) = codes "stack " ++ pos_text pos
+text_of Steps = codes "steps"
+text_of (Break pc) = codes "break " ++ decimal pc
+text_of (Illegal pc) = codes "illegal " ++ decimal pc
+text_of (Refused code pos) = codes "refused " ++ decimal code ++ codes " " ++ pos_text pos
+text_of Words = codes "words"
+text_of File = codes "file"
+text_of Input = codes "input"
+text_of Output = codes "output"
+text_of Memory = codes "memory"
+
+-- the answer's text and a line feed
+abbrev pub line_of : Answer → List ℕ
+line_of answer = text_of answer ++ 10 ∷ []
+
+-- The answer was said: its line was put and its status is given; or the notes failed, after a front of the line, and it is 22.
+pub record IsSaid (answer : Answer) (status : ℕ) (held_before held_after : Option (List ℕ)) (faults_before faults_after : ℕ) : Type 0 where
+  pub no_less : faults_before ≤ faults_after
+  pub whole : faults_after ≡ faults_before → (status ≡ status_of answer) × Appends held_before held_after (line_of answer)
+  pub part : faults_before < faults_after → (status ≡ 22) × AppendsPart held_before held_after (line_of answer)

@@ -1,0 +1,35 @@
+//! What the command answers.
+
+use cap_ops::Cause;
+use ck_base::Pos;
+
+/// What the command answers: how a run ended, why a file was refused, or what went wrong.
+#[derive(Clone, Copy, Debug, PartialEq, Eq)]
+pub enum Answer {
+    /// The program exited, with its low eight bits.
+    Exit(u8),
+    /// An access or a call failed, at this place of the file.
+    Trap(Cause, Pos),
+    /// An instruction at this address failed, and no place is known.
+    TrapAt(Cause, u64),
+    /// A frame fell below the stack, at this place of the file.
+    Stack(Pos),
+    /// The limit of instructions was done.
+    Steps,
+    /// `ebreak` at this address.
+    Break(u64),
+    /// A word at this address is no instruction, or an environment call has another number.
+    Illegal(u64),
+    /// The file was refused by this code at this place.
+    Refused(u16, Pos),
+    /// The words are none of the defined lines.
+    Words,
+    /// The file could not be read.
+    File,
+    /// The input failed.
+    Input,
+    /// The output failed.
+    Output,
+    /// There was no memory.
+    Memory,
+}

@@ -1,0 +1,177 @@
+//! The line and the status of an answer.
+ghost use Rattle.std.specs.Prelude.{◌≡◌, ◌++◌, ◌≤◌, ◌<◌, ◌+◌, ◌-◌, ◌^◌, ℕ, [], length, decimal, codes};
+ghost use Rattle.arrayvec.specs.ArrayString.{array_string_len};
+ghost use Rattle.cheric_top.specs.Answers.{status_of, line_of, cause_text, pos_text, text_of, IsSaid};
+ghost use Rattle.cheric_top.specs.declared.answer.Answer.TheVariants as answers;
+
+use crate::answer::Answer;
+use arrayvec::ArrayString;
+use cap_ops::Cause;
+use ck_base::{Pos, Sink};
+use itoa::Buffer;
+
+/// The most bytes of a line.
+const ROOM: usize = 64;
+
+type Line = ArrayString<ROOM>;
+
+/// Appends a number in decimal.
+fn push_number(line: &mut Line, n: u64)
+    requires { array_string_len line.old ≤ 44 }
+    ensures bytes { line.new.bytes ≡ line.old.bytes ++ decimal n }
+    ensures len { array_string_len line.new ≤ array_string_len line.old + 20 }
+{
+    line.push_str(Buffer::new().format(n));
+}
+
+/// Appends a line and a column.
+fn push_pos(line: &mut Line, pos: Pos)
+    requires { array_string_len line.old ≤ 20 }
+    ensures bytes { line.new.bytes ≡ line.old.bytes ++ pos_text pos }
+    ensures len { array_string_len line.new ≤ 61 }
+{
+    push_number(line, u64::from(pos.line));
+    line.push_str(":");
+    push_number(line, u64::from(pos.col));
+}
+
+fn cause_text(cause: Cause) -> &'static str
+    ensures text { result.now ≡ cause_text cause }
+    ensures short { length result.now ≤ 8 }
+{
+    match cause {
+        Cause::Tag => "tag",
+        Cause::Sealed => "sealed",
+        Cause::Load => "load",
+        Cause::Store => "store",
+        Cause::StoreCap => "storecap",
+        Cause::Bounds => "bounds",
+        Cause::Align => "align",
+        Cause::Execute => "execute",
+    }
+}
+
+/// A word and a number.
+fn numbered(word: &str, n: u64) -> Line
+    requires { length word.now ≤ 16 }
+    ensures bytes { result.bytes ≡ word.now ++ decimal n }
+    ensures len { array_string_len result ≤ 63 }
+{
+    let mut line = Line::new();
+    line.push_str(word);
+    push_number(&mut line, n);
+    line
+}
+
+/// A word and a place.
+fn placed(word: &str, pos: Pos) -> Line
+    requires { length word.now ≤ 16 }
+    ensures bytes { result.bytes ≡ word.now ++ pos_text pos }
+    ensures len { array_string_len result ≤ 63 }
+{
+    let mut line = Line::new();
+    line.push_str(word);
+    push_pos(&mut line, pos);
+    line
+}
+
+/// A word alone.
+fn alone(word: &str) -> Line
+    requires { length word.now ≤ 16 }
+    ensures bytes { result.bytes ≡ word.now }
+    ensures len { array_string_len result ≤ 63 }
+{
+    let mut line = Line::new();
+    line.push_str(word);
+    line
+}
+
+fn trap_text(cause: Cause, pos: Pos) -> Line
+    ensures bytes { result.bytes ≡ text_of (answers.Trap cause pos) }
+    ensures len { array_string_len result ≤ 63 }
+{
+    let mut line = Line::new();
+    line.push_str("trap ");
+    line.push_str(cause_text(cause));
+    line.push_str(" ");
+    push_pos(&mut line, pos);
+    line
+}
+
+fn trap_at_text(cause: Cause, pc: u64) -> Line
+    ensures bytes { result.bytes ≡ text_of (answers.TrapAt cause pc) }
+    ensures len { array_string_len result ≤ 63 }
+{
+    let mut line = Line::new();
+    line.push_str("trap ");
+    line.push_str(cause_text(cause));
+    line.push_str(" at ");
+    push_number(&mut line, pc);
+    line
+}
+
+fn refused_text(code: u16, pos: Pos) -> Line
+    ensures bytes { result.bytes ≡ text_of (answers.Refused code pos) }
+    ensures len { array_string_len result ≤ 63 }
+{
+    let mut line = Line::new();
+    line.push_str("refused ");
+    line.push_str(Buffer::new().format(code));
+    line.push_str(" ");
+    push_pos(&mut line, pos);
+    line
+}
+
+/// The text of an answer.
+fn text_of(answer: Answer) -> Line
+    ensures bytes { result.bytes ≡ text_of answer }
+    ensures len { array_string_len result ≤ 63 }
+{
+    match answer {
+        Answer::Exit(n) => numbered("exit ", u64::from(n)),
+        Answer::Trap(cause, pos) => trap_text(cause, pos),
+        Answer::TrapAt(cause, pc) => trap_at_text(cause, pc),
+        Answer::Stack(pos) => placed("stack ", pos),
+        Answer::Steps => alone("steps"),
+        Answer::Break(pc) => numbered("break ", pc),
+        Answer::Illegal(pc) => numbered("illegal ", pc),
+        Answer::Refused(code, pos) => refused_text(code, pos),
+        Answer::Words => alone("words"),
+        Answer::File => alone("file"),
+        Answer::Input => alone("input"),
+        Answer::Output => alone("output"),
+        Answer::Memory => alone("memory"),
+    }
+}
+
+fn status_of(answer: Answer) -> u8
+    ensures { result ≡ status_of answer }
+{
+    match answer {
+        Answer::Exit(0) => 0,
+        Answer::Exit(_) => 1,
+        Answer::Trap(..) | Answer::TrapAt(..) => 2,
+        Answer::Stack(_) => 3,
+        Answer::Steps => 4,
+        Answer::Break(_) | Answer::Illegal(_) => 6,
+        Answer::Refused(..) => 10,
+        Answer::Words => 11,
+        Answer::File => 20,
+        Answer::Input => 21,
+        Answer::Output => 22,
+        Answer::Memory => 30,
+    }
+}
+
+/// Says an answer: puts its line to the notes, and gives its status, or 22 where the notes fail. It takes no memory.
+pub fn say<N: Sink>(answer: Answer, notes: &mut N) -> u8
+    requires { N.faults notes.old < 2 ^ 64 - 1 }
+    ensures { IsSaid answer result (N.held notes.old) (N.held notes.new) (N.faults notes.old) (N.faults notes.new) }
+{
+    let mut line = text_of(answer);
+    line.push_str("\n");
+    match notes.put(line.as_str().as_bytes()) {
+        Ok(()) => status_of(answer),
+        Err(_) => 22,
+    }
+}

@@ -1,0 +1,24 @@
+//! The outside, as the crates above see it: a source of bytes, a sink and files by name, in memory and over the system;
+//! and the places and refusals of a C file.
+#![tactic(auto)]
+
+mod adapters;
+mod files;
+mod outside;
+mod positions;
+mod refusal;
+mod sequence;
+mod sinks;
+mod sources;
+
+pub use adapters::{HostFiles, LONGEST_FILE, StdError, StdInput, StdOutput};
+pub use files::{MemFiles, SureFiles};
+pub use outside::{Failed, FileError, Files, PutError, Sink, Source};
+pub use positions::{Pos, Span};
+pub use refusal::{NoMemory, Refusal};
+pub use sequence::Sequence;
+pub use sinks::{MemSink, SureSink};
+pub use sources::{MemSource, SureSource};
+
+#[cfg(test)]
+mod tests;

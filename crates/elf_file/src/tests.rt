@@ -1,0 +1,230 @@
+//! An image and its file, both written by hand from the format. The file is in words of eight bytes, little endian.
+
+use super::*;
+use std::alloc::{AllocError, Global};
+use std::test::Fail;
+
+/// The file header.
+const FILE_HEADER: [u64; 8] = [
+    // e_ident
+    0x0001_0102_464c_457f,
+    0,
+    // e_type, e_machine and e_version
+    0x1_00f3_0002,
+    // e_entry, e_phoff, e_shoff
+    0x1_0004,
+    64,
+    288,
+    // e_flags, e_ehsize and e_phentsize
+    0x0038_0040_0000_0000,
+    // e_phnum, e_shentsize, e_shnum and e_shstrndx
+    0x0006_0007_0040_0004,
+];
+
+/// Each with p_type and p_flags, p_offset, p_vaddr, p_paddr, p_filesz, p_memsz and p_align: text, initial data, heap and stack.
+const PROGRAM_HEADERS: [[u64; 7]; 4] = [
+    [0x5_0000_0001, 736, 0x1_0000, 0x1_0000, 12, 12, 16],
+    [0x6_0000_0001, 752, 0x10_0000, 0x10_0000, 20, 20, 16],
+    [0x6_0000_0001, 0, 0x20_0000, 0x20_0000, 0, 0x1_0000, 16],
+    [0x6_0000_0001, 0, 0x40_0000, 0x40_0000, 0, 0x2_0000, 16],
+];
+
+/// Each with sh_name and sh_type, sh_flags, sh_addr, sh_offset, sh_size, sh_link and sh_info, sh_addralign and sh_entsize: none,
+/// text, data, relocations, lines, image and names.
+const SECTION_HEADERS: [[u64; 8]; 7] = [
+    [0, 0, 0, 0, 0, 0, 0, 0],
+    [0x1_0000_0001, 6, 0x1_0000, 736, 12, 0, 16, 0],
+    [0x1_0000_0007, 3, 0x10_0000, 752, 20, 0, 16, 0],
+    [0x1_0000_000d, 0, 0, 784, 40, 0, 16, 0],
+    [0x1_0000_0018, 0, 0, 832, 32, 0, 16, 0],
+    [0x1_0000_0022, 0, 0, 864, 96, 0, 16, 0],
+    [0x3_0000_002c, 0, 0, 960, 54, 0, 16, 0],
+];
+
+/// The parts up to the names, with zeros behind them.
+const PARTS: [[u64; 2]; 14] = [
+    // At 736, three instructions.
+    [0x0000_0073_0000_0013, 0x0000_006f],
+    // At 752, 20 initial bytes.
+    [0x0807_0605_0403_0201, 0x100f_0e0d_0c0b_0a09],
+    [0x1413_1211, 0],
+    // At 784, a relocation: place, base, offset, length and permissions.
+    [0x10_0000, 0x1_0000],
+    [4, 12],
+    [0x8000_0000_0000_0003, 0],
+    // At 832, two lines, each with at and line, and column and kind.
+    [0x3_0000_0000, 1],
+    [0x5_0000_0004, 0x1_0000_0002],
+    // At 864, version and entry, and base and length of text, data, table, heap and stack.
+    [1, 0x1_0004],
+    [0x1_0000, 12],
+    [0x10_0000, 20],
+    [0x10_0000, 16],
+    [0x20_0000, 0x1_0000],
+    [0x40_0000, 0x2_0000],
+];
+
+/// The names of the sections at 960.
+const NAMES: [u8; 54] = *b"\0.text\0.data\0.ck_relocs\0.ck_lines\0.ck_image\0.shstrtab\0";
+
+/// The length of the file.
+const LEN: usize = 1014;
+
+const RELOC: Reloc = Reloc {
+    place: 0x10_0000,
+    base: 0x1_0000,
+    offset: 4,
+    length: 12,
+    perms: 0x8000_0000_0000_0003,
+};
+
+const LINES: [Line; 2] = [
+    Line {
+        at: 0,
+        line: 3,
+        col: 1,
+        kind: 0,
+    },
+    Line {
+        at: 4,
+        line: 5,
+        col: 2,
+        kind: 1,
+    },
+];
+
+fn put(bytes: &mut Vec<u8>, words: &[u64]) -> Result<(), AllocError> {
+    for word in words {
+        bytes.extend_from_slice(&word.to_le_bytes())?;
+    }
+    Ok(())
+}
+
+fn file(alloc: Global) -> Result<Vec<u8>, AllocError> {
+    let mut bytes = Vec::new(alloc);
+    put(&mut bytes, &FILE_HEADER)?;
+    put(&mut bytes, PROGRAM_HEADERS.as_flattened())?;
+    put(&mut bytes, SECTION_HEADERS.as_flattened())?;
+    put(&mut bytes, PARTS.as_flattened())?;
+    bytes.extend_from_slice(&NAMES)?;
+    Ok(bytes)
+}
+
+fn image(alloc: Global) -> Result<Image, AllocError> {
+    let text = [0x13, 0, 0, 0, 0x73, 0, 0, 0, 0x6f, 0, 0, 0];
+    let initial = [
+        1, 2, 3, 4, 5, 6, 7, 8, 9, 10, 11, 12, 13, 14, 15, 16, 17, 18, 19, 20,
+    ];
+    Ok(Image {
+        version: 1,
+        entry: 0x1_0004,
+        text_base: 0x1_0000,
+        text: Sequence::from_vec(Vec::from_slice(alloc, &text)?),
+        initial_base: 0x10_0000,
+        initial: Sequence::from_vec(Vec::from_slice(alloc, &initial)?),
+        table: (0x10_0000, 16),
+        heap: (0x20_0000, 0x1_0000),
+        stack: (0x40_0000, 0x2_0000),
+        relocs: Sequence::from_vec(Vec::from_slice(alloc, &[RELOC])?),
+        lines: Sequence::from_vec(Vec::from_slice(alloc, &LINES)?),
+    })
+}
+
+#[test]
+fn writes_and_reads_an_image(rt: HostRuntime) -> Result<(), Fail> {
+    let image = image(rt.alloc())?;
+    let written = write(rt.alloc(), &image)?;
+    assert_eq!(rt; written.as_slice(), file(rt.alloc())?.as_slice());
+
+    let view = View::read(&written)?;
+    assert_eq!(rt; view.text(), image.text.as_slice());
+    assert_eq!(rt; view.initial(), image.initial.into_vec().as_slice());
+    assert_eq!(rt; view.reloc(0), Some(RELOC));
+    assert_eq!(rt; view.reloc(1), None);
+    for (pc, line) in [
+        (0xffff, None),
+        (0x1_0000, Some(LINES[0])),
+        (0x1_0002, None),
+        (0x1_0004, Some(LINES[1])),
+        (0x1_0008, None),
+    ] {
+        assert_eq!(rt; view.position(pc), line, "at {pc}");
+    }
+    let words = [
+        1, 0x1_0004, 0x1_0000, 12, 0x10_0000, 20, 0x10_0000, 16, 0x20_0000, 0x1_0000, 0x40_0000,
+        0x2_0000,
+    ];
+    for (k, word) in words.into_iter().enumerate() {
+        assert_eq!(rt; view.word(k as u8), Some(word), "word {k}");
+    }
+    assert_eq!(rt; view.word(12), None);
+    Ok(())
+}
+
+/// The refusal of the file with another byte at a place.
+fn refusal_with(
+    file: &[u8],
+    alloc: Global,
+    place: usize,
+    byte: u8,
+) -> Result<Option<ElfRefusal>, AllocError> {
+    let mut bytes = Vec::from_slice(alloc, file)?;
+    if place < bytes.len() {
+        bytes[place] = byte;
+    }
+    Ok(View::read(&bytes).err())
+}
+
+#[test]
+fn refuses_each_wrong_byte(rt: HostRuntime) -> Result<(), Fail> {
+    let file = file(rt.alloc())?;
+    for (place, byte) in file.iter().enumerate() {
+        let expected = match place {
+            // The identification and the machine.
+            0..16 | 18..20 => Some(ElfRefusal::Ident),
+            // The flags, the text and initial bytes, what stands behind them, the relocation, and the table's base and length.
+            48..52 | 736..832 | 912..928 => None,
+            864..872 => Some(ElfRefusal::Version),
+            // The lines and columns.
+            836..844 | 852..860 => None,
+            _ => Some(ElfRefusal::Field),
+        };
+        assert_eq!(rt;
+            refusal_with(&file, rt.alloc(), place, !*byte)?,
+            expected,
+            "byte {place}"
+        );
+    }
+    // Lines that do not ascend, and one behind the text.
+    assert_eq!(rt;
+        refusal_with(&file, rt.alloc(), 848, 0)?,
+        Some(ElfRefusal::Field)
+    );
+    assert_eq!(rt; refusal_with(&file, rt.alloc(), 848, 1)?, None);
+    assert_eq!(rt; refusal_with(&file, rt.alloc(), 848, 11)?, None);
+    assert_eq!(rt;
+        refusal_with(&file, rt.alloc(), 848, 12)?,
+        Some(ElfRefusal::Field)
+    );
+    Ok(())
+}
+
+#[test]
+fn refuses_each_truncation(rt: HostRuntime) -> Result<(), Fail> {
+    let mut file = file(rt.alloc())?;
+    assert_eq!(rt; file.len(), LEN);
+    for len in 0..LEN {
+        let expected = match len {
+            0..64 => (ElfRefusal::Short, 1),
+            64..736 => (ElfRefusal::Tables, 4),
+            _ => (ElfRefusal::Part, 5),
+        };
+        let refusal = View::read(&file[..len]).err();
+        assert_eq!(rt; refusal, Some(expected.0), "{len} bytes");
+        assert_eq!(rt; refusal.map(|refusal| refusal.number()), Some(expected.1));
+    }
+    // Bytes behind the last part are not looked at.
+    file.push(0xff)?;
+    assert!(rt; View::read(&file).is_ok());
+    Ok(())
+}

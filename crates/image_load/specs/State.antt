@@ -1,0 +1,61 @@
+-- The state that an image loads to.
+use Rattle.std.specs.Prelude.{ℕ, ◌==◌, true, false, List, [], ◌∷◌, nat_lt, replicate, slice_set, if◌then◌else◌}
+use Rattle.std.specs.List.{insert, prefix_len}
+use Rattle.cap_ops.specs.declared.capability.Cap.{Cap}
+use Rattle.cap_ops.specs.declared.capability.TheConstants.{UNSEALED}
+use Rattle.cap_ops.specs.Capability.{null_at}
+use Rattle.cap_ops.specs.Bounded.{bounded}
+use Rattle.tag_mem.specs.Areas.{Area}
+use Rattle.tag_mem.specs.Memory.{written}
+use Rattle.tag_mem.specs.Numbers.{little_bytes}
+use Rattle.tag_mem.specs.Regions.{fresh}
+use Rattle.tag_mem.specs.declared.region.Region.{Region}
+use Rattle.cap_machine.specs.declared.machine.Machine.{Machine}
+use Rattle.cap_machine.specs.Rows.{memory_bits}
+use Rattle.elf_file.specs.declared.image.Image.{Image}
+use Rattle.elf_file.specs.declared.image.Reloc.{Reloc}
+use Rattle.image_load.specs.Judging.{Extent, end_of, segments_of, text_of, capability_of}
+
+-- ---- memory
+
+-- the region of an extent, behind those of lower base; an extent of no bytes has none
+abbrev pub region_of : Extent → Region
+region_of e = record { base = e.0; length = e.1 }
+
+unfoldable pub with_region : Extent → List Region → List Region
+with_region e rs = if e.1 == 0 then rs else insert rs (prefix_len (λ r. nat_lt r.base e.0) rs) (region_of e)
+
+-- the regions of extents, by ascending base
+abbrev pub regions_of : List Extent → List Region
+regions_of [] = []
+regions_of (e ∷ es) = with_region e (regions_of es)
+
+-- each relocation's capability with its tag, later ones over earlier ones
+unfoldable pub relocated : List Area → List Reloc → List Area
+relocated m [] = m
+relocated m (r ∷ rs) = relocated (written m r.place (little_bytes 16 (memory_bits (capability_of r).fields)) true) rs
+
+-- zeros, but for text and initial data; then the relocations
+unfoldable pub memory_of : Image → List Area
+memory_of i = relocated (written (written (fresh (regions_of (segments_of i))) i.text_base i.text false) i.initial_base i.initial false) i.relocs
+
+-- ---- registers
+
+-- all permissions but Execute; Global and Execute
+abbrev pub data_permissions : ℕ
+data_permissions = 125
+
+abbrev pub text_permissions : ℕ
+text_permissions = 3
+
+-- a capability of an extent at an address
+abbrev pub of_extent : Extent → ℕ → ℕ → Cap
+of_extent e perms at = bounded e.0 (end_of e) perms UNSEALED at
+
+-- c2 has the stack, with its top as address, c3 the table, with its base as address, and the others null
+abbrev pub registers_of : Image → List Cap
+registers_of i = slice_set (slice_set (replicate 32 (null_at 0)) 2 (of_extent i.stack data_permissions (end_of i.stack))) 3 (of_extent i.table data_permissions i.table.0)
+
+-- the counter has the text, at the entry
+unfoldable pub machine_of : Image → Machine
+machine_of i = record { regs = registers_of i; pc = of_extent (text_of i) text_permissions i.entry; mem = memory_of i }

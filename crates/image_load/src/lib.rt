@@ -1,0 +1,13 @@
+//! Loading: the machine that an image describes.
+#![tactic(auto)]
+
+mod extent;
+mod judging;
+mod loading;
+mod refusal;
+
+pub use loading::load;
+pub use refusal::LoadRefusal;
+
+#[cfg(test)]
+mod tests;

@@ -1,0 +1,146 @@
+//! The machine that an image describes.
+ghost use Rattle.std.specs.Prelude.{◌≡◌, ◌%◌, ◌≤◌, ◌<◌, ◌^◌, ℕ, true, Ok, OnOk, IfOk, List, length, nat_lt};
+ghost use Rattle.std.specs.List.{prefix_len};
+ghost use Rattle.cap_concentrate.specs.declared.fields.Fields.{Fields as FieldsOf};
+ghost use Rattle.image_load.specs.Judging.{end_of, segments_of, text_of, initial_of, judged, is_exact};
+ghost use Rattle.image_load.specs.State.{with_region, regions_of, relocated, memory_of, of_extent, machine_of, registers_of};
+ghost use Rattle.image_load.specs.Loading.{Loads};
+ghost use Rattle.cap_machine.specs.Rows.{memory_bits};
+
+use crate::extent::{Extent, bounded};
+use crate::judging::{
+    capability_of, entry_of, heap_of, initial_of, judge, stack_of, table_of, text_of,
+};
+use crate::refusal::LoadRefusal;
+use cap_concentrate::{Fields, flip_null, pack};
+use cap_machine::Machine;
+use cap_ops::{Cap, UNSEALED, null};
+use elf_file::View;
+use std::alloc::{AllocError, Global};
+use tag_mem::{Mem, Region};
+
+/// All permissions but Execute.
+const DATA: u16 = 125;
+
+/// Global and Execute.
+const TEXT: u16 = 3;
+
+/// How many regions have a lower base.
+fn place(regions: &[Region], base: u64) -> usize
+    ensures value { result ≡ prefix_len (λ r. nat_lt r.base base) regions.now }
+    ensures inside { result ≤ length regions.now }
+{
+    regions.iter().take_while(|r| r.base < base).count()
+}
+
+/// Adds the region of an extent behind those of lower base; an extent of no bytes has none.
+#[tactic(auto, unfolding(crate::specs::State::with_region))]
+fn insert(regions: &mut Vec<Region>, e: Extent) -> Result<(), AllocError>
+    ensures { OnOk result (regions.new.items ≡ with_region e regions.old.items) }
+{
+    if e.1 == 0 {
+        return Ok(());
+    }
+    let at = place(regions, e.0);
+    regions.insert(
+        at,
+        Region {
+            base: e.0,
+            length: e.1,
+        },
+    )?;
+    Ok(())
+}
+
+/// The regions of an image, by ascending base.
+fn regions_of(alloc: Global, view: &View<'_>) -> Result<Vec<Region>, AllocError>
+    ensures { IfOk result (λ regions. regions.items ≡ regions_of (segments_of view.now)) }
+{
+    let mut regions = Vec::new(alloc);
+    insert(&mut regions, stack_of(view))?;
+    insert(&mut regions, heap_of(view))?;
+    insert(&mut regions, initial_of(view))?;
+    insert(&mut regions, text_of(view))?;
+    Ok(regions)
+}
+
+/// The bits of a capability as they stand in memory.
+fn memory_bits(f: Fields) -> u128
+    ensures { result ≡ memory_bits f }
+{
+    flip_null(pack(f))
+}
+
+/// Stores each relocation's capability with its tag, later ones over earlier ones.
+fn store_relocs(mem: &mut Mem, view: &View<'_>)
+    requires { judged view.now ≡ Ok tt }
+    ensures { mem.new ≡ relocated mem.old view.now.relocs }
+{
+    let mut k = 0;
+    while let Some(r) = view.reloc(k) {
+        let c = capability_of(r);
+        mem.set_cap(r.place, memory_bits(c.fields), true);
+        k += 1;
+    }
+}
+
+/// The memory of an image that is not refused.
+#[tactic(auto, unfolding(crate::specs::State::memory_of))]
+fn memory_of(alloc: Global, view: &View<'_>) -> Result<Mem, AllocError>
+    requires { judged view.now ≡ Ok tt }
+    ensures { IfOk result (λ mem. mem ≡ memory_of view.now) }
+{
+    let regions = regions_of(alloc, view)?;
+    let mut mem = Mem::new(alloc, &regions)?;
+    mem.fill(text_of(view).0, view.text());
+    mem.fill(initial_of(view).0, view.initial());
+    store_relocs(&mut mem, view);
+    Ok(mem)
+}
+
+fn end(e: Extent) -> u64
+    requires { end_of e < 2 ^ 64 }
+    ensures { result ≡ end_of e }
+{
+    e.0 + e.1
+}
+
+/// The registers of an image that is not refused.
+fn registers_of(view: &View<'_>) -> [Cap; 32]
+    requires { judged view.now ≡ Ok tt }
+    ensures { result ≡ registers_of view.now }
+{
+    let stack = stack_of(view);
+    let table = table_of(view);
+    let mut regs = [null(0); 32];
+    regs[2] = bounded(stack, DATA, UNSEALED, end(stack));
+    regs[3] = bounded(table, DATA, UNSEALED, table.0);
+    regs
+}
+
+/// The counter of an image that is not refused: the text, at the entry.
+fn counter_of(view: &View<'_>) -> Cap
+    requires { judged view.now ≡ Ok tt }
+    ensures { result ≡ of_extent (text_of view.now) TEXT view.now.entry }
+{
+    bounded(text_of(view), TEXT, UNSEALED, entry_of(view))
+}
+
+/// Loads an image: the machine that it describes, or the first refusal. All the memory of a run is taken here; want of it
+/// comes only where the image is not refused, and a refused image leaves nothing.
+#[tactic(auto, unfolding(crate::specs::State::machine_of))]
+pub fn load(alloc: Global, view: &View<'_>) -> Result<Machine, LoadRefusal>
+    ensures { Loads view.now result }
+{
+    if let Err(refusal) = judge(view) {
+        return Err(refusal);
+    }
+    let Ok(mem) = memory_of(alloc, view) else {
+        return Err(LoadRefusal::NoMemory);
+    };
+    Ok(Machine {
+        regs: registers_of(view),
+        pc: counter_of(view),
+        mem,
+    })
+}

@@ -1,0 +1,10 @@
+//! The values of a C program, the map of its places, and how a run of it ends.
+#![tactic(auto)]
+
+mod ending;
+mod map;
+mod value;
+
+pub use ending::{Ending, Fault, Reason};
+pub use map::{Frame, Map, Mode, Slot};
+pub use value::Value;

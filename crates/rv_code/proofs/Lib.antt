@@ -1,0 +1,7 @@
+mod Immediates
+mod Rows
+mod Parts
+mod Fitting
+mod ReadBack
+mod Taken
+pub mod Laws

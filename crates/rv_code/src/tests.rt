@@ -1,0 +1,340 @@
+//! Words with the instructions that they encode, and words that encode none. The tables are values
+//! of an independent model: a word, the instruction's name and its fields.
+
+use crate::{decode, encode};
+use rv_instr::{
+    BranchOp, CapGetOp, CapImmOp, CapRegOp, ImmOp, Instr, LoadOp, Reg, RegOp, ShiftOp, StoreOp,
+    UpperOp,
+};
+use std::process::Abort;
+
+/// The register with this number.
+fn reg(rt: &impl Abort, number: u8) -> Reg {
+    Reg::new(number).expect(rt, "a register")
+}
+
+#[test]
+fn names_registers(rt: HostRuntime) {
+    assert_eq!(rt; Reg::new(31), Some(Reg::numbered(31)));
+    assert_eq!(rt; Reg::new(32), None);
+    for (name, number) in [
+        (Reg::ZERO, 0),
+        (Reg::LINK, 1),
+        (Reg::STACK, 2),
+        (Reg::TABLE, 3),
+        (Reg::RESULT, 10),
+        (Reg::SERVICE, 17),
+    ] {
+        assert_eq!(rt; name.number(), number);
+    }
+}
+
+/// The word encodes the instruction.
+fn agrees(rt: &impl Abort, word: u32, want: Instr) {
+    let got = decode(word).expect(rt, "a word of the table");
+    assert_eq!(rt; got, want, "at {word:#010x}");
+    assert_eq!(rt; encode(got), word, "at {word:#010x}");
+}
+
+#[test]
+fn encodes_the_worked_words(rt: HostRuntime) {
+    let x10 = Reg::RESULT;
+    agrees(&rt, 0x04800513, Instr::Imm(ImmOp::Addi, x10, Reg::ZERO, 72));
+    agrees(
+        &rt,
+        0x00113423,
+        Instr::Store(StoreOp::Sd, Reg::LINK, Reg::STACK, 8),
+    );
+    agrees(
+        &rt,
+        0x00114823,
+        Instr::Store(StoreOp::Csc, Reg::LINK, Reg::STACK, 16),
+    );
+    agrees(&rt, 0x0101208f, Instr::Clc(Reg::LINK, Reg::STACK, 16));
+    agrees(
+        &rt,
+        0xfe01115b,
+        Instr::CapImm(CapImmOp::Cincoffsetimm, Reg::STACK, Reg::STACK, -32),
+    );
+    agrees(
+        &rt,
+        0x12b5055b,
+        Instr::CapReg(CapRegOp::Csetboundsexact, x10, x10, reg(&rt, 11)),
+    );
+    agrees(&rt, 0x00008067, Instr::Cjalr(Reg::ZERO, Reg::LINK, 0));
+    agrees(&rt, 0x0000006f, Instr::Cjal(Reg::ZERO, 0));
+    agrees(&rt, 0x00000073, Instr::Ecall);
+    agrees(&rt, 0x00100073, Instr::Ebreak);
+}
+
+/// rd and the field.
+const UPPER: [(u32, UpperOp, u8, u32); 4] = [
+    (0x0572b5b7, UpperOp::Lui, 11, 22315),
+    (0xf8eed237, UpperOp::Lui, 4, 1019629),
+    (0x053c0717, UpperOp::Auipcc, 14, 21440),
+    (0xfcbd4717, UpperOp::Auipcc, 14, 1035220),
+];
+
+/// rd and the offset.
+const CJAL: [(u32, u8, i32); 4] = [
+    (0xfd30126f, 4, -1040430),
+    (0x02ffa06f, 0, 1026094),
+    (0x5aa3276f, 14, 206250),
+    (0xa79724ef, 9, -578952),
+];
+
+/// rd, rs1 and the offset.
+const CJALR: [(u32, u8, u8, i32); 3] = [
+    (0x800605e7, 11, 12, -2048),
+    (0x7ff18567, 10, 3, 2047),
+    (0x000c0967, 18, 24, 0),
+];
+
+/// rs1, rs2 and the offset.
+const BRANCHES: [(u32, BranchOp, u8, u8, i32); 8] = [
+    (0x80947563, BranchOp::Bgeu, 8, 9, -4086),
+    (0x7caacfe3, BranchOp::Blt, 21, 10, 4062),
+    (0xfc868d63, BranchOp::Beq, 13, 8, -2086),
+    (0x9db39763, BranchOp::Bne, 7, 27, -3634),
+    (0xcd25cd63, BranchOp::Blt, 11, 18, -2854),
+    (0xcd97d8e3, BranchOp::Bge, 15, 25, -816),
+    (0xe6cc6e63, BranchOp::Bltu, 24, 12, -2436),
+    (0x0bca7563, BranchOp::Bgeu, 20, 28, 170),
+];
+
+#[test]
+fn encodes_jumps_and_branches(rt: HostRuntime) {
+    for (word, op, rd, field) in UPPER {
+        agrees(&rt, word, Instr::Upper(op, reg(&rt, rd), field));
+    }
+    for (word, rd, offset) in CJAL {
+        agrees(&rt, word, Instr::Cjal(reg(&rt, rd), offset));
+    }
+    for (word, rd, rs1, offset) in CJALR {
+        agrees(&rt, word, Instr::Cjalr(reg(&rt, rd), reg(&rt, rs1), offset));
+    }
+    for (word, op, rs1, rs2, offset) in BRANCHES {
+        agrees(
+            &rt,
+            word,
+            Instr::Branch(op, reg(&rt, rs1), reg(&rt, rs2), offset),
+        );
+    }
+}
+
+/// rd, rs1 and the offset.
+const LOADS: [(u32, LoadOp, u8, u8, i32); 10] = [
+    (0x800f8e83, LoadOp::Lb, 29, 31, -2048),
+    (0x7ff46b03, LoadOp::Lwu, 22, 8, 2047),
+    (0xfff10883, LoadOp::Lb, 17, 2, -1),
+    (0x28a00a83, LoadOp::Lb, 21, 0, 650),
+    (0x7ffa1503, LoadOp::Lh, 10, 20, 2047),
+    (0x001dab03, LoadOp::Lw, 22, 27, 1),
+    (0xa53b3603, LoadOp::Ld, 12, 22, -1453),
+    (0xd42a4303, LoadOp::Lbu, 6, 20, -702),
+    (0xffffd483, LoadOp::Lhu, 9, 31, -1),
+    (0x800be583, LoadOp::Lwu, 11, 23, -2048),
+];
+
+/// rs2, rs1 and the offset.
+const STORES: [(u32, StoreOp, u8, u8, i32); 8] = [
+    (0x80998023, StoreOp::Sb, 9, 19, -2048),
+    (0x7f60cfa3, StoreOp::Csc, 22, 1, 2047),
+    (0xffad8fa3, StoreOp::Sb, 26, 27, -1),
+    (0x011500a3, StoreOp::Sb, 17, 10, 1),
+    (0x81f49023, StoreOp::Sh, 31, 9, -2048),
+    (0x8023a023, StoreOp::Sw, 2, 7, -2048),
+    (0x80a6b023, StoreOp::Sd, 10, 13, -2048),
+    (0xe2c7c9a3, StoreOp::Csc, 12, 15, -461),
+];
+
+/// rd, rs1 and the offset.
+const CLC: [(u32, u8, u8, i32); 3] = [
+    (0x8004a78f, 15, 9, -2048),
+    (0x7ffe228f, 5, 28, 2047),
+    (0x001cae8f, 29, 25, 1),
+];
+
+#[test]
+fn encodes_loads_and_stores(rt: HostRuntime) {
+    for (word, op, rd, rs1, offset) in LOADS {
+        agrees(
+            &rt,
+            word,
+            Instr::Load(op, reg(&rt, rd), reg(&rt, rs1), offset),
+        );
+    }
+    for (word, op, rs2, rs1, offset) in STORES {
+        agrees(
+            &rt,
+            word,
+            Instr::Store(op, reg(&rt, rs2), reg(&rt, rs1), offset),
+        );
+    }
+    for (word, rd, rs1, offset) in CLC {
+        agrees(&rt, word, Instr::Clc(reg(&rt, rd), reg(&rt, rs1), offset));
+    }
+}
+
+/// rd, rs1 and the immediate.
+const IMMEDIATES: [(u32, ImmOp, u8, u8, i32); 9] = [
+    (0x80058913, ImmOp::Addi, 18, 11, -2048),
+    (0x7ff8841b, ImmOp::Addiw, 8, 17, 2047),
+    (0xfff08213, ImmOp::Addi, 4, 1, -1),
+    (0x001e2893, ImmOp::Slti, 17, 28, 1),
+    (0xd820b613, ImmOp::Sltiu, 12, 1, -638),
+    (0xfff64413, ImmOp::Xori, 8, 12, -1),
+    (0x0015e993, ImmOp::Ori, 19, 11, 1),
+    (0x000f7913, ImmOp::Andi, 18, 30, 0),
+    (0x000b871b, ImmOp::Addiw, 14, 23, 0),
+];
+
+/// rd, rs1 and the count.
+const SHIFTS: [(u32, ShiftOp, u8, u8, u8); 12] = [
+    (0x00051293, ShiftOp::Slli, 5, 10, 0),
+    (0x03e61c93, ShiftOp::Slli, 25, 12, 62),
+    (0x00145893, ShiftOp::Srli, 17, 8, 1),
+    (0x03ea5c13, ShiftOp::Srli, 24, 20, 62),
+    (0x4006de93, ShiftOp::Srai, 29, 13, 0),
+    (0x43f0d493, ShiftOp::Srai, 9, 1, 63),
+    (0x00019d1b, ShiftOp::Slliw, 26, 3, 0),
+    (0x01fb921b, ShiftOp::Slliw, 4, 23, 31),
+    (0x000bd11b, ShiftOp::Srliw, 2, 23, 0),
+    (0x01fed71b, ShiftOp::Srliw, 14, 29, 31),
+    (0x4000569b, ShiftOp::Sraiw, 13, 0, 0),
+    (0x41f55e9b, ShiftOp::Sraiw, 29, 10, 31),
+];
+
+/// rd, rs1 and the immediate.
+const CAP_IMMEDIATES: [(u32, CapImmOp, u8, u8, i32); 6] = [
+    (0x8000105b, CapImmOp::Cincoffsetimm, 0, 0, -2048),
+    (0x7ffc96db, CapImmOp::Cincoffsetimm, 13, 25, 2047),
+    (0x955c155b, CapImmOp::Cincoffsetimm, 10, 24, -1707),
+    (0x03532d5b, CapImmOp::Csetboundsimm, 26, 6, 53),
+    (0xff95a35b, CapImmOp::Csetboundsimm, 6, 11, 4089),
+    (0xaff5265b, CapImmOp::Csetboundsimm, 12, 10, 2815),
+];
+
+#[test]
+fn encodes_immediates(rt: HostRuntime) {
+    for (word, op, rd, rs1, number) in IMMEDIATES {
+        agrees(
+            &rt,
+            word,
+            Instr::Imm(op, reg(&rt, rd), reg(&rt, rs1), number),
+        );
+    }
+    for (word, op, rd, rs1, count) in SHIFTS {
+        agrees(
+            &rt,
+            word,
+            Instr::Shift(op, reg(&rt, rd), reg(&rt, rs1), count),
+        );
+    }
+    for (word, op, rd, rs1, number) in CAP_IMMEDIATES {
+        agrees(
+            &rt,
+            word,
+            Instr::CapImm(op, reg(&rt, rd), reg(&rt, rs1), number),
+        );
+    }
+}
+
+/// rd, rs1 and rs2.
+const REGISTERS: [(u32, RegOp, u8, u8, u8); 25] = [
+    (0x017488b3, RegOp::Add, 17, 9, 23),
+    (0x001719b3, RegOp::Sll, 19, 14, 1),
+    (0x012e28b3, RegOp::Slt, 17, 28, 18),
+    (0x018ab3b3, RegOp::Sltu, 7, 21, 24),
+    (0x01e5c8b3, RegOp::Xor, 17, 11, 30),
+    (0x018ed1b3, RegOp::Srl, 3, 29, 24),
+    (0x01206cb3, RegOp::Or, 25, 0, 18),
+    (0x00b3f333, RegOp::And, 6, 7, 11),
+    (0x41540d33, RegOp::Sub, 26, 8, 21),
+    (0x419cdd33, RegOp::Sra, 26, 25, 25),
+    (0x036d8b33, RegOp::Mul, 22, 27, 22),
+    (0x033ac233, RegOp::Div, 4, 21, 19),
+    (0x029ad8b3, RegOp::Divu, 17, 21, 9),
+    (0x02576433, RegOp::Rem, 8, 14, 5),
+    (0x03eef1b3, RegOp::Remu, 3, 29, 30),
+    (0x0026033b, RegOp::Addw, 6, 12, 2),
+    (0x004896bb, RegOp::Sllw, 13, 17, 4),
+    (0x000558bb, RegOp::Srlw, 17, 10, 0),
+    (0x417e023b, RegOp::Subw, 4, 28, 23),
+    (0x4047d63b, RegOp::Sraw, 12, 15, 4),
+    (0x02ea033b, RegOp::Mulw, 6, 20, 14),
+    (0x0360c0bb, RegOp::Divw, 1, 1, 22),
+    (0x027153bb, RegOp::Divuw, 7, 2, 7),
+    (0x03b8e3bb, RegOp::Remw, 7, 17, 27),
+    (0x035c7b3b, RegOp::Remuw, 22, 24, 21),
+];
+
+/// rd, rs1 and rs2.
+const CAP_REGISTERS: [(u32, CapRegOp, u8, u8, u8); 6] = [
+    (0x103d855b, CapRegOp::Csetbounds, 10, 27, 3),
+    (0x1264815b, CapRegOp::Csetboundsexact, 2, 9, 6),
+    (0x1b518adb, CapRegOp::Candperm, 21, 3, 21),
+    (0x2054055b, CapRegOp::Csetaddr, 10, 8, 5),
+    (0x238d855b, CapRegOp::Cincoffset, 10, 27, 24),
+    (0x42f6035b, CapRegOp::Csetequalexact, 6, 12, 15),
+];
+
+/// rd and rs1.
+const CAP_GETS: [(u32, CapGetOp, u8, u8); 11] = [
+    (0xfe0a8f5b, CapGetOp::Cgetperm, 30, 21),
+    (0xfe240adb, CapGetOp::Cgetbase, 21, 8),
+    (0xfe358adb, CapGetOp::Cgetlen, 21, 11),
+    (0xfe4581db, CapGetOp::Cgettag, 3, 11),
+    (0xfe690ddb, CapGetOp::Cgetoffset, 27, 18),
+    (0xfe8c8e5b, CapGetOp::Crrl, 28, 25),
+    (0xfe9388db, CapGetOp::Cram, 17, 7),
+    (0xfeab805b, CapGetOp::Cmove, 0, 23),
+    (0xfebf86db, CapGetOp::Ccleartag, 13, 31),
+    (0xfef48fdb, CapGetOp::Cgetaddr, 31, 9),
+    (0xff1f06db, CapGetOp::Csealentry, 13, 30),
+];
+
+#[test]
+fn encodes_registers(rt: HostRuntime) {
+    for (word, op, rd, rs1, rs2) in REGISTERS {
+        agrees(
+            &rt,
+            word,
+            Instr::Op(op, reg(&rt, rd), reg(&rt, rs1), reg(&rt, rs2)),
+        );
+    }
+    for (word, op, rd, rs1, rs2) in CAP_REGISTERS {
+        agrees(
+            &rt,
+            word,
+            Instr::CapReg(op, reg(&rt, rd), reg(&rt, rs1), reg(&rt, rs2)),
+        );
+    }
+    for (word, op, rd, rs1) in CAP_GETS {
+        agrees(&rt, word, Instr::CapGet(op, reg(&rt, rd), reg(&rt, rs1)));
+    }
+}
+
+/// Words that encode no instruction.
+const NO_INSTRUCTIONS: [u32; 100] = [
+    0x00000000, 0xffffffff, 0x01243467, 0x01b69ae7, 0x03e87367, 0x053c64e7, 0x05874f67, 0x0d5629e7,
+    0x22a0d9e7, 0x0626a6e3, 0x0aa3b263, 0x06e57d03, 0x0621d223, 0x065dec23, 0x09dc7a23, 0x0000000f,
+    0x0000100f, 0x0161540f, 0x0c1be60f, 0x1034f00f, 0x1470458f, 0x14793b0f, 0x0605dd93, 0x21fb5813,
+    0x25e39a93, 0x2d4c1793, 0x38c95293, 0x3bd35513, 0x3f551193, 0x52429193, 0x00f3281b, 0x0365929b,
+    0x04405e1b, 0x044cc69b, 0x052a1d9b, 0x067a6f9b, 0x09a4b31b, 0x0a8dc71b, 0x02001033, 0x02002033,
+    0x02003033, 0x04240d33, 0x073a7fb3, 0x082870b3, 0x0cb0c333, 0x0cc0dc33, 0x0066493b, 0x0298173b,
+    0x0c5dfdbb, 0x0c9d503b, 0x0fa237bb, 0x115d17bb, 0x11612bbb, 0x1294b33b, 0x00200073, 0x00262e73,
+    0x012051f3, 0x06f03973, 0x07aec873, 0x0a35e573, 0x0d0e96f3, 0x1cc7f2f3, 0x033ae6db, 0x039e8cdb,
+    0x0750575b, 0x08a549db, 0x093e515b, 0x0ad957db, 0x0c32c1db, 0x0d68f05b, 0x00232ce4, 0x05d47874,
+    0x0f5a3fd2, 0x18ef4eeb, 0x2240640a, 0x2c082dff, 0x33e67c9c, 0x3a5f3c62, 0x40e31a2b, 0x49685926,
+    0x50854162, 0x5769fc06, 0x5fb8f35a, 0x67a0da62, 0x6ecb4bc3, 0x776fb390, 0x8066fdfd, 0x88eade54,
+    0x915e5a86, 0x98a47c6e, 0x9fff346e, 0xa5b28fb8, 0xb1cc1342, 0xb8a1cde1, 0xbfec63cb, 0xc8d251a8,
+    0xd0f7f8c6, 0xd80f197a, 0xe3b8d385, 0xf063b07b,
+];
+
+#[test]
+fn refuses_words_outside_the_table(rt: HostRuntime) {
+    for word in NO_INSTRUCTIONS {
+        assert_eq!(rt; decode(word), None, "at {word:#010x}");
+    }
+}

@@ -1,0 +1,13 @@
+//! The instructions of the machine: RV64I with multiplication and division (RISC-V unprivileged
+//! ISA), and the pure-capability instructions of CHERI-RISC-V (CHERI ISAv9).
+#![tactic(auto)]
+
+mod instr;
+mod ops;
+mod reg;
+
+pub use instr::Instr;
+pub use ops::{
+    BranchOp, CapGetOp, CapImmOp, CapRegOp, ImmOp, LoadOp, RegOp, ShiftOp, StoreOp, UpperOp,
+};
+pub use reg::Reg;

@@ -1,0 +1,119 @@
+-- The number that bytes spell, and the bytes of a number.
+use Rattle.std.proofs.Common.{◌≡◌, ℕ, zero, suc, ◌+◌, ◌-◌, ◌*◌, ◌/◌, ◌%◌, ◌^◌, ◌<◌, ◌≤◌, List, [], ◌∷◌, ◌++◌, length, take, drop, replicate, get_or, refl, sym, ap, ◌∙◌, arith}
+use Rattle.std.specs.Prelude.{All}
+use Rattle.std.specs.Int.{byte_at, byte_worth, bytes_low_first, from_le_bytes, sum_through, w128}
+use Rattle.std.proofs.lemmas.List.{drop-replicate, length-append, length-drop}
+use Rattle.std.proofs.lemmas.List.Elements.{All-head, All-tail, All-from_get_or}
+use Rattle.std.proofs.Math.Nat.{div-div-eq-div-mul, div-one, pow-suc, pow-succ'}
+use Rattle.tag_mem.specs.Numbers.{little_number, little_bytes}
+
+-- what the bytes up to the place k are worth
+worth : List ℕ → ℕ → ℕ
+worth bytes k = sum_through (λ i. byte_worth i (get_or bytes i 0)) k
+
+worth-nil : (k : ℕ) → worth [] k ≡ 0
+unfolding worth
+worth-nil zero = refl
+worth-nil (suc k) = omega (arith, worth-nil k)
+
+worth-one : (b : ℕ) → worth (b ∷ []) 0 ≡ b + 256 * 0
+unfolding worth
+worth-one b = omega arith
+
+worth-cons : (b : ℕ) (bs : List ℕ) (k : ℕ) → worth (b ∷ bs) (suc k) ≡ b + 256 * worth bs k
+unfolding worth
+worth-cons b bs zero = omega arith
+worth-cons b bs (suc k) = rw (worth-cons b bs k, pow-suc 256 (suc k)) (omega arith)
+
+-- as many bytes as there are places are worth the number that they spell
+worth-number : (bs : List ℕ) (k : ℕ) → length bs ≤ suc k → worth bs k ≡ little_number bs
+worth-number [] k h = worth-nil k
+worth-number (b ∷ []) zero h = worth-one b
+worth-number (b ∷ (x ∷ bs)) zero h = absurd (omega arith)
+worth-number (b ∷ bs) (suc k) h = rw (worth-cons b bs k, worth-number bs k (omega arith)) refl
+
+-- zeros behind the bytes add nothing
+number-zeros : (bs : List ℕ) (k : ℕ) → little_number (bs ++ replicate k 0) ≡ little_number bs
+number-zeros [] zero = refl
+number-zeros [] (suc k) = omega (arith, number-zeros [] k)
+number-zeros (b ∷ bs) k = ap (λ n. b + 256 * n) (number-zeros bs k)
+
+-- bytes at the front of an array of zeros
+pub number-padded : (bs : List ℕ) → length bs ≤ 16 → from_le_bytes w128 (bs ++ drop (length bs) (replicate 16 0)) ≡ little_number bs
+unfolding worth
+number-padded bs h =
+    let zeros : List ℕ = drop (length bs) (replicate 16 0) in
+    let rest : zeros ≡ replicate (16 - length bs) 0 = drop-replicate (length bs) 16 0 in
+    let size : length (bs ++ zeros) ≤ 16 = omega (arith, length-append bs zeros, length-drop {A = ℕ} (length bs) (replicate 16 0)) in
+    worth-number (bs ++ zeros) 15 size ∙ ap (λ z. little_number (bs ++ z)) rest ∙ number-zeros bs (16 - length bs)
+
+-- n bytes spell no number of more bytes
+pub number-below : (bs : List ℕ) → All (λ b. b < 256) bs → little_number bs < 256 ^ length bs
+number-below [] h = omega arith
+number-below (b ∷ bs) h =
+    let low = All-head (λ b. b < 256) b bs h in
+    let rest = number-below bs (All-tail (λ b. b < 256) b bs h) in
+    rw (pow-suc 256 (length bs)) (omega arith)
+
+-- ---- the bytes of a number
+
+byte_at-pow : (k v : ℕ) → byte_at k v ≡ v / 256 ^ k % 256
+byte_at-pow zero v = ap (λ (n : ℕ). n % 256) (sym (div-one v))
+byte_at-pow (suc k) v = refl
+
+length-bytes : (i n v : ℕ) → length (bytes_low_first i n v) ≡ n
+length-bytes i zero v = refl
+length-bytes i (suc n) v = omega (arith, length-bytes (suc i) n v)
+
+get_or-bytes : (i n v k : ℕ) → k < n → get_or (bytes_low_first i n v) k 0 ≡ byte_at (i + k) v
+get_or-bytes i zero v k h = absurd (omega arith)
+get_or-bytes i (suc n) v zero h = ap (λ j. byte_at j v) (omega arith)
+get_or-bytes i (suc n) v (suc k) h = get_or-bytes (suc i) n v k (omega arith) ∙ ap (λ j. byte_at j v) (omega arith)
+
+take-bytes : (i k n v : ℕ) → n ≤ k → take n (bytes_low_first i k v) ≡ bytes_low_first i n v
+take-bytes i k zero v h = refl
+take-bytes i zero (suc n) v h = absurd (omega arith)
+take-bytes i (suc k) (suc n) v h = ap (λ bs. byte_at i v ∷ bs) (take-bytes (suc i) k n v (omega arith))
+
+pub length-little_bytes : (n v : ℕ) → length (little_bytes n v) ≡ n
+unfolding little_bytes
+length-little_bytes n v = length-bytes 0 n v
+
+-- the byte k of a number
+pub get_or-little_bytes : (n v k : ℕ) → k < n → get_or (little_bytes n v) k 0 ≡ v / 256 ^ k % 256
+unfolding little_bytes
+get_or-little_bytes n v k h = get_or-bytes 0 n v k h ∙ ap (λ j. byte_at j v) (omega arith) ∙ byte_at-pow k v
+
+-- each of them is a byte
+pub small-little_bytes : (n v : ℕ) → All (λ b. b < 256) (little_bytes n v)
+small-little_bytes n v = All-from_get_or (λ b. b < 256) (little_bytes n v) 0
+    (λ k h. let here : k < n = omega (arith, length-little_bytes n v) in rw (get_or-little_bytes n v k here) (omega arith))
+
+-- the low bytes of a number among its bytes
+pub take-little_bytes : (k n v : ℕ) → n ≤ k → take n (little_bytes k v) ≡ little_bytes n v
+unfolding little_bytes
+take-little_bytes k n v h = take-bytes 0 k n v h
+
+-- ---- back and forth
+
+quotient : (v k : ℕ) → v / 256 ^ suc k ≡ v / 256 / 256 ^ k
+quotient v k = ap (λ p. v / p) (pow-succ' 256 k) ∙ sym (div-div-eq-div-mul v 256 (256 ^ k))
+
+-- a byte k of the number that bytes spell
+pub number-byte : (bs : List ℕ) (k : ℕ) → All (λ b. b < 256) bs → k < length bs → little_number bs / 256 ^ k % 256 ≡ get_or bs k 0
+number-byte [] k small h = absurd (omega arith)
+number-byte (b ∷ bs) zero small h = let low = All-head (λ b. b < 256) b bs small in omega (arith, low)
+number-byte (b ∷ bs) (suc k) small h =
+    let low = All-head (λ b. b < 256) b bs small in
+    let up : (b + 256 * little_number bs) / 256 ^ suc k ≡ little_number bs / 256 ^ k =
+    quotient (b + 256 * little_number bs) k ∙ ap (λ n. n / 256 ^ k) (omega (arith, low)) in
+    rw up (number-byte bs k (All-tail (λ b. b < 256) b bs small) (omega arith))
+
+-- bytes that are those of a number spell it
+pub number-spelled : (bs : List ℕ) (v : ℕ) → ((k : ℕ) → k < length bs → get_or bs k 0 ≡ v / 256 ^ k % 256) → v < 256 ^ length bs → little_number bs ≡ v
+number-spelled [] v each below = omega arith
+number-spelled (b ∷ bs) v each below =
+    let low : b ≡ v % 256 = each 0 (omega arith) ∙ ap (λ n. n % 256) (div-one v) in
+    let high : v / 256 < 256 ^ length bs = let wide : v < 256 ^ length bs * 256 = rw (← pow-suc 256 (length bs)) below in omega (arith, wide) in
+    let rest = number-spelled bs (v / 256) (λ k h. each (suc k) (omega arith) ∙ ap (λ n. n % 256) (quotient v k)) high in
+    omega (arith, low, rest)

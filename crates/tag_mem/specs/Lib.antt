@@ -1,0 +1,4 @@
+pub mod Areas
+pub mod Numbers
+pub mod Memory
+pub mod Regions

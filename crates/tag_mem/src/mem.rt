@@ -1,0 +1,143 @@
+//! Memory.
+
+ghost use Rattle.std.specs.Prelude.{◌≡◌, ◌+◌, ◌%◌, ◌<◌, ◌≤◌, ◌^◌, ◌*◌, length, is_some, IsTrue, IfSome, IfOk, false, Some};
+ghost use Rattle.std.specs.Bool.{OnTrue, OnFalse};
+ghost use Rattle.tag_mem.specs.Areas.{IsMemory, area_at, has, is_inside, tag_at};
+ghost use Rattle.std.specs.Option.{option_copied};
+ghost use Rattle.tag_mem.specs.Numbers.{little_bytes};
+ghost use Rattle.tag_mem.specs.Memory.{place_of, number_at, capability_at, fits_inside, written, IsAccessSize, Spells, Writes};
+ghost use Rattle.tag_mem.specs.Regions.{LieFrom, fresh, IsZeroed};
+
+use crate::area::Area;
+use crate::number::little_number;
+use crate::region::Region;
+use std::alloc::{AllocError, Global};
+use std::marker::Model;
+
+/// The memory of a machine. All of its room is taken when it is made, so no access needs more.
+#[derive(Drop)]
+pub struct Mem {
+    areas: Vec<Area>,
+}
+
+impl Model for Mem {
+    ghost use Rattle.std.specs.Prelude.{List};
+    ghost use Rattle.tag_mem.specs.Areas.{Area as AreaView, IsMemory};
+
+    ghost Value = { List AreaView };
+
+    ghost view = { λ m. m.areas.items };
+
+    ghost invariant = { λ m. IsMemory m.areas.items };
+}
+
+impl Mem {
+    /// Memory of zeros without tags, in these regions. They ascend without overlap, their bases and lengths are multiples of
+    /// 16, and they end at most at 2^40. It fails only for want of memory.
+    pub fn new(alloc: Global, regions: &Vec<Region>) -> Result<Mem, AllocError>
+        requires { LieFrom 0 regions.now.items }
+        ensures value { IfOk result (λ mem. mem ≡ fresh regions.now.items) }
+        ensures by_address { IfOk result (λ mem. IsZeroed mem regions.now.items) }
+    {
+        let mut areas = Vec::with_capacity(alloc, regions.len())?;
+        for region in regions {
+            areas.push(Area::zeroed(alloc, *region)?)?;
+        }
+        Ok(Mem { areas })
+    }
+
+    /// The little-endian number of `n` bytes at an address, where `n` is 1, 2, 4 or 8 and divides the address. None exactly
+    /// where the address is outside the regions.
+    pub fn read(&self, at: u64, n: u8) -> Option<u64>
+        requires size { IsAccessSize n }
+        requires aligned { at % n ≡ 0 }
+        ensures inside { is_some result ≡ is_inside self.now at }
+        ensures value { result ≡ number_at self.now at n }
+        ensures below { IfSome result (λ v. v < 256 ^ n) }
+        ensures by_address { IfSome result (Spells self.now at n) }
+    {
+        let bytes = self.area(at)?.bytes(at, n as usize);
+        Some(little_number(bytes) as u64)
+    }
+
+    /// Writes the low `n` bytes of a number, little endian, and clears the tag of their granule; `n` is 1, 2, 4 or 8 and
+    /// divides the address. False, and nothing changed, exactly where the address is outside the regions.
+    pub fn write(&mut self, at: u64, n: u8, v: u64) -> bool
+        requires size { IsAccessSize n }
+        requires aligned { at % n ≡ 0 }
+        ensures inside { result ≡ is_inside self.old at }
+        ensures value { self.new ≡ written self.old at (little_bytes n v) false }
+        ensures by_address { OnTrue result (Writes self.old self.new at (little_bytes n v) false) }
+        ensures outside { OnFalse result (self.new ≡ self.old) }
+    {
+        self.store(at, &v.to_le_bytes()[..n as usize], false)
+    }
+
+    /// The 128 bits of a capability at a multiple of 16, as they stand in memory, and its tag. None exactly where the address
+    /// is outside the regions.
+    pub fn cap_at(&self, at: u64) -> Option<(u128, bool)>
+        requires { at % 16 ≡ 0 }
+        ensures inside { is_some result ≡ is_inside self.now at }
+        ensures value { result ≡ capability_at self.now at }
+        ensures by_address { IfSome result (λ c. Spells self.now at 16 c.0) }
+        ensures tag { IfSome result (λ c. tag_at self.now at ≡ Some c.1) }
+    {
+        let area = self.area(at)?;
+        Some((little_number(area.bytes(at, 16)), area.tag(at)))
+    }
+
+    /// Writes the 128 bits of a capability at a multiple of 16, and its tag. False, and nothing changed, exactly where the
+    /// address is outside the regions.
+    #[tactic(auto, unfolding(crate::specs::Numbers::little_bytes))]
+    pub fn set_cap(&mut self, at: u64, bits: u128, tag: bool) -> bool
+        requires { at % 16 ≡ 0 }
+        ensures inside { result ≡ is_inside self.old at }
+        ensures value { self.new ≡ written self.old at (little_bytes 16 bits) tag }
+        ensures by_address { OnTrue result (Writes self.old self.new at (little_bytes 16 bits) tag) }
+        ensures outside { OnFalse result (self.new ≡ self.old) }
+    {
+        self.store(at, &bits.to_le_bytes(), tag)
+    }
+
+    /// Writes bytes from a multiple of 16 on, and clears the tags of the granules that they touch. False, and nothing
+    /// changed, exactly where they do not lie in the region of the address, or no region has it.
+    pub fn fill(&mut self, at: u64, bytes: &[u8]) -> bool
+        requires { at % 16 ≡ 0 }
+        ensures fits { result ≡ fits_inside self.old at (length bytes.now) }
+        ensures value { self.new ≡ written self.old at bytes.now false }
+        ensures by_address { OnTrue result (Writes self.old self.new at bytes.now false) }
+        ensures outside { OnFalse result (self.new ≡ self.old) }
+    {
+        self.store(at, bytes, false)
+    }
+
+    /// The area that has an address.
+    fn area(&self, at: u64) -> Option<&Area>
+        ensures found { option_copied result ≡ area_at self.now at }
+        ensures here { IfSome result (λ area. IsTrue (has area.now at)) }
+        ensures memory { IsMemory self.now }
+    {
+        self.areas.iter().find(|area| area.has(at))
+    }
+
+    /// Its place among the areas.
+    fn place(&self, at: u64) -> Option<usize>
+        ensures { result ≡ place_of self.now at }
+    {
+        self.areas.iter().position(|area| area.has(at))
+    }
+
+    /// Writes bytes in the area that has the address, and the tag on each granule that they touch.
+    fn store(&mut self, at: u64, bytes: &[u8], tag: bool) -> bool
+        ensures fits { result ≡ fits_inside self.old at (length bytes.now) }
+        ensures inside { at % 16 + length bytes.now ≤ 16 → result ≡ is_inside self.old at }
+        ensures value { self.new ≡ written self.old at bytes.now tag }
+        ensures by_address { OnTrue result (Writes self.old self.new at bytes.now tag) }
+        ensures outside { OnFalse result (self.new ≡ self.old) }
+    {
+        match self.place(at) {
+            Some(i) => self.areas[i].store(at, bytes, tag),
+            None => false,
+        }
+    }
+}

@@ -1,0 +1,1 @@
+int main(void){putchar(98);putchar(121);putchar(101);return 300;}

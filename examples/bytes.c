@@ -1,0 +1,1 @@
+int main(void){putchar(328);putchar(361);return 0;}
