@@ -6,3 +6,6 @@ pub mod Runs
 pub mod Calls
 pub mod RunLaws
 pub mod Agreement
+pub mod Tokens
+pub mod Literals
+pub mod Lexes

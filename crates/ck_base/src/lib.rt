@@ -1,5 +1,5 @@
 //! The outside, as the crates above see it: a source of bytes, a sink and files by name, in memory and over the system;
-//! and the places and refusals of a C file.
+//! the places and refusals of a C file; and its tokens, as definitions.
 #![tactic(auto)]
 
 mod adapters;
@@ -10,6 +10,7 @@ mod refusal;
 mod sequence;
 mod sinks;
 mod sources;
+mod tokens;
 
 pub use adapters::{HostFiles, LONGEST_FILE, StdError, StdInput, StdOutput};
 pub use files::{MemFiles, SureFiles};
@@ -19,6 +20,7 @@ pub use refusal::{NoMemory, Refusal};
 pub use sequence::Sequence;
 pub use sinks::{MemSink, SureSink};
 pub use sources::{MemSource, SureSource};
+pub use tokens::{Integer, TokenKind};
 
 #[cfg(test)]
 mod tests;
