@@ -1,0 +1,13 @@
+pub mod Comments
+pub mod Digits
+pub mod Escapes
+pub mod Integers
+pub mod Longest
+pub mod OnePiece
+pub mod OneReading
+pub mod Positions
+pub mod Quotes
+pub mod Runs
+pub mod Stands
+pub mod Strings
+pub mod Tables

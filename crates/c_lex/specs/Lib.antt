@@ -1,0 +1,5 @@
+pub mod Fronts
+pub mod Lexemes
+pub mod Pieces
+pub mod Reader
+pub mod Spelled

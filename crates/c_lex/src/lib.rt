@@ -1,0 +1,17 @@
+//! The tokens of a C file (C11 6.4, narrowed to the language that is compiled), as slices of the file, and the values of its literals.
+#![tactic(auto)]
+
+mod forms;
+mod laws;
+mod literals;
+mod pieces;
+mod places;
+mod separators;
+#[cfg(test)]
+mod tests;
+mod tokens;
+
+pub use ck_base::{Integer, TokenKind};
+pub use laws::{calls_read, one_reading, one_step, token_count};
+pub use literals::{char_of, integer_of, unescape};
+pub use tokens::{Token, Tokens};
