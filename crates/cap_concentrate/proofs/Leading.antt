@@ -5,7 +5,7 @@ use Rattle.std.proofs.lemmas.Nat.{leading_length, leading_le, pow-add, pow_pos, 
 use Rattle.std.proofs.Math.Nat.{pow-le-pow_right, mul-le-mul_right, mul-lt-mul_of_pos_right}
 use Rattle.std.specs.Int.Count.{count_leading_zeros}
 use Rattle.cap_concentrate.specs.Rounding.{rounded_down, rounded_up, bounds_exponent}
-use Rattle.cap_concentrate.proofs.Least.{rounded_down_le, rounded_up_ge, IsExponent, bounds_exponent_is}
+use Rattle.cap_concentrate.proofs.Least.{rounded_down_le, rounded_up_ge, rounded_up_near, IsExponent, bounds_exponent_is}
 use Rattle.cap_concentrate.proofs.Encoded.{IsLengthExponent, pow_1024}
 
 at_least : (m len : ℕ) → 4096 ≤ len → 2 ^ m ≤ 2 * (len / 8192) + 1 → 2 ^ (m + 12) ≤ len
@@ -32,9 +32,6 @@ leading_exponent len l h =
     (within, record { within = omega arith; long = at_least e len l high; short = omega (arith, pow-add 2 e 13) })
 
 -- ---- a request takes the exponent of its length, or the next
-up_near : (x m : ℕ) → 0 < m → rounded_up x m < x + m
-up_near x m h = omega (arith, div-add-mod' (x + (m - 1)) m)
-
 down_near : (x m : ℕ) → 0 < m → x < rounded_down x m + m
 down_near x m h = omega (arith, div-add-mod' x m, mod_below x m h)
 
@@ -66,7 +63,7 @@ module _ (start len e : ℕ) (x : IsLengthExponent len e) where
       let here : rounded_down start (2 ^ (e + 3)) + 2 ^ (e + 13) ≤ rounded_up end (2 ^ (e + 3)) = omega (arith, pow_1024 e, mul-le-mul_right (2 ^ (e + 3)) h) in
       record {
         within = omega arith;
-        short = omega (arith, up_near end m pos, down_near start m pos);
+        short = omega (arith, rounded_up_near end m pos, down_near start m pos);
         first = λ j k. elim (cases_lt j e) as (λ _. rounded_down start (2 ^ (j + 3)) + 2 ^ (j + 13) ≤ rounded_up end (2 ^ (j + 3))) [
           | inl below ↦ no_smaller j below
           | inr above ↦ let same : e ≡ j = omega arith in subst (λ v. rounded_down start (2 ^ (v + 3)) + 2 ^ (v + 13) ≤ rounded_up end (2 ^ (v + 3))) same here

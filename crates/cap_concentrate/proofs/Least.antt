@@ -13,6 +13,9 @@ rounded_down_le x m = omega (arith, div-add-mod' x m)
 pub rounded_up_ge : (x m : ℕ) → 0 < m → x ≤ rounded_up x m
 rounded_up_ge x m h = omega (arith, div-add-mod' (x + (m - 1)) m)
 
+pub rounded_up_near : (x m : ℕ) → 0 < m → rounded_up x m < x + m
+rounded_up_near x m h = omega (arith, div-add-mod' (x + (m - 1)) m)
+
 -- a multiple of m that is not above x is not above x rounded down
 rounded_down_greatest : (x m c : ℕ) → 0 < m → c * m ≤ x → c * m ≤ rounded_down x m
 rounded_down_greatest x m c p h = mul-le-mul_right m (le-div c x m p h)
@@ -23,6 +26,15 @@ rounded_up_least x m c p h =
     let q = div_below (x + (m - 1)) m (suc c) p b in
     let q' : (x + (m - 1)) / m ≤ c = omega (arith, q) in
     mul-le-mul_right m q'
+
+pub rounded_up_monotone : (x y m : ℕ) → 0 < m → x ≤ y → rounded_up x m ≤ rounded_up y m
+rounded_up_monotone x y m p h = rounded_up_least x m ((y + (m - 1)) / m) p (omega (arith, rounded_up_ge y m p))
+
+-- a multiple is its own rounding
+pub rounded_up_multiple : (x m : ℕ) → 0 < m → x % m ≡ 0 → rounded_up x m ≡ x
+rounded_up_multiple x m p h =
+    let e : x ≡ x / m * m = omega (arith, div-add-mod' x m) in
+    omega (arith, rounded_up_ge x m p, rounded_up_least x m (x / m) p (omega arith))
 
 -- a multiple of a greater power is one of a smaller power
 pub finer : (x i j : ℕ) → i ≤ j → x % 2 ^ (j + 3) ≡ 0 → x ≡ (x / 2 ^ (j + 3) * 2 ^ (j - i)) * 2 ^ (i + 3)

@@ -8,3 +8,4 @@ pub mod Encoded
 pub mod Leading
 pub mod Owned
 pub mod Requests
+pub mod Laws

@@ -5,7 +5,7 @@ use Rattle.std.proofs.lemmas.Bool.{cond_both}
 use Rattle.cap_concentrate.specs.declared.fields.Fields.{Fields}
 use Rattle.cap_concentrate.specs.Rounding.{least_exponent, least_exponent_within}
 
--- the least exponent at which a length is short
+-- the least exponent at which a length is below 2 ^ (e + 13)
 unfoldable pub length_exponent : ℕ → ℕ
 length_exponent n = least_exponent (λ e. nat_lt n (2 ^ (e + 13)))
 

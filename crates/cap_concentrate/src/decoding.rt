@@ -1,6 +1,7 @@
 // The bounds of fields.
 ghost use Rattle.std.specs.Prelude.{◌≡◌, ◌+◌, ◌^◌, ◌<◌, ◌≤◌, ◌↔◌, IsTrue};
 ghost use Rattle.cap_concentrate.specs.Decoding.{exponent, mantissa, whole_top, high, placed, corrected, base_of, base_at, top_at, same_bounds};
+ghost use Rattle.cap_concentrate.specs.Encoding.{AreEncoded};
 
 use super::Fields;
 
@@ -79,10 +80,13 @@ fn corrected(e: u32, base: u64, top: u128) -> u128
 /// The base and the top that the fields give (CHERI ISAv9, CHERI Concentrate).
 ///
 /// Of arbitrary fields the top may lie below the base, and above 2^64.
-#[tactic(auto, unfolding(crate::specs::Decoding::base_of, crate::specs::Decoding::top_of))]
 pub fn bounds_of(f: Fields) -> (u64, u128)
     ensures base { result.0 ≡ base_at f f.address }
     ensures top { result.1 ≡ top_at f f.address }
+
+    // Bounds in this range have one encoding only.
+    ensures canonical { 65536 ≤ result.0 → result.0 ≤ result.1 → result.1 ≤ 2 ^ 40 →
+        AreEncoded f.internal f.t f.b result.0 result.1 }
 {
     let e = exponent(f.internal, f.t, f.b);
     let b = mantissa(f.internal, f.b);
@@ -93,14 +97,16 @@ pub fn bounds_of(f: Fields) -> (u64, u128)
 
 /// Whether the fields give the same base and top with this address in place of their own.
 ///
-/// Each address less than 1024 bytes below the base or above the top keeps bounds that lie between
-/// 65,536 and 2^40.
+/// They do at each address less than 1024 bytes below the base or above the top, where the bounds
+/// lie between 65,536 and 2^40.
 #[tactic(auto, using(crate::proofs::Near::keeps_near))]
 pub fn keeps_bounds(f: Fields, address: u64) -> bool
     ensures value { result ≡ same_bounds f address }
-    ensures same { IsTrue result ↔ ((base_at f address ≡ base_at f f.address) × (top_at f address ≡ top_at f f.address)) }
-    ensures near { 65536 ≤ base_at f f.address → base_at f f.address ≤ top_at f f.address → top_at f f.address ≤ 2 ^ 40 →
-        base_at f f.address < address + 1024 → address < top_at f f.address + 1024 → IsTrue result }
+    ensures same { IsTrue result ↔
+        ((base_at f address ≡ base_at f f.address) × (top_at f address ≡ top_at f f.address)) }
+    ensures near { 65536 ≤ base_at f f.address → base_at f f.address ≤ top_at f f.address →
+        top_at f f.address ≤ 2 ^ 40 → base_at f f.address < address + 1024 →
+        address < top_at f f.address + 1024 → IsTrue result }
 {
     let mut moved = f;
     moved.address = address;

@@ -1,4 +1,7 @@
-//! The capability format.
+//! The capability format: the fields of 128 bits, the bounds that they give, and the rounding of a
+//! request (CHERI ISAv9, CHERI Concentrate for 128-bit capabilities).
+//!
+//! No call takes memory, and none refuses.
 #![tactic(auto)]
 
 mod decoding;

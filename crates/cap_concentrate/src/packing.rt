@@ -4,7 +4,7 @@ ghost use Rattle.cap_concentrate.specs.Packing.{bits_of, fields_of, flipped};
 
 use super::Fields;
 
-/// The upper half of null: unsealed, of no permissions, with base 0, top 2^64 and E = 52. The address is 0.
+/// The bits of null at address 0: unsealed, with no permissions, with base 0, top 2^64 and E = 52.
 pub const NULL_BITS: u128 = 0x0000_1fff_fc01_8004_0000_0000_0000_0000;
 
 /// The 128 bits that have these fields.

@@ -72,7 +72,8 @@ pub fn set_bounds(base: u64, len: u64) -> Bounds
     }
 }
 
-/// All ones above the alignment of an object of `len` bytes, and zeros below it (CHERI ISAv9, CRAM).
+/// The mask of the addresses at which an object of `len` bytes is aligned: ones from the alignment's
+/// bit on, and zeros below it (CHERI ISAv9, CRAM).
 pub fn alignment_mask(len: u64) -> u64
     ensures { result + alignment len ≡ 2 ^ 64 }
 {
@@ -83,7 +84,9 @@ pub fn alignment_mask(len: u64) -> u64
     }
 }
 
-/// The owned length of an object of `len` bytes, in 64 bits (CHERI ISAv9, CRRL): 0 where it is 2^64.
+/// The owned length of an object of `len` bytes, in 64 bits (CHERI ISAv9, CRRL).
+///
+/// It is 0 where the owned length is 2^64.
 pub fn rounded_length(len: u64) -> u64
     ensures { result ≡ owned len % 2 ^ 64 }
 {

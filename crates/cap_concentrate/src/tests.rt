@@ -1,66 +1,73 @@
 // Each public call on known values.
-mod vectors;
+mod decoding_vectors;
+mod packing_vectors;
+mod rounding_vectors;
 
 use super::{
     Fields, NULL_BITS, alignment_mask, bounds_of, flip_null, keeps_bounds, pack, rounded_length,
     set_bounds, unpack,
 };
-use vectors::{DECODE, FIELDS, KEEPS_BOUNDS, LENGTHS, SET_BOUNDS};
+use decoding_vectors::{DECODE, KEEPS_BOUNDS};
+use packing_vectors::FIELDS;
+use rounding_vectors::{LENGTHS, SET_BOUNDS};
 
 #[test]
 fn lengths_are_rounded(rt: HostRuntime) {
-    let rows: [(u64, u64, u64); 7] = [
-        (0, 0, 1),
-        (4095, 4095, 1),
-        (4097, 4104, 8),
-        (8191, 8192, 16),
-        (10001, 10016, 16),
-        (100_000, 100_096, 128),
-        (16_777_216, 16_777_216, 32768),
-    ];
-    for &(length, owned, alignment) in &rows {
-        assert_eq!(rt; rounded_length(length), owned, "of {length}");
-        assert_eq!(rt; !alignment_mask(length), alignment - 1, "of {length}");
-    }
-}
-
-#[test]
-fn lengths_agree_with_the_model(rt: HostRuntime) {
     for &(length, owned, mask) in &LENGTHS {
-        assert_eq!(rt; rounded_length(length), owned, "of {length}");
-        assert_eq!(rt; alignment_mask(length), mask, "of {length}");
+        let good = rounded_length(length) == owned && alignment_mask(length) == mask;
+        assert!(rt; good, "{length} bytes");
     }
 }
 
 #[test]
 fn bounds_are_set(rt: HostRuntime) {
-    let padded = set_bounds(65536, 4097);
-    assert_eq!(rt; padded.base, 65536);
-    assert_eq!(rt; padded.top, 69640);
-    assert_eq!(rt; padded.exact, false);
-    let exact = set_bounds(1_048_576, 100_096);
-    assert_eq!(rt; exact.base, 1_048_576);
-    assert_eq!(rt; exact.top, 1_148_672);
-    assert_eq!(rt; exact.exact, true);
-}
-
-#[test]
-fn set_bounds_agrees_with_the_model(rt: HostRuntime) {
-    for &(base, length, low, high, exact, internal, t, b) in &SET_BOUNDS {
+    for &((base, length), (low, high, exact), (internal, t, b)) in &SET_BOUNDS {
         assert!(rt; u128::from(base) + u128::from(length) <= 1 << 64);
         let bounds = set_bounds(base, length);
-        assert_eq!(rt; bounds.base, low, "{length} bytes from {base}");
-        assert_eq!(rt; bounds.top, high, "{length} bytes from {base}");
-        assert_eq!(rt; bounds.exact, exact, "{length} bytes from {base}");
-        assert_eq!(rt; bounds.internal, internal, "{length} bytes from {base}");
-        assert_eq!(rt; bounds.t, t, "{length} bytes from {base}");
-        assert_eq!(rt; bounds.b, b, "{length} bytes from {base}");
+        let good_bounds = bounds.base == low && bounds.top == high && bounds.exact == exact;
+        let good_fields = bounds.internal == internal && bounds.t == t && bounds.b == b;
+        assert!(rt; good_bounds && good_fields, "{length} bytes from {base}");
     }
 }
 
 #[test]
+fn bits_are_decoded(rt: HostRuntime) {
+    for &(bits, base, top) in &DECODE {
+        assert!(rt; bounds_of(unpack(bits)) == (base, top), "{bits:#x}");
+    }
+}
+
+#[test]
+fn bounds_are_kept(rt: HostRuntime) {
+    for &((internal, t, b, address), (other, kept)) in &KEEPS_BOUNDS {
+        assert!(rt; t < 4096 && b < 16384);
+        let mut fields = unpack(0);
+        fields.internal = internal;
+        fields.t = t;
+        fields.b = b;
+        fields.address = address;
+        assert!(rt;
+            keeps_bounds(fields, other) == kept,
+            "from {address} to {other}"
+        );
+    }
+}
+
+#[test]
+fn fields_stand_at_their_places(rt: HostRuntime) {
+    for &((bits, memory), others, bounds, address) in &FIELDS {
+        let f = unpack(bits);
+        let good_others = (f.user, f.perms, f.reserved, f.flag) == others;
+        let good_bounds = (f.otype, f.internal, f.t, f.b) == bounds;
+        let good = good_others && good_bounds && f.address == address && pack(f) == bits;
+        assert!(rt; good && flip_null(bits) == memory, "{bits:#x}");
+    }
+}
+
+// Unsealed capabilities with permissions 125 and the address at the base: base, length, and the
+// upper half in a register and in memory.
+#[test]
 fn capabilities_are_packed(rt: HostRuntime) {
-    // base, length, the upper half, and the upper half in memory
     let rows: [(u64, u64, u128, u128); 2] = [
         (65536, 40, 0x007d_1fff_f80a_0000, 0x007d_0000_040b_8004),
         (
@@ -84,56 +91,9 @@ fn capabilities_are_packed(rt: HostRuntime) {
             b: bounds.b,
             address: base,
         };
-        assert_eq!(rt; pack(fields) >> 64, upper);
-        assert_eq!(rt; flip_null(pack(fields)) >> 64, memory);
-        assert_eq!(rt; unpack(pack(fields)), fields);
-        assert_eq!(rt; keeps_bounds(fields, base - 1023), true);
+        let bits = pack(fields);
+        let good = bits >> 64 == upper && flip_null(bits) >> 64 == memory && unpack(bits) == fields;
+        assert!(rt; good, "{length} bytes from {base}");
     }
-    assert_eq!(rt; flip_null(NULL_BITS), 0);
-}
-
-#[test]
-fn decoding_agrees_with_the_model(rt: HostRuntime) {
-    for &(bits, flipped, base, top) in &DECODE {
-        assert_eq!(rt; bounds_of(unpack(bits)), (base, top), "of {bits:#x}");
-        assert_eq!(rt; flip_null(bits), flipped, "of {bits:#x}");
-        assert_eq!(rt; pack(unpack(bits)), bits);
-    }
-}
-
-#[test]
-fn fields_agree_with_the_model(rt: HostRuntime) {
-    for (row, fields) in DECODE.iter().zip(FIELDS.iter()) {
-        let bits = row.0;
-        let (user, perms, reserved, flag, otype, internal, t, b, address) = *fields;
-        let f = unpack(bits);
-        assert_eq!(rt;
-            (f.user, f.perms, f.reserved),
-            (user, perms, reserved),
-            "of {bits:#x}"
-        );
-        assert_eq!(rt;
-            (f.flag, f.otype, f.internal),
-            (flag, otype, internal),
-            "of {bits:#x}"
-        );
-        assert_eq!(rt; (f.t, f.b, f.address), (t, b, address), "of {bits:#x}");
-    }
-}
-
-#[test]
-fn keeps_bounds_agrees_with_the_model(rt: HostRuntime) {
-    for &(internal, t, b, address, other, keeps) in &KEEPS_BOUNDS {
-        let mut fields = unpack(0);
-        assert!(rt; t < 4096 && b < 16384);
-        fields.internal = internal;
-        fields.t = t;
-        fields.b = b;
-        fields.address = address;
-        assert_eq!(rt;
-            keeps_bounds(fields, other),
-            keeps,
-            "from {address} to {other}"
-        );
-    }
+    assert!(rt; flip_null(NULL_BITS) == 0);
 }

@@ -3,11 +3,10 @@ use Rattle.std.proofs.Common.{◌≡◌, ℕ, ◌+◌, ◌^◌, ◌<◌, ◌≤�
 use Rattle.std.proofs.lemmas.Bool.{false≢true, and_parts, cond_both, eqb-true, leb-true}
 use Rattle.std.proofs.lemmas.Nat.{and_comm, and_assoc}
 use Rattle.std.specs.Int.Bits.{and_self}
-use Rattle.cap_concentrate.specs.Decoding.{base_at, top_at, same_bounds}
+use Rattle.cap_concentrate.specs.Decoding.{same_bounds}
 use Rattle.cap_concentrate.specs.Rounding.{IsLeastBounds}
 use Rattle.cap_concentrate.specs.Encoding.{with_bounds}
-use Rattle.cap_concentrate.proofs.Least.{least_functions}
-use Rattle.cap_concentrate.proofs.Encoded.{encoded_decodes}
+use Rattle.cap_concentrate.proofs.Laws.{same_bounds_true, with_bounds_decodes, least_functions}
 use Rattle.cap_ops.specs.declared.capability.Cap.{Cap}
 use Rattle.cap_ops.specs.declared.capability.TheConstants.{UNSEALED, SENTRY, EXECUTE}
 use Rattle.cap_ops.specs.Capability.{IsInside, base, top, usable, permits, request_base, request_top, is_exact, fits, cleared, moved, with_request, narrowed, narrowed_exactly, with_mask, masked, with_otype, sealed}
@@ -24,10 +23,7 @@ cleared_inside c = record {
 -- where the tag stays, so do the bounds
 pub moved_bounds : (c : Cap) (address : ℕ) → (moved c address).tag ≡ true → (base (moved c address) ≡ base c) × (top (moved c address) ≡ top c)
 unfolding moved
-moved_bounds c address e =
-    let kept = (and_parts (usable c) (same_bounds c.fields address) e).1 in
-    let both = and_parts (base_at c.fields address == base c) (top_at c.fields address == top c) kept in
-    (eqb-true (base_at c.fields address) (base c) both.0, eqb-true (top_at c.fields address) (top c) both.1)
+moved_bounds c address e = same_bounds_true c.fields address (and_parts (usable c) (same_bounds c.fields address) e).1
 
 pub moved_inside : (c : Cap) (address : ℕ) → IsInside c (moved c address)
 unfolding moved
@@ -45,7 +41,7 @@ pub record Fits (c : Cap) (length : ℕ) : Type 0 where
   pub low : base c ≤ request_base c length
   pub high : request_top c length ≤ top c
 
-fits_parts : (c : Cap) (length : ℕ) → (usable c && fits c length) ≡ true → Fits c length
+pub fits_parts : (c : Cap) (length : ℕ) → (usable c && fits c length) ≡ true → Fits c length
 unfolding fits
 fits_parts c length e =
     let u = and_parts (usable c) (fits c length) e in
@@ -66,7 +62,7 @@ least_decodes c length below within =
     let least : IsLeastBounds address (address + length) (request_base c length) (request_top c length) = least_functions address (address + length) (omega arith) within in
     let from = least.from in
     let to = least.to in
-    encoded_decodes (request_base c length) (request_top c length) address least.encodable (omega arith) from (omega arith)
+    with_bounds_decodes c.fields (request_base c length) (request_top c length) address least.encodable (omega arith) from (omega arith)
 
 perms_kept : (c : Cap) (length : ℕ) → bit_and (with_request c length).fields.perms c.fields.perms ≡ (with_request c length).fields.perms
 unfolding with_request with_bounds

@@ -49,8 +49,11 @@ fn lacks(perms: u16, bit: u32) -> bool
     (perms >> bit) % 2 != 1
 }
 
-/// The address, or the first cause by which the access fails there (CHERI ISAv9, the checks of loads, stores and jumps):
-/// tag, seal, permission, bounds and natural alignment, in this order.
+/// The address, or the first cause by which the access fails there (CHERI ISAv9, the checks of
+/// loads, stores and jumps).
+///
+/// The causes are tested in this order: tag; seal; permission (Load; Store, and then
+/// Store_Capability where a tagged value is stored; Execute); bounds; natural alignment.
 #[tactic(auto, unfolding(crate::specs::Access::checked))]
 pub fn check(c: Cap, at: u64, a: Access) -> Result<u64, Cause>
     requires { IsAccess a }

@@ -1,4 +1,8 @@
-//! Capabilities with their tag, and the operations on them.
+//! Capabilities with their tag, the operations on them, and the check of an access (CHERI ISAv9).
+//!
+//! A narrowing, a mask or a seal that does not succeed gives the same capability with the tag clear,
+//! and a move clears the tag where the bounds would change. None traps, and none widens. No call
+//! takes memory.
 #![tactic(auto)]
 
 mod access;

@@ -7,7 +7,8 @@ ghost use Rattle.cap_ops.specs.Capability.{base, top, usable, permits, request_b
 use super::{Cap, EXECUTE, SENTRY, UNSEALED, fields};
 use cap_concentrate::{Bounds, NULL_BITS, bounds_of, keeps_bounds, set_bounds, unpack};
 
-/// Null with this address: untagged, of no permissions, unsealed, and with the whole address space as its bounds.
+/// Null with this address: untagged and unsealed, with no permissions, and with the whole address
+/// space as its bounds.
 #[tactic(auto, unfolding(crate::specs::Capability::null_at))]
 pub fn null(address: u64) -> Cap
     ensures value { result ≡ null_at address }
@@ -42,7 +43,8 @@ pub fn clear(c: Cap) -> Cap
 
 /// The capability with another address (CHERI ISAv9, CSetAddr).
 ///
-/// The tag stays exactly where the capability was tagged and unsealed and its base and top stay the same.
+/// The tag stays exactly where the capability was tagged and unsealed and its base and top stay
+/// the same.
 #[tactic(auto, unfolding(crate::specs::Capability::moved))]
 pub fn with_address(c: Cap, a: u64) -> Cap
     ensures value { result ≡ moved c a }
@@ -54,7 +56,7 @@ pub fn with_address(c: Cap, a: u64) -> Cap
     }
 }
 
-/// The capability with its address moved by a number of bytes, modulo 2^64 (CHERI ISAv9, CIncOffset).
+/// The capability with its address moved by `by` bytes, modulo 2^64 (CHERI ISAv9, CIncOffset).
 ///
 /// The tag stays as for `with_address`.
 pub fn add(c: Cap, by: u64) -> Cap
@@ -64,7 +66,8 @@ pub fn add(c: Cap, by: u64) -> Cap
     with_address(c, c.fields.address.wrapping_add(by))
 }
 
-// The least bounds of the `len` bytes from the address on, where the capability may be narrowed to them.
+// The least bounds of the `len` bytes from the address on, where the capability may be narrowed to
+// them.
 #[tactic(auto, unfolding(crate::specs::Capability::fits, crate::specs::Capability::is_exact))]
 fn request(c: Cap, len: u64) -> Option<Bounds>
     ensures granted { is_some result ≡ (usable c && fits c len) }
@@ -85,14 +88,16 @@ fn request(c: Cap, len: u64) -> Option<Bounds>
     }
 }
 
-/// The capability with the least bounds of the `len` bytes from its address on (CHERI ISAv9, CSetBounds).
+/// The capability with the least bounds of the `len` bytes from its address on (CHERI ISAv9,
+/// CSetBounds).
 ///
-/// It succeeds exactly where the capability is tagged and unsealed and these bounds lie inside its own, and else
-/// clears the tag.
+/// It succeeds exactly where the capability is tagged and unsealed and these bounds lie inside its
+/// own, and else clears the tag.
 #[tactic(auto, unfolding(crate::specs::Capability::narrowed, crate::specs::Capability::with_request))]
 pub fn narrow(c: Cap, len: u64) -> Cap
     ensures value { result ≡ narrowed c len }
-    ensures least { IsTrue result.tag → IsLeastBounds c.fields.address (c.fields.address + len) (base result) (top result) }
+    ensures least { IsTrue result.tag →
+        IsLeastBounds c.fields.address (c.fields.address + len) (base result) (top result) }
     ensures inside { IsInside c result }
 {
     match request(c, len) {
@@ -104,7 +109,10 @@ pub fn narrow(c: Cap, len: u64) -> Cap
     }
 }
 
-/// The capability narrowed as by `narrow`, where nothing has to be rounded (CHERI ISAv9, CSetBoundsExact).
+/// The capability narrowed as by `narrow`, where nothing has to be rounded (CHERI ISAv9,
+/// CSetBoundsExact).
+///
+/// It clears the tag where something has to be rounded, too.
 #[tactic(auto, unfolding(crate::specs::Capability::narrowed_exactly, crate::specs::Capability::with_request))]
 pub fn narrow_exact(c: Cap, len: u64) -> Cap
     ensures value { result ≡ narrowed_exactly c len }
@@ -140,7 +148,8 @@ pub fn and_perms(c: Cap, mask: u16) -> Cap
 
 /// The capability as a sealed entry (CHERI ISAv9, CSealEntry).
 ///
-/// It succeeds exactly where the capability is tagged and unsealed and has Execute, and else clears the tag.
+/// It succeeds exactly where the capability is tagged and unsealed and has Execute, and else clears
+/// the tag.
 #[tactic(auto, unfolding(crate::specs::Capability::sealed))]
 pub fn seal_entry(c: Cap) -> Cap
     ensures value { result ≡ sealed c }
