@@ -4,9 +4,9 @@ ghost use Rattle.std.specs.Prelude.{◌<◌, ◌^◌};
 use crate::{End, Machine, Step};
 use cap_concentrate::{Fields, set_bounds};
 use cap_ops::{Cap, Cause, UNSEALED, null, seal_entry, with_address};
-use ck_base::{MemSink, MemSource, SureSink, SureSource};
+use ck_base::{MemSink, MemSource, NoMemory, SureSink, SureSource};
 use rv_instr::Reg;
-use std::alloc::{AllocError, Global};
+use std::alloc::Global;
 use std::test::Fail;
 use tag_mem::{Mem, Region};
 
@@ -39,7 +39,7 @@ fn capability(base: u64, perms: u8) -> Cap
 
 /// A machine at its first word. c5 is a sentry of the text. The others have the data: c6 without Load, c7 without the
 /// permissions on capabilities, c8 with all permissions but Execute, and c9 with loads alone.
-fn machine(alloc: Global, words: &[u32]) -> Result<Machine, AllocError> {
+fn machine(alloc: Global, words: &[u32]) -> Result<Machine, NoMemory> {
     let text = Region {
         base: TEXT,
         length: 64,
@@ -73,32 +73,34 @@ fn run(alloc: Global, m: &mut Machine, steps: u64) -> End {
     )
 }
 
-/// One instruction on x11 and x12 that writes x10.
+/// One instruction on x11 and x12, their integers, and what it writes to x10.
+const INTEGERS: [(u32, u64, u64, u64); 16] = [
+    (0xfff5_851b, 0, 0, u64::MAX), // addiw x10, x11, -1
+    (0xfff5_851b, 0x8000_0000, 0, 0x7fff_ffff), // addiw x10, x11, -1
+    (0x00c5_d53b, 0x8000_0000, 0, 0xffff_ffff_8000_0000), // srlw
+    (0x00c5_d53b, 0xffff_ffff_8000_0000, 36, 0x0800_0000), // srlw
+    (0x02c5_d53b, 0xffff_ffff, 1, u64::MAX), // divuw
+    (0x02c5_d53b, 7, 0, u64::MAX), // divuw
+    (0x02c5_f53b, 0x8000_0000, 0, 0xffff_ffff_8000_0000), // remuw
+    (0x02c5_f53b, 7, 4, 3), // remuw
+    (0x02c5_853b, 0x1_0000, 0x8000, 0xffff_ffff_8000_0000), // mulw
+    (
+        0x02c5_c533,
+        0x8000_0000_0000_0000,
+        u64::MAX,
+        0x8000_0000_0000_0000,
+    ), // div
+    (0x02c5_e533, 7, 0, 7), // rem
+    (0x40c5_d533, 0x8000_0000_0000_0000, 63, u64::MAX), // sra
+    (0xfff5_a513, 0, 0, 0), // slti x10, x11, -1
+    (0xfff5_b513, 0, 0, 1), // sltiu x10, x11, -1
+    (0x0045_d51b, 0xffff_ffff_8000_0000, 0, 0x0800_0000), // srliw x10, x11, 4
+    (0x8000_0537, 0, 0, 0xffff_ffff_8000_0000), // lui x10, 0x80000
+];
+
 #[test]
 fn computes_integers(rt: HostRuntime) -> Result<(), Fail> {
-    for (word, a, b, want) in [
-        (0xfff5_851b, 0, 0, u64::MAX), // addiw x10, x11, -1
-        (0xfff5_851b, 0x8000_0000, 0, 0x7fff_ffff), // addiw x10, x11, -1
-        (0x00c5_d53b, 0x8000_0000, 0, 0xffff_ffff_8000_0000), // srlw
-        (0x00c5_d53b, 0xffff_ffff_8000_0000, 36, 0x0800_0000), // srlw
-        (0x02c5_d53b, 0xffff_ffff, 1, u64::MAX), // divuw
-        (0x02c5_d53b, 7, 0, u64::MAX), // divuw
-        (0x02c5_f53b, 0x8000_0000, 0, 0xffff_ffff_8000_0000), // remuw
-        (0x02c5_f53b, 7, 4, 3), // remuw
-        (0x02c5_853b, 0x1_0000, 0x8000, 0xffff_ffff_8000_0000), // mulw
-        (
-            0x02c5_c533,
-            0x8000_0000_0000_0000,
-            u64::MAX,
-            0x8000_0000_0000_0000,
-        ), // div
-        (0x02c5_e533, 7, 0, 7), // rem
-        (0x40c5_d533, 0x8000_0000_0000_0000, 63, u64::MAX), // sra
-        (0xfff5_a513, 0, 0, 0), // slti x10, x11, -1
-        (0xfff5_b513, 0, 0, 1), // sltiu x10, x11, -1
-        (0x0045_d51b, 0xffff_ffff_8000_0000, 0, 0x0800_0000), // srliw x10, x11, 4
-        (0x8000_0537, 0, 0, 0xffff_ffff_8000_0000), // lui x10, 0x80000
-    ] {
+    for &(word, a, b, want) in &INTEGERS {
         let mut m = machine(rt.alloc(), &[word])?;
         m.write(Reg::numbered(11), null(a));
         m.write(Reg::numbered(12), null(b));
@@ -113,20 +115,23 @@ fn computes_integers(rt: HostRuntime) -> Result<(), Fail> {
     Ok(())
 }
 
+/// One instruction, and how it ends the run.
+const ENDS: [(u32, End); 10] = [
+    (0x0084_c023, End::Trap(Cause::Store, TEXT)), // csc c8, 0(c9)
+    (0x0083_c023, End::Trap(Cause::StoreCap, TEXT)), // csc c8, 0(c7)
+    (0x0042_80e7, End::Trap(Cause::Sealed, TEXT)), // cjalr c1, 4(c5)
+    (0x0004_00e7, End::Trap(Cause::Execute, TEXT)), // cjalr c1, 0(c8)
+    (0x0404_0503, End::Trap(Cause::Bounds, TEXT)), // lb x10, 64(c8)
+    (0x0024_2503, End::Trap(Cause::Align, TEXT)), // lw x10, 2(c8)
+    (0x0000_0503, End::Trap(Cause::Tag, TEXT)), // lb x10, 0(c0)
+    (0x0003_0503, End::Trap(Cause::Load, TEXT)), // lb x10, 0(c6)
+    (0x0000_0000, End::Illegal(TEXT)),
+    (0x0010_0073, End::Break(TEXT)), // ebreak
+];
+
 #[test]
 fn ends_where_a_check_fails(rt: HostRuntime) -> Result<(), Fail> {
-    for (word, want) in [
-        (0x0084_c023, End::Trap(Cause::Store, TEXT)), // csc c8, 0(c9)
-        (0x0083_c023, End::Trap(Cause::StoreCap, TEXT)), // csc c8, 0(c7)
-        (0x0042_80e7, End::Trap(Cause::Sealed, TEXT)), // cjalr c1, 4(c5)
-        (0x0004_00e7, End::Trap(Cause::Execute, TEXT)), // cjalr c1, 0(c8)
-        (0x0404_0503, End::Trap(Cause::Bounds, TEXT)), // lb x10, 64(c8)
-        (0x0024_2503, End::Trap(Cause::Align, TEXT)), // lw x10, 2(c8)
-        (0x0000_0503, End::Trap(Cause::Tag, TEXT)), // lb x10, 0(c0)
-        (0x0003_0503, End::Trap(Cause::Load, TEXT)), // lb x10, 0(c6)
-        (0x0000_0000, End::Illegal(TEXT)),
-        (0x0010_0073, End::Break(TEXT)), // ebreak
-    ] {
+    for &(word, want) in &ENDS {
         let mut m = machine(rt.alloc(), &[word])?;
         let regs = m.regs;
         assert_eq!(rt; run(rt.alloc(), &mut m, 9), want, "{word:#010x}");

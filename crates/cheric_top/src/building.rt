@@ -7,10 +7,10 @@ ghost use Rattle.cheric_top.specs.Built.{IsBuilt, IsRefusal, HasExtents};
 
 use crate::code::text_of;
 use crate::form::{Program, read_form};
-use ck_base::{Pos, Refusal, Sequence};
-use elf_file::{Image, Sequence as ImageSequence, write};
+use ck_base::{NoMemory, Pos, Refusal, Sequence};
+use elf_file::{Image, write};
 use obj_mem::{Frame, Map};
-use std::alloc::{AllocError, Global};
+use std::alloc::Global;
 
 /// Where the text stands, and so its first instruction.
 const TEXT: u64 = 65_536;
@@ -32,7 +32,7 @@ pub struct Built {
 }
 
 /// The image of a program.
-fn image_of(alloc: Global, program: &Program) -> Result<Image, AllocError>
+fn image_of(alloc: Global, program: &Program) -> Result<Image, NoMemory>
     requires { IsSmall (form_of program.now) }
     ensures { IfOk result (λ image. image ≡ image_of (form_of program.now)) }
 {
@@ -42,19 +42,19 @@ fn image_of(alloc: Global, program: &Program) -> Result<Image, AllocError>
         version: 1,
         entry: TEXT,
         text_base: TEXT,
-        text: ImageSequence::from_vec(text),
+        text: Sequence::from_vec(text),
         initial_base: TABLE.0,
-        initial: ImageSequence::from_vec(initial),
+        initial: Sequence::from_vec(initial),
         table: TABLE,
         heap: HEAP,
         stack: STACK,
-        relocs: ImageSequence::from_vec(Vec::new(alloc)),
-        lines: ImageSequence::from_vec(Vec::new(alloc)),
+        relocs: Sequence::from_vec(Vec::new(alloc)),
+        lines: Sequence::from_vec(Vec::new(alloc)),
     })
 }
 
 /// The map of an image: `main` is its only function, begins the text and has a frame of 16 bytes.
-fn map_of(alloc: Global, image: &Image) -> Result<Map, AllocError>
+fn map_of(alloc: Global, image: &Image) -> Result<Map, NoMemory>
     ensures { IfOk result (λ map. HasExtents map image.now) }
 {
     let entries = vec![in alloc; image.entry]?;

@@ -6,9 +6,10 @@ ghost use Rattle.cheric_top.specs.Code.{call_code, code_bytes, code_of, filler, 
 ghost use Rattle.cheric_top.specs.Program.{form_of};
 
 use crate::form::Program;
+use ck_base::NoMemory;
 use rv_code::encode;
 use rv_instr::{ImmOp, Instr, Reg};
-use std::alloc::{AllocError, Global};
+use std::alloc::Global;
 
 /// The environment call that puts a byte, and the one that exits.
 const PUT: u16 = 1;
@@ -17,16 +18,16 @@ const EXIT: u16 = 3;
 
 /// Appends an instruction.
 #[tactic(auto, unfolding(tag_mem::specs::Numbers::little_bytes))]
-fn push(text: &mut Vec<u8>, i: Instr) -> Result<(), AllocError>
+fn push(text: &mut Vec<u8>, i: Instr) -> Result<(), NoMemory>
     requires { InRange i }
     ensures { OnOk result (text.new.items ≡ text.old.items ++ instr_bytes i) }
 {
-    text.extend_from_slice(&encode(i).to_le_bytes())
+    Ok(text.extend_from_slice(&encode(i).to_le_bytes())?)
 }
 
 /// Appends the setting of register 10 and a call of the environment.
 #[tactic(auto, unfolding(rv_instr::specs::Range::InRange))]
-fn push_call(text: &mut Vec<u8>, number: u16, call: u16) -> Result<(), AllocError>
+fn push_call(text: &mut Vec<u8>, number: u16, call: u16) -> Result<(), NoMemory>
     requires number { number ≤ 2047 }
     requires call { call ≤ 3 }
     ensures { OnOk result (text.new.items ≡ text.old.items ++ code_bytes (call_code number call)) }
@@ -44,7 +45,7 @@ fn push_call(text: &mut Vec<u8>, number: u16, call: u16) -> Result<(), AllocErro
 
 /// Appends so many words `cjal c0,0`.
 #[tactic(auto, unfolding(rv_instr::specs::Range::InRange))]
-fn fill(text: &mut Vec<u8>, count: usize) -> Result<(), AllocError>
+fn fill(text: &mut Vec<u8>, count: usize) -> Result<(), NoMemory>
     ensures { OnOk result (text.new.items ≡ text.old.items ++ code_bytes (filler count)) }
 {
     for _ in 0..count {
@@ -54,7 +55,7 @@ fn fill(text: &mut Vec<u8>, count: usize) -> Result<(), AllocError>
 }
 
 /// The code of a program, which puts each number and exits with the last.
-fn code_of(alloc: Global, program: &Program) -> Result<Vec<u8>, AllocError>
+fn code_of(alloc: Global, program: &Program) -> Result<Vec<u8>, NoMemory>
     requires { IsSmall (form_of program.now) }
     ensures { IfOk result (λ text. text.items ≡ code_bytes (code_of (form_of program.now))) }
 {
@@ -67,7 +68,7 @@ fn code_of(alloc: Global, program: &Program) -> Result<Vec<u8>, AllocError>
 }
 
 /// The code of a program, filled to a multiple of 16 bytes.
-pub fn text_of(alloc: Global, program: &Program) -> Result<Vec<u8>, AllocError>
+pub fn text_of(alloc: Global, program: &Program) -> Result<Vec<u8>, NoMemory>
     requires { IsSmall (form_of program.now) }
     ensures { IfOk result (λ text. text.items ≡ text_of (form_of program.now)) }
 {

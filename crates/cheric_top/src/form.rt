@@ -9,7 +9,8 @@ ghost use Rattle.std.specs.List.{prefix_len};
 ghost use Rattle.cheric_top.specs.Form.{IsForm, IsOnlyForm, HasNoForm};
 ghost use Rattle.cheric_top.specs.Program.{form_of};
 
-use std::alloc::{AllocError, Global};
+use ck_base::NoMemory;
+use std::alloc::Global;
 
 // The most numbers that a program of the form puts.
 const MOST_PUTS: usize = 300;
@@ -90,7 +91,7 @@ fn number_between<'a>(text: &'a [u8], before: &[u8], after: &[u8]) -> Option<(u1
 
 /// Reads a file of the form: the program that the file is, or `None` where it is none. Want of memory is the
 /// only error, and may come at any file.
-pub fn read_form(alloc: Global, file: &[u8]) -> Result<Option<Program>, AllocError>
+pub fn read_form(alloc: Global, file: &[u8]) -> Result<Option<Program>, NoMemory>
     ensures read { IfOk result (λ found. IfSome found (λ program. IsForm file.now (form_of program))) }
     ensures only { IfOk result (λ found. IfSome found (λ program. IsOnlyForm file.now (form_of program))) }
     ensures refused { IfOk result (λ found. IfNone found (HasNoForm file.now)) }
@@ -122,7 +123,7 @@ mod tests {
     use std::test::Fail;
 
     // A file of the form's shape that puts 0 so many times.
-    fn zeros(alloc: Global, count: usize) -> Result<Vec<u8>, AllocError> {
+    fn zeros(alloc: Global, count: usize) -> Result<Vec<u8>, NoMemory> {
         let mut file = Vec::new(alloc);
         file.extend_from_slice(b"int main(void){")?;
         for _ in 0..count {
@@ -132,23 +133,25 @@ mod tests {
         Ok(file)
     }
 
+    // Files with the numbers that they put and the one that they return.
+    const FORMS: [(&str, &[u16], u16); 4] = [
+        (
+            "int main(void){putchar(72);putchar(105);return 0;}",
+            &[72, 105],
+            0,
+        ),
+        ("int main(void){return 2047;}", &[], 2047),
+        ("int main(void){putchar(2047);return 9;}", &[2047], 9),
+        (
+            "int main(void){putchar(0);putchar(10);putchar(999);return 1000;}",
+            &[0, 10, 999],
+            1000,
+        ),
+    ];
+
     #[test]
     fn reads_files_of_the_form(rt: HostRuntime) -> Result<(), Fail> {
-        let cases: [(&str, &[u16], u16); 4] = [
-            (
-                "int main(void){putchar(72);putchar(105);return 0;}",
-                &[72, 105],
-                0,
-            ),
-            ("int main(void){return 2047;}", &[], 2047),
-            ("int main(void){putchar(2047);return 9;}", &[2047], 9),
-            (
-                "int main(void){putchar(0);putchar(10);putchar(999);return 1000;}",
-                &[0, 10, 999],
-                1000,
-            ),
-        ];
-        for (file, puts, last) in cases {
+        for &(file, puts, last) in &FORMS {
             let program = read_form(rt.alloc(), file.as_bytes())?.ok_or(file)?;
             assert_eq!(rt; program.puts.as_slice(), puts, "{file}");
             assert_eq!(rt; program.last, last, "{file}");
@@ -158,25 +161,27 @@ mod tests {
         Ok(())
     }
 
+    // Files of no form.
+    const OTHERS: [&str; 14] = [
+        "",
+        "int main(void){return 2048;}",
+        "int main(void){return 10000000000000000000000;}",
+        "int main(void){return 00;}",
+        "int main(void){putchar(07);return 0;}",
+        "int main(void){putchar(2048);return 0;}",
+        "int main(void){putchar();return 0;}",
+        "int main(void){putchar(1) ;return 0;}",
+        "int main(void){return +1;}",
+        "int main(void){return 0;}\n",
+        " int main(void){return 0;}",
+        "int main(void){return 0;",
+        "int main(void){putchar(1);}",
+        "int main(void){return 0;return 0;}",
+    ];
+
     #[test]
     fn refuses_other_files(rt: HostRuntime) -> Result<(), Fail> {
-        let cases = [
-            "",
-            "int main(void){return 2048;}",
-            "int main(void){return 10000000000000000000000;}",
-            "int main(void){return 00;}",
-            "int main(void){putchar(07);return 0;}",
-            "int main(void){putchar(2048);return 0;}",
-            "int main(void){putchar();return 0;}",
-            "int main(void){putchar(1) ;return 0;}",
-            "int main(void){return +1;}",
-            "int main(void){return 0;}\n",
-            " int main(void){return 0;}",
-            "int main(void){return 0;",
-            "int main(void){putchar(1);}",
-            "int main(void){return 0;return 0;}",
-        ];
-        for file in cases {
+        for &file in &OTHERS {
             assert!(rt; read_form(rt.alloc(), file.as_bytes())?.is_none(), "{file}");
         }
         let many = read_form(rt.alloc(), &zeros(rt.alloc(), 301)?)?;

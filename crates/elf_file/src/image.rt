@@ -1,6 +1,6 @@
 //! An image, before it is a file.
 
-use crate::sequence::Sequence;
+use ck_base::Sequence;
 
 /// A capability that loading stores: its bounds are `base` and `length`, its address is `base` plus `offset`.
 #[derive(Clone, Copy, Debug, PartialEq, Eq)]

@@ -12,13 +12,12 @@ mod image;
 mod parts;
 mod reading;
 mod refusal;
-mod sequence;
 mod view;
 mod writing;
 
+pub use ck_base::Sequence;
 pub use image::{Image, Line, Reloc};
 pub use refusal::ElfRefusal;
-pub use sequence::Sequence;
 pub use view::View;
 pub use writing::write;
 

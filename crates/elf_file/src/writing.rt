@@ -13,6 +13,7 @@ use crate::headers::{
     Headers, IDENT, NAMES, file_header, image_words, program_headers, section_headers,
 };
 use crate::image::{Image, Line, Reloc};
+use ck_base::NoMemory;
 use std::alloc::{AllocError, Global};
 
 /// The headers of an image's file.
@@ -133,7 +134,7 @@ fn put_parts(out: &mut Vec<u8>, h: Headers, i: &Image) -> Result<(), AllocError>
 }
 
 /// The file of an image.
-fn file(alloc: Global, i: &Image) -> Result<Vec<u8>, AllocError>
+fn file(alloc: Global, i: &Image) -> Result<Vec<u8>, NoMemory>
     ensures bytes { IfOk result (λ file. file.items ≡ file_of i.now) }
     ensures short { IfOk result (λ file. length file.items < 2 ^ 64) }
     ensures fits { OnOk result (FitsFields i.now) }
@@ -148,7 +149,7 @@ fn file(alloc: Global, i: &Image) -> Result<Vec<u8>, AllocError>
 }
 
 /// The file of an image: no flags, zero bytes between its parts, and nothing after the last one.
-pub fn write(alloc: Global, i: &Image) -> Result<Vec<u8>, AllocError>
+pub fn write(alloc: Global, i: &Image) -> Result<Vec<u8>, NoMemory>
     ensures bytes { IfOk result (λ file. file.items ≡ file_of i.now) }
     // Reading it gives the image again, where that keeps the rules of the format.
     ensures read_back { KeepsRules i.now → IfOk result (λ file. reading file.items ≡ Ok i.now) }

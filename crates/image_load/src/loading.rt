@@ -15,8 +15,9 @@ use crate::refusal::LoadRefusal;
 use cap_concentrate::{Fields, flip_null, pack};
 use cap_machine::Machine;
 use cap_ops::{Cap, UNSEALED, null};
+use ck_base::NoMemory;
 use elf_file::View;
-use std::alloc::{AllocError, Global};
+use std::alloc::Global;
 use tag_mem::{Mem, Region};
 
 /// All permissions but Execute.
@@ -35,7 +36,7 @@ fn place(regions: &[Region], base: u64) -> usize
 
 /// Adds the region of an extent behind those of lower base; an extent of no bytes has none.
 #[tactic(auto, unfolding(crate::specs::State::with_region))]
-fn insert(regions: &mut Vec<Region>, e: Extent) -> Result<(), AllocError>
+fn insert(regions: &mut Vec<Region>, e: Extent) -> Result<(), NoMemory>
     ensures { OnOk result (regions.new.items ≡ with_region e regions.old.items) }
 {
     if e.1 == 0 {
@@ -53,7 +54,7 @@ fn insert(regions: &mut Vec<Region>, e: Extent) -> Result<(), AllocError>
 }
 
 /// The regions of an image, by ascending base.
-fn regions_of(alloc: Global, view: &View<'_>) -> Result<Vec<Region>, AllocError>
+fn regions_of(alloc: Global, view: &View<'_>) -> Result<Vec<Region>, NoMemory>
     ensures { IfOk result (λ regions. regions.items ≡ regions_of (segments_of view.now)) }
 {
     let mut regions = Vec::new(alloc);
@@ -86,7 +87,7 @@ fn store_relocs(mem: &mut Mem, view: &View<'_>)
 
 /// The memory of an image that is not refused.
 #[tactic(auto, unfolding(crate::specs::State::memory_of))]
-fn memory_of(alloc: Global, view: &View<'_>) -> Result<Mem, AllocError>
+fn memory_of(alloc: Global, view: &View<'_>) -> Result<Mem, NoMemory>
     requires { judged view.now ≡ Ok tt }
     ensures { IfOk result (λ mem. mem ≡ memory_of view.now) }
 {

@@ -115,92 +115,142 @@ fn loads_the_first_state(rt: HostRuntime) -> Result<(), Fail> {
     Ok(())
 }
 
+const BESIDE: Reloc = Reloc {
+    place: INITIAL + 8,
+    ..POINTER
+};
+
+const BEHIND: Reloc = Reloc {
+    place: INITIAL + 64,
+    ..POINTER
+};
+
+const USER: Reloc = Reloc {
+    perms: 128,
+    ..POINTER
+};
+
+const SEALED_DATA: Reloc = Reloc {
+    perms: 0x8000_0000_0000_0001,
+    ..POINTER
+};
+
+const INEXACT: Reloc = Reloc {
+    length: 0x10_0001,
+    ..POINTER
+};
+
+const FAR: Reloc = Reloc {
+    offset: 0x1_0000_0000,
+    ..POINTER
+};
+
+/// The entry, the table's length, the stack and the relocations, with the refusal.
+const REFUSED: [(u64, u64, (u64, u64), [Reloc; 2], LoadRefusal); 15] = [
+    (
+        TEXT,
+        32,
+        (STACK + 8, 4_096),
+        [POINTER, FUNCTION],
+        LoadRefusal::Segment,
+    ),
+    (
+        TEXT,
+        32,
+        (STACK, 4_104),
+        [POINTER, FUNCTION],
+        LoadRefusal::Segment,
+    ),
+    (
+        TEXT,
+        32,
+        (32_768, 4_096),
+        [POINTER, FUNCTION],
+        LoadRefusal::Segment,
+    ),
+    (
+        TEXT,
+        32,
+        (STACK, 0x1000_0000),
+        [POINTER, FUNCTION],
+        LoadRefusal::Segment,
+    ),
+    (
+        TEXT + 2,
+        32,
+        (TEXT - 16, 32),
+        [POINTER, FUNCTION],
+        LoadRefusal::Overlap,
+    ),
+    (
+        TEXT,
+        80,
+        (STACK, 4_096),
+        [POINTER, FUNCTION],
+        LoadRefusal::Overlap,
+    ),
+    (
+        TEXT + 2,
+        32,
+        (STACK, 4_096),
+        [BESIDE, USER],
+        LoadRefusal::Entry,
+    ),
+    (
+        TEXT + 16,
+        32,
+        (STACK, 4_096),
+        [POINTER, FUNCTION],
+        LoadRefusal::Entry,
+    ),
+    (TEXT, 32, (STACK, 4_096), [BESIDE, USER], LoadRefusal::Place),
+    (
+        TEXT,
+        32,
+        (STACK, 4_096),
+        [POINTER, BEHIND],
+        LoadRefusal::Place,
+    ),
+    (
+        TEXT,
+        32,
+        (STACK, 4_096),
+        [USER, BESIDE],
+        LoadRefusal::Bounds,
+    ),
+    (
+        TEXT,
+        32,
+        (STACK, 4_096),
+        [POINTER, SEALED_DATA],
+        LoadRefusal::Bounds,
+    ),
+    (
+        TEXT,
+        32,
+        (STACK, 4_096),
+        [INEXACT, FUNCTION],
+        LoadRefusal::Bounds,
+    ),
+    (
+        TEXT,
+        32,
+        (STACK, 4_096),
+        [FAR, FUNCTION],
+        LoadRefusal::Bounds,
+    ),
+    (
+        TEXT,
+        32,
+        (STACK, 0x10_0010),
+        [POINTER, FUNCTION],
+        LoadRefusal::Bounds,
+    ),
+];
+
 #[test]
 fn refuses_by_the_first_test(rt: HostRuntime) -> Result<(), Fail> {
-    let stack = (STACK, 4_096);
-    let beside = Reloc {
-        place: INITIAL + 8,
-        ..POINTER
-    };
-    let behind = Reloc {
-        place: INITIAL + 64,
-        ..POINTER
-    };
-    let user = Reloc {
-        perms: 128,
-        ..POINTER
-    };
-    let sealed_data = Reloc {
-        perms: 0x8000_0000_0000_0001,
-        ..POINTER
-    };
-    let inexact = Reloc {
-        length: 0x10_0001,
-        ..POINTER
-    };
-    let far = Reloc {
-        offset: 0x1_0000_0000,
-        ..POINTER
-    };
-    for (entry, table, stack, relocs, want) in [
-        (
-            TEXT,
-            32,
-            (STACK + 8, 4_096),
-            [POINTER, FUNCTION],
-            LoadRefusal::Segment,
-        ),
-        (
-            TEXT,
-            32,
-            (STACK, 4_104),
-            [POINTER, FUNCTION],
-            LoadRefusal::Segment,
-        ),
-        (
-            TEXT,
-            32,
-            (32_768, 4_096),
-            [POINTER, FUNCTION],
-            LoadRefusal::Segment,
-        ),
-        (
-            TEXT,
-            32,
-            (STACK, 0x1000_0000),
-            [POINTER, FUNCTION],
-            LoadRefusal::Segment,
-        ),
-        (
-            TEXT + 2,
-            32,
-            (TEXT - 16, 32),
-            [POINTER, FUNCTION],
-            LoadRefusal::Overlap,
-        ),
-        (TEXT, 80, stack, [POINTER, FUNCTION], LoadRefusal::Overlap),
-        (TEXT + 2, 32, stack, [beside, user], LoadRefusal::Entry),
-        (
-            TEXT + 16,
-            32,
-            stack,
-            [POINTER, FUNCTION],
-            LoadRefusal::Entry,
-        ),
-        (TEXT, 32, stack, [beside, user], LoadRefusal::Place),
-        (TEXT, 32, stack, [POINTER, behind], LoadRefusal::Place),
-        (TEXT, 32, stack, [user, beside], LoadRefusal::Bounds),
-        (TEXT, 32, stack, [POINTER, sealed_data], LoadRefusal::Bounds),
-        (TEXT, 32, stack, [inexact, FUNCTION], LoadRefusal::Bounds),
-        (TEXT, 32, stack, [far, FUNCTION], LoadRefusal::Bounds),
-        (
-            TEXT,
-            32,
-            (STACK, 0x10_0010),
-            [POINTER, FUNCTION],
-            LoadRefusal::Bounds,
-        ),
-    ] {
+    for &(entry, table, stack, relocs, want) in &REFUSED {
         let i = image(rt.alloc(), entry, table, stack, relocs)?;
         assert_eq!(rt;
             loaded(rt.alloc(), &i)?.err(),

@@ -104,16 +104,16 @@ const BRANCHES: [(u32, BranchOp, u8, u8, i32); 8] = [
 
 #[test]
 fn encodes_jumps_and_branches(rt: HostRuntime) {
-    for (word, op, rd, field) in UPPER {
+    for &(word, op, rd, field) in &UPPER {
         agrees(&rt, word, Instr::Upper(op, reg(&rt, rd), field));
     }
-    for (word, rd, offset) in CJAL {
+    for &(word, rd, offset) in &CJAL {
         agrees(&rt, word, Instr::Cjal(reg(&rt, rd), offset));
     }
-    for (word, rd, rs1, offset) in CJALR {
+    for &(word, rd, rs1, offset) in &CJALR {
         agrees(&rt, word, Instr::Cjalr(reg(&rt, rd), reg(&rt, rs1), offset));
     }
-    for (word, op, rs1, rs2, offset) in BRANCHES {
+    for &(word, op, rs1, rs2, offset) in &BRANCHES {
         agrees(
             &rt,
             word,
@@ -157,21 +157,21 @@ const CLC: [(u32, u8, u8, i32); 3] = [
 
 #[test]
 fn encodes_loads_and_stores(rt: HostRuntime) {
-    for (word, op, rd, rs1, offset) in LOADS {
+    for &(word, op, rd, rs1, offset) in &LOADS {
         agrees(
             &rt,
             word,
             Instr::Load(op, reg(&rt, rd), reg(&rt, rs1), offset),
         );
     }
-    for (word, op, rs2, rs1, offset) in STORES {
+    for &(word, op, rs2, rs1, offset) in &STORES {
         agrees(
             &rt,
             word,
             Instr::Store(op, reg(&rt, rs2), reg(&rt, rs1), offset),
         );
     }
-    for (word, rd, rs1, offset) in CLC {
+    for &(word, rd, rs1, offset) in &CLC {
         agrees(&rt, word, Instr::Clc(reg(&rt, rd), reg(&rt, rs1), offset));
     }
 }
@@ -217,21 +217,21 @@ const CAP_IMMEDIATES: [(u32, CapImmOp, u8, u8, i32); 6] = [
 
 #[test]
 fn encodes_immediates(rt: HostRuntime) {
-    for (word, op, rd, rs1, number) in IMMEDIATES {
+    for &(word, op, rd, rs1, number) in &IMMEDIATES {
         agrees(
             &rt,
             word,
             Instr::Imm(op, reg(&rt, rd), reg(&rt, rs1), number),
         );
     }
-    for (word, op, rd, rs1, count) in SHIFTS {
+    for &(word, op, rd, rs1, count) in &SHIFTS {
         agrees(
             &rt,
             word,
             Instr::Shift(op, reg(&rt, rd), reg(&rt, rs1), count),
         );
     }
-    for (word, op, rd, rs1, number) in CAP_IMMEDIATES {
+    for &(word, op, rd, rs1, number) in &CAP_IMMEDIATES {
         agrees(
             &rt,
             word,
@@ -296,21 +296,21 @@ const CAP_GETS: [(u32, CapGetOp, u8, u8); 11] = [
 
 #[test]
 fn encodes_registers(rt: HostRuntime) {
-    for (word, op, rd, rs1, rs2) in REGISTERS {
+    for &(word, op, rd, rs1, rs2) in &REGISTERS {
         agrees(
             &rt,
             word,
             Instr::Op(op, reg(&rt, rd), reg(&rt, rs1), reg(&rt, rs2)),
         );
     }
-    for (word, op, rd, rs1, rs2) in CAP_REGISTERS {
+    for &(word, op, rd, rs1, rs2) in &CAP_REGISTERS {
         agrees(
             &rt,
             word,
             Instr::CapReg(op, reg(&rt, rd), reg(&rt, rs1), reg(&rt, rs2)),
         );
     }
-    for (word, op, rd, rs1) in CAP_GETS {
+    for &(word, op, rd, rs1) in &CAP_GETS {
         agrees(&rt, word, Instr::CapGet(op, reg(&rt, rd), reg(&rt, rs1)));
     }
 }
@@ -334,7 +334,7 @@ const NO_INSTRUCTIONS: [u32; 100] = [
 
 #[test]
 fn refuses_words_outside_the_table(rt: HostRuntime) {
-    for word in NO_INSTRUCTIONS {
+    for &word in &NO_INSTRUCTIONS {
         assert_eq!(rt; decode(word), None, "at {word:#010x}");
     }
 }

@@ -6,7 +6,8 @@ ghost use Rattle.tag_mem.specs.Memory.{area_with};
 ghost use Rattle.tag_mem.specs.Regions.{IsRegion, fresh_area};
 
 use crate::region::Region;
-use std::alloc::{AllocError, Global};
+use ck_base::NoMemory;
+use std::alloc::Global;
 use std::marker::Model;
 
 /// The bytes of a granule: as many as share one tag.
@@ -32,7 +33,7 @@ impl Model for Area {
 
 impl Area {
     /// A region of zeros without tags.
-    pub fn zeroed(alloc: Global, region: Region) -> Result<Area, AllocError>
+    pub fn zeroed(alloc: Global, region: Region) -> Result<Area, NoMemory>
         requires { IsRegion region }
         ensures { IfOk result (λ area. area ≡ fresh_area region) }
     {

@@ -11,7 +11,8 @@ ghost use Rattle.tag_mem.specs.Regions.{LieFrom, fresh, IsZeroed};
 use crate::area::Area;
 use crate::number::little_number;
 use crate::region::Region;
-use std::alloc::{AllocError, Global};
+use ck_base::NoMemory;
+use std::alloc::Global;
 use std::marker::Model;
 
 /// The memory of a machine. All of its room is taken when it is made, so no access needs more.
@@ -34,7 +35,7 @@ impl Model for Mem {
 impl Mem {
     /// Memory of zeros without tags, in these regions. They ascend without overlap, their bases and lengths are multiples of
     /// 16, and they end at most at 2^40. It fails only for want of memory.
-    pub fn new(alloc: Global, regions: &Vec<Region>) -> Result<Mem, AllocError>
+    pub fn new(alloc: Global, regions: &Vec<Region>) -> Result<Mem, NoMemory>
         requires { LieFrom 0 regions.now.items }
         ensures value { IfOk result (λ mem. mem ≡ fresh regions.now.items) }
         ensures by_address { IfOk result (λ mem. IsZeroed mem regions.now.items) }

@@ -1,0 +1,207 @@
+//! Images by hand: written to their files, read, loaded and run.
+
+use cap_machine::End;
+use cheric_top::build;
+use ck_base::{NoMemory, SureSink, SureSource};
+use elf_file::{ElfRefusal, Image, Reloc, Sequence, View, write};
+use image_load::{LoadRefusal, load};
+use std::alloc::Global;
+use std::test::Fail;
+
+const TEXT: u64 = 65_536;
+
+const TABLE: u64 = 131_072;
+
+const HEAP: u64 = 16_777_216;
+
+const STACK: u64 = 33_554_432;
+
+/// A relocation that no test refuses: all permissions but Execute on the table.
+const RELOC: Reloc = Reloc {
+    place: TABLE,
+    base: TABLE,
+    offset: 0,
+    length: 48,
+    perms: 125,
+};
+
+/// What becomes of the bytes of a file.
+#[derive(Clone, Copy, Debug, PartialEq, Eq)]
+enum Outcome {
+    NotRead(ElfRefusal),
+    NotLoaded(LoadRefusal),
+    Ended(End),
+}
+
+fn outcome_of(alloc: Global, file: &[u8]) -> Outcome {
+    let view = match View::read(file) {
+        Ok(view) => view,
+        Err(refusal) => return Outcome::NotRead(refusal),
+    };
+    match load(alloc, &view) {
+        Ok(mut machine) => {
+            let mut input = SureSource::new(Vec::new(alloc));
+            Outcome::Ended(machine.run(100, &mut input, &mut SureSink::new()))
+        }
+        Err(refusal) => Outcome::NotLoaded(refusal),
+    }
+}
+
+/// The file of an image of four equal words.
+fn file(
+    alloc: Global,
+    version: u64,
+    word: u32,
+    entry: u64,
+    heap: u64,
+    reloc: Reloc,
+) -> Result<Vec<u8>, NoMemory> {
+    let text = [word.to_le_bytes(); 4];
+    let image = Image {
+        version,
+        entry,
+        text_base: TEXT,
+        text: Sequence::from_vec(Vec::from_slice(alloc, text.as_flattened())?),
+        initial_base: TABLE,
+        initial: Sequence::from_vec(vec![in alloc; 0; 48]?),
+        table: (TABLE, 48),
+        heap: (heap, 4096),
+        stack: (STACK, 4096),
+        relocs: Sequence::from_vec(vec![in alloc; reloc]?),
+        lines: Sequence::from_vec(Vec::new(alloc)),
+    };
+    write(alloc, &image)
+}
+
+/// Version, word, entry and the heap's base, with what becomes of the image.
+const IMAGES: [(u64, u32, u64, u64, Outcome); 10] = [
+    (1, 0x0010_0073, TEXT, HEAP, Outcome::Ended(End::Break(TEXT))),
+    (1, 0, TEXT, HEAP, Outcome::Ended(End::Illegal(TEXT))),
+    (0, 0, TEXT, HEAP, Outcome::NotRead(ElfRefusal::Version)),
+    (2, 0, TEXT, HEAP, Outcome::NotRead(ElfRefusal::Version)),
+    (
+        1,
+        0,
+        TEXT,
+        HEAP + 8,
+        Outcome::NotLoaded(LoadRefusal::Segment),
+    ),
+    (
+        1,
+        0,
+        TEXT,
+        TEXT - 4096,
+        Outcome::NotLoaded(LoadRefusal::Segment),
+    ),
+    (1, 0, TEXT, STACK, Outcome::NotLoaded(LoadRefusal::Overlap)),
+    (1, 0, TEXT, TEXT, Outcome::NotLoaded(LoadRefusal::Overlap)),
+    (1, 0, TEXT + 2, HEAP, Outcome::NotLoaded(LoadRefusal::Entry)),
+    (
+        1,
+        0,
+        TEXT + 16,
+        HEAP,
+        Outcome::NotLoaded(LoadRefusal::Entry),
+    ),
+];
+
+/// Place, base, length and permissions of the relocation, with what becomes of an image of the words `ebreak`.
+const RELOCS: [(u64, u64, u64, u64, Outcome); 5] = [
+    (
+        TABLE + 32,
+        TEXT,
+        16,
+        0x8000_0000_0000_0003,
+        Outcome::Ended(End::Break(TEXT)),
+    ),
+    (
+        TABLE + 8,
+        TABLE,
+        48,
+        125,
+        Outcome::NotLoaded(LoadRefusal::Place),
+    ),
+    (
+        TABLE + 48,
+        TABLE,
+        48,
+        125,
+        Outcome::NotLoaded(LoadRefusal::Place),
+    ),
+    (
+        TABLE,
+        TEXT + 16,
+        4097,
+        125,
+        Outcome::NotLoaded(LoadRefusal::Bounds),
+    ),
+    (
+        TABLE,
+        TABLE,
+        48,
+        128,
+        Outcome::NotLoaded(LoadRefusal::Bounds),
+    ),
+];
+
+#[test]
+fn images_end_or_are_refused(rt: HostRuntime) -> Result<(), Fail> {
+    let alloc = rt.alloc();
+    for &(version, word, entry, heap, want) in &IMAGES {
+        let file = file(alloc, version, word, entry, heap, RELOC)?;
+        assert_eq!(rt;
+            outcome_of(alloc, &file),
+            want,
+            "version {version}, entry {entry}, heap {heap}"
+        );
+    }
+    for &(place, base, length, perms, want) in &RELOCS {
+        let reloc = Reloc {
+            place,
+            base,
+            offset: 0,
+            length,
+            perms,
+        };
+        let file = file(alloc, 1, 0x0010_0073, TEXT, HEAP, reloc)?;
+        assert_eq!(rt; outcome_of(alloc, &file), want, "{reloc:?}");
+    }
+    Ok(())
+}
+
+/// What becomes of a built file that is cut to a length.
+fn cut(len: usize) -> Outcome {
+    Outcome::NotRead(match len {
+        0..64 => ElfRefusal::Short,
+        64..736 => ElfRefusal::Tables,
+        _ => ElfRefusal::Part,
+    })
+}
+
+/// What becomes of a built file whose header byte at a place is complemented. A reader takes any flags.
+fn complemented(place: usize) -> Outcome {
+    match place {
+        0..16 | 18..20 => Outcome::NotRead(ElfRefusal::Ident),
+        48..52 => Outcome::Ended(End::Exit(0)),
+        _ => Outcome::NotRead(ElfRefusal::Field),
+    }
+}
+
+#[test]
+fn built_files_are_refused_at_each_cut_and_header_byte(rt: HostRuntime) -> Result<(), Fail> {
+    let alloc = rt.alloc();
+    let mut elf = build(alloc, b"int main(void){putchar(72);return 0;}")?.elf;
+    for len in 0..elf.len() {
+        assert_eq!(rt; outcome_of(alloc, &elf[..len]), cut(len), "{len} bytes");
+    }
+    for place in 0..elf.len().min(736) {
+        elf[place] = !elf[place];
+        assert_eq!(rt;
+            outcome_of(alloc, &elf),
+            complemented(place),
+            "byte {place}"
+        );
+        elf[place] = !elf[place];
+    }
+    Ok(())
+}
