@@ -238,4 +238,6 @@ pub struct Typed {
     pub funs: Sequence<FunDef>,
     pub exprs: Sequence<Expr>,
     pub stmts: Sequence<Stmt>,
+    /// The number of the function `main` (C11 5.1.2.2.1).
+    pub main: u32,
 }

@@ -1,0 +1,10 @@
+pub mod Depth
+pub mod Aligned
+pub mod OneAnswer
+pub mod Forest
+pub mod Uses
+pub mod Weighed
+pub mod ViewLayout
+pub mod ViewRoom
+pub mod OneFile
+pub mod Examples
