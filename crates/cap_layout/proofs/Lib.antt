@@ -1,0 +1,4 @@
+pub mod Lengths
+pub mod Rows
+pub mod Steps
+pub mod Places

@@ -1,0 +1,140 @@
+// The counts of objects and copies.
+ghost use Rattle.std.specs.Prelude.{◌≡◌, ◌≤◌, sum_by, slice_get};
+ghost use Rattle.c_tree.specs.Layout.{extent, bare, size_limit};
+ghost use Rattle.c_tree.specs.Weight.{counted};
+ghost use Rattle.c_tree.specs.Counts.{parts, size_of, var_granules, fun_granules, granules, is_record, copied, expr_copies, value_copies, stmt_copies, copies};
+
+use crate::owning::owned;
+use crate::records::{Record, record_at};
+use crate::sizes::layout;
+use c_tree::{Expr, ExprKind, FunDef, Stmt, StmtKind, Typed, VarDef};
+
+fn parts(n: u64) -> u64
+    requires { n ≤ 4294967296 }
+    ensures { result ≡ parts n }
+{
+    n.div_ceil(16)
+}
+
+fn size_of(p: &Typed, t: u32) -> u64
+    ensures is { result ≡ size_of (extent p.now.types t) }
+    ensures bound { result ≤ size_limit }
+{
+    match layout(p, t) {
+        Ok(l) => l.size,
+        Err(_) => 0,
+    }
+}
+
+fn var_granules(p: &Typed, v: &VarDef) -> u64
+    ensures { result ≡ var_granules p.now.types v.now }
+{
+    if v.simple {
+        0
+    } else {
+        parts(owned(size_of(p, v.of)).length)
+    }
+}
+
+fn fun_granules(p: &Typed, f: &FunDef) -> u64
+    ensures { result ≡ counted (fun_granules p.now.types f.now) }
+{
+    let vars = f.vars.as_slice();
+    let mut total: u64 = 0;
+    for v in vars {
+        total = total.saturating_add(var_granules(p, v));
+    }
+    total
+}
+
+/// How many parts of 16 bytes, rounded up for each object, all locals that are objects have. A count of 2^64 or more is 2^64 - 1
+/// here. A type without a layout counts nothing.
+#[tactic(auto, unfolding(c_tree::specs::Counts::granules))]
+pub fn granules(p: &Typed) -> u64
+    ensures { result ≡ counted (granules p.now) }
+{
+    let funs = p.funs.as_slice();
+    let mut total: u64 = 0;
+    for f in funs {
+        total = total.saturating_add(fun_granules(p, f));
+    }
+    total
+}
+
+fn is_record(p: &Typed, t: u32) -> bool
+    ensures { result ≡ is_record (bare p.now.types t) }
+{
+    let types = p.types.as_slice();
+    match record_at(types, types.len(), t) {
+        Record::Other => false,
+        Record::Struct(_) | Record::Union(_) => true,
+    }
+}
+
+fn copied(p: &Typed, t: u32) -> u64
+    ensures { result ≡ copied p.now.types t }
+{
+    if is_record(p, t) {
+        parts(size_of(p, t))
+    } else {
+        0
+    }
+}
+
+fn expr_copies(p: &Typed, e: &Expr) -> u64
+    ensures { result ≡ expr_copies p.now.types e.now }
+{
+    match e.kind {
+        ExprKind::Assign(_, _) => copied(p, e.of),
+        _ => 0,
+    }
+}
+
+fn value_copies(p: &Typed, value: u32) -> u64
+    ensures { result ≡ value_copies p.now.types (slice_get p.now.exprs value) }
+{
+    match p.exprs.as_slice().get(value as usize) {
+        None => 0,
+        Some(e) => copied(p, e.of),
+    }
+}
+
+fn stmt_copies(p: &Typed, s: &Stmt) -> u64
+    ensures { result ≡ stmt_copies p.now.types p.now.exprs s.now }
+{
+    match s.kind {
+        StmtKind::Init { value, .. } => value_copies(p, value),
+        _ => 0,
+    }
+}
+
+fn exprs_copies(p: &Typed) -> u64
+    ensures { result ≡ counted (sum_by (expr_copies p.now.types) p.now.exprs) }
+{
+    let exprs = p.exprs.as_slice();
+    let mut total: u64 = 0;
+    for e in exprs {
+        total = total.saturating_add(expr_copies(p, e));
+    }
+    total
+}
+
+fn stmts_copies(p: &Typed) -> u64
+    ensures { result ≡ counted (sum_by (stmt_copies p.now.types p.now.exprs) p.now.stmts) }
+{
+    let stmts = p.stmts.as_slice();
+    let mut total: u64 = 0;
+    for s in stmts {
+        total = total.saturating_add(stmt_copies(p, s));
+    }
+    total
+}
+
+/// How many parts of 16 bytes, rounded up for each copy, are copied by the assignments of structs and unions and by the
+/// initialisations from their values. A count of 2^64 or more is 2^64 - 1 here.
+#[tactic(auto, unfolding(c_tree::specs::Counts::copies))]
+pub fn copies(p: &Typed) -> u64
+    ensures { result ≡ counted (copies p.now) }
+{
+    exprs_copies(p).saturating_add(stmts_copies(p))
+}

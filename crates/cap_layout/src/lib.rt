@@ -1,0 +1,21 @@
+//! Sizes, alignments and member offsets of the types of a C program (C11 6.2.8, 6.7.2.1), and the counts of its objects and
+//! copies. No call takes memory.
+#![tactic(auto)]
+
+mod answers;
+mod counting;
+mod members;
+mod offsets;
+mod owning;
+mod records;
+mod shapes;
+mod sizes;
+
+pub use answers::{Layout, LayoutFault, Owned};
+pub use counting::{copies, granules};
+pub use offsets::offset_of;
+pub use owning::owned;
+pub use sizes::layout;
+
+#[cfg(test)]
+mod tests;
