@@ -55,3 +55,10 @@ pub enum Fault {
     /// The strict meaning is not defined.
     Unspecified(Reason),
 }
+
+/// Which half of the copy of a unit is not done.
+#[derive(Clone, Copy, Debug, PartialEq, Eq)]
+pub enum UnitFault {
+    Load(Fault),
+    Store(Fault),
+}

@@ -2,9 +2,10 @@
 #![tactic(auto)]
 
 mod ending;
+pub mod laws;
 mod map;
 mod value;
 
-pub use ending::{Ending, Fault, Reason};
+pub use ending::{Ending, Fault, Reason, UnitFault};
 pub use map::{Frame, Map, Mode, Slot};
 pub use value::Value;

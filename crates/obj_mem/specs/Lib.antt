@@ -1,0 +1,11 @@
+pub mod Values
+pub mod Objects
+pub mod Access
+pub mod Pointers
+pub mod Comparisons
+pub mod Heap
+pub mod Legal
+pub mod Needs
+pub mod Table
+pub mod Agreement
+pub mod Standing
