@@ -1,0 +1,5 @@
+pub mod Lengths
+pub mod Behind
+pub mod Legal
+pub mod Locals
+pub mod Steps

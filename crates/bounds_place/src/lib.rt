@@ -1,0 +1,11 @@
+//! Places the text, the table, the globals, the literals, the heap and the stack of a program.
+#![tactic(auto)]
+
+mod needs;
+mod placing;
+mod rows;
+
+pub use placing::place;
+
+#[cfg(test)]
+mod tests;

@@ -1,0 +1,137 @@
+// What objects ask of their places.
+ghost use Rattle.std.specs.Prelude.{◌≡◌, ℕ, ◌+◌, ◌^◌, ◌<◌, ◌≤◌, ◌≡◌, map, OnOk, IfOk, sum_by, nat_lt, length};
+ghost use Rattle.std.specs.List.{list_any};
+ghost use Rattle.cap_concentrate.specs.Rounding.{alignment, owned};
+ghost use Rattle.c_tree.specs.Layout.{size_limit};
+ghost use Rattle.cap_layout.specs.Answers.{greatest_align};
+ghost use Rattle.obj_mem.specs.Objects.{object_alignment};
+ghost use Rattle.obj_mem.specs.Legal.{room_of};
+ghost use Rattle.obj_mem.specs.Needs.{need_of, global_need, literal_need, local_needs};
+ghost use Rattle.bounds_place.specs.Rows.{need, room, counted};
+ghost use Rattle.bounds_place.specs.Placing.{data_room, locals_exceed, exceeds};
+
+use c_tree::{FunDef, Typed};
+use cap_concentrate::{alignment_mask, rounded_length};
+use cap_layout::layout;
+use std::alloc::{AllocError, Global};
+
+/// The owned length of an object and its alignment, in bytes.
+#[derive(Clone, Copy, Debug, PartialEq, Eq)]
+pub struct Need {
+    pub owned: u64,
+    pub align: u64,
+}
+
+/// The greatest number of bytes of all globals and literals, and of the locals of one function that are objects, each counted as
+/// its owned length and its alignment.
+pub const LIMIT: u64 = 67_108_864;
+
+// The alignment of a length.
+#[tactic(auto, using(crate::proofs::Lengths::alignment_fits))]
+fn alignment_of(length: u64) -> u64
+    requires { length < 2 ^ 63 }
+    ensures { result ≡ alignment length }
+{
+    !alignment_mask(length) + 1
+}
+
+// The owned length of a length.
+#[tactic(auto, using(crate::proofs::Lengths::owned_fits))]
+fn owned_of(length: u64) -> u64
+    requires { length < 2 ^ 63 }
+    ensures { result ≡ owned length }
+{
+    rounded_length(length)
+}
+
+// An object of `length` bytes whose type has this alignment.
+fn need_for(length: u64, align: u64) -> Need
+    requires { length < 2 ^ 63 }
+    ensures owned { result.owned ≡ owned length }
+    ensures align { result.align ≡ object_alignment align length }
+{
+    Need {
+        owned: owned_of(length),
+        align: align.max(alignment_of(length)).max(16),
+    }
+}
+
+// An object of a type.
+fn need_of(p: &Typed, t: u32) -> Need
+    ensures { (permissions : ℕ) → result ≡ need (need_of p.now.types t permissions) }
+{
+    match layout(p, t) {
+        Ok(l) => need_for(l.size, l.align),
+        Err(_) => need_for(0, 1),
+    }
+}
+
+/// What the globals ask for, in their order.
+pub fn global_needs(alloc: Global, p: &Typed) -> Result<Vec<Need>, AllocError>
+    ensures { IfOk result (λ ns. ns.items ≡ map need (map (global_need p.now.types) p.now.globals)) }
+{
+    let mut needs = Vec::new(alloc);
+    let globals = p.globals.as_slice();
+    for g in globals {
+        needs.push(need_of(p, g.of))?;
+    }
+    Ok(needs)
+}
+
+/// What the literals ask for, in their order.
+pub fn literal_needs(alloc: Global, p: &Typed) -> Result<Vec<Need>, AllocError>
+    ensures { IfOk result (λ ns. ns.items ≡ map need (map literal_need p.now.literals)) }
+{
+    let mut needs = Vec::new(alloc);
+    let literals = p.literals.as_slice();
+    for l in literals {
+        needs.push(need_for(l.bytes.as_slice().len() as u64, 1))?;
+    }
+    Ok(needs)
+}
+
+// A sum and one object more.
+fn with_room(total: u64, n: Need) -> u64
+    ensures { result ≡ counted (total + room n) }
+{
+    total.saturating_add(n.owned).saturating_add(n.align)
+}
+
+/// What objects take at most, wherever they stand. A sum of 2^64 or more is 2^64 - 1 here.
+pub fn room(needs: &[Need]) -> u64
+    ensures { result ≡ counted (sum_by room needs.now) }
+{
+    let mut total: u64 = 0;
+    for n in needs {
+        total = with_room(total, *n);
+    }
+    total
+}
+
+// What the locals of a function that are objects take at most.
+#[tactic(auto, using(crate::proofs::Locals::sum_locals))]
+fn local_room(p: &Typed, f: &FunDef) -> u64
+    ensures { result ≡ counted (room_of (local_needs p.now.types f.now)) }
+{
+    let vars = f.vars.as_slice();
+    let mut total: u64 = 0;
+    for v in vars {
+        if !v.simple {
+            total = with_room(total, need_of(p, v.of));
+        }
+    }
+    total
+}
+
+/// Whether the locals of some function are over the limit.
+pub fn some_locals_exceed(p: &Typed) -> bool
+    ensures { result ≡ list_any (locals_exceed p.now.types) p.now.funs }
+{
+    let funs = p.funs.as_slice();
+    let mut found = false;
+    for f in funs {
+        let over = local_room(p, f) > LIMIT;
+        found = found || over;
+    }
+    found
+}
