@@ -1,0 +1,16 @@
+pub mod Kinds
+pub mod Operations
+pub mod Steps
+pub mod Tree
+pub mod Meaning
+pub mod Statements
+pub mod Calls
+pub mod Modes
+pub mod Compatible
+pub mod Types
+pub mod Expressions
+pub mod Programs
+pub mod Depth
+pub mod Order
+pub mod Runs
+pub mod Unfolding
