@@ -1,0 +1,5 @@
+use Rattle.c_parse.proofs.StatementsComplete.{one_tree}
+use Rattle.c_parse.proofs.laws.one_tree.Goals as goal
+
+pub returns : goal.returns
+returns c = λ tokens x y d e. one_tree d e
