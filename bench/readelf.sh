@@ -1,8 +1,7 @@
 #!/bin/sh
 # bench/readelf.sh [FILE.c]: builds a C file, examples/hi.c by default, and shows that binutils read the ELF file that is
 # written: `readelf -a` and `objdump -d` give no warning, and the machine, the entry, the segments and the sections are right.
-# It needs rt and Debian's binutils-riscv64-linux-gnu, and takes about half a minute. It proves nothing and is no part of the
-# gate.
+# It needs Debian's binutils-riscv64-linux-gnu, and what ./cheric needs. It proves nothing and is no part of the gate.
 set -eu
 
 root=$(CDPATH='' cd -- "$(dirname -- "$0")/.." && pwd)
@@ -15,30 +14,9 @@ fail() {
     exit 1
 }
 
-# A program over copies of the crates, which writes the ELF file of the C file on its standard input.
+# Builds the ELF file of the C file.
 write_elf() {
-    mkdir -p "$work/crates"
-    (cd "$root" && tar cf - --exclude=out --exclude=must-fail crates) | tar xf - -C "$work"
-    cp "$root/HANDLES" "$work/"
-    { cat "$root/crates.txt" && echo 'elf_bytes: cheric_top'; } >"$work/crates.txt"
-    mkdir -p "$work/crates/elf_bytes/src"
-    cat >"$work/crates/elf_bytes/src/main.rt" <<'PROGRAM'
-//! Writes the ELF file of the C file on standard input to standard output.
-#![tactic(auto)]
-
-use cheric_top::build;
-use std::io::{self, Read, Write};
-
-fn main(rt: HostRuntime) -> io::Result<()> {
-    let mut file = Vec::new(rt.alloc());
-    rt.reader().read_to_end(&mut file)?;
-    match build(rt.alloc(), &file) {
-        Ok(built) => rt.stdout().write_all(&built.elf),
-        Err(_) => Err(io::Error::from(io::ErrorKind::InvalidData)),
-    }
-}
-PROGRAM
-    (cd "$work/crates/elf_bytes" && rt try) <"$source" >"$work/elf" 2>"$work/log" ||
+    "$root/cheric" build "$source" --out "$work/elf" 2>"$work/log" ||
         { cat "$work/log" >&2; fail 'no ELF file was written'; }
 }
 

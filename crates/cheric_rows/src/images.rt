@@ -1,5 +1,6 @@
 //! Images by hand: written to their files, read, loaded and run.
 
+use crate::calls::{Answer, answers, one_file};
 use cap_machine::End;
 use cheric_top::build;
 use ck_base::{NoMemory, SureSink, SureSource};
@@ -165,6 +166,44 @@ fn images_end_or_are_refused(rt: HostRuntime) -> Result<(), Fail> {
         };
         let file = file(alloc, 1, 0x0010_0073, TEXT, HEAP, reloc)?;
         assert_eq!(rt; outcome_of(alloc, &file), want, "{reloc:?}");
+    }
+    Ok(())
+}
+
+/// A relocation with bounds that no capability has.
+const WIDE: Reloc = Reloc {
+    place: TABLE,
+    base: TEXT + 16,
+    offset: 0,
+    length: 4097,
+    perms: 125,
+};
+
+/// Version, word, entry, the heap's base and the relocation, with the status and line of the command's mode `exec`.
+const EXECUTED: [(u64, u32, u64, u64, Reloc, u8, &str); 6] = [
+    (1, 0x0010_0073, TEXT, HEAP, RELOC, 6, "break 65536\n"),
+    (1, 0, TEXT, HEAP, RELOC, 6, "illegal 65536\n"),
+    (1, 0, TEXT + 2, HEAP, RELOC, 12, "image 15\n"),
+    (1, 0, TEXT, STACK, RELOC, 12, "image 12\n"),
+    (1, 0, TEXT, HEAP, WIDE, 12, "image 14\n"),
+    (2, 0, TEXT, HEAP, RELOC, 12, "image 6\n"),
+];
+
+#[test]
+fn the_command_runs_or_refuses_images(rt: HostRuntime) -> Result<(), Fail> {
+    let alloc = rt.alloc();
+    for &(version, word, entry, heap, reloc, status, line) in &EXECUTED {
+        let elf = file(alloc, version, word, entry, heap, reloc)?;
+        let mut files = one_file(alloc, "a.elf", &elf, 0)?;
+        let answer = Answer {
+            status,
+            put: "",
+            line,
+        };
+        assert!(rt;
+            answers(alloc, &mut files, "cheric exec a.elf", [0; 2], answer)?,
+            "{line}"
+        );
     }
     Ok(())
 }

@@ -2,6 +2,10 @@
 #![tactic(auto)]
 
 #[cfg(test)]
+mod calls;
+#[cfg(test)]
+mod image_commands;
+#[cfg(test)]
 mod images;
 #[cfg(test)]
 mod run_command;

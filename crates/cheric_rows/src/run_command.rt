@@ -1,61 +1,17 @@
-//! The command over files, an input and sinks in memory, and over ones that tell nothing.
+//! The mode `run` of the command, over files, an input and sinks in memory, and over ones that tell nothing.
 
+use crate::calls::{Answer, answers, one_file, sure_file, words_of};
 use cheric_top::cheric;
-use ck_base::{Files, HostFiles, MemFiles, MemSink, MemSource, NoMemory, StdInput, StdOutput};
+use ck_base::{Files, HostFiles, NoMemory, StdInput, StdOutput};
 use std::alloc::Global;
 use std::fs;
 use std::test::Fail;
 
-/// What the command is given: its words, parted by spaces, the file `a.c`, and the numbers of the calls that fail (0: none) of
-/// the files, the output and the notes.
-#[derive(Clone, Copy)]
-struct Given<'a> {
-    words: &'a str,
-    file: &'a str,
-    failing: [u64; 3],
-}
-
-/// The call that fails.
-fn failing(alloc: Global, call: u64) -> Result<Vec<u64>, NoMemory> {
-    Ok(vec![in alloc; call]?)
-}
-
-fn words_of(alloc: Global, words: &str) -> Result<Vec<String>, NoMemory> {
-    let mut all = Vec::new(alloc);
-    for word in words.split_ascii_whitespace() {
-        all.push(String::from_str(alloc, word)?)?;
-    }
-    Ok(all)
-}
-
-/// Whether the command answers so: its status, and all that it puts to the output and to the notes.
-fn answers(
-    alloc: Global,
-    given: &Given<'_>,
-    status: u8,
-    put: &str,
-    line: &str,
-) -> Result<bool, NoMemory> {
-    let [get, byte, note] = given.failing;
-    let words = words_of(alloc, given.words)?;
-    let names = vec![in alloc; String::from_str(alloc, "a.c")?]?;
-    let contents = vec![in alloc; Vec::from_slice(alloc, given.file.as_bytes())?]?;
-    let mut files = MemFiles::new(names, contents, failing(alloc, get)?);
-    let mut input = MemSource::new(Vec::new(alloc), Vec::new(alloc));
-    let mut out = MemSink::new(alloc, 1024, failing(alloc, byte)?)?;
-    let mut notes = MemSink::new(alloc, 1024, failing(alloc, note)?)?;
-    let found = cheric(alloc, &words, &mut files, &mut input, &mut out, &mut notes);
-    Ok(found == status && out.bytes() == put.as_bytes() && notes.bytes() == line.as_bytes())
-}
+const HI: &str = "int main(void){putchar(72);putchar(105);return 0;}";
 
 /// Files, with their status, output and line.
 const FILES: [(&str, u8, &str, &str); 13] = [
-    (
-        "int main(void){putchar(72);putchar(105);return 0;}",
-        0,
-        "Hi",
-        "exit 0\n",
-    ),
+    (HI, 0, "Hi", "exit 0\n"),
     (
         "int main(void){putchar(328);putchar(361);return 0;}",
         0,
@@ -80,14 +36,44 @@ const FILES: [(&str, u8, &str, &str); 13] = [
     ("", 10, "", "refused 150 1:1\n"),
 ];
 
-/// Words, with their status and line.
-const WORDS: [(&str, u8, &str); 6] = [
-    ("cheric run b.c", 20, "file\n"),
-    ("cheric run", 11, "words\n"),
-    ("cheric", 11, "words\n"),
-    ("", 11, "words\n"),
-    ("cheric runs a.c", 11, "words\n"),
-    ("cheric run a.c b.c", 11, "words\n"),
+/// Lines on a file that puts `Hi` by nine instructions, with their status, output and line.
+const LINES: [(&str, u8, &str, &str); 9] = [
+    ("cheric run a.c --steps 0", 4, "", "steps\n"),
+    ("cheric run a.c --steps 2", 4, "", "steps\n"),
+    ("cheric run a.c --steps 3", 4, "H", "steps\n"),
+    ("cheric run a.c --steps 8", 4, "Hi", "steps\n"),
+    ("cheric run a.c --steps 9", 0, "Hi", "exit 0\n"),
+    ("cheric run a.c --steps 0000000000009", 0, "Hi", "exit 0\n"),
+    ("cheric run a.c --steps 1000000000000", 0, "Hi", "exit 0\n"),
+    ("cheric run b.c", 20, "", "file\n"),
+    ("cheric exec b.c --steps 9", 20, "", "file\n"),
+];
+
+/// Words that are no line.
+const NO_LINES: [&str; 23] = [
+    "",
+    "cheric",
+    "cheric run",
+    "cheric fly a.c",
+    "cheric runs a.c",
+    "cheric run a.c b.c",
+    "cheric run a.c --steps",
+    "cheric run a.c --steps x",
+    "cheric run a.c --steps 9x",
+    "cheric run a.c --steps +9",
+    "cheric run a.c --steps -9",
+    "cheric run a.c --steps=9",
+    "cheric run a.c --step 9",
+    "cheric run a.c --steps 9 9",
+    "cheric run a.c --steps 9 --steps 9",
+    "cheric run a.c --steps 00000000000009",
+    "cheric run a.c --steps 1000000000001",
+    "cheric run a.c --out b",
+    "cheric run --steps 9 a.c",
+    "cheric --steps 9 run a.c",
+    "cheric build a.c --steps 9",
+    "cheric build a.c --out",
+    "cheric exec a.c --out b",
 ];
 
 /// Failing calls of the files, the output and the notes, with the status, output and line of a file that puts `ABC`.
@@ -101,32 +87,49 @@ const FAULTS: [([u64; 3], u8, &str, &str); 6] = [
 ];
 
 #[test]
-fn answers_as_the_tables_say(rt: HostRuntime) -> Result<(), Fail> {
+fn files_and_faults_are_answered(rt: HostRuntime) -> Result<(), Fail> {
     let alloc = rt.alloc();
     for &(file, status, put, line) in &FILES {
-        let given = Given {
-            words: "cheric run a.c",
-            file,
-            failing: [0; 3],
-        };
-        assert!(rt; answers(alloc, &given, status, put, line)?, "{file}");
-    }
-    for &(words, status, line) in &WORDS {
-        let given = Given {
-            words,
-            file: "int main(void){return 0;}",
-            failing: [0; 3],
-        };
-        assert!(rt; answers(alloc, &given, status, "", line)?, "{words}");
+        let mut files = one_file(alloc, "a.c", file.as_bytes(), 0)?;
+        let answer = Answer { status, put, line };
+        assert!(rt;
+            answers(alloc, &mut files, "cheric run a.c", [0; 2], answer)?,
+            "{file}"
+        );
     }
     let file = "int main(void){putchar(65);putchar(66);putchar(67);return 0;}";
-    for &(failing, status, put, line) in &FAULTS {
-        let given = Given {
-            words: "cheric run a.c",
-            file,
-            failing,
-        };
-        assert!(rt; answers(alloc, &given, status, put, line)?, "{failing:?}");
+    for &([get, byte, note], status, put, line) in &FAULTS {
+        let mut files = one_file(alloc, "a.c", file.as_bytes(), get)?;
+        let answer = Answer { status, put, line };
+        assert!(rt;
+            answers(alloc, &mut files, "cheric run a.c", [byte, note], answer)?,
+            "{line}"
+        );
+    }
+    Ok(())
+}
+
+#[test]
+fn lines_are_answered(rt: HostRuntime) -> Result<(), Fail> {
+    let alloc = rt.alloc();
+    let mut files = sure_file(alloc, "a.c", HI.as_bytes())?;
+    for &(words, status, put, line) in &LINES {
+        let answer = Answer { status, put, line };
+        assert!(rt;
+            answers(alloc, &mut files, words, [0; 2], answer)?,
+            "{words}"
+        );
+    }
+    let answer = Answer {
+        status: 11,
+        put: "",
+        line: "words\n",
+    };
+    for &words in &NO_LINES {
+        assert!(rt;
+            answers(alloc, &mut files, words, [0; 2], answer)?,
+            "{words}"
+        );
     }
     Ok(())
 }
@@ -142,20 +145,25 @@ fn many_puts(alloc: Global, count: usize) -> Result<String, NoMemory> {
 #[test]
 fn three_hundred_puts_are_built_and_one_more_is_refused(rt: HostRuntime) -> Result<(), Fail> {
     let alloc = rt.alloc();
-    let most = many_puts(alloc, 300)?;
-    let given = Given {
-        words: "cheric run a.c",
-        file: &most,
-        failing: [0; 3],
+    let put = "A".repeat(alloc, 300)?;
+    let most = Answer {
+        status: 1,
+        put: &put,
+        line: "exit 7\n",
     };
-    assert!(rt; answers(alloc, &given, 1, &"A".repeat(alloc, 300)?, "exit 7\n")?);
-    let more = many_puts(alloc, 301)?;
-    let given = Given {
-        words: "cheric run a.c",
-        file: &more,
-        failing: [0; 3],
+    let more = Answer {
+        status: 10,
+        put: "",
+        line: "refused 150 1:1\n",
     };
-    assert!(rt; answers(alloc, &given, 10, "", "refused 150 1:1\n")?);
+    for &(count, answer) in &[(300, most), (301, more)] {
+        let file = many_puts(alloc, count)?;
+        let mut files = one_file(alloc, "a.c", file.as_bytes(), 0)?;
+        assert!(rt;
+            answers(alloc, &mut files, "cheric run a.c", [0; 2], answer)?,
+            "{count}"
+        );
+    }
     Ok(())
 }
 
@@ -164,8 +172,7 @@ fn input_and_files_that_tell_nothing(rt: HostRuntime) -> Result<(), Fail> {
     let alloc = rt.alloc();
     let name = "cheric_rows_test.c";
     let mut files = HostFiles::new(rt.clone()?);
-    let file = "int main(void){putchar(72);putchar(105);return 0;}";
-    assert_eq!(rt; files.put(alloc, name, file.as_bytes()), Ok(()));
+    assert_eq!(rt; files.put(alloc, name, HI.as_bytes()), Ok(()));
     let mut room = [0u8; 2];
     let mut line = [0u8; 7];
     {

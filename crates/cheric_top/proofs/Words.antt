@@ -1,8 +1,9 @@
--- Lines of three words.
-use Rattle.std.proofs.Common.{◌≡◌, ℕ, ◌<◌, ◌≤◌, List, [], ◌∷◌, length, get_or, map, Bool, true, false, eqb, refl, sym, ap, ◌∙◌, arith}
-use Rattle.std.specs.Prelude.{◌&&◌}
+-- Lines of words, and the words behind the file's name.
+use Rattle.std.proofs.Common.{◌≡◌, ℕ, ◌<◌, ◌≤◌, List, [], ◌∷◌, length, get_or, drop, map, Option, Some, None, Bool, true, false, eqb, refl, sym, ap, ◌∙◌, arith}
+use Rattle.std.specs.Prelude.{◌&&◌, MatchOption, codes}
 use Rattle.std.specs.Cmp.Lexicographic.{pointwise}
 use Rattle.std.proofs.lemmas.Bool.{eqb-true, false≢true}
+use Rattle.cheric_top.specs.Lines.{IsNumber, SetsSteps}
 
 and_parts : (a b : Bool) → true ≡ (a && b) → (true ≡ a) × (true ≡ b)
 and_parts true b h = (refl, h)
@@ -16,10 +17,27 @@ text_equal (x ∷ xs) (y ∷ ys) h =
     let p = and_parts (eqb x y) (pointwise eqb xs ys) h in
     ap (λ a. a ∷ xs) (eqb-true x y (sym p.0)) ∙ ap (λ l. y ∷ l) (text_equal xs ys p.1)
 
-pub named : {A : Type 0} (f : A → List ℕ) (xs ys : List A) (mode name : A) (word n : List ℕ) → ys ≡ xs → mode ≡ get_or ys 1 mode → name ≡ get_or ys 2 name → 3 ≤ length ys → length ys < 4 → n ≡ f name → f mode ≡ word → (x : List ℕ) × (map f xs ≡ x ∷ word ∷ n ∷ [])
-named f xs [] mode name word n e a b low high i j = absurd (omega arith)
-named f xs (x ∷ []) mode name word n e a b low high i j = absurd (omega arith)
-named f xs (x ∷ y ∷ []) mode name word n e a b low high i j = absurd (omega arith)
-named f xs (x ∷ y ∷ z ∷ []) mode name word n e a b low high i j =
-    (f x, ap (map f) (sym e) ∙ ap (λ m. f x ∷ f m ∷ f z ∷ []) (sym a) ∙ ap (λ m. f x ∷ f mode ∷ f m ∷ []) (sym b) ∙ ap (λ m. f x ∷ m ∷ f name ∷ []) j ∙ ap (λ m. f x ∷ word ∷ m ∷ []) (sym i))
-named f xs (x ∷ y ∷ z ∷ w ∷ ys) mode name word n e a b low high i j = absurd (omega arith)
+-- ---- the bytes of some words
+
+module _ {A : Type 0} (bytes : A → List ℕ) where
+  pub none : (xs : List A) → length xs < 1 → map bytes xs ≡ []
+  none [] h = refl
+  none (x ∷ xs) h = absurd (omega arith)
+
+  pub two : (xs : List A) (x y : A) → x ≡ get_or xs 0 x → y ≡ get_or xs 1 y → 2 ≤ length xs → length xs < 3 → map bytes xs ≡ bytes x ∷ bytes y ∷ []
+  two [] x y e f low high = absurd (omega arith)
+  two (a ∷ []) x y e f low high = absurd (omega arith)
+  two (a ∷ b ∷ []) x y e f low high = ap (λ z. bytes z ∷ bytes b ∷ []) (sym e) ∙ ap (λ z. bytes x ∷ bytes z ∷ []) (sym f)
+  two (a ∷ b ∷ c ∷ xs) x y e f low high = absurd (omega arith)
+
+  pub three : (xs : List A) (y z : A) → y ≡ get_or xs 1 y → z ≡ get_or xs 2 z → 3 ≤ length xs → (x : List ℕ) × (map bytes xs ≡ x ∷ bytes y ∷ bytes z ∷ map bytes (drop 3 xs))
+  three [] y z e f low = absurd (omega arith)
+  three (a ∷ []) y z e f low = absurd (omega arith)
+  three (a ∷ b ∷ []) y z e f low = absurd (omega arith)
+  three (a ∷ b ∷ c ∷ xs) y z e f low = (bytes a, ap (λ w. bytes a ∷ bytes w ∷ bytes c ∷ map bytes xs) (sym e) ∙ ap (λ w. bytes a ∷ bytes y ∷ bytes w ∷ map bytes xs) (sym f))
+
+-- ---- the option `--steps`
+
+pub sets_steps : (r : Option ℕ) (option word : List ℕ) → option ≡ codes "--steps" → MatchOption r ((n : ℕ) → IsNumber word n → ⊥) (λ n. IsNumber word n) → MatchOption r ((n : ℕ) → SetsSteps (option ∷ word ∷ []) n → ⊥) (λ n. SetsSteps (option ∷ word ∷ []) n)
+sets_steps None option word e h = λ n s. h n s.1
+sets_steps (Some n) option word e h = (e, h)

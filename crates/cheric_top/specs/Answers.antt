@@ -10,8 +10,11 @@ use Rattle.cap_machine.specs.declared.end.End.TheVariants as end
 use Rattle.elf_file.specs.declared.image.Image.{Image}
 use Rattle.elf_file.specs.declared.image.Line.{Line}
 use Rattle.elf_file.specs.Image.{position_of}
+use Rattle.image_load.specs.declared.refusal.LoadRefusal.{LoadRefusal}
+use Rattle.image_load.specs.declared.refusal.LoadRefusal.TheVariants as refusal
+use Rattle.image_load.specs.Loading.{load_number}
 use Rattle.cheric_top.specs.declared.answer.Answer.{Answer}
-use Rattle.cheric_top.specs.declared.answer.Answer.TheVariants.{Exit, Trap, TrapAt, Stack, Steps, Break, Illegal, Refused, Words, File, Input, Output, Memory}
+use Rattle.cheric_top.specs.declared.answer.Answer.TheVariants.{Exit, Built, Trap, TrapAt, Stack, Steps, Break, Illegal, Refused, Words, NotLoaded, File, Input, Output, Memory}
 
 -- ---- the answer of a run
 
@@ -35,11 +38,18 @@ answer_of image end.Steps = Steps
 answer_of image end.ReadFault = Input
 answer_of image end.WriteFault = Output
 
+-- ---- the answer of a load that was refused
+
+abbrev pub refused_as : LoadRefusal → Answer
+refused_as refusal.NoMemory = Memory
+refused_as e = NotLoaded (load_number e)
+
 -- ---- statuses and lines
 
 abbrev pub status_of : Answer → ℕ
 status_of (Exit zero) = 0
 status_of (Exit (suc n)) = 1
+status_of (Built n) = 0
 status_of (Trap c pos) = 2
 status_of (TrapAt c pc) = 2
 status_of (Stack pos) = 3
@@ -48,6 +58,7 @@ status_of (Break pc) = 6
 status_of (Illegal pc) = 6
 status_of (Refused code pos) = 10
 status_of Words = 11
+status_of (NotLoaded number) = 12
 status_of File = 20
 status_of Input = 21
 status_of Output = 22
@@ -68,6 +79,7 @@ pos_text pos = decimal pos.line ++ codes ":" ++ decimal pos.col
 
 abbrev pub text_of : Answer → List ℕ
 text_of (Exit n) = codes "exit " ++ decimal n
+text_of (Built n) = codes "built " ++ decimal n
 text_of (Trap c pos) = codes "trap " ++ cause_text c ++ codes " " ++ pos_text pos
 text_of (TrapAt c pc) = codes "trap " ++ cause_text c ++ codes " at " ++ decimal pc
 text_of (Stack pos) = codes "stack " ++ pos_text pos
@@ -76,6 +88,7 @@ text_of (Break pc) = codes "break " ++ decimal pc
 text_of (Illegal pc) = codes "illegal " ++ decimal pc
 text_of (Refused code pos) = codes "refused " ++ decimal code ++ codes " " ++ pos_text pos
 text_of Words = codes "words"
+text_of (NotLoaded number) = codes "image " ++ decimal number
 text_of File = codes "file"
 text_of Input = codes "input"
 text_of Output = codes "output"

@@ -1,103 +1,151 @@
 -- The command: what each answer says of the words, the files, the input and the output.
-use Rattle.std.specs.Prelude.{◌≡◌, ◌⊎◌, ℕ, ◌<◌, List, [], ◌∷◌, length, Option, Some, None, codes}
-use Rattle.ck_base.specs.Files.{FileMap}
+use Rattle.std.specs.Prelude.{◌≡◌, ◌⊎◌, ℕ, ◌<◌, ◌≤◌, List, length, Option, Some, None, Ok, Err}
+use Rattle.ck_base.specs.Files.{FileMap, HasFile, SameOthers}
 use Rattle.ck_base.specs.Calls.{Seen, IsRun, Counted}
 use Rattle.ck_base.specs.Runs.{outcome, ending_alone}
 use Rattle.ck_base.specs.declared.refusal.Refusal.TheVariants.{Code}
 use Rattle.obj_mem.specs.declared.map.Map.{Map}
 use Rattle.cap_machine.specs.declared.end.End.{End}
 use Rattle.cap_machine.specs.Step.{act, limits}
+use Rattle.image_load.specs.Loading.{Loaded, loading}
 use Rattle.cheric_top.specs.Form.{Form, IsForm}
 use Rattle.cheric_top.specs.Built.{IsBuilt, IsRefusal}
 use Rattle.cheric_top.specs.Answers.{answer_of, IsSaid}
+use Rattle.cheric_top.specs.Lines.{Mode, Run, Build, Exec, Line, IsLine}
 use Rattle.cheric_top.specs.declared.answer.Answer.{Answer}
-use Rattle.cheric_top.specs.declared.answer.Answer.TheVariants.{Refused, Words, File, Memory}
+use Rattle.cheric_top.specs.declared.answer.Answer.TheVariants.{Built, Refused, Words, NotLoaded, File, Memory}
 
--- ---- the words
+-- ---- the outside
 
--- What a line of words asks for; so far, to run a file by its name.
-pub data Line : Type 0 where
-  Run : (name : List ℕ) (steps : ℕ) → Line
+-- what is known of the files at one moment
+pub record FilesSeen : Type 0 where
+  pub told : Option FileMap
+  pub faults : ℕ
 
--- the limit of instructions where the words name none
-abbrev pub default_steps : ℕ
-default_steps = 100000000
-
--- the words are the program's name, `run` and the file's name
-abbrev pub IsLine : List (List ℕ) → Line → Type 0
-IsLine words (Run name steps) = ((program : List ℕ) × (words ≡ program ∷ codes "run" ∷ name ∷ [])) × (steps ≡ default_steps)
-
--- ---- the files
+abbrev pub files_seen : Option FileMap → ℕ → FilesSeen
+files_seen told faults = record { told = told; faults = faults }
 
 -- what is known of the outside before and after the call
 pub record Around : Type 0 where
-  pub told_before : Option FileMap
-  pub told_after : Option FileMap
-  pub files_before : ℕ
-  pub files_after : ℕ
+  pub files_before : FilesSeen
+  pub files_after : FilesSeen
   pub before : Seen
   pub after : Seen
 
-abbrev pub around : Option FileMap → Option FileMap → ℕ → ℕ → Seen → Seen → Around
-around told_before told_after files_before files_after before after =
-    record { told_before = told_before; told_after = told_after; files_before = files_before; files_after = files_after; before = before; after = after }
+abbrev pub around : FilesSeen → FilesSeen → Seen → Seen → Around
+around files_before files_after before after = record { files_before = files_before; files_after = files_after; before = before; after = after }
 
--- nothing was put or taken
+-- nothing was put to the output or taken from the input
 abbrev pub Untouched : Around → Type 0
 Untouched a = a.after ≡ a.before
 
--- the file's bytes were read
-pub record HasRead (a : Around) (name file : List ℕ) : Type 0 where
-  pub told : (files : FileMap) → a.told_before ≡ Some files → files name ≡ Some file
-  pub counted : a.files_after ≡ a.files_before
+-- no file changed, and no call of the files failed
+abbrev pub FilesKept : Around → Type 0
+FilesKept a = a.files_after ≡ a.files_before
 
--- the file could not be read: the count rose, or where the files are told it isn't there or is too long
-abbrev pub NotRead : Around → List ℕ → Type 0
-NotRead a name = (a.files_before < a.files_after) ⊎ ((files : FileMap) × (a.told_before ≡ Some files) × ((files name ≡ None) ⊎ ((file : List ℕ) × (files name ≡ Some file) × (268435456 < length file))))
+-- ---- reading the file
 
--- ---- mode `run`
+-- the file has these bytes, which are not too many
+abbrev pub HasRead : FilesSeen → List ℕ → List ℕ → Type 0
+HasRead files name file = HasFile files.told name file × (length file ≤ 268435456)
 
--- a file of the form was built, and the bytes that were built were loaded and run
-pub record RanFile (before after : Seen) (file : List ℕ) (steps : ℕ) (answer : Answer) : Type 0 where
+-- where the files are told: the file isn't there, or is too long
+abbrev pub IsUnreadable : Option FileMap → List ℕ → Type 0
+IsUnreadable told name = (files : FileMap) × (told ≡ Some files) × ((files name ≡ None) ⊎ ((file : List ℕ) × (files name ≡ Some file) × (268435456 < length file)))
+
+-- what an answer says of a file that was not read
+abbrev pub WhyNotRead : FilesSeen → FilesSeen → List ℕ → Answer → Type 0
+WhyNotRead before after name File = (before.faults < after.faults) ⊎ IsUnreadable before.told name
+WhyNotRead before after name Memory = after.faults ≡ before.faults
+WhyNotRead before after name answer = ⊥
+
+-- it was not read, and no file changed
+abbrev pub NotRead : FilesSeen → FilesSeen → List ℕ → Answer → Type 0
+NotRead before after name answer = WhyNotRead before after name answer × (after.told ≡ before.told)
+
+-- ---- running
+
+-- a loaded image was run, and its ending answered
+pub record RanLoaded (before after : Seen) (loaded : Loaded) (steps : ℕ) (answer : Answer) : Type 0 where
+  pub ending : End
+  pub ran : IsRun (outcome limits act ending_alone loaded.machine steps) before after ending
+  pub counted : Counted limits before after ending
+  pub answered : answer ≡ answer_of loaded.image ending
+
+-- A file of the form, and the bytes that were built of it, with their map and count.
+pub record Compiled (file : List ℕ) : Type 0 where
   pub form : Form
   pub is_form : IsForm file form
   pub elf : List ℕ
   pub map : Map
   pub count : ℕ
   pub built : IsBuilt form elf map count
-  pub ending : End
-  pub ran : IsRun (outcome limits act ending_alone built.loaded.machine steps) before after ending
-  pub counted : Counted limits before after ending
-  pub answered : answer ≡ answer_of built.loaded.image ending
 
--- what each answer says of a file that was read
-abbrev pub FileSays : Seen → Seen → List ℕ → ℕ → Answer → Type 0
-FileSays before after file steps (Refused code pos) = (after ≡ before) × IsRefusal file (Code code pos)
-FileSays before after file steps Memory = after ≡ before
-FileSays before after file steps Words = ⊥
-FileSays before after file steps File = ⊥
-FileSays before after file steps answer = RanFile before after file steps answer
+-- ---- mode `run`
 
-abbrev pub RunSays : Around → List ℕ → ℕ → Answer → Type 0
-RunSays a name steps File = NotRead a name × Untouched a
-RunSays a name steps Memory = (a.files_after ≡ a.files_before) × Untouched a
-RunSays a name steps Words = ⊥
-RunSays a name steps answer = (file : List ℕ) × HasRead a name file × FileSays a.before a.after file steps answer
+abbrev pub RunStopped : Seen → Seen → List ℕ → Answer → Type 0
+RunStopped before after file (Refused code pos) = (after ≡ before) × IsRefusal file (Code code pos)
+RunStopped before after file Memory = after ≡ before
+RunStopped before after file answer = ⊥
+
+-- the file was refused, or there was no memory; or the bytes that were built of it were loaded and run
+abbrev pub RunSays : Seen → Seen → List ℕ → ℕ → Answer → Type 0
+RunSays before after file steps answer = RunStopped before after file answer ⊎ ((compiled : Compiled file) × RanLoaded before after compiled.built.loaded steps answer)
+
+-- ---- mode `exec`
+
+abbrev pub ExecStopped : Seen → Seen → List ℕ → Answer → Type 0
+ExecStopped before after file (NotLoaded number) = (after ≡ before) × (loading file ≡ Err number)
+ExecStopped before after file Memory = (after ≡ before) × ((loaded : Loaded) × (loading file ≡ Ok loaded))
+ExecStopped before after file answer = ⊥
+
+-- loading refused the file, or did not and there was no memory; or it was loaded and run
+abbrev pub ExecSays : Seen → Seen → List ℕ → ℕ → Answer → Type 0
+ExecSays before after file steps answer = ExecStopped before after file answer ⊎ ((loaded : Loaded) × (loading file ≡ Ok loaded) × RanLoaded before after loaded steps answer)
+
+-- ---- mode `build`
+
+-- the bytes stand under the name, no other name changed, and no call of the files failed
+pub record HasPut (before after : FilesSeen) (name bytes : List ℕ) : Type 0 where
+  pub under : HasFile after.told name bytes
+  pub others : SameOthers before.told after.told name
+  pub counted : after.faults ≡ before.faults
+
+-- a put under the name failed, and no other name changed
+pub record FailedToPut (before after : FilesSeen) (name : List ℕ) : Type 0 where
+  pub others : SameOthers before.told after.told name
+  pub counted : before.faults < after.faults
+
+abbrev pub BuildSays : FilesSeen → FilesSeen → List ℕ → List ℕ → Answer → Type 0
+BuildSays before after file elf (Built n) = (compiled : Compiled file) × HasPut before after elf compiled.elf × (n ≡ length compiled.elf)
+BuildSays before after file elf (Refused code pos) = (after ≡ before) × IsRefusal file (Code code pos)
+BuildSays before after file elf File = Compiled file × FailedToPut before after elf
+BuildSays before after file elf Memory = after ≡ before
+BuildSays before after file elf answer = ⊥
 
 -- ---- all modes
 
--- what each answer says of a line; a later mode is a case more
-abbrev pub LineSays : Around → Line → Answer → Type 0
-LineSays a (Run name steps) answer = RunSays a name steps answer
+-- what each answer says of a file that was read; a later mode is a case more
+abbrev pub ModeSays : Around → List ℕ → Mode → Answer → Type 0
+ModeSays a file (Run steps) answer = FilesKept a × RunSays a.before a.after file steps answer
+ModeSays a file (Exec steps) answer = FilesKept a × ExecSays a.before a.after file steps answer
+ModeSays a file (Build elf) answer = Untouched a × BuildSays a.files_before a.files_after file elf answer
 
--- what each answer says of the words; no mode so far changes a file
+-- what each answer says of a line: its file was not read, and nothing was put or taken; or it was, and so on by the mode
+abbrev pub LineSays : Around → Line → Answer → Type 0
+LineSays a line answer = (NotRead a.files_before a.files_after line.name answer × Untouched a) ⊎ ((file : List ℕ) × HasRead a.files_before line.name file × ModeSays a file line.mode answer)
+
+-- the words are no line
+abbrev pub NoLineSays : Around → List (List ℕ) → Answer → Type 0
+NoLineSays a words Words = ((line : Line) → IsLine words line → ⊥) × FilesKept a × Untouched a
+NoLineSays a words answer = ⊥
+
+-- what each answer says of the words
 abbrev pub Says : Around → List (List ℕ) → Answer → Type 0
-Says a words Words = ((line : Line) → IsLine words line → ⊥) × (a.files_after ≡ a.files_before) × Untouched a
-Says a words answer = (line : Line) × IsLine words line × LineSays a line answer
+Says a words answer = NoLineSays a words answer ⊎ ((line : Line) × IsLine words line × LineSays a line answer)
 
 -- What the call did: an answer, which says how the outside was used, and was said to the notes with its status.
 pub record IsDone (a : Around) (words : List (List ℕ)) (status : ℕ) (notes_before notes_after : Option (List ℕ)) (notes_faults_before notes_faults_after : ℕ) : Type 0 where
   pub answer : Answer
-  pub files_kept : a.told_after ≡ a.told_before
   pub says : Says a words answer
   pub said : IsSaid answer status notes_before notes_after notes_faults_before notes_faults_after

@@ -5,4 +5,6 @@ pub mod Code
 pub mod Image
 pub mod Built
 pub mod Answers
+pub mod Lines
+pub mod Asked
 pub mod Command

@@ -3,11 +3,13 @@
 use cap_ops::Cause;
 use ck_base::Pos;
 
-/// What the command answers: how a run ended, why a file was refused, or what went wrong.
+/// What the command answers: how a run ended, what was built, why a file was refused, or what went wrong.
 #[derive(Clone, Copy, Debug, PartialEq, Eq)]
 pub enum Answer {
     /// The program exited, with its low eight bits.
     Exit(u8),
+    /// An ELF file of so many bytes was built and put.
+    Built(u64),
     /// An access or a call failed, at this place of the file.
     Trap(Cause, Pos),
     /// An instruction at this address failed, and no place is known.
@@ -24,7 +26,9 @@ pub enum Answer {
     Refused(u16, Pos),
     /// The words are none of the defined lines.
     Words,
-    /// The file could not be read.
+    /// The file is no image that loads, by the refusal of this number.
+    NotLoaded(u8),
+    /// The file could not be read, or the built one not put.
     File,
     /// The input failed.
     Input,

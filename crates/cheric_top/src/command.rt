@@ -1,93 +1,60 @@
 //! The call that does all that the program does.
-ghost use Rattle.std.specs.Prelude.{MatchOption, ◌≡◌, ◌<◌, ◌-◌, ◌^◌, ℕ, map, string_bytes};
+ghost use Rattle.std.specs.Prelude.{◌≡◌, ◌<◌, ◌-◌, ◌^◌, IfOk, MatchResult, map, string_bytes};
 ghost use Rattle.ck_base.specs.Calls.{seen};
-ghost use Rattle.cheric_top.specs.Answers.{answer_of, trapped, place_of};
-ghost use Rattle.cheric_top.specs.Command.{Line, Run, IsLine, default_steps, FileSays, Says, around, IsDone};
+ghost use Rattle.cheric_top.specs.Lines.{Build};
+ghost use Rattle.cheric_top.specs.Asked.{mode_of};
+ghost use Rattle.cheric_top.specs.declared.line.Mode.TheVariants as modes;
+ghost use Rattle.cheric_top.specs.Command.{files_seen, around, HasRead, NotRead, BuildSays, Says, IsDone};
 
 use crate::answer::Answer;
 use crate::building::build;
+use crate::line::{Mode, line_of};
 use crate::message::say;
-use cap_machine::End;
-use cap_ops::Cause;
-use ck_base::{FileError, Files, Pos, Refusal, Sink, Source};
-use elf_file::{Line as Position, View};
-use image_load::load;
+use crate::running::{exec_file, run_file};
+use ck_base::{FileError, Files, NoMemory, PutError, Refusal, Sink, Source};
 use std::alloc::Global;
 
-/// The limit of instructions where the words name none.
-const STEPS: u64 = 100_000_000;
-
-fn place_of(line: Position) -> Pos
-    ensures { result ≡ place_of line }
+/// The bytes of the file of this name, or the answer where it is not read.
+fn read<F: Files>(alloc: Global, files: &mut F, name: &str) -> Result<Vec<u8>, Answer>
+    requires { F.faults files.old < 2 ^ 64 - 1 }
+    ensures { MatchResult
+        result
+        (λ file. ((files_seen (F.told files.new) (F.faults files.new)) ≡ (files_seen (F.told files.old) (F.faults files.old))) × HasRead (files_seen (F.told files.old) (F.faults files.old)) name.now file.items)
+        (λ answer. NotRead (files_seen (F.told files.old) (F.faults files.old)) (files_seen (F.told files.new) (F.faults files.new)) name.now answer) }
 {
-    Pos {
-        line: line.line,
-        col: line.col,
+    match files.get(alloc, name) {
+        Ok(file) => Ok(file),
+        Err(FileError::NoMemory) => Err(Answer::Memory),
+        Err(FileError::Failed | FileError::Missing | FileError::TooLong) => Err(Answer::File),
     }
 }
 
-/// The answer of a trap at an address.
-fn trapped(cause: Cause, pc: u64, line: Option<Position>) -> Answer
-    ensures { result ≡ trapped cause pc line }
+/// The name under which a built file is put.
+fn elf_name(alloc: Global, name: &str, elf: Option<&str>) -> Result<String, NoMemory>
+    ensures { IfOk result (λ s. mode_of name.now (modes.Build elf.entry) ≡ Build (string_bytes s)) }
 {
-    match line {
-        None => Answer::TrapAt(cause, pc),
-        Some(line) if line.kind == 0 => Answer::Trap(cause, place_of(line)),
-        Some(line) => Answer::Stack(place_of(line)),
+    if let Some(elf) = elf {
+        return Ok(String::from_str(alloc, elf)?);
     }
+    let mut elf = String::from_str(alloc, name)?;
+    elf.push_str(".elf")?;
+    Ok(elf)
 }
 
-/// The answer of a run of an image.
-fn answer_of(view: &View<'_>, end: End) -> Answer
-    ensures { result ≡ answer_of view.now end }
-{
-    match end {
-        End::Exit(n) => Answer::Exit(n),
-        End::Trap(cause, pc) => trapped(cause, pc, view.position(pc)),
-        End::Break(pc) => Answer::Break(pc),
-        End::Illegal(pc) => Answer::Illegal(pc),
-        End::Steps => Answer::Steps,
-        End::ReadFault => Answer::Input,
-        End::WriteFault => Answer::Output,
-    }
-}
-
-/// Builds a file, loads the bytes that were built, and runs them.
-fn run_file<I: Source, O: Sink>(
-    alloc: Global,
-    file: &[u8],
-    steps: u64,
-    input: &mut I,
-    out: &mut O,
-) -> Answer
-    requires source_room { I.faults input.old < 2 ^ 64 - 1 }
-    requires sink_room { O.faults out.old < 2 ^ 64 - 1 }
-    ensures { FileSays (seen (I.left input.old) (I.faults input.old) (O.held out.old) (O.faults out.old)) (seen (I.left input.new) (I.faults input.new) (O.held out.new) (O.faults out.new)) file.now steps result }
+/// Builds a C file, and puts the bytes that were built under a name.
+fn build_file<F: Files>(alloc: Global, file: &[u8], elf: &str, files: &mut F) -> Answer
+    requires { F.faults files.old < 2 ^ 64 - 1 }
+    ensures { BuildSays (files_seen (F.told files.old) (F.faults files.old)) (files_seen (F.told files.new) (F.faults files.new)) file.now elf.now result }
 {
     let built = match build(alloc, file) {
         Ok(built) => built,
         Err(Refusal::Code(code, pos)) => return Answer::Refused(code, pos),
         Err(Refusal::NoMemory) => return Answer::Memory,
     };
-    let Ok(view) = View::read(&built.elf) else {
-        unreachable!()
-    };
-    match load(alloc, &view) {
-        Ok(mut machine) => {
-            let end = machine.run(steps, input, out);
-            answer_of(&view, end)
-        }
-        Err(_) => Answer::Memory,
-    }
-}
-
-/// The file that a line `run` names.
-fn named_file(words: &Vec<String>) -> Option<&str>
-    ensures { MatchOption result ((line : Line) → IsLine (map (λ s. string_bytes s) words.now.items) line → ⊥) (λ name. IsLine (map (λ s. string_bytes s) words.now.items) (Run name.now default_steps)) }
-{
-    match words.as_slice() {
-        [_, mode, name] if mode.as_str() == "run" => Some(name.as_str()),
-        _ => None,
+    match files.put(alloc, elf, &built.elf) {
+        Ok(()) => Answer::Built(built.elf.len() as u64),
+        Err(PutError::NoMemory) => Answer::Memory,
+        Err(PutError::Failed) => Answer::File,
     }
 }
 
@@ -102,25 +69,31 @@ fn work<F: Files, I: Source, O: Sink>(
     requires files_room { F.faults files.old < 2 ^ 64 - 1 }
     requires source_room { I.faults input.old < 2 ^ 64 - 1 }
     requires sink_room { O.faults out.old < 2 ^ 64 - 1 }
-    ensures kept { F.told files.new ≡ F.told files.old }
-    ensures says { Says (around (F.told files.old) (F.told files.new) (F.faults files.old) (F.faults files.new) (seen (I.left input.old) (I.faults input.old) (O.held out.old) (O.faults out.old)) (seen (I.left input.new) (I.faults input.new) (O.held out.new) (O.faults out.new))) (map (λ s. string_bytes s) words.now.items) result }
+    ensures { Says (around (files_seen (F.told files.old) (F.faults files.old)) (files_seen (F.told files.new) (F.faults files.new)) (seen (I.left input.old) (I.faults input.old) (O.held out.old) (O.faults out.old)) (seen (I.left input.new) (I.faults input.new) (O.held out.new) (O.faults out.new))) (map (λ s. string_bytes s) words.now.items) result }
 {
-    let Some(name) = named_file(words) else {
+    let Some(line) = line_of(words) else {
         return Answer::Words;
     };
-    match files.get(alloc, name) {
-        Ok(file) => run_file(alloc, &file, STEPS, input, out),
-        Err(FileError::NoMemory) => Answer::Memory,
-        Err(FileError::Failed) => Answer::File,
-        Err(FileError::Missing) => Answer::File,
-        Err(FileError::TooLong) => Answer::File,
+    let file = match read(alloc, files, line.name) {
+        Ok(file) => file,
+        Err(answer) => return answer,
+    };
+    match line.mode {
+        Mode::Run(steps) => run_file(alloc, &file, steps, input, out),
+        Mode::Exec(steps) => exec_file(alloc, &file, steps, input, out),
+        Mode::Build(elf) => match elf_name(alloc, line.name, elf) {
+            Ok(elf) => build_file(alloc, &file, &elf, files),
+            Err(NoMemory) => Answer::Memory,
+        },
     }
 }
 
 /// Does all that the program does, and gives the status with which it ends.
 ///
-/// `words` begins with the program's name. So far one line is defined, `run` and the name of a file: the file is read, built,
-/// loaded and run over `input` and `out`. One line of text on the outcome goes to `notes`.
+/// `words` begins with the program's name. The lines are `run FILE` and `exec FILE`, each with or without `--steps N` behind,
+/// and `build FILE`, with or without `--out NAME` behind. `run` builds a C file, loads the bytes and runs them over `input` and
+/// `out`; `build` puts them under NAME, or under FILE followed by `.elf`; `exec` loads and runs such a file. One line of text
+/// on the outcome goes to `notes`.
 pub fn cheric<F: Files, I: Source, O: Sink, N: Sink>(
     alloc: Global,
     words: &Vec<String>,
@@ -133,7 +106,7 @@ pub fn cheric<F: Files, I: Source, O: Sink, N: Sink>(
     requires source_room { I.faults input.old < 2 ^ 64 - 1 }
     requires sink_room { O.faults out.old < 2 ^ 64 - 1 }
     requires notes_room { N.faults notes.old < 2 ^ 64 - 1 }
-    ensures { IsDone (around (F.told files.old) (F.told files.new) (F.faults files.old) (F.faults files.new) (seen (I.left input.old) (I.faults input.old) (O.held out.old) (O.faults out.old)) (seen (I.left input.new) (I.faults input.new) (O.held out.new) (O.faults out.new))) (map (λ s. string_bytes s) words.now.items) result (N.held notes.old) (N.held notes.new) (N.faults notes.old) (N.faults notes.new) }
+    ensures { IsDone (around (files_seen (F.told files.old) (F.faults files.old)) (files_seen (F.told files.new) (F.faults files.new)) (seen (I.left input.old) (I.faults input.old) (O.held out.old) (O.faults out.old)) (seen (I.left input.new) (I.faults input.new) (O.held out.new) (O.faults out.new))) (map (λ s. string_bytes s) words.now.items) result (N.held notes.old) (N.held notes.new) (N.faults notes.old) (N.faults notes.new) }
 {
     let answer = work(alloc, words, files, input, out);
     say(answer, notes)

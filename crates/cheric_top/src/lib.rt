@@ -6,7 +6,9 @@ mod building;
 mod code;
 mod command;
 mod form;
+mod line;
 mod message;
+mod running;
 #[cfg(test)]
 mod tests;
 

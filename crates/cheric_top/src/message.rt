@@ -129,6 +129,7 @@ fn text_of(answer: Answer) -> Line
 {
     match answer {
         Answer::Exit(n) => numbered("exit ", u64::from(n)),
+        Answer::Built(n) => numbered("built ", n),
         Answer::Trap(cause, pos) => trap_text(cause, pos),
         Answer::TrapAt(cause, pc) => trap_at_text(cause, pc),
         Answer::Stack(pos) => placed("stack ", pos),
@@ -137,6 +138,7 @@ fn text_of(answer: Answer) -> Line
         Answer::Illegal(pc) => numbered("illegal ", pc),
         Answer::Refused(code, pos) => refused_text(code, pos),
         Answer::Words => alone("words"),
+        Answer::NotLoaded(number) => numbered("image ", u64::from(number)),
         Answer::File => alone("file"),
         Answer::Input => alone("input"),
         Answer::Output => alone("output"),
@@ -148,7 +150,7 @@ fn status_of(answer: Answer) -> u8
     ensures { result ≡ status_of answer }
 {
     match answer {
-        Answer::Exit(0) => 0,
+        Answer::Exit(0) | Answer::Built(_) => 0,
         Answer::Exit(_) => 1,
         Answer::Trap(..) | Answer::TrapAt(..) => 2,
         Answer::Stack(_) => 3,
@@ -156,6 +158,7 @@ fn status_of(answer: Answer) -> u8
         Answer::Break(_) | Answer::Illegal(_) => 6,
         Answer::Refused(..) => 10,
         Answer::Words => 11,
+        Answer::NotLoaded(_) => 12,
         Answer::File => 20,
         Answer::Input => 21,
         Answer::Output => 22,

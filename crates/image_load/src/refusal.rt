@@ -1,5 +1,7 @@
 //! Why an image is not loaded.
 
+ghost use Rattle.std.specs.Prelude.{◌≡◌};
+
 use thiserror::Error;
 
 /// Why an image is not loaded: the first test that fails, in the order of the tests, or want of memory.
@@ -23,4 +25,22 @@ pub enum LoadRefusal {
     /// There was no memory.
     #[error("no memory")]
     NoMemory,
+}
+
+impl LoadRefusal {
+    ghost use Rattle.image_load.specs.Loading.{load_number};
+
+    /// The number of the refusal, from 11 to 15. Want of memory has none, and gives 0.
+    pub fn number(self) -> u8
+        ensures { result ≡ load_number self }
+    {
+        match self {
+            LoadRefusal::Segment => 11,
+            LoadRefusal::Overlap => 12,
+            LoadRefusal::Place => 13,
+            LoadRefusal::Bounds => 14,
+            LoadRefusal::Entry => 15,
+            LoadRefusal::NoMemory => 0,
+        }
+    }
 }

@@ -260,3 +260,17 @@ fn refuses_by_the_first_test(rt: HostRuntime) -> Result<(), Fail> {
     }
     Ok(())
 }
+
+#[test]
+fn refusals_have_numbers(rt: HostRuntime) {
+    for &(refusal, number) in &[
+        (LoadRefusal::Segment, 11),
+        (LoadRefusal::Overlap, 12),
+        (LoadRefusal::Place, 13),
+        (LoadRefusal::Bounds, 14),
+        (LoadRefusal::Entry, 15),
+        (LoadRefusal::NoMemory, 0),
+    ] {
+        assert_eq!(rt; refusal.number(), number);
+    }
+}

@@ -1,32 +1,43 @@
-use Rattle.std.proofs.Common.{refl, ap, subst, inl, inr, Ok, Err}
+use Rattle.std.proofs.Common.{ℕ, List, inr, refl, sym, subst}
+use Rattle.std.specs.Prelude.{string_bytes}
 use Rattle.ck_base.specs.Calls.{seen}
-use Rattle.ck_base.specs.Files.{Gets}
-use Rattle.cheric_top.specs.Command.{Run, FileSays, around, default_steps}
-use Rattle.cheric_top.proofs.Said.{file_says, gets_missing, gets_too_long, line_says}
+use Rattle.cheric_top.specs.Lines as lines
+use Rattle.cheric_top.specs.Asked.{mode_of, line_of}
+use Rattle.cheric_top.specs.Command.{FilesSeen, files_seen, around, RunSays, ExecSays, BuildSays, ModeSays}
+use Rattle.cheric_top.specs.declared.line.Mode.{Mode}
 use Rattle.cheric_top.proofs.command.work.Goals as goal
 
-pub returns-in-Ok-clause-says : goal.returns-in-Ok-clause-says
-returns-in-Ok-clause-says g c =
+pub returns-in-Run : goal.returns-in-Run
+returns-in-Run g c =
     let before = seen (g.I.Source.left c.args.input.now) (g.I.Source.faults c.args.input.now) (g.O.Sink.held c.args.out.now) (g.O.Sink.faults c.args.out.now) in
     let after = seen (g.I.Source.left c.run_file.new.input) (g.I.Source.faults c.run_file.new.input) (g.O.Sink.held c.run_file.new.out) (g.O.Sink.faults c.run_file.new.out) in
-    let a = around (g.F.Files.told c.args.files.now) (g.F.Files.told c.get.new.self) (g.F.Files.faults c.args.files.now) (g.F.Files.faults c.get.new.self) before after in
-    line_says a _ c.in-Some.name.now c.run_file.result c.in-Some.ensures
-    (file_says a c.in-Some.name.now c.in-Ok.file.items default_steps c.run_file.result
-    (record { told = λ files e. (subst (λ t. Gets t c.in-Some.name.now (Ok c.in-Ok.file)) e c.in-Ok.ensures.gives).1; counted = c.in-Ok.ensures.counted.same (λ h. cc) })
-    (subst (λ l. FileSays before after l default_steps c.run_file.result) c.deref.ensures.value c.run_file.ensures))
+    let a = around (files_seen (g.F.Files.told c.args.files.now) (g.F.Files.faults c.args.files.now)) (files_seen (g.F.Files.told c.read.new.files) (g.F.Files.faults c.read.new.files)) before after in
+    let line = c.in-Some.line in
+    let file = c.in-Ok.file.items in
+    let says = subst (λ (l : List ℕ). RunSays before after l c.in-Run.steps c.run_file.result) c.deref.ensures.value c.run_file.ensures in
+    inr (line_of line, c.in-Some.ensures, inr (file, c.in-Ok.ensures.1, subst (λ (m : Mode). ModeSays a file (mode_of line.name.now m) c.run_file.result) (sym c.in-Run.is) (c.in-Ok.ensures.0, says)))
 
-pub returns-in-Err-NoMemory-clause-says : goal.returns-in-Err-NoMemory-clause-says
-returns-in-Err-NoMemory-clause-says g c = (Run c.in-Some.name.now default_steps, c.in-Some.ensures, (c.in-Err-NoMemory.ensures.counted.same (λ h. let i = c.in-Err-NoMemory.field-0-is in cc), refl))
+pub returns-in-Exec : goal.returns-in-Exec
+returns-in-Exec g c =
+    let before = seen (g.I.Source.left c.args.input.now) (g.I.Source.faults c.args.input.now) (g.O.Sink.held c.args.out.now) (g.O.Sink.faults c.args.out.now) in
+    let after = seen (g.I.Source.left c.exec_file.new.input) (g.I.Source.faults c.exec_file.new.input) (g.O.Sink.held c.exec_file.new.out) (g.O.Sink.faults c.exec_file.new.out) in
+    let a = around (files_seen (g.F.Files.told c.args.files.now) (g.F.Files.faults c.args.files.now)) (files_seen (g.F.Files.told c.read.new.files) (g.F.Files.faults c.read.new.files)) before after in
+    let line = c.in-Some.line in
+    let file = c.in-Ok.file.items in
+    let says = subst (λ (l : List ℕ). ExecSays before after l c.in-Exec.steps c.exec_file.result) c.deref-in-Exec.ensures.value c.exec_file.ensures in
+    inr (line_of line, c.in-Some.ensures, inr (file, c.in-Ok.ensures.1, subst (λ (m : Mode). ModeSays a file (mode_of line.name.now m) c.exec_file.result) (sym c.in-Exec.is) (c.in-Ok.ensures.0, says)))
 
-pub returns-in-Err-Failed-clause-says : goal.returns-in-Err-Failed-clause-says
-returns-in-Err-Failed-clause-says g c = (Run c.in-Some.name.now default_steps, c.in-Some.ensures, (inl ((c.in-Err-Failed.ensures.counted.failed (ap Err c.in-Err-Failed.field-0-is)).more c.requires.files_room), refl))
-
-pub returns-in-Err-Missing-clause-says : goal.returns-in-Err-Missing-clause-says
-returns-in-Err-Missing-clause-says g c =
-    let m = gets_missing (g.F.Files.told c.args.files.now) c.in-Some.name.now (subst (λ e. Gets (g.F.Files.told c.args.files.now) c.in-Some.name.now (Err e)) c.in-Err-Missing.field-0-is c.in-Err-Missing.ensures.gives) in
-    (Run c.in-Some.name.now default_steps, c.in-Some.ensures, (inr (m.0, m.1, inl m.2), refl))
-
-pub returns-in-Err-TooLong-clause-says : goal.returns-in-Err-TooLong-clause-says
-returns-in-Err-TooLong-clause-says g c =
-    let m = gets_too_long (g.F.Files.told c.args.files.now) c.in-Some.name.now (subst (λ e. Gets (g.F.Files.told c.args.files.now) c.in-Some.name.now (Err e)) c.in-Err-TooLong.field-0-is c.in-Err-TooLong.ensures.gives) in
-    (Run c.in-Some.name.now default_steps, c.in-Some.ensures, (inr (m.0, m.1, inr m.2), refl))
+pub returns-in-Ok-elf_name : goal.returns-in-Ok-elf_name
+returns-in-Ok-elf_name g c =
+    let now = seen (g.I.Source.left c.args.input.now) (g.I.Source.faults c.args.input.now) (g.O.Sink.held c.args.out.now) (g.O.Sink.faults c.args.out.now) in
+    let read = files_seen (g.F.Files.told c.read.new.files) (g.F.Files.faults c.read.new.files) in
+    let built = files_seen (g.F.Files.told c.build_file.new.files) (g.F.Files.faults c.build_file.new.files) in
+    let a = around (files_seen (g.F.Files.told c.args.files.now) (g.F.Files.faults c.args.files.now)) built now now in
+    let line = c.in-Some.line in
+    let file = c.in-Ok.file.items in
+    let answer = c.build_file.result in
+    let says = subst (λ (l : List ℕ). BuildSays read built l c.deref-in-Ok-elf_name-2.result.now answer) c.deref-in-Ok-elf_name.ensures.value c.build_file.ensures in
+    let named = subst (λ (l : List ℕ). BuildSays read built file l answer) c.deref-in-Ok-elf_name-2.ensures says in
+    let kept = subst (λ (f : FilesSeen). BuildSays f built file (string_bytes c.in-Ok-elf_name.elf) answer) c.in-Ok.ensures.0 named in
+    let by_name = subst (λ (m : lines.Mode). ModeSays a file m answer) (sym c.in-Ok-elf_name.ensures) (refl, kept) in
+    inr (line_of line, c.in-Some.ensures, inr (file, c.in-Ok.ensures.1, subst (λ (m : Mode). ModeSays a file (mode_of line.name.now m) answer) (sym c.in-Build.is) by_name))
