@@ -437,6 +437,38 @@ pub rows_are_right : all_right rows ≡ true
 unfolding typing constant_of is_null_constant init_declarator declaration specifiers record_specifier enumerator enum_specifier declarator_of formed type_name member_of parameter_of prototype_of named text string_initializer plain_initializer braced_initializer tag_scalars scalars every_slot members extent_within struct_offset bare_within services aliases function_definition file_scope program_of reading readings case_label common integer_of characters literal.type_of literal.simple_escape kinds.reduced kinds.kept_of kinds.wrapped kinds.value_of kinds.converted arithmetic.binary_of arithmetic.compare_of rounding.first_from rounding.alignment rounding.owned rounding.bounds_exponent rounding.least_base rounding.least_top
 rows_are_right = refl
 
+abbrev more_rows : List Row
+more_rows =
+    -- int a[4];int *p=(uintptr_t)1+a;int main(void){return 0;}
+    row (node Kinds.File (at 1 (codes "")) (more (node Kinds.Declaration (at 1 (codes "int")) (more (node Kinds.Specifiers (at 1 (codes "int")) (more (node (Kinds.Specifier words.Int) (at 1 (codes "int")) nil) nil)) (more (node Kinds.InitDeclarator (at 5 (codes "a")) (more (node Kinds.Array (at 6 (codes "[")) (more (node Kinds.DeclaredName (at 5 (codes "a")) nil) (more (node Kinds.Number (at 7 (codes "4")) nil) nil))) nil)) nil))) (more (node Kinds.Declaration (at 10 (codes "int")) (more (node Kinds.Specifiers (at 10 (codes "int")) (more (node (Kinds.Specifier words.Int) (at 10 (codes "int")) nil) nil)) (more (node Kinds.InitDeclarator (at 14 (codes "*")) (more (node Kinds.Pointer (at 14 (codes "*")) (more (node Kinds.Qualifiers (at 14 (codes "*")) nil) (more (node Kinds.DeclaredName (at 15 (codes "p")) nil) nil))) (more (node (Kinds.Infix (infixes.Int op.Add)) (at 29 (codes "+")) (more (node Kinds.Cast (at 17 (codes "(")) (more (node Kinds.TypeName (at 18 (codes "uintptr_t")) (more (node Kinds.Specifiers (at 18 (codes "uintptr_t")) (more (node Kinds.TypedefName (at 18 (codes "uintptr_t")) nil) nil)) nil)) (more (node Kinds.Number (at 28 (codes "1")) nil) nil))) (more (node Kinds.Name (at 30 (codes "a")) nil) nil))) nil))) nil))) (more (node Kinds.FunctionDefinition (at 32 (codes "int")) (more (node Kinds.Specifiers (at 32 (codes "int")) (more (node (Kinds.Specifier words.Int) (at 32 (codes "int")) nil) nil)) (more (node Kinds.Function (at 40 (codes "(")) (more (node Kinds.DeclaredName (at 36 (codes "main")) nil) (more (node Kinds.Parameters (at 40 (codes "(")) (more (node Kinds.Parameter (at 41 (codes "void")) (more (node Kinds.Specifiers (at 41 (codes "void")) (more (node (Kinds.Specifier words.Void) (at 41 (codes "void")) nil) nil)) nil)) nil)) nil))) (more (node Kinds.Block (at 46 (codes "{")) (more (node Kinds.Return (at 47 (codes "return")) (more (node Kinds.Number (at 54 (codes "0")) nil) nil)) nil)) nil)))) nil)))) 0 0 ∷
+    -- char a[8];char *p=a+-4UL;int main(void){return 0;}
+    row (node Kinds.File (at 1 (codes "")) (more (node Kinds.Declaration (at 1 (codes "char")) (more (node Kinds.Specifiers (at 1 (codes "char")) (more (node (Kinds.Specifier words.Char) (at 1 (codes "char")) nil) nil)) (more (node Kinds.InitDeclarator (at 6 (codes "a")) (more (node Kinds.Array (at 7 (codes "[")) (more (node Kinds.DeclaredName (at 6 (codes "a")) nil) (more (node Kinds.Number (at 8 (codes "8")) nil) nil))) nil)) nil))) (more (node Kinds.Declaration (at 11 (codes "char")) (more (node Kinds.Specifiers (at 11 (codes "char")) (more (node (Kinds.Specifier words.Char) (at 11 (codes "char")) nil) nil)) (more (node Kinds.InitDeclarator (at 16 (codes "*")) (more (node Kinds.Pointer (at 16 (codes "*")) (more (node Kinds.Qualifiers (at 16 (codes "*")) nil) (more (node Kinds.DeclaredName (at 17 (codes "p")) nil) nil))) (more (node (Kinds.Infix (infixes.Int op.Add)) (at 20 (codes "+")) (more (node Kinds.Name (at 19 (codes "a")) nil) (more (node (Kinds.Prefix (prefixes.Unary unary.Minus)) (at 21 (codes "-")) (more (node Kinds.Number (at 22 (codes "4UL")) nil) nil)) nil))) nil))) nil))) (more (node Kinds.FunctionDefinition (at 26 (codes "int")) (more (node Kinds.Specifiers (at 26 (codes "int")) (more (node (Kinds.Specifier words.Int) (at 26 (codes "int")) nil) nil)) (more (node Kinds.Function (at 34 (codes "(")) (more (node Kinds.DeclaredName (at 30 (codes "main")) nil) (more (node Kinds.Parameters (at 34 (codes "(")) (more (node Kinds.Parameter (at 35 (codes "void")) (more (node Kinds.Specifiers (at 35 (codes "void")) (more (node (Kinds.Specifier words.Void) (at 35 (codes "void")) nil) nil)) nil)) nil)) nil))) (more (node Kinds.Block (at 40 (codes "{")) (more (node Kinds.Return (at 41 (codes "return")) (more (node Kinds.Number (at 48 (codes "0")) nil) nil)) nil)) nil)))) nil)))) 0 0 ∷
+    -- struct S{struct S{int a;}x;int b;};int main(void){return 0;}
+    row (node Kinds.File (at 1 (codes "")) (more (node Kinds.Declaration (at 1 (codes "struct")) (more (node Kinds.Specifiers (at 1 (codes "struct")) (more (node (Kinds.Record records.Struct) (at 1 (codes "struct")) (more (node Kinds.Tag (at 8 (codes "S")) nil) (more (node Kinds.Member (at 10 (codes "struct")) (more (node Kinds.Specifiers (at 10 (codes "struct")) (more (node (Kinds.Record records.Struct) (at 10 (codes "struct")) (more (node Kinds.Tag (at 17 (codes "S")) nil) (more (node Kinds.Member (at 19 (codes "int")) (more (node Kinds.Specifiers (at 19 (codes "int")) (more (node (Kinds.Specifier words.Int) (at 19 (codes "int")) nil) nil)) (more (node Kinds.DeclaredName (at 23 (codes "a")) nil) nil))) nil))) nil)) (more (node Kinds.DeclaredName (at 26 (codes "x")) nil) nil))) (more (node Kinds.Member (at 28 (codes "int")) (more (node Kinds.Specifiers (at 28 (codes "int")) (more (node (Kinds.Specifier words.Int) (at 28 (codes "int")) nil) nil)) (more (node Kinds.DeclaredName (at 32 (codes "b")) nil) nil))) nil)))) nil)) nil)) (more (node Kinds.FunctionDefinition (at 36 (codes "int")) (more (node Kinds.Specifiers (at 36 (codes "int")) (more (node (Kinds.Specifier words.Int) (at 36 (codes "int")) nil) nil)) (more (node Kinds.Function (at 44 (codes "(")) (more (node Kinds.DeclaredName (at 40 (codes "main")) nil) (more (node Kinds.Parameters (at 44 (codes "(")) (more (node Kinds.Parameter (at 45 (codes "void")) (more (node Kinds.Specifiers (at 45 (codes "void")) (more (node (Kinds.Specifier words.Void) (at 45 (codes "void")) nil) nil)) nil)) nil)) nil))) (more (node Kinds.Block (at 50 (codes "{")) (more (node Kinds.Return (at 51 (codes "return")) (more (node Kinds.Number (at 58 (codes "0")) nil) nil)) nil)) nil)))) nil))) 131 17 ∷
+    -- int n;struct{int a;int*b;}s={n,5};int main(void){return 0;}
+    row (node Kinds.File (at 1 (codes "")) (more (node Kinds.Declaration (at 1 (codes "int")) (more (node Kinds.Specifiers (at 1 (codes "int")) (more (node (Kinds.Specifier words.Int) (at 1 (codes "int")) nil) nil)) (more (node Kinds.InitDeclarator (at 5 (codes "n")) (more (node Kinds.DeclaredName (at 5 (codes "n")) nil) nil)) nil))) (more (node Kinds.Declaration (at 7 (codes "struct")) (more (node Kinds.Specifiers (at 7 (codes "struct")) (more (node (Kinds.Record records.Struct) (at 7 (codes "struct")) (more (node Kinds.Member (at 14 (codes "int")) (more (node Kinds.Specifiers (at 14 (codes "int")) (more (node (Kinds.Specifier words.Int) (at 14 (codes "int")) nil) nil)) (more (node Kinds.DeclaredName (at 18 (codes "a")) nil) nil))) (more (node Kinds.Member (at 20 (codes "int")) (more (node Kinds.Specifiers (at 20 (codes "int")) (more (node (Kinds.Specifier words.Int) (at 20 (codes "int")) nil) nil)) (more (node Kinds.Pointer (at 23 (codes "*")) (more (node Kinds.Qualifiers (at 23 (codes "*")) nil) (more (node Kinds.DeclaredName (at 24 (codes "b")) nil) nil))) nil))) nil))) nil)) (more (node Kinds.InitDeclarator (at 27 (codes "s")) (more (node Kinds.DeclaredName (at 27 (codes "s")) nil) (more (node Kinds.BracedInitializer (at 29 (codes "{")) (more (node Kinds.Name (at 30 (codes "n")) nil) (more (node Kinds.Number (at 32 (codes "5")) nil) nil))) nil))) nil))) (more (node Kinds.FunctionDefinition (at 35 (codes "int")) (more (node Kinds.Specifiers (at 35 (codes "int")) (more (node (Kinds.Specifier words.Int) (at 35 (codes "int")) nil) nil)) (more (node Kinds.Function (at 43 (codes "(")) (more (node Kinds.DeclaredName (at 39 (codes "main")) nil) (more (node Kinds.Parameters (at 43 (codes "(")) (more (node Kinds.Parameter (at 44 (codes "void")) (more (node Kinds.Specifiers (at 44 (codes "void")) (more (node (Kinds.Specifier words.Void) (at 44 (codes "void")) nil) nil)) nil)) nil)) nil))) (more (node Kinds.Block (at 49 (codes "{")) (more (node Kinds.Return (at 50 (codes "return")) (more (node Kinds.Number (at 57 (codes "0")) nil) nil)) nil)) nil)))) nil)))) 134 30 ∷
+    -- int n,a[2]={n,m};int main(void){return 0;}
+    row (node Kinds.File (at 1 (codes "")) (more (node Kinds.Declaration (at 1 (codes "int")) (more (node Kinds.Specifiers (at 1 (codes "int")) (more (node (Kinds.Specifier words.Int) (at 1 (codes "int")) nil) nil)) (more (node Kinds.InitDeclarator (at 5 (codes "n")) (more (node Kinds.DeclaredName (at 5 (codes "n")) nil) nil)) (more (node Kinds.InitDeclarator (at 7 (codes "a")) (more (node Kinds.Array (at 8 (codes "[")) (more (node Kinds.DeclaredName (at 7 (codes "a")) nil) (more (node Kinds.Number (at 9 (codes "2")) nil) nil))) (more (node Kinds.BracedInitializer (at 12 (codes "{")) (more (node Kinds.Name (at 13 (codes "n")) nil) (more (node Kinds.Name (at 15 (codes "m")) nil) nil))) nil))) nil)))) (more (node Kinds.FunctionDefinition (at 18 (codes "int")) (more (node Kinds.Specifiers (at 18 (codes "int")) (more (node (Kinds.Specifier words.Int) (at 18 (codes "int")) nil) nil)) (more (node Kinds.Function (at 26 (codes "(")) (more (node Kinds.DeclaredName (at 22 (codes "main")) nil) (more (node Kinds.Parameters (at 26 (codes "(")) (more (node Kinds.Parameter (at 27 (codes "void")) (more (node Kinds.Specifiers (at 27 (codes "void")) (more (node (Kinds.Specifier words.Void) (at 27 (codes "void")) nil) nil)) nil)) nil)) nil))) (more (node Kinds.Block (at 32 (codes "{")) (more (node Kinds.Return (at 33 (codes "return")) (more (node Kinds.Number (at 40 (codes "0")) nil) nil)) nil)) nil)))) nil))) 134 13 ∷
+    -- struct S{int a;};int main(void){const struct S;struct S x;return x.a;}
+    row (node Kinds.File (at 1 (codes "")) (more (node Kinds.Declaration (at 1 (codes "struct")) (more (node Kinds.Specifiers (at 1 (codes "struct")) (more (node (Kinds.Record records.Struct) (at 1 (codes "struct")) (more (node Kinds.Tag (at 8 (codes "S")) nil) (more (node Kinds.Member (at 10 (codes "int")) (more (node Kinds.Specifiers (at 10 (codes "int")) (more (node (Kinds.Specifier words.Int) (at 10 (codes "int")) nil) nil)) (more (node Kinds.DeclaredName (at 14 (codes "a")) nil) nil))) nil))) nil)) nil)) (more (node Kinds.FunctionDefinition (at 18 (codes "int")) (more (node Kinds.Specifiers (at 18 (codes "int")) (more (node (Kinds.Specifier words.Int) (at 18 (codes "int")) nil) nil)) (more (node Kinds.Function (at 26 (codes "(")) (more (node Kinds.DeclaredName (at 22 (codes "main")) nil) (more (node Kinds.Parameters (at 26 (codes "(")) (more (node Kinds.Parameter (at 27 (codes "void")) (more (node Kinds.Specifiers (at 27 (codes "void")) (more (node (Kinds.Specifier words.Void) (at 27 (codes "void")) nil) nil)) nil)) nil)) nil))) (more (node Kinds.Block (at 32 (codes "{")) (more (node Kinds.Declaration (at 33 (codes "const")) (more (node Kinds.Specifiers (at 33 (codes "const")) (more (node (Kinds.Specifier words.Const) (at 33 (codes "const")) nil) (more (node (Kinds.Record records.Struct) (at 39 (codes "struct")) (more (node Kinds.Tag (at 46 (codes "S")) nil) nil)) nil))) nil)) (more (node Kinds.Declaration (at 48 (codes "struct")) (more (node Kinds.Specifiers (at 48 (codes "struct")) (more (node (Kinds.Record records.Struct) (at 48 (codes "struct")) (more (node Kinds.Tag (at 55 (codes "S")) nil) nil)) nil)) (more (node Kinds.InitDeclarator (at 57 (codes "x")) (more (node Kinds.DeclaredName (at 57 (codes "x")) nil) nil)) nil))) (more (node Kinds.Return (at 59 (codes "return")) (more (node (Kinds.Select selections.Direct) (at 67 (codes ".")) (more (node Kinds.Name (at 66 (codes "x")) nil) (more (node Kinds.MemberName (at 68 (codes "a")) nil) nil))) nil)) nil)))) nil)))) nil))) 0 0 ∷
+    -- struct S{int a;};int main(void){struct S;struct S x;return 0;}
+    row (node Kinds.File (at 1 (codes "")) (more (node Kinds.Declaration (at 1 (codes "struct")) (more (node Kinds.Specifiers (at 1 (codes "struct")) (more (node (Kinds.Record records.Struct) (at 1 (codes "struct")) (more (node Kinds.Tag (at 8 (codes "S")) nil) (more (node Kinds.Member (at 10 (codes "int")) (more (node Kinds.Specifiers (at 10 (codes "int")) (more (node (Kinds.Specifier words.Int) (at 10 (codes "int")) nil) nil)) (more (node Kinds.DeclaredName (at 14 (codes "a")) nil) nil))) nil))) nil)) nil)) (more (node Kinds.FunctionDefinition (at 18 (codes "int")) (more (node Kinds.Specifiers (at 18 (codes "int")) (more (node (Kinds.Specifier words.Int) (at 18 (codes "int")) nil) nil)) (more (node Kinds.Function (at 26 (codes "(")) (more (node Kinds.DeclaredName (at 22 (codes "main")) nil) (more (node Kinds.Parameters (at 26 (codes "(")) (more (node Kinds.Parameter (at 27 (codes "void")) (more (node Kinds.Specifiers (at 27 (codes "void")) (more (node (Kinds.Specifier words.Void) (at 27 (codes "void")) nil) nil)) nil)) nil)) nil))) (more (node Kinds.Block (at 32 (codes "{")) (more (node Kinds.Declaration (at 33 (codes "struct")) (more (node Kinds.Specifiers (at 33 (codes "struct")) (more (node (Kinds.Record records.Struct) (at 33 (codes "struct")) (more (node Kinds.Tag (at 40 (codes "S")) nil) nil)) nil)) nil)) (more (node Kinds.Declaration (at 42 (codes "struct")) (more (node Kinds.Specifiers (at 42 (codes "struct")) (more (node (Kinds.Record records.Struct) (at 42 (codes "struct")) (more (node Kinds.Tag (at 49 (codes "S")) nil) nil)) nil)) (more (node Kinds.InitDeclarator (at 51 (codes "x")) (more (node Kinds.DeclaredName (at 51 (codes "x")) nil) nil)) nil))) (more (node Kinds.Return (at 53 (codes "return")) (more (node Kinds.Number (at 60 (codes "0")) nil) nil)) nil)))) nil)))) nil))) 132 51 ∷
+    -- typedef int A[3];typedef int A[];int main(void){return 0;}
+    row (node Kinds.File (at 1 (codes "")) (more (node Kinds.Declaration (at 1 (codes "typedef")) (more (node Kinds.Specifiers (at 1 (codes "typedef")) (more (node (Kinds.Specifier words.Typedef) (at 1 (codes "typedef")) nil) (more (node (Kinds.Specifier words.Int) (at 9 (codes "int")) nil) nil))) (more (node Kinds.InitDeclarator (at 13 (codes "A")) (more (node Kinds.Array (at 14 (codes "[")) (more (node Kinds.DeclaredName (at 13 (codes "A")) nil) (more (node Kinds.Number (at 15 (codes "3")) nil) nil))) nil)) nil))) (more (node Kinds.Declaration (at 18 (codes "typedef")) (more (node Kinds.Specifiers (at 18 (codes "typedef")) (more (node (Kinds.Specifier words.Typedef) (at 18 (codes "typedef")) nil) (more (node (Kinds.Specifier words.Int) (at 26 (codes "int")) nil) nil))) (more (node Kinds.InitDeclarator (at 30 (codes "A")) (more (node Kinds.OpenArray (at 31 (codes "[")) (more (node Kinds.DeclaredName (at 30 (codes "A")) nil) nil)) nil)) nil))) (more (node Kinds.FunctionDefinition (at 34 (codes "int")) (more (node Kinds.Specifiers (at 34 (codes "int")) (more (node (Kinds.Specifier words.Int) (at 34 (codes "int")) nil) nil)) (more (node Kinds.Function (at 42 (codes "(")) (more (node Kinds.DeclaredName (at 38 (codes "main")) nil) (more (node Kinds.Parameters (at 42 (codes "(")) (more (node Kinds.Parameter (at 43 (codes "void")) (more (node Kinds.Specifiers (at 43 (codes "void")) (more (node (Kinds.Specifier words.Void) (at 43 (codes "void")) nil) nil)) nil)) nil)) nil))) (more (node Kinds.Block (at 48 (codes "{")) (more (node Kinds.Return (at 49 (codes "return")) (more (node Kinds.Number (at 56 (codes "0")) nil) nil)) nil)) nil)))) nil)))) 131 30 ∷
+    -- typedef int A[3];typedef int A[3];A x;int main(void){return 0;}
+    row (node Kinds.File (at 1 (codes "")) (more (node Kinds.Declaration (at 1 (codes "typedef")) (more (node Kinds.Specifiers (at 1 (codes "typedef")) (more (node (Kinds.Specifier words.Typedef) (at 1 (codes "typedef")) nil) (more (node (Kinds.Specifier words.Int) (at 9 (codes "int")) nil) nil))) (more (node Kinds.InitDeclarator (at 13 (codes "A")) (more (node Kinds.Array (at 14 (codes "[")) (more (node Kinds.DeclaredName (at 13 (codes "A")) nil) (more (node Kinds.Number (at 15 (codes "3")) nil) nil))) nil)) nil))) (more (node Kinds.Declaration (at 18 (codes "typedef")) (more (node Kinds.Specifiers (at 18 (codes "typedef")) (more (node (Kinds.Specifier words.Typedef) (at 18 (codes "typedef")) nil) (more (node (Kinds.Specifier words.Int) (at 26 (codes "int")) nil) nil))) (more (node Kinds.InitDeclarator (at 30 (codes "A")) (more (node Kinds.Array (at 31 (codes "[")) (more (node Kinds.DeclaredName (at 30 (codes "A")) nil) (more (node Kinds.Number (at 32 (codes "3")) nil) nil))) nil)) nil))) (more (node Kinds.Declaration (at 35 (codes "A")) (more (node Kinds.Specifiers (at 35 (codes "A")) (more (node Kinds.TypedefName (at 35 (codes "A")) nil) nil)) (more (node Kinds.InitDeclarator (at 37 (codes "x")) (more (node Kinds.DeclaredName (at 37 (codes "x")) nil) nil)) nil))) (more (node Kinds.FunctionDefinition (at 39 (codes "int")) (more (node Kinds.Specifiers (at 39 (codes "int")) (more (node (Kinds.Specifier words.Int) (at 39 (codes "int")) nil) nil)) (more (node Kinds.Function (at 47 (codes "(")) (more (node Kinds.DeclaredName (at 43 (codes "main")) nil) (more (node Kinds.Parameters (at 47 (codes "(")) (more (node Kinds.Parameter (at 48 (codes "void")) (more (node Kinds.Specifiers (at 48 (codes "void")) (more (node (Kinds.Specifier words.Void) (at 48 (codes "void")) nil) nil)) nil)) nil)) nil))) (more (node Kinds.Block (at 53 (codes "{")) (more (node Kinds.Return (at 54 (codes "return")) (more (node Kinds.Number (at 61 (codes "0")) nil) nil)) nil)) nil)))) nil))))) 0 0 ∷
+    -- int f(static int a[0]){return 0;}int main(void){return 0;}
+    row (node Kinds.File (at 1 (codes "")) (more (node Kinds.FunctionDefinition (at 1 (codes "int")) (more (node Kinds.Specifiers (at 1 (codes "int")) (more (node (Kinds.Specifier words.Int) (at 1 (codes "int")) nil) nil)) (more (node Kinds.Function (at 6 (codes "(")) (more (node Kinds.DeclaredName (at 5 (codes "f")) nil) (more (node Kinds.Parameters (at 6 (codes "(")) (more (node Kinds.Parameter (at 7 (codes "static")) (more (node Kinds.Specifiers (at 7 (codes "static")) (more (node (Kinds.Specifier words.Static) (at 7 (codes "static")) nil) (more (node (Kinds.Specifier words.Int) (at 14 (codes "int")) nil) nil))) (more (node Kinds.Array (at 19 (codes "[")) (more (node Kinds.DeclaredName (at 18 (codes "a")) nil) (more (node Kinds.Number (at 20 (codes "0")) nil) nil))) nil))) nil)) nil))) (more (node Kinds.Block (at 23 (codes "{")) (more (node Kinds.Return (at 24 (codes "return")) (more (node Kinds.Number (at 31 (codes "0")) nil) nil)) nil)) nil)))) (more (node Kinds.FunctionDefinition (at 34 (codes "int")) (more (node Kinds.Specifiers (at 34 (codes "int")) (more (node (Kinds.Specifier words.Int) (at 34 (codes "int")) nil) nil)) (more (node Kinds.Function (at 42 (codes "(")) (more (node Kinds.DeclaredName (at 38 (codes "main")) nil) (more (node Kinds.Parameters (at 42 (codes "(")) (more (node Kinds.Parameter (at 43 (codes "void")) (more (node Kinds.Specifiers (at 43 (codes "void")) (more (node (Kinds.Specifier words.Void) (at 43 (codes "void")) nil) nil)) nil)) nil)) nil))) (more (node Kinds.Block (at 48 (codes "{")) (more (node Kinds.Return (at 49 (codes "return")) (more (node Kinds.Number (at 56 (codes "0")) nil) nil)) nil)) nil)))) nil))) 133 7 ∷
+    -- int main(void){return sizeof(static int[0]);}
+    row (node Kinds.File (at 1 (codes "")) (more (node Kinds.FunctionDefinition (at 1 (codes "int")) (more (node Kinds.Specifiers (at 1 (codes "int")) (more (node (Kinds.Specifier words.Int) (at 1 (codes "int")) nil) nil)) (more (node Kinds.Function (at 9 (codes "(")) (more (node Kinds.DeclaredName (at 5 (codes "main")) nil) (more (node Kinds.Parameters (at 9 (codes "(")) (more (node Kinds.Parameter (at 10 (codes "void")) (more (node Kinds.Specifiers (at 10 (codes "void")) (more (node (Kinds.Specifier words.Void) (at 10 (codes "void")) nil) nil)) nil)) nil)) nil))) (more (node Kinds.Block (at 15 (codes "{")) (more (node Kinds.Return (at 16 (codes "return")) (more (node Kinds.SizeofType (at 23 (codes "sizeof")) (more (node Kinds.TypeName (at 30 (codes "static")) (more (node Kinds.Specifiers (at 30 (codes "static")) (more (node (Kinds.Specifier words.Static) (at 30 (codes "static")) nil) (more (node (Kinds.Specifier words.Int) (at 37 (codes "int")) nil) nil))) (more (node Kinds.Array (at 40 (codes "[")) (more (node Kinds.Number (at 41 (codes "0")) nil) nil)) nil))) nil)) nil)) nil)) nil)))) nil)) 133 30 ∷
+    -- int main(void){signed char s[2]="\377";return s[0];}
+    row (node Kinds.File (at 1 (codes "")) (more (node Kinds.FunctionDefinition (at 1 (codes "int")) (more (node Kinds.Specifiers (at 1 (codes "int")) (more (node (Kinds.Specifier words.Int) (at 1 (codes "int")) nil) nil)) (more (node Kinds.Function (at 9 (codes "(")) (more (node Kinds.DeclaredName (at 5 (codes "main")) nil) (more (node Kinds.Parameters (at 9 (codes "(")) (more (node Kinds.Parameter (at 10 (codes "void")) (more (node Kinds.Specifiers (at 10 (codes "void")) (more (node (Kinds.Specifier words.Void) (at 10 (codes "void")) nil) nil)) nil)) nil)) nil))) (more (node Kinds.Block (at 15 (codes "{")) (more (node Kinds.Declaration (at 16 (codes "signed")) (more (node Kinds.Specifiers (at 16 (codes "signed")) (more (node (Kinds.Specifier words.Signed) (at 16 (codes "signed")) nil) (more (node (Kinds.Specifier words.Char) (at 23 (codes "char")) nil) nil))) (more (node Kinds.InitDeclarator (at 28 (codes "s")) (more (node Kinds.Array (at 29 (codes "[")) (more (node Kinds.DeclaredName (at 28 (codes "s")) nil) (more (node Kinds.Number (at 30 (codes "2")) nil) nil))) (more (node Kinds.Text (at 33 (codes "\"\\377\"")) nil) nil))) nil))) (more (node Kinds.Return (at 40 (codes "return")) (more (node Kinds.Index (at 48 (codes "[")) (more (node Kinds.Name (at 47 (codes "s")) nil) (more (node Kinds.Number (at 49 (codes "0")) nil) nil))) nil)) nil))) nil)))) nil)) 0 0 ∷
+    []
+
+pub more_rows_are_right : all_right more_rows ≡ true
+unfolding typing constant_of is_null_constant init_declarator declaration specifiers record_specifier enumerator enum_specifier declarator_of formed type_name member_of parameter_of prototype_of named text string_initializer plain_initializer braced_initializer tag_scalars scalars every_slot members extent_within struct_offset bare_within services aliases function_definition file_scope program_of reading readings case_label common integer_of characters literal.type_of literal.simple_escape kinds.reduced kinds.kept_of kinds.wrapped kinds.value_of kinds.converted arithmetic.binary_of arithmetic.compare_of rounding.first_from rounding.alignment rounding.owned rounding.bounds_exponent rounding.least_base rounding.least_top
+more_rows_are_right = refl
+
 -- a program, with the places of its nodes
 
 abbrev column : ℕ → Pos

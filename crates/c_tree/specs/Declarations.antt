@@ -10,7 +10,7 @@ use Rattle.c_tree.specs.Scopes.{Entity, Local, Static, Routine, Alias, Library, 
 use Rattle.c_tree.specs.Readings.{Storage, Internal, External, Defining_type, Specified, Derived, Slot, Items, Reading}
 use Rattle.c_tree.specs.Declarators.{Formed, formed, judge, is_new}
 use Rattle.c_tree.specs.Initializers.{every_slot, with_count}
-use Rattle.c_tree.specs.Statics.{start_slots, initial_bytes}
+use Rattle.c_tree.specs.Statics.{is_start, start_slots, initial_bytes}
 
 -- ---- names with linkage (6.2.2)
 
@@ -144,7 +144,7 @@ static_of (Some g) = g.of
 
 abbrev pub fill_static : ℕ → Lexeme → Reading × Pos → Doing Unit
 fill_static k t r = look >>= λ s.
-    r.0.initializer r.1 (static_of (slice_get s.statics k)) 0 >>= λ f.
+    r.0.initializer is_start r.1 (static_of (slice_get s.statics k)) 0 >>= λ f.
     change (change_static k (λ g. record g { of = with_count g.of f.count })) >>
     start_slots f.slots >>= λ found. look >>= λ s.
     complete_now (static_of (slice_get s.statics k)) t.pos >>
@@ -160,7 +160,7 @@ init_action k p x = action (Init k x.at) (with_term x.value no_terms) no_actions
 -- a local gets the type with its length, and its initialisations have the place of its name
 abbrev pub fill_local : ℕ → Lexeme → Ty → Reading × Pos → Doing (List Action)
 fill_local k t of r =
-    r.0.initializer r.1 of 0 >>= λ f.
+    r.0.initializer (λ x. give tt) r.1 of 0 >>= λ f.
     let u = with_count of f.count in
     change (λ s. bind_name t.text (Local k u) (record s { locals = changed_at (λ v. record v { of = u }) s.locals k })) >>
     complete_now u t.pos >> look >>= λ s.

@@ -91,26 +91,27 @@ string_initializer t xs whole of at =
 -- ---- one value, and braces
 
 -- an expression for a scalar, a struct or a union, as by assignment
-unfoldable pub plain_initializer : Doing Operand → Pos → Ty → ℕ → Doing Filled
-plain_initializer d whole of at =
+unfoldable pub plain_initializer : Doing Operand → (Slot → Doing Unit) → Pos → Ty → ℕ → Doing Filled
+plain_initializer d asked whole of at =
     (d >>= value) >>= λ x. assigned of x >>= λ y.
-    give (record { slots = record { at = at; of = bare of; value = y; first = x.first } ∷ []; count = 0 })
+    let slot : Slot = record { at = at; of = bare of; value = y; first = x.first } in
+    asked slot >> give (record { slots = slot ∷ []; count = 0 })
 
 -- Each item initialises the next part. There are at most as many items as parts
-abbrev pub items : State → Pos → Ty → ℕ → Pos → ℕ → List Reading → Doing (List Slot)
-items s whole of at brace k [] = give []
-items s whole of at brace k (r ∷ rs) =
+abbrev pub items : State → (Slot → Doing Unit) → Pos → Ty → ℕ → Pos → ℕ → List Reading → Doing (List Slot)
+items s asked whole of at brace k [] = give []
+items s asked whole of at brace k (r ∷ rs) =
     some_or (item_place s of k) 133 brace >>= λ p.
-    r.initializer whole p.1 (at + p.0) >>= λ f.
-    items s whole of at brace (k + 1) rs >>= λ slots. give (f.slots ++ slots)
+    r.initializer asked whole p.1 (at + p.0) >>= λ f.
+    items s asked whole of at brace (k + 1) rs >>= λ slots. give (f.slots ++ slots)
 
 -- `{ "ab" }` is the string
-unfoldable pub braced_initializer : Lexeme → Bool → List Reading → Pos → Ty → ℕ → Doing Filled
-braced_initializer brace text (r ∷ []) whole of at =
-    (if text && takes_string of then r.initializer whole of at
-    else look >>= λ s. items s whole of at brace.pos 0 (r ∷ []) >>= λ slots. give (record { slots = slots; count = 1 }))
-braced_initializer brace text rs whole of at =
-    look >>= λ s. items s whole of at brace.pos 0 rs >>= λ slots. give (record { slots = slots; count = length rs })
+unfoldable pub braced_initializer : Lexeme → Bool → List Reading → (Slot → Doing Unit) → Pos → Ty → ℕ → Doing Filled
+braced_initializer brace text (r ∷ []) asked whole of at =
+    (if text && takes_string of then r.initializer asked whole of at
+    else look >>= λ s. items s asked whole of at brace.pos 0 (r ∷ []) >>= λ slots. give (record { slots = slots; count = 1 }))
+braced_initializer brace text rs asked whole of at =
+    look >>= λ s. items s asked whole of at brace.pos 0 rs >>= λ slots. give (record { slots = slots; count = length rs })
 
 -- ---- the whole object
 

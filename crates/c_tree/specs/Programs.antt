@@ -11,7 +11,7 @@ use Rattle.c_tree.specs.Types.{Ty, Function, no_types, int, bare, same, is_scala
 use Rattle.c_tree.specs.Terms.{Shape, Global, Fun, Term, term, Terms, no_terms, with_term, Action, action, Actions, no_actions, with_action, Pointing, Object, Variable, Routine, Tag, Program, To_global, To_literal, To_function, Aim}
 use Rattle.c_tree.specs.Scopes.{Entity, Alias, Library, Named, Part, Scope, Reach, All, Within, Aiming, Pending, StaticState, LocalState, Body, RoutineState, TagState, State, Fault, Doing, give, refuse, need, look, change, ◌>>=◌, ◌>>◌, find_in, innermost, leave, change_routine, is_complete}
 use Rattle.c_tree.specs.Libraries.{Service, services, builtin_name, signature, aliases}
-use Rattle.c_tree.specs.Readings.{Specified, Storage, Defining_type, Param, Prototype, Wrap, Gives, Derived, Context, Filled, Reading}
+use Rattle.c_tree.specs.Readings.{Specified, Storage, Defining_type, Param, Prototype, Wrap, Gives, Derived, Context, Slot, Filled, Reading}
 use Rattle.c_tree.specs.Expressions.{expression_of, routine_type}
 use Rattle.c_tree.specs.Declarators.{specifiers, typedef_name, record_specifier, enum_specifier, enumerator, declarator_of, type_name, member_of, parameter_of, prototype_of, formed, judge}
 use Rattle.c_tree.specs.Initializers.{takes_string, string_initializer, plain_initializer, braced_initializer}
@@ -105,11 +105,11 @@ external_of Kinds.Declaration t xs rs = declaration t.pos rs >>= λ i. give tt
 external_of k t xs rs = give tt
 
 -- a string that fills an array of characters, braces, or one expression
-abbrev pub initializer_of : NodeKind → Lexeme → Syns → List Reading → Pos → Ty → ℕ → Doing Filled
-initializer_of Kinds.BracedInitializer t xs rs whole of at = braced_initializer t (is_text xs) rs whole of at
-initializer_of Kinds.Text t xs rs whole of at =
-    (if takes_string of then string_initializer t xs whole of at else plain_initializer (expression_of Kinds.Text t xs rs) whole of at)
-initializer_of k t xs rs whole of at = plain_initializer (expression_of k t xs rs) whole of at
+abbrev pub initializer_of : NodeKind → Lexeme → Syns → List Reading → (Slot → Doing Unit) → Pos → Ty → ℕ → Doing Filled
+initializer_of Kinds.BracedInitializer t xs rs asked whole of at = braced_initializer t (is_text xs) rs asked whole of at
+initializer_of Kinds.Text t xs rs asked whole of at =
+    (if takes_string of then string_initializer t xs whole of at else plain_initializer (expression_of Kinds.Text t xs rs) asked whole of at)
+initializer_of k t xs rs asked whole of at = plain_initializer (expression_of k t xs rs) asked whole of at
 
 abbrev pub reading_of : NodeKind → Lexeme → Syns → List Reading → Reading
 reading_of k t xs rs = record {

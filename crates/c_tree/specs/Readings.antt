@@ -90,8 +90,8 @@ pub record Reading : Type 0 where
   pub members : List Part → Doing (List Part)
   -- the value that it has without one of its own
   pub enumerator : ℤ → Doing ℤ
-  -- the first byte of the whole initializer, the type of what is initialised, and its offset
-  pub initializer : Pos → Ty → ℕ → Doing Filled
+  -- what is asked of each value that is written; the first byte of the whole initializer, the type of what is initialised, and its offset
+  pub initializer : (Slot → Doing Unit) → Pos → Ty → ℕ → Doing Filled
   -- an initializer's declarator, behind these specifiers
   pub declared : Specified → Doing Items
   pub item : Context → Doing Items

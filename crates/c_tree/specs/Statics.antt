@@ -237,7 +237,11 @@ start_slot s x (Entry k, asks) f = give (f.0, record { at = x.at; aim = To_funct
 abbrev pub known_value : State → Term → Known
 known_value s x = (if is_value_start x then start_of s x else None)
 
--- each value is a constant or an address, in the order of the items
+-- a value that is written is a constant or an address. This is asked of each item before the next one is typed
+abbrev pub is_start : Slot → Doing Unit
+is_start x = look >>= λ s. some_or (known_value s x.value) 134 x.first >>= λ v. give tt
+
+-- what each value is, once the object's length is known
 abbrev pub start_slots : List Slot → Doing Found
 start_slots [] = give nothing_found
 start_slots (x ∷ xs) =
