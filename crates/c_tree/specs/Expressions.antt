@@ -1,6 +1,6 @@
 -- The typing of expressions (C11 6.5): what each construct asks of its operands, and the typed expression that it gives. The operands
 -- are typed before, from left to right. Where a construct fails several rules, the lowest code decides: it is asked for first.
-use Rattle.std.specs.Prelude.{ℕ, ◌+◌, Bool, true, false, not, ◌&&◌, ◌||◌, ◌==◌, if◌then◌else◌, List, [], ◌∷◌, ◌++◌, length, Option, Some, None, bytes_eq, slice_get}
+use Rattle.std.specs.Prelude.{ℕ, ◌+◌, Bool, true, false, not, ◌&&◌, ◌||◌, ◌==◌, nat_le, if◌then◌else◌, List, [], ◌∷◌, ◌++◌, length, Option, Some, None, bytes_eq, slice_get}
 use Rattle.ck_base.specs.declared.positions.Pos.{Pos}
 use Rattle.ck_base.specs.Tokens.{Lexeme}
 use Rattle.ck_int.specs.declared.kinds.IntOp.{IntOp}
@@ -19,6 +19,7 @@ use Rattle.c_tree.specs.declared.syntax.StepOperator.{StepOperator}
 use Rattle.c_tree.specs.declared.syntax.StepOperator.TheVariants.{Increment, Decrement}
 use Rattle.c_tree.specs.declared.syntax.Selection.{Selection}
 use Rattle.c_tree.specs.declared.syntax.Selection.TheVariants.{Direct, Indirect}
+use Rattle.c_tree.specs.Layout.{size_limit}
 use Rattle.c_tree.specs.Syntax.{Syn, Syns, node, nil, more, first_token}
 use Rattle.c_tree.specs.Types.{Ty, Void, Int, Cap, Pointer, Array, Tagged, Function, Tys, no_types, also, char, int, long, unsigned_long, qualified, bare, bare_elements, is_const, is_integer, is_pointer, is_scalar, is_void, is_array, is_function, is_tagged, is_capability, same, compatible_bare, composite, common, promoted}
 use Rattle.c_tree.specs.Terms.{Shape, Constant, Literal, Var, Global, Fun, Deref, Member, Address, Convert, Unary, Step, Arithmetic, Capability, Plus, Difference, Compare, And, Or, Comma, Assign, Compound, Conditional, Call, Library, Term, term, no_terms, with_term, terms, type_of, leaf, step, join, join_three}
@@ -71,9 +72,10 @@ pieces (more (node k t ys) xs) = characters_of t.text ++ pieces xs
 abbrev pub text_bytes : Lexeme → Syns → List ℕ
 text_bytes t xs = characters_of t.text ++ pieces xs ++ 0 ∷ []
 
--- each literal is an object of its own
+-- Each literal is an object of its own, with an array type, which is not over the limit
 unfoldable pub text : Lexeme → Syns → Doing Operand
 text t xs = look >>= λ s.
+    need (nat_le (length (text_bytes t xs)) size_limit) 140 t.pos >>
     change (λ s. record s { texts = s.texts ++ record { place = t.pos; bytes = text_bytes t xs } ∷ [] }) >>
     gives (leaf (Literal (length s.texts)) (Array char (length (text_bytes t xs))) t.pos) t.pos
 

@@ -1,10 +1,12 @@
 -- Which typed program a file is, and why a file is none: the public relations of typing, and that they are exclusive and single-valued.
-use Rattle.std.specs.Prelude.{◌≡◌, ℕ, ◌-◌, List, take, drop, Ok, Err}
+use Rattle.std.specs.Prelude.{◌≡◌, ℕ, ◌-◌, List, take, drop, slice_get, Some, Ok, Err}
 use Rattle.ck_base.specs.declared.positions.Pos.{Pos}
 use Rattle.ck_base.specs.Tokens.{Lexeme}
+use Rattle.ck_base.specs.Lexes.{IsAccepted}
 use Rattle.c_tree.specs.declared.syntax.Tree.{Tree}
 use Rattle.c_tree.specs.declared.typed.Typed.{Typed}
 use Rattle.c_tree.specs.Syntax.{Syn, Syns, node, nil, more, StandsAt}
+use Rattle.c_tree.specs.Parses.{DerivesFile}
 use Rattle.c_tree.specs.Terms.{Program}
 use Rattle.c_tree.specs.Programs.{typing}
 use Rattle.c_tree.specs.Views.{Shows, IsOrdered}
@@ -33,10 +35,13 @@ pub record TypesSyntax (x : Syn) (p : Typed) : Type 0 where
 abbrev pub RefusesSyntax : Syn → ℕ → Pos → Type 0
 RefusesSyntax x code place = typing x ≡ Err (record { code = code; place = place })
 
--- An untyped tree stands for a syntax in the bytes of a file
+-- An untyped tree stands for a syntax in the bytes of a file: it is the tree of tokens, each of which is one of the language
 pub record Reads (tree : Tree) (bytes : List ℕ) (x : Syn) : Type 0 where
   pub stands : StandsAt tree.nodes tree.root x
   pub spelled : IsSpelled bytes x
+  pub tokens : List Lexeme
+  pub derives : DerivesFile tokens x
+  pub accepted : (k : ℕ) (t : Lexeme) → slice_get tokens k ≡ Some t → IsAccepted t.kind t.text
 
 pub record Types (tree : Tree) (bytes : List ℕ) (p : Typed) : Type 0 where
   pub syntax : Syn
