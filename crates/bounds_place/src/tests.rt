@@ -109,6 +109,31 @@ fn objects_stand_behind_the_table(rt: HostRuntime) -> Result<(), Fail> {
     Ok(())
 }
 
+// Lengths of globals, which take exactly 67,108,864 bytes with the literal of two, and one byte more.
+const GLOBALS: [([u64; 4], bool); 2] = [
+    ([40_000_000, 26_935_296, 28_672, 4_030], true),
+    ([40_000_000, 26_935_296, 28_672, 4_031], false),
+];
+
+#[test]
+#[tactic(auto, using(cap_concentrate::proofs::Laws::owned_short))]
+fn globals_up_to_the_limit(rt: HostRuntime) -> Result<(), Fail> {
+    let alloc = rt.alloc();
+    for (lengths, fits) in &GLOBALS {
+        let p = program(alloc, lengths, 1)?;
+        let frames = frames(alloc)?;
+        let entries = vec![in alloc; 0]?;
+        match place(alloc, &p, &frames, &entries, 16) {
+            Ok(_) => assert!(rt; *fits),
+            Err(e) => {
+                assert!(rt; !*fits);
+                assert_eq!(rt; e, Refusal::Code(141, Pos { line: 1, col: 1 }));
+            }
+        }
+    }
+    Ok(())
+}
+
 // Globals of these lengths and a local of that length, and whether they are within the limit.
 const LIMITS: [(u64, u64, u64, bool); 5] = [
     (40_000_000, 26_000_000, 1, true),

@@ -1,0 +1,10 @@
+pub mod Contents
+pub mod Consts
+pub mod Inside
+pub mod Maps
+pub mod Objects
+pub mod Pairs
+pub mod Rows
+pub mod Sizes
+pub mod Starts
+pub mod Under

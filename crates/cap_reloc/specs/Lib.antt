@@ -1,0 +1,4 @@
+pub mod Begins
+pub mod Initial
+pub mod Pointers
+pub mod Levels
