@@ -6,3 +6,21 @@ pub mod Complete
 pub mod StatementsSound
 pub mod StatementsComplete
 mod Examples
+pub mod Rests
+pub mod Made
+pub mod Words
+pub mod Force
+pub mod OneByOne
+pub mod Productions
+pub mod Specified
+pub mod Climbing
+pub mod Answered
+pub mod Parted
+pub mod Declared
+pub mod Entered
+pub mod Outer
+pub mod Answering
+pub mod Deep
+pub mod OneAnswer
+pub mod Declarators
+pub mod Followed

@@ -1,2 +1,12 @@
 pub mod Reading
 pub mod Statements
+pub mod Got
+pub mod Words
+pub mod Runs
+pub mod Steps
+pub mod Gathering
+pub mod Climbing
+pub mod Blocks
+pub mod Parsed
+pub mod Turns
+pub mod Suffixes

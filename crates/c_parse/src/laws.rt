@@ -1,10 +1,18 @@
 //! What holds of the grammar and of its readings.
 
-ghost use Rattle.std.specs.Prelude.{◌≡◌, ℕ, suc, ◌≤◌, List, Some};
+ghost use Rattle.std.specs.Prelude.{◌≡◌, ℕ, suc, ◌≤◌, ◌⊎◌, List, Some};
+ghost use Rattle.ck_base.specs.declared.positions.Pos.{Pos};
+ghost use Rattle.c_tree.specs.declared.syntax.Tree.{Tree};
+ghost use Rattle.c_parse.specs.Parsed.{IsTreeOf, IsRefused};
 ghost use Rattle.ck_base.specs.Tokens.{Lexeme};
 ghost use Rattle.c_tree.specs.Syntax.{Syn, height};
 ghost use Rattle.c_tree.specs.Parses.{DerivesFile};
+ghost use Rattle.c_tree.specs.File.{OneFile};
 ghost use Rattle.c_parse.specs.Statements.{read_file};
+
+use c_lex::one_reading;
+use c_tree::Tree;
+use ck_base::Pos;
 
 /// The tokens of a file have at most one tree (C11 6.9).
 pub fn one_tree()
@@ -15,4 +23,21 @@ pub fn one_tree()
 pub fn readings_are_trees()
     ensures sound { (h : ℕ) (tokens : List Lexeme) (x : Syn) → read_file h tokens ≡ Some x → DerivesFile tokens x × (height x ≤ suc h) }
     ensures complete { (h : ℕ) (tokens : List Lexeme) (x : Syn) → DerivesFile tokens x → height x ≤ suc h → read_file h tokens ≡ Some x }
+{}
+
+/// What `parse` answers is the only answer to a file, up to the numbers of the nodes and to the place of 120: a file has one tree or is
+/// refused by one code, and never both.
+pub fn one_answer()
+    ensures tree { (file : List ℕ) (a b : Tree) (s : IsTreeOf file a) (t : IsTreeOf file b) → s.parses.syntax ≡ t.parses.syntax }
+    ensures apart { (file : List ℕ) (tree : Tree) (code : ℕ) (place : Pos) → IsTreeOf file tree → IsRefused file code place → ⊥ }
+    ensures refusal { (file : List ℕ) (code other : ℕ) (place elsewhere : Pos) → IsRefused file code place → IsRefused file other elsewhere →
+        (code ≡ other) × ((code ≡ 120) ⊎ (place ≡ elsewhere)) }
+{
+    one_reading();
+}
+
+/// A file is one program, whatever the numbers of its nodes and types, or it is refused by one code, at one position but for 120, and
+/// never both.
+pub fn one_file()
+    ensures { (bytes : List ℕ) → OneFile bytes }
 {}

@@ -1,6 +1,20 @@
-//! The tree of a C file, from its tokens: reading from left to right, as functions on lists of tokens.
+//! The tree of a C file, from its tokens.
 #![tactic(auto)]
 
+mod cursor;
+mod declarations;
+mod externals;
+mod files;
+mod items;
 mod laws;
+mod names;
+mod phrases;
+mod runs;
+mod statements;
+mod steps;
+mod tables;
+#[cfg(test)]
+mod tests;
 
-pub use laws::{one_tree, readings_are_trees};
+pub use files::parse;
+pub use laws::{one_answer, one_file, one_tree, readings_are_trees};

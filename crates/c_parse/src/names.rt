@@ -1,0 +1,196 @@
+//! The names of types that are in force.
+
+ghost use Rattle.std.specs.Prelude.{◌≡◌, ℕ, ◌≤◌, List, [], ◌∷◌, ◌++◌, length, reverse, IfOk};
+ghost use Rattle.ck_base.specs.Tokens.{is_among};
+ghost use Rattle.c_tree.specs.Grammar.{is_typedef_name, is_word as is_word_of, may_be_nameless as may_be_nameless_of, is_declared_by as is_declared_by_of};
+ghost use Rattle.c_parse.specs.Reading.{begins_type, starts_with, starts, begins_specifier as begins_specifier_of, begins_declarator as begins_declarator_of, opens_type as opens_type_of, opens_parameters as opens_parameters_of, goes_on_listing as goes_on_listing_of};
+ghost use Rattle.c_parse.specs.Got.{in_force, naming_of, encloses};
+
+use crate::cursor::{Mark, is_marked, starts as starts_with_mark};
+use crate::items::Item;
+use c_tree::Symbol;
+use std::alloc::{AllocError, Global};
+
+/// How a declarator names what it declares.
+#[derive(Clone, Copy, Debug)]
+pub(crate) enum Naming {
+    /// By a name that is no typedef name.
+    Plain,
+    /// By any name.
+    Any,
+    /// By none.
+    Nameless,
+    /// By a name that is no typedef name, or by none.
+    Either,
+}
+
+/// The typedef names in force, the latest first.
+#[derive(Drop)]
+pub(crate) struct TypeNames<'a> {
+    names: Vec<&'a [u8]>,
+}
+
+#[tactic(auto, unfolding(crate::specs::Got::in_force), using(crate::proofs::Force::reversed_push, crate::proofs::Force::reversed_length, crate::proofs::Force::reversed_any))]
+impl<'a> TypeNames<'a> {
+    pub(crate) fn new(alloc: Global) -> TypeNames<'a>
+        ensures { in_force result ≡ [] }
+    {
+        TypeNames {
+            names: Vec::new(alloc),
+        }
+    }
+
+    pub(crate) fn contains(&self, text: &[u8]) -> bool
+        ensures { result ≡ is_among (in_force self.now) text.now }
+    {
+        self.names.as_slice().contains(&text)
+    }
+
+    pub(crate) fn push(&mut self, name: &'a [u8]) -> Result<(), AllocError>
+        ensures { IfOk result (λ _. in_force self.new ≡ name.now ∷ in_force self.old) }
+    {
+        self.names.push(name)?;
+        Ok(())
+    }
+
+    pub(crate) fn len(&self) -> usize
+        ensures { result ≡ length (in_force self.now) }
+    {
+        self.names.len()
+    }
+
+    /// Goes back to the first so many names.
+    pub(crate) fn truncate(&mut self, count: usize)
+        ensures { (ys zs : List (List ℕ)) → in_force self.old ≡ ys ++ zs → length zs ≡ count → in_force self.new ≡ zs }
+    {
+        self.names.truncate(count);
+    }
+
+    /// Puts the names behind the first so many in the other order.
+    pub(crate) fn reverse_from(&mut self, count: usize)
+        requires { count ≤ length (in_force self.old) }
+        ensures { (ys zs : List (List ℕ)) → in_force self.old ≡ ys ++ zs → length zs ≡ count → in_force self.new ≡ reverse ys ++ zs }
+    {
+        let names = self.names.as_mut_slice();
+        names[count..].reverse();
+    }
+
+    /// Whether the token is a typedef name.
+    pub(crate) fn has(&self, item: &Item) -> bool
+        ensures { result ≡ is_typedef_name (in_force self.now) item.now }
+    {
+        matches!(item.symbol(), Symbol::Word) && self.contains(item.text())
+    }
+
+    /// Whether specifiers begin with the token.
+    pub(crate) fn begin_with(&self, item: &Item) -> bool
+        ensures { result ≡ begins_type (in_force self.now) item.now }
+    {
+        begins_specifier(item.symbol()) || self.has(item)
+    }
+
+    /// Whether a type begins with the first item.
+    pub(crate) fn start(&self, items: &[Item]) -> bool
+        ensures { result ≡ starts_with (begins_type (in_force self.now)) items.now }
+    {
+        match items.split_first() {
+            Some((item, _)) => self.begin_with(item),
+            None => false,
+        }
+    }
+}
+
+pub(crate) fn begins_specifier(symbol: Symbol) -> bool
+    ensures { result ≡ begins_specifier_of symbol }
+{
+    matches!(
+        symbol,
+        Symbol::Specifier(_) | Symbol::Record(_) | Symbol::Enum
+    )
+}
+
+fn is_declarator_start(symbol: Symbol) -> bool
+    ensures { result ≡ begins_declarator_of symbol }
+{
+    matches!(
+        symbol,
+        Symbol::Word | Symbol::Star | Symbol::OpenParenthesis | Symbol::OpenBracket
+    )
+}
+
+/// Whether a declarator that is not empty begins with the first item.
+pub(crate) fn begins_declarator(items: &[Item]) -> bool
+    ensures { result ≡ starts begins_declarator_of items.now }
+{
+    match items.split_first() {
+        Some((item, _)) => is_declarator_start(item.symbol()),
+        None => false,
+    }
+}
+
+pub(crate) fn may_be_nameless(naming: Naming) -> bool
+    ensures { result ≡ may_be_nameless_of (naming_of naming) }
+{
+    matches!(naming, Naming::Nameless | Naming::Either)
+}
+
+pub(crate) fn is_word(symbol: Symbol) -> bool
+    ensures { result ≡ is_word_of symbol }
+{
+    matches!(symbol, Symbol::Word)
+}
+
+pub(crate) fn is_declared_by(naming: Naming, types: &TypeNames, item: &Item) -> bool
+    ensures { result ≡ is_declared_by_of (naming_of naming) (in_force types.now) item.now }
+{
+    let word = is_word(item.symbol());
+    match naming {
+        Naming::Any => word,
+        Naming::Nameless => false,
+        Naming::Plain | Naming::Either => word && !types.has(item),
+    }
+}
+
+/// An opening parenthesis and the start of a type.
+pub(crate) fn opens_type(types: &TypeNames, items: &[Item]) -> bool
+    ensures { result ≡ opens_type_of (in_force types.now) items.now }
+{
+    match items.split_first() {
+        Some((item, rest)) => {
+            is_marked(Mark::OpenParenthesis, item.symbol()) && types.start(rest)
+        }
+        None => false,
+    }
+}
+
+/// What follows an opening parenthesis is a list of parameters.
+fn opens_parameters(types: &TypeNames, items: &[Item]) -> bool
+    ensures { result ≡ opens_parameters_of (in_force types.now) items.now }
+{
+    starts_with_mark(Mark::CloseParenthesis, items) || types.start(items)
+}
+
+/// An opening parenthesis that is no list of parameters' where the declarator may be nameless.
+pub(crate) fn is_enclosed(types: &TypeNames, naming: Naming, items: &[Item]) -> bool
+    ensures { result ≡ encloses (naming_of naming) (in_force types.now) items.now }
+{
+    match items.split_first() {
+        Some((item, rest)) => {
+            is_marked(Mark::OpenParenthesis, item.symbol())
+                && !(may_be_nameless(naming) && opens_parameters(types, rest))
+        }
+        None => false,
+    }
+}
+
+/// A comma that does not end a list in braces.
+pub(crate) fn goes_on_listing(items: &[Item]) -> bool
+    ensures { result ≡ goes_on_listing_of items.now }
+{
+    match items.split_first() {
+        Some((item, rest)) => {
+            is_marked(Mark::Comma, item.symbol()) && !starts_with_mark(Mark::CloseBrace, rest)
+        }
+        None => false,
+    }
+}
