@@ -1,1 +1,8 @@
+mod Acts
+mod Bare
+mod Endings
+mod Loops
+mod Matches
+mod Objects
 mod Rows
+mod Whole

@@ -5,3 +5,6 @@ pub mod Intervals
 pub mod Costs
 pub mod Within
 pub mod WellFormed
+pub mod Signatures
+pub mod Bodies
+pub mod Integers
