@@ -1,0 +1,174 @@
+-- What the scopes and the lists of a program stand for: the state of the typing of a file.
+use Rattle.std.specs.Prelude.{◌≡◌, ℕ, ℤ, ◌<◌, Bool, false, List, [], ◌∷◌, length, min, map, reverse, Option, Some, None, option_map, slice_get, slice_range, bytes_eq}
+use Rattle.std.specs.Map.{lookup}
+use Rattle.ck_base.specs.declared.positions.Pos.{Pos}
+use Rattle.ck_base.specs.declared.positions.Span.{Span}
+use Rattle.ck_base.specs.Tokens.{Lexeme}
+use Rattle.c_tree.specs.declared.syntax.RecordKind.{RecordKind}
+use Rattle.c_tree.specs.declared.typed.CType.{CType}
+use Rattle.c_tree.specs.declared.typed.CType.TheVariants as ctypes
+use Rattle.c_tree.specs.declared.typed.Member.{Member}
+use Rattle.c_tree.specs.declared.typed.GlobalDef.{GlobalDef}
+use Rattle.c_tree.specs.declared.typed.VarDef.{VarDef}
+use Rattle.c_tree.specs.declared.typed.FunDef.{FunDef}
+use Rattle.c_tree.specs.declared.typed.Typed.{Typed}
+use Rattle.c_tree.specs.Layout.{Extent}
+use Rattle.c_tree.specs.Types.{Ty, Tagged, int}
+use Rattle.c_tree.specs.Views.{types_of}
+use Rattle.c_tree.specs.Scopes as meant
+use Rattle.c_tree.specs.Scopes.{Named, Part, TagState, StaticState, LocalState, RoutineState, State, find_in}
+use Rattle.c_tree.specs.Declarations.{is_there, linked}
+use Rattle.c_types.specs.declared.entries.Entity.{Entity}
+use Rattle.c_types.specs.declared.entries.Entity.TheVariants.{Local, Static, Routine, Alias, Enumerator, Library}
+use Rattle.c_types.specs.declared.entries.Tagging.{Tagging}
+use Rattle.c_types.specs.declared.entries.Tagging.TheVariants.{Recorded, Enumerated}
+use Rattle.c_types.specs.Sizes.{room_extent}
+use Rattle.c_types.specs.declared.scopes.Scope.{Scope}
+use Rattle.c_types.specs.declared.scopes.TagInfo.{TagInfo}
+use Rattle.c_types.specs.declared.scopes.ObjectInfo.{ObjectInfo}
+use Rattle.c_types.specs.declared.scopes.Scopes.{Scopes}
+
+-- the type that a number of a list names, if it is in the list
+abbrev pub named : List Ty → ℕ → Option Ty
+named ts k = slice_get ts k
+
+-- the bytes at a span, as far as they stand in the file
+abbrev pub text_at : List ℕ → Span → List ℕ
+text_at file s = (let end = min s.end (length file) in slice_range file (min s.start end) end)
+
+-- ---- what names denote
+
+-- what is seen of an entity, with the type that a number names
+pub data Seen : Type 0 where
+  local : ℕ → Option Ty → Seen
+  static : ℕ → Seen
+  routine : ℕ → Seen
+  alias : Option Ty → Seen
+  enumerator : ℤ → Seen
+  library : ℕ → Option (Option Ty) → Seen
+
+abbrev pub entity_kept : List Ty → Entity → Seen
+entity_kept ts (Local k t) = local k (named ts t)
+entity_kept ts (Static k) = static k
+entity_kept ts (Routine k) = routine k
+entity_kept ts (Alias t) = alias (named ts t)
+entity_kept ts (Enumerator z) = enumerator z
+entity_kept ts (Library k of) = library k (option_map (named ts) of)
+
+abbrev pub entity_seen : meant.Entity → Seen
+entity_seen (meant.Local k t) = local k (Some t)
+entity_seen (meant.Static k) = static k
+entity_seen (meant.Routine k) = routine k
+entity_seen (meant.Alias t) = alias (Some t)
+entity_seen (meant.Enumerator z) = enumerator z
+entity_seen (meant.Library k of) = library k (option_map (λ t. Some t) of)
+
+abbrev pub tagging_of : Tagging → meant.Tagging
+tagging_of (Recorded n) = meant.Recorded n
+tagging_of Enumerated = meant.Enumerated
+
+-- what a scope keeps of a name, and of a tag
+abbrev pub name_in : Scope → List ℕ → Option Entity
+name_in c n = lookup (λ k. bytes_eq n k.now) c.names.entries
+
+abbrev pub tag_in : Scope → List ℕ → Option Tagging
+tag_in c n = lookup (λ k. bytes_eq n k.now) c.tags.entries
+
+-- A scope has the names of a scope of the typing, where there are so many structs and unions
+pub record ShowsScope (ts : List Ty) (count : ℕ) (c : Scope) (m : meant.Scope) : Type 0 where
+  pub names : (n : List ℕ) → option_map (entity_kept ts) (name_in c n) ≡ option_map entity_seen (find_in m.names n)
+  pub tags : (n : List ℕ) → option_map tagging_of (tag_in c n) ≡ find_in m.tags n
+  pub there : (n : List ℕ) (k : ℕ) → tag_in c n ≡ Some (Recorded k) → k < count
+
+-- both lists have the innermost first
+abbrev pub ShowScopes : List Ty → ℕ → List Scope → List meant.Scope → Type 0
+ShowScopes ts count [] [] = Unit {0}
+ShowScopes ts count (c ∷ cs) (m ∷ ms) = ShowsScope ts count c m × ShowScopes ts count cs ms
+ShowScopes ts count cs ms = ⊥
+
+-- ---- tags
+
+pub record SeenTag : Type 0 where
+  pub kind : RecordKind
+  pub begun : Bool
+  pub members : Option (List (Span × Option Ty))
+  pub extent : Option Extent
+
+abbrev pub part_seen : Part → Span × Option Ty
+part_seen m = (m.name.span, Some m.of)
+
+abbrev pub member_kept : List Ty → Member → Span × Option Ty
+member_kept ts m = (m.name, named ts m.of)
+
+abbrev pub members_kept : List Ty → Option CType → Option (List (Span × Option Ty))
+members_kept ts (Some (ctypes.Struct n ms)) = Some (map (member_kept ts) ms)
+members_kept ts (Some (ctypes.Union n ms)) = Some (map (member_kept ts) ms)
+members_kept ts c = None
+
+abbrev pub tag_seen : TagState → SeenTag
+tag_seen t = record { kind = t.kind; begun = t.begun; members = option_map (map part_seen) t.members; extent = t.extent }
+
+abbrev pub tag_kept : List CType → List Ty → TagInfo → SeenTag
+tag_kept types ts i = record { kind = i.kind; begun = i.begun; members = members_kept ts (slice_get types i.of); extent = option_map room_extent i.room }
+
+-- ---- objects and functions
+
+-- a name with its place, its text and its type
+pub record Declared : Type 0 where
+  pub text : List ℕ
+  pub span : Span
+  pub place : Pos
+  pub of : Option Ty
+
+abbrev pub declared_as : Lexeme → Ty → Declared
+declared_as t of = record { text = t.text; span = t.span; place = t.pos; of = Some of }
+
+abbrev pub declared_at : List ℕ → List Ty → Span → Pos → ℕ → Declared
+declared_at file ts s p of = record { text = text_at file s; span = s; place = p; of = named ts of }
+
+abbrev pub static_seen : StaticState → Declared
+static_seen g = declared_as g.name g.of
+
+abbrev pub global_kept : List ℕ → List Ty → GlobalDef → Declared
+global_kept file ts g = declared_at file ts g.name g.pos g.of
+
+abbrev pub object_of : StaticState → ObjectInfo
+object_of g = record { linked = g.linked; defined = g.defined; given = is_there g.initial }
+
+abbrev pub routine_seen : RoutineState → Declared
+routine_seen f = declared_as f.name f.of
+
+abbrev pub fun_kept : List ℕ → List Ty → FunDef → Declared
+fun_kept file ts f = declared_at file ts f.name f.pos f.of
+
+abbrev pub local_seen : LocalState → Declared
+local_seen v = declared_as v.name v.of
+
+abbrev pub var_kept : List ℕ → List Ty → VarDef → Declared
+var_kept file ts v = declared_at file ts v.name v.pos v.of
+
+-- the locals of the function whose definition was declared last
+abbrev pub vars_of : Option FunDef → List VarDef
+vars_of None = []
+vars_of (Some f) = f.vars
+
+abbrev pub vars_in : List FunDef → Option ℕ → List VarDef
+vars_in fs None = []
+vars_in fs (Some k) = vars_of (slice_get fs k)
+
+-- ---- all of it
+
+-- The scopes and the program stand for the state. The places of the uses, the bodies, the addresses that were taken, the string literals and
+-- what waits for the end of the file are no part of it
+pub record Stands (sc : Scopes) (p : Typed) (s : State) : Type 0 where
+  pub scopes : ShowScopes (types_of p.types) (length sc.tags.items) (reverse sc.scopes.items) s.scopes
+  pub tags : map (tag_kept p.types (types_of p.types)) sc.tags.items ≡ map tag_seen s.tags
+  pub tag_types : (n : ℕ) (i : TagInfo) → slice_get sc.tags.items n ≡ Some i → named (types_of p.types) i.of ≡ Some (Tagged n)
+  pub objects : sc.objects.items ≡ map object_of s.statics
+  pub globals : map (global_kept sc.file.now (types_of p.types)) p.globals ≡ map static_seen s.statics
+  pub begun : sc.begun.items ≡ map (λ (f : RoutineState). f.begun) s.routines
+  pub routines : map (fun_kept sc.file.now (types_of p.types)) p.funs ≡ map routine_seen s.routines
+  pub locals : map (var_kept sc.file.now (types_of p.types)) (vars_in p.funs sc.function) ≡ map local_seen s.locals
+  pub empty : (k : ℕ) (f : FunDef) → slice_get p.funs k ≡ Some f → slice_get sc.begun.items k ≡ Some false → f.vars ≡ []
+  pub int : named (types_of p.types) sc.int ≡ Some int
+  pub linked : (n : List ℕ) → lookup (λ k. bytes_eq n k.now) sc.linked.entries ≡ linked s n

@@ -1,0 +1,144 @@
+// The tags of structs and unions: their declaration, and their members.
+ghost use Rattle.std.specs.Prelude.{◌≡◌, ℕ, List, Bool, ◌<◌, map, length, IfOk, OnErr, MatchResult, slice_get};
+ghost use Rattle.c_tree.specs.Layout.{size_limit};
+ghost use Rattle.c_tree.specs.Scopes.{State, Part};
+ghost use Rattle.c_tree.specs.Declarators.{new_tag, begin_tag, complete_tag, kind_at, record_extent};
+ghost use Rattle.c_types.specs.Calls.{Does, Keeps, Answers, HasParts, Completes};
+ghost use Rattle.c_tree.specs.Views.{types_of};
+ghost use Rattle.c_types.specs.Sizes.{IsRecordRoom, is_union, completed_type};
+ghost use Rattle.c_types.specs.Stands.{Stands, part_seen, member_kept};
+
+use crate::extents::{LIMIT, finished};
+use crate::numbers::{append, next_number, replace};
+use crate::rooms::Room;
+use crate::scopes::{Scopes, TagInfo};
+use c_tree::{CType, Member, RecordKind, Typed};
+use cap_layout::LayoutFault;
+use ck_base::{NoMemory, Pos, Refusal, Sequence};
+
+fn is_union(kind: RecordKind) -> bool
+    ensures { result ≡ is_union kind }
+{
+    match kind {
+        RecordKind::Struct => false,
+        RecordKind::Union => true,
+    }
+}
+
+fn completed(kind: RecordKind, tag: u32, members: Vec<Member>) -> CType
+    ensures { result ≡ completed_type kind tag members.items }
+{
+    match kind {
+        RecordKind::Struct => CType::Struct(tag, Sequence::from_vec(members)),
+        RecordKind::Union => CType::Union(tag, Sequence::from_vec(members)),
+    }
+}
+
+impl<'a> Scopes<'a> {
+    fn tag(&self, n: u32) -> Option<TagInfo>
+        ensures { result ≡ slice_get self.now.tags.items n }
+    {
+        self.tags.get(n as usize).copied()
+    }
+
+    /// A new struct or union without a tag, which is not complete, and its type. The answer is the number of its tag.
+    pub fn new_tag(&mut self, p: &mut Typed, kind: RecordKind) -> Result<u32, NoMemory>
+        ensures ok { IfOk result (λ n. Does self.old p.old self.new p.new (new_tag kind) (λ s m. m ≡ n)) }
+        ensures err { OnErr result (p.new ≡ p.old) }
+        ensures keeps { OnErr result (Keeps self.old self.new p.old) }
+    {
+        let tag = next_number(self.tags.as_slice())?;
+        let of = next_number(p.types.as_slice())?;
+        self.tags.reserve(1)?;
+        append(self.alloc, &mut p.types, CType::Incomplete(tag))?;
+        let info = TagInfo {
+            kind,
+            begun: false,
+            of,
+            room: None,
+        };
+        self.tags.push(info)?;
+        Ok(tag)
+    }
+
+    /// The braces of a struct or union are opened, which happens once: otherwise 131 at the place.
+    pub fn begin_tag(&mut self, tag: u32, pos: Pos) -> Result<(), Refusal>
+        ensures { (p : Typed) → Answers self.old p self.new p (begin_tag tag pos) (λ x s a. Unit {0}) result }
+    {
+        match self.tag(tag) {
+            None => Ok(()),
+            Some(info) => {
+                if info.begun {
+                    return Err(Refusal::Code(131, pos));
+                }
+                self.tags[tag as usize] = TagInfo {
+                    kind: info.kind,
+                    begun: true,
+                    of: info.of,
+                    room: info.room,
+                };
+                Ok(())
+            }
+        }
+    }
+
+    // The size of a struct or union from its members, if it is complete.
+    fn record_room(
+        &self,
+        p: &Typed,
+        kind: RecordKind,
+        ms: &[Member],
+    ) -> Result<Option<Room>, LayoutFault>
+        ensures { (s : State) (parts : List Part) → Stands self.now p.now s → HasParts (types_of p.now.types) parts ms.now → IsRecordRoom (record_extent s.tags kind parts) result }
+    {
+        match self.members_end(p, ms, is_union(kind)) {
+            Err(LayoutFault::Incomplete) => Ok(None),
+            Err(LayoutFault::TooLarge) => Err(LayoutFault::TooLarge),
+            Ok(end) => {
+                let l = finished(end);
+                if l.size > LIMIT {
+                    Err(LayoutFault::TooLarge)
+                } else {
+                    Ok(Some(Room {
+                        size: l.size,
+                        align: l.align,
+                    }))
+                }
+            }
+        }
+    }
+
+    /// A struct or union gets its members, which make it complete (C11 6.7.2.1): 140 at the place if it has more than 67,108,864 bytes.
+    /// The members' types are those of the program.
+    pub fn complete_tag(
+        &mut self,
+        p: &mut Typed,
+        tag: u32,
+        members: Vec<Member>,
+        pos: Pos,
+    ) -> Result<(), Refusal>
+        ensures { (kind : RecordKind) (parts : List Part) → HasParts (types_of p.old.types) parts members.items → Completes self.old p.old self.new p.new kind tag parts pos result }
+    {
+        match self.tag(tag) {
+            None => Ok(()),
+            Some(info) => match self.record_room(p, info.kind, members.as_slice()) {
+                Err(_) => Err(Refusal::Code(140, pos)),
+                Ok(room) => {
+                    replace(
+                        self.alloc,
+                        &mut p.types,
+                        info.of,
+                        completed(info.kind, tag, members),
+                    );
+                    self.tags[tag as usize] = TagInfo {
+                        kind: info.kind,
+                        begun: info.begun,
+                        of: info.of,
+                        room,
+                    };
+                    Ok(())
+                }
+            },
+        }
+    }
+}
