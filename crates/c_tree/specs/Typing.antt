@@ -1,5 +1,5 @@
 -- Which typed program a file is, and why a file is none: the public relations of typing, and that they are exclusive and single-valued.
-use Rattle.std.specs.Prelude.{◌≡◌, ℕ, ◌-◌, List, take, drop, slice_get, Some, Ok, Err}
+use Rattle.std.specs.Prelude.{◌≡◌, ℕ, ◌-◌, ◌<◌, List, take, drop, slice_get, Some, Ok, Err}
 use Rattle.ck_base.specs.declared.positions.Pos.{Pos}
 use Rattle.ck_base.specs.Tokens.{Lexeme}
 use Rattle.ck_base.specs.Lexes.{IsAccepted}
@@ -35,8 +35,13 @@ pub record TypesSyntax (x : Syn) (p : Typed) : Type 0 where
 abbrev pub RefusesSyntax : Syn → ℕ → Pos → Type 0
 RefusesSyntax x code place = typing x ≡ Err (record { code = code; place = place })
 
+-- the items of a list are bytes
+abbrev pub AreBytes : List ℕ → Type 0
+AreBytes bytes = (k b : ℕ) → slice_get bytes k ≡ Some b → b < 256
+
 -- An untyped tree stands for a syntax in the bytes of a file: it is the tree of tokens, each of which is one of the language
 pub record Reads (tree : Tree) (bytes : List ℕ) (x : Syn) : Type 0 where
+  pub small : AreBytes bytes
   pub stands : StandsAt tree.nodes tree.root x
   pub spelled : IsSpelled bytes x
   pub tokens : List Lexeme

@@ -17,11 +17,13 @@ use Rattle.c_tree.specs.declared.typed.VarDef.{VarDef}
 use Rattle.c_tree.specs.declared.typed.FunDef.{FunDef}
 use Rattle.c_tree.specs.declared.typed.Typed.{Typed}
 use Rattle.c_tree.specs.Layout.{Extent, extent, size_limit}
+use Rattle.c_tree.specs.Layout as layout
 use Rattle.c_tree.specs.Types.{Ty, Int, Cap, Pointer, Array, Tagged, Function, Tys, no_types, also, char, int, long, bare, in_signature, is_function, is_integer, is_pointer, is_scalar, is_void, is_tagged, is_capability, compatible, promoted, count}
 use Rattle.c_tree.specs.Terms as tree
 use Rattle.c_tree.specs.Terms.{Shape, Term, Terms, term, no_terms, with_term, type_of, Label, Form, Action, Actions, action, no_actions, with_action}
 use Rattle.c_tree.specs.Conversions.{is_place, designates}
 use Rattle.c_tree.specs.Expressions.{is_modifiable, is_shift, as_qualified, given_type}
+use Rattle.c_tree.specs.Statics.{is_exact, is_near}
 use Rattle.c_tree.specs.Libraries.{Asked, Any_capability, A, Service, services}
 use Rattle.c_tree.specs.Views.{types_of, type_at, actions_of, action_at, IsOrdered, times_in}
 
@@ -174,10 +176,15 @@ inside_of (tree.For vars n a b) i = in_loop
 inside_of (tree.Switch vars labels) i = in_switch i
 inside_of x i = i
 
+-- a variable that is no object gets a value of its own type, as a whole
+abbrev pub WholeFits : Frame → VarDef → ℕ → Ty → Type 0
+WholeFits f v offset t = v.simple ≡ true → (offset ≡ 0) × (t ≡ bare (type_in f.program v.of))
+
 -- a value of a type at an offset lies in a variable
 abbrev pub InitFits : Frame → ℕ → ℕ → Ty → Type 0
 InitFits f var offset t =
     (v : VarDef) × (x y : Extent) × (slice_get f.vars var ≡ Some v) × HasExtent f.program (type_in f.program v.of) x × HasExtent f.program t y × (offset + y.size ≤ x.size)
+    × WholeFits f v offset t
 
 abbrev pub AreVars : Frame → List ℕ → Type 0
 AreVars f ks = (j k : ℕ) → slice_get ks j ≡ Some k → k < length f.vars
@@ -272,17 +279,20 @@ OwnsBytes p (targets.Global k) n = (g : GlobalDef) × (x : Extent) × (slice_get
 OwnsBytes p (targets.Literal k) n = (l : Literal) × (slice_get p.literals k ≡ Some l) × (n ≡ owned (length l.bytes))
 OwnsBytes p (targets.Fun k) n = (k < length p.funs) × (n ≡ 0)
 
--- an initial pointer lies in the bytes of its object, and its bounds in its target
+-- An initial pointer lies in the bytes of its object, and its bounds, which are exact, in its target; its address is near them
 pub record LinkFits (p : Typed) (size : ℕ) (l : Link) : Type 0 where
   pub inside : l.at + 16 ≤ size
   pub aligned : l.at % 16 ≡ 0
   pub target : ℕ
   pub owns : OwnsBytes p l.target target
   pub bounds : l.low + l.length ≤ target
+  pub exact : holds (is_exact l.low l.length)
+  pub near : holds (is_near l.low l.length l.offset)
 
 pub record GlobalFits (p : Typed) (g : GlobalDef) : Type 0 where
   pub extent : Extent
   pub complete : HasExtent p (type_in p g.of) extent
+  pub own : layout.extent p.types g.of ≡ Some extent
   pub bytes : length g.bytes ≤ extent.size
   pub links : (k : ℕ) (l : Link) → slice_get g.links k ≡ Some l → LinkFits p extent.size l
 
