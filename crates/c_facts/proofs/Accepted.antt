@@ -1,6 +1,6 @@
 -- A tree that is read from accepted tokens fits (C11 6.4.4, 6.8).
-use Rattle.std.proofs.Common.{◌≡◌, ℕ, zero, suc, ◌-◌, Bool, true, false, not, List, [], ◌∷◌, ◌++◌, take, drop, Some, refl, sym, ap, subst, ◌∙◌}
-use Rattle.std.specs.Prelude.{if◌then◌else◌, slice_get, bytes_eq}
+use Rattle.std.proofs.Common.{◌≡◌, ℕ, suc, ◌-◌, Bool, true, false, List, [], ◌∷◌, ◌++◌, take, drop, Some, refl, sym, ap, subst, ◌∙◌}
+use Rattle.std.specs.Prelude.{slice_get, bytes_eq}
 use Rattle.std.specs.List.{list_all}
 use Rattle.std.proofs.lemmas.Bool.{false≢true, and_parts}
 use Rattle.ck_base.specs.declared.tokens.TokenKind.{TokenKind}
@@ -14,14 +14,14 @@ use Rattle.c_tree.specs.declared.syntax.Symbol.{Symbol}
 use Rattle.c_tree.specs.declared.syntax.Symbol.TheVariants as Symbols
 use Rattle.c_tree.specs.declared.syntax.Head.{Head}
 use Rattle.c_tree.specs.declared.syntax.Head.TheVariants as Heads
-use Rattle.c_tree.specs.Syntax.{Syn, Syns, node, nil, more, one, joined, then_one}
-use Rattle.c_tree.specs.Symbols.{look_up, keyword_symbols, punctuator_symbols, symbol_of, symbol, head_of}
+use Rattle.c_tree.specs.Syntax.{Syn, Syns, node, nil, more, one, joined}
+use Rattle.c_tree.specs.Symbols.{look_up, keyword_symbols, punctuator_symbols, symbol_of, head_of}
 use Rattle.c_tree.specs.Grammar
 use Rattle.c_tree.specs.Grammar.{Naming, Tags, Goal, Derives, Declares, Repeated, Separated, Listed, Initializes, Initialized, Declaration, Optional, States, Items, Externals}
 use Rattle.c_tree.specs.Parses
 use Rattle.c_tree.specs.Parses.{DerivesFile}
 use Rattle.c_tree.specs.Typing.{IsSpelled, AreSpelled, Reads}
-use Rattle.c_facts.specs.Fitting.{IsStatement, KindFits, IsFit, AreFit, AreBytes}
+use Rattle.c_facts.specs.Fitting.{IsStatement, KindFits, IsFit, AreFit}
 use Rattle.c_facts.proofs.Scalars.{branched}
 use Rattle.c_facts.proofs.Literals.{number_typed, character_small, Small, small_from, small_take, small_drop}
 
@@ -302,5 +302,5 @@ module _ (bytes : List ℕ) (small : Small bytes) where
     all_fit nil r s = tt
     all_fit (more x xs) r s = (fit x r.0 s.0, all_fit xs r.1 s.1)
 
-pub fit_of_reads : (tree : Tree) (bytes : List ℕ) (x : Syn) → Reads tree bytes x → AreBytes bytes → IsFit x
-fit_of_reads tree bytes x r b = fit bytes (small_from bytes b) x (file_read r.derives (all_from r.tokens r.accepted)) r.spelled
+pub fit_of_reads : (tree : Tree) (bytes : List ℕ) (x : Syn) → Reads tree bytes x → IsFit x
+fit_of_reads tree bytes x r = fit bytes (small_from bytes r.small) x (file_read r.derives (all_from r.tokens r.accepted)) r.spelled

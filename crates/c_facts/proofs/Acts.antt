@@ -1,26 +1,32 @@
 -- What holds of statements, of the variables that they declare and of the functions so far.
 use Rattle.std.proofs.Common.{◌≡◌, ℕ, zero, suc, ◌+◌, ◌<◌, ◌≤◌, Bool, true, false, cond, List, [], ◌∷◌, ◌++◌, length, Option, Some, None, refl, sym, ap, subst, ◌∙◌, inl, inr, ◌⊎◌, ⊎_elim, arith}
 use Rattle.std.specs.Prelude.{slice_get, ◌&&◌, ◌==◌, nat_lt, nat_le, if◌then◌else◌}
-use Rattle.std.proofs.lemmas.Bool.{cases_lt, cases_order, eq-eqb, ne_eqb, lt-ltb, le-ltb, le-leb, lt-leb}
+use Rattle.std.proofs.lemmas.Bool.{false≢true, cases_lt, cases_order, eq-eqb, ne_eqb, lt-ltb, le-ltb, le-leb, lt-leb}
 use Rattle.std.proofs.lemmas.Option.{same_Some, slice_get_within}
 use Rattle.std.proofs.lemmas.List.Sums.{sum_by-append}
 use Rattle.c_tree.specs.Layout.{Extent}
-use Rattle.c_tree.specs.Types.{Ty, is_integer, is_void, promoted}
+use Rattle.c_tree.specs.Types.{Ty, Array, bare, is_integer, is_scalar, is_void, promoted}
 use Rattle.c_tree.specs.Terms as tree
 use Rattle.c_tree.specs.Terms.{Term, Terms, no_terms, with_term, type_of, Label, Form, Action, Actions, action, actions, no_actions, with_action}
 use Rattle.c_tree.specs.Scopes.{LocalState, State, type_extent}
 use Rattle.c_tree.specs.Readings.{Context, Items}
-use Rattle.c_tree.specs.Declarations.{no_items, both}
+use Rattle.c_tree.specs.Declarations.{no_items, both, is_open}
 use Rattle.c_tree.specs.Views.{times_in}
 use Rattle.c_tree.specs.WellTyped.{holds, Inside, inside_of, LabelsFit, count_of, IsTest, TestsFit, declared, all_declared}
 use Rattle.c_facts.proofs.Agreeing.{refines}
-use Rattle.c_facts.proofs.Facts.{Complete, TermsOk, Refers}
+use Rattle.c_facts.proofs.Facts.{Complete, TermsOk, LocalGrows, Refers}
 use Rattle.c_facts.proofs.Growing.{extent_kept, refined_extent, terms_kept}
 
 -- ---- statements
 
+-- a scalar gets a value of its own type, as a whole
+abbrev pub WholeOk : Ty → ℕ → Ty → Type 0
+WholeOk u o t = holds (is_scalar (bare u)) → (o ≡ 0) × (t ≡ bare u)
+
 abbrev pub InitOk : State → ℕ → ℕ → Ty → Type 0
-InitOk s k o t = (v : LocalState) × (x : Extent) × (y : Extent) × (slice_get s.locals k ≡ Some v) × (type_extent s.tags v.of ≡ Some x) × (type_extent s.tags t ≡ Some y) × (o + y.size ≤ x.size)
+InitOk s k o t =
+    (v : LocalState) × (x : Extent) × (y : Extent) × (slice_get s.locals k ≡ Some v) × (type_extent s.tags v.of ≡ Some x) × (type_extent s.tags t ≡ Some y) × (o + y.size ≤ x.size)
+    × WholeOk v.of o t
 
 abbrev pub AreLocals : State → List ℕ → Type 0
 AreLocals s ks = (j k : ℕ) → slice_get ks j ≡ Some k → k < length s.locals
@@ -60,10 +66,23 @@ at_number (x ∷ xs) (suc k) l = at_number xs k (omega (arith, l))
 pub locals_stay : (s r : State) → Refers s r → (k : ℕ) → k < length s.locals → k < length r.locals
 locals_stay s r g k l = let v = at_number s.locals k l in let w = g.locals k v.0 v.1 in slice_get_within r.locals k w.0 w.1
 
+-- an array whose length is not known becomes no scalar
+open_not_scalar : (s t : Ty) → refines s t ≡ true → is_open s ≡ true → is_scalar (bare t) ≡ true → ⊥
+open_not_scalar (Array e zero) (Array t n) r o c = false≢true c
+open_not_scalar (Array e zero) t r o c = false≢true r
+open_not_scalar s t r o c = false≢true o
+
+whole_kept : (v w : LocalState) → LocalGrows v w → (o : ℕ) (t : Ty) → WholeOk v.of o t → WholeOk w.of o t
+whole_kept v w g o t h = by (is_open v.of) refl
+  where
+    by : (b : Bool) → is_open v.of ≡ b → WholeOk w.of o t
+    by false e c = let same = g.fixed e in subst (λ u. (o ≡ 0) × (t ≡ bare u)) (sym same) (h (ap (λ u. is_scalar (bare u)) (sym same) ∙ c))
+    by true e c = absurd (open_not_scalar v.of w.of g.type e c)
+
 init_kept : (s r : State) → Refers s r → (k o : ℕ) (t : Ty) → InitOk s k o t → InitOk r k o t
 init_kept s r g k o t h =
     let w = g.locals k h.0 h.3 in
-    (w.0, h.1, h.2, w.1, refined_extent r.tags h.0.of w.0.of h.1 w.2.type (extent_kept s.tags r.tags g.tags h.0.of h.1 h.4), extent_kept s.tags r.tags g.tags t h.2 h.5, h.6)
+    (w.0, h.1, h.2, w.1, refined_extent r.tags h.0.of w.0.of h.1 w.2.type (extent_kept s.tags r.tags g.tags h.0.of h.1 h.4), extent_kept s.tags r.tags g.tags t h.2 h.5, h.6, whole_kept h.0 w.0 w.2 o t h.7)
 
 pub are_locals_kept : (s r : State) → Refers s r → (ks : List ℕ) → AreLocals s ks → AreLocals r ks
 are_locals_kept s r g ks h j k e = locals_stay s r g k (h j k e)

@@ -10,7 +10,7 @@ use Rattle.ck_base.specs.declared.positions.Pos.{Pos}
 use Rattle.ck_base.specs.Tokens.{Lexeme}
 use Rattle.c_tree.specs.Layout.{Extent, with_extent, times, size_limit}
 use Rattle.c_tree.specs.Syntax.{Syns, nil, more, first_token}
-use Rattle.c_tree.specs.Types.{Ty, Void, Int, Cap, Pointer, Array, Tagged, Function, Const, compatible, composite, is_function}
+use Rattle.c_tree.specs.Types.{Ty, Void, Int, Cap, Pointer, Array, Tagged, Function, Const, bare, compatible, composite, is_function, is_scalar}
 use Rattle.c_tree.specs.Terms.{no_terms, with_term, type_of, Init, Action, action, Actions, no_actions, actions}
 use Rattle.c_tree.specs.Scopes.{Entity, Local, Static, Routine, Alias, Enumerator, Named, Scope, TagState, StaticState, LocalState, RoutineState, Body, Pending, State, Doing, give, refuse, need, look, change, some_or, ◌>>=◌, ◌>>◌, find_in, innermost, in_innermost, at_file_scope, bind_name, changed_at, change_static, change_routine, is_complete, type_extent, extent_size}
 use Rattle.c_tree.specs.Scopes as scopes
@@ -30,7 +30,7 @@ use Rattle.c_facts.proofs.Places.{entity_kept, changed_here, map_changed}
 use Rattle.c_facts.proofs.Evaluated.{weaker, regain}
 use Rattle.c_facts.proofs.Tags.{AllWraps, ReadsDeclared, AllDeclared, name_bound, name_grows, there_in, last_of, there_from}
 use Rattle.c_facts.proofs.Formed.{formed_ok, Judged, judged}
-use Rattle.c_facts.proofs.Filled.{AllSlots, slots_kept, Fillable, AskedStill, Initializes, AllInit, every_ok}
+use Rattle.c_facts.proofs.Filled.{AllSlots, slots_kept, Fillable, AskedStill, Initializes, AllInit, every_ok, AllOf, AllWhole, every_whole, scalar_count}
 use Rattle.c_facts.proofs.Acts.{ActionsOk, between, between_one, inside_context, ItemsOk, items_both, items_none, items_from}
 use Rattle.c_facts.proofs.Placed.{More, waiting, FoundOk, slots_found, initial_ok, Follows, follows, Begun, begun_kept, Begins, InitialsFrom, begins_on, initials_self, more_same}
 use Rattle.c_facts.proofs.Wholes.{FileEntity, AllFiles, Strict, files_more, BodiesFrom, bodies_on, linked_still, strict_still}
@@ -479,7 +479,7 @@ fill_static_ok k t r s g there f h i w x e =
     let len : static_of (slice_get c.statics k) ≡ with_count o.0.of n = ap static_of (changed_here (lengthened n) b.statics k o.0 o.1) in
     let size : extent_size (type_extent b.tags (with_count o.0.of n)) ≤ size_limit = subst (λ u. extent_size (type_extent b.tags u) ≤ size_limit) len d.1 in
     let whole : Complete b.tags (with_count o.0.of n) = subst (Complete b.tags) len d.0 in
-    let slots : AllSlots b 0 whole.0 y.0.0.slots = a.post whole.0 (ap (λ t. type_extent b.tags (with_count t n)) (is ∙ sym o.2) ∙ whole.1) in
+    let slots : AllSlots b 0 whole.0 y.0.0.slots = a.post.0 whole.0 (ap (λ t. type_extent b.tags (with_count t n)) (is ∙ sym o.2) ∙ whole.1) in
     let longer : Refers b b' = record { tags = tags_self b.tags; routines = (refers_self b).routines; texts = λ k x q. q; locals = (refers_self b).locals; statics = λ j x q. let z = changed_to (lengthened n) b.statics k j x q in (z.0, z.1, ⊎_elim (λ w. subst (StaticGrows x) (sym w) (record { type = refines_self x.of; used = λ u. u })) (λ w. subst (StaticGrows x) (sym w.1) (record { type = count_refines x.of n; used = λ u. u })) z.2) } in
     let fo = slots_found y.0.0.slots b' whole.0 a.inv.routines (slots_kept b b' longer 0 whole.0 y.0.0.slots slots) z.0 z.1 in
     let waits : More b.pending q.0 = subst (More b.pending) (ap (λ (t : State). t.pending) (sym fo.0.1 ∙ q.1)) fo.0.2 in
@@ -710,9 +710,10 @@ new_local_ok t of s h i w x e =
     })
 
 -- its initialisations
-inits_fit : (k : ℕ) (p : Pos) (r : State) (v : LocalState) (z : Extent) (gives : Ty) (i : Rattle.c_tree.specs.WellTyped.Inside) → slice_get r.locals k ≡ Some v → type_extent r.tags v.of ≡ Some z → (xs : List Slot) → AllInit r z xs → ActionsOk r gives i (actions (map (init_action k p) xs))
-inits_fit k p r v z gives i l e [] h = tt
-inits_fit k p r v z gives i l e (x ∷ xs) h = (((h.0.value.fits, tt), (v, z, h.0.extent, l, e, h.0.is, h.0.inside), tt), inits_fit k p r v z gives i l e xs h.1)
+inits_fit : (k : ℕ) (p : Pos) (r : State) (v : LocalState) (z : Extent) (gives : Ty) (i : Rattle.c_tree.specs.WellTyped.Inside) → slice_get r.locals k ≡ Some v → type_extent r.tags v.of ≡ Some z → (xs : List Slot) → AllInit r z xs → (is_scalar (bare v.of) ≡ true → AllWhole (bare v.of) xs) → ActionsOk r gives i (actions (map (init_action k p) xs))
+inits_fit k p r v z gives i l e [] h w = tt
+inits_fit k p r v z gives i l e (x ∷ xs) h w =
+    (((h.0.value.fits, tt), (v, z, h.0.extent, l, e, h.0.is, h.0.inside, λ c. ((w c).0.at, (w c).0.type)), tt), inits_fit k p r v z gives i l e xs h.1 (λ c. (w c).1))
 
 inits_declare : (k : ℕ) (p : Pos) (xs : List Slot) → all_declared (actions (map (init_action k p) xs)) ≡ []
 inits_declare k p [] = refl
@@ -772,14 +773,16 @@ fill_local_ok k t of r s v there is f h ini i w x e =
     let q = bound_name b' t.text (Local k u) (ok, (longer_local u o.0, here, refines_self u)) (λ _. tt) moved.0 (strict_with b b' kept moved.1.refers refl (initials_self b b' refl) refl (files_more b b' (λ name j q. q) _ kept.files)) in
     let grown = grows_on false b b' c moved.1 q.1 in
     let z = g.0 in
-    let all = every_ok c r.1 u z.0 slots q.0.tags ok z.1 (slots_kept b c grown.refers 0 z.0 slots (a.post z.0 z.1)) in
+    let lasting = slots_kept b c grown.refers 0 z.0 slots (a.post.0 z.0 z.1) in
+    let all = every_ok c r.1 u z.0 slots q.0.tags ok z.1 lasting in
+    let own : is_scalar (bare u) ≡ true → AllOf (bare u) slots = λ m. let whole = scalar_count of n m in subst (λ t. AllOf (bare t) slots) (sym whole) (a.post.1 (ap (λ t. is_scalar (bare t)) (sym whole) ∙ m)) in
     let same_state = ok_is (c, c) d.0 g.2 in
     let now = subst (λ (w : State × State). acts w.0 w.1 ≡ Ok x) (sym same_state) d.2 in
     given (Kept true false s (Started s k)) (map (init_action k t.pos) (every_slot c r.1 u slots)) c x now (record {
       inv = q.0;
       grown = grows_on false s b c (grows_loose false s b a.grown) grown;
       post = record {
-        fits = λ gives i. inits_fit k t.pos c (longer_local u o.0) z.0 gives i here z.1 (every_slot c r.1 u slots) all;
+        fits = λ gives i. inits_fit k t.pos c (longer_local u o.0) z.0 gives i here z.1 (every_slot c r.1 u slots) all (λ m. every_whole c r.1 u z.0 slots lasting (own m) m);
         declares = inits_declare k t.pos (every_slot c r.1 u slots);
         count = length-changed (longer_local u) b.locals k ∙ a.grown.count;
         complete = λ w m. (z.0, ap (λ (v : LocalState). type_extent b.tags v.of) (same_Some w (longer_local u o.0) (sym m ∙ here)) ∙ z.1);

@@ -91,12 +91,25 @@ wider s at o y z u w e (x ∷ xs) h =
       wider s at o y z u w e xs h.1,
     )
 
+-- the values are of a type
+abbrev pub AllOf : Ty → List Slot → Type 0
+AllOf t [] = Unit {0}
+AllOf t (x ∷ xs) = (x.of ≡ t) × AllOf t xs
+
+of_both : (t : Ty) (xs ys : List Slot) → AllOf t xs → AllOf t ys → AllOf t (xs ++ ys)
+of_both t [] ys h k = k
+of_both t (x ∷ xs) ys h k = (h.0, of_both t xs ys h.1 k)
+
+-- a scalar has values of its own type alone
+abbrev pub OwnScalar : Ty → List Slot → Type 0
+OwnScalar t xs = holds (is_scalar (bare t)) → AllOf (bare t) xs
+
 -- what may be initialised: a complete type, or an array whose length is not known
 abbrev pub Fillable : List TagState → Ty → Type 0
 Fillable ts t = Complete ts t ⊎ ((e : Ty) × (t ≡ Array e 0))
 
 abbrev pub FilledOk : State → ℕ → Ty → Filled → Type 0
-FilledOk s at t f = (z : Extent) → type_extent s.tags (with_count t f.count) ≡ Some z → AllSlots s at z f.slots
+FilledOk s at t f = ((z : Extent) → type_extent s.tags (with_count t f.count) ≡ Some z → AllSlots s at z f.slots) × OwnScalar t f.slots
 
 -- a complete type stays as it is
 complete_count : (ts : List TagState) (t : Ty) (n : ℕ) → Complete ts t → with_count t n ≡ t
@@ -193,6 +206,19 @@ item_ok s all (Cap b) k o u h f e = only_part s.tags (Cap b) k o u h (complete_f
 item_ok s all (Pointer t) k o u h f e = only_part s.tags (Pointer t) k o u h (complete_fill s.tags (Pointer t) f (λ a q. absurd cc)) (λ n. refl) e
 item_ok s all (Function r ps) k o u h f e = only_part s.tags (Function r ps) k o u h (complete_fill s.tags (Function r ps) f (λ a q. absurd cc)) (λ n. refl) e
 
+-- a scalar has no part but itself
+scalar_part : (t : Ty) (k o : ℕ) (u : Ty) → (let p : ℕ × Ty = (0, t) in (if k == 0 then Some p else None) ≡ Some (o, u)) → bare u ≡ bare t
+scalar_part t k o u e = let p : ℕ × Ty = (0, t) in ap (λ (p : ℕ × Ty). bare p.1) (sym (chosen (k == 0) p (o, u) e).1)
+
+item_scalar : (s : State) (t : Ty) (k o : ℕ) (u : Ty) → is_scalar (bare t) ≡ true → item_place s t k ≡ Some (o, u) → bare u ≡ bare t
+item_scalar s (Int i n) k o u c e = scalar_part (Int i n) k o u e
+item_scalar s (Cap b) k o u c e = scalar_part (Cap b) k o u e
+item_scalar s (Pointer t) k o u c e = scalar_part (Pointer t) k o u e
+item_scalar s (Const (Int i n)) k o u c e = scalar_part (Int i n) k o u e
+item_scalar s (Const (Cap b)) k o u c e = scalar_part (Cap b) k o u e
+item_scalar s (Const (Pointer t)) k o u c e = scalar_part (Pointer t) k o u e
+item_scalar s t k o u c e = absurd (false≢true c)
+
 -- ---- the readings
 
 -- what is asked of a slot changes nothing
@@ -208,11 +234,11 @@ AllInitialize (r ∷ rs) = Initializes r × AllInitialize rs
 
 -- the values of a list of items, whatever the whole's extent is
 abbrev ItemsFill : State → ℕ → Ty → ℕ → State → List Slot → Type 0
-ItemsFill s at t n r xs = (z : Extent) → type_extent s.tags (with_count t n) ≡ Some z → AllSlots r at z xs
+ItemsFill s at t n r xs = ((z : Extent) → type_extent s.tags (with_count t n) ≡ Some z → AllSlots r at z xs) × OwnScalar t xs
 
 items_ok : (rs : List Reading) (s : State) (asked : Slot → Doing Unit) (whole : Pos) (of : Ty) (at : ℕ) (brace : Pos) (k n : ℕ) (r : State) → AllInitialize rs → AskedStill asked → k + length rs ≤ n → AllTags s.tags → TypeOk s.tags of → Fillable s.tags of → TagsGrow s.tags r.tags → Inv true r →
     (x : List Slot × State) → items s asked whole of at brace k rs r ≡ Ok x → Kept true true r (ItemsFill s at of n) x
-items_ok [] s asked whole of at brace k n r j a l all h f g i x e = given (Kept true true r (ItemsFill s at of n)) [] r x e (record { inv = i; grown = grows_self true r; post = λ z q. tt })
+items_ok [] s asked whole of at brace k n r j a l all h f g i x e = given (Kept true true r (ItemsFill s at of n)) [] r x e (record { inv = i; grown = grows_self true r; post = (λ z q. tt, λ c. tt) })
 items_ok (r₀ ∷ rs) s asked whole of at brace k n r j a l all h f g i x e =
     let rest : List Slot → Filled → List Slot = λ slots y. y.slots ++ slots in
     let p = found (item_place s of k) 133 brace (λ p. r₀.initializer asked whole p.1 (at + p.0) >>= λ y. items s asked whole of at brace (k + 1) rs >>= λ slots. give (y.slots ++ slots)) r x e in
@@ -228,12 +254,17 @@ items_ok (r₀ ∷ rs) s asked whole of at brace k n r j a l all h f g i x e =
     onward true true r y.0 x b (given (Kept true true q (ItemsFill s at of n)) (y.0.0.slots ++ w.0.0) v x w.2 (record {
       inv = d.inv;
       grown = d.grown;
-      post = λ z m.
-          let in_whole = it.within n z (omega (arith, l)) m in
-          let own : type_extent q.tags (with_count u y.0.0.count) ≡ Some in_whole.extent =
-          ap (type_extent q.tags) (complete_count s.tags u y.0.0.count it.complete) ∙ extent_kept s.tags q.tags (grow_on s.tags r.tags q.tags g b.grown.refers.tags) u in_whole.extent in_whole.is in
-          let part = slots_kept q v d.grown.refers (at + o) in_whole.extent y.0.0.slots (b.post in_whole.extent own) in
-          slots_both v at z y.0.0.slots w.0.0 (wider v at o in_whole.extent z u (within_kept s.tags v.tags (grow_on s.tags q.tags v.tags (grow_on s.tags r.tags q.tags g b.grown.refers.tags) d.grown.refers.tags) z o u in_whole) refl y.0.0.slots part) (d.post z m);
+      post = (
+        λ z m.
+            let in_whole = it.within n z (omega (arith, l)) m in
+            let own : type_extent q.tags (with_count u y.0.0.count) ≡ Some in_whole.extent =
+            ap (type_extent q.tags) (complete_count s.tags u y.0.0.count it.complete) ∙ extent_kept s.tags q.tags (grow_on s.tags r.tags q.tags g b.grown.refers.tags) u in_whole.extent in_whole.is in
+            let part = slots_kept q v d.grown.refers (at + o) in_whole.extent y.0.0.slots (b.post.0 in_whole.extent own) in
+            slots_both v at z y.0.0.slots w.0.0 (wider v at o in_whole.extent z u (within_kept s.tags v.tags (grow_on s.tags q.tags v.tags (grow_on s.tags r.tags q.tags g b.grown.refers.tags) d.grown.refers.tags) z o u in_whole) refl y.0.0.slots part) (d.post.0 z m),
+        λ c.
+            let same = item_scalar s of k o u c p.1 in
+            of_both (bare of) y.0.0.slots w.0.0 (subst (λ t. AllOf t y.0.0.slots) same (b.post.1 (ap is_scalar same ∙ c))) (d.post.1 c),
+      );
     }))
   where
     grow_on : (ts us vs : List TagState) → TagsGrow ts us → TagsGrow us vs → TagsGrow ts vs
@@ -244,7 +275,7 @@ items_ok (r₀ ∷ rs) s asked whole of at brace k n r j a l all h f g i x e =
 
 -- the items' count is the array's
 list_filled : (s q : State) (at : ℕ) (of : Ty) (n : ℕ) (xs : List Slot) → TagsGrow s.tags q.tags → TypeOk s.tags of → Fillable s.tags of → ItemsFill s at of n q xs → FilledOk q at of (record { slots = xs; count = n })
-list_filled s q at of n xs g h f k z e = k z (fill_extent s.tags q.tags g of n z h f e)
+list_filled s q at of n xs g h f k = (λ z e. k.0 z (fill_extent s.tags q.tags g of n z h f e), k.1)
 
 braced_items : (rs : List Reading) (n : ℕ) (asked : Slot → Doing Unit) (whole : Pos) (of : Ty) (at : ℕ) (brace : Pos) (s : State) → length rs ≤ n → AllInitialize rs → AskedStill asked → Inv true s → TypeOk s.tags of → Fillable s.tags of →
     (x : Filled × State) → (items s asked whole of at brace 0 rs >>= λ slots. give (record { slots = slots; count = n })) s ≡ Ok x → Kept true true s (λ q f. FilledOk q at of f) x
@@ -328,7 +359,7 @@ string_ok t xs whole (Array u k) at s c i x e =
     given (Kept true true s (λ q f. FilledOk q at (Array u k) f)) f s x a.1 (record {
       inv = i;
       grown = grows_self true s;
-      post = λ z m. let l = string_by s.tags u k bytes z c m in bytes_ok s at z (bare u) whole (taken n bytes) at c (omega arith) (omega (arith, l));
+      post = (λ z m. let l = string_by s.tags u k bytes z c m in bytes_ok s at z (bare u) whole (taken n bytes) at c (omega arith) (omega (arith, l)), λ q. absurd (false≢true q));
     })
 string_ok t xs whole of at s c i x e = absurd (false≢true c)
 
@@ -403,7 +434,7 @@ plain_ok d asked whole of at s h a i k x e =
     let still : c ≡ q.0.1 = sym (a slot c q.0 q.1) in
     onward true true s f.0 x w (onward true true b n.0 x p (given (Kept true true c (λ q f. FilledOk q at of f)) filled q.0.1 x q.2
     (subst (λ (t : State). Kept true true c (λ q f. FilledOk q at of f) (filled, t)) still
-    (record { inv = p.inv; grown = grows_self true c; post = λ z m. (whole_slot c at of z n.0.0 f.0.0.first p.post r (count_none c.tags of z m), tt) }))))
+    (record { inv = p.inv; grown = grows_self true c; post = (λ z m. (whole_slot c at of z n.0.0 f.0.0.first p.post r (count_none c.tags of z m), tt), λ _. (refl, tt)) }))))
 
 -- an initializer of any kind
 pub initializer_ok : (k : NodeKind) (t : Lexeme) (xs : Syns) (rs : List Reading) → KindFits k t xs → ReadAll rs → AllInitialize rs → (asked : Slot → Doing Unit) (whole : Pos) (of : Ty) (at : ℕ) (s : State) → AskedStill asked → Inv true s → TypeOk s.tags of → Fillable s.tags of →
@@ -521,13 +552,13 @@ init_both : (s : State) (z : Extent) (xs ys : List Slot) → AllInit s z xs → 
 init_both s z [] ys h k = k
 init_both s z (x ∷ xs) ys h k = (h.0, init_both s z xs ys h.1 k)
 
-found_or : (s : State) (z : Extent) (b : Bool) (y : Slot) (o : Option Slot) (x : Slot) → SlotOk s 0 z y → (o ≡ Some x → SlotOk s 0 z x) → Rattle.std.proofs.Common.cond b (Some y) o ≡ Some x → SlotOk s 0 z x
-found_or s z true y o x h f e = subst (SlotOk s 0 z) (same_Some y x e) h
-found_or s z false y o x h f e = f e
+found_or : (P : Slot → Type 0) (b : Bool) (y : Slot) (o : Option Slot) (x : Slot) → P y → (o ≡ Some x → P x) → Rattle.std.proofs.Common.cond b (Some y) o ≡ Some x → P x
+found_or P true y o x h f e = subst P (same_Some y x e) h
+found_or P false y o x h f e = f e
 
 found_slot : (s : State) (z : Extent) (p : Slot → Bool) (slots : List Slot) (x : Slot) → AllSlots s 0 z slots → find p slots ≡ Some x → SlotOk s 0 z x
 found_slot s z p [] x h e = absurd (none-some x e)
-found_slot s z p (y ∷ ys) x h e = found_or s z (p y) y (find p ys) x h.0 (λ q. found_slot s z p ys x h.1 q) e
+found_slot s z p (y ∷ ys) x h e = found_or (SlotOk s 0 z) (p y) y (find p ys) x h.0 (λ q. found_slot s z p ys x h.1 q) e
 
 zero_slot_ok : (s : State) (whole : Pos) (z : Extent) (p : ℕ × Ty) → ScalarIn s.tags 0 z p → Initialises s z (zero_slot whole p)
 zero_slot_ok s whole z p h = record {
@@ -553,3 +584,50 @@ every_by s whole z slots h (p ∷ ps) k =
 pub every_ok : (s : State) (whole : Pos) (t : Ty) (z : Extent) (slots : List Slot) → AllTags s.tags → TypeOk s.tags t → type_extent s.tags t ≡ Some z → AllSlots s 0 z slots → AllInit s z (every_slot s whole t slots)
 unfolding every_slot scalars
 every_ok s whole t z slots all k e h = every_by s whole z slots h (scalars s t) (scalars_in s (tag_scalars (length s.tags) s) (tags_in (length s.tags) s all) t 0 z k e)
+
+-- ---- scalars
+
+-- what a scalar is initialised with: a value of its type, as a whole
+pub record IsWhole (t : Ty) (x : Slot) : Type 0 where
+  pub at : x.at ≡ 0
+  pub type : type_of x.value ≡ t
+
+abbrev pub AllWhole : Ty → List Slot → Type 0
+AllWhole t [] = Unit {0}
+AllWhole t (x ∷ xs) = IsWhole t x × AllWhole t xs
+
+found_of : (t : Ty) (p : Slot → Bool) (slots : List Slot) (x : Slot) → AllOf t slots → find p slots ≡ Some x → x.of ≡ t
+found_of t p [] x h e = absurd (none-some x e)
+found_of t p (y ∷ ys) x h e = found_or (λ (x : Slot). x.of ≡ t) (p y) y (find p ys) x h.0 (λ q. found_of t p ys x h.1 q) e
+
+one_scalar : (s : State) (go : ℕ → ℕ → List (ℕ × Ty)) (t : Ty) → is_scalar (bare t) ≡ true → scalars_of s go t 0 ≡ (0, bare t) ∷ []
+one_scalar s go (Int i n) c = refl
+one_scalar s go (Cap b) c = refl
+one_scalar s go (Pointer t) c = refl
+one_scalar s go (Const (Int i n)) c = refl
+one_scalar s go (Const (Cap b)) c = refl
+one_scalar s go (Const (Pointer t)) c = refl
+one_scalar s go t c = absurd (false≢true c)
+
+pub every_whole : (s : State) (whole : Pos) (t : Ty) (z : Extent) (slots : List Slot) → AllSlots s 0 z slots → AllOf (bare t) slots → is_scalar (bare t) ≡ true → AllWhole (bare t) (every_slot s whole t slots)
+unfolding every_slot scalars
+every_whole s whole t z slots h k c =
+    let give : List (ℕ × Ty) → List Slot = λ ps. flat_map (λ (p : ℕ × Ty). scalar_slot whole p (find (covers s p.0) slots)) ps in
+    subst (λ ps. AllWhole (bare t) (give ps)) (sym (one_scalar s (tag_scalars (length s.tags) s) t c))
+    (by (find (covers s 0) slots) (λ x e. (found_slot s z (covers s 0) slots x h e).type ∙ found_of (bare t) (covers s 0) slots x k e))
+  where
+    by : (o : Option Slot) → ((x : Slot) → o ≡ Some x → type_of x.value ≡ bare t) → AllWhole (bare t) (scalar_slot whole (0, bare t) o ++ [])
+    by None f = (record { at = refl; type = refl }, tt)
+    by (Some x) f = branched (λ ys. AllWhole (bare t) (ys ++ [])) (x.at == 0) (x ∷ []) [] (λ q. (record { at = eqb-true x.at 0 q; type = f x refl }, tt)) (λ _. tt)
+
+-- a scalar has no length to be filled in
+pub scalar_count : (t : Ty) (n : ℕ) → is_scalar (bare (with_count t n)) ≡ true → with_count t n ≡ t
+scalar_count (Array t zero) n c = absurd (false≢true c)
+scalar_count (Array t (suc k)) n c = refl
+scalar_count Void n c = refl
+scalar_count (Int k m) n c = refl
+scalar_count (Cap b) n c = refl
+scalar_count (Pointer t) n c = refl
+scalar_count (Tagged k) n c = refl
+scalar_count (Function r ps) n c = refl
+scalar_count (Const t) n c = refl

@@ -1,7 +1,8 @@
 -- The objects and functions of a typed program fit, and so does `main`.
 use Rattle.std.proofs.Common.{◌≡◌, ℕ, zero, suc, ◌+◌, ◌<◌, ◌≤◌, Bool, true, false, cond, List, [], ◌∷◌, ◌++◌, length, Option, Some, None, refl, sym, ap, subst, ◌∙◌, inl, inr, ◌⊎◌, ⊎_elim, arith}
+use Rattle.std.proofs.Math.Nat.{zero-mod}
 use Rattle.std.proofs.lemmas.Int.{ints}
-use Rattle.std.specs.Prelude.{ℤ, pos, int_lt, ◌%◌, slice_get, map, option_map, flat_map, if◌then◌else◌, ◌&&◌, ◌||◌, ◌==◌, not, bytes_eq, codes}
+use Rattle.std.specs.Prelude.{ℤ, pos, ◌+ℤ◌, ◌-ℤ◌, int_lt, ◌%◌, ◌^◌, slice_get, map, option_map, flat_map, if◌then◌else◌, ◌&&◌, ◌||◌, ◌==◌, not, bytes_eq, codes}
 use Rattle.std.specs.List.{position_or_len}
 use Rattle.std.proofs.lemmas.Bool.{false≢true, not-true, and_parts, and_from, or_cases, or_left, or_right, eqb-true, eq-eqb, le-leb, lt-ltb}
 use Rattle.std.proofs.lemmas.Option.{none-some, same_Some, slice_get_within, slice_get-map}
@@ -16,17 +17,18 @@ use Rattle.c_tree.specs.declared.typed.Typed.{Typed}
 use Rattle.c_tree.specs.Types.{Ty, Void, Int, Cap, Pointer, Array, Tagged, Function, Const, Tys, no_types, also, int, bare, in_signature, is_scalar, agree, all_agree, compatible, same, same_kind, same_truth, count}
 use Rattle.c_tree.specs.Terms.{Aim, To_global, To_literal, To_function, Pointing, Object, Variable, Routine, Text, Program}
 use Rattle.c_tree.specs.Scopes.{Reach, All, Within, Aiming, StaticState, LocalState, RoutineState, Body, State, type_extent}
-use Rattle.c_tree.specs.Layout.{Extent}
-use Rattle.cap_concentrate.specs.Rounding.{owned}
-use Rattle.c_tree.specs.Statics.{aim_length, static_length, text_length}
+use Rattle.c_tree.specs.Layout.{Extent, size_limit}
+use Rattle.cap_concentrate.specs.Rounding.{least_base, least_top, alignment, owned}
+use Rattle.cap_concentrate.proofs.Laws.{owned_exact, owned_small}
+use Rattle.c_tree.specs.Statics.{is_exact, is_near, aim_length, static_length, text_length}
 use Rattle.c_facts.proofs.Divides.{Multiple}
-use Rattle.c_facts.proofs.Placed.{IsWaiting, Awaits, Reaches, Aims, AimingOk, AllAim, InitialOk, length_of_static}
+use Rattle.c_facts.proofs.Placed.{Awaits, Reaches, Aims, AimingOk, AllAim, InitialOk, length_of_static}
 use Rattle.c_tree.specs.Programs.{is_there, numbers_from, numbers_of, aim_with, count_before, term_with, action_with, is_main, has_main, program_of, typing}
 use Rattle.c_tree.specs.Programs as programs
 use Rattle.c_tree.specs.Views.{types_of, type_at, actions_of, action_at, no_action, IsOrdered, Shows, times_in}
 use Rattle.c_tree.specs.Views as views
 use Rattle.c_tree.specs.Typing.{Sound}
-use Rattle.c_tree.specs.WellTyped.{type_in, IsComplete, ParametersFit, FunctionFits, MainFits, OwnsBytes, LinkFits, GlobalFits, WellTyped, ActionFits, outside, declared}
+use Rattle.c_tree.specs.WellTyped.{holds, type_in, IsComplete, ParametersFit, FunctionFits, MainFits, OwnsBytes, LinkFits, GlobalFits, WellTyped, ActionFits, outside, declared}
 use Rattle.c_facts.specs.Fitting.{IsFit}
 use Rattle.c_facts.proofs.Agreeing.{refines, same_is, kinds_are, truths_are, agree_self}
 use Rattle.c_facts.proofs.Facts.{Sized, TypeOk, IsUsed, Inv}
@@ -34,7 +36,7 @@ use Rattle.c_facts.proofs.Numbers.{extent_within_limit}
 use Rattle.c_facts.proofs.Acts.{between}
 use Rattle.c_facts.proofs.Wholes.{ParamsFit, BodyOk}
 use Rattle.c_facts.proofs.Ended.{AtEnd, typed_end}
-use Rattle.c_facts.proofs.Shown.{has_extent, sized_there, ActionThere, action_there}
+use Rattle.c_facts.proofs.Shown.{extent_at, has_extent, sized_there, ActionThere, action_there}
 use Rattle.c_facts.proofs.Numbered.{filtered_at, declared_with}
 use Rattle.c_facts.proofs.Fits.{Linked, action_fits}
 
@@ -73,6 +75,31 @@ refined_back : (s t : Ty) → refines s t ≡ true → compatible t s ≡ true
 refined_back s t e =
     agree_back (λ m n. m == n || m == 0) (λ m n. m == n || m == 0 || n == 0)
     (λ m n q. ⊎_elim (λ a. or_left (n == m || n == 0) (m == 0) (or_left (n == m) (n == 0) (eq-eqb n m (sym (eqb-true m n a))))) (λ a. or_right (n == m || n == 0) (m == 0) a) (or_cases (m == n) (m == 0) q)) s t e
+
+-- ---- bounds and addresses of initial pointers
+
+-- what an object owns has exact bounds, since it stands at a multiple of its alignment
+whole_exact : (n : ℕ) → n ≤ size_limit → is_exact 0 (owned n) ≡ true
+whole_exact n l =
+    let small : owned n ≤ 2 ^ 26 = owned_small n l in
+    let e = owned_exact 0 n (omega (arith, small)) (zero-mod (alignment n)) in
+    and_from (least_base 0 (0 + owned n) == 0) (least_top 0 (0 + owned n) == 0 + owned n) (eq-eqb (least_base 0 (0 + owned n)) 0 e.0) (eq-eqb (least_top 0 (0 + owned n)) (0 + owned n) e.1)
+
+no_bytes_exact : is_exact 0 0 ≡ true
+unfolding least_base least_top
+no_bytes_exact = refl
+
+-- what is near no bytes is near more
+near_more : (n : ℕ) (z : ℤ) → is_near 0 0 z ≡ true → is_near 0 n z ≡ true
+near_more n z e =
+    let p = and_parts (int_lt (pos 0) (z +ℤ pos 1024)) (int_lt z (pos (0 + 0 + 1024))) e in
+    and_from (int_lt (pos 0) (z +ℤ pos 1024)) (int_lt z (pos (0 + n + 1024))) p.0 (let q = p.1 in grind (arith, ints, q))
+
+-- an address that was asked for is near the length that was found
+near_asked : (n : ℕ) (z : ℤ) → int_lt (pos 0) (z +ℤ pos 1024) ≡ true → not (int_lt (pos n) (z -ℤ pos 1023)) ≡ true → is_near 0 n z ≡ true
+near_asked n z e f =
+    let q = not-true (int_lt (pos n) (z -ℤ pos 1023)) f in
+    and_from (int_lt (pos 0) (z +ℤ pos 1024)) (int_lt z (pos (0 + n + 1024))) e (grind (arith, ints, q))
 
 -- ---- lists
 
@@ -228,9 +255,16 @@ module _ (p : Typed) (s : State) (q : Program) (o : IsOrdered p) (sh : Shows p (
     sized : (j : ℕ) (v : LocalState) → slice_get z.body.vars j ≡ Some v → Sized s.tags v.of
     sized j v h = let c = ok.complete j v h in (c.0.0, c.0.1, extent_within_limit s.tags inv.tags v.of c.0.0 c.1 c.0.1)
 
+    simple_scalar : (j : ℕ) (w : VarDef) → slice_get f.vars j ≡ Some w → w.simple ≡ true → is_scalar (bare (type_in p w.of)) ≡ true
+    simple_scalar j w h simple =
+        let v = var_from j w h in
+        let t : v.0.of ≡ type_in p w.of = ap (λ (x : Variable). x.of) v.2 in
+        subst (λ u. is_scalar (bare u) ≡ true) t (and_parts (is_scalar (bare v.0.of)) (not v.0.addressed) (ap (λ (x : Variable). x.simple) v.2 ∙ simple)).0
+
     linked : Linked p s z.body.vars (numbers_of s) f.vars
     linked = record {
       vars = λ j v h. let w = var_to j v h in let t = ap (λ (x : Variable). x.of) w.2 in (w.0, w.1, t, (w.0.of, o.vars k j f w.0 there w.1, t), sized j v h);
+      simple = simple_scalar;
       globals = global_there;
       funs = λ j g h u. routine_there j g h (e.routines j g h u);
       literals = λ j x h. let l = mapped_at views.text_of p.literals j x (ap (λ xs. slice_get xs j) shown_texts ∙ h) in (l.0, l.1, ap (λ (t : Text). length t.bytes) l.2);
@@ -263,10 +297,7 @@ module _ (p : Typed) (s : State) (q : Program) (o : IsOrdered p) (sh : Shows p (
               let v = var_from j w h in
               let t : v.0.of ≡ type_in p w.of = ap (λ (x : Variable). x.of) v.2 in
               subst (IsComplete p) t (sized_there p s o sh inv v.0.of (w.of, o.vars k j f w there h, sym t) (sized j v.0 v.1));
-          simple_scalar = λ j w h simple.
-              let v = var_from j w h in
-              let t : v.0.of ≡ type_in p w.of = ap (λ (x : Variable). x.of) v.2 in
-              subst (λ u. is_scalar (bare u) ≡ true) t (and_parts (is_scalar (bare v.0.of)) (not v.0.addressed) (ap (λ (x : Variable). x.simple) v.2 ∙ simple)).0;
+          simple_scalar = simple_scalar;
           declared_once = λ j l m.
               ap (λ a. times_in j (declared a)) action_same ∙ ap (times_in j) (declared_with (numbers_of s) z.body.action) ∙ ok.once j ∙ between_in (count ok.takes) (length z.body.vars) j (omega (arith, l, len)) (omega (arith, m, count_same));
           body = subst (ActionFits (record { program = p; vars = f.vars; gives = bare ok.result }) outside) (sym action_same)
@@ -308,10 +339,27 @@ module _ (p : Typed) (s : State) (q : Program) (o : IsOrdered p) (sh : Shows p (
   awaited (To_literal k) n m q w = absurd w
   awaited (To_function k) n m q w = absurd w
 
-  -- bounds lie in what the target owns
-  reach_in : (a : Aim) (r : Reach) (n : ℕ) → aim_length s a ≡ Some n → Reaches s a r → (programs.reach_of (Some n) r).0 + (programs.reach_of (Some n) r).1 ≤ n
-  reach_in a All n q h = omega arith
-  reach_in a (Within low m) n q h = ⊎_elim (λ w. let v : n ≡ h.0 = same_Some n h.0 (sym q ∙ w) in omega (arith, v, h.1)) (λ w. let v = awaited a n h.0 q w in omega (arith, v, h.1)) h.2
+  near_awaited : (a : Aim) (n : ℕ) (z : ℤ) → aim_length s a ≡ Some n → int_lt (pos 0) (z +ℤ pos 1024) ≡ true → Awaits s.pending a (z -ℤ pos 1023) → is_near 0 n z ≡ true
+  near_awaited (To_global k) n z q l w = near_asked n z l (ap (λ o. programs.reaches o (z -ℤ pos 1023)) (sym q) ∙ e.reached k (z -ℤ pos 1023) w)
+  near_awaited (To_literal k) n z q l w = absurd w
+  near_awaited (To_function k) n z q l w = absurd w
+
+  -- Bounds lie in n bytes and are exact, and an address is near them
+  abbrev Pair : ℕ → ℕ × ℕ → ℤ → Type 0
+  Pair n r z = (r.0 + r.1 ≤ n) × holds (is_exact r.0 r.1) × holds (is_near r.0 r.1 z)
+
+  -- those of a target are so in what it owns
+  reach_in : (a : Aim) (r : Reach) (z : ℤ) (size n : ℕ) → n ≡ owned size → size ≤ size_limit → aim_length s a ≡ Some n → Reaches s a r z → Pair n (programs.reach_of (Some n) r) z
+  reach_in a All z size n own small q h = (
+    omega arith,
+    subst (λ m. is_exact 0 m ≡ true) (sym own) (whole_exact size small),
+    ⊎_elim (λ w. near_more n z w) (λ k. ⊎_elim (λ w. subst (λ m. is_near 0 m z ≡ true) (same_Some w.0 n (sym w.1 ∙ q)) w.2) (λ w. near_awaited a n z q w.0 w.1) k) h,
+  )
+  reach_in a (Within low m) z size n own small q h = (
+    ⊎_elim (λ w. let v : n ≡ h.2.0 = same_Some n h.2.0 (sym q ∙ w) in omega (arith, v, h.2.1)) (λ w. let v = awaited a n h.2.0 q w in omega (arith, v, h.2.1)) h.2.2,
+    h.0,
+    h.1,
+  )
 
   same_global : (k m : ℕ) → To_global k ≡ To_global m → k ≡ m
   same_global k m q = cc
@@ -322,45 +370,47 @@ module _ (p : Typed) (s : State) (q : Program) (o : IsOrdered p) (sh : Shows p (
   same_function : (k m : ℕ) → To_function k ≡ To_function m → k ≡ m
   same_function k m q = cc
 
-  target_fits : (t : Target) (a : Aim) (r : Reach) → aim_with (numbers_of s) a ≡ views.aim_of t → Aims s a r →
-      (n : ℕ) × OwnsBytes p t n × ((programs.reach_of (aim_length s a) r).0 + (programs.reach_of (aim_length s a) r).1 ≤ n)
-  target_fits (targets.Global m) (To_global k) r q h =
+  target_fits : (t : Target) (a : Aim) (r : Reach) (z : ℤ) → aim_with (numbers_of s) a ≡ views.aim_of t → Aims s a r z → (n : ℕ) × OwnsBytes p t n × Pair n (programs.reach_of (aim_length s a) r) z
+  target_fits (targets.Global m) (To_global k) r z q h =
       let g = h.0.0 in
       let w = global_there k g h.0.1 h.0.2 in
       let x = (e.statics k g h.0.1).0 in
       let l = ap (static_length s) h.0.1 ∙ length_of_static s g x.0 x.1 in
       let there = ap (slice_get p.globals) (sym (same_global ((numbers_of s).0 k) m q)) ∙ w.1 in
-      let ext = has_extent p s o sh inv (type_in p w.0.of) (w.0.of, o.globals m w.0 there, refl) x.0 (ap (type_extent s.tags) w.2 ∙ x.1) (extent_within_limit s.tags inv.tags g.of x.0 (inv.statics k g h.0.1) x.1) in
-      (owned x.0.size, (w.0, x.0, there, ext, refl), subst (λ z. (programs.reach_of z r).0 + (programs.reach_of z r).1 ≤ owned x.0.size) (sym l) (reach_in (To_global k) r (owned x.0.size) l h.1))
-  target_fits (targets.Literal m) (To_literal k) r q h =
+      let small = extent_within_limit s.tags inv.tags g.of x.0 (inv.statics k g h.0.1) x.1 in
+      let ext = has_extent p s o sh inv (type_in p w.0.of) (w.0.of, o.globals m w.0 there, refl) x.0 (ap (type_extent s.tags) w.2 ∙ x.1) small in
+      (owned x.0.size, (w.0, x.0, there, ext, refl), subst (λ c. Pair (owned x.0.size) (programs.reach_of c r) z) (sym l) (reach_in (To_global k) r z x.0.size (owned x.0.size) refl small l h.1))
+  target_fits (targets.Literal m) (To_literal k) r z q h =
       let x = h.0.0 in
       let w = mapped_at views.text_of p.literals k x (ap (λ xs. slice_get xs k) shown_texts ∙ h.0.1) in
       let l = ap text_length h.0.1 in
       let there = ap (slice_get p.literals) (sym (same_literal k m q)) ∙ w.1 in
-      (owned (length x.bytes), (w.0, there, ap owned (sym (ap (λ (t : Text). length t.bytes) w.2))), subst (λ z. (programs.reach_of z r).0 + (programs.reach_of z r).1 ≤ owned (length x.bytes)) (sym l) (reach_in (To_literal k) r (owned (length x.bytes)) l h.1))
-  target_fits (targets.Fun m) (To_function k) r q h =
-      let w = routine_there k h.1 h.2 (e.routines k h.1 h.2 h.3) in
+      (owned (length x.bytes), (w.0, there, ap owned (sym (ap (λ (t : Text). length t.bytes) w.2))), subst (λ c. Pair (owned (length x.bytes)) (programs.reach_of c r) z) (sym l) (reach_in (To_literal k) r z (length x.bytes) (owned (length x.bytes)) refl h.0.2 l h.1))
+  target_fits (targets.Fun m) (To_function k) r z q h =
+      let w = routine_there k h.2 h.3 (e.routines k h.2 h.3 h.4) in
       let there = ap (slice_get p.funs) (sym (same_function ((numbers_of s).1 k) m q)) ∙ w.1 in
-      (0, (slice_get_within p.funs m w.0 there, refl), subst (λ r. (programs.reach_of None r).0 + (programs.reach_of None r).1 ≤ 0) (sym h.0) (omega arith))
-  target_fits (targets.Global m) (To_literal k) r q h = absurd cc
-  target_fits (targets.Global m) (To_function k) r q h = absurd cc
-  target_fits (targets.Literal m) (To_global k) r q h = absurd cc
-  target_fits (targets.Literal m) (To_function k) r q h = absurd cc
-  target_fits (targets.Fun m) (To_global k) r q h = absurd cc
-  target_fits (targets.Fun m) (To_literal k) r q h = absurd cc
+      (0, (slice_get_within p.funs m w.0 there, refl), subst (λ r. Pair 0 (programs.reach_of None r) z) (sym h.0) (subst (λ y. Pair 0 (0, 0) y) (sym h.1) (omega arith, no_bytes_exact, refl)))
+  target_fits (targets.Global m) (To_literal k) r z q h = absurd cc
+  target_fits (targets.Global m) (To_function k) r z q h = absurd cc
+  target_fits (targets.Literal m) (To_global k) r z q h = absurd cc
+  target_fits (targets.Literal m) (To_function k) r z q h = absurd cc
+  target_fits (targets.Fun m) (To_global k) r z q h = absurd cc
+  target_fits (targets.Fun m) (To_literal k) r z q h = absurd cc
 
   link_fits : (n : ℕ) (a : Aiming) (l : Link) → programs.pointing_of s a ≡ views.pointing_of l → AimingOk s n a → LinkFits p n l
   link_fits n a l q h =
       let at : a.at ≡ l.at = ap (λ (x : Pointing). x.at) q in
-      let t = target_fits l.target a.aim a.reach (ap (λ (x : Pointing). x.aim) q) h.aims in
-      let low : (programs.reach_of (aim_length s a.aim) a.reach).0 ≡ l.low = ap (λ (x : Pointing). x.low) q in
-      let len : (programs.reach_of (aim_length s a.aim) a.reach).1 ≡ l.length = ap (λ (x : Pointing). x.length) q in
+      let t = target_fits l.target a.aim a.reach a.offset (ap (λ (x : Pointing). x.aim) q) h.aims in
+      let pair : Pair t.0 (l.low, l.length) l.offset =
+      subst (λ z. Pair t.0 (l.low, l.length) z) (ap (λ (x : Pointing). x.offset) q) (subst (λ r. Pair t.0 r a.offset) (ap (λ (x : Pointing). let r : ℕ × ℕ = (x.low, x.length) in r) q) t.2) in
       record {
         inside = subst (λ m. m + 16 ≤ n) at h.inside;
         aligned = ap (λ m. m % 16) (sym at) ∙ divided a.at h.aligned;
         target = t.0;
         owns = t.1;
-        bounds = subst (λ m. l.low + m ≤ t.0) len (subst (λ m. m + (programs.reach_of (aim_length s a.aim) a.reach).1 ≤ t.0) low t.2);
+        bounds = pair.0;
+        exact = pair.1;
+        near = pair.2;
       }
     where
       divided : (m : ℕ) → Multiple m 16 → m % 16 ≡ 0
@@ -401,6 +451,7 @@ module _ (p : Typed) (s : State) (q : Program) (o : IsOrdered p) (sh : Shows p (
       record {
         extent = x.0;
         complete = has_extent p s o sh inv (type_in p h.of) (h.of, o.globals k h there, refl) x.0 (ap (type_extent s.tags) (sym t) ∙ x.1) (extent_within_limit s.tags inv.tags g.of x.0 (inv.statics b.0 g b.2) x.1);
+        own = extent_at p s o sh inv h.of (o.globals k h there) x.0 (ap (type_extent s.tags) (sym t) ∙ x.1);
         bytes = st.bytes;
         links = st.links;
       }

@@ -9,7 +9,7 @@ use Rattle.c_tree.specs.declared.typed.VarDef.{VarDef}
 use Rattle.c_tree.specs.declared.typed.FunDef.{FunDef}
 use Rattle.c_tree.specs.declared.typed.Typed.{Typed}
 use Rattle.c_tree.specs.Layout.{Extent, size_limit}
-use Rattle.c_tree.specs.Types.{Ty, Void, Int, Cap, Pointer, Array, Tagged, Function, Const, char, bare, is_tagged, is_void, compatible}
+use Rattle.c_tree.specs.Types.{Ty, Void, Int, Cap, Pointer, Array, Tagged, Function, Const, char, bare, is_scalar, is_tagged, is_void, compatible}
 use Rattle.c_tree.specs.Terms as tree
 use Rattle.c_tree.specs.Terms.{Shape, Term, Terms, term, no_terms, with_term, type_of, Text, Form, Action, Actions, action, no_actions, with_action}
 use Rattle.c_tree.specs.Scopes.{StaticState, LocalState, RoutineState, State, type_extent}
@@ -43,6 +43,7 @@ void_refined (Function r ps) u e b = absurd cc
 -- what the names of a function's terms name in the program
 pub record Linked (p : Typed) (s : State) (ls : List LocalState) (n : Numbers) (vs : List VarDef) : Type 0 where
   pub vars : (k : ℕ) (v : LocalState) → slice_get ls k ≡ Some v → (w : VarDef) × (slice_get vs k ≡ Some w) × (type_in p w.of ≡ v.of) × There p v.of × Sized s.tags v.of
+  pub simple : (k : ℕ) (w : VarDef) → slice_get vs k ≡ Some w → w.simple ≡ true → holds (is_scalar (bare (type_in p w.of)))
   pub globals : (k : ℕ) (g : StaticState) → slice_get s.statics k ≡ Some g → IsUsed g.used → (h : GlobalDef) × (slice_get p.globals (n.0 k) ≡ Some h) × (type_in p h.of ≡ g.of)
   pub funs : (k : ℕ) (g : RoutineState) → slice_get s.routines k ≡ Some g → IsUsed g.used → (h : FunDef) × (slice_get p.funs (n.1 k) ≡ Some h) × (type_in p h.of ≡ g.of)
   pub literals : (k : ℕ) (x : Text) → slice_get s.texts k ≡ Some x → (l : Literal) × (slice_get p.literals k ≡ Some l) × (length l.bytes ≡ length x.bytes)
@@ -140,7 +141,7 @@ module _ (p : Typed) (s : State) (o : IsOrdered p) (sh : Shows p (program_of s))
         let same : w.4.0 ≡ h.1 = same_Some w.4.0 h.1 (sym w.4.1 ∙ h.4) in
         let whole : HasExtent p h.0.of h.1 = has_extent p s o sh i h.0.of w.3 h.1 h.4 (subst (λ (x : Extent). x.size ≤ size_limit) same w.4.2) in
         let small : h.2.size ≤ size_limit = let b = subst (λ (x : Extent). x.size ≤ size_limit) same w.4.2 in omega (arith, h.6, b) in
-        (w.0, h.1, h.2, w.1, subst (λ t. HasExtent p t h.1) (sym w.2) whole, has_extent p s o sh i u th h.2 h.5 small, h.6)
+        (w.0, h.1, h.2, w.1, subst (λ t. HasExtent p t h.1) (sym w.2) whole, has_extent p s o sh i u th h.2 h.5 small, h.6, λ q. let r = h.7 (ap (λ t. is_scalar (bare t)) (sym w.2) ∙ lk.simple k w.0 w.1 q) in (r.0, r.1 ∙ ap bare (sym w.2)))
 
     vars_fit : (ks : List ℕ) → AreLocals at ks → AreVars frame ks
     vars_fit ks h j k e = let l = h j k e in omega (arith, l, lk.count)

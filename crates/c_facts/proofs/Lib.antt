@@ -27,6 +27,7 @@ pub mod Readable
 pub mod Scalars
 pub mod Shown
 pub mod Started
+pub mod Sound
 pub mod Stated
 pub mod Steps
 pub mod Tags

@@ -1,17 +1,16 @@
 -- What is accepted as a number has a type, and what is accepted as a character constant is a byte (C11 6.4.4).
-use Rattle.std.proofs.Common.{◌≡◌, ◌≢◌, ℕ, zero, suc, ◌+◌, ◌-◌, ◌<◌, ◌≤◌, Bool, true, false, not, ◌&&◌, ◌||◌, ◌==◌, List, [], ◌∷◌, ◌++◌, length, take, drop, take_at, length-append, Option, Some, None, refl, sym, ap, subst, ◌∙◌, inl, inr, ◌⊎◌, ⊎_elim, arith}
-use Rattle.std.specs.Prelude.{if◌then◌else◌, filter, is_some, nat_lt, slice_get}
+use Rattle.std.proofs.Common.{◌≡◌, ◌≢◌, ℕ, zero, suc, ◌-◌, ◌≤◌, Bool, true, false, not, ◌&&◌, ◌||◌, ◌==◌, List, [], ◌∷◌, ◌++◌, length, take, drop, take_at, length-append, Option, Some, None, refl, sym, ap, subst, ◌∙◌, ⊎_elim, arith}
+use Rattle.std.specs.Prelude.{if◌then◌else◌, filter, is_some, nat_lt}
 use Rattle.std.specs.Char.{is_digit, digit_value}
 use Rattle.std.specs.List.{list_all, list_any}
 use Rattle.std.proofs.lemmas.Bool.{false≢true, not-true, and_parts, and_from, or_cases, eqb-true, ne_eqb, ltb-true, lt-ltb}
-use Rattle.std.proofs.lemmas.Option.{same_Some}
 use Rattle.std.proofs.lemmas.Slice.Eq.{bytes_eq-Decides}
 use Rattle.ck_base.specs.declared.tokens.Integer.{Integer}
 use Rattle.ck_base.specs.Tokens.{is_among}
 use Rattle.ck_base.specs.Literals.{are_digits, value_of, SpellsInteger, suffixes, IntegerType, IsInteger, simple_escape, leading_digits, BeginsWithEscape, BeginsWithCharacter, in_quotes, IsCharacter}
 use Rattle.ck_base.specs.Literals as literal
-use Rattle.c_tree.specs.Values.{is_unsigned_letter, is_long_letter, is_suffix_letter, base_and_digits, integer_with, integer_of, between_quotes, escape, escaped, characters, characters_of, first_or_zero, character_value}
-use Rattle.c_facts.specs.Fitting.{AreBytes}
+use Rattle.c_tree.specs.Values.{is_unsigned_letter, is_long_letter, is_suffix_letter, base_and_digits, integer_with, integer_of, between_quotes, escape, escaped, characters, first_or_zero, character_value}
+use Rattle.c_tree.specs.Typing.{AreBytes}
 use Rattle.c_facts.proofs.Scalars.{branched}
 
 -- ---- digits and letters
@@ -156,7 +155,7 @@ Small (b ∷ bs) = (b ≤ 255) × Small bs
 
 pub small_from : (bs : List ℕ) → AreBytes bs → Small bs
 small_from [] h = tt
-small_from (b ∷ bs) h = (h 0 b refl, small_from bs (λ k c e. h (suc k) c e))
+small_from (b ∷ bs) h = (let l = h 0 b refl in omega (arith, l), small_from bs (λ k c e. h (suc k) c e))
 
 pub small_take : (n : ℕ) (bs : List ℕ) → Small bs → Small (take n bs)
 small_take zero bs h = tt

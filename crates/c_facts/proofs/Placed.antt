@@ -1,15 +1,15 @@
 -- What an initializer of an object of static storage duration gives: its bytes and pointers lie in the object, and what a pointer reaches is
 -- within its target, or waits for the end of the file.
-use Rattle.std.proofs.Common.{arith, ◌≡◌, ℕ, zero, suc, ◌+◌, ◌*◌, ◌≤◌, max, Bool, true, false, List, [], ◌∷◌, ◌++◌, length, Option, Some, None, Ok, ⊎_elim, inl, inr, refl, sym, ap, subst, ◌∙◌}
+use Rattle.std.proofs.Common.{arith, ◌≡◌, ℕ, zero, suc, ◌+◌, ◌≤◌, max, true, List, [], ◌∷◌, ◌++◌, length, Option, Some, None, Ok, ⊎_elim, inl, inr, refl, sym, ap, subst, ◌∙◌}
 use Rattle.std.specs.Prelude.{◌⊎◌, ℤ, pos, slice_get, fold, ◌==◌, ◌/◌, if◌then◌else◌}
 use Rattle.std.proofs.lemmas.Option.{none-some, same_Some}
 use Rattle.ck_base.specs.declared.positions.Pos.{Pos}
 use Rattle.c_tree.specs.Layout.{Extent}
 use Rattle.c_tree.specs.Types.{Ty}
 use Rattle.c_tree.specs.Terms.{type_of, Aim, To_global, To_literal, To_function, Text}
-use Rattle.c_tree.specs.Scopes.{Reach, All, Within, Aiming, TagState, StaticState, RoutineState, Pending, State, Doing, give, ◌>>=◌, ◌>>◌, size, type_extent, has_extent, extent_size}
+use Rattle.c_tree.specs.Scopes.{Reach, All, Aiming, StaticState, RoutineState, Pending, State, give, ◌>>=◌, size, type_extent, has_extent, extent_size}
 use Rattle.c_tree.specs.Readings.{Slot}
-use Rattle.c_tree.specs.Statics.{Start, Number, There, Entry, aim_length, static_length, text_length, known_value, Placed, significant, end_of, byte_at, bytes_from, initial_length, initial_bytes, Found, nothing_found, ask_for, start_slot, start_slots}
+use Rattle.c_tree.specs.Statics.{Start, Number, There, Entry, aim_length, static_length, text_length, known_value, Placed, significant, end_of, bytes_from, initial_length, initial_bytes, Found, nothing_found, ask_for, start_slot, start_slots}
 use Rattle.c_facts.proofs.Facts.{IsUsed, TagsGrow, StaticGrows, RoutineGrows, Refers}
 use Rattle.c_facts.proofs.Agreeing.{refines}
 use Rattle.c_facts.proofs.Growing.{extent_kept, refined_extent}
@@ -18,7 +18,7 @@ use Rattle.c_facts.proofs.Steps.{given, found, first_then}
 use Rattle.c_facts.proofs.Scalars.{branched}
 use Rattle.c_facts.proofs.Divides.{Multiple}
 use Rattle.c_facts.proofs.Filled.{SlotOk, AllSlots}
-use Rattle.c_facts.proofs.Started.{Callable, IsThere, IsAsked, Asks, InTarget, StartOk, wide, IsWide, known_wide}
+use Rattle.c_facts.proofs.Started.{Callable, IsThere, IsAsked, Asks, Reached, reached_on, InTarget, StartOk, wide, IsWide, known_wide}
 
 -- ---- what waits
 
@@ -71,18 +71,17 @@ asked_more p (To_function k) zs s x e = given (λ (y : Unit × State). WaitsMore
 
 -- ---- a pointer and a number that are placed
 
-abbrev pub Reaches : State → Aim → Reach → Type 0
-Reaches s a All = Unit {0}
-Reaches s a (Within low n) = (m : ℕ) × (low + n ≤ m) × ((aim_length s a ≡ Some m) ⊎ Awaits s.pending a (pos m))
+abbrev pub Reaches : State → Aim → Reach → ℤ → Type 0
+Reaches s a r z = Reached s (Awaits s.pending a) a r z
 
-abbrev pub Aims : State → Aim → Reach → Type 0
-Aims s (To_function k) r = (r ≡ All) × (f : RoutineState) × (slice_get s.routines k ≡ Some f) × IsUsed f.used
-Aims s a r = IsThere s a × Reaches s a r
+abbrev pub Aims : State → Aim → Reach → ℤ → Type 0
+Aims s (To_function k) r z = (r ≡ All) × (z ≡ pos 0) × (f : RoutineState) × (slice_get s.routines k ≡ Some f) × IsUsed f.used
+Aims s a r z = IsThere s a × Reaches s a r z
 
 pub record AimingOk (s : State) (size : ℕ) (a : Aiming) : Type 0 where
   pub inside : a.at + 16 ≤ size
   pub aligned : Multiple a.at 16
-  pub aims : Aims s a.aim a.reach
+  pub aims : Aims s a.aim a.reach a.offset
 
 abbrev pub AllAim : State → ℕ → List Aiming → Type 0
 AllAim s n [] = Unit {0}
@@ -92,31 +91,29 @@ abbrev pub AllPlaced : ℕ → List Placed → Type 0
 AllPlaced n [] = Unit {0}
 AllPlaced n (x ∷ xs) = (x.at + x.width ≤ n) × AllPlaced n xs
 
-reaches_more : (s r : State) → WaitsMore s r → (a : Aim) (w : Reach) → Reaches s a w → Reaches r a w
-reaches_more s r m a w h = subst (λ t. Reaches t a w) (sym m.1) (by w h)
-  where
-    awaits : (a : Aim) (z : ℤ) → Awaits s.pending a z → Awaits m.0 a z
-    awaits (To_global k) z h = m.2 k z h
-    awaits (To_literal k) z h = absurd h
-    awaits (To_function k) z h = absurd h
+awaits_more : (ps qs : List Pending) → More ps qs → (a : Aim) (z : ℤ) → Awaits ps a z → Awaits qs a z
+awaits_more ps qs m (To_global k) z h = m k z h
+awaits_more ps qs m (To_literal k) z h = absurd h
+awaits_more ps qs m (To_function k) z h = absurd h
 
-    same : (a : Aim) → aim_length (waiting s m.0) a ≡ aim_length s a
-    same (To_global k) = refl
-    same (To_literal k) = refl
-    same (To_function k) = refl
+-- what waits changes no length
+length_waiting : (s : State) (ps : List Pending) (a : Aim) → aim_length (waiting s ps) a ≡ aim_length s a
+length_waiting s ps (To_global k) = refl
+length_waiting s ps (To_literal k) = refl
+length_waiting s ps (To_function k) = refl
 
-    by : (w : Reach) → Reaches s a w → Reaches (waiting s m.0) a w
-    by All h = tt
-    by (Within low n) h = (h.0, h.1, ⊎_elim (λ e. inl (same a ∙ e)) (λ q. inr (awaits a (pos h.0) q)) h.2)
+reaches_more : (s r : State) → WaitsMore s r → (a : Aim) (w : Reach) (z : ℤ) → Reaches s a w z → Reaches r a w z
+reaches_more s r m a w z h =
+    subst (λ t. Reaches t a w z) (sym m.1) (reached_on s (waiting s m.0) (Awaits s.pending a) (Awaits m.0 a) a w z (λ n e. length_waiting s m.0 a ∙ e) (awaits_more s.pending m.0 m.2 a) h)
 
-aims_more : (s r : State) → WaitsMore s r → (a : Aim) (w : Reach) → Aims s a w → Aims r a w
-aims_more s r m (To_global k) w h = (subst (λ t. IsThere t (To_global k)) (sym m.1) h.0, reaches_more s r m (To_global k) w h.1)
-aims_more s r m (To_literal k) w h = (subst (λ t. IsThere t (To_literal k)) (sym m.1) h.0, reaches_more s r m (To_literal k) w h.1)
-aims_more s r m (To_function k) w h = subst (λ t. Aims t (To_function k) w) (sym m.1) h
+aims_more : (s r : State) → WaitsMore s r → (a : Aim) (w : Reach) (z : ℤ) → Aims s a w z → Aims r a w z
+aims_more s r m (To_global k) w z h = (subst (λ t. IsThere t (To_global k)) (sym m.1) h.0, reaches_more s r m (To_global k) w z h.1)
+aims_more s r m (To_literal k) w z h = (subst (λ t. IsThere t (To_literal k)) (sym m.1) h.0, reaches_more s r m (To_literal k) w z h.1)
+aims_more s r m (To_function k) w z h = subst (λ t. Aims t (To_function k) w z) (sym m.1) h
 
 all_more : (s r : State) → WaitsMore s r → (n : ℕ) (ls : List Aiming) → AllAim s n ls → AllAim r n ls
 all_more s r m n [] h = tt
-all_more s r m n (a ∷ ls) h = (record { inside = h.0.inside; aligned = h.0.aligned; aims = aims_more s r m a.aim a.reach h.0.aims }, all_more s r m n ls h.1)
+all_more s r m n (a ∷ ls) h = (record { inside = h.0.inside; aligned = h.0.aligned; aims = aims_more s r m a.aim a.reach a.offset h.0.aims }, all_more s r m n ls h.1)
 
 -- ---- the slots
 
@@ -139,25 +136,19 @@ slot_found q y (There a r i, asks) f z s m h o w k x e =
     let b = asked_more y.first a asks s g.0 g.1 in
     let p = wide_slot q z y (0, omega arith) h w in
     given (λ (r : Found × State). WaitsMore s r.1 × FoundOk r.1 z.size r.0) (f.0, c ∷ f.1) g.0.1 x g.2
-    (b.0, (k.0, (record { inside = p.0; aligned = p.1; aims = aims a r g.0.1 o (more_on q s g.0.1 m b.0) b.1 }, all_more s g.0.1 b.0 z.size f.1 k.1)))
+    (b.0, (k.0, (record { inside = p.0; aligned = p.1; aims = aims a g.0.1 o (more_on q s g.0.1 m b.0) b.1 }, all_more s g.0.1 b.0 z.size f.1 k.1)))
   where
-    reaching : (a : Aim) (r : Reach) (t : State) → WaitsMore q t → InTarget q a r asks → ((z : ℤ) → Asks a asks z → Awaits t.pending a z) → Reaches t a r
-    reaching a All t m i d = tt
-    reaching a (Within low n) t m i d = (i.0, i.1, ⊎_elim (λ e. inl (subst (λ t. aim_length t a ≡ Some i.0) (sym m.1) (same a ∙ e))) (λ e. inr (d (pos i.0) e)) i.2)
-      where
-        same : (a : Aim) → aim_length (waiting q m.0) a ≡ aim_length q a
-        same (To_global k) = refl
-        same (To_literal k) = refl
-        same (To_function k) = refl
+    reaching : (a : Aim) (t : State) → WaitsMore q t → InTarget q a r i asks → ((z : ℤ) → Asks a asks z → Awaits t.pending a z) → Reaches t a r i
+    reaching a t m k d = reached_on q t (Asks a asks) (Awaits t.pending a) a r i (λ n e. subst (λ t. aim_length t a ≡ Some n) (sym m.1) (length_waiting q m.0 a ∙ e)) d k
 
-    aims : (a : Aim) (r : Reach) (u : State) → IsThere q a × InTarget q a r asks → (t : WaitsMore q u) → ((z : ℤ) → Asks a asks z → Awaits u.pending a z) → Aims u a r
-    aims (To_global k) r u o t d = (subst (λ t. IsThere t (To_global k)) (sym t.1) o.0, reaching (To_global k) r u t o.1 d)
-    aims (To_literal k) r u o t d = (subst (λ t. IsThere t (To_literal k)) (sym t.1) o.0, reaching (To_literal k) r u t o.1 d)
-    aims (To_function k) r u o t d = absurd o.0
+    aims : (a : Aim) (u : State) → IsThere q a × InTarget q a r i asks → (t : WaitsMore q u) → ((z : ℤ) → Asks a asks z → Awaits u.pending a z) → Aims u a r i
+    aims (To_global k) u o t d = (subst (λ t. IsThere t (To_global k)) (sym t.1) o.0, reaching (To_global k) u t o.1 d)
+    aims (To_literal k) u o t d = (subst (λ t. IsThere t (To_literal k)) (sym t.1) o.0, reaching (To_literal k) u t o.1 d)
+    aims (To_function k) u o t d = absurd o.0
 slot_found q y (Entry j, asks) f z s m h o w k x e =
     let p = wide_slot q z y (0, omega arith) h w in
     given (λ (r : Found × State). WaitsMore s r.1 × FoundOk r.1 z.size r.0) (f.0, record { at = y.at; aim = To_function j; reach = All; offset = pos 0 } ∷ f.1) s x e
-    (more_self s, (k.0, (record { inside = p.0; aligned = p.1; aims = (let w = subst (λ (t : State). (f : RoutineState) × (slice_get t.routines j ≡ Some f) × IsUsed f.used) (sym m.1) o in (refl, w.0, w.1, w.2)) }, k.1)))
+    (more_self s, (k.0, (record { inside = p.0; aligned = p.1; aims = (let w = subst (λ (t : State). (f : RoutineState) × (slice_get t.routines j ≡ Some f) × IsUsed f.used) (sym m.1) o in (refl, refl, w.0, w.1, w.2)) }, k.1)))
 
 pub slots_found : (ys : List Slot) (s : State) (z : Extent) → Callable s → AllSlots s 0 z ys → (x : Found × State) → start_slots ys s ≡ Ok x → WaitsMore s x.1 × FoundOk x.1 z.size x.0
 slots_found [] s z i h x e = given (λ (r : Found × State). WaitsMore s r.1 × FoundOk r.1 z.size r.0) nothing_found s x e (more_self s, (tt, tt))
@@ -248,26 +239,20 @@ aim_kept s r f (To_function k) n h e = absurd h
 
 there_kept : (s r : State) → Follows s r → (a : Aim) → IsThere s a → IsThere r a
 there_kept s r f (To_global k) h = let g = f.statics k h.0 h.1 in (g.0, g.1, g.2.used h.2)
-there_kept s r f (To_literal k) h = (h.0, f.texts k h.0 h.1)
+there_kept s r f (To_literal k) h = (h.0, f.texts k h.0 h.1, h.2)
 there_kept s r f (To_function k) h = absurd h
 
-reaches_kept : (s r : State) → Follows s r → (a : Aim) (w : Reach) → IsThere s a → Reaches s a w → Reaches r a w
-reaches_kept s r f a All t h = tt
-reaches_kept s r f a (Within low n) t h = (h.0, h.1, ⊎_elim (λ e. inl (aim_kept s r f a h.0 t e)) (λ q. inr (awaits a (pos h.0) q)) h.2)
-  where
-    awaits : (a : Aim) (z : ℤ) → Awaits s.pending a z → Awaits r.pending a z
-    awaits (To_global k) z h = f.more k z h
-    awaits (To_literal k) z h = absurd h
-    awaits (To_function k) z h = absurd h
+reaches_kept : (s r : State) → Follows s r → (a : Aim) (w : Reach) (z : ℤ) → IsThere s a → Reaches s a w z → Reaches r a w z
+reaches_kept s r f a w z t h = reached_on s r (Awaits s.pending a) (Awaits r.pending a) a w z (λ n e. aim_kept s r f a n t e) (awaits_more s.pending r.pending f.more a) h
 
-aims_kept : (s r : State) → Follows s r → (a : Aim) (w : Reach) → Aims s a w → Aims r a w
-aims_kept s r f (To_global k) w h = (there_kept s r f (To_global k) h.0, reaches_kept s r f (To_global k) w h.0 h.1)
-aims_kept s r f (To_literal k) w h = (there_kept s r f (To_literal k) h.0, reaches_kept s r f (To_literal k) w h.0 h.1)
-aims_kept s r f (To_function k) w h = let g = f.routines k h.1 h.2 in (h.0, g.0, g.1, g.2.used h.3)
+aims_kept : (s r : State) → Follows s r → (a : Aim) (w : Reach) (z : ℤ) → Aims s a w z → Aims r a w z
+aims_kept s r f (To_global k) w z h = (there_kept s r f (To_global k) h.0, reaches_kept s r f (To_global k) w z h.0 h.1)
+aims_kept s r f (To_literal k) w z h = (there_kept s r f (To_literal k) h.0, reaches_kept s r f (To_literal k) w z h.0 h.1)
+aims_kept s r f (To_function k) w z h = let g = f.routines k h.2 h.3 in (h.0, h.1, g.0, g.1, g.2.used h.4)
 
 all_aim_kept : (s r : State) → Follows s r → (n : ℕ) (ls : List Aiming) → AllAim s n ls → AllAim r n ls
 all_aim_kept s r f n [] h = tt
-all_aim_kept s r f n (a ∷ ls) h = (record { inside = h.0.inside; aligned = h.0.aligned; aims = aims_kept s r f a.aim a.reach h.0.aims }, all_aim_kept s r f n ls h.1)
+all_aim_kept s r f n (a ∷ ls) h = (record { inside = h.0.inside; aligned = h.0.aligned; aims = aims_kept s r f a.aim a.reach a.offset h.0.aims }, all_aim_kept s r f n ls h.1)
 
 -- what an object begins with fits its type
 abbrev pub Begun : State → Ty → List ℕ × List Aiming → Type 0

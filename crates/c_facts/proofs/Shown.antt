@@ -36,7 +36,7 @@ abbrev pub There : Typed → Ty → Type 0
 There p t = (k : ℕ) × (k < length p.types) × (type_in p k ≡ t)
 
 module _ (p : Typed) (s : State) (o : IsOrdered p) (sh : Shows p (program_of s)) (i : Inv true s) where
-  extent_at : (k : ℕ) → k < length p.types → (x : Extent) → type_extent s.tags (type_in p k) ≡ Some x → extent p.types k ≡ Some x
+  pub extent_at : (k : ℕ) → k < length p.types → (x : Extent) → type_extent s.tags (type_in p k) ≡ Some x → extent p.types k ≡ Some x
   unfolding program_of
   extent_at k lt x e =
       let d = type_deep s.tags i.tags (type_in p k) x e in

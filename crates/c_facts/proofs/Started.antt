@@ -1,21 +1,21 @@
 -- The addresses with which objects begin: what they point to stands in the state, and their bounds are within it, or are asked for at the end.
-use Rattle.std.proofs.Common.{arith, ◌≡◌, ℕ, zero, suc, ◌+◌, ◌≤◌, Bool, true, false, List, [], ◌∷◌, length, Option, Some, None, Ok, ⊎_elim, inl, inr, refl, sym, ap, subst, ◌∙◌}
-use Rattle.std.specs.Prelude.{◌⊎◌, ℤ, pos, ◌+ℤ◌, ◌-ℤ◌, int_lt, slice_get, ◌&&◌, ◌==◌, ◌||◌, nat_le, if◌then◌else◌, ◌++◌, max, fold, nat_lt, ◌^◌, ◌*◌, ◌/◌}
+use Rattle.std.proofs.Common.{arith, ◌≡◌, ℕ, ◌+◌, ◌≤◌, Bool, true, false, List, [], ◌∷◌, length, Option, Some, None, ⊎_elim, inl, inr, refl, sym, ap, subst, ◌∙◌}
+use Rattle.std.specs.Prelude.{◌⊎◌, ℤ, pos, ◌+ℤ◌, ◌-ℤ◌, int_lt, slice_get, ◌&&◌, ◌||◌, nat_le}
 use Rattle.cap_concentrate.specs.Rounding.{owned}
 use Rattle.ck_int.specs.declared.kinds.IntOp.TheVariants as intops
-use Rattle.c_tree.specs.Types.{Ty, Void, Int, Cap, Pointer, Array, Tagged, Function, Const, bare, is_pointer, is_scalar, is_function, is_capability}
+use Rattle.c_tree.specs.Types.{Ty, Int, Cap, Pointer, Function, bare, is_pointer, is_scalar, is_function, is_capability}
 use Rattle.c_tree.specs.Terms as tree
 use Rattle.c_tree.specs.Terms.{Shape, Term, Terms, term, no_terms, with_term, type_of, Aim, To_global, To_literal, To_function, Text}
-use Rattle.c_tree.specs.Scopes.{Reach, All, Within, Aiming, TagState, StaticState, RoutineState, Pending, State, Doing, give, ◌>>=◌, ◌>>◌, size, type_extent}
-use Rattle.c_tree.specs.Readings.{Slot}
+use Rattle.c_tree.specs.Scopes.{Reach, All, Within, TagState, StaticState, RoutineState, State, size, type_extent}
 use Rattle.c_tree.specs.Constants.{constant_of}
-use Rattle.c_tree.specs.Statics.{Start, Number, There, Entry, Known, aim_length, is_near, near_all, moved_to, is_exact, inside, narrowed_in, narrowed, text_length, with_known, move_by, member_offset, by_offset, is_member_shape, pointed_at, target_size, number_in, bytes_moved, by_number, Operand, summed, derived_sum, cast_start, shape_start, or_number, start_of, starts_of, known_value, is_value_start}
+use Rattle.c_tree.specs.Statics.{Start, Number, There, Entry, Known, aim_length, is_near, near_all, moved_to, is_exact, inside, narrowed_in, narrowed, text_length, with_known, move_by, member_offset, by_offset, is_member_shape, pointed_at, target_size, number_in, bytes_moved, by_number, Operand, summed, derived_sum, shape_start, or_number, start_of, starts_of, known_value, is_value_start}
 use Rattle.c_facts.proofs.Facts.{IsUsed, TermOk, TermsOk, ShapeOk, IsValue, scalar, nothing, tagged, ValueOk, TypeOk}
 use Rattle.c_facts.proofs.Scalars.{branched}
+use Rattle.std.proofs.lemmas.Int.{ints}
 use Rattle.std.proofs.lemmas.Bool.{and_parts, leb-true, false≢true, or_right}
-use Rattle.std.proofs.lemmas.Option.{none-some, same_Some}
+use Rattle.std.proofs.lemmas.Option.{none-some}
 use Rattle.ck_base.specs.declared.positions.Pos.{Pos}
-use Rattle.c_tree.specs.Layout.{Extent}
+use Rattle.c_tree.specs.Layout.{Extent, size_limit}
 use Rattle.c_tree.specs.Conversions.{is_place, designates}
 use Rattle.c_tree.specs.WellTyped.{holds}
 use Rattle.c_facts.proofs.Agreeing.{refines}
@@ -23,7 +23,7 @@ use Rattle.c_facts.proofs.Agreeing.{refines}
 -- what an address points to is there, and is used
 abbrev pub IsThere : State → Aim → Type 0
 IsThere s (To_global k) = (g : StaticState) × (slice_get s.statics k ≡ Some g) × IsUsed g.used
-IsThere s (To_literal k) = (x : Text) × (slice_get s.texts k ≡ Some x)
+IsThere s (To_literal k) = (x : Text) × (slice_get s.texts k ≡ Some x) × (length x.bytes ≤ size_limit)
 IsThere s (To_function k) = ⊥
 
 abbrev pub IsAsked : List ℤ → ℤ → Type 0
@@ -35,14 +35,24 @@ abbrev pub Asks : Aim → List ℤ → ℤ → Type 0
 Asks (To_global k) zs z = IsAsked zs z
 Asks a zs z = ⊥
 
--- the bounds end within the bytes of the target, or at a length that is asked for
-abbrev pub InTarget : State → Aim → Reach → List ℤ → Type 0
-InTarget s a All asks = Unit {0}
-InTarget s a (Within low n) asks = (m : ℕ) × (low + n ≤ m) × ((aim_length s a ≡ Some m) ⊎ Asks a asks (pos m))
+-- Bounds are exact and end within the bytes of the target, and the address is near them; or as much is asked for
+abbrev pub Reached : State → (ℤ → Type 0) → Aim → Reach → ℤ → Type 0
+Reached s asked a All z =
+    holds (is_near 0 0 z) ⊎ (((m : ℕ) × (aim_length s a ≡ Some m) × holds (is_near 0 m z)) ⊎ (holds (int_lt (pos 0) (z +ℤ pos 1024)) × asked (z -ℤ pos 1023)))
+Reached s asked a (Within low n) z =
+    holds (is_exact low n) × holds (is_near low n z) × ((m : ℕ) × (low + n ≤ m) × ((aim_length s a ≡ Some m) ⊎ asked (pos m)))
+
+pub reached_on : (s r : State) (asked awaited : ℤ → Type 0) (a : Aim) (w : Reach) (z : ℤ) → ((n : ℕ) → aim_length s a ≡ Some n → aim_length r a ≡ Some n) → ((y : ℤ) → asked y → awaited y) →
+    Reached s asked a w z → Reached r awaited a w z
+reached_on s r asked awaited a All z f g h = ⊎_elim (λ e. inl e) (λ k. inr (⊎_elim (λ e. inl (e.0, f e.0 e.1, e.2)) (λ q. inr (q.0, g (z -ℤ pos 1023) q.1)) k)) h
+reached_on s r asked awaited a (Within low n) z f g h = (h.0, h.1, (h.2.0, h.2.1, ⊎_elim (λ e. inl (f h.2.0 e)) (λ q. inr (g (pos h.2.0) q)) h.2.2))
+
+abbrev pub InTarget : State → Aim → Reach → ℤ → List ℤ → Type 0
+InTarget s a r z asks = Reached s (Asks a asks) a r z
 
 abbrev pub StartOk : State → Start → List ℤ → Type 0
 StartOk s (Number v) asks = Unit {0}
-StartOk s (There a r z) asks = IsThere s a × InTarget s a r asks
+StartOk s (There a r z) asks = IsThere s a × InTarget s a r z asks
 StartOk s (Entry k) asks = (f : RoutineState) × (slice_get s.routines k ≡ Some f) × IsUsed f.used
 
 abbrev pub KnownOk : State → Known → Type 0
@@ -53,33 +63,40 @@ with_ok : (s : State) (k : Known) (f : Start × List ℤ → Known) → KnownOk 
 with_ok s None f h g = tt
 with_ok s (Some x) f h g = g x h
 
-near_ok : (s : State) (a : Aim) (at : ℤ) (o : Option ℕ) (asks : List ℤ) → IsThere s a → KnownOk s (near_all a at o asks)
-near_ok s a at (Some n) asks h = branched (KnownOk s) (is_near 0 n at) (Some (There a All at, asks)) None (λ _. (h, tt)) (λ _. tt)
-near_ok s a at None asks h = branched (KnownOk s) (int_lt (pos 0) (at +ℤ pos 1024)) (Some (There a All at, (at -ℤ pos 1023) ∷ asks)) None (λ _. (h, tt)) (λ _. tt)
+near_ok : (s : State) (a : Aim) (at : ℤ) (o : Option ℕ) (asks : List ℤ) → aim_length s a ≡ o → IsThere s a → KnownOk s (near_all a at o asks)
+near_ok s a at (Some n) asks e h = branched (KnownOk s) (is_near 0 n at) (Some (There a All at, asks)) None (λ l. (h, inr (inl (n, e, l)))) (λ _. tt)
+near_ok s (To_global k) at None asks e h =
+    branched (KnownOk s) (int_lt (pos 0) (at +ℤ pos 1024)) (Some (There (To_global k) All at, (at -ℤ pos 1023) ∷ asks)) None (λ l. (h, inr (inr (l, inl refl)))) (λ _. tt)
+near_ok s (To_literal k) at None asks e h = absurd (none-some (owned (length h.0.bytes)) (sym e ∙ ap text_length h.1))
+near_ok s (To_function k) at None asks e h = absurd h
 
-moved_ok : (s : State) (a : Aim) (r : Reach) (at : ℤ) (asks : List ℤ) → IsThere s a → InTarget s a r asks → KnownOk s (moved_to s a r at asks)
-moved_ok s a All at asks h i = near_ok s a at (aim_length s a) asks h
-moved_ok s a (Within low n) at asks h i = branched (KnownOk s) (is_near low n at) (Some (There a (Within low n) at, asks)) None (λ _. (h, i)) (λ _. tt)
+moved_ok : (s : State) (a : Aim) (r : Reach) (from at : ℤ) (asks : List ℤ) → IsThere s a → InTarget s a r from asks → KnownOk s (moved_to s a r at asks)
+moved_ok s a All from at asks h i = near_ok s a at (aim_length s a) asks refl h
+moved_ok s a (Within low n) from at asks h i = branched (KnownOk s) (is_near low n at) (Some (There a (Within low n) at, asks)) None (λ l. (h, (i.0, l, i.2))) (λ _. tt)
 
 move_ok : (s : State) (z : ℤ) (x : Start × List ℤ) → StartOk s x.0 x.1 → KnownOk s (move_by s z x)
 move_ok s z (Number v, asks) h = tt
-move_ok s z (There a r at, asks) h = moved_ok s a r (at +ℤ z) asks h.0 h.1
+move_ok s z (There a r at, asks) h = moved_ok s a r at (at +ℤ z) asks h.0 h.1
 move_ok s z (Entry k, asks) h = tt
 
-inside_ok : (s : State) (o : Option ℕ) (at n : ℕ) (asks : List ℤ) (a : Aim) → aim_length s a ≡ o → IsThere s a → KnownOk s (inside o at n asks a)
-inside_ok s (Some m) at n asks a e h = branched (KnownOk s) (nat_le (at + n) m) (Some (There a (Within at n) (pos at), asks)) None (λ l. (h, (m, leb-true (at + n) m l, inl e))) (λ _. tt)
-inside_ok s None at n asks (To_global k) e h = (h, (at + n, omega arith, inr (inl refl)))
-inside_ok s None at n asks (To_literal k) e h = absurd (none-some (owned (length h.0.bytes)) (sym e ∙ ap text_length h.1))
-inside_ok s None at n asks (To_function k) e h = absurd h
+-- the address of bounds is near them
+near_self : (low n : ℕ) → is_near low n (pos low) ≡ true
+near_self low n = grind (arith, ints)
 
-narrowed_in_ok : (s : State) (a : Aim) (r : Reach) (at n : ℕ) (asks : List ℤ) → IsThere s a → InTarget s a r asks → KnownOk s (narrowed_in s a r at n asks)
-narrowed_in_ok s a All at n asks h i = inside_ok s (aim_length s a) at n asks a refl h
-narrowed_in_ok s a (Within low m) at n asks h i =
+inside_ok : (s : State) (o : Option ℕ) (at n : ℕ) (asks : List ℤ) (a : Aim) → is_exact at n ≡ true → aim_length s a ≡ o → IsThere s a → KnownOk s (inside o at n asks a)
+inside_ok s (Some m) at n asks a x e h = branched (KnownOk s) (nat_le (at + n) m) (Some (There a (Within at n) (pos at), asks)) None (λ l. (h, (x, near_self at n, (m, leb-true (at + n) m l, inl e)))) (λ _. tt)
+inside_ok s None at n asks (To_global k) x e h = (h, (x, near_self at n, (at + n, omega arith, inr (inl refl))))
+inside_ok s None at n asks (To_literal k) x e h = absurd (none-some (owned (length h.0.bytes)) (sym e ∙ ap text_length h.1))
+inside_ok s None at n asks (To_function k) x e h = absurd h
+
+narrowed_in_ok : (s : State) (a : Aim) (r : Reach) (from : ℤ) (at n : ℕ) (asks : List ℤ) → is_exact at n ≡ true → IsThere s a → InTarget s a r from asks → KnownOk s (narrowed_in s a r at n asks)
+narrowed_in_ok s a All from at n asks x h i = inside_ok s (aim_length s a) at n asks a x refl h
+narrowed_in_ok s a (Within low m) from at n asks x h i =
     branched (KnownOk s) (nat_le low at && nat_le (at + n) (low + m)) (Some (There a (Within at n) (pos at), asks)) None
-    (λ l. let e = (and_parts (nat_le low at) (nat_le (at + n) (low + m)) l).1 in let l = leb-true (at + n) (low + m) e in (h, (i.0, omega (arith, l, i.1), i.2))) (λ _. tt)
+    (λ l. let e = (and_parts (nat_le low at) (nat_le (at + n) (low + m)) l).1 in let l = leb-true (at + n) (low + m) e in (h, (x, near_self at n, (i.2.0, omega (arith, l, i.2.1), i.2.2)))) (λ _. tt)
 
 narrowed_ok : (s : State) (n : ℕ) (x : Start × List ℤ) → StartOk s x.0 x.1 → KnownOk s (narrowed s n x)
-narrowed_ok s n (There a r (pos at), asks) h = branched (KnownOk s) (is_exact at n) (narrowed_in s a r at n asks) None (λ _. narrowed_in_ok s a r at n asks h.0 h.1) (λ _. tt)
+narrowed_ok s n (There a r (pos at), asks) h = branched (KnownOk s) (is_exact at n) (narrowed_in s a r at n asks) None (λ x. narrowed_in_ok s a r (pos at) at n asks x h.0 h.1) (λ _. tt)
 narrowed_ok s n x h = tt
 
 pointed_ok : (s : State) (x : Term) (v : Start × List ℤ) → StartOk s v.0 v.1 → KnownOk s (pointed_at s x v)
@@ -117,7 +134,7 @@ Names s (tree.Fun k) = StartOk s (Entry k) []
 Names s n = Unit {0}
 
 names_ok : (s : State) (n : Shape) (xs : Terms) (t : Ty) → ShapeOk true s n xs t → Names s n
-names_ok s (tree.Literal k) no_terms t h = (h.3.0, h.3.1)
+names_ok s (tree.Literal k) no_terms t h = (h.3.0, h.3.1, subst (λ n. n ≤ size_limit) h.3.2 h.2)
 names_ok s (tree.Global k) no_terms t h = (h.0, h.1, h.3)
 names_ok s (tree.Fun k) no_terms t h = (h.0, h.1, h.3)
 names_ok s (tree.Literal k) (with_term x xs) t h = absurd h
@@ -126,8 +143,8 @@ names_ok s (tree.Fun k) (with_term x xs) t h = absurd h
 names_ok s n xs t h = tt
 
 shape_ok : (s : State) (n : Shape) (t : Ty) (xs : List Operand) → Names s n → AllKnown s xs → KnownOk s (shape_start s n t xs)
-shape_ok s (tree.Literal k) t [] h i = (h, tt)
-shape_ok s (tree.Global k) t [] h i = (h, tt)
+shape_ok s (tree.Literal k) t [] h i = (h, inl refl)
+shape_ok s (tree.Global k) t [] h i = (h, inl refl)
 shape_ok s (tree.Fun k) t [] h i = h
 shape_ok s (tree.Member k) t (a ∷ []) h i = with_ok s a.1 (by_offset s (member_offset s (bare (type_of a.0)) k)) i.0 (λ x. by_offset_ok s (member_offset s (bare (type_of a.0)) k) x)
 shape_ok s tree.Address t (a ∷ []) h i = with_ok s a.1 (pointed_at s a.0) i.0 (pointed_ok s a.0)

@@ -1,5 +1,5 @@
 -- What cutting a file into tokens and reading them ensure of its syntax (C11 6.4.4, 6.8), so that typing does not ask for it.
-use Rattle.std.specs.Prelude.{◌≡◌, ℕ, ◌≤◌, false, List, Some, slice_get}
+use Rattle.std.specs.Prelude.{◌≡◌, ◌≤◌, false, Some}
 use Rattle.ck_base.specs.Tokens.{Lexeme}
 use Rattle.ck_base.specs.Literals as literal
 use Rattle.c_tree.specs.declared.syntax.NodeKind.{NodeKind}
@@ -31,7 +31,3 @@ unfoldable mutual
   pub AreFit : Syns → Type 0
   AreFit nil = Unit {0}
   AreFit (more x xs) = IsFit x × AreFit xs
-
--- the bytes of a file are such that a byte can hold
-abbrev pub AreBytes : List ℕ → Type 0
-AreBytes bytes = (k b : ℕ) → slice_get bytes k ≡ Some b → b ≤ 255
