@@ -14,7 +14,6 @@ use Rattle.c_tree.specs.declared.typed.Link.{Link}
 use Rattle.c_tree.specs.declared.typed.CType.{CType}
 use Rattle.c_tree.specs.Layout.{Extent, extent, size_limit}
 use Rattle.c_tree.proofs.Aligned.{IsPower, max_power, alignment_is_power, extent_aligned}
-use Rattle.c_tree.specs.Typing.{Sound}
 use Rattle.c_tree.specs.WellTyped.{WellTyped, LinkFits}
 use Rattle.obj_mem.specs.declared.map.Map.{Map}
 use Rattle.obj_mem.specs.Legal.{ObjectNeed, owned_of, alignment_of, AreAligned}
@@ -90,16 +89,16 @@ all_pairs P f (x ∷ xs) (b ∷ bs) h = All-append P (f (x, b)) (flat_map f (zip
 
 -- ---- of a program
 
-module _ (p : Typed) (m : Map) (legal : Legal p m) (w : WellTyped p) (s : Sound p) (table : m.table.1 ≡ table_length (asked_by p)) (from : ℕ) (all : List ℕ) (initial : AreInitial p m from all) where
+module _ (p : Typed) (m : Map) (legal : Legal p m) (w : WellTyped p) (table : m.table.1 ≡ table_length (asked_by p)) (from : ℕ) (all : List ℕ) (initial : AreInitial p m from all) where
   link_inside : (cs : List Pointer) (base owns size : ℕ) (l : Link) → base % 16 ≡ 0 → from ≤ base → base + owns ≤ from + length all → base + owns < 2 ^ 64 → size ≤ owns → LinkFits p size l → IsInside from (length all) (link_reloc p cs base l)
   link_inside cs base owns size l a b h t n f = let i = f.inside in let g = f.aligned in record { aligned = omega arith; above = omega arith; below = omega arith }
 
   links_inside : (cs : List Pointer) (k : ℕ) (g : GlobalDef) → slice_get p.globals k ≡ Some g → All (IsInside from (length all)) (link_relocs p cs (g, get_or m.globals k 0))
   links_inside cs k g e =
       let f = w.globals k g e in
-      let o = (objects_begin p m legal w s from all initial).globals k g e in
+      let o = (objects_begin p m legal w from all initial).globals k g e in
       let a = granular (global_need p.types g) (get_or m.globals k 0) (global_power p.types g) (aligned_at (global_need p.types) p.globals m.globals k g legal.globals e) in
-      let n : f.extent.size ≤ owned_of (global_need p.types g) = omega (arith, size_is p w s k g e, owned_least (global_need p.types g).length) in
+      let n : f.extent.size ≤ owned_of (global_need p.types g) = omega (arith, size_is p w k g e, owned_least (global_need p.types g).length) in
       let x = (exact_at (global_need p.types) p.globals m.globals k g (objects_are_exact_law (weight_in p) p m legal).0 e).based.to in
       all_map (IsInside from (length all)) (link_reloc p cs (get_or m.globals k 0)) g.links
       (λ j l i. link_inside cs (get_or m.globals k 0) (owned_of (global_need p.types g)) f.extent.size l a o.above o.below (omega arith) n (f.links j l i))
@@ -107,7 +106,7 @@ module _ (p : Typed) (m : Map) (legal : Legal p m) (w : WellTyped p) (s : Sound 
   pub all_inside : All (IsInside from (length all)) (entries m.table.0 (table_pointers p m) ++ flat_map (link_relocs p (table_pointers p m)) (zip p.globals m.globals))
   all_inside =
       let n = asked_by p in
-      let o = (objects_begin p m legal w s from all initial).table in
+      let o = (objects_begin p m legal w from all initial).table in
       let above = o.above in
       let below = o.below in
       let u = owned_least (16 * entry_count n) in

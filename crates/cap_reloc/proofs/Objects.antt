@@ -8,7 +8,6 @@ use Rattle.std.proofs.lemmas.List.{length-map, length-append, get_or_past, get_o
 use Rattle.std.proofs.lemmas.Option.{slice_get_within}
 use Rattle.cap_concentrate.proofs.Least.{rounded_up_ge}
 use Rattle.c_tree.specs.declared.typed.Typed.{Typed}
-use Rattle.c_tree.specs.Typing.{Sound}
 use Rattle.c_tree.specs.WellTyped.{WellTyped}
 use Rattle.obj_mem.specs.declared.map.Map.{Map}
 use Rattle.obj_mem.specs.Agreement.{Paired}
@@ -105,14 +104,14 @@ highest_of end [] k d h = absurd (omega arith)
 highest_of end (e ∷ es) zero d h = omega (arith, highest_most (max end (e.0 + e.1)) es)
 highest_of end (e ∷ es) (suc k) d h = highest_of (max end (e.0 + e.1)) es k d (omega arith)
 
-module _ (p : Typed) (m : Map) (legal : Legal p m) (w : WellTyped p) (s : Sound p) (from : ℕ) (all : List ℕ) (initial : AreInitial p m from all) where
+module _ (p : Typed) (m : Map) (legal : Legal p m) (w : WellTyped p) (from : ℕ) (all : List ℕ) (initial : AreInitial p m from all) where
   extents : List (ℕ × ℕ)
   extents = objects_of (asked_by p) m
 
   all_lie : Paired LiesAt extents (contents p m)
   unfolding extents
   all_lie =
-      join_both LiesAt _ _ _ _ (row_lies (global_need p.types) global_content p.globals m.globals (λ x b. refl) (λ k g b e. bytes_fit p w s k g e))
+      join_both LiesAt _ _ _ _ (row_lies (global_need p.types) global_content p.globals m.globals (λ x b. refl) (λ k g b e. bytes_fit p w k g e))
       (row_lies literal_need literal_content p.literals m.literals (λ x b. refl) (λ k l b e. owned_least (length l.bytes)))
 
   globals_placed : length (placed_at (map (global_need p.types) p.globals) m.globals) ≡ length p.globals

@@ -18,10 +18,7 @@ use Rattle.c_tree.specs.declared.typed.Link.{Link}
 use Rattle.c_tree.specs.declared.typed.Target.{Target}
 use Rattle.c_tree.specs.declared.typed.Target.TheVariants as target
 use Rattle.c_tree.specs.Layout.{Extent, extent, size_limit}
-use Rattle.c_tree.specs.Typing.{Sound}
-use Rattle.c_tree.specs.WellTyped.{WellTyped, LinkFits, OwnsBytes, type_in}
-use Rattle.c_tree.specs.TreeLayout.{tree_extent}
-use Rattle.c_tree.proofs.ViewLayout.{extent_is}
+use Rattle.c_tree.specs.WellTyped.{WellTyped, LinkFits, OwnsBytes}
 use Rattle.obj_mem.specs.declared.map.Map.{Map}
 use Rattle.obj_mem.specs.Agreement.{Paired}
 use Rattle.obj_mem.specs.Objects.{data_permissions, const_permissions}
@@ -83,12 +80,6 @@ base_in c = c.base
 length_in : Pointer → ℕ
 length_in c = c.length
 
--- the extent of a global's type, which may have several numbers
-same_extent : (p : Typed) (s : Sound p) (j k : ℕ) → j < length p.types → k < length p.types → type_in p j ≡ type_in p k → extent p.types j ≡ extent p.types k
-same_extent p s j k lj lk e =
-    let t = s.types.types in
-    extent_is p t.program t.ordered t.shows 0 j lj ∙ ap (tree_extent (length p.types + 0) t.program.tags) e ∙ sym (extent_is p t.program t.ordered t.shows 0 k lk)
-
 length_of : ObjectNeed → ℕ
 length_of n = n.length
 
@@ -96,20 +87,18 @@ need_length : (x : Extent) (q : ℕ) → x.size ≤ size_limit → length_of (ne
 unfolding length_of
 need_length x q h = let t : nat_le x.size size_limit ≡ true = grind (arith, nat_tests) in ap (λ b. length_of (if b then record { length = x.size; align = x.align; permissions = q } else nothing_of q)) t
 
-pub size_is : (p : Typed) (w : WellTyped p) (s : Sound p) (k : ℕ) (g : GlobalDef) (e : slice_get p.globals k ≡ Some g) → (global_need p.types g).length ≡ (w.globals k g e).extent.size
+pub size_is : (p : Typed) (w : WellTyped p) (k : ℕ) (g : GlobalDef) (e : slice_get p.globals k ≡ Some g) → (global_need p.types g).length ≡ (w.globals k g e).extent.size
 unfolding length_of
-size_is p w s k g e =
+size_is p w k g e =
     let f = w.globals k g e in
-    let c = f.complete in
     let q = (if is_const p.types g.of then const_permissions else data_permissions) in
-    let x : extent p.types g.of ≡ Some f.extent = sym (same_extent p s c.number g.of c.there (w.ordered.globals k g e) c.is) ∙ c.extent_is in
-    ap (λ o. length_of (need_by o q)) x ∙ need_length f.extent q c.within
+    ap (λ o. length_of (need_by o q)) f.own ∙ need_length f.extent q f.complete.within
 
-pub bytes_fit : (p : Typed) → WellTyped p → Sound p → (k : ℕ) (g : GlobalDef) → slice_get p.globals k ≡ Some g → length g.bytes ≤ owned_of (global_need p.types g)
-bytes_fit p w s k g e =
+pub bytes_fit : (p : Typed) → WellTyped p → (k : ℕ) (g : GlobalDef) → slice_get p.globals k ≡ Some g → length g.bytes ≤ owned_of (global_need p.types g)
+bytes_fit p w k g e =
     let f = w.globals k g e in
     let b = f.bytes in
-    omega (arith, size_is p w s k g e, owned_least (global_need p.types g).length)
+    omega (arith, size_is p w k g e, owned_least (global_need p.types g).length)
 
 -- ---- the pointers of the table
 
@@ -311,12 +300,12 @@ module _ (p : Typed) (m : Map) (legal : Legal p m) where
         let y : (get_or (object_pointers p m) k no_pointer).length ≡ c.length = ap length_in e in
         record { above = omega arith; below = omega arith }
 
-    pub globals_lie : WellTyped p → Sound p → GlobalsLieIn base size p.globals m.globals
-    globals_lie w s k d h =
+    pub globals_lie : WellTyped p → GlobalsLieIn base size p.globals m.globals
+    globals_lie w k d h =
         let g = get_or p.globals k d in
         let e : slice_get p.globals k ≡ Some g = slice_get-get_or p.globals k d h in
         let o = objects_length in
-        lies k (length g.bytes) (global_pointer p.types (g, get_or m.globals k 0)) (omega arith) (global_object k g no_pointer e) (bytes_fit p w s k g e)
+        lies k (length g.bytes) (global_pointer p.types (g, get_or m.globals k 0)) (omega arith) (global_object k g no_pointer e) (bytes_fit p w k g e)
 
     pub literals_lie : LiteralsLieIn base size p.literals m.literals
     literals_lie k d h =

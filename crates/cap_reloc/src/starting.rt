@@ -2,7 +2,6 @@
 ghost use Rattle.std.specs.Prelude.{◌≡◌, length, IfOk};
 ghost use Rattle.std.specs.List.{All};
 ghost use Rattle.c_tree.specs.Typing.{Sound};
-ghost use Rattle.c_tree.specs.WellTyped.{WellTyped};
 ghost use Rattle.obj_mem.specs.Agreement.{Paired};
 ghost use Rattle.obj_mem.specs.Needs.{Legal};
 ghost use Rattle.obj_mem.specs.Table.{table_length};
@@ -18,7 +17,7 @@ use ck_base::NoMemory;
 use obj_mem::Map;
 use std::alloc::Global;
 
-/// The relocations of a program under a legal map, and the bytes of its initial data.
+/// The relocations of a program that typing gives, under a legal map, and the bytes of its initial data.
 ///
 /// The table has 16 bytes for each global, each literal and each function, for the heap and for the allocator's own state. Each of
 /// its relocations is the pointer to a whole object, the sentry of a function, or the capability of the whole heap; each of a
@@ -26,7 +25,6 @@ use std::alloc::Global;
 /// literals to their highest end, filled to a multiple of 16.
 pub fn table(alloc: Global, m: &Map, p: &Typed) -> Result<Table, NoMemory>
     requires sound { Sound p.now }
-    requires typed { WellTyped p.now }
     requires legal { Legal p.now m.now }
     requires length { m.now.table.1 ≡ table_length (asked_by p.now) }
 

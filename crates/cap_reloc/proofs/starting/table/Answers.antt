@@ -7,6 +7,7 @@ use Rattle.obj_mem.specs.Agreement.{Paired}
 use Rattle.cap_reloc.specs.declared.pointers.Pointer.{Pointer}
 use Rattle.cap_reloc.specs.Begins.{beginning, IsRelocation, IsInside}
 use Rattle.c_tree.specs.declared.typed.Typed.{Typed}
+use Rattle.c_facts.proofs.Sound.{well_typed}
 use Rattle.obj_mem.specs.declared.map.Map.{Map}
 use Rattle.obj_mem.specs.Needs.{Legal}
 use Rattle.cap_reloc.specs.Initial.{contents, byte_of, lowest, highest, AreInitial}
@@ -32,7 +33,7 @@ pub relocations-requires-clause-there : goal.relocations-requires-clause-there
 relocations-requires-clause-there c =
     let e = c.deref-2.ensures.value ∙ c.in_ok-put_functions.ensures c.in_ok-pointers.ensures in
     subst (λ cs. All (λ (g : GlobalDef). All (λ (l : Link). entry_of c.args.p.now l.target < length cs) g.links) c.args.p.now.globals) (sym e)
-    (all_there c.args.p.now c.args.m.now c.requires.legal c.requires.typed)
+    (all_there c.args.p.now c.args.m.now c.requires.legal (well_typed c.args.p.now c.requires.sound))
 
 pub initial_bytes-requires-clause-global_bases : goal.initial_bytes-requires-clause-global_bases
 initial_bytes-requires-clause-global_bases c = globals_length c.args.p.now c.args.m.now c.requires.legal
@@ -47,7 +48,7 @@ initial_bytes-requires-clause-globals c =
     globals_lie c.args.p.now m c.requires.legal c.stretch_of-stretch.result.base c.stretch_of-stretch.result.length
     (c.stretch_of-stretch.ensures.from ∙ ap (λ cs. lowest m.table.0 (map extent_of cs)) e)
     (c.stretch_of-stretch.ensures.to ∙ ap (λ cs. rounded_up (highest (m.table.0 + m.table.1) (map extent_of cs)) 16) e)
-    c.requires.typed c.requires.sound
+    (well_typed c.args.p.now c.requires.sound)
 
 pub initial_bytes-requires-clause-literals : goal.initial_bytes-requires-clause-literals
 initial_bytes-requires-clause-literals c =
@@ -63,7 +64,7 @@ returns-clause-relocs c =
     let m = c.args.m.now in
     let e = c.deref-2.ensures.value ∙ c.in_ok-put_functions.ensures c.in_ok-pointers.ensures in
     let is = c.in_ok-relocs.ensures ∙ ap (λ cs. entries m.table.0 cs ++ flat_map (link_relocs p cs) (zip p.globals m.globals)) e in
-    subst (λ rs. Paired (IsRelocation m) (beginning p m) rs) (sym is) (relocations_are p m c.requires.legal c.requires.typed)
+    subst (λ rs. Paired (IsRelocation m) (beginning p m) rs) (sym is) (relocations_are p m c.requires.legal (well_typed c.args.p.now c.requires.sound))
 
 initial : (p : Typed) (m : Map) (l : Legal p m) (cs : List Pointer) (base size : ℕ) (bytes : List ℕ) → cs ≡ object_pointers p m → base ≡ lowest m.table.0 (map extent_of cs)
     → base + size ≡ rounded_up (highest (m.table.0 + m.table.1) (map extent_of cs)) 16 → length bytes ≡ size → ((k : ℕ) → k < size → slice_index bytes k ≡ byte_of 0 (contents p m) (base + k)) → AreInitial p m base bytes
@@ -86,7 +87,7 @@ returns-clause-objects c =
     let e = c.deref.ensures.value ∙ c.in_ok-pointers.ensures in
     let i = initial c.args.p.now c.args.m.now c.requires.legal c.deref.result.now c.stretch_of-stretch.result.base c.stretch_of-stretch.result.length c.in_ok-bytes.bytes.items e
     c.stretch_of-stretch.ensures.from c.stretch_of-stretch.ensures.to c.in_ok-bytes.ensures.length c.in_ok-bytes.ensures.each in
-    objects_begin c.args.p.now c.args.m.now c.requires.legal c.requires.typed c.requires.sound c.stretch_of-stretch.result.base c.in_ok-bytes.bytes.items i
+    objects_begin c.args.p.now c.args.m.now c.requires.legal (well_typed c.args.p.now c.requires.sound) c.stretch_of-stretch.result.base c.in_ok-bytes.bytes.items i
 
 pub returns-clause-places : goal.returns-clause-places
 returns-clause-places c =
@@ -98,4 +99,4 @@ returns-clause-places c =
     let i = initial p m c.requires.legal c.deref.result.now c.stretch_of-stretch.result.base c.stretch_of-stretch.result.length c.in_ok-bytes.bytes.items d
     c.stretch_of-stretch.ensures.from c.stretch_of-stretch.ensures.to c.in_ok-bytes.ensures.length c.in_ok-bytes.ensures.each in
     subst (λ rs. All (IsInside c.stretch_of-stretch.result.base (length c.in_ok-bytes.bytes.items)) rs) (sym is)
-    (all_inside p m c.requires.legal c.requires.typed c.requires.sound c.requires.length c.stretch_of-stretch.result.base c.in_ok-bytes.bytes.items i)
+    (all_inside p m c.requires.legal (well_typed c.args.p.now c.requires.sound) c.requires.length c.stretch_of-stretch.result.base c.in_ok-bytes.bytes.items i)
