@@ -137,7 +137,7 @@ ty_kind (ty.Int k n) = k
 ty_kind (ty.Const t) = ty_kind t
 ty_kind t = int.I32
 
-bare_kind : (t : Ty) → ty_kind (ty.bare t) ≡ ty_kind t
+pub bare_kind : (t : Ty) → ty_kind (ty.bare t) ≡ ty_kind t
 bare_kind (ty.Const t) = refl
 bare_kind t = refl
 

@@ -1,18 +1,16 @@
 -- What typing gives of a program of the form as a whole.
-use Rattle.std.proofs.Common.{◌≡◌, ℕ, zero, suc, ◌<◌, true, List, [], ◌∷◌, length, map, get_or, Option, Some, None, refl, sym, ap, ◌∙◌, subst, arith}
+use Rattle.std.proofs.Common.{◌≡◌, ℕ, zero, suc, ◌<◌, true, List, [], ◌∷◌, length, map, get_or, Option, Some, refl, sym, ap, ◌∙◌, subst, arith}
 use Rattle.std.specs.Prelude.{slice_get, ◌==◌, sum_by}
 use Rattle.std.specs.List.{list_all}
 use Rattle.std.proofs.lemmas.Option.{slice_get_within, slice_get-get_or}
 use Rattle.std.proofs.lemmas.Bool.Decides.{nat_tests}
 use Rattle.std.proofs.lemmas.List.Sums.{sum_by-cons}
-use Rattle.ck_int.specs.declared.kinds.IntKind.{IntKind}
 use Rattle.ck_int.specs.declared.kinds.IntKind.TheVariants as int
 use Rattle.c_tree.specs.Layout.{bare, bare_within, bare_of}
 use Rattle.c_tree.specs.declared.typed.CType.{CType}
 use Rattle.c_tree.specs.declared.typed.CType.TheVariants as types
 use Rattle.c_tree.specs.declared.typed.FunDef.{FunDef}
 use Rattle.c_tree.specs.declared.typed.Typed.{Typed}
-use Rattle.c_tree.specs.declared.typed.VarDef.{VarDef}
 use Rattle.c_tree.specs.Types as ty
 use Rattle.c_tree.specs.Types.{Ty, Tys}
 use Rattle.c_tree.specs.Terms as term
@@ -24,14 +22,11 @@ use Rattle.c_tree.proofs.Uses.{Each, each_of, each_append, used_once, upto}
 use Rattle.cheri_c_sem.specs.Kinds.{Kind, Plain}
 use Rattle.cheri_c_sem.specs.Types.{scalar_of}
 use Rattle.tac_ir.specs.WellFormed.{int_result, kind_or_int, signature_by, signature_of}
-use Rattle.cheric_build.specs.Form.{variable_kind_in, gives_own_kind, initialises_well, is_form_function, is_form_variable, is_integer_form}
-use Rattle.cheric_build.specs.Compiled.{kind_of_variable, variable_kinds}
-use Rattle.cheri_c_sem.specs.Compatible.{kind_number}
-use Rattle.cheric_build.proofs.Blocks.{variable_some, variable_none}
+use Rattle.cheric_build.specs.Form.{is_form_function, is_form_variable, is_integer_form}
 use Rattle.cheric_build.specs.Sizes.{IsTyped}
 use Rattle.cheric_build.proofs.Trees.{all_get, and_both}
 use Rattle.cheric_build.proofs.Typing.{ordered_of, type_node}
-use Rattle.cheric_build.proofs.TypingStatements.{InitsAgree, statement_fits}
+use Rattle.cheric_build.proofs.TypingStatements.{statement_fits}
 use Rattle.cheric_build.proofs.TypingWeight.{statement_sized}
 use Rattle.cheric_build.proofs.Assembled.{form_expressions, form_statements}
 
@@ -122,31 +117,6 @@ sum_ones : (xs : List ℕ) → sum_by (λ j. 1) xs ≡ length xs
 sum_ones [] = refl
 sum_ones (x ∷ xs) = omega (arith, sum_by-cons (λ j. 1) x xs, sum_ones xs)
 
--- ---- initialisations
-
-kind_number_is : (j k : IntKind) → (kind_number j == kind_number k) ≡ true → j ≡ k
-kind_number_is int.Bool int.Bool h = refl
-kind_number_is int.I8 int.I8 h = refl
-kind_number_is int.U8 int.U8 h = refl
-kind_number_is int.I16 int.I16 h = refl
-kind_number_is int.U16 int.U16 h = refl
-kind_number_is int.I32 int.I32 h = refl
-kind_number_is int.U32 int.U32 h = refl
-kind_number_is int.I64 int.I64 h = refl
-kind_number_is int.U64 int.U64 h = refl
-kind_number_is j k h = absurd cc
-
-variable_kind_is : (p : Typed) (d : FunDef) (x : ℕ) → variable_kind_in p.types (slice_get d.vars x) ≡ kind_of_variable (variable_kinds p d) x
-variable_kind_is p d x = by (slice_get d.vars x) refl
-  where
-    by : (o : Option VarDef) → slice_get d.vars x ≡ o → variable_kind_in p.types o ≡ kind_of_variable (variable_kinds p d) x
-    by (Some v) h = variable_some p d x v h
-    by None h = variable_none p d x h
-
-inits_agree : (p : Typed) (d : FunDef) → list_all (initialises_well p d.vars) p.stmts ≡ true → InitsAgree p d
-inits_agree p d h k x offset a s at is =
-    sym (variable_kind_is p d x) ∙ kind_number_is _ _ (subst (λ z. gives_own_kind p d.vars z ≡ true) is (all_get (initialises_well p d.vars) p.stmts k s h at))
-
 -- ---- the whole program
 
 pub typed_of : (p : Typed) (d : FunDef) → WellTyped p → is_integer_form p ≡ true → slice_get p.funs 0 ≡ Some d → IsTyped p d
@@ -156,9 +126,7 @@ typed_of p d w h at =
     let b7 = and_both _ _ (and_both _ _ (and_both _ _ b4.0).0).0 in
     let main_zero : p.main ≡ 0 = number_is p.main 0 b7.0 in
     let only : p.funs ≡ d ∷ [] = only_one p.funs d b7.1 at in
-    let function_form = and_both _ _ (all_get (is_form_function p) p.funs 0 d b4.1 at) in
-    let vars_form : list_all (is_form_variable p.types) d.vars ≡ true = function_form.0 in
-    let inits = inits_agree p d function_form.1 in
+    let vars_form : list_all (is_form_variable p.types) d.vars ≡ true = all_get (is_form_function p.types) p.funs 0 d b4.1 at in
     let expressions = form_expressions p h in
     let all_statements = form_statements p h in
     let ff : FunctionFits p d = w.funs 0 d at in
@@ -182,7 +150,7 @@ typed_of p d w h at =
       there = o.values_there;
       no_params = no_params;
       gives_int = gives p o d.of (get_or p.types d.of types.Void) (slice_get-get_or p.types d.of types.Void there.0) main_type;
-      fits = statement_fits p o expressions d vars_form all_statements inits d.body outside there.1 body_fits;
+      fits = statement_fits p o expressions d vars_form all_statements d.body outside there.1 body_fits;
       weight = omega (arith, sized.weight);
       declared = omega (arith, sized.declares, count);
     }

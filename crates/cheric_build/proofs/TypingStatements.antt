@@ -31,14 +31,10 @@ use Rattle.cheric_build.specs.Form.{plain_kind, is_form_expression, is_form_vari
 use Rattle.cheric_build.specs.Compiled.{kind_in, kind_of_variable, variable_kinds, AreVariables, StatementFits, StatementsFit}
 use Rattle.cheric_build.proofs.Trees.{all_get, operand_plain}
 use Rattle.cheric_build.proofs.Blocks.{variable_some}
-use Rattle.cheric_build.proofs.Typing.{ordered_of, ty_kind, compatible_kind, Good, good_expression, variable_at, operand_kind_is}
-
--- an initialisation gives a variable a value of its own kind
-abbrev pub InitsAgree : Typed → FunDef → Type 0
-InitsAgree p d = (k x offset a : ℕ) (s : Stmt) → slice_get p.stmts k ≡ Some s → s.kind ≡ stmts.Init x offset a → kind_of_variable (variable_kinds p d) x ≡ plain_kind p.types (type_of (slice_get p.exprs a))
+use Rattle.cheric_build.proofs.Typing.{ordered_of, ty_kind, bare_kind, compatible_kind, Good, good_expression, variable_at, operand_kind_is}
 
 module _ (p : Typed) (o : IsOrdered p) (form : list_all (is_form_expression p) p.exprs ≡ true) (d : FunDef) (vars_form : list_all (is_form_variable p.types) d.vars ≡ true)
-    (form_statements : list_all is_form_statement p.stmts ≡ true) (inits : InitsAgree p d) where
+    (form_statements : list_all is_form_statement p.stmts ≡ true) where
   abbrev Fr : Frame
   Fr = record { program = p; vars = d.vars; gives = ty.int }
 
@@ -118,11 +114,14 @@ module _ (p : Typed) (o : IsOrdered p) (form : list_all (is_form_expression p) p
       by : (kd : StmtKind) → s.kind ≡ kd → ActionFits Fr i (kind_action (terms_of p) kd s.pos ((action_node k s h).0)) → is_form_statement_kind kd ≡ true → IsAfterParts k kd → StatementFits ks (t k)
       by (stmts.Expr a) is f q b = made _ (node _ is) (good a (there (stmts.Expr a) a is refl) f.0.0).fits
       by (stmts.Init x offset a) is f q b =
-          let g = good a (there (stmts.Init x offset a) a is refl) f.0.0 in
+          let inside = there (stmts.Init x offset a) a is refl in
+          let g = good a inside f.0.0 in
           let v = f.1.0 in
           let at = f.1.3 in
           let w = variable_at p o form d vars_form ty.int x v at in
-          let agree = inits k x offset a s h is in
+          let whole = f.1.7 w.0 in
+          let own : ty_kind (type_in p v.of) ≡ ok a = sym (bare_kind (type_in p v.of)) ∙ sym (ap ty_kind whole.1) ∙ operand_kind_is p o form d vars_form ty.int a inside in
+          let agree : kind_of_variable ks x ≡ ok a = sym (variable_some p d x v at) ∙ sym w.2 ∙ own in
           let kinds_same : plain_kind p.types v.of ≡ kind_in (kind_of_variable ks x) (e a) = variable_some p d x v at ∙ sym (g.kind (kind_of_variable ks x) agree) in
           made (Give x (e a)) (node _ is ∙ ap (λ z. initialisation_by z x offset a) (ap is_simple at ∙ w.0)) (g.fits, w.1 ∙ ap (λ z. Some (kind.Int z)) kinds_same)
         where

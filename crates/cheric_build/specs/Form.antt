@@ -1,10 +1,9 @@
 -- The form of program that is built: integer variables, branches and loops.
-use Rattle.std.specs.Prelude.{ℕ, ◌==◌, ◌&&◌, ◌||◌, nat_le, Bool, true, false, List, length, Option, Some, None, slice_get}
+use Rattle.std.specs.Prelude.{ℕ, ◌==◌, ◌&&◌, ◌||◌, nat_le, Bool, true, false, List, length, Option, Some, slice_get}
 use Rattle.std.specs.List.{list_all}
 use Rattle.ck_int.specs.declared.kinds.IntKind.{IntKind}
 use Rattle.ck_int.specs.declared.kinds.IntKind.TheVariants as int
 use Rattle.c_tree.specs.Weight.{weight}
-use Rattle.cheri_c_sem.specs.Compatible.{kind_number}
 use Rattle.cheri_c_sem.specs.Expressions.{type_of}
 use Rattle.c_tree.specs.declared.typed.CType.{CType}
 use Rattle.c_tree.specs.declared.typed.CType.TheVariants as types
@@ -88,24 +87,11 @@ is_form_statement s = is_form_statement_kind s.kind
 abbrev pub is_form_variable : List CType → VarDef → Bool
 is_form_variable all v = v.simple && is_plain all v.of
 
--- the kind of a variable
-abbrev pub variable_kind_in : List CType → Option VarDef → IntKind
-variable_kind_in all None = int.I32
-variable_kind_in all (Some v) = plain_kind all v.of
-
--- an initialisation gives a variable a value of its own kind
-abbrev pub gives_own_kind : Typed → List VarDef → StmtKind → Bool
-gives_own_kind p vars (stmts.Init x offset a) = kind_number (variable_kind_in p.types (slice_get vars x)) == kind_number (plain_kind p.types (type_of (slice_get p.exprs a)))
-gives_own_kind p vars kind = true
-
-abbrev pub initialises_well : Typed → List VarDef → Stmt → Bool
-initialises_well p vars s = gives_own_kind p vars s.kind
-
-abbrev pub is_form_function : Typed → FunDef → Bool
-is_form_function p f = list_all (is_form_variable p.types) f.vars && list_all (initialises_well p f.vars) p.stmts
+abbrev pub is_form_function : List CType → FunDef → Bool
+is_form_function all f = list_all (is_form_variable all) f.vars
 
 -- one function, `main`, and no globals and no string literals; a weight of at most 100
 abbrev pub is_integer_form : Typed → Bool
 is_integer_form p =
     p.main == 0 && length p.funs == 1 && length p.globals == 0 && length p.literals == 0
-    && list_all (is_form_function p) p.funs && list_all (is_form_expression p) p.exprs && list_all is_form_statement p.stmts && nat_le (weight p) 100
+    && list_all (is_form_function p.types) p.funs && list_all (is_form_expression p) p.exprs && list_all is_form_statement p.stmts && nat_le (weight p) 100

@@ -3,8 +3,7 @@
 ghost use Rattle.std.specs.Prelude.{◌≡◌, slice_get};
 ghost use Rattle.std.specs.List.{list_all};
 ghost use Rattle.cheri_c_sem.specs.Expressions.{type_of};
-ghost use Rattle.cheric_build.specs.Form.{is_int, is_plain, is_void_type, is_form_kind, is_converted, is_form_expression, is_form_statement, is_form_variable, is_form_function, is_integer_form, kind_of_int, plain_kind, variable_kind_in, initialises_well};
-ghost use Rattle.cheri_c_sem.specs.Compatible.{kind_number};
+ghost use Rattle.cheric_build.specs.Form.{is_int, is_plain, is_void_type, is_form_kind, is_converted, is_form_expression, is_form_statement, is_form_variable, is_form_function, is_integer_form, kind_of_int, plain_kind};
 
 use c_tree::{CType, Expr, ExprKind, FunDef, Stmt, StmtKind, Typed, VarDef, weight};
 use ck_int::IntKind;
@@ -161,70 +160,17 @@ pub fn plain_kind(types: &[CType], t: u32) -> IntKind
     }
 }
 
-// The number of a kind.
-fn number(k: IntKind) -> u8
-    ensures { result ≡ kind_number k }
+fn is_form_function(types: &[CType], f: &FunDef) -> bool
+    ensures { result ≡ is_form_function types.now f.now }
 {
-    match k {
-        IntKind::Bool => 0,
-        IntKind::I8 => 1,
-        IntKind::U8 => 2,
-        IntKind::I16 => 3,
-        IntKind::U16 => 4,
-        IntKind::I32 => 5,
-        IntKind::U32 => 6,
-        IntKind::I64 => 7,
-        IntKind::U64 => 8,
-    }
+    are_form_variables(types, f.vars.as_slice())
 }
 
-// The kind of variable `x`.
-fn variable_kind(types: &[CType], vars: &[VarDef], x: u32) -> IntKind
-    ensures { result ≡ variable_kind_in types.now (slice_get vars.now x) }
-{
-    match vars.get(x as usize) {
-        Some(v) => plain_kind(types, v.of),
-        None => IntKind::I32,
-    }
-}
-
-// Whether a statement is no initialisation of a variable by a value of another kind.
-fn initialises_well(p: &Typed, vars: &[VarDef], s: &Stmt) -> bool
-    ensures { result ≡ initialises_well p.now vars.now s.now }
-{
-    let types = p.types.as_slice();
-    match &s.kind {
-        StmtKind::Init { var, value, .. } => {
-            number(variable_kind(types, vars, *var))
-                == number(plain_kind(types, type_of(p, *value)))
-        }
-        _ => true,
-    }
-}
-
-fn initialise_well(p: &Typed, vars: &[VarDef], stmts: &[Stmt]) -> bool
-    ensures { result ≡ list_all (initialises_well p.now vars.now) stmts.now }
-{
-    for s in stmts {
-        if !initialises_well(p, vars, s) {
-            return false;
-        }
-    }
-    true
-}
-
-fn is_form_function(p: &Typed, f: &FunDef) -> bool
-    ensures { result ≡ is_form_function p.now f.now }
-{
-    let vars = f.vars.as_slice();
-    are_form_variables(p.types.as_slice(), vars) && initialise_well(p, vars, p.stmts.as_slice())
-}
-
-fn are_form_functions(p: &Typed, funs: &[FunDef]) -> bool
-    ensures { result ≡ list_all (is_form_function p.now) funs.now }
+fn are_form_functions(types: &[CType], funs: &[FunDef]) -> bool
+    ensures { result ≡ list_all (is_form_function types.now) funs.now }
 {
     for f in funs {
-        if !is_form_function(p, f) {
+        if !is_form_function(types, f) {
             return false;
         }
     }
@@ -244,7 +190,7 @@ pub fn is_integer_form(p: &Typed) -> bool
         && p.funs.as_slice().len() == 1
         && p.globals.as_slice().len() == 0
         && p.literals.as_slice().len() == 0
-        && are_form_functions(p, p.funs.as_slice())
+        && are_form_functions(p.types.as_slice(), p.funs.as_slice())
         && are_form_expressions(p, p.exprs.as_slice())
         && are_form_statements(p.stmts.as_slice())
         && weight(p) <= GREATEST_WEIGHT

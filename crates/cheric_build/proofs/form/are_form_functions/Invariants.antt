@@ -4,4 +4,4 @@ use Rattle.cheric_build.specs.Form.{is_form_function}
 use Rattle.cheric_build.proofs.form.are_form_functions.Given as goal
 
 abbrev pub invariant-loop-f : goal.invariant-loop-f
-invariant-loop-f l = list_all (is_form_function l.p) (take l.f-index l.funs) ≡ true
+invariant-loop-f l = list_all (is_form_function l.types) (take l.f-index l.funs) ≡ true
