@@ -14,7 +14,7 @@ use Rattle.c_tree.specs.Declarations.{is_open}
 use Rattle.c_tree.specs.Libraries.{Service, services}
 use Rattle.c_tree.specs.TreeLayout.{tree_extent}
 use Rattle.c_tree.specs.Programs.{tag_of}
-use Rattle.c_tree.specs.WellTyped.{holds, IsInt, IsCap, OperandsFit, Decays, UnaryFits, ArgumentsFit, AllAskedFit, list_of, ConstantFits}
+use Rattle.c_tree.specs.WellTyped.{holds, IsInt, IsCap, OperandsFit, ArePromoted, Decays, UnaryFits, ArgumentsFit, AllAskedFit, list_of, ConstantFits}
 use Rattle.c_facts.proofs.Agreeing.{refines}
 
 -- what is asked where the truth value says so
@@ -117,8 +117,8 @@ ShapeOk m s tree.Address (with_term a no_terms) t = (holds (is_place a) ⊎ hold
 ShapeOk m s tree.Convert (with_term a no_terms) t = holds (is_void t) ⊎ (holds (is_scalar t) × holds (is_scalar (type_of a)))
 ShapeOk m s (tree.Unary o) (with_term a no_terms) t = UnaryFits o (type_of a) t
 ShapeOk m s (tree.Step adds in_front) (with_term a no_terms) t = holds (is_modifiable a) × (t ≡ bare (type_of a)) × (holds (is_integer t) ⊎ PointsTo s.tags t)
-ShapeOk m s (tree.Arithmetic o) (with_term a (with_term b no_terms)) t = IsInt t × OperandsFit o (type_of a) (type_of b) t
-ShapeOk m s (tree.Capability o r) (with_term a (with_term b no_terms)) t = IsCap t × OperandsFit o (type_of a) (type_of b) t
+ShapeOk m s (tree.Arithmetic o) (with_term a (with_term b no_terms)) t = IsInt t × OperandsFit o (type_of a) (type_of b) t × ArePromoted (type_of a) (type_of b)
+ShapeOk m s (tree.Capability o r) (with_term a (with_term b no_terms)) t = IsCap t × OperandsFit o (type_of a) (type_of b) t × ArePromoted (type_of a) (type_of b)
 ShapeOk m s (tree.Plus minus) (with_term a (with_term b no_terms)) t = SumOk s.tags minus (type_of a) (type_of b) t
 ShapeOk m s tree.Difference (with_term a (with_term b no_terms)) t = PointsTo s.tags (type_of a) × PointsTo s.tags (type_of b) × (t ≡ long)
 ShapeOk m s (tree.Compare o) (with_term a (with_term b no_terms)) t = (t ≡ int) × ComparesOk (type_of a) (type_of b)

@@ -18,12 +18,12 @@ use Rattle.c_tree.specs.Scopes.{TagState, State, Doing, is_complete, need, some_
 use Rattle.c_tree.specs.Conversions.{Operand, operand_type, designates, converted_term, assigned}
 use Rattle.c_tree.specs.Constants.{is_null_constant, is_zero, constant_of, is_constant, value_of, is_pointer_to_void}
 use Rattle.c_tree.specs.Expressions.{gives, integer_join, arithmetic, shift_join, shift, unary_on, is_counted, moves, promoted_term, sum_of, sum, differ, difference_of, difference, int_join, is_void_pointer, both_agree, compared, logical, condition, infix_join, with_const_of, pointer_arms, arms_type, conditional, is_modifiable, assign, is_additive, is_shift, computed_in, right_of, compounds, compound, increments, points_to_function, stepped}
-use Rattle.c_tree.specs.WellTyped.{holds, OperandsFit, UnaryFits}
+use Rattle.c_tree.specs.WellTyped.{holds, OperandsFit, ArePromoted, UnaryFits}
 use Rattle.c_facts.proofs.Agreeing.{same_is, agree_self}
 use Rattle.c_facts.proofs.Facts.{Complete, TypeOk, IsValue, scalar, nothing, PointsTo, ComparesOk, OperandOk, ValueOk, Inv, Kept}
 use Rattle.c_facts.proofs.Growing.{grows_self, grows_on, operand_kept}
 use Rattle.c_facts.proofs.Steps.{given, needed, found, refused, first_then, needed_in, either}
-use Rattle.c_facts.proofs.Scalars.{implied, branched, void_is, integer_scalar, pointer_scalar, integer_ok, integer_value, promoted_integer, promoted_self, common_integer, bare_ok, qualified_ok, bare_elements_ok, composite_ok, value_bare}
+use Rattle.c_facts.proofs.Scalars.{implied, branched, void_is, integer_scalar, pointer_scalar, integer_ok, integer_value, promoted_integer, promoted_self, common_integer, common_is_promoted, bare_ok, qualified_ok, bare_elements_ok, composite_ok, value_bare}
 use Rattle.c_facts.proofs.Numbers.{sized_is}
 use Rattle.c_facts.proofs.Converted.{Operands, IsConverted, gave, made, to_scalar, to_integer, to_same, to_promoted, assigned_ok}
 
@@ -162,15 +162,18 @@ module _ (m : Bool) (s : State) (i : Inv m s) where
 
   -- ---- integers
 
-  integer_join_ok : (o : IntOp) (a b : Term) (t : Ty) (p : Pos) → ValueOk m s a → ValueOk m s b → is_integer t ≡ true → OperandsFit o (type_of a) (type_of b) t → OperandOk m s (integer_join o a b t p)
-  integer_join_ok o a b (Int k n) p h j e f = made m s _ refl (record { fits = ((h.fits, (j.fits, tt)), ((k, n, refl), f)); type = tt; value = scalar refl })
-  integer_join_ok o a b (Cap c) p h j e f = made m s _ refl (record { fits = ((h.fits, (j.fits, tt)), ((c, refl), f)); type = tt; value = scalar refl })
-  integer_join_ok o a b t p h j e f = absurd (false≢true e)
+  integer_join_ok : (o : IntOp) (a b : Term) (t : Ty) (p : Pos) → ValueOk m s a → ValueOk m s b → is_integer t ≡ true → OperandsFit o (type_of a) (type_of b) t → ArePromoted (type_of a) (type_of b) → OperandOk m s (integer_join o a b t p)
+  integer_join_ok o a b (Int k n) p h j e f g = made m s _ refl (record { fits = ((h.fits, (j.fits, tt)), ((k, n, refl), f, g)); type = tt; value = scalar refl })
+  integer_join_ok o a b (Cap c) p h j e f g = made m s _ refl (record { fits = ((h.fits, (j.fits, tt)), ((c, refl), f, g)); type = tt; value = scalar refl })
+  integer_join_ok o a b t p h j e f g = absurd (false≢true e)
 
-  shift_join_ok : (o : IntOp) (a b : Term) (t : Ty) (p : Pos) → ValueOk m s a → ValueOk m s b → is_integer t ≡ true → OperandsFit o (type_of a) (type_of b) t → OperandOk m s (shift_join o a b t p)
-  shift_join_ok o a b (Int k n) p h j e f = made m s _ refl (record { fits = ((h.fits, (j.fits, tt)), ((k, n, refl), f)); type = tt; value = scalar refl })
-  shift_join_ok o a b (Cap c) p h j e f = made m s _ refl (record { fits = ((h.fits, (j.fits, tt)), ((c, refl), f)); type = tt; value = scalar refl })
-  shift_join_ok o a b t p h j e f = absurd (false≢true e)
+  shift_join_ok : (o : IntOp) (a b : Term) (t : Ty) (p : Pos) → ValueOk m s a → ValueOk m s b → is_integer t ≡ true → OperandsFit o (type_of a) (type_of b) t → ArePromoted (type_of a) (type_of b) → OperandOk m s (shift_join o a b t p)
+  shift_join_ok o a b (Int k n) p h j e f g = made m s _ refl (record { fits = ((h.fits, (j.fits, tt)), ((k, n, refl), f, g)); type = tt; value = scalar refl })
+  shift_join_ok o a b (Cap c) p h j e f g = made m s _ refl (record { fits = ((h.fits, (j.fits, tt)), ((c, refl), f, g)); type = tt; value = scalar refl })
+  shift_join_ok o a b t p h j e f g = absurd (false≢true e)
+
+  promoted_to : (t u : Ty) → promoted u ≡ u → t ≡ u → promoted t ≡ t
+  promoted_to t u p e = ap promoted e ∙ p ∙ sym e
 
   arithmetic_ok : (o : IntOp) (a b : Operand) (p : Pos) → ValueOk m s a.is → ValueOk m s b.is → (x : Operand × State) → arithmetic o a b p s ≡ Ok x → Operands m s x
   arithmetic_ok o a b p h j x e =
@@ -180,7 +183,8 @@ module _ (m : Bool) (s : State) (i : Inv m s) where
       let k = common_integer (operand_type a) (operand_type b) q.0 q.1 in
       let c = to_integer m s t a.is h k q.0 in
       let d = to_integer m s t b.is j k q.1 in
-      gave m s i _ a.first (integer_join_ok o _ _ t p c.0 d.0 k (c.1, ap is_integer d.1 ∙ k, inl d.1)) x n.1
+      let l = common_is_promoted (operand_type a) (operand_type b) q.0 q.1 in
+      gave m s i _ a.first (integer_join_ok o _ _ t p c.0 d.0 k (c.1, ap is_integer d.1 ∙ k, inl d.1) (promoted_to _ t l c.1, promoted_to _ t l d.1)) x n.1
 
   shift_ok : (o : IntOp) → is_shift o ≡ true → (a b : Operand) (p : Pos) → ValueOk m s a.is → ValueOk m s b.is → (x : Operand × State) → shift o a b p s ≡ Ok x → Operands m s x
   shift_ok o z a b p h j x e =
@@ -192,7 +196,7 @@ module _ (m : Bool) (s : State) (i : Inv m s) where
       let l = promoted_integer (operand_type b) q.1 in
       let c = to_integer m s t a.is h k q.0 in
       let d = to_integer m s u b.is j l q.1 in
-      gave m s i _ a.first (shift_join_ok o _ _ t p c.0 d.0 k (c.1, ap is_integer d.1 ∙ l, inr z)) x n.1
+      gave m s i _ a.first (shift_join_ok o _ _ t p c.0 d.0 k (c.1, ap is_integer d.1 ∙ l, inr z) (promoted_to _ t (promoted_self (operand_type a)) c.1, promoted_to _ u (promoted_self (operand_type b)) d.1)) x n.1
 
   plain_unary : (o : UnaryOp) (a : Operand) (p : Pos) → ((t : Ty) → is_integer t ≡ true → promoted t ≡ t → (y : Ty) → y ≡ t → UnaryFits o y t) → ValueOk m s a.is → (x : Operand × State) →
       (need (is_integer (operand_type a)) 133 p >> gives (step (Unary o) (converted_term (promoted (operand_type a)) a.is) (promoted (operand_type a)) p) p) s ≡ Ok x → Operands m s x

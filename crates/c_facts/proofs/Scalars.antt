@@ -91,6 +91,44 @@ pub common_integer : (s t : Ty) → is_integer s ≡ true → is_integer t ≡ t
 unfolding common
 common_integer s t p q = promoted_common (promoted s) (promoted t) (promoted_integer s p) (promoted_integer t q)
 
+-- what a promotion leaves as it is
+abbrev IsP : Ty → Type 0
+IsP t = promoted t ≡ t
+
+promoted_unsigned : (t : Ty) → IsI t → IsP t → IsP (without_sign t)
+promoted_unsigned (Int kind.Bool n) e p = p
+promoted_unsigned (Int kind.I8 n) e p = p
+promoted_unsigned (Int kind.U8 n) e p = p
+promoted_unsigned (Int kind.I16 n) e p = p
+promoted_unsigned (Int kind.U16 n) e p = p
+promoted_unsigned (Int kind.I32 n) e p = refl
+promoted_unsigned (Int kind.U32 n) e p = p
+promoted_unsigned (Int kind.I64 n) e p = high_rank (4 + n) (Int kind.U64 n) (omega arith)
+  where
+    high_rank : (r : ℕ) (t : Ty) → 3 ≤ r → (if nat_lt r 3 then int else t) ≡ t
+    high_rank r t l = ap (λ b. if b then int else t) (Rattle.std.proofs.lemmas.Bool.le-ltb r 3 l)
+promoted_unsigned (Int kind.U64 n) e p = p
+promoted_unsigned (Cap s) e p = refl
+promoted_unsigned t e p = absurd (false≢true e)
+
+mixed_promoted : (s u : Ty) → IsI s → IsP s → IsP u → IsP (common_mixed s u)
+mixed_promoted s u e p q =
+    branched IsP (nat_le (rank s) (rank u)) u (if nat_lt (width u) (width s) then s else without_sign s) (λ _. q)
+    (λ _. branched IsP (nat_lt (width u) (width s)) s (without_sign s) (λ _. p) (λ _. promoted_unsigned s e p))
+
+both_promoted : (s t : Ty) → IsI s → IsI t → IsP s → IsP t → IsP (common_promoted s t)
+both_promoted s t e f p q =
+    let by_rank = (if nat_lt (rank s) (rank t) then t else s) in
+    let by_sign = (if has_sign s then common_mixed s t else common_mixed t s) in
+    branched IsP (same s t) s (if same_truth (has_sign s) (has_sign t) then by_rank else by_sign) (λ _. p)
+    (λ _. branched IsP (same_truth (has_sign s) (has_sign t)) by_rank by_sign
+    (λ _. branched IsP (nat_lt (rank s) (rank t)) t s (λ _. q) (λ _. p))
+    (λ _. branched IsP (has_sign s) (common_mixed s t) (common_mixed t s) (λ _. mixed_promoted s t e p q) (λ _. mixed_promoted t s f q p)))
+
+pub common_is_promoted : (s t : Ty) → is_integer s ≡ true → is_integer t ≡ true → promoted (common s t) ≡ common s t
+unfolding common
+common_is_promoted s t p q = both_promoted (promoted s) (promoted t) (promoted_integer s p) (promoted_integer t q) (promoted_self s) (promoted_self t)
+
 -- ---- qualifiers
 
 pub bare_ok : (ts : List TagState) (t : Ty) → TypeOk ts t → TypeOk ts (bare t)

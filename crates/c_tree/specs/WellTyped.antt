@@ -73,6 +73,10 @@ IsCap t = (s : Bool) × (t ≡ Cap s)
 abbrev pub OperandsFit : IntOp → Ty → Ty → Ty → Type 0
 OperandsFit o s u t = (s ≡ t) × holds (is_integer u) × ((u ≡ t) ⊎ holds (is_shift o))
 
+-- the integer promotions leave the operands of an operation as they are (6.3.1.1p2)
+abbrev pub ArePromoted : Ty → Ty → Type 0
+ArePromoted s u = (promoted s ≡ s) × (promoted u ≡ u)
+
 abbrev pub Decays : Ty → Ty → Type 0
 Decays s t = ((e : Ty) × (n : ℕ) × (s ≡ Array e n) × (t ≡ Pointer e)) ⊎ (holds (is_function s) × (t ≡ Pointer s))
 
@@ -130,8 +134,8 @@ ShapeFits f tree.Convert (with_term a no_terms) t = holds (is_void t) ⊎ (holds
 ShapeFits f (tree.Unary o) (with_term a no_terms) t = UnaryFits o (type_of a) t
 ShapeFits f (tree.Step adds in_front) (with_term a no_terms) t =
     holds (is_modifiable a) × (t ≡ bare (type_of a)) × (holds (is_integer t) ⊎ PointsToComplete f.program t)
-ShapeFits f (tree.Arithmetic o) (with_term a (with_term b no_terms)) t = IsInt t × OperandsFit o (type_of a) (type_of b) t
-ShapeFits f (tree.Capability o r) (with_term a (with_term b no_terms)) t = IsCap t × OperandsFit o (type_of a) (type_of b) t
+ShapeFits f (tree.Arithmetic o) (with_term a (with_term b no_terms)) t = IsInt t × OperandsFit o (type_of a) (type_of b) t × ArePromoted (type_of a) (type_of b)
+ShapeFits f (tree.Capability o r) (with_term a (with_term b no_terms)) t = IsCap t × OperandsFit o (type_of a) (type_of b) t × ArePromoted (type_of a) (type_of b)
 ShapeFits f (tree.Plus minus) (with_term a (with_term b no_terms)) t = SumFits f.program minus (type_of a) (type_of b) t
 ShapeFits f tree.Difference (with_term a (with_term b no_terms)) t = PointsToComplete f.program (type_of a) × PointsToComplete f.program (type_of b) × (t ≡ long)
 ShapeFits f (tree.Compare o) (with_term a (with_term b no_terms)) t =
