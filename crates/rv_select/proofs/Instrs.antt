@@ -30,7 +30,7 @@ use Rattle.cheri_c_sem.specs.Types.{is_shift}
 use Rattle.tac_ir.specs.Costs.{cost}
 use Rattle.tac_ir.specs.Effects.{temp_in, kind_at, no_position, set}
 use Rattle.tac_ir.specs.Temps.{IsIn, reads}
-use Rattle.tac_ir.specs.WellFormed.{instruction_fits, has, is_temp, has_int}
+use Rattle.tac_ir.specs.WellFormed.{instruction_fits, constant_fits, has, is_temp, has_int}
 use Rattle.tac_ir.specs.declared.code.TacInstr.{TacInstr}
 use Rattle.tac_ir.specs.declared.code.TacInstr.TheVariants as instr
 use Rattle.tac_ir.specs.declared.code.TacKind.TheVariants as kind
@@ -114,7 +114,7 @@ module _ (g : Plan) (laid : Laid g) (map : Map) (p : Typed) (d : FunDef) (report
 
     pub do_const : (k : IntKind) (to v : ℕ) → FitsAt (instr.Const to (kind.Int k) v) → HasCode (instr.Const to (kind.Int k) v) → IsFine (instr.Const to (kind.Int k) v) → IsKept k v → Did (instr.Const to (kind.Int k) v)
     do_const k to v fits code fine kept =
-        let there = has_plain p d g.kinds whole to k fine in
+        let there = has_plain p d g.kinds whole to k (and_parts _ (constant_fits (kind.Int k) v) fine).0 in
         let m = numbered g laid s t.done t.frame s.state.mem fits.sound.text 0 at v (integer s.state) (begins g laid _ t s fits at pc) (IsKept-below k v kept) (has_front g.code at (number_code v) _ code) in
         let last = has_back g.code at (number_words v) (number_code v) _ (number_length v) code in
         record {

@@ -5,4 +5,5 @@ mod Loops
 mod Matches
 mod Objects
 mod Rows
+mod Padding
 mod Whole

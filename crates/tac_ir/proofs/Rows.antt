@@ -86,7 +86,7 @@ unfolding fate start operations program_tree stmt_tree expr_tree bare_within
 greets_runs = refl
 
 greets_fits : is_well_formed greets alone ≡ true
-unfolding is_well_formed bare_within
+unfolding is_well_formed bare_within wrapped reduced kept_of
 greets_fits = refl
 
 -- for(i=0;i<3;i=i+1)putchar(65+i); a branch ahead, and a turn before the jump back
@@ -104,12 +104,12 @@ unfolding fate start operations program_tree stmt_tree expr_tree bare_within bin
 counts_turns = refl
 
 counts_fits : is_well_formed counts alone ≡ true
-unfolding is_well_formed bare_within
+unfolding is_well_formed bare_within wrapped reduced kept_of
 counts_fits = refl
 
 -- without its turn it is not well formed
 no_turn : is_well_formed (main_code 1 (i32 ∷ []) (instr.Label 0 ∷ instr.Jump 0 ∷ [])) alone ≡ false
-unfolding is_well_formed bare_within
+unfolding is_well_formed bare_within wrapped reduced kept_of
 no_turn = refl
 
 -- int f(int n){putchar(46);return f(n);}int main(void){return f(0);}
@@ -135,7 +135,7 @@ unfolding fate start operations program_tree stmt_tree expr_tree bare_within
 deep_turns = refl
 
 deep_fits : is_well_formed deep two ≡ true
-unfolding is_well_formed bare_within
+unfolding is_well_formed bare_within wrapped reduced kept_of
 deep_fits = refl
 
 -- int a[2];a[1]=7;return a[1]+a[2]; the third element is outside
@@ -153,5 +153,5 @@ unfolding fate start operations program_tree stmt_tree expr_tree bare_within ext
 array_runs = refl
 
 array_fits : is_well_formed array with_array ≡ true
-unfolding is_well_formed bare_within extent_within
+unfolding is_well_formed bare_within extent_within wrapped reduced kept_of
 array_fits = refl

@@ -1,5 +1,6 @@
 -- Which three-address code is well formed for a program.
-use Rattle.std.specs.Prelude.{ℕ, ◌==◌, ◌&&◌, ◌||◌, not, nat_lt, nat_le, Bool, true, false, List, [], ◌∷◌, length, map, Option, Some, None, slice_get, if◌then◌else◌}
+use Rattle.std.specs.Prelude.{ℕ, ◌%◌, ◌==◌, ◌&&◌, ◌||◌, pos, not, nat_lt, nat_le, Bool, true, false, List, [], ◌∷◌, length, map, Option, Some, None, slice_get, if◌then◌else◌}
+use Rattle.ck_int.specs.Kinds.{wrapped}
 use Rattle.ck_int.specs.declared.kinds.IntKind.TheVariants as int
 use Rattle.c_tree.specs.Layout.{bare}
 use Rattle.c_tree.specs.declared.typed.CType.{CType}
@@ -24,6 +25,7 @@ use Rattle.tac_ir.specs.declared.code.TacFun.{TacFun}
 use Rattle.tac_ir.specs.declared.code.TacInstr.{TacInstr}
 use Rattle.tac_ir.specs.declared.code.TacInstr.TheVariants as instr
 use Rattle.tac_ir.specs.declared.code.TacKind.{TacKind}
+use Rattle.tac_ir.specs.declared.code.TacKind.TheVariants as kind
 
 -- ---- kinds
 
@@ -49,6 +51,21 @@ int_result = Plain int.I32
 
 abbrev pub word : Kind
 word = Plain int.U64
+
+-- ---- numbers
+
+-- a constant of an integer kind keeps a number of it; one of a capability's kind is any address, of null
+abbrev pub constant_fits : TacKind → ℕ → Bool
+constant_fits (kind.Int k) v = wrapped k (pos v) == v
+constant_fits (kind.Cap signed) v = true
+
+-- as many bytes as one load or store moves
+abbrev pub is_unit : ℕ → Bool
+is_unit n = n == 1 || n == 2 || n == 4 || n == 8 || n == 16
+
+-- so many bytes are whole units of that length
+abbrev pub units_fit : (bytes unit : ℕ) → Bool
+units_fit bytes unit = is_unit unit && bytes % unit == 0
 
 -- ---- function types
 
@@ -164,9 +181,9 @@ module _ (p : Typed) (d : FunDef) (kinds : List TacKind) (code : List TacInstr) 
   abbrev pub is_local : ℕ → Bool
   is_local v = nat_lt v (length (lengths_of p d.vars))
 
-  -- each temp, label, function, global, literal and local that it names is there, and the kinds agree
+  -- each temp, label, function, global, literal and local that it names is there, the kinds agree, constants are kept and copies are whole units
   abbrev pub instruction_fits : TacInstr → Bool
-  instruction_fits (instr.Const to k v) = has to (kind_of k)
+  instruction_fits (instr.Const to k v) = has to (kind_of k) && constant_fits k v
   instruction_fits (instr.Copy to from) = has to (kind_at kinds from) && is_temp from
   instruction_fits (instr.Int op k to a b) = has to (Plain k) && has a (Plain k) && (if is_shift op then has_int b else has b (Plain k))
   instruction_fits (instr.Cmp op k to a b) = has to int_result && has a (kind_of k) && has b (kind_of k)
@@ -174,18 +191,18 @@ module _ (p : Typed) (d : FunDef) (kinds : List TacKind) (code : List TacInstr) 
   instruction_fits (instr.Cap op to a b) = work_fits op to a b
   instruction_fits (instr.Offset to base by) = has to (kind_at kinds base) && has_capability base && amount_fits by
   instruction_fits (instr.Narrow to base length exact) = has to (kind_at kinds base) && has_capability base && amount_fits length
-  instruction_fits (instr.Load to from k pos) = has to (kind_of k) && has_capability from
-  instruction_fits (instr.Store at v k pos) = has_capability at && has v (kind_of k)
+  instruction_fits (instr.Load to from k place) = has to (kind_of k) && has_capability from
+  instruction_fits (instr.Store at v k place) = has_capability at && has v (kind_of k)
   instruction_fits (instr.Local to var) = has to pointer && is_local var
   instruction_fits (instr.Global to number literal) = has to pointer && nat_lt number (if literal then length p.literals else length p.globals)
   instruction_fits (instr.Function to fun) = has to pointer && nat_lt fun (length p.funs)
   instruction_fits (instr.Zero var) = is_local var
-  instruction_fits (instr.CopyUnits from to bytes unit from_pos to_pos) = has_capability from && has_capability to
+  instruction_fits (instr.CopyUnits from to bytes unit from_pos to_pos) = has_capability from && has_capability to && units_fit bytes unit
   instruction_fits (instr.Label l) = true
   instruction_fits (instr.Jump l) = has_label code l
   instruction_fits (instr.Branch on when l) = is_temp on && has_label code l
   instruction_fits (instr.Call to fun args) = call_fits (signature_of_function p fun) to args
-  instruction_fits (instr.CallValue to v of args pos) = has_capability v && call_fits (signature_of p of) to args
+  instruction_fits (instr.CallValue to v of args place) = has_capability v && call_fits (signature_of p of) to args
   instruction_fits (instr.Lib op to args) = service_fits op to args
   instruction_fits instr.Turn = true
   instruction_fits (instr.Return v) = return_fits (signature_of p d.of) v

@@ -4,7 +4,7 @@ ghost use Rattle.c_tree.specs.Layout.{bare};
 ghost use Rattle.cheri_c_sem.specs.Types.{is_shift, scalar_of};
 ghost use Rattle.tac_ir.specs.Effects.{kind_of, kind_at};
 ghost use Rattle.tac_ir.specs.Bodies.{in_body, all_have_in, CallFits, HasCounted};
-ghost use Rattle.tac_ir.specs.WellFormed.{kind_or_int, is_temp, has, has_int, has_capability, amount_fits, result_fits, second_is, second_is_capability, work_fits, service_fits, return_fits, is_local, instruction_fits, signature_of};
+ghost use Rattle.tac_ir.specs.WellFormed.{kind_or_int, is_temp, has, has_int, has_capability, amount_fits, result_fits, second_is, second_is_capability, work_fits, service_fits, return_fits, is_local, constant_fits, is_unit, units_fit, instruction_fits, signature_of};
 
 use crate::code::{Amount, CapWork, LibOp, TacInstr, TacKind};
 use crate::kinds::{INT, POINTER, TRUTH, WORD, is_capability, is_int, kind_at, same_kind};
@@ -12,7 +12,7 @@ use crate::labels::has_label;
 use crate::signatures::{Signature, kind_of_type, signature_at, signature_of_function};
 use crate::slices::first_and_rest;
 use c_tree::{FunDef, Typed, VarDef};
-use ck_int::IntOp;
+use ck_int::{IntOp, wrap};
 
 /// A function of a program, with the kinds of its temps and its code.
 #[derive(Clone, Copy)]
@@ -29,6 +29,30 @@ fn is_shift(op: IntOp) -> bool
     ensures { result ≡ is_shift op }
 {
     matches!(op, IntOp::Shl | IntOp::Shr)
+}
+
+/// Whether a constant of an integer kind keeps a number of it. One of a capability's kind is an address.
+fn constant_fits(kind: TacKind, value: u64) -> bool
+    ensures { result ≡ constant_fits kind value }
+{
+    match kind {
+        TacKind::Int(k) => wrap(k, i128::from(value)) == value,
+        TacKind::Cap(_) => true,
+    }
+}
+
+/// Whether one load or store moves so many bytes.
+fn is_unit(n: u8) -> bool
+    ensures { result ≡ is_unit n }
+{
+    n == 1 || n == 2 || n == 4 || n == 8 || n == 16
+}
+
+/// Whether so many bytes are whole units.
+fn units_fit(bytes: u64, unit: u8) -> bool
+    ensures { result ≡ units_fit bytes unit }
+{
+    is_unit(unit) && bytes % u64::from(unit) == 0
 }
 
 /// How many of the variables are objects.
@@ -236,13 +260,15 @@ impl<'a> Body<'a> {
         (number as usize) < count
     }
 
-    /// Whether each temp, label, function, global, literal and local that an instruction names is there, and the kinds agree.
+    /// Whether each temp, label, function, global, literal and local that an instruction names is there, the kinds agree, a constant
+    /// keeps a number of its kind, and what is copied is whole units.
     pub fn instruction_fits(&self, i: &TacInstr) -> bool
         requires { HasCounted self.now }
         ensures { result ≡ in_body instruction_fits self.now i.now }
     {
         match i {
-            TacInstr::Const { to, kind, .. } => self.has(*to, *kind),
+            TacInstr::Const { to, kind, value } => self.has(*to, *kind)
+                && constant_fits(*kind, *value),
             TacInstr::Copy { to, from } => self.has_kind_of(*to, *from) && self.is_temp(*from),
             TacInstr::Int { op, kind, to, a, b } => {
                 self.has(*to, TacKind::Int(*kind))
@@ -277,8 +303,15 @@ impl<'a> Body<'a> {
             } => { self.has(*to, POINTER) && self.global_fits(*number, *literal) }
             TacInstr::Function { to, fun } => self.has(*to, POINTER) && self.is_function(*fun),
             TacInstr::Zero { var } => self.is_local(*var),
-            TacInstr::CopyUnits { from, to, .. } => self.has_capability(*from)
-                && self.has_capability(*to),
+            TacInstr::CopyUnits {
+                from,
+                to,
+                bytes,
+                unit,
+                ..
+            } => {
+                self.has_capability(*from) && self.has_capability(*to) && units_fit(*bytes, *unit)
+            }
             TacInstr::Label(_) | TacInstr::Turn => true,
             TacInstr::Jump(label) => has_label(self.code, *label),
             TacInstr::Branch { on, label, .. } => self.is_temp(*on) && has_label(self.code, *label),
