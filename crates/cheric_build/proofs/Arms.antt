@@ -76,7 +76,7 @@ module _ (a b c : Emitter) (j : IntKind) (e : Ex) (x : ℕ) (h : Computed a b j 
             (one_more (λ r y. instr.Lib lib.PutChar (Some r) (y ∷ [])) int.I32 t g);
       }
 
-  discard_code : (of : IntKind) (t : ℕ) → j ≡ int.I32 → Ends b c (instr.Const t (kind.Int int.I32) 0) int.I32 t → Computed a c of (Discard e) t
+  discard_code : (of : IntKind) (t : ℕ) → j ≡ int.U64 → Ends b c (instr.Const t (kind.Int int.I32) 0) int.I32 t → Computed a c of (Discard e) t
   discard_code of t is g =
       record {
         temp = g.temp ∙ next_of a b j e x h;
@@ -246,8 +246,8 @@ module _ (p : Typed) (ordered : Ordered p) (form : list_all (is_form_expression 
         by_tree a b of k _ r (load_tree p ordered form d.vars k c e h)
         (load_code a b of (plain_kind p.types e.of) (t c) r (subst (λ z. Ends a b (instr.Copy r (variable_in (t c))) z r) ej (subst (λ z. Ends a b (instr.Copy r z) j r) ex g)))
 
-    pub discard_arm : (a b c : Emitter) (of : IntKind) (o x r : ℕ) → IsAt k e (exprs.Convert o) → is_void_type (slice_get p.types e.of) ≡ true → Computed a b int.I32 (t o) x → Ends b c (instr.Const r (kind.Int int.I32) 0) int.I32 r → Computed a c of (t k) r
-    discard_arm a b c of o x r h v m g = by_tree a c of k _ r (discard_tree p ordered form d.vars k o e h v) (discard_code a b c int.I32 (t o) x m of r refl g)
+    pub discard_arm : (a b c : Emitter) (of : IntKind) (o x r : ℕ) → IsAt k e (exprs.Convert o) → is_void_type (slice_get p.types e.of) ≡ true → Computed a b int.U64 (t o) x → Ends b c (instr.Const r (kind.Int int.I32) 0) int.I32 r → Computed a c of (t k) r
+    discard_arm a b c of o x r h v m g = by_tree a c of k _ r (discard_tree p ordered form d.vars k o e h v) (discard_code a b c int.U64 (t o) x m of r refl g)
 
     pub convert_arm : (a b c : Emitter) (of i j : IntKind) (o x r : ℕ) → IsAt k e (exprs.Convert o) → is_void_type (slice_get p.types e.of) ≡ false → i ≡ kind_of_operand o → j ≡ plain_kind p.types e.of
         → Computed a b i (t o) x → Ends b c (instr.Convert r x (kind.Int i) (kind.Int j)) j r → Computed a c of (t k) r

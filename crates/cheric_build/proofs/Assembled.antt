@@ -1,9 +1,13 @@
 -- The code of a program of the form: it is well formed, within the program, and means the same.
-use Rattle.std.proofs.Common.{◌≡◌, ℕ, zero, suc, ◌+◌, ◌*◌, ◌≤◌, true, List, [], ◌∷◌, ◌++◌, length, Some, None, sym, ap, subst, arith, length-append}
+use Rattle.std.proofs.Common.{◌≡◌, ℕ, zero, suc, ◌+◌, ◌*◌, ◌≤◌, true, List, [], ◌∷◌, ◌++◌, length, Some, None, refl, sym, ap, ◌∙◌, subst, arith, length-append}
 use Rattle.std.specs.Prelude.{slice_get, sum_by, ◌==◌}
 use Rattle.std.proofs.lemmas.List.Sums.{sum_by-cons}
+use Rattle.std.proofs.lemmas.Bool.{leb-true}
 use Rattle.ck_base.specs.World.{World}
 use Rattle.c_tree.specs.TreeWeight.{function_weight}
+use Rattle.c_tree.specs.Views.{IsOrdered}
+use Rattle.c_tree.specs.Weight.{weight}
+use Rattle.c_tree.proofs.Weighed.{weight_of_functions}
 use Rattle.c_tree.specs.declared.typed.FunDef.{FunDef}
 use Rattle.c_tree.specs.declared.typed.Typed.{Typed}
 use Rattle.obj_mem.specs.Needs.{weight_in, weight_by}
@@ -19,6 +23,7 @@ use Rattle.tac_ir.specs.declared.code.Tac.{Tac}
 use Rattle.tac_ir.specs.declared.code.TacFun.{TacFun}
 use Rattle.tac_ir.specs.declared.code.TacKind.{TacKind}
 use Rattle.tac_ir.specs.declared.code.TacKind.TheVariants as kind
+use Rattle.rv_select.specs.Form.{IsIntegerFun, IsIntegerCode}
 use Rattle.ck_int.specs.declared.kinds.IntKind.TheVariants as int
 use Rattle.std.specs.List.{list_all}
 use Rattle.cheric_build.specs.Form.{is_integer_form, is_form_expression, is_form_statement}
@@ -27,8 +32,9 @@ use Rattle.cheric_build.specs.Compiled.{main_code, main_piece, main_temps, varia
 use Rattle.cheric_build.specs.Sizes.{IsTyped, statement_size}
 use Rattle.cheric_build.proofs.Sizes.{code_cost, statement_cost, first_cost, statement_room}
 use Rattle.cheric_build.proofs.StatementLaws.{statement_count}
-use Rattle.cheric_build.proofs.Whole.{lowered, length_map}
-use Rattle.cheric_build.proofs.Fitting.{formed}
+use Rattle.cheric_build.proofs.Whole.{lowered, length_map, plain_zeros_from, plain_statement}
+use Rattle.cheric_build.proofs.Fitting.{formed, main_pieces}
+use Rattle.cheric_build.proofs.Selectable.{is_integer_fun}
 use Rattle.cheric_build.proofs.Written.{writes_first, zeroes_first, quiet_main, quiet_zeroes, quiet_copies}
 
 module _ (p : Typed) (d : FunDef) (typed : IsTyped p d) where
@@ -72,12 +78,21 @@ module _ (p : Typed) (d : FunDef) (typed : IsTyped p d) where
       by (suc k) f h = absurd cc
 
   pub well_formed : is_well_formed code_of_p p ≡ true
-  well_formed = formed p d typed.no_params typed.gives_int typed.fits typed.only
+  well_formed = formed p d typed.no_params typed.gives_int typed.fits typed.steady typed.only
 
   pub same_meaning : (m : Map) (w : World) (n : ℕ) → tac code_of_p p m w n ≡ placed p m w n
   same_meaning m w n = lowered p d typed.main typed.only typed.fits m w n
 
+  -- a light program's code is of the form that machine code is selected for
+  integer_fun : weight p ≤ 100 → weight p ≡ weight_in p 0 → IsIntegerFun (main_code p d)
+  integer_fun light same =
+      is_integer_fun p d (main_pieces p d typed.no_params typed.gives_int typed.fits typed.steady) (plain_zeros_from p 0 d.vars, (plain_statement ks body (length ks) typed.fits, (refl, refl)))
+      (subst (λ n. FunctionWithin n (main_code p d)) (sym same) function_within) light
+
   -- of any record that has this code
+  pub lowered_selectable : weight p ≤ 100 → weight p ≡ weight_in p 0 → (t : Tac) → t.funs ≡ main_code p d ∷ [] → IsIntegerCode t
+  lowered_selectable light same t e = (main_code p d, e, integer_fun light same)
+
   pub lowered_formed : (t : Tac) → t.funs ≡ main_code p d ∷ [] → is_well_formed t p ≡ true
   lowered_formed t e = subst (λ fs. is_well_formed (record { funs = fs }) p ≡ true) (sym e) well_formed
 
@@ -87,7 +102,16 @@ module _ (p : Typed) (d : FunDef) (typed : IsTyped p d) where
   pub lowered_same : (t : Tac) → t.funs ≡ main_code p d ∷ [] → (m : Map) (w : World) (n : ℕ) → tac t p m w n ≡ placed p m w n
   lowered_same t e m w n = subst (λ fs. tac (record { funs = fs }) p m w n ≡ placed p m w n) (sym e) (same_meaning m w n)
 
+-- the weight of a program of one function
+pub weight_of_one : (p : Typed) (d : FunDef) → IsOrdered p → p.funs ≡ d ∷ [] → weight p ≡ weight_in p 0
+weight_of_one p d o only =
+    weight_of_functions p o ∙ ap (sum_by (function_weight p)) only ∙ sum_by-cons (function_weight p) d [] ∙ (let q : function_weight p d + 0 ≡ function_weight p d = omega arith in q)
+    ∙ sym (ap (λ ds. weight_by p (slice_get ds 0)) only)
+
 -- the parts of the form
+pub form_light : (p : Typed) → is_integer_form p ≡ true → weight p ≤ 100
+form_light p h = leb-true (weight p) 100 (and_both _ _ h).1
+
 pub form_expressions : (p : Typed) → is_integer_form p ≡ true → list_all (is_form_expression p) p.exprs ≡ true
 form_expressions p h = (and_both _ _ (and_both _ _ (and_both _ _ h).0).0).1
 

@@ -49,7 +49,7 @@ module _ (ks : List TacKind) where
   next_behind : (a b : Emitter) (c : St) → Made a b c → next_temp b ≡ next_temp a + statement_used ks c
   next_behind a b c h = ap length h.kinds ∙ length-append a.kinds.items (statement_temps ks c) ∙ (let q = statement_count ks c in omega arith)
 
-  do_code : (a b : Emitter) (e : Ex) (x : ℕ) → Computed a b int.I32 e x → Made a b (Do e)
+  do_code : (a b : Emitter) (e : Ex) (x : ℕ) → Computed a b int.U64 e x → Made a b (Do e)
   do_code a b e x h = h.emits
 
   give_code : (a b c : Emitter) (j : IntKind) (v : ℕ) (e : Ex) (x : ℕ) → j ≡ kind_of_variable ks v → Computed a b j e x → Emits b c (One (instr.Copy v x)) [] → Made a c (Give v e)
@@ -232,7 +232,7 @@ module _ (p : Typed) (ordered : Ordered p) (form : list_all (is_form_expression 
 
     -- ---- the code of a statement
 
-    pub do_arm : (a b : Emitter) (v x : ℕ) → IsAt k s (stmts.Expr v) → Computed a b int.I32 (e v) x → Makes ks a b (t k)
+    pub do_arm : (a b : Emitter) (v x : ℕ) → IsAt k s (stmts.Expr v) → Computed a b int.U64 (e v) x → Makes ks a b (t k)
     do_arm a b v x h m = by_tree a b k _ (node k s _ h) (do_code ks a b (e v) x m)
 
     pub init_arm : (a b c : Emitter) (j : IntKind) (x offset v from : ℕ) → IsAt k s (stmts.Init x offset v) → j ≡ kind_of_variable ks x → Computed a b j (e v) from → Emits b c (One (instr.Copy x from)) [] → Makes ks a c (t k)

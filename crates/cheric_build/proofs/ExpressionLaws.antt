@@ -10,8 +10,9 @@ use Rattle.ck_int.specs.declared.kinds.IntKind.TheVariants as int
 use Rattle.ck_int.specs.declared.kinds.IntOp.{IntOp}
 use Rattle.ck_int.specs.declared.kinds.IntOp.TheVariants.{Sub, Xor}
 use Rattle.ck_int.specs.declared.kinds.CmpOp.TheVariants as cmp
-use Rattle.ck_int.specs.Arithmetic.{binary_of, compare_of}
-use Rattle.ck_int.specs.Kinds.{converted}
+use Rattle.ck_int.specs.Arithmetic.{binary_of, compare_of, promoted_width_of, result_of}
+use Rattle.ck_int.specs.Kinds.{converted, wrapped}
+use Rattle.ck_int.proofs.Laws.{value_of-wrapped}
 use Rattle.ck_int.specs.Kinds.{value_of as value_of_kind}
 use Rattle.ck_int.specs.declared.kinds.CmpOp.{CmpOp}
 use Rattle.std.specs.Ordering.{int_eq}
@@ -28,7 +29,7 @@ use Rattle.tac_ir.specs.declared.code.TacInstr.TheVariants as instr
 use Rattle.tac_ir.specs.declared.code.TacKind.{TacKind}
 use Rattle.tac_ir.specs.declared.code.TacKind.TheVariants as kind
 use Rattle.cheric_build.specs.Pieces.{Piece, One, Both, Unless}
-use Rattle.cheric_build.specs.Compiled.{whole_kind, count_kind, kind_in, used, result, temps, piece, sign_piece, sign_result, sign_temps, sign_kinds, Fits}
+use Rattle.cheric_build.specs.Compiled.{whole_kind, count_kind, kind_in, used, result, temps, piece, all_ones, sign_piece, sign_result, sign_temps, sign_kinds, Fits}
 use Rattle.cheric_build.proofs.Does.{truth_of, does}
 use Rattle.cheric_build.proofs.Follow.{put_same, get_same}
 use Rattle.cheric_build.proofs.Agreement.{get_set_same, get_set_other, Placed, placed_front, placed_back, Agrees, set_free, set_both, Reached, reach}
@@ -54,7 +55,7 @@ temps_count (Number n) of = refl
 temps_count (Variable p x) of = refl
 temps_count (Load k e) of = refl
 temps_count (Convert p j k plain e) of = omega (arith, temps_count e (int_kind j), length-append (temps (int_kind j) e) (kind.Int (int_kind k) ∷ []))
-temps_count (Discard e) of = omega (arith, temps_count e int.I32, length-append (temps int.I32 e) (kind.Int int.I32 ∷ []))
+temps_count (Discard e) of = omega (arith, temps_count e int.U64, length-append (temps int.U64 e) (kind.Int int.I32 ∷ []))
 temps_count (Unary p sign k e) of = omega (arith, temps_count e (int_kind k), sign_count (int_kind k) sign, length-append (temps (int_kind k) e) (sign_kinds (int_kind k) sign))
 temps_count (Not p k e) of = omega (arith, temps_count e (int_kind k), length-append (temps (int_kind k) e) (kind.Int (int_kind k) ∷ kind.Int int.I32 ∷ []))
 temps_count (Binary p op a b) of = omega (arith, temps_count a (whole_kind op), temps_count b (count_kind op), three (temps (whole_kind op) a) (temps (count_kind op) b) (kind.Int (whole_kind op)))
@@ -90,7 +91,7 @@ module _ (kinds : List TacKind) where
   result_kind vars (Variable p x) of next fits h = h.0
   result_kind vars (Load (Plain k) e) of next fits h = h.0
   result_kind vars (Convert p (Plain i) (Plain j) plain e) of next fits h = (after e i next (kind.Int j ∷ []) h).0
-  result_kind vars (Discard e) of next fits h = (after e int.I32 next (kind.Int int.I32 ∷ []) h).0
+  result_kind vars (Discard e) of next fits h = (after e int.U64 next (kind.Int int.I32 ∷ []) h).0
   result_kind vars (Unary p Positive (Plain k) e) of next fits h = result_kind vars e k next fits.0 (placed_front kinds next (temps k e) [] h) ∙ ap (λ z. Some (kind.Int z)) fits.1
   result_kind vars (Unary p Negative (Plain k) e) of next fits h = (after e k next (kind.Int k ∷ []) h).0
   result_kind vars (Unary p Complement (Plain k) e) of next fits h = (after e k next (kind.Int k ∷ []) h).0
@@ -216,27 +217,33 @@ module _ {M : Type 0} (ops : Operations M) (placed : IsPlaced ops) (w : World) (
         → k v u ≡ j tt (record u { vars = slice_set us r (Some v) })
     last next r s u ts us v k j ag keeps left ge le lt go = go v u (slice_set us r (Some v)) (reach nv size next r s ts v u us ag keeps left ge le lt)
 
-    -- a sign
-    negated : (op : IntOp) (i : IntKind) (n : ℕ) (pos : Pos) (next a r : ℕ) (s u : State M) (ts us : List (Option Value)) (x : Value) (k : Value → State M → Fate) (j : Unit {0} → State M → Fate)
+    -- an operation takes all ones as its kind keeps them
+    ones_same : (i : IntKind) (y : ℕ) → binary_of Xor i (2 ^ 64 - 1) y ≡ binary_of Xor i (all_ones i) y
+    unfolding binary_of value_of_kind
+    ones_same i y = ap (λ x. wrapped i (result_of Xor (promoted_width_of i) x (value_of_kind i y))) (sym (value_of-wrapped i _))
+
+    -- a sign: the constant that stands in a temp may be another number that the operation reduces to the same
+    negated : (op : IntOp) (i : IntKind) (n m : ℕ) → ((y : ℕ) → binary_of op i n y ≡ binary_of op i m y) → (pos : Pos) (next a r : ℕ) (s u : State M) (ts us : List (Option Value)) (x : Value) (k : Value → State M → Fate) (j : Unit {0} → State M → Fate)
         → Reached nv size next a s ts x u us → slice_get kinds a ≡ Some (kind.Int i) → nv ≤ next → next ≤ a → a < r → r < size
         → ((v : Value) (u : State M) (us : List (Option Value)) → Reached nv size next r s ts v u us → k v u ≡ j tt (record u { vars = us }))
-        → answer pos (int_by ops u.mem op i (Plain i) (value.Int n) x) u k ≡ does ops w p kinds (Both (One (instr.Const r (kind.Int i) n)) (One (instr.Int op i r r a))) (record u { vars = us }) j
-    negated op i n pos next a r s u ts us x k j ra a_kind ge le lt room go =
-        let us1 = slice_set us r (Some (value.Int n)) in
-        let ag1 = set_free nv size u.vars us r (Some (value.Int n)) ra.agrees (omega arith) in
+        → answer pos (int_by ops u.mem op i (Plain i) (value.Int n) x) u k ≡ does ops w p kinds (Both (One (instr.Const r (kind.Int i) m)) (One (instr.Int op i r r a))) (record u { vars = us }) j
+    negated op i n m same pos next a r s u ts us x k j ra a_kind ge le lt room go =
+        let us1 = slice_set us r (Some (value.Int m)) in
+        let ag1 = set_free nv size u.vars us r (Some (value.Int m)) ra.agrees (omega arith) in
         let is = ra.agrees.room in
         int_gives pos op i i (value.Int n) x u k
-        ∙ last next r s u ts us1 (value.Int (binary_of op i n (number_of x))) k j ag1
-        (λ b gb lb. get_set_other us r b (Some (value.Int n)) (λ e. absurd (omega arith)) ∙ ra.keeps b gb lb) ra.left ge (omega arith) room go
-        ∙ sym (computes u us1 j op i i r r a (value.Int n) x (get_set_same us r (Some (value.Int n)) (omega arith)) (get_set_other us r a (Some (value.Int n)) (λ e. absurd (omega arith)) ∙ ra.value) a_kind)
+        ∙ ap (λ z. k (value.Int z) u) (same (number_of x))
+        ∙ last next r s u ts us1 (value.Int (binary_of op i m (number_of x))) k j ag1
+        (λ b gb lb. get_set_other us r b (Some (value.Int m)) (λ e. absurd (omega arith)) ∙ ra.keeps b gb lb) ra.left ge (omega arith) room go
+        ∙ sym (computes u us1 j op i i r r a (value.Int m) x (get_set_same us r (Some (value.Int m)) (omega arith)) (get_set_other us r a (Some (value.Int m)) (λ e. absurd (omega arith)) ∙ ra.value) a_kind)
 
     sign_ok : (sign : Sign) (i : IntKind) (pos : Pos) (next a r : ℕ) (s u : State M) (ts us : List (Option Value)) (x : Value) (k : Value → State M → Fate) (j : Unit {0} → State M → Fate)
         → Reached nv size next a s ts x u us → slice_get kinds a ≡ Some (kind.Int i) → nv ≤ next → next ≤ a → a < r → r + sign_temps sign ≤ size
         → ((v : Value) (u : State M) (us : List (Option Value)) → Reached nv size next (sign_result a r sign) s ts v u us → k v u ≡ j tt (record u { vars = us }))
         → answer pos (sign_by ops w sign (Plain i) u.mem x) u k ≡ does ops w p kinds (sign_piece sign i a r) (record u { vars = us }) j
     sign_ok Positive i pos next a r s u ts us x k j ra a_kind ge le lt room go = go x u us ra
-    sign_ok Negative i pos next a r s u ts us x k j ra a_kind ge le lt room go = negated Sub i 0 pos next a r s u ts us x k j ra a_kind ge le lt (omega arith) go
-    sign_ok Complement i pos next a r s u ts us x k j ra a_kind ge le lt room go = negated Xor i (2 ^ 64 - 1) pos next a r s u ts us x k j ra a_kind ge le lt (omega arith) go
+    sign_ok Negative i pos next a r s u ts us x k j ra a_kind ge le lt room go = negated Sub i 0 0 (λ y. refl) pos next a r s u ts us x k j ra a_kind ge le lt (omega arith) go
+    sign_ok Complement i pos next a r s u ts us x k j ra a_kind ge le lt room go = negated Xor i (2 ^ 64 - 1) (all_ones i) (ones_same i) pos next a r s u ts us x k j ra a_kind ge le lt (omega arith) go
 
     -- the second operand of `&&` or `||`, whose truth is the value where the first operand hasn't decided: where its truth is `when`, the value that stands in the temp already
     decided : (when : Bool) (i : IntKind) (next r b : ℕ) (s v : State M) (ts vs : List (Option Value)) (y : Value) (k : Value → State M → Fate) (j : Unit {0} → State M → Fate)
@@ -319,7 +326,7 @@ module _ {M : Type 0} (ops : Operations M) (placed : IsPlaced ops) (w : World) (
         last next r s u ts us (value.Int (converted i l (number_of x))) k j ra.agrees ra.keeps ra.left ge (omega arith) (omega arith) go
         ∙ sym (converts u us j r (result next e) i l x ra.value))
     expr_ok (Discard e) of next fits pl ge le s ts k j ag go =
-        expr_ok e int.I32 next fits (placed_front kinds next (temps int.I32 e) (kind.Int int.I32 ∷ []) pl) ge (omega arith) s ts _ _ ag (λ x u us ra.
+        expr_ok e int.U64 next fits (placed_front kinds next (temps int.U64 e) (kind.Int int.I32 ∷ []) pl) ge (omega arith) s ts _ _ ag (λ x u us ra.
         last next (next + used e) s u ts us (value.Int 0) k j ra.agrees ra.keeps ra.left ge (omega arith) (omega arith) go)
     expr_ok (Unary q sign (Plain i) e) of next fits pl ge le s ts k j ag go =
         let front = placed_front kinds next (temps i e) (sign_kinds i sign) pl in

@@ -11,6 +11,7 @@ use Rattle.tac_ir.specs.WellFormed.{all_of, has_label, is_temp, instruction_fits
 use Rattle.tac_ir.specs.declared.code.TacInstr.{TacInstr}
 use Rattle.tac_ir.specs.declared.code.TacInstr.TheVariants as instr
 use Rattle.tac_ir.specs.declared.code.TacKind.{TacKind}
+use Rattle.rv_select.specs.Form.{IsPlain as IsSelectable}
 use Rattle.cheric_build.specs.Pieces.{Piece, Nothing, One, Both, Unless, Either, Loop, labels, code}
 use Rattle.cheric_build.proofs.Does.{plain, IsPlain}
 use Rattle.cheric_build.proofs.Labels.{no_label}
@@ -164,10 +165,14 @@ module _ (p : Typed) (d : FunDef) (kinds : List TacKind) (whole : List TacInstr)
     turns = and_true (turn_fits true (instr.Jump l) is) (turns_fit false is) (ap (λ b. same_bool true (not b)) later) r.turns;
   }
 
-  -- each instruction of a piece fits, and it branches on temps
+  -- an instruction fits, and it is one that machine code is selected for
+  abbrev pub Right : TacInstr → Type 0
+  Right i = (fit i ≡ true) × IsSelectable kinds i
+
+  -- each instruction of a piece is such, and it branches on temps
   abbrev pub PieceFits : Piece → Type 0
   PieceFits Nothing = Unit {0}
-  PieceFits (One i) = fit i ≡ true
+  PieceFits (One i) = Right i
   PieceFits (Both f g) = PieceFits f × PieceFits g
   PieceFits (Unless on when f) = (is_temp p d kinds whole on ≡ true) × PieceFits f
   PieceFits (Either on f g) = (is_temp p d kinds whole on ≡ true) × PieceFits f × PieceFits g
@@ -181,7 +186,7 @@ module _ (p : Typed) (d : FunDef) (kinds : List TacKind) (whole : List TacInstr)
 
   pub well_code : (f : Piece) (l : ℕ) (rest : List TacInstr) → PieceFits f → IsPlain f → Has l (labels f) → Lacks l (labels f) rest → Well rest → Well (code f l rest)
   well_code Nothing l rest fits is_plain known new r = r
-  well_code (One i) l rest fits is_plain known new r = well_plain i rest is_plain fits r
+  well_code (One i) l rest fits is_plain known new r = well_plain i rest is_plain fits.0 r
   well_code (Both f g) l rest fits is_plain known new r =
       well_code f l (code g (l + labels f) rest) fits.0 is_plain.0 (λ o ge lt. known o ge (omega arith))
       (λ o ge lt. has_apart g (l + labels f) o rest is_plain.1 (λ le. absurd (omega arith)) ∙ new o ge (omega arith))

@@ -5,6 +5,14 @@ pub mod Agreement
 pub mod ExpressionLaws
 pub mod StatementLaws
 pub mod Whole
+pub mod Selectable
+pub mod Texts
+pub mod Filling
+pub mod Extents
+pub mod Standing
+pub mod Program
+pub mod BuiltProgram
+pub mod Counting
 pub mod Formed
 pub mod Fitting
 pub mod Sizes

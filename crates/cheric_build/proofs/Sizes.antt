@@ -14,7 +14,7 @@ use Rattle.tac_ir.specs.declared.code.TacInstr.TheVariants as instr
 use Rattle.tac_ir.specs.declared.code.TacKind.{TacKind}
 use Rattle.cheric_build.specs.Sizes.{size, statement_size, statements_size, declarations, all_declarations}
 use Rattle.cheric_build.specs.Pieces.{Piece, Nothing, One, Both, Unless, Either, Loop, labels, code}
-use Rattle.cheric_build.specs.Compiled.{used, result, kind_of_variable, piece, sign_piece, sign_temps, zeros, zeros_from, variable_kind, statement_used, statements_used, statement_piece, statements_piece, Fits, StatementFits, StatementsFit}
+use Rattle.cheric_build.specs.Compiled.{used, result, kind_of_variable, piece, all_ones, sign_piece, sign_temps, zeros, zeros_from, variable_kind, statement_used, statements_used, statement_piece, statements_piece, Fits, StatementFits, StatementsFit}
 
 -- ---- the cost of a piece
 
@@ -70,10 +70,10 @@ number_bound n = by (nat_lt n 2048 || nat_le (2 ^ 64 - 2048) n)
 
 -- ---- bounds
 
-sign_cost : (sign : Sign) (k : IntKind) (a r : ℕ) → piece_cost (sign_piece sign k a r) ≤ 17
+sign_cost : (sign : Sign) (k : IntKind) (a r : ℕ) → piece_cost (sign_piece sign k a r) ≤ 24
 sign_cost Positive k a r = omega arith
 sign_cost Negative k a r = omega arith
-sign_cost Complement k a r = omega arith
+sign_cost Complement k a r = omega (arith, number_bound (all_ones k))
 
 module _ (vars : List TacKind) where
   pub expression_cost : (e : Ex) (of : IntKind) (next : ℕ) → Fits vars e → piece_cost (piece of next e) ≤ 32 * size e
@@ -81,7 +81,7 @@ module _ (vars : List TacKind) where
   expression_cost (Variable p x) of next fits = omega arith
   expression_cost (Load (Plain k) e) of next fits = omega arith
   expression_cost (Convert p (Plain i) (Plain j) plain e) of next fits = omega (arith, expression_cost e i next fits.0)
-  expression_cost (Discard e) of next fits = omega (arith, expression_cost e int.I32 next fits)
+  expression_cost (Discard e) of next fits = omega (arith, expression_cost e int.U64 next fits)
   expression_cost (Unary p sign (Plain k) e) of next fits = omega (arith, expression_cost e k next fits.0, sign_cost sign k (result next e) (next + used e))
   expression_cost (Not p (Plain k) e) of next fits = omega (arith, expression_cost e k next fits.0)
   expression_cost (Binary p (Whole op k (Plain c)) a b) of next fits = omega (arith, expression_cost a k next fits.0, expression_cost b c (next + used a) fits.1)
@@ -100,7 +100,7 @@ module _ (vars : List TacKind) where
 
   mutual
     pub statement_cost : (c : St) (next : ℕ) → StatementFits vars c → piece_cost (statement_piece vars next c) ≤ 32 * statement_size c + 4 * declarations c
-    statement_cost (Do e) next fits = omega (arith, expression_cost e int.I32 next fits)
+    statement_cost (Do e) next fits = omega (arith, expression_cost e int.U64 next fits)
     statement_cost (Give x e) next fits = omega (arith, expression_cost e (kind_of_variable vars x) next fits.0)
     statement_cost (Block ds ss) next fits = omega (arith, zeros_cost ds, statements_cost ss next fits.1)
     statement_cost (If p (Plain k) e a b) next fits = omega (arith, expression_cost e k next fits.0, statement_cost a (next + used e) fits.2, statement_cost b (next + used e + statement_used vars a) fits.3)

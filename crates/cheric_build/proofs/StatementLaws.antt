@@ -29,7 +29,7 @@ use Rattle.cheric_build.proofs.ExpressionLaws.{IsPlaced, temps_count, result_kin
 mutual
   -- as many kinds as temps
   pub statement_count : (vars : List TacKind) (c : St) → length (statement_temps vars c) ≡ statement_used vars c
-  statement_count vars (Do e) = temps_count e int.I32
+  statement_count vars (Do e) = temps_count e int.U64
   statement_count vars (Give x e) = temps_count e (kind_of_variable vars x)
   statement_count vars (Block ds ss) = statements_count vars ss
   statement_count vars (If p k e a b) =
@@ -130,7 +130,7 @@ module _ {M : Type 0} (ops : Operations M) (placed : IsPlaced ops) (w : World) (
   mutual
     pub statement_ok : (c : St) (next : ℕ) → StatementFits vars c → Placed kinds next (statement_temps vars c) → nv ≤ next → next + statement_used vars c ≤ size → Executes next (statement_piece vars next c) (exec ops w call c)
     statement_ok (Do e) next fits pl ge le s ts k j ag h =
-        expr_ok ops placed w p vars kinds call e int.I32 next fits pl ge le s ts _ _ ag (λ v u us ra. h.goes u us ra.left ra.agrees)
+        expr_ok ops placed w p vars kinds call e int.U64 next fits pl ge le s ts _ _ ag (λ v u us ra. h.goes u us ra.left ra.agrees)
     statement_ok (Give x e) next fits pl ge le s ts k j ag h =
         let lt = slice_get_within vars x (kind.Int (kind_in (kind_of_variable vars x) e)) fits.1 in
         expr_ok ops placed w p vars kinds call e (kind_of_variable vars x) next fits.0 pl ge le s ts _ _ ag (λ v u us ra.

@@ -1,5 +1,5 @@
 -- What typing gives of the expressions of a program of the form.
-use Rattle.std.proofs.Common.{◌≡◌, ℕ, zero, suc, ◌<◌, Bool, true, false, List, [], ◌∷◌, ◌++◌, length, map, get_or, Option, Some, None, refl, sym, ap, ◌∙◌, subst, arith, ⊎_elim, inl, inr, ◌⊎◌, if◌then◌else◌}
+use Rattle.std.proofs.Common.{◌≡◌, ℕ, zero, suc, ◌^◌, ◌<◌, Bool, true, false, List, [], ◌∷◌, ◌++◌, length, map, get_or, Option, Some, None, refl, sym, ap, ◌∙◌, subst, arith, ⊎_elim, inl, inr, ◌⊎◌, if◌then◌else◌}
 use Rattle.std.specs.Prelude.{slice_get, ◌||◌, ◌==◌}
 use Rattle.std.specs.List.{list_all, AllByRecursion}
 use Rattle.std.proofs.lemmas.Option.{slice_get_within, slice_get-get_or}
@@ -8,6 +8,8 @@ use Rattle.ck_base.specs.declared.positions.Pos.{Pos}
 use Rattle.ck_int.specs.declared.kinds.IntKind.{IntKind}
 use Rattle.ck_int.specs.declared.kinds.IntKind.TheVariants as int
 use Rattle.ck_int.specs.declared.kinds.IntOp.{IntOp}
+use Rattle.ck_int.specs.Kinds.{IsKept, wrapped, reduced, kept_of}
+use Rattle.ck_int.proofs.Laws.{IsKept-below}
 use Rattle.ck_int.specs.declared.kinds.IntOp.TheVariants as ops
 use Rattle.c_tree.specs.declared.typed.CType.{CType}
 use Rattle.c_tree.specs.declared.typed.CType.TheVariants as types
@@ -30,7 +32,7 @@ use Rattle.c_tree.specs.Expressions as typing
 use Rattle.c_tree.specs.Libraries as libraries
 use Rattle.c_tree.specs.Libraries.{services, Asked, A, Any_capability}
 use Rattle.c_tree.specs.Views.{types_of, type_from, kind_term, expr_from, no_term, terms_of, term_at, operands, parts, IsOrdered}
-use Rattle.c_tree.specs.WellTyped.{Frame, type_in, TermFits, TermsFit, UnaryFits, AllAskedFit, list_of}
+use Rattle.c_tree.specs.WellTyped.{Frame, type_in, TermFits, TermsFit, UnaryFits, AllAskedFit, ConstantFits, list_of}
 use Rattle.c_tree.proofs.Forest.{forest_reads}
 use Rattle.cheri_c_sem.specs.Kinds.{Plain}
 use Rattle.cheri_c_sem.specs.Order.{Ordered, IsAfterOperands, IsAfterParts}
@@ -41,8 +43,10 @@ use Rattle.cheri_c_sem.specs.Tree.{Ex, Number, Discard, Library, Variable, Local
 use Rattle.cheri_c_sem.proofs.Unfold.{expression_node}
 use Rattle.tac_ir.specs.declared.code.TacKind.{TacKind}
 use Rattle.tac_ir.specs.declared.code.TacKind.TheVariants as kind
+use Rattle.rv_select.specs.Form.{IsPromoted}
 use Rattle.cheric_build.specs.Form.{is_int, is_plain, is_plain_type, is_void_type, kind_of_int, plain_kind, plain_kind_of, is_form_kind, is_converted, is_form_expression, is_form_variable}
 use Rattle.cheric_build.specs.Compiled.{kind_in, variable_kind, variable_kinds, Fits, IsVariable}
+use Rattle.cheric_build.specs.Sizes.{Steady}
 use Rattle.cheric_build.proofs.Trees.{all_get, and_both, or_one, node_form, constant_tree, load_tree, discard_tree, convert_tree, unary_tree, int_tree, compare_tree, and_tree, or_tree, assign_tree, library_tree}
 
 -- ---- the order of nodes
@@ -130,6 +134,13 @@ get_case : (go : ℕ → Term) (args : List ℕ) → AllAskedFit [] (term.terms 
 get_case go [] q = refl
 get_case go (a ∷ xs) q = absurd q
 
+-- ---- numbers
+
+-- each number of 64 bits is kept in the kind of them without a sign
+pub kept_long : (n : ℕ) → n < 2 ^ 64 → IsKept int.U64 n
+unfolding wrapped reduced kept_of
+kept_long n h = record { kept = omega arith }
+
 -- ---- kinds of types
 
 abbrev pub ty_kind : Ty → IntKind
@@ -140,6 +151,16 @@ ty_kind t = int.I32
 pub bare_kind : (t : Ty) → ty_kind (ty.bare t) ≡ ty_kind t
 bare_kind (ty.Const t) = refl
 bare_kind t = refl
+
+-- an integer type that the promotions leave has a promoted kind
+promoted_as : (t : Ty) → ty.is_integer t ≡ true → ty.promoted t ≡ t → IsPromoted (ty_kind t)
+promoted_as (ty.Int int.I32 n) i h = omega arith
+promoted_as (ty.Int int.U32 n) i h = omega arith
+promoted_as (ty.Int int.I64 n) i h = omega arith
+promoted_as (ty.Int int.U64 n) i h = omega arith
+promoted_as (ty.Int k n) i h = absurd cc
+promoted_as (ty.Cap s) i h = omega arith
+promoted_as t i h = absurd cc
 
 same_kind_is : (j k : IntKind) → ty.same_kind j k ≡ true → j ≡ k
 same_kind_is int.Bool int.Bool h = refl
@@ -223,6 +244,12 @@ module _ (p : Typed) (o : IsOrdered p) where
   no_pointer t (const_int k n e f) h = let q = sym (ap ty.is_pointer e) ∙ h in cc
   no_pointer t (no_type e f) h = let q = sym (ap ty.is_pointer e) ∙ h in cc
 
+  -- a constant is kept in the kind of its type
+  kept_as : (t n : ℕ) → IsForm t → ConstantFits (ty.bare (T t)) n × (ty.is_scalar (T t) ≡ true) → IsKept (plain_kind p.types t) n
+  kept_as t n (plain_int k m e f) h = subst (λ z. IsKept z n) (sym f) (subst (λ z. ConstantFits (ty.bare z) n) e h.0)
+  kept_as t n (const_int k m e f) h = subst (λ z. IsKept z n) (sym f) (subst (λ z. ConstantFits (ty.bare z) n) e h.0)
+  kept_as t n (no_type e f) h = absurd (let q = sym (ap ty.is_scalar e) ∙ h.1 in cc)
+
   -- ---- terms
 
   abbrev X : ℕ → Term
@@ -259,6 +286,8 @@ module _ (p : Typed) (o : IsOrdered p) where
     pub record Good (k : ℕ) : Type 0 where
       pub fits : Fits ks (tree k)
       pub kind : (j : IntKind) → j ≡ ok k → kind_in j (tree k) ≡ j
+      pub steady : (j : IntKind) → j ≡ ok k → Steady j (tree k)
+      pub unused : Steady int.U64 (tree k)
 
     type_form : (k : ℕ) (e : Expr) → slice_get p.exprs k ≡ Some e → IsForm e.of
     type_form k e h = by e.kind (node_form p ordered form d.vars k e h).1
@@ -350,59 +379,68 @@ module _ (p : Typed) (o : IsOrdered p) where
         part a lt g = ih a lt (subst (TermFits F) ((term_node k e h).1 a lt) g)
 
         -- a node whose tree is this, and whose value has the kind of its type
-        good : (t : Ex) → tree k ≡ t → Fits ks t → ((j : IntKind) → (kind_in j t ≡ plain_kind p.types e.of) ⊎ (kind_in j t ≡ j)) → Good k
-        good t eq f q = record {
+        good : (t : Ex) → tree k ≡ t → Fits ks t → ((j : IntKind) → (kind_in j t ≡ plain_kind p.types e.of) ⊎ (kind_in j t ≡ j)) → ((j : IntKind) → (j ≡ plain_kind p.types e.of) ⊎ (j ≡ int.U64) → Steady j t) → Good k
+        good t eq f q s = record {
           fits = subst (Fits ks) (sym eq) f;
           kind = λ j ej. ap (kind_in j) eq ∙ ⊎_elim (λ own. own ∙ sym (ap (λ z. plain_kind p.types (type_of z)) h) ∙ sym ej) (λ same. same) (q j);
+          steady = λ j ej. subst (Steady j) (sym eq) (s j (inl (ej ∙ ap (λ z. plain_kind p.types (type_of z)) h)));
+          unused = subst (Steady int.U64) (sym eq) (s int.U64 (inr refl));
         }
+
+        -- the kind of what an operator is on, where the promotions leave its type
+        promoted_kind : (j : IntKind) → j ≡ plain_kind p.types e.of → ty.is_integer (T e.of) ≡ true → ty.promoted (T e.of) ≡ T e.of → IsPromoted j
+        promoted_kind j ej i q = subst IsPromoted (form_kind e.of (type_form k e h) ∙ sym ej) (promoted_as (T e.of) i q)
 
         is_int_kind : T e.of ≡ ty.int → int.I32 ≡ plain_kind p.types e.of
         is_int_kind q = sym (ap ty_kind q) ∙ form_kind e.of (type_form k e h)
 
         by : (kd : ExprKind) → e.kind ≡ kd → TermFits F (kind_term (types_of p.types) kd (T e.of) e.pos ((term_node k e h).0)) → is_form_kind kd ≡ true → IsAfterOperands k kd → Good k
-        by (exprs.Constant n) is t f b = good (Number n) (constant_tree p ordered form d.vars k n e (h, is)) tt (λ j. inr refl)
+        by (exprs.Constant n) is t f b = good (Number n) (constant_tree p ordered form d.vars k n e (h, is)) tt (λ j. inr refl) (λ j q. ⊎_elim (λ own. subst (λ z. IsKept z n) (sym own) (kept_as e.of n (type_form k e h) t.1)) (λ long. subst (λ z. IsKept z n) (sym long) (kept_long n (IsKept-below _ n (kept_as e.of n (type_form k e h) t.1)))) q)
         by (exprs.Var x) is t f b =
             let w = variable_at x t.1.0 t.1.1 in
-            good (Variable e.pos x) (simple_tree k x e t.1.0 h is t.1.1 w.0) tt (λ j. inr refl)
+            good (Variable e.pos x) (simple_tree k x e t.1.0 h is t.1.1 w.0) tt (λ j. inr refl) (λ j q. tt)
         by (exprs.Load a) is t f b =
             let ea = exists a (below a b) in
             let fa = subst (TermFits F) ((term_node k e h).1 a b) t.0.0 in
             let place = place_is a ea.0 ea.1 (subst (λ z. designates z ≡ true) ((term_node k e h).1 a b) t.1.0) fa in
             let same : ok a ≡ plain_kind p.types e.of = sym (operand a b) ∙ sym (bare_kind (term.type_of ((term_node k e h).0 a))) ∙ sym (ap ty_kind t.1.1) ∙ form_kind e.of (type_form k e h) in
-            good _ (load_tree p ordered form d.vars k a e (h, is)) (subst (λ z. IsVariable ks z (tree a)) same place.2) (λ j. inl refl)
+            good _ (load_tree p ordered form d.vars k a e (h, is)) (subst (λ z. IsVariable ks z (tree a)) same place.2) (λ j. inl refl) (λ j q. tt)
         by (exprs.Convert a) is t f b =
             let g = part a b t.0.0 in
             by_void (is_void_type (slice_get p.types e.of)) refl g
           where
             by_void : (v : Bool) → is_void_type (slice_get p.types e.of) ≡ v → Good a → Good k
-            by_void true v g = good (Discard (tree a)) (discard_tree p ordered form d.vars k a e (h, is) v) g.fits (λ j. inl (sym (void_kind e.of v)))
-            by_void false v g = let c = convert_tree p ordered form d.vars k a e (h, is) v in good _ c.1 (g.fits, g.kind (ok a) refl) (λ j. inl refl)
+            by_void true v g = good (Discard (tree a)) (discard_tree p ordered form d.vars k a e (h, is) v) g.fits (λ j. inl (sym (void_kind e.of v))) (λ j q. g.unused)
+            by_void false v g = let c = convert_tree p ordered form d.vars k a e (h, is) v in good _ c.1 (g.fits, g.kind (ok a) refl) (λ j. inl refl) (λ j q. g.steady (ok a) refl)
         by (exprs.Unary op a) is t f b = by_op op (unary_tree p ordered form d.vars k a op e (h, is)) (part a b t.0.0) t.1
           where
             by_op : (u : UnaryOp) → tree k ≡ sign_of e.pos (Plain (ok a)) (tree a) u → Good a → UnaryFits u (term.type_of ((term_node k e h).0 a)) (T e.of) → Good k
-            by_op unary.Plus eq g s = good _ eq (g.fits, g.kind (ok a) refl) (λ j. inl (sym (operand a b) ∙ ap ty_kind s.1 ∙ form_kind e.of (type_form k e h)))
-            by_op unary.Minus eq g s = good _ eq (g.fits, g.kind (ok a) refl) (λ j. inl (sym (operand a b) ∙ ap ty_kind s.1 ∙ form_kind e.of (type_form k e h)))
-            by_op unary.Complement eq g s = good _ eq (g.fits, g.kind (ok a) refl) (λ j. inl (sym (operand a b) ∙ ap ty_kind s.1 ∙ form_kind e.of (type_form k e h)))
-            by_op unary.LogicalNot eq g s = good _ eq (g.fits, g.kind (ok a) refl) (λ j. inl (is_int_kind s.1))
+            by_op unary.Plus eq g s = good _ eq (g.fits, g.kind (ok a) refl) (λ j. inl (sym (operand a b) ∙ ap ty_kind s.1 ∙ form_kind e.of (type_form k e h))) (λ j q. (promoted_kind (ok a) (sym (operand a b) ∙ ap ty_kind s.1 ∙ form_kind e.of (type_form k e h)) s.0 s.2, g.steady (ok a) refl))
+            by_op unary.Minus eq g s = good _ eq (g.fits, g.kind (ok a) refl) (λ j. inl (sym (operand a b) ∙ ap ty_kind s.1 ∙ form_kind e.of (type_form k e h))) (λ j q. (promoted_kind (ok a) (sym (operand a b) ∙ ap ty_kind s.1 ∙ form_kind e.of (type_form k e h)) s.0 s.2, g.steady (ok a) refl))
+            by_op unary.Complement eq g s = good _ eq (g.fits, g.kind (ok a) refl) (λ j. inl (sym (operand a b) ∙ ap ty_kind s.1 ∙ form_kind e.of (type_form k e h))) (λ j q. (promoted_kind (ok a) (sym (operand a b) ∙ ap ty_kind s.1 ∙ form_kind e.of (type_form k e h)) s.0 s.2, g.steady (ok a) refl))
+            by_op unary.LogicalNot eq g s = good _ eq (g.fits, g.kind (ok a) refl) (λ j. inl (is_int_kind s.1)) (λ j q. g.steady (ok a) refl)
         by (exprs.Int op a c) is t f b =
             let ga = part a b.0 t.0.0 in
             let gc = part c b.1 t.0.1.0 in
+            let left_promoted = promoted_kind (plain_kind p.types e.of) refl (ap ty.is_integer t.1.0.2) (sym (ap ty.promoted t.1.1.0) ∙ t.1.2.0 ∙ t.1.1.0) in
+            let right_promoted = subst IsPromoted (operand c b.1) (promoted_as (term.type_of ((term_node k e h).0 c)) t.1.1.1 t.1.2.1) in
             let left : plain_kind p.types e.of ≡ ok a = sym (form_kind e.of (type_form k e h)) ∙ sym (ap ty_kind t.1.1.0) ∙ operand a b.0 in
             let right = ⊎_elim (λ q. let s : ok c ≡ plain_kind p.types e.of = sym (operand c b.1) ∙ ap ty_kind q ∙ form_kind e.of (type_form k e h) in inl s) (λ q. inr (sym (shift_same op) ∙ q)) t.1.1.2 in
             good _ (int_tree p ordered form d.vars k a c op e (h, is)) (ga.fits, gc.fits, ga.kind _ left, gc.kind (ok c) refl, right) (λ j. inl refl)
+            (λ j q. (left_promoted, right_promoted, ga.steady _ left, gc.steady (ok c) refl))
         by (exprs.Compare op a c) is t f b =
             let ga = part a b.0 t.0.0 in
             let gc = part c b.1 t.0.1.0 in
             let same : ok a ≡ ok c = ⊎_elim (λ q. sym (operand a b.0) ∙ ap ty_kind q.1 ∙ operand c b.1) (λ q. absurd (operand_form a (below a b.0) (sym (ap (λ z. ty.is_pointer (term.type_of z)) ((term_node k e h).1 a b.0)) ∙ q.0))) t.1.1 in
-            good _ (compare_tree p ordered form d.vars k a c op e (h, is)) (ga.fits, gc.fits, ga.kind (ok a) refl, gc.kind (ok a) same) (λ j. inl (is_int_kind t.1.0))
+            good _ (compare_tree p ordered form d.vars k a c op e (h, is)) (ga.fits, gc.fits, ga.kind (ok a) refl, gc.kind (ok a) same) (λ j. inl (is_int_kind t.1.0)) (λ j q. (ga.steady (ok a) refl, gc.steady (ok a) same))
         by (exprs.And a c) is t f b =
             let ga = part a b.0 t.0.0 in
             let gc = part c b.1 t.0.1.0 in
-            good _ (and_tree p ordered form d.vars k a c e (h, is)) (ga.fits, gc.fits, ga.kind (ok a) refl, gc.kind (ok c) refl) (λ j. inl (is_int_kind t.1.0))
+            good _ (and_tree p ordered form d.vars k a c e (h, is)) (ga.fits, gc.fits, ga.kind (ok a) refl, gc.kind (ok c) refl) (λ j. inl (is_int_kind t.1.0)) (λ j q. (ga.steady (ok a) refl, gc.steady (ok c) refl))
         by (exprs.Or a c) is t f b =
             let ga = part a b.0 t.0.0 in
             let gc = part c b.1 t.0.1.0 in
-            good _ (or_tree p ordered form d.vars k a c e (h, is)) (ga.fits, gc.fits, ga.kind (ok a) refl, gc.kind (ok c) refl) (λ j. inl (is_int_kind t.1.0))
+            good _ (or_tree p ordered form d.vars k a c e (h, is)) (ga.fits, gc.fits, ga.kind (ok a) refl, gc.kind (ok c) refl) (λ j. inl (is_int_kind t.1.0)) (λ j q. (ga.steady (ok a) refl, gc.steady (ok c) refl))
         by (exprs.Assign a c) is t f b =
             let ea = exists a (below a b.0) in
             let fa = subst (TermFits F) ((term_node k e h).1 a b.0) t.0.0 in
@@ -411,7 +449,7 @@ module _ (p : Typed) (o : IsOrdered p) where
             let place = place_is a ea.0 ea.1 (or_true (is_place (X a)) _ (and_both _ _ (and_both _ _ (and_both _ _ modifiable).0).0).0) fa in
             let to : ok a ≡ plain_kind p.types e.of = sym (operand a b.0) ∙ sym (bare_kind (term.type_of ((term_node k e h).0 a))) ∙ sym (ap ty_kind t.1.1) ∙ form_kind e.of (type_form k e h) in
             let from : ok c ≡ plain_kind p.types e.of = sym (operand c b.1) ∙ ap ty_kind t.1.2 ∙ form_kind e.of (type_form k e h) in
-            good _ (assign_tree p ordered form d.vars k a c e (h, is)) (place.2, gc.fits, gc.kind (ok a) (to ∙ sym from)) (λ j. inl to)
+            good _ (assign_tree p ordered form d.vars k a c e (h, is)) (place.2, gc.fits, gc.kind (ok a) (to ∙ sym from)) (λ j. inl to) (λ j q. gc.steady (ok a) (to ∙ sym from))
         by (exprs.Library n args) is t f b = ⊎_elim (λ z. put (number_is n 0 z)) (λ z. get (number_is n 1 z)) (or_one (n == 0) (n == 1) f)
           where
             s : libraries.Service
@@ -425,13 +463,14 @@ module _ (p : Typed) (o : IsOrdered p) where
                 let g = part one.0 lt (subst (λ xs. TermsFit F (term.terms (map ((term_node k e h).0) xs))) one.1 t.0).0 in
                 let eq = library_tree p ordered form d.vars k n args e (h, is) ∙ ap (λ m. Library e.pos (service_of m) (arguments tree args)) z ∙ ap (λ xs. Library e.pos Put_char (arguments tree xs)) one.1 in
                 good (Library e.pos Put_char (Cons (tree one.0) Nil)) eq (g.fits, g.kind int.I32 (sym (ap ty_kind one.2) ∙ operand one.0 lt)) (λ j. inl (is_int_kind (t.1.3 ∙ ap (λ q. typing.given_type q (list_of (term.terms (map ((term_node k e h).0) args)))) srv.1)))
+                (λ j q. g.steady int.I32 (sym (ap ty_kind one.2) ∙ operand one.0 lt))
 
             get : n ≡ 1 → Good k
             get z =
                 let srv = service_one s (subst (λ m. slice_get services m ≡ Some s) z t.1.1) in
                 let none = get_case ((term_node k e h).0) args (subst (λ q. AllAskedFit q (term.terms (map ((term_node k e h).0) args))) srv.0 t.1.2) in
                 let eq = library_tree p ordered form d.vars k n args e (h, is) ∙ ap (λ m. Library e.pos (service_of m) (arguments tree args)) z ∙ ap (λ xs. Library e.pos Get_char (arguments tree xs)) none in
-                good (Library e.pos Get_char Nil) eq tt (λ j. inl (is_int_kind (t.1.3 ∙ ap (λ q. typing.given_type q (list_of (term.terms (map ((term_node k e h).0) args)))) srv.1)))
+                good (Library e.pos Get_char Nil) eq tt (λ j. inl (is_int_kind (t.1.3 ∙ ap (λ q. typing.given_type q (list_of (term.terms (map ((term_node k e h).0) args)))) srv.1))) (λ j q. tt)
         by kd is t f b = absurd cc
 
     good_below : (n k : ℕ) → k < n → k < length p.exprs → TermFits F (X k) → Good k

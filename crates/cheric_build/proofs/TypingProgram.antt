@@ -26,7 +26,7 @@ use Rattle.cheric_build.specs.Form.{is_form_function, is_form_variable, is_integ
 use Rattle.cheric_build.specs.Sizes.{IsTyped}
 use Rattle.cheric_build.proofs.Trees.{all_get, and_both}
 use Rattle.cheric_build.proofs.Typing.{ordered_of, type_node}
-use Rattle.cheric_build.proofs.TypingStatements.{statement_fits}
+use Rattle.cheric_build.proofs.TypingStatements.{statement_stands}
 use Rattle.cheric_build.proofs.TypingWeight.{statement_sized}
 use Rattle.cheric_build.proofs.Assembled.{form_expressions, form_statements}
 
@@ -138,6 +138,7 @@ typed_of p d w h at =
     let there = o.funs 0 d at in
     let body_fits : ActionFits (record { program = p; vars = d.vars; gives = ty.int }) outside (action_at (actions_of p) d.body) =
     subst (λ z. ActionFits (record { program = p; vars = d.vars; gives = ty.bare z }) outside (action_at (actions_of p) d.body)) parts.0 ff.body in
+    let stands = statement_stands p o expressions d vars_form all_statements d.body outside there.1 body_fits in
     let sized = statement_sized p o expressions d all_statements d.body there.1 in
     let within = action_within (record { program = p; vars = d.vars; gives = ty.int }) outside (action_at (actions_of p) d.body) body_fits in
     let once : (k : ℕ) → k < length d.vars → times_in k (declared_in (action_at (actions_of p) d.body)) ≡ 1 = λ k lt. ff.declared_once k (let none = ap length no_params in omega arith) lt in
@@ -150,7 +151,8 @@ typed_of p d w h at =
       there = o.values_there;
       no_params = no_params;
       gives_int = gives p o d.of (get_or p.types d.of types.Void) (slice_get-get_or p.types d.of types.Void there.0) main_type;
-      fits = statement_fits p o expressions d vars_form all_statements d.body outside there.1 body_fits;
+      fits = stands.fits;
+      steady = stands.steady;
       weight = omega (arith, sized.weight);
       declared = omega (arith, sized.declares, count);
     }

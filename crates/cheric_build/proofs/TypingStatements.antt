@@ -23,12 +23,13 @@ use Rattle.cheri_c_sem.specs.Order.{Ordered, IsAfterParts}
 use Rattle.cheri_c_sem.specs.Types.{kind_of, is_simple, is_record, objects_before, size_in, align_in, unit_of}
 use Rattle.cheri_c_sem.specs.Expressions.{type_of, expr_tree}
 use Rattle.cheri_c_sem.specs.Programs.{statements, declared, stmt_kind_tree, stmt_tree}
-use Rattle.cheri_c_sem.specs.Tree.{Ex, Simple, Objects, St, Give, Init, Fill, If, While, Empty}
+use Rattle.cheri_c_sem.specs.Tree.{Ex, Simple, Objects, St, Sts, Give, Init, Fill, If, While, Empty}
 use Rattle.cheri_c_sem.proofs.Unfold.{statement_node}
 use Rattle.tac_ir.specs.declared.code.TacKind.{TacKind}
 use Rattle.tac_ir.specs.declared.code.TacKind.TheVariants as kind
 use Rattle.cheric_build.specs.Form.{plain_kind, is_form_expression, is_form_variable, is_form_statement, is_form_statement_kind}
 use Rattle.cheric_build.specs.Compiled.{kind_in, kind_of_variable, variable_kinds, AreVariables, StatementFits, StatementsFit}
+use Rattle.cheric_build.specs.Sizes.{StatementSteady, StatementsSteady}
 use Rattle.cheric_build.proofs.Trees.{all_get, operand_plain}
 use Rattle.cheric_build.proofs.Blocks.{variable_some}
 use Rattle.cheric_build.proofs.Typing.{ordered_of, ty_kind, bare_kind, compatible_kind, Good, good_expression, variable_at, operand_kind_is}
@@ -81,23 +82,35 @@ module _ (p : Typed) (o : IsOrdered p) (form : list_all (is_form_expression p) p
       one true q r = ((plain_kind p.types v.of, w.1), r)
       one false q r = absurd cc
 
-  all_fit : (k : ℕ) (i : Inside) (go : ℕ → Action) (body : List ℕ) → ((j : ℕ) → j < k → go j ≡ Act j) → AllByRecursion (λ c. c < k) body → ((j : ℕ) (i : Inside) → j < k → ActionFits Fr i (Act j) → StatementFits ks (t j))
-      → ActionsFit Fr i (term.actions (map go body)) → StatementsFit ks (statements t body)
+  -- the kinds of a statement agree, and its constants are kept
+  pub record Stands (c : St) : Type 0 where
+    pub fits : StatementFits ks c
+    pub steady : StatementSteady ks c
+
+  pub record AllStand (ss : Sts) : Type 0 where
+    pub fits : StatementsFit ks ss
+    pub steady : StatementsSteady ks ss
+
+  all_stand : (k : ℕ) (i : Inside) (go : ℕ → Action) (body : List ℕ) → ((j : ℕ) → j < k → go j ≡ Act j) → AllByRecursion (λ c. c < k) body → ((j : ℕ) (i : Inside) → j < k → ActionFits Fr i (Act j) → Stands (t j))
+      → ActionsFit Fr i (term.actions (map go body)) → AllStand (statements t body)
   unfolding ActionFits ActionsFit
-  all_fit k i go [] same before ih fits = tt
-  all_fit k i go (x ∷ xs) same before ih fits = (ih x i before.0 (subst (ActionFits Fr i) (same x before.0) fits.0), all_fit k i go xs same before.1 ih fits.1)
+  all_stand k i go [] same before ih fits = record { fits = tt; steady = tt }
+  all_stand k i go (x ∷ xs) same before ih fits =
+      let one = ih x i before.0 (subst (ActionFits Fr i) (same x before.0) fits.0) in
+      let rest = all_stand k i go xs same before.1 ih fits.1 in
+      record { fits = (one.fits, rest.fits); steady = (one.steady, rest.steady) }
 
   -- ---- statements
 
-  fits_by : (k : ℕ) (i : Inside) (s : Stmt) → slice_get p.stmts k ≡ Some s → ActionFits Fr i (Act k) → ((j : ℕ) (i : Inside) → j < k → ActionFits Fr i (Act j) → StatementFits ks (t j)) → StatementFits ks (t k)
+  stands_by : (k : ℕ) (i : Inside) (s : Stmt) → slice_get p.stmts k ≡ Some s → ActionFits Fr i (Act k) → ((j : ℕ) (i : Inside) → j < k → ActionFits Fr i (Act j) → Stands (t j)) → Stands (t k)
   unfolding ActionFits ActionsFit TermFits TermsFit
-  fits_by k i s h fits ih = by s.kind refl (subst (ActionFits Fr i) ((action_node k s h).2) fits) (all_get is_form_statement p.stmts k s form_statements h) (ordered.stmts k s h)
+  stands_by k i s h fits ih = by s.kind refl (subst (ActionFits Fr i) ((action_node k s h).2) fits) (all_get is_form_statement p.stmts k s form_statements h) (ordered.stmts k s h)
     where
       go : ℕ → Action
       go = (action_node k s h).0
 
-      made : (c : St) → t k ≡ c → StatementFits ks c → StatementFits ks (t k)
-      made c eq f = subst (StatementFits ks) (sym eq) f
+      made : (c : St) → t k ≡ c → StatementFits ks c → StatementSteady ks c → Stands (t k)
+      made c eq f g = subst Stands (sym eq) (record { fits = f; steady = g })
 
       node : (kd : StmtKind) → s.kind ≡ kd → t k ≡ stmt_kind_tree p d.vars e t s.pos kd
       node kd is = statement_node p d.vars ordered k s h ∙ ap (stmt_kind_tree p d.vars e t s.pos) is
@@ -108,11 +121,11 @@ module _ (p : Typed) (o : IsOrdered p) (form : list_all (is_form_expression p) p
       same : (j : ℕ) → j < k → (action_node k s h).0 j ≡ Act j
       same = (action_node k s h).1
 
-      part : (j : ℕ) (i : Inside) → j < k → ActionFits Fr i ((action_node k s h).0 j) → StatementFits ks (t j)
+      part : (j : ℕ) (i : Inside) → j < k → ActionFits Fr i ((action_node k s h).0 j) → Stands (t j)
       part j i lt f = ih j i lt (subst (ActionFits Fr i) ((action_node k s h).1 j lt) f)
 
-      by : (kd : StmtKind) → s.kind ≡ kd → ActionFits Fr i (kind_action (terms_of p) kd s.pos ((action_node k s h).0)) → is_form_statement_kind kd ≡ true → IsAfterParts k kd → StatementFits ks (t k)
-      by (stmts.Expr a) is f q b = made _ (node _ is) (good a (there (stmts.Expr a) a is refl) f.0.0).fits
+      by : (kd : StmtKind) → s.kind ≡ kd → ActionFits Fr i (kind_action (terms_of p) kd s.pos ((action_node k s h).0)) → is_form_statement_kind kd ≡ true → IsAfterParts k kd → Stands (t k)
+      by (stmts.Expr a) is f q b = let g = good a (there (stmts.Expr a) a is refl) f.0.0 in made _ (node _ is) g.fits g.unused
       by (stmts.Init x offset a) is f q b =
           let inside = there (stmts.Init x offset a) a is refl in
           let g = good a inside f.0.0 in
@@ -123,37 +136,41 @@ module _ (p : Typed) (o : IsOrdered p) (form : list_all (is_form_expression p) p
           let own : ty_kind (type_in p v.of) ≡ ok a = sym (bare_kind (type_in p v.of)) ∙ sym (ap ty_kind whole.1) ∙ operand_kind_is p o form d vars_form ty.int a inside in
           let agree : kind_of_variable ks x ≡ ok a = sym (variable_some p d x v at) ∙ sym w.2 ∙ own in
           let kinds_same : plain_kind p.types v.of ≡ kind_in (kind_of_variable ks x) (e a) = variable_some p d x v at ∙ sym (g.kind (kind_of_variable ks x) agree) in
-          made (Give x (e a)) (node _ is ∙ ap (λ z. initialisation_by z x offset a) (ap is_simple at ∙ w.0)) (g.fits, w.1 ∙ ap (λ z. Some (kind.Int z)) kinds_same)
+          made (Give x (e a)) (node _ is ∙ ap (λ z. initialisation_by z x offset a) (ap is_simple at ∙ w.0)) (g.fits, w.1 ∙ ap (λ z. Some (kind.Int z)) kinds_same) (g.steady (kind_of_variable ks x) agree)
         where
           initialisation_by : Bool → ℕ → ℕ → ℕ → St
           initialisation_by b x offset a =
               if b then Give x (e a)
               else if is_record (bare p.types (type_of (slice_get p.exprs a))) then Fill s.pos (objects_before d.vars x) offset (size_in p.types (type_of (slice_get p.exprs a))) (unit_of (align_in p.types (type_of (slice_get p.exprs a)))) (e a)
               else Init s.pos (objects_before d.vars x) offset (kind_of (bare p.types (type_of (slice_get p.exprs a)))) (e a)
-      by (stmts.Block xs body) is f q b = made _ (node _ is) (are_variables xs f.1, all_fit k i ((action_node k s h).0) body same b ih f.2)
+      by (stmts.Block xs body) is f q b = let all = all_stand k i ((action_node k s h).0) body same b ih f.2 in made _ (node _ is) (are_variables xs f.1, all.fits) all.steady
       by (stmts.If a x None) is f q b =
           let g = good a (there (stmts.If a x None) a is refl) f.0.0 in
-          made _ (node _ is ∙ ap (λ z. If s.pos z (e a) (t x) Empty) (operand_plain p ordered form d.vars a (there (stmts.If a x None) a is refl))) (g.fits, g.kind (ok a) refl, part x i b.0 f.2.0, tt)
+          let px = part x i b.0 f.2.0 in
+          made _ (node _ is ∙ ap (λ z. If s.pos z (e a) (t x) Empty) (operand_plain p ordered form d.vars a (there (stmts.If a x None) a is refl))) (g.fits, g.kind (ok a) refl, px.fits, tt) (g.steady (ok a) refl, px.steady, tt)
       by (stmts.If a x (Some y)) is f q b =
           let g = good a (there (stmts.If a x (Some y)) a is refl) f.0.0 in
-          made _ (node _ is ∙ ap (λ z. If s.pos z (e a) (t x) (t y)) (operand_plain p ordered form d.vars a (there (stmts.If a x (Some y)) a is refl))) (g.fits, g.kind (ok a) refl, part x i b.0 f.2.0, part y i b.1 f.2.1.0)
+          let px = part x i b.0 f.2.0 in
+          let py = part y i b.1 f.2.1.0 in
+          made _ (node _ is ∙ ap (λ z. If s.pos z (e a) (t x) (t y)) (operand_plain p ordered form d.vars a (there (stmts.If a x (Some y)) a is refl))) (g.fits, g.kind (ok a) refl, px.fits, py.fits) (g.steady (ok a) refl, px.steady, py.steady)
       by (stmts.While a x) is f q b =
           let g = good a (there (stmts.While a x) a is refl) f.0.0 in
-          made _ (node _ is ∙ ap (λ z. While s.pos z (e a) (t x)) (operand_plain p ordered form d.vars a (there (stmts.While a x) a is refl))) (g.fits, g.kind (ok a) refl, part x _ b f.2.0)
-      by (stmts.Return None) is f q b = made _ (node _ is) tt
+          let px = part x _ b f.2.0 in
+          made _ (node _ is ∙ ap (λ z. While s.pos z (e a) (t x)) (operand_plain p ordered form d.vars a (there (stmts.While a x) a is refl))) (g.fits, g.kind (ok a) refl, px.fits) (g.steady (ok a) refl, px.steady)
+      by (stmts.Return None) is f q b = made _ (node _ is) tt tt
       by (stmts.Return (Some a)) is f q b =
           let inside = there (stmts.Return (Some a)) a is refl in
           let g = good a inside f.0.0 in
           let int_kind : int.I32 ≡ ok a = sym (compatible_kind (term.type_of (term_at (terms_of p) a)) ty.int f.1) ∙ operand_kind_is p o form d vars_form ty.int a inside in
-          made _ (node _ is) (g.fits, g.kind int.I32 int_kind)
-      by stmts.Empty is f q b = made _ (node _ is) tt
+          made _ (node _ is) (g.fits, g.kind int.I32 int_kind) (g.steady int.I32 int_kind)
+      by stmts.Empty is f q b = made _ (node _ is) tt tt
       by kd is f q b = absurd cc
 
-  fits_below : (n k : ℕ) (i : Inside) → k < n → k < length p.stmts → ActionFits Fr i (Act k) → StatementFits ks (t k)
-  fits_below zero k i lt inside fits = absurd (omega arith)
-  fits_below (suc n) k i lt inside fits =
+  stands_below : (n k : ℕ) (i : Inside) → k < n → k < length p.stmts → ActionFits Fr i (Act k) → Stands (t k)
+  stands_below zero k i lt inside fits = absurd (omega arith)
+  stands_below (suc n) k i lt inside fits =
       let s = get_or p.stmts k (record { kind = stmts.Empty; pos = record { line = 0; col = 0 } }) in
-      fits_by k i s (slice_get-get_or p.stmts k _ inside) fits (λ j i lj f. fits_below n j i (omega arith) (omega arith) f)
+      stands_by k i s (slice_get-get_or p.stmts k _ inside) fits (λ j i lj f. stands_below n j i (omega arith) (omega arith) f)
 
-  pub statement_fits : (k : ℕ) (i : Inside) → k < length p.stmts → ActionFits Fr i (Act k) → StatementFits ks (t k)
-  statement_fits k i inside fits = fits_below (suc k) k i (omega arith) inside fits
+  pub statement_stands : (k : ℕ) (i : Inside) → k < length p.stmts → ActionFits Fr i (Act k) → Stands (t k)
+  statement_stands k i inside fits = stands_below (suc k) k i (omega arith) inside fits

@@ -54,7 +54,7 @@ plain_expression vars (Number n) of next fits = refl
 plain_expression vars (Variable p x) of next fits = refl
 plain_expression vars (Load (Plain k) e) of next fits = refl
 plain_expression vars (Convert p (Plain i) (Plain j) plain e) of next fits = (plain_expression vars e i next fits.0, refl)
-plain_expression vars (Discard e) of next fits = (plain_expression vars e int.I32 next fits, refl)
+plain_expression vars (Discard e) of next fits = (plain_expression vars e int.U64 next fits, refl)
 plain_expression vars (Unary p sign (Plain k) e) of next fits = (plain_expression vars e k next fits.0, plain_sign sign k _ _)
 plain_expression vars (Not p (Plain k) e) of next fits = (plain_expression vars e k next fits.0, (refl, refl))
 plain_expression vars (Binary p (Whole op k (Plain c)) a b) of next fits = (plain_expression vars a k next fits.0, (plain_expression vars b c _ fits.1, refl))
@@ -73,7 +73,7 @@ plain_zeros vars (Objects n ∷ ds) h = absurd h
 
 mutual
   pub plain_statement : (vars : List TacKind) (c : St) (next : ℕ) → StatementFits vars c → IsPlain (statement_piece vars next c)
-  plain_statement vars (Do e) next fits = plain_expression vars e int.I32 next fits
+  plain_statement vars (Do e) next fits = plain_expression vars e int.U64 next fits
   plain_statement vars (Give x e) next fits = (plain_expression vars e _ next fits.0, refl)
   plain_statement vars (Block ds ss) next fits = (plain_zeros vars ds fits.0, plain_statements vars ss next fits.1)
   plain_statement vars (If p (Plain k) e a b) next fits = (plain_expression vars e k next fits.0, (plain_statement vars a _ fits.2, plain_statement vars b _ fits.3))

@@ -289,7 +289,7 @@ module _ (vars : List TacKind) (t : ℕ) (ge : length vars ≤ t) where
   expression_needs (Variable q x) of next X fits n = sets next X n
   expression_needs (Load (Plain k) (Variable q x)) of next X fits n = let lt = slice_get_within vars x _ fits in sets_from next x X (λ e. absurd (omega arith)) n
   expression_needs (Convert q (Plain i) (Plain j) plain e) of next X fits n = let h = expression_needs e i next _ fits.0 n in sets_from (next + used e) (result next e) X h.1 h.0
-  expression_needs (Discard e) of next X fits n = let h = expression_needs e int.I32 next _ fits n in sets (next + used e) X h.0
+  expression_needs (Discard e) of next X fits n = let h = expression_needs e int.U64 next _ fits n in sets (next + used e) X h.0
   expression_needs (Unary q sign (Plain k) e) of next X fits n = let h = expression_needs e k next _ fits.0 n in sign_needs sign k (result next e) (next + used e) X h.1 h.0
   expression_needs (Not q (Plain k) e) of next X fits n =
       let h = expression_needs e k next _ fits.0 n in
@@ -327,7 +327,7 @@ module _ (vars : List TacKind) (t : ℕ) (ge : length vars ≤ t) where
 
   mutual
     statement_needs : (c : St) (next : ℕ) (X : Type 0) → StatementFits vars c → Needs t (statement_piece vars next c) X → X
-    statement_needs (Do e) next X fits n = (expression_needs e int.I32 next X fits n).0
+    statement_needs (Do e) next X fits n = (expression_needs e int.U64 next X fits n).0
     statement_needs (Give x e) next X fits n = let h = expression_needs e (kind_of_variable vars x) next _ fits.0 n in (sets_from x (result next e) X h.1 h.0).0
     statement_needs (Block ds ss) next X fits n = statements_needs ss next X fits.1 (zeros_needs ds _ fits.0 n)
     statement_needs (If q (Plain k) e a b) next X fits n =

@@ -1,7 +1,8 @@
 -- The code of expressions and statements. Each value comes into a temp of its own, and those of the variables are the first temps.
-use Rattle.std.specs.Prelude.{◌≡◌, ℕ, ◌+◌, ◌^◌, ◌-◌, ◌⊎◌, true, false, List, [], ◌∷◌, ◌++◌, length, map, Some, None, slice_get, slice_index_or}
+use Rattle.std.specs.Prelude.{◌≡◌, ℕ, ◌+◌, ◌^◌, ◌-◌, ◌⊎◌, pos, true, false, List, [], ◌∷◌, ◌++◌, length, map, Some, None, slice_get, slice_index_or}
 use Rattle.ck_int.specs.declared.kinds.IntKind.{IntKind}
 use Rattle.ck_int.specs.declared.kinds.IntKind.TheVariants as int
+use Rattle.ck_int.specs.Kinds.{wrapped}
 use Rattle.ck_int.specs.declared.kinds.IntOp.{IntOp}
 use Rattle.ck_int.specs.declared.kinds.IntOp.TheVariants.{Sub, Xor}
 use Rattle.ck_int.specs.declared.kinds.CmpOp.TheVariants.{Eq}
@@ -106,7 +107,7 @@ temps of (Number n) = kind.Int of ∷ []
 temps of (Variable p x) = kind.Int of ∷ []
 temps of (Load k e) = kind.Int (int_kind k) ∷ []
 temps of (Convert p j k plain e) = temps (int_kind j) e ++ kind.Int (int_kind k) ∷ []
-temps of (Discard e) = temps int.I32 e ++ kind.Int int.I32 ∷ []
+temps of (Discard e) = temps int.U64 e ++ kind.Int int.I32 ∷ []
 temps of (Unary p sign k e) = temps (int_kind k) e ++ sign_kinds (int_kind k) sign
 temps of (Not p k e) = temps (int_kind k) e ++ kind.Int (int_kind k) ∷ kind.Int int.I32 ∷ []
 temps of (Binary p op a b) = temps (whole_kind op) a ++ temps (count_kind op) b ++ kind.Int (whole_kind op) ∷ []
@@ -120,10 +121,14 @@ temps of e = []
 
 -- ---- the code of expressions
 
+-- the number all of whose bits are set, as a kind keeps it
+abbrev pub all_ones : IntKind → ℕ
+all_ones k = wrapped k (pos (2 ^ 64 - 1))
+
 abbrev pub sign_piece : Sign → IntKind → (from to : ℕ) → Piece
 sign_piece Positive k from to = Nothing
 sign_piece Negative k from to = Both (One (instr.Const to (kind.Int k) 0)) (One (instr.Int Sub k to to from))
-sign_piece Complement k from to = Both (One (instr.Const to (kind.Int k) (2 ^ 64 - 1))) (One (instr.Int Xor k to to from))
+sign_piece Complement k from to = Both (One (instr.Const to (kind.Int k) (all_ones k))) (One (instr.Int Xor k to to from))
 
 abbrev pub operation_piece : Operation → (to a b : ℕ) → Piece
 operation_piece (Whole op k count) to a b = One (instr.Int op k to a b)
@@ -133,14 +138,15 @@ abbrev pub library_of : Service → LibOp
 library_of Put_char = lib.PutChar
 library_of service = lib.GetChar
 
--- The code of an expression, whose value comes into its temp; a constant has the given kind. (A place that is not read has no value; the
+-- The code of an expression, whose value comes into its temp; a constant has the given kind. A value that isn't used has that of 64 bits
+-- without a sign, which has each constant. (A place that is not read has no value; the
 -- meaning gives 0 there.)
 abbrev pub piece : IntKind → ℕ → Ex → Piece
 piece of next (Number n) = One (instr.Const next (kind.Int of) n)
 piece of next (Variable p x) = One (instr.Const next (kind.Int of) 0)
 piece of next (Load k e) = One (instr.Copy next (variable_in e))
 piece of next (Convert p j k plain e) = Both (piece (int_kind j) next e) (One (instr.Convert (next + used e) (result next e) (kind.Int (int_kind j)) (kind.Int (int_kind k))))
-piece of next (Discard e) = Both (piece int.I32 next e) (One (instr.Const (next + used e) (kind.Int int.I32) 0))
+piece of next (Discard e) = Both (piece int.U64 next e) (One (instr.Const (next + used e) (kind.Int int.I32) 0))
 piece of next (Unary p sign k e) = Both (piece (int_kind k) next e) (sign_piece sign (int_kind k) (result next e) (next + used e))
 piece of next (Not p k e) =
     Both (piece (int_kind k) next e) (Both (One (instr.Const (next + used e) (kind.Int (int_kind k)) 0)) (One (instr.Cmp Eq (kind.Int (int_kind k)) (next + used e + 1) (result next e) (next + used e))))
@@ -195,7 +201,7 @@ module _ (kinds : List TacKind) where
 
   abbrev mutual
     pub statement_temps : St → List TacKind
-    statement_temps (Do e) = temps int.I32 e
+    statement_temps (Do e) = temps int.U64 e
     statement_temps (Give x e) = temps (kind_of_variable kinds x) e
     statement_temps (Block ds ss) = statements_temps ss
     statement_temps (If p k e a b) = temps (int_kind k) e ++ statement_temps a ++ statement_temps b
@@ -210,7 +216,7 @@ module _ (kinds : List TacKind) where
 
   abbrev mutual
     pub statement_piece : ℕ → St → Piece
-    statement_piece next (Do e) = piece int.I32 next e
+    statement_piece next (Do e) = piece int.U64 next e
     statement_piece next (Give x e) = Both (piece (kind_of_variable kinds x) next e) (One (instr.Copy x (result next e)))
     statement_piece next (Block ds ss) = Both (zeros ds) (statements_piece next ss)
     statement_piece next (If p k e a b) =

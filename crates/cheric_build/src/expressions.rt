@@ -84,7 +84,7 @@ pub fn expression(
         }
         ExprKind::Convert(a) => {
             if is_void(p.types.as_slice(), e.of) {
-                expression(alloc, p, d, *a, IntKind::I32, out)?;
+                expression(alloc, p, d, *a, IntKind::U64, out)?;
                 return constant(out, IntKind::I32, 0);
             }
             let old = kind_at(p, *a);

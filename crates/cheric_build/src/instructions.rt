@@ -7,12 +7,13 @@ ghost use Rattle.tac_ir.specs.declared.code.TacKind.TheVariants as kinds;
 ghost use Rattle.tac_ir.specs.declared.code.LibOp.TheVariants as lib;
 ghost use Rattle.cheric_build.specs.Emitted.{next_temp, Emits, Ends, Signed, Opened, Closed};
 ghost use Rattle.cheric_build.specs.Pieces.{One, Both};
+ghost use Rattle.cheric_build.specs.Compiled.{all_ones};
 ghost use Rattle.c_tree.specs.declared.typed.UnaryOp.TheVariants as unary;
 
 use crate::emitter::Emitter;
 use c_tree::UnaryOp;
 use ck_base::{NoMemory, Sequence};
-use ck_int::{CmpOp, IntKind, IntOp};
+use ck_int::{CmpOp, IntKind, IntOp, wrap};
 use std::alloc::Global;
 use tac_ir::{LibOp, TacInstr, TacKind};
 
@@ -143,9 +144,16 @@ pub fn signed(out: &mut Emitter, op: UnaryOp, kind: IntKind, a: u32) -> Result<u
     match op {
         UnaryOp::Plus => Ok(a),
         UnaryOp::Minus => computed_with(out, IntOp::Sub, kind, 0, a),
-        UnaryOp::Complement => computed_with(out, IntOp::Xor, kind, u64::MAX, a),
+        UnaryOp::Complement => computed_with(out, IntOp::Xor, kind, all_ones(kind), a),
         UnaryOp::LogicalNot => negated(out, kind, a),
     }
+}
+
+/// The number all of whose bits are set, as a kind keeps it.
+fn all_ones(kind: IntKind) -> u64
+    ensures { result ≡ all_ones kind }
+{
+    wrap(kind, i128::from(u64::MAX))
 }
 
 // An operation on a constant and a temp.

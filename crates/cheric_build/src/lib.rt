@@ -2,6 +2,7 @@
 #![tactic(auto)]
 
 mod branches;
+mod building;
 mod emitter;
 mod expressions;
 mod form;
@@ -9,7 +10,9 @@ mod functions;
 mod instructions;
 mod lowering;
 mod statements;
+mod text;
 
+pub use building::{Built, build_typed};
 pub use form::is_integer_form;
 pub use lowering::lower;
 

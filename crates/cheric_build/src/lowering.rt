@@ -9,6 +9,7 @@ ghost use Rattle.cheri_c_sem.specs.Runs.{placed};
 ghost use Rattle.tac_ir.specs.Meaning.{tac};
 ghost use Rattle.tac_ir.specs.WellFormed.{is_well_formed};
 ghost use Rattle.tac_ir.specs.Within.{Within};
+ghost use Rattle.rv_select.specs.Form.{IsIntegerCode};
 ghost use Rattle.cheric_build.specs.Form.{is_integer_form};
 ghost use Rattle.cheric_build.specs.Compiled.{main_code};
 ghost use Rattle.cheric_build.specs.Sizes.{IsTyped};
@@ -48,6 +49,8 @@ pub fn lower(alloc: Global, p: &Typed) -> Result<Tac, NoMemory>
     requires typed { WellTyped p.now }
     ensures well_formed { IfOk result (λ t. is_well_formed t p.now ≡ true) }
     ensures within { IfOk result (λ t. Within t p.now) }
+    // and it is of the form that machine code is selected for
+    ensures selectable { IfOk result IsIntegerCode }
     ensures same { IfOk result (λ t. (m : Map) (w : World) (n : ℕ) → Legal p.now m → tac t p.now m w n ≡ placed p.now m w n) }
 {
     match first(p) {

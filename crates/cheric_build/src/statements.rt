@@ -109,7 +109,7 @@ pub fn statement(
     };
     match &s.kind {
         StmtKind::Expr(a) => {
-            expression(alloc, p, d, *a, IntKind::I32, out)?;
+            expression(alloc, p, d, *a, IntKind::U64, out)?;
             Ok(())
         }
         StmtKind::Init { var, value, .. } => {

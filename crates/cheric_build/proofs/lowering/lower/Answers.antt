@@ -8,8 +8,9 @@ use Rattle.tac_ir.specs.Meaning.{tac}
 use Rattle.tac_ir.specs.WellFormed.{is_well_formed}
 use Rattle.tac_ir.specs.Within.{Within}
 use Rattle.tac_ir.specs.declared.code.Tac.{Tac}
+use Rattle.rv_select.specs.Form.{IsIntegerCode}
 use Rattle.cheric_build.specs.Compiled.{main_code}
-use Rattle.cheric_build.proofs.Assembled.{lowered_formed, lowered_within, lowered_same, form_has_main}
+use Rattle.cheric_build.proofs.Assembled.{lowered_formed, lowered_within, lowered_same, lowered_selectable, form_has_main, form_light, weight_of_one}
 use Rattle.cheric_build.proofs.TypingProgram.{typed_of}
 use Rattle.cheric_build.proofs.lowering.lower.Goals as goal
 
@@ -33,3 +34,11 @@ pub returns-clause-same : goal.returns-clause-same
 returns-clause-same c =
     IfOk-weaker c.program.result (λ (t : Tac). t.funs ≡ main_code c.args.p.now c.in-Some.d.now ∷ []) (λ (t : Tac). (m : Map) (w : World) (n : ℕ) → Legal c.args.p.now m → tac t c.args.p.now m w n ≡ placed c.args.p.now m w n)
     (λ t e m w n legal. lowered_same c.args.p.now c.in-Some.d.now (typed_of c.args.p.now c.in-Some.d.now c.requires.typed c.requires.form c.in-Some.ensures) t e m w n) c.program.ensures
+
+pub returns-clause-selectable : goal.returns-clause-selectable
+returns-clause-selectable c =
+    let p = c.args.p.now in
+    let d = c.in-Some.d.now in
+    let typed = typed_of p d c.requires.typed c.requires.form c.in-Some.ensures in
+    IfOk-weaker c.program.result (λ (t : Tac). t.funs ≡ main_code p d ∷ []) IsIntegerCode
+    (lowered_selectable p d typed (form_light p c.requires.form) (weight_of_one p d c.requires.typed.ordered typed.only)) c.program.ensures
