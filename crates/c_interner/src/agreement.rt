@@ -1,0 +1,185 @@
+//! Whether types agree (C11 6.2.7). The answer for a pair of types is made of those for the pairs of their parts, and each is found
+//! once, since types share parts.
+
+ghost use Rattle.std.specs.Prelude.{◌≡◌, ◌<◌, length, IfOk, IfSome, OnOk};
+ghost use Rattle.c_tree.specs.Types.{agree, same_kind};
+ghost use Rattle.c_interner.specs.Agreement.{lengths_of};
+ghost use Rattle.c_interner.specs.Known.{type_in, AreRight};
+ghost use Rattle.c_interner.specs.Levels.{levels_agree, pairs_agree};
+ghost use Rattle.c_interner.specs.Numbers.{type_named};
+
+use crate::heads::Head;
+use crate::levels::{Level, level_at, parts_of};
+use crate::numbers::next_number;
+use c_tree::{CType, Typed};
+use ck_base::NoMemory;
+use ck_int::IntKind;
+use indexmap::IndexMap;
+use std::alloc::Global;
+
+/// When the lengths of two arrays agree.
+#[derive(Clone, Copy, Debug)]
+pub enum Lengths {
+    /// They are equal.
+    Equal,
+    /// They are equal, or one of them is not known (C11 6.7.6.2p6).
+    Compatible,
+}
+
+/// What is known so far of the agreement of types of a list.
+#[derive(Drop)]
+struct Agreements<'t> {
+    alloc: Global,
+    types: &'t [CType],
+    /// The number of a type that is void.
+    void: u32,
+    how: Lengths,
+    known: IndexMap<(u32, u32), bool>,
+}
+
+fn lengths_agree(how: Lengths, m: u64, n: u64) -> bool
+    ensures { lengths_of how m n ≡ result }
+{
+    match how {
+        Lengths::Equal => m == n,
+        Lengths::Compatible => m == n || m == 0 || n == 0,
+    }
+}
+
+fn is_same_kind(j: IntKind, k: IntKind) -> bool
+    ensures { same_kind j k ≡ result }
+{
+    match (j, k) {
+        (IntKind::Bool, IntKind::Bool)
+        | (IntKind::I8, IntKind::I8)
+        | (IntKind::U8, IntKind::U8)
+        | (IntKind::I16, IntKind::I16)
+        | (IntKind::U16, IntKind::U16)
+        | (IntKind::I32, IntKind::I32)
+        | (IntKind::U32, IntKind::U32)
+        | (IntKind::I64, IntKind::I64)
+        | (IntKind::U64, IntKind::U64) => true,
+        _ => false,
+    }
+}
+
+fn levels_agree(how: Lengths, c: &Level, d: &Level) -> bool
+    ensures { levels_agree (lengths_of how) c.now.head c.now.params.items d.now.head d.now.params.items ≡ result }
+{
+    match (c.head, d.head) {
+        (Head::Void, Head::Void)
+        | (Head::Pointer(_), Head::Pointer(_))
+        | (Head::Const(_), Head::Const(_)) => true,
+        (Head::Int(j, m), Head::Int(k, n)) => is_same_kind(j, k) && m == n,
+        (Head::Cap(a), Head::Cap(b)) => { if a { b } else { !b } }
+        (Head::Array(_, m), Head::Array(_, n)) => lengths_agree(how, m, n),
+        (Head::Tagged(m), Head::Tagged(n)) => m == n,
+        (Head::Function(_), Head::Function(_)) => c.params.len() == d.params.len(),
+        _ => false,
+    }
+}
+
+impl<'t> Agreements<'t> {
+    fn new(alloc: Global, types: &'t [CType], how: Lengths) -> Result<Self, NoMemory>
+        ensures right { IfOk result (λ a. AreRight a) }
+        ensures types { IfOk result (λ a. a.types.now ≡ types.now) }
+        ensures how { IfOk result (λ a. a.how ≡ how) }
+    {
+        Ok(Agreements {
+            alloc,
+            types,
+            void: next_number(types)?,
+            how,
+            known: IndexMap::new(alloc),
+        })
+    }
+
+    /// Whether two types agree, if it is known.
+    fn look(&self, pair: (u32, u32)) -> Option<bool>
+        requires { AreRight self.now }
+        ensures { IfSome result (λ r. agree (lengths_of self.now.how) (type_in self.now.types.now pair.0) (type_in self.now.types.now pair.1) ≡ r) }
+    {
+        if pair.0 == pair.1 {
+            return Some(true);
+        }
+        self.known.get(&pair).copied()
+    }
+
+    /// Whether pairs of types agree, if it is known. Those of which it is not known wait.
+    fn look_all(
+        &self,
+        pairs: &[(u32, u32)],
+        waiting: &mut Vec<(u32, u32)>,
+    ) -> Result<Option<bool>, NoMemory>
+        requires { AreRight self.now }
+        ensures { IfOk result (λ o. IfSome o (λ r. pairs_agree (lengths_of self.now.how) (type_in self.now.types.now) pairs.now ≡ r)) }
+    {
+        let mut all_known = true;
+        for pair in pairs {
+            match self.look(*pair) {
+                None => {
+                    waiting.push(*pair)?;
+                    all_known = false;
+                }
+                Some(false) => return Ok(Some(false)),
+                Some(true) => {}
+            }
+        }
+        Ok(if all_known { Some(true) } else { None })
+    }
+
+    /// Whether two types agree, if it is known of their parts. Those parts of which it is not known wait.
+    fn judge(
+        &self,
+        pair: (u32, u32),
+        waiting: &mut Vec<(u32, u32)>,
+    ) -> Result<Option<bool>, NoMemory>
+        requires { AreRight self.now }
+        ensures { IfOk result (λ o. IfSome o (λ r. agree (lengths_of self.now.how) (type_in self.now.types.now pair.0) (type_in self.now.types.now pair.1) ≡ r)) }
+    {
+        let c = level_at(self.alloc, self.types, self.void, pair.0)?;
+        let d = level_at(self.alloc, self.types, self.void, pair.1)?;
+        if !levels_agree(self.how, &c, &d) {
+            return Ok(Some(false));
+        }
+        let parts = parts_of(self.alloc, &c, &d)?;
+        self.look_all(parts.as_slice(), waiting)
+    }
+
+    /// Finds whether two types agree, or lets them wait for their parts.
+    fn settle(&mut self, pair: (u32, u32), waiting: &mut Vec<(u32, u32)>) -> Result<(), NoMemory>
+        requires { AreRight self.old }
+        ensures right { OnOk result (AreRight self.new) }
+        ensures rest { OnOk result (self.new ≡ record self.old { known = self.new.known }) }
+    {
+        if self.look(pair).is_some() {
+            return Ok(());
+        }
+        let others = waiting.len();
+        waiting.push(pair)?;
+        if let Some(agree) = self.judge(pair, waiting)? {
+            waiting.truncate(others);
+            self.known.insert(pair, agree)?;
+        }
+        Ok(())
+    }
+}
+
+/// Whether two types agree up to the lengths of arrays.
+pub fn agree(alloc: Global, p: &Typed, how: Lengths, a: u32, b: u32) -> Result<bool, NoMemory>
+    requires first { a < length p.now.types }
+    requires second { b < length p.now.types }
+    ensures { IfOk result (λ r. agree (lengths_of how) (type_named p.now a) (type_named p.now b) ≡ r) }
+{
+    let mut agreements = Agreements::new(alloc, p.types.as_slice(), how)?;
+    let mut waiting = Vec::new(alloc);
+    waiting.push((a, b))?;
+    // Memory ends before so many steps are taken.
+    'steps: for _ in 0..usize::MAX {
+        match waiting.pop() {
+            None => return agreements.look((a, b)).ok_or(NoMemory),
+            Some(pair) => agreements.settle(pair, &mut waiting)?,
+        }
+    }
+    Err(NoMemory)
+}

@@ -1,0 +1,187 @@
+//! Composites of types (C11 6.2.7p3). The composite of a pair of types is made of those of the pairs of their parts, and each is made
+//! once, since types share parts.
+
+ghost use Rattle.std.specs.Prelude.{◌≡◌, ℕ, ◌<◌, List, ◌++◌, length, map, drop, IfOk, IfSome, OnOk, MatchOption};
+ghost use Rattle.c_tree.specs.Types.{Ty, Void, composite};
+ghost use Rattle.c_tree.specs.Views.{type_from};
+ghost use Rattle.c_interner.specs.Heads.{built};
+ghost use Rattle.c_interner.specs.Known.{type_in, IsComposite, AreComposites, NamesComposites};
+ghost use Rattle.c_interner.specs.Levels.{parts_of, pair_composite, AreBelow};
+ghost use Rattle.c_interner.specs.Numbers.{AddsTypes, type_named};
+
+use crate::heads::Head;
+use crate::levels::{Level, level_at, parts_of};
+use crate::numbers::Numbers;
+use c_tree::{CType, Typed};
+use ck_base::{NoMemory, Sequence};
+use indexmap::IndexMap;
+use std::alloc::Global;
+
+/// The composites that are known so far of types of a program.
+#[derive(Drop)]
+pub(crate) struct Composites {
+    alloc: Global,
+    /// The number of a type that is void.
+    void: u32,
+    known: IndexMap<(u32, u32), u32>,
+}
+
+/// The parameters of a composite: the composites of the parameters that both types have, and those that the first has beside them.
+fn composed_params(alloc: Global, made: &[u32], params: &[u32]) -> Result<Sequence<u32>, NoMemory>
+    ensures { IfOk result (λ v. v ≡ made.now ++ drop (length made.now) params.now) }
+{
+    let mut all = made.to_vec(alloc)?;
+    if made.len() < params.len() {
+        all.extend_from_slice(&params[made.len()..])?;
+    }
+    Ok(Sequence::from_vec(all))
+}
+
+/// The composite of two types, of the numbers of their parts' composites. None where it is the first type.
+fn composed(alloc: Global, c: &Level, d: &Level, made: &[u32]) -> Result<Option<CType>, NoMemory>
+    ensures { IfOk result (λ o. (go : ℕ → Ty) → map go made.now ≡ map (pair_composite go) (parts_of c.now.head c.now.params.items d.now.head d.now.params.items) → let t = composite (built c.now.head c.now.params.items go) (built d.now.head d.now.params.items go) in MatchOption o (t ≡ built c.now.head c.now.params.items go) (λ m. type_from m go ≡ t)) }
+{
+    let Some((first, others)) = made.split_first() else {
+        return Ok(None);
+    };
+    match (c.head, d.head) {
+        (Head::Pointer(_), Head::Pointer(_)) => Ok(Some(CType::Pointer(*first))),
+        (Head::Array(_, m), Head::Array(_, n)) => Ok(Some(CType::Array(*first, m.max(n)))),
+        (Head::Function(_), Head::Function(_)) => {
+            let params = composed_params(alloc, others, c.params.as_slice())?;
+            Ok(Some(CType::Function(*first, params)))
+        }
+        (Head::Const(_), Head::Const(_)) => Ok(Some(CType::Const(*first))),
+        _ => Ok(None),
+    }
+}
+
+impl Composites {
+    pub(crate) fn new(alloc: Global, void: u32) -> Self
+        ensures { (types : List CType) → void < length types → type_in types void ≡ Void → AreComposites types result }
+    {
+        Composites {
+            alloc,
+            void,
+            known: IndexMap::new(alloc),
+        }
+    }
+
+    /// The composite of two types, if it is known.
+    fn look(&self, pair: (u32, u32)) -> Option<u32>
+        ensures { IfSome result (λ k. (types : List CType) → AreComposites types self.now → pair.0 < length types → IsComposite types pair k) }
+    {
+        if pair.0 == pair.1 {
+            return Some(pair.0);
+        }
+        self.known.get(&pair).copied()
+    }
+
+    /// The composites of pairs of types, if they are known. The pairs of which they are not known wait.
+    fn look_all(
+        &self,
+        pairs: &[(u32, u32)],
+        waiting: &mut Vec<(u32, u32)>,
+    ) -> Result<Option<Vec<u32>>, NoMemory>
+        ensures known { IfOk result (λ o. IfSome o (λ v. (types : List CType) → AreComposites types self.now → AreBelow (length types) pairs.now → NamesComposites types pairs.now v.items)) }
+        ensures waiting { OnOk result ((n : ℕ) → AreBelow n pairs.now → AreBelow n waiting.old.items → AreBelow n waiting.new.items) }
+    {
+        let mut made = Vec::new(self.alloc);
+        let mut all_known = true;
+        for pair in pairs {
+            match self.look(*pair) {
+                Some(k) => made.push(k)?,
+                None => {
+                    waiting.push(*pair)?;
+                    all_known = false;
+                }
+            }
+        }
+        Ok(if all_known { Some(made) } else { None })
+    }
+
+    /// The composite of two types, if those of their parts are known. The pairs of parts of which they are not known wait.
+    fn make(
+        &self,
+        numbers: &mut Numbers,
+        p: &mut Typed,
+        pair: (u32, u32),
+        waiting: &mut Vec<(u32, u32)>,
+    ) -> Result<Option<u32>, NoMemory>
+        requires known { AreComposites p.old.types self.now }
+        requires first { pair.0 < length p.old.types }
+        requires second { pair.1 < length p.old.types }
+        requires waiting { AreBelow (length p.old.types) waiting.old.items }
+        ensures adds { AddsTypes p.old p.new }
+        ensures is { IfOk result (λ o. IfSome o (λ k. IsComposite p.new.types pair k)) }
+        ensures waiting { OnOk result (AreBelow (length p.old.types) waiting.new.items) }
+    {
+        let c = level_at(self.alloc, p.types.as_slice(), self.void, pair.0)?;
+        let d = level_at(self.alloc, p.types.as_slice(), self.void, pair.1)?;
+        let parts = parts_of(self.alloc, &c, &d)?;
+        let Some(made) = self.look_all(parts.as_slice(), waiting)? else {
+            return Ok(None);
+        };
+        match composed(self.alloc, &c, &d, made.as_slice())? {
+            None => Ok(Some(pair.0)),
+            Some(t) => {
+                let k = numbers.number_of(p, t)?;
+                Ok(Some(k))
+            }
+        }
+    }
+
+    /// Makes the composite of two types, or lets them wait for those of their parts.
+    fn settle(
+        &mut self,
+        numbers: &mut Numbers,
+        p: &mut Typed,
+        pair: (u32, u32),
+        waiting: &mut Vec<(u32, u32)>,
+    ) -> Result<(), NoMemory>
+        requires known { AreComposites p.old.types self.old }
+        requires first { pair.0 < length p.old.types }
+        requires second { pair.1 < length p.old.types }
+        requires waiting { AreBelow (length p.old.types) waiting.old.items }
+        ensures adds { AddsTypes p.old p.new }
+        ensures known { OnOk result (AreComposites p.new.types self.new) }
+        ensures waiting { OnOk result (AreBelow (length p.old.types) waiting.new.items) }
+    {
+        if self.look(pair).is_some() {
+            return Ok(());
+        }
+        let others = waiting.len();
+        waiting.push(pair)?;
+        if let Some(k) = self.make(numbers, p, pair, waiting)? {
+            waiting.truncate(others);
+            self.known.insert(pair, k)?;
+        }
+        Ok(())
+    }
+
+    /// The composite of two types. Types may have been added to the program, also for want of memory.
+    pub(crate) fn find(
+        &mut self,
+        numbers: &mut Numbers,
+        p: &mut Typed,
+        a: u32,
+        b: u32,
+    ) -> Result<u32, NoMemory>
+        requires known { AreComposites p.old.types self.old }
+        requires first { a < length p.old.types }
+        requires second { b < length p.old.types }
+        ensures adds { AddsTypes p.old p.new }
+        ensures is { IfOk result (λ k. IsComposite p.new.types (a, b) k) }
+    {
+        let mut waiting = Vec::new(self.alloc);
+        waiting.push((a, b))?;
+        // Memory ends before so many steps are taken.
+        'steps: for _ in 0..usize::MAX {
+            match waiting.pop() {
+                None => return self.look((a, b)).ok_or(NoMemory),
+                Some(pair) => self.settle(numbers, p, pair, &mut waiting)?,
+            }
+        }
+        Err(NoMemory)
+    }
+}

@@ -1,0 +1,16 @@
+//! The types of a program by their numbers: one number for equal types, whether two types agree, and the composite of two compatible
+//! types (C11 6.2.7).
+#![tactic(auto)]
+
+mod agreement;
+mod composites;
+mod heads;
+mod levels;
+mod numbers;
+
+pub use agreement::{Lengths, agree};
+pub use heads::{Head, head_of, params_of, stands_before};
+pub use numbers::{Numbers, append, next_number, replace};
+
+#[cfg(test)]
+mod tests;

@@ -1,0 +1,215 @@
+// Each public call on known types, and types that are large in depth or in the number of their leaves.
+ghost use Rattle.std.specs.Prelude.{◌≡◌, ◌<◌, true, length};
+
+use super::{Lengths, Numbers, agree, append, next_number};
+use c_tree::{CType, Typed};
+use ck_base::{NoMemory, Sequence};
+use ck_int::IntKind;
+use std::alloc::Global;
+use std::test::Fail;
+
+const INT: CType = CType::Int(IntKind::I32, 0);
+
+fn program(alloc: Global, types: Vec<CType>) -> Typed {
+    Typed {
+        types: Sequence::from_vec(types),
+        globals: Sequence::from_vec(Vec::new(alloc)),
+        literals: Sequence::from_vec(Vec::new(alloc)),
+        funs: Sequence::from_vec(Vec::new(alloc)),
+        exprs: Sequence::from_vec(Vec::new(alloc)),
+        stmts: Sequence::from_vec(Vec::new(alloc)),
+        main: 0,
+    }
+}
+
+// A type at the end of the list, whether or not it stands there already.
+fn add(alloc: Global, p: &mut Typed, c: CType) -> Result<u32, NoMemory> {
+    let k = next_number(p.types.as_slice())?;
+    append(alloc, &mut p.types, c)?;
+    Ok(k)
+}
+
+fn params(alloc: Global, ps: &[u32]) -> Result<Sequence<u32>, NoMemory> {
+    Ok(Sequence::from_vec(ps.to_vec(alloc)?))
+}
+
+fn are_there(p: &Typed, a: u32, b: u32) -> bool
+    ensures first { result ≡ true → a < length p.now.types }
+    ensures second { result ≡ true → b < length p.now.types }
+{
+    let count = p.types.as_slice().len();
+    (a as usize) < count && (b as usize) < count
+}
+
+fn agree_in(alloc: Global, p: &Typed, how: Lengths, a: u32, b: u32) -> Result<bool, NoMemory> {
+    if !are_there(p, a, b) {
+        return Err(NoMemory);
+    }
+    agree(alloc, p, how, a, b)
+}
+
+fn composite_in(numbers: &mut Numbers, p: &mut Typed, a: u32, b: u32) -> Result<u32, NoMemory> {
+    if !are_there(p, a, b) {
+        return Err(NoMemory);
+    }
+    numbers.composite(p, a, b)
+}
+
+// The length of the array at the bottom of a type, along last parameters, and how many levels stand above it.
+fn bottom(types: &[CType], top: u32) -> (u64, usize) {
+    let mut k = top;
+    for level in 0..types.len() {
+        match types.get(k as usize) {
+            Some(CType::Pointer(of) | CType::Const(of)) => k = *of,
+            Some(CType::Function(gives, ps)) => {
+                k = ps.as_slice().last().copied().unwrap_or(*gives);
+            }
+            Some(CType::Array(_, count)) => return (*count, level),
+            _ => return (0, level),
+        }
+    }
+    (0, 0)
+}
+
+// Pointers to functions of two parameters, each the one before.
+fn doubling(alloc: Global, p: &mut Typed, array: u32) -> Result<u32, NoMemory> {
+    let mut top = add(alloc, p, CType::Pointer(array))?;
+    for _ in 0..60 {
+        let of = params(alloc, &[top, top])?;
+        let function = add(alloc, p, CType::Function(0, of))?;
+        top = add(alloc, p, CType::Pointer(function))?;
+    }
+    Ok(top)
+}
+
+fn pointers(alloc: Global, p: &mut Typed, array: u32) -> Result<u32, NoMemory> {
+    let mut top = array;
+    for _ in 0..100_000 {
+        top = add(alloc, p, CType::Pointer(top))?;
+    }
+    Ok(top)
+}
+
+// `int`, an array of an unknown number of them and one of four, pointers to these, and a function from the one to the other, and back.
+fn small_types(alloc: Global) -> Result<Typed, NoMemory> {
+    let to_open = params(alloc, &[3])?;
+    let to_four = params(alloc, &[4])?;
+    let types = vec![in alloc;
+        INT,
+        CType::Array(0, 0),
+        CType::Array(0, 4),
+        CType::Pointer(1),
+        CType::Pointer(2),
+        CType::Function(3, to_four),
+        CType::Function(4, to_open),
+        CType::Const(3),
+    ]?;
+    Ok(program(alloc, types))
+}
+
+#[test]
+fn equal_types_have_one_number(rt: HostRuntime) -> Result<(), Fail> {
+    let alloc = rt.alloc();
+    let mut p = program(alloc, Vec::new(alloc));
+    let mut numbers = Numbers::new(alloc);
+    for (of, expected) in [(0, 1), (1, 2), (0, 1), (1, 2)] {
+        let int = numbers.number_of(&mut p, INT)?;
+        assert_eq!(rt; int, 0);
+        let pointer = numbers.number_of(&mut p, CType::Pointer(of))?;
+        assert_eq!(rt; pointer, expected);
+    }
+    Ok(())
+}
+
+#[test]
+fn types_agree(rt: HostRuntime) -> Result<(), Fail> {
+    let alloc = rt.alloc();
+    let p = small_types(alloc)?;
+    for (a, b, equal, compatible) in [
+        (0, 0, true, true),
+        (0, 1, false, false),
+        (1, 2, false, true),
+        (3, 4, false, true),
+        (5, 6, false, true),
+        (6, 6, true, true),
+        (3, 7, false, false),
+    ] {
+        assert_eq!(rt; agree_in(alloc, &p, Lengths::Equal, a, b)?, equal);
+        assert_eq!(rt; agree_in(alloc, &p, Lengths::Compatible, a, b)?, compatible);
+    }
+    Ok(())
+}
+
+#[test]
+fn a_composite_knows_each_length(rt: HostRuntime) -> Result<(), Fail> {
+    let alloc = rt.alloc();
+    let mut p = small_types(alloc)?;
+    let mut numbers = Numbers::new(alloc);
+    for (a, b, length) in [
+        (1, 2, 4),
+        (2, 1, 4),
+        (1, 1, 0),
+        (5, 6, 4),
+        (6, 5, 4),
+        (5, 5, 4),
+    ] {
+        let c = composite_in(&mut numbers, &mut p, a, b)?;
+        assert_eq!(rt; bottom(p.types.as_slice(), c).0, length);
+        assert!(rt; agree_in(alloc, &p, Lengths::Compatible, a, c)?);
+    }
+    Ok(())
+}
+
+// What is said of two types, and the bottom of their composite.
+#[derive(Clone, Copy, Debug, PartialEq, Eq)]
+struct Compared {
+    equal: bool,
+    compatible: bool,
+    length: u64,
+    levels: usize,
+}
+
+fn compare(alloc: Global, p: &mut Typed, a: u32, b: u32) -> Result<Compared, NoMemory> {
+    let equal = agree_in(alloc, p, Lengths::Equal, a, b)?;
+    let compatible = agree_in(alloc, p, Lengths::Compatible, a, b)?;
+    let c = composite_in(&mut Numbers::new(alloc), p, a, b)?;
+    let (length, levels) = bottom(p.types.as_slice(), c);
+    Ok(Compared {
+        equal,
+        compatible,
+        length,
+        levels,
+    })
+}
+
+fn only_lengths_differ(levels: usize) -> Compared {
+    Compared {
+        equal: false,
+        compatible: true,
+        length: 4,
+        levels,
+    }
+}
+
+#[test]
+fn types_with_many_leaves(rt: HostRuntime) -> Result<(), Fail> {
+    let alloc = rt.alloc();
+    let mut p = small_types(alloc)?;
+    let a = doubling(alloc, &mut p, 1)?;
+    let b = doubling(alloc, &mut p, 2)?;
+    let compared = compare(alloc, &mut p, a, b)?;
+    assert_eq!(rt; compared, only_lengths_differ(121));
+    assert!(rt; p.types.as_slice().len() < 400);
+    Ok(())
+}
+
+#[test]
+fn deep_types(rt: HostRuntime) -> Result<(), Fail> {
+    let alloc = rt.alloc();
+    let mut p = small_types(alloc)?;
+    let a = pointers(alloc, &mut p, 1)?;
+    let b = pointers(alloc, &mut p, 2)?;
+    let compared = compare(alloc, &mut p, a, b)?;
+    assert_eq!(rt; compared, only_lengths_differ(100_000));
+    Ok(())
+}
