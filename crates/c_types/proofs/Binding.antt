@@ -17,9 +17,11 @@ use Rattle.std.specs.Prelude.{ℤ, not, is_some}
 use Rattle.c_tree.specs.Declarators.{is_new, is_none}
 use Rattle.c_tree.specs.declared.typed.Typed.{Typed}
 use Rattle.c_tree.specs.Views.{types_of}
+use Rattle.c_types.specs.declared.entries.Entry.{Entry}
 use Rattle.c_types.specs.declared.entries.Entry.TheVariants as entries
 use Rattle.c_types.specs.declared.scopes.Scopes.{Scopes}
-use Rattle.c_types.specs.Calls.{Given, Fails, IsDenoted}
+use Rattle.c_types.specs.Calls.{Given, Fails, IsDenoted, IsEntity}
+use Rattle.c_types.specs.Naming.{IsNamed}
 use Rattle.c_types.specs.Declares.{denoted, declares_constant}
 use Rattle.c_types.specs.declared.entries.Entity.{Entity}
 use Rattle.c_types.specs.declared.entries.Tagging.{Tagging}
@@ -166,18 +168,22 @@ found_bound : (ms : List meant.Scope) (name : List ℕ) (x : meant.Entity) → 0
 found_bound [] name x lt = absurd (omega arith)
 found_bound (m ∷ ms) name x lt = rw (bytes_refl name) refl
 
+changed_length : (f : meant.Scope → meant.Scope) (ms : List meant.Scope) → 0 < length (in_innermost f ms) → 0 < length ms
+changed_length f [] lt = lt
+changed_length f (m ∷ ms) lt = omega arith
+
+-- a name that was bound denotes that
+pub bound_named : {A : Type 0} (q : Typed) (s : State) (name : List ℕ) (x : meant.Entity) (y : Entry) (a : A) → IsEntity q y x → IsNamed q name y (bind_name name x s) a
+bound_named q s name x y a h lt = rw (found_bound s.scopes name x (changed_length (with_name name x) s.scopes lt)) h
+
 pub constant_given : (sd : Scopes) (p : Typed) (s : State) (t : Lexeme) (z : ℤ) → is_new s t.text ≡ true → Stands sd p (bind_name t.text (meant.Enumerator z) s) → Given sd p (denoted t (declares_constant t z) s) (IsDenoted p (entries.Constant z))
 constant_given sd p s t z e h = record {
   value = find_in (innermost (in_innermost (with_name t.text (meant.Enumerator z)) s.scopes)).names t.text;
   state = bind_name t.text (meant.Enumerator z) s;
   is = rw e refl;
   stands = h;
-  fits = λ lt. rw (found_bound s.scopes t.text (meant.Enumerator z) (changed_length s.scopes lt)) refl;
+  fits = bound_named {A = ℕ} p s t.text (meant.Enumerator z) (entries.Constant z) 0 refl;
 }
-  where
-    changed_length : (ms : List meant.Scope) → 0 < length (in_innermost (with_name t.text (meant.Enumerator z)) ms) → 0 < length ms
-    changed_length [] lt = lt
-    changed_length (m ∷ ms) lt = omega arith
 
 pub constant_fails : (sc : Scopes) (p : Typed) (t : Lexeme) (z : ℤ) → ((s : State) → Stands sc p s → is_new s t.text ≡ false) → Fails sc p sc p (denoted t (declares_constant t z)) 131 t.pos
 constant_fails sc p t z f = record {

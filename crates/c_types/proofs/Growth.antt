@@ -18,10 +18,10 @@ use Rattle.c_types.specs.declared.entries.Entity.TheVariants.{Local, Static, Rou
 use Rattle.c_types.specs.declared.scopes.Scope.{Scope}
 use Rattle.c_types.specs.declared.scopes.TagInfo.{TagInfo}
 use Rattle.c_types.specs.declared.scopes.Scopes.{Scopes}
-use Rattle.c_types.specs.declared.numbers.Numbers.{Numbers}
-use Rattle.c_types.specs.Numbers.{AddsTypes}
-use Rattle.c_types.specs.Stands.{Stands, Seen, local, static, routine, alias, enumerator, library, entity_kept, entity_seen, ShowsScope, ShowScopes, name_in, SeenTag, part_seen, member_kept, members_kept, tag_seen, tag_kept, Declared, declared_as, declared_at, static_seen, global_kept, routine_seen, fun_kept, local_seen, var_kept, vars_in, named}
-use Rattle.c_types.proofs.Growing.{length-types_of, types_longer}
+use Rattle.c_interner.specs.declared.numbers.Numbers.{Numbers}
+use Rattle.c_interner.specs.Numbers.{AddsTypes}
+use Rattle.c_types.specs.Stands.{Stands, Seen, local, static, routine, alias, enumerator, library, entity_kept, entity_seen, ShowsScope, ShowScopes, name_in, SeenTag, part_seen, member_kept, members_kept, tag_seen, tag_kept, Declared, declared_as, declared_at, static_seen, global_kept, routine_seen, fun_kept, local_seen, var_kept, named}
+use Rattle.c_interner.proofs.Growing.{length-types_of, types_longer}
 
 -- ---- lists that are longer at the end
 
@@ -171,8 +171,7 @@ stands_longer sc p s new more e h =
       globals = rw e (map_more (global_kept file ts) (global_kept file (ts ++ more)) static_seen p.globals s.statics (λ a b g. declared_more file ts more a.name a.pos a.of b.name b.of g) h.globals);
       begun = h.begun;
       routines = rw e (map_more (fun_kept file ts) (fun_kept file (ts ++ more)) routine_seen p.funs s.routines (λ a b g. declared_more file ts more a.name a.pos a.of b.name b.of g) h.routines);
-      locals = rw e (map_more (var_kept file ts) (var_kept file (ts ++ more)) local_seen (vars_in p.funs sc.function) s.locals (λ a b g. declared_more file ts more a.name a.pos a.of b.name b.of g) h.locals);
-      empty = h.empty;
+      locals = rw e (map_more (var_kept file ts) (var_kept file (ts ++ more)) local_seen sc.locals.items s.locals (λ a b g. declared_more file ts more a.name a.pos a.of b.name b.of g) h.locals);
       int = rw e (slice_get-longer ts more sc.int _ h.int);
       linked = h.linked;
     }
@@ -188,4 +187,4 @@ stands_more sc p q s a h =
 -- the numbers of types are no part of what is shown
 pub stands_numbers : (sc : Scopes) (n : Numbers) (p : Typed) (s : State) → Stands sc p s → Stands (record sc { numbers = n }) p s
 stands_numbers sc n p s h =
-    record { scopes = h.scopes; tags = h.tags; tag_types = h.tag_types; objects = h.objects; globals = h.globals; begun = h.begun; routines = h.routines; locals = h.locals; empty = h.empty; int = h.int; linked = h.linked }
+    record { scopes = h.scopes; tags = h.tags; tag_types = h.tag_types; objects = h.objects; globals = h.globals; begun = h.begun; routines = h.routines; locals = h.locals; int = h.int; linked = h.linked }

@@ -1,4 +1,3 @@
-pub mod Growing
 pub mod Looking
 pub mod Sizing
 pub mod Growth
@@ -6,3 +5,12 @@ pub mod Records
 pub mod Binding
 pub mod Start
 pub mod Before
+pub mod Steps
+pub mod Tagged
+pub mod Judged
+pub mod Added
+pub mod Changing
+pub mod Extending
+pub mod Seeing
+pub mod Objects
+pub mod Routines

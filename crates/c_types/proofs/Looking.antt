@@ -1,5 +1,5 @@
 -- What is found in scopes.
-use Rattle.std.proofs.Common.{◌≡◌, ℕ, zero, suc, add-one, ◌-◌, ◌<◌, ◌≤◌, List, [], ◌∷◌, ◌++◌, length, map, get_or, take, Option, Some, None, Result, Ok, Err, true, ltb, refl, sym, ap, subst, ◌∙◌, arith}
+use Rattle.std.proofs.Common.{◌≡◌, ℕ, zero, suc, add-one, ◌-◌, ◌<◌, ◌≤◌, List, [], ◌∷◌, ◌++◌, length, map, get_or, take, Option, Some, None, Result, Ok, Err, true, false, ltb, refl, sym, ap, subst, ◌∙◌, arith}
 use Rattle.std.specs.Prelude.{reverse, slice_get, option_map, option_to_list, IsSome, OnOk, OnErr, IfOk, ◌↔◌}
 use Rattle.std.specs.Global.{Vec}
 use Rattle.std.proofs.lemmas.Option.{none-some}
@@ -12,9 +12,9 @@ use Rattle.c_tree.specs.Scopes.{State, TagState, tag_extent, or_else, find_name,
 use Rattle.c_types.specs.declared.entries.Tagging.{Tagging}
 use Rattle.c_types.specs.declared.scopes.Scope.{Scope}
 use Rattle.c_types.specs.Stands.{Stands, SeenTag, named, tag_kept, tag_seen, ShowsScope, ShowScopes, name_in, tag_in, entity_kept, entity_seen, tagging_of}
-use Rattle.std.proofs.lemmas.Bool.{false≢true, ltb-true}
+use Rattle.std.proofs.lemmas.Bool.{false≢true, ltb-true, ltb-false}
 use Rattle.std.proofs.lemmas.List.{length-map}
-use Rattle.std.proofs.lemmas.Option.{get_or_from_slice_get, same_Some, slice_get-get_or}
+use Rattle.std.proofs.lemmas.Option.{get_or_from_slice_get, same_Some, slice_get-get_or, slice_get_past}
 use Rattle.c_tree.specs.declared.syntax.RecordKind.{RecordKind}
 use Rattle.c_tree.specs.declared.syntax.RecordKind.TheVariants as records
 use Rattle.c_tree.specs.Types.{Ty, Void, Tagged}
@@ -24,7 +24,7 @@ use Rattle.c_types.specs.declared.entries.Tagging.TheVariants.{Recorded, Enumera
 use Rattle.c_types.specs.declared.entries.Entry.{Entry}
 use Rattle.c_types.specs.declared.entries.Entry.TheVariants as entries
 use Rattle.c_types.specs.declared.scopes.TagInfo.{TagInfo}
-use Rattle.c_types.specs.Numbers.{type_named}
+use Rattle.c_interner.specs.Numbers.{type_named}
 use Rattle.c_types.specs.Sizes.{room_extent}
 use Rattle.c_types.specs.Calls.{IsTag, Found}
 use Rattle.c_types.specs.Looks.{tag_kind_of, IsThere, Numbered, name_among, tag_among}
@@ -97,7 +97,7 @@ dropped types k n (c ∷ cs) rest None ms l e v h = let p : 0 < n = rw l (omega 
 -- the same with other scopes
 pub stands_scopes : (sc : Scopes) (v : Vec Scope) (p : Typed) (s : State) (ms : List meant.Scope) → Stands sc p s → ShowScopes (types_of p.types) (length sc.tags.items) (reverse v.items) ms → Stands (record sc { scopes = v }) p (record s { scopes = ms })
 stands_scopes sc v p s ms h x =
-    record { scopes = x; tags = h.tags; tag_types = h.tag_types; objects = h.objects; globals = h.globals; begun = h.begun; routines = h.routines; locals = h.locals; empty = h.empty; int = h.int; linked = h.linked }
+    record { scopes = x; tags = h.tags; tag_types = h.tag_types; objects = h.objects; globals = h.globals; begun = h.begun; routines = h.routines; locals = h.locals; int = h.int; linked = h.linked }
 
 -- ---- lists that are seen alike
 
@@ -144,6 +144,9 @@ found_there types k cs ms n g h e = of_found (tag_among cs n) g (among_there typ
 
 pub there_at : {A : Type 0} (xs list : List A) (t : ℕ) (x : A) → list ≡ xs → true ≡ ltb t (length list) → x ≡ get_or list t x → slice_get xs t ≡ Some x
 there_at xs list t x l lt e = ap (λ ys. slice_get ys t) (sym l) ∙ slice_get-get_or list t x (ltb-true t (length list) (sym lt)) ∙ ap Some (sym e)
+
+pub none_at : {A : Type 0} (xs list : List A) (t : ℕ) → list ≡ xs → false ≡ ltb t (length list) → slice_get xs t ≡ None
+none_at xs list t l e = ap (λ ys. slice_get ys t) (sym l) ∙ slice_get_past list t (ltb-false t (length list) (sym e))
 
 pub found_tag : (sc : Scopes) (p : Typed) (s : State) (n : List ℕ) (o : Option Tagging) (t : Tagging) (x : Option Entry) → Stands sc p s → option_map tagging_of o ≡ find_tag s.scopes n → o ≡ Some t → (IsThere s (tagging_of t) → Found (λ y g. IsTag p y s g) x (Some (tagging_of t))) → Found (λ y g. IsTag p y s g) x (find_tag s.scopes n)
 found_tag sc p s n o t x h e f g =

@@ -29,10 +29,10 @@ use Rattle.c_tree.specs.Declarators.{is_begun, begin_tag, complete_tag, complete
 use Rattle.c_types.specs.declared.rooms.Room.{Room}
 use Rattle.c_types.specs.declared.scopes.TagInfo.{TagInfo}
 use Rattle.c_types.specs.declared.scopes.Scopes.{Scopes}
-use Rattle.c_types.specs.Numbers.{AddsTypes}
+use Rattle.c_interner.specs.Numbers.{AddsTypes}
 use Rattle.c_types.specs.Stands.{Stands, SeenTag, ShowScopes, tag_seen, tag_kept, part_seen, member_kept, members_kept, named}
 use Rattle.c_types.specs.Calls.{Given, Fails, HasParts}
-use Rattle.c_types.proofs.Growing.{types_of-push, length-types_of, type_at-level}
+use Rattle.c_interner.proofs.Growing.{types_of-push, length-types_of, type_at-level}
 use Rattle.c_types.proofs.Growth.{scopes_more, stands_more}
 use Rattle.c_types.proofs.Looking.{seen_at}
 
@@ -86,7 +86,6 @@ stands_tags sc v p s ms h le e t = record {
   begun = h.begun;
   routines = h.routines;
   locals = h.locals;
-  empty = h.empty;
   int = h.int;
   linked = h.linked;
 }
@@ -333,7 +332,6 @@ stands_completed sc v p s n i r ms parts t h e g has k b m x =
       begun = h.begun;
       routines = rw same h.routines;
       locals = rw same h.locals;
-      empty = h.empty;
       int = rw same h.int;
       linked = h.linked;
     }

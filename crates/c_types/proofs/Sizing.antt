@@ -6,11 +6,12 @@ use Rattle.c_tree.specs.Layout.{Extent, with_extent, times}
 use Rattle.c_tree.specs.Types.{Ty}
 use Rattle.c_tree.specs.Views.{type_from, type_at, types_of}
 use Rattle.c_tree.specs.Scopes.{TagState, type_extent}
-use Rattle.c_types.specs.declared.heads.Head.{Head}
+use Rattle.c_interner.specs.declared.heads.Head.{Head}
 use Rattle.c_types.specs.declared.extents.Step.{Step}
-use Rattle.c_types.specs.Heads.{built, params_of}
-use Rattle.c_types.specs.Sizes.{SeesBefore, step_extent, numbered_extent}
-use Rattle.c_types.proofs.Growing.{type_at-level, sees_before}
+use Rattle.c_interner.specs.Heads.{built, params_of}
+use Rattle.c_interner.specs.Numbers.{SeesBefore}
+use Rattle.c_types.specs.Sizes.{step_extent, numbered_extent}
+use Rattle.c_interner.proofs.Growing.{type_at-level, sees_before}
 use Rattle.std.proofs.lemmas.Option.{slice_get_within}
 
 pub none_of : (e : Option Extent) (n : ℕ) → n ≡ 0 → with_extent e (times n) ≡ None

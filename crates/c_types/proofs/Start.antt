@@ -1,5 +1,5 @@
 -- The types and the names before a file.
-use Rattle.std.proofs.Common.{◌≡◌, ℕ, zero, suc, ◌+◌, ◌<◌, ◌≤◌, Bool, true, false, ◌&&◌, List, [], ◌∷◌, ◌++◌, length, get_or, take, map, Some, None, refl, sym, ap, subst, ◌∙◌, arith, length-append, append_assoc, inl, inr}
+use Rattle.std.proofs.Common.{◌≡◌, ℕ, zero, suc, ◌+◌, ◌<◌, ◌≤◌, Bool, true, false, ◌&&◌, List, [], ◌∷◌, ◌++◌, length, get_or, take, map, Some, refl, sym, ap, subst, ◌∙◌, arith, length-append, append_assoc, inl, inr}
 use Rattle.std.specs.Prelude.{slice_get, slice_index, nat_lt, bytes_eq, if◌then◌else◌}
 use Rattle.std.proofs.lemmas.Bool.{ltb-true, false≢true, cases_lt}
 use Rattle.std.specs.Prelude.{◌⊎◌, reverse}
@@ -25,10 +25,10 @@ use Rattle.c_types.specs.declared.beginning.Recipe.TheVariants as recipes
 use Rattle.c_types.specs.declared.beginning.Known.{Known}
 use Rattle.c_types.specs.declared.beginning.Known.TheVariants as knowns
 use Rattle.c_types.specs.declared.beginning.TheConstants.{RECIPES, NAMES}
-use Rattle.c_types.specs.Numbers.{AddsTypes, IsNumberOf}
+use Rattle.c_interner.specs.Numbers.{AddsTypes, IsNumberOf}
 use Rattle.c_types.specs.Stands.{Stands, named, ShowsScope, name_in, tag_in, entity_kept, entity_seen, alias, library}
 use Rattle.c_types.specs.Beginning.{Row, recipe_type, recipe_entity, known, KnowsTypes, meaning, row_name, names_scope, refers_within, all_refer_within}
-use Rattle.c_types.proofs.Growing.{types_longer, length-types_of}
+use Rattle.c_interner.proofs.Growing.{types_longer, length-types_of}
 use Rattle.c_types.proofs.Growth.{slice_get-longer}
 
 -- ---- types
@@ -167,7 +167,7 @@ int_is = refl
 pub first_is_int : (ts : List Ty) (ns : List ℕ) → KnowsTypes ts ns → named ts (slice_index ns 0) ≡ Some types.int
 first_is_int ts ns h = h.types 0 (omega (arith, h.count)) ∙ ap (λ x. Some x) int_is
 
-pub stands_beginning : (sc : Scopes) (p : Typed) (c : Scope) → sc.scopes.items ≡ c ∷ [] → sc.tags.items ≡ [] → sc.objects.items ≡ [] → sc.begun.items ≡ [] → sc.linked.entries ≡ [] → sc.function ≡ None → p.globals ≡ [] → p.funs ≡ [] → ShowsScope (types_of p.types) 0 c file_scope → named (types_of p.types) sc.int ≡ Some types.int → Stands sc p beginning
+pub stands_beginning : (sc : Scopes) (p : Typed) (c : Scope) → sc.scopes.items ≡ c ∷ [] → sc.tags.items ≡ [] → sc.objects.items ≡ [] → sc.begun.items ≡ [] → sc.linked.entries ≡ [] → sc.locals.items ≡ [] → p.globals ≡ [] → p.funs ≡ [] → ShowsScope (types_of p.types) 0 c file_scope → named (types_of p.types) sc.int ≡ Some types.int → Stands sc p beginning
 stands_beginning sc p c s t o b l f g u h i = record {
   scopes = rw (t, s) (h, tt);
   tags = rw t refl;
@@ -177,7 +177,6 @@ stands_beginning sc p c s t o b l f g u h i = record {
   begun = rw b refl;
   routines = rw u refl;
   locals = rw f refl;
-  empty = λ k x e d. absurd (none-some x (rw u at e));
   int = i;
   linked = λ n. rw l refl;
 }

@@ -1,10 +1,12 @@
 -- What a call answers, against a step of the typing.
-use Rattle.std.specs.Prelude.{◌≡◌, ℕ, ◌<◌, Bool, true, List, length, map, Option, Some, None, Result, Ok, Err, if◌then◌else◌}
+use Rattle.std.specs.Prelude.{◌≡◌, ℕ, ◌<◌, ◌≤◌, Bool, true, List, length, map, Option, Some, None, Result, Ok, Err, if◌then◌else◌, slice_get}
 use Rattle.ck_base.specs.declared.positions.Pos.{Pos}
 use Rattle.ck_base.specs.declared.refusal.Refusal.{Refusal}
 use Rattle.ck_base.specs.declared.refusal.Refusal.TheVariants.{Code, NoMemory}
 use Rattle.ck_base.specs.Tokens.{Lexeme}
 use Rattle.c_tree.specs.declared.syntax.RecordKind.TheVariants as records
+use Rattle.c_tree.specs.declared.typed.GlobalDef.{GlobalDef}
+use Rattle.c_tree.specs.declared.typed.FunDef.{FunDef}
 use Rattle.c_tree.specs.declared.typed.Typed.{Typed}
 use Rattle.c_tree.specs.Types.{Ty, Tagged, int}
 use Rattle.c_tree.specs.Scopes as meant
@@ -19,7 +21,7 @@ use Rattle.c_types.specs.declared.entries.Entry.{Entry}
 use Rattle.c_types.specs.declared.entries.Entry.TheVariants as entries
 use Rattle.c_types.specs.declared.entries.TagKind.TheVariants as tag_kinds
 use Rattle.c_types.specs.declared.scopes.Scopes.{Scopes}
-use Rattle.c_types.specs.Numbers.{type_named}
+use Rattle.c_interner.specs.Numbers.{type_named}
 use Rattle.c_tree.specs.declared.typed.Member.{Member}
 use Rattle.c_types.specs.Stands.{Stands, part_seen, member_kept}
 use Rattle.c_types.specs.Declares.{storage_of, name_of, formed_of, declares_named, declares_definition, declares_constant, declares_tag, denoted}
@@ -116,3 +118,28 @@ DeclaresKind k file before p after q d r =
 -- a declaration of a type of the program
 abbrev pub Declares : List ℕ → Scopes → Typed → Scopes → Typed → Decl → Result Entry Refusal → Type 0
 Declares file before p after q d r = d.of < length p.types → DeclaresKind d.what file before p after q d r
+
+-- ---- what stays of a program
+
+-- each item of a list has one at its place in another list
+abbrev pub EachKept : {A : Type 0} → (A → A → Type 0) → List A → List A → Type 0
+EachKept {A} Kept xs ys = (k : ℕ) (x : A) → slice_get xs k ≡ Some x → (y : A) × (slice_get ys k ≡ Some y) × Kept x y
+
+-- an object is the same but for its type
+abbrev pub IsSameGlobal : GlobalDef → GlobalDef → Type 0
+IsSameGlobal g h = h ≡ record g { of = h.of }
+
+-- a function is the same but for its type, and for its name and place, which are those of its definition
+abbrev pub IsSameFun : FunDef → FunDef → Type 0
+IsSameFun f h = h ≡ record f { name = h.name; pos = h.pos; of = h.of }
+
+-- A program goes on: its types, objects and functions keep their numbers, and expressions and statements stay
+pub record Extends (old new : Typed) : Type 0 where
+  pub exprs : new.exprs ≡ old.exprs
+  pub stmts : new.stmts ≡ old.stmts
+  pub literals : new.literals ≡ old.literals
+  pub main : new.main ≡ old.main
+  pub count : length old.types ≤ length new.types
+  pub types : (k : ℕ) → k < length old.types → type_named new k ≡ type_named old k
+  pub globals : EachKept IsSameGlobal old.globals new.globals
+  pub funs : EachKept IsSameFun old.funs new.funs

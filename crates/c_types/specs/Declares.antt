@@ -17,7 +17,7 @@ use Rattle.c_types.specs.declared.entries.Storage.TheVariants as storages
 use Rattle.c_types.specs.declared.entries.Storage.{Storage as Stored}
 use Rattle.c_types.specs.declared.entries.TagKind.{TagKind}
 use Rattle.c_types.specs.declared.entries.TagKind.TheVariants as tags
-use Rattle.c_types.specs.Numbers.{type_named}
+use Rattle.c_interner.specs.Numbers.{type_named}
 use Rattle.c_types.specs.Stands.{text_at}
 
 -- ---- what stands in a declaration

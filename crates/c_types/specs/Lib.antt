@@ -1,8 +1,12 @@
-pub mod Heads
-pub mod Numbers
 pub mod Stands
 pub mod Declares
 pub mod Calls
 pub mod Looks
 pub mod Sizes
 pub mod Beginning
+pub mod Rooms
+pub mod Naming
+pub mod Judging
+pub mod Fitting
+pub mod Members
+pub mod Retyped

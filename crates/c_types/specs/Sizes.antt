@@ -49,11 +49,6 @@ abbrev pub HasSmallerPart : Step → ℕ → Type 0
 HasSmallerPart (steps.Base b) t = Unit {0}
 HasSmallerPart (steps.Part i n) t = i < t
 
--- of the types of a list, those before a number are seen, and nothing else
-pub record SeesBefore (types : List CType) (k : ℕ) (seen : ℕ → Ty) : Type 0 where
-  pub below : (j : ℕ) → j < k → seen j ≡ type_at (types_of types) j
-  pub past : (j : ℕ) → k ≤ j → seen j ≡ Void
-
 -- a layout within the limits
 pub record IsModest (l : Layout) : Type 0 where
   pub size : l.size ≤ size_limit

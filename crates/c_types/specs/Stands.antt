@@ -1,5 +1,5 @@
 -- What the scopes and the lists of a program stand for: the state of the typing of a file.
-use Rattle.std.specs.Prelude.{◌≡◌, ℕ, ℤ, ◌<◌, Bool, false, List, [], ◌∷◌, length, min, map, reverse, Option, Some, None, option_map, slice_get, slice_range, bytes_eq}
+use Rattle.std.specs.Prelude.{◌≡◌, ℕ, ℤ, ◌<◌, Bool, List, [], ◌∷◌, length, min, map, reverse, Option, Some, None, option_map, slice_get, slice_range, bytes_eq}
 use Rattle.std.specs.Map.{lookup}
 use Rattle.ck_base.specs.declared.positions.Pos.{Pos}
 use Rattle.ck_base.specs.declared.positions.Span.{Span}
@@ -147,15 +147,6 @@ local_seen v = declared_as v.name v.of
 abbrev pub var_kept : List ℕ → List Ty → VarDef → Declared
 var_kept file ts v = declared_at file ts v.name v.pos v.of
 
--- the locals of the function whose definition was declared last
-abbrev pub vars_of : Option FunDef → List VarDef
-vars_of None = []
-vars_of (Some f) = f.vars
-
-abbrev pub vars_in : List FunDef → Option ℕ → List VarDef
-vars_in fs None = []
-vars_in fs (Some k) = vars_of (slice_get fs k)
-
 -- ---- all of it
 
 -- The scopes and the program stand for the state. The places of the uses, the bodies, the addresses that were taken, the string literals and
@@ -168,7 +159,6 @@ pub record Stands (sc : Scopes) (p : Typed) (s : State) : Type 0 where
   pub globals : map (global_kept sc.file.now (types_of p.types)) p.globals ≡ map static_seen s.statics
   pub begun : sc.begun.items ≡ map (λ (f : RoutineState). f.begun) s.routines
   pub routines : map (fun_kept sc.file.now (types_of p.types)) p.funs ≡ map routine_seen s.routines
-  pub locals : map (var_kept sc.file.now (types_of p.types)) (vars_in p.funs sc.function) ≡ map local_seen s.locals
-  pub empty : (k : ℕ) (f : FunDef) → slice_get p.funs k ≡ Some f → slice_get sc.begun.items k ≡ Some false → f.vars ≡ []
+  pub locals : map (var_kept sc.file.now (types_of p.types)) sc.locals.items ≡ map local_seen s.locals
   pub int : named (types_of p.types) sc.int ≡ Some int
   pub linked : (n : List ℕ) → lookup (λ k. bytes_eq n k.now) sc.linked.entries ≡ linked s n

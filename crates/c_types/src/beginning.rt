@@ -4,13 +4,13 @@ ghost use Rattle.std.specs.Prelude.{◌≡◌, ℕ, ◌<◌, ◌≤◌, List, le
 ghost use Rattle.c_tree.specs.Types.{Ty};
 ghost use Rattle.c_tree.specs.Views.{type_from, types_of};
 ghost use Rattle.c_tree.specs.Programs.{file_scope, beginning};
-ghost use Rattle.c_types.specs.Numbers.{AddsTypes};
+ghost use Rattle.c_interner.specs.Numbers.{AddsTypes};
 ghost use Rattle.c_types.specs.Stands.{Stands, ShowsScope, entity_kept, entity_seen};
 ghost use Rattle.c_types.specs.Beginning.{recipe_type, recipe_entity, KnowsTypes, all_refer_within, names_scope};
 
 use crate::entries::Entity;
-use crate::numbers::Numbers;
 use crate::scopes::{Scope, Scopes};
+use c_interner::Numbers;
 use c_tree::{CType, Typed};
 use ck_base::{NoMemory, Sequence};
 use ck_int::IntKind;
@@ -208,7 +208,7 @@ impl<'a> Scopes<'a> {
             objects: Vec::new(alloc),
             begun: Vec::new(alloc),
             linked: IndexMap::new(alloc),
-            function: None,
+            locals: Vec::new(alloc),
             numbers: known,
             int: number_at(numbers.as_slice(), 0),
         })

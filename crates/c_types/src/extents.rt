@@ -9,10 +9,11 @@ ghost use Rattle.cap_layout.specs.Answers.{greatest_align, extent_is, IsLayout};
 ghost use Rattle.cap_layout.specs.Walks.{placing, capped, IsRow};
 ghost use Rattle.c_tree.specs.declared.typed.CType.{CType};
 ghost use Rattle.c_tree.specs.Types.{Ty};
-ghost use Rattle.c_types.specs.Heads.{built};
-ghost use Rattle.c_types.specs.Sizes.{step_extent, base_extent, IsSmallStep, IsSmallBase, HasSmallerPart, SeesBefore, IsModest};
+ghost use Rattle.c_interner.specs.Heads.{built};
+ghost use Rattle.c_interner.specs.Numbers.{SeesBefore};
+ghost use Rattle.c_types.specs.Sizes.{step_extent, base_extent, IsSmallStep, IsSmallBase, HasSmallerPart, IsModest};
 
-use crate::heads::{Head, head_of};
+use c_interner::{Head, head_of};
 use c_tree::CType;
 use cap_layout::{Layout, LayoutFault, owned};
 use ck_int::IntKind;

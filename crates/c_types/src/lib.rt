@@ -1,18 +1,26 @@
-//! What is declared in a C file (C11 6.2.1 to 6.2.5, 6.7): the types by their numbers, the layouts of complete structs and unions, and
-//! the names in force.
+//! What is declared in a C file (C11 6.2.1 to 6.2.5, 6.7): the layouts of complete structs and unions, and the names in force.
 #![tactic(auto)]
 
+mod agreeing;
+mod aliases;
 mod beginning;
+mod declaring;
 mod entries;
 mod extents;
-mod heads;
+mod filling;
+mod functions;
+mod judging;
+mod locals;
 mod measuring;
+mod members;
 mod names;
-mod numbers;
 mod rooms;
 mod scopes;
+mod statics;
+mod tag_names;
 mod tags;
 
+pub use c_interner::Lengths;
 pub use entries::{Decl, DeclKind, Entity, Entry, Faults, Storage, TagKind, Tagging};
 pub use scopes::{Scope, Scopes};
 

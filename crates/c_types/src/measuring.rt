@@ -4,7 +4,7 @@ ghost use Rattle.c_tree.specs.Layout.{size_limit, members, no_members};
 ghost use Rattle.c_tree.specs.Scopes.{State, is_complete, type_extent, tag_extent};
 ghost use Rattle.cap_layout.specs.Answers.{greatest_align, extent_is, IsLayout};
 ghost use Rattle.cap_layout.specs.Walks.{placing};
-ghost use Rattle.c_types.specs.Numbers.{type_named};
+ghost use Rattle.c_interner.specs.Numbers.{type_named};
 ghost use Rattle.c_types.specs.Sizes.{IsModest, numbered_extent};
 ghost use Rattle.c_types.specs.Stands.{Stands};
 

@@ -6,14 +6,14 @@ ghost use Rattle.c_tree.specs.Scopes.{State, enter, leave, find_name, find_tag, 
 ghost use Rattle.c_tree.specs.Scopes.{Scope as MeantScope};
 ghost use Rattle.c_tree.specs.Views.{types_of};
 ghost use Rattle.c_types.specs.Stands.{Stands, ShowsScope, name_in, tag_in, entity_kept, entity_seen, tagging_of};
-ghost use Rattle.c_types.specs.Numbers.{AddsTypes, IsNumberOf};
-ghost use Rattle.c_types.specs.Calls.{Does, Keeps, Found, IsEntity, IsTag};
+ghost use Rattle.c_interner.specs.Numbers.{AddsTypes, IsNumberOf};
+ghost use Rattle.c_types.specs.Calls.{Does, Keeps, Found, IsEntity, IsTag, Extends};
 ghost use Rattle.c_types.specs.Looks.{ShowsInnermost, IsThere, name_among, tag_among, entry_of, tag_kind_of};
 
 use crate::entries::{Entity, Entry, TagKind, Tagging};
-use crate::numbers::Numbers;
 use crate::rooms::Room;
-use c_tree::{CType, RecordKind, Typed};
+use c_interner::Numbers;
+use c_tree::{CType, RecordKind, Typed, VarDef};
 use ck_base::NoMemory;
 use indexmap::IndexMap;
 use std::alloc::Global;
@@ -59,8 +59,8 @@ pub struct Scopes<'a> {
     pub(crate) begun: Vec<bool>,
     /// The objects with linkage, by their names.
     pub(crate) linked: IndexMap<&'a [u8], u32>,
-    /// The function whose definition was declared last.
-    pub(crate) function: Option<u32>,
+    /// The parameters and the other locals of the function at work.
+    pub(crate) locals: Vec<VarDef>,
     pub(crate) numbers: Numbers,
     /// The number of `int`.
     pub(crate) int: u32,
@@ -99,6 +99,26 @@ impl<'a> Scope<'a> {
         Ok(())
     }
 
+    // Room for one more ordinary name.
+    pub(crate) fn reserve_name(&mut self) -> Result<(), NoMemory>
+        ensures names { (n : List ℕ) → name_in self.new n ≡ name_in self.old n }
+        ensures tags { (n : List ℕ) → tag_in self.new n ≡ tag_in self.old n }
+        ensures room { OnOk result (0 < spare self.new.names) }
+    {
+        self.names.reserve(1)?;
+        Ok(())
+    }
+
+    // Room for one more tag.
+    pub(crate) fn reserve_tag(&mut self) -> Result<(), NoMemory>
+        ensures names { (n : List ℕ) → name_in self.new n ≡ name_in self.old n }
+        ensures tags { (n : List ℕ) → tag_in self.new n ≡ tag_in self.old n }
+        ensures room { OnOk result (0 < spare self.new.tags) }
+    {
+        self.tags.reserve(1)?;
+        Ok(())
+    }
+
     pub(crate) fn name(&self, name: &[u8]) -> Option<Entity>
         ensures { result ≡ name_in self.now name.now }
     {
@@ -120,6 +140,7 @@ impl<'a> Scopes<'a> {
         ensures ok { IfOk result (λ k. IsNumberOf p.old p.new k c) }
         ensures err { OnErr result (p.new ≡ p.old) }
         ensures keeps { (s : State) → Stands self.old p.old s → Stands self.new p.new s }
+        ensures extends { Extends p.old p.new }
     {
         self.numbers.number_of(p, c)
     }

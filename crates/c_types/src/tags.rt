@@ -1,17 +1,18 @@
 // The tags of structs and unions: their declaration, and their members.
-ghost use Rattle.std.specs.Prelude.{◌≡◌, ℕ, List, Bool, ◌<◌, map, length, IfOk, OnErr, MatchResult, slice_get};
+ghost use Rattle.ck_base.specs.declared.positions.Pos.{Pos};
+ghost use Rattle.std.specs.Prelude.{false, ◌≡◌, ℕ, List, Bool, ◌<◌, map, length, IfOk, OnErr, MatchResult, slice_get};
 ghost use Rattle.c_tree.specs.Layout.{size_limit};
 ghost use Rattle.c_tree.specs.Scopes.{State, Part};
-ghost use Rattle.c_tree.specs.Declarators.{new_tag, begin_tag, complete_tag, kind_at, record_extent};
-ghost use Rattle.c_types.specs.Calls.{Does, Keeps, Answers, HasParts, Completes};
+ghost use Rattle.c_tree.specs.Declarators.{new_tag, begin_tag, complete_tag, is_begun, record_extent};
+ghost use Rattle.c_types.specs.Calls.{Given, Does, Keeps, Answers, HasParts, Completes, Extends};
 ghost use Rattle.c_tree.specs.Views.{types_of};
 ghost use Rattle.c_types.specs.Sizes.{IsRecordRoom, is_union, completed_type};
 ghost use Rattle.c_types.specs.Stands.{Stands, part_seen, member_kept};
 
 use crate::extents::{LIMIT, finished};
-use crate::numbers::{append, next_number, replace};
 use crate::rooms::Room;
 use crate::scopes::{Scopes, TagInfo};
+use c_interner::{append, next_number, replace};
 use c_tree::{CType, Member, RecordKind, Typed};
 use cap_layout::LayoutFault;
 use ck_base::{NoMemory, Pos, Refusal, Sequence};
@@ -35,17 +36,19 @@ fn completed(kind: RecordKind, tag: u32, members: Vec<Member>) -> CType
 }
 
 impl<'a> Scopes<'a> {
-    fn tag(&self, n: u32) -> Option<TagInfo>
+    pub(crate) fn tag(&self, n: u32) -> Option<TagInfo>
         ensures { result ≡ slice_get self.now.tags.items n }
     {
         self.tags.get(n as usize).copied()
     }
 
-    /// A new struct or union without a tag, which is not complete, and its type. The answer is the number of its tag.
-    pub fn new_tag(&mut self, p: &mut Typed, kind: RecordKind) -> Result<u32, NoMemory>
+    // A new struct or union without a tag, which is not complete, and its type. The answer is the number of its tag.
+    pub(crate) fn add_tag(&mut self, p: &mut Typed, kind: RecordKind) -> Result<u32, NoMemory>
         ensures ok { IfOk result (λ n. Does self.old p.old self.new p.new (new_tag kind) (λ s m. m ≡ n)) }
         ensures err { OnErr result (p.new ≡ p.old) }
         ensures keeps { OnErr result (Keeps self.old self.new p.old) }
+        ensures scopes { self.new.scopes ≡ self.old.scopes }
+        ensures extends { Extends p.old p.new }
     {
         let tag = next_number(self.tags.as_slice())?;
         let of = next_number(p.types.as_slice())?;
@@ -61,6 +64,33 @@ impl<'a> Scopes<'a> {
         Ok(tag)
     }
 
+    /// A new struct or union without a tag, which is not complete, and its type. The answer is the number of its tag.
+    pub fn new_tag(&mut self, p: &mut Typed, kind: RecordKind) -> Result<u32, NoMemory>
+        ensures ok { IfOk result (λ n. Does self.old p.old self.new p.new (new_tag kind) (λ s m. m ≡ n)) }
+        ensures err { OnErr result (p.new ≡ p.old) }
+        ensures keeps { OnErr result (Keeps self.old self.new p.old) }
+        ensures extends { Extends p.old p.new }
+    {
+        self.add_tag(p, kind)
+    }
+
+    // The braces of a struct or union are opened for the first time.
+    pub(crate) fn open_tag(&mut self, tag: u32)
+        ensures { (p : Typed) (s : State) (place : Pos) → Stands self.old p s → is_begun (slice_get s.tags tag) ≡ false → Given self.new p (begin_tag tag place s) (λ t a. Unit {0}) }
+    {
+        match self.tag(tag) {
+            None => {}
+            Some(info) => {
+                self.tags[tag as usize] = TagInfo {
+                    kind: info.kind,
+                    begun: true,
+                    of: info.of,
+                    room: info.room,
+                };
+            }
+        }
+    }
+
     /// The braces of a struct or union are opened, which happens once: otherwise 131 at the place.
     pub fn begin_tag(&mut self, tag: u32, pos: Pos) -> Result<(), Refusal>
         ensures { (p : Typed) → Answers self.old p self.new p (begin_tag tag pos) (λ x s a. Unit {0}) result }
@@ -71,12 +101,7 @@ impl<'a> Scopes<'a> {
                 if info.begun {
                     return Err(Refusal::Code(131, pos));
                 }
-                self.tags[tag as usize] = TagInfo {
-                    kind: info.kind,
-                    begun: true,
-                    of: info.of,
-                    room: info.room,
-                };
+                self.open_tag(tag);
                 Ok(())
             }
         }
@@ -117,7 +142,8 @@ impl<'a> Scopes<'a> {
         members: Vec<Member>,
         pos: Pos,
     ) -> Result<(), Refusal>
-        ensures { (kind : RecordKind) (parts : List Part) → HasParts (types_of p.old.types) parts members.items → Completes self.old p.old self.new p.new kind tag parts pos result }
+        ensures answers { (kind : RecordKind) (parts : List Part) → HasParts (types_of p.old.types) parts members.items → Completes self.old p.old self.new p.new kind tag parts pos result }
+        ensures extends { (s : State) → Stands self.old p.old s → Extends p.old p.new }
     {
         match self.tag(tag) {
             None => Ok(()),

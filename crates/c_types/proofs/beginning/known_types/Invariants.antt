@@ -1,6 +1,6 @@
 use Rattle.std.proofs.Common.{◌≡◌, length}
 use Rattle.c_tree.specs.Views.{types_of}
-use Rattle.c_types.specs.Numbers.{AddsTypes}
+use Rattle.c_interner.specs.Numbers.{AddsTypes}
 use Rattle.c_types.proofs.Start.{KnowsFirst}
 use Rattle.c_types.proofs.beginning.known_types.Given as goal
 

@@ -2,7 +2,7 @@ use Rattle.std.proofs.Common.{ap, sym}
 use Rattle.std.proofs.lemmas.Bool.{ltb-false}
 use Rattle.c_tree.specs.Scopes.{type_extent}
 use Rattle.cap_layout.proofs.Places.{there}
-use Rattle.c_types.proofs.Growing.{type_at-past}
+use Rattle.c_interner.proofs.Growing.{type_at-past}
 use Rattle.c_types.proofs.Sizing.{level_extent}
 use Rattle.c_types.proofs.extents.step_at.Goals as goal
 

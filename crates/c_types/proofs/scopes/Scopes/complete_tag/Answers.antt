@@ -1,11 +1,12 @@
 use Rattle.std.proofs.Common.{refl, sym, subst}
 use Rattle.cap_layout.specs.Answers.{Exceeds}
 use Rattle.c_tree.specs.Declarators.{record_extent}
+use Rattle.c_types.proofs.Extending.{completed_extends}
 use Rattle.c_types.proofs.Records.{over_fails, completed_now, kind_is}
 use Rattle.c_types.proofs.scopes.Scopes.complete_tag.Goals as goal
 
-pub returns-in-Err : goal.returns-in-Err
-returns-in-Err c kind parts has = (
+pub returns-in-Err-clause-answers : goal.returns-in-Err-clause-answers
+returns-in-Err-clause-answers c kind parts has = (
   λ s h k. over_fails s kind c.args.tag parts c.args.pos
       (subst (λ z. Exceeds (record_extent s.tags z parts)) (kind_is c.args.self.now c.args.p.now s c.args.tag c.in-Some.info kind h (sym c.in-Some.ensures) k)
       (c.in-Err.ensures s parts h (rw c.as_slice.ensures.value has))),
@@ -13,8 +14,12 @@ returns-in-Err c kind parts has = (
   λ s h. h,
 )
 
-pub returns-in-Ok : goal.returns-in-Ok
-returns-in-Ok c kind parts has s h k =
+pub returns-in-Ok-clause-answers : goal.returns-in-Ok-clause-answers
+returns-in-Ok-clause-answers c kind parts has s h k =
     rw (c.replace.ensures, c.completed.ensures)
     (completed_now c.args.self.now _ c.args.p.now s kind c.args.tag c.in-Some.info c.in-Ok.room c.args.members.items parts c.args.pos h (sym c.in-Some.ensures) k refl has
     (c.in-Ok.ensures s parts h (rw c.as_slice.ensures.value has)))
+
+pub returns-in-Ok-clause-extends : goal.returns-in-Ok-clause-extends
+returns-in-Ok-clause-extends c s h =
+    rw (c.replace.ensures, c.completed.ensures) (completed_extends c.args.self.now c.args.p.now s c.args.tag c.in-Some.info c.args.members.items h (sym c.in-Some.ensures))

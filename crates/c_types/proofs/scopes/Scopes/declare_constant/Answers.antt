@@ -1,20 +1,7 @@
-use Rattle.std.proofs.Common.{◌≡◌, true, ◌∙◌, ap, subst, w32}
+use Rattle.std.proofs.Common.{w32, ◌∙◌, ap}
 use Rattle.std.proofs.lemmas.Int.{to_z-of_z}
-use Rattle.std.specs.Prelude.{not}
-use Rattle.c_tree.specs.Scopes as meant
-use Rattle.c_tree.specs.Scopes.{bind_name}
-use Rattle.c_tree.specs.Views.{types_of}
-use Rattle.c_tree.specs.Declarators.{is_new}
-use Rattle.c_types.specs.Declares.{name_of}
-use Rattle.c_types.specs.Stands.{Stands, entity_kept, enumerator}
-use Rattle.c_types.proofs.Binding.{constant_given, new_name}
+use Rattle.c_types.specs.declared.entries.Entity.TheVariants.{Enumerator}
 use Rattle.c_types.proofs.scopes.Scopes.declare_constant.Goals as goal
 
 pub returns : goal.returns
-returns c p s h =
-    let z = c.args.value in
-    let q = to_z-of_z w32 z c.ranges.value in
-    let t = name_of c.args.self.now.file.now c.args.d in
-    let new : is_new s t.text ≡ true = subst (λ n. is_new s n ≡ true) c.text-name.ensures (new_name _ _ _ c.is_some.result (c.look_here.ensures p s h) c.is_some.ensures ∙ ap not c.if-is_some.false) in
-    rw (c.entry_of.ensures, c.constant-entity.ensures, q) (constant_given c.bind.new.self p s t z new
-    (subst (λ n. Stands c.bind.new.self p (bind_name n (meant.Enumerator z) s)) c.text-name.ensures (c.in_ok-bind.ensures.ok p s (meant.Enumerator z) h (ap (entity_kept (types_of p.types)) c.constant-entity.ensures ∙ ap enumerator q))))
+returns c p = c.declare_value.ensures p c.args.value (c.constant.ensures ∙ ap Enumerator (to_z-of_z w32 c.args.value c.ranges.value))

@@ -1,0 +1,5 @@
+pub mod Called
+pub mod Choices
+pub mod Rules
+pub mod Services
+pub mod Texts

@@ -1,0 +1,18 @@
+//! The rules on the operands of the expressions of a C file (C11 6.4.4, 6.4.5, 6.5).
+#![tactic(auto)]
+
+mod assignments;
+mod calls;
+mod choices;
+mod constants;
+mod operators;
+mod pointers;
+mod services;
+
+pub use assignments::{address_of, as_qualified, assign, cast, compound_of, local_of, stepped_of};
+pub use calls::call;
+pub use choices::conditional;
+pub use constants::{append_text, character, int_constant, number, size_constant, text_bytes};
+pub use operators::unary_on;
+pub use pointers::{infix_join_of, sum_of};
+pub use services::library_call;

@@ -1,0 +1,59 @@
+-- What a name denotes once it is declared.
+use Rattle.std.specs.Prelude.{◌≡◌, ℕ, pos, Bool, true, false, List, [], Option, Some, None, slice_get, if◌then◌else◌}
+use Rattle.ck_base.specs.Tokens.{Lexeme}
+use Rattle.c_tree.specs.declared.syntax.RecordKind.{RecordKind}
+use Rattle.c_tree.specs.declared.typed.Typed.{Typed}
+use Rattle.c_tree.specs.Scopes.{State, Doing, Tagging, give, change, change_routine, find_in, innermost, ◌>>=◌, ◌>>◌}
+use Rattle.c_tree.specs.Declarators.{kind_at, is_begun, as_record, begin_tag}
+use Rattle.c_types.specs.declared.entries.Entry.{Entry}
+use Rattle.c_types.specs.declared.entries.Entry.TheVariants as entries
+use Rattle.c_types.specs.declared.entries.Entity.{Entity}
+use Rattle.c_types.specs.declared.entries.Entity.TheVariants as kept
+use Rattle.c_types.specs.declared.entries.DeclKind.{DeclKind}
+use Rattle.c_types.specs.declared.entries.DeclKind.TheVariants as kinds
+use Rattle.c_types.specs.Looks.{entry_of}
+use Rattle.c_types.specs.declared.scopes.ObjectInfo.{ObjectInfo}
+use Rattle.c_types.specs.Calls.{IsDenoted}
+
+-- the result is the number of a struct or union of this kind
+abbrev pub IsTagOf : RecordKind → ℕ → State → ℕ → Type 0
+IsTagOf k n s m = (m ≡ n) × (kind_at s n k ≡ true)
+
+-- and its braces were not opened
+abbrev pub IsNewTag : RecordKind → ℕ → State → ℕ → Type 0
+IsNewTag k n s m = (m ≡ n) × (kind_at s n k ≡ true) × (is_begun (slice_get s.tags n) ≡ false)
+
+-- a tag that is in force here is named, perhaps with braces
+abbrev pub names_record : RecordKind → Lexeme → Bool → Tagging → Doing ℕ
+names_record k t defines g = as_record k t (Some g) >>= λ m. (if defines then begin_tag m t.pos else give tt) >> give m
+
+-- the name denotes this then, where some scope is in force
+abbrev pub IsNamed : {A : Type 0} → Typed → List ℕ → Entry → State → A → Type 0
+IsNamed q name x s a = IsDenoted q x s (find_in (innermost s.scopes).names name)
+
+-- the result is this number, and the name denotes that
+abbrev pub IsNumbered : Typed → List ℕ → ℕ → Entry → State → ℕ → Type 0
+IsNumbered q name k x s j = (j ≡ k) × IsNamed q name x s j
+
+-- whether an object has an initialiser, and whether the definition of a function was begun
+abbrev pub given_at : Option ObjectInfo → Bool
+given_at None = false
+given_at (Some o) = o.given
+
+abbrev pub begun_at : Option Bool → Bool
+begun_at None = false
+begun_at (Some b) = b
+
+-- what the name of a function denotes once it is declared: what it did, or a new function
+abbrev pub function_entry : Option Entity → ℕ → Entry
+function_entry None k = entries.Fun k
+function_entry (Some x) k = entry_of x
+
+-- the definition of a function is begun: it has the name and the place of that, and no locals yet
+abbrev pub begins : Lexeme → ℕ → Doing ℕ
+begins t k = change (λ s. change_routine k (λ r. record r { name = t; begun = true }) (record s { locals = [] })) >> give k
+
+-- the enumeration constant that a declaration is of
+abbrev pub constant_of : DeclKind → Entity
+constant_of (kinds.Constant z) = kept.Enumerator z
+constant_of k = kept.Enumerator (pos 0)

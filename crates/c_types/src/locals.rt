@@ -1,0 +1,107 @@
+// Locals are declared.
+ghost use Rattle.std.specs.Prelude.{◌≡◌, ℕ, ◌<◌, ◌++◌, ◌∷◌, [], map, length, slice_get, Some, IfOk, OnOk, OnErr};
+ghost use Rattle.c_tree.specs.Declarations.{new_local};
+ghost use Rattle.c_tree.specs.Scopes.{State, LocalState, Local, bind_name};
+ghost use Rattle.c_tree.specs.Types.{Ty};
+ghost use Rattle.c_tree.specs.Views.{types_of};
+ghost use Rattle.c_types.specs.Calls.{Given, Keeps, Answers};
+ghost use Rattle.c_types.specs.Declares.{name_of, formed_of, declares_local};
+ghost use Rattle.c_types.specs.Naming.{IsNamed};
+ghost use Rattle.c_types.specs.Stands.{Stands, named, text_at, var_kept, local_seen};
+ghost use Rattle.c_types.specs.Retyped.{retyped};
+
+use crate::entries::{Decl, Entity, Entry};
+use crate::judging::admit;
+use crate::scopes::{Scopes, entry_of};
+use c_interner::next_number;
+use c_tree::{Typed, VarDef};
+use ck_base::{NoMemory, Refusal, Span};
+use std::mem;
+
+fn local(k: u32, of: u32) -> Entity
+    ensures { result ≡ Entity.Local k of }
+{
+    Entity::Local(k, of)
+}
+
+impl<'a> Scopes<'a> {
+    // A new local of the function at work, which its name denotes from here on.
+    pub(crate) fn new_local(&mut self, d: Decl) -> Result<Entry, NoMemory>
+        ensures ok { IfOk result (λ x. (p : Typed) (s : State) (of : Ty) → Stands self.old p s → named (types_of p.types) d.of ≡ Some of → Given self.new p (new_local (name_of self.old.file.now d) of s) (IsNamed p (text_at self.old.file.now d.name) x)) }
+        ensures err { OnErr result ((p : Typed) → Keeps self.old self.new p) }
+    {
+        let k = next_number(self.locals.as_slice())?;
+        self.locals.reserve(1)?;
+        let entity = local(k, d.of);
+        self.bind(self.text(d.name), entity)?;
+        self.locals.push(VarDef {
+            name: d.name,
+            pos: d.pos,
+            of: d.of,
+            simple: false,
+        })?;
+        Ok(entry_of(entity))
+    }
+
+    // An object of automatic storage duration is declared (C11 6.2.4p5).
+    pub(crate) fn declare_local(&mut self, p: &Typed, d: Decl) -> Result<Entry, Refusal>
+        ensures { d.of < length p.now.types → Answers self.old p.now self.new p.now (declares_local (name_of self.old.file.now d) (formed_of p.now d) d.defines) (IsNamed p.now (text_at self.old.file.now d.name)) result }
+    {
+        let fits = self.is_new(self.text(d.name));
+        let ready = self.is_ready(p, d.of, d.defines);
+        match admit(fits, d.faults, !ready, false, d.pos) {
+            Err(refusal) => Err(refusal),
+            Ok(()) => Ok(self.new_local(d)?),
+        }
+    }
+
+    /// One more parameter of the function at work. The scope of its prototype has its name.
+    pub fn add_parameter(&mut self, parameter: VarDef) -> Result<(), NoMemory>
+        ensures ok { OnOk result ((p : Typed) (s : State) (y : LocalState) → Stands self.old p s → var_kept self.old.file.now (types_of p.types) parameter ≡ local_seen y → Stands self.new p (record s { locals = s.locals ++ y ∷ [] })) }
+        ensures err { OnErr result ((p : Typed) → Keeps self.old self.new p) }
+    {
+        self.locals.push(parameter)?;
+        Ok(())
+    }
+
+    /// The parameters and the other locals of the function at work, which has none from here on.
+    pub fn take_locals(&mut self) -> Vec<VarDef>
+        ensures seen { (p : Typed) (s : State) → Stands self.old p s → map (var_kept self.old.file.now (types_of p.types)) result.items ≡ map local_seen s.locals }
+        ensures none { (p : Typed) (s : State) → Stands self.old p s → Stands self.new p (record s { locals = [] }) }
+    {
+        mem::replace(&mut self.locals, Vec::new(self.alloc))
+    }
+
+    fn local_at(&self, k: u32) -> Option<VarDef>
+        ensures { result ≡ slice_get self.now.locals.items k }
+    {
+        self.locals.get(k as usize).copied()
+    }
+
+    // The type of a local becomes another.
+    fn retype_local(&mut self, k: u32, of: u32)
+        ensures { (p : Typed) (s : State) (u : Ty) → Stands self.old p s → named (types_of p.types) of ≡ Some u → Stands self.new p (record s { locals = retyped u s.locals k }) }
+    {
+        match self.local_at(k) {
+            None => {}
+            Some(v) => {
+                self.locals[k as usize] = VarDef {
+                    name: v.name,
+                    pos: v.pos,
+                    of,
+                    simple: v.simple,
+                };
+            }
+        }
+    }
+
+    /// A local of an array whose length was not known gets the type with its length, by its initialiser (C11 6.7.9p22).
+    pub fn complete_local(&mut self, k: u32, of: u32, name: Span) -> Result<(), NoMemory>
+        ensures ok { OnOk result ((p : Typed) (s : State) (u : Ty) → Stands self.old p s → named (types_of p.types) of ≡ Some u → Stands self.new p (bind_name (text_at self.old.file.now name) (Local k u) (record s { locals = retyped u s.locals k }))) }
+        ensures err { OnErr result ((p : Typed) → Keeps self.old self.new p) }
+    {
+        self.bind(self.text(name), local(k, of))?;
+        self.retype_local(k, of);
+        Ok(())
+    }
+}
