@@ -13,8 +13,6 @@ mod runs;
 mod statements;
 mod steps;
 mod tables;
-#[cfg(test)]
-mod tests;
 
 pub use files::parse;
 pub use laws::{one_answer, one_file, one_tree, readings_are_trees};

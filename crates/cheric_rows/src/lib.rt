@@ -9,3 +9,7 @@ mod image_commands;
 mod images;
 #[cfg(test)]
 mod run_command;
+#[cfg(test)]
+mod selection;
+#[cfg(test)]
+mod three_address_code;

@@ -14,4 +14,3 @@ pub mod Passes
 pub mod Ranges
 pub mod Whole
 pub mod Emitted
-pub mod Tried

@@ -9,6 +9,3 @@ mod selection;
 mod words;
 
 pub use selection::{Items, select};
-
-#[cfg(test)]
-mod tests;

@@ -14,6 +14,3 @@ mod slices;
 pub use checking::well_formed;
 pub use code::{Amount, CapWork, LibOp, Tac, TacFun, TacInstr, TacKind};
 pub use running::{run_tac, runs_over_integers};
-
-#[cfg(test)]
-mod tests;

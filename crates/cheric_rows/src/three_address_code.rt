@@ -1,4 +1,3 @@
-use super::*;
 use c_tree::{CType, FunDef, Typed};
 use ck_base::{MemSink, MemSource, Pos, Sequence, Span};
 use ck_int::CmpOp;
@@ -8,6 +7,10 @@ use ck_int::IntOp::{self, Add, Div, Mul, Rem, Shl, Shr, Sub, Xor};
 use obj_mem::{Ending, Frame, Map};
 use std::alloc::{AllocError, Global};
 use std::test::Fail;
+use tac_ir::{
+    Amount, CapWork, LibOp, Tac, TacFun, TacInstr, TacKind, run_tac, runs_over_integers,
+    well_formed,
+};
 
 const PLACE: Pos = Pos { line: 1, col: 5 };
 

@@ -2,10 +2,10 @@
 ghost use Rattle.std.specs.Prelude.{◌<◌, IfOk};
 ghost use Rattle.rv_select.specs.Form.{IsIntegerCode};
 
-use super::select;
 use ck_base::{NoMemory, Pos, Sequence};
 use ck_int::IntKind;
 use rv_instr::{CapImmOp, ImmOp, Instr, LoadOp, Reg, StoreOp};
+use rv_select::select;
 use std::alloc::Global;
 use std::test::Fail;
 use tac_ir::{LibOp, Tac, TacFun, TacInstr, TacKind};

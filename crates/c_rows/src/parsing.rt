@@ -3,8 +3,8 @@ ghost use Rattle.std.specs.Prelude.{◌≤◌, length};
 
 mod tables;
 
-use crate::parse;
 use c_lex::Tokens;
+use c_parse::parse;
 use ck_base::Refusal;
 use std::alloc::Global;
 use std::fmt::Write;

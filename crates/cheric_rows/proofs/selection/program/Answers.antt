@@ -1,6 +1,6 @@
 use Rattle.std.proofs.Common.{◌∙◌}
-use Rattle.rv_select.proofs.Tried.{has_form}
-use Rattle.rv_select.proofs.tests.program.Goals as goal
+use Rattle.cheric_rows.proofs.Tried.{has_form}
+use Rattle.cheric_rows.proofs.selection.program.Goals as goal
 
 pub returns : goal.returns
 returns c = (
