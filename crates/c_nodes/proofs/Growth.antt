@@ -73,6 +73,7 @@ length-terms_of p = length-grow (expr_from (types_of p.types)) no_term p.exprs [
 pub record MoreTypes (n m : Nodes) (more : List CType) : Type 0 where
   pub is : m.p ≡ record n.p { types = n.p.types ++ more }
   pub stands : (s : State) → Stands n.scopes n.p s → Stands m.scopes m.p s
+  pub file : m.scopes.file.now ≡ n.scopes.file.now
 
 pub keeps_types : (n m : Nodes) (more : List CType) → IsWhole n → MoreTypes n m more → m.facts ≡ n.facts → m.void ≡ n.void → Keeps n m
 keeps_types n m more w d f v =
@@ -96,20 +97,21 @@ keeps_types n m more w d f v =
       terms = λ k h. ap (λ xs. term_at xs k) terms;
       grows = record { types = more; exprs = []; is = rw (append-nil) e };
       stands = d.stands;
+      file = d.file;
     }
 
-pub number_has : (n m : Nodes) (k : ℕ) (c : CType) → IsWhole n → m.facts ≡ n.facts → m.void ≡ n.void → AddsTypes n.p m.p → IsNumberOf n.p m.p k c → ((s : State) → Stands n.scopes n.p s → Stands m.scopes m.p s) →
+pub number_has : (n m : Nodes) (k : ℕ) (c : CType) → IsWhole n → m.facts ≡ n.facts → m.void ≡ n.void → AddsTypes n.p m.p → IsNumberOf n.p m.p k c → ((s : State) → Stands n.scopes n.p s → Stands m.scopes m.p s) → m.scopes.file.now ≡ n.scopes.file.now →
     HasType n m k (type_from c (type_in n))
-number_has n m k c w f v a i st =
+number_has n m k c w f v a i st fl =
     record {
-      keeps = keeps_types n m a.added w (record { is = a.rest ∙ ap (λ ts. record n.p { types = ts }) a.types; stands = st }) f v;
+      keeps = keeps_types n m a.added w (record { is = a.rest ∙ ap (λ ts. record n.p { types = ts }) a.types; stands = st; file = fl }) f v;
       is = record { there = i.there; is = i.is };
     }
 
-pub added_has : (n m : Nodes) (k : ℕ) (t : Ty) → IsWhole n → m.facts ≡ n.facts → m.void ≡ n.void → AddsTypes n.p m.p → k < type_count m → type_in m k ≡ t → ((s : State) → Stands n.scopes n.p s → Stands m.scopes m.p s) → HasType n m k t
-added_has n m k t w f v a lt e st =
+pub added_has : (n m : Nodes) (k : ℕ) (t : Ty) → IsWhole n → m.facts ≡ n.facts → m.void ≡ n.void → AddsTypes n.p m.p → k < type_count m → type_in m k ≡ t → ((s : State) → Stands n.scopes n.p s → Stands m.scopes m.p s) → m.scopes.file.now ≡ n.scopes.file.now → HasType n m k t
+added_has n m k t w f v a lt e st fl =
     record {
-      keeps = keeps_types n m a.added w (record { is = a.rest ∙ ap (λ ts. record n.p { types = ts }) a.types; stands = st }) f v;
+      keeps = keeps_types n m a.added w (record { is = a.rest ∙ ap (λ ts. record n.p { types = ts }) a.types; stands = st; file = fl }) f v;
       is = record { there = lt; is = e };
     }
 
@@ -175,6 +177,7 @@ add_has n m k x known w t h e f v z sc =
         terms = λ j l. rw terms (get_or-append (terms_of n.p) (y ∷ []) no_term j (rw len l));
         grows = record { types = []; exprs = x ∷ []; is = rw (append-nil) e };
         stands = λ s. stands-more n m (n.p.exprs ++ x ∷ []) s sc e;
+        file = ap (λ (c : Scopes). c.file.now) sc;
       };
       is = record { there = omega arith; is = rw (terms, z, ← len) (get_or-append_seam (terms_of n.p) y [] no_term) };
     }

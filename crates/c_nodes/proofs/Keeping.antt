@@ -26,6 +26,7 @@ keeps_same n w = record {
   terms = λ k h. refl;
   grows = record { types = []; exprs = []; is = same_program n.p };
   stands = λ s h. h;
+  file = refl;
 }
 
 grows_then : (p q r : Typed) → Grows p q → Grows q r → Grows p r
@@ -44,6 +45,7 @@ keeps_then a b c k l = record {
   terms = λ j h. let x = k.more_terms in l.terms j (omega arith) ∙ k.terms j h;
   grows = grows_then a.p b.p c.p k.grows l.grows;
   stands = λ s h. l.stands s (k.stands s h);
+  file = l.file ∙ k.file;
 }
 
 pub term_kept : (a b : Nodes) (j : ℕ) (x : Term) → Keeps a b → IsTerm a j x → IsTerm b j x

@@ -100,6 +100,7 @@ pub record Keeps (old new : Nodes) : Type 0 where
   pub terms : (k : ℕ) → k < term_count old → term_in new k ≡ term_in old k
   pub grows : Grows old.p new.p
   pub stands : (s : State) → Stands old.scopes old.p s → Stands new.scopes new.p s
+  pub file : new.scopes.file.now ≡ old.scopes.file.now
 
 -- beside what stood in the old nodes, the new ones have a type, and an expression
 pub record HasType (old new : Nodes) (k : ℕ) (t : Ty) : Type 0 where

@@ -63,6 +63,7 @@ impl<'a> Nodes<'a> {
         ensures whole { IfOk result IsWhole }
         ensures adds { IfOk result (λ n. AddsTypes p n.p) }
         ensures keeps { IfOk result (λ n. (s : State) → Stands scopes.entry p s → Stands n.scopes n.p s) }
+        ensures file { IfOk result (λ n. n.scopes.file.now ≡ scopes.entry.file.now) }
     {
         let mut program = p;
         let mut declared = scopes;

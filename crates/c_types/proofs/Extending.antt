@@ -3,21 +3,20 @@ use Rattle.std.proofs.Common.{◌≡◌, ℕ, zero, suc, ◌<◌, ◌≤◌, Lis
 use Rattle.std.specs.Prelude.{slice_get}
 use Rattle.std.proofs.lemmas.List.{length-set}
 use Rattle.std.proofs.lemmas.Option.{same_Some, none-some}
+use Rattle.c_tree.specs.declared.syntax.RecordKind.{RecordKind}
+use Rattle.c_tree.specs.declared.typed.CType.TheVariants.{Incomplete}
 use Rattle.c_tree.specs.declared.typed.Typed.{Typed}
 use Rattle.c_tree.specs.declared.typed.GlobalDef.{GlobalDef}
 use Rattle.c_tree.specs.declared.typed.FunDef.{FunDef}
 use Rattle.c_tree.specs.Views.{type_at, types_of}
 use Rattle.c_tree.specs.declared.typed.Member.{Member}
-use Rattle.c_tree.specs.Scopes.{State, changed_at}
+use Rattle.c_tree.specs.Scopes.{changed_at}
 use Rattle.c_interner.specs.Numbers.{AddsTypes, type_named}
 use Rattle.c_interner.proofs.Growing.{type_at-longer}
-use Rattle.c_types.specs.declared.scopes.Scopes.{Scopes}
-use Rattle.c_types.specs.declared.scopes.TagInfo.{TagInfo}
 use Rattle.c_types.specs.Sizes.{completed_type}
-use Rattle.c_types.specs.Stands.{Stands}
 use Rattle.c_types.specs.Calls.{EachKept, IsSameGlobal, IsSameFun, Extends}
 use Rattle.c_types.proofs.Growth.{slice_get-longer}
-use Rattle.c_types.proofs.Records.{types_of-completed}
+use Rattle.c_types.proofs.Records.{types_of-opened}
 use Rattle.c_types.proofs.Changing.{changed_cons}
 
 -- ---- lists
@@ -121,15 +120,15 @@ global_changed p gs f k e h = extends_globals p gs (subst (λ xs. EachKept IsSam
 pub fun_changed : (p : Typed) (fs : List FunDef) (f : FunDef → FunDef) (k : ℕ) → fs ≡ changed_at f p.funs k → ((x : FunDef) → IsSameFun x (f x)) → Extends p (record p { funs = fs })
 fun_changed p fs f k e h = extends_funs p fs (subst (λ xs. EachKept IsSameFun p.funs xs) (sym e) (each_changed IsSameFun f p.funs k same_fun h))
 
--- a struct or union gets its members
-pub completed_extends : (sc : Scopes) (p : Typed) (s : State) (n : ℕ) (i : TagInfo) (ms : List Member) → Stands sc p s → slice_get sc.tags.items n ≡ Some i → Extends p (record p { types = set p.types i.of (completed_type i.kind n ms) })
-completed_extends sc p s n i ms h e = record {
+-- a struct or union that is not complete gets its members
+pub completed_extends : (p : Typed) (of n : ℕ) (k : RecordKind) (ms : List Member) → slice_get p.types of ≡ Some (Incomplete n) → Extends p (record p { types = set p.types of (completed_type k n ms) })
+completed_extends p of n k ms e = record {
   exprs = refl;
   stmts = refl;
   literals = refl;
   main = refl;
-  count = omega (arith, length-set p.types i.of (completed_type i.kind n ms));
-  types = λ k lt. ap (λ ts. type_at ts k) (types_of-completed p.types i.of n i.kind ms (h.tag_types n i e));
+  count = omega (arith, length-set p.types of (completed_type k n ms));
+  types = λ j lt. ap (λ ts. type_at ts j) (types_of-opened p.types of n k ms e);
   globals = each_same IsSameGlobal p.globals same_global;
   funs = each_same IsSameFun p.funs same_fun;
 }

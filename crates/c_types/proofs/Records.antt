@@ -241,6 +241,10 @@ types_of-completed cs of n k ms e =
     let f = tagged_form c.0 (type_at (types_of (take of cs))) n (sym (type_at-level cs of c.0 c.1) ∙ i) in
     grow-set cs [] of c.0 (completed_type k n ms) c.1 (λ g. completed_form k n ms g ∙ sym (f g))
 
+-- a struct or union that is not complete gets its members
+pub types_of-opened : (cs : List CType) (of n : ℕ) (k : RecordKind) (ms : List Member) → slice_get cs of ≡ Some (ctypes.Incomplete n) → types_of (set cs of (completed_type k n ms)) ≡ types_of cs
+types_of-opened cs of n k ms e = grow-set cs [] of (ctypes.Incomplete n) (completed_type k n ms) e (completed_form k n ms)
+
 pub record_fault : (tags : List TagState) (cs : List CType) (k : RecordKind) (parts : List Part) (ms : List Member) (shared : Bool) (f g : LayoutFault) → shared ≡ is_union k → HasParts (types_of cs) parts ms → f ≡ g → IsLayout (members (placing shared) (numbered_extent tags cs) ms no_members) (Err f) → IsLayout (record_extent tags k parts) (Err g)
 record_fault tags cs k parts ms shared f g u h e l =
     layout_at _ _ (Err g) (record_is tags cs k parts ms h)

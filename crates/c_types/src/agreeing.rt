@@ -49,6 +49,7 @@ impl<'a> Scopes<'a> {
         ensures keeps { (s : State) → Stands self.old p.old s → Stands self.new p.new s }
         ensures others { self.new ≡ record self.old { numbers = self.new.numbers } }
         ensures extends { Extends p.old p.new }
+        ensures file { self.new.file.now ≡ self.old.file.now }
     {
         self.numbers.composite(p, a, b)
     }
@@ -60,6 +61,7 @@ impl<'a> Scopes<'a> {
         ensures err { OnErr result (p.new ≡ p.old) }
         ensures keeps { (s : State) → Stands self.old p.old s → Stands self.new p.new s }
         ensures others { self.new ≡ record self.old { numbers = self.new.numbers } }
+        ensures file { self.new.file.now ≡ self.old.file.now }
     {
         let count = p.types.as_slice().len();
         if (a as usize) < count {

@@ -65,7 +65,8 @@ impl<'a> Scopes<'a> {
 
     // A typedef name is declared (C11 6.7.8).
     pub(crate) fn declare_alias(&mut self, p: &Typed, d: Decl) -> Result<Entry, Refusal>
-        ensures { d.of < length p.now.types → Answers self.old p.now self.new p.now (declares_alias (name_of self.old.file.now d) (formed_of p.now d) d.defines) (IsNamed p.now (text_at self.old.file.now d.name)) result }
+        ensures is { d.of < length p.now.types → Answers self.old p.now self.new p.now (declares_alias (name_of self.old.file.now d) (formed_of p.now d) d.defines) (IsNamed p.now (text_at self.old.file.now d.name)) result }
+        ensures file { self.new.file.now ≡ self.old.file.now }
     {
         let fits = self.alias_fits(p, d)?;
         match admit(fits, d.faults, false, d.defines, d.pos) {

@@ -195,6 +195,7 @@ impl<'a> Scopes<'a> {
     pub fn new(alloc: Global, p: &mut Typed, file: &'a [u8]) -> Result<Scopes<'a>, NoMemory>
         ensures adds { AddsTypes p.old p.new }
         ensures ok { IfOk result (λ sc. p.old.globals ≡ [] → p.old.funs ≡ [] → Stands sc p.new beginning) }
+        ensures file { IfOk result (λ sc. sc.file.now ≡ file.entry.now) }
     {
         let mut known = Numbers::new(alloc);
         let numbers = known_types(alloc, &mut known, p)?;

@@ -18,6 +18,7 @@ impl<'a> Scopes<'a> {
     fn declare_in_block(&mut self, p: &mut Typed, d: Decl) -> Result<Entry, Refusal>
         ensures answers { d.of < length p.old.types → Answers self.old p.old self.new p.new (declares_in_block (storage_of d.storage) (name_of self.old.file.now d) (formed_of p.old d) d.defines) (IsNamed p.new (text_at self.old.file.now d.name)) result }
         ensures extends { Extends p.old p.new }
+        ensures file { self.new.file.now ≡ self.old.file.now }
     {
         match d.storage {
             Storage::Extern => self.declare_external(p, d),
@@ -30,6 +31,7 @@ impl<'a> Scopes<'a> {
     fn declare_object(&mut self, p: &mut Typed, d: Decl) -> Result<Entry, Refusal>
         ensures answers { d.of < length p.old.types → Answers self.old p.old self.new p.new (declares_object (storage_of d.storage) (name_of self.old.file.now d) (formed_of p.old d) d.defines) (IsNamed p.new (text_at self.old.file.now d.name)) result }
         ensures extends { Extends p.old p.new }
+        ensures file { self.new.file.now ≡ self.old.file.now }
     {
         if is_function(p.types.as_slice(), d.of) {
             self.declare_function(p, d)
@@ -44,6 +46,7 @@ impl<'a> Scopes<'a> {
     fn declare_named(&mut self, p: &mut Typed, d: Decl) -> Result<Entry, Refusal>
         ensures answers { d.of < length p.old.types → Answers self.old p.old self.new p.new (declares_named (storage_of d.storage) (name_of self.old.file.now d) (formed_of p.old d) d.defines) (IsDenoted p.new) result }
         ensures extends { Extends p.old p.new }
+        ensures file { self.new.file.now ≡ self.old.file.now }
     {
         match d.storage {
             Storage::Typedef => self.declare_alias(p, d),
@@ -59,6 +62,7 @@ impl<'a> Scopes<'a> {
     pub fn declare(&mut self, p: &mut Typed, d: Decl) -> Result<Entry, Refusal>
         ensures answers { Declares self.old.file.now self.old p.old self.new p.new d result }
         ensures extends { Extends p.old p.new }
+        ensures file { self.new.file.now ≡ self.old.file.now }
     {
         match d.what {
             DeclKind::Object => self.declare_named(p, d),

@@ -61,6 +61,7 @@ impl<'a> Scopes<'a> {
     fn note_given(&mut self, k: u32)
         ensures others { self.new ≡ record self.old { objects = self.new.objects } }
         ensures objects { self.new.objects.items ≡ changed_at (λ (o : ObjectInfo). record o { given = true }) self.old.objects.items k }
+        ensures file { self.new.file.now ≡ self.old.file.now }
     {
         if (k as usize) < self.objects.len() {
             self.objects[k as usize].given = true;
@@ -79,6 +80,7 @@ impl<'a> Scopes<'a> {
     pub fn fill_global(&mut self, p: &mut Typed, k: u32, bytes: Vec<u8>, links: Vec<Link>)
         ensures stands { (s : State) (i : List ℕ × List Aiming) → Stands self.old p.old s → Stands self.new p.new (change_static k (λ (g : StaticState). record g { initial = Some i }) s) }
         ensures program { p.new ≡ record p.old { globals = changed_at (λ (g : GlobalDef). record g { bytes = bytes.items; links = links.items }) p.old.globals k } }
+        ensures file { self.new.file.now ≡ self.old.file.now }
     {
         set_contents(self.alloc, &mut p.globals, k, bytes, links);
         self.note_given(k);

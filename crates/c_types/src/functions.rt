@@ -199,6 +199,7 @@ impl<'a> Scopes<'a> {
         ensures err { OnErr result (p.new ≡ p.old) }
         ensures keeps { (s : State) → Stands self.old p.old s → Stands self.new p.new s }
         ensures others { self.new ≡ record self.old { numbers = self.new.numbers } }
+        ensures file { self.new.file.now ≡ self.old.file.now }
     {
         let before = match p.funs.as_slice().get(k as usize) {
             None => of,
@@ -257,6 +258,7 @@ impl<'a> Scopes<'a> {
     pub(crate) fn declare_function(&mut self, p: &mut Typed, d: Decl) -> Result<Entry, Refusal>
         ensures answers { d.of < length p.old.types → Answers self.old p.old self.new p.new (declares_function (name_of self.old.file.now d) (formed_of p.old d) d.defines) (IsNamed p.new (text_at self.old.file.now d.name)) result }
         ensures extends { Extends p.old p.new }
+        ensures file { self.new.file.now ≡ self.old.file.now }
     {
         let found = self.look_here(self.text(d.name));
         let fits = self.function_fits(p, found, d)?;
@@ -275,6 +277,7 @@ impl<'a> Scopes<'a> {
         ensures stands { (s : State) → Stands self.old p.old s → Stands self.new p.new (change_routine k (λ (r : RoutineState). record r { name = name_of self.old.file.now d; begun = true }) (record s { locals = [] })) }
         ensures types { p.new.types ≡ p.old.types }
         ensures extends { Extends p.old p.new }
+        ensures file { self.new.file.now ≡ self.old.file.now }
     {
         set_name(self.alloc, &mut p.funs, k, d.name, d.pos);
         self.locals = Vec::new(self.alloc);
@@ -287,6 +290,7 @@ impl<'a> Scopes<'a> {
     pub(crate) fn declare_definition(&mut self, p: &mut Typed, d: Decl) -> Result<Entry, Refusal>
         ensures answers { d.of < length p.old.types → Answers self.old p.old self.new p.new (declares_definition (storage_of d.storage) (name_of self.old.file.now d) (formed_of p.old d)) (IsNamed p.new (text_at self.old.file.now d.name)) result }
         ensures extends { Extends p.old p.new }
+        ensures file { self.new.file.now ≡ self.old.file.now }
     {
         let found = self.look_here(self.text(d.name));
         let fits = self.function_agrees(p, found, d, true)?;

@@ -29,6 +29,7 @@ impl<'a> Scopes<'a> {
     pub(crate) fn new_local(&mut self, d: Decl) -> Result<Entry, NoMemory>
         ensures ok { IfOk result (λ x. (p : Typed) (s : State) (of : Ty) → Stands self.old p s → named (types_of p.types) d.of ≡ Some of → Given self.new p (new_local (name_of self.old.file.now d) of s) (IsNamed p (text_at self.old.file.now d.name) x)) }
         ensures err { OnErr result ((p : Typed) → Keeps self.old self.new p) }
+        ensures file { self.new.file.now ≡ self.old.file.now }
     {
         let k = next_number(self.locals.as_slice())?;
         self.locals.reserve(1)?;
@@ -45,7 +46,8 @@ impl<'a> Scopes<'a> {
 
     // An object of automatic storage duration is declared (C11 6.2.4p5).
     pub(crate) fn declare_local(&mut self, p: &Typed, d: Decl) -> Result<Entry, Refusal>
-        ensures { d.of < length p.now.types → Answers self.old p.now self.new p.now (declares_local (name_of self.old.file.now d) (formed_of p.now d) d.defines) (IsNamed p.now (text_at self.old.file.now d.name)) result }
+        ensures is { d.of < length p.now.types → Answers self.old p.now self.new p.now (declares_local (name_of self.old.file.now d) (formed_of p.now d) d.defines) (IsNamed p.now (text_at self.old.file.now d.name)) result }
+        ensures file { self.new.file.now ≡ self.old.file.now }
     {
         let fits = self.is_new(self.text(d.name));
         let ready = self.is_ready(p, d.of, d.defines);
@@ -59,6 +61,7 @@ impl<'a> Scopes<'a> {
     pub fn add_parameter(&mut self, parameter: VarDef) -> Result<(), NoMemory>
         ensures ok { OnOk result ((p : Typed) (s : State) (y : LocalState) → Stands self.old p s → var_kept self.old.file.now (types_of p.types) parameter ≡ local_seen y → Stands self.new p (record s { locals = s.locals ++ y ∷ [] })) }
         ensures err { OnErr result ((p : Typed) → Keeps self.old self.new p) }
+        ensures file { self.new.file.now ≡ self.old.file.now }
     {
         self.locals.push(parameter)?;
         Ok(())
@@ -68,8 +71,18 @@ impl<'a> Scopes<'a> {
     pub fn take_locals(&mut self) -> Vec<VarDef>
         ensures seen { (p : Typed) (s : State) → Stands self.old p s → map (var_kept self.old.file.now (types_of p.types)) result.items ≡ map local_seen s.locals }
         ensures none { (p : Typed) (s : State) → Stands self.old p s → Stands self.new p (record s { locals = [] }) }
+        ensures file { self.new.file.now ≡ self.old.file.now }
     {
         mem::replace(&mut self.locals, Vec::new(self.alloc))
+    }
+
+    /// A name of the innermost scope denotes a parameter from here on, by its number in the function (C11 6.2.1p4).
+    pub fn bind_local(&mut self, k: u32, of: u32, name: Span) -> Result<(), NoMemory>
+        ensures ok { OnOk result ((p : Typed) (s : State) (u : Ty) → Stands self.old p s → named (types_of p.types) of ≡ Some u → Stands self.new p (bind_name (text_at self.old.file.now name) (Local k u) s)) }
+        ensures err { OnErr result ((p : Typed) → Keeps self.old self.new p) }
+        ensures file { self.new.file.now ≡ self.old.file.now }
+    {
+        self.bind(self.text(name), local(k, of))
     }
 
     fn local_at(&self, k: u32) -> Option<VarDef>
@@ -80,7 +93,8 @@ impl<'a> Scopes<'a> {
 
     // The type of a local becomes another.
     fn retype_local(&mut self, k: u32, of: u32)
-        ensures { (p : Typed) (s : State) (u : Ty) → Stands self.old p s → named (types_of p.types) of ≡ Some u → Stands self.new p (record s { locals = retyped u s.locals k }) }
+        ensures is { (p : Typed) (s : State) (u : Ty) → Stands self.old p s → named (types_of p.types) of ≡ Some u → Stands self.new p (record s { locals = retyped u s.locals k }) }
+        ensures file { self.new.file.now ≡ self.old.file.now }
     {
         match self.local_at(k) {
             None => {}
@@ -99,6 +113,7 @@ impl<'a> Scopes<'a> {
     pub fn complete_local(&mut self, k: u32, of: u32, name: Span) -> Result<(), NoMemory>
         ensures ok { OnOk result ((p : Typed) (s : State) (u : Ty) → Stands self.old p s → named (types_of p.types) of ≡ Some u → Stands self.new p (bind_name (text_at self.old.file.now name) (Local k u) (record s { locals = retyped u s.locals k }))) }
         ensures err { OnErr result ((p : Typed) → Keeps self.old self.new p) }
+        ensures file { self.new.file.now ≡ self.old.file.now }
     {
         self.bind(self.text(name), local(k, of))?;
         self.retype_local(k, of);

@@ -35,8 +35,8 @@ pub(crate) fn constant_of(what: DeclKind) -> Entity
 }
 
 impl<'a> Scopes<'a> {
-    // The bytes at a span, as far as they stand in the file.
-    pub(crate) fn text(&self, span: Span) -> &'a [u8]
+    /// The bytes at a span, as far as they stand in the file.
+    pub fn text(&self, span: Span) -> &'a [u8]
         ensures { result.now ≡ text_at self.now.file.now span }
     {
         let end = (span.end as usize).min(self.file.len());
@@ -50,6 +50,7 @@ impl<'a> Scopes<'a> {
         ensures err { OnErr result ((p : Typed) → Keeps self.old self.new p) }
         ensures others { self.new ≡ record self.old { scopes = self.new.scopes } }
         ensures succeeds { HasNameRoom self.old.scopes.items → IsOk result }
+        ensures file { self.new.file.now ≡ self.old.file.now }
     {
         let count = self.scopes.len();
         if count > 0 {
@@ -63,6 +64,7 @@ impl<'a> Scopes<'a> {
         ensures ok { OnOk result ((p : Typed) (s : State) → Stands self.old p s → IsThere s (tagging_of tagging) → Stands self.new p (bind_tag name.entry.now (tagging_of tagging) s)) }
         ensures err { OnErr result ((p : Typed) → Keeps self.old self.new p) }
         ensures succeeds { HasTagRoom self.old.scopes.items → IsOk result }
+        ensures file { self.new.file.now ≡ self.old.file.now }
     {
         let count = self.scopes.len();
         if count > 0 {
@@ -73,7 +75,8 @@ impl<'a> Scopes<'a> {
 
     // A name of the innermost scope denotes an enumeration constant: 131 at the name where the scope has the name already.
     pub(crate) fn declare_value(&mut self, d: Decl, entity: Entity) -> Result<Entry, Refusal>
-        ensures { (p : Typed) (z : ℤ) → entity ≡ Entity.Enumerator z → Answers self.old p self.new p (denoted (name_of self.old.file.now d) (declares_constant (name_of self.old.file.now d) z)) (IsDenoted p) result }
+        ensures is { (p : Typed) (z : ℤ) → entity ≡ Entity.Enumerator z → Answers self.old p self.new p (denoted (name_of self.old.file.now d) (declares_constant (name_of self.old.file.now d) z)) (IsDenoted p) result }
+        ensures file { self.new.file.now ≡ self.old.file.now }
     {
         let name = self.text(d.name);
         if self.look_here(name).is_some() {
@@ -85,7 +88,8 @@ impl<'a> Scopes<'a> {
 
     /// An enumeration constant of the innermost scope (C11 6.7.2.2): 131 at the name where the scope has the name already.
     pub fn declare_constant(&mut self, d: Decl, value: i32) -> Result<Entry, Refusal>
-        ensures { (p : Typed) → Answers self.old p self.new p (denoted (name_of self.old.file.now d) (declares_constant (name_of self.old.file.now d) value)) (IsDenoted p) result }
+        ensures is { (p : Typed) → Answers self.old p self.new p (denoted (name_of self.old.file.now d) (declares_constant (name_of self.old.file.now d) value)) (IsDenoted p) result }
+        ensures file { self.new.file.now ≡ self.old.file.now }
     {
         self.declare_value(d, constant(value))
     }

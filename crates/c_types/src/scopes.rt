@@ -141,6 +141,7 @@ impl<'a> Scopes<'a> {
         ensures err { OnErr result (p.new ≡ p.old) }
         ensures keeps { (s : State) → Stands self.old p.old s → Stands self.new p.new s }
         ensures extends { Extends p.old p.new }
+        ensures file { self.new.file.now ≡ self.old.file.now }
     {
         self.numbers.number_of(p, c)
     }
@@ -149,13 +150,15 @@ impl<'a> Scopes<'a> {
     pub fn enter(&mut self) -> Result<(), NoMemory>
         ensures ok { OnOk result ((p : Typed) → Does self.old p self.new p enter (λ s a. Unit {0})) }
         ensures err { OnErr result ((p : Typed) → Keeps self.old self.new p) }
+        ensures file { self.new.file.now ≡ self.old.file.now }
     {
         self.reopen(Scope::new(self.alloc))
     }
 
     /// Drops the innermost scope.
     pub fn leave(&mut self)
-        ensures { (p : Typed) → Does self.old p self.new p leave (λ s a. Unit {0}) }
+        ensures is { (p : Typed) → Does self.old p self.new p leave (λ s a. Unit {0}) }
+        ensures file { self.new.file.now ≡ self.old.file.now }
     {
         let _ = self.close();
     }
@@ -164,6 +167,7 @@ impl<'a> Scopes<'a> {
     pub fn close(&mut self) -> Option<Scope<'a>>
         ensures left { (p : Typed) → Does self.old p self.new p leave (λ s a. Unit {0}) }
         ensures scope { (p : Typed) (s : State) → Stands self.old p s → ShowsInnermost (types_of p.types) (length s.tags) result s.scopes }
+        ensures file { self.new.file.now ≡ self.old.file.now }
     {
         self.scopes.pop()
     }
@@ -172,6 +176,7 @@ impl<'a> Scopes<'a> {
     pub fn reopen(&mut self, scope: Scope<'a>) -> Result<(), NoMemory>
         ensures ok { OnOk result ((p : Typed) (s : State) (c : MeantScope) → Stands self.old p s → ShowsScope (types_of p.types) (length s.tags) scope.entry c → Stands self.new p (record s { scopes = c ∷ s.scopes })) }
         ensures err { OnErr result ((p : Typed) → Keeps self.old self.new p) }
+        ensures file { self.new.file.now ≡ self.old.file.now }
     {
         self.scopes.push(scope)?;
         Ok(())

@@ -124,6 +124,7 @@ impl<'a> Scopes<'a> {
         ensures room { OnOk result (HasNameRoom self.new.scopes.items) }
         ensures others { self.new ≡ record self.old { scopes = self.new.scopes } }
         ensures keeps { (p : Typed) → Keeps self.old self.new p }
+        ensures file { self.new.file.now ≡ self.old.file.now }
     {
         let count = self.scopes.len();
         if count > 0 {
@@ -145,6 +146,7 @@ impl<'a> Scopes<'a> {
         ensures ok { OnOk result ((n : List ℕ) → lookup (λ k. bytes_eq n k.now) self.new.linked.entries ≡ (if linkage && bytes_eq name.entry.now n then Some k else lookup (λ k. bytes_eq n k.now) self.old.linked.entries)) }
         ensures others { self.new ≡ record self.old { linked = self.new.linked } }
         ensures succeeds { 0 < spare self.old.linked → IsOk result }
+        ensures file { self.new.file.now ≡ self.old.file.now }
     {
         if linkage {
             self.linked.insert(name, k)?;
@@ -209,6 +211,7 @@ impl<'a> Scopes<'a> {
         ensures err { OnErr result (p.new ≡ p.old) }
         ensures keeps { OnErr result (Keeps self.old self.new p.old) }
         ensures extends { Extends p.old p.new }
+        ensures file { self.new.file.now ≡ self.old.file.now }
     {
         let k = next_number(self.objects.as_slice())?;
         self.objects.reserve(1)?;
@@ -231,6 +234,7 @@ impl<'a> Scopes<'a> {
     fn note_defined(&mut self, k: u32, defined: bool)
         ensures others { self.new ≡ record self.old { objects = self.new.objects } }
         ensures objects { self.new.objects.items ≡ changed_at (λ (o : ObjectInfo). record o { defined = o.defined || defined }) self.old.objects.items k }
+        ensures file { self.new.file.now ≡ self.old.file.now }
     {
         if (k as usize) < self.objects.len() {
             let object = &mut self.objects[k as usize];
@@ -245,6 +249,7 @@ impl<'a> Scopes<'a> {
         ensures err { OnErr result (p.new ≡ p.old) }
         ensures keeps { (s : State) → Stands self.old p.old s → Stands self.new p.new s }
         ensures others { self.new ≡ record self.old { numbers = self.new.numbers } }
+        ensures file { self.new.file.now ≡ self.old.file.now }
     {
         let before = match p.globals.as_slice().get(k as usize) {
             None => of,
@@ -265,6 +270,7 @@ impl<'a> Scopes<'a> {
         ensures err { OnErr result (p.new ≡ p.old) }
         ensures keeps { OnErr result (Keeps self.old self.new p.old) }
         ensures extends { Extends p.old p.new }
+        ensures file { self.new.file.now ≡ self.old.file.now }
     {
         self.reserve_name()?;
         let of = self.merged_object(p, k, d.of)?;
@@ -281,6 +287,7 @@ impl<'a> Scopes<'a> {
         ensures err { OnErr result (p.new ≡ p.old) }
         ensures keeps { OnErr result (Keeps self.old self.new p.old) }
         ensures extends { Extends p.old p.new }
+        ensures file { self.new.file.now ≡ self.old.file.now }
     {
         match self.look_linked(self.text(d.name)) {
             None => self.new_object(p, d, true, defined),
@@ -292,6 +299,7 @@ impl<'a> Scopes<'a> {
     pub(crate) fn declare_internal(&mut self, p: &mut Typed, d: Decl) -> Result<Entry, Refusal>
         ensures answers { d.of < length p.old.types → Answers self.old p.old self.new p.new (declares_internal (name_of self.old.file.now d) (formed_of p.old d) d.defines) (IsNamed p.new (text_at self.old.file.now d.name)) result }
         ensures extends { Extends p.old p.new }
+        ensures file { self.new.file.now ≡ self.old.file.now }
     {
         let fits = self.is_new(self.text(d.name));
         let ready = self.is_ready(p, d.of, d.defines);
@@ -305,6 +313,7 @@ impl<'a> Scopes<'a> {
     pub(crate) fn declare_global(&mut self, p: &mut Typed, d: Decl) -> Result<Entry, Refusal>
         ensures answers { d.of < length p.old.types → Answers self.old p.old self.new p.new (declares_global (storage_of d.storage) (name_of self.old.file.now d) (formed_of p.old d) d.defines) (IsNamed p.new (text_at self.old.file.now d.name)) result }
         ensures extends { Extends p.old p.new }
+        ensures file { self.new.file.now ≡ self.old.file.now }
     {
         let found = self.look_here(self.text(d.name));
         let fits = self.object_agrees(p, found, d, d.defines)?;
@@ -338,6 +347,7 @@ impl<'a> Scopes<'a> {
     pub(crate) fn declare_external(&mut self, p: &mut Typed, d: Decl) -> Result<Entry, Refusal>
         ensures answers { d.of < length p.old.types → Answers self.old p.old self.new p.new (declares_external (name_of self.old.file.now d) (formed_of p.old d) d.defines) (IsNamed p.new (text_at self.old.file.now d.name)) result }
         ensures extends { Extends p.old p.new }
+        ensures file { self.new.file.now ≡ self.old.file.now }
     {
         let fits = self.external_fits(p, d)?;
         match admit(fits, d.faults, false, d.defines, d.pos) {

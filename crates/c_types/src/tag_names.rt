@@ -21,6 +21,7 @@ impl<'a> Scopes<'a> {
     fn reserve_tag(&mut self) -> Result<(), NoMemory>
         ensures room { OnOk result (HasTagRoom self.new.scopes.items) }
         ensures keeps { (p : Typed) → Keeps self.old self.new p }
+        ensures file { self.new.file.now ≡ self.old.file.now }
     {
         let count = self.scopes.len();
         if count > 0 {
@@ -60,6 +61,7 @@ impl<'a> Scopes<'a> {
         ensures err { OnErr result (p.new ≡ p.old) }
         ensures keeps { OnErr result (Keeps self.old self.new p.old) }
         ensures extends { Extends p.old p.new }
+        ensures file { self.new.file.now ≡ self.old.file.now }
     {
         self.reserve_tag()?;
         let tag = self.add_tag(p, kind)?;
@@ -69,7 +71,8 @@ impl<'a> Scopes<'a> {
 
     // A struct or union that is in force here is named, perhaps with braces.
     fn name_record(&mut self, tag: u32, kind: RecordKind, d: Decl) -> Result<u32, Refusal>
-        ensures { (p : Typed) → Answers self.old p self.new p (names_record kind (name_of self.old.file.now d) d.defines (Recorded tag)) (IsTagOf kind) result }
+        ensures is { (p : Typed) → Answers self.old p self.new p (names_record kind (name_of self.old.file.now d) d.defines (Recorded tag)) (IsTagOf kind) result }
+        ensures file { self.new.file.now ≡ self.old.file.now }
     {
         if !self.is_of_kind(tag, kind) {
             return Err(Refusal::Code(133, d.pos));
@@ -86,7 +89,8 @@ impl<'a> Scopes<'a> {
 
     // A tag that is in force here is named.
     fn name_tag(&mut self, found: Tagging, kind: RecordKind, d: Decl) -> Result<u32, Refusal>
-        ensures { (p : Typed) → Answers self.old p self.new p (names_record kind (name_of self.old.file.now d) d.defines (tagging_of found)) (IsTagOf kind) result }
+        ensures is { (p : Typed) → Answers self.old p self.new p (names_record kind (name_of self.old.file.now d) d.defines (tagging_of found)) (IsTagOf kind) result }
+        ensures file { self.new.file.now ≡ self.old.file.now }
     {
         match found {
             Tagging::Enumerated => Err(Refusal::Code(133, d.pos)),
@@ -98,6 +102,7 @@ impl<'a> Scopes<'a> {
     fn declare_record(&mut self, p: &mut Typed, kind: RecordKind, d: Decl) -> Result<u32, Refusal>
         ensures answers { Answers self.old p.old self.new p.new (declares_record kind (name_of self.old.file.now d) d.defines) (IsTagOf kind) result }
         ensures extends { Extends p.old p.new }
+        ensures file { self.new.file.now ≡ self.old.file.now }
     {
         let name = self.text(d.name);
         match self.look_tag_here(name) {
@@ -114,7 +119,8 @@ impl<'a> Scopes<'a> {
 
     // The tag of an enumeration is declared with its braces.
     fn new_enumeration(&mut self, d: Decl) -> Result<(), Refusal>
-        ensures { (p : Typed) → Answers self.old p self.new p (declares_enumeration (name_of self.old.file.now d) true) (λ x s a. Unit {0}) result }
+        ensures is { (p : Typed) → Answers self.old p self.new p (declares_enumeration (name_of self.old.file.now d) true) (λ x s a. Unit {0}) result }
+        ensures file { self.new.file.now ≡ self.old.file.now }
     {
         let name = self.text(d.name);
         match self.look_tag_here(name) {
@@ -141,7 +147,8 @@ impl<'a> Scopes<'a> {
 
     // An enumeration is declared by its tag.
     fn declare_enumeration(&mut self, d: Decl) -> Result<(), Refusal>
-        ensures { (p : Typed) → Answers self.old p self.new p (declares_enumeration (name_of self.old.file.now d) d.defines) (λ x s a. Unit {0}) result }
+        ensures is { (p : Typed) → Answers self.old p self.new p (declares_enumeration (name_of self.old.file.now d) d.defines) (λ x s a. Unit {0}) result }
+        ensures file { self.new.file.now ≡ self.old.file.now }
     {
         if d.defines {
             self.new_enumeration(d)
@@ -155,6 +162,7 @@ impl<'a> Scopes<'a> {
     pub fn declare_tag(&mut self, p: &mut Typed, kind: TagKind, d: Decl) -> Result<Entry, Refusal>
         ensures answers { Answers self.old p.old self.new p.new (declares_tag kind (name_of self.old.file.now d) d.defines) (IsTag p.new) result }
         ensures extends { Extends p.old p.new }
+        ensures file { self.new.file.now ≡ self.old.file.now }
     {
         match kind {
             TagKind::Struct => match self.declare_record(p, RecordKind::Struct, d) {

@@ -1,6 +1,6 @@
 // The tags of structs and unions: their declaration, and their members.
 ghost use Rattle.ck_base.specs.declared.positions.Pos.{Pos};
-ghost use Rattle.std.specs.Prelude.{false, ◌≡◌, ℕ, List, Bool, ◌<◌, map, length, IfOk, OnErr, MatchResult, slice_get};
+ghost use Rattle.std.specs.Prelude.{false, true, Some, ◌≡◌, ℕ, List, Bool, ◌<◌, map, length, IfOk, OnErr, MatchResult, slice_get};
 ghost use Rattle.c_tree.specs.Layout.{size_limit};
 ghost use Rattle.c_tree.specs.Scopes.{State, Part};
 ghost use Rattle.c_tree.specs.Declarators.{new_tag, begin_tag, complete_tag, is_begun, record_extent};
@@ -35,6 +35,27 @@ fn completed(kind: RecordKind, tag: u32, members: Vec<Member>) -> CType
     }
 }
 
+// Whether a number names the type of a struct or union that is not complete.
+fn is_open(p: &Typed, of: u32, tag: u32) -> bool
+    ensures { result ≡ true → slice_get p.now.types of ≡ Some (CType.Incomplete tag) }
+{
+    match p.types.as_slice().get(of as usize) {
+        Some(CType::Incomplete(found)) => *found == tag,
+        Some(
+            CType::Void
+            | CType::Int(_, _)
+            | CType::Cap(_)
+            | CType::Pointer(_)
+            | CType::Array(_, _)
+            | CType::Struct(_, _)
+            | CType::Union(_, _)
+            | CType::Function(_, _)
+            | CType::Const(_),
+        )
+        | None => false,
+    }
+}
+
 impl<'a> Scopes<'a> {
     pub(crate) fn tag(&self, n: u32) -> Option<TagInfo>
         ensures { result ≡ slice_get self.now.tags.items n }
@@ -49,6 +70,7 @@ impl<'a> Scopes<'a> {
         ensures keeps { OnErr result (Keeps self.old self.new p.old) }
         ensures scopes { self.new.scopes ≡ self.old.scopes }
         ensures extends { Extends p.old p.new }
+        ensures file { self.new.file.now ≡ self.old.file.now }
     {
         let tag = next_number(self.tags.as_slice())?;
         let of = next_number(p.types.as_slice())?;
@@ -70,13 +92,15 @@ impl<'a> Scopes<'a> {
         ensures err { OnErr result (p.new ≡ p.old) }
         ensures keeps { OnErr result (Keeps self.old self.new p.old) }
         ensures extends { Extends p.old p.new }
+        ensures file { self.new.file.now ≡ self.old.file.now }
     {
         self.add_tag(p, kind)
     }
 
     // The braces of a struct or union are opened for the first time.
     pub(crate) fn open_tag(&mut self, tag: u32)
-        ensures { (p : Typed) (s : State) (place : Pos) → Stands self.old p s → is_begun (slice_get s.tags tag) ≡ false → Given self.new p (begin_tag tag place s) (λ t a. Unit {0}) }
+        ensures is { (p : Typed) (s : State) (place : Pos) → Stands self.old p s → is_begun (slice_get s.tags tag) ≡ false → Given self.new p (begin_tag tag place s) (λ t a. Unit {0}) }
+        ensures file { self.new.file.now ≡ self.old.file.now }
     {
         match self.tag(tag) {
             None => {}
@@ -93,7 +117,8 @@ impl<'a> Scopes<'a> {
 
     /// The braces of a struct or union are opened, which happens once: otherwise 131 at the place.
     pub fn begin_tag(&mut self, tag: u32, pos: Pos) -> Result<(), Refusal>
-        ensures { (p : Typed) → Answers self.old p self.new p (begin_tag tag pos) (λ x s a. Unit {0}) result }
+        ensures is { (p : Typed) → Answers self.old p self.new p (begin_tag tag pos) (λ x s a. Unit {0}) result }
+        ensures file { self.new.file.now ≡ self.old.file.now }
     {
         match self.tag(tag) {
             None => Ok(()),
@@ -143,13 +168,17 @@ impl<'a> Scopes<'a> {
         pos: Pos,
     ) -> Result<(), Refusal>
         ensures answers { (kind : RecordKind) (parts : List Part) → HasParts (types_of p.old.types) parts members.items → Completes self.old p.old self.new p.new kind tag parts pos result }
-        ensures extends { (s : State) → Stands self.old p.old s → Extends p.old p.new }
+        ensures extends { Extends p.old p.new }
+        ensures file { self.new.file.now ≡ self.old.file.now }
     {
         match self.tag(tag) {
             None => Ok(()),
             Some(info) => match self.record_room(p, info.kind, members.as_slice()) {
                 Err(_) => Err(Refusal::Code(140, pos)),
                 Ok(room) => {
+                    if !is_open(p, info.of, tag) {
+                        return Err(Refusal::NoMemory);
+                    }
                     replace(
                         self.alloc,
                         &mut p.types,

@@ -14,12 +14,12 @@ returns-in-Err-clause-answers c kind parts has = (
   λ s h. h,
 )
 
-pub returns-in-Ok-clause-answers : goal.returns-in-Ok-clause-answers
-returns-in-Ok-clause-answers c kind parts has s h k =
+pub returns-else-not-is_open-clause-answers : goal.returns-else-not-is_open-clause-answers
+returns-else-not-is_open-clause-answers c kind parts has s h k =
     rw (c.replace.ensures, c.completed.ensures)
     (completed_now c.args.self.now _ c.args.p.now s kind c.args.tag c.in-Some.info c.in-Ok.room c.args.members.items parts c.args.pos h (sym c.in-Some.ensures) k refl has
     (c.in-Ok.ensures s parts h (rw c.as_slice.ensures.value has)))
 
-pub returns-in-Ok-clause-extends : goal.returns-in-Ok-clause-extends
-returns-in-Ok-clause-extends c s h =
-    rw (c.replace.ensures, c.completed.ensures) (completed_extends c.args.self.now c.args.p.now s c.args.tag c.in-Some.info c.args.members.items h (sym c.in-Some.ensures))
+pub returns-else-not-is_open-clause-extends : goal.returns-else-not-is_open-clause-extends
+returns-else-not-is_open-clause-extends c =
+    rw (c.replace.ensures, c.completed.ensures) (completed_extends c.args.p.now c.in-Some.info.of c.args.tag c.in-Some.info.kind c.args.members.items (c.is_open.ensures c.if-not-is_open.false))

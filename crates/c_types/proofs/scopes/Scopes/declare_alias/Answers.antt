@@ -11,8 +11,8 @@ use Rattle.c_types.proofs.Binding.{bound_named}
 use Rattle.c_types.proofs.Judged.{admitted, not_admitted, named_there}
 use Rattle.c_types.proofs.scopes.Scopes.declare_alias.Goals as goal
 
-pub returns-in-Err : goal.returns-in-Err
-returns-in-Err c lt =
+pub returns-in-Err-clause-is : goal.returns-in-Err-clause-is
+returns-in-Err-clause-is c lt =
     let sc = c.args.self.now in
     let p = c.args.p.now in
     let t = name_of sc.file.now c.args.d in
@@ -21,8 +21,8 @@ returns-in-Err c lt =
     not_admitted {X = Entry} sc p (declares_alias t f b) (λ s. change (bind_name t.text (meant.Alias f.of))) f c.in_ok-fits.fits false b (λ s. alias_fits s t.text f.of) (λ s. false) (λ s. b) t.pos (IsNamed p t.text) c.in-Err.refusal
     (λ s. refl) (λ s h. c.in_ok-fits.ensures s h lt) (λ s h. refl) (λ s h. refl) (c.in-Err.ensures f.of)
 
-pub returns-in_ok-bind-in-Ok : goal.returns-in_ok-bind-in-Ok
-returns-in_ok-bind-in-Ok c lt s h =
+pub returns-in_ok-bind-in-Ok-clause-is : goal.returns-in_ok-bind-in-Ok-clause-is
+returns-in_ok-bind-in-Ok-clause-is c lt s h =
     let sc = c.args.self.now in
     let p = c.args.p.now in
     let t = name_of sc.file.now c.args.d in

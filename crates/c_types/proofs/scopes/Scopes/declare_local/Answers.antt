@@ -8,8 +8,8 @@ use Rattle.c_types.specs.Naming.{IsNamed}
 use Rattle.c_types.proofs.Judged.{admitted, not_admitted, named_there}
 use Rattle.c_types.proofs.scopes.Scopes.declare_local.Goals as goal
 
-pub returns-in-Err : goal.returns-in-Err
-returns-in-Err c lt =
+pub returns-in-Err-clause-is : goal.returns-in-Err-clause-is
+returns-in-Err-clause-is c lt =
     let sc = c.args.self.now in
     let p = c.args.p.now in
     let t = name_of sc.file.now c.args.d in
@@ -18,8 +18,8 @@ returns-in-Err c lt =
     not_admitted {X = Entry} sc p (declares_local t f b) (λ s. new_local t f.of) f c.is_new-fits.result (not c.is_ready-ready.result) false (λ s. is_new s t.text) (λ s. not (is_ready s f.of b)) (λ s. false) t.pos (IsNamed p t.text) c.in-Err.refusal
     (λ s. refl) (λ s h. c.is_new-fits.ensures p s h ∙ ap (is_new s) c.text.ensures) (λ s h. ap not (c.is_ready-ready.ensures s h)) (λ s h. refl) (c.in-Err.ensures f.of)
 
-pub returns-in_ok-new_local-in-Ok : goal.returns-in_ok-new_local-in-Ok
-returns-in_ok-new_local-in-Ok c lt s h =
+pub returns-in_ok-new_local-in-Ok-clause-is : goal.returns-in_ok-new_local-in-Ok-clause-is
+returns-in_ok-new_local-in-Ok-clause-is c lt s h =
     let sc = c.args.self.now in
     let p = c.args.p.now in
     let t = name_of sc.file.now c.args.d in

@@ -9,8 +9,8 @@ use Rattle.c_types.specs.Stands.{Stands, entity_kept}
 use Rattle.c_types.proofs.Binding.{constant_given, new_name}
 use Rattle.c_types.proofs.scopes.Scopes.declare_value.Goals as goal
 
-pub returns : goal.returns
-returns c p z e s h =
+pub returns-clause-is : goal.returns-clause-is
+returns-clause-is c p z e s h =
     let t = name_of c.args.self.now.file.now c.args.d in
     let new : is_new s t.text ≡ true = subst (λ n. is_new s n ≡ true) c.text-name.ensures (new_name _ _ _ c.is_some.result (c.look_here.ensures p s h) c.is_some.ensures ∙ ap not c.if-is_some.false) in
     rw (c.entry_of.ensures, e) (constant_given c.bind.new.self p s t z new

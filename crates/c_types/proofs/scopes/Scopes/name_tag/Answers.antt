@@ -1,4 +1,4 @@
 use Rattle.c_types.proofs.scopes.Scopes.name_tag.Goals as goal
 
-pub returns-in-Recorded : goal.returns-in-Recorded
-returns-in-Recorded c p = rw c.in-Recorded.is (c.name_record.ensures p)
+pub returns-in-Recorded-clause-is : goal.returns-in-Recorded-clause-is
+returns-in-Recorded-clause-is c p = rw c.in-Recorded.is (c.name_record.ensures.is p)
