@@ -1,0 +1,17 @@
+//! Copies of the expressions and statements of a typed program into new lists, with other numbers for its objects and functions, and
+//! the test that a typed program's numbers are in order.
+#![tactic(auto)]
+
+mod expressions;
+mod kinds;
+mod lists;
+mod marks;
+mod numbers;
+mod ordered;
+mod statements;
+mod stmt_kinds;
+
+pub use expressions::Source;
+pub use numbers::Numbers;
+pub use ordered::check_order;
+pub use statements::{Copied, statement};

@@ -1,0 +1,81 @@
+//! Copies of statements.
+
+ghost use Rattle.std.specs.Prelude.{◌≡◌, ◌++◌, ◌∷◌, [], Some, IfOk, OnOk, length, slice_get};
+ghost use Rattle.c_copy.specs.Copying.{Extends, IsActionCopy, AreActionCopies};
+
+use crate::expressions::{Source, expressions};
+use crate::lists::all_below;
+use crate::stmt_kinds::{parts, stmt_with, values};
+use c_tree::{Expr, Stmt};
+use ck_base::NoMemory;
+
+/// The copies.
+#[derive(Debug, Drop)]
+pub struct Copied {
+    pub exprs: Vec<Expr>,
+    pub stmts: Vec<Stmt>,
+}
+
+fn stmt_at(stmts: &[Stmt], k: u32) -> Result<&Stmt, NoMemory>
+    ensures { IfOk result (λ s. slice_get stmts.now k ≡ Some s.now) }
+{
+    match stmts.get(k as usize) {
+        Some(s) => Ok(s),
+        None => Err(NoMemory),
+    }
+}
+
+fn push_stmt(into: &mut Vec<Stmt>, s: Stmt) -> Result<u32, NoMemory>
+    ensures items { OnOk result (into.new.items ≡ into.old.items ++ s ∷ []) }
+    ensures number { IfOk result (λ k. k ≡ length into.old.items) }
+{
+    let Ok(k) = u32::try_from(into.len()) else {
+        return Err(NoMemory);
+    };
+    into.push(s)?;
+    Ok(k)
+}
+
+/// The number of a new copy of statement `k`, which stands with copies of its expressions and of its statements at the ends of the lists.
+#[cycle(statements)]
+pub fn statement(
+    source: &Source<'_>,
+    k: u32,
+    depth: u32,
+    into: &mut Copied,
+) -> Result<u32, NoMemory>
+    ensures exprs { OnOk result (Extends into.old.exprs.items into.new.exprs.items) }
+    ensures stmts { OnOk result (Extends into.old.stmts.items into.new.stmts.items) }
+    ensures is { IfOk result (IsActionCopy source.now.numbers.now source.now.exprs.now source.now.stmts.now into.new.exprs.items into.new.stmts.items k) }
+{
+    if depth == 0 {
+        return Err(NoMemory);
+    }
+    let s = stmt_at(source.stmts, k)?;
+    let xs = values(source.alloc, &s.kind)?;
+    let ks = parts(source.alloc, &s.kind)?;
+    all_below(ks.as_slice(), k)?;
+    let vs = expressions(source, xs.as_slice(), source.levels, &mut into.exprs)?;
+    let js = statements(source, ks.as_slice(), depth - 1, into)?;
+    let kind = stmt_with(source.alloc, &s.kind, vs.as_slice(), js.as_slice())?;
+    push_stmt(&mut into.stmts, Stmt { kind, pos: s.pos })
+}
+
+#[cycle(statements)]
+fn statements(
+    source: &Source<'_>,
+    ks: &[u32],
+    depth: u32,
+    into: &mut Copied,
+) -> Result<Vec<u32>, NoMemory>
+    ensures exprs { OnOk result (Extends into.old.exprs.items into.new.exprs.items) }
+    ensures stmts { OnOk result (Extends into.old.stmts.items into.new.stmts.items) }
+    ensures are { IfOk result (λ js. AreActionCopies source.now.numbers.now source.now.exprs.now source.now.stmts.now into.new.exprs.items into.new.stmts.items ks.now js.items) }
+{
+    let mut js = Vec::new(source.alloc);
+    for k in ks {
+        let j = statement(source, *k, depth, into)?;
+        js.push(j)?;
+    }
+    Ok(js)
+}
