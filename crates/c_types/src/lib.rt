@@ -24,5 +24,3 @@ pub use c_interner::Lengths;
 pub use entries::{Decl, DeclKind, Entity, Entry, Faults, Storage, TagKind, Tagging};
 pub use scopes::{Scope, Scopes};
 
-#[cfg(test)]
-mod tests;
