@@ -11,6 +11,3 @@ mod numbers;
 pub use agreement::{Lengths, agree};
 pub use heads::{Head, head_of, params_of, stands_before};
 pub use numbers::{Numbers, append, next_number, replace};
-
-#[cfg(test)]
-mod tests;

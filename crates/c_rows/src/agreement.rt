@@ -1,7 +1,7 @@
-// Each public call on known types, and types that are large in depth or in the number of their leaves.
+//! Types by their numbers: each call on known types, and types that are large in depth or in the number of their leaves.
 ghost use Rattle.std.specs.Prelude.{◌≡◌, ◌<◌, true, length};
 
-use super::{Lengths, Numbers, agree, append, next_number};
+use c_interner::{Lengths, Numbers, agree, append, next_number};
 use c_tree::{CType, Typed};
 use ck_base::{NoMemory, Sequence};
 use ck_int::IntKind;
