@@ -1,0 +1,14 @@
+pub mod Begun
+pub mod Checking
+pub mod Extending
+pub mod Finding
+pub mod Growing
+pub mod Kept
+pub mod Knowing
+pub mod Naming
+pub mod Parting
+pub mod Reading
+pub mod Sequencing
+pub mod Unevaluated
+pub mod Using
+pub mod Writing
