@@ -1,0 +1,12 @@
+pub mod Counting
+pub mod Declaring
+pub mod Denoting
+pub mod Deriving
+pub mod Joining
+pub mod Lasting
+pub mod Lifting
+pub mod Making
+pub mod Quietly
+pub mod Specifying
+pub mod Tagging
+pub mod Wrapping

@@ -1,0 +1,6 @@
+pub mod Calling
+pub mod Forming
+pub mod Naming
+pub mod Parts
+pub mod Steps
+pub mod Words

@@ -1,0 +1,84 @@
+//! Integer constant expressions in declarations (C11 6.6), and lengths of arrays (6.7.6.2).
+
+ghost use Rattle.std.specs.Prelude.{◌≡◌, ◌*◌, ◌<◌, ◌≤◌, ◌^◌, nat_lt, pos, ◌-ℤ◌, if◌then◌else◌};
+ghost use Rattle.ck_int.specs.Kinds.{value_of, reduced};
+ghost use Rattle.c_nodes.specs.Nodes.{IsWhole};
+ghost use Rattle.c_work.specs.Answers.{Answers, quietly, OperandThere, operand_in};
+ghost use Rattle.c_declarators.specs.Parts.{ConstantThere, IsConstant, CountThere, IsCount, in_any};
+ghost use Rattle.c_declarators.specs.Steps.{constant, array_length};
+
+use c_nodes::Operand;
+use c_work::Work;
+use ck_base::{Pos, Refusal};
+use ck_int::IntKind;
+
+/// The value of an integer constant expression, and the place of its first byte.
+#[derive(Clone, Copy, Debug)]
+pub struct Constant {
+    pub number: i128,
+    pub first: Pos,
+}
+
+// The number that low bits stand for in two's complement, where the highest of them is worth `sign`.
+fn signed(low: u64, sign: u64) -> i128
+    requires width { sign ≤ 2 ^ 63 }
+    requires in_range { low < 2 * sign }
+    ensures { result ≡ (if nat_lt low sign then pos low else pos low -ℤ pos (2 * sign)) }
+{
+    if low < sign {
+        i128::from(low)
+    } else {
+        i128::from(low) - 2 * i128::from(sign)
+    }
+}
+
+// The number that a value of a kind is.
+#[tactic(auto, unfolding(ck_int::specs::Kinds::value_of, ck_int::specs::Kinds::reduced))]
+fn number_of(kind: IntKind, value: u64) -> i128
+    ensures { result ≡ value_of kind value }
+{
+    match kind {
+        IntKind::Bool => i128::from(value != 0),
+        IntKind::I8 => signed(value % 0x100, 0x80),
+        IntKind::U8 => i128::from(value % 0x100),
+        IntKind::I16 => signed(value % 0x1_0000, 0x8000),
+        IntKind::U16 => i128::from(value % 0x1_0000),
+        IntKind::I32 => signed(value % 0x1_0000_0000, 0x8000_0000),
+        IntKind::U32 => i128::from(value % 0x1_0000_0000),
+        IntKind::I64 => signed(value, 0x8000_0000_0000_0000),
+        IntKind::U64 => i128::from(value),
+    }
+}
+
+/// The value of an integer constant expression that was read as a value: 134 at its first byte if it is none.
+pub fn constant_value(work: &Work<'_>, x: Operand) -> Result<Constant, Refusal>
+    requires whole { IsWhole work.now.nodes }
+    requires there { OperandThere work.now x }
+    ensures { Answers quietly work.now work.now (constant (operand_in work.now x)) ConstantThere (in_any IsConstant) result }
+{
+    match work.nodes.constant_of(x.node) {
+        None => Err(Refusal::Code(134, x.first)),
+        Some(value) => {
+            let of = work.nodes.of(x.node);
+            let kind = work.nodes.class(work.nodes.bare(of)).kind();
+            Ok(Constant {
+                number: number_of(kind, value),
+                first: x.first,
+            })
+        }
+    }
+}
+
+/// The number of elements that a constant expression gives: 134 if it is not at least 1.
+pub fn array_length(work: &Work<'_>, c: Constant) -> Result<u64, Refusal>
+    requires { IsWhole work.now.nodes }
+    ensures { Answers quietly work.now work.now (array_length c.number c.first) CountThere (in_any IsCount) result }
+{
+    if c.number <= 0 {
+        return Err(Refusal::Code(134, c.first));
+    }
+    match u64::try_from(c.number) {
+        Ok(count) => Ok(count),
+        Err(_) => Err(Refusal::NoMemory),
+    }
+}

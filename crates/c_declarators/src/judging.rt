@@ -1,0 +1,27 @@
+//! Which rules the type of what is declared breaks (C11 6.7.6).
+
+ghost use Rattle.c_tree.specs.Declarators.{Formed, judge};
+ghost use Rattle.c_declarators.specs.Parts.{HasFaults, IsJudged};
+
+use crate::forming::either;
+use c_types::Faults;
+use ck_base::{Pos, Refusal};
+
+/// The rules on the type itself, and others on what is declared, at one place, the lowest code first: 132, 133, 137, 140.
+pub fn judge(faults: Faults, lacks: bool, misfits: bool, pos: Pos) -> Result<(), Refusal>
+    ensures { (f : Formed) → HasFaults faults f → IsJudged (judge f lacks misfits pos) result }
+{
+    if either(faults.lacks, lacks) {
+        return Err(Refusal::Code(132, pos));
+    }
+    if either(faults.misfits, misfits) {
+        return Err(Refusal::Code(133, pos));
+    }
+    if faults.too_many {
+        return Err(Refusal::Code(137, pos));
+    }
+    if faults.too_large {
+        return Err(Refusal::Code(140, pos));
+    }
+    Ok(())
+}

@@ -1,0 +1,112 @@
+//! Names that stand for types (C11 6.7.8), and enumeration constants (6.7.2.2).
+
+ghost use Rattle.std.specs.Prelude.{◌≡◌, true, false, pos, ◌+ℤ◌, MatchOption, FitsSigned};
+ghost use Rattle.std.specs.Int.{w32, w128};
+ghost use Rattle.c_tree.specs.Declarators.{typedef_name, in_int, enumerate};
+ghost use Rattle.c_nodes.specs.Nodes.{IsWhole};
+ghost use Rattle.c_work.specs.Answers.{Answers, quietly, TypeThere, IsType};
+ghost use Rattle.c_work.specs.Parts.{token_of};
+ghost use Rattle.c_declarators.specs.Parts.{NumberThere, IsNumber, in_any};
+ghost use Rattle.c_declarators.specs.Naming.{IsAlias};
+
+use crate::members::text_of;
+use crate::parameters::is_new;
+use c_types::{Decl, DeclKind, Entity, Faults, Storage};
+use c_work::{Name, Work};
+use ck_base::{Pos, Refusal};
+
+// The type that an entity stands for, if it is a typedef name.
+fn alias_of(found: Option<Entity>) -> Option<u32>
+    ensures { IsAlias found result }
+{
+    match found {
+        Some(Entity::Alias(of)) => Some(of),
+        None
+        | Some(
+            Entity::Local(_, _)
+            | Entity::Static(_)
+            | Entity::Routine(_)
+            | Entity::Enumerator(_)
+            | Entity::Library(_, _),
+        ) => None,
+    }
+}
+
+/// The type that a typedef name stands for: 133 at the name if it is none.
+pub fn typedef_name(work: &Work<'_>, name: Name) -> Result<u32, Refusal>
+    requires { IsWhole work.now.nodes }
+    ensures { Answers quietly work.now work.now (typedef_name (token_of work.now name)) TypeThere IsType result }
+{
+    let found = work.nodes.scopes.look(text_of(work.file, name.span));
+    match alias_of(found) {
+        None => Err(Refusal::Code(133, name.pos)),
+        Some(of) => {
+            if (of as usize) < work.nodes.p.types.as_slice().len() {
+                Ok(of)
+            } else {
+                Err(Refusal::NoMemory)
+            }
+        }
+    }
+}
+
+// Whether a number is one of `int`.
+fn in_int(number: i128) -> Option<i32>
+    ensures { MatchOption result (in_int number ≡ false) (λ n. (in_int number ≡ true) × (n ≡ number) × FitsSigned w32 n) }
+{
+    if number < -2147483648 {
+        return None;
+    }
+    if number > 2147483647 {
+        return None;
+    }
+    Some(number as i32)
+}
+
+fn constant_of(name: Name, value: i32) -> Decl
+    ensures name { result.name ≡ name.span }
+    ensures pos { result.pos ≡ name.pos }
+{
+    Decl {
+        name: name.span,
+        pos: name.pos,
+        of: 0,
+        faults: Faults {
+            lacks: false,
+            misfits: false,
+            too_many: false,
+            too_large: false,
+        },
+        what: DeclKind::Constant(value),
+        storage: Storage::Plain,
+        defines: true,
+    }
+}
+
+fn next_after(value: i32) -> i128
+    ensures value { result ≡ value +ℤ pos 1 }
+    ensures fits { FitsSigned w128 result }
+{
+    i128::from(value) + 1
+}
+
+/// An enumeration constant has its value from here on: 131 for a second one of its name in the scope, and 134 at the place for a value that
+/// is none of `int`. The answer is the value that the next one has without an expression.
+pub fn enumerate(work: &mut Work<'_>, name: Name, number: i128, at: Pos) -> Result<i128, Refusal>
+    requires { IsWhole work.old.nodes }
+    ensures { Answers quietly work.old work.new (enumerate (token_of work.old name) number at) NumberThere (in_any IsNumber) result }
+{
+    if !is_new(work, name) {
+        return Err(Refusal::Code(131, name.pos));
+    }
+    match in_int(number) {
+        None => Err(Refusal::Code(134, at)),
+        Some(value) => {
+            let d = constant_of(name, value);
+            match work.nodes.scopes.declare_constant(d, value) {
+                Err(_) => Err(Refusal::NoMemory),
+                Ok(_) => Ok(next_after(value)),
+            }
+        }
+    }
+}

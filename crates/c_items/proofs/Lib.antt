@@ -1,0 +1,4 @@
+pub mod Adding
+pub mod Going
+pub mod Scoping
+pub mod Shown
