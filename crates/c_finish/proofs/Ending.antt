@@ -1,0 +1,53 @@
+-- The finished program is that of the state.
+use Rattle.std.proofs.Common.{◌≡◌, ℕ, Bool, List, [], ◌++◌, length, map, Some, None, Ok, Err, sym, ap, subst, ◌∙◌, arith}
+use Rattle.std.specs.Prelude.{slice_get, flat_map, if◌then◌else◌}
+use Rattle.std.proofs.lemmas.List.{append-nil, take_all}
+use Rattle.c_tree.specs.declared.typed.Expr.{Expr}
+use Rattle.c_tree.specs.declared.typed.Stmt.{Stmt}
+use Rattle.c_tree.specs.declared.typed.GlobalDef.{GlobalDef}
+use Rattle.c_tree.specs.declared.typed.FunDef.{FunDef}
+use Rattle.c_tree.specs.declared.typed.Typed.{Typed}
+use Rattle.c_tree.specs.Scopes.{State}
+use Rattle.c_tree.specs.Views.{IsOrdered, types_of, routine_of}
+use Rattle.c_tree.specs.Views as views
+use Rattle.c_tree.specs.Programs.{fault, file_begins, has_main, is_main, numbers_of, program_of, ended}
+use Rattle.c_tree.specs.Programs as programs
+use Rattle.c_work.specs.declared.work.Work.{Work}
+use Rattle.c_work.specs.Work.{Shows}
+use Rattle.c_copy.specs.declared.numbers.Numbers.{Numbers}
+use Rattle.c_copy.specs.Copying.{actions_in}
+use Rattle.c_finish.specs.Finished.{IsFinished, IsProgram, IsMain, NumbersFit, TagsFit, AreObjects, AreRoutines}
+
+abbrev made : Work → List GlobalDef → List FunDef → List Expr → List Stmt → ℕ → Typed
+made w gs fs es ss v = record { types = w.nodes.p.types; globals = gs; literals = w.nodes.p.literals; funs = fs; exprs = es; stmts = ss; main = v }
+
+shows_made : (w : Work) (t : Numbers) (gs : List GlobalDef) (fs : List FunDef) (es : List Expr) (ss : List Stmt) (k v : ℕ) (s : State) → TagsFit w → NumbersFit w t → slice_get t.functions.items k ≡ Some v → IsMain w (Some k) → AreObjects w gs → AreRoutines w es ss s (length s.routines) fs →
+    Shows w s → views.Shows (made w gs fs es ss v) (program_of s)
+unfolding program_of
+shows_made w t gs fs es ss k v s a n e m o r h =
+    let ts = types_of w.nodes.p.types in
+    record {
+      tags = λ j c g. a j c g s h;
+      objects = o s h;
+      texts = h.texts;
+      routines = ap (λ (xs : List Expr). map (routine_of ts (actions_in ts xs ss)) fs) (sym (append-nil es)) ∙ ap (λ (ys : List Stmt). map (routine_of ts (actions_in ts (es ++ []) ys)) fs) (sym (append-nil ss)) ∙ r.are [] [] ∙ ap (flat_map (programs.routine_of s)) (take_all (length s.routines) s.routines (omega arith));
+      main = sym ((n s h).functions k v e) ∙ ap (numbers_of s).1 (sym (m s h).1);
+    }
+
+pub program_is : (w : Work) (p : Typed) (t : Numbers) (gs : List GlobalDef) (fs : List FunDef) (es : List Expr) (ss : List Stmt) (k v : ℕ) → p ≡ made w gs fs es ss v → TagsFit w → NumbersFit w t → slice_get t.functions.items k ≡ Some v → IsMain w (Some k) → AreObjects w gs →
+    ((s : State) → Shows w s → AreRoutines w es ss s (length s.routines) fs) → IsOrdered p → IsProgram w p
+program_is w p t gs fs es ss k v q a n e m o r d = record {
+  shows = λ s h. subst (λ (x : Typed). views.Shows x (program_of s)) (sym q) (shows_made w t gs fs es ss k v s a n e m o (r s h) h);
+  ordered = d;
+}
+
+pub no_main : (w : Work) (s : State) → IsMain w None → Shows w s → ended None s ≡ Err (fault 135 file_begins)
+no_main w s m h = ap (λ (b : Bool). if b then Ok (program_of s) else Err (fault 135 file_begins)) (m s h)
+
+pub with_main : (w : Work) (s : State) (k : ℕ) (p : Typed) → IsMain w (Some k) → Shows w s → IsProgram w p → IsFinished (ended None s) p
+with_main w s k p m h q = record {
+  program = program_of s;
+  is = ap (λ (b : Bool). if b then Ok (program_of s) else Err (fault 135 file_begins)) (m s h).0;
+  shows = q.shows s h;
+  ordered = q.ordered;
+}

@@ -1,0 +1,91 @@
+-- What was said first, from the last to the first.
+use Rattle.std.proofs.Common.{◌≡◌, ℕ, zero, suc, ◌+◌, ◌-◌, ◌<◌, ◌≤◌, Bool, true, false, List, [], ◌∷◌, length, drop, Option, Some, refl, sym, ap, subst, ◌∙◌, ◌⊎◌, inl, inr, ⊎_elim, rules, tests, arith}
+use Rattle.std.specs.Global.{Vec}
+use Rattle.std.specs.Prelude.{slice_get, slice_set, ◌==◌, if◌then◌else◌}
+use Rattle.std.proofs.lemmas.Bool.{eqb-true}
+use Rattle.ck_base.specs.declared.positions.Pos.{Pos}
+use Rattle.c_work.specs.declared.work.Use.{Use}
+use Rattle.c_work.specs.declared.work.Used.TheVariants as used
+use Rattle.c_work.specs.declared.work.Definition.{Definition}
+use Rattle.c_work.specs.declared.work.Filling.{Filling}
+use Rattle.c_work.specs.Work.{first_place, is_object, is_function, definition_of}
+use Rattle.c_finish.specs.declared.tables.Uses.{Uses}
+use Rattle.c_finish.specs.Tables.{HasUses, IsBlank, item_at, FirstDefinitions, FirstFillings, first_filling}
+use Rattle.c_finish.proofs.Faulting.{drop_step, drop_past}
+
+pub eqb-same : (n : ℕ) → (n == n) ≡ true
+eqb-same n = search (rules, tests)
+
+pub eqb-apart : (a k : ℕ) → (a ≡ k → ⊥) → (a == k) ≡ false
+eqb-apart a k h = apart (a == k) refl
+  where
+    apart : (b : Bool) → (a == k) ≡ b → (a == k) ≡ false
+    apart true e = absurd (h (eqb-true a k e))
+    apart false e = e
+
+-- an entry after one is set
+pub get-set : {A : Type 0} (t : List A) (a k : ℕ) (v b : A) → slice_get (slice_set t a v) k ≡ Some b → ((k ≡ a) × (b ≡ v)) ⊎ ((slice_get t k ≡ Some b) × (a ≡ k → ⊥))
+get-set [] a k v b e = absurd cc
+get-set (x ∷ t) zero zero v b e = inl (refl, cc)
+get-set (x ∷ t) zero (suc k) v b e = inr (e, λ h. let z : 0 ≡ suc k = h in absurd (omega arith))
+get-set (x ∷ t) (suc a) zero v b e = inr (e, λ h. let z : suc a ≡ 0 = h in absurd (omega arith))
+get-set (x ∷ t) (suc a) (suc k) v b e = ⊎_elim (λ h. inl (let i : k ≡ a = h.0 in omega arith, h.1)) (λ h. inr (h.0, λ q. h.1 (let z : suc a ≡ suc k = q in omega arith))) (get-set t a k v b e)
+
+-- ---- uses
+
+same_test : {A : Type 0} (k a : ℕ) (x y : A) → k ≡ a → x ≡ (if a == k then x else y)
+same_test k a x y e = rw (e, eqb-same a) refl
+
+apart_test : {A : Type 0} (k a : ℕ) (x y : A) → (a ≡ k → ⊥) → y ≡ (if a == k then x else y)
+apart_test k a x y h = rw (eqb-apart a k h) refl
+
+pub object_set : (old : Uses) (new : Uses) (k : ℕ) (p : Pos) (us : List Use) → new.objects.items ≡ slice_set old.objects.items k (Some p) → new.functions ≡ old.functions → HasUses us old → HasUses (record { what = used.Object k; pos = p } ∷ us) new
+object_set old new k p us e f h = record {
+  objects = λ j o g.
+      ⊎_elim (λ a. a.1 ∙ same_test j k (Some p) (first_place (is_object j) us) a.0) (λ a. h.objects j o a.0 ∙ apart_test j k (Some p) (first_place (is_object j) us) a.1) (get-set old.objects.items k j (Some p) o (ap (λ xs. slice_get xs j) (sym e) ∙ g));
+  functions = λ j o g. h.functions j o (ap (λ (v : Vec (Option Pos)). slice_get v.items j) (sym f) ∙ g);
+}
+
+pub function_set : (old : Uses) (new : Uses) (k : ℕ) (p : Pos) (us : List Use) → new.functions.items ≡ slice_set old.functions.items k (Some p) → new.objects ≡ old.objects → HasUses us old → HasUses (record { what = used.Function k; pos = p } ∷ us) new
+function_set old new k p us e f h = record {
+  functions = λ j o g.
+      ⊎_elim (λ a. a.1 ∙ same_test j k (Some p) (first_place (is_function j) us) a.0) (λ a. h.functions j o a.0 ∙ apart_test j k (Some p) (first_place (is_function j) us) a.1) (get-set old.functions.items k j (Some p) o (ap (λ xs. slice_get xs j) (sym e) ∙ g));
+  objects = λ j o g. h.objects j o (ap (λ (v : Vec (Option Pos)). slice_get v.items j) (sym f) ∙ g);
+}
+
+pub no_uses : (t : Uses) → IsBlank t.objects.items → IsBlank t.functions.items → HasUses [] t
+no_uses t a b = record { objects = a; functions = b }
+
+-- ---- definitions and initial values
+
+pub definition_set : (ds last : List Definition) (t : List (Option ℕ)) (i : ℕ) (d : Definition) → slice_get ds i ≡ Some d → FirstDefinitions ds last t → FirstDefinitions ds (d ∷ last) (slice_set t d.function (Some i))
+definition_set ds last t i d e h = record {
+  first = λ k o g.
+      ⊎_elim (λ a. ap (item_at ds) a.1 ∙ e ∙ same_test k d.function (Some d) (definition_of k last) a.0) (λ a. h.first k o a.0 ∙ apart_test k d.function (Some d) (definition_of k last) a.1) (get-set t d.function k (Some i) o g);
+}
+
+pub filling_set : (ds last : List Filling) (t : List (Option ℕ)) (i : ℕ) (d : Filling) → slice_get ds i ≡ Some d → FirstFillings ds last t → FirstFillings ds (d ∷ last) (slice_set t d.object (Some i))
+filling_set ds last t i d e h = record {
+  first = λ k o g.
+      ⊎_elim (λ a. ap (item_at ds) a.1 ∙ e ∙ same_test k d.object (Some d) (first_filling k last) a.0) (λ a. h.first k o a.0 ∙ apart_test k d.object (Some d) (first_filling k last) a.1) (get-set t d.object k (Some i) o g);
+}
+
+pub no_definitions : (ds : List Definition) (t : List (Option ℕ)) → IsBlank t → FirstDefinitions ds [] t
+no_definitions ds t h = record { first = λ k o e. ap (item_at ds) (h k o e) }
+
+pub no_fillings : (ds : List Filling) (t : List (Option ℕ)) → IsBlank t → FirstFillings ds [] t
+no_fillings ds t h = record { first = λ k o e. ap (item_at ds) (h k o e) }
+
+-- ---- from the end
+
+pub at_end : {A : Type 0} (P : List A → Type 0) (xs : List A) (n : ℕ) → n ≡ length xs → P [] → P (drop (n - 0) xs)
+at_end P xs n e h = subst P (sym (drop_past xs (n - 0) (omega arith))) h
+
+pub one_back : {A : Type 0} (P : List A → Type 0) (xs : List A) (n i : ℕ) (x : A) → i < n → slice_get xs (n - 1 - i) ≡ Some x → P (x ∷ drop (n - i) xs) → P (drop (n - (i + 1)) xs)
+one_back P xs n i x lt e h =
+    let a : n - 1 - i ≡ n - (i + 1) = omega arith in
+    let b : suc (n - (i + 1)) ≡ n - i = omega arith in
+    subst P (sym (drop_step xs (n - (i + 1)) x (ap (slice_get xs) (sym a) ∙ e) ∙ ap (λ k. x ∷ drop k xs) b)) h
+
+pub at_begin : {A : Type 0} (P : List A → Type 0) (xs : List A) (n i : ℕ) → n ≤ i → P (drop (n - i) xs) → P xs
+at_begin P xs n i le h = let z : n - i ≡ 0 = omega arith in subst (λ k. P (drop k xs)) z h

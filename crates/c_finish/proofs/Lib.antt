@@ -1,0 +1,9 @@
+pub mod Counting
+pub mod Ending
+pub mod Faulting
+pub mod Firsts
+pub mod Functions
+pub mod Globals
+pub mod MainFunction
+pub mod Owning
+pub mod Records

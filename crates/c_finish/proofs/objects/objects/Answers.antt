@@ -1,0 +1,17 @@
+use Rattle.std.proofs.Common.{◌<◌, length, ap, ◌∙◌, arith}
+use Rattle.std.specs.Prelude.{flat_map}
+use Rattle.std.proofs.lemmas.List.{take_all}
+use Rattle.c_tree.specs.Programs.{object_of}
+use Rattle.c_finish.proofs.Faulting.{statics_count}
+use Rattle.c_finish.proofs.objects.objects.Goals as goal
+
+pub loop-k-preserved : goal.loop-k-preserved
+loop-k-preserved c = λ s h.
+    let lt : c.loop-k.k < length s.statics = let a : c.loop-k.k < c.in_ok-n.n = c.loop-k-test.true in let z = c.in_ok-n.ensures ∙ ap length c.as_slice.ensures ∙ statics_count c.args.work.now s h in omega arith in
+    c.in_ok-add_object.ensures s h lt (c.loop-k.invariant s h)
+
+pub returns : goal.returns
+returns c = λ s h.
+    let w = c.args.work.now in
+    let z = c.in_ok-n.ensures ∙ ap length c.as_slice.ensures ∙ statics_count w s h in
+    c.loop-k.invariant s h ∙ ap (flat_map (object_of s)) (take_all c.loop-k.k s.statics (omega arith))

@@ -1,0 +1,96 @@
+-- What the end of a file gives.
+use Rattle.std.specs.Prelude.{◌≡◌, ℕ, ◌+◌, ◌<◌, true, false, List, [], ◌∷◌, ◌++◌, length, map, flat_map, take, Option, Some, None, Result, Ok, Err, option_map, slice_get}
+use Rattle.std.specs.List.{position_or_len}
+use Rattle.ck_base.specs.declared.refusal.Refusal.{Refusal}
+use Rattle.ck_base.specs.declared.refusal.Refusal.TheVariants.{Code, NoMemory}
+use Rattle.c_tree.specs.declared.syntax.RecordKind.{RecordKind}
+use Rattle.c_tree.specs.declared.typed.CType.{CType}
+use Rattle.c_tree.specs.declared.typed.Member.{Member}
+use Rattle.c_tree.specs.declared.typed.Expr.{Expr}
+use Rattle.c_tree.specs.declared.typed.Stmt.{Stmt}
+use Rattle.c_tree.specs.declared.typed.FunDef.{FunDef}
+use Rattle.c_tree.specs.declared.typed.GlobalDef.{GlobalDef}
+use Rattle.c_tree.specs.declared.typed.Typed.{Typed}
+use Rattle.c_tree.specs.Terms.{Program, Tag}
+use Rattle.c_tree.specs.Scopes.{Aiming, Fault, State, RoutineState}
+use Rattle.c_tree.specs.Views.{Shows, IsOrdered, TagAgrees, types_of, routine_of, member_of}
+use Rattle.c_tree.specs.Views as views
+use Rattle.c_tree.specs.Programs as programs
+use Rattle.c_types.specs.Stands.{member_kept, part_seen}
+use Rattle.c_types.specs.Members.{parts_of}
+use Rattle.c_work.specs.declared.work.Filling.{Filling}
+use Rattle.c_work.specs.declared.work.Work.{Work}
+use Rattle.c_work.specs.Work as works
+use Rattle.c_copy.specs.declared.numbers.Numbers.{Numbers}
+use Rattle.c_copy.specs.Copying.{AreNumbers, actions_in}
+
+-- the lists stand for the program that the file is
+pub record IsFinished (r : Result Program Fault) (p : Typed) : Type 0 where
+  pub program : Program
+  pub is : r ≡ Ok program
+  pub shows : Shows p program
+  pub ordered : IsOrdered p
+
+-- The finished program, or the rule that fails. Want of memory says nothing
+abbrev pub Finished : Result Program Fault → Result Typed Refusal → Type 0
+Finished r (Ok p) = IsFinished r p
+Finished r (Err (Code code place)) = r ≡ Err (record { code = code; place = place })
+Finished r (Err NoMemory) = Unit {0}
+
+-- the new numbers are those of the program
+abbrev pub NumbersFit : Work → Numbers → Type 0
+NumbersFit w t = (s : State) → works.Shows w s → AreNumbers t (programs.numbers_of s)
+
+-- what a type says of a tag
+abbrev pub TagFits : Work → CType → Type 0
+TagFits w c = (s : State) → works.Shows w s → TagAgrees (types_of w.nodes.p.types) (map programs.tag_of s.tags) c
+
+abbrev pub IsRecord : Work → ℕ → RecordKind → List Member → Type 0
+IsRecord w tag kind ms = (s : State) → works.Shows w s → slice_get (map programs.tag_of s.tags) tag ≡ Some (record { kind = kind; members = Some (map (member_of (types_of w.nodes.p.types)) ms) })
+
+-- the members of a tag, with their types as far as they are there
+abbrev pub HasMembers : Work → ℕ → List Member → Type 0
+HasMembers w tag ms = (s : State) → works.Shows w s → Some (map (member_kept (types_of w.nodes.p.types)) ms) ≡ option_map (map part_seen) (parts_of (slice_get s.tags tag))
+
+abbrev pub IsOpen : Work → ℕ → Type 0
+IsOpen w tag = (s : State) → works.Shows w s → (t : Tag) × (slice_get (map programs.tag_of s.tags) tag ≡ Some t) × (t.members ≡ None)
+
+abbrev pub TagsFit : Work → Type 0
+TagsFit w = (k : ℕ) (c : CType) → slice_get w.nodes.p.types k ≡ Some c → TagFits w c
+
+-- an initial value
+abbrev pub filled : Filling → List ℕ × List Aiming
+filled f = (f.bytes.items, map works.aiming_of f.starts.items)
+
+-- the objects that are defined
+abbrev pub AreObjects : Work → List GlobalDef → Type 0
+AreObjects w os = (s : State) → works.Shows w s → map (views.object_of (types_of w.nodes.p.types)) os ≡ flat_map (programs.object_of s) s.statics
+
+-- one object more
+abbrev pub AddsObject : Work → ℕ → List GlobalDef → List GlobalDef → Type 0
+AddsObject w k os ps =
+    (s : State) → works.Shows w s → k < length s.statics → map (views.object_of (types_of w.nodes.p.types)) os ≡ flat_map (programs.object_of s) (take k s.statics) →
+    map (views.object_of (types_of w.nodes.p.types)) ps ≡ flat_map (programs.object_of s) (take (k + 1) s.statics)
+
+-- the functions that are defined, over these expressions and statements and over longer lists
+pub record AreRoutines (w : Work) (exprs : List Expr) (stmts : List Stmt) (s : State) (k : ℕ) (fs : List FunDef) : Type 0 where
+  pub are : (xs : List Expr) (ys : List Stmt) →
+      map (routine_of (types_of w.nodes.p.types) (actions_in (types_of w.nodes.p.types) (exprs ++ xs) (stmts ++ ys))) fs ≡ flat_map (programs.routine_of s) (take k s.routines)
+
+pub record IsRoutine (w : Work) (exprs : List Expr) (stmts : List Stmt) (k : ℕ) (f : FunDef) : Type 0 where
+  pub is : (s : State) (r : RoutineState) → works.Shows w s → slice_get s.routines k ≡ Some r → (xs : List Expr) (ys : List Stmt) →
+      routine_of (types_of w.nodes.p.types) (actions_in (types_of w.nodes.p.types) (exprs ++ xs) (stmts ++ ys)) f ∷ [] ≡ programs.routine_of s r
+
+-- one function more
+abbrev pub AddsRoutine : Work → ℕ → List Expr → List Stmt → List FunDef → List Expr → List Stmt → List FunDef → Type 0
+AddsRoutine w k es ss fs ds rs gs = (s : State) → works.Shows w s → k < length s.routines → AreRoutines w es ss s k fs → AreRoutines w ds rs s (k + 1) gs
+
+-- the number of `main`, and that there is none
+abbrev pub IsMain : Work → Option ℕ → Type 0
+IsMain w (Some k) = (s : State) → works.Shows w s → (programs.has_main s.routines ≡ true) × (position_or_len programs.is_main s.routines ≡ k)
+IsMain w None = (s : State) → works.Shows w s → programs.has_main s.routines ≡ false
+
+-- the lists stand for the program of each state that the work stands for
+pub record IsProgram (w : Work) (p : Typed) : Type 0 where
+  pub shows : (s : State) → works.Shows w s → Shows p (programs.program_of s)
+  pub ordered : IsOrdered p

@@ -1,0 +1,42 @@
+-- What was said first of each object and function.
+use Rattle.std.specs.Prelude.{◌≡◌, ℕ, ◌==◌, if◌then◌else◌, List, [], ◌∷◌, Option, Some, None, slice_get}
+use Rattle.ck_base.specs.declared.positions.Pos.{Pos}
+use Rattle.c_work.specs.declared.work.Use.{Use}
+use Rattle.c_work.specs.declared.work.Filling.{Filling}
+use Rattle.c_work.specs.declared.work.Definition.{Definition}
+use Rattle.c_work.specs.Work.{first_place, is_object, is_function, definition_of}
+use Rattle.c_finish.specs.declared.tables.Uses.{Uses}
+
+abbrev pub IsBlank : {A : Type 0} → List (Option A) → Type 0
+IsBlank xs = (k : ℕ) (o : Option _) → slice_get xs k ≡ Some o → o ≡ None
+
+-- the places of the first uses
+pub record HasUses (us : List Use) (t : Uses) : Type 0 where
+  pub objects : (k : ℕ) (o : Option Pos) → slice_get t.objects.items k ≡ Some o → o ≡ first_place (is_object k) us
+  pub functions : (k : ℕ) (o : Option Pos) → slice_get t.functions.items k ≡ Some o → o ≡ first_place (is_function k) us
+
+-- one more use, before the others
+abbrev pub AddsUse : Uses → Use → Uses → Type 0
+AddsUse old u new = (us : List Use) → HasUses us old → HasUses (u ∷ us) new
+
+-- the item with this number
+abbrev pub item_at : {A : Type 0} → List A → Option ℕ → Option A
+item_at xs None = None
+item_at xs (Some i) = slice_get xs i
+
+-- the first definition of each function among the last ones
+pub record FirstDefinitions (ds last : List Definition) (t : List (Option ℕ)) : Type 0 where
+  pub first : (k : ℕ) (o : Option ℕ) → slice_get t k ≡ Some o → item_at ds o ≡ definition_of k last
+
+abbrev pub HasDefinitions : List Definition → List (Option ℕ) → Type 0
+HasDefinitions ds t = FirstDefinitions ds ds t
+
+abbrev pub first_filling : ℕ → List Filling → Option Filling
+first_filling k [] = None
+first_filling k (f ∷ fs) = (if f.object == k then Some f else first_filling k fs)
+
+pub record FirstFillings (fs last : List Filling) (t : List (Option ℕ)) : Type 0 where
+  pub first : (k : ℕ) (o : Option ℕ) → slice_get t k ≡ Some o → item_at fs o ≡ first_filling k last
+
+abbrev pub HasFillings : List Filling → List (Option ℕ) → Type 0
+HasFillings fs t = FirstFillings fs fs t

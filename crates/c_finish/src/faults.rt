@@ -1,0 +1,150 @@
+//! The rules that wait for the end of the file (C11 6.9p5, 6.9.2).
+
+ghost use Rattle.std.specs.Prelude.{◌≡◌, IfOk, Some, slice_get, flat_map};
+ghost use Rattle.c_tree.specs.Scopes.{State, StaticState, RoutineState};
+ghost use Rattle.c_tree.specs.Programs.{static_faults, routine_faults, pending_faults, last_faults, earliest, reaches};
+ghost use Rattle.c_work.specs.Work.{Shows, pending_of};
+ghost use Rattle.c_finish.specs.Faults.{found, onto};
+ghost use Rattle.c_finish.specs.Tables.{HasUses, HasDefinitions};
+
+use crate::found::{Found, earlier, undefined};
+use crate::lengths::object_length;
+use crate::tables::{Uses, count, definition, global_at};
+use c_work::{Waiting, Work};
+use ck_base::NoMemory;
+
+// What fails of an object: it is not complete (132), or it is used and not defined (130).
+fn object_fault(
+    work: &Work<'_>,
+    uses: &Uses,
+    k: u32,
+    rest: Option<Found>,
+) -> Result<Option<Found>, NoMemory>
+    requires { HasUses work.now.uses.items uses.now }
+    ensures { IfOk result (λ best. (s : State) (g : StaticState) → Shows work.now s → slice_get s.statics k ≡ Some g → found best ≡ onto (static_faults s g) (found rest)) }
+{
+    let used = uses.object(k)?;
+    let best = undefined(work.nodes.scopes.is_defined(k), used, rest);
+    let g = global_at(work, k)?;
+    if work.nodes.scopes.is_complete(&work.nodes.p, g.of) {
+        Ok(best)
+    } else {
+        Ok(earlier(132, g.pos, best))
+    }
+}
+
+fn object_faults(
+    work: &Work<'_>,
+    uses: &Uses,
+    rest: Option<Found>,
+) -> Result<Option<Found>, NoMemory>
+    requires { HasUses work.now.uses.items uses.now }
+    ensures { IfOk result (λ best. (s : State) → Shows work.now s → found best ≡ onto (flat_map (static_faults s) s.statics) (found rest)) }
+{
+    let n = count(work.nodes.p.globals.as_slice().len())?;
+    let mut best = rest;
+    for i in 0..n {
+        best = object_fault(work, uses, n - 1 - i, best)?;
+    }
+    Ok(best)
+}
+
+// A function is used and not defined (130).
+fn function_fault(
+    work: &Work<'_>,
+    uses: &Uses,
+    definitions: &[Option<u32>],
+    k: u32,
+    rest: Option<Found>,
+) -> Result<Option<Found>, NoMemory>
+    requires uses { HasUses work.now.uses.items uses.now }
+    requires definitions { HasDefinitions work.now.definitions.items definitions.now }
+    ensures { IfOk result (λ best. (s : State) (f : RoutineState) → Shows work.now s → slice_get s.routines k ≡ Some f → found best ≡ onto (routine_faults f) (found rest)) }
+{
+    let used = uses.function(k)?;
+    let found = definition(work, definitions, k)?;
+    match found {
+        None => Ok(undefined(false, used, rest)),
+        Some(_) => Ok(undefined(true, used, rest)),
+    }
+}
+
+fn function_faults(
+    work: &Work<'_>,
+    uses: &Uses,
+    definitions: &[Option<u32>],
+    rest: Option<Found>,
+) -> Result<Option<Found>, NoMemory>
+    requires uses { HasUses work.now.uses.items uses.now }
+    requires definitions { HasDefinitions work.now.definitions.items definitions.now }
+    ensures { IfOk result (λ best. (s : State) → Shows work.now s → found best ≡ onto (flat_map routine_faults s.routines) (found rest)) }
+{
+    let n = count(work.nodes.p.funs.as_slice().len())?;
+    let mut best = rest;
+    for i in 0..n {
+        best = function_fault(work, uses, definitions, n - 1 - i, best)?;
+    }
+    Ok(best)
+}
+
+fn reaches(length: Option<u64>, least: i64) -> bool
+    ensures { reaches length least ≡ result }
+{
+    match length {
+        None => true,
+        Some(n) => i128::from(n) >= i128::from(least),
+    }
+}
+
+// An initial pointer was outside an array whose length was not known then (134).
+fn waiting_fault(
+    work: &Work<'_>,
+    x: Waiting,
+    rest: Option<Found>,
+) -> Result<Option<Found>, NoMemory>
+    ensures { IfOk result (λ best. (s : State) → Shows work.now s → found best ≡ onto (pending_faults s (pending_of x)) (found rest)) }
+{
+    let length = object_length(work, x.object)?;
+    if reaches(length, x.least) {
+        Ok(rest)
+    } else {
+        Ok(earlier(134, x.pos, rest))
+    }
+}
+
+fn waiting_at(list: &[Waiting], i: usize) -> Result<Waiting, NoMemory>
+    ensures { IfOk result (λ x. slice_get list.now i ≡ Some x) }
+{
+    match list.get(i).copied() {
+        Some(x) => Ok(x),
+        None => Err(NoMemory),
+    }
+}
+
+fn waiting_faults(work: &Work<'_>, rest: Option<Found>) -> Result<Option<Found>, NoMemory>
+    ensures { IfOk result (λ best. (s : State) → Shows work.now s → found best ≡ onto (flat_map (pending_faults s) s.pending) (found rest)) }
+{
+    let waiting = work.waiting.as_slice();
+    let n = waiting.len();
+    let mut best = rest;
+    for i in 0..n {
+        let x = waiting_at(waiting, n - 1 - i)?;
+        best = waiting_fault(work, x, best)?;
+    }
+    Ok(best)
+}
+
+/// The first rule in the file that fails at its end.
+pub(crate) fn last_fault(
+    work: &Work<'_>,
+    uses: &Uses,
+    definitions: &[Option<u32>],
+) -> Result<Option<Found>, NoMemory>
+    requires uses { HasUses work.now.uses.items uses.now }
+    requires definitions { HasDefinitions work.now.definitions.items definitions.now }
+    ensures { IfOk result (λ best. (s : State) → Shows work.now s → found best ≡ earliest (last_faults s)) }
+{
+    let of_pointers = waiting_faults(work, None)?;
+    let of_functions = function_faults(work, uses, definitions, of_pointers)?;
+    object_faults(work, uses, of_functions)
+}

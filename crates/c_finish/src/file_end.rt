@@ -1,0 +1,105 @@
+//! The end of a file (C11 6.9).
+
+ghost use Rattle.std.specs.Prelude.{◌≡◌, Some, None, IfOk, slice_get};
+ghost use Rattle.c_tree.specs.Scopes.{State};
+ghost use Rattle.c_tree.specs.Programs.{last_faults, earliest, ended};
+ghost use Rattle.c_nodes.specs.Nodes.{IsWhole};
+ghost use Rattle.c_work.specs.Work.{Shows};
+ghost use Rattle.c_finish.specs.Finished.{Finished, IsMain, IsProgram};
+ghost use Rattle.c_finish.specs.Tables.{HasDefinitions};
+
+use crate::faults::last_fault;
+use crate::main_function::main_of;
+use crate::numbering::new_numbers;
+use crate::objects::objects;
+use crate::routines::routines;
+use crate::tables::{first_definitions, first_fillings, first_uses};
+use crate::tags::check_tags;
+use c_copy::{Copied, Numbers, check_order};
+use c_tree::{FunDef, GlobalDef, Typed};
+use c_work::Work;
+use ck_base::{NoMemory, Pos, Refusal, Sequence};
+
+fn number_of_main(numbers: &Numbers, k: u32) -> Result<u32, NoMemory>
+    ensures { IfOk result (λ v. slice_get numbers.now.functions.items k ≡ Some v) }
+{
+    match numbers.functions.get(k as usize).copied() {
+        Some(v) => Ok(v),
+        None => Err(NoMemory),
+    }
+}
+
+// The program with new objects, functions, expressions and statements.
+fn assembled(
+    work: Work<'_>,
+    globals: Vec<GlobalDef>,
+    funs: Vec<FunDef>,
+    copied: Copied,
+    main: u32,
+) -> Typed
+    ensures { result ≡ record { types = work.entry.nodes.p.types; globals = globals.items; literals = work.entry.nodes.p.literals; funs = funs.items; exprs = copied.exprs.items; stmts = copied.stmts.items; main = main } }
+{
+    let Copied { exprs, stmts } = copied;
+    let p = work.nodes.p;
+    Typed {
+        types: p.types,
+        globals: Sequence::from_vec(globals),
+        literals: p.literals,
+        funs: Sequence::from_vec(funs),
+        exprs: Sequence::from_vec(exprs),
+        stmts: Sequence::from_vec(stmts),
+        main,
+    }
+}
+
+// The program, where no rule fails.
+fn program(work: Work<'_>, definitions: &[Option<u32>], main: u32) -> Result<Typed, NoMemory>
+    requires definitions { HasDefinitions work.definitions.items definitions.now }
+    requires main { IsMain work (Some main) }
+    ensures { IfOk result (IsProgram work.entry) }
+{
+    let alloc = work.nodes.alloc;
+    check_tags(&work)?;
+    let numbers = new_numbers(&work, definitions)?;
+    let main = number_of_main(&numbers, main)?;
+    let fillings = first_fillings(&work)?;
+    let globals = objects(&work, &numbers, fillings.as_slice())?;
+    let mut copied = Copied {
+        exprs: Vec::new(alloc),
+        stmts: Vec::new(alloc),
+    };
+    let funs = routines(&work, &numbers, definitions, &mut copied)?;
+    let p = assembled(work, globals, funs, copied, main);
+    check_order(alloc, &p)?;
+    Ok(p)
+}
+
+// The program, where no rule waits that fails: 135 where no `main` is defined.
+fn ending(work: Work<'_>, definitions: &[Option<u32>]) -> Result<Typed, Refusal>
+    requires { HasDefinitions work.definitions.items definitions.now }
+    ensures { (s : State) → Shows work.entry s → Finished (ended None s) result }
+{
+    let found = main_of(&work, definitions)?;
+    match found {
+        None => Err(Refusal::Code(135, Pos { line: 1, col: 1 })),
+        Some(main) => {
+            let p = program(work, definitions, main)?;
+            Ok(p)
+        }
+    }
+}
+
+/// The finished program, or the first rule in the file that fails at its end (130, 132, 134), or 135 at the first byte where no `main`
+/// is defined.
+pub fn finish(work: Work<'_>) -> Result<Typed, Refusal>
+    requires whole { IsWhole work.nodes }
+    ensures { (s : State) → Shows work.entry s → Finished (ended (earliest (last_faults s)) s) result }
+{
+    let uses = first_uses(&work)?;
+    let definitions = first_definitions(&work)?;
+    let first = last_fault(&work, &uses, definitions.as_slice())?;
+    match first {
+        Some(fault) => Err(Refusal::Code(fault.code, fault.pos)),
+        None => ending(work, definitions.as_slice()),
+    }
+}

@@ -1,0 +1,114 @@
+//! The functions of the finished program (C11 6.9.1).
+
+ghost use Rattle.std.specs.Prelude.{◌≡◌, Some, IfOk, OnOk, length, slice_get};
+ghost use Rattle.c_tree.specs.Scopes.{State};
+ghost use Rattle.c_work.specs.Work.{Shows};
+ghost use Rattle.c_copy.specs.Copying.{Extends};
+ghost use Rattle.c_finish.specs.Finished.{NumbersFit, AreRoutines, IsRoutine, AddsRoutine};
+ghost use Rattle.c_finish.specs.Tables.{HasDefinitions};
+ghost use Rattle.c_work.specs.Work.{definition_of};
+
+use crate::tables::{count, definition, function_at};
+use c_copy::{Copied, Numbers, Source, statement};
+use c_tree::{FunDef, VarDef};
+use c_work::{Definition, Work};
+use ck_base::{NoMemory, Sequence};
+use std::alloc::Global;
+
+/// How many levels an expression, and a statement, may have.
+const LEVELS: u32 = 4000;
+
+fn numbers(alloc: Global, xs: &[u32]) -> Result<Vec<u32>, NoMemory>
+    ensures { IfOk result (λ v. v.items ≡ xs.now) }
+{
+    let v = Vec::from_slice(alloc, xs)?;
+    Ok(v)
+}
+
+fn variables(alloc: Global, xs: &[VarDef]) -> Result<Vec<VarDef>, NoMemory>
+    ensures { IfOk result (λ v. v.items ≡ xs.now) }
+{
+    let v = Vec::from_slice(alloc, xs)?;
+    Ok(v)
+}
+
+// A function that is defined.
+fn routine(
+    work: &Work<'_>,
+    new: &Numbers,
+    k: u32,
+    d: &Definition,
+    into: &mut Copied,
+) -> Result<FunDef, NoMemory>
+    requires numbers { NumbersFit work.now new.now }
+    requires definition { definition_of k work.now.definitions.items ≡ Some d.now }
+    ensures exprs { OnOk result (Extends into.old.exprs.items into.new.exprs.items) }
+    ensures stmts { OnOk result (Extends into.old.stmts.items into.new.stmts.items) }
+    ensures is { IfOk result (IsRoutine work.now into.new.exprs.items into.new.stmts.items k) }
+{
+    let alloc = work.nodes.alloc;
+    let exprs = work.nodes.p.exprs.as_slice();
+    let stmts = work.nodes.p.stmts.as_slice();
+    let source = Source {
+        alloc,
+        exprs,
+        stmts,
+        numbers: new,
+        levels: LEVELS,
+    };
+    let params = numbers(alloc, d.params.as_slice())?;
+    let vars = variables(alloc, d.vars.as_slice())?;
+    let body = statement(&source, d.body, LEVELS, into)?;
+    let f = function_at(work, k)?;
+    Ok(FunDef {
+        name: f.name,
+        pos: f.pos,
+        of: f.of,
+        params: Sequence::from_vec(params),
+        vars: Sequence::from_vec(vars),
+        body,
+    })
+}
+
+// One function more, if it is defined.
+fn add_routine(
+    work: &Work<'_>,
+    new: &Numbers,
+    definitions: &[Option<u32>],
+    k: u32,
+    into: &mut Copied,
+    list: &mut Vec<FunDef>,
+) -> Result<(), NoMemory>
+    requires numbers { NumbersFit work.now new.now }
+    requires definitions { HasDefinitions work.now.definitions.items definitions.now }
+    ensures { OnOk result (AddsRoutine work.now k into.old.exprs.items into.old.stmts.items list.old.items into.new.exprs.items into.new.stmts.items list.new.items) }
+{
+    let found = definition(work, definitions, k)?;
+    match found {
+        None => Ok(()),
+        Some(d) => {
+            let f = routine(work, new, k, d, into)?;
+            list.push(f)?;
+            Ok(())
+        }
+    }
+}
+
+/// The functions that are defined, with copies of their statements.
+pub(crate) fn routines(
+    work: &Work<'_>,
+    new: &Numbers,
+    definitions: &[Option<u32>],
+    into: &mut Copied,
+) -> Result<Vec<FunDef>, NoMemory>
+    requires numbers { NumbersFit work.now new.now }
+    requires definitions { HasDefinitions work.now.definitions.items definitions.now }
+    ensures { IfOk result (λ fs. (s : State) → Shows work.now s → AreRoutines work.now into.new.exprs.items into.new.stmts.items s (length s.routines) fs.items) }
+{
+    let n = count(work.nodes.p.funs.as_slice().len())?;
+    let mut list = Vec::new(work.nodes.alloc);
+    for k in 0..n {
+        add_routine(work, new, definitions, k, into, &mut list)?;
+    }
+    Ok(list)
+}

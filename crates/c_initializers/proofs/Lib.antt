@@ -1,0 +1,10 @@
+pub mod ByteLaws
+pub mod CoverLaws
+pub mod FillLaws
+pub mod FormLaws
+pub mod FoundLaws
+pub mod ObjectLaws
+pub mod PlaceLaws
+pub mod RecordLaws
+pub mod SlotLaws
+pub mod StartLaws

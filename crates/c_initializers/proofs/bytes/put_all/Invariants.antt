@@ -1,0 +1,6 @@
+use Rattle.std.proofs.Common.{◌≡◌, ℕ, take, get_or}
+use Rattle.c_initializers.specs.Placing.{added_at}
+use Rattle.c_initializers.proofs.bytes.put_all.Given as goal
+
+abbrev pub invariant-loop-x : goal.invariant-loop-x
+invariant-loop-x l = (k : ℕ) → get_or l.bytes k 0 ≡ added_at k (get_or l.fn.bytes k 0) (take l.x-index l.numbers)

@@ -1,0 +1,12 @@
+use Rattle.std.specs.List.{All}
+use Rattle.c_tree.specs.Scopes.{State}
+use Rattle.c_work.specs.Work.{Shows}
+use Rattle.c_initializers.specs.Places.{IsPlaceThere}
+use Rattle.c_initializers.proofs.PlaceLaws.{PlacedTo}
+use Rattle.c_initializers.proofs.members.struct_places.Given as goal
+
+abbrev pub invariant-loop-m : goal.invariant-loop-m
+invariant-loop-m l = record {
+  there : All (IsPlaceThere l.work) l.places.items;
+  are : (s : State) → Shows l.work s → PlacedTo l.work s l.members l.m-index l.end l.places.items;
+}

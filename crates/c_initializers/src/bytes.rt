@@ -1,0 +1,120 @@
+//! The bytes with which an object of static storage duration begins (C11 6.7.9).
+
+ghost use Rattle.std.specs.Prelude.{◌≡◌, ℕ, ◌+◌, ◌<◌, ◌≤◌, List, length, map, replicate, slice_index, IfOk, OnOk};
+ghost use Rattle.std.specs.List.{All};
+ghost use Rattle.c_tree.specs.Scopes.{Aiming};
+ghost use Rattle.c_tree.specs.Statics.{significant, byte_in, initial_bytes};
+ghost use Rattle.c_initializers.specs.Placing.{placed_of, end_in, greatest_end, added_at, pointers_end};
+
+use ck_base::NoMemory;
+use std::alloc::Global;
+
+/// A number that stands in an object.
+#[derive(Clone, Copy, Debug, PartialEq, Eq)]
+pub struct Placed {
+    /// Its offset, in bytes.
+    pub at: u64,
+    /// How many bytes it has.
+    pub width: u64,
+    /// Its value, in the 64 bits of its extension.
+    pub number: u64,
+}
+
+// How many of so many bytes count: up to the last that is not zero.
+fn significant(width: u64, number: u64) -> u64
+    ensures is { result ≡ significant width number }
+    ensures within { result ≤ width }
+{
+    let mut left = number;
+    let mut count: u64 = 0;
+    while left != 0 && count < width {
+        left /= 256;
+        count += 1;
+    }
+    count
+}
+
+// Where a number ends, up to its last byte that is not zero.
+fn end_of(x: &Placed) -> Result<u64, NoMemory>
+    ensures { IfOk result (λ n. n ≡ end_in x.now) }
+{
+    if x.number == 0 {
+        return Ok(0);
+    }
+    match x.at.checked_add(significant(x.width, x.number)) {
+        Some(end) => Ok(end),
+        None => Err(NoMemory),
+    }
+}
+
+// Where the last of the numbers ends.
+fn greatest_end(numbers: &[Placed]) -> Result<u64, NoMemory>
+    ensures { IfOk result (λ n. n ≡ greatest_end numbers.now) }
+{
+    let mut greatest: u64 = 0;
+    for x in numbers {
+        greatest = greatest.max(end_of(x)?);
+    }
+    Ok(greatest)
+}
+
+// Adds one byte to what stands at a place.
+fn put_byte(bytes: &mut [u8], at: u64, byte: u8) -> Result<(), NoMemory>
+    requires { at < length bytes.old }
+    ensures length { length bytes.new ≡ length bytes.old }
+    ensures same { OnOk result (slice_index bytes.new at ≡ slice_index bytes.old at + byte) }
+    ensures others { (k : ℕ) → (k ≡ at → ⊥) → slice_index bytes.new k ≡ slice_index bytes.old k }
+{
+    let k = at as usize;
+    match bytes[k].checked_add(byte) {
+        None => Err(NoMemory),
+        Some(sum) => {
+            bytes[k] = sum;
+            Ok(())
+        }
+    }
+}
+
+// Adds the bytes of a number to those that stand at its place, the lowest first.
+fn put(bytes: &mut [u8], x: &Placed) -> Result<(), NoMemory>
+    requires { end_in x.now ≤ length bytes.old }
+    ensures length { length bytes.new ≡ length bytes.old }
+    ensures each { OnOk result ((k : ℕ) → slice_index bytes.new k ≡ slice_index bytes.old k + byte_in k (placed_of x.now)) }
+{
+    let count = significant(x.width, x.number);
+    let mut left = x.number;
+    for j in 0..count {
+        put_byte(bytes, x.at + j, (left % 256) as u8)?;
+        left /= 256;
+    }
+    Ok(())
+}
+
+// Adds the bytes of all the numbers to those that stand at their places.
+fn put_all(bytes: &mut [u8], numbers: &[Placed]) -> Result<(), NoMemory>
+    requires { All (λ x. end_in x ≤ length bytes.old) numbers.now }
+    ensures length { length bytes.new ≡ length bytes.old }
+    ensures each { OnOk result ((k : ℕ) → slice_index bytes.new k ≡ added_at k (slice_index bytes.old k) numbers.now) }
+{
+    for x in numbers {
+        put(bytes, x)?;
+    }
+    Ok(())
+}
+
+fn zeros(alloc: Global, count: usize) -> Result<Vec<u8>, NoMemory>
+    ensures { IfOk result (λ v. v.items ≡ replicate count 0) }
+{
+    Ok(vec![in alloc; 0; count]?)
+}
+
+/// The bytes of an object from the numbers and pointers that stand in it. They end at the last byte that is not zero or belongs to a
+/// pointer: the last pointer ends at `end`, which is 0 where there is none. A pointer's own bytes are zero.
+pub fn initial_bytes(alloc: Global, numbers: &[Placed], end: u64) -> Result<Vec<u8>, NoMemory>
+    ensures { IfOk result (λ bytes. (ls : List Aiming) → pointers_end ls ≡ end → bytes.items ≡ initial_bytes (map placed_of numbers.now) ls) }
+{
+    let count = greatest_end(numbers)?.max(end);
+    let mut bytes = zeros(alloc, count as usize)?;
+    put_all(&mut bytes, numbers)?;
+    Ok(bytes)
+}

@@ -1,0 +1,142 @@
+//! How an address that is known before the program runs is made (C11 6.6p9).
+
+ghost use Rattle.std.specs.Prelude.{◌≡◌, ℕ, ◌<◌, List, true, not, IfOk};
+ghost use Rattle.ck_base.specs.declared.positions.Pos.{Pos};
+ghost use Rattle.c_tree.specs.Types.{Ty};
+ghost use Rattle.c_tree.specs.Terms.{Term};
+ghost use Rattle.c_tree.specs.Statics.{is_value_start};
+ghost use Rattle.c_tree.specs.Views.{kind_term};
+ghost use Rattle.c_nodes.specs.Nodes.{IsWhole, term_in, term_count};
+ghost use Rattle.c_initializers.specs.Forms.{IsForm, IsFormOf, StandsBefore};
+
+use c_nodes::Nodes;
+use c_tree::{ExprKind, Target};
+use ck_base::NoMemory;
+use ck_int::IntOp;
+
+/// How an address is made. Numbers without another word are those of expressions.
+#[derive(Clone, Copy, Debug)]
+pub(crate) enum Form {
+    /// An object or a literal.
+    Whole(Target),
+    /// A function, by its number.
+    Entry(u32),
+    /// A member, by its number, of a place.
+    Member(u32, u32),
+    /// A place as a pointer.
+    Pointed(u32),
+    /// The place to which a pointer points.
+    Same(u32),
+    /// A pointer or capability integer as another one.
+    Converted(u32),
+    /// A sum of a pointer and a number, which is taken from it where the truth value says so.
+    Plus(u32, u32, bool),
+    /// A sum or difference of capability integers: whether it is a difference, and whether it derives from the right one.
+    Derived(u32, u32, bool, bool),
+    /// No address.
+    Other,
+}
+
+// The form of an expression of this kind.
+fn form_from(kind: &ExprKind) -> Form
+    ensures { IsFormOf kind.now result }
+{
+    match kind {
+        ExprKind::Literal(k) => Form::Whole(Target::Literal(*k)),
+        ExprKind::Global(k) => Form::Whole(Target::Global(*k)),
+        ExprKind::Fun(k) => Form::Entry(*k),
+        ExprKind::Member(a, k) => Form::Member(*a, *k),
+        ExprKind::Address(a) => Form::Pointed(*a),
+        ExprKind::Decay(a) => Form::Pointed(*a),
+        ExprKind::Deref(a) => Form::Same(*a),
+        ExprKind::Convert(a) => Form::Converted(*a),
+        ExprKind::Plus(a, b, minus) => Form::Plus(*a, *b, *minus),
+        ExprKind::Capability(IntOp::Add, a, b, right) => Form::Derived(*a, *b, false, *right),
+        ExprKind::Capability(IntOp::Sub, a, b, right) => Form::Derived(*a, *b, true, *right),
+        ExprKind::Capability(_, _, _, _)
+        | ExprKind::Constant(_)
+        | ExprKind::Var(_)
+        | ExprKind::Load(_)
+        | ExprKind::Unary(_, _)
+        | ExprKind::Int(_, _, _)
+        | ExprKind::Difference(_, _)
+        | ExprKind::Compare(_, _, _)
+        | ExprKind::And(_, _)
+        | ExprKind::Or(_, _)
+        | ExprKind::Conditional(_, _, _)
+        | ExprKind::Comma(_, _)
+        | ExprKind::Assign(_, _)
+        | ExprKind::Compound(_, _, _, _)
+        | ExprKind::Step(_, _, _)
+        | ExprKind::Call(_, _)
+        | ExprKind::Library(_, _) => Form::Other,
+    }
+}
+
+// Whether the operands of a form stand before an expression.
+fn stands_before(form: Form, node: u32) -> bool
+    ensures { result ≡ true → StandsBefore form node }
+{
+    match form {
+        Form::Whole(_) | Form::Entry(_) | Form::Other => true,
+        Form::Member(a, _) | Form::Pointed(a) | Form::Same(a) | Form::Converted(a) => a < node,
+        Form::Plus(a, b, _) | Form::Derived(a, b, _, _) => a < node && b < node,
+    }
+}
+
+/// The form of an expression.
+pub(crate) fn form_of(nodes: &Nodes, node: u32) -> Result<Form, NoMemory>
+    requires whole { IsWhole nodes.now }
+    requires there { node < term_count nodes.now }
+    ensures { IfOk result (λ f. IsForm nodes.now node f) }
+{
+    let form = form_from(&nodes.p.exprs.as_slice()[node as usize].kind);
+    if stands_before(form, node) {
+        Ok(form)
+    } else {
+        Err(NoMemory)
+    }
+}
+
+// Whether an expression of this kind is a value that is read from a place.
+fn is_load(kind: &ExprKind) -> bool
+    ensures { (ts : List Ty) (t : Ty) (p : Pos) (go : ℕ → Term) → is_value_start (kind_term ts kind.now t p go) ≡ not result }
+{
+    match kind {
+        ExprKind::Load(_) => true,
+        ExprKind::Constant(_)
+        | ExprKind::Literal(_)
+        | ExprKind::Var(_)
+        | ExprKind::Global(_)
+        | ExprKind::Fun(_)
+        | ExprKind::Decay(_)
+        | ExprKind::Deref(_)
+        | ExprKind::Member(_, _)
+        | ExprKind::Address(_)
+        | ExprKind::Convert(_)
+        | ExprKind::Unary(_, _)
+        | ExprKind::Int(_, _, _)
+        | ExprKind::Capability(_, _, _, _)
+        | ExprKind::Plus(_, _, _)
+        | ExprKind::Difference(_, _)
+        | ExprKind::Compare(_, _, _)
+        | ExprKind::And(_, _)
+        | ExprKind::Or(_, _)
+        | ExprKind::Conditional(_, _, _)
+        | ExprKind::Comma(_, _)
+        | ExprKind::Assign(_, _)
+        | ExprKind::Compound(_, _, _, _)
+        | ExprKind::Step(_, _, _)
+        | ExprKind::Call(_, _)
+        | ExprKind::Library(_, _) => false,
+    }
+}
+
+/// Whether an expression is a value that is read from a place, which is not known before the program runs.
+pub(crate) fn reads(nodes: &Nodes, node: u32) -> bool
+    requires whole { IsWhole nodes.now }
+    requires there { node < term_count nodes.now }
+    ensures { is_value_start (term_in nodes.now node) ≡ not result }
+{
+    is_load(&nodes.p.exprs.as_slice()[node as usize].kind)
+}

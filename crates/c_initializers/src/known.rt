@@ -1,0 +1,295 @@
+//! What is known of an expression before the program runs (C11 6.6p7 to p9).
+
+ghost use Rattle.std.specs.Prelude.{◌≡◌, ◌+◌, ◌<◌, ◌≤◌, ◌^◌, ◌&&◌, nat_le, Some, None, pos, ◌≤ℤ◌, neg_ℤ, reverse, option_map, slice_get, if◌then◌else◌, IfOk};
+ghost use Rattle.cap_concentrate.specs.Rounding.{owned};
+ghost use Rattle.c_tree.specs.Scopes.{State};
+ghost use Rattle.c_tree.specs.Statics.{There, static_length, text_length, aim_length, near_all, moved_to, inside, narrowed_in, narrowed, member_offset, move_by, pointed_at, target_size};
+ghost use Rattle.c_tree.specs.Views.{aim_of};
+ghost use Rattle.c_nodes.specs.Nodes.{IsWhole, type_in, term_in, type_count, term_count};
+ghost use Rattle.c_work.specs.Work.{Shows, reach_of};
+ghost use Rattle.c_initializers.specs.Starts.{IsKnown, known_of};
+
+use crate::members::{LIMIT, all_members, record_of};
+use crate::places::Place;
+use crate::sizes::size_of;
+use crate::starts::{Known, Pointer, Value, is_exact, is_near};
+use c_nodes::Class;
+use c_tree::{RecordKind, Target};
+use c_work::{Bounds, Work};
+use cap_layout::{LayoutFault, owned};
+use ck_base::NoMemory;
+
+// What an object of so many bytes owns. None has more than 67,108,864 bytes.
+fn owned_bytes(n: u64) -> Result<u64, NoMemory>
+    ensures is { IfOk result (λ k. k ≡ owned n) }
+    ensures small { IfOk result (λ k. k < 2 ^ 62) }
+{
+    if n > LIMIT {
+        Err(NoMemory)
+    } else {
+        Ok(owned(n).length)
+    }
+}
+
+// What an object of static storage duration owns, where its type is complete.
+fn object_length(work: &Work, k: u32) -> Result<Option<u64>, NoMemory>
+    ensures { IfOk result (λ n. (s : State) → Shows work.now s → static_length s (slice_get s.statics k) ≡ n) }
+{
+    match work.nodes.p.globals.as_slice().get(k as usize) {
+        None => Ok(None),
+        Some(g) => match work.nodes.scopes.layout(&work.nodes.p, g.of) {
+            Err(LayoutFault::Incomplete) => Ok(None),
+            Err(LayoutFault::TooLarge) => Err(NoMemory),
+            Ok(layout) => Ok(Some(owned_bytes(layout.size)?)),
+        },
+    }
+}
+
+// What a string literal owns.
+fn literal_length(work: &Work, k: u32) -> Result<Option<u64>, NoMemory>
+    ensures { IfOk result (λ n. (s : State) → Shows work.now s → text_length (slice_get s.texts k) ≡ n) }
+{
+    match work.nodes.p.literals.as_slice().get(k as usize) {
+        None => Ok(None),
+        Some(text) => Ok(Some(owned_bytes(text.bytes.as_slice().len() as u64)?)),
+    }
+}
+
+// The bytes that an object or a literal owns, where its type is complete.
+fn aim_length(work: &Work, target: Target) -> Result<Option<u64>, NoMemory>
+    ensures { IfOk result (λ n. (s : State) → Shows work.now s → aim_length s (aim_of target) ≡ n) }
+{
+    match target {
+        Target::Fun(_) => Ok(None),
+        Target::Literal(k) => literal_length(work, k),
+        Target::Global(k) => object_length(work, k),
+    }
+}
+
+// A pointer.
+fn place(target: Target, bounds: Bounds, offset: i128, asks: Vec<i64>) -> Result<Known, NoMemory>
+    ensures { IfOk result (λ k. known_of k ≡ (There (aim_of target) (reach_of bounds) offset, reverse asks.items)) }
+{
+    match i64::try_from(offset) {
+        Err(_) => Err(NoMemory),
+        Ok(offset) => Ok(Known {
+            value: Value::There(Pointer {
+                target,
+                bounds,
+                offset,
+            }),
+            asks,
+        }),
+    }
+}
+
+// A pointer, where a test is passed.
+fn place_if(
+    test: bool,
+    target: Target,
+    bounds: Bounds,
+    offset: i128,
+    asks: Vec<i64>,
+) -> Result<Option<Known>, NoMemory>
+    ensures { IfOk result (IsKnown (if test then Some (There (aim_of target) (reach_of bounds) offset, reverse asks.items) else None)) }
+{
+    if test {
+        Ok(Some(place(target, bounds, offset, asks)?))
+    } else {
+        Ok(None)
+    }
+}
+
+// A move in an object whose length is not known, which asks for 1023 bytes less than the offset.
+fn moved_in_open(
+    target: Target,
+    offset: i128,
+    mut asks: Vec<i64>,
+) -> Result<Option<Known>, NoMemory>
+    requires low { neg_ℤ (pos (2 ^ 65)) ≤ℤ offset }
+    requires high { offset ≤ℤ pos (2 ^ 65) }
+    ensures { IfOk result (IsKnown (near_all (aim_of target) offset None (reverse asks.items))) }
+{
+    if offset + 1024 <= 0 {
+        return Ok(None);
+    }
+    match i64::try_from(offset - 1023) {
+        Err(_) => Err(NoMemory),
+        Ok(least) => {
+            asks.push(least)?;
+            Ok(Some(place(target, Bounds::Whole, offset, asks)?))
+        }
+    }
+}
+
+// A pointer is moved to an offset, which is less than 1024 bytes outside its bounds.
+fn moved_to(
+    work: &Work,
+    target: Target,
+    bounds: Bounds,
+    offset: i128,
+    asks: Vec<i64>,
+) -> Result<Option<Known>, NoMemory>
+    requires low { neg_ℤ (pos (2 ^ 65)) ≤ℤ offset }
+    requires high { offset ≤ℤ pos (2 ^ 65) }
+    ensures { IfOk result (λ r. (s : State) → Shows work.now s → IsKnown (moved_to s (aim_of target) (reach_of bounds) offset (reverse asks.items)) r) }
+{
+    match bounds {
+        Bounds::Part(low, length) => {
+            place_if(is_near(low, length, offset), target, bounds, offset, asks)
+        }
+        Bounds::Whole => match aim_length(work, target)? {
+            Some(length) => place_if(is_near(0, length, offset), target, bounds, offset, asks),
+            None => moved_in_open(target, offset, asks),
+        },
+    }
+}
+
+// A pointer is moved by so many bytes.
+pub(crate) fn move_by(work: &Work, by: i64, x: Known) -> Result<Option<Known>, NoMemory>
+    ensures { IfOk result (λ r. (s : State) → Shows work.now s → IsKnown (move_by s by (known_of x)) r) }
+{
+    match x.value {
+        Value::There(p) => {
+            let offset = i128::from(p.offset) + i128::from(by);
+            moved_to(work, p.target, p.bounds, offset, x.asks)
+        }
+        Value::Number(_) | Value::Entry(_) => Ok(None),
+    }
+}
+
+// Bounds of so many bytes in an object whose length is not known, which ask for their end.
+fn part_in_open(
+    target: Target,
+    at: u64,
+    n: u64,
+    mut asks: Vec<i64>,
+) -> Result<Option<Known>, NoMemory>
+    requires { at + n < 2 ^ 64 }
+    ensures { IfOk result (IsKnown (inside None at n (reverse asks.items) (aim_of target))) }
+{
+    match i64::try_from(at + n) {
+        Err(_) => Err(NoMemory),
+        Ok(end) => {
+            asks.push(end)?;
+            place_if(true, target, Bounds::Part(at, n), i128::from(at), asks)
+        }
+    }
+}
+
+// Whether so many bytes from an offset on lie in bounds.
+fn lies_in(low: u64, length: u64, at: u64, n: u64) -> bool
+    ensures { result ≡ (nat_le low at && nat_le (at + n) (low + length)) }
+{
+    low <= at && u128::from(at) + u128::from(n) <= u128::from(low) + u128::from(length)
+}
+
+// Exact bounds of so many bytes, inside those that the pointer has.
+fn narrowed_in(
+    work: &Work,
+    target: Target,
+    bounds: Bounds,
+    at: u64,
+    n: u64,
+    asks: Vec<i64>,
+) -> Result<Option<Known>, NoMemory>
+    requires { at + n < 2 ^ 64 }
+    ensures { IfOk result (λ r. (s : State) → Shows work.now s → IsKnown (narrowed_in s (aim_of target) (reach_of bounds) at n (reverse asks.items)) r) }
+{
+    match bounds {
+        Bounds::Part(low, length) => place_if(
+            lies_in(low, length, at, n),
+            target,
+            Bounds::Part(at, n),
+            i128::from(at),
+            asks,
+        ),
+        Bounds::Whole => match aim_length(work, target)? {
+            Some(length) => place_if(
+                at + n <= length,
+                target,
+                Bounds::Part(at, n),
+                i128::from(at),
+                asks,
+            ),
+            None => part_in_open(target, at, n, asks),
+        },
+    }
+}
+
+// A pointer is narrowed to so many bytes.
+fn narrowed(work: &Work, n: u64, x: Known) -> Result<Option<Known>, NoMemory>
+    requires { n < 2 ^ 62 }
+    ensures { IfOk result (λ r. (s : State) → Shows work.now s → IsKnown (narrowed s n (known_of x)) r) }
+{
+    match x.value {
+        Value::There(p) => match u64::try_from(p.offset) {
+            Err(_) => Ok(None),
+            Ok(at) => {
+                if is_exact(at, n) {
+                    narrowed_in(work, p.target, p.bounds, at, n, x.asks)
+                } else {
+                    Ok(None)
+                }
+            }
+        },
+        Value::Number(_) | Value::Entry(_) => Ok(None),
+    }
+}
+
+fn offset_at(places: &[Place], k: u32) -> Option<u64>
+    ensures { result ≡ option_map (λ (p : Place). p.at) (slice_get places.now k) }
+{
+    match places.get(k as usize) {
+        None => None,
+        Some(p) => Some(p.at),
+    }
+}
+
+// The offset of a member of a struct or union by a type.
+pub(crate) fn member_offset(work: &Work, of: u32, k: u32) -> Result<Option<u64>, NoMemory>
+    requires whole { IsWhole work.now.nodes }
+    requires there { of < type_count work.now.nodes }
+    ensures { IfOk result (λ n. (s : State) → Shows work.now s → member_offset s (type_in work.now.nodes of) k ≡ n) }
+{
+    match work.nodes.class(of) {
+        Class::Tagged(tag) => match record_of(work, tag) {
+            None => Ok(None),
+            Some(record) => match record.kind {
+                RecordKind::Union => Ok(Some(0)),
+                RecordKind::Struct => {
+                    let places = all_members(work, tag)?;
+                    Ok(offset_at(places.as_slice(), k))
+                }
+            },
+        },
+        _ => Ok(None),
+    }
+}
+
+// What is known of a place as a pointer: a member is narrowed to.
+pub(crate) fn pointed_at(work: &Work, node: u32, x: Known) -> Result<Option<Known>, NoMemory>
+    requires whole { IsWhole work.now.nodes }
+    requires there { node < term_count work.now.nodes }
+    ensures { IfOk result (λ r. (s : State) → Shows work.now s → IsKnown (pointed_at s (term_in work.now.nodes node) (known_of x)) r) }
+{
+    if work.nodes.fact(node).member {
+        let n = size_of(work, work.nodes.of(node))?;
+        narrowed(work, owned_bytes(n)?, x)
+    } else {
+        Ok(Some(x))
+    }
+}
+
+// The size of what a pointer points to; 1 for another type.
+pub(crate) fn target_size(work: &Work, of: u32) -> Result<u64, NoMemory>
+    requires whole { IsWhole work.now.nodes }
+    requires there { of < type_count work.now.nodes }
+    ensures is { IfOk result (λ n. (s : State) → Shows work.now s → target_size s (type_in work.now.nodes of) ≡ n) }
+    ensures small { IfOk result (λ n. n ≤ 67108864) }
+{
+    match work.nodes.target(of) {
+        None => Ok(1),
+        Some(t) => size_of(work, t),
+    }
+}

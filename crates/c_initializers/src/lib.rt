@@ -1,0 +1,33 @@
+//! The initialisers of a C file (C11 6.7.9), once their expressions are typed.
+#![tactic(auto)]
+
+mod addresses;
+mod bytes;
+mod counts;
+mod covering;
+mod filling;
+mod forms;
+mod known;
+mod members;
+mod objects;
+mod places;
+mod scalars;
+mod sizes;
+mod slots;
+mod starts;
+mod statics;
+mod strings;
+
+pub use addresses::is_start;
+pub use bytes::{Placed, initial_bytes};
+pub use counts::with_count;
+pub use filling::every_slot;
+pub use objects::{fill_local, fill_static};
+pub use places::{Place, Places, places_of};
+pub use sizes::complete_now;
+pub use slots::{Filled, Slot};
+pub use statics::{Found, pointers_end, start_slots};
+pub use strings::{plain, string, takes_string};
+
+#[cfg(test)]
+mod tests;

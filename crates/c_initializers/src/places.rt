@@ -1,0 +1,90 @@
+//! The parts of an object that the items of a list in braces initialise (C11 6.7.9p17, p20).
+
+ghost use Rattle.std.specs.Prelude.{◌≡◌, ◌*◌, ◌<◌, IfOk};
+ghost use Rattle.c_nodes.specs.Nodes.{IsWhole, type_count};
+ghost use Rattle.c_initializers.specs.Places.{place_at, ArePlaces};
+
+use crate::members::first_members;
+use crate::sizes::{size_of, stripped};
+use c_nodes::Class;
+use c_work::Work;
+use ck_base::NoMemory;
+
+/// A part of an object.
+#[derive(Clone, Copy, Debug, PartialEq, Eq)]
+pub struct Place {
+    /// Its offset, in bytes.
+    pub at: u64,
+    /// The number of its type.
+    pub of: u32,
+}
+
+/// The parts that the items of a list in braces initialise, one after another.
+#[derive(Debug, Drop)]
+pub enum Places {
+    /// The elements of an array.
+    Elements {
+        /// The number of their type.
+        of: u32,
+        /// The bytes of each.
+        size: u64,
+        /// How many there are, 0 where that is not known.
+        count: u64,
+    },
+    /// The members of a struct, or the first one of a union.
+    Members(Vec<Place>),
+    /// The whole object, by its type.
+    Alone(u32),
+}
+
+/// The parts of a type that the first so many items of a list in braces initialise. They stay so while the work goes on.
+pub fn places_of(work: &Work, of: u32, count: usize) -> Result<Places, NoMemory>
+    requires whole { IsWhole work.now.nodes }
+    requires there { of < type_count work.now.nodes }
+    ensures { IfOk result (λ x. ArePlaces work.now of count x) }
+{
+    let base = stripped(work, of);
+    match work.nodes.class(base) {
+        Class::Array(element, length) => Ok(Places::Elements {
+            of: element,
+            size: size_of(work, element)?,
+            count: length,
+        }),
+        Class::Tagged(tag) => Ok(Places::Members(first_members(work, tag, count)?)),
+        _ => Ok(Places::Alone(base)),
+    }
+}
+
+// An element of an array.
+fn element(of: u32, size: u64, k: u64) -> Result<Place, NoMemory>
+    ensures { IfOk result (λ p. p ≡ record { at = k * size; of = of }) }
+{
+    match k.checked_mul(size) {
+        None => Err(NoMemory),
+        Some(at) => Ok(Place { at, of }),
+    }
+}
+
+impl Places {
+    /// The part that an item with this number, counted from 0, initialises; none where there are too many items (133).
+    pub fn get(&self, k: u32) -> Result<Option<Place>, NoMemory>
+        ensures { IfOk result (λ o. o ≡ place_at self.now k) }
+    {
+        match self {
+            Places::Elements { of, size, count } => {
+                let n = u64::from(k);
+                if n < *count || *count == 0 {
+                    Ok(Some(element(*of, *size, n)?))
+                } else {
+                    Ok(None)
+                }
+            }
+            Places::Members(places) => Ok(places.get(k as usize).copied()),
+            Places::Alone(of) => Ok(if k == 0 {
+                Some(Place { at: 0, of: *of })
+            } else {
+                None
+            }),
+        }
+    }
+}

@@ -1,0 +1,53 @@
+//! Sizes of types, and their completion (C11 6.7.9p22).
+
+ghost use Rattle.std.specs.Prelude.{◌≡◌, ◌<◌, ◌≤◌, true, IfOk};
+ghost use Rattle.c_tree.specs.Layout.{size_limit};
+ghost use Rattle.c_tree.specs.Scopes.{State, size, is_complete};
+ghost use Rattle.c_tree.specs.Declarations.{complete_now};
+ghost use Rattle.c_nodes.specs.Nodes.{IsWhole, type_in, type_count};
+ghost use Rattle.c_work.specs.Work.{Shows};
+ghost use Rattle.c_work.specs.Answers.{Answers, quietly, NothingThere, IsNothing};
+ghost use Rattle.c_initializers.specs.Places.{stripped};
+
+use c_nodes::Class;
+use c_work::Work;
+use cap_layout::LayoutFault;
+use ck_base::{NoMemory, Pos, Refusal};
+
+/// The bytes of a type; none where it is not complete. No object has a type of more than 67,108,864 bytes.
+pub fn size_of(work: &Work, t: u32) -> Result<u64, NoMemory>
+    ensures is { IfOk result (λ n. (s : State) → Shows work.now s → size s (type_in work.now.nodes t) ≡ n) }
+    ensures small { IfOk result (λ n. n ≤ size_limit) }
+{
+    match work.nodes.scopes.layout(&work.nodes.p, t) {
+        Ok(layout) => Ok(layout.size),
+        Err(LayoutFault::Incomplete) => Ok(0),
+        Err(LayoutFault::TooLarge) => Err(NoMemory),
+    }
+}
+
+/// A type is complete once its initialiser is there (132), and within the limit (140).
+pub fn complete_now(work: &Work, of: u32, pos: Pos) -> Result<(), Refusal>
+    requires { IsWhole work.now.nodes }
+    ensures { Answers quietly work.now work.now (complete_now (type_in work.now.nodes of) pos) NothingThere IsNothing result }
+{
+    match work.nodes.scopes.layout(&work.nodes.p, of) {
+        Ok(_) => Ok(()),
+        Err(LayoutFault::Incomplete) => Err(Refusal::Code(132, pos)),
+        Err(LayoutFault::TooLarge) => Err(Refusal::Code(140, pos)),
+    }
+}
+
+/// A type without the words `const` before it.
+pub fn stripped(work: &Work, t: u32) -> u32
+    requires whole { IsWhole work.now.nodes }
+    requires there { t < type_count work.now.nodes }
+    ensures is { type_in work.now.nodes result ≡ stripped (type_in work.now.nodes t) }
+    ensures there { result < type_count work.now.nodes }
+{
+    let mut at = t;
+    while let Class::Const(of) = work.nodes.class(at) {
+        at = of;
+    }
+    at
+}
