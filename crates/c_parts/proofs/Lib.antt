@@ -1,0 +1,16 @@
+pub mod Among
+pub mod Arguments
+pub mod Calling
+pub mod Declaring
+pub mod Folding
+pub mod Gathering
+pub mod Kids
+pub mod Lasting
+pub mod Leaves
+pub mod Lists
+pub mod Others
+pub mod Params
+pub mod Selecting
+pub mod Specifiers
+pub mod Specifying
+pub mod Tagging

@@ -1,0 +1,4 @@
+pub mod Folding
+pub mod Gathered
+pub mod Kids
+pub mod Specifying

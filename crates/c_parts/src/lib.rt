@@ -1,0 +1,9 @@
+//! Expressions, type names, specifiers, declarators and parameters of a C file's tree: the recursion over its syntax (C11 6.5, 6.7).
+#![tactic(auto)]
+
+mod parts;
+mod rules;
+mod tree;
+
+pub use parts::{constant, derived, operand, specified, type_of, value_of};
+pub use tree::{FirstPart, ThreeParts, TwoParts, first_of, name_of, node_at, only, three, two};

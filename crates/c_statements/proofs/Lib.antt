@@ -1,0 +1,11 @@
+pub mod Alike
+pub mod Bracing
+pub mod Failing
+pub mod Fours
+pub mod Gather
+pub mod Inside
+pub mod Parting
+pub mod Placing
+pub mod Stating
+pub mod Steps
+pub mod Switching

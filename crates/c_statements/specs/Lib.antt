@@ -1,0 +1,4 @@
+pub mod Arity
+pub mod Gather
+pub mod Statements
+pub mod Switching

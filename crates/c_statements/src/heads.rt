@@ -1,0 +1,119 @@
+//! What stands in the parentheses of a `for` (C11 6.8.5.3).
+
+ghost use Rattle.std.specs.Prelude.{◌≡◌, true, IfOk};
+ghost use Rattle.c_tree.specs.Syntax.{Syn};
+ghost use Rattle.c_tree.specs.Programs.{reading};
+ghost use Rattle.c_tree.specs.Statements.{is_absent, first_part, optional_test, optional_step};
+ghost use Rattle.c_nodes.specs.Nodes.{IsWhole};
+ghost use Rattle.c_work.specs.Answers.{Answers, quietly, freely};
+ghost use Rattle.c_work.specs.Parts.{IsPart, HasPart};
+ghost use Rattle.c_items.specs.Items.{context_in, ItemsThere, IsItems};
+ghost use Rattle.c_statements.specs.Statements.{MaybeThere, IsMaybe, for_head, HeadThere, IsHead, for_of};
+
+use crate::simple::{evaluate_one, test};
+use c_declarations::declaration;
+use c_items::{Context, Items, no_items};
+use c_parts::{ThreeParts, node_at, value_of};
+use c_tree::{NodeKind, StmtKind};
+use c_work::Work;
+use ck_base::{NoMemory, Refusal, Sequence};
+
+/// What stands in the parentheses of a `for`.
+#[derive(Debug, Drop)]
+pub struct Head {
+    pub items: Items,
+    pub test: Option<u32>,
+    pub step: Option<u32>,
+}
+
+// A declaration, an expression as a statement at its first byte, or nothing.
+fn first_part(work: &mut Work<'_>, context: Context, k: u32, depth: u32) -> Result<Items, Refusal>
+    requires whole { IsWhole work.old.nodes }
+    requires part { HasPart work.old k }
+    ensures { (x : Syn) → IsPart work.old k x → Answers freely work.old work.new (first_part (context_in work.old context) x (reading x)) ItemsThere IsItems result }
+{
+    let node = node_at(work, k)?;
+    match node.kind {
+        NodeKind::Declaration => declaration(work, node.kids.as_slice(), node.pos, depth),
+        NodeKind::Absent => Ok(no_items(work.nodes.alloc)),
+        _ => evaluate_one(work, k, node.first, depth),
+    }
+}
+
+// Whether a `for` does without an expression.
+fn is_absent(work: &Work<'_>, k: u32) -> Result<bool, NoMemory>
+    ensures { IfOk result (λ b. (x : Syn) → IsPart work.now k x → is_absent x ≡ b) }
+{
+    let node = node_at(work, k)?;
+    Ok(matches!(node.kind, NodeKind::Absent))
+}
+
+// A test, if there is one.
+fn optional_test(work: &mut Work<'_>, k: u32, depth: u32) -> Result<Option<u32>, Refusal>
+    requires whole { IsWhole work.old.nodes }
+    requires part { HasPart work.old k }
+    ensures { (x : Syn) → IsPart work.old k x → Answers quietly work.old work.new (optional_test x (reading x)) MaybeThere IsMaybe result }
+{
+    let absent = is_absent(work, k)?;
+    if absent {
+        return Ok(None);
+    }
+    let value = test(work, k, depth)?;
+    Ok(Some(value))
+}
+
+// A step, if there is one.
+fn optional_step(work: &mut Work<'_>, k: u32, depth: u32) -> Result<Option<u32>, Refusal>
+    requires whole { IsWhole work.old.nodes }
+    requires part { HasPart work.old k }
+    ensures { (x : Syn) → IsPart work.old k x → Answers quietly work.old work.new (optional_step x (reading x)) MaybeThere IsMaybe result }
+{
+    let absent = is_absent(work, k)?;
+    if absent {
+        return Ok(None);
+    }
+    let value = value_of(work, k, depth)?;
+    Ok(Some(value.node))
+}
+
+// What stands in the parentheses, from left to right.
+pub(crate) fn for_head(
+    work: &mut Work<'_>,
+    context: Context,
+    parts: ThreeParts,
+    depth: u32,
+) -> Result<Head, Refusal>
+    requires whole { IsWhole work.old.nodes }
+    requires first { HasPart work.old parts.first }
+    requires second { HasPart work.old parts.second }
+    requires third { HasPart work.old parts.third }
+    ensures { (x y z : Syn) → IsPart work.old parts.first x → IsPart work.old parts.second y → IsPart work.old parts.third z → Answers freely work.old work.new (for_head (context_in work.old context) x y z (reading x) (reading y) (reading z)) HeadThere IsHead result }
+{
+    let items = first_part(work, context, parts.first, depth)?;
+    let test = optional_test(work, parts.second, depth)?;
+    let step = optional_step(work, parts.third, depth)?;
+    Ok(Head { items, test, step })
+}
+
+// The statement that a `for` is.
+pub(crate) fn for_kind(head: Head, body: u32) -> StmtKind
+    ensures { result ≡ for_of head body }
+{
+    StmtKind::For {
+        vars: Sequence::from_vec(head.items.vars),
+        first: Sequence::from_vec(head.items.actions),
+        test: head.test,
+        step: head.step,
+        body,
+    }
+}
+
+pub(crate) fn in_a_loop(context: Context) -> Context
+    ensures { result ≡ record context { in_loop = true; breakable = true } }
+{
+    Context {
+        gives: context.gives,
+        in_loop: true,
+        breakable: true,
+    }
+}

@@ -1,0 +1,193 @@
+//! What a `switch` is on, and its labels (C11 6.8.4.2).
+
+ghost use Rattle.std.specs.Prelude.{◌≡◌, ◌<◌, ◌++◌, ◌∷◌, [], true, map, length, IfOk};
+ghost use Rattle.ck_int.specs.Kinds.{wrapped};
+ghost use Rattle.c_tree.specs.Syntax.{Syn, Syns};
+ghost use Rattle.c_tree.specs.Views.{label_of};
+ghost use Rattle.c_tree.specs.Programs.{reading, readings};
+ghost use Rattle.c_tree.specs.Statements.{same_value, has_label, case_label};
+ghost use Rattle.std.specs.List.{list_any};
+ghost use Rattle.c_nodes.specs.Nodes.{IsWhole, type_in, type_count, term_count};
+ghost use Rattle.c_work.specs.Answers.{Answers, quietly, freely};
+ghost use Rattle.c_work.specs.Parts.{IsPart, HasPart, AreParts, HaveParts};
+ghost use Rattle.c_statements.specs.Statements.{switched, SwitchedThere, IsSwitched, IsPromoted, LabelThere, IsLabel, AddsLabel, CasesThere, IsCases, cases_in, case_of, labelling, switch_of};
+
+use c_declarators::Constant;
+use c_items::{Context, Items, join};
+use c_nodes::Nodes;
+use c_parts::{constant, first_of, value_of};
+use c_tree::{StmtKind, SwitchLabel};
+use c_work::Work;
+use ck_base::{NoMemory, Pos, Refusal, Sequence};
+use ck_int::{IntKind, wrap};
+
+/// What a `switch` is on: the number of its promoted type, and the expression in that type.
+#[derive(Clone, Copy, Debug)]
+pub struct Controlling {
+    pub of: u32,
+    pub value: u32,
+}
+
+/// What stands in the braces of a `switch` so far.
+#[derive(Debug, Drop)]
+pub struct Cases {
+    pub items: Items,
+    pub labels: Vec<SwitchLabel>,
+}
+
+// An integer in its promoted type.
+fn promoted_value(nodes: &mut Nodes<'_>, node: u32) -> Result<Controlling, NoMemory>
+    requires whole { IsWhole nodes.old }
+    requires there { node < term_count nodes.old }
+    ensures { IfOk result (λ x. IsPromoted nodes.old nodes.new node x) }
+{
+    let to = nodes.promoted(nodes.of(node))?;
+    let value = nodes.converted(to, node)?;
+    Ok(Controlling { of: to, value })
+}
+
+// An integer, promoted: 133 at its first byte if it is none.
+pub(crate) fn switched(work: &mut Work<'_>, k: u32, depth: u32) -> Result<Controlling, Refusal>
+    requires whole { IsWhole work.old.nodes }
+    requires part { HasPart work.old k }
+    ensures { (x : Syn) → IsPart work.old k x → Answers quietly work.old work.new (switched (reading x)) SwitchedThere IsSwitched result }
+{
+    let a = value_of(work, k, depth)?;
+    if !work.nodes.is_integer(work.nodes.of(a.node)) {
+        return Err(Refusal::Code(133, a.first));
+    }
+    let on = promoted_value(&mut work.nodes, a.node)?;
+    Ok(on)
+}
+
+// A constant at a kind.
+fn kept_constant(kind: IntKind, value: Constant) -> u64
+    ensures { result ≡ wrapped kind value.number }
+{
+    wrap(kind, value.number)
+}
+
+// The value of a `case`, converted to the type of what the `switch` is on.
+fn case_value(work: &mut Work<'_>, of: u32, k: u32, depth: u32) -> Result<Option<u64>, Refusal>
+    requires whole { IsWhole work.old.nodes }
+    requires there { of < type_count work.old.nodes }
+    requires part { HasPart work.old k }
+    ensures { (x : Syn) → IsPart work.old k x → Answers quietly work.old work.new (case_of (type_in work.old.nodes of) (reading x)) LabelThere IsLabel result }
+{
+    let value = constant(work, k, depth)?;
+    let kind = work.nodes.class(of).kind();
+    Ok(Some(kept_constant(kind, value)))
+}
+
+// The value of a label: none for `default`.
+fn label(work: &mut Work<'_>, of: u32, kids: &[u32], depth: u32) -> Result<Option<u64>, Refusal>
+    requires whole { IsWhole work.old.nodes }
+    requires there { of < type_count work.old.nodes }
+    requires parts { HaveParts work.old kids.now }
+    ensures { (xs : Syns) → AreParts work.old kids.now xs → Answers quietly work.old work.new (case_label (readings xs) (type_in work.old.nodes of)) LabelThere IsLabel result }
+{
+    match first_of(kids) {
+        None => Ok(None),
+        Some(x) => case_value(work, of, x.first, depth),
+    }
+}
+
+fn same_value(a: Option<u64>, b: Option<u64>) -> bool
+    ensures { result ≡ same_value a b }
+{
+    match a {
+        None => b.is_none(),
+        Some(x) => match b {
+            None => false,
+            Some(y) => x == y,
+        },
+    }
+}
+
+fn any_label(labels: &[SwitchLabel], value: Option<u64>) -> bool
+    ensures { result ≡ list_any (λ l. same_value value l.value) labels.now }
+{
+    labels.iter().any(|label| same_value(value, label.value))
+}
+
+fn has_label(labels: &[SwitchLabel], value: Option<u64>) -> bool
+    ensures { has_label value (map label_of labels.now) ≡ result }
+{
+    any_label(labels, value)
+}
+
+// One more label, before the next statement.
+fn with_label(cases: Cases, value: Option<u64>) -> Result<Cases, NoMemory>
+    ensures items { IfOk result (λ x. x.items ≡ cases.items) }
+    ensures labels { IfOk result (λ x. x.labels.items ≡ cases.labels.items ++ record { value = value; before = length cases.items.actions.items } ∷ []) }
+{
+    let mut cases = cases;
+    let before = u32::try_from(cases.items.actions.len()).map_err(|_| NoMemory)?;
+    cases.labels.push(SwitchLabel { value, before })?;
+    Ok(cases)
+}
+
+// A label that no earlier one is like: 131 at its place.
+fn add_label(cases: Cases, value: Option<u64>, pos: Pos) -> Result<Cases, Refusal>
+    ensures { AddsLabel cases value pos result }
+{
+    if has_label(cases.labels.as_slice(), value) {
+        return Err(Refusal::Code(131, pos));
+    }
+    let labelled = with_label(cases, value)?;
+    Ok(labelled)
+}
+
+// A label, which is added behind the others.
+pub(crate) fn labelled(
+    work: &mut Work<'_>,
+    of: u32,
+    kids: &[u32],
+    pos: Pos,
+    cases: Cases,
+    depth: u32,
+) -> Result<Cases, Refusal>
+    requires whole { IsWhole work.old.nodes }
+    requires there { of < type_count work.old.nodes }
+    requires parts { HaveParts work.old kids.now }
+    requires cases { CasesThere work.old cases }
+    ensures { (xs : Syns) → AreParts work.old kids.now xs → Answers freely work.old work.new (labelling (readings xs) (type_in work.old.nodes of) pos (cases_in work.old cases)) CasesThere IsCases result }
+{
+    let value = label(work, of, kids, depth)?;
+    add_label(cases, value, pos)
+}
+
+// A declaration or a statement behind the others.
+pub(crate) fn with_items(cases: Cases, more: Items) -> Result<Cases, NoMemory>
+    ensures vars { IfOk result (λ x. x.items.vars.items ≡ cases.items.vars.items ++ more.vars.items) }
+    ensures actions { IfOk result (λ x. x.items.actions.items ≡ cases.items.actions.items ++ more.actions.items) }
+    ensures labels { IfOk result (λ x. x.labels.items ≡ cases.labels.items) }
+{
+    let mut cases = cases;
+    join(&mut cases.items, more)?;
+    Ok(cases)
+}
+
+// The statement that a `switch` is.
+pub(crate) fn switch_kind(on: u32, cases: Cases) -> StmtKind
+    ensures { result ≡ switch_of on cases }
+{
+    let items = cases.items;
+    let labels = cases.labels;
+    StmtKind::Switch {
+        on,
+        vars: Sequence::from_vec(items.vars),
+        labels: Sequence::from_vec(labels),
+        body: Sequence::from_vec(items.actions),
+    }
+}
+
+pub(crate) fn in_a_switch(context: Context) -> Context
+    ensures { result ≡ record context { breakable = true } }
+{
+    Context {
+        gives: context.gives,
+        in_loop: context.in_loop,
+        breakable: true,
+    }
+}

@@ -1,0 +1,510 @@
+//! Statements (C11 6.8). `depth` bounds how deep they go: at 0 memory is wanting.
+
+ghost use Rattle.std.specs.Prelude.{◌≡◌, ◌<◌, ◌∷◌, [], IfOk};
+ghost use Rattle.ck_base.specs.Tokens.{Lexeme};
+ghost use Rattle.c_tree.specs.Syntax.{Syn, Syns};
+ghost use Rattle.c_tree.specs.Scopes.{in_scope};
+ghost use Rattle.c_tree.specs.Programs.{reading, readings};
+ghost use Rattle.c_tree.specs.Statements.{all_items, substatement, statement_of, switch_item, switch_items, no_cases};
+ghost use Rattle.c_nodes.specs.Nodes.{IsWhole, type_in, type_count};
+ghost use Rattle.c_work.specs.Answers.{Answers, freely};
+ghost use Rattle.c_work.specs.Parts.{IsPart, HasPart, AreParts, HaveParts};
+ghost use Rattle.c_parts.specs.Kids.{HasNode, IsNode};
+ghost use Rattle.c_items.specs.Items.{ContextThere, context_in, ItemsThere, IsItems, ActionThere, IsOnlyAction};
+ghost use Rattle.c_statements.specs.Statements.{CasesThere, IsCases, cases_in, block_of, if_of, if_with, if_else_of, if_else_with, while_of, while_with, do_of, do_with, for_in, for_with, switch_in, switch_with, inside_of, further};
+ghost use Rattle.c_tree.specs.Statements as meant;
+
+use crate::four::{FourParts, four};
+use crate::heads::{for_head, for_kind, in_a_loop};
+use crate::labels::{Cases, in_a_switch, labelled, switch_kind, switched, with_items};
+use crate::simple::{evaluate, jump, return_at, test};
+use c_declarations::declaration;
+use c_items::{Context, Items, does, enter, join, leave, no_items};
+use c_parts::{first_of, node_at, only, three, two};
+use c_tree::{Node, NodeKind, StmtKind};
+use c_work::Work;
+use ck_base::{NoMemory, Pos, Refusal, Sequence};
+
+// The statement that is given alone.
+fn alone(actions: &[u32]) -> Result<u32, NoMemory>
+    ensures { IfOk result (λ k. actions.now ≡ k ∷ []) }
+{
+    match only(actions) {
+        None => Err(NoMemory),
+        Some(k) => Ok(k),
+    }
+}
+
+/// A declaration or a statement of a block.
+#[cycle(statements)]
+pub fn item(work: &mut Work<'_>, context: Context, k: u32, depth: u32) -> Result<Items, Refusal>
+    requires whole { IsWhole work.old.nodes }
+    requires context { ContextThere work.old context }
+    requires part { HasPart work.old k }
+    ensures { (x : Syn) → IsPart work.old k x → Answers freely work.old work.new ((reading x).item (context_in work.old context)) ItemsThere IsItems result }
+{
+    if depth == 0 {
+        return Err(Refusal::NoMemory);
+    }
+    let node = node_at(work, k)?;
+    statement(work, context, node, depth - 1)
+}
+
+// The statement of a node, by its kind.
+#[cycle(statements)]
+fn statement(
+    work: &mut Work<'_>,
+    context: Context,
+    node: &Node,
+    depth: u32,
+) -> Result<Items, Refusal>
+    requires whole { IsWhole work.old.nodes }
+    requires context { ContextThere work.old context }
+    requires node { HasNode work.old node.now }
+    ensures { (t : Lexeme) (xs : Syns) → IsNode work.old node.now t xs → Answers freely work.old work.new (statement_of node.now.kind t xs (readings xs) (context_in work.old context)) ItemsThere IsItems result }
+{
+    let kids = node.kids.as_slice();
+    match node.kind {
+        NodeKind::Declaration => declaration(work, kids, node.pos, depth),
+        NodeKind::EmptyStatement => does(work, StmtKind::Empty, node.pos),
+        NodeKind::ExpressionStatement => evaluate(work, kids, node.pos, depth),
+        NodeKind::Break => jump(work, StmtKind::Break, context.breakable, node.pos),
+        NodeKind::Continue => jump(work, StmtKind::Continue, context.in_loop, node.pos),
+        NodeKind::Return => return_at(work, context, kids, node.pos, depth),
+        _ => scoped(work, context, node, depth),
+    }
+}
+
+// A statement with a scope of its own (C11 6.8p3).
+#[cycle(statements)]
+fn scoped(work: &mut Work<'_>, context: Context, node: &Node, depth: u32) -> Result<Items, Refusal>
+    requires whole { IsWhole work.old.nodes }
+    requires context { ContextThere work.old context }
+    requires node { HasNode work.old node.now }
+    ensures { (t : Lexeme) (xs : Syns) → IsNode work.old node.now t xs → Answers freely work.old work.new (in_scope (inside_of node.now.kind t xs (readings xs) (context_in work.old context))) ItemsThere IsItems result }
+{
+    enter(work)?;
+    let items = inside(work, context, node, depth)?;
+    leave(work);
+    Ok(items)
+}
+
+// The statement, in its scope.
+#[cycle(statements)]
+fn inside(work: &mut Work<'_>, context: Context, node: &Node, depth: u32) -> Result<Items, Refusal>
+    requires whole { IsWhole work.old.nodes }
+    requires context { ContextThere work.old context }
+    requires node { HasNode work.old node.now }
+    ensures { (t : Lexeme) (xs : Syns) → IsNode work.old node.now t xs → Answers freely work.old work.new (inside_of node.now.kind t xs (readings xs) (context_in work.old context)) ItemsThere IsItems result }
+{
+    let kids = node.kids.as_slice();
+    match node.kind {
+        NodeKind::Block => block(work, context, kids, node.pos, depth),
+        NodeKind::If => if_one(work, context, kids, node.pos, depth),
+        NodeKind::IfElse => if_else(work, context, kids, node.pos, depth),
+        NodeKind::While => while_loop(work, context, kids, node.pos, depth),
+        NodeKind::Do => do_loop(work, context, kids, node.pos, depth),
+        NodeKind::For => for_loop(work, context, kids, node.pos, depth),
+        NodeKind::Switch => switch(work, context, kids, node.pos, depth),
+        _ => Err(Refusal::Code(120, node.pos)),
+    }
+}
+
+/// Declarations and statements, one after the other.
+#[cycle(statements)]
+pub fn all_items(
+    work: &mut Work<'_>,
+    context: Context,
+    kids: &[u32],
+    depth: u32,
+) -> Result<Items, Refusal>
+    requires whole { IsWhole work.old.nodes }
+    requires context { ContextThere work.old context }
+    requires parts { HaveParts work.old kids.now }
+    ensures { (xs : Syns) → AreParts work.old kids.now xs → Answers freely work.old work.new (all_items (context_in work.old context) (readings xs)) ItemsThere IsItems result }
+{
+    let mut items = no_items(work.nodes.alloc);
+    let mut left = kids;
+    while let Some(part) = first_of(left) {
+        let more = item(work, context, part.first, depth)?;
+        join(&mut items, more)?;
+        left = part.others;
+    }
+    Ok(items)
+}
+
+// A block (C11 6.8.2).
+#[cycle(statements)]
+fn block(
+    work: &mut Work<'_>,
+    context: Context,
+    kids: &[u32],
+    pos: Pos,
+    depth: u32,
+) -> Result<Items, Refusal>
+    requires whole { IsWhole work.old.nodes }
+    requires context { ContextThere work.old context }
+    requires parts { HaveParts work.old kids.now }
+    ensures { (xs : Syns) → AreParts work.old kids.now xs → Answers freely work.old work.new (block_of (context_in work.old context) pos (readings xs)) ItemsThere IsItems result }
+{
+    let items = all_items(work, context, kids, depth)?;
+    does(
+        work,
+        StmtKind::Block {
+            vars: Sequence::from_vec(items.vars),
+            body: Sequence::from_vec(items.actions),
+        },
+        pos,
+    )
+}
+
+// A statement that is a part of another: a block of its own (C11 6.8.4p3, 6.8.5p5).
+#[cycle(statements)]
+fn substatement(work: &mut Work<'_>, context: Context, k: u32, depth: u32) -> Result<u32, Refusal>
+    requires whole { IsWhole work.old.nodes }
+    requires context { ContextThere work.old context }
+    requires part { HasPart work.old k }
+    ensures { (x : Syn) → IsPart work.old k x → Answers freely work.old work.new (substatement (context_in work.old context) (reading x)) ActionThere IsOnlyAction result }
+{
+    enter(work)?;
+    let items = item(work, context, k, depth)?;
+    leave(work);
+    let action = alone(items.actions.as_slice())?;
+    Ok(action)
+}
+
+// An `if` without an `else` (C11 6.8.4.1).
+#[cycle(statements)]
+fn if_one(
+    work: &mut Work<'_>,
+    context: Context,
+    kids: &[u32],
+    pos: Pos,
+    depth: u32,
+) -> Result<Items, Refusal>
+    requires whole { IsWhole work.old.nodes }
+    requires context { ContextThere work.old context }
+    requires parts { HaveParts work.old kids.now }
+    ensures { (xs : Syns) → AreParts work.old kids.now xs → Answers freely work.old work.new (if_of (context_in work.old context) pos (readings xs)) ItemsThere IsItems result }
+{
+    match two(kids) {
+        None => Err(Refusal::Code(120, pos)),
+        Some(x) => if_with(work, context, x.first, x.second, pos, depth),
+    }
+}
+
+#[cycle(statements)]
+fn if_with(
+    work: &mut Work<'_>,
+    context: Context,
+    a: u32,
+    b: u32,
+    pos: Pos,
+    depth: u32,
+) -> Result<Items, Refusal>
+    requires whole { IsWhole work.old.nodes }
+    requires context { ContextThere work.old context }
+    requires first { HasPart work.old a }
+    requires second { HasPart work.old b }
+    ensures { (x y : Syn) → IsPart work.old a x → IsPart work.old b y → Answers freely work.old work.new (if_with (context_in work.old context) pos (reading x) (reading y)) ItemsThere IsItems result }
+{
+    let on = test(work, a, depth)?;
+    let body = substatement(work, context, b, depth)?;
+    does(work, StmtKind::If(on, body, None), pos)
+}
+
+// An `if` with an `else`.
+#[cycle(statements)]
+fn if_else(
+    work: &mut Work<'_>,
+    context: Context,
+    kids: &[u32],
+    pos: Pos,
+    depth: u32,
+) -> Result<Items, Refusal>
+    requires whole { IsWhole work.old.nodes }
+    requires context { ContextThere work.old context }
+    requires parts { HaveParts work.old kids.now }
+    ensures { (xs : Syns) → AreParts work.old kids.now xs → Answers freely work.old work.new (if_else_of (context_in work.old context) pos (readings xs)) ItemsThere IsItems result }
+{
+    match three(kids) {
+        None => Err(Refusal::Code(120, pos)),
+        Some(x) => if_else_with(work, context, x.first, x.second, x.third, pos, depth),
+    }
+}
+
+#[cycle(statements)]
+fn if_else_with(
+    work: &mut Work<'_>,
+    context: Context,
+    a: u32,
+    b: u32,
+    c: u32,
+    pos: Pos,
+    depth: u32,
+) -> Result<Items, Refusal>
+    requires whole { IsWhole work.old.nodes }
+    requires context { ContextThere work.old context }
+    requires first { HasPart work.old a }
+    requires second { HasPart work.old b }
+    requires third { HasPart work.old c }
+    ensures { (x y z : Syn) → IsPart work.old a x → IsPart work.old b y → IsPart work.old c z → Answers freely work.old work.new (if_else_with (context_in work.old context) pos (reading x) (reading y) (reading z)) ItemsThere IsItems result }
+{
+    let on = test(work, a, depth)?;
+    let body = substatement(work, context, b, depth)?;
+    let other = substatement(work, context, c, depth)?;
+    does(work, StmtKind::If(on, body, Some(other)), pos)
+}
+
+// A `while` (C11 6.8.5.1).
+#[cycle(statements)]
+fn while_loop(
+    work: &mut Work<'_>,
+    context: Context,
+    kids: &[u32],
+    pos: Pos,
+    depth: u32,
+) -> Result<Items, Refusal>
+    requires whole { IsWhole work.old.nodes }
+    requires context { ContextThere work.old context }
+    requires parts { HaveParts work.old kids.now }
+    ensures { (xs : Syns) → AreParts work.old kids.now xs → Answers freely work.old work.new (while_of (context_in work.old context) pos (readings xs)) ItemsThere IsItems result }
+{
+    match two(kids) {
+        None => Err(Refusal::Code(120, pos)),
+        Some(x) => while_with(work, context, x.first, x.second, pos, depth),
+    }
+}
+
+#[cycle(statements)]
+fn while_with(
+    work: &mut Work<'_>,
+    context: Context,
+    a: u32,
+    b: u32,
+    pos: Pos,
+    depth: u32,
+) -> Result<Items, Refusal>
+    requires whole { IsWhole work.old.nodes }
+    requires context { ContextThere work.old context }
+    requires first { HasPart work.old a }
+    requires second { HasPart work.old b }
+    ensures { (x y : Syn) → IsPart work.old a x → IsPart work.old b y → Answers freely work.old work.new (while_with (context_in work.old context) pos (reading x) (reading y)) ItemsThere IsItems result }
+{
+    let on = test(work, a, depth)?;
+    let body = substatement(work, in_a_loop(context), b, depth)?;
+    does(work, StmtKind::While(on, body), pos)
+}
+
+// A `do` (C11 6.8.5.2).
+#[cycle(statements)]
+fn do_loop(
+    work: &mut Work<'_>,
+    context: Context,
+    kids: &[u32],
+    pos: Pos,
+    depth: u32,
+) -> Result<Items, Refusal>
+    requires whole { IsWhole work.old.nodes }
+    requires context { ContextThere work.old context }
+    requires parts { HaveParts work.old kids.now }
+    ensures { (xs : Syns) → AreParts work.old kids.now xs → Answers freely work.old work.new (do_of (context_in work.old context) pos (readings xs)) ItemsThere IsItems result }
+{
+    match two(kids) {
+        None => Err(Refusal::Code(120, pos)),
+        Some(x) => do_with(work, context, x.first, x.second, pos, depth),
+    }
+}
+
+#[cycle(statements)]
+fn do_with(
+    work: &mut Work<'_>,
+    context: Context,
+    a: u32,
+    b: u32,
+    pos: Pos,
+    depth: u32,
+) -> Result<Items, Refusal>
+    requires whole { IsWhole work.old.nodes }
+    requires context { ContextThere work.old context }
+    requires first { HasPart work.old a }
+    requires second { HasPart work.old b }
+    ensures { (x y : Syn) → IsPart work.old a x → IsPart work.old b y → Answers freely work.old work.new (do_with (context_in work.old context) pos (reading x) (reading y)) ItemsThere IsItems result }
+{
+    let body = substatement(work, in_a_loop(context), a, depth)?;
+    let on = test(work, b, depth)?;
+    does(work, StmtKind::Do(body, on), pos)
+}
+
+// A `for` (C11 6.8.5.3).
+#[cycle(statements)]
+fn for_loop(
+    work: &mut Work<'_>,
+    context: Context,
+    kids: &[u32],
+    pos: Pos,
+    depth: u32,
+) -> Result<Items, Refusal>
+    requires whole { IsWhole work.old.nodes }
+    requires context { ContextThere work.old context }
+    requires parts { HaveParts work.old kids.now }
+    ensures { (xs : Syns) → AreParts work.old kids.now xs → Answers freely work.old work.new (for_in (context_in work.old context) pos xs (readings xs)) ItemsThere IsItems result }
+{
+    match four(kids) {
+        None => Err(Refusal::Code(120, pos)),
+        Some(x) => for_with(work, context, x, pos, depth),
+    }
+}
+
+#[cycle(statements)]
+fn for_with(
+    work: &mut Work<'_>,
+    context: Context,
+    x: FourParts,
+    pos: Pos,
+    depth: u32,
+) -> Result<Items, Refusal>
+    requires whole { IsWhole work.old.nodes }
+    requires context { ContextThere work.old context }
+    requires head { HasPart work.old x.head.first × HasPart work.old x.head.second × HasPart work.old x.head.third }
+    requires body { HasPart work.old x.last }
+    ensures { (x1 x2 x3 x4 : Syn) → IsPart work.old x.head.first x1 → IsPart work.old x.head.second x2 → IsPart work.old x.head.third x3 → IsPart work.old x.last x4 → Answers freely work.old work.new (for_with (context_in work.old context) pos x1 x2 x3 (reading x1) (reading x2) (reading x3) (reading x4)) ItemsThere IsItems result }
+{
+    let head = for_head(work, context, x.head, depth)?;
+    let body = substatement(work, in_a_loop(context), x.last, depth)?;
+    does(work, for_kind(head, body), pos)
+}
+
+// One of what stands in the braces of a `switch`.
+#[cycle(statements)]
+fn switch_item(
+    work: &mut Work<'_>,
+    context: Context,
+    of: u32,
+    k: u32,
+    cases: Cases,
+    depth: u32,
+) -> Result<Cases, Refusal>
+    requires whole { IsWhole work.old.nodes }
+    requires context { ContextThere work.old context }
+    requires of { of < type_count work.old.nodes }
+    requires part { HasPart work.old k }
+    requires cases { CasesThere work.old cases }
+    ensures { (x : Syn) → IsPart work.old k x → Answers freely work.old work.new (switch_item (context_in work.old context) (type_in work.old.nodes of) x (reading x) (cases_in work.old cases)) CasesThere IsCases result }
+{
+    let node = node_at(work, k)?;
+    let kids = node.kids.as_slice();
+    match node.kind {
+        NodeKind::Case => labelled(work, of, kids, node.pos, cases, depth),
+        NodeKind::Default => labelled(work, of, kids, node.pos, cases, depth),
+        _ => further_item(work, context, k, cases, depth),
+    }
+}
+
+// A declaration or a statement there.
+#[cycle(statements)]
+fn further_item(
+    work: &mut Work<'_>,
+    context: Context,
+    k: u32,
+    cases: Cases,
+    depth: u32,
+) -> Result<Cases, Refusal>
+    requires whole { IsWhole work.old.nodes }
+    requires context { ContextThere work.old context }
+    requires part { HasPart work.old k }
+    requires cases { CasesThere work.old cases }
+    ensures { (x : Syn) → IsPart work.old k x → Answers freely work.old work.new (further (context_in work.old context) (reading x) (cases_in work.old cases)) CasesThere IsCases result }
+{
+    let more = item(work, context, k, depth)?;
+    let longer = with_items(cases, more)?;
+    Ok(longer)
+}
+
+// What stands in the braces of a `switch`.
+#[cycle(statements)]
+fn switch_items(
+    work: &mut Work<'_>,
+    context: Context,
+    of: u32,
+    kids: &[u32],
+    depth: u32,
+) -> Result<Cases, Refusal>
+    requires whole { IsWhole work.old.nodes }
+    requires context { ContextThere work.old context }
+    requires of { of < type_count work.old.nodes }
+    requires parts { HaveParts work.old kids.now }
+    ensures { (xs : Syns) → AreParts work.old kids.now xs → Answers freely work.old work.new (switch_items (context_in work.old context) (type_in work.old.nodes of) xs (readings xs) no_cases) CasesThere IsCases result }
+{
+    let mut cases = Cases {
+        items: no_items(work.nodes.alloc),
+        labels: Vec::new(work.nodes.alloc),
+    };
+    let mut left = kids;
+    while let Some(part) = first_of(left) {
+        cases = switch_item(work, context, of, part.first, cases, depth)?;
+        left = part.others;
+    }
+    Ok(cases)
+}
+
+// The braces of a `switch`, in a scope.
+#[cycle(statements)]
+fn switch_body(
+    work: &mut Work<'_>,
+    context: Context,
+    of: u32,
+    kids: &[u32],
+    depth: u32,
+) -> Result<Cases, Refusal>
+    requires whole { IsWhole work.old.nodes }
+    requires context { ContextThere work.old context }
+    requires of { of < type_count work.old.nodes }
+    requires parts { HaveParts work.old kids.now }
+    ensures { (xs : Syns) → AreParts work.old kids.now xs → Answers freely work.old work.new (in_scope (switch_items (meant.in_a_switch (context_in work.old context)) (type_in work.old.nodes of) xs (readings xs) no_cases)) CasesThere IsCases result }
+{
+    enter(work)?;
+    let cases = switch_items(work, in_a_switch(context), of, kids, depth)?;
+    leave(work);
+    Ok(cases)
+}
+
+// A `switch` (C11 6.8.4.2).
+#[cycle(statements)]
+fn switch(
+    work: &mut Work<'_>,
+    context: Context,
+    kids: &[u32],
+    pos: Pos,
+    depth: u32,
+) -> Result<Items, Refusal>
+    requires whole { IsWhole work.old.nodes }
+    requires context { ContextThere work.old context }
+    requires parts { HaveParts work.old kids.now }
+    ensures { (xs : Syns) → AreParts work.old kids.now xs → Answers freely work.old work.new (switch_in (context_in work.old context) pos xs (readings xs)) ItemsThere IsItems result }
+{
+    match first_of(kids) {
+        None => Err(Refusal::Code(120, pos)),
+        Some(x) => switch_with(work, context, x.first, x.others, pos, depth),
+    }
+}
+
+#[cycle(statements)]
+fn switch_with(
+    work: &mut Work<'_>,
+    context: Context,
+    k: u32,
+    kids: &[u32],
+    pos: Pos,
+    depth: u32,
+) -> Result<Items, Refusal>
+    requires whole { IsWhole work.old.nodes }
+    requires context { ContextThere work.old context }
+    requires on { HasPart work.old k }
+    requires parts { HaveParts work.old kids.now }
+    ensures { (x : Syn) (xs : Syns) → IsPart work.old k x → AreParts work.old kids.now xs → Answers freely work.old work.new (switch_with (context_in work.old context) pos xs (reading x) (readings xs)) ItemsThere IsItems result }
+{
+    let on = switched(work, k, depth)?;
+    let cases = switch_body(work, context, on.of, kids, depth)?;
+    does(work, switch_kind(on.value, cases), pos)
+}
