@@ -23,4 +23,3 @@ mod tags;
 pub use c_interner::Lengths;
 pub use entries::{Decl, DeclKind, Entity, Entry, Faults, Storage, TagKind, Tagging};
 pub use scopes::{Scope, Scopes};
-
