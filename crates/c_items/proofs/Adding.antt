@@ -1,5 +1,5 @@
 -- A new statement stands behind the others, and nothing else changes.
-use Rattle.std.proofs.Common.{◌≡◌, ℕ, zero, suc, ◌+◌, ◌<◌, ◌≤◌, ◌⊎◌, inl, inr, ⊎_elim, List, [], ◌∷◌, ◌++◌, length, map, Option, Some, None, refl, sym, ap, subst, ◌∙◌, arith, length-append}
+use Rattle.std.proofs.Common.{◌≡◌, ℕ, zero, suc, ◌+◌, ◌<◌, ◌⊎◌, inl, inr, ⊎_elim, List, [], ◌∷◌, ◌++◌, length, Some, refl, sym, ap, subst, ◌∙◌, arith, length-append}
 use Rattle.std.proofs.Math.ListN.{get_or-append}
 use Rattle.std.proofs.Math.Seq.{get_or-append_seam}
 use Rattle.std.specs.Prelude.{slice_get}
@@ -15,8 +15,7 @@ use Rattle.c_types.specs.declared.scopes.Scopes.{Scopes}
 use Rattle.c_types.specs.Stands.{Stands}
 use Rattle.c_nodes.specs.Nodes.{IsWhole, term_count}
 use Rattle.c_work.specs.declared.work.Work.{Work}
-use Rattle.c_work.specs.declared.work.Definition.{Definition}
-use Rattle.c_work.specs.Work.{Shows, IsClosed, DefinitionIsThere, ValuesAreThere, seen_of}
+use Rattle.c_work.specs.Work.{Shows, IsClosed, ValuesAreThere, seen_of}
 use Rattle.c_work.specs.Answers.{Keeps, action_in, action_count}
 use Rattle.c_work.proofs.Growing.{seen_same, definitions_same}
 use Rattle.c_items.specs.Items.{ValuesThere, AddsAction}

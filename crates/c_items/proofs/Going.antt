@@ -1,7 +1,6 @@
 -- Steps of declarations and statements, one after another.
-use Rattle.std.proofs.Common.{◌≡◌, ℕ, zero, suc, Some, ◌<◌, ◌≤◌, ◌+◌, List, [], ◌∷◌, ◌++◌, map, Result, Ok, Err, refl, sym, ap, subst, ◌∙◌, arith}
+use Rattle.std.proofs.Common.{◌≡◌, ℕ, zero, suc, Some, ◌<◌, ◌≤◌, List, [], ◌∷◌, map, Result, Ok, Err, refl, sym, ap, ◌∙◌, arith}
 use Rattle.std.specs.Prelude.{slice_get}
-use Rattle.ck_base.specs.declared.positions.Pos.{Pos}
 use Rattle.ck_base.specs.declared.refusal.Refusal.{Refusal}
 use Rattle.ck_base.specs.declared.refusal.Refusal.TheVariants.{Code, NoMemory}
 use Rattle.c_tree.specs.Terms.{Action}
@@ -9,12 +8,12 @@ use Rattle.c_tree.specs.Types.{Ty}
 use Rattle.c_nodes.specs.Nodes.{type_count, term_count}
 use Rattle.c_items.specs.declared.items.Context.{Context}
 use Rattle.c_tree.specs.Readings as meant
-use Rattle.c_tree.specs.Scopes.{State, Doing, Fault, give, continued, ◌>>=◌}
+use Rattle.c_tree.specs.Scopes.{State, Doing, give, continued, ◌>>=◌}
 use Rattle.c_tree.specs.Statements.{one_action}
 use Rattle.c_work.specs.declared.work.Work.{Work}
 use Rattle.c_work.specs.Work.{Shows, ValuesAreThere}
 use Rattle.c_work.specs.Answers.{Keeps, Way, freely, Done, Answers, action_in, action_count}
-use Rattle.c_work.proofs.Sequencing.{IsLawful, free_law}
+use Rattle.c_work.proofs.Sequencing.{IsLawful}
 use Rattle.c_items.specs.declared.items.Items.{Items}
 use Rattle.c_items.specs.Items.{AddsAction, ActionThere, ActionsThere, IsAction, ItemsThere, IsItems, items_in, ContextThere, context_in}
 

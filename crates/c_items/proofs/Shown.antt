@@ -1,12 +1,12 @@
 -- Steps over values that are not known from the work alone.
-use Rattle.std.proofs.Common.{◌≡◌, Result, Ok, Err, refl, ap, ◌∙◌}
+use Rattle.std.proofs.Common.{Result, Ok, Err, ap, ◌∙◌}
 use Rattle.ck_base.specs.declared.refusal.Refusal.{Refusal}
 use Rattle.ck_base.specs.declared.refusal.Refusal.TheVariants.{Code, NoMemory}
 use Rattle.c_tree.specs.Scopes.{State, Doing, continued, ◌>>=◌}
 use Rattle.c_work.specs.declared.work.Work.{Work}
 use Rattle.c_work.specs.Answers.{Way, Done, Answers}
 use Rattle.c_work.proofs.Sequencing.{IsLawful}
-use Rattle.c_items.specs.Shown.{DoneFor, AnswersFor}
+use Rattle.c_items.specs.Shown.{AnswersFor}
 
 -- what comes next is answered for each value that the step may have given
 pub then_for : {A B Z : Type 0} (y : Way) → IsLawful y → (u v w : Work) (d : Doing A) (f : A → Doing B) (T : Type 0) (I : State → A → Type 0) (There : Work → Z → Type 0) (Is : Work → Z → State → B → Type 0) (r : Result Z Refusal) →

@@ -1,5 +1,5 @@
 -- What declarations and statements give, by the numbers of statements.
-use Rattle.std.specs.Prelude.{◌≡◌, ℕ, ◌<◌, List, [], ◌∷◌, ◌++◌, map, Some, slice_get}
+use Rattle.std.specs.Prelude.{◌≡◌, ℕ, ◌<◌, List, [], ◌∷◌, map, Some, slice_get}
 use Rattle.c_tree.specs.Terms.{Action}
 use Rattle.c_tree.specs.Readings as meant
 use Rattle.c_tree.specs.Scopes.{State}

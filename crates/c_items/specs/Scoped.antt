@@ -1,5 +1,5 @@
 -- The innermost scope is dropped.
-use Rattle.c_tree.specs.Scopes.{State, leave}
+use Rattle.c_tree.specs.Scopes.{leave}
 use Rattle.c_work.specs.declared.work.Work.{Work}
 use Rattle.c_work.specs.Answers.{Done, freely}
 

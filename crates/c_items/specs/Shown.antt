@@ -1,6 +1,5 @@
 -- Steps over values that are not known from the work alone, but in each state for which it stands.
-use Rattle.std.specs.Prelude.{◌≡◌, ℕ, Result, Ok, Err}
-use Rattle.ck_base.specs.declared.positions.Pos.{Pos}
+use Rattle.std.specs.Prelude.{◌≡◌, Result, Ok, Err}
 use Rattle.ck_base.specs.declared.refusal.Refusal.{Refusal}
 use Rattle.ck_base.specs.declared.refusal.Refusal.TheVariants.{Code, NoMemory}
 use Rattle.c_tree.specs.Scopes.{State, Doing}
