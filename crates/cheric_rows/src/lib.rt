@@ -9,7 +9,3 @@ mod image_commands;
 mod images;
 #[cfg(test)]
 mod run_command;
-#[cfg(test)]
-mod selection;
-#[cfg(test)]
-mod three_address_code;

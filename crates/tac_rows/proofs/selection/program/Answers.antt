@@ -1,6 +1,6 @@
 use Rattle.std.proofs.Common.{◌∙◌}
-use Rattle.cheric_rows.proofs.Tried.{has_form}
-use Rattle.cheric_rows.proofs.selection.program.Goals as goal
+use Rattle.tac_rows.proofs.Tried.{has_form}
+use Rattle.tac_rows.proofs.selection.program.Goals as goal
 
 pub returns : goal.returns
 returns c = (

@@ -1,0 +1,7 @@
+//! Tests of three-address code and of the code that is selected for it, and nothing else.
+#![tactic(auto)]
+
+#[cfg(test)]
+mod selection;
+#[cfg(test)]
+mod three_address_code;
