@@ -26,4 +26,12 @@ pub mod Typing
 pub mod TypingStatements
 pub mod TypingWeight
 pub mod TypingProgram
+pub mod Fronted
+pub mod Rooms
+pub mod Totals
+pub mod SameForm
+pub mod SameMeaning
+pub mod SameBuilt
+pub mod Once
+pub mod FileAnswers
 mod Rows

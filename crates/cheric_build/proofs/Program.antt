@@ -56,7 +56,7 @@ alone p h =
 
 -- ---- frames
 
-no_objects : (types : List CType) (vs : List VarDef) → list_all (is_form_variable types) vs ≡ true → filter is_object vs ≡ []
+pub no_objects : (types : List CType) (vs : List VarDef) → list_all (is_form_variable types) vs ≡ true → filter is_object vs ≡ []
 no_objects types [] h = refl
 no_objects types (v ∷ vs) h =
     let here = and_both (is_form_variable types v) (list_all (is_form_variable types) vs) h in

@@ -25,7 +25,9 @@ use Rattle.image_load.specs.Judging.{text_of}
 use Rattle.image_load.specs.Loading.{Loaded, loading}
 use Rattle.bounds_place.specs.Placing.{exceeds}
 use Rattle.rv_select.specs.Selected.{is_turns, is_outside, count_of}
+use Rattle.c_tree.specs.File.{HasRoom, Refused, too_heavy}
 use Rattle.cheric_build.specs.Form.{is_integer_form}
+use Rattle.cheric_build.specs.Front.{IsTyped}
 
 -- ---- what an ending of the machine reports of the program
 
@@ -102,3 +104,23 @@ IsCode p code = ((code ≡ 141) × (exceeds p ≡ true)) ⊎ ((code ≡ 150) × 
 abbrev pub IsRefusal : Typed → Refusal → Type 0
 IsRefusal p (Code code pos) = (pos ≡ start) × IsCode p code
 IsRefusal p NoMemory = ⊤
+
+-- ---- refused files
+
+-- The front end accepts the file, and its objects have room, but it is not of the form that is built
+pub record HasOtherForm (file : List ℕ) : Type 0 where
+  pub program : Typed
+  pub typed : IsTyped file program
+  pub room : HasRoom program
+  pub other : (p : Typed) → IsTyped file p → is_integer_form p ≡ false
+
+-- the rule is another than the limit of weight
+abbrev pub IsBeforeWeight : {file : List ℕ} {code : ℕ} {place : Pos} → Refused file code place → Type 0
+IsBeforeWeight (too_heavy tokens x p reads types has heavy) = ⊥
+IsBeforeWeight rule = ⊤
+
+-- Why nothing is built of a file: the first rule that it breaks; or 150 at its start, where it breaks none before the limit of weight and is
+-- not of the form. Want of memory is free. (A program of the form is within that limit, so that 142 doesn't come.)
+abbrev pub IsFileRefusal : List ℕ → Refusal → Type 0
+IsFileRefusal file (Code code place) = ((rule : Refused file code place) × IsBeforeWeight rule) ⊎ ((code ≡ 150) × (place ≡ start) × HasOtherForm file)
+IsFileRefusal file NoMemory = ⊤

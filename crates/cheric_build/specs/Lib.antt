@@ -5,4 +5,5 @@ pub mod Emitted
 pub mod Sizes
 pub mod Text
 pub mod Image
+pub mod Front
 pub mod Built

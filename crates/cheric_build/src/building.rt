@@ -1,28 +1,28 @@
-//! Building: from a typed program to the ELF file.
+//! Building: from a C file or a typed program to the ELF file.
 ghost use Rattle.std.specs.Prelude.{◌≡◌, ◌+◌, ◌*◌, ◌≤◌, ◌<◌, ◌^◌, ℕ, true, false, IfOk, IfErr, OnOk, length};
+ghost use Rattle.c_tree.specs.declared.typed.Typed.{Typed as Program};
+ghost use Rattle.c_tree.specs.File.{Accepts};
 ghost use Rattle.c_tree.specs.Typing.{Sound};
 ghost use Rattle.bounds_place.specs.Placing.{exceeds, AreOffsets, IsRefusal as ExceedsLimit};
 ghost use Rattle.rv_select.specs.Selected.{frames_of, count_of};
 ghost use Rattle.cheric_build.specs.Form.{is_integer_form};
 ghost use Rattle.cheric_build.specs.Image.{image_of};
-ghost use Rattle.cheric_build.specs.Built.{IsBuilt, IsRefusal};
+ghost use Rattle.cheric_build.specs.Built.{IsBuilt, IsRefusal, IsFileRefusal};
 
 use crate::form::is_integer_form;
+use crate::front_end::{START, front};
 use crate::lowering::lower;
 use crate::text::text_of;
 use bounds_place::place;
 use c_tree::{Typed, weight};
 use cap_layout::{copies, granules};
 use cap_reloc::{Table, table};
-use ck_base::{NoMemory, Pos, Refusal, Sequence};
+use ck_base::{NoMemory, Refusal, Sequence};
 use elf_file::{Image, write};
 use obj_mem::{Frame, Map};
 use rv_select::select;
 use std::alloc::Global;
 use tac_ir::Tac;
-
-/// The start of a file.
-const START: Pos = Pos { line: 1, col: 1 };
 
 /// A text for a trial of the limit, with 4 bytes for each function.
 const TRIAL: u64 = 268_435_456;
@@ -90,6 +90,7 @@ fn build_form(alloc: Global, p: &Typed) -> Result<Built, Refusal>
     requires sound { Sound p.now }
     requires form { is_integer_form p.now ≡ true }
     ensures built { IfOk result (λ b. IsBuilt p.now b.elf.items b.map b.count) }
+    ensures within { OnOk result (exceeds p.now ≡ false) }
     ensures refused { IfErr result (IsRefusal p.now) }
 {
     let t = lower(alloc, p)?;
@@ -146,10 +147,24 @@ fn refusal(alloc: Global, p: &Typed) -> Refusal
 pub fn build_typed(alloc: Global, p: &Typed) -> Result<Built, Refusal>
     requires sound { Sound p.now }
     ensures built { IfOk result (λ b. IsBuilt p.now b.elf.items b.map b.count) }
+    ensures form { OnOk result (is_integer_form p.now ≡ true) }
+    ensures within { OnOk result (exceeds p.now ≡ false) }
     ensures refused { IfErr result (IsRefusal p.now) }
 {
     if !is_integer_form(p) {
         return Err(refusal(alloc, p));
     }
     build_form(alloc, p)
+}
+
+/// Builds a C file. Where it answers a build, the file is accepted, and the bytes, the map and the count are built of each typed program
+/// as which it is accepted. A file is refused by the first rule that it breaks; but one that breaks none before the limit of weight, and
+/// that is not of the form that is built so far, is refused by 150 at its start.
+pub fn build(alloc: Global, file: &[u8]) -> Result<Built, Refusal>
+    ensures accepted { OnOk result ((p : Program) × Accepts file.now p) }
+    ensures built { IfOk result (λ b. (p : Program) → Accepts file.now p → IsBuilt p b.elf.items b.map b.count) }
+    ensures refused { IfErr result (IsFileRefusal file.now) }
+{
+    let p = front(alloc, file)?;
+    build_typed(alloc, &p)
 }

@@ -1,4 +1,4 @@
-//! From a typed C program to machine code.
+//! From a C file to machine code.
 #![tactic(auto)]
 
 mod branches;
@@ -6,14 +6,16 @@ mod building;
 mod emitter;
 mod expressions;
 mod form;
+mod front_end;
 mod functions;
 mod instructions;
 mod lowering;
 mod statements;
 mod text;
 
-pub use building::{Built, build_typed};
+pub use building::{Built, build, build_typed};
 pub use form::is_integer_form;
+pub use front_end::front;
 pub use lowering::lower;
 
 #[cfg(test)]

@@ -39,7 +39,8 @@ pub struct Answer<'a> {
     pub line: &'a str,
 }
 
-/// Whether the command answers these words so, where the calls of the output and the notes with these numbers fail (0: none).
+/// Whether the command answers these words so, without input, where the calls of the output and the notes with these numbers fail
+/// (0: none).
 pub fn answers<F: Files>(
     alloc: Global,
     files: &mut F,
@@ -49,9 +50,25 @@ pub fn answers<F: Files>(
 ) -> Result<bool, NoMemory>
     requires { F.faults files.old < 2 ^ 64 - 1 }
 {
+    answers_input(alloc, files, words, (b"", 0), failing, answer)
+}
+
+/// Whether the command answers these words so on an input, where the calls of the input, the output and the notes with these numbers
+/// fail (0: none).
+pub fn answers_input<F: Files>(
+    alloc: Global,
+    files: &mut F,
+    words: &str,
+    input: (&[u8], u64),
+    failing: [u64; 2],
+    answer: Answer<'_>,
+) -> Result<bool, NoMemory>
+    requires { F.faults files.old < 2 ^ 64 - 1 }
+{
+    let (bytes, read) = input;
     let [byte, note] = failing;
     let words = words_of(alloc, words)?;
-    let mut input = MemSource::new(Vec::new(alloc), Vec::new(alloc));
+    let mut input = MemSource::new(Vec::from_slice(alloc, bytes)?, vec![in alloc; read]?);
     let mut out = MemSink::new(alloc, 1024, vec![in alloc; byte]?)?;
     let mut notes = MemSink::new(alloc, 1024, vec![in alloc; note]?)?;
     let status = cheric(alloc, &words, files, &mut input, &mut out, &mut notes);

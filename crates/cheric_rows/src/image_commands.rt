@@ -1,19 +1,15 @@
 //! The modes `build` and `exec` of the command.
 
 use crate::calls::{Answer, answers, one_file, sure_file};
+use cheric_build::build;
 use ck_base::Files;
+use std::alloc::Global;
+use std::fmt::Write;
 use std::test::Fail;
 
 const HI: &str = "int main(void){putchar(72);putchar(105);return 0;}";
 
-/// What building the file says.
-const BUILT: Answer = Answer {
-    status: 0,
-    put: "",
-    line: "built 982\n",
-};
-
-/// What running it says.
+/// What running the file says.
 const RAN: Answer = Answer {
     status: 0,
     put: "Hi",
@@ -29,15 +25,22 @@ fn quiet(status: u8, line: &str) -> Answer<'_> {
     }
 }
 
+/// The line of a built file of so many bytes.
+fn built_line(alloc: Global, len: usize) -> Result<String, Fail> {
+    let mut line = String::new(alloc);
+    writeln!(line, "built {len}")?;
+    Ok(line)
+}
+
 /// Lines on the built file, with what they say.
 const LINES: [(&str, Answer); 4] = [
     ("cheric exec a.c.elf", RAN),
-    ("cheric exec a.c.elf --steps 9", RAN),
+    ("cheric exec a.c.elf --steps 99999", RAN),
     (
-        "cheric exec a.c.elf --steps 3",
+        "cheric exec a.c.elf --steps 1",
         Answer {
             status: 4,
-            put: "H",
+            put: "",
             line: "steps\n",
         },
     ),
@@ -54,26 +57,32 @@ const LINES: [(&str, Answer); 4] = [
 #[test]
 fn a_built_file_is_run(rt: HostRuntime) -> Result<(), Fail> {
     let alloc = rt.alloc();
+    let elf = build(alloc, HI.as_bytes())?.elf;
+    let line = built_line(alloc, elf.len())?;
+    let built = quiet(0, &line);
     let mut files = sure_file(alloc, "a.c", HI.as_bytes())?;
-    assert!(rt; answers(alloc, &mut files, "cheric build a.c", [0; 2], BUILT)?);
+    assert!(rt; answers(alloc, &mut files, "cheric build a.c", [0; 2], built)?);
     for &(words, answer) in &LINES {
         assert!(rt;
             answers(alloc, &mut files, words, [0; 2], answer)?,
             "{words}"
         );
     }
-    assert!(rt; answers(alloc, &mut files, "cheric build a.c --out b", [0; 2], BUILT)?);
+    assert!(rt; answers(alloc, &mut files, "cheric build a.c --out b", [0; 2], built)?);
     assert!(rt; answers(alloc, &mut files, "cheric exec b", [0; 2], RAN)?);
-    let source = files.get(alloc, "a.c").ok().ok_or("a.c")?;
-    assert_eq!(rt; source.as_slice(), HI.as_bytes());
+    for &(name, want) in &[("a.c", HI.as_bytes()), ("b", &elf)] {
+        let bytes = files.get(alloc, name).ok().ok_or("no file")?;
+        assert_eq!(rt; bytes.as_slice(), want, "{name}");
+    }
     Ok(())
 }
 
 #[test]
 fn cut_files_are_refused(rt: HostRuntime) -> Result<(), Fail> {
     let alloc = rt.alloc();
-    let elf = cheric_top::build(alloc, HI.as_bytes())?.elf;
-    for &(len, line) in &[(981, "image 5\n"), (64, "image 4\n"), (63, "image 1\n")] {
+    let elf = build(alloc, HI.as_bytes())?.elf;
+    let last = elf.len().saturating_sub(1);
+    for &(len, line) in &[(last, "image 5\n"), (64, "image 4\n"), (63, "image 1\n")] {
         let mut files = one_file(alloc, "b", elf.get(..len).ok_or("short")?, 0)?;
         assert!(rt;
             answers(alloc, &mut files, "cheric exec b", [0; 2], quiet(12, line))?,
@@ -84,10 +93,18 @@ fn cut_files_are_refused(rt: HostRuntime) -> Result<(), Fail> {
 }
 
 /// Words, a C file, the failing call of the files and of the notes, with the status and line of an answer that puts no name.
-const UNPUT: [(&str, &str, u64, u64, u8, &str); 6] = [
+const UNPUT: [(&str, &str, u64, u64, u8, &str); 7] = [
     (
         "cheric build a.c",
-        "int main(void){}",
+        "int main(void){return x;}",
+        0,
+        0,
+        10,
+        "refused 130 1:23\n",
+    ),
+    (
+        "cheric build a.c",
+        "int g;int main(void){return 0;}",
         0,
         0,
         10,

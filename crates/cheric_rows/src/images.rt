@@ -2,7 +2,7 @@
 
 use crate::calls::{Answer, answers, one_file};
 use cap_machine::End;
-use cheric_top::build;
+use cheric_build::build;
 use ck_base::{NoMemory, SureSink, SureSource};
 use elf_file::{ElfRefusal, Image, Reloc, Sequence, View, write};
 use image_load::{LoadRefusal, load};
@@ -42,7 +42,7 @@ fn outcome_of(alloc: Global, file: &[u8]) -> Outcome {
     match load(alloc, &view) {
         Ok(mut machine) => {
             let mut input = SureSource::new(Vec::new(alloc));
-            Outcome::Ended(machine.run(100, &mut input, &mut SureSink::new()))
+            Outcome::Ended(machine.run(1000, &mut input, &mut SureSink::new()))
         }
         Err(refusal) => Outcome::NotLoaded(refusal),
     }

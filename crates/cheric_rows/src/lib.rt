@@ -4,8 +4,16 @@
 #[cfg(test)]
 mod calls;
 #[cfg(test)]
+mod front_rows;
+#[cfg(test)]
+mod front_tables;
+#[cfg(test)]
 mod image_commands;
 #[cfg(test)]
 mod images;
+#[cfg(test)]
+mod programs;
+#[cfg(test)]
+mod refusals;
 #[cfg(test)]
 mod run_command;

@@ -1,6 +1,6 @@
 //! The mode `run` of the command, over files, an input and sinks in memory, and over ones that tell nothing.
 
-use crate::calls::{Answer, answers, one_file, sure_file, words_of};
+use crate::calls::{Answer, answers, answers_input, one_file, sure_file, words_of};
 use cheric_top::cheric;
 use ck_base::{Files, HostFiles, NoMemory, StdInput, StdOutput};
 use std::alloc::Global;
@@ -10,7 +10,7 @@ use std::test::Fail;
 const HI: &str = "int main(void){putchar(72);putchar(105);return 0;}";
 
 /// Files, with their status, output and line.
-const FILES: [(&str, u8, &str, &str); 13] = [
+const FILES: [(&str, u8, &str, &str); 17] = [
     (HI, 0, "Hi", "exit 0\n"),
     (
         "int main(void){putchar(328);putchar(361);return 0;}",
@@ -21,29 +21,46 @@ const FILES: [(&str, u8, &str, &str); 13] = [
     ("int main(void){return 300;}", 1, "", "exit 44\n"),
     ("int main(void){return 2047;}", 1, "", "exit 255\n"),
     ("int main(void){return 256;}", 0, "", "exit 0\n"),
-    ("int main(void){return 2048;}", 10, "", "refused 150 1:1\n"),
+    ("int main(void){return -1;}", 1, "", "exit 255\n"),
+    ("int main(void){putchar(2048);return 0;}", 0, "\0", "exit 0\n"),
+    ("int main(void) { return 00; } // and no more\n", 0, "", "exit 0\n"),
+    ("int main(void){}", 0, "", "exit 0\n"),
     (
-        "int main(void){putchar(2048);return 0;}",
+        "int main(void){int a=7,z=0,m=-2147483647-1,k=-1;if(a/z==-1)putchar(65);if(m/k==m)putchar(66);return 0;}",
+        0,
+        "AB",
+        "exit 0\n",
+    ),
+    (
+        "int main(void){unsigned char c=250;while(c){if(c>252)putchar(c-190);else putchar('-');c=c+1;}return c;}",
+        0,
+        "---?@A",
+        "exit 0\n",
+    ),
+    ("", 10, "", "refused 135 1:1\n"),
+    ("int main(void){return ;}", 10, "", "refused 133 1:16\n"),
+    ("int main(void){return 0;}@", 10, "", "refused 100 1:26\n"),
+    // accepted, and not of the form that is built
+    ("int g;int main(void){return 0;}", 10, "", "refused 150 1:1\n"),
+    (
+        "int main(void){int a[2];a[1]=0;return a[1];}",
         10,
         "",
         "refused 150 1:1\n",
     ),
-    ("int main(void){return 00;}", 10, "", "refused 150 1:1\n"),
-    ("int main(void){return 0;}\n", 10, "", "refused 150 1:1\n"),
-    ("int main(void) {return 0;}", 10, "", "refused 150 1:1\n"),
-    ("int main(void){return ;}", 10, "", "refused 150 1:1\n"),
-    ("int main(void){return 0;}@", 10, "", "refused 150 1:1\n"),
-    ("", 10, "", "refused 150 1:1\n"),
+    (
+        "int main(void){char *p=malloc(9);return !p;}",
+        10,
+        "",
+        "refused 150 1:1\n",
+    ),
 ];
 
-/// Lines on a file that puts `Hi` by nine instructions, with their status, output and line.
-const LINES: [(&str, u8, &str, &str); 9] = [
+/// Lines on a file that puts `Hi`, with their status, output and line.
+const LINES: [(&str, u8, &str, &str); 6] = [
     ("cheric run a.c --steps 0", 4, "", "steps\n"),
-    ("cheric run a.c --steps 2", 4, "", "steps\n"),
-    ("cheric run a.c --steps 3", 4, "H", "steps\n"),
-    ("cheric run a.c --steps 8", 4, "Hi", "steps\n"),
-    ("cheric run a.c --steps 9", 0, "Hi", "exit 0\n"),
-    ("cheric run a.c --steps 0000000000009", 0, "Hi", "exit 0\n"),
+    ("cheric run a.c --steps 1", 4, "", "steps\n"),
+    ("cheric run a.c --steps 0000000099999", 0, "Hi", "exit 0\n"),
     ("cheric run a.c --steps 1000000000000", 0, "Hi", "exit 0\n"),
     ("cheric run b.c", 20, "", "file\n"),
     ("cheric exec b.c --steps 9", 20, "", "file\n"),
@@ -143,12 +160,11 @@ fn many_puts(alloc: Global, count: usize) -> Result<String, NoMemory> {
 }
 
 #[test]
-fn three_hundred_puts_are_built_and_one_more_is_refused(rt: HostRuntime) -> Result<(), Fail> {
+fn a_weight_of_a_hundred_is_built_and_more_is_refused(rt: HostRuntime) -> Result<(), Fail> {
     let alloc = rt.alloc();
-    let put = "A".repeat(alloc, 300)?;
     let most = Answer {
         status: 1,
-        put: &put,
+        put: "AAAAAAAAAAAAAA",
         line: "exit 7\n",
     };
     let more = Answer {
@@ -156,7 +172,7 @@ fn three_hundred_puts_are_built_and_one_more_is_refused(rt: HostRuntime) -> Resu
         put: "",
         line: "refused 150 1:1\n",
     };
-    for &(count, answer) in &[(300, most), (301, more)] {
+    for &(count, answer) in &[(14, most), (15, more)] {
         let file = many_puts(alloc, count)?;
         let mut files = one_file(alloc, "a.c", file.as_bytes(), 0)?;
         assert!(rt;
@@ -164,6 +180,45 @@ fn three_hundred_puts_are_built_and_one_more_is_refused(rt: HostRuntime) -> Resu
             "{count}"
         );
     }
+    Ok(())
+}
+
+/// Inputs of a file that copies them, with their failing call, and the status, output and line.
+const INPUTS: [(&str, u64, u8, &str, &str); 4] = [
+    ("", 0, 0, "", "exit 0\n"),
+    ("abc", 0, 0, "abc", "exit 0\n"),
+    ("abc", 2, 21, "a", "input\n"),
+    ("abc", 4, 21, "abc", "input\n"),
+];
+
+#[test]
+fn input_is_copied_up_to_its_end_or_fault(rt: HostRuntime) -> Result<(), Fail> {
+    let alloc = rt.alloc();
+    let file = "int main(void){int c;while((c=getchar())!=-1)putchar(c);return 0;}";
+    let mut files = sure_file(alloc, "a.c", file.as_bytes())?;
+    for &(input, read, status, put, line) in &INPUTS {
+        let answer = Answer { status, put, line };
+        let input = (input.as_bytes(), read);
+        assert!(rt;
+            answers_input(alloc, &mut files, "cheric run a.c", input, [0; 2], answer)?,
+            "{line}"
+        );
+    }
+    Ok(())
+}
+
+#[test]
+fn a_loop_without_end_stops_at_the_limit(rt: HostRuntime) -> Result<(), Fail> {
+    let alloc = rt.alloc();
+    let mut files = sure_file(alloc, "a.c", b"int main(void){while(1){}}")?;
+    let answer = Answer {
+        status: 4,
+        put: "",
+        line: "steps\n",
+    };
+    assert!(rt;
+        answers(alloc, &mut files, "cheric run a.c --steps 1000", [0; 2], answer)?
+    );
     Ok(())
 }
 

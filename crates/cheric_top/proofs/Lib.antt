@@ -1,12 +1,2 @@
-pub mod Numerals
-pub mod FormLaws
-pub mod Counter
-pub mod Acts
-pub mod Runs
-pub mod Meant
-pub mod Standing
-pub mod Loads
-pub mod BuiltForm
-pub mod Emitted
 pub mod Words
 pub mod Said

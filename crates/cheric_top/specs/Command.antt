@@ -8,8 +8,9 @@ use Rattle.obj_mem.specs.declared.map.Map.{Map}
 use Rattle.cap_machine.specs.declared.end.End.{End}
 use Rattle.cap_machine.specs.Step.{act, limits}
 use Rattle.image_load.specs.Loading.{Loaded, loading}
-use Rattle.cheric_top.specs.Form.{Form, IsForm}
-use Rattle.cheric_top.specs.Built.{IsBuilt, IsRefusal}
+use Rattle.c_tree.specs.declared.typed.Typed.{Typed}
+use Rattle.c_tree.specs.File.{Accepts}
+use Rattle.cheric_build.specs.Built.{IsBuilt, IsFileRefusal}
 use Rattle.cheric_top.specs.Answers.{answer_of, IsSaid}
 use Rattle.cheric_top.specs.Lines.{Mode, Run, Build, Exec, Line, IsLine}
 use Rattle.cheric_top.specs.declared.answer.Answer.{Answer}
@@ -72,25 +73,29 @@ pub record RanLoaded (before after : Seen) (loaded : Loaded) (steps : ℕ) (answ
   pub counted : Counted limits before after ending
   pub answered : answer ≡ answer_of loaded.image ending
 
--- A file of the form, and the bytes that were built of it, with their map and count.
+-- A file that is accepted as a typed program, and the bytes that were built of each program as which it is, with their map and count.
 pub record Compiled (file : List ℕ) : Type 0 where
-  pub form : Form
-  pub is_form : IsForm file form
+  pub program : Typed
+  pub accepted : Accepts file program
   pub elf : List ℕ
   pub map : Map
   pub count : ℕ
-  pub built : IsBuilt form elf map count
+  pub built : (p : Typed) → Accepts file p → IsBuilt p elf map count
+
+-- what the bytes load to
+abbrev pub loaded_of : {file : List ℕ} → Compiled file → Loaded
+loaded_of c = (c.built c.program c.accepted).loaded
 
 -- ---- mode `run`
 
 abbrev pub RunStopped : Seen → Seen → List ℕ → Answer → Type 0
-RunStopped before after file (Refused code pos) = (after ≡ before) × IsRefusal file (Code code pos)
+RunStopped before after file (Refused code pos) = (after ≡ before) × IsFileRefusal file (Code code pos)
 RunStopped before after file Memory = after ≡ before
 RunStopped before after file answer = ⊥
 
 -- the file was refused, or there was no memory; or the bytes that were built of it were loaded and run
 abbrev pub RunSays : Seen → Seen → List ℕ → ℕ → Answer → Type 0
-RunSays before after file steps answer = RunStopped before after file answer ⊎ ((compiled : Compiled file) × RanLoaded before after compiled.built.loaded steps answer)
+RunSays before after file steps answer = RunStopped before after file answer ⊎ ((compiled : Compiled file) × RanLoaded before after (loaded_of compiled) steps answer)
 
 -- ---- mode `exec`
 
@@ -118,7 +123,7 @@ pub record FailedToPut (before after : FilesSeen) (name : List ℕ) : Type 0 whe
 
 abbrev pub BuildSays : FilesSeen → FilesSeen → List ℕ → List ℕ → Answer → Type 0
 BuildSays before after file elf (Built n) = (compiled : Compiled file) × HasPut before after elf compiled.elf × (n ≡ length compiled.elf)
-BuildSays before after file elf (Refused code pos) = (after ≡ before) × IsRefusal file (Code code pos)
+BuildSays before after file elf (Refused code pos) = (after ≡ before) × IsFileRefusal file (Code code pos)
 BuildSays before after file elf File = Compiled file × FailedToPut before after elf
 BuildSays before after file elf Memory = after ≡ before
 BuildSays before after file elf answer = ⊥

@@ -1,9 +1,3 @@
-pub mod Form
-pub mod Program
-pub mod Meaning
-pub mod Code
-pub mod Image
-pub mod Built
 pub mod Answers
 pub mod Lines
 pub mod Asked

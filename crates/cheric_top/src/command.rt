@@ -7,10 +7,10 @@ ghost use Rattle.cheric_top.specs.declared.line.Mode.TheVariants as modes;
 ghost use Rattle.cheric_top.specs.Command.{files_seen, around, HasRead, NotRead, BuildSays, Says, IsDone};
 
 use crate::answer::Answer;
-use crate::building::build;
 use crate::line::{Mode, line_of};
 use crate::message::say;
 use crate::running::{exec_file, run_file};
+use cheric_build::build;
 use ck_base::{FileError, Files, NoMemory, PutError, Refusal, Sink, Source};
 use std::alloc::Global;
 

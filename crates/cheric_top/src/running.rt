@@ -8,9 +8,9 @@ ghost use Rattle.cheric_top.specs.Answers.{answer_of, trapped, place_of, refused
 ghost use Rattle.cheric_top.specs.Command.{RanLoaded, RunSays, ExecSays};
 
 use crate::answer::Answer;
-use crate::building::build;
 use cap_machine::End;
 use cap_ops::Cause;
+use cheric_build::build;
 use ck_base::{Pos, Refusal, Sink, Source};
 use elf_file::{Line as Position, View};
 use image_load::{LoadRefusal, load};

@@ -1,4 +1,4 @@
-use Rattle.std.proofs.Common.{◌≡◌, ◌∙◌, inr, ap, sym, subst, Ok, Err, Result}
+use Rattle.std.proofs.Common.{◌≡◌, ◌∙◌, inl, inr, refl, ap, sym, subst, Ok, Err, Result}
 use Rattle.ck_base.specs.Calls.{seen}
 use Rattle.elf_file.specs.Reading.{reading}
 use Rattle.elf_file.specs.declared.image.Image.{Image}
@@ -10,20 +10,28 @@ use Rattle.cheric_top.proofs.running.run_file.Goals as goal
 
 pub unreachable-requires : goal.unreachable-requires
 unreachable-requires g c =
-    let b = c.in-Ok.ensures.built in
-    let r = image_read c.in-Ok.built.elf.items b.2.loaded b.2.loads in
-    let e : ◌≡◌ {A = Result Image ElfRefusal} (Err c.in_default.field-0) (Ok b.2.loaded.image) = sym c.in_default.is ∙ c.read.ensures.exact ∙ ap reading c.deref.ensures.value ∙ r.0 in
+    let a = c.in-Ok.ensures.accepted in
+    let b = c.in-Ok.ensures.built a.0 a.1 in
+    let r = image_read c.in-Ok.built.elf.items b.loaded b.loads in
+    let e : ◌≡◌ {A = Result Image ElfRefusal} (Err c.in_default.field-0) (Ok b.loaded.image) = sym c.in_default.is ∙ c.read.ensures.exact ∙ ap reading c.deref.ensures.value ∙ r.0 in
     cc
 
 pub returns-in-Ok-run_image : goal.returns-in-Ok-run_image
 returns-in-Ok-run_image g c =
     let before = seen (g.I.Source.left c.args.input.now) (g.I.Source.faults c.args.input.now) (g.O.Sink.held c.args.out.now) (g.O.Sink.faults c.args.out.now) in
     let after = seen (g.I.Source.left c.run_image.new.input) (g.I.Source.faults c.run_image.new.input) (g.O.Sink.held c.run_image.new.out) (g.O.Sink.faults c.run_image.new.out) in
-    let b = c.in-Ok.ensures.built in
-    let r = image_read c.in-Ok.built.elf.items b.2.loaded b.2.loads in
-    let read : ◌≡◌ {A = Result Image ElfRefusal} (Ok c.in-Ok-read.view) (Ok b.2.loaded.image) = sym c.in-Ok-read.is ∙ c.read.ensures.exact ∙ ap reading c.deref.ensures.value ∙ r.0 in
-    let same : b.2.loaded.image ≡ c.in-Ok-read.view = cc in
+    let a = c.in-Ok.ensures.accepted in
+    let b = c.in-Ok.ensures.built a.0 a.1 in
+    let r = image_read c.in-Ok.built.elf.items b.loaded b.loads in
+    let read : ◌≡◌ {A = Result Image ElfRefusal} (Ok c.in-Ok-read.view) (Ok b.loaded.image) = sym c.in-Ok-read.is ∙ c.read.ensures.exact ∙ ap reading c.deref.ensures.value ∙ r.0 in
+    let same : b.loaded.image ≡ c.in-Ok-read.view = cc in
     inr (
-      record { form = b.0; is_form = b.1; elf = c.in-Ok.built.elf.items; map = c.in-Ok.built.map; count = c.in-Ok.built.count; built = b.2 },
-      subst (λ (l : Loaded). RanLoaded before after l c.args.steps c.in-Ok-run_image.answer) (same_loaded b.2.loaded c.in-Ok-read.view same r.1) c.in-Ok-run_image.ensures.1,
+      record { program = a.0; accepted = a.1; elf = c.in-Ok.built.elf.items; map = c.in-Ok.built.map; count = c.in-Ok.built.count; built = c.in-Ok.ensures.built },
+      subst (λ (l : Loaded). RanLoaded before after l c.args.steps c.in-Ok-run_image.answer) (same_loaded b.loaded c.in-Ok-read.view same r.1) c.in-Ok-run_image.ensures.1,
     )
+
+pub returns-in-Err-Code : goal.returns-in-Err-Code
+returns-in-Err-Code g c =
+    let is = c.in-Err-Code.field-0-is in
+    let why = rw is at c.in-Err-Code.ensures.refused in
+    inl (refl, rw is why)

@@ -1,0 +1,9 @@
+pub mod Defining
+pub mod Ending
+pub mod Externals
+pub mod Opening
+pub mod Own
+pub mod Reading
+pub mod Shapes
+pub mod Weaker
+pub mod Written

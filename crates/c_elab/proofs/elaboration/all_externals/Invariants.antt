@@ -1,0 +1,18 @@
+use Rattle.std.proofs.Common.{length}
+use Rattle.c_tree.specs.Syntax.{Syns}
+use Rattle.c_nodes.specs.Nodes.{IsWhole}
+use Rattle.c_work.specs.Answers.{Keeps}
+use Rattle.c_work.specs.Parts.{AreParts, HaveParts}
+use Rattle.c_elab.proofs.Externals.{FileSoFar}
+use Rattle.c_elab.proofs.elaboration.all_externals.Given as goal
+
+abbrev pub decreases-loop-part : goal.decreases-loop-part
+decreases-loop-part l = length l.left
+
+abbrev pub invariant-loop-part : goal.invariant-loop-part
+invariant-loop-part l = record {
+  whole : IsWhole l.work.nodes;
+  keeps : Keeps l.fn.work l.work;
+  parts : HaveParts l.work l.left;
+  found : (xs : Syns) → AreParts l.fn.work l.fn.kids xs → FileSoFar l.fn.work l.work xs l.left;
+}

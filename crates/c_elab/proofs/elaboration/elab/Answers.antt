@@ -1,0 +1,43 @@
+use Rattle.std.proofs.lemmas.Result.{err_from_is_err_and}
+use Rattle.std.proofs.Common.{◌≡◌, List, ℕ, Ok, Err, refl, sym, ap, subst, ◌∙◌}
+use Rattle.c_tree.specs.Syntax.{Syn, Syns, StandsAt}
+use Rattle.c_tree.specs.Typing.{Reads, IsSpelled}
+use Rattle.c_tree.specs.Programs.{readings, parts, beginning, all_externals}
+use Rattle.c_work.specs.declared.work.Work.{Work}
+use Rattle.c_work.specs.Answers.{Answers, Done, freely, NothingThere, IsNothing}
+use Rattle.c_work.specs.Parts.{IsPart, HasPart, AreParts}
+use Rattle.c_parts.proofs.Kids.{opened, have_kids}
+use Rattle.c_elab.proofs.Externals.{elaborated, elaboration_fails, root_is, root_parts}
+use Rattle.c_elab.proofs.elaboration.elab.Goals as goal
+
+pub all_externals-requires : goal.all_externals-requires
+all_externals-requires c =
+    let w : Work = c.in_ok-work.work in
+    let h = c.requires.readable in
+    let p = root_is w c.args.tree.now c.args.file.now h.syntax c.in_ok-work.ensures.tree c.in_ok-work.ensures.file h.reads in
+    record { whole = c.in_ok-work.ensures.whole; parts = rw c.as_slice.ensures (have_kids w c.args.tree.now.root c.in_ok-root.root.now (record { syntax = h.syntax; is = p }) c.in_ok-root.ensures) }
+
+pub finish-requires : goal.finish-requires
+finish-requires c =
+    let w : Work = c.in_ok-work.work in
+    let h = c.requires.readable in
+    let p = root_is w c.args.tree.now c.args.file.now h.syntax c.in_ok-work.ensures.tree c.in_ok-work.ensures.file h.reads in
+    let k = have_kids w c.args.tree.now.root c.in_ok-root.root.now (record { syntax = h.syntax; is = p }) c.in_ok-root.ensures in
+    record { whole = (c.in_ok-all_externals.ensures k.syntax (rw c.as_slice.ensures k.are)).whole }
+
+pub returns-in_err-root : goal.returns-in_err-root
+returns-in_err-root c = let q = err_from_is_err_and c.from_residual-in_err-root.result c.from_residual-in_err-root.ensures.1 in λ x r. rw (q.1, q.2) (tt {0})
+
+pub returns-in_err-all_externals : goal.returns-in_err-all_externals
+returns-in_err-all_externals c = let q = err_from_is_err_and c.from_residual-in_err-all_externals.result c.from_residual-in_err-all_externals.ensures.1 in λ x r.
+    let w : Work = c.in_ok-work.work in
+    let p = root_is w c.args.tree.now c.args.file.now x c.in_ok-work.ensures.tree c.in_ok-work.ensures.file r in
+    rw (q.1, q.2) (elaboration_fails x w c.all_externals.new.work _ c.in_ok-work.ensures.shows (c.in_err-all_externals.ensures (parts x) (rw c.as_slice.ensures (root_parts w c.args.tree.now.root x c.in_ok-root.root.now p c.in_ok-root.ensures))))
+
+pub returns : goal.returns
+returns c = λ x r.
+    let w : Work = c.in_ok-work.work in
+    let p = root_is w c.args.tree.now c.args.file.now x c.in_ok-work.ensures.tree c.in_ok-work.ensures.file r in
+    let a = c.in_ok-all_externals.ensures (parts x) (rw c.as_slice.ensures (root_parts w c.args.tree.now.root x c.in_ok-root.root.now p c.in_ok-root.ensures)) in
+    let m = a.gives beginning c.in_ok-work.ensures.shows in
+    elaborated x m.state m.value c.finish.result m.is (c.finish.ensures m.state m.shows)

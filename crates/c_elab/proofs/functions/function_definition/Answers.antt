@@ -1,0 +1,24 @@
+use Rattle.std.proofs.Common.{◌≡◌, List, ℕ, [], ◌∷◌, refl, sym, ap, subst, ◌∙◌}
+use Rattle.c_tree.specs.Scopes.{Doing, refuse}
+use Rattle.c_work.specs.declared.work.Work.{Work}
+use Rattle.c_work.specs.Parts.{HaveParts}
+use Rattle.c_parts.proofs.Kids.{have_first, have_others}
+use Rattle.c_elab.proofs.Shapes.{from_three, not_three}
+use Rattle.c_elab.proofs.functions.function_definition.Goals as goal
+
+pub define-requires : goal.define-requires
+define-requires c =
+    let u : Work = c.args.work.now in
+    let a = c.in-Some.x.first in
+    let b = c.in-Some.x.second in
+    let d = c.in-Some.x.third in
+    let h = subst (λ (ks : List ℕ). HaveParts u ks) c.in-Some.ensures c.requires.parts in
+    let i = have_others u a (b ∷ d ∷ []) h in
+    record { whole = c.requires.whole; first = have_first u a (b ∷ d ∷ []) h; second = have_first u b (d ∷ []) i; third = have_first u d [] (have_others u b (d ∷ []) i) }
+
+pub returns-in-None : goal.returns-in-None
+returns-in-None c = λ t xs e a s h. ap (λ (d : Doing Unit). d s) (not_three c.args.work.now c.args.kids.now t xs c.in-None.ensures a) ∙ ap (λ p. (let d : Doing Unit = refuse 120 p in d) s) e
+
+pub returns-in-Some : goal.returns-in-Some
+returns-in-Some c = λ t xs e a.
+    from_three c.args.work.now c.define.new.work c.args.kids.now c.in-Some.x.first c.in-Some.x.second c.in-Some.x.third c.define.result c.in-Some.ensures c.define.ensures t xs a

@@ -1,0 +1,226 @@
+//! The bodies of functions (C11 6.9.1).
+
+ghost use Rattle.std.specs.Prelude.{◌≡◌, ℕ, ◌==◌, ◌+◌, ◌<◌, ◌∷◌, ◌++◌, [], All, IfOk, OnOk, length, slice_get};
+ghost use Rattle.std.specs.List.{list_any};
+ghost use Rattle.c_tree.specs.Syntax.{Syn};
+ghost use Rattle.c_tree.specs.Expressions.{routine_type};
+ghost use Rattle.c_tree.specs.Programs.{body_context, given_by, numbers_from};
+ghost use Rattle.c_tree.specs.Scopes.{State};
+ghost use Rattle.c_nodes.specs.Nodes.{IsWhole, type_in, type_count};
+ghost use Rattle.c_work.specs.Work.{Shows};
+ghost use Rattle.c_work.specs.Answers.{Answers, freely, NothingThere, IsNothing, action_in, action_count};
+ghost use Rattle.c_work.specs.Parts.{IsPart, HasPart};
+ghost use Rattle.c_declarators.specs.Forming.{ParamIsThere};
+ghost use Rattle.c_declarators.specs.Parts.{IsPrototype, shown_in};
+ghost use Rattle.c_items.specs.Items.{ContextThere, context_in, ItemsThere, items_in};
+ghost use Rattle.c_items.specs.Shown.{AnswersFor};
+ghost use Rattle.c_elab.specs.Functions.{VariableThere, variable_in, variables_from, ends, finishes, types_body, defines};
+
+use crate::parameters::open_body;
+use c_declarators::{Param, Prototype};
+use c_items::{Context, Items, add_statement};
+use c_nodes::{Class, Nodes};
+use c_parts::node_at;
+use c_statements::all_items;
+use c_tree::{StmtKind, VarDef};
+use c_work::{Definition, Work};
+use ck_base::{NoMemory, Pos, Refusal, Sequence};
+use std::alloc::Global;
+
+// ---- where the body's statements stand
+
+// What a function of a type gives, without qualifiers.
+fn given_by(nodes: &Nodes<'_>, of: u32) -> u32
+    requires whole { IsWhole nodes.now }
+    requires there { of < type_count nodes.now }
+    ensures there { result < type_count nodes.now }
+    ensures is { type_in nodes.now result ≡ given_by (type_in nodes.now of) }
+{
+    match nodes.class(of) {
+        Class::Function(gives) => nodes.bare(gives),
+        Class::Void
+        | Class::Int(_, _)
+        | Class::Cap(_)
+        | Class::Pointer(_)
+        | Class::Array(_, _)
+        | Class::Tagged(_)
+        | Class::Const(_) => of,
+    }
+}
+
+fn context_of(work: &Work<'_>, k: u32) -> Result<Context, NoMemory>
+    requires { IsWhole work.now.nodes }
+    ensures there { IfOk result (λ c. ContextThere work.now c) }
+    ensures is { IfOk result (λ c. (s : State) → Shows work.now s → context_in work.now c ≡ body_context (routine_type (slice_get s.routines k))) }
+{
+    let of = work.function_type(k)?;
+    Ok(Context {
+        gives: given_by(&work.nodes, of),
+        in_loop: false,
+        breakable: false,
+    })
+}
+
+// ---- the variables
+
+fn is_taken(addressed: &[u32], k: u32) -> bool
+    ensures { result ≡ list_any (λ (j : ℕ). j == k) addressed.now }
+{
+    addressed.iter().any(|j| *j == k)
+}
+
+// A local holds a value and is no object where it is a scalar whose address is never taken.
+fn variable(work: &Work<'_>, k: u32, v: VarDef) -> Result<VarDef, NoMemory>
+    requires { IsWhole work.now.nodes }
+    ensures there { IfOk result (λ x. VariableThere work.now x) }
+    ensures is { IfOk result (λ x. x ≡ variable_in work.now k v) }
+{
+    let of = work.there(v.of)?;
+    let scalar = work.nodes.is_scalar(work.nodes.bare(of));
+    let taken = is_taken(work.addressed.as_slice(), k);
+    Ok(VarDef {
+        name: v.name,
+        pos: v.pos,
+        of,
+        simple: scalar && !taken,
+    })
+}
+
+fn push_variable(all: &mut Vec<VarDef>, x: VarDef) -> Result<(), NoMemory>
+    ensures { OnOk result (all.new.items ≡ all.old.items ++ x ∷ []) }
+{
+    all.push(x)?;
+    Ok(())
+}
+
+fn after(k: u32) -> Result<u32, NoMemory>
+    ensures { IfOk result (λ n. n ≡ k + 1) }
+{
+    k.checked_add(1).ok_or(NoMemory)
+}
+
+// All locals of the function.
+fn variables(work: &Work<'_>, locals: &[VarDef]) -> Result<Vec<VarDef>, NoMemory>
+    requires { IsWhole work.now.nodes }
+    ensures there { IfOk result (λ xs. All (VariableThere work.now) xs.items) }
+    ensures are { IfOk result (λ xs. xs.items ≡ variables_from work.now 0 locals.now) }
+{
+    let mut all = Vec::new(work.nodes.alloc);
+    let mut k: u32 = 0;
+    for v in locals {
+        let x = variable(work, k, *v)?;
+        push_variable(&mut all, x)?;
+        let next = after(k)?;
+        k = next;
+    }
+    Ok(all)
+}
+
+// The parameters are the first of the variables.
+fn numbers_below(alloc: Global, count: u32) -> Result<Vec<u32>, NoMemory>
+    ensures { IfOk result (λ xs. xs.items ≡ numbers_from 0 count) }
+{
+    let mut numbers = Vec::new(alloc);
+    for k in 0..count {
+        numbers.push(k)?;
+    }
+    Ok(numbers)
+}
+
+// ---- the end of a body
+
+// A later definition stands before the others.
+fn add_definition(definitions: &mut Vec<Definition>, d: Definition) -> Result<(), NoMemory>
+    ensures { OnOk result (definitions.new.items ≡ d ∷ definitions.old.items) }
+{
+    definitions.insert(0, d)?;
+    Ok(())
+}
+
+// A statement and the locals are the function's body, and its scope is left.
+fn end_body(work: &mut Work<'_>, k: u32, count: u32, body: u32) -> Result<(), Refusal>
+    requires whole { IsWhole work.old.nodes }
+    requires there { body < action_count work.old }
+    ensures { Answers freely work.old work.new (ends k count (action_in work.old body)) NothingThere IsNothing result }
+{
+    work.function_type(k)?;
+    let params = numbers_below(work.nodes.alloc, count)?;
+    let locals = work.nodes.scopes.take_locals();
+    let vars = variables(work, locals.as_slice())?;
+    let definition = Definition {
+        function: k,
+        params,
+        vars,
+        body,
+    };
+    add_definition(&mut work.definitions, definition)?;
+    work.addressed.clear();
+    work.nodes.scopes.leave();
+    Ok(())
+}
+
+// What stands in the braces is one statement at the first byte of the block.
+fn finish_body(
+    work: &mut Work<'_>,
+    k: u32,
+    count: u32,
+    items: Items,
+    first: Pos,
+) -> Result<(), Refusal>
+    requires whole { IsWhole work.old.nodes }
+    requires items { ItemsThere work.old items }
+    ensures { Answers freely work.old work.new (finishes k count (items_in work.old items) first) NothingThere IsNothing result }
+{
+    let kind = StmtKind::Block {
+        vars: Sequence::from_vec(items.vars),
+        body: Sequence::from_vec(items.actions),
+    };
+    let body = add_statement(work, kind, first)?;
+    end_body(work, k, count, body)
+}
+
+// ---- a body
+
+// The statements of a body whose parameters are in force.
+fn type_body(
+    work: &mut Work<'_>,
+    k: u32,
+    context: Context,
+    count: u32,
+    block: u32,
+    depth: u32,
+) -> Result<(), Refusal>
+    requires whole { IsWhole work.old.nodes }
+    requires context { ContextThere work.old context }
+    requires part { HasPart work.old block }
+    ensures { (z : Syn) → IsPart work.old block z → Answers freely work.old work.new (types_body k count (context_in work.old context) z) NothingThere IsNothing result }
+{
+    let node = node_at(work, block)?;
+    let items = all_items(work, context, node.kids.as_slice(), depth)?;
+    finish_body(work, k, count, items, node.first)
+}
+
+fn count_of(params: &[Param]) -> Result<u32, NoMemory>
+    ensures { IfOk result (λ n. n ≡ length params.now) }
+{
+    u32::try_from(params.len()).map_err(|_| NoMemory)
+}
+
+/// The parameters and the body of a function whose definition was begun.
+pub(crate) fn define_body<'a>(
+    work: &mut Work<'a>,
+    k: u32,
+    p: Prototype<'a>,
+    block: u32,
+    depth: u32,
+) -> Result<(), Refusal>
+    requires whole { IsWhole work.old.nodes }
+    requires there { All (ParamIsThere work.old.nodes) p.params.items }
+    requires part { HasPart work.old block }
+    ensures { (z : Syn) → IsPart work.old block z → AnswersFor freely work.old work.new (λ s q. IsPrototype (shown_in work.old s) work.old p.entry q) (λ q. defines k q z) NothingThere IsNothing result }
+{
+    let count = count_of(p.params.as_slice())?;
+    let context = context_of(work, k)?;
+    open_body(work, p)?;
+    type_body(work, k, context, count, block, depth)
+}

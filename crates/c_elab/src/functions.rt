@@ -1,0 +1,134 @@
+//! Function definitions (C11 6.9.1).
+
+ghost use Rattle.std.specs.Prelude.{◌≡◌, true, ◌||◌, not};
+ghost use Rattle.ck_base.specs.Tokens.{Lexeme};
+ghost use Rattle.c_tree.specs.Syntax.{Syn, Syns};
+ghost use Rattle.c_tree.specs.Readings as meant;
+ghost use Rattle.c_tree.specs.Programs.{reading, readings, function_definition, define_named};
+ghost use Rattle.c_nodes.specs.Nodes.{IsWhole};
+ghost use Rattle.c_work.specs.Answers.{Answers, freely, NothingThere, IsNothing};
+ghost use Rattle.c_work.specs.Parts.{IsPart, HasPart, AreParts, HaveParts};
+ghost use Rattle.c_declarators.specs.Parts.{SpecifiedThere, IsSpecified, DerivedThere, ShowsDerived};
+ghost use Rattle.c_items.specs.Shown.{AnswersFor};
+ghost use Rattle.c_declarations.specs.Declaring.{WrapsThere};
+ghost use Rattle.c_elab.specs.Functions.{IsDeclarator, first_prototype, defines_from};
+
+use crate::bodies::define_body;
+use c_declarations::declare_definition;
+use c_declarators::{Derived, Formed, Prototype, Specified, Wrap, formed};
+use c_parts::{derived, specified, three};
+use c_types::{Decl, DeclKind, Faults};
+use c_work::{Name, Work};
+use ck_base::{Pos, Refusal};
+
+// The parameters, where the declarator itself is that of a function: what is made last stands first.
+fn own_prototype<'a>(wraps: Vec<Wrap<'a>>) -> Option<Prototype<'a>>
+    ensures { result ≡ first_prototype wraps.entry.items }
+{
+    let mut parts = wraps;
+    if parts.is_empty() {
+        return None;
+    }
+    match parts.remove(0) {
+        Wrap::Gives(p) => Some(p),
+        Wrap::Point(_) | Wrap::Row(_) => None,
+    }
+}
+
+// What is declared of a function with its body: 133 where the declarator itself is not that of a function.
+fn defined_as(s: Specified, name: Name, f: Formed, is_own: bool) -> Decl
+    ensures { result ≡ record { name = name.span; pos = name.pos; of = f.of; faults = record f.faults { misfits = f.faults.misfits || not is_own }; what = DeclKind.Fun; storage = s.storage; defines = true } }
+{
+    Decl {
+        name: name.span,
+        pos: name.pos,
+        of: f.of,
+        faults: Faults {
+            misfits: f.faults.misfits || !is_own,
+            ..f.faults
+        },
+        what: DeclKind::Fun,
+        storage: s.storage,
+        defines: true,
+    }
+}
+
+// The function is declared, and then its body is typed.
+fn define_so<'a>(
+    work: &mut Work<'a>,
+    s: Specified,
+    name: Name,
+    wraps: Vec<Wrap<'a>>,
+    block: u32,
+    depth: u32,
+) -> Result<(), Refusal>
+    requires whole { IsWhole work.old.nodes }
+    requires specified { SpecifiedThere work.old s }
+    requires parts { WrapsThere work.old wraps.items }
+    requires part { HasPart work.old block }
+    ensures { (y : meant.Specified) (z : Syn) → IsSpecified work.old s y → IsPart work.old block z → AnswersFor freely work.old work.new (IsDeclarator work.old name wraps.entry.items) (λ e. define_named y e e.name z (reading z)) NothingThere IsNothing result }
+{
+    let f = formed(work, s.of, wraps.as_slice())?;
+    let own = own_prototype(wraps);
+    let k = declare_definition(work, defined_as(s, name, f, own.is_some()))?;
+    match own {
+        None => Err(Refusal::NoMemory),
+        Some(p) => define_body(work, k, p, block, depth),
+    }
+}
+
+// The same of a declarator: 120 at the specifiers where there is no name.
+fn define_named<'a>(
+    work: &mut Work<'a>,
+    s: Specified,
+    d: Derived<'a>,
+    block: u32,
+    depth: u32,
+) -> Result<(), Refusal>
+    requires whole { IsWhole work.old.nodes }
+    requires specified { SpecifiedThere work.old s }
+    requires derived { DerivedThere work.old d }
+    requires part { HasPart work.old block }
+    ensures { (y : meant.Specified) (z : Syn) → IsSpecified work.old s y → IsPart work.old block z → AnswersFor freely work.old work.new (ShowsDerived work.old d.entry) (λ e. define_named y e e.name z (reading z)) NothingThere IsNothing result }
+{
+    match d.name {
+        None => Err(Refusal::Code(120, s.first)),
+        Some(name) => define_so(work, s, name, d.wraps, block, depth),
+    }
+}
+
+// Specifiers, a declarator and a block.
+fn define(
+    work: &mut Work<'_>,
+    specifiers: u32,
+    declarator: u32,
+    block: u32,
+    depth: u32,
+) -> Result<(), Refusal>
+    requires whole { IsWhole work.old.nodes }
+    requires first { HasPart work.old specifiers }
+    requires second { HasPart work.old declarator }
+    requires third { HasPart work.old block }
+    ensures { (x y z : Syn) → IsPart work.old specifiers x → IsPart work.old declarator y → IsPart work.old block z → Answers freely work.old work.new (defines_from x y z) NothingThere IsNothing result }
+{
+    let s = specified(work, specifiers, false, depth)?;
+    let d = derived(work, declarator, depth)?;
+    define_named(work, s, d, block, depth)
+}
+
+/// A function definition.
+pub(crate) fn function_definition(
+    work: &mut Work<'_>,
+    kids: &[u32],
+    pos: Pos,
+    depth: u32,
+) -> Result<(), Refusal>
+    requires whole { IsWhole work.old.nodes }
+    requires parts { HaveParts work.old kids.now }
+    ensures { (t : Lexeme) (xs : Syns) → t.pos ≡ pos → AreParts work.old kids.now xs → Answers freely work.old work.new (function_definition t xs (readings xs)) NothingThere IsNothing result }
+{
+    match three(kids) {
+        None => Err(Refusal::Code(120, pos)),
+        Some(x) => define(work, x.first, x.second, x.third, depth),
+    }
+}

@@ -1,0 +1,9 @@
+-- A file is one program or has one refusal.
+use Rattle.std.proofs.Common.{ℕ, List}
+use Rattle.c_lex.proofs.OneReading.{one_lexing, one_refusal, lexing_no_refusal}
+use Rattle.c_parse.proofs.StatementsComplete.{one_tree}
+use Rattle.c_tree.specs.File.{OneFile}
+use Rattle.c_tree.proofs.OneFile as files
+
+pub once : (file : List ℕ) → OneFile file
+once file = files.one_file file (record { tokens = one_lexing file; unrefused = lexing_no_refusal file; refused = one_refusal file; syntax = λ a x y d e. one_tree d e })

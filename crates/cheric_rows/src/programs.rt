@@ -1,0 +1,135 @@
+//! Programs that the front end gives of files, and the calls that take such.
+ghost use Rattle.std.specs.Prelude.{◌≡◌, true, [], ◌∷◌, IfOk};
+ghost use Rattle.c_tree.specs.Typing.{Sound};
+ghost use Rattle.cheric_build.specs.Form.{is_integer_form};
+ghost use Rattle.cheric_rows.specs.OneFunction.{frame};
+
+use bounds_place::place;
+use c_tree::{Typed, weight};
+use cap_reloc::{Table, table};
+use cheric_build::{build, build_typed, front, is_integer_form, lower};
+use ck_base::{NoMemory, Pos, Refusal, Sequence};
+use obj_mem::{Frame, Map};
+use std::alloc::Global;
+use std::test::Fail;
+use tac_ir::well_formed;
+
+const COUNTS: &str = "int main(void){int a=3;while(a)a=a-1;return 0;}";
+
+/// Whether the code of a program of the form is well formed, and how many temps its first function has.
+fn lowered(alloc: Global, p: &Typed) -> Result<(bool, u32), NoMemory>
+    requires sound { Sound p.now }
+    requires form { is_integer_form p.now ≡ true }
+{
+    let t = lower(alloc, p)?;
+    let temps = t.funs.as_slice().first().map_or(0, |f| f.temps);
+    Ok((well_formed(&t, p), temps))
+}
+
+#[test]
+fn a_file_over_integers_is_lowered_and_built(rt: HostRuntime) -> Result<(), Fail> {
+    let alloc = rt.alloc();
+    let p = front(alloc, COUNTS.as_bytes())?;
+    assert_eq!(rt; weight(&p), 24);
+    if !is_integer_form(&p) {
+        return Err(Fail::from("another form"));
+    }
+    assert_eq!(rt; lowered(alloc, &p)?.0, true);
+    let typed = build_typed(alloc, &p)?;
+    let built = build(alloc, COUNTS.as_bytes())?;
+    assert_eq!(rt; typed.elf.as_slice(), built.elf.as_slice());
+    assert_eq!(rt; built.count, 32 * 24 + 4096);
+    Ok(())
+}
+
+/// Files that are typed, and the code at their start by which they are not built.
+const NOT_BUILT: [(&str, u16); 4] = [
+    ("int g;int main(void){return 0;}", 150),
+    ("int f(void){return 0;}int main(void){return f();}", 150),
+    (
+        "char a[40000000];char b[40000000];int main(void){return 0;}",
+        141,
+    ),
+    ("int main(void){char a[67108800];return 0;}", 141),
+];
+
+#[test]
+fn other_programs_are_refused_at_their_start(rt: HostRuntime) -> Result<(), Fail> {
+    let alloc = rt.alloc();
+    for &(file, code) in &NOT_BUILT {
+        let p = front(alloc, file.as_bytes())?;
+        let refusal = build_typed(alloc, &p).err();
+        let want = Refusal::Code(code, Pos { line: 1, col: 1 });
+        assert_eq!(rt; refusal, Some(want), "{file}");
+    }
+    Ok(())
+}
+
+/// A frame of 16 bytes, which are saved area.
+fn one_frame(alloc: Global) -> Result<Vec<Frame>, NoMemory>
+    ensures { IfOk result (λ frames. frames.items ≡ frame ∷ []) }
+{
+    let mut frames = Vec::new(alloc);
+    frames.push(Frame {
+        size: 16,
+        align: 16,
+        slots: Sequence::from_vec(Vec::new(alloc)),
+        saved: 16,
+    })?;
+    Ok(frames)
+}
+
+/// The offset of a function that begins the text.
+fn one_entry(alloc: Global) -> Result<Vec<u32>, NoMemory>
+    ensures { IfOk result (λ entries. entries.items ≡ 0 ∷ []) }
+{
+    Ok(vec![in alloc; 0]?)
+}
+
+/// The map of a program whose one function has no locals, with its pointers and initial bytes; none for another program.
+fn placed(alloc: Global, p: &Typed) -> Result<Option<(Map, Table)>, Refusal>
+    requires sound { Sound p.now }
+{
+    let [main] = p.funs.as_slice() else {
+        return Ok(None);
+    };
+    if !main.vars.as_slice().is_empty() {
+        return Ok(None);
+    }
+    let frames = one_frame(alloc)?;
+    let entries = one_entry(alloc)?;
+    let map = place(alloc, p, &frames, &entries, 16)?;
+    let contents = table(alloc, &map, p)?;
+    Ok(Some((map, contents)))
+}
+
+/// Files, with the length of the table, the relocations, and the bytes that are not zero.
+const PLACED: [(&str, u64, usize, usize); 3] = [
+    ("int main(void){return 0;}", 48, 2, 0),
+    (
+        "char a[4095];char b[4097];int main(void){a[0]=b[0];return 0;}",
+        80,
+        4,
+        0,
+    ),
+    (
+        "int g=258;int *p=&g;int main(void){return \"ab\"[1];}",
+        96,
+        6,
+        4,
+    ),
+];
+
+#[test]
+fn objects_are_placed_and_begun(rt: HostRuntime) -> Result<(), Fail> {
+    let alloc = rt.alloc();
+    for &(file, length, relocs, set) in &PLACED {
+        let p = front(alloc, file.as_bytes())?;
+        let (map, contents) = placed(alloc, &p)?.ok_or("another program")?;
+        assert_eq!(rt; map.table.1, length, "{file}");
+        assert_eq!(rt; contents.relocs.len(), relocs, "{file}");
+        let zeros = contents.bytes.iter().filter(|b| **b == 0).count();
+        assert_eq!(rt; contents.bytes.len(), zeros + set, "{file}");
+    }
+    Ok(())
+}
