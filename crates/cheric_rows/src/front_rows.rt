@@ -1,8 +1,6 @@
 //! What the front end says of files.
 
-use crate::front_tables::{
-    CONSTANTS, DECLARATIONS, OPERATORS, PLACES, STATEMENTS, TYPES, WORDS,
-};
+use crate::front_tables::{CONSTANTS, DECLARATIONS, OPERATORS, PLACES, STATEMENTS, TYPES, WORDS};
 use cheric_build::front;
 use ck_base::Refusal;
 use std::alloc::Global;

@@ -22,8 +22,18 @@ const FILES: [(&str, u8, &str, &str); 17] = [
     ("int main(void){return 2047;}", 1, "", "exit 255\n"),
     ("int main(void){return 256;}", 0, "", "exit 0\n"),
     ("int main(void){return -1;}", 1, "", "exit 255\n"),
-    ("int main(void){putchar(2048);return 0;}", 0, "\0", "exit 0\n"),
-    ("int main(void) { return 00; } // and no more\n", 0, "", "exit 0\n"),
+    (
+        "int main(void){putchar(2048);return 0;}",
+        0,
+        "\0",
+        "exit 0\n",
+    ),
+    (
+        "int main(void) { return 00; } // and no more\n",
+        0,
+        "",
+        "exit 0\n",
+    ),
     ("int main(void){}", 0, "", "exit 0\n"),
     (
         "int main(void){int a=7,z=0,m=-2147483647-1,k=-1;if(a/z==-1)putchar(65);if(m/k==m)putchar(66);return 0;}",
@@ -41,7 +51,12 @@ const FILES: [(&str, u8, &str, &str); 17] = [
     ("int main(void){return ;}", 10, "", "refused 133 1:16\n"),
     ("int main(void){return 0;}@", 10, "", "refused 100 1:26\n"),
     // accepted, and not of the form that is built
-    ("int g;int main(void){return 0;}", 10, "", "refused 150 1:1\n"),
+    (
+        "int g;int main(void){return 0;}",
+        10,
+        "",
+        "refused 150 1:1\n",
+    ),
     (
         "int main(void){int a[2];a[1]=0;return a[1];}",
         10,
@@ -217,7 +232,13 @@ fn a_loop_without_end_stops_at_the_limit(rt: HostRuntime) -> Result<(), Fail> {
         line: "steps\n",
     };
     assert!(rt;
-        answers(alloc, &mut files, "cheric run a.c --steps 1000", [0; 2], answer)?
+        answers(
+            alloc,
+            &mut files,
+            "cheric run a.c --steps 1000",
+            [0; 2],
+            answer
+        )?
     );
     Ok(())
 }
