@@ -1,5 +1,5 @@
 -- A program whose one function has no locals, under a map that places a frame of 16 bytes for it.
-use Rattle.std.proofs.Common.{◌≡◌, ℕ, ◌*◌, List, [], ◌∷◌, length, refl, sym, ap, subst, ◌∙◌, arith}
+use Rattle.std.proofs.Common.{◌≡◌, ℕ, ◌*◌, ◌<◌, ◌≤◌, List, [], ◌∷◌, length, get_or, refl, sym, ap, subst, ◌∙◌, arith}
 use Rattle.cap_concentrate.specs.Rounding.{owned}
 use Rattle.c_tree.specs.declared.typed.FunDef.{FunDef}
 use Rattle.c_tree.specs.declared.typed.Typed.{Typed}
@@ -12,6 +12,19 @@ use Rattle.obj_mem.specs.Table.{entry_count, table_length}
 use Rattle.bounds_place.specs.Placing.{IsPlacing, weightless}
 use Rattle.cap_reloc.specs.Begins.{asked_by}
 use Rattle.cheric_rows.specs.OneFunction.{frame}
+
+-- ---- the one function
+
+pub only_item : (xs : List FunDef) (x : FunDef) → 1 ≤ length xs → length xs < 2 → x ≡ get_or xs 0 x → xs ≡ x ∷ []
+only_item [] x a b e = absurd (omega arith)
+only_item (y ∷ []) x a b e = ap (λ z. z ∷ []) (sym e)
+only_item (y ∷ z ∷ xs) x a b e = absurd (omega arith)
+
+pub no_item : (vs : List VarDef) → length vs ≡ 0 → vs ≡ []
+no_item [] e = refl
+no_item (v ∷ vs) e = absurd (omega arith)
+
+-- ---- the map
 
 is_frame : (w : ℕ) → IsFrame (record { locals = []; weight = w }) frame
 is_frame w = record {
