@@ -2,4 +2,8 @@
 #![tactic(auto)]
 
 #[cfg(test)]
+mod agreement;
+#[cfg(test)]
+mod declarations;
+#[cfg(test)]
 mod parsing;
