@@ -1,0 +1,9 @@
+/* The input is written again: getchar gives its bytes, and -1 behind the last. */
+int main(void) {
+    int c = getchar();
+    while (c >= 0) {
+        putchar(c);
+        c = getchar();
+    }
+    return 0;
+}
