@@ -48,15 +48,15 @@ Class: ELF64
 Data: 2's complement, little endian
 Type: EXEC (Executable file)
 Machine: RISC-V
-Entry point address: 0x10000
+Entry point address: 0x40000000
 END
 
 # Type, virtual and physical address, flags and alignment.
 awk '$1 == "LOAD" { flags = $7; for (i = 8; i < NF; i++) flags = flags $i; print $1, $3, $4, flags, $NF }' \
     "$work/readelf" >"$work/found"
 is_same segments <<'END'
-LOAD 0x0000000000010000 0x0000000000010000 RE 0x10
-LOAD 0x0000000000020000 0x0000000000020000 RW 0x10
+LOAD 0x0000000040000000 0x0000000040000000 RE 0x10
+LOAD 0x0000000100000000 0x0000000100000000 RW 0x10
 LOAD 0x0000000001000000 0x0000000001000000 RW 0x10
 LOAD 0x0000000002000000 0x0000000002000000 RW 0x10
 END
@@ -64,8 +64,8 @@ END
 # Name, type, address and flags.
 sed -n 's/^  \[ *[1-9]\] //p' "$work/readelf" | awk '{ print $1, $2, $3, NF == 10 ? $7 : "-" }' >"$work/found"
 is_same sections <<'END'
-.text PROGBITS 0000000000010000 AX
-.data PROGBITS 0000000000020000 WA
+.text PROGBITS 0000000040000000 AX
+.data PROGBITS 0000000100000000 WA
 .ck_relocs PROGBITS 0000000000000000 -
 .ck_lines PROGBITS 0000000000000000 -
 .ck_image PROGBITS 0000000000000000 -
@@ -76,6 +76,6 @@ END
 size=$(sed -n 's/^  \[ *1\] \.text *PROGBITS *[0-9a-f]* *[0-9a-f]* *\([0-9a-f]*\) .*/\1/p' "$work/readelf")
 words=$(grep -c '^ *[0-9a-f]*:	[0-9a-f]\{8\} ' "$work/objdump")
 grep -q 'file format elf64-littleriscv' "$work/objdump" || fail 'objdump reads another format'
-grep -q '^ *10000:	' "$work/objdump" || fail 'objdump shows no word at the base of the text'
+grep -q '^ *40000000:	' "$work/objdump" || fail 'objdump shows no word at the base of the text'
 [ "$words" -eq $((0x$size / 4)) ] || fail "objdump shows $words words, and the text has $((0x$size / 4))"
 echo "readelf and objdump read the ELF file of $source: $words words of text, no warning"
