@@ -1,9 +1,9 @@
 -- What the work shows once an object has its type and its initial value.
 use Rattle.std.proofs.Common.{◌≡◌, ℕ, zero, suc, ◌+◌, ◌<◌, ◌≤◌, ◌⊎◌, inl, inr, ⊎_elim, Bool, true, false, List, [], ◌∷◌, ◌++◌, length, map, Option, Some, None, Result, Ok, Err, refl, sym, ap, subst, ◌∙◌, arith}
-use Rattle.std.specs.Prelude.{slice_get, slice_set, ◌==◌, ◌||◌, if◌then◌else◌}
-use Rattle.std.specs.List.{list_any}
+use Rattle.std.specs.Prelude.{slice_get, slice_set, ◌==◌, if◌then◌else◌}
 use Rattle.std.specs.Global.{Vec}
 use Rattle.std.proofs.lemmas.Bool.{eq-eqb, ne_eqb}
+use Rattle.std.proofs.lemmas.List.Sums.{fold-append}
 use Rattle.c_tree.specs.Types.{Ty}
 use Rattle.c_tree.specs.declared.typed.Typed.{Typed}
 use Rattle.c_tree.specs.Scopes.{Fault, Doing, give, look, change, continued, ◌>>=◌, ◌>>◌, StaticState, LocalState, RoutineState, State, Local, Aiming, with_changed, changed_at, change_static, bind_name}
@@ -115,47 +115,14 @@ object_complete_is w k of p s known h = let x = known s h in ap (λ o. complete_
 
 -- ---- its initial value
 
-none-filled : (fs : List Filling) (k : ℕ) → list_any (λ (f : Filling). f.object == k) fs ≡ false → filling_of k fs ≡ None
-none-filled [] k e = refl
-none-filled (f ∷ fs) k e = by-test (λ g. none-filled fs k g) (f.object == k) e
-  where
-    by-test : (list_any (λ (g : Filling). g.object == k) fs ≡ false → filling_of k fs ≡ None) → (b : Bool) → (b || list_any (λ (g : Filling). g.object == k) fs) ≡ false → (if b then Some (f.bytes.items, map aiming_of f.starts.items) else filling_of k fs) ≡ None
-    by-test h true g = absurd cc
-    by-test h false g = h g
-
-pub not_filled : (fs gs : List Filling) (k : ℕ) (b : Bool) → b ≡ list_any (λ (f : Filling). f.object == k) gs → gs ≡ fs → b ≡ false → filling_of k fs ≡ None
-not_filled fs gs k b e h g = none-filled fs k (ap (list_any (λ (f : Filling). f.object == k)) (sym h) ∙ sym e ∙ g)
-
 abbrev pub value_of : Filling → List ℕ × List Aiming
 value_of f = (f.bytes.items, map aiming_of f.starts.items)
 
--- an object without an initial value may get one at the end
-behind-all : (fs : List Filling) (f : Filling) (j : ℕ) → (j ≡ f.object → filling_of j fs ≡ None) → filling_of j (fs ++ f ∷ []) ≡ (if f.object == j then Some (value_of f) else filling_of j fs)
-behind-all [] f j h = refl
-behind-all (g ∷ fs) f j h = by-test (λ q. behind-all fs f j q) (g.object == j) refl
-  where
-    passed : (b : Bool) → (j ≡ f.object → (if b then Some (value_of g) else filling_of j fs) ≡ None) → b ≡ true → (f.object == j) ≡ false
-    passed true q e = ne_eqb f.object j (λ i. let bad = q (sym i) in absurd cc)
-    passed false q e = absurd cc
-
-    by-test : ((j ≡ f.object → filling_of j fs ≡ None) → filling_of j (fs ++ f ∷ []) ≡ (if f.object == j then Some (value_of f) else filling_of j fs)) → (b : Bool) → (g.object == j) ≡ b → (if b then Some (value_of g) else filling_of j (fs ++ f ∷ [])) ≡ (if f.object == j then Some (value_of f) else (if b then Some (value_of g) else filling_of j fs))
-    by-test r true e =
-        let q = passed true (λ i. ap (λ (b : Bool). if b then Some (value_of g) else filling_of j fs) (sym e) ∙ h i) refl in
-        rw q refl
-    by-test r false e = r (λ i. ap (λ (b : Bool). if b then Some (value_of g) else filling_of j fs) (sym e) ∙ h i)
-
-pub pushed_filling : (fs gs : List Filling) (f : Filling) (j : ℕ) → gs ≡ fs ++ f ∷ [] → filling_of f.object fs ≡ None → filling_of j gs ≡ (if f.object == j then Some (value_of f) else filling_of j fs)
-pushed_filling fs gs f j e h = ap (filling_of j) e ∙ behind-all fs f j (λ i. rw i h)
+pub pushed_filling : (fs gs : List Filling) (f : Filling) (j : ℕ) → gs ≡ fs ++ f ∷ [] → filling_of j gs ≡ (if f.object == j then Some (value_of f) else filling_of j fs)
+pushed_filling fs gs f j e = ap (filling_of j) e ∙ fold-append _ None fs (f ∷ [])
 
 pub pushed_below : (fs gs : List Filling) (f : Filling) (n : ℕ) → gs ≡ fs ++ f ∷ [] → f.object < n → AreBelow n fs → AreBelow n gs
 pushed_below fs gs f n e l h j x g = ⊎_elim (λ a. h j x a) (λ b. subst (λ (y : Filling). y.object < n) b.1 l) (push_cases fs f x j (rw e at g))
-
-pub front_below : (fs gs : List Filling) (f : Filling) (n : ℕ) → gs ≡ f ∷ fs → f.object < n → AreBelow n fs → AreBelow n gs
-front_below fs gs f n e l h j x g = by-place j (rw e at g)
-  where
-    by-place : (i : ℕ) → slice_get (f ∷ fs) i ≡ Some x → x.object < n
-    by-place zero q = let r : f ≡ x = cc in subst (λ (y : Filling). y.object < n) r l
-    by-place (suc i) q = h i x q
 
 below-there : {A : Type 0} (xs : List A) (k : ℕ) (x : A) → slice_get xs k ≡ Some x → k < length xs
 below-there [] k x e = absurd cc

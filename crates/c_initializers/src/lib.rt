@@ -28,6 +28,3 @@ pub use sizes::complete_now;
 pub use slots::{Filled, Slot};
 pub use statics::{Found, pointers_end, start_slots};
 pub use strings::{plain, string, takes_string};
-
-#[cfg(test)]
-mod tests;

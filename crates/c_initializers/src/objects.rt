@@ -1,7 +1,6 @@
 //! What objects and locals get from what their initialisers give (C11 6.7.9).
 
 ghost use Rattle.std.specs.Prelude.{◌≡◌, ℕ, ◌<◌, ◌==◌, if◌then◌else◌, List, map, Some, OnOk};
-ghost use Rattle.std.specs.List.{list_any};
 ghost use Rattle.c_tree.specs.Types.{Ty};
 ghost use Rattle.c_tree.specs.Scopes.{State, StaticState, Aiming, change_static};
 ghost use Rattle.c_tree.specs.Views.{types_of};
@@ -56,25 +55,13 @@ fn object_complete(work: &Work, k: u32, pos: Pos) -> Result<(), Refusal>
     complete_now(work, of, pos)
 }
 
-// Whether an object was given an initial value.
-fn is_filled(fillings: &[Filling], k: u32) -> bool
-    ensures { result ≡ list_any (λ (f : Filling). f.object == k) fillings.now }
-{
-    fillings.iter().any(|f| f.object == k)
-}
-
-// One more initial value. The first one of an object counts, and it is the newest.
+// One more initial value. The last one of an object counts.
 fn add_filling(fillings: &mut Vec<Filling>, filling: Filling) -> Result<(), NoMemory>
     ensures is { OnOk result ((j : ℕ) → filling_of j fillings.new.items ≡ (if filling.object == j then Some (filling.bytes.items, map aiming_of filling.starts.items) else filling_of j fillings.old.items)) }
     ensures below { OnOk result ((n : ℕ) → filling.object < n → AreBelow n fillings.old.items → AreBelow n fillings.new.items) }
 {
-    if is_filled(fillings.as_slice(), filling.object) {
-        fillings.insert(0, filling)?;
-        Ok(())
-    } else {
-        fillings.push(filling)?;
-        Ok(())
-    }
+    fillings.push(filling)?;
+    Ok(())
 }
 
 // An object of static storage duration has an initial value from here on. The program gets it at the end of the file.

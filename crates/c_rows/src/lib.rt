@@ -6,4 +6,6 @@ mod agreement;
 #[cfg(test)]
 mod declarations;
 #[cfg(test)]
+mod initializers;
+#[cfg(test)]
 mod parsing;

@@ -39,13 +39,14 @@ use Rattle.tac_ir.specs.declared.code.Tac.{Tac}
 use Rattle.tac_ir.specs.declared.code.TacFun.{TacFun}
 use Rattle.rv_select.specs.Form.{IsIntegerCode}
 use Rattle.rv_select.specs.Selected.{First, frame_of, frames_of, IsReport, Matches, IsSelected, Selects, is_turns, is_outside, count_of}
-use Rattle.cheric_build.specs.Form.{is_integer_form}
+use Rattle.tac_lower.specs.Form.{is_integer_form}
+use Rattle.tac_lower.proofs.Assembled.{form_light}
+use Rattle.tac_lower.proofs.Alone.{IsAlone, alone}
 use Rattle.cheric_build.specs.Built.{report, sides_of, HasExtents, IsBuilt}
 use Rattle.cheric_build.specs.Image.{image_of}
 use Rattle.cheric_build.specs.Text.{text_length, text_of}
-use Rattle.cheric_build.proofs.Assembled.{form_light}
 use Rattle.cheric_build.proofs.Extents.{even_exact, exact, lies, fit, free, none_overlap, inside, entry, all_judged, judged_by}
-use Rattle.cheric_build.proofs.Program.{IsAlone, alone, frames_fit, table_small, asked_small, IsData, is_data, all_capable}
+use Rattle.cheric_build.proofs.Program.{frames_fit, table_small, asked_small, IsData, is_data, all_capable}
 use Rattle.cheric_build.proofs.Standing.{added_here, added_other, is_memory, is_there, text_word}
 use Rattle.cheric_build.proofs.Texts.{IsText, is_text, length-text_of, text_is, filled, byte_in, word_below, small_bytes, front_get, all_decode}
 

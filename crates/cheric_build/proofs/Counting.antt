@@ -16,10 +16,10 @@ use Rattle.c_tree.specs.declared.typed.StmtKind.{StmtKind}
 use Rattle.c_tree.specs.declared.typed.StmtKind.TheVariants as stmts
 use Rattle.c_tree.specs.declared.typed.Typed.{Typed}
 use Rattle.c_tree.specs.declared.typed.VarDef.{VarDef}
-use Rattle.cheric_build.specs.Form.{is_form_variable, is_converted, is_form_expression, is_plain, is_void_type, is_integer_form}
-use Rattle.cheric_build.proofs.Assembled.{form_expressions}
-use Rattle.cheric_build.proofs.Program.{alone}
-use Rattle.cheric_build.proofs.Trees.{all_get, and_both, or_one, bare_plain, void_bare}
+use Rattle.tac_lower.specs.Form.{is_form_variable, is_converted, is_form_expression, is_plain, is_void_type, is_integer_form}
+use Rattle.tac_lower.proofs.Assembled.{form_expressions}
+use Rattle.tac_lower.proofs.Alone.{alone}
+use Rattle.tac_lower.proofs.Trees.{all_get, and_both, or_one, bare_plain, void_bare}
 
 no_granules_in : (types : List CType) (vs : List VarDef) → list_all (is_form_variable types) vs ≡ true → sum_by (var_granules types) vs ≡ 0
 no_granules_in types [] h = refl

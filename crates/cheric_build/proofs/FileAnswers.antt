@@ -1,5 +1,5 @@
 -- What is built of a file's program is built of the file, and why its program is refused is why the file is.
-use Rattle.std.proofs.Common.{◌≡◌, ℕ, zero, suc, ◌+◌, ◌<◌, ◌≤◌, Bool, true, false, List, [], ◌∷◌, Some, Result, Ok, Err, refl, subst, sym, ap, ◌∙◌, inl, inr, arith}
+use Rattle.std.proofs.Common.{◌≡◌, ℕ, zero, suc, ◌<◌, ◌≤◌, Bool, true, false, List, [], ◌∷◌, Some, Result, Ok, Err, refl, subst, sym, ap, ◌∙◌, inl, inr, arith}
 use Rattle.std.specs.Prelude.{IfOk, IfErr, OnOk, ◌⊎◌, slice_get, sum_by, if◌then◌else◌}
 use Rattle.std.specs.List.{list_all}
 use Rattle.std.proofs.lemmas.Bool.{cases_lt, false≢true}
@@ -17,16 +17,16 @@ use Rattle.c_tree.specs.File as files
 use Rattle.c_tree.specs.Typing.{Sound}
 use Rattle.c_tree.specs.Weight.{weight}
 use Rattle.bounds_place.specs.Placing.{exceeds}
-use Rattle.cheric_build.specs.Form.{is_form_variable, is_integer_form}
+use Rattle.tac_lower.specs.Form.{is_form_variable, is_integer_form}
+use Rattle.tac_lower.proofs.Assembled.{form_light}
+use Rattle.tac_lower.proofs.Alone.{alone}
+use Rattle.tac_lower.proofs.SameForm.{same_form}
+use Rattle.tac_lower.proofs.Trees.{and_both}
 use Rattle.cheric_build.specs.Front.{IsTyped, IsBeforeLimits, IsBroken}
 use Rattle.cheric_build.specs.Built.{start, IsBuilt, IsRefusal, IsCode, IsBeforeWeight, IsFileRefusal}
 use Rattle.cheric_build.specs.declared.building.Built.{Built}
-use Rattle.cheric_build.proofs.Assembled.{form_light}
-use Rattle.cheric_build.proofs.Program.{alone}
 use Rattle.cheric_build.proofs.Rooms.{has_room, has_no_room}
 use Rattle.cheric_build.proofs.SameBuilt.{built_same}
-use Rattle.cheric_build.proofs.SameForm.{same_form}
-use Rattle.cheric_build.proofs.Trees.{and_both}
 
 -- ---- what the front end refuses
 

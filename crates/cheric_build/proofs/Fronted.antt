@@ -1,6 +1,6 @@
 -- What the reading of a file and the elaboration of its tree give together.
-use Rattle.std.proofs.Common.{◌≡◌, ℕ, ◌<◌, ◌≤◌, List, length, Some, Result, Ok, Err, Fits, w8, subst, arith}
-use Rattle.std.specs.Prelude.{IfOk, IfErr, slice_get, slice_index_or}
+use Rattle.std.proofs.Common.{ℕ, ◌<◌, ◌≤◌, List, length, Result, Ok, Err, Fits, w8, subst}
+use Rattle.std.specs.Prelude.{IfOk, IfErr, slice_index_or}
 use Rattle.std.proofs.Math.Facts.{Fits-lt-pow}
 use Rattle.std.proofs.lemmas.Option.{get_or_from_slice_get}
 use Rattle.ck_base.specs.declared.positions.Pos.{Pos}

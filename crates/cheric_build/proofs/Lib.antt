@@ -1,11 +1,3 @@
-pub mod Does
-pub mod Labels
-pub mod Follow
-pub mod Agreement
-pub mod ExpressionLaws
-pub mod StatementLaws
-pub mod Whole
-pub mod Selectable
 pub mod Texts
 pub mod Filling
 pub mod Extents
@@ -13,25 +5,8 @@ pub mod Standing
 pub mod Program
 pub mod BuiltProgram
 pub mod Counting
-pub mod Formed
-pub mod Fitting
-pub mod Sizes
-pub mod Written
-pub mod Emitting
-pub mod Trees
-pub mod Arms
-pub mod Blocks
-pub mod Assembled
-pub mod Typing
-pub mod TypingStatements
-pub mod TypingWeight
-pub mod TypingProgram
 pub mod Fronted
 pub mod Rooms
-pub mod Totals
-pub mod SameForm
-pub mod SameMeaning
 pub mod SameBuilt
 pub mod Once
 pub mod FileAnswers
-mod Rows

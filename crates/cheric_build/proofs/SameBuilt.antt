@@ -1,5 +1,5 @@
 -- What is built of a program of the form is built of every program that stands for the same.
-use Rattle.std.proofs.Common.{◌≡◌, ℕ, ◌+◌, ◌*◌, true, List, [], ◌∷◌, length, map, refl, sym, ap, subst, ◌∙◌, arith}
+use Rattle.std.proofs.Common.{◌≡◌, ℕ, true, List, [], ◌∷◌, map, sym, ap, subst, ◌∙◌, arith}
 use Rattle.std.specs.Prelude.{slice_get}
 use Rattle.ck_base.specs.Agreement.{Sides, DoesWhatIsMeant, KeepsToOutside, DoesAllThatIsMeant}
 use Rattle.ck_base.specs.Runs.{outcome, ending_alone}
@@ -16,19 +16,19 @@ use Rattle.cap_machine.specs.declared.end.End.TheVariants.{Steps}
 use Rattle.cap_machine.specs.Step.{act, limits}
 use Rattle.image_load.specs.Loading.{Loaded}
 use Rattle.obj_mem.specs.Legal.{ObjectNeed, FunctionNeed, Needs, IsLegal}
-use Rattle.obj_mem.specs.Needs.{global_need, literal_need, local_need, local_needs, function_needs, needs_of, weight_by, weight_in}
+use Rattle.obj_mem.specs.Needs.{global_need, literal_need, local_need, function_needs, needs_of, weight_by, weight_in}
 use Rattle.obj_mem.specs.declared.ending.Ending.{Ending}
 use Rattle.obj_mem.specs.declared.map.Map.{Map}
-use Rattle.cheri_c_sem.specs.Programs.{program_tree}
 use Rattle.cheri_c_sem.specs.Runs.{placed_run}
 use Rattle.cheri_c_sem.specs.Tree as meant
 use Rattle.rv_select.specs.Selected.{is_turns, is_outside, count_of}
+use Rattle.tac_lower.specs.Form.{is_integer_form}
+use Rattle.tac_lower.proofs.Alone.{alone}
+use Rattle.tac_lower.proofs.SameForm.{mapped_length}
+use Rattle.tac_lower.proofs.SameMeaning.{same_program}
 use Rattle.cheric_build.specs.Built.{report, IsBuilt}
-use Rattle.cheric_build.specs.Form.{is_integer_form}
 use Rattle.cheric_build.proofs.Counting.{no_granules, no_copies}
-use Rattle.cheric_build.proofs.Program.{alone, no_objects}
-use Rattle.cheric_build.proofs.SameForm.{mapped_length}
-use Rattle.cheric_build.proofs.SameMeaning.{same_program}
+use Rattle.cheric_build.proofs.Program.{no_objects}
 
 module _ (p : Typed) (form : is_integer_form p ≡ true) (q : Program) (s : Shows p q) where
   abbrev routine : FunDef → Routine

@@ -26,7 +26,7 @@ use Rattle.image_load.specs.Loading.{Loaded, loading}
 use Rattle.bounds_place.specs.Placing.{exceeds}
 use Rattle.rv_select.specs.Selected.{is_turns, is_outside, count_of}
 use Rattle.c_tree.specs.File.{HasRoom, Refused, too_heavy}
-use Rattle.cheric_build.specs.Form.{is_integer_form}
+use Rattle.tac_lower.specs.Form.{is_integer_form}
 use Rattle.cheric_build.specs.Front.{IsTyped}
 
 -- ---- what an ending of the machine reports of the program

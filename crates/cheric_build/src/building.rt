@@ -5,13 +5,11 @@ ghost use Rattle.c_tree.specs.File.{Accepts};
 ghost use Rattle.c_tree.specs.Typing.{Sound};
 ghost use Rattle.bounds_place.specs.Placing.{exceeds, AreOffsets, IsRefusal as ExceedsLimit};
 ghost use Rattle.rv_select.specs.Selected.{frames_of, count_of};
-ghost use Rattle.cheric_build.specs.Form.{is_integer_form};
+ghost use Rattle.tac_lower.specs.Form.{is_integer_form};
 ghost use Rattle.cheric_build.specs.Image.{image_of};
 ghost use Rattle.cheric_build.specs.Built.{IsBuilt, IsRefusal, IsFileRefusal};
 
-use crate::form::is_integer_form;
 use crate::front_end::{START, front};
-use crate::lowering::lower;
 use crate::text::text_of;
 use bounds_place::place;
 use c_tree::{Typed, weight};
@@ -23,6 +21,7 @@ use obj_mem::{Frame, Map};
 use rv_select::select;
 use std::alloc::Global;
 use tac_ir::Tac;
+use tac_lower::{is_integer_form, lower};
 
 /// A text for a trial of the limit, with 4 bytes for each function.
 const TRIAL: u64 = 268_435_456;

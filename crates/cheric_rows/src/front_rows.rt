@@ -22,12 +22,17 @@ fn answer(alloc: Global, text: &[u8]) -> Result<String, Fail> {
     Ok(answer)
 }
 
+/// Whether a file is answered so. A refusal by 120 may be at any place.
+fn is_as_wanted(got: &str, want: &str) -> bool {
+    got == want || (want == "120" && got.starts_with("120 "))
+}
+
 /// The files of a table that are answered otherwise.
 fn wrong(alloc: Global, rows: &[(&str, &str)]) -> Result<String, Fail> {
     let mut wrong = String::new(alloc);
     for &(text, want) in rows {
         let got = answer(alloc, text.as_bytes())?;
-        if !got.as_str().starts_with(want) {
+        if !is_as_wanted(got.as_str(), want) {
             write!(wrong, "{got} of {text:?}, ")?;
         }
     }

@@ -4,6 +4,8 @@
 #[cfg(test)]
 mod calls;
 #[cfg(test)]
+mod forms;
+#[cfg(test)]
 mod front_rows;
 #[cfg(test)]
 mod front_tables;
@@ -12,8 +14,12 @@ mod image_commands;
 #[cfg(test)]
 mod images;
 #[cfg(test)]
+mod lines;
+#[cfg(test)]
 mod programs;
 #[cfg(test)]
 mod refusals;
 #[cfg(test)]
 mod run_command;
+#[cfg(test)]
+mod whole_files;

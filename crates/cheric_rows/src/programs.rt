@@ -1,18 +1,19 @@
 //! Programs that the front end gives of files, and the calls that take such.
 ghost use Rattle.std.specs.Prelude.{◌≡◌, true, [], ◌∷◌, IfOk};
 ghost use Rattle.c_tree.specs.Typing.{Sound};
-ghost use Rattle.cheric_build.specs.Form.{is_integer_form};
+ghost use Rattle.tac_lower.specs.Form.{is_integer_form};
 ghost use Rattle.cheric_rows.specs.OneFunction.{frame};
 
 use bounds_place::place;
 use c_tree::{Typed, weight};
 use cap_reloc::{Table, table};
-use cheric_build::{build, build_typed, front, is_integer_form, lower};
+use cheric_build::{build, build_typed, front};
 use ck_base::{NoMemory, Pos, Refusal, Sequence};
 use obj_mem::{Frame, Map};
 use std::alloc::Global;
 use std::test::Fail;
 use tac_ir::well_formed;
+use tac_lower::{is_integer_form, lower};
 
 const COUNTS: &str = "int main(void){int a=3;while(a)a=a-1;return 0;}";
 

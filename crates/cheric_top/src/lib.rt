@@ -6,8 +6,6 @@ mod command;
 mod line;
 mod message;
 mod running;
-#[cfg(test)]
-mod tests;
 
 pub use answer::Answer;
 pub use command::cheric;

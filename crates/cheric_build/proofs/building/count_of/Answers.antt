@@ -1,6 +1,6 @@
 use Rattle.std.proofs.Common.{arith}
 use Rattle.rv_select.specs.Selected.{count_of}
-use Rattle.cheric_build.proofs.Assembled.{form_light}
+use Rattle.tac_lower.proofs.Assembled.{form_light}
 use Rattle.cheric_build.proofs.Counting.{no_granules, no_copies}
 use Rattle.cheric_build.proofs.building.count_of.Goals as goal
 
