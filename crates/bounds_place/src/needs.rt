@@ -4,6 +4,7 @@ ghost use Rattle.std.specs.List.{list_any};
 ghost use Rattle.cap_concentrate.specs.Rounding.{alignment, owned};
 ghost use Rattle.c_tree.specs.Layout.{size_limit};
 ghost use Rattle.cap_layout.specs.Answers.{greatest_align};
+ghost use Rattle.cap_layout.specs.Kept.{AreLayoutsOf};
 ghost use Rattle.obj_mem.specs.Objects.{object_alignment};
 ghost use Rattle.obj_mem.specs.Legal.{room_of};
 ghost use Rattle.obj_mem.specs.Needs.{need_of, global_need, literal_need, local_needs};
@@ -12,7 +13,7 @@ ghost use Rattle.bounds_place.specs.Placing.{data_room, locals_exceed, exceeds};
 
 use c_tree::{FunDef, Typed};
 use cap_concentrate::{alignment_mask, rounded_length};
-use cap_layout::layout;
+use cap_layout::Layouts;
 use std::alloc::{AllocError, Global};
 
 /// The owned length of an object and its alignment, in bytes.
@@ -57,23 +58,25 @@ fn need_for(length: u64, align: u64) -> Need
 }
 
 // An object of a type.
-fn need_of(p: &Typed, t: u32) -> Need
+fn need_of(layouts: &Layouts, p: &Typed, t: u32) -> Need
+    requires { AreLayoutsOf p.now.types layouts.now }
     ensures { (permissions : ℕ) → result ≡ need (need_of p.now.types t permissions) }
 {
-    match layout(p, t) {
+    match layouts.layout(p, t) {
         Ok(l) => need_for(l.size, l.align),
         Err(_) => need_for(0, 1),
     }
 }
 
 /// What the globals ask for, in their order.
-pub fn global_needs(alloc: Global, p: &Typed) -> Result<Vec<Need>, AllocError>
+pub fn global_needs(alloc: Global, layouts: &Layouts, p: &Typed) -> Result<Vec<Need>, AllocError>
+    requires { AreLayoutsOf p.now.types layouts.now }
     ensures { IfOk result (λ ns. ns.items ≡ map need (map (global_need p.now.types) p.now.globals)) }
 {
     let mut needs = Vec::new(alloc);
     let globals = p.globals.as_slice();
     for g in globals {
-        needs.push(need_of(p, g.of))?;
+        needs.push(need_of(layouts, p, g.of))?;
     }
     Ok(needs)
 }
@@ -110,27 +113,29 @@ pub fn room(needs: &[Need]) -> u64
 
 // What the locals of a function that are objects take at most.
 #[tactic(auto, using(crate::proofs::Locals::sum_locals))]
-fn local_room(p: &Typed, f: &FunDef) -> u64
+fn local_room(layouts: &Layouts, p: &Typed, f: &FunDef) -> u64
+    requires { AreLayoutsOf p.now.types layouts.now }
     ensures { result ≡ counted (room_of (local_needs p.now.types f.now)) }
 {
     let vars = f.vars.as_slice();
     let mut total: u64 = 0;
     for v in vars {
         if !v.simple {
-            total = with_room(total, need_of(p, v.of));
+            total = with_room(total, need_of(layouts, p, v.of));
         }
     }
     total
 }
 
 /// Whether the locals of some function are over the limit.
-pub fn some_locals_exceed(p: &Typed) -> bool
+pub fn some_locals_exceed(layouts: &Layouts, p: &Typed) -> bool
+    requires { AreLayoutsOf p.now.types layouts.now }
     ensures { result ≡ list_any (locals_exceed p.now.types) p.now.funs }
 {
     let funs = p.funs.as_slice();
     let mut found = false;
     for f in funs {
-        let over = local_room(p, f) > LIMIT;
+        let over = local_room(layouts, p, f) > LIMIT;
         found = found || over;
     }
     found

@@ -2,6 +2,7 @@
 ghost use Rattle.std.specs.Prelude.{◌≡◌, ℕ, ◌+◌, ◌*◌, ◌%◌, ◌^◌, ◌<◌, ◌≤◌, false, map, length, IfOk, IfErr, sum_by, nat_lt};
 ghost use Rattle.cap_concentrate.specs.Rounding.{owned};
 ghost use Rattle.c_tree.specs.Layout.{size_limit};
+ghost use Rattle.cap_layout.specs.Kept.{AreLayoutsOf};
 ghost use Rattle.obj_mem.specs.Needs.{global_need, literal_need};
 ghost use Rattle.bounds_place.specs.Rows.{need, room, bases_from, end_from};
 ghost use Rattle.bounds_place.specs.Parts.{IsTable, AreData, HasParts};
@@ -11,6 +12,7 @@ use crate::needs::{LIMIT, Need, global_needs, literal_needs, room, some_locals_e
 use crate::rows::row;
 use c_tree::Typed;
 use cap_concentrate::rounded_length;
+use cap_layout::Layouts;
 use ck_base::{Pos, Refusal, Sequence};
 use obj_mem::{Frame, Map, Slot};
 use std::alloc::{AllocError, Global};
@@ -79,12 +81,13 @@ fn data_exceeds(globals: &[Need], literals: &[Need]) -> bool
 }
 
 // Whether the program is over the limit.
-fn exceeds(p: &Typed, globals: &[Need], literals: &[Need]) -> bool
+fn exceeds(layouts: &Layouts, p: &Typed, globals: &[Need], literals: &[Need]) -> bool
+    requires layouts { AreLayoutsOf p.now.types layouts.now }
     requires globals { globals.now ≡ map need (map (global_need p.now.types) p.now.globals) }
     requires literals { literals.now ≡ map need (map literal_need p.now.literals) }
     ensures { result ≡ exceeds p.now }
 {
-    data_exceeds(globals, literals) | some_locals_exceed(p)
+    data_exceeds(globals, literals) | some_locals_exceed(layouts, p)
 }
 
 // The addresses of functions, from their offsets in the text.
@@ -166,9 +169,10 @@ pub fn place(
     ensures within { IfOk result (λ m. exceeds p.now ≡ false) }
     ensures refused { IfErr result (IsRefusal p.now) }
 {
-    let globals = global_needs(alloc, p)?;
+    let layouts = Layouts::new(alloc, p)?;
+    let globals = global_needs(alloc, &layouts, p)?;
     let literals = literal_needs(alloc, p)?;
-    if exceeds(p, &globals, &literals) {
+    if exceeds(&layouts, p, &globals, &literals) {
         return Err(Refusal::Code(141, START));
     }
     let functions = p.funs.as_slice().len();

@@ -1,9 +1,10 @@
 //! Sizes, alignments and member offsets of the types of a C program (C11 6.2.8, 6.7.2.1), and the counts of its objects and
-//! copies. No call takes memory.
+//! copies. No call but `Layouts::new` takes memory.
 #![tactic(auto)]
 
 mod answers;
 mod counting;
+mod kept;
 mod members;
 mod offsets;
 mod owning;
@@ -13,6 +14,7 @@ mod sizes;
 
 pub use answers::{Layout, LayoutFault, Owned};
 pub use counting::{copies, granules};
+pub use kept::Layouts;
 pub use offsets::offset_of;
 pub use owning::owned;
 pub use sizes::layout;

@@ -49,7 +49,8 @@ fn bytes_of(kind: IntKind) -> u64
     }
 }
 
-fn shape_of<'a>(c: &'a CType) -> Shape<'a>
+/// One level of a type.
+pub fn shape_of<'a>(c: &'a CType) -> Shape<'a>
     ensures is { (go : ℕ → Option Extent) → extent_of (Some c.now) go ≡ shape_extent result go }
     ensures small { IsSmallShape result }
 {
@@ -67,7 +68,8 @@ fn shape_of<'a>(c: &'a CType) -> Shape<'a>
     }
 }
 
-fn shape_at<'a>(types: &'a [CType], t: u32) -> Shape<'a>
+/// One level of the type at a number, which is not complete if there is none.
+pub fn shape_at<'a>(types: &'a [CType], t: u32) -> Shape<'a>
     ensures is { (go : ℕ → Option Extent) → extent_of (slice_get types.now t) go ≡ shape_extent result go }
     ensures small { IsSmallShape result }
 {

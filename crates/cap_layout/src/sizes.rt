@@ -10,8 +10,8 @@ use crate::owning::rounded;
 use crate::shapes::{Base, LIMIT, core_of};
 use c_tree::{CType, Member, Typed};
 
-// Elements in a row.
-fn repeated(l: Layout, count: u64) -> Result<Layout, LayoutFault>
+/// Elements in a row.
+pub fn repeated(l: Layout, count: u64) -> Result<Layout, LayoutFault>
     requires size { l.size ≤ 67239936 }
     requires positive { 0 < l.align }
     requires align { l.align ≤ greatest_align }
@@ -29,8 +29,8 @@ fn repeated(l: Layout, count: u64) -> Result<Layout, LayoutFault>
     }
 }
 
-// A struct or union from the end of its members, rounded up.
-fn finished(end: Layout) -> Layout
+/// A struct or union from the end of its members, rounded up.
+pub fn finished(end: Layout) -> Layout
     requires size { end.size ≤ size_limit }
     requires positive { 0 < end.align }
     requires align { end.align ≤ greatest_align }

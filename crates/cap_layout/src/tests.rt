@@ -1,7 +1,7 @@
 // Each public call on known values.
 ghost use Rattle.std.specs.Prelude.{◌<◌, length};
 
-use super::{Layout, LayoutFault, copies, granules, layout, offset_of, owned};
+use super::{Layout, LayoutFault, Layouts, copies, granules, layout, offset_of, owned};
 use c_tree::{CType, Expr, ExprKind, FunDef, Member, Stmt, StmtKind, Typed, VarDef};
 use ck_base::{Pos, Sequence, Span};
 use ck_int::IntKind;
@@ -195,6 +195,19 @@ fn types_have_layouts(rt: HostRuntime) -> Result<(), Fail> {
     Ok(())
 }
 
+#[test]
+fn layouts_are_kept(rt: HostRuntime) -> Result<(), Fail> {
+    let p = program(rt.alloc())?;
+    let layouts = Layouts::new(rt.alloc(), &p)?;
+    for &(t, size, align) in &LAYOUTS {
+        assert_eq!(rt; layouts.layout(&p, t), Ok(Layout { size, align }), "of {t}");
+    }
+    for &(t, fault) in &FAULTS {
+        assert_eq!(rt; layouts.layout(&p, t), Err(fault), "of {t}");
+    }
+    Ok(())
+}
+
 const OFFSETS: [(u32, u32, u64); 6] = [
     (3, 0, 0),
     (3, 1, 4),
@@ -251,5 +264,24 @@ fn deep_types_have_layouts(rt: HostRuntime) -> Result<(), Fail> {
         nests.push(record(rt.alloc(), &[of])?)?;
     }
     assert_eq!(rt; layout(&alone(rt.alloc(), nests), 1_000), Ok(expected));
+    Ok(())
+}
+
+// Kept layouts take no stack, and no more time where a type stands twice in the one around it.
+#[test]
+fn deep_types_have_kept_layouts(rt: HostRuntime) -> Result<(), Fail> {
+    let expected = Layout { size: 4, align: 4 };
+    let mut structs = vec![in rt.alloc(); CType::Int(IntKind::I32, 0)]?;
+    let mut unions = vec![in rt.alloc(); CType::Int(IntKind::I32, 0)]?;
+    for of in 0..50_000 {
+        structs.push(record(rt.alloc(), &[of])?)?;
+        unions.push(CType::Union(0, members(rt.alloc(), &[of, of])?))?;
+    }
+    let p = alone(rt.alloc(), structs);
+    let q = alone(rt.alloc(), unions);
+    let of_structs = Layouts::new(rt.alloc(), &p)?;
+    let of_unions = Layouts::new(rt.alloc(), &q)?;
+    assert_eq!(rt; of_structs.layout(&p, 50_000), Ok(expected));
+    assert_eq!(rt; of_unions.layout(&q, 50_000), Ok(expected));
     Ok(())
 }
