@@ -33,7 +33,7 @@ use Rattle.c_work.specs.declared.work.Use.{Use}
 use Rattle.c_work.specs.declared.work.Filling.{Filling}
 use Rattle.c_work.specs.declared.work.Definition.{Definition}
 use Rattle.c_work.specs.declared.work.Work.{Work}
-use Rattle.c_work.specs.Work.{Shows, IsClosed, DefinitionIsThere, UseIsThere, is_object, is_function, first_place, is_among, filling_of, aiming_of, definition_of, option_seen, body_seen, seen_of}
+use Rattle.c_work.specs.Work.{Shows, IsClosed, DefinitionIsThere, UseIsThere, is_object, is_function, first_place, is_among, filling_of, definition_of, option_seen, body_seen, seen_of}
 use Rattle.c_work.specs.Answers.{Keeps, freely, Done, Answers}
 use Rattle.c_work.proofs.Extending.{AreExtended, extends_goes_on, extended_whole, extended_keeps, extended_values, extended_definition}
 use Rattle.c_declarations.specs.Declaring.{DeclaresIn, declares, begins, EntityThere, IsEntity, FunctionThere, IsFunction}
@@ -87,7 +87,7 @@ no_place test (u ∷ us) h = ap (λ b. if b then Some u.pos else first_place tes
 
 no_filling : (n : ℕ) (fs : List Filling) → ((k : ℕ) (f : Filling) → slice_get fs k ≡ Some f → f.object < n) → filling_of n fs ≡ None
 no_filling n [] h = refl
-no_filling n (f ∷ fs) h = ap (λ b. if b then Some (f.bytes.items, map aiming_of f.starts.items) else filling_of n fs) (below_other f.object n (h 0 f refl)) ∙ no_filling n fs (λ k g e. h (suc k) g e)
+no_filling n (f ∷ fs) h = rw (below_other f.object n (h 0 f refl)) (no_filling n fs (λ k g e. h (suc k) g e))
 
 no_definition : (n : ℕ) (ds : List Definition) → ((k : ℕ) (d : Definition) → slice_get ds k ≡ Some d → d.function < n) → definition_of n ds ≡ None
 no_definition n [] h = refl

@@ -1,8 +1,9 @@
--- What was said first, from the last to the first.
-use Rattle.std.proofs.Common.{◌≡◌, ℕ, zero, suc, ◌+◌, ◌-◌, ◌<◌, ◌≤◌, Bool, true, false, List, [], ◌∷◌, length, drop, Option, Some, refl, sym, ap, subst, ◌∙◌, ◌⊎◌, inl, inr, ⊎_elim, rules, tests, arith}
+-- What was said first, from the last to the first. Of initial values the last one counts, so these go from the first to the last.
+use Rattle.std.proofs.Common.{◌≡◌, ℕ, zero, suc, ◌+◌, ◌-◌, ◌<◌, ◌≤◌, Bool, true, false, List, [], ◌∷◌, ◌++◌, length, drop, Option, Some, None, refl, sym, ap, subst, ◌∙◌, ◌⊎◌, inl, inr, ⊎_elim, rules, tests, arith}
 use Rattle.std.specs.Global.{Vec}
 use Rattle.std.specs.Prelude.{slice_get, slice_set, ◌==◌, if◌then◌else◌}
 use Rattle.std.proofs.lemmas.Bool.{eqb-true}
+use Rattle.std.proofs.lemmas.List.Sums.{fold-append}
 use Rattle.ck_base.specs.declared.positions.Pos.{Pos}
 use Rattle.c_work.specs.declared.work.Use.{Use}
 use Rattle.c_work.specs.declared.work.Used.TheVariants as used
@@ -10,7 +11,7 @@ use Rattle.c_work.specs.declared.work.Definition.{Definition}
 use Rattle.c_work.specs.declared.work.Filling.{Filling}
 use Rattle.c_work.specs.Work.{first_place, is_object, is_function, definition_of}
 use Rattle.c_finish.specs.declared.tables.Uses.{Uses}
-use Rattle.c_finish.specs.Tables.{HasUses, IsBlank, item_at, FirstDefinitions, FirstFillings, first_filling}
+use Rattle.c_finish.specs.Tables.{HasUses, IsBlank, item_at, FirstDefinitions, LastFillings, last_filling}
 use Rattle.c_finish.proofs.Faulting.{drop_step, drop_past}
 
 pub eqb-same : (n : ℕ) → (n == n) ≡ true
@@ -64,17 +65,18 @@ definition_set ds last t i d e h = record {
       ⊎_elim (λ a. ap (item_at ds) a.1 ∙ e ∙ same_test k d.function (Some d) (definition_of k last) a.0) (λ a. h.first k o a.0 ∙ apart_test k d.function (Some d) (definition_of k last) a.1) (get-set t d.function k (Some i) o g);
 }
 
-pub filling_set : (ds last : List Filling) (t : List (Option ℕ)) (i : ℕ) (d : Filling) → slice_get ds i ≡ Some d → FirstFillings ds last t → FirstFillings ds (d ∷ last) (slice_set t d.object (Some i))
-filling_set ds last t i d e h = record {
-  first = λ k o g.
-      ⊎_elim (λ a. ap (item_at ds) a.1 ∙ e ∙ same_test k d.object (Some d) (first_filling k last) a.0) (λ a. h.first k o a.0 ∙ apart_test k d.object (Some d) (first_filling k last) a.1) (get-set t d.object k (Some i) o g);
+pub filling_set : (ds first : List Filling) (t : List (Option ℕ)) (i : ℕ) (d : Filling) → slice_get ds i ≡ Some d → LastFillings ds first t → LastFillings ds (first ++ d ∷ []) (slice_set t d.object (Some i))
+filling_set ds first t i d e h = record {
+  last = λ k o g.
+      ⊎_elim (λ a. ap (item_at ds) a.1 ∙ e ∙ same_test k d.object (Some d) (last_filling k first) a.0) (λ a. h.last k o a.0 ∙ apart_test k d.object (Some d) (last_filling k first) a.1) (get-set t d.object k (Some i) o g)
+      ∙ sym (fold-append _ None first (d ∷ []));
 }
 
 pub no_definitions : (ds : List Definition) (t : List (Option ℕ)) → IsBlank t → FirstDefinitions ds [] t
 no_definitions ds t h = record { first = λ k o e. ap (item_at ds) (h k o e) }
 
-pub no_fillings : (ds : List Filling) (t : List (Option ℕ)) → IsBlank t → FirstFillings ds [] t
-no_fillings ds t h = record { first = λ k o e. ap (item_at ds) (h k o e) }
+pub no_fillings : (ds : List Filling) (t : List (Option ℕ)) → IsBlank t → LastFillings ds [] t
+no_fillings ds t h = record { last = λ k o e. ap (item_at ds) (h k o e) }
 
 -- ---- from the end
 

@@ -1,6 +1,6 @@
 -- The objects of the finished program.
-use Rattle.std.proofs.Common.{◌≡◌, ℕ, ◌+◌, ◌≤◌, Bool, true, false, List, [], ◌∷◌, ◌++◌, length, take, map, Option, Some, refl, sym, ap, ◌∙◌}
-use Rattle.std.specs.Prelude.{slice_get, flat_map, option_map, ◌==◌, if◌then◌else◌, ℤ}
+use Rattle.std.proofs.Common.{◌≡◌, ℕ, ◌+◌, ◌≤◌, Bool, true, false, List, [], ◌∷◌, ◌++◌, length, take, map, Option, Some, None, refl, sym, ap, ◌∙◌}
+use Rattle.std.specs.Prelude.{slice_get, fold, flat_map, option_map, ◌==◌, if◌then◌else◌, ℤ}
 use Rattle.std.proofs.lemmas.List.{take_more, take_all, map-append, append-nil}
 use Rattle.std.proofs.lemmas.Grind.{flat_map-append}
 use Rattle.std.proofs.lemmas.Option.{slice_get_within, get_or_from_slice_get}
@@ -19,7 +19,7 @@ use Rattle.c_work.specs.declared.work.Work.{Work}
 use Rattle.c_work.specs.Work.{Shows, aiming_of, filling_of}
 use Rattle.c_work.specs.Work as works
 use Rattle.c_finish.specs.Finished.{filled}
-use Rattle.c_finish.specs.Tables.{first_filling}
+use Rattle.c_finish.specs.Tables.{last_filling}
 use Rattle.c_finish.proofs.Faulting.{static_is}
 
 -- ---- pointers
@@ -35,7 +35,7 @@ pub link_is : (s : State) (x : Start) (n : Option ℕ) (r : ℕ × ℕ) (t : Tar
 link_is s x n r t e f g =
     pointing_same x.at x.offset (aim_of t) (aim_with (numbers_of s) (aim_of x.target)) r (reach_of (aim_length s (aim_of x.target)) (works.reach_of x.bounds)) g (f ∙ ap (λ m. reach_of m (works.reach_of x.bounds)) (sym e))
 
-taken : {A : Type 0} (xs : List A) (i : ℕ) (x : A) → slice_get xs i ≡ Some x → take (i + 1) xs ≡ take i xs ++ x ∷ []
+pub taken : {A : Type 0} (xs : List A) (i : ℕ) (x : A) → slice_get xs i ≡ Some x → take (i + 1) xs ≡ take i xs ++ x ∷ []
 taken xs i x e = take_more xs i x (slice_get_within xs i x e) ∙ ap (λ y. take i xs ++ y ∷ []) (get_or_from_slice_get xs i x x e)
 
 pub flat_taken : {A B : Type 0} (f : A → List B) (xs : List A) (i : ℕ) (x : A) → slice_get xs i ≡ Some x → flat_map f (take (i + 1) xs) ≡ flat_map f (take i xs) ++ f x
@@ -59,13 +59,16 @@ initial_is s f bytes links bs xs a b c d =
     let v : map views.pointing_of links ≡ map (pointing_of s) (map aiming_of f.starts.items) = d ∙ ap (λ ys. map (pointing_of s) (map aiming_of ys)) b in
     rw (u, v) refl
 
-first_at : (k : ℕ) (f : Filling) (fs : List Filling) (b : Bool) → filling_of k fs ≡ option_map filled (first_filling k fs) → (if b then Some (filled f) else filling_of k fs) ≡ option_map filled (if b then Some f else first_filling k fs)
-first_at k f fs true e = refl
-first_at k f fs false e = e
+chosen : (f : Filling) (o : Option Filling) (b : Bool) → (if b then Some (filled f) else option_map filled o) ≡ option_map filled (if b then Some f else o)
+chosen f o true = refl
+chosen f o false = refl
 
-pub filling_is : (k : ℕ) (fs : List Filling) → filling_of k fs ≡ option_map filled (first_filling k fs)
-filling_is k [] = refl
-filling_is k (f ∷ fs) = first_at k f fs (f.object == k) (filling_is k fs)
+filling_from : (k : ℕ) (fs : List Filling) (o : Option Filling) → fold (λ p (f : Filling). if f.object == k then Some (filled f) else p) (option_map filled o) fs ≡ option_map filled (fold (λ p (f : Filling). if f.object == k then Some f else p) o fs)
+filling_from k [] o = refl
+filling_from k (f ∷ fs) o = rw (chosen f o (f.object == k)) (filling_from k fs (if f.object == k then Some f else o))
+
+pub filling_is : (k : ℕ) (fs : List Filling) → filling_of k fs ≡ option_map filled (last_filling k fs)
+filling_is k fs = filling_from k fs None
 
 -- ---- objects
 
@@ -85,7 +88,7 @@ start_same : (bytes bs : List ℕ) (links ls : List Link) → bytes ≡ bs → l
 start_same bytes bs links ls e f = rw (e, f) refl
 
 pub object_is : (w : Work) (s : State) (k : ℕ) (d : GlobalDef) (g : StaticState) (given : Option Filling) (bytes bs : List ℕ) (links ls : List Link) → bytes ≡ bs → links ≡ ls → Shows w s → slice_get w.nodes.p.globals k ≡ Some d → slice_get s.statics k ≡ Some g → g.defined ≡ true →
-    given ≡ first_filling k w.fillings.items → initial_of s (option_map filled given) ≡ (bs, map views.pointing_of ls) →
+    given ≡ last_filling k w.fillings.items → initial_of s (option_map filled given) ≡ (bs, map views.pointing_of ls) →
     views.object_of (types_of w.nodes.p.types) (record { name = d.name; pos = d.pos; of = d.of; bytes = bytes; links = links }) ∷ [] ≡ object_of s g
 object_is w s k d g given bytes bs links ls eb el h e f t i j =
     let x = static_is w s k d g h e f in

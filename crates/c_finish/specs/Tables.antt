@@ -1,5 +1,5 @@
--- What was said first of each object and function.
-use Rattle.std.specs.Prelude.{◌≡◌, ℕ, ◌==◌, if◌then◌else◌, List, [], ◌∷◌, Option, Some, None, slice_get}
+-- What counts of all that was said of each object and function.
+use Rattle.std.specs.Prelude.{◌≡◌, ℕ, ◌==◌, if◌then◌else◌, List, ◌∷◌, fold, Option, Some, None, slice_get}
 use Rattle.ck_base.specs.declared.positions.Pos.{Pos}
 use Rattle.c_work.specs.declared.work.Use.{Use}
 use Rattle.c_work.specs.declared.work.Filling.{Filling}
@@ -31,12 +31,13 @@ pub record FirstDefinitions (ds last : List Definition) (t : List (Option ℕ)) 
 abbrev pub HasDefinitions : List Definition → List (Option ℕ) → Type 0
 HasDefinitions ds t = FirstDefinitions ds ds t
 
-abbrev pub first_filling : ℕ → List Filling → Option Filling
-first_filling k [] = None
-first_filling k (f ∷ fs) = (if f.object == k then Some f else first_filling k fs)
+-- the last initial value that was given to the object with a number
+abbrev pub last_filling : ℕ → List Filling → Option Filling
+last_filling k fs = fold (λ o (f : Filling). if f.object == k then Some f else o) None fs
 
-pub record FirstFillings (fs last : List Filling) (t : List (Option ℕ)) : Type 0 where
-  pub first : (k : ℕ) (o : Option ℕ) → slice_get t k ≡ Some o → item_at fs o ≡ first_filling k last
+-- the last initial value of each object among the first ones
+pub record LastFillings (fs first : List Filling) (t : List (Option ℕ)) : Type 0 where
+  pub last : (k : ℕ) (o : Option ℕ) → slice_get t k ≡ Some o → item_at fs o ≡ last_filling k first
 
 abbrev pub HasFillings : List Filling → List (Option ℕ) → Type 0
-HasFillings fs t = FirstFillings fs fs t
+HasFillings fs t = LastFillings fs fs t

@@ -13,7 +13,7 @@ use crate::main_function::main_of;
 use crate::numbering::new_numbers;
 use crate::objects::objects;
 use crate::routines::routines;
-use crate::tables::{first_definitions, first_fillings, first_uses};
+use crate::tables::{first_definitions, first_uses, last_fillings};
 use crate::tags::check_tags;
 use c_copy::{Copied, Numbers, check_order};
 use c_tree::{FunDef, GlobalDef, Typed};
@@ -62,7 +62,7 @@ fn program(work: Work<'_>, definitions: &[Option<u32>], main: u32) -> Result<Typ
     check_tags(&work)?;
     let numbers = new_numbers(&work, definitions)?;
     let main = number_of_main(&numbers, main)?;
-    let fillings = first_fillings(&work)?;
+    let fillings = last_fillings(&work)?;
     let globals = objects(&work, &numbers, fillings.as_slice())?;
     let mut copied = Copied {
         exprs: Vec::new(alloc),

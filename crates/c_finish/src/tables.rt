@@ -1,8 +1,9 @@
-//! What was said first of each object and function, by their numbers.
+//! What counts of all that was said of each object and function, by their numbers: the first use, the first definition and the last
+//! initial value.
 
 ghost use Rattle.std.specs.Prelude.{◌≡◌, Some, IfOk, OnOk, None, option_map, slice_set, slice_get};
 ghost use Rattle.c_work.specs.Work.{definition_of};
-ghost use Rattle.c_finish.specs.Tables.{HasUses, HasDefinitions, HasFillings, first_filling, IsBlank, AddsUse};
+ghost use Rattle.c_finish.specs.Tables.{HasUses, HasDefinitions, HasFillings, last_filling, IsBlank, AddsUse};
 
 use c_tree::{FunDef, GlobalDef};
 use c_work::{Definition, Filling, Use, Used, Work};
@@ -157,17 +158,16 @@ pub(crate) fn first_definitions(work: &Work<'_>) -> Result<Vec<Option<u32>>, NoM
     Ok(table)
 }
 
-/// For each object the number of its first initial value.
-pub(crate) fn first_fillings(work: &Work<'_>) -> Result<Vec<Option<u32>>, NoMemory>
+/// For each object the number of its last initial value.
+pub(crate) fn last_fillings(work: &Work<'_>) -> Result<Vec<Option<u32>>, NoMemory>
     ensures { IfOk result (λ v. HasFillings work.now.fillings.items v.items) }
 {
     let mut table = no_numbers(work.nodes.alloc, work.nodes.p.globals.as_slice().len())?;
     let fillings = work.fillings.as_slice();
     let n = count(fillings.len())?;
     for i in 0..n {
-        let at = n - 1 - i;
-        let f = filling_at(fillings, at)?;
-        set_number(&mut table, f.object, at)?;
+        let f = filling_at(fillings, i)?;
+        set_number(&mut table, f.object, i)?;
     }
     Ok(table)
 }
@@ -228,7 +228,7 @@ pub(crate) fn filling<'a>(
     k: u32,
 ) -> Result<Option<&'a Filling>, NoMemory>
     requires { HasFillings work.now.fillings.items table.now }
-    ensures { IfOk result (λ o. option_map (λ f. f.now) o ≡ first_filling k work.now.fillings.items) }
+    ensures { IfOk result (λ o. option_map (λ f. f.now) o ≡ last_filling k work.now.fillings.items) }
 {
     let found = entry(table, k)?;
     match found {

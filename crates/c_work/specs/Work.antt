@@ -1,5 +1,5 @@
 -- What elaboration has built so far stands for: the state of the typing of a file.
-use Rattle.std.specs.Prelude.{◌≡◌, ℕ, ◌<◌, Bool, false, ◌==◌, if◌then◌else◌, List, [], ◌∷◌, length, map, Option, Some, None, slice_get}
+use Rattle.std.specs.Prelude.{◌≡◌, ℕ, ◌<◌, Bool, false, ◌==◌, if◌then◌else◌, List, [], ◌∷◌, length, map, fold, Option, Some, None, slice_get}
 use Rattle.std.specs.List.{list_any}
 use Rattle.ck_base.specs.declared.positions.Pos.{Pos}
 use Rattle.c_tree.specs.Types.{Ty}
@@ -49,10 +49,9 @@ reach_of (bounds.Part low length) = Within low length
 abbrev pub aiming_of : Start → Aiming
 aiming_of a = record { at = a.at; aim = aim_of a.target; reach = reach_of a.bounds; offset = a.offset }
 
--- the initial value of the object with a number, if it has been given one
+-- the initial value of the object with a number, if it has been given one: the last that it was given
 abbrev pub filling_of : ℕ → List Filling → Option (List ℕ × List Aiming)
-filling_of k [] = None
-filling_of k (f ∷ fs) = (if f.object == k then Some (f.bytes.items, map aiming_of f.starts.items) else filling_of k fs)
+filling_of k fs = fold (λ o (f : Filling). if f.object == k then Some (f.bytes.items, map aiming_of f.starts.items) else o) None fs
 
 -- ---- functions
 

@@ -1,0 +1,6 @@
+use Rattle.std.proofs.Common.{take}
+use Rattle.c_finish.specs.Tables.{LastFillings}
+use Rattle.c_finish.proofs.tables.last_fillings.Given as goal
+
+abbrev pub invariant-loop-i : goal.invariant-loop-i
+invariant-loop-i l = LastFillings l.fillings (take l.i l.fillings) l.table.items
