@@ -1,9 +1,9 @@
 -- Names in force, of which the latest stands last in the list that keeps them.
-use Rattle.std.proofs.Common.{◌≡◌, ℕ, ◌+◌, ◌-◌, ◌≤◌, Bool, true, false, List, [], ◌∷◌, ◌++◌, length, reverse, map, take, drop, refl, ap, sym, ◌∙◌, arith, length-drop, length-append}
+use Rattle.std.proofs.Common.{◌≡◌, ℕ, ◌+◌, ◌-◌, ◌<◌, ◌≤◌, Bool, true, false, List, [], ◌∷◌, ◌++◌, length, reverse, map, take, drop, refl, ap, sym, ◌∙◌, arith, length-drop, length-append}
 use Rattle.std.proofs.Common.{append-nil as append_nil}
 use Rattle.std.specs.Prelude.{◌||◌}
 use Rattle.std.specs.List.{list_any}
-use Rattle.std.proofs.lemmas.List.{reverse-append, reverse-reverse, map-append, length-reverse, length-map, take-map, drop-map, take-append-drop, take_all, drop_all}
+use Rattle.std.proofs.lemmas.List.{reverse-append, reverse-reverse, map-append, length-reverse, length-map, take-map, drop-map, take-append-drop, take_all, drop_all, drop-drop}
 use Rattle.std.proofs.Math.Seq.{take-append_seam, drop-append_seam}
 use Rattle.std.proofs.lemmas.List.Folds.{list_any-append}
 
@@ -72,3 +72,10 @@ pub turned_length : {A : Type 0} (xs : List A) (n : ℕ) → length (take n xs +
 turned_length xs n =
     length-append (take n xs) (reverse (drop n xs)) ∙ ap (λ v. length (take n xs) + v) (length-reverse (drop n xs))
     ∙ sym (length-append (take n xs) (drop n xs)) ∙ ap length (take-append-drop n xs)
+
+-- what is left of a list from which one more was taken off
+pub dropped_more : {B : Type 0} (xs now new : List B) → now ≡ drop (length xs - length now) xs → 0 < length now → length now ≤ length xs → new ≡ drop 1 now → new ≡ drop (length xs - length new) xs
+dropped_more xs now new e p q r =
+    let shorter : length new ≡ length now - 1 = ap length r ∙ length-drop 1 now in
+    let more : (length xs - length now) + 1 ≡ length xs - length new = omega (arith, shorter, p, q) in
+    r ∙ ap (λ v. drop 1 v) e ∙ drop-drop 1 (length xs - length now) xs ∙ ap (λ n. drop n xs) more

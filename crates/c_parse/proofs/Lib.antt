@@ -10,6 +10,7 @@ pub mod Rests
 pub mod Made
 pub mod Words
 pub mod Force
+pub mod Counting
 pub mod OneByOne
 pub mod Productions
 pub mod Specified

@@ -1,5 +1,5 @@
 -- What the reading functions answer.
-use Rattle.std.specs.Prelude.{◌≡◌, ℕ, ◌+◌, ◌*◌, ◌^◌, ◌≤◌, ◌<◌, Bool, false, not, ◌&&◌, List, [], ◌∷◌, ◌++◌, length, reverse, drop, map, Option, Some, None, option_map, Result, MatchResult}
+use Rattle.std.specs.Prelude.{◌≡◌, ℕ, ◌+◌, ◌*◌, ◌^◌, ◌≤◌, ◌<◌, Bool, false, not, ◌&&◌, List, [], ◌∷◌, ◌++◌, length, drop, Option, Some, None, option_map, Result, MatchResult}
 use Rattle.ck_base.specs.Tokens.{Lexeme}
 use Rattle.c_tree.specs.declared.syntax.Node.{Node}
 use Rattle.c_tree.specs.declared.syntax.NodeKind.{NodeKind}
@@ -58,7 +58,7 @@ encloses m types (t ∷ ts) = is_open_parenthesis (symbol t) && not (Grammar.may
 
 -- the names in force, the latest first
 unfoldable pub in_force : TypeNames → Names
-in_force types = reverse (map (λ name. name.now) types.names.items)
+in_force types = types
 
 abbrev pub some_name : Option (List ℕ) → List (List ℕ)
 some_name None = []

@@ -1,6 +1,7 @@
 pub mod Reading
 pub mod Statements
 pub mod Got
+pub mod Counted
 pub mod Words
 pub mod Runs
 pub mod Steps

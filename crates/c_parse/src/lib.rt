@@ -1,6 +1,7 @@
 //! The tree of a C file, from its tokens.
 #![tactic(auto)]
 
+mod counts;
 mod cursor;
 mod declarations;
 mod externals;

@@ -1,15 +1,17 @@
 //! The names of types that are in force.
 
-ghost use Rattle.std.specs.Prelude.{◌≡◌, ℕ, ◌≤◌, List, [], ◌∷◌, ◌++◌, length, reverse, IfOk};
+ghost use Rattle.std.specs.Prelude.{◌≡◌, ℕ, ◌≤◌, List, [], ◌∷◌, ◌++◌, length, reverse, drop, IfOk};
 ghost use Rattle.ck_base.specs.Tokens.{is_among};
 ghost use Rattle.c_tree.specs.Grammar.{is_typedef_name, is_word as is_word_of, may_be_nameless as may_be_nameless_of, is_declared_by as is_declared_by_of};
 ghost use Rattle.c_parse.specs.Reading.{begins_type, starts_with, starts, begins_specifier as begins_specifier_of, begins_declarator as begins_declarator_of, opens_type as opens_type_of, opens_parameters as opens_parameters_of, goes_on_listing as goes_on_listing_of};
 ghost use Rattle.c_parse.specs.Got.{in_force, naming_of, encloses};
 
+use crate::counts::Counts;
 use crate::cursor::{Mark, is_marked, starts as starts_with_mark};
 use crate::items::Item;
 use c_tree::Symbol;
 use std::alloc::{AllocError, Global};
+use std::marker::Model;
 
 /// How a declarator names what it declares.
 #[derive(Clone, Copy, Debug)]
@@ -27,7 +29,21 @@ pub(crate) enum Naming {
 /// The typedef names in force, the latest first.
 #[derive(Drop)]
 pub(crate) struct TypeNames<'a> {
+    /// The latest last.
     names: Vec<&'a [u8]>,
+    /// How often each stands among them.
+    counts: Counts<'a>,
+}
+
+impl<'a> Model for TypeNames<'a> {
+    ghost use Rattle.std.specs.Prelude.{List, ℕ, map, reverse};
+    ghost use Rattle.c_parse.specs.Counted.{Counted};
+
+    ghost Value = { List (List ℕ) };
+
+    ghost view = { λ types. reverse (map (λ name. name.now) types.names.items) };
+
+    ghost invariant = { λ types. Counted types.counts types.names.items };
 }
 
 #[tactic(auto, unfolding(crate::specs::Got::in_force), using(crate::proofs::Force::reversed_push, crate::proofs::Force::reversed_length, crate::proofs::Force::reversed_any))]
@@ -37,19 +53,22 @@ impl<'a> TypeNames<'a> {
     {
         TypeNames {
             names: Vec::new(alloc),
+            counts: Counts::new(alloc),
         }
     }
 
     pub(crate) fn contains(&self, text: &[u8]) -> bool
         ensures { result ≡ is_among (in_force self.now) text.now }
     {
-        self.names.as_slice().contains(&text)
+        self.counts.count(text) > 0
     }
 
     pub(crate) fn push(&mut self, name: &'a [u8]) -> Result<(), AllocError>
         ensures { IfOk result (λ _. in_force self.new ≡ name.now ∷ in_force self.old) }
     {
+        self.counts.reserve()?;
         self.names.push(name)?;
+        self.counts.add(name)?;
         Ok(())
     }
 
@@ -59,11 +78,22 @@ impl<'a> TypeNames<'a> {
         self.names.len()
     }
 
+    // Takes off the latest name.
+    fn pop(&mut self)
+        ensures { in_force self.new ≡ drop 1 (in_force self.old) }
+    {
+        if let Some(name) = self.names.pop() {
+            self.counts.remove(name);
+        }
+    }
+
     /// Goes back to the first so many names.
     pub(crate) fn truncate(&mut self, count: usize)
         ensures { (ys zs : List (List ℕ)) → in_force self.old ≡ ys ++ zs → length zs ≡ count → in_force self.new ≡ zs }
     {
-        self.names.truncate(count);
+        while self.len() > count {
+            self.pop();
+        }
     }
 
     /// Puts the names behind the first so many in the other order.

@@ -1,8 +1,16 @@
-use Rattle.std.proofs.Common.{ap, ◌∙◌, reverse, map}
-use Rattle.c_parse.specs.Got
-use Rattle.c_parse.proofs.Force.{reversed_take}
+use Rattle.std.proofs.Common.{◌≡◌, ◌-◌, ◌<◌, ◌∙◌, ap, length, arith, length-drop}
+use Rattle.c_parse.specs.Got.{in_force}
+use Rattle.c_parse.proofs.Force.{dropped_more}
 use Rattle.c_parse.proofs.names.TypeNames.truncate.Goals as goal
 
-pub returns : goal.returns
-unfolding Got.in_force
-returns c = λ ys zs e l. ap (λ v. reverse (map (λ name. name.now) v)) c.truncate.ensures.items ∙ reversed_take (λ name. name.now) _ _ ys zs e l
+pub loop-self-preserved : goal.loop-self-preserved
+loop-self-preserved c =
+    let now = in_force c.loop-self.self in
+    let there : c.args.count < length now = omega (arith, c.loop-self-test.true, c.len.ensures) in
+    let some : 0 < length now = omega (arith, there) in
+    let shorter : length (in_force c.pop.new.self) ≡ length now - 1 = ap length c.pop.ensures ∙ length-drop 1 now in
+    record {
+      rest = dropped_more (in_force c.args.self.now) now (in_force c.pop.new.self) c.loop-self.invariant.rest some c.loop-self.invariant.fewer c.pop.ensures;
+      enough = λ h. omega (arith, there, shorter);
+      fewer = omega (arith, shorter, c.loop-self.invariant.fewer);
+    }
