@@ -1,36 +1,61 @@
 #!/usr/bin/env python3
-"""bench/times.py: how long building and running take, and how large the text is.
+"""bench/times.py [PART..]: times, sizes and memory of cheric, each beside its peers in the same run. The parts are, all by default:
 
-- building 50 generated programs by `cheric build`, `gcc -O0` and `tcc`, where these are there, and the bytes of their texts;
-- a loop of a million turns by `cheric run` and, where they are there, by riscv64-linux-gnu-gcc -O0 and qemu-riscv64;
-- the instructions that `cheric run` does in a second;
-- files of 4,194,304 bytes: empty externals, one long sum, and brackets.
+- building: `cheric build` on the largest accepted ones of 200 generated programs, beside `gcc -O0` and `tcc`, and the bytes of their
+  texts beside `riscv64-linux-gnu-gcc -O0`;
+- running: a loop over integers by `cheric run` and by `qemu-riscv64`, and the instructions of a second;
+- front: the front end on 100 KB of functions, structs and initialisers, beside `gcc -fsyntax-only` and `tcc`;
+- long: files of 4,194,304 bytes, tokens and declarations, beside `gcc -fsyntax-only` and `tcc`;
+- hostile: chains of typedef names, unions in one another, large objects without a value, and an initialiser of a million values.
 
-It needs what ./cheric needs. It proves nothing and is no part of the gate."""
+A file that the front end accepts and that is not of the form that is built ends with `refused 150 1:1`. A peer that is not there is left
+out. The memory is the peak of resident bytes of the one process. It needs what ./cheric needs. It proves nothing and is no part of
+the gate."""
 import os
-import resource
 import shutil
+import statistics
 import struct
 import subprocess
+import sys
 import tempfile
 import time
 
 from programs import program
 
 ROOT = os.path.dirname(os.path.dirname(os.path.abspath(__file__)))
-CHERIC = f"{ROOT}/cheric"
+CHERIC = f"{ROOT}/crates/cheric_cli/out/cheric_cli"
 MOST_BYTES = 4_194_304
+MAIN = "int main(void){return 0;}"
 
 
-def seconds(words, want=None):
-    """How long a command takes, and the last line of its standard error."""
-    start = time.monotonic()
-    run = subprocess.run(words, stdin=subprocess.DEVNULL, capture_output=True)
-    took = time.monotonic() - start
-    line = run.stderr.decode().splitlines()[-1] if run.stderr else ""
-    if want is not None and line != want:
-        raise SystemExit(f"times.py: {' '.join(words)} says {line!r} and not {want!r}")
-    return took, line
+class Run:
+    """One run of a command: its seconds, its peak of resident bytes in MB, its status and the last line of its standard error."""
+
+    def __init__(self, words):
+        with tempfile.TemporaryFile() as err:
+            start = time.monotonic()
+            child = subprocess.Popen(words, stdin=subprocess.DEVNULL, stdout=subprocess.DEVNULL, stderr=err)
+            _, status, usage = os.wait4(child.pid, 0)
+            self.seconds = time.monotonic() - start
+            child.returncode = self.status = os.waitstatus_to_exitcode(status)
+            self.memory = usage.ru_maxrss / 1024
+            err.seek(0)
+            lines = err.read().decode(errors="replace").splitlines()
+        self.line = lines[-1] if lines else ""
+
+
+class Several:
+    """The median of several runs of a command, whose last line is the same each time."""
+
+    def __init__(self, words, count):
+        runs = [Run(words) for _ in range(count)]
+        self.seconds = statistics.median(run.seconds for run in runs)
+        self.memory = max(run.memory for run in runs)
+        self.line = runs[-1].line
+
+
+def there(*tools):
+    return [words for words in tools if shutil.which(words[0])]
 
 
 def write(name, text):
@@ -52,59 +77,155 @@ def text_size(name):
     return 0
 
 
+def show(rows):
+    """A line for each command, and how its time compares with that of the first one."""
+    first = rows[0][1].seconds
+    for name, run in rows:
+        print(f"    {name}: {1000 * run.seconds:.2f} ms ({run.seconds / first:.2f} times the first), {run.memory:.1f} MB")
+
+
 def building(work):
-    tools = {"cheric build": [CHERIC, "build", "FILE", "--out", "OUT"]}
-    for tool in ("gcc", "tcc"):
-        if shutil.which(tool):
-            tools[f"{tool} -O0 -c"] = [tool, "-O0", "-w", "-c", "FILE", "-o", "OUT"]
     source, target = f"{work}/p.c", f"{work}/p.out"
-    took = dict.fromkeys(tools, 0.0)
-    size = dict.fromkeys(tools, 0)
-    for seed in range(1, 51):
-        write(source, "int putchar(int);" + program(seed))
-        for tool, words in tools.items():
-            took[tool] += seconds([{"FILE": source, "OUT": target}.get(w, w) for w in words])[0]
-            size[tool] += text_size(target)
-    for tool in tools:
-        print(f"{tool}: {1000 * took[tool] / 50:.2f} ms and {size[tool] // 50} bytes of text for each of 50 programs")
+    largest = sorted((program(seed) for seed in range(1, 201)), key=len)[-20:]
+    tools = [[CHERIC, "build", source, "--out", target]]
+    tools += [words + ["-w", "-c", source, "-o", target]
+              for words in there(["gcc", "-O0"], ["tcc", "-O0"], ["riscv64-linux-gnu-gcc", "-O0"])]
+    took, size = [0.0] * len(tools), [0] * len(tools)
+    for text in largest:
+        write(source, "int putchar(int);" + text)
+        for k, words in enumerate(tools):
+            took[k] += Several(words, 5).seconds
+            size[k] += text_size(target)
+    print(f"building the {len(largest)} longest of 200 programs, on average:")
+    for k, words in enumerate(tools):
+        print(f"    {os.path.basename(words[0])}: {1000 * took[k] / len(largest):.2f} ms ({took[k] / took[0]:.2f} times the first), "
+              f"{size[k] // len(largest)} bytes of text ({size[k] / size[0]:.2f} times the first)")
 
 
 def running(work):
     source, target = f"{work}/loop.c", f"{work}/loop"
-    write(source, "int main(void){long n=1000000;while(n)n=n-1;return 0;}")
-    took, _ = seconds([CHERIC, "run", source, "--steps", "1000000000000"], "exit 0")
-    print(f"cheric run: a million turns of a loop in {took:.2f} s")
+    write(source, "int main(void){long n=5000000;long s=0;while(n){s=s+(n&7);n=n-1;}return s&255;}")
+    rows = [("cheric run", Several([CHERIC, "run", source, "--steps", "1000000000000"], 3))]
     if shutil.which("riscv64-linux-gnu-gcc") and shutil.which("qemu-riscv64"):
         subprocess.run(["riscv64-linux-gnu-gcc", "-O0", "-static", "-o", target, source], check=True)
-        took, _ = seconds(["qemu-riscv64", target])
-        print(f"qemu-riscv64: a million turns of a loop in {took:.2f} s")
-    write(source, "int main(void){while(1){}}")
-    few, _ = seconds([CHERIC, "run", source, "--steps", "0"], "steps")
-    many, _ = seconds([CHERIC, "run", source, "--steps", "100000000"], "steps")
-    print(f"cheric run: {100 / max(many - few, 1e-6):.1f} million instructions in a second")
+        rows.append(("qemu-riscv64", Several(["qemu-riscv64", target], 3)))
+    print("five million turns of a loop:")
+    show(rows)
+    write(source, "int main(void){long n=1;while(1){n=n*3+1;}}")
+    few = Several([CHERIC, "run", source, "--steps", "0"], 5).seconds
+    many = Several([CHERIC, "run", source, "--steps", "100000000"], 3).seconds
+    print(f"    cheric run: {100 / max(many - few, 1e-6):.1f} million instructions in a second")
 
 
-def long_files(work):
+def part_of_file(k):
+    """A struct, two objects with initialisers, and a function over them."""
+    return f"""struct Node{k} {{ int count; long weight; char name[8]; struct Node{k} *next; }};
+static struct Node{k} node{k} = {{ {k}, {k * 7}, "node", 0 }};
+static int table{k}[8] = {{ 1, 2, 3, {k}, 5, 6, 7, 8 }};
+static int walk{k}(struct Node{k} *list, int limit) {{
+  int sum = 0;
+  for (int i = 0; i < limit; i++) sum += table{k}[i & 7] * i - (sum >> 3);
+  while (list && sum < 1000) {{
+    if (list->count > limit) sum -= (int)list->weight;
+    else sum += list->name[0];
+    list = list->next;
+  }}
+  switch (sum & 3) {{ case 0: return 1; case 1: sum++; break; default: sum = -sum; }}
+  return sum + node{k}.count;
+}}
+"""
+
+
+def file_of(size):
+    """A C file of functions, structs and initialisers of at least so many bytes."""
+    text, calls, k = "", "", 0
+    while len(text) < size:
+        text += part_of_file(k)
+        if k < 50:
+            calls += f"  sum += walk{k}(&node{k}, {k});\n"
+        k += 1
+    return text + "int main(void) {\n  int sum = 0;\n" + calls + "  return sum & 255;\n}\n"
+
+
+def compared(name, source, size, count):
+    """The front end on a file beside those of the peers."""
+    cheric = Several([CHERIC, "run", source], count)
+    rows = [("cheric run", cheric)]
+    for words in there(["gcc", "-fsyntax-only", "-w"], ["tcc", "-w", "-c", "-o", "/dev/null"]):
+        run = Several(words + [source], count)
+        rows.append((" ".join(words[:2]) if words[0] == "gcc" else "tcc -c", run))
+    print(f"{name}, {size} bytes: {cheric.line}")
+    show(rows)
+
+
+def front(work):
+    source, text = f"{work}/front.c", file_of(100_000)
+    write(source, text)
+    compared("functions, structs and initialisers", source, len(text), 21)
+
+
+def declarations(size, last):
+    """Declarations of objects, filled up to so many bytes with blanks, with `main` and then `last` at the end."""
+    room, parts, k = size - len(MAIN) - len(last), [], 0
+    while room >= 24:
+        part = f"int a{k}=1;" if k % 2 else f"long a{k}[2];"
+        room -= len(part)
+        parts.append(part)
+        k += 1
+    return "".join(parts) + " " * room + MAIN + last
+
+
+def long(work):
     source = f"{work}/long.c"
     before, behind = "int main(void){int a=0;", "return a;}"
     turns = (MOST_BYTES - len(before) - len(behind)) // 6
-    sums = (MOST_BYTES - len("int main(void){return 0;}")) // 2
+    sums = (MOST_BYTES - len(MAIN)) // 2
     for name, text in [
-        ("empty externals", ";" * MOST_BYTES),
+        ("empty externals", ";" * (MOST_BYTES - len(MAIN)) + MAIN),
         ("statements", before + "a=a+1;" * turns + behind),
-        ("one sum", "int main(void){return 0" + "+1" * sums + ";}"),
+        ("a sum", "int main(void){return 0" + "+1" * sums + ";}"),
         ("brackets", "(" * MOST_BYTES),
-        ("one comment", "/*" + " " * (MOST_BYTES - 4) + "*/"),
-        ("one byte more", " " * (MOST_BYTES + 1)),
+        ("a comment", "/*" + " " * (MOST_BYTES - 4 - len(MAIN)) + "*/" + MAIN),
+        ("declarations", declarations(MOST_BYTES, "")),
+        ("declarations, and at the last byte what is none", declarations(MOST_BYTES, "}")),
+        ("functions, structs and initialisers", file_of(MOST_BYTES - 20_000)),
     ]:
         write(source, text)
-        took, line = seconds([CHERIC, "run", source])
-        room = resource.getrusage(resource.RUSAGE_CHILDREN).ru_maxrss // 1024
-        print(f"{name}: {len(text)} bytes, {line}, {took:.2f} s, {room} MB at most so far")
+        compared(name, source, len(text), 1)
+    write(source, " " * (MOST_BYTES + 1))
+    print(f"one byte more than a file may have: {Run([CHERIC, 'run', source]).line}")
+
+
+def hostile(work):
+    source = f"{work}/hostile.c"
+    many = 50_000
+    chain = "typedef int T0;" + "".join(f"typedef T{k}*T{k + 1};" for k in range(many)) + f"T{many} p;"
+    unions = "union U0{int a;};" + "".join(f"union U{k + 1}{{union U{k} a,b;}};" for k in range(many)) + f"union U{many} u;"
+    structs = "struct S0{int a;};" + "".join(f"struct S{k + 1}{{struct S{k} a;}};" for k in range(many)) + f"struct S{many} s;"
+    objects = "".join(f"char c{k}[67000000];" for k in range(many))
+    values = "".join(f"int a{k}={k};" for k in range(many))
+    for name, text, count in [
+        ("a chain of typedef names", chain, many),
+        ("unions in one another", unions, many),
+        ("structs in one another", structs, many),
+        ("large objects without a value", objects, many),
+        ("objects with a value", values, many),
+        ("an initialiser of so many values", "int a[]={" + "1," * 1_000_000 + "};", 1_000_000),
+        ("an object whose first byte has a value", "char c[67000000]={1};", 1),
+        ("a local of so many values", "int main(void){int a[200000]={" + "1," * 200_000 + "};return 0;}", 200_000),
+    ]:
+        write(source, text + (MAIN if "main" not in text else ""))
+        compared(f"{name} ({count})", source, os.path.getsize(source), 1)
+
+
+def main():
+    parts = {"building": building, "running": running, "front": front, "long": long, "hostile": hostile}
+    # The first call builds the command.
+    subprocess.run([f"{ROOT}/cheric"], stdin=subprocess.DEVNULL, stderr=subprocess.DEVNULL)
+    with tempfile.TemporaryDirectory() as work:
+        for name in sys.argv[1:] or parts:
+            parts[name](work)
 
 
 if __name__ == "__main__":
-    with tempfile.TemporaryDirectory() as directory:
-        building(directory)
-        running(directory)
-        long_files(directory)
+    main()

@@ -1,0 +1,157 @@
+#!/usr/bin/env python3
+"""bench/rows.py: runs small files by `./cheric`, over real files and streams, and compares output, line and status with what the rules
+of docs/ give. Its last line counts the rows. It needs what ./cheric needs. It proves nothing and is no part of the gate."""
+import os
+import subprocess
+import sys
+import tempfile
+
+ROOT = os.path.dirname(os.path.dirname(os.path.abspath(__file__)))
+CHERIC = f"{ROOT}/cheric"
+HI = "int main(void){putchar(72);putchar(105);return 0;}"
+ECHO = "int main(void){int c;while((c=getchar())!=-1)putchar(c);return 0;}"
+NINE = "int f(int a,int b,int c,int d,int e,int g,int h,int i,int j){return 0;}int main(void){return 0;}"
+END = "int main(void){return 0;}"
+
+# A C file, its input, its output, the line and the status.
+RUN = [
+    (HI, "", "Hi", "exit 0", 0),
+    ("", "", "", "refused 135 1:1", 10),
+    ("int main(void){return 300;}", "", "", "exit 44", 1),
+    ("int main(void){return 2047;}", "", "", "exit 255", 1),
+    ("int main(void){return 2048;}", "", "", "exit 0", 0),
+    ("int main(void){int a=7,z=0,m=-2147483647-1,k=-1;if(a/z==-1)putchar(65);if(m/k==m)putchar(66);return 0;}", "", "AB", "exit 0", 0),
+    (ECHO, "", "", "exit 0", 0),
+    (ECHO, "abc", "abc", "exit 0", 0),
+    ("int main(void){return 0;}@", "", "", "refused 100 1:26", 10),
+    ("int main(void){return 0;}/*", "", "", "refused 101 1:26", 10),
+    ("int main(void){return 18446744073709551616;}", "", "", "refused 102 1:23", 10),
+    ("float x;", "", "", "refused 103 1:1", 10),
+    ("#pragma pack(1)", "", "", "refused 104 1:1", 10),
+    ("int main(void){return 0;", "", "", "refused 120", 10),
+    ("(" * 201, "", "", "refused 121 1:201", 10),
+    ("int main(void){return x;}", "", "", "refused 130 1:23", 10),
+    ("int a;char a;" + END, "", "", "refused 131 1:12", 10),
+    ("struct S s;" + END, "", "", "refused 132 1:10", 10),
+    ("int main(void){int *p=5;return 0;}", "", "", "refused 133 1:23", 10),
+    ("int n;int a[n];" + END, "", "", "refused 134 1:13", 10),
+    ("int main(void){putchar();return 0;}", "", "", "refused 136 1:16", 10),
+    (NINE, "", "", "refused 137 1:5", 10),
+    ("char a[67108865];" + END, "", "", "refused 140 1:6", 10),
+    ("char a[40000000];char b[40000000];" + END, "", "", "refused 141 1:1", 10),
+    (" " * 4_194_305, "", "", "refused 143 1:1", 10),
+    ("typedef int T;int main(void){T T=3;return T;}", "", "", "refused 120", 10),
+    ("int a[2]={1,2,3};" + END, "", "", "refused 133 1:10", 10),
+    ("int f(void);int main(void){return f();}", "", "", "refused 130 1:35", 10),
+    ("enum{A=1/0};" + END, "", "", "refused 134 1:8", 10),
+    ("int a[]; " + END, "", "", "refused 132 1:5", 10),
+    # Accepted, and not of the form that is built.
+    ("int a[3]={1,2,3,};" + END, "", "", "refused 150 1:1", 10),
+    ("char s[2]=\"ab\";" + END, "", "", "refused 150 1:1", 10),
+    # A function that is declared and not defined is none of the program's.
+    ("int f(void);" + END, "", "", "exit 0", 0),
+]
+
+
+class Rows:
+    """A folder, in which the rows run, and the rows that were answered otherwise."""
+
+    def __init__(self, folder):
+        self.folder, self.count, self.wrong = folder, 0, 0
+
+    def write(self, name, data):
+        with open(f"{self.folder}/{name}", "wb") as file:
+            file.write(data if isinstance(data, bytes) else data.encode())
+
+    def read(self, name):
+        with open(f"{self.folder}/{name}", "rb") as file:
+            return file.read()
+
+    def there(self):
+        return sorted(os.listdir(self.folder))
+
+    def row(self, words, output, line, status, taken="", out=None):
+        """The words behind `cheric` are answered so."""
+        self.count += 1
+        run = subprocess.run([CHERIC, *words], cwd=self.folder, input=None if taken is None else taken.encode(),
+                             stdout=out or subprocess.PIPE, stderr=subprocess.PIPE)
+        got = (run.stdout.decode("latin-1") if run.stdout is not None else output, run.stderr.decode(), run.returncode)
+        first = got[1].splitlines()[0] if got[1] else ""
+        # A refusal by 120 is at any place.
+        same = first.startswith(line + " ") if line == "refused 120" else got[1] == line + "\n"
+        if got[0] != output or got[2] != status or not same:
+            self.wrong += 1
+            print(f"cheric {' '.join(words)}: {got}, and not {(output, line, status)}")
+
+    def holds(self, what, is_so):
+        self.count += 1
+        if not is_so:
+            self.wrong += 1
+            print(what)
+
+
+def run_rows(rows):
+    for text, taken, output, line, status in RUN:
+        rows.write("a.c", text)
+        rows.row(["run", "a.c"], output, line, status, taken)
+    rows.write("a.c", HI)
+    rows.row(["run", "a.c", "--steps", "0"], "", "steps", 4)
+    rows.write("loop.c", "int main(void){while(1){}}")
+    rows.row(["run", "loop.c", "--steps", "1000"], "", "steps", 4)
+    with open("/dev/full", "wb") as full:
+        rows.row(["run", "a.c"], "", "output", 22, out=full)
+    rows.row(["run", "none.c"], "", "file", 20)
+
+
+def line_rows(rows):
+    for words in [["run"], ["fly", "a.c"], [], ["run", "a.c", "--steps"], ["run", "a.c", "--steps", "1000000000001"],
+                  ["run", "a.c", "--steps", "+1"], ["build", "a.c", "--out"], ["exec"], ["run", "a.c", "b.c"]]:
+        rows.row(words, "", "words", 11)
+
+
+def image_rows(rows):
+    rows.write("a.c", HI)
+    before = rows.there()
+    rows.row(["build", "a.c", "--out", "a.elf"], "", f"built {len_of_build(rows)}", 0)
+    elf = rows.read("a.elf")
+    rows.row(["build", "a.c"], "", f"built {len(elf)}", 0)
+    rows.holds("a.c.elf differs from a.elf", rows.read("a.c.elf") == elf)
+    rows.row(["exec", "a.elf"], "Hi", "exit 0", 0)
+    rows.row(["exec", "a.elf", "--steps", "0"], "", "steps", 4)
+    rows.row(["exec", "a.c"], "", "image 1", 12)
+    for cut, number in [(elf[:-1], 5), (elf[:63], 1)]:
+        rows.write("cut.elf", cut)
+        rows.row(["exec", "cut.elf"], "", f"image {number}", 12)
+    rows.write("bad.c", "int main(void){return x;}")
+    rows.row(["build", "bad.c"], "", "refused 130 1:23", 10)
+    rows.holds("a refused file put a name", rows.there() == sorted(before + ["a.c.elf", "a.elf", "bad.c", "cut.elf"]))
+    rows.row(["build", "a.c", "--out", "none/a.elf"], "", "file", 20)
+
+
+def len_of_build(rows):
+    """The length of the file that is built, by another name."""
+    subprocess.run([CHERIC, "build", "a.c", "--out", "length"], cwd=rows.folder, stderr=subprocess.DEVNULL, check=True)
+    length = len(rows.read("length"))
+    os.remove(f"{rows.folder}/length")
+    return length
+
+
+def example_rows(rows):
+    for name, taken, output, line, status in [
+        ("hi.c", "", "Hi", "exit 0", 0), ("bytes.c", "", "Hi", "exit 0", 0), ("bye.c", "", "bye", "exit 44", 1),
+        ("echo.c", "one line\n", "one line\n", "exit 0", 0),
+    ]:
+        rows.row(["run", f"{ROOT}/examples/{name}"], output, line, status, taken)
+
+
+def main():
+    with tempfile.TemporaryDirectory() as folder:
+        rows = Rows(folder)
+        for part in (run_rows, line_rows, image_rows, example_rows):
+            part(rows)
+        print(f"{rows.count} rows, {rows.wrong} answered otherwise")
+        return 1 if rows.wrong else 0
+
+
+if __name__ == "__main__":
+    sys.exit(main())
