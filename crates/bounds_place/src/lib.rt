@@ -6,6 +6,3 @@ mod placing;
 mod rows;
 
 pub use placing::place;
-
-#[cfg(test)]
-mod tests;

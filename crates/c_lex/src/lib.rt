@@ -7,8 +7,6 @@ mod literals;
 mod pieces;
 mod places;
 mod separators;
-#[cfg(test)]
-mod tests;
 mod tokens;
 
 pub use ck_base::{Integer, TokenKind};

@@ -1,4 +1,4 @@
-//! Tests of the crates that read C, and nothing else.
+//! Tests of the crates that read C and place its objects, and nothing else.
 #![tactic(auto)]
 
 #[cfg(test)]
@@ -8,4 +8,10 @@ mod declarations;
 #[cfg(test)]
 mod initializers;
 #[cfg(test)]
+mod layouts;
+#[cfg(test)]
+mod maps;
+#[cfg(test)]
 mod parsing;
+#[cfg(test)]
+mod tokens;

@@ -18,6 +18,3 @@ pub use kept::Layouts;
 pub use offsets::offset_of;
 pub use owning::owned;
 pub use sizes::layout;
-
-#[cfg(test)]
-mod tests;

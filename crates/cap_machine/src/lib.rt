@@ -13,6 +13,3 @@ mod step;
 
 pub use end::{End, Step};
 pub use machine::Machine;
-
-#[cfg(test)]
-mod tests;

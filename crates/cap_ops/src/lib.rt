@@ -17,6 +17,3 @@ pub use capability::{
 };
 pub use checking::check;
 pub use operations::{add, and_perms, clear, narrow, narrow_exact, null, seal_entry, with_address};
-
-#[cfg(test)]
-mod tests;

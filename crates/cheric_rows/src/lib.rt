@@ -14,8 +14,6 @@ mod image_commands;
 #[cfg(test)]
 mod images;
 #[cfg(test)]
-mod lines;
-#[cfg(test)]
 mod programs;
 #[cfg(test)]
 mod refusals;

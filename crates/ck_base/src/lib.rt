@@ -21,6 +21,3 @@ pub use sequence::Sequence;
 pub use sinks::{MemSink, SureSink};
 pub use sources::{MemSource, SureSource};
 pub use tokens::{Integer, TokenKind};
-
-#[cfg(test)]
-mod tests;

@@ -9,8 +9,6 @@ mod arithmetic;
 mod comparison;
 mod conversion;
 mod kinds;
-#[cfg(test)]
-mod tests;
 
 pub use arithmetic::binary;
 pub use comparison::compare;

@@ -20,6 +20,3 @@ pub use image::{Image, Line, Reloc};
 pub use refusal::ElfRefusal;
 pub use view::View;
 pub use writing::write;
-
-#[cfg(test)]
-mod tests;

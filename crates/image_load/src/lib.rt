@@ -8,6 +8,3 @@ mod refusal;
 
 pub use loading::load;
 pub use refusal::LoadRefusal;
-
-#[cfg(test)]
-mod tests;

@@ -11,6 +11,3 @@ mod fields;
 mod table;
 
 pub use code::{decode, encode};
-
-#[cfg(test)]
-mod tests;

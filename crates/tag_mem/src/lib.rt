@@ -6,8 +6,6 @@ mod area;
 mod mem;
 mod number;
 mod region;
-#[cfg(test)]
-mod tests;
 
 pub use mem::Mem;
 pub use region::Region;

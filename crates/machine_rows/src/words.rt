@@ -1,7 +1,7 @@
 //! Words with the instructions that they encode, and words that encode none. The tables are values
 //! of an independent model: a word, the instruction's name and its fields.
 
-use crate::{decode, encode};
+use rv_code::{decode, encode};
 use rv_instr::{
     BranchOp, CapGetOp, CapImmOp, CapRegOp, ImmOp, Instr, LoadOp, Reg, RegOp, ShiftOp, StoreOp,
     UpperOp,

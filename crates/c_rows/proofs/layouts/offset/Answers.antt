@@ -1,5 +1,5 @@
 use Rattle.cap_layout.proofs.Places.{has_member}
-use Rattle.cap_layout.proofs.tests.offset.Goals as goal
+use Rattle.c_rows.proofs.layouts.offset.Goals as goal
 
 pub offset_of-requires : goal.offset_of-requires
 offset_of-requires c =

@@ -3,7 +3,7 @@ mod decoding_vectors;
 mod packing_vectors;
 mod rounding_vectors;
 
-use super::{
+use cap_concentrate::{
     Fields, NULL_BITS, alignment_mask, bounds_of, flip_null, keeps_bounds, pack, rounded_length,
     set_bounds, unpack,
 };

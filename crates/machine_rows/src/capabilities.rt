@@ -4,10 +4,10 @@ ghost use Rattle.cap_ops.specs.Access.{IsAccess};
 mod check_vectors;
 mod operation_vectors;
 
-use super::{
+use cap_concentrate::{bounds_of, pack, unpack};
+use cap_ops::{
     Access, Cap, add, and_perms, check, clear, narrow, narrow_exact, null, seal_entry, with_address,
 };
-use cap_concentrate::{bounds_of, pack, unpack};
 use check_vectors::CHECKS;
 use operation_vectors::OPERATIONS;
 

@@ -1,6 +1,6 @@
 //! An image and its file, both written by hand from the format. The file is in words of eight bytes, little endian.
 
-use super::*;
+use elf_file::{ElfRefusal, Image, Line, Reloc, Sequence, View, write};
 use std::alloc::{AllocError, Global};
 use std::test::Fail;
 

@@ -1,10 +1,10 @@
 //! Images as their files, and the machine or the refusal that they load to.
 
-use crate::{LoadRefusal, load};
 use cap_concentrate::{bounds_of, flip_null, unpack};
 use cap_machine::Machine;
 use cap_ops::{SENTRY, UNSEALED, null};
 use elf_file::{Image, Reloc, Sequence, View, write};
+use image_load::{LoadRefusal, load};
 use std::alloc::{AllocError, Global};
 use std::test::Fail;
 

@@ -1,10 +1,10 @@
 //! Each call on its happy path, and at the ends of the regions.
 
-use crate::{Mem, Region};
 use ck_base::NoMemory;
 use std::alloc::Global;
 use std::process::Abort;
 use std::test::Fail;
+use tag_mem::{Mem, Region};
 
 /// Two regions with a gap between them: 64 bytes at 65,536 and 32 bytes at 131,072.
 fn memory(alloc: Global) -> Result<Mem, NoMemory> {

@@ -1,8 +1,8 @@
 // Each public call on known values.
 ghost use Rattle.std.specs.Prelude.{◌<◌, length};
 
-use super::{Layout, LayoutFault, Layouts, copies, granules, layout, offset_of, owned};
 use c_tree::{CType, Expr, ExprKind, FunDef, Member, Stmt, StmtKind, Typed, VarDef};
+use cap_layout::{Layout, LayoutFault, Layouts, copies, granules, layout, offset_of, owned};
 use ck_base::{Pos, Sequence, Span};
 use ck_int::IntKind;
 use std::alloc::{AllocError, Global};

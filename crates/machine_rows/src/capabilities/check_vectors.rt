@@ -1,7 +1,7 @@
 // Values of an independent model of the format.
 
 use super::Kind::{self, Jump, Load, LoadCap, Store, StoreCap};
-use crate::Cause;
+use cap_ops::Cause;
 
 // The tag and the bits of a capability and an address; the kind of an access, its length, whether its value is tagged,
 // and why it fails.

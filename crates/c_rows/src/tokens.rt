@@ -2,7 +2,7 @@ ghost use Rattle.std.specs.Prelude.{◌≤◌, length};
 
 mod tables;
 
-use super::*;
+use c_lex::*;
 use ck_base::Pos;
 use std::alloc::Global;
 use std::fmt::Write;

@@ -1,7 +1,7 @@
 // Maps of known programs.
 ghost use Rattle.std.specs.Prelude.{◌≡◌, length, IfOk};
 
-use super::place;
+use bounds_place::place;
 use c_tree::{CType, FunDef, GlobalDef, Literal, Typed, VarDef};
 use ck_base::{Pos, Refusal, Sequence, Span};
 use ck_int::IntKind;

@@ -1,7 +1,7 @@
-use super::CmpOp::*;
-use super::IntKind::*;
-use super::IntOp::*;
-use super::*;
+use ck_int::CmpOp::*;
+use ck_int::IntKind::*;
+use ck_int::IntOp::*;
+use ck_int::*;
 
 // Values of an independent model: a kind, a number and what is kept of it.
 const WRAPPED: [(IntKind, i128, u64); 49] = [

@@ -1,8 +1,8 @@
 //! Small programs, as an assembler writes them, with the results that the instruction sets give.
 ghost use Rattle.std.specs.Prelude.{◌<◌, ◌^◌};
 
-use crate::{End, Machine, Step};
 use cap_concentrate::{Fields, set_bounds};
+use cap_machine::{End, Machine, Step};
 use cap_ops::{Cap, Cause, UNSEALED, null, seal_entry, with_address};
 use ck_base::{MemSink, MemSource, NoMemory, SureSink, SureSource};
 use rv_instr::Reg;
@@ -102,8 +102,8 @@ const INTEGERS: [(u32, u64, u64, u64); 16] = [
 fn computes_integers(rt: HostRuntime) -> Result<(), Fail> {
     for &(word, a, b, want) in &INTEGERS {
         let mut m = machine(rt.alloc(), &[word])?;
-        m.write(Reg::numbered(11), null(a));
-        m.write(Reg::numbered(12), null(b));
+        m.regs[11] = null(a);
+        m.regs[12] = null(b);
         assert_eq!(rt; run(rt.alloc(), &mut m, 1), End::Steps);
         assert_eq!(rt;
             m.register(Reg::RESULT),
@@ -244,8 +244,8 @@ fn calls_the_environment(rt: HostRuntime) -> Result<(), Fail> {
         (3, 0x243, Step::Ended(End::Exit(0x43)), 0x243),
         (9, 0x244, Step::Ended(End::Illegal(TEXT + 12)), 0x244),
     ] {
-        m.write(Reg::SERVICE, null(service));
-        m.write(Reg::RESULT, null(argument));
+        m.regs[17] = null(service);
+        m.regs[10] = null(argument);
         assert_eq!(rt;
             m.step(&mut input, &mut out),
             want,

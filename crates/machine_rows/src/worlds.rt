@@ -1,4 +1,4 @@
-use crate::{
+use ck_base::{
     Failed, FileError, Files, HostFiles, MemFiles, MemSink, MemSource, PutError, Sink, Source,
     StdInput, StdOutput, SureFiles, SureSink, SureSource,
 };
