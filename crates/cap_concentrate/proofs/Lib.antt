@@ -9,3 +9,4 @@ pub mod Leading
 pub mod Owned
 pub mod Requests
 pub mod Laws
+pub mod Block

@@ -99,7 +99,7 @@ pub fn bounds_of(f: Fields) -> (u64, u128)
 ///
 /// They do at each address less than 1024 bytes below the base or above the top, where the bounds
 /// lie between 65,536 and 2^40.
-#[tactic(auto, using(crate::proofs::Near::keeps_near))]
+#[tactic(auto, using(crate::proofs::Near::keeps_near, crate::proofs::Block::same_in_block))]
 pub fn keeps_bounds(f: Fields, address: u64) -> bool
     ensures value { result ≡ same_bounds f address }
     ensures same { IsTrue result ↔
@@ -108,6 +108,10 @@ pub fn keeps_bounds(f: Fields, address: u64) -> bool
         top_at f f.address ≤ 2 ^ 40 → base_at f f.address < address + 1024 →
         address < top_at f f.address + 1024 → IsTrue result }
 {
+    // Decoding reads no bit of the address below these.
+    if address / 2048 == f.address / 2048 {
+        return true;
+    }
     let mut moved = f;
     moved.address = address;
     let (base, top) = bounds_of(f);
