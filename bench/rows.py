@@ -145,6 +145,8 @@ def example_rows(rows):
 
 
 def main():
+    # The first call builds the command.
+    subprocess.run([CHERIC], stdin=subprocess.DEVNULL)
     with tempfile.TemporaryDirectory() as folder:
         rows = Rows(folder)
         for part in (run_rows, line_rows, image_rows, example_rows):

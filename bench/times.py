@@ -6,7 +6,7 @@
 - running: a loop over integers by `cheric run` and by `qemu-riscv64`, and the instructions of a second;
 - front: the front end on 100 KB of functions, structs and initialisers, beside `gcc -fsyntax-only` and `tcc`;
 - long: files of 4,194,304 bytes, tokens and declarations, beside `gcc -fsyntax-only` and `tcc`;
-- hostile: chains of typedef names, unions in one another, large objects without a value, and an initialiser of a million values.
+- hostile: files that are large in one thing, as chains of typedef names, unions in one another and an initialiser of a million values.
 
 A file that the front end accepts and that is not of the form that is built ends with `refused 150 1:1`. A peer that is not there is left
 out. The memory is the peak of resident bytes of the one process. It needs what ./cheric needs. It proves nothing and is no part of
@@ -221,11 +221,14 @@ def hostile(work):
 def main():
     parts = {"building": building, "running": running, "front": front, "long": long, "hostile": hostile}
     # The first call builds the command.
-    subprocess.run([f"{ROOT}/cheric"], stdin=subprocess.DEVNULL, stderr=subprocess.DEVNULL)
+    subprocess.run([f"{ROOT}/cheric"], stdin=subprocess.DEVNULL)
+    if not os.path.exists(CHERIC):
+        return 1
     with tempfile.TemporaryDirectory() as work:
         for name in sys.argv[1:] or parts:
             parts[name](work)
+    return 0
 
 
 if __name__ == "__main__":
-    main()
+    sys.exit(main())

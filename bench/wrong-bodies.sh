@@ -13,6 +13,10 @@ if [ ${#names[@]} = 0 ]; then
     for folder in crates/*/wrong-bodies; do names+=("$(basename "$(dirname "$folder")")"); done
 fi
 for name in "${names[@]}"; do
+    if [ ! -d "crates/$name/wrong-bodies" ]; then
+        echo "$name has no wrong-bodies" >&2
+        exit 2
+    fi
     mkdir -p "crates/$name/must-fail"
     cp "crates/$name/wrong-bodies/"*.edit "crates/$name/must-fail/"
     (cd "crates/$name" && rt check > /dev/null)
