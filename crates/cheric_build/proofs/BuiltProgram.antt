@@ -290,7 +290,10 @@ module _ (p : Typed) (t : Tac) (code : List Instr) (start : ℕ) (given : IsComp
         loaded = loaded;
         loads = ap after_reading read ∙ ap (loaded_as image) fine;
         extents = extents;
+        filled = record { code = code; is = refl; size = done.size };
         words = all_decode code in_range;
+        relocates = begins;
+        begins = bytes;
         does_what = does_what;
         keeps = keeps;
         does_all = does_all;

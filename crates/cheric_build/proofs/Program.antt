@@ -89,6 +89,12 @@ asked_small p a =
 no_places : (n : Needs) (m : Map) → n.globals ≡ [] → n.literals ≡ [] → objects_of n m ≡ []
 no_places n m g l = rw (g, l) refl
 
+places_none : (p : Typed) (m : Map) → IsAlone p → objects_of (asked_by p) m ≡ []
+places_none p m a = let n = asks p (weight_in p) a in no_places (asked_by p) m n.globals n.literals
+
+no_contents : (p : Typed) (m : Map) → IsAlone p → contents p m ≡ []
+no_contents p m a = rw (a.no_globals, a.no_literals) refl
+
 -- ---- its initial data
 
 pub record IsData (m : Map) (base : ℕ) (bytes : List ℕ) : Type 0 where
@@ -99,19 +105,26 @@ pub record IsData (m : Map) (base : ℕ) (bytes : List ℕ) : Type 0 where
 pub is_data : (p : Typed) → IsAlone p → (m : Map) → m.table.0 % 16 ≡ 0 → m.table.1 ≡ 48 → (base : ℕ) (bytes : List ℕ) → AreInitial p m base bytes → IsData m base bytes
 unfolding lowest highest byte_of
 is_data p a m even size base bytes h =
-    let n = asks p (weight_in p) a in
-    let none : objects_of (asked_by p) m ≡ [] = no_places (asked_by p) m n.globals n.literals in
+    let none = places_none p m a in
     let from : base ≡ m.table.0 = h.from ∙ ap (lowest m.table.0) none in
     let to : base + length bytes ≡ rounded_up (m.table.0 + m.table.1) 16 = h.to ∙ ap (λ es. rounded_up (highest (m.table.0 + m.table.1) es) 16) none in
-    let empty : contents p m ≡ [] = no_contents p m a.no_globals a.no_literals in
+    let empty : contents p m ≡ [] = no_contents p m a in
     record {
       from = from;
       size = omega (arith, from, to);
       small = All-from_get_or (λ b. b < 256) bytes 0 (λ k lt. let zero_here : slice_index bytes k ≡ 0 = h.each k lt ∙ ap (λ cs. byte_of 0 cs (base + k)) empty in omega (arith, zero_here));
     }
-  where
-    no_contents : (p : Typed) (m : Map) → p.globals ≡ [] → p.literals ≡ [] → contents p m ≡ []
-    no_contents p m g l = rw (g, l) refl
+
+-- it is that of every other such program
+pub initial_same : (p q : Typed) → IsAlone p → IsAlone q → (m : Map) (base : ℕ) (bytes : List ℕ) → AreInitial p m base bytes → AreInitial q m base bytes
+initial_same p q a b m base bytes h =
+    let places : objects_of (asked_by p) m ≡ objects_of (asked_by q) m = places_none p m a ∙ sym (places_none q m b) in
+    let within : contents p m ≡ contents q m = no_contents p m a ∙ sym (no_contents q m b) in
+    record {
+      from = h.from ∙ ap (lowest m.table.0) places;
+      to = h.to ∙ ap (λ es. rounded_up (highest (m.table.0 + m.table.1) es) 16) places;
+      each = λ k lt. h.each k lt ∙ ap (λ cs. byte_of 0 cs (base + k)) within;
+    }
 
 -- ---- its relocations
 
@@ -121,7 +134,7 @@ two_begin m = record { place = m.table.0; start = Holds (Fun 0) } ∷ record { p
 starts_by : (n : Needs) → AsksLittle n → table_starts n ≡ Holds (Fun 0) ∷ WholeHeap ∷ []
 starts_by n a = rw (a.globals, a.literals, a.functions) refl
 
-begins_with_two : (p : Typed) → IsAlone p → (m : Map) → beginning p m ≡ two_begin m
+pub begins_with_two : (p : Typed) → IsAlone p → (m : Map) → beginning p m ≡ two_begin m
 unfolding entries_from
 begins_with_two p a m =
     ap (λ ss. entries_from m.table.0 ss ++ flat_map (links_begun (asked_by p)) (zip p.globals m.globals)) (starts_by (asked_by p) (asks p (weight_in p) a))

@@ -15,12 +15,14 @@ use Rattle.cap_machine.specs.declared.end.End.{End}
 use Rattle.cap_machine.specs.declared.end.End.TheVariants.{Steps}
 use Rattle.cap_machine.specs.Step.{act, limits}
 use Rattle.image_load.specs.Loading.{Loaded}
+use Rattle.obj_mem.specs.Agreement.{Paired}
 use Rattle.obj_mem.specs.Legal.{ObjectNeed, FunctionNeed, Needs, IsLegal}
 use Rattle.obj_mem.specs.Needs.{global_need, literal_need, local_need, function_needs, needs_of, weight_by, weight_in}
 use Rattle.obj_mem.specs.declared.ending.Ending.{Ending}
 use Rattle.obj_mem.specs.declared.map.Map.{Map}
 use Rattle.cheri_c_sem.specs.Runs.{placed_run}
 use Rattle.cheri_c_sem.specs.Tree as meant
+use Rattle.cap_reloc.specs.Begins.{IsRelocation}
 use Rattle.rv_select.specs.Selected.{is_turns, is_outside, count_of}
 use Rattle.tac_lower.specs.Form.{is_integer_form}
 use Rattle.tac_lower.proofs.Alone.{alone}
@@ -28,7 +30,7 @@ use Rattle.tac_lower.proofs.SameForm.{mapped_length}
 use Rattle.tac_lower.proofs.SameMeaning.{same_program}
 use Rattle.cheric_build.specs.Built.{report, IsBuilt}
 use Rattle.cheric_build.proofs.Counting.{no_granules, no_copies}
-use Rattle.cheric_build.proofs.Program.{no_objects}
+use Rattle.cheric_build.proofs.Program.{no_objects, begins_with_two, initial_same}
 
 module _ (p : Typed) (form : is_integer_form p ≡ true) (q : Program) (s : Shows p q) where
   abbrev routine : FunDef → Routine
@@ -76,6 +78,8 @@ built_same p r q o u f g s t file m count h =
     let one = only_routine p f q s in
     let needs = needs_are p f q s one.0 one.1 ∙ sym (needs_are r g q t one.0 one.1) in
     let tree = same_program p r q o u f g s t in
+    let a = alone p f in
+    let b = alone r g in
     record {
       legal = subst (λ n. IsLegal n m) needs h.legal;
       heap = h.heap;
@@ -84,7 +88,10 @@ built_same p r q o u f g s t file m count h =
       loaded = h.loaded;
       loads = h.loads;
       extents = h.extents;
+      filled = record { code = h.filled.code; is = h.filled.is; size = omega (arith, h.filled.size, weight_of_program p q o s, weight_of_program r q u t) };
       words = h.words;
+      relocates = subst (λ bs. Paired (IsRelocation m) bs h.loaded.image.relocs) (begins_with_two p a m ∙ sym (begins_with_two r b m)) h.relocates;
+      begins = initial_same p r a b m h.loaded.image.initial_base h.loaded.image.initial h.begins;
       does_what = subst (λ x. DoesWhatIsMeant (sides x m h.loaded)) tree h.does_what;
       keeps = subst (λ x. KeepsToOutside (sides x m h.loaded)) tree h.keeps;
       does_all = subst (λ x. DoesAllThatIsMeant (sides x m h.loaded) count) tree h.does_all;

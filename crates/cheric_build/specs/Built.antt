@@ -1,5 +1,5 @@
 -- What it means that an image was built from a typed program.
-use Rattle.std.specs.Prelude.{◌≡◌, ℕ, zero, suc, ◌*◌, ◌<◌, ◌⊎◌, true, false, List, length, take, drop, Option, Some, None, Ok, ⊤}
+use Rattle.std.specs.Prelude.{◌≡◌, ℕ, zero, suc, ◌+◌, ◌*◌, ◌<◌, ◌⊎◌, true, false, List, length, take, drop, Option, Some, None, Ok, ⊤}
 use Rattle.ck_base.specs.Runs.{outcome, ending_alone}
 use Rattle.ck_base.specs.Agreement.{Sides, DoesWhatIsMeant, KeepsToOutside, DoesAllThatIsMeant}
 use Rattle.ck_base.specs.declared.positions.Pos.{Pos}
@@ -9,6 +9,7 @@ use Rattle.c_tree.specs.declared.typed.Typed.{Typed}
 use Rattle.obj_mem.specs.declared.ending.Ending.{Ending}
 use Rattle.obj_mem.specs.declared.ending.Ending.TheVariants as meant
 use Rattle.obj_mem.specs.declared.map.Map.{Map}
+use Rattle.obj_mem.specs.Agreement.{Paired}
 use Rattle.obj_mem.specs.Needs.{Legal}
 use Rattle.cheri_c_sem.specs.Runs.{placed}
 use Rattle.rv_instr.specs.declared.instr.Instr.{Instr}
@@ -24,10 +25,14 @@ use Rattle.elf_file.specs.Image.{position_of}
 use Rattle.image_load.specs.Judging.{text_of}
 use Rattle.image_load.specs.Loading.{Loaded, loading}
 use Rattle.bounds_place.specs.Placing.{exceeds}
+use Rattle.cap_reloc.specs.Begins.{beginning, IsRelocation}
+use Rattle.cap_reloc.specs.Initial.{AreInitial}
 use Rattle.rv_select.specs.Selected.{is_turns, is_outside, count_of}
 use Rattle.c_tree.specs.File.{HasRoom, Refused, too_heavy}
+use Rattle.c_tree.specs.Weight.{weight}
 use Rattle.tac_lower.specs.Form.{is_integer_form}
 use Rattle.cheric_build.specs.Front.{IsTyped}
+use Rattle.cheric_build.specs.Text.{IsFilled}
 
 -- ---- what an ending of the machine reports of the program
 
@@ -77,7 +82,9 @@ abbrev pub word_in : List ℕ → ℕ → ℕ
 word_in text k = little_number (take 4 (drop (4 * k) text))
 
 -- Under a legal map, with a heap of 16,777,216 bytes and a stack of 1,048,576, the file loads, at the map's extents, to a machine that
--- does what the program means, all of it within the count for each turn. Each word of its text is an instruction.
+-- does what the program means, all of it within the count for each turn. Its text is code of at most 128 bytes for each unit of the
+-- program's weight and 4,096 more, filled with jumps to themselves, and each of its words is an instruction. Its relocations store the
+-- capabilities with which the program's pointers begin, and its other bytes begin as the program's objects do.
 pub record IsBuilt (p : Typed) (file : List ℕ) (map : Map) (count : ℕ) : Type 0 where
   pub legal : Legal p map
   pub heap : map.heap.1 ≡ 16777216
@@ -86,7 +93,10 @@ pub record IsBuilt (p : Typed) (file : List ℕ) (map : Map) (count : ℕ) : Typ
   pub loaded : Loaded
   pub loads : loading file ≡ Ok loaded
   pub extents : HasExtents map loaded.image
+  pub filled : IsFilled (128 * weight p + 4096) loaded.image.text
   pub words : (k : ℕ) → 4 * k < length loaded.image.text → (i : Instr) × (decode_of (word_in loaded.image.text k) ≡ Some i)
+  pub relocates : Paired (IsRelocation map) (beginning p map) loaded.image.relocs
+  pub begins : AreInitial p map loaded.image.initial_base loaded.image.initial
   pub does_what : DoesWhatIsMeant (sides_of p map loaded)
   pub keeps : KeepsToOutside (sides_of p map loaded)
   pub does_all : DoesAllThatIsMeant (sides_of p map loaded) count

@@ -1,5 +1,5 @@
 -- The text of an image.
-use Rattle.std.specs.Prelude.{ℕ, ◌-◌, ◌*◌, ◌/◌, pos, List, ◌++◌, length, replicate}
+use Rattle.std.specs.Prelude.{ℕ, ◌≡◌, ◌≤◌, ◌-◌, ◌*◌, ◌/◌, pos, List, ◌++◌, length, replicate}
 use Rattle.std.specs.List.{flat_map}
 use Rattle.cap_concentrate.specs.Rounding.{owned, rounded_up}
 use Rattle.rv_instr.specs.declared.instr.Instr.{Instr}
@@ -30,3 +30,9 @@ missing words = text_length words / 4 - words
 
 abbrev pub text_of : List Instr → List ℕ
 text_of code = code_bytes code ++ code_bytes (filler (missing (length code)))
+
+-- A text of code of at most so many bytes, filled
+pub record IsFilled (most : ℕ) (text : List ℕ) : Type 0 where
+  pub code : List Instr
+  pub is : text ≡ text_of code
+  pub size : 4 * length code ≤ most
