@@ -293,9 +293,9 @@ module _ (m : Bool) (s : State) (i : Inv m s) where
       let B6 : Doing Operand = refuse 133 a.first in
       let B5 : Doing Operand = (if is_void_pointer t && is_pointer u then W a.is (converted_term t b.is) else B6) in
       let B4 : Doing Operand = (if is_pointer t && is_void_pointer u then W (converted_term u a.is) b.is else B5) in
-      let B3 : Doing Operand = (if is_pointer u && is_null_constant a.is then W (converted_term u a.is) b.is else B4) in
-      let B2 : Doing Operand = (if is_pointer t && is_null_constant b.is then W a.is (converted_term t b.is) else B3) in
-      let B1 : Doing Operand = (if both_agree t u then W a.is b.is else B2) in
+      let B3 : Doing Operand = (if both_agree t u then W a.is b.is else B4) in
+      let B2 : Doing Operand = (if is_pointer u && is_null_constant a.is then W (converted_term u a.is) b.is else B3) in
+      let B1 : Doing Operand = (if is_pointer t && is_null_constant b.is then W a.is (converted_term t b.is) else B2) in
       let left : is_pointer t ≡ true → is_scalar u ≡ true → W a.is (converted_term t b.is) s ≡ Ok x → Operands m s x =
       λ q r g. let c = to_left q r in with a.is _ h c.0 (inr (q, ap is_pointer c.1 ∙ q)) g in
       let right : is_pointer u ≡ true → is_scalar t ≡ true → W (converted_term u a.is) b.is s ≡ Ok x → Operands m s x =
@@ -306,12 +306,12 @@ module _ (m : Bool) (s : State) (i : Inv m s) where
       let c = to_integer m s (common t u) a.is h k q.0 in
       let d = to_integer m s (common t u) b.is j k q.1 in
       with _ _ c.0 d.0 (inl (ap is_integer c.1 ∙ k, c.1 ∙ sym d.1)) g)
-      (λ _ g. either (both_agree t u) (W a.is b.is) B2 s x (Operands m s x)
-      (λ v g. with a.is b.is h j (inr (agree_pointers t u v)) g)
-      (λ _ g. either (is_pointer t && is_null_constant b.is) (W a.is (converted_term t b.is)) B3 s x (Operands m s x)
+      (λ _ g. either (is_pointer t && is_null_constant b.is) (W a.is (converted_term t b.is)) B2 s x (Operands m s x)
       (λ v g. let q = and_parts (is_pointer t) (is_null_constant b.is) v in left q.0 (null_scalar s.tags b.is q.1 j.value) g)
-      (λ _ g. either (is_pointer u && is_null_constant a.is) (W (converted_term u a.is) b.is) B4 s x (Operands m s x)
+      (λ _ g. either (is_pointer u && is_null_constant a.is) (W (converted_term u a.is) b.is) B3 s x (Operands m s x)
       (λ v g. let q = and_parts (is_pointer u) (is_null_constant a.is) v in right q.0 (null_scalar s.tags a.is q.1 h.value) g)
+      (λ _ g. either (both_agree t u) (W a.is b.is) B4 s x (Operands m s x)
+      (λ v g. with a.is b.is h j (inr (agree_pointers t u v)) g)
       (λ _ g. either (is_pointer t && is_void_pointer u) (W (converted_term u a.is) b.is) B5 s x (Operands m s x)
       (λ v g. let q = and_parts (is_pointer t) (is_void_pointer u) v in right (void_pointer u q.1) (pointer_scalar t q.0) g)
       (λ _ g. either (is_void_pointer t && is_pointer u) (W a.is (converted_term t b.is)) B6 s x (Operands m s x)

@@ -124,20 +124,6 @@ pub(crate) struct Cursor<'a> {
     pub(crate) at: usize,
 }
 
-impl<'a> Root<'a> {
-    /// A root whose own token is the first of the whole, and which declares nothing.
-    pub(crate) fn beginning(kind: NodeKind, own: Place) -> Root<'a>
-        ensures { result ≡ record { kind = kind; own = own; first = own; name = None } }
-    {
-        Root {
-            kind,
-            own,
-            first: own,
-            name: None,
-        }
-    }
-}
-
 /// Whether the symbol is the one that is looked for.
 pub(crate) fn is_marked(mark: Mark, symbol: Symbol) -> bool
     ensures { result ≡ is_mark mark symbol }

@@ -25,8 +25,8 @@ pub fn readings_are_trees()
     ensures complete { (h : ℕ) (tokens : List Lexeme) (x : Syn) → DerivesFile tokens x → height x ≤ suc h → read_file h tokens ≡ Some x }
 {}
 
-/// What `parse` answers is the only answer to a file, up to the numbers of the nodes and to the place of 120: a file has one tree or is
-/// refused by one code, and never both.
+/// What `parse` answers is the only answer to a file, up to the numbers of the nodes and to the place of 120: a file has at
+/// most one tree or is refused by one code, and never both.
 pub fn one_answer()
     ensures tree { (file : List ℕ) (a b : Tree) (s : IsTreeOf file a) (t : IsTreeOf file b) → s.parses.syntax ≡ t.parses.syntax }
     ensures apart { (file : List ℕ) (tree : Tree) (code : ℕ) (place : Pos) → IsTreeOf file tree → IsRefused file code place → ⊥ }
@@ -36,8 +36,8 @@ pub fn one_answer()
     one_reading();
 }
 
-/// A file is one program, whatever the numbers of its nodes and types, or it is refused by one code, at one position but for 120, and
-/// never both.
+/// A file is at most one program, whatever the numbers of its nodes and types, or it is refused by one code, at one position but for 120,
+/// and never both.
 pub fn one_file()
     ensures { (bytes : List ℕ) → OneFile bytes }
 {}

@@ -8,7 +8,6 @@ use Rattle.ck_base.specs.declared.tokens.TokenKind.TheVariants.{Text}
 use Rattle.ck_base.specs.Lexes.{IsAccepted}
 use Rattle.ck_base.specs.Literals.{are_digits, value_of, simple_escape, leading_digits, BeginsWithEscape, BeginsWithCharacter, AreCharacters, in_quotes, IsCharacter, IsString}
 use Rattle.c_tree.specs.Values.{between_quotes, escape, escaped, numeric, characters, characters_of, first_or_zero, character_value}
-use Rattle.c_rules.specs.Texts.{AreTexts, spelled}
 
 -- ---- escape sequences
 
@@ -124,15 +123,3 @@ string_is text values is =
     let q = in_quotes 34 is.0 in
     let l : length is.0 ≤ length q = omega (arith, length-append is.0 (34 ∷ [])) in
     ap characters_of is.1 ∙ ap (λ bs. characters (length q) bs) (between 34 is.0) ∙ characters_all 34 (length q) is.2 l
-
--- ---- adjacent texts
-
-pub text_accepted : (ts : List (Bor (List ℕ))) (k : ℕ) (d : Bor (List ℕ)) → AreTexts ts → k < length ts → IsAccepted Text (get_or ts k d).now
-text_accepted [] k d h lt = absurd (omega arith)
-text_accepted (t ∷ ts) zero d h lt = h.0
-text_accepted (t ∷ ts) (suc k) d h lt = text_accepted ts k d h.1 (omega arith)
-
-pub spelled-more : (ts : List (Bor (List ℕ))) (k : ℕ) (d : Bor (List ℕ)) → k < length ts → spelled (take (suc k) ts) ≡ spelled (take k ts) ++ characters_of (get_or ts k d).now
-spelled-more [] k d lt = absurd (omega arith)
-spelled-more (t ∷ ts) zero d lt = append-nil (characters_of t.now)
-spelled-more (t ∷ ts) (suc k) d lt = ap (λ bs. characters_of t.now ++ bs) (spelled-more ts k d (omega arith)) ∙ sym (append_assoc (characters_of t.now) (spelled (take k ts)) (characters_of (get_or ts k d).now))

@@ -2,4 +2,3 @@ pub mod Called
 pub mod Choices
 pub mod Rules
 pub mod Services
-pub mod Texts

@@ -14,7 +14,7 @@ use Rattle.c_tree.specs.Values.{integer_of, number_type, character_value}
 use Rattle.c_tree.specs.Terms.{Constant, leaf, Unary, Load, Compare, And, Or, Comma, Compound, Step, Address, Term, type_of, pos_of, step, join}
 use Rattle.c_tree.specs.Scopes.{Doing, need, refuse, ◌>>◌}
 use Rattle.c_tree.specs.Conversions.{Operand, operand_type, designates, is_place, converted_term}
-use Rattle.c_tree.specs.Expressions.{gives, arithmetic, shift, sum_of, difference_of, compared, logical, is_modifiable, compounds, computed_in, right_of, points_to_function, increments, is_void_pointer}
+use Rattle.c_tree.specs.Expressions.{gives, arithmetic, shift, sum_of, difference_of, compared, logical, is_modifiable, both_agree, compounds, computed_in, right_of, points_to_function, increments, is_void_pointer}
 use Rattle.c_rules.specs.declared.pointers.Fallback.{Fallback}
 use Rattle.c_rules.specs.declared.pointers.Fallback.TheVariants as fallbacks
 
@@ -53,18 +53,28 @@ with_right o p a b = comparing o a.is (converted_term (operand_type a) b.is) p a
 abbrev pub with_left : CmpOp → Pos → Operand → Operand → Doing Operand
 with_left o p a b = comparing o (converted_term (operand_type b) a.is) b.is p a.first
 
-abbrev pub fallback_of : Ty → Ty → Bool → Bool → Fallback
-fallback_of s t null_a null_b =
-    (if is_pointer s && null_b then fallbacks.Right
-    else (if is_pointer t && null_a then fallbacks.Left
-    else (if is_pointer s && is_void_pointer t then fallbacks.Left
-    else (if is_void_pointer s && is_pointer t then fallbacks.Right
-    else fallbacks.Neither))))
+-- a null pointer constant on the right or on the left
+abbrev pub null_of : Ty → Ty → Bool → Bool → Fallback
+null_of s t null_a null_b = (if is_pointer s && null_b then fallbacks.Right else (if is_pointer t && null_a then fallbacks.Left else fallbacks.Neither))
+
+-- a pointer beside one to void
+abbrev pub fallback_of : Ty → Ty → Fallback
+fallback_of s t = (if is_pointer s && is_void_pointer t then fallbacks.Left else (if is_void_pointer s && is_pointer t then fallbacks.Right else fallbacks.Neither))
 
 abbrev pub comparing_as : Fallback → CmpOp → Pos → Operand → Operand → Doing Operand
 comparing_as fallbacks.Right o p a b = with_right o p a b
 comparing_as fallbacks.Left o p a b = with_left o p a b
 comparing_as fallbacks.Neither o p a b = refuse 133 a.first
+
+-- two operands that are not both integers, neither a null pointer constant
+abbrev pub comparing_pointers : CmpOp → Pos → Operand → Operand → Doing Operand
+comparing_pointers o p a b =
+    (if both_agree (operand_type a) (operand_type b) then comparing o a.is b.is p a.first else comparing_as (fallback_of (operand_type a) (operand_type b)) o p a b)
+
+abbrev pub comparing_by : Fallback → CmpOp → Pos → Operand → Operand → Doing Operand
+comparing_by fallbacks.Right o p a b = with_right o p a b
+comparing_by fallbacks.Left o p a b = with_left o p a b
+comparing_by fallbacks.Neither o p a b = comparing_pointers o p a b
 
 abbrev pub compound_of : IntOp → Operand → Operand → Pos → Doing Operand
 compound_of o a b p =

@@ -12,13 +12,11 @@ ghost use Rattle.c_nodes.specs.Answers.{Answers};
 ghost use Rattle.c_nodes.specs.Classes.{integer_type};
 ghost use Rattle.c_nodes.specs.Nodes.{IsWhole, IsOperand, type_in, type_count};
 ghost use Rattle.c_rules.specs.Rules.{number_at, character_at};
-ghost use Rattle.c_rules.specs.Texts.{AreTexts, spelled};
 
 use c_lex::{char_of, integer_of, unescape};
 use c_nodes::{Integer, Leaf, Nodes, Operand};
 use ck_base::{Integer as Number, NoMemory, Pos, Refusal, TokenKind};
 use ck_int::IntKind;
-use std::alloc::Global;
 
 // Whether the types in a constant's list have a sign, or none (C11 6.4.4.1p5).
 fn is_listed(n: Number, unsigned: bool) -> bool
@@ -65,19 +63,6 @@ pub fn append_text(text: &[u8], into: &mut Vec<u8>) -> Result<(), NoMemory>
     ensures { OnOk result (into.new.items ≡ into.old.items ++ characters_of text.now) }
 {
     unescape(text, into)
-}
-
-/// The bytes of adjacent string literals, which are one, and the zero byte behind them (C11 6.4.5p5, p6).
-pub fn text_bytes(alloc: Global, texts: &[&[u8]]) -> Result<Vec<u8>, NoMemory>
-    requires { AreTexts texts.now }
-    ensures { IfOk result (λ v. v.items ≡ spelled texts.now ++ 0 ∷ []) }
-{
-    let mut bytes = Vec::new(alloc);
-    for text in texts {
-        append_text(text, &mut bytes)?;
-    }
-    bytes.push(0)?;
-    Ok(bytes)
 }
 
 // A constant of a type.

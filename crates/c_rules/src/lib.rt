@@ -12,7 +12,7 @@ mod services;
 pub use assignments::{address_of, as_qualified, assign, cast, compound_of, local_of, stepped_of};
 pub use calls::call;
 pub use choices::conditional;
-pub use constants::{append_text, character, int_constant, number, size_constant, text_bytes};
+pub use constants::{append_text, character, int_constant, number, size_constant};
 pub use operators::unary_on;
 pub use pointers::{infix_join_of, sum_of};
 pub use services::library_call;

@@ -9,7 +9,7 @@ ghost use Rattle.c_tree.specs.Conversions.{operand_type, converted_term};
 ghost use Rattle.c_tree.specs.Expressions.{gives, promoted_term, sum_of, differ, difference_of, both_agree, compared};
 ghost use Rattle.c_nodes.specs.Answers.{Answers};
 ghost use Rattle.c_nodes.specs.Nodes.{IsWhole, HasTerm, IsOperand, Tells, operand_in, type_in, term_in, type_count, term_count};
-ghost use Rattle.c_rules.specs.Rules.{infix_join_of, int_join_of, with_right, with_left, comparing, fallback_of, comparing_as};
+ghost use Rattle.c_rules.specs.Rules.{infix_join_of, int_join_of, with_right, with_left, comparing, null_of, fallback_of, comparing_as, comparing_pointers};
 
 use crate::operators::{arithmetic, comma, conjunction, disjunction, shift};
 use c_nodes::{Join, Nodes, Operand};
@@ -17,7 +17,7 @@ use c_tree::InfixOperator;
 use ck_base::{NoMemory, Pos, Refusal};
 use ck_int::{CmpOp, IntOp};
 
-/// Which operand of a comparison is converted to the other one's type, where neither both are integers nor their types agree.
+/// Which operand of a comparison is converted to the other one's type.
 #[derive(Clone, Copy, Debug)]
 enum Fallback {
     /// The right one, to the type of the left one.
@@ -269,20 +269,32 @@ fn both_agree(nodes: &mut Nodes<'_>, s: u32, t: u32) -> Result<bool, NoMemory>
     }
 }
 
-// A null pointer constant is converted to the other operand's type, and a pointer to that of a pointer to `void`.
-fn fallback_between(nodes: &Nodes<'_>, s: u32, t: u32, a: u32, b: u32) -> Fallback
+// A null pointer constant is converted to the other operand's type.
+fn null_between(nodes: &Nodes<'_>, s: u32, t: u32, a: u32, b: u32) -> Fallback
     requires whole { IsWhole nodes.now }
     requires first { s < type_count nodes.now }
     requires second { t < type_count nodes.now }
     requires left { a < term_count nodes.now }
     requires right { b < term_count nodes.now }
-    ensures { fallback_of (type_in nodes.now s) (type_in nodes.now t) (is_null_constant (term_in nodes.now a)) (is_null_constant (term_in nodes.now b)) ≡ result }
+    ensures { null_of (type_in nodes.now s) (type_in nodes.now t) (is_null_constant (term_in nodes.now a)) (is_null_constant (term_in nodes.now b)) ≡ result }
 {
     if nodes.is_pointer(s) && nodes.is_null(b) {
         Fallback::Right
     } else if nodes.is_pointer(t) && nodes.is_null(a) {
         Fallback::Left
-    } else if nodes.is_pointer(s) && nodes.is_void_pointer(t) {
+    } else {
+        Fallback::Neither
+    }
+}
+
+// A pointer is converted to the type of a pointer to `void`.
+fn fallback_between(nodes: &Nodes<'_>, s: u32, t: u32) -> Fallback
+    requires whole { IsWhole nodes.now }
+    requires first { s < type_count nodes.now }
+    requires second { t < type_count nodes.now }
+    ensures { fallback_of (type_in nodes.now s) (type_in nodes.now t) ≡ result }
+{
+    if nodes.is_pointer(s) && nodes.is_void_pointer(t) {
         Fallback::Left
     } else if nodes.is_void_pointer(s) && nodes.is_pointer(t) {
         Fallback::Right
@@ -311,6 +323,30 @@ fn compared_as(
     }
 }
 
+// Two operands that are not both integers, neither a null pointer constant: their types agree, or one is a pointer to `void`.
+fn compared_pointers(
+    nodes: &mut Nodes<'_>,
+    op: CmpOp,
+    a: Operand,
+    b: Operand,
+    pos: Pos,
+) -> Result<Operand, Refusal>
+    requires whole { IsWhole nodes.old }
+    requires left { a.node < term_count nodes.old }
+    requires right { b.node < term_count nodes.old }
+    ensures { Answers nodes.old nodes.new (comparing_pointers op pos (operand_in nodes.old a) (operand_in nodes.old b)) IsOperand result }
+{
+    let s = nodes.of(a.node);
+    let t = nodes.of(b.node);
+    let how = fallback_between(nodes, s, t);
+    let agree = both_agree(nodes, s, t)?;
+    if agree {
+        compared_alike(nodes, op, a, b, pos)
+    } else {
+        compared_as(nodes, how, op, a, b, pos)
+    }
+}
+
 /// A comparison (C11 6.5.8, 6.5.9).
 pub fn compared(
     nodes: &mut Nodes<'_>,
@@ -329,12 +365,10 @@ pub fn compared(
     if nodes.are_integers(s, t) {
         return compared_integers(nodes, op, a, b, pos);
     }
-    let how = fallback_between(nodes, s, t, a.node, b.node);
-    let agree = both_agree(nodes, s, t)?;
-    if agree {
-        compared_alike(nodes, op, a, b, pos)
-    } else {
-        compared_as(nodes, how, op, a, b, pos)
+    match null_between(nodes, s, t, a.node, b.node) {
+        Fallback::Right => compared_right(nodes, op, a, b, pos),
+        Fallback::Left => compared_left(nodes, op, a, b, pos),
+        Fallback::Neither => compared_pointers(nodes, op, a, b, pos),
     }
 }
 

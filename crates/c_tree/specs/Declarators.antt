@@ -356,10 +356,6 @@ judge f lacks misfits p =
 
 -- ---- type names (6.7.7)
 
--- the type name's rules stand at its first byte
-abbrev pub no_storage : Specified → Doing Unit
-no_storage s = need (not s.stored) 133 s.first.pos
-
 abbrev pub abstract : Reading → List Reading → Doing Derived
 abstract r [] = give no_derived
 abstract r (q ∷ qs) = q.derived

@@ -189,17 +189,17 @@ abbrev pub both_agree : Ty → Ty → Bool
 both_agree (Pointer s) (Pointer t) = compatible_bare s t
 both_agree s t = false
 
--- Two integers; two pointers to compatible types; a null pointer constant, which becomes the other pointer's type; or a pointer to void, to
--- whose type the other pointer is converted
+-- Two integers; a null pointer constant, which is converted to the other pointer's type; two pointers to compatible types; or a pointer to
+-- void, to whose type the other pointer is converted
 abbrev pub compared : CmpOp → Operand → Operand → Pos → Doing Operand
 compared o a b p =
     let s = operand_type a in
     let t = operand_type b in
     let with : Term → Term → Doing Operand = λ x y. gives (join (Compare o) x y int p) a.first in
     (if is_integer s && is_integer t then with (converted_term (common s t) a.is) (converted_term (common s t) b.is)
-    else (if both_agree s t then with a.is b.is
     else (if is_pointer s && is_null_constant b.is then with a.is (converted_term s b.is)
     else (if is_pointer t && is_null_constant a.is then with (converted_term t a.is) b.is
+    else (if both_agree s t then with a.is b.is
     else (if is_pointer s && is_void_pointer t then with (converted_term t a.is) b.is
     else (if is_void_pointer s && is_pointer t then with a.is (converted_term s b.is)
     else refuse 133 a.first))))))

@@ -112,7 +112,8 @@ pub record ReadsOnce (bytes : List ℕ) : Type 0 where
   pub refused : (c d : ℕ) (p q : Pos) → lexing.Refuses bytes c p → lexing.Refuses bytes d q → (c ≡ d) × (p ≡ q)
   pub syntax : (a : List Lexeme) (x y : Syn) → DerivesFile a x → DerivesFile a y → x ≡ y
 
--- A file is one program, whatever the numbers of its nodes and types, or is refused by one code, at one place but for 120, and never both
+-- A file is at most one program, whatever the numbers of its nodes and types, or is refused by at most one code, at one place but for 120,
+-- and never both
 pub record OneFile (bytes : List ℕ) : Type 0 where
   pub accepted : (p q : Typed) → Accepts bytes p → Accepts bytes q → Alike p q
   pub refused : (c d : ℕ) (p q : Pos) → Refused bytes c p → Refused bytes d q → (c ≡ d) × ((c ≡ 120) ⊎ (p ≡ q))

@@ -59,9 +59,6 @@ type_of (term n xs t p) = t
 abbrev pub pos_of : Term → Pos
 pos_of (term n xs t p) = p
 
-abbrev pub shape_of : Term → Shape
-shape_of (term n xs t p) = n
-
 abbrev pub leaf : Shape → Ty → Pos → Term
 leaf n t p = term n no_terms t p
 

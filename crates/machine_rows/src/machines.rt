@@ -64,6 +64,12 @@ fn machine(alloc: Global, words: &[u32]) -> Result<Machine, NoMemory> {
     Ok(Machine { regs, pc, mem })
 }
 
+/// Asks for a service of the environment, by registers 17 and 10.
+fn ask(m: &mut Machine, service: u64, argument: u64) {
+    m.regs[17] = null(service);
+    m.regs[10] = null(argument);
+}
+
 /// Runs without input.
 fn run(alloc: Global, m: &mut Machine, steps: u64) -> End {
     m.run(
@@ -244,8 +250,7 @@ fn calls_the_environment(rt: HostRuntime) -> Result<(), Fail> {
         (3, 0x243, Step::Ended(End::Exit(0x43)), 0x243),
         (9, 0x244, Step::Ended(End::Illegal(TEXT + 12)), 0x244),
     ] {
-        m.regs[17] = null(service);
-        m.regs[10] = null(argument);
+        ask(&mut m, service, argument);
         assert_eq!(rt;
             m.step(&mut input, &mut out),
             want,
