@@ -204,12 +204,20 @@ def hostile(work):
     structs = "struct S0{int a;};" + "".join(f"struct S{k + 1}{{struct S{k} a;}};" for k in range(many)) + f"struct S{many} s;"
     objects = "".join(f"char c{k}[67000000];" for k in range(many))
     values = "".join(f"int a{k}={k};" for k in range(many))
+    functions = "".join(f"int f{k}(void){{return {k};}}" for k in range(many))
+    members = "struct S{" + "".join(f"int a{k};" for k in range(many)) + "} s;"
+    labels = "int main(void){switch(getchar()){" + "".join(f"case {k}:" for k in range(many)) + ";}return 0;}"
+    addresses = "int main(void){" + "".join(f"int a{k};&a{k};" for k in range(many)) + "return 0;}"
     for name, text, count in [
         ("a chain of typedef names", chain, many),
         ("unions in one another", unions, many),
         ("structs in one another", structs, many),
         ("large objects without a value", objects, many),
         ("objects with a value", values, many),
+        ("functions", functions, many),
+        ("members of one struct", members, many),
+        ("labels of one switch", labels, many),
+        ("locals whose addresses are taken", addresses, many),
         ("an initialiser of so many values", "int a[]={" + "1," * 1_000_000 + "};", 1_000_000),
         ("an object whose first byte has a value", "char c[67000000]={1};", 1),
         ("a local of so many values", "int main(void){int a[200000]={" + "1," * 200_000 + "};return 0;}", 200_000),
