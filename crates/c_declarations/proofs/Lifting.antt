@@ -91,7 +91,7 @@ no_filling n (f ∷ fs) h = rw (below_other f.object n (h 0 f refl)) (no_filling
 
 no_definition : (n : ℕ) (ds : List Definition) → ((k : ℕ) (d : Definition) → slice_get ds k ≡ Some d → d.function < n) → definition_of n ds ≡ None
 no_definition n [] h = refl
-no_definition n (d ∷ ds) h = ap (λ b. if b then Some d else definition_of n ds) (below_other d.function n (h 0 d refl)) ∙ no_definition n ds (λ k e i. h (suc k) e i)
+no_definition n (d ∷ ds) h = rw (below_other d.function n (h 0 d refl)) (no_definition n ds (λ k e i. h (suc k) e i))
 
 not_among : (n : ℕ) (ks : List ℕ) → ((k j : ℕ) → slice_get ks k ≡ Some j → j < n) → is_among n ks ≡ false
 not_among n [] h = refl

@@ -1,8 +1,9 @@
 -- A function gets its body, and its scope is left.
-use Rattle.std.proofs.Common.{◌≡◌, ℕ, zero, suc, ◌+◌, ◌<◌, ◌≤◌, Bool, true, false, ◌⊎◌, ⊎_elim, List, [], ◌∷◌, ◌++◌, length, map, take, get_or, Option, Some, None, Result, Ok, Err, refl, sym, ap, subst, ◌∙◌, arith, length-append}
+use Rattle.std.proofs.Common.{◌≡◌, ℕ, zero, suc, ◌+◌, ◌<◌, ◌≤◌, Bool, true, false, ◌⊎◌, inl, inr, ⊎_elim, List, [], ◌∷◌, ◌++◌, length, map, take, get_or, Option, Some, None, Result, Ok, Err, refl, sym, ap, subst, ◌∙◌, arith, length-append}
 use Rattle.std.specs.Prelude.{slice_get, ◌==◌, ◌&&◌, not, if◌then◌else◌, All}
 use Rattle.std.specs.Global.{Vec}
 use Rattle.std.proofs.lemmas.Bool.{eq-eqb, ne_eqb}
+use Rattle.std.proofs.lemmas.List.Sums.{fold-append}
 use Rattle.c_tree.specs.declared.typed.Typed.{Typed}
 use Rattle.c_tree.specs.declared.typed.VarDef.{VarDef}
 use Rattle.ck_base.specs.declared.positions.Pos.{Pos}
@@ -121,11 +122,18 @@ below [] k x e = absurd cc
 below (y ∷ xs) zero x e = omega arith
 below (y ∷ xs) (suc k) x e = let h : k < length xs = below xs k x e in omega arith
 
+-- an item of a list to which one was added
+pushed_item : {A : Type 0} (xs : List A) (j : ℕ) (x y : A) → slice_get (xs ++ x ∷ []) j ≡ Some y → (slice_get xs j ≡ Some y) ⊎ (x ≡ y)
+pushed_item [] zero x y e = inr cc
+pushed_item [] (suc j) x y e = absurd cc
+pushed_item (z ∷ xs) zero x y e = inl e
+pushed_item (z ∷ xs) (suc j) x y e = pushed_item xs j x y e
+
 -- an item of a list that was changed at a place where there is one
 changed_item : {A : Type 0} (f : A → A) (xs : List A) (k j : ℕ) (x y : A) → slice_get xs k ≡ Some x → slice_get (changed_at f xs k) j ≡ Some y → ((j ≡ k) × (f x ≡ y)) ⊎ ((j ≡ k → ⊥) × (slice_get xs j ≡ Some y))
 changed_item {A} f xs k j x y e g = set_at xs k j (f x) y (subst (λ (o : Option A). slice_get (with_changed f o xs k) j ≡ Some y) e g)
 
-module _ (w : Work) (sc : Scopes) (ds : Vec Definition) (ks : Vec ℕ) (s : State) (k count body : ℕ) (d : Definition) (f : RoutineState) (h : Shows w s) (there : slice_get s.routines k ≡ Some f) (is : ds.items ≡ d ∷ w.definitions.items) (named : d.function ≡ k)
+module _ (w : Work) (sc : Scopes) (ds : Vec Definition) (ks : Vec ℕ) (s : State) (k count body : ℕ) (d : Definition) (f : RoutineState) (h : Shows w s) (there : slice_get s.routines k ≡ Some f) (is : ds.items ≡ w.definitions.items ++ d ∷ []) (named : d.function ≡ k)
     (params : d.params.items ≡ numbers_from 0 count) (same : d.body ≡ body) (vars : map (views.variable_of (types_of w.nodes.p.types)) d.vars.items ≡ map programs.variable_of s.locals) where
   abbrev b : Body
   b = body_of count (action_in w body) s
@@ -140,13 +148,13 @@ module _ (w : Work) (sc : Scopes) (ds : Vec Definition) (ks : Vec ℕ) (s : Stat
       ∙ ap (λ (n : ℕ). Some (let x : Seen = record { params = d.params.items; vars = map (views.variable_of (types_of w.nodes.p.types)) d.vars.items; body = action_in w n } in x)) (sym same)
 
   this_one : definition_of k ds.items ≡ Some d
-  this_one = ap (definition_of k) is ∙ ap (λ (c : Bool). if c then Some d else definition_of k w.definitions.items) (ap (λ n. n == k) named ∙ eq-eqb k k refl)
+  this_one = ap (definition_of k) is ∙ fold-append _ None w.definitions.items (d ∷ []) ∙ ap (λ (c : Bool). if c then Some d else definition_of k w.definitions.items) (ap (λ n. n == k) named ∙ eq-eqb k k refl)
 
   other : (j : ℕ) → (j ≡ k → ⊥) → (k == j) ≡ false
   other j n = ne_eqb k j (λ e. n (sym e))
 
   another : (j : ℕ) → (j ≡ k → ⊥) → definition_of j ds.items ≡ definition_of j w.definitions.items
-  another j n = ap (definition_of j) is ∙ ap (λ (c : Bool). if c then Some d else definition_of j w.definitions.items) (ap (λ i. i == j) named ∙ other j n)
+  another j n = ap (definition_of j) is ∙ fold-append _ None w.definitions.items (d ∷ []) ∙ ap (λ (c : Bool). if c then Some d else definition_of j w.definitions.items) (ap (λ i. i == j) named ∙ other j n)
 
   defined : (j : ℕ) (g : RoutineState) → slice_get (changed_at (λ (f : RoutineState). record f { body = Some b }) s.routines k) j ≡ Some g →
       option_seen body_seen g.body ≡ option_seen (seen_of (types_of w.nodes.p.types) (actions_of w.nodes.p)) (definition_of j ds.items)
@@ -200,15 +208,15 @@ module _ (w : Work) (sc : Scopes) (ds : Vec Definition) (ks : Vec ℕ) (s : Stat
       var_there (x ∷ xs) zero v a e = (let i : x ≡ v = cc in subst (VariableThere w) i (a 0 x (omega arith)))
       var_there (x ∷ xs) (suc j) v a e = var_there xs j v (λ i y l. a (suc i) y (omega arith)) e
 
-      all_there : (body < length w.nodes.p.stmts) → All (VariableThere w) d.vars.items → (j : ℕ) (e : Definition) → slice_get (d ∷ w.definitions.items) j ≡ Some e → DefinitionIsThere w s e
-      all_there lt all zero e g =
-          (let i : d ≡ e = cc in
-          subst (DefinitionIsThere w s) i (record {
-            function = (let l : k < length s.routines = below s.routines k f there in rw named l);
-            body = rw same lt;
-            vars = λ j v q. var_there d.vars.items j v all q;
-          }))
-      all_there lt all (suc j) e g = h.closed.definitions j e g
+      this_there : (body < length w.nodes.p.stmts) → All (VariableThere w) d.vars.items → DefinitionIsThere w s d
+      this_there lt all = record {
+        function = let l : k < length s.routines = below s.routines k f there in rw named l;
+        body = rw same lt;
+        vars = λ j v q. var_there d.vars.items j v all q;
+      }
+
+      all_there : (body < length w.nodes.p.stmts) → All (VariableThere w) d.vars.items → (j : ℕ) (e : Definition) → slice_get (w.definitions.items ++ d ∷ []) j ≡ Some e → DefinitionIsThere w s e
+      all_there lt all j e g = ⊎_elim (λ a. h.closed.definitions j e a) (λ i. subst (DefinitionIsThere w s) i (this_there lt all)) (pushed_item w.definitions.items j d e g)
 
 -- what is left of the scopes
 left_stands : (sc sd : Scopes) (p : Typed) (s : State) → Does sc p sd p scopes.leave (λ t a. Unit {0}) → Stands sc p (record s { locals = [] }) → Stands sd p (record s { scopes = outer_scopes s.scopes; locals = [] })
@@ -221,7 +229,7 @@ left_stands sc sd p s d h =
     state_of u (Err e) = u
 
 pub body_ends : (w : Work) (sc sd : Scopes) (ds : Vec Definition) (ks : Vec ℕ) (vs : List VarDef) (k count body : ℕ) (d : Definition) → IsWhole w.nodes → ((s : State) → Shows w s → (f : RoutineState) × (slice_get s.routines k ≡ Some f)) →
-    ds.items ≡ d ∷ w.definitions.items → d.function ≡ k → d.params.items ≡ numbers_from 0 count → d.body ≡ body → d.vars.items ≡ variables_from w 0 vs → All (VariableThere w) d.vars.items → body < action_count w → ks.items ≡ [] →
+    ds.items ≡ w.definitions.items ++ d ∷ [] → d.function ≡ k → d.params.items ≡ numbers_from 0 count → d.body ≡ body → d.vars.items ≡ variables_from w 0 vs → All (VariableThere w) d.vars.items → body < action_count w → ks.items ≡ [] →
     sc.file.now ≡ w.nodes.scopes.file.now → sd.file.now ≡ sc.file.now → ((s : State) → Stands w.nodes.scopes w.nodes.p s → map (var_kept w.nodes.scopes.file.now (types_of w.nodes.p.types)) vs ≡ map local_seen s.locals) →
     ((s : State) → Stands w.nodes.scopes w.nodes.p s → Stands sc w.nodes.p (record s { locals = [] })) → Does sc w.nodes.p sd w.nodes.p scopes.leave (λ t a. Unit {0}) →
     Done freely w (with_body w sd ds ks) (ends k count (action_in w body)) (Unit {0}) (λ s a. Unit {0})

@@ -1,6 +1,7 @@
 pub mod Defining
 pub mod Ending
 pub mod Externals
+pub mod Marks
 pub mod Opening
 pub mod Own
 pub mod Reading

@@ -1,5 +1,5 @@
 -- The parameters of functions, and their bodies.
-use Rattle.std.specs.Prelude.{◌≡◌, ℕ, ◌<◌, ◌+◌, ◌++◌, ◌&&◌, not, false, List, [], ◌∷◌, length, map, Option, Some, None, All, reverse, slice_get}
+use Rattle.std.specs.Prelude.{◌≡◌, ℕ, ◌<◌, ◌+◌, ◌++◌, ◌&&◌, not, Bool, false, List, [], ◌∷◌, length, map, Option, Some, None, All, reverse, slice_get}
 use Rattle.ck_base.specs.declared.positions.Pos.{Pos}
 use Rattle.ck_base.specs.Tokens.{Lexeme}
 use Rattle.c_tree.specs.declared.typed.VarDef.{VarDef}
@@ -66,6 +66,10 @@ pub record Opens (u v : Work) (p : Prototype) : Type 0 where
   pub shows : (s : State) (q : meant.Prototype) → All (ParamIsThere u.nodes) p.params.items → Shows u s → IsPrototype (shown_in u s) u p q → Shows v (opened q s)
 
 -- ---- the variables of a function
+
+-- for each number whether it is among the others
+abbrev pub AreMarked : List ℕ → List Bool → Type 0
+AreMarked ks ts = (k : ℕ) (b : Bool) → slice_get ts k ≡ Some b → b ≡ is_among k ks
 
 -- a local holds a value and is no object where it is a scalar whose address is never taken
 abbrev pub variable_in : Work → ℕ → VarDef → VarDef

@@ -1,7 +1,6 @@
 //! The bodies of functions (C11 6.9.1).
 
-ghost use Rattle.std.specs.Prelude.{◌≡◌, ℕ, ◌==◌, ◌+◌, ◌<◌, ◌∷◌, ◌++◌, [], All, IfOk, OnOk, length, slice_get};
-ghost use Rattle.std.specs.List.{list_any};
+ghost use Rattle.std.specs.Prelude.{◌≡◌, true, Some, ◌+◌, ◌<◌, ◌∷◌, ◌++◌, [], All, IfOk, OnOk, length, slice_get, slice_set};
 ghost use Rattle.c_tree.specs.Syntax.{Syn};
 ghost use Rattle.c_tree.specs.Expressions.{routine_type};
 ghost use Rattle.c_tree.specs.Programs.{body_context, given_by, numbers_from};
@@ -14,7 +13,7 @@ ghost use Rattle.c_declarators.specs.Forming.{ParamIsThere};
 ghost use Rattle.c_declarators.specs.Parts.{IsPrototype, shown_in};
 ghost use Rattle.c_items.specs.Items.{ContextThere, context_in, ItemsThere, items_in};
 ghost use Rattle.c_items.specs.Shown.{AnswersFor};
-ghost use Rattle.c_elab.specs.Functions.{VariableThere, variable_in, variables_from, ends, finishes, types_body, defines};
+ghost use Rattle.c_elab.specs.Functions.{AreMarked, VariableThere, variable_in, variables_from, ends, finishes, types_body, defines};
 
 use crate::parameters::open_body;
 use c_declarators::{Param, Prototype};
@@ -63,21 +62,55 @@ fn context_of(work: &Work<'_>, k: u32) -> Result<Context, NoMemory>
 
 // ---- the variables
 
-fn is_taken(addressed: &[u32], k: u32) -> bool
-    ensures { result ≡ list_any (λ (j : ℕ). j == k) addressed.now }
+fn no_marks(alloc: Global, n: usize) -> Result<Vec<bool>, NoMemory>
+    ensures { IfOk result (λ t. AreMarked [] t.items) }
 {
-    addressed.iter().any(|j| *j == k)
+    let mut marks = Vec::new(alloc);
+    for made in 0..n {
+        marks.push(false)?;
+    }
+    Ok(marks)
+}
+
+fn mark(marks: &mut Vec<bool>, k: u32)
+    ensures { marks.new.items ≡ slice_set marks.old.items k true }
+{
+    let at = k as usize;
+    if at < marks.len() {
+        marks[at] = true;
+    }
+}
+
+// For each of the first locals, as many as are wanted, whether its address is taken.
+fn marks_of(work: &Work<'_>, n: usize) -> Result<Vec<bool>, NoMemory>
+    ensures { IfOk result (λ t. AreMarked work.now.addressed.items t.items) }
+{
+    let mut marks = no_marks(work.nodes.alloc, n)?;
+    for k in work.addressed.as_slice() {
+        mark(&mut marks, *k);
+    }
+    Ok(marks)
+}
+
+fn is_taken(marks: &[bool], k: u32) -> Result<bool, NoMemory>
+    ensures { IfOk result (λ b. slice_get marks.now k ≡ Some b) }
+{
+    match marks.get(k as usize).copied() {
+        Some(b) => Ok(b),
+        None => Err(NoMemory),
+    }
 }
 
 // A local holds a value and is no object where it is a scalar whose address is never taken.
-fn variable(work: &Work<'_>, k: u32, v: VarDef) -> Result<VarDef, NoMemory>
-    requires { IsWhole work.now.nodes }
+fn variable(work: &Work<'_>, marks: &[bool], k: u32, v: VarDef) -> Result<VarDef, NoMemory>
+    requires whole { IsWhole work.now.nodes }
+    requires marks { AreMarked work.now.addressed.items marks.now }
     ensures there { IfOk result (λ x. VariableThere work.now x) }
     ensures is { IfOk result (λ x. x ≡ variable_in work.now k v) }
 {
     let of = work.there(v.of)?;
     let scalar = work.nodes.is_scalar(work.nodes.bare(of));
-    let taken = is_taken(work.addressed.as_slice(), k);
+    let taken = is_taken(marks, k)?;
     Ok(VarDef {
         name: v.name,
         pos: v.pos,
@@ -105,10 +138,11 @@ fn variables(work: &Work<'_>, locals: &[VarDef]) -> Result<Vec<VarDef>, NoMemory
     ensures there { IfOk result (λ xs. All (VariableThere work.now) xs.items) }
     ensures are { IfOk result (λ xs. xs.items ≡ variables_from work.now 0 locals.now) }
 {
+    let marks = marks_of(work, locals.len())?;
     let mut all = Vec::new(work.nodes.alloc);
     let mut k: u32 = 0;
     for v in locals {
-        let x = variable(work, k, *v)?;
+        let x = variable(work, marks.as_slice(), k, *v)?;
         push_variable(&mut all, x)?;
         let next = after(k)?;
         k = next;
@@ -129,11 +163,11 @@ fn numbers_below(alloc: Global, count: u32) -> Result<Vec<u32>, NoMemory>
 
 // ---- the end of a body
 
-// A later definition stands before the others.
+// A later definition stands behind the others.
 fn add_definition(definitions: &mut Vec<Definition>, d: Definition) -> Result<(), NoMemory>
-    ensures { OnOk result (definitions.new.items ≡ d ∷ definitions.old.items) }
+    ensures { OnOk result (definitions.new.items ≡ definitions.old.items ++ d ∷ []) }
 {
-    definitions.insert(0, d)?;
+    definitions.push(d)?;
     Ok(())
 }
 

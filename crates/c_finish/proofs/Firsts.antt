@@ -1,4 +1,5 @@
--- What was said first, from the last to the first. Of initial values the last one counts, so these go from the first to the last.
+-- What was said first, from the last to the first. Of definitions and initial values the last one counts, so these go from the first to
+-- the last.
 use Rattle.std.proofs.Common.{◌≡◌, ℕ, zero, suc, ◌+◌, ◌-◌, ◌<◌, ◌≤◌, Bool, true, false, List, [], ◌∷◌, ◌++◌, length, drop, Option, Some, None, refl, sym, ap, subst, ◌∙◌, ◌⊎◌, inl, inr, ⊎_elim, rules, tests, arith}
 use Rattle.std.specs.Global.{Vec}
 use Rattle.std.specs.Prelude.{slice_get, slice_set, ◌==◌, if◌then◌else◌}
@@ -11,7 +12,7 @@ use Rattle.c_work.specs.declared.work.Definition.{Definition}
 use Rattle.c_work.specs.declared.work.Filling.{Filling}
 use Rattle.c_work.specs.Work.{first_place, is_object, is_function, definition_of}
 use Rattle.c_finish.specs.declared.tables.Uses.{Uses}
-use Rattle.c_finish.specs.Tables.{HasUses, IsBlank, item_at, FirstDefinitions, LastFillings, last_filling}
+use Rattle.c_finish.specs.Tables.{HasUses, IsBlank, item_at, LastDefinitions, LastFillings, last_filling}
 use Rattle.c_finish.proofs.Faulting.{drop_step, drop_past}
 
 pub eqb-same : (n : ℕ) → (n == n) ≡ true
@@ -59,10 +60,11 @@ no_uses t a b = record { objects = a; functions = b }
 
 -- ---- definitions and initial values
 
-pub definition_set : (ds last : List Definition) (t : List (Option ℕ)) (i : ℕ) (d : Definition) → slice_get ds i ≡ Some d → FirstDefinitions ds last t → FirstDefinitions ds (d ∷ last) (slice_set t d.function (Some i))
-definition_set ds last t i d e h = record {
-  first = λ k o g.
-      ⊎_elim (λ a. ap (item_at ds) a.1 ∙ e ∙ same_test k d.function (Some d) (definition_of k last) a.0) (λ a. h.first k o a.0 ∙ apart_test k d.function (Some d) (definition_of k last) a.1) (get-set t d.function k (Some i) o g);
+pub definition_set : (ds first : List Definition) (t : List (Option ℕ)) (i : ℕ) (d : Definition) → slice_get ds i ≡ Some d → LastDefinitions ds first t → LastDefinitions ds (first ++ d ∷ []) (slice_set t d.function (Some i))
+definition_set ds first t i d e h = record {
+  last = λ k o g.
+      ⊎_elim (λ a. ap (item_at ds) a.1 ∙ e ∙ same_test k d.function (Some d) (definition_of k first) a.0) (λ a. h.last k o a.0 ∙ apart_test k d.function (Some d) (definition_of k first) a.1) (get-set t d.function k (Some i) o g)
+      ∙ sym (fold-append _ None first (d ∷ []));
 }
 
 pub filling_set : (ds first : List Filling) (t : List (Option ℕ)) (i : ℕ) (d : Filling) → slice_get ds i ≡ Some d → LastFillings ds first t → LastFillings ds (first ++ d ∷ []) (slice_set t d.object (Some i))
@@ -72,8 +74,8 @@ filling_set ds first t i d e h = record {
       ∙ sym (fold-append _ None first (d ∷ []));
 }
 
-pub no_definitions : (ds : List Definition) (t : List (Option ℕ)) → IsBlank t → FirstDefinitions ds [] t
-no_definitions ds t h = record { first = λ k o e. ap (item_at ds) (h k o e) }
+pub no_definitions : (ds : List Definition) (t : List (Option ℕ)) → IsBlank t → LastDefinitions ds [] t
+no_definitions ds t h = record { last = λ k o e. ap (item_at ds) (h k o e) }
 
 pub no_fillings : (ds : List Filling) (t : List (Option ℕ)) → IsBlank t → LastFillings ds [] t
 no_fillings ds t h = record { last = λ k o e. ap (item_at ds) (h k o e) }

@@ -24,12 +24,12 @@ abbrev pub item_at : {A : Type 0} → List A → Option ℕ → Option A
 item_at xs None = None
 item_at xs (Some i) = slice_get xs i
 
--- the first definition of each function among the last ones
-pub record FirstDefinitions (ds last : List Definition) (t : List (Option ℕ)) : Type 0 where
-  pub first : (k : ℕ) (o : Option ℕ) → slice_get t k ≡ Some o → item_at ds o ≡ definition_of k last
+-- the last definition of each function among the first ones
+pub record LastDefinitions (ds first : List Definition) (t : List (Option ℕ)) : Type 0 where
+  pub last : (k : ℕ) (o : Option ℕ) → slice_get t k ≡ Some o → item_at ds o ≡ definition_of k first
 
 abbrev pub HasDefinitions : List Definition → List (Option ℕ) → Type 0
-HasDefinitions ds t = FirstDefinitions ds ds t
+HasDefinitions ds t = LastDefinitions ds ds t
 
 -- the last initial value that was given to the object with a number
 abbrev pub last_filling : ℕ → List Filling → Option Filling

@@ -13,7 +13,7 @@ use crate::main_function::main_of;
 use crate::numbering::new_numbers;
 use crate::objects::objects;
 use crate::routines::routines;
-use crate::tables::{first_definitions, first_uses, last_fillings};
+use crate::tables::{first_uses, last_definitions, last_fillings};
 use crate::tags::check_tags;
 use c_copy::{Copied, Numbers, check_order};
 use c_tree::{FunDef, GlobalDef, Typed};
@@ -96,7 +96,7 @@ pub fn finish(work: Work<'_>) -> Result<Typed, Refusal>
     ensures { (s : State) → Shows work.entry s → Finished (ended (earliest (last_faults s)) s) result }
 {
     let uses = first_uses(&work)?;
-    let definitions = first_definitions(&work)?;
+    let definitions = last_definitions(&work)?;
     let first = last_fault(&work, &uses, definitions.as_slice())?;
     match first {
         Some(fault) => Err(Refusal::Code(fault.code, fault.pos)),

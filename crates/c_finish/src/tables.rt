@@ -1,4 +1,4 @@
-//! What counts of all that was said of each object and function, by their numbers: the first use, the first definition and the last
+//! What counts of all that was said of each object and function, by their numbers: the first use, the last definition and the last
 //! initial value.
 
 ghost use Rattle.std.specs.Prelude.{◌≡◌, Some, IfOk, OnOk, None, option_map, slice_set, slice_get};
@@ -143,17 +143,16 @@ fn filling_at(fillings: &[Filling], i: u32) -> Result<&Filling, NoMemory>
     }
 }
 
-/// For each function the number of its first definition.
-pub(crate) fn first_definitions(work: &Work<'_>) -> Result<Vec<Option<u32>>, NoMemory>
+/// For each function the number of its last definition.
+pub(crate) fn last_definitions(work: &Work<'_>) -> Result<Vec<Option<u32>>, NoMemory>
     ensures { IfOk result (λ v. HasDefinitions work.now.definitions.items v.items) }
 {
     let mut table = no_numbers(work.nodes.alloc, work.nodes.p.funs.as_slice().len())?;
     let definitions = work.definitions.as_slice();
     let n = count(definitions.len())?;
     for i in 0..n {
-        let at = n - 1 - i;
-        let d = definition_at(definitions, at)?;
-        set_number(&mut table, d.function, at)?;
+        let d = definition_at(definitions, i)?;
+        set_number(&mut table, d.function, i)?;
     }
     Ok(table)
 }

@@ -1,6 +1,6 @@
 -- How what was built so far grows, and that it stands for the same state then.
-use Rattle.std.proofs.Common.{◌≡◌, ℕ, suc, ◌<◌, ◌≤◌, true, false, List, [], ◌∷◌, ◌++◌, length, map, Some, None, refl, sym, ap, ◌∙◌, arith, append_assoc}
-use Rattle.std.specs.Prelude.{slice_get, slice_index_or, ◌==◌, if◌then◌else◌}
+use Rattle.std.proofs.Common.{◌≡◌, ℕ, suc, ◌<◌, ◌≤◌, true, false, List, [], ◌∷◌, ◌++◌, length, map, Option, Some, None, refl, sym, ap, ◌∙◌, arith, append_assoc}
+use Rattle.std.specs.Prelude.{slice_get, slice_index_or, ◌==◌, if◌then◌else◌, fold}
 use Rattle.std.proofs.lemmas.List.{append-nil}
 use Rattle.ck_base.specs.declared.positions.Pos.{Pos}
 use Rattle.c_tree.specs.declared.typed.Stmt.{Stmt}
@@ -73,11 +73,17 @@ seen_same ts us xs ys d h e =
     ap (λ vs. (let x : Seen = record { params = d.params.items; vars = vs; body = action_at ys d.body } in x)) (vars_same ts us d.vars.items h)
     ∙ ap (λ b. (let x : Seen = record { params = d.params.items; vars = map (variable_of ts) d.vars.items; body = b } in x)) e
 
+-- also where a definition was found among those before
+definitions_from : (f g : Definition → Seen) (j : ℕ) (ds : List Definition) (o : Option Definition) → option_seen g o ≡ option_seen f o → ((k : ℕ) (d : Definition) → slice_get ds k ≡ Some d → g d ≡ f d) →
+    option_seen g (fold (λ o (d : Definition). if d.function == j then Some d else o) o ds) ≡ option_seen f (fold (λ o (d : Definition). if d.function == j then Some d else o) o ds)
+definitions_from f g j [] o e h = e
+definitions_from f g j (d ∷ ds) o e h =
+    definitions_from f g j ds (if d.function == j then Some d else o)
+    (elim (d.function == j) as (λ b. option_seen g (if b then Some d else o) ≡ option_seen f (if b then Some d else o))
+    [ true ↦ ap (λ x. Some x) (h 0 d refl) | false ↦ e ]) (λ k x i. h (suc k) x i)
+
 pub definitions_same : (f g : Definition → Seen) (j : ℕ) (ds : List Definition) → ((k : ℕ) (d : Definition) → slice_get ds k ≡ Some d → g d ≡ f d) → option_seen g (definition_of j ds) ≡ option_seen f (definition_of j ds)
-definitions_same f g j [] h = refl
-definitions_same f g j (d ∷ ds) h =
-    elim (d.function == j) as (λ b. option_seen g (if b then Some d else definition_of j ds) ≡ option_seen f (if b then Some d else definition_of j ds))
-    [ true ↦ ap (λ x. Some x) (h 0 d refl) | false ↦ definitions_same f g j ds (λ k x i. h (suc k) x i) ]
+definitions_same f g j ds h = definitions_from f g j ds None refl h
 
 -- ---- more types and expressions
 

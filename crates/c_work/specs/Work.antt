@@ -64,9 +64,9 @@ pub record Seen : Type 0 where
 abbrev pub seen_of : List Ty → List Action → Definition → Seen
 seen_of ts xs d = record { params = d.params.items; vars = map (views.variable_of ts) d.vars.items; body = action_at xs d.body }
 
+-- the definition of the function with a number, if it has been given one: the last that it was given
 abbrev pub definition_of : ℕ → List Definition → Option Definition
-definition_of k [] = None
-definition_of k (d ∷ ds) = (if d.function == k then Some d else definition_of k ds)
+definition_of k ds = fold (λ o (d : Definition). if d.function == k then Some d else o) None ds
 
 abbrev pub body_seen : Body → Seen
 body_seen b = record { params = b.params; vars = map programs.variable_of b.vars; body = b.action }
