@@ -25,7 +25,7 @@ use Rattle.c_work.proofs.Sequencing.{free_law, freed, then, failed, gave, answer
 use Rattle.c_statements.specs.declared.labels.Cases.{Cases}
 use Rattle.c_items.specs.declared.items.Items.{Items}
 use Rattle.c_items.specs.Items.{ActionsThere, ItemsThere, IsItems, items_in}
-use Rattle.c_statements.specs.Statements.{LabelThere, IsLabel, AddsLabel, CasesThere, IsCases, cases_in}
+use Rattle.c_statements.specs.Statements.{LabelThere, IsLabel, AddsLabel, CasesThere, IsCases, cases_in, labels_in}
 use Rattle.c_statements.proofs.Gather.{items_joined, there_both}
 use Rattle.c_items.proofs.Going.{then_from, items_kept, actions_there}
 use Rattle.c_statements.specs.Switching.{CasesSoFar}
@@ -45,11 +45,11 @@ nothing_left c of d s = at (d s)
 one_more : (c : meant.Context) (of : Ty) (x : Syn) (xs : Syns) (a : statements.Cases) → rest_of c of (more x xs) a ≡ (switch_item c of x (reading x) a >>= rest_of c of xs)
 one_more c of x xs a = ap (λ (rs : List Reading). switch_items c of (more x xs) rs a) (readings_more x xs)
 
-pub cases_begin : (c : meant.Context) (of : Ty) (u : Work) (ks : List ℕ) (found : Cases) → IsWhole u.nodes → found.items.vars.items ≡ [] → found.items.actions.items ≡ [] → found.labels.items ≡ [] → (xs : Syns) → AreParts u ks xs → CasesSoFar c of u u xs ks found
+pub cases_begin : (c : meant.Context) (of : Ty) (u : Work) (ks : List ℕ) (found : Cases) → IsWhole u.nodes → found.items.vars.items ≡ [] → found.items.actions.items ≡ [] → labels_in found ≡ [] → (xs : Syns) → AreParts u ks xs → CasesSoFar c of u u xs ks found
 cases_begin c of u ks found w e f g xs p =
     let nothing : cases_in u found ≡ no_cases =
-    ap (λ vs. (let x : statements.Cases = record { items = record { vars = vs; actions = map (action_in u) found.items.actions.items }; labels = map label_of found.labels.items } in x)) e
-    ∙ ap (λ fs. (let x : statements.Cases = record { items = record { vars = []; actions = map (action_in u) fs }; labels = map label_of found.labels.items } in x)) f
+    ap (λ vs. (let x : statements.Cases = record { items = record { vars = vs; actions = map (action_in u) found.items.actions.items }; labels = map label_of (labels_in found) } in x)) e
+    ∙ ap (λ fs. (let x : statements.Cases = record { items = record { vars = []; actions = map (action_in u) fs }; labels = map label_of (labels_in found) } in x)) f
     ∙ ap (λ ls. (let x : statements.Cases = record { items = record { vars = []; actions = [] }; labels = map label_of ls } in x)) g in
     record {
       rest = xs;
@@ -101,7 +101,7 @@ cases_step c of u v w xs k ks found longer r h =
 pub labelled : (u v : Work) (d : Doing (Option ℕ)) (l : Option ℕ) (p : Pos) (cases : Cases) (r : Result Cases Refusal) → Done quietly u v d (LabelThere v l) (IsLabel v l) → CasesThere u cases → AddsLabel cases l p r →
     Answers freely u v (d >>= λ a. add_label a p (cases_in u cases)) CasesThere IsCases r
 labelled u v d l p cases (Ok new) a t h =
-    let ls = map label_of cases.labels.items in
+    let ls = map label_of (labels_in cases) in
     let x : SwitchLabel = record { value = l; before = length cases.items.actions.items } in
     let there : CasesThere v new = subst (λ (i : Items). ItemsThere v i) (sym h.1) (actions_there u v cases.items.actions.items a.grows.keeps t) in
     then_from freely free_law u v v d (λ y. add_label y p (cases_in u cases)) (give (cases_in v new)) (LabelThere v l) (IsLabel v l) CasesThere IsCases (Ok new) (freed u v d LabelThere IsLabel (Ok l) a)
@@ -109,11 +109,11 @@ labelled u v d l p cases (Ok new) a t h =
     ap (λ (y : Option ℕ). add_label y p (cases_in u cases) s) e
     ∙ need_true (not (has_label l ls)) 131 p (give (record { items = items_in u cases.items; labels = ls ++ record { value = l; before = length (map (action_in u) cases.items.actions.items) } ∷ [] })) s (ap not h.0)
     ∙ ap (λ (n : ℕ). give (let z : statements.Cases = record { items = items_in u cases.items; labels = ls ++ record { value = l; before = n } ∷ [] } in z) s) (length-map cases.items.actions.items (action_in u))
-    ∙ ap (λ (ms : List Label). give (let z : statements.Cases = record { items = items_in u cases.items; labels = ms } in z) s) (sym (map-append label_of cases.labels.items (x ∷ [])) ∙ ap (map label_of) (sym h.2))
-    ∙ ap (λ (i : meant.Items). give (let z : statements.Cases = record { items = i; labels = map label_of new.labels.items } in z) s) (sym (items_kept u v cases.items a.grows.keeps m.closed.values t) ∙ ap (items_in v) (sym h.1)))
+    ∙ ap (λ (ms : List Label). give (let z : statements.Cases = record { items = items_in u cases.items; labels = ms } in z) s) (sym (map-append label_of (labels_in cases) (x ∷ [])) ∙ ap (map label_of) (sym h.2))
+    ∙ ap (λ (i : meant.Items). give (let z : statements.Cases = record { items = i; labels = map label_of (labels_in new) } in z) s) (sym (items_kept u v cases.items a.grows.keeps m.closed.values t) ∙ ap (items_in v) (sym h.1)))
     (gave freely free_law v (cases_in v new) (CasesThere v new) a.whole there)
 labelled u v d l p cases (Err (Code code place)) a t h =
-    let ls = map label_of cases.labels.items in
+    let ls = map label_of (labels_in cases) in
     then_from freely free_law u v v d (λ y. add_label y p (cases_in u cases)) (refuse code place) (LabelThere v l) (IsLabel v l) CasesThere IsCases (Err (Code code place)) (freed u v d LabelThere IsLabel (Ok l) a)
     (λ o s b m n e.
     ap (λ (y : Option ℕ). add_label y p (cases_in u cases) s) e
@@ -124,10 +124,10 @@ labelled u v d l p cases (Err NoMemory) a t h = tt
 
 -- a declaration or a statement
 pub more_items : (u v : Work) (d : Doing meant.Items) (given : Items) (cases longer : Cases) → Done freely u v d (ItemsThere v given) (IsItems v given) → CasesThere u cases →
-    longer.items.vars.items ≡ cases.items.vars.items ++ given.vars.items → longer.items.actions.items ≡ cases.items.actions.items ++ given.actions.items → longer.labels.items ≡ cases.labels.items →
-    Done freely u v (d >>= λ i. give (let z : statements.Cases = record { items = both (items_in u cases.items) i; labels = map label_of cases.labels.items } in z)) (CasesThere v longer) (IsCases v longer)
+    longer.items.vars.items ≡ cases.items.vars.items ++ given.vars.items → longer.items.actions.items ≡ cases.items.actions.items ++ given.actions.items → labels_in longer ≡ labels_in cases →
+    Done freely u v (d >>= λ i. give (let z : statements.Cases = record { items = both (items_in u cases.items) i; labels = map label_of (labels_in cases) } in z)) (CasesThere v longer) (IsCases v longer)
 more_items u v d given cases longer a t e f g =
-    let ls = map label_of cases.labels.items in
+    let ls = map label_of (labels_in cases) in
     let there : CasesThere v longer = subst (λ (z : List ℕ). ActionsThere v z) (sym f) (there_both v cases.items.actions.items given.actions.items (actions_there u v cases.items.actions.items a.grows t) a.there) in
     then_from freely free_law u v v d (λ i. give (let z : statements.Cases = record { items = both (items_in u cases.items) i; labels = ls } in z)) (give (cases_in v longer)) (ItemsThere v given) (IsItems v given) CasesThere IsCases (Ok longer) a
     (λ o s i m n q.

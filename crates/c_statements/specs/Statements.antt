@@ -21,6 +21,7 @@ use Rattle.c_tree.specs.Declarations.{both}
 use Rattle.c_tree.specs.Statements as statements
 use Rattle.c_tree.specs.Statements.{one_action, one_term, does, all_items, block_action, substatement, test, in_a_loop, in_a_switch, for_action, first_part, optional_test, optional_step, has_label, switch_items, no_cases, case_value, case_label, add_label}
 use Rattle.c_tree.specs.Views.{label_of}
+use Rattle.c_tree.specs.declared.typed.SwitchLabel.{SwitchLabel}
 use Rattle.c_nodes.specs.declared.nodes.Nodes.{Nodes}
 use Rattle.c_nodes.specs.Nodes as nodes
 use Rattle.c_nodes.specs.Nodes.{type_in, term_in, type_count, term_count}
@@ -159,8 +160,16 @@ pub record IsPromoted (old new : Nodes) (node : ℕ) (x : Controlling) : Type 0 
 abbrev pub CasesThere : Work → Cases → Type 0
 CasesThere w x = ItemsThere w x.items
 
+-- a label of the program, from its value and the number of statements before it
+abbrev pub switch_label : Option ℕ × ℕ → SwitchLabel
+switch_label p = record { value = p.0; before = p.1 }
+
+-- the labels so far, in their order
+abbrev pub labels_in : Cases → List SwitchLabel
+labels_in x = map switch_label x.labels.entries
+
 abbrev pub cases_in : Work → Cases → statements.Cases
-cases_in w x = record { items = items_in w x.items; labels = map label_of x.labels.items }
+cases_in w x = record { items = items_in w x.items; labels = map label_of (labels_in x) }
 
 abbrev pub IsCases : Work → Cases → State → statements.Cases → Type 0
 IsCases w x s a = a ≡ cases_in w x
@@ -174,9 +183,9 @@ IsLabel w v s a = a ≡ v
 -- the answer of a label: it is added, or refused where an earlier one is like it
 abbrev pub AddsLabel : Cases → Option ℕ → Pos → Result Cases Refusal → Type 0
 AddsLabel cases v p (Ok new) =
-    (has_label v (map label_of cases.labels.items) ≡ false) × (new.items ≡ cases.items) ×
-    (new.labels.items ≡ cases.labels.items ++ record { value = v; before = length cases.items.actions.items } ∷ [])
-AddsLabel cases v p (Err (Code code place)) = (has_label v (map label_of cases.labels.items) ≡ true) × (code ≡ 131) × (place ≡ p)
+    (has_label v (map label_of (labels_in cases)) ≡ false) × (new.items ≡ cases.items) ×
+    (labels_in new ≡ labels_in cases ++ record { value = v; before = length cases.items.actions.items } ∷ [])
+AddsLabel cases v p (Err (Code code place)) = (has_label v (map label_of (labels_in cases)) ≡ true) × (code ≡ 131) × (place ≡ p)
 AddsLabel cases v p (Err NoMemory) = Unit {0}
 
 abbrev pub switch_with : meant.Context → Pos → Syns → Reading → List Reading → Doing meant.Items
@@ -202,7 +211,7 @@ labelling rs of p cases = case_label rs of >>= λ v. add_label v p cases
 
 -- the statement that a `switch` is
 abbrev pub switch_of : ℕ → Cases → StmtKind
-switch_of on cases = stmts.Switch on cases.items.vars.items cases.labels.items cases.items.actions.items
+switch_of on cases = stmts.Switch on cases.items.vars.items (labels_in cases) cases.items.actions.items
 
 -- ---- the statements that have a scope of their own, in that scope (6.8p3)
 

@@ -1,16 +1,15 @@
 //! What a `switch` is on, and its labels (C11 6.8.4.2).
 
-ghost use Rattle.std.specs.Prelude.{◌≡◌, ◌<◌, ◌++◌, ◌∷◌, [], true, map, length, IfOk};
+ghost use Rattle.std.specs.Prelude.{◌≡◌, ◌<◌, ◌++◌, ◌∷◌, [], true, false, map, length, IfOk};
 ghost use Rattle.ck_int.specs.Kinds.{wrapped};
 ghost use Rattle.c_tree.specs.Syntax.{Syn, Syns};
 ghost use Rattle.c_tree.specs.Views.{label_of};
 ghost use Rattle.c_tree.specs.Programs.{reading, readings};
-ghost use Rattle.c_tree.specs.Statements.{same_value, has_label, case_label};
-ghost use Rattle.std.specs.List.{list_any};
+ghost use Rattle.c_tree.specs.Statements.{has_label, case_label};
 ghost use Rattle.c_nodes.specs.Nodes.{IsWhole, type_in, type_count, term_count};
 ghost use Rattle.c_work.specs.Answers.{Answers, quietly, freely};
 ghost use Rattle.c_work.specs.Parts.{IsPart, HasPart, AreParts, HaveParts};
-ghost use Rattle.c_statements.specs.Statements.{switched, SwitchedThere, IsSwitched, IsPromoted, LabelThere, IsLabel, AddsLabel, CasesThere, IsCases, cases_in, case_of, labelling, switch_of};
+ghost use Rattle.c_statements.specs.Statements.{switched, SwitchedThere, IsSwitched, IsPromoted, LabelThere, IsLabel, AddsLabel, CasesThere, IsCases, cases_in, case_of, labelling, switch_of, switch_label, labels_in};
 
 use c_declarators::Constant;
 use c_items::{Context, Items, join};
@@ -20,6 +19,8 @@ use c_tree::{StmtKind, SwitchLabel};
 use c_work::Work;
 use ck_base::{NoMemory, Pos, Refusal, Sequence};
 use ck_int::{IntKind, wrap};
+use indexmap::IndexMap;
+use std::alloc::Global;
 
 /// What a `switch` is on: the number of its promoted type, and the expression in that type.
 #[derive(Clone, Copy, Debug)]
@@ -29,10 +30,11 @@ pub struct Controlling {
 }
 
 /// What stands in the braces of a `switch` so far.
-#[derive(Debug, Drop)]
+#[derive(Drop)]
 pub struct Cases {
     pub items: Items,
-    pub labels: Vec<SwitchLabel>,
+    /// The values of the labels, none for `default`, in their order. Each has the number of statements that stand before it.
+    pub labels: IndexMap<Option<u64>, u32>,
 }
 
 // An integer in its promoted type.
@@ -92,38 +94,23 @@ fn label(work: &mut Work<'_>, of: u32, kids: &[u32], depth: u32) -> Result<Optio
     }
 }
 
-fn same_value(a: Option<u64>, b: Option<u64>) -> bool
-    ensures { result ≡ same_value a b }
+// Whether an earlier label has the value.
+#[tactic(auto, using(crate::proofs::Alike::has_found))]
+fn has_label(labels: &IndexMap<Option<u64>, u32>, value: Option<u64>) -> bool
+    ensures { has_label value (map label_of (map switch_label labels.now.entries)) ≡ result }
 {
-    match a {
-        None => b.is_none(),
-        Some(x) => match b {
-            None => false,
-            Some(y) => x == y,
-        },
-    }
+    labels.contains_key(&value)
 }
 
-fn any_label(labels: &[SwitchLabel], value: Option<u64>) -> bool
-    ensures { result ≡ list_any (λ l. same_value value l.value) labels.now }
-{
-    labels.iter().any(|label| same_value(value, label.value))
-}
-
-fn has_label(labels: &[SwitchLabel], value: Option<u64>) -> bool
-    ensures { has_label value (map label_of labels.now) ≡ result }
-{
-    any_label(labels, value)
-}
-
-// One more label, before the next statement.
+// One more label, before the next statement. No earlier one is like it.
 fn with_label(cases: Cases, value: Option<u64>) -> Result<Cases, NoMemory>
+    requires { has_label value (map label_of (labels_in cases)) ≡ false }
     ensures items { IfOk result (λ x. x.items ≡ cases.items) }
-    ensures labels { IfOk result (λ x. x.labels.items ≡ cases.labels.items ++ record { value = value; before = length cases.items.actions.items } ∷ []) }
+    ensures labels { IfOk result (λ x. labels_in x ≡ labels_in cases ++ record { value = value; before = length cases.items.actions.items } ∷ []) }
 {
     let mut cases = cases;
     let before = u32::try_from(cases.items.actions.len()).map_err(|_| NoMemory)?;
-    cases.labels.push(SwitchLabel { value, before })?;
+    cases.labels.insert(value, before)?;
     Ok(cases)
 }
 
@@ -131,7 +118,7 @@ fn with_label(cases: Cases, value: Option<u64>) -> Result<Cases, NoMemory>
 fn add_label(cases: Cases, value: Option<u64>, pos: Pos) -> Result<Cases, Refusal>
     ensures { AddsLabel cases value pos result }
 {
-    if has_label(cases.labels.as_slice(), value) {
+    if has_label(&cases.labels, value) {
         return Err(Refusal::Code(131, pos));
     }
     let labelled = with_label(cases, value)?;
@@ -161,25 +148,43 @@ pub(crate) fn labelled(
 pub(crate) fn with_items(cases: Cases, more: Items) -> Result<Cases, NoMemory>
     ensures vars { IfOk result (λ x. x.items.vars.items ≡ cases.items.vars.items ++ more.vars.items) }
     ensures actions { IfOk result (λ x. x.items.actions.items ≡ cases.items.actions.items ++ more.actions.items) }
-    ensures labels { IfOk result (λ x. x.labels.items ≡ cases.labels.items) }
+    ensures labels { IfOk result (λ x. labels_in x ≡ labels_in cases) }
 {
     let mut cases = cases;
     join(&mut cases.items, more)?;
     Ok(cases)
 }
 
-// The statement that a `switch` is.
-pub(crate) fn switch_kind(on: u32, cases: Cases) -> StmtKind
-    ensures { result ≡ switch_of on cases }
+fn switch_label(value: Option<u64>, before: u32) -> SwitchLabel
+    ensures { result ≡ switch_label (value, before) }
 {
+    SwitchLabel { value, before }
+}
+
+// The labels, one after the other.
+fn listed(alloc: Global, labels: &IndexMap<Option<u64>, u32>) -> Result<Vec<SwitchLabel>, NoMemory>
+    ensures { IfOk result (λ v. v.items ≡ map switch_label labels.now.entries) }
+{
+    Ok(
+        labels
+            .iter()
+            .map(|(value, before)| switch_label(*value, *before))
+            .collect(alloc)?,
+    )
+}
+
+// The statement that a `switch` is.
+pub(crate) fn switch_kind(alloc: Global, on: u32, cases: Cases) -> Result<StmtKind, NoMemory>
+    ensures { IfOk result (λ k. k ≡ switch_of on cases) }
+{
+    let labels = listed(alloc, &cases.labels)?;
     let items = cases.items;
-    let labels = cases.labels;
-    StmtKind::Switch {
+    Ok(StmtKind::Switch {
         on,
         vars: Sequence::from_vec(items.vars),
         labels: Sequence::from_vec(labels),
         body: Sequence::from_vec(items.actions),
-    }
+    })
 }
 
 pub(crate) fn in_a_switch(context: Context) -> Context

@@ -24,6 +24,7 @@ use c_parts::{first_of, node_at, only, three, two};
 use c_tree::{Node, NodeKind, StmtKind};
 use c_work::Work;
 use ck_base::{NoMemory, Pos, Refusal, Sequence};
+use indexmap::IndexMap;
 
 // The statement that is given alone.
 fn alone(actions: &[u32]) -> Result<u32, NoMemory>
@@ -438,7 +439,7 @@ fn switch_items(
 {
     let mut cases = Cases {
         items: no_items(work.nodes.alloc),
-        labels: Vec::new(work.nodes.alloc),
+        labels: IndexMap::new(work.nodes.alloc),
     };
     let mut left = kids;
     while let Some(part) = first_of(left) {
@@ -506,5 +507,6 @@ fn switch_with(
 {
     let on = switched(work, k, depth)?;
     let cases = switch_body(work, context, on.of, kids, depth)?;
-    does(work, switch_kind(on.value, cases), pos)
+    let kind = switch_kind(work.nodes.alloc, on.value, cases)?;
+    does(work, kind, pos)
 }

@@ -1,4 +1,4 @@
-use Rattle.std.proofs.Common.{rules, ◌≡◌, ℕ, ◌∷◌, ◌++◌, [], List, sym, ap, subst, ◌∙◌, arith, Ok, Err}
+use Rattle.std.proofs.Common.{◌≡◌, ℕ, ◌∷◌, ◌++◌, [], List, map, sym, ap, subst, ◌∙◌, arith, Ok, Err}
 use Rattle.ck_base.specs.declared.positions.Pos.{Pos}
 use Rattle.c_tree.specs.declared.syntax.NodeKind.{NodeKind}
 use Rattle.c_tree.specs.declared.syntax.NodeKind.TheVariants as Kinds
@@ -27,7 +27,7 @@ use Rattle.c_tree.specs.Terms.{Empty, If, While, Do, Switch, no_terms, no_action
 use Rattle.c_tree.specs.Declarations.{both, declaration}
 use Rattle.c_tree.specs.declared.typed.StmtKind.TheVariants as stmts
 use Rattle.c_tree.specs.declared.typed.StmtKind.{StmtKind}
-use Rattle.c_statements.specs.Statements.{evaluated, jumping, return_of, block_of, if_of, if_else_of, while_of, do_of, for_head, for_in, switch_in, if_with, if_else_with, while_with, do_with, inside_of, HeadThere, head_in, switched, SwitchedThere, IsSwitched, switched_on, CasesThere, IsCases, cases_in}
+use Rattle.c_statements.specs.Statements.{evaluated, jumping, return_of, block_of, if_of, if_else_of, while_of, do_of, for_head, for_in, switch_in, if_with, if_else_with, while_with, do_with, inside_of, HeadThere, head_in, switched, SwitchedThere, IsSwitched, switched_on, CasesThere, IsCases, cases_in, switch_label}
 use Rattle.c_statements.proofs.Gather.{gathered, so_far_begins, so_far_ends, so_far_fails, so_far_steps}
 use Rattle.c_parts.proofs.Kids.{opened, has_node, have_kept, has_kept, have_first, have_others, part_kept, parts_kept}
 use Rattle.c_statements.proofs.Inside.{scope_is, is_scoped, nothing_inside, evaluated_is, returned_is, case_item, default_item, other_item}
@@ -229,7 +229,7 @@ substatement-returns t c = λ x p.
 pub switch_items-loop-part-init : goal.switch_items-loop-part-init
 switch_items-loop-part-init t c =
     let u = c.args.work.now in
-    let none : c.new.result.items ≡ [] = search rules in
+    let none : map switch_label c.new.result.entries ≡ [] = ap (map switch_label) c.new.ensures.empty in
     record {
       whole = c.requires.whole;
       keeps = keeps_same u;
@@ -427,7 +427,7 @@ switch_with-returns t c = λ x xs p q.
     let b = c.in_ok-cases.ensures xs (parts_kept u v c.args.kids.now xs a.grows.keeps q) in
     switches u v w c.does.new.work (reading x) (λ of. in_scope (switch_items (in_a_switch d) of xs (readings xs) no_cases)) c.args.pos c.in_ok-on.on c.in_ok-cases.cases c.does.result a
     (subst (λ (e : meant.Context). Answers freely v w (in_scope (switch_items (in_a_switch e) (type_in v.nodes c.in_ok-on.on.of) xs (readings xs) no_cases)) CasesThere IsCases (Ok c.in_ok-cases.cases)) (context_kept u v c.args.context a.grows.keeps c.requires.context) b)
-    (subst (λ (k : StmtKind). Adds w c.does.new.work k c.args.pos c.does.result) c.switch_kind.ensures c.does.ensures)
+    (subst (λ (k : StmtKind). Adds w c.does.new.work k c.args.pos c.does.result) c.in_ok-kind.ensures c.does.ensures)
 
 pub for_loop-for_with-requires : goal.for_loop-for_with-requires
 for_loop-for_with-requires t c =
@@ -805,7 +805,7 @@ switch_with-does-requires t c =
     let a = c.in_ok-on.ensures c.requires.on.syntax c.requires.on.is in
     let f = have_kept u v c.args.kids.now a.grows.keeps c.requires.parts in
     let b = c.in_ok-cases.ensures f.syntax f.are in
-    record { whole = b.whole; values = subst (λ (k : StmtKind). ValuesThere (term_count w.nodes) k) (sym c.switch_kind.ensures) (one_there (term_count w.nodes) c.in_ok-on.on.value (term_there v w c.in_ok-on.on.value b.grows a.there.1)) }
+    record { whole = b.whole; values = subst (λ (k : StmtKind). ValuesThere (term_count w.nodes) k) (sym c.in_ok-kind.ensures) (one_there (term_count w.nodes) c.in_ok-on.on.value (term_there v w c.in_ok-on.on.value b.grows a.there.1)) }
 
 pub switch_with-returns-in_err-cases : goal.switch_with-returns-in_err-cases
 switch_with-returns-in_err-cases t c = let p = err_from_is_err_and c.from_residual-in_err-cases.result c.from_residual-in_err-cases.ensures.1 in λ x xs px q.
