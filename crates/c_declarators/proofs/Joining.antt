@@ -1,9 +1,10 @@
 -- Members and parameters.
-use Rattle.std.proofs.Common.{◌≡◌, ℕ, suc, ◌<◌, Bool, true, false, List, [], ◌∷◌, ◌++◌, length, Option, Some, None, Err, refl, sym, ap, ◌∙◌, arith}
-use Rattle.std.specs.Prelude.{not, ◌&&◌, ◌||◌, ◌==◌, bytes_eq, reverse, is_none}
+use Rattle.std.proofs.Common.{◌≡◌, ℕ, suc, ◌<◌, ◌≤◌, Bool, true, false, cond, List, [], ◌∷◌, ◌++◌, length, Option, Some, None, Err, refl, sym, ap, ◌∙◌, arith}
+use Rattle.std.specs.Prelude.{not, ◌&&◌, ◌||◌, ◌==◌, bytes_eq, reverse, is_none, is_some}
 use Rattle.std.specs.List.{list_any}
 use Rattle.std.proofs.lemmas.Bool.{ne_eqb}
 use Rattle.std.proofs.lemmas.List.{length-reverse}
+use Rattle.std.proofs.lemmas.List.Elements.{All-push}
 use Rattle.ck_base.specs.Tokens.{Lexeme}
 use Rattle.c_tree.specs.declared.typed.Member.{Member}
 use Rattle.c_tree.specs.Types.{Ty, Void, adjusted, bare, is_function, is_tagged, is_void}
@@ -18,10 +19,12 @@ use Rattle.c_nodes.specs.Nodes.{type_count}
 use Rattle.c_work.specs.declared.work.Work.{Work}
 use Rattle.c_work.specs.Answers.{Keeps}
 use Rattle.c_work.specs.declared.work.Name.{Name}
+use Rattle.c_declarators.specs.declared.members.Members.{Members}
 use Rattle.c_declarators.specs.declared.parts.Derived.{Derived}
 use Rattle.c_declarators.specs.declared.parts.Wrap.{Wrap}
-use Rattle.c_declarators.specs.Parts.{IsMember, AreMembers, MembersThere, AreWraps, IsDerived, any_scope, name_token}
+use Rattle.c_declarators.specs.Parts.{IsMember, AreMembers, MembersThere, AllMembersThere, AreWraps, IsDerived, any_scope, has_name, name_token}
 use Rattle.c_declarators.specs.Steps.{named_member, has_no_parts}
+use Rattle.c_declarators.proofs.Making.{All_weaker}
 
 -- ---- members
 
@@ -46,6 +49,34 @@ members_push w [] [] m x h i = (i, tt)
 members_push w [] (y ∷ ys) m x h i = absurd h
 members_push w (n ∷ ms) [] m x h i = absurd h
 members_push w (n ∷ ms) (y ∷ ys) m x h i = (h.0, members_push w ms ys m x h.1 i)
+
+or_swapped : (a b c : Bool) → (a || (b || c)) ≡ (b || (a || c))
+or_swapped true true c = refl
+or_swapped true false c = refl
+or_swapped false b c = refl
+
+any_push : {A : Type 0} (p : A → Bool) (xs : List A) (x : A) → (p x || list_any p xs) ≡ list_any p (xs ++ x ∷ [])
+any_push p [] x = refl
+any_push p (y ∷ ys) x = or_swapped (p x) (p y) (list_any p ys) ∙ ap (λ b. p y || b) (any_push p ys x)
+
+-- what is found once one more is put in front
+pub found_first : {A : Type 0} (b : Bool) (x : A) (o : Option A) → is_some (cond b (Some x) o) ≡ (b || is_some o)
+found_first true x o = refl
+found_first false x o = refl
+
+-- members so far are there when the work has grown
+pub all_members_kept : (u v : Work) (a : Members) → Keeps u v → AllMembersThere u a → AllMembersThere v a
+all_members_kept u v a k h = record {
+  there = All_weaker (λ (m : Member). m.of < type_count u.nodes) (λ (m : Member). m.of < type_count v.nodes) a.all.items (λ m lt. let e : type_count u.nodes ≤ type_count v.nodes = k.more_types in omega arith) h.there;
+  names = λ text. h.names text ∙ ap (λ f. list_any (λ (m : Member). bytes_eq (text_at f m.name) text) a.all.items) (sym k.file);
+}
+
+-- with one more member and its name
+pub all_members_push : (w : Work) (a b : Members) (m : Member) → AllMembersThere w a → m.of < type_count w.nodes → b.all.items ≡ a.all.items ++ m ∷ [] → ((text : List ℕ) → has_name b text ≡ (bytes_eq (text_at w.file.now m.name) text || has_name a text)) → AllMembersThere w b
+all_members_push w a b m h lt e n = record {
+  there = rw e (All-push (λ (d : Member). d.of < type_count w.nodes) a.all.items m h.there lt);
+  names = λ text. n text ∙ ap (λ c. bytes_eq (text_at w.file.now m.name) text || c) (h.names text) ∙ any_push (λ (d : Member). bytes_eq (text_at w.file.now d.name) text) a.all.items m ∙ ap (list_any (λ (d : Member). bytes_eq (text_at w.file.now d.name) text)) (sym e);
+}
 
 pub member_again : (s : State) (of : Ty) (ws : List meant.Wrap) (t : Lexeme) (ms : List Part) → has_part ms t.text ≡ true → named_member of ws t ms s ≡ Err (record { code = 131; place = t.pos })
 member_again s of ws t ms b = rw b refl

@@ -1,5 +1,7 @@
 -- What specifiers, parameters and declarators stand for.
-use Rattle.std.specs.Prelude.{◌≡◌, ℕ, ◌<◌, List, [], ◌∷◌, length, map, reverse, Option, option_map, All, Result, Ok, Err, Vec, ℤ}
+use Rattle.std.specs.Prelude.{◌≡◌, ℕ, ◌<◌, List, [], ◌∷◌, length, map, reverse, Option, option_map, All, Result, Ok, Err, Bool, bytes_eq, is_some, ℤ}
+use Rattle.std.specs.List.{list_any}
+use Rattle.std.specs.Map.{lookup}
 use Rattle.ck_base.specs.declared.refusal.Refusal.{Refusal}
 use Rattle.ck_base.specs.declared.refusal.Refusal.TheVariants.{Code, NoMemory}
 use Rattle.c_tree.specs.declared.typed.Member.{Member}
@@ -25,7 +27,7 @@ use Rattle.c_declarators.specs.declared.parts.Wrap.TheVariants.{Point, Row, Give
 use Rattle.c_declarators.specs.declared.parts.Derived.{Derived}
 use Rattle.c_declarators.specs.declared.parts.Formed.{Formed}
 use Rattle.c_declarators.specs.declared.constants.Constant.{Constant}
-use Rattle.std.specs.declared.alloc.Global.{Global}
+use Rattle.c_declarators.specs.declared.members.Members.{Members}
 use Rattle.c_declarators.specs.Forming.{WrapIsThere, formed_in}
 
 -- whatever the state
@@ -130,12 +132,17 @@ AreMembers w ms xs = ⊥
 abbrev pub MembersThere : Work → List Member → Type 0
 MembersThere w ms = All (λ (m : Member). m.of < type_count w.nodes) ms
 
--- the same of a list that is answered
-abbrev pub AllMembersThere : Work → Vec Member Global → Type 0
-AllMembersThere w v = MembersThere w v.items
+-- whether members so far have one with a name
+abbrev pub has_name : Members → List ℕ → Bool
+has_name v text = is_some (lookup (λ k. bytes_eq text k.now) v.names.entries)
 
-abbrev pub AreAllMembers : Work → Vec Member Global → State → List meant.Part → Type 0
-AreAllMembers w v s xs = AreMembers w v.items xs
+-- the same of the members so far: their names are those that stand in the file
+pub record AllMembersThere (w : Work) (v : Members) : Type 0 where
+  pub there : MembersThere w v.all.items
+  pub names : (text : List ℕ) → has_name v text ≡ list_any (λ (m : Member). bytes_eq (text_at w.file.now m.name) text) v.all.items
+
+abbrev pub AreAllMembers : Work → Members → State → List meant.Part → Type 0
+AreAllMembers w v s xs = AreMembers w v.all.items xs
 
 -- ---- constants
 

@@ -18,7 +18,7 @@ mod words;
 pub use constants::{Constant, array_length, constant_value};
 pub use forming::{adjusted, form};
 pub use judging::judge;
-pub use members::add_member;
+pub use members::{Members, add_member};
 pub use naming::{enumerate, typedef_name};
 pub use parameters::{is_new, parameter_from};
 pub use parts::{Derived, Formed, Param, Prototype, Specified, Wrap};

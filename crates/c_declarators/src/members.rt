@@ -1,7 +1,6 @@
 //! Members of structs and unions (C11 6.7.2.1).
 
-ghost use Rattle.std.specs.Prelude.{◌≡◌, ◌<◌, List, [], ◌∷◌, ◌++◌, not, ◌||◌, bytes_eq, reverse, All, IfOk};
-ghost use Rattle.std.specs.List.{list_any};
+ghost use Rattle.std.specs.Prelude.{◌≡◌, ℕ, ◌<◌, List, [], ◌∷◌, ◌++◌, false, not, ◌||◌, bytes_eq, reverse, All, IfOk};
 ghost use Rattle.c_tree.specs.Types.{is_function};
 ghost use Rattle.c_tree.specs.Scopes.{Part, State, is_complete};
 ghost use Rattle.c_tree.specs.Readings.{Wrap as MeantWrap, Specified as MeantSpecified, Derived as MeantDerived};
@@ -11,7 +10,7 @@ ghost use Rattle.c_nodes.specs.Nodes.{IsWhole, type_in, type_count};
 ghost use Rattle.c_work.specs.Answers.{Answers, quietly};
 ghost use Rattle.c_work.specs.Parts.{token_of};
 ghost use Rattle.c_declarators.specs.Forming.{WrapIsThere};
-ghost use Rattle.c_declarators.specs.Parts.{SpecifiedThere, IsSpecified, DerivedThere, IsDerived, AreWraps, any_scope, MembersThere, AreMembers, AllMembersThere, AreAllMembers};
+ghost use Rattle.c_declarators.specs.Parts.{SpecifiedThere, IsSpecified, DerivedThere, IsDerived, AreWraps, any_scope, AreMembers, AllMembersThere, AreAllMembers, has_name};
 ghost use Rattle.c_declarators.specs.Steps.{named_member};
 
 use crate::forming::{either, form, is_complete};
@@ -21,6 +20,47 @@ use c_nodes::Nodes;
 use c_tree::Member;
 use c_work::{Name, Work};
 use ck_base::{NoMemory, Refusal, Span};
+use indexmap::IndexMap;
+use std::alloc::Global;
+
+/// The members of a struct or union so far, and their names.
+#[derive(Drop)]
+pub struct Members<'a> {
+    /// In the order of the file.
+    pub all: Vec<Member>,
+    pub(crate) names: IndexMap<&'a [u8], ()>,
+}
+
+impl<'a> Members<'a> {
+    /// No members.
+    pub fn new(alloc: Global) -> Self
+        ensures all { result.all.items ≡ [] }
+        ensures names { (text : List ℕ) → has_name result text ≡ false }
+    {
+        Members {
+            all: Vec::new(alloc),
+            names: IndexMap::new(alloc),
+        }
+    }
+
+    // Whether a name is that of one of these members.
+    fn has(&self, text: &[u8]) -> bool
+        ensures { result ≡ has_name self.now text.now }
+    {
+        self.names.contains_key(text)
+    }
+
+    // These members and one more behind them, with its name.
+    fn with(self, member: Member, text: &'a [u8]) -> Result<Members<'a>, NoMemory>
+        ensures all { IfOk result (λ v. v.all.items ≡ self.entry.all.items ++ member ∷ []) }
+        ensures names { IfOk result (λ v. (other : List ℕ) → has_name v other ≡ (bytes_eq text.entry.now other || has_name self.entry other)) }
+    {
+        let mut longer = self;
+        longer.names.insert(text, ())?;
+        longer.all.push(member)?;
+        Ok(longer)
+    }
+}
 
 /// The bytes at a span, as far as they stand in the file.
 pub(crate) fn text_of<'a>(file: &'a [u8], span: Span) -> &'a [u8]
@@ -29,13 +69,6 @@ pub(crate) fn text_of<'a>(file: &'a [u8], span: Span) -> &'a [u8]
     let end = (span.end as usize).min(file.len());
     let start = (span.start as usize).min(end);
     &file[start..end]
-}
-
-// Whether a name is that of one of these members.
-fn is_member(file: &[u8], members: &[Member], text: &[u8]) -> bool
-    ensures { result ≡ list_any (λ m. bytes_eq (text_at file.now m.name) text.now) members.now }
-{
-    members.iter().any(|m| text_of(file, m.name) == text)
 }
 
 // Whether a member may not have this type since it is not complete.
@@ -47,29 +80,22 @@ fn lacks(nodes: &Nodes<'_>, t: u32) -> bool
     !either(nodes.is_function(t), is_complete(nodes, t))
 }
 
-fn pushed(members: Vec<Member>, member: Member) -> Result<Vec<Member>, NoMemory>
-    ensures { IfOk result (λ v. v.items ≡ members.items ++ member ∷ []) }
-{
-    let mut all = members;
-    all.push(member)?;
-    Ok(all)
-}
-
 // A member with a name, behind those that stand before it.
-fn named_member(
-    work: &mut Work<'_>,
+fn named_member<'a>(
+    work: &mut Work<'a>,
     of: u32,
     name: Name,
     wraps: &[Wrap<'_>],
-    members: Vec<Member>,
-) -> Result<Vec<Member>, Refusal>
+    members: Members<'a>,
+) -> Result<Members<'a>, Refusal>
     requires whole { IsWhole work.old.nodes }
     requires there { of < type_count work.old.nodes }
     requires parts { All (WrapIsThere work.old.nodes) wraps.now }
-    requires members { MembersThere work.old members.items }
-    ensures { (ws : List MeantWrap) (ms : List Part) → AreWraps any_scope work.old (reverse wraps.now) ws → AreMembers work.old members.items ms → Answers quietly work.old work.new (named_member (type_in work.old.nodes of) ws (token_of work.old name) ms) AllMembersThere AreAllMembers result }
+    requires members { AllMembersThere work.old members }
+    ensures { (ws : List MeantWrap) (ms : List Part) → AreWraps any_scope work.old (reverse wraps.now) ws → AreMembers work.old members.entry.all.items ms → Answers quietly work.old work.new (named_member (type_in work.old.nodes of) ws (token_of work.old name) ms) AllMembersThere AreAllMembers result }
 {
-    if is_member(work.file, members.as_slice(), text_of(work.file, name.span)) {
+    let text = text_of(work.file, name.span);
+    if members.has(text) {
         return Err(Refusal::Code(131, name.pos));
     }
     let formed = form(&mut work.nodes, of, wraps)?;
@@ -82,24 +108,25 @@ fn named_member(
                 name: name.span,
                 of: formed.of,
             };
-            Ok(pushed(members, member)?)
+            let longer = members.with(member, text)?;
+            Ok(longer)
         }
     }
 }
 
 /// A member behind those that stand before it: 131 for a second one of its name, and then the rules on its type, which is complete and no
 /// function's (132, 133, 137, 140).
-pub fn add_member(
-    work: &mut Work<'_>,
+pub fn add_member<'a>(
+    work: &mut Work<'a>,
     s: Specified,
     d: &Derived<'_>,
-    members: Vec<Member>,
-) -> Result<Vec<Member>, Refusal>
+    members: Members<'a>,
+) -> Result<Members<'a>, Refusal>
     requires whole { IsWhole work.old.nodes }
     requires specified { SpecifiedThere work.old s }
     requires parts { DerivedThere work.old d.now }
-    requires members { MembersThere work.old members.items }
-    ensures { (x : MeantSpecified) (y : MeantDerived) (ms : List Part) → IsSpecified work.old s x → IsDerived any_scope work.old d.now y → AreMembers work.old members.items ms → Answers quietly work.old work.new (add_member x x.stored y.name y.wraps ms) AllMembersThere AreAllMembers result }
+    requires members { AllMembersThere work.old members }
+    ensures { (x : MeantSpecified) (y : MeantDerived) (ms : List Part) → IsSpecified work.old s x → IsDerived any_scope work.old d.now y → AreMembers work.old members.entry.all.items ms → Answers quietly work.old work.new (add_member x x.stored y.name y.wraps ms) AllMembersThere AreAllMembers result }
 {
     match d.name {
         None => Err(Refusal::Code(120, s.first)),

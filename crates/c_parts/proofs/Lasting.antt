@@ -1,7 +1,8 @@
 -- What is named goes on being named, and what stands for it.
-use Rattle.std.proofs.Common.{◌≡◌, ℕ, zero, suc, ◌<◌, ◌≤◌, ◌+◌, List, [], ◌∷◌, ◌++◌, length, map, Option, Some, None, refl, sym, ap, subst, ◌∙◌, arith}
-use Rattle.std.specs.Prelude.{All, reverse, slice_index_or, option_map}
+use Rattle.std.proofs.Common.{◌≡◌, ℕ, zero, suc, ◌<◌, ◌≤◌, ◌+◌, List, [], ◌∷◌, ◌++◌, length, map, Option, Some, None, false, refl, sym, ap, subst, ◌∙◌, arith}
+use Rattle.std.specs.Prelude.{All, bytes_eq, reverse, slice_index_or, option_map}
 use Rattle.std.specs.Global.{Vec}
+use Rattle.std.specs.List.{list_any}
 use Rattle.std.proofs.lemmas.List.{map-append}
 use Rattle.std.proofs.lemmas.List.Elements.{All-push}
 use Rattle.ck_base.specs.declared.positions.Pos.{Pos}
@@ -20,13 +21,14 @@ use Rattle.c_work.specs.declared.work.Name.{Name}
 use Rattle.c_work.specs.Work.{Shows}
 use Rattle.c_work.specs.Answers.{Keeps, Quiet, Still}
 use Rattle.c_work.specs.Parts.{token_of}
+use Rattle.c_declarators.specs.declared.members.Members.{Members}
 use Rattle.c_declarators.specs.declared.parts.Specified.{Specified}
 use Rattle.c_declarators.specs.declared.parts.Param.{Param}
 use Rattle.c_declarators.specs.declared.parts.Wrap.{Wrap}
 use Rattle.c_declarators.specs.declared.parts.Wrap.TheVariants.{Point, Row, Gives}
 use Rattle.c_declarators.specs.declared.parts.Derived.{Derived}
 use Rattle.c_declarators.specs.Forming.{ParamIsThere, WrapIsThere}
-use Rattle.c_declarators.specs.Parts.{SpecifiedThere, IsSpecified, ParamThere, name_token, param_in, IsDerived, AreWraps, DerivedThere, ShowsDerived, shown_in, any_scope, MembersThere, AreMembers}
+use Rattle.c_declarators.specs.Parts.{SpecifiedThere, IsSpecified, ParamThere, name_token, param_in, IsDerived, AreWraps, DerivedThere, ShowsDerived, shown_in, any_scope, MembersThere, AllMembersThere, AreMembers, has_name}
 use Rattle.c_declarators.proofs.Deriving.{derived_weaker}
 
 pub all_weaker : {A : Type 0} (P Q : A → Type 0) (xs : List A) → ((x : A) → P x → Q x) → All P xs → All Q xs
@@ -59,9 +61,6 @@ some_specified w s = (record { first = a_token s.first; stored = s.stored; stora
 
 -- ---- members
 
-pub members_there : (v w : Work) (ms : List Member) → Keeps v w → MembersThere v ms → MembersThere w ms
-members_there v w ms k h = all_weaker (λ (m : Member). m.of < type_count v.nodes) (λ (m : Member). m.of < type_count w.nodes) ms (λ m l. let e : type_count v.nodes ≤ type_count w.nodes = k.more_types in omega arith) h
-
 pub members_kept : (v w : Work) (ms : List Member) (xs : List scopes.Part) → Keeps v w → MembersThere v ms → AreMembers v ms xs → AreMembers w ms xs
 members_kept v w [] [] k t h = tt
 members_kept v w [] (x ∷ xs) k t h = absurd h
@@ -71,6 +70,13 @@ members_kept v w (m ∷ ms) (x ∷ xs) k t h =
       record { text = h.0.text ∙ ap (λ (f : List ℕ). text_at f m.name) (sym k.file); span = h.0.span; of = h.0.of ∙ sym (k.types m.of l) },
       members_kept v w ms xs k (λ i d e. t (suc i) d (omega arith)) h.1,
     )
+
+-- no members
+pub no_members_there : (w : Work) (ms : Members) → ms.all.items ≡ [] → ((text : List ℕ) → has_name ms text ≡ false) → AllMembersThere w ms
+no_members_there w ms e n = record {
+  there = subst (λ (z : List Member). MembersThere w z) (sym e) (λ k d l. absurd (omega arith));
+  names = λ text. n text ∙ ap (list_any (λ (m : Member). bytes_eq (text_at w.file.now m.name) text)) (sym e);
+}
 
 -- some members that are these
 pub some_members : (w : Work) (ms : List Member) → (xs : List scopes.Part) × AreMembers w ms xs

@@ -16,7 +16,7 @@ ghost use Rattle.c_tree.specs.Programs.{reading, readings, type_of_kind};
 ghost use Rattle.c_nodes.specs.Nodes.{IsWhole};
 ghost use Rattle.c_work.specs.Answers.{Answers, quietly, OperandThere, IsOperand, TypeThere, IsType, NothingThere, IsNothing};
 ghost use Rattle.c_work.specs.Parts.{IsPart, HasPart, AreParts, token_of};
-ghost use Rattle.c_declarators.specs.Parts.{in_any, SpecifiedThere, IsSpecified, ConstantThere, IsConstant, NumberThere, IsNumber, MembersThere, AreMembers, AllMembersThere, AreAllMembers, ParamThere, IsParam, DerivedThere, ShowsDerived, CountThere, IsCount};
+ghost use Rattle.c_declarators.specs.Parts.{in_any, SpecifiedThere, IsSpecified, ConstantThere, IsConstant, NumberThere, IsNumber, AreMembers, AllMembersThere, AreAllMembers, ParamThere, IsParam, DerivedThere, ShowsDerived, CountThere, IsCount};
 ghost use Rattle.c_work.specs.Parts.{HaveParts};
 ghost use Rattle.c_parts.specs.Kids.{HasNode, IsNode};
 ghost use Rattle.c_parts.specs.Gathered.{operand_of, type_of, one_operand, one_value, one_type, both, two_values, place_and_value, three_values, type_and_value, assigning, two_in, PairThere, IsPair, TripleThere, IsTriple, CastThere, IsCast, AllThere, AreOperands, called_service, called_value};
@@ -27,14 +27,13 @@ use crate::rules::{
 };
 use crate::tree::{ends, first_of, name_of, node_at, only, tag_of, three, two};
 use c_declarators::{
-    Constant, Derived, Param, Prototype, Specified, Wrap, add_member, array_length, begin_tag,
-    close, complete_tag, constant_value, enter, enumerate, has_register, named_tag, named_type,
-    new_enumeration, new_tag, parameter_from, parts_const, tagged, typedef_name,
+    Constant, Derived, Members, Param, Prototype, Specified, Wrap, add_member, array_length,
+    begin_tag, close, complete_tag, constant_value, enter, enumerate, has_register, named_tag,
+    named_type, new_enumeration, new_tag, parameter_from, parts_const, tagged, typedef_name,
 };
 use c_nodes::Operand;
 use c_tree::{
-    InfixOperator, Member, Node, NodeKind, PrefixOperator, RecordKind, Selection, StepOperator,
-    UnaryOp,
+    InfixOperator, Node, NodeKind, PrefixOperator, RecordKind, Selection, StepOperator, UnaryOp,
 };
 use c_work::{Name, Work};
 use ck_base::{NoMemory, Pos, Refusal};
@@ -904,17 +903,17 @@ fn filled(
 {
     begin_tag(work, tag, at)?;
     let members = all_members(work, kids, depth)?;
-    complete_tag(work, kind, tag, members, keyword)?;
+    complete_tag(work, kind, tag, members.all, keyword)?;
     tagged(work, tag)
 }
 
 #[cycle(parts)]
-fn all_members(work: &mut Work<'_>, kids: &[u32], depth: u32) -> Result<Vec<Member>, Refusal>
+fn all_members<'a>(work: &mut Work<'a>, kids: &[u32], depth: u32) -> Result<Members<'a>, Refusal>
     requires whole { IsWhole work.old.nodes }
     requires parts { HaveParts work.old kids.now }
     ensures { (xs : Syns) → AreParts work.old kids.now xs → Answers quietly work.old work.new (all_members (readings xs) []) AllMembersThere AreAllMembers result }
 {
-    let mut members = Vec::new(work.nodes.alloc);
+    let mut members = Members::new(work.nodes.alloc);
     let mut left = kids;
     while let Some(part) = first_of(left) {
         members = member(work, part.first, members, depth)?;
@@ -925,16 +924,16 @@ fn all_members(work: &mut Work<'_>, kids: &[u32], depth: u32) -> Result<Vec<Memb
 
 // The members that a node declares, behind those before it.
 #[cycle(parts)]
-fn member(
-    work: &mut Work<'_>,
+fn member<'a>(
+    work: &mut Work<'a>,
     k: u32,
-    members: Vec<Member>,
+    members: Members<'a>,
     depth: u32,
-) -> Result<Vec<Member>, Refusal>
+) -> Result<Members<'a>, Refusal>
     requires whole { IsWhole work.old.nodes }
     requires part { HasPart work.old k }
-    requires members { MembersThere work.old members.items }
-    ensures { (x : Syn) (ms : List Part) → IsPart work.old k x → AreMembers work.old members.items ms → Answers quietly work.old work.new ((reading x).members ms) AllMembersThere AreAllMembers result }
+    requires members { AllMembersThere work.old members }
+    ensures { (x : Syn) (ms : List Part) → IsPart work.old k x → AreMembers work.old members.entry.all.items ms → Answers quietly work.old work.new ((reading x).members ms) AllMembersThere AreAllMembers result }
 {
     if depth == 0 {
         return Err(Refusal::NoMemory);
@@ -952,18 +951,18 @@ fn member(
 }
 
 #[cycle(parts)]
-fn member_declarators(
-    work: &mut Work<'_>,
+fn member_declarators<'a>(
+    work: &mut Work<'a>,
     s: Specified,
     kids: &[u32],
-    members: Vec<Member>,
+    members: Members<'a>,
     depth: u32,
-) -> Result<Vec<Member>, Refusal>
+) -> Result<Members<'a>, Refusal>
     requires whole { IsWhole work.old.nodes }
     requires specified { SpecifiedThere work.old s }
     requires parts { HaveParts work.old kids.now }
-    requires members { MembersThere work.old members.items }
-    ensures { (x : MeantSpecified) (xs : Syns) (ms : List Part) → IsSpecified work.old s x → AreParts work.old kids.now xs → AreMembers work.old members.items ms → Answers quietly work.old work.new (member_declarators x (readings xs) ms) AllMembersThere AreAllMembers result }
+    requires members { AllMembersThere work.old members }
+    ensures { (x : MeantSpecified) (xs : Syns) (ms : List Part) → IsSpecified work.old s x → AreParts work.old kids.now xs → AreMembers work.old members.entry.all.items ms → Answers quietly work.old work.new (member_declarators x (readings xs) ms) AllMembersThere AreAllMembers result }
 {
     let mut all = members;
     let mut left = kids;
@@ -975,18 +974,18 @@ fn member_declarators(
 }
 
 #[cycle(parts)]
-fn member_declarator(
-    work: &mut Work<'_>,
+fn member_declarator<'a>(
+    work: &mut Work<'a>,
     s: Specified,
     k: u32,
-    members: Vec<Member>,
+    members: Members<'a>,
     depth: u32,
-) -> Result<Vec<Member>, Refusal>
+) -> Result<Members<'a>, Refusal>
     requires whole { IsWhole work.old.nodes }
     requires specified { SpecifiedThere work.old s }
     requires part { HasPart work.old k }
-    requires members { MembersThere work.old members.items }
-    ensures { (x : MeantSpecified) (y : Syn) (ms : List Part) → IsSpecified work.old s x → IsPart work.old k y → AreMembers work.old members.items ms → Answers quietly work.old work.new (member_declarator x (reading y) ms) AllMembersThere AreAllMembers result }
+    requires members { AllMembersThere work.old members }
+    ensures { (x : MeantSpecified) (y : Syn) (ms : List Part) → IsSpecified work.old s x → IsPart work.old k y → AreMembers work.old members.entry.all.items ms → Answers quietly work.old work.new (member_declarator x (reading y) ms) AllMembersThere AreAllMembers result }
 {
     let d = derived(work, k, depth)?;
     add_member(work, s, &d, members)

@@ -40,7 +40,6 @@ use Rattle.c_parts.proofs.Others.{no_expression}
 use Rattle.c_work.proofs.Unevaluated.{unevaluated_operand, unevaluated_type}
 use Rattle.c_parts.proofs.Gathering.{at_node, step_failed, step_then, both_done, answers_one, answers_two, answers_three, refused_one, refused_two, refused_three, have_one, have_two, have_three, parenthesized_is, postfix_is, step_is, address_is, indirection_is, unary_is, size_of_expression_is, size_of_type_is, index_is, infix_is, cast_is, assignment_is, conditional_is}
 use Rattle.std.specs.Prelude.{FitsSigned, All, Bool, ℤ, pos, Result, ◌&&◌, ◌==◌, ◌++◌, length, reverse}
-use Rattle.std.specs.Global.{Vec}
 use Rattle.std.proofs.lemmas.Bool.{eqb-true, eqb-false}
 use Rattle.ck_base.specs.declared.refusal.Refusal.{Refusal}
 use Rattle.ck_base.specs.declared.refusal.Refusal.TheVariants.{Code}
@@ -55,6 +54,7 @@ use Rattle.c_tree.specs.Programs.{type_of_kind}
 use Rattle.c_nodes.specs.Nodes.{type_count}
 use Rattle.c_work.specs.Answers.{Done, NothingThere, IsNothing}
 use Rattle.c_work.proofs.Sequencing.{also_then, failed, keeps_same, keeps_then}
+use Rattle.c_declarators.specs.declared.members.Members.{Members}
 use Rattle.c_declarators.specs.declared.parts.Prototype.{Prototype}
 use Rattle.c_declarators.specs.declared.parts.Wrap.{Wrap}
 use Rattle.c_declarators.specs.declared.parts.Wrap.TheVariants.{Point, Row, Gives}
@@ -72,7 +72,8 @@ use mir.Syntax.{w128}
 use mir.Val.{to_z}
 use Rattle.c_parts.proofs.Among.{then_shown, then_failed, made_done}
 use Rattle.c_parts.proofs.Folding.{fold_begins, fold_more, fold_fails, fold_ends}
-use Rattle.c_parts.proofs.Lasting.{specified_there, specified_kept, some_specified, members_there, members_kept, some_members, token_kept}
+use Rattle.c_declarators.proofs.Joining.{all_members_kept}
+use Rattle.c_parts.proofs.Lasting.{specified_there, specified_kept, some_specified, members_kept, no_members_there, some_members, token_kept}
 use Rattle.c_parts.proofs.Leaves.{typedef_is, declared_is, enumerator_is, parameter_is as parameter_word}
 use Rattle.c_parts.proofs.Gathering.{parts_length}
 use Rattle.c_parts.proofs.Specifiers.{names_type_is, types_begin, types_end, types_more, specifiers_are, type_name_is, no_type_name, no_type, member_is, no_member, members_more, members_end, declarators_more, declarators_end, enumerators_end, enumerator_alone, enumerator_with, parameter_is, no_parameter, params_begin, params_end}
@@ -812,11 +813,11 @@ filled-complete_tag-requires t c =
     let a = c.in_ok-begin_tag.ensures in
     let h = have_kept c.args.work.now c.begin_tag.new.work c.args.kids.now a.grows.keeps c.requires.parts in
     let b = c.in_ok-members.ensures h.syntax h.are in
-    record { whole = b.whole; members = b.there }
+    record { whole = b.whole; members = b.there.there }
 
 pub filled-tagged-requires : goal.filled-tagged-requires
 filled-tagged-requires t c =
-    let m = some_members c.all_members.new.work c.in_ok-members.members.items in
+    let m = some_members c.all_members.new.work c.in_ok-members.members.all.items in
     (c.in_ok-complete_tag.ensures m.0 m.1).whole
 
 pub filled-returns : goal.filled-returns
@@ -831,8 +832,8 @@ filled-returns t c = λ xs p.
     let a = c.in_ok-begin_tag.ensures in
     let b = c.in_ok-members.ensures xs (parts_kept u v c.args.kids.now xs a.grows.keeps p) in
     let first = also_then quietly quiet_law u v w (begin_tag n c.args.at) (all_members (readings xs) []) _ _ AllMembersThere AreAllMembers (Ok ms) a b in
-    let some = some_members w ms.items in
-    let rest : (ys : List Part) → AreMembers w ms.items ys → Answers quietly w z (complete_tag k n ys c.args.keyword >> give (Tagged n)) TypeThere IsType c.tagged.result = λ ys i.
+    let some = some_members w ms.all.items in
+    let rest : (ys : List Part) → AreMembers w ms.all.items ys → Answers quietly w z (complete_tag k n ys c.args.keyword >> give (Tagged n)) TypeThere IsType c.tagged.result = λ ys i.
     also_then quietly quiet_law w z z (complete_tag k n ys c.args.keyword) (give (Tagged n)) _ _ TypeThere IsType c.tagged.result (c.in_ok-complete_tag.ensures ys i) c.tagged.ensures in
     then_shown u w z (begin_tag n c.args.at >> all_members (readings xs) []) (λ ys. complete_tag k n ys c.args.keyword >> give (Tagged n)) _ (AreAllMembers w ms) some.0 TypeThere IsType c.tagged.result first (rest some.0 some.1) (λ s ys t i. rest ys i)
 
@@ -840,12 +841,12 @@ pub all_members-loop-part-init : goal.all_members-loop-part-init
 all_members-loop-part-init t c =
     let u = c.args.work.now in
     let ms = c.new-members.result in
-    let there = none_there (λ (m : Member). m.of < type_count u.nodes) ms.items c.new-members.ensures.items in
+    let there = no_members_there u ms c.new-members.ensures.all c.new-members.ensures.names in
     record {
       whole = c.requires.whole;
       parts = c.requires.parts;
       there = there;
-      reads = λ xs q. fold_begins u c.args.kids.now (all_members (readings xs) []) members_on (AllMembersThere u ms) (AreMembers u ms.items) [] c.requires.whole there (subst (λ (z : List Member). AreMembers u z []) (sym c.new-members.ensures.items) tt) xs q (λ s. refl);
+      reads = λ xs q. fold_begins u c.args.kids.now (all_members (readings xs) []) members_on (AllMembersThere u ms) (AreMembers u ms.all.items) [] c.requires.whole there (subst (λ (z : List Member). AreMembers u z []) (sym c.new-members.ensures.all) tt) xs q (λ s. refl);
     }
 
 pub all_members-member-requires : goal.all_members-member-requires
@@ -863,14 +864,14 @@ all_members-loop-part-preserved t c =
     let ns = c.in_ok-members.members in
     let h = subst (λ (z : List ℕ). HaveParts v z) c.in-Some.ensures c.loop-part.invariant.parts in
     let f = have_first v k ks h in
-    let some = some_members v ms.items in
+    let some = some_members v ms.all.items in
     let a = c.in_ok-members.ensures f.syntax some.0 f.is some.1 in
     record {
       whole = a.whole;
       parts = have_kept v w ks a.grows.keeps (have_others v k ks h);
       there = a.there;
-      reads = λ xs q. fold_more c.args.work.now v w k ks (all_members (readings xs) []) members_on members_of (AllMembersThere v ms) (AllMembersThere w ns) (AreMembers v ms.items) (AreMembers w ns.items) some.0 members_more some.1
-          (subst (λ (z : List ℕ). SoFar c.args.work.now v z (all_members (readings xs) []) members_on (AllMembersThere v ms) (AreMembers v ms.items)) c.in-Some.ensures (c.loop-part.invariant.reads xs q)) (λ y b part i. c.in_ok-members.ensures y b part i);
+      reads = λ xs q. fold_more c.args.work.now v w k ks (all_members (readings xs) []) members_on members_of (AllMembersThere v ms) (AllMembersThere w ns) (AreMembers v ms.all.items) (AreMembers w ns.all.items) some.0 members_more some.1
+          (subst (λ (z : List ℕ). SoFar c.args.work.now v z (all_members (readings xs) []) members_on (AllMembersThere v ms) (AreMembers v ms.all.items)) c.in-Some.ensures (c.loop-part.invariant.reads xs q)) (λ y b part i. c.in_ok-members.ensures y b part i);
     }
 
 pub all_members-returns-in_err-members : goal.all_members-returns-in_err-members
@@ -878,15 +879,15 @@ all_members-returns-in_err-members t c = let e = err_from_is_err_and c.from_resi
     let v = c.loop-part.work in
     let w = c.member.new.work in
     let ms = c.loop-part.members in
-    rw (e.1, e.2) (fold_fails c.args.work.now v w c.in-Some.part.first c.in-Some.part.others.now (all_members (readings xs) []) members_on members_of (AllMembersThere v ms) (AreMembers v ms.items) AllMembersThere AreAllMembers AllMembersThere AreAllMembers _ members_more
-    (subst (λ (z : List ℕ). SoFar c.args.work.now v z (all_members (readings xs) []) members_on (AllMembersThere v ms) (AreMembers v ms.items)) c.in-Some.ensures (c.loop-part.invariant.reads xs q)) (λ y b part i. c.in_err-members.ensures y b part i))
+    rw (e.1, e.2) (fold_fails c.args.work.now v w c.in-Some.part.first c.in-Some.part.others.now (all_members (readings xs) []) members_on members_of (AllMembersThere v ms) (AreMembers v ms.all.items) AllMembersThere AreAllMembers AllMembersThere AreAllMembers _ members_more
+    (subst (λ (z : List ℕ). SoFar c.args.work.now v z (all_members (readings xs) []) members_on (AllMembersThere v ms) (AreMembers v ms.all.items)) c.in-Some.ensures (c.loop-part.invariant.reads xs q)) (λ y b part i. c.in_err-members.ensures y b part i))
 
 pub all_members-returns : goal.all_members-returns
 all_members-returns t c = λ xs q.
     let v = c.loop-part.work in
     let ms = c.loop-part.members in
-    fold_ends c.args.work.now v (all_members (readings xs) []) members_on (AllMembersThere v ms) (AreMembers v ms.items) (λ ys. ys) AllMembersThere AreAllMembers ms members_end
-    (subst (λ (z : List ℕ). SoFar c.args.work.now v z (all_members (readings xs) []) members_on (AllMembersThere v ms) (AreMembers v ms.items)) c.in_default.ensures (c.loop-part.invariant.reads xs q)) c.loop-part.invariant.there (λ s b i. i)
+    fold_ends c.args.work.now v (all_members (readings xs) []) members_on (AllMembersThere v ms) (AreMembers v ms.all.items) (λ ys. ys) AllMembersThere AreAllMembers ms members_end
+    (subst (λ (z : List ℕ). SoFar c.args.work.now v z (all_members (readings xs) []) members_on (AllMembersThere v ms) (AreMembers v ms.all.items)) c.in_default.ensures (c.loop-part.invariant.reads xs q)) c.loop-part.invariant.there (λ s b i. i)
 
 pub member-unstored-requires : goal.member-unstored-requires
 member-unstored-requires t c =
@@ -903,19 +904,19 @@ member-member_declarators-requires t c =
     let h = subst (λ (z : List ℕ). HaveParts u z) c.in-Some.ensures (subst (λ (z : List ℕ). HaveParts u z) (sym c.as_slice-kids.ensures) (have_kids u c.args.k c.in_ok-node.node.now c.requires.part c.in_ok-node.ensures)) in
     let f = have_first u k ks h in
     let a = c.in_ok-s-in-Some.ensures f.syntax f.is in
-    (omega arith, (a.whole, (a.there, (have_kept u v ks a.grows.keeps (have_others u k ks h), members_there u v c.args.members.items a.grows.keeps c.requires.members))))
+    (omega arith, (a.whole, (a.there, (have_kept u v ks a.grows.keeps (have_others u k ks h), all_members_kept u v c.args.members a.grows.keeps c.requires.members))))
 
 pub member-returns-in-None : goal.member-returns-in-None
 member-returns-in-None t c = λ x ms p a.
     let u = c.args.work.now in
     let n = c.in_ok-node.node.now in
     let o = opened u c.args.k x n p c.in_ok-node.ensures in
-    let r : Result (Vec Member) Refusal = Err (Code 120 n.pos) in
+    let r : Result Members Refusal = Err (Code 120 n.pos) in
     at_node u u n x (λ q. q.members ms) AllMembersThere AreAllMembers r o
     (λ s h. no_member o.token n.pos o.parts (readings o.parts) ms s o.node.place (no_readings u n.kids (sym c.as_slice-kids.ensures ∙ c.in-None.ensures) o.parts o.node.parts))
 
-pub member-returns-in_ok-s-in-Some : goal.member-returns-in_ok-s-in-Some
-member-returns-in_ok-s-in-Some t c = λ x ms p a.
+pub member-returns : goal.member-returns
+member-returns t c = λ x ms p a.
     let u = c.args.work.now in
     let v = c.unstored.new.work in
     let w = c.member_declarators.new.work in
@@ -929,7 +930,7 @@ member-returns-in_ok-s-in-Some t c = λ x ms p a.
     (answers_at quietly u w (members_at o.token o.parts (readings o.parts) ms) (unstored (reading m.head) b n.pos >>= λ y. member_declarators y (readings m.tail) ms) AllMembersThere AreAllMembers c.member_declarators.result
     (λ s k. member_is o.token n.pos o.parts (reading m.head) (readings m.tail) (readings o.parts) ms b s o.node.place m.read (sym (c.has_register-register.ensures o.parts (subst (λ (ks : List ℕ). StandAt u.tree.now.nodes ks o.parts) (sym c.as_slice-kids.ensures) o.node.parts.stand))))
     (specified_then u v w (unstored (reading m.head) b n.pos) c.in_ok-s-in-Some.s (λ y. member_declarators y (readings m.tail) ms) AllMembersThere AreAllMembers c.member_declarators.result d
-    (λ y i. c.member_declarators.ensures y m.tail ms i (parts_kept u v c.in-Some.part.others.now m.tail keeps m.others) (members_kept u v c.args.members.items ms keeps c.requires.members a))))
+    (λ y i. c.member_declarators.ensures y m.tail ms i (parts_kept u v c.in-Some.part.others.now m.tail keeps m.others) (members_kept u v c.args.members.all.items ms keeps c.requires.members.there a))))
 
 pub member_declarators-loop-part-init : goal.member_declarators-loop-part-init
 member_declarators-loop-part-init t c =
@@ -940,7 +941,7 @@ member_declarators-loop-part-init t c =
       keeps = keeps_same u;
       parts = c.requires.parts;
       there = c.requires.members;
-      reads = λ y xs zs i q a. fold_begins u c.args.kids.now (member_declarators y (readings xs) zs) (declarators_on y) (AllMembersThere u ms) (AreMembers u ms.items) zs c.requires.whole c.requires.members a xs q (λ s. refl);
+      reads = λ y xs zs i q a. fold_begins u c.args.kids.now (member_declarators y (readings xs) zs) (declarators_on y) (AllMembersThere u ms) (AreMembers u ms.all.items) zs c.requires.whole c.requires.members a xs q (λ s. refl);
     }
 
 pub member_declarators-member_declarator-requires : goal.member_declarators-member_declarator-requires
@@ -961,7 +962,7 @@ member_declarators-loop-part-preserved t c =
     let inv = c.loop-part.invariant in
     let h = subst (λ (z : List ℕ). HaveParts v z) c.in-Some.ensures inv.parts in
     let f = have_first v k ks h in
-    let some = some_members v ms.items in
+    let some = some_members v ms.all.items in
     let s = some_specified v c.args.s in
     let a = c.in_ok-all.ensures s.0 f.syntax some.0 s.1 f.is some.1 in
     record {
@@ -969,8 +970,8 @@ member_declarators-loop-part-preserved t c =
       keeps = keeps_then u v w inv.keeps a.grows.keeps;
       parts = have_kept v w ks a.grows.keeps (have_others v k ks h);
       there = a.there;
-      reads = λ y xs zs i q j. fold_more u v w k ks (member_declarators y (readings xs) zs) (declarators_on y) (declarator_at y) (AllMembersThere v ms) (AllMembersThere w ns) (AreMembers v ms.items) (AreMembers w ns.items) some.0 (declarators_more y) some.1
-          (subst (λ (z : List ℕ). SoFar u v z (member_declarators y (readings xs) zs) (declarators_on y) (AllMembersThere v ms) (AreMembers v ms.items)) c.in-Some.ensures (inv.reads y xs zs i q j))
+      reads = λ y xs zs i q j. fold_more u v w k ks (member_declarators y (readings xs) zs) (declarators_on y) (declarator_at y) (AllMembersThere v ms) (AllMembersThere w ns) (AreMembers v ms.all.items) (AreMembers w ns.all.items) some.0 (declarators_more y) some.1
+          (subst (λ (z : List ℕ). SoFar u v z (member_declarators y (readings xs) zs) (declarators_on y) (AllMembersThere v ms) (AreMembers v ms.all.items)) c.in-Some.ensures (inv.reads y xs zs i q j))
           (λ e b part l. c.in_ok-all.ensures y e b (specified_kept u v c.args.s y inv.keeps c.requires.specified i) part l);
     }
 
@@ -981,8 +982,8 @@ member_declarators-returns-in_err-all t c = let e = err_from_is_err_and c.from_r
     let w = c.member_declarator.new.work in
     let ms = c.loop-part.all in
     let inv = c.loop-part.invariant in
-    rw (e.1, e.2) (fold_fails u v w c.in-Some.part.first c.in-Some.part.others.now (member_declarators y (readings xs) zs) (declarators_on y) (declarator_at y) (AllMembersThere v ms) (AreMembers v ms.items) AllMembersThere AreAllMembers AllMembersThere AreAllMembers _ (declarators_more y)
-    (subst (λ (z : List ℕ). SoFar u v z (member_declarators y (readings xs) zs) (declarators_on y) (AllMembersThere v ms) (AreMembers v ms.items)) c.in-Some.ensures (inv.reads y xs zs i q j))
+    rw (e.1, e.2) (fold_fails u v w c.in-Some.part.first c.in-Some.part.others.now (member_declarators y (readings xs) zs) (declarators_on y) (declarator_at y) (AllMembersThere v ms) (AreMembers v ms.all.items) AllMembersThere AreAllMembers AllMembersThere AreAllMembers _ (declarators_more y)
+    (subst (λ (z : List ℕ). SoFar u v z (member_declarators y (readings xs) zs) (declarators_on y) (AllMembersThere v ms) (AreMembers v ms.all.items)) c.in-Some.ensures (inv.reads y xs zs i q j))
     (λ o b part l. c.in_err-all.ensures y o b (specified_kept u v c.args.s y inv.keeps c.requires.specified i) part l))
 
 pub member_declarators-returns : goal.member_declarators-returns
@@ -991,15 +992,15 @@ member_declarators-returns t c = λ y xs zs i q j.
     let v = c.loop-part.work in
     let ms = c.loop-part.all in
     let inv = c.loop-part.invariant in
-    fold_ends u v (member_declarators y (readings xs) zs) (declarators_on y) (AllMembersThere v ms) (AreMembers v ms.items) (λ ys. ys) AllMembersThere AreAllMembers ms (declarators_end y)
-    (subst (λ (z : List ℕ). SoFar u v z (member_declarators y (readings xs) zs) (declarators_on y) (AllMembersThere v ms) (AreMembers v ms.items)) c.in_default.ensures (inv.reads y xs zs i q j)) inv.there (λ s b l. l)
+    fold_ends u v (member_declarators y (readings xs) zs) (declarators_on y) (AllMembersThere v ms) (AreMembers v ms.all.items) (λ ys. ys) AllMembersThere AreAllMembers ms (declarators_end y)
+    (subst (λ (z : List ℕ). SoFar u v z (member_declarators y (readings xs) zs) (declarators_on y) (AllMembersThere v ms) (AreMembers v ms.all.items)) c.in_default.ensures (inv.reads y xs zs i q j)) inv.there (λ s b l. l)
 
 pub member_declarator-add_member-requires : goal.member_declarator-add_member-requires
 member_declarator-add_member-requires t c =
     let u = c.args.work.now in
     let v = c.derived.new.work in
     let a = c.in_ok-d.ensures c.requires.part.syntax c.requires.part.is in
-    record { whole = a.whole; specified = specified_there u v c.args.s a.grows.keeps c.requires.specified; parts = a.there; members = members_there u v c.args.members.items a.grows.keeps c.requires.members }
+    record { whole = a.whole; specified = specified_there u v c.args.s a.grows.keeps c.requires.specified; parts = a.there; members = all_members_kept u v c.args.members a.grows.keeps c.requires.members }
 
 pub member_declarator-returns : goal.member_declarator-returns
 member_declarator-returns t c = λ x y ms i p a.
@@ -1008,7 +1009,7 @@ member_declarator-returns t c = λ x y ms i p a.
     let w = c.add_member.new.work in
     let d = c.in_ok-d.ensures y p in
     derived_then u v w (reading y).derived c.in_ok-d.d (λ z. add_member x x.stored z.name z.wraps ms) AllMembersThere AreAllMembers c.add_member.result d
-    (λ z j. c.add_member.ensures x z ms (specified_kept u v c.args.s x d.grows.keeps c.requires.specified i) j (members_kept u v c.args.members.items ms d.grows.keeps c.requires.members a))
+    (λ z j. c.add_member.ensures x z ms (specified_kept u v c.args.s x d.grows.keeps c.requires.specified i) j (members_kept u v c.args.members.all.items ms d.grows.keeps c.requires.members.there a))
 
 -- ---- enumerations
 

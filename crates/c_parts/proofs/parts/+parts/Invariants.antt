@@ -281,7 +281,7 @@ invariant-all_members-loop-part l = record {
   whole : IsWhole l.work.nodes;
   parts : HaveParts l.work l.left;
   there : AllMembersThere l.work l.members;
-  reads : (xs : Syns) → AreParts l.fn.work l.fn.kids xs → SoFar l.fn.work l.work l.left (all_members (readings xs) []) members_on (AllMembersThere l.work l.members) (AreMembers l.work l.members.items);
+  reads : (xs : Syns) → AreParts l.fn.work l.fn.kids xs → SoFar l.fn.work l.work l.left (all_members (readings xs) []) members_on (AllMembersThere l.work l.members) (AreMembers l.work l.members.all.items);
 }
 
 abbrev pub invariant-member_declarators-loop-part : goal.invariant-member_declarators-loop-part
@@ -290,8 +290,8 @@ invariant-member_declarators-loop-part l = record {
   keeps : Keeps l.fn.work l.work;
   parts : HaveParts l.work l.left;
   there : AllMembersThere l.work l.all;
-  reads : (y : Specified) (xs : Syns) (zs : List Part) → IsSpecified l.fn.work l.fn.s y → AreParts l.fn.work l.fn.kids xs → AreMembers l.fn.work l.fn.members.items zs →
-      SoFar l.fn.work l.work l.left (member_declarators y (readings xs) zs) (declarators_on y) (AllMembersThere l.work l.all) (AreMembers l.work l.all.items);
+  reads : (y : Specified) (xs : Syns) (zs : List Part) → IsSpecified l.fn.work l.fn.s y → AreParts l.fn.work l.fn.kids xs → AreMembers l.fn.work l.fn.members.all.items zs →
+      SoFar l.fn.work l.work l.left (member_declarators y (readings xs) zs) (declarators_on y) (AllMembersThere l.work l.all) (AreMembers l.work l.all.all.items);
 }
 
 abbrev pub invariant-enumerators-loop-part : goal.invariant-enumerators-loop-part
