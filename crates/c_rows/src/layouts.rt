@@ -1,4 +1,4 @@
-// Each public call on known values.
+//! Sizes, alignments, offsets and counts: each public call on known values.
 ghost use Rattle.std.specs.Prelude.{◌<◌, length};
 
 use c_tree::{CType, Expr, ExprKind, FunDef, Member, Stmt, StmtKind, Typed, VarDef};

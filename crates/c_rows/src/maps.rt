@@ -1,4 +1,4 @@
-// Maps of known programs.
+//! Maps of known programs.
 ghost use Rattle.std.specs.Prelude.{◌≡◌, length, IfOk};
 
 use bounds_place::place;

@@ -1,3 +1,5 @@
+//! Tokens, refusals and values of literals.
+
 ghost use Rattle.std.specs.Prelude.{◌≤◌, length};
 
 mod tables;

@@ -1,4 +1,4 @@
-// Each public call on known values.
+//! Operations on capabilities and the checks of accesses: each public call on known values.
 ghost use Rattle.cap_ops.specs.Access.{IsAccess};
 
 mod check_vectors;

@@ -1,4 +1,4 @@
-// Each public call on known values.
+//! The format of capabilities and their bounds: each public call on known values.
 mod decoding_vectors;
 mod packing_vectors;
 mod rounding_vectors;

@@ -1,3 +1,5 @@
+//! C's integers: values of an independent model.
+
 use ck_int::CmpOp::*;
 use ck_int::IntKind::*;
 use ck_int::IntOp::*;

@@ -1,4 +1,4 @@
-//! Each call on its happy path, and at the ends of the regions.
+//! Tagged memory: each call on its happy path, and at the ends of the regions.
 
 use ck_base::NoMemory;
 use std::alloc::Global;

@@ -1,3 +1,5 @@
+//! Sources, sinks and files, in memory and over the system.
+
 use ck_base::{
     Failed, FileError, Files, HostFiles, MemFiles, MemSink, MemSource, PutError, Sink, Source,
     StdInput, StdOutput, SureFiles, SureSink, SureSource,

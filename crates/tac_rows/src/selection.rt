@@ -1,4 +1,4 @@
-// Code that is selected from programs by hand.
+//! Code that is selected from programs by hand.
 ghost use Rattle.std.specs.Prelude.{◌<◌, IfOk};
 ghost use Rattle.rv_select.specs.Form.{IsIntegerCode};
 

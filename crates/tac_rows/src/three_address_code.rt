@@ -1,3 +1,5 @@
+//! Three-address code that is made by hand: whether it is well formed, and what its runs come to.
+
 use c_tree::{CType, FunDef, Typed};
 use ck_base::{MemSink, MemSource, Pos, Sequence, Span};
 use ck_int::CmpOp;
