@@ -10,3 +10,4 @@ pub mod Owned
 pub mod Requests
 pub mod Laws
 pub mod Block
+pub mod Sums

@@ -28,10 +28,10 @@ length_of false t b ht hb =
     ]
 
 -- ---- what the decoding places, before it is cut to 65 bits
-units : ℕ → ℕ → ℕ → ℕ → ℕ
+pub units : ℕ → ℕ → ℕ → ℕ → ℕ
 units e address b x = (address / 2 ^ (e + 14) + 2 ^ 65 + high x b - high (address / 2 ^ e % 16384) b) * 16384 + x
 
-placed_units : (e address b x : ℕ) → placed e address b x ≡ (units e address b x * 2 ^ e) % 2 ^ 65
+pub placed_units : (e address b x : ℕ) → placed e address b x ≡ (units e address b x * 2 ^ e) % 2 ^ 65
 unfolding placed units
 placed_units e address b x = ap (λ v. v % 2 ^ 65) (in_bytes e _ x _ refl)
 
@@ -39,7 +39,7 @@ high_small : (x b : ℕ) → high x b ≤ 1
 unfolding high
 high_small x b = cond_both (ltb (x / 2048) ((b / 2048 + 7) % 8)) 1 0 (λ v. v ≤ 1) (λ e. omega arith) (λ e. omega arith)
 
-units_apart : (e address b d t : ℕ) → b < 16384 → d < 8192 → t ≡ (b + d) % 16384 → units e address b t ≡ units e address b b + d
+pub units_apart : (e address b d t : ℕ) → b < 16384 → d < 8192 → t ≡ (b + d) % 16384 → units e address b t ≡ units e address b b + d
 unfolding units
 units_apart e address b d t hb hd et =
     let low : b % 16384 ≡ b = mod-eq_of_lt hb in

@@ -1,6 +1,6 @@
 // The bounds of fields.
-ghost use Rattle.std.specs.Prelude.{◌≡◌, ◌+◌, ◌^◌, ◌<◌, ◌≤◌, ◌↔◌, IsTrue};
-ghost use Rattle.cap_concentrate.specs.Decoding.{exponent, mantissa, whole_top, high, placed, corrected, base_of, base_at, top_at, same_bounds};
+ghost use Rattle.std.specs.Prelude.{◌≡◌, ◌+◌, ◌*◌, ◌%◌, ◌^◌, ◌<◌, ◌≤◌, ◌↔◌, IsTrue};
+ghost use Rattle.cap_concentrate.specs.Decoding.{one_where, exponent, mantissa, whole_top, placed, corrected, base_at, top_at, same_bounds};
 ghost use Rattle.cap_concentrate.specs.Encoding.{AreEncoded};
 
 use super::Fields;
@@ -27,40 +27,29 @@ fn mantissa(internal: bool, x: u16) -> u16
     if internal { x / 8 * 8 } else { x }
 }
 
-// The 14 bits of T, from its low 12 bits and from B.
+// The length in units of 2^E: so far above B lies T.
 #[tactic(auto, unfolding(crate::specs::Decoding::whole_top))]
-fn whole_top(internal: bool, t: u16, b: u16) -> u16
+fn length(internal: bool, t: u16, b: u16) -> u16
     requires t_in_range { t < 4096 }
     requires b_in_range { b < 16384 }
-    ensures value { result ≡ whole_top internal t b }
-    ensures bound { result < 16384 }
+    ensures value { whole_top internal t b ≡ (b + result) % 16384 }
+    ensures bound { result < 4096 + 4096 * one_where internal }
 {
-    let carry = u16::from(t < b % 4096);
-    (b / 4096 + carry + u16::from(internal)) % 4 * 4096 + t
+    (t + 4096 - b % 4096) % 4096 + u16::from(internal) * 4096
 }
 
-// 1 where the 14 bits x are high.
-#[tactic(auto, unfolding(crate::specs::Decoding::high))]
-fn high(x: u16, b: u16) -> u128
-    requires { b < 16384 }
-    ensures value { result ≡ high x b }
-    ensures bound { result ≤ 1 }
-{
-    u128::from(x / 2048 < (b / 2048 + 7) % 8)
-}
-
-// The 14 bits x at their place in an address of 65 bits.
-#[tactic(auto, unfolding(crate::specs::Decoding::placed))]
-fn placed(e: u32, address: u64, b: u16, x: u16) -> u128
+// The base, in 64 bits.
+//
+// Regions of 2^14 units of 2^e begin at the 14 bits `limit`. The base lies in the second block of
+// 2048 units of the address's region.
+fn placed_base(e: u32, address: u64, b: u16) -> u64
     requires e_in_range { e ≤ 52 }
     requires b_in_range { b < 16384 }
-    requires x_in_range { x < 16384 }
-    ensures value { result ≡ placed e address b x }
-    ensures bound { result < 2 ^ 65 }
+    ensures { result ≡ placed e address b b % 2 ^ 64 }
 {
-    let address_part = ((address >> e) % (1 << 14)) as u16;
-    let upper = (u128::from(address) >> (e + 14)) + (1 << 65) + high(x, b) - high(address_part, b);
-    (upper << (e + 14)).wrapping_add(u128::from(x) << e) % (1 << 65)
+    let limit = (b / 2048 + 7) % 8 * 2048;
+    let region = (address >> e).wrapping_sub(u64::from(limit)) / 16384 * 16384;
+    region.wrapping_add(u64::from(limit + 2048 + b % 2048)) << e
 }
 
 // The top with its bit 64 put right.
@@ -88,11 +77,23 @@ pub fn bounds_of(f: Fields) -> (u64, u128)
     ensures canonical { 65536 ≤ result.0 → result.0 ≤ result.1 → result.1 ≤ 2 ^ 40 →
         AreEncoded f.internal f.t f.b result.0 result.1 }
 {
-    let e = exponent(f.internal, f.t, f.b);
-    let b = mantissa(f.internal, f.b);
-    let t = whole_top(f.internal, mantissa(f.internal, f.t), b);
-    let base = (placed(e, f.address, b, b) % (1 << 64)) as u64;
-    (base, corrected(e, base, placed(e, f.address, b, t)))
+    // E is 0 here, and the top the sum of the base and the length.
+    if !f.internal {
+        let base = placed_base(0, f.address, f.b);
+        return (base, u128::from(base) + u128::from(length(false, f.t, f.b)));
+    }
+    let e = exponent(true, f.t, f.b);
+    let b = mantissa(true, f.b);
+    let units = length(true, mantissa(true, f.t), b);
+    let base = placed_base(e, f.address, b);
+    // Below exponent 51 bit 64 of the top follows from its lower bits; from there on the address
+    // does not count.
+    let top = if e < 51 {
+        u128::from(base.wrapping_add(u64::from(units) << e))
+    } else {
+        (u128::from(b + units) << e) % (1 << 65)
+    };
+    (base, corrected(e, base, top))
 }
 
 /// Whether the fields give the same base and top with this address in place of their own.
