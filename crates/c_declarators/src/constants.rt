@@ -13,7 +13,7 @@ use ck_base::{Pos, Refusal};
 use ck_int::IntKind;
 
 /// The value of an integer constant expression, and the place of its first byte.
-#[derive(Clone, Copy, Debug)]
+#[derive(Clone, Copy)]
 pub struct Constant {
     pub number: i128,
     pub first: Pos,

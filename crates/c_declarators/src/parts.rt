@@ -5,7 +5,7 @@ use c_work::Name;
 use ck_base::Pos;
 
 /// Declaration specifiers (C11 6.7.1 to 6.7.3).
-#[derive(Clone, Copy, Debug)]
+#[derive(Clone, Copy)]
 pub struct Specified {
     /// The place of the first of them.
     pub first: Pos,
@@ -17,7 +17,7 @@ pub struct Specified {
 }
 
 /// A parameter (C11 6.7.6.3).
-#[derive(Clone, Copy, Debug)]
+#[derive(Clone, Copy)]
 pub struct Param {
     pub name: Option<Name>,
     /// The token that gives its place.
@@ -55,7 +55,7 @@ pub struct Derived<'a> {
 }
 
 /// The type that a declarator makes, and the rules that it breaks.
-#[derive(Clone, Copy, Debug)]
+#[derive(Clone, Copy)]
 pub struct Formed {
     /// The number of the type.
     pub of: u32,

@@ -13,7 +13,7 @@ use ck_base::NoMemory;
 use ck_int::IntKind;
 
 /// How often each word stands among specifiers.
-#[derive(Clone, Copy, Debug)]
+#[derive(Clone, Copy)]
 pub struct Words {
     pub typedefs: u32,
     pub statics: u32,

@@ -7,7 +7,7 @@ ghost use Rattle.c_finish.specs.Faults.{found, onto};
 use ck_base::Pos;
 
 /// A rule that fails, by its code, and where.
-#[derive(Clone, Copy, Debug)]
+#[derive(Clone, Copy)]
 pub(crate) struct Found {
     pub code: u16,
     pub pos: Pos,

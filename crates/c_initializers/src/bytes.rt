@@ -10,7 +10,7 @@ use ck_base::NoMemory;
 use std::alloc::Global;
 
 /// A number that stands in an object.
-#[derive(Clone, Copy, Debug, PartialEq, Eq)]
+#[derive(Clone, Copy)]
 pub struct Placed {
     /// Its offset, in bytes.
     pub at: u64,

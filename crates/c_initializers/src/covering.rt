@@ -4,7 +4,7 @@ ghost use Rattle.std.specs.Prelude.{◌≡◌, ℕ, ◌<◌, ◌≤◌, true, le
 ghost use Rattle.c_initializers.specs.Covering.{IsOrdered, IsCursor, EndBefore, covers_place};
 
 /// The bytes of an object that a value has: from an offset up to another one.
-#[derive(Clone, Copy, Debug, PartialEq, Eq)]
+#[derive(Clone, Copy)]
 pub(crate) struct Extent {
     pub(crate) from: u64,
     pub(crate) to: u64,
@@ -12,7 +12,7 @@ pub(crate) struct Extent {
 
 /// The bytes that some values have, and how far a walk along the object has come. Values that stand in the order of their places are
 /// found without looking at all of them.
-#[derive(Clone, Copy, Debug)]
+#[derive(Clone, Copy)]
 pub(crate) struct Cursor<'c> {
     extents: &'c [Extent],
     /// Each begins where the one before it ends, or later.

@@ -15,7 +15,7 @@ use ck_base::NoMemory;
 use ck_int::IntOp;
 
 /// How an address is made. Numbers without another word are those of expressions.
-#[derive(Clone, Copy, Debug)]
+#[derive(Clone, Copy)]
 pub(crate) enum Form {
     /// An object or a literal.
     Whole(Target),

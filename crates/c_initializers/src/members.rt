@@ -19,14 +19,14 @@ use ck_base::NoMemory;
 pub(crate) const LIMIT: u64 = 67108864;
 
 /// A struct or union, and its members, if it is complete.
-#[derive(Clone, Copy, Debug)]
+#[derive(Clone, Copy)]
 pub(crate) struct Record<'w> {
     pub(crate) kind: RecordKind,
     pub(crate) members: &'w [Member],
 }
 
 /// A member at its place, and the end of the members up to it.
-#[derive(Clone, Copy, Debug)]
+#[derive(Clone, Copy)]
 struct Next {
     place: Place,
     end: Layout,

@@ -11,7 +11,7 @@ use c_work::Work;
 use ck_base::NoMemory;
 
 /// A part of an object.
-#[derive(Clone, Copy, Debug, PartialEq, Eq)]
+#[derive(Clone, Copy)]
 pub struct Place {
     /// Its offset, in bytes.
     pub at: u64,
@@ -20,7 +20,7 @@ pub struct Place {
 }
 
 /// The parts that the items of a list in braces initialise, one after another.
-#[derive(Debug, Drop)]
+#[derive(Drop)]
 pub enum Places {
     /// The elements of an array.
     Elements {

@@ -3,7 +3,7 @@
 use ck_base::Pos;
 
 /// One value that an initialiser gives to a part of an object.
-#[derive(Clone, Copy, Debug)]
+#[derive(Clone, Copy)]
 pub struct Slot {
     /// The part's offset, in bytes.
     pub at: u64,
@@ -16,7 +16,7 @@ pub struct Slot {
 }
 
 /// What an initialiser gives.
-#[derive(Debug, Drop)]
+#[derive(Drop)]
 pub struct Filled {
     pub slots: Vec<Slot>,
     /// How many elements it gives to an array whose length is not known.

@@ -11,7 +11,7 @@ use ck_base::NoMemory;
 use ck_int::{IntKind, convert, wrap};
 
 /// A value that is known before the program runs.
-#[derive(Clone, Copy, Debug)]
+#[derive(Clone, Copy)]
 pub enum Value {
     /// A number, which may be an address in null, in the 64 bits of its extension.
     Number(u64),
@@ -22,7 +22,7 @@ pub enum Value {
 }
 
 /// A pointer that is known before the program runs.
-#[derive(Clone, Copy, Debug)]
+#[derive(Clone, Copy)]
 pub struct Pointer {
     pub target: Target,
     pub bounds: Bounds,
@@ -32,7 +32,7 @@ pub struct Pointer {
 
 /// A value that is known before the program runs, and what it asks of an object whose length is not known yet: the least lengths in bytes,
 /// the newest last.
-#[derive(Debug, Drop)]
+#[derive(Drop)]
 pub struct Known {
     pub value: Value,
     pub asks: Vec<i64>,

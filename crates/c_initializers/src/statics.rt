@@ -23,7 +23,7 @@ use c_work::{Bounds, Start, Waiting, Work};
 use ck_base::{NoMemory, Pos, Refusal};
 
 /// The numbers and the pointers that stand in an object.
-#[derive(Debug, Drop)]
+#[derive(Drop)]
 pub struct Found {
     pub numbers: Vec<Placed>,
     pub starts: Vec<Start>,

@@ -18,7 +18,7 @@ use indexmap::IndexMap;
 use std::alloc::Global;
 
 /// When the lengths of two arrays agree.
-#[derive(Clone, Copy, Debug)]
+#[derive(Clone, Copy)]
 pub enum Lengths {
     /// They are equal.
     Equal,

@@ -9,7 +9,7 @@ use c_tree::CType;
 use ck_int::IntKind;
 
 /// One level of a type, without the parameters of a function. Numbers without another word are those of types.
-#[derive(Clone, Copy, Debug, PartialEq, Eq)]
+#[derive(Clone, Copy, PartialEq, Eq)]
 pub enum Head {
     Void,
     Int(IntKind, u8),

@@ -16,7 +16,7 @@ use std::alloc::Global;
 use std::mem;
 
 /// What tells a type from the others: its form, and the numbers of the types that it is made of.
-#[derive(Debug, Drop, PartialEq, Eq, Hash)]
+#[derive(Drop, PartialEq, Eq, Hash)]
 enum Key {
     Void,
     /// How many bytes it has, none for `_Bool`; whether it has a sign; and what tells types of one kind apart.
@@ -63,7 +63,10 @@ pub fn replace<T: Drop>(alloc: Global, list: &mut Sequence<T>, k: u32, item: T)
 pub fn next_number<T>(list: &[T]) -> Result<u32, NoMemory>
     ensures { IfOk result (λ k. k ≡ length list.now) }
 {
-    u32::try_from(list.len()).map_err(|_| NoMemory)
+    match u32::try_from(list.len()) {
+        Ok(k) => Ok(k),
+        Err(_) => Err(NoMemory),
+    }
 }
 
 fn integer_key(kind: IntKind, other: u8) -> Key {

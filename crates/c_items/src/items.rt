@@ -15,7 +15,7 @@ use std::alloc::Global;
 use std::mem;
 
 /// Where a statement stands.
-#[derive(Clone, Copy, Debug)]
+#[derive(Clone, Copy)]
 pub struct Context {
     /// The number of the type that the function gives.
     pub gives: u32,
@@ -25,7 +25,7 @@ pub struct Context {
 }
 
 /// What a declaration or a statement of a block gives.
-#[derive(Debug, Drop)]
+#[derive(Drop)]
 pub struct Items {
     /// The variables that it declares, by their numbers in the function.
     pub vars: Vec<u32>,

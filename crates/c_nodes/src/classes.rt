@@ -12,7 +12,7 @@ use c_tree::CType;
 use ck_int::IntKind;
 
 /// One level of a type, without the parameters of a function. Numbers without another word are those of types.
-#[derive(Clone, Copy, Debug)]
+#[derive(Clone, Copy)]
 pub enum Class {
     Void,
     Int(IntKind, u8),
@@ -27,12 +27,13 @@ pub enum Class {
 }
 
 /// An integer type.
-#[derive(Clone, Copy, Debug)]
+#[derive(Clone, Copy)]
 pub enum Integer {
     Int(IntKind, u8),
     Cap(bool),
 }
 
+/// What a type is, without its parameters or members.
 pub fn class_of(c: &CType) -> Class
     ensures { (go : ℕ → Ty) → type_from c.now go ≡ class_type result go (tys (map go (params_of c.now))) }
 {
@@ -61,6 +62,7 @@ pub fn params_of<'a>(c: &'a CType) -> &'a [u32]
 }
 
 impl Class {
+    /// Whether it is an integer type (C11 6.2.5p17).
     pub fn is_integer(self) -> bool
         ensures { (go : ℕ → Ty) (ps : Tys) → is_integer (class_type self go ps) ≡ result }
     {
@@ -75,6 +77,7 @@ impl Class {
         }
     }
 
+    /// Whether it is a pointer type.
     pub fn is_pointer(self) -> bool
         ensures { (go : ℕ → Ty) (ps : Tys) → is_pointer (class_type self go ps) ≡ result }
     {
@@ -90,6 +93,7 @@ impl Class {
         }
     }
 
+    /// Whether it is a scalar type: an integer or a pointer (C11 6.2.5p21).
     pub fn is_scalar(self) -> bool
         ensures { (go : ℕ → Ty) (ps : Tys) → is_scalar (class_type self go ps) ≡ result }
     {
@@ -103,6 +107,7 @@ impl Class {
         }
     }
 
+    /// Whether its values are capabilities: a pointer, `intptr_t` or `uintptr_t`.
     pub fn is_capability(self) -> bool
         ensures { (go : ℕ → Ty) (ps : Tys) → is_capability (class_type self go ps) ≡ result }
     {
@@ -117,6 +122,7 @@ impl Class {
         }
     }
 
+    /// Whether it is `void`.
     pub fn is_void(self) -> bool
         ensures { (go : ℕ → Ty) (ps : Tys) → is_void (class_type self go ps) ≡ result }
     {
@@ -132,6 +138,7 @@ impl Class {
         }
     }
 
+    /// Whether it is `_Bool`.
     pub fn is_bool(self) -> bool
         ensures { (go : ℕ → Ty) (ps : Tys) → is_bool (class_type self go ps) ≡ result }
     {
@@ -158,6 +165,7 @@ impl Class {
         }
     }
 
+    /// Whether it is an array type.
     pub fn is_array(self) -> bool
         ensures { (go : ℕ → Ty) (ps : Tys) → is_array (class_type self go ps) ≡ result }
     {
@@ -173,6 +181,7 @@ impl Class {
         }
     }
 
+    /// Whether it is a function type.
     pub fn is_function(self) -> bool
         ensures { (go : ℕ → Ty) (ps : Tys) → is_function (class_type self go ps) ≡ result }
     {
@@ -188,6 +197,7 @@ impl Class {
         }
     }
 
+    /// Whether it is a structure or union type, complete or not.
     pub fn is_tagged(self) -> bool
         ensures { (go : ℕ → Ty) (ps : Tys) → is_tagged (class_type self go ps) ≡ result }
     {
@@ -203,6 +213,7 @@ impl Class {
         }
     }
 
+    /// Whether it is an integer type whose values are no capabilities.
     pub fn is_plain(self) -> bool
         ensures { (go : ℕ → Ty) (ps : Tys) → is_plain (class_type self go ps) ≡ result }
     {
@@ -218,6 +229,7 @@ impl Class {
         }
     }
 
+    /// Whether it is `intptr_t` or `uintptr_t`.
     pub fn is_cap(self) -> bool
         ensures { (go : ℕ → Ty) (ps : Tys) → is_cap (class_type self go ps) ≡ result }
     {
@@ -280,6 +292,7 @@ fn promoted_kind(kind: IntKind, other: u8) -> Integer
     }
 }
 
+/// Whether two kinds of integers are the same.
 pub fn is_same_kind(j: IntKind, k: IntKind) -> bool
     ensures { same_kind j k ≡ result }
 {
@@ -297,6 +310,7 @@ pub fn is_same_kind(j: IntKind, k: IntKind) -> bool
     }
 }
 
+/// Whether two truth values are the same.
 pub fn is_same_truth(a: bool, b: bool) -> bool
     ensures { same_truth a b ≡ result }
 {

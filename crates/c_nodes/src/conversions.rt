@@ -16,6 +16,7 @@ use crate::nodes::{Nodes, Operand};
 use ck_base::{NoMemory, Refusal};
 
 impl Nodes<'_> {
+    /// Whether an expression denotes an object (an lvalue, C11 6.3.2.1p1). A function designator denotes none.
     pub fn is_place(&self, node: u32) -> bool
         requires whole { IsWhole self.now }
         requires there { node < term_count self.now }
@@ -129,6 +130,7 @@ impl Nodes<'_> {
         self.convert(node, to, pos)
     }
 
+    /// An expression that has an integer type, converted by the integer promotions (C11 6.3.1.1p2).
     pub fn promoted_term(&mut self, node: u32) -> Result<u32, NoMemory>
         requires whole { IsWhole self.old }
         requires there { node < term_count self.old }

@@ -16,7 +16,7 @@ use c_tree::UnaryOp;
 use ck_int::{CmpOp, IntKind, IntOp, binary, compare, convert, wrap};
 
 /// What is known of an expression.
-#[derive(Clone, Copy, Debug)]
+#[derive(Clone, Copy)]
 pub struct Fact {
     /// It designates an object (C11 6.3.2.1p1).
     pub place: bool,
@@ -35,14 +35,14 @@ pub struct Fact {
 }
 
 /// What a type is to constant expressions: the kind at which it is computed, and whether it is an integer type.
-#[derive(Clone, Copy, Debug)]
+#[derive(Clone, Copy)]
 pub struct Evaluation {
     pub kind: IntKind,
     pub integer: bool,
 }
 
 /// An expression without operands.
-#[derive(Clone, Copy, Debug)]
+#[derive(Clone, Copy)]
 pub enum Leaf {
     Constant(u64),
     Literal(u32),
@@ -52,7 +52,7 @@ pub enum Leaf {
 }
 
 /// An expression with one operand that is no conversion.
-#[derive(Clone, Copy, Debug)]
+#[derive(Clone, Copy)]
 pub enum Step {
     Load,
     Decay,
@@ -66,7 +66,7 @@ pub enum Step {
 }
 
 /// An expression with two operands.
-#[derive(Clone, Copy, Debug)]
+#[derive(Clone, Copy)]
 pub enum Join {
     Int(IntOp),
     /// Whether the result derives from the right operand.
@@ -84,7 +84,7 @@ pub enum Join {
 }
 
 /// What is known of a conversion's two types.
-#[derive(Clone, Copy, Debug)]
+#[derive(Clone, Copy)]
 pub struct Conversion {
     pub to: Evaluation,
     pub from: Evaluation,
@@ -249,6 +249,7 @@ fn is_constant_join(shape: bool, a: bool, b: bool) -> bool
 
 // ---- what is known of a node, by what is known of its operands
 
+/// What is known of an expression without operands, of a type that is evaluated so.
 pub fn leaf_fact(leaf: Leaf, of: Evaluation) -> Fact
     ensures { (t : Ty) (p : Place) → evaluation_of t ≡ of → fact_of (tree.leaf (leaf_shape leaf) t p) ≡ result }
 {
@@ -339,6 +340,7 @@ impl Step {
     }
 }
 
+/// What is known of an expression of one operand, other than a conversion, by what is known of the operand.
 pub fn step_fact(kind: Step, of: Evaluation, a: Fact) -> Fact
     ensures { (x : Term) (t : Ty) (p : Place) → fact_of x ≡ a → evaluation_of t ≡ of → fact_of (step (step_shape kind) x t p) ≡ result }
 {
@@ -368,6 +370,7 @@ fn is_null_conversion(zero: bool, to_void_pointer: bool, of_zero: bool) -> bool
     zero || (to_void_pointer && of_zero)
 }
 
+/// What is known of a conversion, by both types and what is known of its operand.
 pub fn conversion_fact(types: Conversion, a: Fact) -> Fact
     ensures { (x : Term) (t : Ty) (p : Place) → fact_of x ≡ a → IsConversion types (type_of x) t → fact_of (step tree.Convert x t p) ≡ result }
 {
@@ -417,6 +420,7 @@ impl Join {
     }
 }
 
+/// What is known of an expression of two operands, by what is known of them; a comparison is computed in the type of the left one.
 pub fn join_fact(kind: Join, of: Evaluation, left: Evaluation, a: Fact, b: Fact) -> Fact
     ensures { (go : ℕ → Ty) (x y : Term) (t : Ty) (p : Place) → fact_of x ≡ a → fact_of y ≡ b → evaluation_of t ≡ of → evaluation_of (type_of x) ≡ left → fact_of (join (join_shape go kind) x y t p) ≡ result }
 {
@@ -433,6 +437,7 @@ pub fn join_fact(kind: Join, of: Evaluation, left: Evaluation, a: Fact, b: Fact)
     }
 }
 
+/// What is known of a conditional expression (C11 6.5.15), by what is known of its three operands.
 pub fn choice_fact(of: Evaluation, a: Fact, b: Fact, c: Fact) -> Fact
     ensures { (x y z : Term) (t : Ty) (p : Place) → fact_of x ≡ a → fact_of y ≡ b → fact_of z ≡ c → evaluation_of t ≡ of → fact_of (join_three tree.Conditional x y z t p) ≡ result }
 {

@@ -21,6 +21,7 @@ struct Rows {
 }
 
 impl Nodes<'_> {
+    /// The pointer type to a type (C11 6.7.6.1). Fails only for want of memory, as each of these.
     pub fn pointer_to(&mut self, t: u32) -> Result<u32, NoMemory>
         requires { IsWhole self.old }
         ensures { IfOk result (λ k. HasType self.old self.new k (Pointer (type_in self.old t))) }
@@ -28,6 +29,7 @@ impl Nodes<'_> {
         self.type_number(CType::Pointer(t))
     }
 
+    /// An integer type.
     pub fn integer(&mut self, of: Integer) -> Result<u32, NoMemory>
         requires { IsWhole self.old }
         ensures { IfOk result (λ k. HasType self.old self.new k (integer_type of)) }
@@ -38,6 +40,7 @@ impl Nodes<'_> {
         })
     }
 
+    /// The type `void`.
     pub fn void(&mut self) -> Result<u32, NoMemory>
         requires { IsWhole self.old }
         ensures { IfOk result (λ k. HasType self.old self.new k types.Void) }
@@ -45,6 +48,7 @@ impl Nodes<'_> {
         self.type_number(CType::Void)
     }
 
+    /// The type `int`.
     pub fn int(&mut self) -> Result<u32, NoMemory>
         requires { IsWhole self.old }
         ensures { IfOk result (λ k. HasType self.old self.new k types.int) }
@@ -52,6 +56,7 @@ impl Nodes<'_> {
         self.integer(Integer::Int(IntKind::I32, 0))
     }
 
+    /// The type `long`.
     pub fn long(&mut self) -> Result<u32, NoMemory>
         requires { IsWhole self.old }
         ensures { IfOk result (λ k. HasType self.old self.new k types.long) }

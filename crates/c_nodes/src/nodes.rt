@@ -1,6 +1,6 @@
 //! The program under way: its types and expressions by their numbers.
 
-ghost use Rattle.std.specs.Prelude.{◌≡◌, ℕ, ◌<◌, ◌++◌, ◌∷◌, [], OnOk, IfOk, length};
+ghost use Rattle.std.specs.Prelude.{◌≡◌, ℕ, ◌<◌, [], IfOk};
 ghost use Rattle.c_tree.specs.Types.{Ty, Tys};
 ghost use Rattle.c_tree.specs.Terms.{type_of, pos_of};
 ghost use Rattle.c_tree.specs.Views.{type_from, expr_from, types_of};
@@ -13,11 +13,11 @@ ghost use Rattle.c_nodes.specs.Nodes.{IsWhole, IsTyped, IsClass, IsType, IsTerm,
 
 use crate::classes::{Class, class_of};
 use crate::facts::Fact;
+use c_interner::{append, next_number};
 use c_tree::{CType, Expr, Typed};
 use c_types::Scopes;
-use ck_base::{NoMemory, Pos, Sequence};
+use ck_base::{NoMemory, Pos};
 use std::alloc::Global;
-use std::mem;
 
 /// The types and the expressions of a program so far.
 #[derive(Drop)]
@@ -33,27 +33,10 @@ pub struct Nodes<'a> {
 }
 
 /// A typed expression, by its number, and the first byte of what was written.
-#[derive(Clone, Copy, Debug)]
+#[derive(Clone, Copy)]
 pub struct Operand {
     pub node: u32,
     pub first: Pos,
-}
-
-fn append<T: Drop>(alloc: Global, list: &mut Sequence<T>, item: T) -> Result<(), NoMemory>
-    ensures { OnOk result (list.new ≡ list.old ++ item ∷ []) }
-{
-    let mut items = mem::replace(list, Sequence::from_vec(Vec::new(alloc))).into_vec();
-    let pushed = items.push(item);
-    *list = Sequence::from_vec(items);
-    pushed?;
-    Ok(())
-}
-
-// The number of the next item.
-fn next_number<T>(list: &[T]) -> Result<u32, NoMemory>
-    ensures { IfOk result (λ k. k ≡ length list.now) }
-{
-    u32::try_from(list.len()).map_err(|_| NoMemory)
 }
 
 impl<'a> Nodes<'a> {
@@ -126,7 +109,7 @@ impl<'a> Nodes<'a> {
         }
     }
 
-    // A type that another one names stands before it; any other number stands for `void`.
+    /// The type that another one is made of, by the number that it names: one that does not stand before it stands for `void`.
     pub fn part(&self, inner: u32, t: u32) -> u32
         requires whole { IsWhole self.now }
         requires there { t < type_count self.now }

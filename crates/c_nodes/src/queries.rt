@@ -12,6 +12,7 @@ use crate::facts::{Conversion, Evaluation};
 use crate::nodes::Nodes;
 
 impl Nodes<'_> {
+    /// Whether it is an integer type, unqualified (C11 6.2.5p17).
     pub fn is_integer(&self, t: u32) -> bool
         requires whole { IsWhole self.now }
         requires there { t < type_count self.now }
@@ -20,6 +21,7 @@ impl Nodes<'_> {
         self.class(t).is_integer()
     }
 
+    /// Whether it is a pointer type, unqualified.
     pub fn is_pointer(&self, t: u32) -> bool
         requires whole { IsWhole self.now }
         requires there { t < type_count self.now }
@@ -28,6 +30,7 @@ impl Nodes<'_> {
         self.class(t).is_pointer()
     }
 
+    /// Whether it is a scalar type, unqualified: an integer or a pointer (C11 6.2.5p21).
     pub fn is_scalar(&self, t: u32) -> bool
         requires whole { IsWhole self.now }
         requires there { t < type_count self.now }
@@ -36,6 +39,7 @@ impl Nodes<'_> {
         self.class(t).is_scalar()
     }
 
+    /// Whether it is `void`, unqualified.
     pub fn is_void(&self, t: u32) -> bool
         requires whole { IsWhole self.now }
         requires there { t < type_count self.now }
@@ -44,6 +48,7 @@ impl Nodes<'_> {
         self.class(t).is_void()
     }
 
+    /// Whether it is `_Bool`, unqualified.
     pub fn is_bool(&self, t: u32) -> bool
         requires whole { IsWhole self.now }
         requires there { t < type_count self.now }
@@ -52,6 +57,7 @@ impl Nodes<'_> {
         self.class(t).is_bool()
     }
 
+    /// Whether it is an array type.
     pub fn is_array(&self, t: u32) -> bool
         requires whole { IsWhole self.now }
         requires there { t < type_count self.now }
@@ -60,6 +66,7 @@ impl Nodes<'_> {
         self.class(t).is_array()
     }
 
+    /// Whether it is a function type.
     pub fn is_function(&self, t: u32) -> bool
         requires whole { IsWhole self.now }
         requires there { t < type_count self.now }
@@ -68,6 +75,7 @@ impl Nodes<'_> {
         self.class(t).is_function()
     }
 
+    /// Whether it is a structure or union type, complete or not, unqualified.
     pub fn is_tagged(&self, t: u32) -> bool
         requires whole { IsWhole self.now }
         requires there { t < type_count self.now }
@@ -76,6 +84,7 @@ impl Nodes<'_> {
         self.class(t).is_tagged()
     }
 
+    /// Whether its values are capabilities: a pointer, `intptr_t` or `uintptr_t`, unqualified.
     pub fn is_capability(&self, t: u32) -> bool
         requires whole { IsWhole self.now }
         requires there { t < type_count self.now }
@@ -84,6 +93,7 @@ impl Nodes<'_> {
         self.class(t).is_capability()
     }
 
+    /// Whether both are integer types, unqualified.
     pub fn are_integers(&self, s: u32, t: u32) -> bool
         requires whole { IsWhole self.now }
         requires first { s < type_count self.now }
@@ -93,6 +103,7 @@ impl Nodes<'_> {
         self.is_integer(s) && self.is_integer(t)
     }
 
+    /// Whether both are scalar types, unqualified.
     pub fn are_scalars(&self, s: u32, t: u32) -> bool
         requires whole { IsWhole self.now }
         requires first { s < type_count self.now }
@@ -159,6 +170,7 @@ impl Nodes<'_> {
         }
     }
 
+    /// Whether it is a pointer to a function.
     pub fn points_to_function(&self, t: u32) -> bool
         requires whole { IsWhole self.now }
         requires there { t < type_count self.now }

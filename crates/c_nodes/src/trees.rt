@@ -63,6 +63,7 @@ fn join_kind(join: Join, a: u32, b: u32) -> ExprKind
 }
 
 impl Nodes<'_> {
+    /// A new expression without operands. Gives its number; fails only for want of memory, as each of these.
     pub fn leaf(&mut self, kind: Leaf, of: u32, pos: Pos) -> Result<u32, NoMemory>
         requires whole { IsWhole self.old }
         requires of { of < type_count self.old }
@@ -79,6 +80,7 @@ impl Nodes<'_> {
         )
     }
 
+    /// A new expression of one operand, other than a conversion.
     pub fn step(&mut self, kind: Step, a: u32, of: u32, pos: Pos) -> Result<u32, NoMemory>
         requires whole { IsWhole self.old }
         requires operand { a < term_count self.old }
@@ -96,6 +98,7 @@ impl Nodes<'_> {
         )
     }
 
+    /// A new conversion of an expression to a type (C11 6.3), also where it has that type already.
     pub fn convert(&mut self, a: u32, of: u32, pos: Pos) -> Result<u32, NoMemory>
         requires whole { IsWhole self.old }
         requires operand { a < term_count self.old }
@@ -114,6 +117,7 @@ impl Nodes<'_> {
         )
     }
 
+    /// A new expression of two operands.
     pub fn join(&mut self, kind: Join, a: u32, b: u32, of: u32, pos: Pos) -> Result<u32, NoMemory>
         requires whole { IsWhole self.old }
         requires first { a < term_count self.old }
@@ -134,6 +138,7 @@ impl Nodes<'_> {
         )
     }
 
+    /// A new conditional expression (C11 6.5.15): the condition, and what is evaluated where it is not 0 and where it is.
     pub fn choice(&mut self, a: u32, b: u32, c: u32, of: u32, pos: Pos) -> Result<u32, NoMemory>
         requires whole { IsWhole self.old }
         requires first { a < term_count self.old }
@@ -158,6 +163,7 @@ impl Nodes<'_> {
         )
     }
 
+    /// A new call of a function (C11 6.5.2.2): what it calls, and its arguments.
     pub fn call_node(&mut self, f: u32, args: Vec<u32>, of: u32, pos: Pos) -> Result<u32, NoMemory>
         requires whole { IsWhole self.old }
         requires of { of < type_count self.old }
@@ -173,6 +179,7 @@ impl Nodes<'_> {
         )
     }
 
+    /// A new call of a library function or an intrinsic, by its number.
     pub fn library_node(
         &mut self,
         service: u8,

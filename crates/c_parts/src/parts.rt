@@ -40,21 +40,21 @@ use ck_base::{NoMemory, Pos, Refusal};
 use ck_int::IntOp;
 
 /// Two operands.
-#[derive(Clone, Copy, Debug)]
+#[derive(Clone, Copy)]
 pub struct Pair {
     pub left: Operand,
     pub right: Operand,
 }
 
 /// Three operands.
-#[derive(Clone, Copy, Debug)]
+#[derive(Clone, Copy)]
 pub struct Triple {
     pub first: Operand,
     pub pair: Pair,
 }
 
 /// A type's number and an operand.
-#[derive(Clone, Copy, Debug)]
+#[derive(Clone, Copy)]
 pub struct Casting {
     pub of: u32,
     pub operand: Operand,

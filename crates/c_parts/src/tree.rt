@@ -41,7 +41,7 @@ pub fn only(kids: &[u32]) -> Option<u32>
 }
 
 /// Two parts.
-#[derive(Clone, Copy, Debug)]
+#[derive(Clone, Copy)]
 pub struct TwoParts {
     pub first: u32,
     pub second: u32,
@@ -62,7 +62,7 @@ pub fn two(kids: &[u32]) -> Option<TwoParts>
 }
 
 /// Three parts.
-#[derive(Clone, Copy, Debug)]
+#[derive(Clone, Copy)]
 pub struct ThreeParts {
     pub first: u32,
     pub second: u32,
@@ -85,7 +85,7 @@ pub fn three(kids: &[u32]) -> Option<ThreeParts>
 }
 
 /// The first of some parts, and those behind it.
-#[derive(Clone, Copy, Debug)]
+#[derive(Clone, Copy)]
 pub struct FirstPart<'a> {
     pub first: u32,
     pub others: &'a [u32],
@@ -105,7 +105,7 @@ pub fn first_of(kids: &[u32]) -> Option<FirstPart<'_>>
 }
 
 /// The part that is read last of an array or a function in a declarator, and what is read before it.
-#[derive(Clone, Copy, Debug)]
+#[derive(Clone, Copy)]
 pub(crate) struct EndParts<'a> {
     pub before: &'a [u32],
     pub last: u32,
@@ -131,7 +131,7 @@ pub(crate) fn ends(kids: &[u32]) -> Option<EndParts<'_>>
 }
 
 /// A tag, and the parts behind it.
-#[derive(Clone, Copy, Debug)]
+#[derive(Clone, Copy)]
 pub(crate) struct TagParts<'a> {
     pub name: Name,
     pub others: &'a [u32],

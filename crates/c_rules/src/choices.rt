@@ -13,7 +13,7 @@ use c_nodes::{Nodes, Operand};
 use ck_base::{NoMemory, Pos, Refusal};
 
 /// The type of a conditional expression, by those of its second and third operands.
-#[derive(Clone, Copy, Debug)]
+#[derive(Clone, Copy)]
 enum Arms {
     /// The common type of two integers.
     Common,

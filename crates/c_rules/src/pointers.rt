@@ -18,7 +18,7 @@ use ck_base::{NoMemory, Pos, Refusal};
 use ck_int::{CmpOp, IntOp};
 
 /// Which operand of a comparison is converted to the other one's type.
-#[derive(Clone, Copy, Debug)]
+#[derive(Clone, Copy)]
 enum Fallback {
     /// The right one, to the type of the left one.
     Right,

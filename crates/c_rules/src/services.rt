@@ -17,7 +17,7 @@ use ck_base::{NoMemory, Pos, Refusal};
 use ck_int::IntKind;
 
 /// What an argument must be.
-#[derive(Clone, Copy, Debug)]
+#[derive(Clone, Copy)]
 enum Asked {
     /// Any pointer or capability integer.
     Capability,
@@ -28,7 +28,7 @@ enum Asked {
 }
 
 /// The type of a result.
-#[derive(Clone, Copy, Debug)]
+#[derive(Clone, Copy)]
 enum Given {
     Void,
     Int,
@@ -41,7 +41,7 @@ enum Given {
 }
 
 /// The arguments that are asked for.
-#[derive(Clone, Copy, Debug)]
+#[derive(Clone, Copy)]
 enum Takes {
     Nothing,
     Int,
@@ -52,7 +52,7 @@ enum Takes {
 }
 
 /// A library function or an intrinsic.
-#[derive(Clone, Copy, Debug)]
+#[derive(Clone, Copy)]
 struct Service {
     takes: Takes,
     gives: Given,

@@ -18,7 +18,7 @@ use indexmap::IndexMap;
 use std::alloc::Global;
 
 /// A type that is known before a file. Numbers name the recipes before it.
-#[derive(Clone, Copy, Debug)]
+#[derive(Clone, Copy)]
 enum Recipe {
     Void,
     Int(IntKind, u8),
@@ -52,7 +52,7 @@ const RECIPES: [Recipe; 18] = [
 ];
 
 /// What a name denotes before a file. A type is named by its recipe.
-#[derive(Clone, Copy, Debug)]
+#[derive(Clone, Copy)]
 enum Known {
     Alias(usize),
     /// A library function, which has a type.
@@ -137,7 +137,8 @@ fn made(alloc: Global, recipe: Recipe, numbers: &[u32]) -> Result<CType, NoMemor
             Ok(CType::Function(number_at(numbers, gives), params))
         }
         Recipe::Unary(gives, takes) => {
-            let params = vec![in alloc; number_at(numbers, takes)]?;
+            let mut params = Vec::new(alloc);
+            params.push(number_at(numbers, takes))?;
             Ok(CType::Function(number_at(numbers, gives), Sequence::from_vec(params)))
         }
     }
@@ -200,7 +201,8 @@ impl<'a> Scopes<'a> {
         let mut known = Numbers::new(alloc);
         let numbers = known_types(alloc, &mut known, p)?;
         let scope = known_names(alloc, numbers.as_slice())?;
-        let scopes = vec![in alloc; scope]?;
+        let mut scopes = Vec::new(alloc);
+        scopes.push(scope)?;
         Ok(Scopes {
             alloc,
             file,

@@ -11,7 +11,7 @@ pub enum TagKind {
 }
 
 /// What a declaration is of.
-#[derive(Clone, Copy, Debug, PartialEq, Eq)]
+#[derive(Clone, Copy)]
 pub enum DeclKind {
     Object,
     Fun,
@@ -22,7 +22,7 @@ pub enum DeclKind {
 }
 
 /// Storage-class specifiers, as far as they have an effect (C11 6.7.1).
-#[derive(Clone, Copy, Debug, PartialEq, Eq)]
+#[derive(Clone, Copy)]
 pub enum Storage {
     Plain,
     Static,
@@ -31,7 +31,7 @@ pub enum Storage {
 }
 
 /// The rules that the type of a declarator breaks by itself.
-#[derive(Clone, Copy, Debug, PartialEq, Eq)]
+#[derive(Clone, Copy)]
 pub struct Faults {
     /// An array has elements of a type that is not complete.
     pub lacks: bool,
@@ -45,7 +45,7 @@ pub struct Faults {
 }
 
 /// A declaration of one name.
-#[derive(Clone, Copy, Debug, PartialEq, Eq)]
+#[derive(Clone, Copy)]
 pub struct Decl {
     pub name: Span,
     pub pos: Pos,
@@ -75,7 +75,7 @@ pub enum Entry {
 }
 
 /// What an ordinary name denotes, with its type where that stands nowhere else.
-#[derive(Clone, Copy, Debug, PartialEq, Eq)]
+#[derive(Clone, Copy)]
 pub enum Entity {
     /// A parameter or another local: its number in the function, and that of its type.
     Local(u32, u32),
@@ -92,7 +92,7 @@ pub enum Entity {
 }
 
 /// What a tag denotes.
-#[derive(Clone, Copy, Debug, PartialEq, Eq)]
+#[derive(Clone, Copy)]
 pub enum Tagging {
     /// A struct or union: the number of its tag.
     Recorded(u32),

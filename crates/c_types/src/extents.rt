@@ -19,7 +19,7 @@ use cap_layout::{Layout, LayoutFault, owned};
 use ck_int::IntKind;
 
 /// A type that is no array and not const.
-#[derive(Clone, Copy, Debug)]
+#[derive(Clone, Copy)]
 pub(crate) enum Base {
     /// It is never complete.
     Missing,
@@ -30,7 +30,7 @@ pub(crate) enum Base {
 }
 
 /// One level of a type.
-#[derive(Clone, Copy, Debug)]
+#[derive(Clone, Copy)]
 enum Step {
     Base(Base),
     /// A number of elements of a type.
@@ -38,7 +38,7 @@ enum Step {
 }
 
 /// A type as a row of elements that are no arrays and not const.
-#[derive(Clone, Copy, Debug)]
+#[derive(Clone, Copy)]
 pub(crate) struct Row {
     pub(crate) base: Base,
     /// How many elements there are; all numbers over the limit of a size are alike.

@@ -7,7 +7,7 @@ ghost use Rattle.cap_layout.specs.Answers.{greatest_align};
 use cap_layout::Layout;
 
 /// The size and the alignment of a complete struct or union.
-#[derive(Clone, Copy, Debug)]
+#[derive(Clone, Copy)]
 pub(crate) struct Room {
     pub(crate) size: u64,
     pub(crate) align: u64,

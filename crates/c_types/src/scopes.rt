@@ -26,7 +26,7 @@ pub struct Scope<'a> {
 }
 
 /// A struct or union.
-#[derive(Clone, Copy, Debug)]
+#[derive(Clone, Copy)]
 pub(crate) struct TagInfo {
     pub(crate) kind: RecordKind,
     /// Its braces were opened.
@@ -38,7 +38,7 @@ pub(crate) struct TagInfo {
 }
 
 /// What is known of an object of static storage duration beside its name and type.
-#[derive(Clone, Copy, Debug)]
+#[derive(Clone, Copy)]
 pub(crate) struct ObjectInfo {
     pub(crate) linked: bool,
     pub(crate) defined: bool,

@@ -10,7 +10,7 @@ use std::alloc::Global;
 use std::mem;
 
 /// How many uses, addresses and string literals there were.
-#[derive(Clone, Copy, Debug)]
+#[derive(Clone, Copy)]
 pub struct Mark {
     uses: usize,
     addressed: usize,

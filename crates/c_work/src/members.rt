@@ -19,7 +19,7 @@ use c_tree::Member;
 use ck_base::{NoMemory, Pos, Refusal};
 
 /// A member that has a name.
-#[derive(Clone, Copy, Debug)]
+#[derive(Clone, Copy)]
 pub(crate) struct Found {
     /// Its number among the members.
     number: u32,
@@ -28,7 +28,7 @@ pub(crate) struct Found {
 }
 
 /// What is found of a member of a struct or union.
-#[derive(Clone, Copy, Debug)]
+#[derive(Clone, Copy)]
 pub(crate) enum Outcome {
     /// The struct or union is not complete.
     Incomplete,

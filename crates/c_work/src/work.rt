@@ -5,14 +5,14 @@ use c_tree::{NodeKind, Target, Tree, VarDef};
 use ck_base::{Pos, Span};
 
 /// A name as it stands in the file.
-#[derive(Clone, Copy, Debug, PartialEq, Eq)]
+#[derive(Clone, Copy)]
 pub struct Name {
     pub span: Span,
     pub pos: Pos,
 }
 
 /// A node of the tree.
-#[derive(Clone, Copy, Debug)]
+#[derive(Clone, Copy)]
 pub struct Part<'a> {
     pub kind: NodeKind,
     /// Its own token.
@@ -24,7 +24,7 @@ pub struct Part<'a> {
 }
 
 /// What an expression names.
-#[derive(Clone, Copy, Debug, PartialEq, Eq)]
+#[derive(Clone, Copy)]
 pub enum Used {
     /// An object of static storage duration, by its number.
     Object(u32),
@@ -33,14 +33,14 @@ pub enum Used {
 }
 
 /// A use, and its place (C11 6.9p3).
-#[derive(Clone, Copy, Debug, PartialEq, Eq)]
+#[derive(Clone, Copy)]
 pub struct Use {
     pub what: Used,
     pub pos: Pos,
 }
 
 /// The bounds of an initial pointer.
-#[derive(Clone, Copy, Debug, PartialEq, Eq)]
+#[derive(Clone, Copy)]
 pub enum Bounds {
     /// Those of all that it points to.
     Whole,
@@ -49,7 +49,7 @@ pub enum Bounds {
 }
 
 /// A pointer with which an object begins.
-#[derive(Clone, Copy, Debug, PartialEq, Eq)]
+#[derive(Clone, Copy)]
 pub struct Start {
     /// Its place in the object, in bytes.
     pub at: u64,
@@ -60,7 +60,7 @@ pub struct Start {
 }
 
 /// The initial value of an object of static storage duration (C11 6.7.9).
-#[derive(Debug, Drop)]
+#[derive(Drop)]
 pub struct Filling {
     /// The object's number.
     pub object: u32,
@@ -70,7 +70,7 @@ pub struct Filling {
 }
 
 /// The definition of a function (C11 6.9.1).
-#[derive(Debug, Drop)]
+#[derive(Drop)]
 pub struct Definition {
     /// The function's number.
     pub function: u32,
@@ -82,7 +82,7 @@ pub struct Definition {
 }
 
 /// An initial pointer into an array whose length is not known yet.
-#[derive(Clone, Copy, Debug, PartialEq, Eq)]
+#[derive(Clone, Copy)]
 pub struct Waiting {
     pub pos: Pos,
     /// The array's number among the objects of static storage duration.
