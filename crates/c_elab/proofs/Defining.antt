@@ -1,26 +1,25 @@
 -- A function is defined: it is declared, its parameters are opened, and its body is typed.
-use Rattle.std.proofs.Common.{◌≡◌, ℕ, ◌<◌, ◌≤◌, Bool, true, false, List, [], ◌∷◌, length, map, Option, Some, None, Result, Ok, Err, refl, sym, ap, subst, ◌∙◌, arith}
+use Rattle.std.proofs.Common.{◌≡◌, ℕ, Bool, true, List, length, Option, Some, None, Result, Ok, Err, sym, ap, subst, ◌∙◌, arith}
 use Rattle.std.specs.Prelude.{not, ◌||◌, reverse, slice_get, All}
 use Rattle.std.proofs.lemmas.List.{length-map}
 use Rattle.std.specs.Option.{is_some}
-use Rattle.ck_base.specs.declared.positions.Pos.{Pos}
 use Rattle.ck_base.specs.declared.refusal.Refusal.{Refusal}
 use Rattle.ck_base.specs.declared.refusal.Refusal.TheVariants.{Code, NoMemory}
 use Rattle.ck_base.specs.Tokens.{Lexeme}
-use Rattle.c_tree.specs.Syntax.{Syn, first_token}
+use Rattle.c_tree.specs.Syntax.{Syn}
 use Rattle.c_tree.specs.Types.{Ty}
 use Rattle.c_tree.specs.Readings as meant
 use Rattle.c_tree.specs.Readings.{Reading, Storage}
-use Rattle.c_tree.specs.Scopes.{State, Fault, Doing, continued, change, look, ◌>>=◌, ◌>>◌}
+use Rattle.c_tree.specs.Scopes.{State, Fault, Doing, continued, look, ◌>>=◌}
 use Rattle.c_tree.specs.Declarators as meant_types
 use Rattle.c_tree.specs.Declarators.{formed}
 use Rattle.c_tree.specs.Expressions.{routine_type}
-use Rattle.c_tree.specs.Programs.{reading, body_context, own_prototype, define_named, is_there, numbers_from}
+use Rattle.c_tree.specs.Programs.{reading, body_context, own_prototype, define_named, is_there}
 use Rattle.c_types.specs.Declares.{declares_definition, storage_of, name_of, formed_of}
 use Rattle.c_types.specs.declared.entries.Decl.{Decl}
 use Rattle.c_types.specs.declared.entries.DeclKind.TheVariants as kinds
 use Rattle.c_types.proofs.Before.{of_own, defines_body, definition_is}
-use Rattle.c_nodes.specs.Nodes.{IsWhole, type_in}
+use Rattle.c_nodes.specs.Nodes.{type_in}
 use Rattle.c_work.specs.declared.work.Name.{Name}
 use Rattle.c_work.specs.declared.work.Work.{Work}
 use Rattle.c_work.specs.Work.{Shows}
@@ -34,11 +33,11 @@ use Rattle.c_declarators.specs.declared.parts.Wrap.{Wrap}
 use Rattle.c_declarators.specs.Forming.{formed_in, ParamIsThere}
 use Rattle.c_declarators.specs.Steps.{forms}
 use Rattle.c_declarators.specs.Parts.{IsSpecified, FormedThere, IsFormed, in_any, IsPrototype, AreWraps, shown_in}
-use Rattle.c_items.specs.Shown.{DoneFor, AnswersFor}
+use Rattle.c_items.specs.Shown.{AnswersFor}
 use Rattle.c_items.specs.declared.items.Context.{Context}
 use Rattle.c_items.specs.Items.{context_in}
-use Rattle.c_declarations.specs.Declaring.{begins, FunctionThere, IsFunction}
-use Rattle.c_declarations.proofs.Leaving.{definition_leaves}
+use Rattle.c_statements.specs.Declaring.{begins, FunctionThere, IsFunction}
+use Rattle.c_statements.proofs.Leaving.{definition_leaves}
 use Rattle.c_elab.specs.Functions.{first_prototype, opened, Opens, types_body, defines}
 use Rattle.c_elab.proofs.Own.{Owned, owned, prototype_kept}
 

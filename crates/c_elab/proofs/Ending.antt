@@ -1,5 +1,5 @@
 -- A function gets its body, and its scope is left.
-use Rattle.std.proofs.Common.{◌≡◌, ℕ, zero, suc, ◌+◌, ◌<◌, ◌≤◌, Bool, true, false, ◌⊎◌, inl, inr, ⊎_elim, List, [], ◌∷◌, ◌++◌, length, map, take, get_or, Option, Some, None, Result, Ok, Err, refl, sym, ap, subst, ◌∙◌, arith, length-append}
+use Rattle.std.proofs.Common.{◌≡◌, ℕ, zero, suc, ◌+◌, ◌<◌, ◌≤◌, Bool, false, ◌⊎◌, inl, inr, ⊎_elim, List, [], ◌∷◌, ◌++◌, length, map, take, Option, Some, None, Result, Ok, Err, refl, sym, ap, subst, ◌∙◌, arith}
 use Rattle.std.specs.Prelude.{slice_get, ◌==◌, ◌&&◌, not, if◌then◌else◌, All}
 use Rattle.std.specs.Global.{Vec}
 use Rattle.std.proofs.lemmas.Bool.{eq-eqb, ne_eqb}
@@ -25,10 +25,10 @@ use Rattle.c_types.specs.declared.scopes.Scopes.{Scopes}
 use Rattle.c_types.specs.Stands.{Stands, Declared, named, var_kept, local_seen, routine_seen}
 use Rattle.c_types.specs.Calls.{Does}
 use Rattle.c_types.proofs.Looking.{seen_length, type_is}
-use Rattle.c_nodes.specs.Nodes.{IsWhole, type_in, type_count}
+use Rattle.c_nodes.specs.Nodes.{IsWhole, type_in}
 use Rattle.c_work.specs.declared.work.Definition.{Definition}
 use Rattle.c_work.specs.declared.work.Work.{Work}
-use Rattle.c_work.specs.Work.{Shows, IsClosed, DefinitionIsThere, Seen, is_among, is_function, first_place, definition_of, option_seen, body_seen, seen_of}
+use Rattle.c_work.specs.Work.{Shows, DefinitionIsThere, Seen, is_among, is_function, first_place, definition_of, option_seen, body_seen, seen_of}
 use Rattle.c_work.specs.Answers.{Keeps, Done, Answers, freely, NothingThere, IsNothing, action_in, action_count}
 use Rattle.c_work.specs.Parts.{IsPart, AreParts}
 use Rattle.c_work.proofs.Sequencing.{free_law, changed, then, failed}
@@ -36,7 +36,7 @@ use Rattle.c_work.proofs.Using.{changed_same, set_at}
 use Rattle.c_parts.proofs.Kids.{opened}
 use Rattle.c_items.specs.declared.items.Items.{Items}
 use Rattle.c_items.specs.Items.{AddsAction, ItemsThere, IsItems, items_in}
-use Rattle.c_declarations.proofs.Standing.{reading_node}
+use Rattle.c_statements.proofs.Standing.{reading_node}
 use Rattle.c_elab.specs.Functions.{variable_in, variables_from, VariableThere, ends, finishes, types_body}
 
 -- ---- the variables

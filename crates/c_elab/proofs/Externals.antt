@@ -1,5 +1,5 @@
 -- External declarations, one after the other, and the whole file.
-use Rattle.std.proofs.Common.{◌≡◌, ℕ, List, [], ◌∷◌, Option, Some, None, Result, Ok, Err, refl, sym, ap, subst, ◌∙◌}
+use Rattle.std.proofs.Common.{◌≡◌, ℕ, List, [], ◌∷◌, Some, Result, Ok, Err, refl, sym, ap, subst, ◌∙◌}
 use Rattle.ck_base.specs.declared.positions.Pos.{Pos}
 use Rattle.ck_base.specs.declared.refusal.Refusal.{Refusal}
 use Rattle.ck_base.specs.declared.refusal.Refusal.TheVariants.{Code, NoMemory}
@@ -10,22 +10,21 @@ use Rattle.c_tree.specs.declared.syntax.Tree.{Tree}
 use Rattle.c_tree.specs.declared.typed.Typed.{Typed}
 use Rattle.c_tree.specs.Syntax.{Syn, Syns, StandsAt}
 use Rattle.c_tree.specs.Readings.{Reading}
-use Rattle.c_tree.specs.Terms.{Program}
-use Rattle.c_tree.specs.Scopes.{State, Doing, Fault, give, continued, ◌>>=◌, ◌>>◌}
+use Rattle.c_tree.specs.Scopes.{State, Doing, Fault, give, continued, ◌>>◌}
 use Rattle.c_tree.specs.Declarations.{declaration}
 use Rattle.c_tree.specs.Programs.{reading, readings, all_externals, parts, typing, finished, ended, earliest, last_faults, beginning}
-use Rattle.c_tree.specs.Typing.{TypesSyntax, Reads, IsSpelled}
+use Rattle.c_tree.specs.Typing.{Reads, IsSpelled}
 use Rattle.c_nodes.specs.Nodes.{IsWhole}
 use Rattle.c_work.specs.declared.work.Work.{Work}
 use Rattle.c_work.specs.Work.{Shows}
-use Rattle.c_work.specs.Answers.{Done, Answers, Keeps, freely, NothingThere, IsNothing}
+use Rattle.c_work.specs.Answers.{Done, Answers, freely, NothingThere, IsNothing}
 use Rattle.c_work.specs.Parts.{IsPart, AreParts}
-use Rattle.c_work.proofs.Sequencing.{free_law, answers_at, also_then, failed, gave}
+use Rattle.c_work.proofs.Sequencing.{free_law, answers_at, also_then, failed}
 use Rattle.c_parts.proofs.Kids.{cut, no_parts, opened, parts_kept}
-use Rattle.c_declarations.proofs.Gather.{readings_more, readings_nil}
+use Rattle.c_statements.proofs.Stating.{readings_more, readings_nil}
 use Rattle.c_items.specs.declared.items.Items.{Items}
 use Rattle.c_items.specs.Items.{ItemsThere, IsItems}
-use Rattle.c_finish.specs.Finished.{Finished, IsFinished}
+use Rattle.c_finish.specs.Finished.{Finished}
 use Rattle.c_elab.specs.Elaborated.{Elaborated}
 use Rattle.c_elab.proofs.Written.{written}
 

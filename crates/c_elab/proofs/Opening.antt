@@ -1,6 +1,6 @@
 -- The parameters of a function and the scope of its body are opened.
-use Rattle.std.proofs.Common.{◌≡◌, ℕ, zero, suc, ◌+◌, ◌-◌, ◌<◌, ◌≤◌, false, List, [], ◌∷◌, ◌++◌, length, map, take, drop, Option, Some, None, Result, Ok, Err, refl, sym, ap, subst, ◌∙◌, arith, append_assoc}
-use Rattle.std.specs.Prelude.{min, option_map, slice_get, slice_index_or, slice_range, All}
+use Rattle.std.proofs.Common.{◌≡◌, ℕ, zero, suc, ◌-◌, false, List, [], ◌∷◌, ◌++◌, length, map, take, drop, Option, Some, None, refl, sym, ap, subst, ◌∙◌, arith, append_assoc}
+use Rattle.std.specs.Prelude.{min, option_map, slice_get, slice_range, All}
 use Rattle.std.specs.Global.{Vec}
 use Rattle.std.proofs.lemmas.List.{map-append, append-nil}
 use Rattle.ck_base.specs.declared.positions.Span.{Span}
@@ -13,11 +13,10 @@ use Rattle.c_tree.specs.Programs.{parameter_name, parameter_local}
 use Rattle.c_tree.specs.Scopes as scopes
 use Rattle.c_tree.specs.Scopes.{State, LocalState}
 use Rattle.c_tree.specs.Views.{types_of}
-use Rattle.c_types.specs.declared.scopes.Scope.{Scope}
 use Rattle.c_types.specs.declared.scopes.Scopes.{Scopes}
 use Rattle.c_types.specs.Stands.{Stands, ShowsScope, Declared, text_at, named, var_kept, local_seen}
 use Rattle.c_types.proofs.Judged.{named_there}
-use Rattle.c_nodes.specs.Nodes.{IsWhole, type_in, type_count}
+use Rattle.c_nodes.specs.Nodes.{IsWhole, type_in}
 use Rattle.c_work.specs.declared.work.Name.{Name}
 use Rattle.c_work.specs.declared.work.Work.{Work}
 use Rattle.c_work.specs.Work.{Shows, IsClosed, is_among}
@@ -26,7 +25,7 @@ use Rattle.c_work.specs.Parts.{token_of}
 use Rattle.c_declarators.specs.declared.parts.Param.{Param}
 use Rattle.c_declarators.specs.declared.parts.Prototype.{Prototype}
 use Rattle.c_declarators.specs.Forming.{ParamIsThere}
-use Rattle.c_declarators.specs.Parts.{param_in, IsPrototype, shown_in}
+use Rattle.c_declarators.specs.Parts.{param_in}
 use Rattle.c_elab.specs.Functions.{parameter_token, IsParameterName, IsParameter, AddsParameters, Opens, opened}
 
 -- no bytes stand between a place and itself

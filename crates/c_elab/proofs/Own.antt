@@ -1,5 +1,5 @@
 -- The parameters of the function that is defined.
-use Rattle.std.proofs.Common.{◌≡◌, ℕ, zero, suc, ◌+◌, ◌<◌, ◌≤◌, List, [], ◌∷◌, ◌++◌, length, map, Option, Some, None, refl, sym, ap, subst, ◌∙◌, arith}
+use Rattle.std.proofs.Common.{◌≡◌, ℕ, zero, suc, ◌<◌, ◌≤◌, List, [], ◌∷◌, ◌++◌, length, map, Option, Some, None, refl, sym, ap, subst, ◌∙◌, arith}
 use Rattle.std.specs.Prelude.{reverse, option_map, slice_get, All}
 use Rattle.std.proofs.lemmas.List.{reverse-append}
 use Rattle.ck_base.specs.declared.tokens.TokenKind.TheVariants.{Word}
@@ -25,7 +25,7 @@ use Rattle.c_declarators.specs.declared.parts.Prototype.{Prototype}
 use Rattle.c_declarators.specs.declared.parts.Wrap.{Wrap}
 use Rattle.c_declarators.specs.declared.parts.Wrap.TheVariants.{Point, Row, Gives}
 use Rattle.c_declarators.specs.Forming.{ParamIsThere, WrapIsThere}
-use Rattle.c_declarators.specs.Parts.{param_in, name_token, IsPrototype, IsWrap, AreWraps, shown_in}
+use Rattle.c_declarators.specs.Parts.{param_in, IsPrototype, IsWrap, AreWraps, shown_in}
 use Rattle.c_elab.specs.Functions.{first_prototype}
 
 -- ---- what is made last

@@ -1,5 +1,5 @@
 -- The tree that reading a file gives stands for its syntax in the file's bytes.
-use Rattle.std.proofs.Common.{◌≡◌, ℕ, zero, suc, ◌-◌, List, [], ◌∷◌, take, drop, Some, refl, sym, subst}
+use Rattle.std.proofs.Common.{◌≡◌, ℕ, zero, suc, List, [], ◌∷◌, Some, refl, sym, subst}
 use Rattle.std.specs.Prelude.{slice_get}
 use Rattle.std.proofs.lemmas.Option.{same_Some}
 use Rattle.ck_base.specs.Tokens.{Lexeme}
@@ -7,7 +7,7 @@ use Rattle.ck_base.specs.Lexes.{IsAccepted, IsTokenOf, NextToken}
 use Rattle.ck_base.specs.Lexes as lexing
 use Rattle.c_tree.specs.declared.syntax.Tree.{Tree}
 use Rattle.c_tree.specs.Syntax.{Syn, Syns, node, nil, more, StandsAt}
-use Rattle.c_tree.specs.Parses.{DerivesFile, file_start}
+use Rattle.c_tree.specs.Parses.{DerivesFile}
 use Rattle.c_tree.specs.File.{IsCut}
 use Rattle.c_tree.specs.Typing.{AreBytes, bytes_at, IsSpelled, AreSpelled, Reads}
 use Rattle.c_elab.proofs.Written.{IsFrom, AreFrom, file_read, all_known}

@@ -1,17 +1,15 @@
 -- External declarations and function definitions, by their parts.
-use Rattle.std.proofs.Common.{◌≡◌, ℕ, zero, suc, ◌<◌, List, [], ◌∷◌, length, Option, Some, None, false, Result, Ok, Err, refl, sym, ap, subst, ◌∙◌, arith}
+use Rattle.std.proofs.Common.{◌≡◌, ℕ, ◌<◌, List, [], ◌∷◌, length, Some, false, Result, Ok, Err, refl, sym, ap, subst, ◌∙◌, arith}
 use Rattle.std.specs.Prelude.{slice_get, slice_index_or}
-use Rattle.ck_base.specs.declared.positions.Pos.{Pos}
 use Rattle.ck_base.specs.declared.refusal.Refusal.{Refusal}
 use Rattle.ck_base.specs.Tokens.{Lexeme}
 use Rattle.c_tree.specs.declared.syntax.Node.{Node}
 use Rattle.c_tree.specs.declared.syntax.NodeKind.{NodeKind}
 use Rattle.c_tree.specs.declared.syntax.NodeKind.TheVariants as Kinds
-use Rattle.c_tree.specs.Syntax.{Syn, Syns, node, nil, more}
+use Rattle.c_tree.specs.Syntax.{Syn, Syns, nil, more}
 use Rattle.c_tree.specs.Readings as meant
 use Rattle.c_tree.specs.Readings.{Reading}
 use Rattle.c_tree.specs.Scopes.{Doing, give, refuse, ◌>>=◌}
-use Rattle.c_tree.specs.Declarations.{declaration}
 use Rattle.c_tree.specs.Programs.{reading, readings, external_of, function_definition, define_named}
 use Rattle.c_work.specs.declared.work.Work.{Work}
 use Rattle.c_work.specs.Answers.{Answers, Done, freely, quietly, NothingThere, IsNothing}
@@ -24,8 +22,8 @@ use Rattle.c_declarators.specs.declared.parts.Wrap.TheVariants.{Point, Row, Give
 use Rattle.c_parts.specs.Kids.{HasNot}
 use Rattle.c_parts.proofs.Kids.{opened, cut, no_parts, count, counted}
 use Rattle.c_items.proofs.Shown.{then_for}
-use Rattle.c_declarations.proofs.Following.{for_each, fails_freed}
-use Rattle.c_declarations.proofs.Standing.{reading_node, some_specified, is_some_specified}
+use Rattle.c_statements.proofs.Following.{for_each, fails_freed}
+use Rattle.c_statements.proofs.Standing.{reading_node, some_specified, is_some_specified}
 use Rattle.c_elab.specs.Functions.{first_prototype, defines_from}
 
 -- what a node is outside of functions

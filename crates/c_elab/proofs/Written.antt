@@ -1,6 +1,6 @@
 -- The tokens of a tree that is read from accepted tokens: names are words, literals are written as such, and each token is one of those
 -- that were read (C11 6.4, 6.5 to 6.9).
-use Rattle.std.proofs.Common.{◌≡◌, ℕ, zero, suc, Bool, true, false, not, List, [], ◌∷◌, ◌++◌, Some, refl, sym, ap, subst, ◌∙◌}
+use Rattle.std.proofs.Common.{◌≡◌, ℕ, suc, Bool, true, false, not, List, [], ◌∷◌, ◌++◌, Some, refl, sym, ap, subst, ◌∙◌}
 use Rattle.std.specs.Prelude.{if◌then◌else◌, slice_get, bytes_eq}
 use Rattle.std.specs.List.{list_all}
 use Rattle.std.proofs.lemmas.Bool.{false≢true, and_parts}
@@ -8,13 +8,12 @@ use Rattle.ck_base.specs.declared.tokens.TokenKind.{TokenKind}
 use Rattle.ck_base.specs.declared.tokens.TokenKind.TheVariants as Tokens
 use Rattle.ck_base.specs.Tokens.{Lexeme, is_among, keywords}
 use Rattle.ck_base.specs.Lexes.{IsAccepted}
-use Rattle.c_tree.specs.declared.syntax.NodeKind.{NodeKind}
 use Rattle.c_tree.specs.declared.syntax.NodeKind.TheVariants as Kinds
 use Rattle.c_tree.specs.declared.syntax.Symbol.{Symbol}
 use Rattle.c_tree.specs.declared.syntax.Symbol.TheVariants as Symbols
 use Rattle.c_tree.specs.declared.syntax.Head.{Head}
 use Rattle.c_tree.specs.declared.syntax.Head.TheVariants as Heads
-use Rattle.c_tree.specs.Syntax.{Syn, Syns, node, nil, more, one, joined, then_one, own_token, first_token, first_of_parts, first_unless_last}
+use Rattle.c_tree.specs.Syntax.{Syn, Syns, node, nil, more, one, joined, own_token, first_token, first_of_parts, first_unless_last}
 use Rattle.c_tree.specs.Symbols.{look_up, keyword_symbols, punctuator_symbols, symbol_of, symbol, head_of}
 use Rattle.c_tree.specs.Grammar
 use Rattle.c_tree.specs.Grammar.{Naming, Tags, Goal, Derives, Declares, Repeated, Separated, Listed, Initializes, Initialized, Declaration, Optional, States, Items, Externals, is_word, is_typedef_name, is_declared_by}

@@ -23,7 +23,7 @@ use Rattle.c_work.specs.Parts.{token_of}
 use Rattle.c_declarators.specs.declared.parts.Param.{Param}
 use Rattle.c_declarators.specs.declared.parts.Prototype.{Prototype}
 use Rattle.c_declarators.specs.declared.parts.Wrap.{Wrap}
-use Rattle.c_declarators.specs.declared.parts.Wrap.TheVariants.{Point, Row, Gives}
+use Rattle.c_declarators.specs.declared.parts.Wrap.TheVariants.{Gives}
 use Rattle.c_declarators.specs.Forming.{ParamIsThere}
 use Rattle.c_declarators.specs.Parts.{param_in, IsPrototype, AreWraps, shown_in}
 

@@ -11,9 +11,9 @@ ghost use Rattle.c_work.specs.Parts.{IsPart, HasPart, AreParts, HaveParts};
 ghost use Rattle.c_elab.specs.Elaborated.{HasReading, Elaborated};
 
 use crate::functions::function_definition;
-use c_declarations::declaration;
 use c_finish::finish;
 use c_parts::{first_of, node_at};
+use c_statements::declaration;
 use c_tree::{NodeKind, Tree, Typed};
 use c_work::Work;
 use ck_base::{Pos, Refusal};

@@ -10,13 +10,13 @@ ghost use Rattle.c_work.specs.Answers.{Answers, freely, NothingThere, IsNothing}
 ghost use Rattle.c_work.specs.Parts.{IsPart, HasPart, AreParts, HaveParts};
 ghost use Rattle.c_declarators.specs.Parts.{SpecifiedThere, IsSpecified, DerivedThere, ShowsDerived};
 ghost use Rattle.c_items.specs.Shown.{AnswersFor};
-ghost use Rattle.c_declarations.specs.Declaring.{WrapsThere};
+ghost use Rattle.c_statements.specs.Declaring.{WrapsThere};
 ghost use Rattle.c_elab.specs.Functions.{IsDeclarator, first_prototype, defines_from};
 
 use crate::bodies::define_body;
-use c_declarations::declare_definition;
 use c_declarators::{Derived, Formed, Prototype, Specified, Wrap, formed};
 use c_parts::{derived, specified, three};
+use c_statements::declare_definition;
 use c_types::{Decl, DeclKind, Faults};
 use c_work::{Name, Work};
 use ck_base::{Pos, Refusal};

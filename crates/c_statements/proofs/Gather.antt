@@ -6,7 +6,7 @@ use Rattle.c_tree.specs.Syntax.{Syn, Syns}
 use Rattle.c_tree.specs.Readings as meant
 use Rattle.c_tree.specs.Readings.{Reading}
 use Rattle.c_tree.specs.Scopes.{State, Doing, Fault, give, continued, ◌>>=◌}
-use Rattle.c_tree.specs.Declarations.{no_items, both}
+use Rattle.c_tree.specs.Declarations.{no_items, both, declare_all}
 use Rattle.c_tree.specs.Statements.{all_items}
 use Rattle.c_tree.specs.Programs.{reading, readings}
 use Rattle.c_nodes.specs.Nodes.{IsWhole}
@@ -24,6 +24,10 @@ use Rattle.c_statements.proofs.Stating.{readings_more, readings_nil}
 pub all_items_is : (c : meant.Context) (rs : List Reading) → all_items c rs ≡ gather (λ r. r.item c) rs
 all_items_is c [] = refl
 all_items_is c (r ∷ rs) = ap (λ (d : Doing meant.Items). r.item c >>= λ a. d >>= λ b. give (both a b)) (all_items_is c rs)
+
+pub declare_all_is : (y : meant.Specified) (rs : List Reading) → declare_all y rs ≡ gather (λ r. r.declared y) rs
+declare_all_is y [] = refl
+declare_all_is y (r ∷ rs) = ap (λ (d : Doing meant.Items). r.declared y >>= λ a. d >>= λ b. give (both a b)) (declare_all_is y rs)
 
 pub gathered : (u w : Work) (c : meant.Context) (rs : List Reading) (r : Result Items Refusal) → Answers freely u w (gather (λ q. q.item c) rs) ItemsThere IsItems r → Answers freely u w (all_items c rs) ItemsThere IsItems r
 gathered u w c rs r h = subst (λ (d : Doing meant.Items). Answers freely u w d ItemsThere IsItems r) (sym (all_items_is c rs)) h

@@ -1,4 +1,6 @@
 pub mod Arity
+pub mod Declaring
 pub mod Gather
+pub mod Initial
 pub mod Statements
 pub mod Switching

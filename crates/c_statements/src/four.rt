@@ -6,7 +6,7 @@ ghost use Rattle.c_parts.specs.Kids.{HasNot};
 use c_parts::ThreeParts;
 
 /// Four parts.
-#[derive(Clone, Copy, Debug)]
+#[derive(Clone, Copy)]
 pub(crate) struct FourParts {
     pub head: ThreeParts,
     pub last: u32,

@@ -10,8 +10,8 @@ ghost use Rattle.c_work.specs.Parts.{IsPart, HasPart};
 ghost use Rattle.c_items.specs.Items.{context_in, ItemsThere, IsItems};
 ghost use Rattle.c_statements.specs.Statements.{MaybeThere, IsMaybe, for_head, HeadThere, IsHead, for_of};
 
+use crate::declarations::declaration;
 use crate::simple::{evaluate_one, test};
-use c_declarations::declaration;
 use c_items::{Context, Items, no_items};
 use c_parts::{ThreeParts, node_at, value_of};
 use c_tree::{NodeKind, StmtKind};
@@ -19,7 +19,7 @@ use c_work::Work;
 use ck_base::{NoMemory, Refusal, Sequence};
 
 /// What stands in the parentheses of a `for`.
-#[derive(Debug, Drop)]
+#[derive(Drop)]
 pub struct Head {
     pub items: Items,
     pub test: Option<u32>,

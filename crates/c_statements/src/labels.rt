@@ -23,7 +23,7 @@ use indexmap::IndexMap;
 use std::alloc::Global;
 
 /// What a `switch` is on: the number of its promoted type, and the expression in that type.
-#[derive(Clone, Copy, Debug)]
+#[derive(Clone, Copy)]
 pub struct Controlling {
     pub of: u32,
     pub value: u32,

@@ -1,12 +1,19 @@
-//! The statements of a C file (C11 6.8).
+//! The declarations of a C file with their initialisers (C11 6.7), and its statements (C11 6.8).
 #![tactic(auto)]
 
+mod declarations;
+mod declaring;
+mod filling;
 mod four;
 mod heads;
+mod initial;
+mod items;
 mod labels;
 mod simple;
 mod statements;
 
+pub use declarations::declaration;
+pub use declaring::declare_definition;
 pub use heads::Head;
 pub use labels::{Cases, Controlling};
 pub use statements::{all_items, item};

@@ -14,11 +14,11 @@ ghost use Rattle.c_items.specs.Items.{ContextThere, context_in, ItemsThere, IsIt
 ghost use Rattle.c_statements.specs.Statements.{CasesThere, IsCases, cases_in, block_of, if_of, if_with, if_else_of, if_else_with, while_of, while_with, do_of, do_with, for_in, for_with, switch_in, switch_with, inside_of, further};
 ghost use Rattle.c_tree.specs.Statements as meant;
 
+use crate::declarations::declaration;
 use crate::four::{FourParts, four};
 use crate::heads::{for_head, for_kind, in_a_loop};
 use crate::labels::{Cases, in_a_switch, labelled, switch_kind, switched, with_items};
 use crate::simple::{evaluate, jump, return_at, test};
-use c_declarations::declaration;
 use c_items::{Context, Items, does, enter, join, leave, no_items};
 use c_parts::{first_of, node_at, only, three, two};
 use c_tree::{Node, NodeKind, StmtKind};

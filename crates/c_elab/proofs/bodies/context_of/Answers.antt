@@ -1,4 +1,4 @@
-use Rattle.std.proofs.Common.{◌≡◌, Option, false, refl, sym, ap, ◌∙◌}
+use Rattle.std.proofs.Common.{Option, false, sym, ap, ◌∙◌}
 use Rattle.c_tree.specs.Types.{Ty}
 use Rattle.c_tree.specs.Readings.{Context}
 use Rattle.c_tree.specs.Expressions.{routine_type}

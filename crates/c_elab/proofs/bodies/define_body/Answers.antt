@@ -1,4 +1,3 @@
-use Rattle.std.proofs.Common.{◌≡◌, refl, sym, ap, subst, ◌∙◌}
 use Rattle.c_work.specs.declared.work.Work.{Work}
 use Rattle.c_parts.proofs.Kids.{part_kept, has_kept}
 use Rattle.c_items.proofs.Going.{context_kept, context_there}

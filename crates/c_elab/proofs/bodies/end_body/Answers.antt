@@ -1,5 +1,4 @@
-use Rattle.std.proofs.Common.{◌≡◌, refl, sym, ap, subst, ◌∙◌}
-use Rattle.c_tree.specs.Scopes.{State}
+use Rattle.std.proofs.Common.{refl}
 use Rattle.c_work.specs.declared.work.Definition.{Definition}
 use Rattle.c_work.specs.declared.work.Work.{Work}
 use Rattle.c_elab.proofs.Ending.{body_ends}

@@ -1,4 +1,3 @@
-use Rattle.std.proofs.Common.{◌≡◌}
 use Rattle.c_work.specs.declared.work.Work.{Work}
 use Rattle.c_elab.proofs.Ending.{block_is, finish_is}
 use Rattle.c_elab.proofs.bodies.finish_body.Goals as goal

@@ -1,5 +1,4 @@
 use Rattle.std.proofs.lemmas.Result.{err_from_is_err_and}
-use Rattle.std.proofs.Common.{◌≡◌, refl, sym, ap, subst, ◌∙◌}
 use Rattle.c_work.specs.declared.work.Work.{Work}
 use Rattle.c_parts.proofs.Kids.{have_kids}
 use Rattle.c_items.specs.Items.{context_in}

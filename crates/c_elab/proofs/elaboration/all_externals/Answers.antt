@@ -1,5 +1,5 @@
 use Rattle.std.proofs.lemmas.Result.{err_from_is_err_and}
-use Rattle.std.proofs.Common.{◌≡◌, List, ℕ, [], ◌∷◌, Ok, Err, refl, sym, ap, subst, ◌∙◌}
+use Rattle.std.proofs.Common.{List, ℕ, subst}
 use Rattle.c_work.specs.declared.work.Work.{Work}
 use Rattle.c_work.specs.Parts.{HaveParts}
 use Rattle.c_work.proofs.Sequencing.{keeps_same, keeps_then}

@@ -1,8 +1,4 @@
 use Rattle.std.proofs.lemmas.Result.{err_from_is_err_and}
-use Rattle.std.proofs.Common.{◌≡◌, Ok, Err, refl, sym, ap, subst, ◌∙◌}
-use Rattle.c_tree.specs.Declarations.{declaration}
-use Rattle.c_tree.specs.Programs.{readings}
-use Rattle.c_work.specs.declared.work.Work.{Work}
 use Rattle.c_elab.proofs.Externals.{declared_done, declared_fails}
 use Rattle.c_elab.proofs.elaboration.declare.Goals as goal
 

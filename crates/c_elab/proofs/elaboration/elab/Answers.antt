@@ -1,12 +1,7 @@
 use Rattle.std.proofs.lemmas.Result.{err_from_is_err_and}
-use Rattle.std.proofs.Common.{◌≡◌, List, ℕ, Ok, Err, refl, sym, ap, subst, ◌∙◌}
-use Rattle.c_tree.specs.Syntax.{Syn, Syns, StandsAt}
-use Rattle.c_tree.specs.Typing.{Reads, IsSpelled}
-use Rattle.c_tree.specs.Programs.{readings, parts, beginning, all_externals}
+use Rattle.c_tree.specs.Programs.{parts, beginning}
 use Rattle.c_work.specs.declared.work.Work.{Work}
-use Rattle.c_work.specs.Answers.{Answers, Done, freely, NothingThere, IsNothing}
-use Rattle.c_work.specs.Parts.{IsPart, HasPart, AreParts}
-use Rattle.c_parts.proofs.Kids.{opened, have_kids}
+use Rattle.c_parts.proofs.Kids.{have_kids}
 use Rattle.c_elab.proofs.Externals.{elaborated, elaboration_fails, root_is, root_parts}
 use Rattle.c_elab.proofs.elaboration.elab.Goals as goal
 

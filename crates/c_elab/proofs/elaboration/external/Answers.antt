@@ -1,18 +1,10 @@
-use Rattle.std.proofs.Common.{◌≡◌, List, ℕ, [], ◌∷◌, Ok, Err, refl, sym, ap, subst, ◌∙◌}
-use Rattle.ck_base.specs.declared.positions.Pos.{Pos}
-use Rattle.ck_base.specs.Tokens.{Lexeme}
-use Rattle.c_tree.specs.Syntax.{Syns}
+use Rattle.std.proofs.Common.{Ok, sym, subst}
 use Rattle.c_tree.specs.declared.syntax.NodeKind.{NodeKind}
-use Rattle.c_tree.specs.declared.syntax.NodeKind.TheVariants as Kinds
-use Rattle.c_tree.specs.Scopes.{Doing, give}
-use Rattle.c_tree.specs.Declarations.{declaration}
+use Rattle.c_tree.specs.Scopes.{Doing}
 use Rattle.c_tree.specs.Programs.{readings, external_of}
 use Rattle.c_work.specs.declared.work.Work.{Work}
-use Rattle.c_work.specs.Answers.{Answers, Done, freely, NothingThere, IsNothing}
-use Rattle.c_work.specs.Parts.{AreParts, HaveParts}
-use Rattle.c_work.proofs.Sequencing.{free_law, also_then, failed, gave}
+use Rattle.c_work.specs.Answers.{Answers, freely, NothingThere, IsNothing}
 use Rattle.c_parts.proofs.Kids.{have_kids}
-use Rattle.c_items.specs.Items.{ItemsThere, IsItems}
 use Rattle.c_elab.proofs.Shapes.{external_answers, other_external}
 use Rattle.c_elab.proofs.Externals.{nothing_done}
 use Rattle.c_elab.proofs.elaboration.external.Goals as goal

@@ -1,5 +1,5 @@
 use Rattle.std.proofs.lemmas.Result.{err_from_is_err_and}
-use Rattle.std.proofs.Common.{◌≡◌, false, Ok, Err, refl, sym, ap, subst, ◌∙◌}
+use Rattle.std.proofs.Common.{false, Ok}
 use Rattle.c_tree.specs.Readings as meant
 use Rattle.c_tree.specs.Scopes.{Doing, ◌>>=◌}
 use Rattle.c_tree.specs.Programs.{reading, define_named}
@@ -9,8 +9,8 @@ use Rattle.c_work.proofs.Sequencing.{free_law, freed, keeps_then, type_there}
 use Rattle.c_declarators.specs.Parts.{SpecifiedThere, IsSpecified, in_any, DerivedThere, ShowsDerived}
 use Rattle.c_parts.proofs.Kids.{part_kept, has_kept}
 use Rattle.c_items.proofs.Shown.{then_for}
-use Rattle.c_declarations.proofs.Following.{for_each}
-use Rattle.c_declarations.proofs.Standing.{specified_kept, some_specified, is_some_specified}
+use Rattle.c_statements.proofs.Following.{for_each}
+use Rattle.c_statements.proofs.Standing.{specified_kept, some_specified, is_some_specified}
 use Rattle.c_elab.proofs.Shapes.{unspecified, underived}
 use Rattle.c_elab.proofs.functions.define.Goals as goal
 

@@ -1,6 +1,5 @@
-use Rattle.std.proofs.Common.{◌≡◌, Some, None, refl, sym, ap, ◌∙◌}
-use Rattle.c_tree.specs.Readings as meant
-use Rattle.c_tree.specs.Scopes.{State, Doing, refuse}
+use Rattle.std.proofs.Common.{ap, ◌∙◌}
+use Rattle.c_tree.specs.Scopes.{Doing, refuse}
 use Rattle.c_tree.specs.Programs.{reading, define_named}
 use Rattle.c_work.specs.declared.work.Work.{Work}
 use Rattle.c_work.specs.Answers.{NothingThere, IsNothing}

@@ -1,7 +1,7 @@
 use Rattle.std.proofs.lemmas.Result.{err_from_is_err_and}
-use Rattle.std.proofs.Common.{◌≡◌, Some, None, true, Ok, Err, refl, sym, ap, subst, ◌∙◌}
+use Rattle.std.proofs.Common.{◌≡◌, Some, sym, ap, ◌∙◌}
 use Rattle.c_tree.specs.Readings as meant
-use Rattle.c_tree.specs.Scopes.{State, Doing, refuse}
+use Rattle.c_tree.specs.Scopes.{State}
 use Rattle.c_tree.specs.Programs.{reading, define_named}
 use Rattle.c_types.specs.declared.entries.Decl.{Decl}
 use Rattle.c_nodes.specs.Nodes.{type_in}
@@ -13,7 +13,7 @@ use Rattle.std.specs.Option.{is_some}
 use Rattle.c_declarators.specs.Parts.{any_scope, shown_in}
 use Rattle.c_elab.proofs.Weaker.{wraps_weaker}
 use Rattle.c_parts.proofs.Kids.{has_kept, part_kept}
-use Rattle.c_declarations.proofs.Standing.{some_wraps, are_some_wraps}
+use Rattle.c_statements.proofs.Standing.{some_wraps, are_some_wraps}
 use Rattle.c_elab.specs.Functions.{IsDeclarator, first_prototype}
 use Rattle.c_elab.proofs.Own.{own_there, params_there}
 use Rattle.c_elab.proofs.Defining.{defined_decl, never_unformed, never_begun, definition_begun}

@@ -1,4 +1,4 @@
-use Rattle.std.proofs.Common.{◌≡◌, List, ℕ, [], ◌∷◌, refl, sym, ap, subst, ◌∙◌}
+use Rattle.std.proofs.Common.{List, ℕ, [], ◌∷◌, ap, subst, ◌∙◌}
 use Rattle.c_tree.specs.Scopes.{Doing, refuse}
 use Rattle.c_work.specs.declared.work.Work.{Work}
 use Rattle.c_work.specs.Parts.{HaveParts}

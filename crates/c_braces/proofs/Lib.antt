@@ -1,3 +1,0 @@
-pub mod Listing
-pub mod Plain
-pub mod Reading

@@ -1,0 +1,20 @@
+use Rattle.std.proofs.Common.{◌≡◌, refl, sym, ap, subst}
+use Rattle.c_types.specs.declared.entries.Entity.{Entity}
+use Rattle.c_nodes.specs.Nodes.{type_in}
+use Rattle.c_work.specs.Answers.{Answers, freely}
+use Rattle.c_work.specs.Parts.{token_of}
+use Rattle.c_work.specs.declared.work.Work.{Work}
+use Rattle.c_items.specs.Items.{ItemsThere, IsItems}
+use Rattle.c_statements.specs.Declaring.{initializes}
+use Rattle.c_statements.proofs.Initializing.{nothing_given}
+use Rattle.c_statements.proofs.filling.initialize.Goals as goal
+
+pub returns-in-Local : goal.returns-in-Local
+returns-in-Local c = λ b h.
+    let u : Work = c.args.work.now in
+    subst (λ (e : Entity). Answers freely u c.initialize_variable.new.work (initializes e (token_of u c.args.name) (type_in u.nodes c.args.of) b) ItemsThere IsItems c.initialize_variable.result) (sym c.in-Local.is) (c.initialize_variable.ensures b h)
+
+pub returns-in-Static : goal.returns-in-Static
+returns-in-Static c = λ b h.
+    let u : Work = c.args.work.now in
+    subst (λ (e : Entity). Answers freely u c.initialize_object.new.work (initializes e (token_of u c.args.name) (type_in u.nodes c.args.of) b) ItemsThere IsItems c.initialize_object.result) (sym c.in-Static.is) (c.initialize_object.ensures b h)

@@ -1,0 +1,182 @@
+//! What is declared gets its initial value (C11 6.7.9).
+
+ghost use Rattle.std.specs.Prelude.{◌≡◌, ◌<◌, ◌∷◌, ◌++◌, [], IfOk, OnOk};
+ghost use Rattle.ck_base.specs.declared.positions.Pos.{Pos as Place};
+ghost use Rattle.c_tree.specs.Syntax.{Syn};
+ghost use Rattle.c_tree.specs.Programs.{reading};
+ghost use Rattle.c_tree.specs.Scopes.{give};
+ghost use Rattle.c_tree.specs.Declarations as meant;
+ghost use Rattle.c_nodes.specs.Nodes.{IsWhole, type_in, type_count};
+ghost use Rattle.c_work.specs.Answers.{Answers, freely};
+ghost use Rattle.c_work.specs.Parts.{IsPart, HasPart, token_of};
+ghost use Rattle.c_initializers.specs.Slots.{AreSlotsThere, slots_in};
+ghost use Rattle.c_items.specs.Items.{ItemsThere, IsItems};
+ghost use Rattle.c_statements.specs.Declaring.{HasBehind, IsBehind, fills_local, fills_static, init_items, initializes, local_initialized, static_initialized};
+
+use crate::declarations::Behind;
+use crate::initial::{Asked, Goal, initializer};
+use c_initializers::{Slot, fill_local, fill_static};
+use c_items::{Items, add_statement, no_items};
+use c_tree::StmtKind;
+use c_types::Entity;
+use c_work::{Name, Work};
+use ck_base::{NoMemory, Pos, Refusal};
+use std::alloc::Global;
+
+// A variable that is declared, and no statements.
+fn new_variable(alloc: Global, k: u32) -> Result<Items, NoMemory>
+    ensures vars { IfOk result (λ i. i.vars.items ≡ k ∷ []) }
+    ensures actions { IfOk result (λ i. i.actions.items ≡ []) }
+{
+    let mut vars = Vec::new(alloc);
+    vars.push(k)?;
+    Ok(Items {
+        vars,
+        actions: Vec::new(alloc),
+    })
+}
+
+fn push_action(actions: &mut Vec<u32>, action: u32) -> Result<(), NoMemory>
+    ensures { OnOk result (actions.new.items ≡ actions.old.items ++ action ∷ []) }
+{
+    actions.push(action)?;
+    Ok(())
+}
+
+// The statements that initialise a local, and its number.
+fn init_actions(work: &mut Work<'_>, k: u32, pos: Pos, slots: &[Slot]) -> Result<Items, Refusal>
+    requires whole { IsWhole work.old.nodes }
+    requires slots { AreSlotsThere work.old.nodes slots.now }
+    ensures { Answers freely work.old work.new (give (init_items k pos (slots_in work.old.nodes slots.now))) ItemsThere IsItems result }
+{
+    let mut items = new_variable(work.nodes.alloc, k)?;
+    for slot in slots {
+        let kind = StmtKind::Init {
+            var: k,
+            offset: slot.at,
+            value: slot.value,
+        };
+        let action = add_statement(work, kind, pos)?;
+        push_action(&mut items.actions, action)?;
+    }
+    Ok(items)
+}
+
+// A local gets its value by statements at the place of its name (C11 6.7.9p8).
+fn initialize_local(
+    work: &mut Work<'_>,
+    k: u32,
+    name: Name,
+    of: u32,
+    b: Behind,
+    depth: u32,
+) -> Result<Items, Refusal>
+    requires whole { IsWhole work.old.nodes }
+    requires there { of < type_count work.old.nodes }
+    requires part { HasPart work.old b.node }
+    ensures { (x : Syn) → IsPart work.old b.node x → Answers freely work.old work.new (fills_local k (token_of work.old name) (type_in work.old.nodes of) (reading x) b.first) ItemsThere IsItems result }
+{
+    let goal = Goal {
+        asked: Asked::Nothing,
+        whole: b.first,
+        of,
+        at: 0,
+    };
+    let filled = initializer(work, b.node, goal, depth)?;
+    let slots = fill_local(work, k, name, of, b.first, &filled)?;
+    init_actions(work, k, name.pos, slots.as_slice())
+}
+
+// An object of static storage duration gets its initial bytes and pointers (C11 6.7.9p4).
+fn initialize_static(
+    work: &mut Work<'_>,
+    k: u32,
+    name: Name,
+    b: Behind,
+    depth: u32,
+) -> Result<Items, Refusal>
+    requires whole { IsWhole work.old.nodes }
+    requires part { HasPart work.old b.node }
+    ensures { (x : Syn) → IsPart work.old b.node x → Answers freely work.old work.new (fills_static k (token_of work.old name) (reading x) b.first) ItemsThere IsItems result }
+{
+    let of = work.object_type(k)?;
+    let goal = Goal {
+        asked: Asked::Start,
+        whole: b.first,
+        of,
+        at: 0,
+    };
+    let filled = initializer(work, b.node, goal, depth)?;
+    fill_static(work, k, name.pos, &filled)?;
+    Ok(no_items(work.nodes.alloc))
+}
+
+// A local without an initialiser.
+fn declare_variable(work: &mut Work<'_>, k: u32) -> Result<Items, Refusal>
+    requires { IsWhole work.old.nodes }
+    ensures { (p : Place) → Answers freely work.old work.new (give (init_items k p [])) ItemsThere IsItems result }
+{
+    let items = new_variable(work.nodes.alloc, k)?;
+    Ok(items)
+}
+
+// A local gets its value, if one stands there.
+fn initialize_variable(
+    work: &mut Work<'_>,
+    k: u32,
+    name: Name,
+    of: u32,
+    behind: Option<Behind>,
+    depth: u32,
+) -> Result<Items, Refusal>
+    requires whole { IsWhole work.old.nodes }
+    requires there { of < type_count work.old.nodes }
+    requires behind { HasBehind work.old behind }
+    ensures { (b : meant.Behind) → IsBehind work.old behind b → Answers freely work.old work.new (local_initialized k (token_of work.old name) (type_in work.old.nodes of) b) ItemsThere IsItems result }
+{
+    match behind {
+        None => declare_variable(work, k),
+        Some(b) => initialize_local(work, k, name, of, b, depth),
+    }
+}
+
+// The same of an object of static storage duration.
+fn initialize_object(
+    work: &mut Work<'_>,
+    k: u32,
+    name: Name,
+    behind: Option<Behind>,
+    depth: u32,
+) -> Result<Items, Refusal>
+    requires whole { IsWhole work.old.nodes }
+    requires behind { HasBehind work.old behind }
+    ensures { (b : meant.Behind) → IsBehind work.old behind b → Answers freely work.old work.new (static_initialized k (token_of work.old name) b) ItemsThere IsItems result }
+{
+    match behind {
+        None => Ok(no_items(work.nodes.alloc)),
+        Some(b) => initialize_static(work, k, name, b, depth),
+    }
+}
+
+/// What was declared gets its initial value, if one stands there.
+pub(crate) fn initialize(
+    work: &mut Work<'_>,
+    entity: Entity,
+    name: Name,
+    of: u32,
+    behind: Option<Behind>,
+    depth: u32,
+) -> Result<Items, Refusal>
+    requires whole { IsWhole work.old.nodes }
+    requires there { of < type_count work.old.nodes }
+    requires behind { HasBehind work.old behind }
+    ensures { (b : meant.Behind) → IsBehind work.old behind b → Answers freely work.old work.new (initializes entity (token_of work.old name) (type_in work.old.nodes of) b) ItemsThere IsItems result }
+{
+    match entity {
+        Entity::Local(k, _) => initialize_variable(work, k, name, of, behind, depth),
+        Entity::Static(k) => initialize_object(work, k, name, behind, depth),
+        Entity::Routine(_) | Entity::Alias(_) | Entity::Enumerator(_) | Entity::Library(_, _) => {
+            Ok(no_items(work.nodes.alloc))
+        }
+    }
+}

@@ -1,0 +1,94 @@
+//! The items of a list in braces (C11 6.7.9p17, p20).
+
+ghost use Rattle.std.specs.Prelude.{◌≡◌, ◌+◌, ◌++◌, ◌<◌, ◌∷◌, [], IfOk, OnOk};
+ghost use Rattle.c_nodes.specs.Nodes.{IsWhole, type_count};
+ghost use Rattle.c_work.specs.Parts.{HasPart, HaveParts};
+ghost use Rattle.c_statements.specs.Initial.{IsLone, IsNext};
+
+use crate::initial::Goal;
+use c_initializers::{Places, Slot, takes_string};
+use c_tree::NodeKind;
+use c_work::Work;
+use ck_base::{NoMemory, Pos, Refusal};
+use std::alloc::Global;
+
+// The string literal in braces that initialises an array of characters, if nothing else stands there.
+pub(crate) fn lone_text(work: &Work<'_>, kids: &[u32], of: u32) -> Result<Option<u32>, NoMemory>
+    requires whole { IsWhole work.now.nodes }
+    requires there { of < type_count work.now.nodes }
+    requires parts { HaveParts work.now kids.now }
+    ensures { IfOk result (λ o. IsLone work.now of kids.now o) }
+{
+    match kids {
+        [k] => lone(work, *k, of),
+        _ => Ok(None),
+    }
+}
+
+// The same of the only part.
+fn lone(work: &Work<'_>, k: u32, of: u32) -> Result<Option<u32>, NoMemory>
+    requires whole { IsWhole work.now.nodes }
+    requires there { of < type_count work.now.nodes }
+    requires part { HasPart work.now k }
+    ensures { IfOk result (λ o. IsLone work.now of (k ∷ []) o) }
+{
+    let part = work.part(k)?;
+    match part.kind {
+        NodeKind::Text => Ok(if takes_string(work, of) {
+            Some(k)
+        } else {
+            None
+        }),
+        _ => Ok(None),
+    }
+}
+
+/// What the item with a number initialises: 133 at the brace where there is nothing left.
+pub(crate) fn next_part(
+    places: &Places,
+    number: u32,
+    goal: Goal,
+    brace: Pos,
+) -> Result<Goal, Refusal>
+    ensures { IsNext places.now number goal brace result }
+{
+    match places.get(number)? {
+        None => Err(Refusal::Code(133, brace)),
+        Some(place) => match goal.at.checked_add(place.at) {
+            None => Err(Refusal::NoMemory),
+            Some(at) => Ok(Goal {
+                asked: goal.asked,
+                whole: goal.whole,
+                of: place.of,
+                at,
+            }),
+        },
+    }
+}
+
+/// The next number.
+pub(crate) fn counted(number: u32) -> Result<u32, NoMemory>
+    ensures { IfOk result (λ n. n ≡ number + 1) }
+{
+    match number.checked_add(1) {
+        None => Err(NoMemory),
+        Some(n) => Ok(n),
+    }
+}
+
+/// One value alone.
+pub(crate) fn alone(alloc: Global, slot: Slot) -> Result<Vec<Slot>, NoMemory>
+    ensures { IfOk result (λ v. v.items ≡ slot ∷ []) }
+{
+    let mut slots = Vec::new(alloc);
+    slots.push(slot)?;
+    Ok(slots)
+}
+
+/// More values behind those that there are.
+pub(crate) fn append(slots: &mut Vec<Slot>, more: &[Slot]) -> Result<(), NoMemory>
+    ensures { OnOk result (slots.new.items ≡ slots.old.items ++ more.now) }
+{
+    slots.extend_from_slice(more)?;
+    Ok(())
+}
