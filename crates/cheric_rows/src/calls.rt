@@ -1,26 +1,40 @@
 //! Calls of the command over files, an input and sinks in memory.
 
-ghost use Rattle.std.specs.Prelude.{◌≡◌, ◌<◌, ◌-◌, ◌^◌, IfOk};
+ghost use Rattle.std.specs.Prelude.{◌≡◌, ◌<◌, ◌-◌, ◌^◌, length, IfOk};
 
 use cheric_top::cheric;
 use ck_base::{Files, MemFiles, MemSink, MemSource, NoMemory, SureFiles};
 use std::alloc::Global;
 
+fn one_name(alloc: Global, name: &str) -> Result<Vec<String>, NoMemory>
+    ensures { IfOk result (λ names. length names.items ≡ 1) }
+{
+    let mut names = Vec::new(alloc);
+    names.push(String::from_str(alloc, name)?)?;
+    Ok(names)
+}
+
+fn one_content(alloc: Global, bytes: &[u8]) -> Result<Vec<Vec<u8>>, NoMemory>
+    ensures { IfOk result (λ contents. length contents.items ≡ 1) }
+{
+    let mut contents = Vec::new(alloc);
+    contents.push(Vec::from_slice(alloc, bytes)?)?;
+    Ok(contents)
+}
+
 /// One file of this name, and the number of the call of the files that fails (0: none).
 pub fn one_file(alloc: Global, name: &str, bytes: &[u8], failing: u64) -> Result<MemFiles, NoMemory>
     ensures { IfOk result (λ files. files.faults ≡ 0) }
 {
-    let names = vec![in alloc; String::from_str(alloc, name)?]?;
-    let contents = vec![in alloc; Vec::from_slice(alloc, bytes)?]?;
-    let fails = vec![in alloc; failing]?;
-    Ok(MemFiles::new(names, contents, fails))
+    let names = one_name(alloc, name)?;
+    let contents = one_content(alloc, bytes)?;
+    Ok(MemFiles::new(names, contents, only(alloc, failing)?))
 }
 
 /// One file of this name, in files that never fail.
 pub fn sure_file(alloc: Global, name: &str, bytes: &[u8]) -> Result<SureFiles, NoMemory> {
-    let names = vec![in alloc; String::from_str(alloc, name)?]?;
-    let contents = vec![in alloc; Vec::from_slice(alloc, bytes)?]?;
-    Ok(SureFiles::new(names, contents))
+    let names = one_name(alloc, name)?;
+    Ok(SureFiles::new(names, one_content(alloc, bytes)?))
 }
 
 pub fn words_of(alloc: Global, words: &str) -> Result<Vec<String>, NoMemory> {
@@ -29,6 +43,29 @@ pub fn words_of(alloc: Global, words: &str) -> Result<Vec<String>, NoMemory> {
         all.push(String::from_str(alloc, word)?)?;
     }
     Ok(all)
+}
+
+/// The numbers of failing calls, where one call fails.
+fn only(alloc: Global, failing: u64) -> Result<Vec<u64>, NoMemory> {
+    let mut fails = Vec::new(alloc);
+    fails.push(failing)?;
+    Ok(fails)
+}
+
+/// An input of which the call with this number fails (0: none).
+fn source(alloc: Global, bytes: &[u8], failing: u64) -> Result<MemSource, NoMemory>
+    ensures { IfOk result (λ source. source.faults ≡ 0) }
+{
+    let fails = only(alloc, failing)?;
+    Ok(MemSource::new(Vec::from_slice(alloc, bytes)?, fails))
+}
+
+/// An output of 1024 bytes, of which the call with this number fails (0: none).
+fn sink(alloc: Global, failing: u64) -> Result<MemSink, NoMemory>
+    ensures { IfOk result (λ sink. sink.faults ≡ 0) }
+{
+    let fails = only(alloc, failing)?;
+    MemSink::new(alloc, 1024, fails)
 }
 
 /// What the command answers: its status, and all that it puts to the output and to the notes.
@@ -68,9 +105,9 @@ pub fn answers_input<F: Files>(
     let (bytes, read) = input;
     let [byte, note] = failing;
     let words = words_of(alloc, words)?;
-    let mut input = MemSource::new(Vec::from_slice(alloc, bytes)?, vec![in alloc; read]?);
-    let mut out = MemSink::new(alloc, 1024, vec![in alloc; byte]?)?;
-    let mut notes = MemSink::new(alloc, 1024, vec![in alloc; note]?)?;
+    let mut input = source(alloc, bytes, read)?;
+    let mut out = sink(alloc, byte)?;
+    let mut notes = sink(alloc, note)?;
     let status = cheric(alloc, &words, files, &mut input, &mut out, &mut notes);
     Ok(
         status == answer.status

@@ -41,24 +41,29 @@ fn wrong(alloc: Global, rows: &[(&str, &str)]) -> Result<String, Fail> {
 
 #[test]
 fn declarations_are_typed_or_refused(rt: HostRuntime) -> Result<(), Fail> {
-    let alloc = rt.alloc();
-    assert_eq!(rt; wrong(alloc, &WORDS)?.as_str(), "");
-    assert_eq!(rt; wrong(alloc, &DECLARATIONS)?.as_str(), "");
-    assert_eq!(rt; wrong(alloc, &TYPES)?.as_str(), "");
+    for rows in [WORDS.as_slice(), DECLARATIONS.as_slice(), TYPES.as_slice()] {
+        let wrong = wrong(rt.alloc(), rows)?;
+        assert_eq!(rt; wrong.as_str(), "");
+    }
     Ok(())
 }
 
 #[test]
 fn expressions_are_typed_or_refused(rt: HostRuntime) -> Result<(), Fail> {
-    let alloc = rt.alloc();
-    assert_eq!(rt; wrong(alloc, &OPERATORS)?.as_str(), "");
-    assert_eq!(rt; wrong(alloc, &PLACES)?.as_str(), "");
-    assert_eq!(rt; wrong(alloc, &CONSTANTS)?.as_str(), "");
+    for rows in [
+        OPERATORS.as_slice(),
+        PLACES.as_slice(),
+        CONSTANTS.as_slice(),
+    ] {
+        let wrong = wrong(rt.alloc(), rows)?;
+        assert_eq!(rt; wrong.as_str(), "");
+    }
     Ok(())
 }
 
 #[test]
 fn statements_are_typed_or_refused(rt: HostRuntime) -> Result<(), Fail> {
-    assert_eq!(rt; wrong(rt.alloc(), &STATEMENTS)?.as_str(), "");
+    let wrong = wrong(rt.alloc(), &STATEMENTS)?;
+    assert_eq!(rt; wrong.as_str(), "");
     Ok(())
 }

@@ -2,7 +2,7 @@
 
 use crate::calls::{Answer, answers, one_file, sure_file};
 use cheric_build::build;
-use ck_base::Files;
+use ck_base::{Files, NoMemory, SureFiles};
 use std::alloc::Global;
 use std::fmt::Write;
 use std::test::Fail;
@@ -25,16 +25,23 @@ fn quiet(status: u8, line: &str) -> Answer<'_> {
     }
 }
 
-/// The line of a built file of so many bytes.
-fn built_line(alloc: Global, len: usize) -> Result<String, Fail> {
+/// Whether the command says of these words that it built so many bytes.
+fn says_built(alloc: Global, files: &mut SureFiles, words: &str, len: usize) -> Result<bool, Fail> {
     let mut line = String::new(alloc);
     writeln!(line, "built {len}")?;
-    Ok(line)
+    Ok(answers(alloc, files, words, [0; 2], quiet(0, &line))?)
 }
 
-/// Lines on the built file, with what they say.
-const LINES: [(&str, Answer); 4] = [
+/// Whether the file of this name has these bytes.
+fn has(alloc: Global, files: &mut SureFiles, name: &str, bytes: &[u8]) -> Result<bool, Fail> {
+    let got = files.get(alloc, name).ok().ok_or("no file")?;
+    Ok(got.as_slice() == bytes)
+}
+
+/// Lines on built files, with what they say.
+const LINES: [(&str, Answer); 5] = [
     ("cheric exec a.c.elf", RAN),
+    ("cheric exec b", RAN),
     ("cheric exec a.c.elf --steps 99999", RAN),
     (
         "cheric exec a.c.elf --steps 1",
@@ -54,27 +61,44 @@ const LINES: [(&str, Answer); 4] = [
     ),
 ];
 
+/// The first words that are answered otherwise, or the name of a file that has other bytes, where `a.c` is built to `elf`.
+fn answered_otherwise(
+    alloc: Global,
+    files: &mut SureFiles,
+    elf: &[u8],
+) -> Result<Option<&'static str>, Fail> {
+    for words in ["cheric build a.c", "cheric build a.c --out b"] {
+        if !says_built(alloc, files, words, elf.len())? {
+            return Ok(Some(words));
+        }
+    }
+    for &(words, answer) in &LINES {
+        if !answers(alloc, files, words, [0; 2], answer)? {
+            return Ok(Some(words));
+        }
+    }
+    for (name, bytes) in [("a.c", HI.as_bytes()), ("a.c.elf", elf), ("b", elf)] {
+        if !has(alloc, files, name, bytes)? {
+            return Ok(Some(name));
+        }
+    }
+    Ok(None)
+}
+
 #[test]
 fn a_built_file_is_run(rt: HostRuntime) -> Result<(), Fail> {
     let alloc = rt.alloc();
     let elf = build(alloc, HI.as_bytes())?.elf;
-    let line = built_line(alloc, elf.len())?;
-    let built = quiet(0, &line);
     let mut files = sure_file(alloc, "a.c", HI.as_bytes())?;
-    assert!(rt; answers(alloc, &mut files, "cheric build a.c", [0; 2], built)?);
-    for &(words, answer) in &LINES {
-        assert!(rt;
-            answers(alloc, &mut files, words, [0; 2], answer)?,
-            "{words}"
-        );
-    }
-    assert!(rt; answers(alloc, &mut files, "cheric build a.c --out b", [0; 2], built)?);
-    assert!(rt; answers(alloc, &mut files, "cheric exec b", [0; 2], RAN)?);
-    for &(name, want) in &[("a.c", HI.as_bytes()), ("b", &elf)] {
-        let bytes = files.get(alloc, name).ok().ok_or("no file")?;
-        assert_eq!(rt; bytes.as_slice(), want, "{name}");
-    }
+    let otherwise = answered_otherwise(alloc, &mut files, &elf)?;
+    assert_eq!(rt; otherwise, None);
     Ok(())
+}
+
+/// Whether the command refuses an ELF file by this line.
+fn is_refused(alloc: Global, elf: &[u8], line: &str) -> Result<bool, NoMemory> {
+    let mut files = one_file(alloc, "b", elf, 0)?;
+    answers(alloc, &mut files, "cheric exec b", [0; 2], quiet(12, line))
 }
 
 #[test]
@@ -82,12 +106,9 @@ fn cut_files_are_refused(rt: HostRuntime) -> Result<(), Fail> {
     let alloc = rt.alloc();
     let elf = build(alloc, HI.as_bytes())?.elf;
     let last = elf.len().saturating_sub(1);
-    for &(len, line) in &[(last, "image 5\n"), (64, "image 4\n"), (63, "image 1\n")] {
-        let mut files = one_file(alloc, "b", elf.get(..len).ok_or("short")?, 0)?;
-        assert!(rt;
-            answers(alloc, &mut files, "cheric exec b", [0; 2], quiet(12, line))?,
-            "{len}"
-        );
+    for (len, line) in [(last, "image 5\n"), (64, "image 4\n"), (63, "image 1\n")] {
+        let cut = elf.get(..len).unwrap_or(&[]);
+        assert_eq!(rt; is_refused(alloc, cut, line), Ok(true), "{len}");
     }
     Ok(())
 }
@@ -117,19 +138,31 @@ const UNPUT: [(&str, &str, u64, u64, u8, &str); 7] = [
     ("cheric exec a.c.elf", HI, 0, 0, 20, "file\n"),
 ];
 
+/// Whether the command answers these words by a line without output, puts no name and leaves `a.c` as it was.
+fn puts_no_name(
+    alloc: Global,
+    words: &str,
+    file: &str,
+    failing: [u64; 2],
+    answer: Answer<'_>,
+) -> Result<bool, NoMemory> {
+    let [call, note] = failing;
+    let mut files = one_file(alloc, "a.c", file.as_bytes(), call)?;
+    let answered = answers(alloc, &mut files, words, [0, note], answer)?;
+    Ok(
+        answered
+            && files.contents("a.c.elf").is_none()
+            && files.contents("a.c") == Some(file.as_bytes()),
+    )
+}
+
 #[test]
 fn a_refused_file_puts_no_name(rt: HostRuntime) -> Result<(), Fail> {
     let alloc = rt.alloc();
     for &(words, file, call, note, status, line) in &UNPUT {
-        let mut files = one_file(alloc, "a.c", file.as_bytes(), call)?;
+        let answer = quiet(status, line);
         assert!(rt;
-            answers(alloc, &mut files, words, [0, note], quiet(status, line))?,
-            "{words}, {line}"
-        );
-        assert_eq!(rt; files.contents("a.c.elf"), None, "{words}, {line}");
-        assert_eq!(rt;
-            files.contents("a.c"),
-            Some(file.as_bytes()),
+            puts_no_name(alloc, words, file, [call, note], answer)?,
             "{words}, {line}"
         );
     }

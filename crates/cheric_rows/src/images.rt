@@ -57,21 +57,37 @@ fn file(
     heap: u64,
     reloc: Reloc,
 ) -> Result<Vec<u8>, NoMemory> {
-    let text = [word.to_le_bytes(); 4];
+    let mut relocs = Vec::new(alloc);
+    relocs.push(reloc)?;
+    let text = Vec::from_slice(alloc, [word.to_le_bytes(); 4].as_flattened())?;
+    let initial = vec![in alloc; 0; 48]?;
     let image = Image {
         version,
         entry,
         text_base: TEXT,
-        text: Sequence::from_vec(Vec::from_slice(alloc, text.as_flattened())?),
+        text: Sequence::from_vec(text),
         initial_base: TABLE,
-        initial: Sequence::from_vec(vec![in alloc; 0; 48]?),
+        initial: Sequence::from_vec(initial),
         table: (TABLE, 48),
         heap: (heap, 4096),
         stack: (STACK, 4096),
-        relocs: Sequence::from_vec(vec![in alloc; reloc]?),
+        relocs: Sequence::from_vec(relocs),
         lines: Sequence::from_vec(Vec::new(alloc)),
     };
     write(alloc, &image)
+}
+
+/// What becomes of that file.
+fn file_outcome(
+    alloc: Global,
+    version: u64,
+    word: u32,
+    entry: u64,
+    heap: u64,
+    reloc: Reloc,
+) -> Result<Outcome, NoMemory> {
+    let elf = file(alloc, version, word, entry, heap, reloc)?;
+    Ok(outcome_of(alloc, &elf))
 }
 
 /// Version, word, entry and the heap's base, with what becomes of the image.
@@ -149,12 +165,8 @@ const RELOCS: [(u64, u64, u64, u64, Outcome); 5] = [
 fn images_end_or_are_refused(rt: HostRuntime) -> Result<(), Fail> {
     let alloc = rt.alloc();
     for &(version, word, entry, heap, want) in &IMAGES {
-        let file = file(alloc, version, word, entry, heap, RELOC)?;
-        assert_eq!(rt;
-            outcome_of(alloc, &file),
-            want,
-            "version {version}, entry {entry}, heap {heap}"
-        );
+        let got = file_outcome(alloc, version, word, entry, heap, RELOC)?;
+        assert_eq!(rt; got, want, "version {version}, entry {entry}, heap {heap}");
     }
     for &(place, base, length, perms, want) in &RELOCS {
         let reloc = Reloc {
@@ -164,8 +176,8 @@ fn images_end_or_are_refused(rt: HostRuntime) -> Result<(), Fail> {
             length,
             perms,
         };
-        let file = file(alloc, 1, 0x0010_0073, TEXT, HEAP, reloc)?;
-        assert_eq!(rt; outcome_of(alloc, &file), want, "{reloc:?}");
+        let got = file_outcome(alloc, 1, 0x0010_0073, TEXT, HEAP, reloc)?;
+        assert_eq!(rt; got, want, "{reloc:?}");
     }
     Ok(())
 }
@@ -226,21 +238,28 @@ fn complemented(place: usize) -> Outcome {
     }
 }
 
+/// The first length at which a cut file is answered otherwise.
+fn first_wrong_cut(alloc: Global, elf: &[u8]) -> Option<usize> {
+    (0..elf.len()).find(|len| outcome_of(alloc, &elf[..*len]) != cut(*len))
+}
+
+/// The first place at which a header byte that is complemented is answered otherwise.
+fn first_wrong_byte(alloc: Global, elf: &mut [u8]) -> Option<usize> {
+    for place in 0..elf.len().min(736) {
+        elf[place] = !elf[place];
+        if outcome_of(alloc, elf) != complemented(place) {
+            return Some(place);
+        }
+        elf[place] = !elf[place];
+    }
+    None
+}
+
 #[test]
 fn built_files_are_refused_at_each_cut_and_header_byte(rt: HostRuntime) -> Result<(), Fail> {
     let alloc = rt.alloc();
     let mut elf = build(alloc, b"int main(void){putchar(72);return 0;}")?.elf;
-    for len in 0..elf.len() {
-        assert_eq!(rt; outcome_of(alloc, &elf[..len]), cut(len), "{len} bytes");
-    }
-    for place in 0..elf.len().min(736) {
-        elf[place] = !elf[place];
-        assert_eq!(rt;
-            outcome_of(alloc, &elf),
-            complemented(place),
-            "byte {place}"
-        );
-        elf[place] = !elf[place];
-    }
+    assert_eq!(rt; first_wrong_cut(alloc, &elf), None);
+    assert_eq!(rt; first_wrong_byte(alloc, &mut elf), None);
     Ok(())
 }

@@ -4,8 +4,6 @@
 #[cfg(test)]
 mod calls;
 #[cfg(test)]
-mod forms;
-#[cfg(test)]
 mod front_rows;
 #[cfg(test)]
 mod front_tables;

@@ -27,25 +27,38 @@ fn lowered(alloc: Global, p: &Typed) -> Result<(bool, u32), NoMemory>
     Ok((well_formed(&t, p), temps))
 }
 
+/// Whether the file and its program are built to the same bytes, and how many steps the file is given for each turn.
+fn built(alloc: Global, file: &str, p: &Typed) -> Result<(bool, u64), Refusal>
+    requires sound { Sound p.now }
+{
+    let typed = build_typed(alloc, p)?;
+    let built = build(alloc, file.as_bytes())?;
+    Ok((typed.elf.as_slice() == built.elf.as_slice(), built.count))
+}
+
+/// Of a program of the form, whether its code is well formed, and what is built of its file.
+fn of_the_form(alloc: Global, file: &str) -> Result<Option<(bool, (bool, u64))>, Refusal> {
+    let p = front(alloc, file.as_bytes())?;
+    if !is_integer_form(&p) {
+        return Ok(None);
+    }
+    let (is_well_formed, _) = lowered(alloc, &p)?;
+    Ok(Some((is_well_formed, built(alloc, file, &p)?)))
+}
+
 #[test]
 fn a_file_over_integers_is_lowered_and_built(rt: HostRuntime) -> Result<(), Fail> {
     let alloc = rt.alloc();
-    let p = front(alloc, COUNTS.as_bytes())?;
-    assert_eq!(rt; weight(&p), 24);
-    if !is_integer_form(&p) {
-        return Err(Fail::from("another form"));
-    }
-    assert_eq!(rt; lowered(alloc, &p)?.0, true);
-    let typed = build_typed(alloc, &p)?;
-    let built = build(alloc, COUNTS.as_bytes())?;
-    assert_eq!(rt; typed.elf.as_slice(), built.elf.as_slice());
-    assert_eq!(rt; built.count, 32 * 24 + 4096);
+    assert_eq!(rt; weight(&front(alloc, COUNTS.as_bytes())?), 24);
+    let got = of_the_form(alloc, COUNTS)?;
+    assert_eq!(rt; got, Some((true, (true, 32 * 24 + 4096))));
     Ok(())
 }
 
-/// Files that are typed, and the code at their start by which they are not built.
-const NOT_BUILT: [(&str, u16); 4] = [
+/// Files that are typed to programs of another form, and the code at their start by which they are not built.
+const NOT_BUILT: [(&str, u16); 5] = [
     ("int g;int main(void){return 0;}", 150),
+    ("int main(void){int *p=0;return !p;}", 150),
     ("int f(void){return 0;}int main(void){return f();}", 150),
     (
         "char a[40000000];char b[40000000];int main(void){return 0;}",
@@ -54,13 +67,19 @@ const NOT_BUILT: [(&str, u16); 4] = [
     ("int main(void){char a[67108800];return 0;}", 141),
 ];
 
+/// Whether the program of a file is of the form, and the refusal by which it is not built.
+fn refused(alloc: Global, file: &str) -> Result<(bool, Option<Refusal>), Refusal> {
+    let p = front(alloc, file.as_bytes())?;
+    Ok((is_integer_form(&p), build_typed(alloc, &p).err()))
+}
+
 #[test]
 fn other_programs_are_refused_at_their_start(rt: HostRuntime) -> Result<(), Fail> {
     let alloc = rt.alloc();
     for &(file, code) in &NOT_BUILT {
-        let p = front(alloc, file.as_bytes())?;
-        let refusal = build_typed(alloc, &p).err();
+        let (has_form, refusal) = refused(alloc, file)?;
         let want = Refusal::Code(code, Pos { line: 1, col: 1 });
+        assert!(rt; !has_form, "{file}");
         assert_eq!(rt; refusal, Some(want), "{file}");
     }
     Ok(())
@@ -121,16 +140,22 @@ const PLACED: [(&str, u64, usize, usize); 3] = [
     ),
 ];
 
+/// The length of the table of a file's program, how many relocations it has, and how many bytes are not zero.
+fn measured(alloc: Global, file: &str) -> Result<Option<(u64, usize, usize)>, Refusal> {
+    let p = front(alloc, file.as_bytes())?;
+    let Some((map, contents)) = placed(alloc, &p)? else {
+        return Ok(None);
+    };
+    let set = contents.bytes.iter().filter(|b| **b != 0).count();
+    Ok(Some((map.table.1, contents.relocs.len(), set)))
+}
+
 #[test]
 fn objects_are_placed_and_begun(rt: HostRuntime) -> Result<(), Fail> {
     let alloc = rt.alloc();
     for &(file, length, relocs, set) in &PLACED {
-        let p = front(alloc, file.as_bytes())?;
-        let (map, contents) = placed(alloc, &p)?.ok_or("another program")?;
-        assert_eq!(rt; map.table.1, length, "{file}");
-        assert_eq!(rt; contents.relocs.len(), relocs, "{file}");
-        let written = contents.bytes.iter().filter(|b| **b != 0).count();
-        assert_eq!(rt; written, set, "{file}");
+        let got = measured(alloc, file)?;
+        assert_eq!(rt; got, Some((length, relocs, set)), "{file}");
     }
     Ok(())
 }

@@ -1,5 +1,7 @@
 //! The mode `run` of the command, over files, an input and sinks in memory, and over ones that tell nothing.
 
+ghost use Rattle.std.specs.Prelude.{◌<◌, ◌-◌, ◌^◌};
+
 use crate::calls::{Answer, answers, answers_input, one_file, sure_file, words_of};
 use cheric_top::cheric;
 use ck_base::{Files, HostFiles, NoMemory, StdInput, StdOutput};
@@ -118,25 +120,28 @@ const FAULTS: [([u64; 3], u8, &str, &str); 6] = [
     ([0, 0, 1], 22, "ABC", ""),
 ];
 
+/// Whether running the file is answered so, where the calls of the files, the output and the notes with these numbers fail (0: none).
+fn runs(
+    alloc: Global,
+    file: &str,
+    failing: [u64; 3],
+    answer: Answer<'_>,
+) -> Result<bool, NoMemory> {
+    let [call, byte, note] = failing;
+    let mut files = one_file(alloc, "a.c", file.as_bytes(), call)?;
+    answers(alloc, &mut files, "cheric run a.c", [byte, note], answer)
+}
+
 #[test]
 fn files_and_faults_are_answered(rt: HostRuntime) -> Result<(), Fail> {
-    let alloc = rt.alloc();
     for &(file, status, put, line) in &FILES {
-        let mut files = one_file(alloc, "a.c", file.as_bytes(), 0)?;
         let answer = Answer { status, put, line };
-        assert!(rt;
-            answers(alloc, &mut files, "cheric run a.c", [0; 2], answer)?,
-            "{file}"
-        );
+        assert!(rt; runs(rt.alloc(), file, [0; 3], answer)?, "{file}");
     }
     let file = "int main(void){putchar(65);putchar(66);putchar(67);return 0;}";
-    for &([get, byte, note], status, put, line) in &FAULTS {
-        let mut files = one_file(alloc, "a.c", file.as_bytes(), get)?;
+    for &(failing, status, put, line) in &FAULTS {
         let answer = Answer { status, put, line };
-        assert!(rt;
-            answers(alloc, &mut files, "cheric run a.c", [byte, note], answer)?,
-            "{line}"
-        );
+        assert!(rt; runs(rt.alloc(), file, failing, answer)?, "{line}");
     }
     Ok(())
 }
@@ -189,11 +194,7 @@ fn a_weight_of_a_hundred_is_built_and_more_is_refused(rt: HostRuntime) -> Result
     };
     for &(count, answer) in &[(14, most), (15, more)] {
         let file = many_puts(alloc, count)?;
-        let mut files = one_file(alloc, "a.c", file.as_bytes(), 0)?;
-        assert!(rt;
-            answers(alloc, &mut files, "cheric run a.c", [0; 2], answer)?,
-            "{count}"
-        );
+        assert_eq!(rt; runs(alloc, &file, [0; 3], answer), Ok(true), "{count}");
     }
     Ok(())
 }
@@ -243,23 +244,30 @@ fn a_loop_without_end_stops_at_the_limit(rt: HostRuntime) -> Result<(), Fail> {
     Ok(())
 }
 
+/// The status of words without input, and what they put to an output and to notes of so much room, which tell nothing.
+fn told<F: Files>(alloc: Global, words: &Vec<String>, files: &mut F) -> (u8, [u8; 2], [u8; 7])
+    requires { F.faults files.old < 2 ^ 64 - 1 }
+{
+    let mut room = [0u8; 2];
+    let mut line = [0u8; 7];
+    let status = {
+        let mut input = StdInput::new(b"".as_slice());
+        let mut out = StdOutput::new(room.as_mut_slice());
+        let mut notes = StdOutput::new(line.as_mut_slice());
+        cheric(alloc, words, files, &mut input, &mut out, &mut notes)
+    };
+    (status, room, line)
+}
+
 #[test]
 fn input_and_files_that_tell_nothing(rt: HostRuntime) -> Result<(), Fail> {
     let alloc = rt.alloc();
     let name = "cheric_rows_test.c";
+    let words = words_of(alloc, "cheric run cheric_rows_test.c")?;
     let mut files = HostFiles::new(rt.clone()?);
     assert_eq!(rt; files.put(alloc, name, HI.as_bytes()), Ok(()));
-    let mut room = [0u8; 2];
-    let mut line = [0u8; 7];
-    {
-        let mut input = StdInput::new(b"".as_slice());
-        let mut out = StdOutput::new(room.as_mut_slice());
-        let mut notes = StdOutput::new(line.as_mut_slice());
-        let words = words_of(alloc, "cheric run cheric_rows_test.c")?;
-        let status = cheric(alloc, &words, &mut files, &mut input, &mut out, &mut notes);
-        assert_eq!(rt; status, 0);
-    }
+    let told = told(alloc, &words, &mut files);
     fs::remove_file(&rt, name)?;
-    assert_eq!(rt; (room, line), (*b"Hi", *b"exit 0\n"));
+    assert_eq!(rt; told, (0, *b"Hi", *b"exit 0\n"));
     Ok(())
 }

@@ -6,7 +6,8 @@ mod operation_vectors;
 
 use cap_concentrate::{bounds_of, pack, unpack};
 use cap_ops::{
-    Access, Cap, add, and_perms, check, clear, narrow, narrow_exact, null, seal_entry, with_address,
+    Access, Cap, Cause, add, and_perms, check, clear, narrow, narrow_exact, null, seal_entry,
+    with_address,
 };
 use check_vectors::CHECKS;
 use operation_vectors::OPERATIONS;
@@ -68,22 +69,38 @@ fn null_has_the_whole_address_space(rt: HostRuntime) {
     assert!(rt; good && bounds_of(c.fields) == (0, 1 << 64));
 }
 
+/// An operation, the tag and the bits of its operand, its argument, and the tag and the bits of the result.
+type Operated = ((Operation, bool, u128, u64), (bool, u128));
+
+fn operates(&((operation, tag, bits, argument), (wanted_tag, wanted_bits)): &Operated) -> bool {
+    let fields = unpack(bits);
+    let found = result_of(operation, Cap { tag, fields }, argument);
+    found.tag == wanted_tag && pack(found.fields) == wanted_bits
+}
+
 #[test]
 fn operations_give_capabilities(rt: HostRuntime) {
-    for &((operation, tag, bits, argument), (result_tag, result_bits)) in &OPERATIONS {
-        let fields = unpack(bits);
-        let result = result_of(operation, Cap { tag, fields }, argument);
-        let good = result.tag == result_tag && pack(result.fields) == result_bits;
-        assert!(rt; good, "{operation:?} of {bits:#x} by {argument}");
+    for row in &OPERATIONS {
+        assert!(rt; operates(row), "{row:?}");
+    }
+}
+
+/// The tag and the bits of a capability and an address; the kind of an access, its length, whether its value is tagged,
+/// and why it fails.
+type Checked = ((bool, u128, u64), (Kind, u8, bool, Option<Cause>));
+
+fn is_checked(&((tag, bits, at), (kind, length, tagged, cause)): &Checked) -> bool {
+    let fields = unpack(bits);
+    let answer = check(Cap { tag, fields }, at, access(kind, length, tagged));
+    match cause {
+        Some(cause) => answer == Err(cause),
+        None => answer == Ok(at),
     }
 }
 
 #[test]
 fn checks_give_the_first_cause(rt: HostRuntime) {
-    for &((tag, bits, at), (kind, length, tagged, cause)) in &CHECKS {
-        let fields = unpack(bits);
-        let answer = check(Cap { tag, fields }, at, access(kind, length, tagged));
-        let good = answer == cause.map_or(Ok(at), Err);
-        assert!(rt; good, "{kind:?} at {at} through {bits:#x}");
+    for row in &CHECKS {
+        assert!(rt; is_checked(row), "{row:?}");
     }
 }

@@ -1,7 +1,9 @@
 //! An image and its file, both written by hand from the format. The file is in words of eight bytes, little endian.
 
+use ck_base::NoMemory;
 use elf_file::{ElfRefusal, Image, Line, Reloc, Sequence, View, write};
 use std::alloc::{AllocError, Global};
+use std::process::Abort;
 use std::test::Fail;
 
 /// The file header.
@@ -78,20 +80,19 @@ const RELOC: Reloc = Reloc {
     perms: 0x8000_0000_0000_0003,
 };
 
-const LINES: [Line; 2] = [
-    Line {
-        at: 0,
-        line: 3,
-        col: 1,
-        kind: 0,
-    },
-    Line {
-        at: 4,
-        line: 5,
-        col: 2,
-        kind: 1,
-    },
-];
+const FIRST: Line = Line {
+    at: 0,
+    line: 3,
+    col: 1,
+    kind: 0,
+};
+
+const SECOND: Line = Line {
+    at: 4,
+    line: 5,
+    col: 2,
+    kind: 1,
+};
 
 fn put(bytes: &mut Vec<u8>, words: &[u64]) -> Result<(), AllocError> {
     for word in words {
@@ -102,127 +103,211 @@ fn put(bytes: &mut Vec<u8>, words: &[u64]) -> Result<(), AllocError> {
 
 fn file(alloc: Global) -> Result<Vec<u8>, AllocError> {
     let mut bytes = Vec::new(alloc);
-    put(&mut bytes, &FILE_HEADER)?;
-    put(&mut bytes, PROGRAM_HEADERS.as_flattened())?;
-    put(&mut bytes, SECTION_HEADERS.as_flattened())?;
-    put(&mut bytes, PARTS.as_flattened())?;
+    for words in [
+        FILE_HEADER.as_slice(),
+        PROGRAM_HEADERS.as_flattened(),
+        SECTION_HEADERS.as_flattened(),
+        PARTS.as_flattened(),
+    ] {
+        put(&mut bytes, words)?;
+    }
     bytes.extend_from_slice(&NAMES)?;
     Ok(bytes)
 }
 
+const TEXT: [u8; 12] = [0x13, 0, 0, 0, 0x73, 0, 0, 0, 0x6f, 0, 0, 0];
+
+const INITIAL: [u8; 20] = [
+    1, 2, 3, 4, 5, 6, 7, 8, 9, 10, 11, 12, 13, 14, 15, 16, 17, 18, 19, 20,
+];
+
+fn sequence<T: Copy>(alloc: Global, items: &[T]) -> Result<Sequence<T>, AllocError> {
+    Ok(Sequence::from_vec(Vec::from_slice(alloc, items)?))
+}
+
 fn image(alloc: Global) -> Result<Image, AllocError> {
-    let text = [0x13, 0, 0, 0, 0x73, 0, 0, 0, 0x6f, 0, 0, 0];
-    let initial = [
-        1, 2, 3, 4, 5, 6, 7, 8, 9, 10, 11, 12, 13, 14, 15, 16, 17, 18, 19, 20,
-    ];
     Ok(Image {
         version: 1,
         entry: 0x1_0004,
         text_base: 0x1_0000,
-        text: Sequence::from_vec(Vec::from_slice(alloc, &text)?),
+        text: sequence(alloc, &TEXT)?,
         initial_base: 0x10_0000,
-        initial: Sequence::from_vec(Vec::from_slice(alloc, &initial)?),
+        initial: sequence(alloc, &INITIAL)?,
         table: (0x10_0000, 16),
         heap: (0x20_0000, 0x1_0000),
         stack: (0x40_0000, 0x2_0000),
-        relocs: Sequence::from_vec(Vec::from_slice(alloc, &[RELOC])?),
-        lines: Sequence::from_vec(Vec::from_slice(alloc, &LINES)?),
+        relocs: sequence(alloc, &[RELOC])?,
+        lines: sequence(alloc, &[FIRST, SECOND])?,
     })
+}
+
+/// The file that is written of the image.
+fn written(alloc: Global) -> Result<Vec<u8>, NoMemory> {
+    let image = image(alloc)?;
+    write(alloc, &image)
+}
+
+/// These are the bytes of the file.
+fn is_file(alloc: Global, bytes: &[u8]) -> bool {
+    file(alloc).is_ok_and(|file| file.as_slice() == bytes)
+}
+
+/// An address, and the line that stands there.
+const POSITIONS: [(u64, Option<Line>); 5] = [
+    (0xffff, None),
+    (0x1_0000, Some(FIRST)),
+    (0x1_0002, None),
+    (0x1_0004, Some(SECOND)),
+    (0x1_0008, None),
+];
+
+fn stands_at(view: &View<'_>, &(pc, line): &(u64, Option<Line>)) -> bool {
+    view.position(pc) == line
+}
+
+/// The number of a word, and the word.
+const WORDS: [(u8, Option<u64>); 13] = [
+    (0, Some(1)),
+    (1, Some(0x1_0004)),
+    (2, Some(0x1_0000)),
+    (3, Some(12)),
+    (4, Some(0x10_0000)),
+    (5, Some(20)),
+    (6, Some(0x10_0000)),
+    (7, Some(16)),
+    (8, Some(0x20_0000)),
+    (9, Some(0x1_0000)),
+    (10, Some(0x40_0000)),
+    (11, Some(0x2_0000)),
+    (12, None),
+];
+
+fn has_word(view: &View<'_>, &(k, word): &(u8, Option<u64>)) -> bool {
+    view.word(k) == word
+}
+
+fn assert_parts(rt: &impl Abort, view: &View<'_>) {
+    assert!(rt; view.text() == TEXT.as_slice());
+    assert!(rt; view.initial() == INITIAL.as_slice());
+    assert!(rt; view.reloc(0) == Some(RELOC));
+    assert!(rt; view.reloc(1) == None);
+}
+
+fn assert_rows(rt: &impl Abort, view: &View<'_>) {
+    for row in &POSITIONS {
+        assert!(rt; stands_at(view, row), "{row:?}");
+    }
+    for row in &WORDS {
+        assert!(rt; has_word(view, row), "{row:?}");
+    }
 }
 
 #[test]
 fn writes_and_reads_an_image(rt: HostRuntime) -> Result<(), Fail> {
-    let image = image(rt.alloc())?;
-    let written = write(rt.alloc(), &image)?;
-    assert_eq!(rt; written.as_slice(), file(rt.alloc())?.as_slice());
-
+    let written = written(rt.alloc())?;
+    assert!(rt; is_file(rt.alloc(), &written));
     let view = View::read(&written)?;
-    assert_eq!(rt; view.text(), image.text.as_slice());
-    assert_eq!(rt; view.initial(), image.initial.into_vec().as_slice());
-    assert_eq!(rt; view.reloc(0), Some(RELOC));
-    assert_eq!(rt; view.reloc(1), None);
-    for (pc, line) in [
-        (0xffff, None),
-        (0x1_0000, Some(LINES[0])),
-        (0x1_0002, None),
-        (0x1_0004, Some(LINES[1])),
-        (0x1_0008, None),
-    ] {
-        assert_eq!(rt; view.position(pc), line, "at {pc}");
-    }
-    let words = [
-        1, 0x1_0004, 0x1_0000, 12, 0x10_0000, 20, 0x10_0000, 16, 0x20_0000, 0x1_0000, 0x40_0000,
-        0x2_0000,
-    ];
-    for (k, word) in words.into_iter().enumerate() {
-        assert_eq!(rt; view.word(k as u8), Some(word), "word {k}");
-    }
-    assert_eq!(rt; view.word(12), None);
+    assert_parts(&rt, &view);
+    assert_rows(&rt, &view);
     Ok(())
 }
 
-/// The refusal of the file with another byte at a place.
-fn refusal_with(
+/// The refusal of the file with another byte at a place, is this one, or none.
+fn is_refused_with(
     file: &[u8],
     alloc: Global,
     place: usize,
     byte: u8,
-) -> Result<Option<ElfRefusal>, AllocError> {
-    let mut bytes = Vec::from_slice(alloc, file)?;
+    wanted: Option<ElfRefusal>,
+) -> bool {
+    let Ok(mut bytes) = Vec::from_slice(alloc, file) else {
+        return false;
+    };
     if place < bytes.len() {
         bytes[place] = byte;
     }
-    Ok(View::read(&bytes).err())
+    View::read(&bytes).err() == wanted
+}
+
+/// The refusal of the file whose byte at this place has each of its bits changed.
+fn refusal_at(place: usize) -> Option<ElfRefusal> {
+    match place {
+        // The identification and the machine.
+        0..16 | 18..20 => Some(ElfRefusal::Ident),
+        // The flags, the text and initial bytes, what stands behind them, the relocation, and the table's base and length.
+        48..52 | 736..832 | 912..928 => None,
+        864..872 => Some(ElfRefusal::Version),
+        // The lines and columns.
+        836..844 | 852..860 => None,
+        _ => Some(ElfRefusal::Field),
+    }
+}
+
+/// The place of the second line in the text, with that line's refusal: lines that do not ascend, and one behind the text.
+const SECOND_LINES: [(u8, Option<ElfRefusal>); 4] = [
+    (0, Some(ElfRefusal::Field)),
+    (1, None),
+    (11, None),
+    (12, Some(ElfRefusal::Field)),
+];
+
+fn assert_bytes(rt: &impl Abort, alloc: Global, file: &[u8]) {
+    for (place, byte) in file.iter().enumerate() {
+        let wanted = refusal_at(place);
+        assert!(rt;
+            is_refused_with(file, alloc, place, !*byte, wanted),
+            "byte {place}: {wanted:?}"
+        );
+    }
+}
+
+fn assert_second_lines(rt: &impl Abort, alloc: Global, file: &[u8]) {
+    for &(at, wanted) in &SECOND_LINES {
+        assert!(rt;
+            is_refused_with(file, alloc, 848, at, wanted),
+            "{at}: {wanted:?}"
+        );
+    }
 }
 
 #[test]
 fn refuses_each_wrong_byte(rt: HostRuntime) -> Result<(), Fail> {
     let file = file(rt.alloc())?;
-    for (place, byte) in file.iter().enumerate() {
-        let expected = match place {
-            // The identification and the machine.
-            0..16 | 18..20 => Some(ElfRefusal::Ident),
-            // The flags, the text and initial bytes, what stands behind them, the relocation, and the table's base and length.
-            48..52 | 736..832 | 912..928 => None,
-            864..872 => Some(ElfRefusal::Version),
-            // The lines and columns.
-            836..844 | 852..860 => None,
-            _ => Some(ElfRefusal::Field),
-        };
-        assert_eq!(rt;
-            refusal_with(&file, rt.alloc(), place, !*byte)?,
-            expected,
-            "byte {place}"
+    assert_bytes(&rt, rt.alloc(), &file);
+    assert_second_lines(&rt, rt.alloc(), &file);
+    Ok(())
+}
+
+/// The refusal of the file's first bytes, and its number.
+fn is_truncated(file: &[u8], len: usize, refusal: ElfRefusal, number: u8) -> bool {
+    len < file.len()
+        && View::read(&file[..len]).err() == Some(refusal)
+        && refusal.number() == number
+}
+
+fn truncation(len: usize) -> (ElfRefusal, u8) {
+    match len {
+        0..64 => (ElfRefusal::Short, 1),
+        64..736 => (ElfRefusal::Tables, 4),
+        _ => (ElfRefusal::Part, 5),
+    }
+}
+
+fn assert_truncations(rt: &impl Abort, file: &[u8]) {
+    assert!(rt; file.len() == LEN);
+    for len in 0..LEN {
+        let (refusal, number) = truncation(len);
+        assert!(rt;
+            is_truncated(file, len, refusal, number),
+            "{len} bytes: {refusal:?}"
         );
     }
-    // Lines that do not ascend, and one behind the text.
-    assert_eq!(rt;
-        refusal_with(&file, rt.alloc(), 848, 0)?,
-        Some(ElfRefusal::Field)
-    );
-    assert_eq!(rt; refusal_with(&file, rt.alloc(), 848, 1)?, None);
-    assert_eq!(rt; refusal_with(&file, rt.alloc(), 848, 11)?, None);
-    assert_eq!(rt;
-        refusal_with(&file, rt.alloc(), 848, 12)?,
-        Some(ElfRefusal::Field)
-    );
-    Ok(())
 }
 
 #[test]
 fn refuses_each_truncation(rt: HostRuntime) -> Result<(), Fail> {
     let mut file = file(rt.alloc())?;
-    assert_eq!(rt; file.len(), LEN);
-    for len in 0..LEN {
-        let expected = match len {
-            0..64 => (ElfRefusal::Short, 1),
-            64..736 => (ElfRefusal::Tables, 4),
-            _ => (ElfRefusal::Part, 5),
-        };
-        let refusal = View::read(&file[..len]).err();
-        assert_eq!(rt; refusal, Some(expected.0), "{len} bytes");
-        assert_eq!(rt; refusal.map(|refusal| refusal.number()), Some(expected.1));
-    }
+    assert_truncations(&rt, &file);
     // Bytes behind the last part are not looked at.
     file.push(0xff)?;
     assert!(rt; View::read(&file).is_ok());

@@ -309,42 +309,46 @@ const COMPARED: [(CmpOp, IntKind, u64, u64, bool); 38] = [
     (Le, Bool, 0, 5, true),
 ];
 
+fn wraps_as(&(kind, v, kept): &(IntKind, i128, u64)) -> bool {
+    wrap(kind, v) == kept
+}
+
 #[test]
 fn wraps(rt: HostRuntime) {
-    for &(kind, v, kept) in &WRAPPED {
-        assert_eq!(rt; wrap(kind, v), kept, "{v} at {kind:?}");
+    for row in &WRAPPED {
+        assert!(rt; wraps_as(row), "{row:?}");
     }
+}
+
+fn converts_as(&(from, to, v, kept): &(IntKind, IntKind, u64, u64)) -> bool {
+    convert(from, to, v) == kept
 }
 
 #[test]
 fn converts(rt: HostRuntime) {
-    for &(from, to, v, kept) in &CONVERTED {
-        assert_eq!(rt;
-            convert(from, to, v),
-            kept,
-            "{v:#x} from {from:?} to {to:?}"
-        );
+    for row in &CONVERTED {
+        assert!(rt; converts_as(row), "{row:?}");
     }
+}
+
+fn computes_as(&(op, kind, a, b, computed): &(IntOp, IntKind, u64, u64, u64)) -> bool {
+    binary(op, kind, a, b) == computed
 }
 
 #[test]
 fn computes(rt: HostRuntime) {
-    for &(op, kind, a, b, result) in &RESULTS {
-        assert_eq!(rt;
-            binary(op, kind, a, b),
-            result,
-            "{op:?} of {a:#x} and {b:#x} at {kind:?}"
-        );
+    for row in &RESULTS {
+        assert!(rt; computes_as(row), "{row:?}");
     }
+}
+
+fn compares_as(&(op, kind, a, b, holds): &(CmpOp, IntKind, u64, u64, bool)) -> bool {
+    compare(op, kind, a, b) == holds
 }
 
 #[test]
 fn compares(rt: HostRuntime) {
-    for &(op, kind, a, b, holds) in &COMPARED {
-        assert_eq!(rt;
-            compare(op, kind, a, b),
-            holds,
-            "{op:?} of {a:#x} and {b:#x} at {kind:?}"
-        );
+    for row in &COMPARED {
+        assert!(rt; compares_as(row), "{row:?}");
     }
 }

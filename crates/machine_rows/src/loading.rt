@@ -2,11 +2,12 @@
 
 use cap_concentrate::{bounds_of, flip_null, unpack};
 use cap_machine::Machine;
-use cap_ops::{SENTRY, UNSEALED, null};
+use cap_ops::{Cap, SENTRY, UNSEALED, null};
 use elf_file::{Image, Reloc, Sequence, View, write};
 use image_load::{LoadRefusal, load};
 use std::alloc::{AllocError, Global};
-use std::test::Fail;
+use std::process::Abort;
+use tag_mem::Mem;
 
 /// The base of 64 bytes of initial data.
 const INITIAL: u64 = 65_536;
@@ -35,6 +36,10 @@ const FUNCTION: Reloc = Reloc {
     perms: 0x8000_0000_0000_0003,
 };
 
+fn sequence(alloc: Global, bytes: &[u8]) -> Result<Sequence<u8>, AllocError> {
+    Ok(Sequence::from_vec(Vec::from_slice(alloc, bytes)?))
+}
+
 fn image(
     alloc: Global,
     entry: u64,
@@ -42,77 +47,103 @@ fn image(
     stack: (u64, u64),
     relocs: [Reloc; 2],
 ) -> Result<Image, AllocError> {
+    let text = [
+        0x13, 0, 0, 0, 0x13, 0, 0, 0, 0x13, 0, 0, 0, 0x73, 0, 0x10, 0,
+    ];
     Ok(Image {
         version: 1,
         entry,
         text_base: TEXT,
-        text: Sequence::from_vec(vec![in alloc;
-            0x13, 0, 0, 0, 0x13, 0, 0, 0, 0x13, 0, 0, 0, 0x73, 0, 0x10, 0,
-        ]?),
+        text: sequence(alloc, &text)?,
         initial_base: INITIAL,
-        initial: Sequence::from_vec(Vec::from_array(alloc, [7; 64])?),
+        initial: sequence(alloc, &[7; 64])?,
         table: (INITIAL, table),
         heap: (196_608, 0),
         stack,
-        relocs: Sequence::from_vec(Vec::from_array(alloc, relocs)?),
+        relocs: Sequence::from_vec(Vec::from_slice(alloc, &relocs)?),
         lines: Sequence::from_vec(Vec::new(alloc)),
     })
 }
 
-/// Loads the file of an image.
-fn loaded(alloc: Global, i: &Image) -> Result<Result<Machine, LoadRefusal>, Fail> {
-    let file = write(alloc, i)?;
-    let view = View::read(&file)?;
-    Ok(load(alloc, &view))
+/// The file of an image.
+fn file(
+    alloc: Global,
+    entry: u64,
+    table: u64,
+    stack: (u64, u64),
+    relocs: [Reloc; 2],
+) -> Option<Vec<u8>> {
+    let i = image(alloc, entry, table, stack, relocs).ok()?;
+    write(alloc, &i).ok()
+}
+
+/// What a file loads to, where it is one of an image.
+fn loaded(alloc: Global, file: &[u8]) -> Option<Result<Machine, LoadRefusal>> {
+    let view = View::read(file).ok()?;
+    Some(load(alloc, &view))
+}
+
+fn first_state(alloc: Global) -> Option<Machine> {
+    let file = file(alloc, TEXT + 4, 32, (STACK, 4_096), [POINTER, FUNCTION])?;
+    loaded(alloc, &file)?.ok()
+}
+
+/// A tagged capability that is not sealed, with these permissions, these bounds and this address.
+fn is_bounded(c: Cap, perms: u16, bounds: (u64, u128), address: u64) -> bool {
+    let f = c.fields;
+    let good = f.perms == perms && f.otype == UNSEALED && f.address == address;
+    c.tag && good && bounds_of(f) == bounds
+}
+
+fn assert_registers(rt: &impl Abort, pc: Cap, regs: &[Cap; 32]) {
+    assert!(rt; is_bounded(pc, 3, (TEXT, 131_088), TEXT + 4));
+    assert!(rt; is_bounded(regs[2], 125, (STACK, 266_240), 266_240));
+    assert!(rt; is_bounded(regs[3], 125, (INITIAL, 65_568), INITIAL));
+    assert!(rt; regs[1] == null(0));
+    assert!(rt; regs[31] == null(0));
+}
+
+/// A tagged sentry of the third instruction.
+fn is_function((bits, tag): (u128, bool)) -> bool {
+    let f = unpack(flip_null(bits));
+    tag && f.otype == SENTRY && f.perms == 3 && f.address == TEXT + 8
 }
 
 // The bits of the first capability are those of an independent model.
-#[test]
-fn loads_the_first_state(rt: HostRuntime) -> Result<(), Fail> {
-    let i = image(
-        rt.alloc(),
-        TEXT + 4,
-        32,
-        (STACK, 4_096),
-        [POINTER, FUNCTION],
-    )?;
-    let m = loaded(rt.alloc(), &i)??;
-    for (c, perms, base, top, address) in [
-        (m.pc, 3, TEXT, 131_088, TEXT + 4),
-        (m.regs[2], 125, STACK, 266_240, 266_240),
-        (m.regs[3], 125, INITIAL, 65_568, INITIAL),
-    ] {
-        assert!(rt; c.tag);
-        assert_eq!(rt; c.fields.perms, perms);
-        assert_eq!(rt; c.fields.otype, UNSEALED);
-        assert_eq!(rt; bounds_of(c.fields), (base, top));
-        assert_eq!(rt; c.fields.address, address);
-    }
-    assert_eq!(rt; m.regs[1], null(0));
-    assert_eq!(rt; m.regs[31], null(0));
+fn assert_capabilities(rt: &impl Abort, mem: &Mem) {
     let pointer = 0x007d_0000_040b_8004_0000_0000_0001_0000;
-    assert_eq!(rt; m.mem.cap_at(INITIAL), Some((pointer, true)));
-    let (bits, tag) = m.mem.cap_at(INITIAL + 16).ok_or("inside")?;
-    let function = unpack(flip_null(bits));
-    assert!(rt; tag);
-    assert_eq!(rt; function.otype, SENTRY);
-    assert_eq!(rt; function.perms, 3);
-    assert_eq!(rt; function.address, TEXT + 8);
-    assert_eq!(rt;
-        m.mem.cap_at(INITIAL + 32),
-        Some((0x0707_0707_0707_0707_0707_0707_0707_0707, false))
-    );
-    for (at, want) in [
-        (TEXT + 8, Some(0x0010_0073_0000_0013)),
-        (TEXT + 16, None),
-        (196_608, None),
-        (STACK, Some(0)),
-        (STACK + 4_088, Some(0)),
-        (STACK + 4_096, None),
-    ] {
-        assert_eq!(rt; m.mem.read(at - at % 8, 8), want, "at {at}");
+    assert!(rt; mem.cap_at(INITIAL) == Some((pointer, true)));
+    assert!(rt; mem.cap_at(INITIAL + 16).is_some_and(is_function));
+    let initial = 0x0707_0707_0707_0707_0707_0707_0707_0707;
+    assert!(rt; mem.cap_at(INITIAL + 32) == Some((initial, false)));
+}
+
+/// A place of eight bytes that can be read or not, and what stands there.
+const PLACES: [(u64, Option<u64>); 6] = [
+    (TEXT + 8, Some(0x0010_0073_0000_0013)),
+    (TEXT + 16, None),
+    (196_608, None),
+    (STACK, Some(0)),
+    (STACK + 4_088, Some(0)),
+    (STACK + 4_096, None),
+];
+
+fn stands_at(mem: &Mem, &(at, wanted): &(u64, Option<u64>)) -> bool {
+    mem.read(at - at % 8, 8) == wanted
+}
+
+fn assert_places(rt: &impl Abort, mem: &Mem) {
+    for row in &PLACES {
+        assert!(rt; stands_at(mem, row), "{row:?}");
     }
-    Ok(())
+}
+
+#[test]
+fn loads_the_first_state(rt: HostRuntime) {
+    let m = first_state(rt.alloc()).expect(&rt, "a machine");
+    assert_registers(&rt, m.pc, &m.regs);
+    assert_capabilities(&rt, &m.mem);
+    assert_places(&rt, &m.mem);
 }
 
 const BESIDE: Reloc = Reloc {
@@ -146,7 +177,9 @@ const FAR: Reloc = Reloc {
 };
 
 /// The entry, the table's length, the stack and the relocations, with the refusal.
-const REFUSED: [(u64, u64, (u64, u64), [Reloc; 2], LoadRefusal); 15] = [
+type Refused = (u64, u64, (u64, u64), [Reloc; 2], LoadRefusal);
+
+const REFUSED: [Refused; 15] = [
     (
         TEXT,
         32,
@@ -248,22 +281,22 @@ const REFUSED: [(u64, u64, (u64, u64), [Reloc; 2], LoadRefusal); 15] = [
     ),
 ];
 
+fn is_refused(alloc: Global, &(entry, table, stack, relocs, wanted): &Refused) -> bool {
+    file(alloc, entry, table, stack, relocs)
+        .and_then(|file| loaded(alloc, &file))
+        .is_some_and(|loaded| loaded.err() == Some(wanted))
+}
+
 #[test]
-fn refuses_by_the_first_test(rt: HostRuntime) -> Result<(), Fail> {
-    for &(entry, table, stack, relocs, want) in &REFUSED {
-        let i = image(rt.alloc(), entry, table, stack, relocs)?;
-        assert_eq!(rt;
-            loaded(rt.alloc(), &i)?.err(),
-            Some(want),
-            "entry {entry}, table {table}, stack {stack:?}"
-        );
+fn refuses_by_the_first_test(rt: HostRuntime) {
+    for row in &REFUSED {
+        assert!(rt; is_refused(rt.alloc(), row), "{row:?}");
     }
-    Ok(())
 }
 
 #[test]
 fn refusals_have_numbers(rt: HostRuntime) {
-    for &(refusal, number) in &[
+    for (refusal, number) in [
         (LoadRefusal::Segment, 11),
         (LoadRefusal::Overlap, 12),
         (LoadRefusal::Place, 13),
@@ -271,6 +304,6 @@ fn refusals_have_numbers(rt: HostRuntime) {
         (LoadRefusal::Entry, 15),
         (LoadRefusal::NoMemory, 0),
     ] {
-        assert_eq!(rt; refusal.number(), number);
+        assert!(rt; refusal.number() == number, "{refusal:?}");
     }
 }

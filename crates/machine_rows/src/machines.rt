@@ -6,7 +6,8 @@ use cap_machine::{End, Machine, Step};
 use cap_ops::{Cap, Cause, UNSEALED, null, seal_entry, with_address};
 use ck_base::{MemSink, MemSource, NoMemory, SureSink, SureSource};
 use rv_instr::Reg;
-use std::alloc::Global;
+use std::alloc::{AllocError, Global};
+use std::process::Abort;
 use std::test::Fail;
 use tag_mem::{Mem, Region};
 
@@ -37,9 +38,8 @@ fn capability(base: u64, perms: u8) -> Cap
     }
 }
 
-/// A machine at its first word. c5 is a sentry of the text. The others have the data: c6 without Load, c7 without the
-/// permissions on capabilities, c8 with all permissions but Execute, and c9 with loads alone.
-fn machine(alloc: Global, words: &[u32]) -> Result<Machine, NoMemory> {
+/// Memory with the text and the data.
+fn memory(alloc: Global) -> Result<Mem, NoMemory> {
     let text = Region {
         base: TEXT,
         length: 64,
@@ -48,20 +48,41 @@ fn machine(alloc: Global, words: &[u32]) -> Result<Machine, NoMemory> {
         base: DATA,
         length: 64,
     };
-    let mut mem = Mem::new(alloc, &vec![in alloc; text, data]?)?;
+    let regions = vec![in alloc; text, data]?;
+    Mem::new(alloc, &regions)
+}
+
+/// The bytes of words.
+fn bytes_of(alloc: Global, words: &[u32]) -> Result<Vec<u8>, AllocError> {
     let mut bytes = Vec::new(alloc);
     for word in words {
         bytes.extend_from_slice(&word.to_le_bytes())?;
     }
-    mem.fill(TEXT, &bytes);
+    Ok(bytes)
+}
+
+/// c5 is a sentry of the text. The others have the data: c6 without Load, c7 without the permissions on capabilities,
+/// c8 with all permissions but Execute, and c9 with loads alone.
+fn registers() -> [Cap; 32] {
     let mut regs = [null(0); 32];
     regs[5] = seal_entry(capability(TEXT, 3));
     regs[6] = capability(DATA, 9);
     regs[7] = capability(DATA, 13);
     regs[8] = capability(DATA, 125);
     regs[9] = capability(DATA, 21);
-    let pc = capability(TEXT, 3);
-    Ok(Machine { regs, pc, mem })
+    regs
+}
+
+/// A machine at its first word.
+fn machine(alloc: Global, words: &[u32]) -> Result<Machine, NoMemory> {
+    let text = bytes_of(alloc, words)?;
+    let mut mem = memory(alloc)?;
+    mem.fill(TEXT, &text);
+    Ok(Machine {
+        regs: registers(),
+        pc: capability(TEXT, 3),
+        mem,
+    })
 }
 
 /// Asks for a service of the environment, by registers 17 and 10.
@@ -104,21 +125,28 @@ const INTEGERS: [(u32, u64, u64, u64); 16] = [
     (0x8000_0537, 0, 0, 0xffff_ffff_8000_0000), // lui x10, 0x80000
 ];
 
+/// A machine of one instruction whose x11 and x12 have these integers.
+fn machine_with(alloc: Global, word: u32, a: u64, b: u64) -> Option<Machine> {
+    let mut m = machine(alloc, &[word]).ok()?;
+    m.regs[11] = null(a);
+    m.regs[12] = null(b);
+    Some(m)
+}
+
+fn computes_as(alloc: Global, &(word, a, b, wanted): &(u32, u64, u64, u64)) -> bool {
+    let Some(mut m) = machine_with(alloc, word, a, b) else {
+        return false;
+    };
+    run(alloc, &mut m, 1) == End::Steps
+        && m.register(Reg::RESULT) == null(wanted)
+        && m.counter() == TEXT + 4
+}
+
 #[test]
-fn computes_integers(rt: HostRuntime) -> Result<(), Fail> {
-    for &(word, a, b, want) in &INTEGERS {
-        let mut m = machine(rt.alloc(), &[word])?;
-        m.regs[11] = null(a);
-        m.regs[12] = null(b);
-        assert_eq!(rt; run(rt.alloc(), &mut m, 1), End::Steps);
-        assert_eq!(rt;
-            m.register(Reg::RESULT),
-            null(want),
-            "{word:#010x} of {a:#x} and {b:#x}"
-        );
-        assert_eq!(rt; m.counter(), TEXT + 4);
+fn computes_integers(rt: HostRuntime) {
+    for row in &INTEGERS {
+        assert!(rt; computes_as(rt.alloc(), row), "{row:?}");
     }
-    Ok(())
 }
 
 /// One instruction, and how it ends the run.
@@ -135,34 +163,47 @@ const ENDS: [(u32, End); 10] = [
     (0x0010_0073, End::Break(TEXT)), // ebreak
 ];
 
+fn ends_as(alloc: Global, &(word, wanted): &(u32, End)) -> bool {
+    let Ok(mut m) = machine(alloc, &[word]) else {
+        return false;
+    };
+    run(alloc, &mut m, 9) == wanted && m.regs == registers() && m.pc == capability(TEXT, 3)
+}
+
 #[test]
-fn ends_where_a_check_fails(rt: HostRuntime) -> Result<(), Fail> {
-    for &(word, want) in &ENDS {
-        let mut m = machine(rt.alloc(), &[word])?;
-        let regs = m.regs;
-        assert_eq!(rt; run(rt.alloc(), &mut m, 9), want, "{word:#010x}");
-        assert_eq!(rt; m.regs, regs);
-        assert_eq!(rt; m.pc, capability(TEXT, 3));
+fn ends_where_a_check_fails(rt: HostRuntime) {
+    for row in &ENDS {
+        assert!(rt; ends_as(rt.alloc(), row), "{row:?}");
     }
-    Ok(())
 }
 
 // addi x10, x0, 5; addi x10, x10, -1; bne x10, x0, -4; ebreak
+const COUNTDOWN: [u32; 4] = [0x0050_0513, 0xfff5_0513, 0xfe05_1ee3, 0x0010_0073];
+
+fn counts_down_as(alloc: Global, &(steps, wanted, left): &(u64, End, u64)) -> bool {
+    let Ok(mut m) = machine(alloc, &COUNTDOWN) else {
+        return false;
+    };
+    run(alloc, &mut m, steps) == wanted && m.integer(Reg::RESULT) == left
+}
+
 #[test]
-fn stops_after_the_last_step(rt: HostRuntime) -> Result<(), Fail> {
-    for (steps, want, left) in [
+fn stops_after_the_last_step(rt: HostRuntime) {
+    for row in [
         (5, End::Steps, 3),
         (11, End::Steps, 0),
         (12, End::Break(TEXT + 12), 0),
     ] {
-        let mut m = machine(
-            rt.alloc(),
-            &[0x0050_0513, 0xfff5_0513, 0xfe05_1ee3, 0x0010_0073],
-        )?;
-        assert_eq!(rt; run(rt.alloc(), &mut m, steps), want);
-        assert_eq!(rt; m.integer(Reg::RESULT), left);
+        assert!(rt; counts_down_as(rt.alloc(), &row), "{row:?}");
     }
-    Ok(())
+}
+
+fn assert_tags(rt: &impl Abort, m: &Machine) {
+    let stored = capability(DATA, 125);
+    assert!(rt; m.register(Reg::RESULT) == stored);
+    let cleared = m.register(Reg::numbered(11));
+    assert!(rt; !cleared.tag && cleared.fields == stored.fields);
+    assert!(rt; !m.register(Reg::numbered(12)).tag);
 }
 
 // csc c8, 16(c8); clc c10, 16(c8); clc c11, 16(c7); sb x0, 20(c8); clc c12, 16(c8)
@@ -176,30 +217,50 @@ fn keeps_the_tags_of_memory(rt: HostRuntime) -> Result<(), Fail> {
         0x0104_260f,
     ];
     let mut m = machine(rt.alloc(), &words)?;
-    assert_eq!(rt; run(rt.alloc(), &mut m, 5), End::Steps);
-    assert_eq!(rt; m.register(Reg::RESULT), capability(DATA, 125));
-    assert!(rt; !m.register(Reg::numbered(11)).tag);
-    assert_eq!(rt;
-        m.register(Reg::numbered(11)).fields,
-        capability(DATA, 125).fields
-    );
-    assert!(rt; !m.register(Reg::numbered(12)).tag);
+    assert!(rt; run(rt.alloc(), &mut m, 5) == End::Steps);
+    assert_tags(&rt, &m);
     Ok(())
 }
 
 // cjal c1, 8; auipcc c13, 0; cjalr c0, 0(c1)
+const LINKED: [u32; 3] = [0x0080_00ef, 0x0000_0697, 0x0000_8067];
+
+fn assert_links(rt: &impl Abort, alloc: Global, m: &mut Machine) {
+    let next = with_address(capability(TEXT, 3), TEXT + 4);
+    assert!(rt; run(alloc, m, 1) == End::Steps);
+    assert!(rt; m.counter() == TEXT + 8);
+    assert!(rt; m.register(Reg::LINK) == seal_entry(next));
+    assert!(rt; run(alloc, m, 1) == End::Steps);
+    assert!(rt; m.pc == next);
+    assert!(rt; run(alloc, m, 1) == End::Steps);
+    assert!(rt; m.register(Reg::numbered(13)) == next);
+}
+
 #[test]
 fn links_by_a_sentry(rt: HostRuntime) -> Result<(), Fail> {
-    let mut m = machine(rt.alloc(), &[0x0080_00ef, 0x0000_0697, 0x0000_8067])?;
-    let next = with_address(capability(TEXT, 3), TEXT + 4);
-    assert_eq!(rt; run(rt.alloc(), &mut m, 1), End::Steps);
-    assert_eq!(rt; m.counter(), TEXT + 8);
-    assert_eq!(rt; m.register(Reg::LINK), seal_entry(next));
-    assert_eq!(rt; run(rt.alloc(), &mut m, 1), End::Steps);
-    assert_eq!(rt; m.pc, next);
-    assert_eq!(rt; run(rt.alloc(), &mut m, 1), End::Steps);
-    assert_eq!(rt; m.register(Reg::numbered(13)), next);
+    let mut m = machine(rt.alloc(), &LINKED)?;
+    assert_links(&rt, rt.alloc(), &mut m);
     Ok(())
+}
+
+/// A register, and its integer.
+const DERIVED: [(u8, u64); 6] = [
+    (10, DATA + 4),
+    (11, 16),
+    (12, 4),
+    (13, 4),
+    (14, DATA),
+    (15, 1),
+];
+
+fn has_integer(m: &Machine, &(register, wanted): &(u8, u64)) -> bool {
+    Reg::new(register).is_some_and(|register| m.integer(register) == wanted)
+}
+
+fn assert_derived(rt: &impl Abort, m: &Machine) {
+    for row in &DERIVED {
+        assert!(rt; has_integer(m, row), "{row:?}");
+    }
 }
 
 // csetboundsimm c10, c8, 16; cgetlen x11, c10; cincoffsetimm c10, c10, 4; cgetoffset x12, c10; candperm c13, c8, x12;
@@ -217,48 +278,56 @@ fn derives_capabilities(rt: HostRuntime) -> Result<(), Fail> {
         0xfe44_07db,
     ];
     let mut m = machine(rt.alloc(), &words)?;
-    assert_eq!(rt; run(rt.alloc(), &mut m, 8), End::Steps);
-    for (register, want) in [
-        (10, DATA + 4),
-        (11, 16),
-        (12, 4),
-        (13, 4),
-        (14, DATA),
-        (15, 1),
-    ] {
-        assert_eq!(rt;
-            m.integer(Reg::numbered(register)),
-            want,
-            "register {register}"
-        );
-    }
+    assert!(rt; run(rt.alloc(), &mut m, 8) == End::Steps);
+    assert_derived(&rt, &m);
     Ok(())
+}
+
+/// The input: one byte, of which the second reading fails.
+fn input(alloc: Global) -> Result<MemSource, AllocError> {
+    let bytes = Vec::from_slice(alloc, &[200])?;
+    Ok(MemSource::new(bytes, Vec::from_slice(alloc, &[2])?))
+}
+
+/// An output of eight bytes, of which the second writing fails.
+fn output(alloc: Global) -> Result<MemSink, NoMemory> {
+    MemSink::new(alloc, 8, Vec::from_slice(alloc, &[2])?)
+}
+
+/// A service, its argument, how the step ends, and what x10 has then.
+const SERVICES: [(u64, u64, Step, u64); 7] = [
+    (2, 0, Step::Next, 200),
+    (2, 5, Step::Ended(End::ReadFault), 5),
+    (2, 5, Step::Next, u64::MAX),
+    (1, 0x241, Step::Next, 0x41),
+    (1, 0x242, Step::Ended(End::WriteFault), 0x242),
+    (3, 0x243, Step::Ended(End::Exit(0x43)), 0x243),
+    (9, 0x244, Step::Ended(End::Illegal(TEXT + 12)), 0x244),
+];
+
+fn serves_as(
+    m: &mut Machine,
+    input: &mut MemSource,
+    out: &mut MemSink,
+    &(service, argument, wanted, answer): &(u64, u64, Step, u64),
+) -> bool {
+    ask(m, service, argument);
+    m.step(input, out) == wanted && m.register(Reg::RESULT) == null(answer)
+}
+
+fn assert_served(rt: &impl Abort, m: &mut Machine, input: &mut MemSource, out: &mut MemSink) {
+    for row in &SERVICES {
+        assert!(rt; serves_as(m, input, out, row), "{row:?}");
+    }
+    assert!(rt; m.counter() == TEXT + 12);
+    assert!(rt; out.bytes() == [0x41].as_slice());
 }
 
 #[test]
 fn calls_the_environment(rt: HostRuntime) -> Result<(), Fail> {
-    let alloc = rt.alloc();
-    let mut m = machine(alloc, &[0x0000_0073; 5])?;
-    let mut input = MemSource::new(vec![in alloc; 200]?, vec![in alloc; 2]?);
-    let mut out = MemSink::new(alloc, 8, vec![in alloc; 2]?)?;
-    for (service, argument, want, result) in [
-        (2, 0, Step::Next, 200),
-        (2, 5, Step::Ended(End::ReadFault), 5),
-        (2, 5, Step::Next, u64::MAX),
-        (1, 0x241, Step::Next, 0x41),
-        (1, 0x242, Step::Ended(End::WriteFault), 0x242),
-        (3, 0x243, Step::Ended(End::Exit(0x43)), 0x243),
-        (9, 0x244, Step::Ended(End::Illegal(TEXT + 12)), 0x244),
-    ] {
-        ask(&mut m, service, argument);
-        assert_eq!(rt;
-            m.step(&mut input, &mut out),
-            want,
-            "service {service} of {argument:#x}"
-        );
-        assert_eq!(rt; m.register(Reg::RESULT), null(result));
-    }
-    assert_eq!(rt; m.counter(), TEXT + 12);
-    assert_eq!(rt; out.bytes(), [0x41].as_slice());
+    let mut m = machine(rt.alloc(), &[0x0000_0073; 5])?;
+    let mut input = input(rt.alloc())?;
+    let mut out = output(rt.alloc())?;
+    assert_served(&rt, &mut m, &mut input, &mut out);
     Ok(())
 }

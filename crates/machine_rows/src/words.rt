@@ -13,27 +13,31 @@ fn reg(rt: &impl Abort, number: u8) -> Reg {
     Reg::new(number).expect(rt, "a register")
 }
 
+const NAMES: [(Reg, u8); 6] = [
+    (Reg::ZERO, 0),
+    (Reg::LINK, 1),
+    (Reg::STACK, 2),
+    (Reg::TABLE, 3),
+    (Reg::RESULT, 10),
+    (Reg::SERVICE, 17),
+];
+
 #[test]
 fn names_registers(rt: HostRuntime) {
-    assert_eq!(rt; Reg::new(31), Some(Reg::numbered(31)));
-    assert_eq!(rt; Reg::new(32), None);
-    for (name, number) in [
-        (Reg::ZERO, 0),
-        (Reg::LINK, 1),
-        (Reg::STACK, 2),
-        (Reg::TABLE, 3),
-        (Reg::RESULT, 10),
-        (Reg::SERVICE, 17),
-    ] {
-        assert_eq!(rt; name.number(), number);
+    assert!(rt; Reg::new(31) == Some(Reg::numbered(31)));
+    assert!(rt; Reg::new(32).is_none());
+    for (name, number) in &NAMES {
+        assert!(rt; name.number() == *number, "{name:?}, {number}");
     }
 }
 
+fn encodes(word: u32, wanted: Instr) -> bool {
+    decode(word).is_some_and(|found| found == wanted && encode(found) == word)
+}
+
 /// The word encodes the instruction.
-fn agrees(rt: &impl Abort, word: u32, want: Instr) {
-    let got = decode(word).expect(rt, "a word of the table");
-    assert_eq!(rt; got, want, "at {word:#010x}");
-    assert_eq!(rt; encode(got), word, "at {word:#010x}");
+fn agrees(rt: &impl Abort, word: u32, wanted: Instr) {
+    assert!(rt; encodes(word, wanted), "{word:#010x}: {wanted:?}");
 }
 
 #[test]
@@ -332,9 +336,13 @@ const NO_INSTRUCTIONS: [u32; 100] = [
     0xd0f7f8c6, 0xd80f197a, 0xe3b8d385, 0xf063b07b,
 ];
 
+fn is_instruction(word: u32) -> bool {
+    decode(word).is_some()
+}
+
 #[test]
 fn refuses_words_outside_the_table(rt: HostRuntime) {
     for &word in &NO_INSTRUCTIONS {
-        assert_eq!(rt; decode(word), None, "at {word:#010x}");
+        assert!(rt; !is_instruction(word), "at {word:#010x}");
     }
 }

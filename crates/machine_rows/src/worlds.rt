@@ -1,31 +1,39 @@
 //! Sources, sinks and files, in memory and over the system.
+ghost use Rattle.std.specs.Prelude.{◌≡◌, IfOk, vec_len};
 
 use ck_base::{
-    Failed, FileError, Files, HostFiles, MemFiles, MemSink, MemSource, PutError, Sink, Source,
-    StdInput, StdOutput, SureFiles, SureSink, SureSource,
+    Failed, FileError, Files, HostFiles, MemFiles, MemSink, MemSource, NoMemory, PutError, Sink,
+    Source, StdInput, StdOutput, SureFiles, SureSink, SureSource,
 };
-use std::alloc::Global;
+use std::alloc::{AllocError, Global};
 use std::fs;
 use std::io::{self, ErrorKind, Read};
 use std::process::Abort;
 use std::test::Fail;
 
-fn gives<S: Source>(rt: &impl Abort, source: &mut S, wanted: &[Result<Option<u8>, Failed>]) {
+/// The next answer of a source.
+type Answer = Result<Option<u8>, Failed>;
+
+fn gives<S: Source>(rt: &impl Abort, source: &mut S, wanted: &[Answer]) {
     for answer in wanted {
-        assert_eq!(rt; source.next(), *answer);
+        assert!(rt; source.next() == *answer, "{answer:?}");
     }
 }
 
 fn takes<S: Sink>(rt: &impl Abort, sink: &mut S, wanted: &[(&[u8], Result<(), Failed>)]) {
     for (piece, answer) in wanted {
-        assert_eq!(rt; sink.put(*piece), *answer);
+        assert!(rt; sink.put(*piece) == *answer, "{piece:?}: {answer:?}");
     }
+}
+
+fn source(alloc: Global) -> Result<MemSource, AllocError> {
+    let bytes = Vec::from_slice(alloc, &[10, 20])?;
+    Ok(MemSource::new(bytes, Vec::from_slice(alloc, &[2])?))
 }
 
 #[test]
 fn source_in_memory_fails_in_its_second_call(rt: HostRuntime) -> Result<(), Fail> {
-    let alloc = rt.alloc();
-    let mut source = MemSource::new(vec![in alloc; 10, 20]?, vec![in alloc; 2]?);
+    let mut source = source(rt.alloc())?;
     gives(
         &rt,
         &mut source,
@@ -34,12 +42,13 @@ fn source_in_memory_fails_in_its_second_call(rt: HostRuntime) -> Result<(), Fail
     Ok(())
 }
 
+fn sink(alloc: Global) -> Result<MemSink, NoMemory> {
+    MemSink::new(alloc, 5, Vec::from_slice(alloc, &[2])?)
+}
+
 #[test]
 fn sink_in_memory_fails_in_its_second_call_and_past_its_room(rt: HostRuntime) -> Result<(), Fail> {
-    let alloc = rt.alloc();
-    let mut sink = MemSink::new(alloc, 5, vec![in alloc; 2]?)
-        .ok()
-        .ok_or("memory")?;
+    let mut sink = sink(rt.alloc())?;
     takes(
         &rt,
         &mut sink,
@@ -51,8 +60,21 @@ fn sink_in_memory_fails_in_its_second_call_and_past_its_room(rt: HostRuntime) ->
             (b"e", Ok(())),
         ],
     );
-    assert_eq!(rt; sink.bytes(), b"abcde".as_slice());
+    assert!(rt; sink.bytes() == b"abcde".as_slice());
     Ok(())
+}
+
+/// What is read under a name.
+fn is_read<F: Files>(
+    alloc: Global,
+    files: &mut F,
+    (name, answer): (&str, Result<&[u8], FileError>),
+) -> bool {
+    match (files.get(alloc, name), answer) {
+        (Ok(bytes), Ok(wanted)) => bytes.as_slice() == wanted,
+        (Err(error), Err(wanted)) => error == wanted,
+        _ => false,
+    }
 }
 
 fn reads<F: Files>(
@@ -61,22 +83,50 @@ fn reads<F: Files>(
     files: &mut F,
     wanted: &[(&str, Result<&[u8], FileError>)],
 ) {
-    for (name, answer) in wanted {
-        let holds = match (files.get(alloc, *name), *answer) {
-            (Ok(bytes), Ok(wanted)) => bytes.as_slice() == wanted,
-            (Err(error), Err(wanted)) => error == wanted,
-            _ => false,
-        };
-        assert!(rt; holds, "{name}");
+    for row in wanted {
+        assert!(rt; is_read(alloc, files, *row), "{row:?}");
     }
+}
+
+fn puts<F: Files>(
+    rt: &impl Abort,
+    alloc: Global,
+    files: &mut F,
+    wanted: &[(&str, &[u8], Result<(), PutError>)],
+) {
+    for (name, bytes, answer) in wanted {
+        assert!(rt;
+            files.put(alloc, *name, *bytes) == *answer,
+            "{name}: {answer:?}"
+        );
+    }
+}
+
+fn names(alloc: Global) -> Result<Vec<String>, AllocError>
+    ensures { IfOk result (λ names. vec_len names ≡ 1) }
+{
+    let name = String::from_str(alloc, "a.c")?;
+    Ok(vec![in alloc; name]?)
+}
+
+fn contents(alloc: Global) -> Result<Vec<Vec<u8>>, AllocError>
+    ensures { IfOk result (λ contents. vec_len contents ≡ 1) }
+{
+    let bytes = Vec::from_slice(alloc, b"first")?;
+    Ok(vec![in alloc; bytes]?)
+}
+
+/// Files in memory, of which the second and the fifth call fail.
+fn files(alloc: Global) -> Result<MemFiles, AllocError> {
+    let fails = Vec::from_slice(alloc, &[2, 5])?;
+    let names = names(alloc)?;
+    Ok(MemFiles::new(names, contents(alloc)?, fails))
 }
 
 #[test]
 fn files_in_memory_fail_in_their_second_and_fifth_call(rt: HostRuntime) -> Result<(), Fail> {
     let alloc = rt.alloc();
-    let names = vec![in alloc; String::from_str(alloc, "a.c")?]?;
-    let contents = vec![in alloc; Vec::from_slice(alloc, b"first")?]?;
-    let mut files = MemFiles::new(names, contents, vec![in alloc; 2, 5]?);
+    let mut files = files(alloc)?;
     reads(
         &rt,
         alloc,
@@ -87,30 +137,34 @@ fn files_in_memory_fail_in_their_second_and_fifth_call(rt: HostRuntime) -> Resul
             ("b.c", Err(FileError::Missing)),
         ],
     );
-    assert_eq!(rt; files.put(alloc, "b.c", b""), Ok(()));
-    assert_eq!(rt; files.put(alloc, "a.c", b"lost"), Err(PutError::Failed));
-    assert_eq!(rt; files.put(alloc, "a.c", b"new"), Ok(()));
+    puts(
+        &rt,
+        alloc,
+        &mut files,
+        &[
+            ("b.c", b"", Ok(())),
+            ("a.c", b"lost", Err(PutError::Failed)),
+            ("a.c", b"new", Ok(())),
+        ],
+    );
     reads(
         &rt,
         alloc,
         &mut files,
         &[("a.c", Ok(b"new")), ("b.c", Ok(b""))],
     );
-    assert_eq!(rt; files.contents("a.c"), Some(b"new".as_slice()));
+    assert!(rt; files.contents("a.c") == Some(b"new".as_slice()));
     Ok(())
 }
 
 #[test]
 fn sure_objects_do_not_fail(rt: HostRuntime) -> Result<(), Fail> {
     let alloc = rt.alloc();
-    gives(
-        &rt,
-        &mut SureSource::new(vec![in alloc; 10]?),
-        &[Ok(Some(10)), Ok(None)],
-    );
+    let bytes = Vec::from_slice(alloc, &[10])?;
+    gives(&rt, &mut SureSource::new(bytes), &[Ok(Some(10)), Ok(None)]);
     takes(&rt, &mut SureSink::new(), &[(b"ab", Ok(()))]);
     let mut files = SureFiles::new(Vec::new(alloc), Vec::new(alloc));
-    assert_eq!(rt; files.put(alloc, "a.c", b"first"), Ok(()));
+    puts(&rt, alloc, &mut files, &[("a.c", b"first", Ok(()))]);
     reads(
         &rt,
         alloc,
@@ -163,22 +217,29 @@ fn output_fails_where_its_writer_takes_nothing(rt: HostRuntime) {
             &[(b"ab", Ok(())), (b"cd", Err(Failed)), (b"", Ok(()))],
         );
     }
-    assert_eq!(rt; room, *b"abc");
+    assert!(rt; room == *b"abc");
+}
+
+const FILE_NAME: &str = "ck_base_test.bin";
+
+fn assert_host_files<F: Files>(rt: &impl Abort, alloc: Global, files: &mut F) {
+    reads(rt, alloc, files, &[(FILE_NAME, Err(FileError::Failed))]);
+    puts(
+        rt,
+        alloc,
+        files,
+        &[
+            (FILE_NAME, b"\0\xff\n", Ok(())),
+            ("ck_base_no_folder/a", b"", Err(PutError::Failed)),
+        ],
+    );
+    reads(rt, alloc, files, &[(FILE_NAME, Ok(b"\0\xff\n"))]);
 }
 
 #[test]
 fn host_files_come_back_as_they_were_put(rt: HostRuntime) -> Result<(), Fail> {
-    let alloc = rt.alloc();
-    let name = "ck_base_test.bin";
-    let mut files = HostFiles::new(rt.clone()?);
-    let _ = fs::remove_file(&rt, name);
-    reads(&rt, alloc, &mut files, &[(name, Err(FileError::Failed))]);
-    assert_eq!(rt; files.put(alloc, name, b"\0\xff\n"), Ok(()));
-    reads(&rt, alloc, &mut files, &[(name, Ok(b"\0\xff\n"))]);
-    fs::remove_file(&rt, name)?;
-    assert_eq!(rt;
-        files.put(alloc, "ck_base_no_folder/a", b""),
-        Err(PutError::Failed)
-    );
+    let _ = fs::remove_file(&rt, FILE_NAME);
+    assert_host_files(&rt, rt.alloc(), &mut HostFiles::new(rt.clone()?));
+    fs::remove_file(&rt, FILE_NAME)?;
     Ok(())
 }

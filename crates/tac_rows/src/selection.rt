@@ -5,9 +5,8 @@ ghost use Rattle.rv_select.specs.Form.{IsIntegerCode};
 use ck_base::{NoMemory, Pos, Sequence};
 use ck_int::IntKind;
 use rv_instr::{CapImmOp, ImmOp, Instr, LoadOp, Reg, StoreOp};
-use rv_select::select;
+use rv_select::{Items, select};
 use std::alloc::Global;
-use std::test::Fail;
 use tac_ir::{LibOp, Tac, TacFun, TacInstr, TacKind};
 
 const INT: TacKind = TacKind::Int(IntKind::I32);
@@ -42,32 +41,43 @@ fn program(alloc: Global) -> Result<Tac, NoMemory>
     })
 }
 
-fn reg(n: u8) -> Reg
-    requires { n < 32 }
-{
-    Reg::numbered(n)
+fn selected(alloc: Global) -> Result<Items, NoMemory> {
+    let t = program(alloc)?;
+    select(alloc, &t)
+}
+
+// The code that is to be selected, by the numbers of the registers.
+fn wanted() -> [Instr; 10] {
+    let x0 = Reg::numbered(0);
+    let x2 = Reg::numbered(2);
+    let x5 = Reg::numbered(5);
+    let x10 = Reg::numbered(10);
+    let x17 = Reg::numbered(17);
+    [
+        Instr::CapImm(CapImmOp::Cincoffsetimm, x2, x2, -32),
+        Instr::Imm(ImmOp::Addi, x5, x0, 72),
+        Instr::Store(StoreOp::Sd, x5, x2, 16),
+        Instr::Load(LoadOp::Ld, x10, x2, 16),
+        Instr::Imm(ImmOp::Addi, x17, x0, 1),
+        Instr::Ecall,
+        Instr::Load(LoadOp::Ld, x10, x2, 16),
+        Instr::Imm(ImmOp::Addi, x17, x0, 3),
+        Instr::Ecall,
+        Instr::Cjal(x0, 0),
+    ]
+}
+
+// Whether the code is the wanted one, entered at its start, with no place at which a trap is the program's.
+fn are_wanted(items: &Items) -> bool {
+    items.start == 0
+        && items.entries.as_slice() == [0].as_slice()
+        && items.lines.len() == 0
+        && items.code.as_slice() == wanted().as_slice()
 }
 
 #[test]
-fn a_byte_is_put_and_returned(rt: HostRuntime) -> Result<(), Fail> {
-    let alloc = rt.alloc();
-    let t = program(alloc)?;
-    let items = select(alloc, &t)?;
-    assert_eq!(rt; items.start, 0);
-    assert_eq!(rt; items.entries.as_slice(), &[0][..]);
-    assert_eq!(rt; items.lines.len(), 0);
-    let code = [
-        Instr::CapImm(CapImmOp::Cincoffsetimm, reg(2), reg(2), -32),
-        Instr::Imm(ImmOp::Addi, reg(5), reg(0), 72),
-        Instr::Store(StoreOp::Sd, reg(5), reg(2), 16),
-        Instr::Load(LoadOp::Ld, reg(10), reg(2), 16),
-        Instr::Imm(ImmOp::Addi, reg(17), reg(0), 1),
-        Instr::Ecall,
-        Instr::Load(LoadOp::Ld, reg(10), reg(2), 16),
-        Instr::Imm(ImmOp::Addi, reg(17), reg(0), 3),
-        Instr::Ecall,
-        Instr::Cjal(reg(0), 0),
-    ];
-    assert_eq!(rt; items.code.as_slice(), &code[..]);
+fn a_byte_is_put_and_returned(rt: HostRuntime) -> Result<(), NoMemory> {
+    let items = selected(rt.alloc())?;
+    assert!(rt; are_wanted(&items), "{items:?}");
     Ok(())
 }
