@@ -1,32 +1,20 @@
 //! Types by their numbers: each call on known types, and types that are large in depth or in the number of their leaves.
 ghost use Rattle.std.specs.Prelude.{◌≡◌, ◌<◌, true, length};
 
+use crate::given::{got, with_types};
 use c_interner::{Lengths, Numbers, agree, append, next_number};
 use c_tree::{CType, Typed};
 use ck_base::{NoMemory, Sequence};
 use ck_int::IntKind;
 use std::alloc::Global;
-use std::test::Fail;
 
 const INT: CType = CType::Int(IntKind::I32, 0);
 
-fn program(alloc: Global, types: Vec<CType>) -> Typed {
-    Typed {
-        types: Sequence::from_vec(types),
-        globals: Sequence::from_vec(Vec::new(alloc)),
-        literals: Sequence::from_vec(Vec::new(alloc)),
-        funs: Sequence::from_vec(Vec::new(alloc)),
-        exprs: Sequence::from_vec(Vec::new(alloc)),
-        stmts: Sequence::from_vec(Vec::new(alloc)),
-        main: 0,
-    }
-}
-
 // A type at the end of the list, whether or not it stands there already.
 fn add(alloc: Global, p: &mut Typed, c: CType) -> Result<u32, NoMemory> {
-    let k = next_number(p.types.as_slice())?;
+    let k = next_number(p.types.as_slice());
     append(alloc, &mut p.types, c)?;
-    Ok(k)
+    k
 }
 
 fn params(alloc: Global, ps: &[u32]) -> Result<Sequence<u32>, NoMemory> {
@@ -104,64 +92,86 @@ fn small_types(alloc: Global) -> Result<Typed, NoMemory> {
         CType::Function(4, to_open),
         CType::Const(3),
     ]?;
-    Ok(program(alloc, types))
+    Ok(with_types(alloc, types))
+}
+
+fn numbers_of(numbers: &mut Numbers, p: &mut Typed, of: u32) -> Result<(u32, u32), NoMemory> {
+    let int = numbers.number_of(p, INT)?;
+    let pointer = numbers.number_of(p, CType::Pointer(of))?;
+    Ok((int, pointer))
 }
 
 #[test]
-fn equal_types_have_one_number(rt: HostRuntime) -> Result<(), Fail> {
-    let alloc = rt.alloc();
-    let mut p = program(alloc, Vec::new(alloc));
-    let mut numbers = Numbers::new(alloc);
+fn equal_types_have_one_number(rt: HostRuntime) {
+    let mut p = with_types(rt.alloc(), Vec::new(rt.alloc()));
+    let mut numbers = Numbers::new(rt.alloc());
     for (of, expected) in [(0, 1), (1, 2), (0, 1), (1, 2)] {
-        let int = numbers.number_of(&mut p, INT)?;
-        assert_eq!(rt; int, 0);
-        let pointer = numbers.number_of(&mut p, CType::Pointer(of))?;
-        assert_eq!(rt; pointer, expected);
+        let (int, pointer) = got(&rt, numbers_of(&mut numbers, &mut p, of));
+        assert!(rt; int == 0 && pointer == expected, "a pointer to {of}");
     }
-    Ok(())
+}
+
+// Two of the small types, and whether they are equal, and compatible.
+const AGREEMENTS: [(u32, u32, bool, bool); 7] = [
+    (0, 0, true, true),
+    (0, 1, false, false),
+    (1, 2, false, true),
+    (3, 4, false, true),
+    (5, 6, false, true),
+    (6, 6, true, true),
+    (3, 7, false, false),
+];
+
+fn agreements(alloc: Global, p: &Typed, a: u32, b: u32) -> Result<(bool, bool), NoMemory> {
+    let equal = agree_in(alloc, p, Lengths::Equal, a, b)?;
+    let compatible = agree_in(alloc, p, Lengths::Compatible, a, b)?;
+    Ok((equal, compatible))
 }
 
 #[test]
-fn types_agree(rt: HostRuntime) -> Result<(), Fail> {
-    let alloc = rt.alloc();
-    let p = small_types(alloc)?;
-    for (a, b, equal, compatible) in [
-        (0, 0, true, true),
-        (0, 1, false, false),
-        (1, 2, false, true),
-        (3, 4, false, true),
-        (5, 6, false, true),
-        (6, 6, true, true),
-        (3, 7, false, false),
-    ] {
-        assert_eq!(rt; agree_in(alloc, &p, Lengths::Equal, a, b)?, equal);
-        assert_eq!(rt; agree_in(alloc, &p, Lengths::Compatible, a, b)?, compatible);
+fn types_agree(rt: HostRuntime) {
+    let p = got(&rt, small_types(rt.alloc()));
+    for &(a, b, equal, compatible) in &AGREEMENTS {
+        let found = got(&rt, agreements(rt.alloc(), &p, a, b));
+        assert!(rt; found == (equal, compatible), "{a} and {b}");
     }
-    Ok(())
+}
+
+// Two of the small types, and the length at the bottom of their composite.
+const COMPOSITES: [(u32, u32, u64); 6] = [
+    (1, 2, 4),
+    (2, 1, 4),
+    (1, 1, 0),
+    (5, 6, 4),
+    (6, 5, 4),
+    (5, 5, 4),
+];
+
+// The length at the bottom of the composite of two types, and whether it is compatible with the first.
+fn composed(
+    alloc: Global,
+    numbers: &mut Numbers,
+    p: &mut Typed,
+    a: u32,
+    b: u32,
+) -> Result<(u64, bool), NoMemory> {
+    let c = composite_in(numbers, p, a, b)?;
+    let compatible = agree_in(alloc, p, Lengths::Compatible, a, c)?;
+    Ok((bottom(p.types.as_slice(), c).0, compatible))
 }
 
 #[test]
-fn a_composite_knows_each_length(rt: HostRuntime) -> Result<(), Fail> {
-    let alloc = rt.alloc();
-    let mut p = small_types(alloc)?;
-    let mut numbers = Numbers::new(alloc);
-    for (a, b, length) in [
-        (1, 2, 4),
-        (2, 1, 4),
-        (1, 1, 0),
-        (5, 6, 4),
-        (6, 5, 4),
-        (5, 5, 4),
-    ] {
-        let c = composite_in(&mut numbers, &mut p, a, b)?;
-        assert_eq!(rt; bottom(p.types.as_slice(), c).0, length);
-        assert!(rt; agree_in(alloc, &p, Lengths::Compatible, a, c)?);
+fn a_composite_knows_each_length(rt: HostRuntime) {
+    let mut p = got(&rt, small_types(rt.alloc()));
+    let mut numbers = Numbers::new(rt.alloc());
+    for &(a, b, length) in &COMPOSITES {
+        let found = got(&rt, composed(rt.alloc(), &mut numbers, &mut p, a, b));
+        assert!(rt; found == (length, true), "{a} and {b}");
     }
-    Ok(())
 }
 
 // What is said of two types, and the bottom of their composite.
-#[derive(Clone, Copy, Debug, PartialEq, Eq)]
+#[derive(Clone, Copy)]
 struct Compared {
     equal: bool,
     compatible: bool,
@@ -170,8 +180,7 @@ struct Compared {
 }
 
 fn compare(alloc: Global, p: &mut Typed, a: u32, b: u32) -> Result<Compared, NoMemory> {
-    let equal = agree_in(alloc, p, Lengths::Equal, a, b)?;
-    let compatible = agree_in(alloc, p, Lengths::Compatible, a, b)?;
+    let (equal, compatible) = agreements(alloc, p, a, b)?;
     let c = composite_in(&mut Numbers::new(alloc), p, a, b)?;
     let (length, levels) = bottom(p.types.as_slice(), c);
     Ok(Compared {
@@ -182,34 +191,33 @@ fn compare(alloc: Global, p: &mut Typed, a: u32, b: u32) -> Result<Compared, NoM
     })
 }
 
-fn only_lengths_differ(levels: usize) -> Compared {
-    Compared {
-        equal: false,
-        compatible: true,
-        length: 4,
-        levels,
-    }
+fn only_lengths_differ(c: Compared, levels: usize) -> bool {
+    !c.equal && c.compatible && c.length == 4 && c.levels == levels
+}
+
+fn doublings_compared(alloc: Global, p: &mut Typed) -> Result<Compared, NoMemory> {
+    let a = doubling(alloc, p, 1)?;
+    let b = doubling(alloc, p, 2)?;
+    compare(alloc, p, a, b)
 }
 
 #[test]
-fn types_with_many_leaves(rt: HostRuntime) -> Result<(), Fail> {
-    let alloc = rt.alloc();
-    let mut p = small_types(alloc)?;
-    let a = doubling(alloc, &mut p, 1)?;
-    let b = doubling(alloc, &mut p, 2)?;
-    let compared = compare(alloc, &mut p, a, b)?;
-    assert_eq!(rt; compared, only_lengths_differ(121));
+fn types_with_many_leaves(rt: HostRuntime) {
+    let mut p = got(&rt, small_types(rt.alloc()));
+    let compared = got(&rt, doublings_compared(rt.alloc(), &mut p));
+    assert!(rt; only_lengths_differ(compared, 121));
     assert!(rt; p.types.as_slice().len() < 400);
-    Ok(())
+}
+
+fn pointers_compared(alloc: Global, p: &mut Typed) -> Result<Compared, NoMemory> {
+    let a = pointers(alloc, p, 1)?;
+    let b = pointers(alloc, p, 2)?;
+    compare(alloc, p, a, b)
 }
 
 #[test]
-fn deep_types(rt: HostRuntime) -> Result<(), Fail> {
-    let alloc = rt.alloc();
-    let mut p = small_types(alloc)?;
-    let a = pointers(alloc, &mut p, 1)?;
-    let b = pointers(alloc, &mut p, 2)?;
-    let compared = compare(alloc, &mut p, a, b)?;
-    assert_eq!(rt; compared, only_lengths_differ(100_000));
-    Ok(())
+fn deep_types(rt: HostRuntime) {
+    let mut p = got(&rt, small_types(rt.alloc()));
+    let compared = got(&rt, pointers_compared(rt.alloc(), &mut p));
+    assert!(rt; only_lengths_differ(compared, 100_000));
 }

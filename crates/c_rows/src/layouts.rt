@@ -1,12 +1,13 @@
 //! Sizes, alignments, offsets and counts: each public call on known values.
 ghost use Rattle.std.specs.Prelude.{◌<◌, length};
 
+use crate::given::{got, none, with_types};
 use c_tree::{CType, Expr, ExprKind, FunDef, Member, Stmt, StmtKind, Typed, VarDef};
 use cap_layout::{Layout, LayoutFault, Layouts, copies, granules, layout, offset_of, owned};
 use ck_base::{Pos, Sequence, Span};
 use ck_int::IntKind;
 use std::alloc::{AllocError, Global};
-use std::test::Fail;
+use std::process::Abort;
 
 const PLACE: Pos = Pos { line: 1, col: 1 };
 
@@ -23,39 +24,71 @@ fn members(alloc: Global, types: &[u32]) -> Result<Sequence<Member>, AllocError>
     Ok(Sequence::from_vec(members))
 }
 
-fn record(alloc: Global, types: &[u32]) -> Result<CType, AllocError> {
-    Ok(CType::Struct(0, members(alloc, types)?))
+// A type, with the numbers of its parts.
+#[derive(Clone, Copy)]
+enum Kind {
+    Void,
+    Int(IntKind),
+    Cap,
+    Pointer(u32),
+    Const(u32),
+    Array(u32, u64),
+    Function(u32),
+    Struct(&'static [u32]),
+    Union(&'static [u32]),
+    Incomplete,
 }
 
-fn types(alloc: Global) -> Result<Sequence<CType>, AllocError> {
+fn type_of(alloc: Global, kind: Kind) -> Result<CType, AllocError> {
+    Ok(match kind {
+        Kind::Void => CType::Void,
+        Kind::Int(of) => CType::Int(of, 0),
+        Kind::Cap => CType::Cap(true),
+        Kind::Pointer(of) => CType::Pointer(of),
+        Kind::Const(of) => CType::Const(of),
+        Kind::Array(of, count) => CType::Array(of, count),
+        Kind::Function(gives) => CType::Function(gives, none(alloc)),
+        Kind::Struct(of) => CType::Struct(0, members(alloc, of)?),
+        Kind::Union(of) => CType::Union(0, members(alloc, of)?),
+        Kind::Incomplete => CType::Incomplete(0),
+    })
+}
+
+const TYPES: [Kind; 26] = [
+    Kind::Int(IntKind::U8),
+    Kind::Array(0, 4),
+    Kind::Int(IntKind::I32),
+    Kind::Struct(&[1, 2]),
+    Kind::Array(0, 4097),
+    Kind::Struct(&[4, 0]),
+    Kind::Union(&[2, 1]),
+    Kind::Array(0, 3),
+    Kind::Struct(&[7]),
+    Kind::Pointer(2),
+    Kind::Struct(&[9, 0]),
+    Kind::Const(10),
+    Kind::Array(11, 3),
+    Kind::Incomplete,
+    Kind::Struct(&[13]),
+    Kind::Array(0, 0),
+    Kind::Array(0, 67_108_865),
+    Kind::Array(0, 67_108_864),
+    Kind::Struct(&[16, 13]),
+    Kind::Struct(&[2, 19]),
+    Kind::Void,
+    Kind::Function(2),
+    Kind::Cap,
+    Kind::Array(17, 2),
+    Kind::Struct(&[17, 0]),
+    Kind::Union(&[4, 22]),
+];
+
+fn types(alloc: Global) -> Result<Vec<CType>, AllocError> {
     let mut types = Vec::new(alloc);
-    types.push(CType::Int(IntKind::U8, 0))?;
-    types.push(CType::Array(0, 4))?;
-    types.push(CType::Int(IntKind::I32, 0))?;
-    types.push(record(alloc, &[1, 2])?)?;
-    types.push(CType::Array(0, 4097))?;
-    types.push(record(alloc, &[4, 0])?)?;
-    types.push(CType::Union(0, members(alloc, &[2, 1])?))?;
-    types.push(CType::Array(0, 3))?;
-    types.push(record(alloc, &[7])?)?;
-    types.push(CType::Pointer(2))?;
-    types.push(record(alloc, &[9, 0])?)?;
-    types.push(CType::Const(10))?;
-    types.push(CType::Array(11, 3))?;
-    types.push(CType::Incomplete(0))?;
-    types.push(record(alloc, &[13])?)?;
-    types.push(CType::Array(0, 0))?;
-    types.push(CType::Array(0, 67_108_865))?;
-    types.push(CType::Array(0, 67_108_864))?;
-    types.push(record(alloc, &[16, 13])?)?;
-    types.push(record(alloc, &[2, 19])?)?;
-    types.push(CType::Void)?;
-    types.push(CType::Function(2, Sequence::from_vec(Vec::new(alloc))))?;
-    types.push(CType::Cap(true))?;
-    types.push(CType::Array(17, 2))?;
-    types.push(record(alloc, &[17, 0])?)?;
-    types.push(CType::Union(0, members(alloc, &[4, 22])?))?;
-    Ok(Sequence::from_vec(types))
+    for kind in &TYPES {
+        types.push(type_of(alloc, *kind)?)?;
+    }
+    Ok(types)
 }
 
 fn variable(of: u32, simple: bool) -> VarDef {
@@ -73,10 +106,18 @@ fn function(alloc: Global) -> Result<FunDef, AllocError> {
         name: NAME,
         pos: PLACE,
         of: 21,
-        params: Sequence::from_vec(Vec::new(alloc)),
+        params: none(alloc),
         vars: Sequence::from_vec(vars),
         body: 0,
     })
+}
+
+fn functions(alloc: Global) -> Result<Vec<FunDef>, AllocError> {
+    let mut functions = Vec::new(alloc);
+    for _ in 0..2 {
+        functions.push(function(alloc)?)?;
+    }
+    Ok(functions)
 }
 
 fn expression(kind: ExprKind, of: u32) -> Expr {
@@ -87,34 +128,34 @@ fn expression(kind: ExprKind, of: u32) -> Expr {
     }
 }
 
-fn program(alloc: Global) -> Result<Typed, AllocError> {
-    let mut exprs = Vec::new(alloc);
-    exprs.push(expression(ExprKind::Load(0), 10))?;
-    exprs.push(expression(ExprKind::Assign(0, 0), 10))?;
-    exprs.push(expression(ExprKind::Assign(0, 0), 8))?;
-    exprs.push(expression(ExprKind::Assign(0, 0), 2))?;
-    let init = StmtKind::Init {
+// A read, and assignments of values of two structs and of an integer.
+fn expressions(alloc: Global) -> Result<Vec<Expr>, AllocError> {
+    let mut expressions = vec![in alloc; expression(ExprKind::Load(0), 10)]?;
+    for of in [10, 8, 2] {
+        expressions.push(expression(ExprKind::Assign(0, 0), of))?;
+    }
+    Ok(expressions)
+}
+
+fn statements(alloc: Global) -> Result<Vec<Stmt>, AllocError> {
+    let kind = StmtKind::Init {
         var: 0,
         offset: 0,
         value: 0,
     };
-    let mut stmts = Vec::new(alloc);
-    stmts.push(Stmt {
-        kind: init,
-        pos: PLACE,
-    })?;
-    let mut funs = Vec::new(alloc);
-    funs.push(function(alloc)?)?;
-    funs.push(function(alloc)?)?;
-    Ok(Typed {
-        types: types(alloc)?,
-        globals: Sequence::from_vec(Vec::new(alloc)),
-        literals: Sequence::from_vec(Vec::new(alloc)),
-        funs: Sequence::from_vec(funs),
-        exprs: Sequence::from_vec(exprs),
-        stmts: Sequence::from_vec(stmts),
+    Ok(vec![in alloc; Stmt { kind, pos: PLACE }]?)
+}
+
+fn program(rt: &impl Abort, alloc: Global) -> Typed {
+    Typed {
+        types: Sequence::from_vec(got(rt, types(alloc))),
+        globals: none(alloc),
+        literals: none(alloc),
+        funs: Sequence::from_vec(got(rt, functions(alloc))),
+        exprs: Sequence::from_vec(got(rt, expressions(alloc))),
+        stmts: Sequence::from_vec(got(rt, statements(alloc))),
         main: 0,
-    })
+    }
 }
 
 // Where a member of a struct begins, if there is such a member.
@@ -141,12 +182,14 @@ const OWNED: [(u64, u64, u64); 7] = [
     (16_777_216, 16_777_216, 32768),
 ];
 
+fn is_owned(&(n, length, align): &(u64, u64, u64)) -> bool {
+    n <= 67_108_864 && owned(n).length == length && owned(n).align == align
+}
+
 #[test]
 fn lengths_are_owned(rt: HostRuntime) {
-    for &(n, length, align) in &OWNED {
-        assert!(rt; n <= 67_108_864);
-        assert_eq!(rt; owned(n).length, length, "of {n}");
-        assert_eq!(rt; owned(n).align, align, "of {n}");
+    for row in &OWNED {
+        assert!(rt; is_owned(row), "{row:?}");
     }
 }
 
@@ -183,29 +226,38 @@ const FAULTS: [(u32, LayoutFault); 11] = [
     (26, LayoutFault::Incomplete),
 ];
 
-#[test]
-fn types_have_layouts(rt: HostRuntime) -> Result<(), Fail> {
-    let p = program(rt.alloc())?;
-    for &(t, size, align) in &LAYOUTS {
-        assert_eq!(rt; layout(&p, t), Ok(Layout { size, align }), "of {t}");
-    }
-    for &(t, fault) in &FAULTS {
-        assert_eq!(rt; layout(&p, t), Err(fault), "of {t}");
-    }
-    Ok(())
+fn is_layout(found: Result<Layout, LayoutFault>, size: u64, align: u64) -> bool {
+    found == Ok(Layout { size, align })
+}
+
+fn is_fault(found: Result<Layout, LayoutFault>, fault: LayoutFault) -> bool {
+    found == Err(fault)
 }
 
 #[test]
-fn layouts_are_kept(rt: HostRuntime) -> Result<(), Fail> {
-    let p = program(rt.alloc())?;
-    let layouts = Layouts::new(rt.alloc(), &p)?;
+fn types_have_layouts(rt: HostRuntime) {
+    let p = program(&rt, rt.alloc());
     for &(t, size, align) in &LAYOUTS {
-        assert_eq!(rt; layouts.layout(&p, t), Ok(Layout { size, align }), "of {t}");
+        assert!(rt; is_layout(layout(&p, t), size, align), "of {t}");
     }
     for &(t, fault) in &FAULTS {
-        assert_eq!(rt; layouts.layout(&p, t), Err(fault), "of {t}");
+        assert!(rt; is_fault(layout(&p, t), fault), "of {t}");
     }
-    Ok(())
+}
+
+#[test]
+fn layouts_are_kept(rt: HostRuntime) {
+    let p = program(&rt, rt.alloc());
+    let layouts = match Layouts::new(rt.alloc(), &p) {
+        Ok(layouts) => layouts,
+        Err(_) => panic!(rt; "no memory"),
+    };
+    for &(t, size, align) in &LAYOUTS {
+        assert!(rt; is_layout(layouts.layout(&p, t), size, align), "of {t}");
+    }
+    for &(t, fault) in &FAULTS {
+        assert!(rt; is_fault(layouts.layout(&p, t), fault), "of {t}");
+    }
 }
 
 const OFFSETS: [(u32, u32, u64); 6] = [
@@ -218,70 +270,82 @@ const OFFSETS: [(u32, u32, u64); 6] = [
 ];
 
 #[test]
-fn members_have_offsets(rt: HostRuntime) -> Result<(), Fail> {
-    let p = program(rt.alloc())?;
+fn members_have_offsets(rt: HostRuntime) {
+    let p = program(&rt, rt.alloc());
     for &(t, member, at) in &OFFSETS {
-        assert_eq!(rt; offset(&p, t, member), Some(at), "member {member} of {t}");
-    }
-    Ok(())
-}
-
-#[test]
-fn parts_are_counted(rt: HostRuntime) -> Result<(), Fail> {
-    let p = program(rt.alloc())?;
-    assert_eq!(rt; granules(&p), 2 * (257 + 1));
-    assert_eq!(rt; copies(&p), 2 + 2 + 1);
-    Ok(())
-}
-
-fn alone(alloc: Global, types: Vec<CType>) -> Typed {
-    Typed {
-        types: Sequence::from_vec(types),
-        globals: Sequence::from_vec(Vec::new(alloc)),
-        literals: Sequence::from_vec(Vec::new(alloc)),
-        funs: Sequence::from_vec(Vec::new(alloc)),
-        exprs: Sequence::from_vec(Vec::new(alloc)),
-        stmts: Sequence::from_vec(Vec::new(alloc)),
-        main: 0,
+        assert!(rt; offset(&p, t, member) == Some(at), "member {member} of {t}");
     }
 }
 
-// Arrays and the words `const` in one another take no stack; structs in one another take some.
 #[test]
-fn deep_types_have_layouts(rt: HostRuntime) -> Result<(), Fail> {
-    let expected = Layout { size: 4, align: 4 };
-    let mut rows = vec![in rt.alloc(); CType::Int(IntKind::I32, 0)]?;
-    for of in 0..100_000 {
-        rows.push(if of % 2 == 0 {
+fn parts_are_counted(rt: HostRuntime) {
+    let p = program(&rt, rt.alloc());
+    assert!(rt; granules(&p) == 2 * (257 + 1));
+    assert!(rt; copies(&p) == 2 + 2 + 1);
+}
+
+// Arrays and the words `const`, by turns, each of the type before.
+fn arrays(alloc: Global, levels: u32) -> Result<Vec<CType>, AllocError> {
+    let mut types = vec![in alloc; CType::Int(IntKind::I32, 0)]?;
+    for of in 0..levels {
+        types.push(if of % 2 == 0 {
             CType::Array(of, 1)
         } else {
             CType::Const(of)
         })?;
     }
-    assert_eq!(rt; layout(&alone(rt.alloc(), rows), 100_000), Ok(expected));
-    let mut nests = vec![in rt.alloc(); CType::Int(IntKind::I32, 0)]?;
-    for of in 0..1_000 {
-        nests.push(record(rt.alloc(), &[of])?)?;
+    Ok(types)
+}
+
+// Structs of one member, each of the type before.
+fn structs(alloc: Global, levels: u32) -> Result<Vec<CType>, AllocError> {
+    let mut types = vec![in alloc; CType::Int(IntKind::I32, 0)]?;
+    for of in 0..levels {
+        types.push(CType::Struct(0, members(alloc, &[of])?))?;
     }
-    assert_eq!(rt; layout(&alone(rt.alloc(), nests), 1_000), Ok(expected));
-    Ok(())
+    Ok(types)
+}
+
+// Unions of two members, each of the type before.
+fn unions(alloc: Global, levels: u32) -> Result<Vec<CType>, AllocError> {
+    let mut types = vec![in alloc; CType::Int(IntKind::I32, 0)]?;
+    for of in 0..levels {
+        types.push(CType::Union(0, members(alloc, &[of, of])?))?;
+    }
+    Ok(types)
+}
+
+// The layout of a type among these.
+fn layout_in(alloc: Global, types: Vec<CType>, t: u32) -> Result<Layout, LayoutFault> {
+    layout(&with_types(alloc, types), t)
+}
+
+// Arrays and the words `const` in one another take no stack; structs in one another take some.
+#[test]
+fn deep_types_have_layouts(rt: HostRuntime) {
+    let alloc = rt.alloc();
+    let of_arrays = layout_in(alloc, got(&rt, arrays(alloc, 100_000)), 100_000);
+    assert!(rt; is_layout(of_arrays, 4, 4));
+    let of_structs = layout_in(alloc, got(&rt, structs(alloc, 1_000)), 1_000);
+    assert!(rt; is_layout(of_structs, 4, 4));
+}
+
+// The kept layout of a type among these.
+fn kept_layout_in(
+    alloc: Global,
+    types: Vec<CType>,
+    t: u32,
+) -> Result<Result<Layout, LayoutFault>, AllocError> {
+    let p = with_types(alloc, types);
+    Ok(Layouts::new(alloc, &p)?.layout(&p, t))
 }
 
 // Kept layouts take no stack, and no more time where a type stands twice in the one around it.
 #[test]
-fn deep_types_have_kept_layouts(rt: HostRuntime) -> Result<(), Fail> {
-    let expected = Layout { size: 4, align: 4 };
-    let mut structs = vec![in rt.alloc(); CType::Int(IntKind::I32, 0)]?;
-    let mut unions = vec![in rt.alloc(); CType::Int(IntKind::I32, 0)]?;
-    for of in 0..50_000 {
-        structs.push(record(rt.alloc(), &[of])?)?;
-        unions.push(CType::Union(0, members(rt.alloc(), &[of, of])?))?;
-    }
-    let p = alone(rt.alloc(), structs);
-    let q = alone(rt.alloc(), unions);
-    let of_structs = Layouts::new(rt.alloc(), &p)?;
-    let of_unions = Layouts::new(rt.alloc(), &q)?;
-    assert_eq!(rt; of_structs.layout(&p, 50_000), Ok(expected));
-    assert_eq!(rt; of_unions.layout(&q, 50_000), Ok(expected));
-    Ok(())
+fn deep_types_have_kept_layouts(rt: HostRuntime) {
+    let alloc = rt.alloc();
+    let of_structs = kept_layout_in(alloc, got(&rt, structs(alloc, 50_000)), 50_000);
+    assert!(rt; is_layout(got(&rt, of_structs), 4, 4));
+    let of_unions = kept_layout_in(alloc, got(&rt, unions(alloc, 50_000)), 50_000);
+    assert!(rt; is_layout(got(&rt, of_unions), 4, 4));
 }

@@ -6,6 +6,8 @@ mod agreement;
 #[cfg(test)]
 mod declarations;
 #[cfg(test)]
+mod given;
+#[cfg(test)]
 mod initializers;
 #[cfg(test)]
 mod layouts;

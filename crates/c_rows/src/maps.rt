@@ -1,13 +1,14 @@
 //! Maps of known programs.
-ghost use Rattle.std.specs.Prelude.{◌≡◌, length, IfOk};
+ghost use Rattle.std.specs.Prelude.{◌≡◌, length};
 
+use crate::given::{got, none};
 use bounds_place::place;
 use c_tree::{CType, FunDef, GlobalDef, Literal, Typed, VarDef};
 use ck_base::{Pos, Refusal, Sequence, Span};
 use ck_int::IntKind;
-use obj_mem::{Frame, Slot};
+use obj_mem::{Frame, Map, Slot};
 use std::alloc::{AllocError, Global};
-use std::test::Fail;
+use std::process::Abort;
 
 const PLACE: Pos = Pos { line: 7, col: 5 };
 
@@ -18,95 +19,134 @@ fn global(alloc: Global, of: u32) -> GlobalDef {
         name: NAME,
         pos: PLACE,
         of,
-        bytes: Sequence::from_vec(Vec::new(alloc)),
-        links: Sequence::from_vec(Vec::new(alloc)),
+        bytes: none(alloc),
+        links: none(alloc),
     }
 }
 
-fn function(alloc: Global, of: u32) -> Result<FunDef, AllocError> {
-    let vars = vec![in alloc;
-        VarDef {
-            name: NAME,
-            pos: PLACE,
-            of,
-            simple: false
-        },
-    ]?;
+fn function(alloc: Global) -> Result<FunDef, AllocError> {
+    let local = VarDef {
+        name: NAME,
+        pos: PLACE,
+        of: 1,
+        simple: false,
+    };
+    let vars = vec![in alloc; local]?;
     Ok(FunDef {
         name: NAME,
         pos: PLACE,
         of: 0,
-        params: Sequence::from_vec(Vec::new(alloc)),
+        params: none(alloc),
         vars: Sequence::from_vec(vars),
         body: 0,
     })
 }
 
-// A program whose globals are arrays of these lengths, with one literal, and with one function that has an array of `local` bytes.
-fn program(alloc: Global, lengths: &[u64], local: u64) -> Result<Typed, AllocError>
-    ensures { IfOk result (λ p. length p.funs ≡ 1) }
+fn functions(rt: &impl Abort, alloc: Global) -> Vec<FunDef>
+    ensures { length result.items ≡ 1 }
 {
+    match vec![in alloc; got(rt, function(alloc))] {
+        Ok(functions) => functions,
+        Err(_) => panic!(rt; "no memory"),
+    }
+}
+
+// `unsigned char`, and arrays of it: of `local` bytes, and of these lengths.
+fn types(alloc: Global, lengths: &[u64], local: u64) -> Result<Vec<CType>, AllocError> {
     let mut types = vec![in alloc; CType::Int(IntKind::U8, 0), CType::Array(0, local)]?;
-    let mut globals = Vec::new(alloc);
-    for (of, length) in (2..).zip(lengths) {
+    for length in lengths {
         types.push(CType::Array(0, *length))?;
+    }
+    Ok(types)
+}
+
+fn globals(alloc: Global, lengths: &[u64]) -> Result<Vec<GlobalDef>, AllocError> {
+    let mut globals = Vec::new(alloc);
+    for (of, _) in (2..).zip(lengths) {
         globals.push(global(alloc, of))?;
     }
+    Ok(globals)
+}
+
+fn literals(alloc: Global) -> Result<Vec<Literal>, AllocError> {
+    let bytes = vec![in alloc; 97, 0]?;
     let literal = Literal {
         pos: PLACE,
-        bytes: Sequence::from_vec(vec![in alloc; 97, 0]?),
+        bytes: Sequence::from_vec(bytes),
     };
-    Ok(Typed {
-        types: Sequence::from_vec(types),
-        globals: Sequence::from_vec(globals),
-        literals: Sequence::from_vec(vec![in alloc; literal]?),
-        funs: Sequence::from_vec(vec![in alloc; function(alloc, 1)?]?),
-        exprs: Sequence::from_vec(Vec::new(alloc)),
-        stmts: Sequence::from_vec(Vec::new(alloc)),
+    Ok(vec![in alloc; literal]?)
+}
+
+// A program whose globals are arrays of these lengths, with one literal, and with one function that has an array of `local` bytes.
+fn program(rt: &impl Abort, alloc: Global, lengths: &[u64], local: u64) -> Typed
+    ensures { length result.funs ≡ 1 }
+{
+    Typed {
+        types: Sequence::from_vec(got(rt, types(alloc, lengths, local))),
+        globals: Sequence::from_vec(got(rt, globals(alloc, lengths))),
+        literals: Sequence::from_vec(got(rt, literals(alloc))),
+        funs: Sequence::from_vec(functions(rt, alloc)),
+        exprs: none(alloc),
+        stmts: none(alloc),
         main: 0,
-    })
+    }
 }
 
 fn frames(alloc: Global) -> Result<Vec<Frame>, AllocError> {
-    let slots = vec![in alloc;
-        Slot {
-            var: 0,
-            at: 16,
-            length: 4104
-        },
-    ]?;
-    Ok(vec![in alloc;
-        Frame {
-            size: 4128,
-            align: 16,
-            slots: Sequence::from_vec(slots),
-            saved: 16
-        },
-    ]?)
+    let slot = Slot {
+        var: 0,
+        at: 16,
+        length: 4104,
+    };
+    let slots = vec![in alloc; slot]?;
+    let frame = Frame {
+        size: 4128,
+        align: 16,
+        slots: Sequence::from_vec(slots),
+        saved: 16,
+    };
+    Ok(vec![in alloc; frame]?)
+}
+
+#[tactic(auto, using(cap_concentrate::proofs::Laws::owned_short))]
+fn map(rt: &impl Abort, alloc: Global, lengths: &[u64], local: u64) -> Result<Map, Refusal> {
+    let p = program(rt, alloc, lengths, local);
+    let frames = got(rt, frames(alloc));
+    match vec![in alloc; 8] {
+        Ok(entries) => place(alloc, &p, &frames, &entries, 64),
+        Err(_) => panic!(rt; "no memory"),
+    }
 }
 
 #[test]
+fn objects_stand_behind_the_table(rt: HostRuntime) {
+    let m = got(&rt, map(&rt, rt.alloc(), &[4095, 4097, 100_000], 4097));
+    let globals = [4_294_967_408, 4_294_971_504, 4_294_975_616];
+    assert!(rt; m.text == (1_073_741_824, 64));
+    assert!(rt; m.table == (4_294_967_296, 112));
+    assert!(rt; m.entries.as_slice() == &[1_073_741_832][..]);
+    assert!(rt; m.globals.as_slice() == &globals[..]);
+    assert!(rt; m.literals.as_slice() == &[4_295_075_712][..]);
+    assert!(rt; m.frames.as_slice().len() == 1);
+}
+
+// How a program with globals of these lengths and a local of that length is refused.
 #[tactic(auto, using(cap_concentrate::proofs::Laws::owned_short))]
-fn objects_stand_behind_the_table(rt: HostRuntime) -> Result<(), Fail> {
-    let alloc = rt.alloc();
-    let p = program(alloc, &[4095, 4097, 100_000], 4097)?;
-    let frames = frames(alloc)?;
-    let entries = vec![in alloc; 8]?;
-    match place(alloc, &p, &frames, &entries, 64) {
-        Err(_) => assert!(rt; false),
-        Ok(m) => {
-            assert_eq!(rt; m.text, (1_073_741_824, 64));
-            assert_eq!(rt; m.table, (4_294_967_296, 112));
-            assert_eq!(rt; m.entries.as_slice(), &[1_073_741_832][..]);
-            assert_eq!(rt;
-                m.globals.as_slice(),
-                &[4_294_967_408, 4_294_971_504, 4_294_975_616][..]
-            );
-            assert_eq!(rt; m.literals.as_slice(), &[4_295_075_712][..]);
-            assert_eq!(rt; m.frames.as_slice().len(), 1);
-        }
+fn refusal(rt: &impl Abort, alloc: Global, lengths: &[u64], local: u64) -> Option<Refusal> {
+    let p = program(rt, alloc, lengths, local);
+    let frames = got(rt, frames(alloc));
+    match vec![in alloc; 0] {
+        Ok(entries) => place(alloc, &p, &frames, &entries, 16).err(),
+        Err(_) => panic!(rt; "no memory"),
     }
-    Ok(())
+}
+
+fn wanted(fits: bool) -> Option<Refusal> {
+    if fits {
+        None
+    } else {
+        Some(Refusal::Code(141, Pos { line: 1, col: 1 }))
+    }
 }
 
 // Lengths of globals, which take exactly 67,108,864 bytes with the literal of two, and one byte more.
@@ -116,22 +156,11 @@ const GLOBALS: [([u64; 4], bool); 2] = [
 ];
 
 #[test]
-#[tactic(auto, using(cap_concentrate::proofs::Laws::owned_short))]
-fn globals_up_to_the_limit(rt: HostRuntime) -> Result<(), Fail> {
-    let alloc = rt.alloc();
+fn globals_up_to_the_limit(rt: HostRuntime) {
     for (lengths, fits) in &GLOBALS {
-        let p = program(alloc, lengths, 1)?;
-        let frames = frames(alloc)?;
-        let entries = vec![in alloc; 0]?;
-        match place(alloc, &p, &frames, &entries, 16) {
-            Ok(_) => assert!(rt; *fits),
-            Err(e) => {
-                assert!(rt; !*fits);
-                assert_eq!(rt; e, Refusal::Code(141, Pos { line: 1, col: 1 }));
-            }
-        }
+        let found = refusal(&rt, rt.alloc(), lengths, 1);
+        assert!(rt; found == wanted(*fits), "of {lengths:?}");
     }
-    Ok(())
 }
 
 // Globals of these lengths and a local of that length, and whether they are within the limit.
@@ -144,20 +173,9 @@ const LIMITS: [(u64, u64, u64, bool); 5] = [
 ];
 
 #[test]
-#[tactic(auto, using(cap_concentrate::proofs::Laws::owned_short))]
-fn the_limit_is_kept(rt: HostRuntime) -> Result<(), Fail> {
-    let alloc = rt.alloc();
+fn the_limit_is_kept(rt: HostRuntime) {
     for &(first, second, local, fits) in &LIMITS {
-        let p = program(alloc, &[first, second], local)?;
-        let frames = frames(alloc)?;
-        let entries = vec![in alloc; 0]?;
-        match place(alloc, &p, &frames, &entries, 16) {
-            Ok(_) => assert!(rt; fits),
-            Err(e) => {
-                assert!(rt; !fits);
-                assert_eq!(rt; e, Refusal::Code(141, Pos { line: 1, col: 1 }));
-            }
-        }
+        let found = refusal(&rt, rt.alloc(), &[first, second], local);
+        assert!(rt; found == wanted(fits), "of {first}, {second} and {local}");
     }
-    Ok(())
 }

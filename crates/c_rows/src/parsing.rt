@@ -1,119 +1,133 @@
 //! Files, and what the parser answers.
-ghost use Rattle.std.specs.Prelude.{◌≤◌, length};
 
 mod tables;
 
+use crate::given::got;
 use c_lex::Tokens;
 use c_parse::parse;
 use ck_base::Refusal;
-use std::alloc::Global;
+use std::alloc::{AllocError, Global};
 use std::fmt::Write;
-use std::test::Fail;
+use std::process::Abort;
 use tables::{
     ANSWERS, EXPRESSIONS, FILES, NESTED, NO_EXPRESSIONS, NO_FILES, NO_STATEMENTS, STATEMENTS,
 };
 
 // `tree`, or the code and the place of the refusal.
-fn answer(alloc: Global, text: &[u8]) -> Result<String, Fail>
-    requires { length text.now ≤ 4_194_304 }
-{
-    let mut answer = String::new(alloc);
-    match parse(alloc, Tokens::new(text)) {
-        Ok(_) => answer.push_str("tree")?,
-        Err(Refusal::Code(code, place)) => {
+fn write_answer(text: &mut String, refusal: Option<Refusal>) -> Result<(), AllocError> {
+    match refusal {
+        None => text.push_str("tree"),
+        Some(Refusal::Code(code, place)) => {
             let line = place.line;
             let col = place.col;
-            write!(answer, "{code} {line}:{col}")?;
+            write!(text, "{code} {line}:{col}")
         }
-        Err(Refusal::NoMemory) => answer.push_str("no memory")?,
+        Some(Refusal::NoMemory) => text.push_str("no memory"),
     }
-    Ok(answer)
+}
+
+fn answer(rt: &impl Abort, alloc: Global, text: &str) -> String {
+    assert!(rt; text.len() < 10_000);
+    let refusal = parse(alloc, Tokens::new(text.as_bytes())).err();
+    let mut answer = String::new(alloc);
+    got(rt, write_answer(&mut answer, refusal));
+    answer
+}
+
+fn write_times(text: &mut String, part: &str, times: usize) -> Result<(), AllocError> {
+    for _ in 0..times {
+        text.push_str(part)?;
+    }
+    Ok(())
 }
 
 // Texts before, so often, and behind a text.
 fn nested(
+    rt: &impl Abort,
+    alloc: Global,
+    (before, opening, times): (&str, &str, usize),
+    within: &str,
+    (closing, behind): (&str, &str),
+) -> String {
+    let mut text = String::new(alloc);
+    got(rt, text.push_str(before));
+    got(rt, write_times(&mut text, opening, times));
+    got(rt, text.push_str(within));
+    got(rt, write_times(&mut text, closing, times));
+    got(rt, text.push_str(behind));
+    text
+}
+
+#[test]
+fn answers_files(rt: HostRuntime) {
+    for &(text, want) in &ANSWERS {
+        let answer = answer(&rt, rt.alloc(), text);
+        assert!(rt; answer.as_str().starts_with(want), "{answer} of {text:?}");
+    }
+}
+
+// Each of the texts, between two others, has this answer.
+fn have_answer(
+    rt: &impl Abort,
     alloc: Global,
     before: &str,
-    opening: &str,
-    times: usize,
-    within: &str,
-    closing: &str,
+    texts: &[&str],
     behind: &str,
-) -> Result<String, Fail> {
-    let mut text = String::new(alloc);
-    text.push_str(before)?;
-    for _ in 0..times {
-        text.push_str(opening)?;
+    want: &str,
+) {
+    for &text in texts {
+        let file = nested(rt, alloc, (before, "", 0), text, ("", behind));
+        let answer = answer(rt, alloc, file.as_str());
+        assert!(rt; answer.as_str().starts_with(want), "{answer} of {file:?}");
     }
-    text.push_str(within)?;
-    for _ in 0..times {
-        text.push_str(closing)?;
-    }
-    text.push_str(behind)?;
-    Ok(text)
 }
 
 #[test]
-fn answers_files(rt: HostRuntime) -> Result<(), Fail> {
-    let mut wrong = String::new(rt.alloc());
-    for &(text, want) in &ANSWERS {
-        assert!(rt; text.len() < 1000);
-        let got = answer(rt.alloc(), text.as_bytes())?;
-        if !got.as_str().starts_with(want) {
-            write!(wrong, "{got} of {text:?}, ")?;
-        }
-    }
-    assert_eq!(rt; wrong.as_str(), "");
-    Ok(())
-}
-
-#[test]
-fn reads_each_production(rt: HostRuntime) -> Result<(), Fail> {
+fn reads_each_production(rt: HostRuntime) {
     let lists = [
-        ("", FILES.as_slice(), "", true),
-        ("", NO_FILES.as_slice(), "", false),
-        ("int f(void) { ", STATEMENTS.as_slice(), " }", true),
-        ("int f(void) { ", NO_STATEMENTS.as_slice(), " }", false),
-        ("int x = ", EXPRESSIONS.as_slice(), ";", true),
-        ("int x = ", NO_EXPRESSIONS.as_slice(), ";", false),
+        ("", FILES.as_slice(), "", "tree"),
+        ("", NO_FILES.as_slice(), "", "120"),
+        ("int f(void) { ", STATEMENTS.as_slice(), " }", "tree"),
+        ("int f(void) { ", NO_STATEMENTS.as_slice(), " }", "120"),
+        ("int x = ", EXPRESSIONS.as_slice(), ";", "tree"),
+        ("int x = ", NO_EXPRESSIONS.as_slice(), ";", "120"),
     ];
-    let mut wrong = String::new(rt.alloc());
-    for &(before, texts, behind, has_tree) in &lists {
-        for &text in texts {
-            let file = nested(rt.alloc(), before, "", 0, text, "", behind)?;
-            assert!(rt; file.len() < 1000);
-            let got = answer(rt.alloc(), file.as_str().as_bytes())?;
-            let want = if has_tree { "tree" } else { "120" };
-            if !got.as_str().starts_with(want) {
-                write!(wrong, "{got} of {file:?}, ")?;
-            }
-        }
+    for &(before, texts, behind, want) in &lists {
+        have_answer(&rt, rt.alloc(), before, texts, behind, want);
     }
-    assert_eq!(rt; wrong.as_str(), "");
-    Ok(())
+}
+
+// What is before, what opens and how often; what is within; what closes and what is behind; and the answer.
+type Nested<'a> = (
+    (&'a str, &'a str, usize),
+    &'a str,
+    (&'a str, &'a str),
+    &'a str,
+);
+
+fn measures(rt: &impl Abort, alloc: Global, &(opened, within, closed, want): &Nested) {
+    let file = nested(rt, alloc, opened, within, closed);
+    let answer = answer(rt, alloc, file.as_str());
+    let (_, opening, times) = opened;
+    assert!(rt;
+        answer.as_str().starts_with(want),
+        "{answer} of {times} times {opening}"
+    );
 }
 
 #[test]
-fn measures_depth(rt: HostRuntime) -> Result<(), Fail> {
-    let mut wrong = String::new(rt.alloc());
-    for &((before, opening, times), within, (closing, behind), want) in &NESTED {
-        let file = nested(rt.alloc(), before, opening, times, within, closing, behind)?;
-        assert!(rt; file.len() < 10_000);
-        let got = answer(rt.alloc(), file.as_str().as_bytes())?;
-        if !got.as_str().starts_with(want) {
-            write!(wrong, "{got} of {times} times {opening}, ")?;
-        }
+fn measures_depth(rt: HostRuntime) {
+    for row in &NESTED {
+        measures(&rt, rt.alloc(), row);
     }
-    assert_eq!(rt; wrong.as_str(), "");
-    Ok(())
+}
+
+fn node_count(alloc: Global, text: &[u8; 6]) -> Result<usize, Refusal> {
+    Ok(parse(alloc, Tokens::new(text))?.nodes.as_slice().len())
 }
 
 #[test]
-fn makes_nodes(rt: HostRuntime) -> Result<(), Fail> {
+fn makes_nodes(rt: HostRuntime) {
     // File, Declaration, Specifiers, Specifier, InitDeclarator, DeclaredName
-    match parse(rt.alloc(), Tokens::new(b"int x;")) {
-        Ok(tree) => assert_eq!(rt; tree.nodes.as_slice().len(), 6),
-        Err(refusal) => panic!(rt; "{refusal:?}"),
-    }
-    Ok(())
+    assert!(rt; node_count(rt.alloc(), b"int x;") == Ok(6));
 }

@@ -4,21 +4,21 @@ ghost use Rattle.std.specs.Prelude.{◌≤◌, length};
 
 mod tables;
 
+use crate::given::got;
 use c_lex::*;
-use ck_base::Pos;
-use std::alloc::Global;
+use ck_base::{NoMemory, Pos};
+use std::alloc::{AllocError, Global};
 use std::fmt::Write;
-use std::test::Fail;
+use std::process::Abort;
 use tables::{
     CHARACTERS, INTEGERS, LEFT_OUT, NO_CHARACTERS, NO_INTEGERS, PUNCTUATORS, READINGS, REFUSALS,
     STRINGS, WORDS,
 };
 
 // The tokens of a file, each with its kind, its position and its text, and how the file ends: `end`, or a code and its position.
-fn listing(alloc: Global, file: &[u8]) -> Result<String, Fail>
+fn list(listing: &mut String, file: &[u8]) -> Result<(), AllocError>
     requires { length file.now ≤ 4_194_304 }
 {
-    let mut text = String::new(alloc);
     let mut tokens = Tokens::new(file);
     while let Some(next) = tokens.next() {
         match next {
@@ -27,50 +27,52 @@ fn listing(alloc: Global, file: &[u8]) -> Result<String, Fail>
                 let line = token.pos.line;
                 let col = token.pos.col;
                 let spelling = str::from_utf8(token.text).unwrap_or("?");
-                write!(text, "{kind:?} {line}:{col} {spelling}, ")?;
+                write!(listing, "{kind:?} {line}:{col} {spelling}, ")?;
             }
             Err((code, pos)) => {
                 let line = pos.line;
                 let col = pos.col;
-                write!(text, "{code} {line}:{col}")?;
-                return Ok(text);
+                return write!(listing, "{code} {line}:{col}");
             }
         }
     }
-    text.push_str("end")?;
-    Ok(text)
+    listing.push_str("end")
+}
+
+fn listing(rt: &impl Abort, alloc: Global, file: &str) -> String {
+    assert!(rt; file.len() < 100);
+    let mut listing = String::new(alloc);
+    got(rt, list(&mut listing, file.as_bytes()));
+    listing
 }
 
 #[test]
-fn reads_tokens(rt: HostRuntime) -> Result<(), Fail> {
+fn reads_tokens(rt: HostRuntime) {
     for &(file, want) in &READINGS {
-        assert!(rt; file.len() < 100);
-        let got = listing(rt.alloc(), file.as_bytes())?;
-        assert_eq!(rt; got.as_str(), want, "of {file:?}");
+        let found = listing(&rt, rt.alloc(), file);
+        assert!(rt; found.as_str() == want, "{found} of {file:?}");
     }
-    Ok(())
+}
+
+// A text is one token of this kind.
+fn is_one_token(rt: &impl Abort, alloc: Global, kind: &str, text: &str) {
+    let found = listing(rt, alloc, text);
+    let want = got(rt, format!(in alloc; "{kind} 1:1 {text}, end"));
+    assert!(rt; found.as_str() == want.as_str(), "{found}");
 }
 
 #[test]
-fn reads_tables(rt: HostRuntime) -> Result<(), Fail> {
+fn reads_tables(rt: HostRuntime) {
     for &text in &PUNCTUATORS {
-        assert!(rt; text.len() < 100);
-        let got = listing(rt.alloc(), text.as_bytes())?;
-        let want = format!(in rt.alloc(); "Punct 1:1 {text}, end")?;
-        assert_eq!(rt; got.as_str(), want.as_str());
+        is_one_token(&rt, rt.alloc(), "Punct", text);
     }
     for &text in &WORDS {
-        assert!(rt; text.len() < 100);
-        let got = listing(rt.alloc(), text.as_bytes())?;
-        let want = format!(in rt.alloc(); "Word 1:1 {text}, end")?;
-        assert_eq!(rt; got.as_str(), want.as_str());
+        is_one_token(&rt, rt.alloc(), "Word", text);
     }
     for &text in &LEFT_OUT {
-        assert!(rt; text.len() < 100);
-        let got = listing(rt.alloc(), text.as_bytes())?;
-        assert_eq!(rt; got.as_str(), "103 1:1", "of {text}");
+        let found = listing(&rt, rt.alloc(), text);
+        assert!(rt; found.as_str() == "103 1:1", "{found} of {text}");
     }
-    Ok(())
 }
 
 // The code and the position with which a file is refused.
@@ -86,11 +88,14 @@ fn refusal_of(file: &[u8]) -> Option<(u16, u32, u32)>
     None
 }
 
+fn is_refused(&(file, code, line, col): &(&[u8], u16, u32, u32)) -> bool {
+    file.len() < 100 && refusal_of(file) == Some((code, line, col))
+}
+
 #[test]
 fn refuses(rt: HostRuntime) {
-    for &(file, code, line, col) in &REFUSALS {
-        assert!(rt; file.len() < 100);
-        assert_eq!(rt; refusal_of(file), Some((code, line, col)), "of {file:?}");
+    for row in &REFUSALS {
+        assert!(rt; is_refused(row), "{row:?}");
     }
 }
 
@@ -107,44 +112,55 @@ fn repeats_a_refusal(rt: HostRuntime) {
     }
 }
 
+fn is_integer(&(text, value, unsigned, longs, decimal): &(&str, u64, bool, u8, bool)) -> bool {
+    let wanted = Integer {
+        value,
+        unsigned,
+        longs,
+        decimal,
+    };
+    integer_of(text.as_bytes()) == Some(wanted)
+}
+
 #[test]
 fn values_integers(rt: HostRuntime) {
-    // The text, and its value, whether it is unsigned, how many longs it has and whether it is decimal.
-    for &(text, value, unsigned, longs, decimal) in &INTEGERS {
-        let want = Integer {
-            value,
-            unsigned,
-            longs,
-            decimal,
-        };
-        assert_eq!(rt; integer_of(text.as_bytes()), Some(want), "of {text}");
+    for row in &INTEGERS {
+        assert!(rt; is_integer(row), "{row:?}");
     }
     for &text in &NO_INTEGERS {
-        assert_eq!(rt; integer_of(text.as_bytes()), None, "of {text}");
+        assert!(rt; integer_of(text.as_bytes()).is_none(), "of {text}");
     }
 }
 
 #[test]
 fn values_characters(rt: HostRuntime) {
     for &(text, value) in &CHARACTERS {
-        assert_eq!(rt; char_of(text), Some(value), "of {text:?}");
+        assert!(rt; char_of(text) == Some(value), "of {text:?}");
     }
     for &text in &NO_CHARACTERS {
-        assert_eq!(rt; char_of(text), None, "of {text:?}");
+        assert!(rt; char_of(text).is_none(), "of {text:?}");
+    }
+}
+
+// The bytes that a string literal spells are put behind others, if it is one.
+fn spell(text: &[u8], bytes: &mut Vec<u8>) -> Result<bool, NoMemory> {
+    if text.len() >= 100 {
+        return Ok(false);
+    }
+    match Tokens::new(text).next() {
+        Some(Ok(token)) if token.kind == TokenKind::Text => {
+            unescape(token.text, bytes)?;
+            Ok(true)
+        }
+        _ => Ok(false),
     }
 }
 
 #[test]
-fn values_strings(rt: HostRuntime) -> Result<(), Fail> {
+fn values_strings(rt: HostRuntime) {
     for &(text, want) in &STRINGS {
-        let mut bytes = Vec::from_slice(rt.alloc(), b">".as_slice())?;
-        assert!(rt; text.len() < 100);
-        let mut tokens = Tokens::new(text);
-        if let Some(Ok(token)) = tokens.next() {
-            assert!(rt; token.kind == TokenKind::Text);
-            unescape(token.text, &mut bytes)?;
-        }
-        assert_eq!(rt; bytes.as_slice(), want, "of {text:?}");
+        let mut bytes = got(&rt, Vec::from_slice(rt.alloc(), b">".as_slice()));
+        assert!(rt; got(&rt, spell(text, &mut bytes)), "of {text:?}");
+        assert!(rt; bytes.as_slice() == want, "of {text:?}");
     }
-    Ok(())
 }

@@ -1,7 +1,7 @@
 //! Texts, and whether C's grammar has a tree for them (C11 6.5 to 6.9, without declarations of parameters by old style lists and without implicit `int`).
 
 /// Files with `tree`, or the code of their refusal and mostly its place.
-pub(super) const ANSWERS: [(&str, &str); 34] = [
+pub(super) static ANSWERS: [(&str, &str); 34] = [
     // tokens before brackets, brackets before trees
     ("int main(void){return 0;}@", "100 1:26"),
     ("int main(void){return 0;}/*", "101 1:26"),
@@ -64,7 +64,7 @@ pub(super) const ANSWERS: [(&str, &str); 34] = [
 ];
 
 /// Files that have a tree, by production.
-pub(super) const FILES: [&str; 41] = [
+pub(super) static FILES: [&str; 41] = [
     // file, external
     "",
     ";;",
@@ -122,7 +122,7 @@ pub(super) const FILES: [&str; 41] = [
 ];
 
 /// Files that have none.
-pub(super) const NO_FILES: [&str; 44] = [
+pub(super) static NO_FILES: [&str; 44] = [
     // file, external
     "}",
     "int f(void) { };}",
@@ -178,7 +178,7 @@ pub(super) const NO_FILES: [&str; 44] = [
 ];
 
 /// What stands in a function and has a tree.
-pub(super) const STATEMENTS: [&str; 22] = [
+pub(super) static STATEMENTS: [&str; 22] = [
     "; {} { ; }",
     "x; x, y; f(x);",
     "if (a) b;",
@@ -204,7 +204,7 @@ pub(super) const STATEMENTS: [&str; 22] = [
 ];
 
 /// What stands in a function and has none.
-pub(super) const NO_STATEMENTS: [&str; 30] = [
+pub(super) static NO_STATEMENTS: [&str; 30] = [
     "x",
     "x y;",
     ") ;",
@@ -238,7 +238,7 @@ pub(super) const NO_STATEMENTS: [&str; 30] = [
 ];
 
 /// Initial values that have a tree.
-pub(super) const EXPRESSIONS: [&str; 32] = [
+pub(super) static EXPRESSIONS: [&str; 32] = [
     // primary
     "a",
     "((1))",
@@ -281,7 +281,7 @@ pub(super) const EXPRESSIONS: [&str; 32] = [
 ];
 
 /// Initial values that have none.
-pub(super) const NO_EXPRESSIONS: [&str; 40] = [
+pub(super) static NO_EXPRESSIONS: [&str; 40] = [
     // primary
     "",
     "()",
@@ -333,7 +333,7 @@ pub(super) const NO_EXPRESSIONS: [&str; 40] = [
 
 /// A text, one that comes so often, what stands in the middle, and what closes it as often; and the answer. A function, its block, a
 /// statement and what is innermost count four levels.
-pub(super) const NESTED: [((&str, &str, usize), &str, (&str, &str), &str); 22] = [
+pub(super) static NESTED: [((&str, &str, usize), &str, (&str, &str), &str); 22] = [
     (
         ("int main(void){return ", "(", 200),
         "1",
