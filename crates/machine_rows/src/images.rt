@@ -212,7 +212,7 @@ fn writes_and_reads_an_image(rt: HostRuntime) -> Result<(), Fail> {
     Ok(())
 }
 
-/// The refusal of the file with another byte at a place, is this one, or none.
+/// Whether the file with another byte at a place is refused so, or read where no refusal is wanted.
 fn is_refused_with(
     file: &[u8],
     alloc: Global,
