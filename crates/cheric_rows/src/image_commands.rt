@@ -38,21 +38,32 @@ fn has(alloc: Global, files: &mut SureFiles, name: &str, bytes: &[u8]) -> Result
     Ok(got.as_slice() == bytes)
 }
 
-/// Lines on built files, with what they say.
-const LINES: [(&str, Answer); 5] = [
-    ("cheric exec a.c.elf", RAN),
-    ("cheric exec b", RAN),
-    ("cheric exec a.c.elf --steps 99999", RAN),
+/// The answer that the limit of steps was reached.
+const STOPPED: Answer = Answer {
+    status: 4,
+    put: "",
+    line: "steps\n",
+};
+
+/// Lines on built files, with the failing calls of the output and the notes, and what they say.
+const LINES: [(&str, [u64; 2], Answer); 7] = [
+    ("cheric exec a.c.elf", [0, 0], RAN),
+    ("cheric exec b", [0, 0], RAN),
+    ("cheric exec a.c.elf --steps 99999", [0, 0], RAN),
+    ("cheric exec a.c.elf --steps 0", [0, 0], STOPPED),
+    ("cheric exec a.c.elf --steps 1", [0, 0], STOPPED),
     (
-        "cheric exec a.c.elf --steps 1",
+        "cheric exec a.c.elf",
+        [2, 0],
         Answer {
-            status: 4,
-            put: "",
-            line: "steps\n",
+            status: 22,
+            put: "H",
+            line: "output\n",
         },
     ),
     (
         "cheric exec a.c",
+        [0, 0],
         Answer {
             status: 12,
             put: "",
@@ -72,8 +83,8 @@ fn answered_otherwise(
             return Ok(Some(words));
         }
     }
-    for &(words, answer) in &LINES {
-        if !answers(alloc, files, words, [0; 2], answer)? {
+    for &(words, failing, answer) in &LINES {
+        if !answers(alloc, files, words, failing, answer)? {
             return Ok(Some(words));
         }
     }
