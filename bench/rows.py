@@ -2,9 +2,12 @@
 """bench/rows.py: runs small files by `./cheric`, over real files and streams, and compares output, line and status with what the rules
 of docs/ give. Its last line counts the rows. It needs what ./cheric needs. It proves nothing and is no part of the gate."""
 import os
+import resource
+import signal
 import subprocess
 import sys
 import tempfile
+import tty
 
 ROOT = os.path.dirname(os.path.dirname(os.path.abspath(__file__)))
 CHERIC = f"{ROOT}/cheric"
@@ -83,6 +86,31 @@ class Rows:
             self.wrong += 1
             print(f"cheric {' '.join(words)}: {got}, and not {(output, line, status)}")
 
+    def row_of_one_byte(self, words, output, line, status):
+        """The same, where the output takes one byte and fails from the second on."""
+
+        def limited():
+            signal.signal(signal.SIGXFSZ, signal.SIG_IGN)
+            resource.setrlimit(resource.RLIMIT_FSIZE, (1, 1))
+
+        with open(f"{self.folder}/output", "wb") as out:
+            run = subprocess.run([CHERIC, *words], cwd=self.folder, stdin=subprocess.DEVNULL, stdout=out, stderr=subprocess.PIPE,
+                                 preexec_fn=limited)
+        got = (self.read("output").decode("latin-1"), run.stderr.decode(), run.returncode)
+        os.remove(f"{self.folder}/output")
+        self.holds(f"cheric {' '.join(words)}: {got}", got == (output, line + "\n", status))
+
+    def row_of_a_broken_input(self, words, output, line, status):
+        """The same, on an input of the byte `a` whose next read fails: a terminal whose other end was closed."""
+        near, far = os.openpty()
+        tty.setraw(far)
+        os.write(far, b"a")
+        os.close(far)
+        run = subprocess.run([CHERIC, *words], cwd=self.folder, stdin=near, stdout=subprocess.PIPE, stderr=subprocess.PIPE)
+        os.close(near)
+        got = (run.stdout.decode("latin-1"), run.stderr.decode(), run.returncode)
+        self.holds(f"cheric {' '.join(words)}: {got}", got == (output, line + "\n", status))
+
     def holds(self, what, is_so):
         self.count += 1
         if not is_so:
@@ -100,6 +128,9 @@ def run_rows(rows):
     rows.row(["run", "loop.c", "--steps", "1000"], "", "steps", 4)
     with open("/dev/full", "wb") as full:
         rows.row(["run", "a.c"], "", "output", 22, out=full)
+    rows.row_of_one_byte(["run", "a.c"], "H", "output", 22)
+    rows.write("echo.c", ECHO)
+    rows.row_of_a_broken_input(["run", "echo.c"], "a", "input", 21)
     rows.row(["run", "none.c"], "", "file", 20)
 
 
@@ -118,6 +149,7 @@ def image_rows(rows):
     rows.holds("a.c.elf differs from a.elf", rows.read("a.c.elf") == elf)
     rows.row(["exec", "a.elf"], "Hi", "exit 0", 0)
     rows.row(["exec", "a.elf", "--steps", "0"], "", "steps", 4)
+    rows.row_of_one_byte(["exec", "a.elf"], "H", "output", 22)
     rows.row(["exec", "a.c"], "", "image 1", 12)
     for cut, number in [(elf[:-1], 5), (elf[:63], 1)]:
         rows.write("cut.elf", cut)
