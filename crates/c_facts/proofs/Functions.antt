@@ -1,6 +1,6 @@
 -- Function definitions and the declarations of a file (C11 6.9).
 use Rattle.std.proofs.Common.{◌≡◌, ℕ, zero, suc, ◌<◌, Bool, true, false, List, [], ◌∷◌, length, Option, Some, None, Ok, refl, sym, ap, subst, ◌∙◌, ⊎_elim, arith}
-use Rattle.std.specs.Prelude.{slice_get, map, option_map, not, ◌||◌}
+use Rattle.std.specs.Prelude.{slice_get, map, option_map, not, ◌||◌, if◌then◌else◌}
 use Rattle.std.proofs.lemmas.Bool.{false≢true, or_parts, eqb-true, eq-eqb}
 use Rattle.std.proofs.lemmas.Option.{none-some, same_Some, slice_get-map}
 use Rattle.ck_base.specs.Tokens.{Lexeme}
@@ -14,7 +14,7 @@ use Rattle.c_tree.specs.Scopes.{Entity, Local, Static, Routine, Alias, Enumerato
 use Rattle.c_tree.specs.Scopes as scopes
 use Rattle.c_tree.specs.Readings.{Specified, Param, Prototype, Wrap, Point, Row, Gives, Derived, Context, Items, Reading}
 use Rattle.c_tree.specs.Declarators.{Formed, formed, form_on, wrap_on, plainly, judge, signature}
-use Rattle.c_tree.specs.Declarations.{is_open, declaration, function_agrees, linked_routine, file_names}
+use Rattle.c_tree.specs.Declarations.{is_open, declaration, function_agrees, object_agrees, definition_agrees, linked_routine, file_names}
 use Rattle.c_tree.specs.Statements.{block_action}
 use Rattle.c_tree.specs.Expressions.{routine_type}
 use Rattle.c_tree.specs.Programs.{own_prototype, is_typedef, is_there, parameter_local, numbers_from, given_by, params_of, body_context, define_body, define_named, function_definition, external_of}
@@ -297,21 +297,26 @@ library_refused s e name t j u i h = not_agreed u (subst (λ e. function_agrees 
     not_agreed None h = false≢true h
     not_agreed (Some v) h = false≢true (Rattle.std.proofs.lemmas.Bool.and_parts (Rattle.c_tree.specs.Types.compatible v t) false h).1
 
+as_function : (s : State) (e : Option Entity) (name : List ℕ) (t : Ty) → is_function t ≡ true → definition_agrees s e name t ≡ true → function_agrees s e name t true ≡ true
+as_function s e name t f a = sym (ap (λ b. if b then function_agrees s e name t true else object_agrees s e name t true) f) ∙ a
+
 define_named_ok : (p : Specified) (d : Derived) (name : Option Lexeme) (block : Syn) (r : Reading) (s : State) → TypeOk s.tags p.of → AllWraps s.tags d.wraps → ReadsBody r → Outside s → (x : Unit × State) → define_named p d name block r s ≡ Ok x → Outside x.1
 define_named_ok p d None block r s h k g o x e = refused _ x e
 define_named_ok p d (Some t) block r s h k g o x e =
     let F = formed s p.of d.wraps in
     let en = find_in (innermost s.scopes).names t.text in
     let pr = own_prototype d.wraps in
-    let misfits = is_typedef p.storage || not (is_there pr) in
-    let y = first_then ((need (function_agrees s en t.text F.of true) 131 t.pos >> judge F false misfits t.pos >> linked_routine t F.of en) s) (λ k. look >>= λ now. define_body k t (routine_type (slice_get now.routines k)) pr block r) x e in
-    let c = checked (function_agrees s en t.text F.of true) t.pos F false misfits (linked_routine t F.of en) s y.0 y.1 in
-    let there = there_is pr (not_lacking (is_there pr) (or_parts (is_typedef p.storage) (not (is_there pr)) c.1.fits).1) in
+    let misfits = is_typedef p.storage || (not (is_function F.of) || not (is_there pr)) in
+    let y = first_then ((need (definition_agrees s en t.text F.of) 131 t.pos >> judge F false misfits t.pos >> linked_routine t F.of en) s) (λ k. look >>= λ now. define_body k t (routine_type (slice_get now.routines k)) pr block r) x e in
+    let c = checked (definition_agrees s en t.text F.of) t.pos F false misfits (linked_routine t F.of en) s y.0 y.1 in
+    let fits = or_parts (not (is_function F.of)) (not (is_there pr)) (or_parts (is_typedef p.storage) (not (is_function F.of) || not (is_there pr)) c.1.fits).1 in
+    let there = there_is pr (not_lacking (is_there pr) fits.1) in
+    let agrees : function_agrees s en t.text F.of true ≡ true = as_function s en t.text F.of (not_lacking (is_function F.of) fits.0) c.0 in
     let ok = formed_ok s p.of d.wraps k c.1.passes h in
     let ty = formed_own s p.of d.wraps there.0 there.1 in
-    let l = linked_routine_ok t F.of en true s c.0 ok (ap is_function ty.1) o.inv o.strict y.0 c.2 in
+    let l = linked_routine_ok t F.of en true s agrees ok (ap is_function ty.1) o.inv o.strict y.0 c.2 in
     let q = y.0.1 in let n = y.0.0 in
-    let rt = l.post.there (λ j u w. library_refused s en t.text F.of j u w c.0) in
+    let rt = l.post.there (λ j u w. library_refused s en t.text F.of j u w agrees) in
     let now = subst (λ z. define_body n t (routine_type (slice_get q.routines n)) z block r q ≡ Ok x) there.1 y.2 in
     let u = routine_type (slice_get q.routines n) in
     let is : u ≡ rt.0.of = ap routine_type rt.1 in

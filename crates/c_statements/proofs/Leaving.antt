@@ -8,7 +8,7 @@ use Rattle.c_tree.specs.Types.{Ty, is_function}
 use Rattle.c_tree.specs.Scopes.{Entity, Static, Routine, Local, Alias, Library, Enumerator, Aiming, StaticState, RoutineState, LocalState, Body, State, Fault, Doing, give, need, look, change, continued, ◌>>=◌, ◌>>◌, find_in, innermost, at_file_scope, bind_name, change_static, change_routine, is_complete}
 use Rattle.c_tree.specs.Readings.{Storage, Plain, Internal, External, Defining_type}
 use Rattle.c_tree.specs.Declarators.{Formed, judge, is_new}
-use Rattle.c_tree.specs.Declarations.{linked, named_function, object_agrees, function_agrees, alias_agrees, new_static, known_static, linked_static, new_routine, known_routine, linked_routine, new_local, is_external}
+use Rattle.c_tree.specs.Declarations.{linked, named_function, object_agrees, definition_agrees, alias_agrees, new_static, known_static, linked_static, new_routine, known_routine, linked_routine, new_local, is_external}
 use Rattle.c_tree.specs.Programs.{is_typedef}
 use Rattle.c_types.specs.Declares.{declares_alias, declares_function, declares_definition, declares_global, declares_external, declares_internal, declares_local, declares_in_block, declares_object, declares_named, denoted, may_wait, is_ready}
 use Rattle.c_types.specs.Naming.{begins}
@@ -201,8 +201,8 @@ pub definition_leaves : (st : Storage) (t : Lexeme) (f : Formed) (s : State) (k 
 definition_leaves st t f s k u e =
     let o = find_in (innermost s.scopes).names t.text in
     holds_at (λ (k : ℕ) u. Begins s u) (declares_definition st t f s) k u e
-    (after (need (function_agrees s o t.text f.of true) 131 t.pos >> judge f false (is_typedef st) t.pos >> linked_routine t f.of o)
-    (holds_admitted (Leaves s) (function_agrees s o t.text f.of true) f false (is_typedef st) t.pos (linked_routine t f.of o) s (λ p q. left_function t f.of o s)))
+    (after (need (definition_agrees s o t.text f.of) 131 t.pos >> judge f false (is_typedef st || not (is_function f.of)) t.pos >> linked_routine t f.of o)
+    (holds_admitted (Leaves s) (definition_agrees s o t.text f.of) f false (is_typedef st || not (is_function f.of)) t.pos (linked_routine t f.of o) s (λ p q. left_function t f.of o s)))
   where
     after : (d : Doing ℕ) → Holds (Leaves s) (d s) → Holds (λ (k : ℕ) u. Begins s u) ((d >>= begins t) s)
     after d h = begun t s (d s) h

@@ -1,13 +1,14 @@
 -- A declaration is what it does before its initializer, and then what its name denotes is initialised.
 use Rattle.std.proofs.Common.{◌≡◌, ℕ, Bool, true, false, List, [], ◌∷◌, ◌++◌, length, Option, Some, None, Result, Ok, Err, refl, sym, ap, subst, ◌∙◌}
 use Rattle.std.specs.Prelude.{not, ◌||◌, ◌&&◌, if◌then◌else◌, bytes_eq}
+use Rattle.std.proofs.lemmas.Bool.{or_parts}
 use Rattle.ck_base.specs.Tokens.{Lexeme}
 use Rattle.c_tree.specs.Types.{Ty, compatible, composite, is_function}
 use Rattle.c_tree.specs.Readings as meant
 use Rattle.c_tree.specs.Readings.{Storage, Plain, Internal, External, Defining_type}
 use Rattle.c_tree.specs.Scopes.{Entity, Static, Routine, Local, Alias, Library, Enumerator, Named, Scope, State, Fault, Doing, give, need, look, change, continued, ◌>>=◌, ◌>>◌, find_in, innermost, in_innermost, at_file_scope, bind_name, change_static, change_routine}
 use Rattle.c_tree.specs.Declarators.{Formed, judge, is_new}
-use Rattle.c_tree.specs.Declarations.{Behind, has_any, no_items, init_static, init_local, linked, named_function, object_agrees, function_agrees, alias_agrees, agrees_library, new_static, known_static, linked_static, new_routine, known_routine, linked_routine, new_local, is_external, declare_alias, declare_function, declare_global, declare_external, declare_internal, declare_local, declare_in_block, declare_object, declare}
+use Rattle.c_tree.specs.Declarations.{Behind, has_any, no_items, init_static, init_local, linked, named_function, object_agrees, function_agrees, definition_agrees, alias_agrees, agrees_library, new_static, known_static, linked_static, new_routine, known_routine, linked_routine, new_local, is_external, declare_alias, declare_function, declare_global, declare_external, declare_internal, declare_local, declare_in_block, declare_object, declare}
 use Rattle.c_tree.specs.Programs.{is_typedef}
 use Rattle.c_types.specs.Declares.{declares_alias, declares_function, declares_definition, declares_global, declares_external, declares_internal, declares_local, declares_in_block, declares_object, declares_named, denoted}
 use Rattle.c_types.specs.Naming.{begins}
@@ -180,12 +181,20 @@ definition_next t of (Some (Static k)) s i g = absurd cc
 definition_next t of (Some (Alias v)) s i g = absurd cc
 definition_next t of (Some (Enumerator z)) s i g = absurd cc
 
+-- what is no function misfits, so what is admitted agrees as one
+as_function : (s : State) (o : Option Entity) (name : List ℕ) (of : Ty) (m : Bool) → definition_agrees s o name of ≡ true → (m || not (is_function of)) ≡ false → function_agrees s o name of true ≡ true
+as_function s o name of m p q = by_form (is_function of) p (or_parts m (not (is_function of)) q).1
+  where
+    by_form : (b : Bool) → (if b then function_agrees s o name of true else object_agrees s o name of true) ≡ true → not b ≡ false → function_agrees s o name of true ≡ true
+    by_form true p q = p
+    by_form false p q = cc
+
 pub definition_number : (st : Storage) (t : Lexeme) (f : Formed) (s : State) (k : ℕ) (u : State) → declares_definition st t f s ≡ Ok (k, u) → (e : Entity) → find_in (innermost u.scopes).names t.text ≡ Some e → e ≡ Routine k
 definition_number st t f s k u q =
     let o = find_in (innermost s.scopes).names t.text in
     holds_at (Numbered t.text) (declares_definition st t f s) k u q
-    (after ((need (function_agrees s o t.text f.of true) 131 t.pos >> judge f false (is_typedef st) t.pos >> linked_routine t f.of o) s)
-    (holds_admitted (Numbered t.text) (function_agrees s o t.text f.of true) f false (is_typedef st) t.pos (linked_routine t f.of o) s (λ p q. definition_next t f.of o s refl p)))
+    (after ((need (definition_agrees s o t.text f.of) 131 t.pos >> judge f false (is_typedef st || not (is_function f.of)) t.pos >> linked_routine t f.of o) s)
+    (holds_admitted (Numbered t.text) (definition_agrees s o t.text f.of) f false (is_typedef st || not (is_function f.of)) t.pos (linked_routine t f.of o) s (λ p q. definition_next t f.of o s refl (as_function s o t.text f.of (is_typedef st) p q))))
   where
     after : (r : Result (ℕ × State) Fault) → Holds (Numbered t.text) r → Holds (Numbered t.text) (continued r (begins t))
     after (Ok x) h = h

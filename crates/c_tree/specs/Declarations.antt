@@ -80,6 +80,10 @@ function_agrees s (Some (Library k of)) name t defines = agrees_library of t def
 function_agrees s (Some e) name t defines = false
 function_agrees s None name t defines = not (has_number (linked s name))
 
+-- 131 of what has a body: it agrees as a function or, where its type is none, as an object
+abbrev pub definition_agrees : State → Option Entity → List ℕ → Ty → Bool
+definition_agrees s e name t = (if is_function t then function_agrees s e name t true else object_agrees s e name t true)
+
 -- 6.7p3: a typedef name may be declared again for the same type
 abbrev pub alias_agrees : Option Entity → Ty → Bool
 alias_agrees (Some (Alias u)) t = same u t

@@ -7,7 +7,7 @@ use Rattle.ck_base.specs.Tokens.{Lexeme}
 use Rattle.c_tree.specs.declared.syntax.NodeKind.{NodeKind}
 use Rattle.c_tree.specs.declared.syntax.NodeKind.TheVariants as Kinds
 use Rattle.c_tree.specs.Syntax.{Syn, Syns, node, nil, more, first_token}
-use Rattle.c_tree.specs.Types.{Ty, Function, no_types, int, bare, same, is_scalar}
+use Rattle.c_tree.specs.Types.{Ty, Function, no_types, int, bare, same, is_scalar, is_function}
 use Rattle.c_tree.specs.Terms.{Shape, Global, Fun, Term, term, Terms, no_terms, with_term, Action, action, Actions, no_actions, with_action, Pointing, Object, Variable, Routine, Tag, Program, To_global, To_literal, To_function, Aim}
 use Rattle.c_tree.specs.Scopes.{Entity, Alias, Library, Named, Part, Scope, Reach, All, Within, Aiming, Pending, StaticState, LocalState, Body, RoutineState, TagState, State, Fault, Doing, give, refuse, need, look, change, ◌>>=◌, ◌>>◌, find_in, innermost, leave, change_routine, is_complete}
 use Rattle.c_tree.specs.Libraries.{Service, services, builtin_name, signature, aliases}
@@ -16,7 +16,7 @@ use Rattle.c_tree.specs.Expressions.{expression_of, routine_type}
 use Rattle.c_tree.specs.Declarators.{specifiers, typedef_name, record_specifier, enum_specifier, enumerator, declarator_of, type_name, member_of, parameter_of, prototype_of, formed, judge}
 use Rattle.c_tree.specs.Initializers.{takes_string, string_initializer, plain_initializer, braced_initializer}
 use Rattle.c_tree.specs.Statics.{aim_length}
-use Rattle.c_tree.specs.Declarations.{declaration, init_declarator, function_agrees, linked_routine}
+use Rattle.c_tree.specs.Declarations.{declaration, init_declarator, definition_agrees, linked_routine}
 use Rattle.c_tree.specs.Statements.{all_items, block_action, case_label, statement_of}
 
 -- ---- function definitions (6.9.1)
@@ -77,8 +77,8 @@ define_named s d (Some t) block r = look >>= λ st.
     let f = formed st s.of d.wraps in
     let e = find_in (innermost st.scopes).names t.text in
     let p = own_prototype d.wraps in
-    need (function_agrees st e t.text f.of true) 131 t.pos >>
-    judge f false (is_typedef s.storage || not (is_there p)) t.pos >>
+    need (definition_agrees st e t.text f.of) 131 t.pos >>
+    judge f false (is_typedef s.storage || (not (is_function f.of) || not (is_there p))) t.pos >>
     linked_routine t f.of e >>= λ k. look >>= λ now. define_body k t (routine_type (slice_get now.routines k)) p block r
 
 unfoldable pub function_definition : Lexeme → Syns → List Reading → Doing Unit

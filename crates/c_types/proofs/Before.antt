@@ -5,9 +5,10 @@ use Rattle.ck_base.specs.Tokens.{Lexeme}
 use Rattle.c_tree.specs.Syntax.{Syn, first_token}
 use Rattle.c_tree.specs.Scopes.{State, RoutineState, Body, Fault, Doing, give, need, look, change, leave, continued, ◌>>=◌, ◌>>◌, find_in, innermost, changed_at, change_routine}
 use Rattle.c_tree.specs.Readings.{Storage, Specified, Derived, Prototype, Reading}
+use Rattle.c_tree.specs.Types.{is_function}
 use Rattle.c_tree.specs.Expressions.{routine_type}
 use Rattle.c_tree.specs.Declarators.{Formed, formed, judge}
-use Rattle.c_tree.specs.Declarations.{Behind, has_any, no_items, init_static, init_local, declare_alias, declare_function, declare_global, declare_external, declare_internal, declare_local, function_agrees, linked_routine}
+use Rattle.c_tree.specs.Declarations.{Behind, has_any, no_items, init_static, init_local, declare_alias, declare_function, declare_global, declare_external, declare_internal, declare_local, definition_agrees, linked_routine}
 use Rattle.c_tree.specs.Statements.{block_action}
 use Rattle.c_tree.specs.Programs.{define_named, define_body, own_prototype, is_there, is_typedef, params_of, scope_of, parameter_local, numbers_from, body_context}
 use Rattle.c_types.specs.Declares.{declares_alias, declares_function, declares_definition, declares_global, declares_external, declares_internal, declares_local}
@@ -46,12 +47,14 @@ defines_body k p block r = look >>= λ now.
     let body : Body = record { params = numbers_from 0 (length (params_of p)); vars = s.locals; action = block_action i (first_token block).pos } in
     leave >> change (λ s. change_routine k (λ f. record f { body = Some body }) (record s { locals = [] }))
 
-either_way : (a b c : Bool) → (a || (b || c)) ≡ ((a || c) || b)
-either_way true b c = refl
-either_way false true true = refl
-either_way false true false = refl
-either_way false false true = refl
-either_way false false false = refl
+either_way : (a b d c : Bool) → (a || (b || (d || c))) ≡ ((a || c) || (b || d))
+either_way true b d c = refl
+either_way false true d true = refl
+either_way false true d false = refl
+either_way false false true true = refl
+either_way false false true false = refl
+either_way false false false true = refl
+either_way false false false false = refl
 
 type_stays : (f : RoutineState → RoutineState) (xs : List RoutineState) (k : ℕ) → ((y : RoutineState) → (f y).of ≡ y.of) → routine_type (slice_get (changed_at f xs k) k) ≡ routine_type (slice_get xs k)
 type_stays f [] k h = refl
@@ -72,7 +75,8 @@ definition_is s d t block r st =
     let f = formed st s.of d.wraps in
     let p = own_prototype d.wraps in
     let e = find_in (innermost st.scopes).names t.text in
-    let b = function_agrees st e t.text f.of true in
-    let same : (f.misfits || (is_typedef s.storage || not (is_there p))) ≡ ((f.misfits || not (is_there p)) || is_typedef s.storage) = either_way f.misfits (is_typedef s.storage) (not (is_there p)) in
-    after_linked t p block r ((need b 131 t.pos >> judge f false (is_typedef s.storage || not (is_there p)) t.pos >> linked_routine t f.of e) st)
+    let b = definition_agrees st e t.text f.of in
+    let n = not (is_function f.of) in
+    let same : (f.misfits || (is_typedef s.storage || (n || not (is_there p)))) ≡ ((f.misfits || not (is_there p)) || (is_typedef s.storage || n)) = either_way f.misfits (is_typedef s.storage) n (not (is_there p)) in
+    after_linked t p block r ((need b 131 t.pos >> judge f false (is_typedef s.storage || (n || not (is_there p))) t.pos >> linked_routine t f.of e) st)
     ∙ ap (λ (m : Bool). continued (continued ((need b 131 t.pos >> (need (not (f.lacks || false)) 132 t.pos >> need (not m) 133 t.pos >> need (not f.too_many) 137 t.pos >> need (not f.too_large) 140 t.pos) >> linked_routine t f.of e) st) (begins t)) (λ j. defines_body j p block r)) same

@@ -1,5 +1,5 @@
 -- What stays of a program as it goes on.
-use Rattle.std.proofs.Common.{◌≡◌, ℕ, zero, suc, ◌<◌, ◌≤◌, List, [], ◌∷◌, ◌++◌, length, set, Option, Some, None, refl, sym, ap, subst, ◌∙◌, arith, length-append}
+use Rattle.std.proofs.Common.{◌≡◌, ℕ, zero, suc, List, [], ◌∷◌, ◌++◌, set, Some, refl, sym, ap, subst, ◌∙◌, arith, length-append}
 use Rattle.std.specs.Prelude.{slice_get}
 use Rattle.std.proofs.lemmas.List.{length-set}
 use Rattle.std.proofs.lemmas.Option.{same_Some, none-some}
@@ -11,7 +11,7 @@ use Rattle.c_tree.specs.declared.typed.FunDef.{FunDef}
 use Rattle.c_tree.specs.Views.{type_at, types_of}
 use Rattle.c_tree.specs.declared.typed.Member.{Member}
 use Rattle.c_tree.specs.Scopes.{changed_at}
-use Rattle.c_interner.specs.Numbers.{AddsTypes, type_named}
+use Rattle.c_interner.specs.Numbers.{AddsTypes}
 use Rattle.c_interner.proofs.Growing.{type_at-longer}
 use Rattle.c_types.specs.Sizes.{completed_type}
 use Rattle.c_types.specs.Calls.{EachKept, IsSameGlobal, IsSameFun, Extends}

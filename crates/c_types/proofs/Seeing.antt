@@ -1,6 +1,6 @@
 -- Declarations agree with what their names denote, by what is seen of that.
 use Rattle.std.proofs.Common.{◌≡◌, ℕ, suc, ◌<◌, Bool, true, false, List, [], ◌∷◌, ◌++◌, Option, Some, None, refl, sym, ap, ◌∙◌, length, map}
-use Rattle.std.specs.Prelude.{slice_get, option_map, not, ◌&&◌, reverse}
+use Rattle.std.specs.Prelude.{slice_get, option_map, not, ◌&&◌, if◌then◌else◌, reverse}
 use Rattle.std.proofs.lemmas.Option.{slice_get-map, same_Some}
 use Rattle.std.proofs.lemmas.List.{reverse-append, length-reverse}
 use Rattle.ck_base.specs.Tokens.{Lexeme}
@@ -8,11 +8,11 @@ use Rattle.c_tree.specs.declared.typed.Typed.{Typed}
 use Rattle.c_tree.specs.declared.typed.GlobalDef.{GlobalDef}
 use Rattle.c_tree.specs.declared.typed.FunDef.{FunDef}
 use Rattle.c_tree.specs.declared.typed.VarDef.{VarDef}
-use Rattle.c_tree.specs.Types.{Ty, compatible, agree, composite}
+use Rattle.c_tree.specs.Types.{Ty, compatible, agree, composite, is_function}
 use Rattle.c_tree.specs.Views.{types_of}
 use Rattle.c_tree.specs.Scopes as meant
 use Rattle.c_tree.specs.Scopes.{Entity, Local, Static, Routine, Alias, Enumerator, Library, State, StaticState, RoutineState, LocalState, TagState, find_in}
-use Rattle.c_tree.specs.Declarations.{alias_agrees, object_agrees, function_agrees, agrees_static, agrees_routine, agrees_library, is_there, is_routine, linked_routine, file_names, named_function}
+use Rattle.c_tree.specs.Declarations.{alias_agrees, object_agrees, function_agrees, definition_agrees, agrees_static, agrees_routine, agrees_library, is_there, is_routine, linked_routine, file_names, named_function}
 use Rattle.c_interner.specs.Numbers.{type_named}
 use Rattle.c_interner.specs.Agreement.{lengths_of}
 use Rattle.c_interner.specs.declared.agreement.Lengths.TheVariants.{Equal, Compatible}
@@ -20,7 +20,7 @@ use Rattle.c_types.specs.declared.scopes.Scope.{Scope}
 use Rattle.c_types.specs.declared.scopes.Scopes.{Scopes}
 use Rattle.c_types.specs.declared.scopes.TagInfo.{TagInfo}
 use Rattle.c_types.specs.Members.{parts_of, is_defined, defined_at}
-use Rattle.c_types.specs.Fitting.{both_agree, same_alias, alias_seen, object_seen, function_seen, callee_seen, routine_seen_by, joined}
+use Rattle.c_types.specs.Fitting.{both_agree, same_alias, alias_seen, object_seen, function_seen, definition_seen, callee_seen, routine_seen_by, joined}
 use Rattle.c_types.specs.Naming.{given_at, begun_at}
 use Rattle.c_types.specs.Stands.{Stands, Declared, ShowScopes, name_in, object_of, entity_kept, entity_seen, static_seen, global_kept, routine_seen, fun_kept, local_seen, var_kept, named, SeenTag, tag_seen, tag_kept, part_seen, members_kept}
 use Rattle.c_types.proofs.Looking.{seen_at, seen_length, type_is}
@@ -59,6 +59,13 @@ function_seen_is s (Some (Routine k)) name t b = refl
 function_seen_is s (Some (Alias u)) name t b = refl
 function_seen_is s (Some (Enumerator z)) name t b = refl
 function_seen_is s (Some (Library k of)) name t b = ap (λ o. agrees_library o t b) (joined_seen of)
+
+pub definition_seen_is : (s : State) (e : Option Entity) (name : List ℕ) (t : Ty) → definition_agrees s e name t ≡ definition_seen s (option_map entity_seen e) name t
+definition_seen_is s e name t = by_form (is_function t)
+  where
+    by_form : (b : Bool) → (if b then function_agrees s e name t true else object_agrees s e name t true) ≡ (if b then function_seen s (option_map entity_seen e) name t true else object_seen s (option_map entity_seen e) name t true)
+    by_form true = function_seen_is s e name t true
+    by_form false = object_seen_is s e name t true
 
 pub routine_seen_is : (t : Lexeme) (of : Ty) (e : Option Entity) → linked_routine t of e ≡ routine_seen_by t of (option_map entity_seen e)
 routine_seen_is t of None = refl

@@ -10,7 +10,7 @@ use Rattle.c_tree.specs.Scopes as meant
 use Rattle.c_tree.specs.Scopes.{Entity, Enumerator, State, Doing, give, need, look, change, ◌>>=◌, ◌>>◌, find_in, find_tag, innermost, at_file_scope, bind_name, change_routine, is_complete}
 use Rattle.c_tree.specs.Readings.{Storage, Plain, Internal, External, Defining_type}
 use Rattle.c_tree.specs.Declarators.{Formed, judge, is_new, named_tag, begin_tag, new_enumeration, named_enumeration}
-use Rattle.c_tree.specs.Declarations.{linked, named_function, object_agrees, function_agrees, alias_agrees, new_static, linked_static, linked_routine, new_local, is_open, is_external}
+use Rattle.c_tree.specs.Declarations.{linked, named_function, object_agrees, function_agrees, definition_agrees, alias_agrees, new_static, linked_static, linked_routine, new_local, is_open, is_external}
 use Rattle.c_tree.specs.Programs.{is_typedef}
 use Rattle.c_types.specs.declared.entries.Decl.{Decl}
 use Rattle.c_types.specs.declared.entries.Storage.TheVariants as storages
@@ -53,8 +53,8 @@ declares_function t f defines = look >>= λ s.
 -- a function with its body, whose place is that of the definition from here on. It has no locals yet
 abbrev pub declares_definition : Storage → Lexeme → Formed → Doing ℕ
 declares_definition storage t f = look >>= λ s.
-    need (function_agrees s (find_in (innermost s.scopes).names t.text) t.text f.of true) 131 t.pos >>
-    judge f false (is_typedef storage) t.pos >>
+    need (definition_agrees s (find_in (innermost s.scopes).names t.text) t.text f.of) 131 t.pos >>
+    judge f false (is_typedef storage || not (is_function f.of)) t.pos >>
     linked_routine t f.of (find_in (innermost s.scopes).names t.text) >>= λ k.
     change (λ s. change_routine k (λ r. record r { name = t; begun = true }) (record s { locals = [] })) >> give k
 

@@ -1,11 +1,11 @@
 -- Which declarations agree with what their names denote (C11 6.2.7p2, 6.7p3), by what is seen of that.
 use Rattle.std.specs.Prelude.{ℕ, Bool, true, false, not, ◌&&◌, if◌then◌else◌, List, Option, Some, None, slice_get}
 use Rattle.ck_base.specs.Tokens.{Lexeme}
-use Rattle.c_tree.specs.Types.{Ty, agree, same}
+use Rattle.c_tree.specs.Types.{Ty, agree, same, is_function}
 use Rattle.c_tree.specs.Scopes.{State, Doing, give, find_in, innermost, at_file_scope}
 use Rattle.c_tree.specs.Declarators.{is_new}
 use Rattle.c_tree.specs.Declarations.{agrees_static, agrees_routine, agrees_library, agrees_linked, linked, has_number, known_routine, new_routine, alias_agrees, function_agrees, object_agrees, named_function}
-use Rattle.c_types.specs.Stands.{Seen, local, static, routine, alias, enumerator, library}
+use Rattle.c_types.specs.Stands.{Seen, static, routine, alias, library}
 
 -- two types that are there agree up to the lengths of arrays
 abbrev pub both_agree : (ℕ → ℕ → Bool) → Option Ty → Option Ty → Bool
@@ -81,6 +81,9 @@ routine_or_library s None of t defines = agrees_library of t defines
 abbrev pub function_seen : State → Option Seen → List ℕ → Ty → Bool → Bool
 function_seen s None name t defines = not (has_number (linked s name))
 function_seen s (Some x) name t defines = routine_or_library s (seen_routine x) (seen_library x) t defines
+
+abbrev pub definition_seen : State → Option Seen → List ℕ → Ty → Bool
+definition_seen s o name t = (if is_function t then function_seen s o name t true else object_seen s o name t true)
 
 abbrev pub function_fits : State → List ℕ → Ty → Bool
 function_fits s name t = (if at_file_scope s then function_agrees s (find_in (innermost s.scopes).names name) name t false else is_new s name)

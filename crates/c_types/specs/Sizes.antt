@@ -4,7 +4,6 @@ use Rattle.c_tree.specs.declared.typed.CType.{CType}
 use Rattle.cap_layout.specs.Answers.{greatest_align, Exceeds}
 use Rattle.cap_layout.specs.declared.answers.Layout.{Layout}
 use Rattle.c_tree.specs.Layout.{Extent, size_limit, scalar, with_extent, times}
-use Rattle.c_tree.specs.Types.{Ty, Void}
 use Rattle.c_tree.specs.Views.{type_at, types_of}
 use Rattle.c_tree.specs.Scopes.{TagState, tag_extent, type_extent}
 use Rattle.cap_layout.specs.declared.answers.LayoutFault.{LayoutFault}

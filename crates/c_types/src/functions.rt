@@ -11,12 +11,12 @@ ghost use Rattle.c_tree.specs.declared.typed.FunDef.{FunDef};
 ghost use Rattle.c_interner.specs.Numbers.{AddsTypes, type_named};
 ghost use Rattle.c_types.specs.Calls.{Given, Keeps, Answers, Extends};
 ghost use Rattle.c_types.specs.Declares.{storage_of, name_of, formed_of, declares_function, declares_definition};
-ghost use Rattle.c_types.specs.Fitting.{joined, seen_routine, seen_library, function_seen, function_fits};
+ghost use Rattle.c_types.specs.Fitting.{joined, seen_routine, seen_library, function_seen, definition_seen, function_fits};
 ghost use Rattle.c_types.specs.Naming.{IsNamed, IsNumbered, begun_at, function_entry};
 ghost use Rattle.c_types.specs.Stands.{Stands, named, fun_kept, declared_at, entity_kept, entity_seen, text_at};
 
 use crate::entries::{Decl, Entity, Entry, Storage};
-use crate::judging::{admit, either};
+use crate::judging::{admit, either, is_function};
 use crate::scopes::{Scopes, entry_of};
 use crate::statics::agree_with;
 use c_interner::{Lengths, append, next_number};
@@ -175,6 +175,17 @@ impl<'a> Scopes<'a> {
         }
     }
 
+    // Whether what has a body agrees with what was found of its name: as a function or, where its type is none, as an object.
+    fn definition_agrees(&self, p: &Typed, found: Option<Entity>, d: Decl) -> Result<bool, NoMemory>
+        ensures { IfOk result (λ r. (s : State) → Stands self.now p.now s → d.of < length p.now.types → r ≡ definition_seen s (option_map (entity_kept (types_of p.now.types)) found) (text_at self.now.file.now d.name) (type_named p.now d.of)) }
+    {
+        if is_function(p.types.as_slice(), d.of) {
+            self.function_agrees(p, found, d, true)
+        } else {
+            self.object_agrees(p, found, d, true)
+        }
+    }
+
     // A new function, which its name denotes from here on.
     fn new_routine(&mut self, p: &mut Typed, d: Decl) -> Result<u32, NoMemory>
         ensures ok { IfOk result (λ k. (s : State) → Stands self.old p.old s → d.of < length p.old.types → Given self.new p.new (new_routine (name_of self.old.file.now d) (type_named p.old d.of) s) (IsNumbered p.new (text_at self.old.file.now d.name) k (Entry.Fun k))) }
@@ -293,8 +304,12 @@ impl<'a> Scopes<'a> {
         ensures file { self.new.file.now ≡ self.old.file.now }
     {
         let found = self.look_here(self.text(d.name));
-        let fits = self.function_agrees(p, found, d, true)?;
-        match admit(fits, d.faults, false, is_typedef(d.storage), d.pos) {
+        let fits = self.definition_agrees(p, found, d)?;
+        let misfits = either(
+            is_typedef(d.storage),
+            !is_function(p.types.as_slice(), d.of),
+        );
+        match admit(fits, d.faults, false, misfits, d.pos) {
             Err(refusal) => Err(refusal),
             Ok(()) => {
                 let k = self.linked_routine(p, found, d)?;

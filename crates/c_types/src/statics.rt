@@ -178,7 +178,7 @@ impl<'a> Scopes<'a> {
     }
 
     // Whether the declaration of an object agrees with what was found of its name, or else with the object with linkage of that name.
-    fn object_agrees(
+    pub(crate) fn object_agrees(
         &self,
         p: &Typed,
         found: Option<Entity>,

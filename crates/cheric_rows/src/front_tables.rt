@@ -516,7 +516,7 @@ pub(super) const CONSTANTS: [(&str, &str); 29] = [
 ];
 
 /// Jumps, `return` and `switch`, scopes and parameters, and `main` (6.8, 6.2.1, 5.1.2.2.1).
-pub(super) const STATEMENTS: [(&str, &str); 28] = [
+pub(super) const STATEMENTS: [(&str, &str); 30] = [
     // in their places
     (
         "int main(void){int i;for(i=0;i<9;i++){if(i==3)continue;if(i==5)break;}do{i--;}while(i);switch(i){case 'a':break;default:;}return i;}",
@@ -621,6 +621,16 @@ pub(super) const STATEMENTS: [(&str, &str); 28] = [
     (
         "typedef int F(void);F f{return 0;}int main(void){return 0;}",
         "133 1:23",
+    ),
+    // no function either, and it agrees with the object of its name
+    (
+        "int x;int x{return 0;}int main(void){return 0;}",
+        "133 1:11",
+    ),
+    // the object of its name has another type
+    (
+        "long x;int x{return 0;}int main(void){return 0;}",
+        "131 1:12",
     ),
     // there is no main
     ("int x;", "135 1:1"),

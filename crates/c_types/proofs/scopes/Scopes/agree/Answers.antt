@@ -1,4 +1,4 @@
-use Rattle.std.proofs.Common.{◌≡◌, ◌<◌, ◌≤◌, ◌∙◌, Bool, length, sym, ap, arith}
+use Rattle.std.proofs.Common.{◌≡◌, ◌<◌, ◌∙◌, Bool, length, sym, ap}
 use Rattle.c_tree.specs.Types.{agree}
 use Rattle.c_tree.specs.Views.{types_of}
 use Rattle.c_interner.specs.Agreement.{lengths_of}

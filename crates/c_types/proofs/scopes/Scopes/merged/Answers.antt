@@ -1,4 +1,4 @@
-use Rattle.std.proofs.Common.{◌≡◌, ℕ, ◌∙◌, Some, length, sym, ap}
+use Rattle.std.proofs.Common.{◌≡◌, ℕ, ◌∙◌, Some, sym}
 use Rattle.std.proofs.lemmas.Option.{none-some}
 use Rattle.c_tree.specs.Types.{Ty, composite}
 use Rattle.c_tree.specs.Views.{types_of}
