@@ -1,5 +1,5 @@
 #!/usr/bin/env python3
-"""bench/front_rows.py: the front end on the files of bench/front_rows.json, each worked out by hand from the rules, apart from the code.
+"""bench/front_rows.py: the front end on the files of bench/front_rows.json, each worked out by hand from the rules, with the definitions at hand.
 
 A file is `accept`ed where `cheric build` builds it or refuses it by 150 alone; else the code and the place have to be those of the row.
 It needs what ./cheric needs. It proves nothing and is no part of the gate."""
