@@ -9,7 +9,7 @@ use Rattle.cheri_c_sem.specs.Operations.{Operations, compare_by}
 use Rattle.cheri_c_sem.specs.Steps.{Then}
 use Rattle.cheri_c_sem.specs.Tree.{Ex, Declared, Simple, Objects, Label, Case, Default, St, Do, Give, Init, Fill, Block, If, While, Do_while, For, Switch, Break, Continue, Return, Empty, Sts, End, Seq}
 use Rattle.cheri_c_sem.specs.Meaning.{At}
-use Rattle.cheri_c_sem.specs.Statements.{Flow, Goes, Breaks, Continues, Returns, after, after_body, after_switch, loop, repeat, default_of, label_value, enter_one, enter, leave_one, leave, in_block, find_label, jump, part_of_local, test_of, step_of, exec, execs, execs_from}
+use Rattle.cheri_c_sem.specs.Statements.{Flow, Goes, Breaks, Continues, Returns, after, after_body, after_switch, loop, repeat, default_of, label_value, enter_one, enter, leave_one, leave, in_block, find_label, switch_on, jump, part_of_local, test_of, step_of, exec, execs, execs_from}
 use Rattle.cheri_c_sem.proofs.Same.{Same, same_give, same_bind, same_then, same_ask, same_choose, same_set_variable, same_turn, same_below}
 use Rattle.cheri_c_sem.proofs.SameExpressions.{same_value, same_place, same_test, same_store, same_copy}
 
@@ -31,6 +31,10 @@ module _ {M : Type 0} where
   same_after_switch n Continues = same_give n Continues
   same_after_switch n Breaks = same_give n Goes
   same_after_switch n (Returns v) = same_give n (Returns v)
+
+  same_jump : (n : ℕ) (o : Option ℕ) (f g : ℕ → Then M Flow) → ((i : ℕ) → Same n (f i) (g i)) → Same n (jump o f) (jump o g)
+  same_jump n None f g h = same_give n Goes
+  same_jump n (Some i) f g h = same_bind n _ _ _ _ (h i) (λ flow. same_after_switch n flow)
 
   -- loops of enough further turns
   pub same_loop : (a b n : ℕ) → n < a → n < b → (t t' : Then M Bool) (c c' : Then M Flow) (u u' : Then M (Unit {0})) → Same n t t' → Same n c c' → Same n u u' → Same n (loop a t c u) (loop b t' c' u')
@@ -76,9 +80,8 @@ module _ {M : Type 0} (ops : Operations M) (w : World) where
   same_find n p k v (Default before ∷ ls) o = same_find n p k v ls o
   same_find n p k v (Case c before ∷ ls) o = same_bind n _ _ _ _ (same_ask n p (λ m. compare_by ops m Eq k v (label_value k c))) (λ b. same_choose n b _ _ _ _ (same_give n (Some before)) (same_find n p k v ls o))
 
-  same_jump : (n : ℕ) (o : Option ℕ) (ds : List Declared) (f g : ℕ → Then M Flow) → ((i : ℕ) → Same n (f i) (g i)) → Same n (jump ops w o ds f) (jump ops w o ds g)
-  same_jump n None ds f g h = same_give n Goes
-  same_jump n (Some i) ds f g h = same_in_block n ds _ _ (same_bind n _ _ _ _ (h i) (λ flow. same_after_switch n flow))
+  same_switch_on : (n : ℕ) (p : Pos) (k : Kind) (v : Value) (ds : List Declared) (ls : List Label) (f g : ℕ → Then M Flow) → ((i : ℕ) → Same n (f i) (g i)) → Same n (switch_on ops w p k v ds ls f) (switch_on ops w p k v ds ls g)
+  same_switch_on n p k v ds ls f g h = same_in_block n ds _ _ (same_bind n _ _ _ _ (same_find n p k v ls (default_of ls)) (λ to. same_jump n to f g h))
 
   same_part : (n : ℕ) (p : Pos) (local offset : ℕ) → Same n (part_of_local ops w p local offset) (part_of_local ops w p local offset)
   same_part n p local offset = record { at = λ s le k l h. (same_bind n _ _ _ _ (same_ask n p (λ m. ops.offset m (ops.whole m (s.first + local) 125) offset)) (λ v. same_give n (At p v))).at s le k l h }
@@ -112,7 +115,7 @@ module _ {M : Type 0} (ops : Operations M) (w : World) where
         at = λ s le k' l h.
             (same_loop (suc s.left) (suc s.left) s.left (omega arith) (omega arith) _ _ _ _ _ _ (same_below n s.left _ _ le (same_test_of t)) (same_below n s.left _ _ le (same_exec b)) (same_below n s.left _ _ le (same_step_of step))).at s (omega arith) k' l h;
       })))
-      same_exec (Switch p k e ds ls ss) = same_bind n _ _ _ _ (same_value ops w call call' n calls_same e) (λ v. same_bind n _ _ _ _ (same_find n p k v ls (default_of ls)) (λ to. same_jump n to ds _ _ (λ i. same_execs_from ss i)))
+      same_exec (Switch p k e ds ls ss) = same_bind n _ _ _ _ (same_value ops w call call' n calls_same e) (λ v. same_switch_on n p k v ds ls _ _ (λ i. same_execs_from ss i))
       same_exec Break = same_give n Breaks
       same_exec Continue = same_give n Continues
       same_exec (Return None) = same_give n (Returns nothing)

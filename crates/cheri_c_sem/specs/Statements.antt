@@ -41,6 +41,13 @@ module _ {M : Type 0} where
   after_switch Continues = give Continues
   after_switch (Returns v) = give (Returns v)
 
+  -- its statements behind the first so many; with no label to go to, none of them
+  abbrev pub jump : Option ℕ → (ℕ → Then M Flow) → Then M Flow
+  jump None from = give Goes
+  jump (Some n) from = do
+    f ← from n
+    after_switch f
+
   -- A `while` or `for` loop of at most so many turns (C11 6.8.5.1, 6.8.5.3). The turn comes after the step
   abbrev pub loop : ℕ → Then M Bool → Then M Flow → Then M (Unit {0}) → Then M Flow
   loop zero test body step = ends ending.Turns
@@ -118,12 +125,11 @@ module _ {M : Type 0} (ops : Operations M) (w : World) where
     same ← ask p (λ m. compare_by ops m Eq k v (label_value k c))
     choose same (give (Some n)) (find_label p k v ls otherwise)
 
-  -- its statements behind the first so many; with no label to go to, its block is not entered
-  abbrev pub jump : Option ℕ → List Declared → (ℕ → Then M Flow) → Then M Flow
-  jump None ds from = give Goes
-  jump (Some n) ds from = in_block ds (do
-    f ← from n
-    after_switch f)
+  -- Its block is entered before the labels are compared, and left whether or not one matches
+  abbrev pub switch_on : Pos → Kind → Value → List Declared → List Label → (ℕ → Then M Flow) → Then M Flow
+  switch_on p k v ds ls from = in_block ds (do
+    to ← find_label p k v ls (default_of ls)
+    jump to from)
 
   -- the place at an offset in a local of the current call
   abbrev pub part_of_local : Pos → (local offset : ℕ) → Then M Place
@@ -175,8 +181,7 @@ module _ {M : Type 0} (ops : Operations M) (w : World) where
         after f (λ s. loop (suc s.left) (test_of t) (exec b) (step_of step) s))
       exec (Switch p k e ds ls ss) = do
         v ← value_of ops w call e
-        to ← find_label p k v ls (default_of ls)
-        jump to ds (λ n. execs_from ss n)
+        switch_on p k v ds ls (λ n. execs_from ss n)
       exec Break = give Breaks
       exec Continue = give Continues
       exec (Return None) = give (Returns nothing)

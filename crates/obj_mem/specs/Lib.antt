@@ -9,3 +9,5 @@ pub mod Needs
 pub mod Table
 pub mod Agreement
 pub mod Standing
+pub mod Endings
+pub mod Counted

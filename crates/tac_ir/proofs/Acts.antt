@@ -8,7 +8,7 @@ use Rattle.ck_base.specs.Runs.{Act, Goes, Puts, Reads, Ends}
 use Rattle.cheri_c_sem.specs.Compatible.{same_bool}
 use Rattle.obj_mem.specs.declared.ending.Ending.{Ending}
 use Rattle.obj_mem.specs.declared.ending.Ending.TheVariants as ending
-use Rattle.tac_ir.proofs.Bare.{there, past}
+use Rattle.tac_ir.proofs.BehindConst.{there, past}
 use Rattle.tac_ir.specs.Integers.{Moment, value_or_zero, with_value, with_result, up_to, spent, arrived, onward, place_of, jumped, paused, serves, returned, is_nonzero, act_on, act_at, act, limits, acts_left}
 use Rattle.tac_ir.specs.declared.code.LibOp.{LibOp}
 use Rattle.tac_ir.specs.declared.code.LibOp.TheVariants as lib

@@ -1,5 +1,5 @@
 mod Acts
-mod Bare
+mod BehindConst
 mod Endings
 mod Loops
 mod Matches
@@ -7,3 +7,4 @@ mod Objects
 mod Rows
 mod Padding
 mod Whole
+mod Weighing

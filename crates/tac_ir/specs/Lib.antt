@@ -8,3 +8,4 @@ pub mod WellFormed
 pub mod Signatures
 pub mod Bodies
 pub mod Integers
+pub mod Weights

@@ -139,6 +139,10 @@ module _ (p : Typed) (d : FunDef) (kinds : List TacKind) (code : List TacInstr) 
   second_is_capability None = false
   second_is_capability (Some t) = has_capability t
 
+  -- an address has either 64-bit kind
+  abbrev pub second_is_address : Option ℕ → Bool
+  second_is_address b = second_is b word || second_is b (Plain int.I64)
+
   abbrev pub no_second : Option ℕ → Bool
   no_second None = true
   no_second (Some t) = false
@@ -151,7 +155,7 @@ module _ (p : Typed) (d : FunDef) (kinds : List TacKind) (code : List TacInstr) 
   work_fits cap.Tag to a b = has to (Plain int.Bool) && has_capability a && no_second b
   work_fits cap.Perms to a b = has to word && has_capability a && no_second b
   work_fits cap.Clear to a b = has to (kind_at kinds a) && has_capability a && no_second b
-  work_fits cap.SetAddress to a b = has to (kind_at kinds a) && has_capability a && second_is b word
+  work_fits cap.SetAddress to a b = has to (kind_at kinds a) && has_capability a && second_is_address b
   work_fits cap.AndPerms to a b = has to (kind_at kinds a) && has_capability a && second_is b word
   work_fits cap.EqualExact to a b = has to (Plain int.Bool) && has_capability a && second_is_capability b
   work_fits cap.Rounded to a b = has to word && has a word && no_second b

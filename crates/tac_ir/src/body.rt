@@ -4,10 +4,12 @@ ghost use Rattle.c_tree.specs.Layout.{bare};
 ghost use Rattle.cheri_c_sem.specs.Types.{is_shift, scalar_of};
 ghost use Rattle.tac_ir.specs.Effects.{kind_of, kind_at};
 ghost use Rattle.tac_ir.specs.Bodies.{in_body, all_have_in, CallFits, HasCounted};
-ghost use Rattle.tac_ir.specs.WellFormed.{kind_or_int, is_temp, has, has_int, has_capability, amount_fits, result_fits, second_is, second_is_capability, work_fits, service_fits, return_fits, is_local, constant_fits, is_unit, units_fit, instruction_fits, signature_of};
+ghost use Rattle.tac_ir.specs.WellFormed.{kind_or_int, is_temp, has, has_int, has_capability, amount_fits, result_fits, second_is, second_is_address, second_is_capability, work_fits, service_fits, return_fits, is_local, constant_fits, is_unit, units_fit, instruction_fits, signature_of};
 
 use crate::code::{Amount, CapWork, LibOp, TacInstr, TacKind};
-use crate::kinds::{INT, POINTER, TRUTH, WORD, is_capability, is_int, kind_at, same_kind};
+use crate::kinds::{
+    INT, POINTER, SIGNED_WORD, TRUTH, WORD, is_capability, is_int, kind_at, same_kind,
+};
 use crate::labels::has_label;
 use crate::signatures::{Signature, kind_of_type, signature_at, signature_of_function};
 use crate::slices::first_and_rest;
@@ -122,6 +124,13 @@ impl<'a> Body<'a> {
         }
     }
 
+    /// Whether the second operand has a 64-bit kind.
+    fn second_is_address(&self, b: Option<u32>) -> bool
+        ensures { result ≡ in_body second_is_address self.now b }
+    {
+        self.second_is(b, WORD) || self.second_is(b, SIGNED_WORD)
+    }
+
     fn second_is_capability(&self, b: Option<u32>) -> bool
         ensures { result ≡ in_body second_is_capability self.now b }
     {
@@ -140,7 +149,10 @@ impl<'a> Body<'a> {
             }
             CapWork::Tag => self.has(to, TRUTH) && self.has_capability(a) && b.is_none(),
             CapWork::Clear => self.has_kind_of(to, a) && self.has_capability(a) && b.is_none(),
-            CapWork::SetAddress | CapWork::AndPerms => {
+            CapWork::SetAddress => {
+                self.has_kind_of(to, a) && self.has_capability(a) && self.second_is_address(b)
+            }
+            CapWork::AndPerms => {
                 self.has_kind_of(to, a) && self.has_capability(a) && self.second_is(b, WORD)
             }
             CapWork::EqualExact => {

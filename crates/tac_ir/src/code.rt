@@ -34,7 +34,7 @@ pub enum CapWork {
     Perms,
     /// The capability without its tag.
     Clear,
-    /// The capability with another address.
+    /// The capability with another address, of either 64-bit kind.
     SetAddress,
     /// The capability with those of its permissions that a mask has.
     AndPerms,

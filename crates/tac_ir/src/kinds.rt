@@ -13,6 +13,8 @@ pub const INT: TacKind = TacKind::Int(IntKind::I32);
 /// A length or an address.
 pub const WORD: TacKind = TacKind::Int(IntKind::U64);
 
+pub const SIGNED_WORD: TacKind = TacKind::Int(IntKind::I64);
+
 pub const POINTER: TacKind = TacKind::Cap(false);
 
 pub const TRUTH: TacKind = TacKind::Int(IntKind::Bool);

@@ -4,13 +4,20 @@
 mod body;
 mod checking;
 mod code;
+mod costs;
 mod kinds;
 mod labels;
 mod moment;
 mod running;
 mod signatures;
 mod slices;
+mod weights;
+mod within;
 
 pub use checking::well_formed;
 pub use code::{Amount, CapWork, LibOp, Tac, TacFun, TacInstr, TacKind};
+pub use costs::{cost, function_cost, outgoing};
 pub use running::{run_tac, runs_over_integers};
+pub use signatures::bare;
+pub use weights::function_weight;
+pub use within::is_within_costs;

@@ -27,8 +27,8 @@ fn inner_of(c: &CType) -> Option<u32>
     }
 }
 
-/// The type behind the words `const`.
-fn bare<'a>(types: &'a [CType], t: u32) -> Option<&'a CType>
+/// The type behind the words `const` (C11 6.7.3), where there is one. It takes no memory.
+pub fn bare<'a>(types: &'a [CType], t: u32) -> Option<&'a CType>
     ensures { MatchOption result (bare types.now t ≡ None) (λ c. bare types.now t ≡ Some c.now) }
 {
     let mut left = types.len();

@@ -8,8 +8,8 @@ use Rattle.tac_ir.specs.declared.code.TacInstr.{TacInstr}
 use Rattle.tac_ir.specs.declared.code.TacInstr.TheVariants as instr
 use Rattle.tac_ir.specs.declared.code.TacKind.{TacKind}
 use Rattle.tac_ir.specs.declared.code.TacKind.TheVariants as kind
-use Rattle.rv_select.specs.Form.{AllBelow, AllIntegers, AreNamed, ArePlain, IsIntegerFun}
-use Rattle.rv_select.proofs.Numbers.{byte_kept}
+use Rattle.int_select.specs.Form.{AllBelow, AllIntegers, AreNamed, ArePlain, IsIntegerFun}
+use Rattle.int_select.proofs.Numbers.{byte_kept}
 
 abbrev instrs : List ℕ → List TacInstr
 instrs args = instr.Const 0 (kind.Int int.I32) 72 ∷ instr.Lib lib.PutChar None args ∷ instr.Return (Some 0) ∷ []

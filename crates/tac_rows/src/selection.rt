@@ -1,11 +1,11 @@
 //! Code that is selected from programs by hand.
 ghost use Rattle.std.specs.Prelude.{◌<◌, IfOk};
-ghost use Rattle.rv_select.specs.Form.{IsIntegerCode};
+ghost use Rattle.int_select.specs.Form.{IsIntegerCode};
 
 use ck_base::{NoMemory, Pos, Sequence};
 use ck_int::IntKind;
+use int_select::{Items, select};
 use rv_instr::{CapImmOp, ImmOp, Instr, LoadOp, Reg, StoreOp};
-use rv_select::{Items, select};
 use std::alloc::Global;
 use tac_ir::{LibOp, Tac, TacFun, TacInstr, TacKind};
 

@@ -1,7 +1,7 @@
 use Rattle.std.proofs.Common.{◌≡◌, Some, None, sym, subst}
 use Rattle.std.specs.Prelude.{slice_get}
 use Rattle.std.proofs.lemmas.Result.{MatchResult-weaker}
-use Rattle.tac_ir.proofs.Bare.{there, past}
+use Rattle.tac_ir.proofs.BehindConst.{there, past}
 use Rattle.tac_ir.proofs.Whole.{main_is_there, main_over_integers, sunk, ran}
 use Rattle.tac_ir.proofs.running.run_tac.Goals as goal
 

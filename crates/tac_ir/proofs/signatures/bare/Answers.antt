@@ -1,6 +1,6 @@
 use Rattle.std.proofs.Common.{◌-◌, ◌∙◌, ap}
 use Rattle.c_tree.specs.Layout.{bare_of, bare_within}
-use Rattle.tac_ir.proofs.Bare.{bare_step, bare_zero, there, past}
+use Rattle.tac_ir.proofs.BehindConst.{bare_step, bare_zero, there, past}
 use Rattle.tac_ir.proofs.signatures.bare.Goals as goal
 
 pub returns-in-None : goal.returns-in-None
