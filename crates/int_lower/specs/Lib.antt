@@ -1,0 +1,5 @@
+pub mod Form
+pub mod Pieces
+pub mod Compiled
+pub mod Emitted
+pub mod Sizes

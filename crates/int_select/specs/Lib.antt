@@ -1,0 +1,4 @@
+pub mod Tracking
+pub mod Form
+pub mod Code
+pub mod Selected
