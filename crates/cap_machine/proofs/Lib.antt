@@ -1,2 +1,11 @@
 pub mod Aligned
 pub mod Endings
+pub mod Passed
+pub mod ConfinedCaps
+pub mod Places
+pub mod TextMemory
+pub mod Registers
+pub mod Counters
+pub mod Widths
+pub mod KeptRows
+pub mod Containment

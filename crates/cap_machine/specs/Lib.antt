@@ -2,3 +2,5 @@ pub mod Integers
 pub mod State
 pub mod Rows
 pub mod Step
+pub mod ContainedText
+pub mod Containment

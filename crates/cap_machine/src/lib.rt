@@ -12,4 +12,5 @@ mod state;
 mod step;
 
 pub use end::{End, Step};
+pub use integers::extended;
 pub use machine::Machine;

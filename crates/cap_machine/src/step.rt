@@ -1,8 +1,10 @@
 //! One step, and runs.
-ghost use Rattle.std.specs.Prelude.{◌≡◌, ℕ, ◌<◌, ◌-◌, ◌^◌, Option, List};
+ghost use Rattle.std.specs.Prelude.{◌≡◌, ℕ, ◌<◌, ◌-◌, ◌^◌, Option, Some, List};
 ghost use Rattle.ck_base.specs.Runs.{outcome, state_and_ending, Puts, Reads};
 ghost use Rattle.ck_base.specs.Calls.{seen, Acted, IsRun, Counted};
 ghost use Rattle.cap_machine.specs.Rows.{row};
+ghost use Rattle.cap_machine.specs.ContainedText.{Text};
+ghost use Rattle.cap_machine.specs.Containment.{IsContained, Keeps, LeavesContained, StaysContained};
 ghost use Rattle.cap_machine.specs.Step.{fetched, low_byte, answered, read_value, call, is_call, act, limits, ending_of};
 
 use crate::end::{End, Step};
@@ -76,7 +78,8 @@ impl Machine {
 
     /// Environment call 1: the low byte of register 10 is put.
     fn put_byte<O: Sink>(&mut self, out: &mut O) -> Step
-        ensures { (left : Option (List ℕ)) (faults : ℕ) → Acted limits (Puts (low_byte self.old) (answered self.old (low_byte self.old))) (seen left faults (O.held out.old) (O.faults out.old)) (seen left faults (O.held out.new) (O.faults out.new)) self.old self.new (ending_of result) }
+        ensures acted { (left : Option (List ℕ)) (faults : ℕ) → Acted limits (Puts (low_byte self.old) (answered self.old (low_byte self.old))) (seen left faults (O.held out.old) (O.faults out.old)) (seen left faults (O.held out.new) (O.faults out.new)) self.old self.new (ending_of result) }
+        ensures contained { (t : Text) → IsContained t self.old → Keeps t (Puts (low_byte self.old) (answered self.old (low_byte self.old))) → LeavesContained t self.new (ending_of result) }
     {
         let byte = self.low_byte();
         match out.put(&[byte]) {
@@ -90,7 +93,8 @@ impl Machine {
 
     /// Environment call 2: register 10 is set to the next input byte, or to -1 at the end.
     fn read_byte<I: Source>(&mut self, input: &mut I) -> Step
-        ensures { (held : Option (List ℕ)) (faults : ℕ) → Acted limits (Reads (λ byte. answered self.old (read_value byte))) (seen (I.left input.old) (I.faults input.old) held faults) (seen (I.left input.new) (I.faults input.new) held faults) self.old self.new (ending_of result) }
+        ensures acted { (held : Option (List ℕ)) (faults : ℕ) → Acted limits (Reads (λ byte. answered self.old (read_value byte))) (seen (I.left input.old) (I.faults input.old) held faults) (seen (I.left input.new) (I.faults input.new) held faults) self.old self.new (ending_of result) }
+        ensures contained { (t : Text) → IsContained t self.old → Keeps t (Reads (λ byte. answered self.old (read_value byte))) → LeavesContained t self.new (ending_of result) }
     {
         match input.next() {
             Ok(Some(byte)) => {
@@ -107,7 +111,8 @@ impl Machine {
 
     /// An environment call, by the integer of register 17.
     fn call<I: Source, O: Sink>(&mut self, input: &mut I, out: &mut O) -> Step
-        ensures { Acted limits (call self.old) (seen (I.left input.old) (I.faults input.old) (O.held out.old) (O.faults out.old)) (seen (I.left input.new) (I.faults input.new) (O.held out.new) (O.faults out.new)) self.old self.new (ending_of result) }
+        ensures acted { Acted limits (call self.old) (seen (I.left input.old) (I.faults input.old) (O.held out.old) (O.faults out.old)) (seen (I.left input.new) (I.faults input.new) (O.held out.new) (O.faults out.new)) self.old self.new (ending_of result) }
+        ensures contained { (t : Text) → IsContained t self.old → Keeps t (call self.old) → LeavesContained t self.new (ending_of result) }
     {
         let number = self.integer(Reg::SERVICE);
         if number == 1 {
@@ -123,7 +128,8 @@ impl Machine {
 
     /// One instruction. A fault of the input or the output, a trap and every other end leave the machine as it was.
     pub fn step<I: Source, O: Sink>(&mut self, input: &mut I, out: &mut O) -> Step
-        ensures { Acted limits (act self.old) (seen (I.left input.old) (I.faults input.old) (O.held out.old) (O.faults out.old)) (seen (I.left input.new) (I.faults input.new) (O.held out.new) (O.faults out.new)) self.old self.new (ending_of result) }
+        ensures acted { Acted limits (act self.old) (seen (I.left input.old) (I.faults input.old) (O.held out.old) (O.faults out.old)) (seen (I.left input.new) (I.faults input.new) (O.held out.new) (O.faults out.new)) self.old self.new (ending_of result) }
+        ensures contained { StaysContained self.old self.new (ending_of result) }
     {
         match self.fetch() {
             Err(end) => Step::Ended(end),
@@ -144,6 +150,7 @@ impl Machine {
         requires sink_room { O.faults out.old < 2 ^ 64 - 1 }
         ensures run { IsRun (outcome limits act state_and_ending self.old steps) (seen (I.left input.old) (I.faults input.old) (O.held out.old) (O.faults out.old)) (seen (I.left input.new) (I.faults input.new) (O.held out.new) (O.faults out.new)) (self.new, result) }
         ensures counted { Counted limits (seen (I.left input.old) (I.faults input.old) (O.held out.old) (O.faults out.old)) (seen (I.left input.new) (I.faults input.new) (O.held out.new) (O.faults out.new)) result }
+        ensures contained { StaysContained self.old self.new (Some result) }
     {
         for _done in 0..steps {
             match self.step(input, out) {

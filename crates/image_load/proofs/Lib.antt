@@ -1,2 +1,4 @@
 pub mod Walk
 pub mod Sorted
+pub mod Judged
+pub mod First

@@ -1,3 +1,4 @@
 pub mod Judging
 pub mod State
 pub mod Loading
+pub mod Contained

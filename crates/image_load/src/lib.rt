@@ -6,5 +6,6 @@ mod judging;
 mod loading;
 mod refusal;
 
+pub use judging::judge;
 pub use loading::load;
 pub use refusal::LoadRefusal;

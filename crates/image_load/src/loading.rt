@@ -1,10 +1,12 @@
 //! The machine that an image describes.
-ghost use Rattle.std.specs.Prelude.{◌≡◌, ◌%◌, ◌≤◌, ◌<◌, ◌^◌, ℕ, true, Ok, OnOk, IfOk, List, length, nat_lt};
+ghost use Rattle.std.specs.Prelude.{All, ◌≡◌, ◌%◌, ◌≤◌, ◌<◌, ◌^◌, ℕ, true, Ok, OnOk, IfOk, List, length, nat_lt};
 ghost use Rattle.std.specs.List.{prefix_len};
 ghost use Rattle.cap_concentrate.specs.declared.fields.Fields.{Fields as FieldsOf};
 ghost use Rattle.image_load.specs.Judging.{end_of, segments_of, text_of, initial_of, judged, is_exact};
 ghost use Rattle.image_load.specs.State.{with_region, regions_of, relocated, memory_of, of_extent, machine_of, registers_of};
 ghost use Rattle.image_load.specs.Loading.{Loads};
+ghost use Rattle.image_load.specs.Contained.{text_in, Contained};
+ghost use Rattle.cap_machine.specs.Containment.{IsContained, RunsContained};
 ghost use Rattle.cap_machine.specs.Rows.{memory_bits};
 
 use crate::extent::{Extent, bounded};
@@ -85,16 +87,26 @@ fn store_relocs(mem: &mut Mem, view: &View<'_>)
     }
 }
 
+/// The bytes themselves, of which a contract may then say that each is below 256.
+fn bytes(part: &[u8]) -> &[u8]
+    ensures value { result.now ≡ part.now }
+    ensures small { All (λ b. b < 256) result.now }
+{
+    part
+}
+
 /// The memory of an image that is not refused.
 #[tactic(auto, unfolding(crate::specs::State::memory_of))]
 fn memory_of(alloc: Global, view: &View<'_>) -> Result<Mem, NoMemory>
     requires { judged view.now ≡ Ok tt }
-    ensures { IfOk result (λ mem. mem ≡ memory_of view.now) }
+    ensures value { IfOk result (λ mem. mem ≡ memory_of view.now) }
+    ensures text { OnOk result (All (λ b. b < 256) view.now.text) }
+    ensures initial { OnOk result (All (λ b. b < 256) view.now.initial) }
 {
     let regions = regions_of(alloc, view)?;
     let mut mem = Mem::new(alloc, &regions)?;
-    mem.fill(text_of(view).0, view.text());
-    mem.fill(initial_of(view).0, view.initial());
+    mem.fill(text_of(view).0, bytes(view.text()));
+    mem.fill(initial_of(view).0, bytes(view.initial()));
     store_relocs(&mut mem, view);
     Ok(mem)
 }
@@ -129,9 +141,12 @@ fn counter_of(view: &View<'_>) -> Cap
 
 /// Loads an image: the machine that it describes, or the first refusal. All the memory of a run is taken here; want of it
 /// comes only where the image is not refused, and a refused image leaves nothing.
+/// The machine of a contained image is contained, and so is each state of its runs.
 #[tactic(auto, unfolding(crate::specs::State::machine_of))]
 pub fn load(alloc: Global, view: &View<'_>) -> Result<Machine, LoadRefusal>
-    ensures { Loads view.now result }
+    ensures value { Loads view.now result }
+    ensures contained { IfOk result (λ m. Contained view.now → IsContained (text_in view.now) m) }
+    ensures runs { IfOk result (λ m. Contained view.now → RunsContained (text_in view.now) m) }
 {
     if let Err(refusal) = judge(view) {
         return Err(refusal);
