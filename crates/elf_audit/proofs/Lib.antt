@@ -1,0 +1,4 @@
+pub mod Sizes
+pub mod Noted
+pub mod Audited
+pub mod AuditedImage

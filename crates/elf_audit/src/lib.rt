@@ -1,0 +1,15 @@
+//! The audit of an image: whether its text is contained, so that no run of it, in any world, leaves the text or meets a
+//! word that is no instruction.
+#![tactic(auto)]
+
+mod auditing;
+mod reached;
+mod rules;
+mod verdict;
+mod words;
+
+pub use auditing::audit;
+pub use verdict::Verdict;
+
+#[cfg(test)]
+mod tests;

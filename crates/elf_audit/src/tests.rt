@@ -1,0 +1,122 @@
+// Images of four words and one relocation, and what their audit answers.
+
+use crate::{Verdict, audit};
+use elf_file::{Image, Reloc, Sequence, View, write};
+use image_load::load;
+use std::alloc::{AllocError, Global};
+use std::test::Fail;
+
+const DATA: u64 = 65_536;
+
+const TEXT: u64 = 131_072;
+
+const SENTRY: u64 = 1 << 63;
+
+const ADDI: [u8; 4] = [0x93, 0x08, 0x30, 0];
+
+const ECALL: [u8; 4] = [0x73, 0, 0, 0];
+
+const NOP: [u8; 4] = [0x13, 0, 0, 0];
+
+const STAY: [u8; 4] = [0x6f, 0, 0, 0];
+
+// `cjal x0,-4` and `cjal x0,16`
+const BACK: [u8; 4] = [0x6f, 0xf0, 0xdf, 0xff];
+
+const OUT: [u8; 4] = [0x6f, 0, 0, 0x01];
+
+const EBREAK: [u8; 4] = [0x73, 0, 0x10, 0];
+
+/// Four words, a relocation's offset in the text and its permission word, and the answer.
+const ROWS: [([[u8; 4]; 4], u64, u64, Verdict); 10] = [
+    ([ADDI, ECALL, NOP, STAY], 8, SENTRY + 3, Verdict::Yes),
+    ([[0; 4]; 4], 8, SENTRY + 3, Verdict::Word(TEXT, 1)),
+    (
+        [EBREAK, ECALL, NOP, STAY],
+        8,
+        SENTRY + 3,
+        Verdict::Word(TEXT, 2),
+    ),
+    (
+        [ADDI, ECALL, OUT, STAY],
+        8,
+        SENTRY + 3,
+        Verdict::Word(TEXT + 8, 3),
+    ),
+    (
+        [NOP, ECALL, NOP, STAY],
+        8,
+        SENTRY + 3,
+        Verdict::Word(TEXT + 4, 4),
+    ),
+    (
+        [ADDI, ECALL, BACK, STAY],
+        8,
+        SENTRY + 3,
+        Verdict::Word(TEXT + 4, 5),
+    ),
+    (
+        [ADDI, ECALL, NOP, STAY],
+        4,
+        SENTRY + 3,
+        Verdict::Word(TEXT + 4, 5),
+    ),
+    (
+        [ADDI, ECALL, STAY, NOP],
+        8,
+        SENTRY + 3,
+        Verdict::Word(TEXT + 12, 6),
+    ),
+    ([ADDI, ECALL, NOP, STAY], 8, 3, Verdict::Reloc(0, 7)),
+    ([ADDI, ECALL, NOP, STAY], 8, 125, Verdict::Reloc(0, 8)),
+];
+
+fn image(
+    alloc: Global,
+    words: &[[u8; 4]; 4],
+    offset: u64,
+    perms: u64,
+) -> Result<Image, AllocError> {
+    let mut text = Vec::new(alloc);
+    for word in words {
+        text.extend_from_slice(word)?;
+    }
+    let reloc = Reloc {
+        place: DATA,
+        base: TEXT,
+        offset,
+        length: 16,
+        perms,
+    };
+    Ok(Image {
+        version: 1,
+        entry: TEXT,
+        text_base: TEXT,
+        text: Sequence::from_vec(text),
+        initial_base: DATA,
+        initial: Sequence::from_vec(vec![in alloc; 0; 16]?),
+        table: (DATA, 16),
+        heap: (196_608, 0),
+        stack: (262_144, 4_096),
+        relocs: Sequence::from_vec(vec![in alloc; reloc]?),
+        lines: Sequence::from_vec(Vec::new(alloc)),
+    })
+}
+
+fn verdict(alloc: Global, words: &[[u8; 4]; 4], offset: u64, perms: u64) -> Option<Verdict> {
+    let i = image(alloc, words, offset, perms).ok()?;
+    let file = write(alloc, &i).ok()?;
+    let view = View::read(&file).ok()?;
+    let Ok(_machine) = load(alloc, &view) else {
+        return None;
+    };
+    audit(alloc, &view).ok()
+}
+
+#[test]
+fn answers_the_first_word_or_relocation(rt: HostRuntime) -> Result<(), Fail> {
+    for (words, offset, perms, wanted) in &ROWS {
+        assert_eq!(rt; verdict(rt.alloc(), words, *offset, *perms), Some(*wanted));
+    }
+    Ok(())
+}
