@@ -1,0 +1,6 @@
+pub mod Checked
+pub mod NextCall
+pub mod Choice
+pub mod Numbered
+pub mod Steps
+pub mod Finished

@@ -1,0 +1,4 @@
+pub mod Placed
+pub mod Calls
+pub mod Ranks
+pub mod Scanned
