@@ -1,0 +1,7 @@
+pub mod Ranges
+pub mod Numbers
+pub mod Counts
+pub mod Powers
+pub mod Placing
+pub mod FrameLaws
+pub mod EndLaws

@@ -1,0 +1,17 @@
+use Rattle.std.proofs.Common.{◌≡◌, List, length, ◌≤◌, subst, sym, rules}
+use Rattle.std.specs.List.{All}
+use Rattle.rv_instr.specs.declared.instr.Instr.{Instr}
+use Rattle.rv_instr.specs.Range.{InRange}
+use Rattle.purecap_abi.specs.Ends.{prologue_code}
+use Rattle.purecap_abi.proofs.EndLaws.{prologue_most}
+use Rattle.purecap_abi.proofs.ends.prologue.Goals as goal
+
+pub returns-clause-in_range : goal.returns-clause-in_range
+returns-clause-in_range c =
+    let e : c.keep_all.new.code.items ≡ prologue_code c.args.places.now.homes c.args.f.now = search rules in
+    subst (λ (is : List Instr). All InRange is) (sym e) (prologue_most c.args.places.now.homes c.args.f.now).in_range
+
+pub returns-clause-few : goal.returns-clause-few
+returns-clause-few c =
+    let e : c.keep_all.new.code.items ≡ prologue_code c.args.places.now.homes c.args.f.now = search rules in
+    subst (λ (is : List Instr). length is ≤ 27) (sym e) (prologue_most c.args.places.now.homes c.args.f.now).few

@@ -1,0 +1,6 @@
+pub mod Words
+pub mod Numbers
+pub mod Saving
+pub mod Ends
+pub mod Placing
+pub mod Frames
