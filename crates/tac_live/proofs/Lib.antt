@@ -1,0 +1,9 @@
+pub mod Numbers
+pub mod UseSteps
+pub mod LiveTemps
+pub mod BlockEnds
+pub mod LoopSteps
+pub mod CallSteps
+pub mod Pushes
+pub mod Numbered
+pub mod Needs

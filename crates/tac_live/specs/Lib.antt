@@ -1,0 +1,4 @@
+pub mod Uses
+pub mod Loops
+pub mod Live
+pub mod Calls
