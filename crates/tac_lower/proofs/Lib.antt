@@ -1,26 +1,2 @@
-pub mod Does
-pub mod Labels
-pub mod Follow
-pub mod Agreement
-pub mod ExpressionLaws
-pub mod StatementLaws
-pub mod Whole
-pub mod Selectable
-pub mod Formed
-pub mod Fitting
-pub mod Sizes
-pub mod Written
-pub mod Emitting
-pub mod Trees
-pub mod Alone
-pub mod Arms
-pub mod Blocks
-pub mod Assembled
-pub mod Typing
-pub mod TypingStatements
-pub mod TypingWeight
-pub mod TypingProgram
-pub mod Totals
-pub mod SameForm
-pub mod SameMeaning
-mod Rows
+mod Bare
+mod Below

@@ -1,5 +1,2 @@
-pub mod Form
-pub mod Pieces
-pub mod Compiled
-pub mod Emitted
-pub mod Sizes
+pub mod Known
+pub mod Lowered

@@ -1,17 +1,27 @@
 //! The code of a function while it is made.
 
-ghost use Rattle.std.specs.Prelude.{◌≡◌, ◌+◌, [], ◌∷◌, ◌^◌, ◌<◌, length, IfOk};
-ghost use Rattle.tac_ir.specs.declared.code.TacKind.TheVariants as kinds;
-ghost use Rattle.tac_lower.specs.Pieces.{Nothing, One};
-ghost use Rattle.tac_lower.specs.Emitted.{Emits};
-
-use ck_base::NoMemory;
-use ck_int::IntKind;
+use ck_base::{NoMemory, Pos, Sequence};
+use ck_int::{CmpOp, IntKind, IntOp};
 use std::alloc::Global;
-use tac_ir::{TacInstr, TacKind};
+use tac_ir::{Amount, CapWork, LibOp, TacInstr, TacKind};
 
-/// A function has fewer temps than this, and fewer labels.
-const LIMIT: u32 = 2_147_483_648;
+/// The labels of a choice: where its second way begins, and where both ways end.
+#[derive(Clone, Copy)]
+pub struct Fork {
+    pub other: u32,
+    pub end: u32,
+}
+
+/// A copy of a struct or union in units, with the positions of the place read and of the place written.
+#[derive(Clone, Copy)]
+pub struct Copied {
+    pub from: u32,
+    pub to: u32,
+    pub bytes: u64,
+    pub unit: u8,
+    pub from_pos: Pos,
+    pub to_pos: Pos,
+}
 
 /// The instructions so far, the kinds of the temps so far, and how many labels they have.
 #[derive(Drop)]
@@ -23,11 +33,7 @@ pub struct Emitter {
 
 impl Emitter {
     /// No instructions.
-    pub fn new(alloc: Global) -> Self
-        ensures code { result.code.items ≡ [] }
-        ensures kinds { result.kinds.items ≡ [] }
-        ensures labels { result.labels ≡ 0 }
-    {
+    pub fn new(alloc: Global) -> Self {
         Emitter {
             code: Vec::new(alloc),
             kinds: Vec::new(alloc),
@@ -35,38 +41,243 @@ impl Emitter {
         }
     }
 
-    /// An instruction is added.
-    pub fn push(&mut self, i: TacInstr) -> Result<(), NoMemory>
-        ensures { IfOk result (λ _. Emits self.old self.new (One i) []) }
-    {
+    fn push(&mut self, i: TacInstr) -> Result<(), NoMemory> {
         self.code.push(i)?;
         Ok(())
     }
 
-    /// A new temp.
-    pub fn temp(&mut self, kind: IntKind) -> Result<u32, NoMemory>
-        ensures temp { IfOk result (λ t. t ≡ length self.old.kinds.items) }
-        ensures emits { IfOk result (λ _. Emits self.old self.new Nothing (kinds.Int kind ∷ [])) }
-    {
-        let t = self.kinds.len();
-        if t >= LIMIT as usize {
-            return Err(NoMemory);
-        }
-        self.kinds.push(TacKind::Int(kind))?;
-        Ok(t as u32)
+    /// How many temps there are. Numbers above those of 32 bits are all alike.
+    pub fn temps(&self) -> u32 {
+        u32::try_from(self.kinds.len()).unwrap_or(u32::MAX)
     }
 
-    /// New labels: the first of them.
-    pub fn label(&mut self, count: u32) -> Result<u32, NoMemory>
-        ensures label { IfOk result (λ l. l ≡ self.old.labels) }
-        ensures small { IfOk result (λ l. l < 2 ^ 31) }
-        ensures new { IfOk result (λ _. self.new ≡ record self.old { labels = self.old.labels + count }) }
-    {
+    /// A new temp.
+    pub fn temp(&mut self, kind: TacKind) -> Result<u32, NoMemory> {
+        let t = self.temps();
+        self.kinds.push(kind)?;
+        Ok(t)
+    }
+
+    /// A new label.
+    pub fn label(&mut self) -> u32 {
         let l = self.labels;
-        if l >= LIMIT || count >= LIMIT {
-            return Err(NoMemory);
+        self.labels = l.saturating_add(1);
+        l
+    }
+
+    /// Two new labels of a choice.
+    pub fn fork(&mut self) -> Fork {
+        let other = self.label();
+        let end = self.label();
+        Fork { other, end }
+    }
+
+    /// The first way of a choice ends, and the second begins.
+    pub fn turn_fork(&mut self, fork: Fork) -> Result<(), NoMemory> {
+        self.jump(fork.end)?;
+        self.stand(fork.other)
+    }
+
+    /// The second way of a choice ends.
+    pub fn join_fork(&mut self, fork: Fork) -> Result<(), NoMemory> {
+        self.stand(fork.end)
+    }
+
+    /// An integer in the 64 bits of its extension, or null with that address.
+    pub fn constant(&mut self, to: u32, kind: TacKind, value: u64) -> Result<(), NoMemory> {
+        self.push(TacInstr::Const { to, kind, value })
+    }
+
+    /// A new temp with a constant.
+    pub fn fresh_constant(&mut self, kind: TacKind, value: u64) -> Result<u32, NoMemory> {
+        let t = self.temp(kind)?;
+        self.constant(t, kind, value)?;
+        Ok(t)
+    }
+
+    pub fn copy(&mut self, to: u32, from: u32) -> Result<(), NoMemory> {
+        self.push(TacInstr::Copy { to, from })
+    }
+
+    /// A copy, unless the value is there.
+    pub fn transfer(&mut self, to: u32, from: u32) -> Result<(), NoMemory> {
+        if to == from {
+            Ok(())
+        } else {
+            self.copy(to, from)
         }
-        self.labels = l + count;
-        Ok(l)
+    }
+
+    /// A transfer, where the value is asked for.
+    pub fn give(&mut self, to: Option<u32>, from: u32) -> Result<(), NoMemory> {
+        match to {
+            None => Ok(()),
+            Some(t) => self.transfer(t, from),
+        }
+    }
+
+    pub fn int(
+        &mut self,
+        op: IntOp,
+        kind: IntKind,
+        to: u32,
+        a: u32,
+        b: u32,
+    ) -> Result<(), NoMemory> {
+        self.push(TacInstr::Int { op, kind, to, a, b })
+    }
+
+    pub fn compare(
+        &mut self,
+        op: CmpOp,
+        kind: TacKind,
+        to: u32,
+        a: u32,
+        b: u32,
+    ) -> Result<(), NoMemory> {
+        self.push(TacInstr::Cmp { op, kind, to, a, b })
+    }
+
+    pub fn convert(
+        &mut self,
+        to: u32,
+        from: u32,
+        old: TacKind,
+        new: TacKind,
+    ) -> Result<(), NoMemory> {
+        self.push(TacInstr::Convert { to, from, old, new })
+    }
+
+    /// A new temp with a converted value.
+    pub fn fresh_conversion(
+        &mut self,
+        from: u32,
+        old: TacKind,
+        new: TacKind,
+    ) -> Result<u32, NoMemory> {
+        let t = self.temp(new)?;
+        self.convert(t, from, old, new)?;
+        Ok(t)
+    }
+
+    pub fn work(&mut self, op: CapWork, to: u32, a: u32, b: Option<u32>) -> Result<(), NoMemory> {
+        self.push(TacInstr::Cap { op, to, a, b })
+    }
+
+    pub fn offset(&mut self, to: u32, base: u32, by: Amount) -> Result<(), NoMemory> {
+        self.push(TacInstr::Offset { to, base, by })
+    }
+
+    pub fn narrow(
+        &mut self,
+        to: u32,
+        base: u32,
+        length: Amount,
+        exact: bool,
+    ) -> Result<(), NoMemory> {
+        self.push(TacInstr::Narrow {
+            to,
+            base,
+            length,
+            exact,
+        })
+    }
+
+    pub fn load(&mut self, to: u32, from: u32, kind: TacKind, pos: Pos) -> Result<(), NoMemory> {
+        self.push(TacInstr::Load {
+            to,
+            from,
+            kind,
+            pos,
+        })
+    }
+
+    pub fn store(&mut self, at: u32, value: u32, kind: TacKind, pos: Pos) -> Result<(), NoMemory> {
+        self.push(TacInstr::Store {
+            at,
+            value,
+            kind,
+            pos,
+        })
+    }
+
+    /// The block of an object is entered: its bytes become zero, and the pointer to it is made.
+    pub fn enter_object(&mut self, to: u32, var: u32) -> Result<(), NoMemory> {
+        self.push(TacInstr::Zero { var })?;
+        self.push(TacInstr::Local { to, var })
+    }
+
+    pub fn global(&mut self, to: u32, number: u32, literal: bool) -> Result<(), NoMemory> {
+        self.push(TacInstr::Global {
+            to,
+            number,
+            literal,
+        })
+    }
+
+    pub fn function(&mut self, to: u32, fun: u32) -> Result<(), NoMemory> {
+        self.push(TacInstr::Function { to, fun })
+    }
+
+    pub fn copy_units(&mut self, c: Copied) -> Result<(), NoMemory> {
+        self.push(TacInstr::CopyUnits {
+            from: c.from,
+            to: c.to,
+            bytes: c.bytes,
+            unit: c.unit,
+            from_pos: c.from_pos,
+            to_pos: c.to_pos,
+        })
+    }
+
+    /// A label stands here.
+    pub fn stand(&mut self, label: u32) -> Result<(), NoMemory> {
+        self.push(TacInstr::Label(label))
+    }
+
+    pub fn jump(&mut self, label: u32) -> Result<(), NoMemory> {
+        self.push(TacInstr::Jump(label))
+    }
+
+    pub fn branch(&mut self, on: u32, when: bool, label: u32) -> Result<(), NoMemory> {
+        self.push(TacInstr::Branch { on, when, label })
+    }
+
+    pub fn call(&mut self, to: Option<u32>, fun: u32, args: Vec<u32>) -> Result<(), NoMemory> {
+        let args = Sequence::from_vec(args);
+        self.push(TacInstr::Call { to, fun, args })
+    }
+
+    pub fn call_value(
+        &mut self,
+        to: Option<u32>,
+        value: u32,
+        of: u32,
+        args: Vec<u32>,
+        pos: Pos,
+    ) -> Result<(), NoMemory> {
+        let args = Sequence::from_vec(args);
+        self.push(TacInstr::CallValue {
+            to,
+            value,
+            of,
+            args,
+            pos,
+        })
+    }
+
+    pub fn service(&mut self, op: LibOp, to: Option<u32>, args: Vec<u32>) -> Result<(), NoMemory> {
+        let args = Sequence::from_vec(args);
+        self.push(TacInstr::Lib { op, to, args })
+    }
+
+    /// One turn is used, and a loop begins again.
+    pub fn turn_back(&mut self, top: u32) -> Result<(), NoMemory> {
+        self.push(TacInstr::Turn)?;
+        self.jump(top)
+    }
+
+    pub fn leave(&mut self, value: Option<u32>) -> Result<(), NoMemory> {
+        self.push(TacInstr::Return(value))
     }
 }

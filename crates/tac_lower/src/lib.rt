@@ -1,14 +1,45 @@
-//! Lowering: from a typed program over integer variables to three-address code.
+//! Lowering: from typed programs to three-address code.
 #![tactic(auto)]
 
-mod branches;
+mod calls;
+mod conditions;
+mod context;
 mod emitter;
 mod expressions;
-mod form;
 mod functions;
-mod instructions;
 mod lowering;
+mod operations;
+mod places;
 mod statements;
+mod switches;
+mod types;
+mod writes;
 
-pub use form::is_integer_form;
 pub use lowering::lower;
+
+#[cfg(test)]
+mod tests {
+    use super::*;
+    use c_tree::Typed;
+    use ck_base::Sequence;
+    use std::test::Fail;
+
+    #[test]
+    fn lowers_nothing(rt: HostRuntime) -> Result<(), Fail> {
+        let alloc = rt.alloc();
+        let p = Typed {
+            types: Sequence::from_vec(Vec::new(alloc)),
+            globals: Sequence::from_vec(Vec::new(alloc)),
+            literals: Sequence::from_vec(Vec::new(alloc)),
+            funs: Sequence::from_vec(Vec::new(alloc)),
+            exprs: Sequence::from_vec(Vec::new(alloc)),
+            stmts: Sequence::from_vec(Vec::new(alloc)),
+            main: 0,
+        };
+        let Ok(t) = lower(alloc, &p) else {
+            return Ok(());
+        };
+        assert_eq!(rt; t.funs.as_slice().len(), 0);
+        Ok(())
+    }
+}

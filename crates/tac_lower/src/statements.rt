@@ -1,193 +1,367 @@
-//! The code of statements.
+//! Statements.
 
-ghost use Rattle.std.specs.Prelude.{◌≡◌, ◌<◌, true, slice_get, map, IfOk, MatchOption, Some, None};
-ghost use Rattle.std.specs.List.{list_all, AllByRecursion};
-ghost use Rattle.cheri_c_sem.specs.Order.{Ordered, IsBefore};
-ghost use Rattle.cheri_c_sem.specs.Programs.{stmt_tree, statements, statement_or_empty, expression_of, declared};
-ghost use Rattle.cheri_c_sem.specs.Expressions.{expr_tree};
-ghost use Rattle.cheri_c_sem.specs.Tree as tree;
-ghost use Rattle.tac_lower.specs.Form.{is_form_expression, is_form_statement};
-ghost use Rattle.tac_lower.specs.Compiled.{kind_of_variable, variable_kinds, AreVariables, StatementFits, StatementsFit};
-ghost use Rattle.tac_lower.specs.Emitted.{AreZeros, IsList, Makes, ValuesThere};
+ghost use Rattle.std.specs.Prelude.{◌<◌};
+ghost use Rattle.cheri_c_sem.specs.Order.{Ordered};
+ghost use Rattle.tac_lower.specs.Known.{AreBelow};
 
-use crate::branches::{begin_choice, begin_loop, end_choice, end_loop, test_loop, turn_choice};
+use crate::conditions::{Jump, condition};
+use crate::context::{Context, Home};
 use crate::emitter::Emitter;
-use crate::expressions::{expression, kind_at};
-use crate::form::plain_kind;
-use crate::instructions::constant;
-use c_tree::{FunDef, Stmt, StmtKind, Typed, VarDef};
-use ck_base::NoMemory;
-use ck_int::IntKind;
-use std::alloc::Global;
-use tac_ir::{TacInstr, TacKind};
+use crate::expressions::{effect, operand, value};
+use crate::places::{Destination, Target, struct_copy, within};
+use crate::switches::{Cases, compared_cases};
+use crate::types::unit_of;
+use crate::writes::Written;
+use c_tree::{StmtKind, SwitchLabel};
+use ck_base::{NoMemory, Pos};
 
-// Statement `k`, if there is one.
-fn node(p: &Typed, k: u32) -> Option<&Stmt>
-    ensures { MatchOption result (slice_get p.now.stmts k ≡ None) (λ s. slice_get p.now.stmts k ≡ Some s.now) }
-{
-    p.stmts.as_slice().get(k as usize)
+/// Where `break` and `continue` lead, if there are such places.
+#[derive(Clone, Copy)]
+pub struct Exits {
+    pub break_to: Option<u32>,
+    pub continue_to: Option<u32>,
 }
 
-// Variable `x`, if there is one.
-fn variable(d: &FunDef, x: u32) -> Option<&VarDef>
-    ensures { MatchOption result (slice_get d.now.vars x ≡ None) (λ v. slice_get d.now.vars x ≡ Some v.now) }
-{
-    d.vars.as_slice().get(x as usize)
-}
-
-// The kind of variable `x`.
-#[tactic(auto, using(crate::proofs::Blocks::variable_some, crate::proofs::Blocks::variable_none))]
-fn variable_kind(p: &Typed, d: &FunDef, x: u32) -> IntKind
-    ensures { result ≡ kind_of_variable (variable_kinds p.now d.now) x }
-{
-    match variable(d, x) {
-        Some(v) => plain_kind(p.types.as_slice(), v.of),
-        None => IntKind::I32,
+/// A variable's block is entered.
+fn enter_variable(cx: Context, x: u32, out: &mut Emitter) -> Result<(), NoMemory> {
+    match cx.home(x) {
+        None => Ok(()),
+        Some(Home::Temp(t, kind)) => out.constant(t, kind, 0),
+        Some(Home::Object(n, t)) => out.enter_object(t, n),
     }
 }
 
-// The variables of a block are 0 where it is entered.
-fn zeros(p: &Typed, d: &FunDef, vars: &[u32], out: &mut Emitter) -> Result<(), NoMemory>
-    requires { AreVariables (variable_kinds p.now d.now) (map (declared p.now d.now.vars) vars.now) }
-    ensures { IfOk result (λ _. AreZeros (variable_kinds p.now d.now) (declared p.now d.now.vars) out.old out.new vars.now) }
-{
+/// A block is entered: its variables are 0 or null, and its objects are zero bytes.
+fn enter(cx: Context, vars: &[u32], out: &mut Emitter) -> Result<(), NoMemory> {
     for x in vars {
-        let kind = variable_kind(p, d, *x);
-        out.push(TacInstr::Const {
-            to: *x,
-            kind: TacKind::Int(kind),
-            value: 0,
-        })?;
+        enter_variable(cx, *x, out)?;
     }
     Ok(())
 }
 
-// The code of a `return`, with its value if it has one.
-#[tactic(auto, using(crate::proofs::Blocks::return_code, crate::proofs::Blocks::return_zero))]
-fn leave(
-    alloc: Global,
-    p: &Typed,
-    d: &FunDef,
-    a: Option<u32>,
+/// The initialisation of a part of an object, the pointer to which is in a temp.
+fn initialise_object(
+    cx: Context,
+    base: u32,
+    offset: u64,
+    a: u32,
+    pos: Pos,
     out: &mut Emitter,
 ) -> Result<(), NoMemory>
-    requires ordered { Ordered p.now }
-    requires form { list_all (is_form_expression p.now) p.now.exprs ≡ true }
-    requires fits { StatementFits (variable_kinds p.now d.now) (tree.Return (expression_of (expr_tree p.now d.now.vars) a)) }
-    ensures { IfOk result (λ _. Makes (variable_kinds p.now d.now) out.old out.new (tree.Return (expression_of (expr_tree p.now d.now.vars) a))) }
+    requires ordered { Ordered cx.p.now }
+{
+    let facts = cx.facts(a);
+    if facts.record {
+        let destination = Destination {
+            to: Target::Within(base, offset),
+            pos,
+            bytes: facts.size,
+            unit: unit_of(facts.align),
+        };
+        return struct_copy(cx, a, destination, out);
+    }
+    let v = operand(cx, a, Written::Nothing, out)?;
+    let at = within(out, base, offset)?;
+    out.store(at, v, cx.kind(a), pos)
+}
+
+/// The initialisation of a variable, or of a part of an object, by expression `a`.
+fn initialise(
+    cx: Context,
+    x: u32,
+    offset: u64,
+    a: u32,
+    pos: Pos,
+    out: &mut Emitter,
+) -> Result<(), NoMemory>
+    requires ordered { Ordered cx.p.now }
+{
+    match cx.home(x) {
+        None => effect(cx, a, out),
+        Some(Home::Temp(t, _)) => value(cx, a, t, out),
+        Some(Home::Object(_, base)) => initialise_object(cx, base, offset, a, pos, out),
+    }
+}
+
+/// A jump to a place, if there is one.
+fn jump_out(out: &mut Emitter, to: Option<u32>) -> Result<(), NoMemory> {
+    match to {
+        None => Ok(()),
+        Some(label) => out.jump(label),
+    }
+}
+
+fn leave(cx: Context, a: Option<u32>, out: &mut Emitter) -> Result<(), NoMemory>
+    requires ordered { Ordered cx.p.now }
 {
     match a {
-        Some(v) => {
-            let value = expression(alloc, p, d, v, IntKind::I32, out)?;
-            out.push(TacInstr::Return(Some(value)))
-        }
-        None => {
-            let value = constant(out, IntKind::I32, 0)?;
-            out.push(TacInstr::Return(Some(value)))
+        None => out.leave(None),
+        Some(a) => {
+            let v = operand(cx, a, Written::Nothing, out)?;
+            out.leave(Some(v))
         }
     }
 }
 
-/// The code of statement `k`.
-#[cycle(statements)]
-pub fn statement(
-    alloc: Global,
-    p: &Typed,
-    d: &FunDef,
-    k: u32,
+/// The labels of a loop: where it begins, where its step is, and where it ends.
+#[derive(Clone, Copy)]
+struct Circle {
+    top: u32,
+    next: u32,
+    end: u32,
+}
+
+/// A loop begins.
+fn begin_loop(out: &mut Emitter) -> Result<Circle, NoMemory> {
+    let circle = Circle {
+        top: out.label(),
+        next: out.label(),
+        end: out.label(),
+    };
+    out.stand(circle.top)?;
+    Ok(circle)
+}
+
+/// It is left where a test, if there is one, is false.
+fn test_loop(
+    cx: Context,
+    test: Option<u32>,
+    circle: Circle,
     out: &mut Emitter,
 ) -> Result<(), NoMemory>
-    requires ordered { Ordered p.now }
-    requires there { ValuesThere p.now }
-    requires form { list_all (is_form_expression p.now) p.now.exprs ≡ true }
-    requires statements { list_all is_form_statement p.now.stmts ≡ true }
-    requires fits { StatementFits (variable_kinds p.now d.now) (stmt_tree p.now d.now.vars k) }
-    ensures { IfOk result (λ _. Makes (variable_kinds p.now d.now) out.old out.new (stmt_tree p.now d.now.vars k)) }
+    requires ordered { Ordered cx.p.now }
 {
-    let Some(s) = node(p, k) else {
+    match test {
+        None => Ok(()),
+        Some(c) => {
+            let jump = Jump {
+                when: false,
+                label: circle.end,
+            };
+            condition(cx, c, jump, out)
+        }
+    }
+}
+
+/// Its step, if there is one.
+fn step_loop(cx: Context, step: Option<u32>, out: &mut Emitter) -> Result<(), NoMemory>
+    requires ordered { Ordered cx.p.now }
+{
+    match step {
+        None => Ok(()),
+        Some(e) => effect(cx, e, out),
+    }
+}
+
+/// It begins again, and ends here.
+fn end_loop(out: &mut Emitter, circle: Circle) -> Result<(), NoMemory> {
+    out.turn_back(circle.top)?;
+    out.stand(circle.end)
+}
+
+/// The body of a loop, and the label of what follows it in the loop.
+#[cycle(statements)]
+fn loop_body(cx: Context, body: u32, circle: Circle, out: &mut Emitter) -> Result<(), NoMemory>
+    requires ordered { Ordered cx.p.now }
+{
+    let exits = Exits {
+        break_to: Some(circle.end),
+        continue_to: Some(circle.next),
+    };
+    statement(cx, body, exits, out)?;
+    out.stand(circle.next)
+}
+
+/// A `while` or `for` loop (C11 6.8.5.1, 6.8.5.3).
+#[cycle(statements)]
+fn tested_loop(
+    cx: Context,
+    test: Option<u32>,
+    step: Option<u32>,
+    body: u32,
+    out: &mut Emitter,
+) -> Result<(), NoMemory>
+    requires ordered { Ordered cx.p.now }
+{
+    let circle = begin_loop(out)?;
+    test_loop(cx, test, circle, out)?;
+    loop_body(cx, body, circle, out)?;
+    step_loop(cx, step, out)?;
+    end_loop(out, circle)
+}
+
+/// A `do` loop (C11 6.8.5.2).
+#[cycle(statements)]
+fn repeated_loop(cx: Context, body: u32, test: u32, out: &mut Emitter) -> Result<(), NoMemory>
+    requires ordered { Ordered cx.p.now }
+{
+    let circle = begin_loop(out)?;
+    loop_body(cx, body, circle, out)?;
+    test_loop(cx, Some(test), circle, out)?;
+    end_loop(out, circle)
+}
+
+/// An `if` with two branches, in statement `k`.
+#[cycle(statements)]
+fn choice(
+    cx: Context,
+    k: u32,
+    c: u32,
+    a: u32,
+    b: u32,
+    exits: Exits,
+    out: &mut Emitter,
+) -> Result<(), NoMemory>
+    requires ordered { Ordered cx.p.now }
+    requires a_before { a < k }
+    requires b_before { b < k }
+{
+    let fork = out.fork();
+    let jump = Jump {
+        when: false,
+        label: fork.other,
+    };
+    condition(cx, c, jump, out)?;
+    statement(cx, a, exits, out)?;
+    out.turn_fork(fork)?;
+    statement(cx, b, exits, out)?;
+    out.join_fork(fork)
+}
+
+/// An `if` with one branch.
+#[cycle(statements)]
+fn guarded(cx: Context, c: u32, a: u32, exits: Exits, out: &mut Emitter) -> Result<(), NoMemory>
+    requires ordered { Ordered cx.p.now }
+{
+    let label = out.label();
+    condition(cx, c, Jump { when: false, label }, out)?;
+    statement(cx, a, exits, out)?;
+    out.stand(label)
+}
+
+/// Statements whose numbers are below `k`.
+#[tactic(auto, using(crate::proofs::Below::below))]
+#[cycle(statements)]
+fn statements(
+    cx: Context,
+    k: u32,
+    body: &[u32],
+    exits: Exits,
+    out: &mut Emitter,
+) -> Result<(), NoMemory>
+    requires ordered { Ordered cx.p.now }
+    requires before { AreBelow k body.now }
+{
+    for s in body {
+        statement(cx, *s, exits, out)?;
+    }
+    Ok(())
+}
+
+/// The statements of a `switch`, whose numbers are below `k`, among its labels.
+#[tactic(auto, using(crate::proofs::Below::below))]
+#[cycle(statements)]
+fn labelled(
+    cx: Context,
+    k: u32,
+    body: &[u32],
+    cases: &Cases,
+    exits: Exits,
+    out: &mut Emitter,
+) -> Result<(), NoMemory>
+    requires ordered { Ordered cx.p.now }
+    requires before { AreBelow k body.now }
+{
+    let mut first: usize = 0;
+    let mut before: u32 = 0;
+    for s in body {
+        first = cases.stand_at(first, before, out)?;
+        statement(cx, *s, exits, out)?;
+        before = before.saturating_add(1);
+    }
+    cases.stand_behind(first, out)
+}
+
+/// A `switch`, statement `k` (C11 6.8.4.2). Its block is entered once, ahead of the comparisons.
+#[cycle(statements)]
+fn switch(
+    cx: Context,
+    k: u32,
+    on: u32,
+    vars: &[u32],
+    labels: &[SwitchLabel],
+    body: &[u32],
+    exits: Exits,
+    out: &mut Emitter,
+) -> Result<(), NoMemory>
+    requires ordered { Ordered cx.p.now }
+    requires before { AreBelow k body.now }
+{
+    let v = operand(cx, on, Written::Nothing, out)?;
+    enter(cx, vars, out)?;
+    let end = out.label();
+    let cases = compared_cases(cx.alloc, labels, v, cx.kind(on), end, out)?;
+    let inside = Exits {
+        break_to: Some(end),
+        continue_to: exits.continue_to,
+    };
+    labelled(cx, k, body, &cases, inside, out)?;
+    out.stand(end)
+}
+
+/// Statement `k`.
+#[tactic(auto, using(crate::proofs::Below::block_body, crate::proofs::Below::if_first, crate::proofs::Below::if_second, crate::proofs::Below::while_body, crate::proofs::Below::do_body, crate::proofs::Below::for_first, crate::proofs::Below::for_body, crate::proofs::Below::switch_body))]
+#[cycle(statements)]
+pub fn statement(cx: Context, k: u32, exits: Exits, out: &mut Emitter) -> Result<(), NoMemory>
+    requires ordered { Ordered cx.p.now }
+{
+    let Some(s) = cx.stmt(k) else {
         return Ok(());
     };
     match &s.kind {
-        StmtKind::Expr(a) => {
-            expression(alloc, p, d, *a, IntKind::U64, out)?;
-            Ok(())
-        }
-        StmtKind::Init { var, value, .. } => {
-            let kind = variable_kind(p, d, *var);
-            let from = expression(alloc, p, d, *value, kind, out)?;
-            out.push(TacInstr::Copy { to: *var, from })
+        StmtKind::Expr(a) => effect(cx, *a, out),
+        StmtKind::Init { var, offset, value } => {
+            initialise(cx, *var, *offset, *value, s.pos, out)
         }
         StmtKind::Block { vars, body } => {
-            zeros(p, d, vars.as_slice(), out)?;
-            block(alloc, p, d, k, body.as_slice(), out)
+            enter(cx, vars.as_slice(), out)?;
+            statements(cx, k, body.as_slice(), exits, out)
         }
-        StmtKind::If(c, a, b) => {
-            let kind = kind_at(p, *c);
-            let on = expression(alloc, p, d, *c, kind, out)?;
-            let label = begin_choice(out, on)?;
-            statement(alloc, p, d, *a, out)?;
-            turn_choice(out, label)?;
-            otherwise(alloc, p, d, k, *b, out)?;
-            end_choice(out, label)
+        StmtKind::If(c, a, b) => match b {
+            Some(b) => choice(cx, k, *c, *a, *b, exits, out),
+            None => guarded(cx, *c, *a, exits, out),
+        },
+        StmtKind::While(c, a) => tested_loop(cx, Some(*c), None, *a, out),
+        StmtKind::Do(a, c) => repeated_loop(cx, *a, *c, out),
+        StmtKind::For {
+            vars,
+            first,
+            test,
+            step,
+            body,
+        } => {
+            enter(cx, vars.as_slice(), out)?;
+            statements(cx, k, first.as_slice(), exits, out)?;
+            tested_loop(cx, *test, *step, *body, out)
         }
-        StmtKind::While(c, a) => {
-            let label = begin_loop(out)?;
-            let kind = kind_at(p, *c);
-            let on = expression(alloc, p, d, *c, kind, out)?;
-            test_loop(out, on, label)?;
-            statement(alloc, p, d, *a, out)?;
-            end_loop(out, label)
-        }
-        StmtKind::Return(a) => leave(alloc, p, d, *a, out),
+        StmtKind::Switch {
+            on,
+            vars,
+            labels,
+            body,
+        } => switch(
+            cx,
+            k,
+            *on,
+            vars.as_slice(),
+            labels.as_slice(),
+            body.as_slice(),
+            exits,
+            out,
+        ),
+        StmtKind::Break => jump_out(out, exits.break_to),
+        StmtKind::Continue => jump_out(out, exits.continue_to),
+        StmtKind::Return(a) => leave(cx, *a, out),
         StmtKind::Empty => Ok(()),
-        _ => unreachable!(),
     }
-}
-
-// The code of the second branch of statement `k`, if it has one.
-#[cycle(statements)]
-fn otherwise(
-    alloc: Global,
-    p: &Typed,
-    d: &FunDef,
-    k: u32,
-    b: Option<u32>,
-    out: &mut Emitter,
-) -> Result<(), NoMemory>
-    requires ordered { Ordered p.now }
-    requires there { ValuesThere p.now }
-    requires form { list_all (is_form_expression p.now) p.now.exprs ≡ true }
-    requires statements { list_all is_form_statement p.now.stmts ≡ true }
-    requires fits { StatementFits (variable_kinds p.now d.now) (statement_or_empty (stmt_tree p.now d.now.vars) b) }
-    requires before { IsBefore k b }
-    ensures { IfOk result (λ _. Makes (variable_kinds p.now d.now) out.old out.new (statement_or_empty (stmt_tree p.now d.now.vars) b)) }
-{
-    match b {
-        Some(s) => statement(alloc, p, d, s, out),
-        None => Ok(()),
-    }
-}
-
-// The code of the statements of block `k`.
-#[cycle(statements)]
-fn block(
-    alloc: Global,
-    p: &Typed,
-    d: &FunDef,
-    k: u32,
-    body: &[u32],
-    out: &mut Emitter,
-) -> Result<(), NoMemory>
-    requires ordered { Ordered p.now }
-    requires there { ValuesThere p.now }
-    requires form { list_all (is_form_expression p.now) p.now.exprs ≡ true }
-    requires statements { list_all is_form_statement p.now.stmts ≡ true }
-    requires fits { StatementsFit (variable_kinds p.now d.now) (statements (stmt_tree p.now d.now.vars) body.now) }
-    requires before { AllByRecursion (λ c. c < k) body.now }
-    ensures { IfOk result (λ _. IsList (variable_kinds p.now d.now) (stmt_tree p.now d.now.vars) out.old out.new body.now) }
-{
-    for s in body {
-        statement(alloc, p, d, *s, out)?;
-    }
-    Ok(())
 }

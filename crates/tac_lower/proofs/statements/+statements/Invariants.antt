@@ -1,17 +1,29 @@
-use Rattle.std.proofs.Common.{◌+◌, ◌*◌, drop}
-use Rattle.cheri_c_sem.specs.Programs.{stmt_tree}
-use Rattle.tac_lower.specs.Compiled.{variable_kinds}
-use Rattle.tac_lower.specs.Emitted.{Continues}
+use Rattle.std.proofs.Common.{◌+◌, ◌*◌}
 use Rattle.tac_lower.proofs.statements.+statements.Given as goal
 
-abbrev pub decreases-block : goal.decreases-block
-decreases-block l = 2 * l.k
+abbrev pub decreases-loop_body : goal.decreases-loop_body
+decreases-loop_body l = 8 * l.body + 5
 
-abbrev pub decreases-otherwise : goal.decreases-otherwise
-decreases-otherwise l = 2 * l.k
+abbrev pub decreases-tested_loop : goal.decreases-tested_loop
+decreases-tested_loop l = 8 * l.body + 6
+
+abbrev pub decreases-repeated_loop : goal.decreases-repeated_loop
+decreases-repeated_loop l = 8 * l.body + 6
+
+abbrev pub decreases-choice : goal.decreases-choice
+decreases-choice l = 8 * l.k + 1
+
+abbrev pub decreases-guarded : goal.decreases-guarded
+decreases-guarded l = 8 * l.a + 6
+
+abbrev pub decreases-statements : goal.decreases-statements
+decreases-statements l = 8 * l.k + 1
+
+abbrev pub decreases-labelled : goal.decreases-labelled
+decreases-labelled l = 8 * l.k + 1
+
+abbrev pub decreases-switch : goal.decreases-switch
+decreases-switch l = 8 * l.k + 2
 
 abbrev pub decreases-statement : goal.decreases-statement
-decreases-statement l = 2 * l.k + 1
-
-abbrev pub invariant-block-loop-s : goal.invariant-block-loop-s
-invariant-block-loop-s l = Continues (variable_kinds l.p l.d) (stmt_tree l.p l.d.vars) l.fn.out l.out l.body (drop l.s-index l.body)
+decreases-statement l = 8 * l.k + 4

@@ -1,0 +1,6 @@
+use Rattle.std.proofs.Common.{◌≡◌, take}
+use Rattle.tac_lower.specs.Lowered.{names_of, names_in}
+use Rattle.tac_lower.proofs.lowering.lower.Given as goal
+
+abbrev pub invariant-loop-d : goal.invariant-loop-d
+invariant-loop-d l = names_of l.funs.items ≡ names_in (take l.d-index l.defs)

@@ -1,0 +1,331 @@
+//! Operations on values that are in temps.
+
+use crate::emitter::Emitter;
+use crate::types::{LONG, POINTER, WORD, is_capability};
+use ck_base::NoMemory;
+use ck_int::{CmpOp, IntKind, IntOp, wrap};
+use tac_ir::{Amount, CapWork, TacKind};
+
+/// A value in a temp, with its kind.
+#[derive(Clone, Copy)]
+pub struct Held {
+    pub temp: u32,
+    pub kind: TacKind,
+}
+
+fn is_shift(op: IntOp) -> bool {
+    matches!(op, IntOp::Shl | IntOp::Shr)
+}
+
+/// The number all of whose bits are set, as a kind keeps it.
+fn all_ones(kind: IntKind) -> u64 {
+    wrap(kind, i128::from(u64::MAX))
+}
+
+/// Whether a value is 0 or null.
+pub fn negated(out: &mut Emitter, to: u32, x: Held) -> Result<(), NoMemory> {
+    let zero = out.fresh_constant(x.kind, 0)?;
+    out.compare(CmpOp::Eq, x.kind, to, x.temp, zero)
+}
+
+/// 0 less an integer.
+fn negative(out: &mut Emitter, kind: IntKind, to: u32, a: u32) -> Result<(), NoMemory> {
+    let zero = out.fresh_constant(TacKind::Int(kind), 0)?;
+    out.int(IntOp::Sub, kind, to, zero, a)
+}
+
+/// An integer with each bit turned.
+fn complement(out: &mut Emitter, kind: IntKind, to: u32, a: u32) -> Result<(), NoMemory> {
+    let ones = out.fresh_constant(TacKind::Int(kind), all_ones(kind))?;
+    out.int(IntOp::Xor, kind, to, a, ones)
+}
+
+/// The unary operations that give a value of their operand's kind (C11 6.5.3.3).
+#[derive(Clone, Copy, PartialEq, Eq)]
+pub enum Sign {
+    Positive,
+    Negative,
+    Complement,
+}
+
+fn signed_integer(
+    out: &mut Emitter,
+    sign: Sign,
+    kind: IntKind,
+    to: u32,
+    a: u32,
+) -> Result<(), NoMemory> {
+    match sign {
+        Sign::Positive => out.transfer(to, a),
+        Sign::Negative => negative(out, kind, to, a),
+        Sign::Complement => complement(out, kind, to, a),
+    }
+}
+
+/// The computed address stands in a temp of its own, and the capability gets it.
+fn signed_capability(out: &mut Emitter, sign: Sign, to: u32, x: Held) -> Result<(), NoMemory> {
+    let n = out.fresh_conversion(x.temp, x.kind, WORD)?;
+    signed_integer(out, sign, IntKind::U64, n, n)?;
+    out.work(CapWork::SetAddress, to, x.temp, Some(n))
+}
+
+/// `+`, `-` or `~`.
+pub fn signed(out: &mut Emitter, sign: Sign, to: u32, x: Held) -> Result<(), NoMemory> {
+    match x.kind {
+        TacKind::Int(kind) => signed_integer(out, sign, kind, to, x.temp),
+        TacKind::Cap(_) => signed_capability(out, sign, to, x),
+    }
+}
+
+/// A shift's count as an integer.
+fn as_count(out: &mut Emitter, x: Held) -> Result<u32, NoMemory> {
+    if is_capability(x.kind) {
+        out.fresh_conversion(x.temp, x.kind, WORD)
+    } else {
+        Ok(x.temp)
+    }
+}
+
+/// The right operand of an operation on integers.
+fn right_operand(out: &mut Emitter, op: IntOp, y: Held) -> Result<u32, NoMemory> {
+    if is_shift(op) {
+        as_count(out, y)
+    } else {
+        Ok(y.temp)
+    }
+}
+
+/// An operation on integers of a kind.
+pub fn whole(
+    out: &mut Emitter,
+    op: IntOp,
+    kind: IntKind,
+    to: u32,
+    a: u32,
+    y: Held,
+) -> Result<(), NoMemory> {
+    let b = right_operand(out, op, y)?;
+    out.int(op, kind, to, a, b)
+}
+
+/// The kind in which the address of a capability is computed. Only a quotient, a remainder and a shift to the right depend on
+/// the sign.
+fn address_kind(op: IntOp, signed: bool) -> IntKind {
+    if signed && matches!(op, IntOp::Div | IntOp::Rem | IntOp::Shr) {
+        IntKind::I64
+    } else {
+        IntKind::U64
+    }
+}
+
+/// The right operand of an operation on addresses.
+fn address_operand(out: &mut Emitter, op: IntOp, kind: IntKind, y: Held) -> Result<u32, NoMemory> {
+    if is_shift(op) && !is_capability(y.kind) {
+        Ok(y.temp)
+    } else {
+        out.fresh_conversion(y.temp, y.kind, TacKind::Int(kind))
+    }
+}
+
+/// The computed address of an operation on capability integers, in a temp of its own.
+fn computed_address(
+    out: &mut Emitter,
+    op: IntOp,
+    signed: bool,
+    x: Held,
+    y: Held,
+) -> Result<Held, NoMemory> {
+    let kind = address_kind(op, signed);
+    let n = out.fresh_conversion(x.temp, x.kind, TacKind::Int(kind))?;
+    let m = address_operand(out, op, kind, y)?;
+    out.int(op, kind, n, n, m)?;
+    Ok(Held {
+        temp: n,
+        kind: TacKind::Int(kind),
+    })
+}
+
+/// An operation on capability integers. The result derives from the right operand where that is asked, else from the left one.
+pub fn derived(
+    out: &mut Emitter,
+    op: IntOp,
+    signed: bool,
+    right: bool,
+    to: u32,
+    x: Held,
+    y: Held,
+) -> Result<(), NoMemory> {
+    let n = computed_address(out, op, signed, x, y)?;
+    let from = if right { y.temp } else { x.temp };
+    out.work(CapWork::SetAddress, to, from, Some(n.temp))
+}
+
+/// The integer kind of 64 bits to which a kind is extended.
+fn wide_kind(kind: TacKind) -> IntKind {
+    match kind {
+        TacKind::Int(IntKind::I8 | IntKind::I16 | IntKind::I32 | IntKind::I64) => IntKind::I64,
+        _ => IntKind::U64,
+    }
+}
+
+fn is_wide(kind: TacKind) -> bool {
+    matches!(kind, TacKind::Int(IntKind::I64 | IntKind::U64))
+}
+
+/// The size of an element, negative where a pointer is moved down, modulo 2^64.
+fn stride(size: u64, minus: bool) -> u64 {
+    if minus { size.wrapping_neg() } else { size }
+}
+
+/// An index extended to 64 bits, in a temp of its own unless it has them.
+fn widened(out: &mut Emitter, i: Held) -> Result<u32, NoMemory> {
+    if is_wide(i.kind) {
+        Ok(i.temp)
+    } else {
+        out.fresh_conversion(i.temp, i.kind, TacKind::Int(wide_kind(i.kind)))
+    }
+}
+
+/// A wide index times the size of an element, in a temp of its own.
+fn scaled(out: &mut Emitter, i: Held, by: u64) -> Result<u32, NoMemory> {
+    let kind = wide_kind(i.kind);
+    let n = widened(out, i)?;
+    let size = out.fresh_constant(TacKind::Int(kind), by)?;
+    let to = if n == i.temp {
+        out.temp(TacKind::Int(kind))?
+    } else {
+        n
+    };
+    out.int(IntOp::Mul, kind, to, n, size)?;
+    Ok(to)
+}
+
+/// The bytes of an index.
+fn bytes_of(out: &mut Emitter, i: Held, size: u64, minus: bool) -> Result<Amount, NoMemory> {
+    let by = stride(size, minus);
+    if by == 1 {
+        Ok(Amount::Temp(as_count(out, i)?))
+    } else {
+        Ok(Amount::Temp(scaled(out, i, by)?))
+    }
+}
+
+/// A pointer moved by elements of a size, up or down.
+pub fn moved(
+    out: &mut Emitter,
+    size: u64,
+    minus: bool,
+    to: u32,
+    base: u32,
+    i: Held,
+) -> Result<(), NoMemory> {
+    let by = bytes_of(out, i, size, minus)?;
+    out.offset(to, base, by)
+}
+
+/// A pointer moved by a known number of elements of a size, up or down.
+pub fn moved_by(
+    out: &mut Emitter,
+    size: u64,
+    minus: bool,
+    to: u32,
+    base: u32,
+    n: u64,
+) -> Result<(), NoMemory> {
+    let by = stride(size, minus).wrapping_mul(n);
+    out.offset(to, base, Amount::Number(by))
+}
+
+/// The difference of two pointers in elements of a size.
+pub fn difference(out: &mut Emitter, size: u64, to: u32, a: u32, b: u32) -> Result<(), NoMemory> {
+    let n = out.fresh_conversion(a, POINTER, LONG)?;
+    let m = out.fresh_conversion(b, POINTER, LONG)?;
+    if size == 1 {
+        return out.int(IntOp::Sub, IntKind::I64, to, n, m);
+    }
+    out.int(IntOp::Sub, IntKind::I64, n, n, m)?;
+    out.constant(m, LONG, size)?;
+    out.int(IntOp::Div, IntKind::I64, to, n, m)
+}
+
+/// The operation of a compound assignment (C11 6.5.16.2).
+#[derive(Clone, Copy)]
+pub struct Change {
+    pub op: IntOp,
+    /// The kind in which it is computed.
+    pub computed: TacKind,
+    /// The size of an element, where a pointer is moved.
+    pub element: Option<u64>,
+}
+
+/// An operation on integers of a kind, on a place of another.
+fn changed_whole(
+    out: &mut Emitter,
+    op: IntOp,
+    kind: IntKind,
+    to: u32,
+    x: Held,
+    y: Held,
+) -> Result<(), NoMemory> {
+    let b = right_operand(out, op, y)?;
+    let computed = TacKind::Int(kind);
+    if x.kind == computed {
+        return out.int(op, kind, to, x.temp, b);
+    }
+    let u = out.fresh_conversion(x.temp, x.kind, computed)?;
+    out.int(op, kind, u, u, b)?;
+    out.convert(to, u, computed, x.kind)
+}
+
+/// An operation on capability integers, on a place that is one or a plain integer. A conversion back takes the address alone.
+fn changed_capability(
+    out: &mut Emitter,
+    op: IntOp,
+    signed: bool,
+    to: u32,
+    x: Held,
+    y: Held,
+) -> Result<(), NoMemory> {
+    let n = computed_address(out, op, signed, x, y)?;
+    if is_capability(x.kind) {
+        out.work(CapWork::SetAddress, to, x.temp, Some(n.temp))
+    } else {
+        out.convert(to, n.temp, n.kind, x.kind)
+    }
+}
+
+/// A place's value, changed by a right operand.
+pub fn changed(
+    out: &mut Emitter,
+    change: Change,
+    to: u32,
+    x: Held,
+    y: Held,
+) -> Result<(), NoMemory> {
+    match change.element {
+        Some(size) => moved(out, size, change.op == IntOp::Sub, to, x.temp, y),
+        None => match change.computed {
+            TacKind::Int(kind) => changed_whole(out, change.op, kind, to, x, y),
+            TacKind::Cap(signed) => changed_capability(out, change.op, signed, to, x, y),
+        },
+    }
+}
+
+/// A step by one, up or down; where a pointer is moved, the size of an element.
+#[derive(Clone, Copy)]
+pub struct Pace {
+    pub up: bool,
+    pub size: u64,
+}
+
+/// A value moved by one.
+pub fn stepped(out: &mut Emitter, pace: Pace, to: u32, x: Held) -> Result<(), NoMemory> {
+    match x.kind {
+        TacKind::Int(kind) => {
+            let one = out.fresh_constant(x.kind, 1)?;
+            let op = if pace.up { IntOp::Add } else { IntOp::Sub };
+            out.int(op, kind, to, x.temp, one)
+        }
+        TacKind::Cap(_) => moved_by(out, pace.size, !pace.up, to, x.temp, 1),
+    }
+}
