@@ -1,4 +1,2 @@
-pub mod Tracking
-pub mod Form
-pub mod Code
-pub mod Selected
+pub mod Growing
+pub mod Work

@@ -1,11 +1,21 @@
-//! Selects the machine's instructions for three-address code. So far it takes one function without parameters, over integers.
+//! Selects the machine's instructions for three-address code.
 #![tactic(auto)]
 
+mod calls;
+mod comparisons;
+mod conversions;
 mod emit;
-mod labels;
+mod functions;
+mod homes;
+mod instructions;
+mod jumps;
+mod memory;
+mod moves;
+mod numbers;
 mod operations;
+mod parts;
 mod registers;
 mod selection;
-mod words;
+mod services;
 
 pub use selection::{Items, select};

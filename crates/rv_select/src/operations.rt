@@ -1,24 +1,113 @@
-// The instructions for operations and comparisons of each kind.
-ghost use Rattle.std.specs.Prelude.{◌≡◌};
-ghost use Rattle.ck_int.specs.Kinds.{form_of, is_signed};
-ghost use Rattle.rv_select.specs.Code.{long_op, short_op, unsigned_op, reg_op, less, inverted};
+// Constants, copies and operations on integers.
+ghost use Rattle.std.specs.Prelude.{◌≡◌, ◌+◌, ◌≤◌, ◌<◌, OnOk, IfSome};
+ghost use Rattle.rv_select.specs.Growing.{Grows, reduce_words};
+ghost use Rattle.rv_select.specs.Work.{WorkFits};
+ghost use Rattle.tac_ir.specs.Costs.{number_cost, operation_cost, is_wide};
 
+use crate::emit::Code;
+use crate::homes::{Function, Place, bring, keep, operand, register};
+use crate::instructions as instr;
+use crate::registers::{left, right};
+use ck_base::NoMemory;
 use ck_int::{IntKind, IntOp};
-use rv_instr::{BranchOp, RegOp};
+use rv_instr::{ImmOp, Reg, RegOp, ShiftOp};
 
-/// Whether the kind has a sign.
-pub fn is_signed(kind: IntKind) -> bool
-    ensures { result ≡ is_signed (form_of kind) }
+/// A temp becomes a constant.
+pub fn constant(code: &mut Code, f: &Function<'_>, to: u32, value: u64) -> Result<(), NoMemory>
+    ensures { OnOk result (Grows (3 + number_cost value) code.old code.new) }
 {
+    match f.number(to) {
+        Some(_) => Ok(()),
+        None => {
+            let r = f.target(to);
+            code.long_number(r, value)?;
+            keep(code, f, to, r)
+        }
+    }
+}
+
+/// A temp becomes another.
+pub fn copy(code: &mut Code, f: &Function<'_>, to: u32, from: u32) -> Result<(), NoMemory>
+    ensures { OnOk result (Grows 6 code.old code.new) }
+{
+    if to == from {
+        return Ok(());
+    }
+    match f.place(to) {
+        Place::Register(r) => bring(code, f, register(r), from),
+        _ => {
+            let r = operand(code, f, from, left())?;
+            keep(code, f, to, r)
+        }
+    }
+}
+
+/// Whether a kind has a sign.
+pub fn is_signed(kind: IntKind) -> bool {
     matches!(
         kind,
         IntKind::I8 | IntKind::I16 | IntKind::I32 | IntKind::I64
     )
 }
 
-fn long_op(op: IntOp) -> RegOp
-    ensures { result ≡ long_op op }
+/// Whether a kind has 64 bits.
+pub fn is_wide(kind: IntKind) -> bool
+    ensures { result ≡ is_wide kind }
 {
+    matches!(kind, IntKind::I64 | IntKind::U64)
+}
+
+/// Whether a kind has 32 bits.
+pub fn is_word(kind: IntKind) -> bool {
+    matches!(kind, IntKind::I32 | IntKind::U32)
+}
+
+/// The bits of a kind. A truth value is kept in 8.
+pub fn bits_of(kind: IntKind) -> u8
+    ensures least { 8 ≤ result }
+    ensures most { result ≤ 64 }
+    ensures narrow { result < 32 → 13 ≤ operation_cost kind }
+{
+    match kind {
+        IntKind::Bool | IntKind::I8 | IntKind::U8 => 8,
+        IntKind::I16 | IntKind::U16 => 16,
+        IntKind::I32 | IntKind::U32 => 32,
+        IntKind::I64 | IntKind::U64 => 64,
+    }
+}
+
+fn shift_twice(code: &mut Code, back: ShiftOp, count: u8, r: Reg, from: Reg) -> Result<(), NoMemory>
+    ensures { OnOk result (Grows 2 code.old code.new) }
+{
+    code.put(instr::shift(ShiftOp::Slli, r, from, count))?;
+    code.put(instr::shift(back, r, r, count))
+}
+
+/// A register becomes another, reduced to a kind. A kind of 64 bits has nothing to be reduced.
+pub fn reduce(code: &mut Code, kind: IntKind, r: Reg, from: Reg) -> Result<(), NoMemory>
+    ensures { OnOk result (Grows (reduce_words kind) code.old code.new) }
+{
+    match kind {
+        IntKind::Bool => code.put(instr::operation(RegOp::Sltu, r, Reg::ZERO, from)),
+        IntKind::I8 => shift_twice(code, ShiftOp::Srai, 56, r, from),
+        IntKind::U8 => code.put(instr::immediate(ImmOp::Andi, r, from, 255)),
+        IntKind::I16 => shift_twice(code, ShiftOp::Srai, 48, r, from),
+        IntKind::U16 => shift_twice(code, ShiftOp::Srli, 48, r, from),
+        IntKind::I32 => code.put(instr::immediate(ImmOp::Addiw, r, from, 0)),
+        IntKind::U32 => shift_twice(code, ShiftOp::Srli, 32, r, from),
+        IntKind::I64 | IntKind::U64 => Ok(()),
+    }
+}
+
+/// How an operation is computed, before its result is reduced to its kind.
+#[derive(Clone, Copy, Debug)]
+enum Work {
+    Registers(RegOp, u32, u32),
+    Immediate(ImmOp, u32, i32),
+    Shift(ShiftOp, u32, u8),
+}
+
+fn long_op(op: IntOp) -> RegOp {
     match op {
         IntOp::Add => RegOp::Add,
         IntOp::Sub => RegOp::Sub,
@@ -33,9 +122,7 @@ fn long_op(op: IntOp) -> RegOp
     }
 }
 
-fn short_op(op: IntOp) -> RegOp
-    ensures { result ≡ short_op op }
-{
+fn word_op(op: IntOp) -> RegOp {
     match op {
         IntOp::Add => RegOp::Addw,
         IntOp::Sub => RegOp::Subw,
@@ -50,43 +137,226 @@ fn short_op(op: IntOp) -> RegOp
     }
 }
 
-// The operation without a sign.
-fn unsigned_op(op: RegOp) -> RegOp
-    ensures { result ≡ unsigned_op op }
-{
+// The operation without a sign. The remainder of two numbers of 32 bits is the same in 64.
+fn unsigned_op(op: RegOp) -> RegOp {
     match op {
         RegOp::Div => RegOp::Divu,
-        RegOp::Rem => RegOp::Remu,
+        RegOp::Rem | RegOp::Remw => RegOp::Remu,
         RegOp::Sra => RegOp::Srl,
         RegOp::Divw => RegOp::Divuw,
-        RegOp::Remw => RegOp::Remuw,
         RegOp::Sraw => RegOp::Srlw,
         other => other,
     }
 }
 
-/// The operation of two registers at a promoted kind, before its result is reduced to the kind.
-pub fn reg_op(kind: IntKind, op: IntOp) -> RegOp
-    ensures { result ≡ reg_op kind op }
-{
-    match kind {
-        IntKind::I32 => short_op(op),
-        IntKind::U32 => unsigned_op(short_op(op)),
-        IntKind::U64 => unsigned_op(long_op(op)),
-        _ => long_op(op),
+/// The operation of two registers.
+fn reg_op(kind: IntKind, op: IntOp) -> RegOp {
+    let signed = if is_word(kind) {
+        word_op(op)
+    } else {
+        long_op(op)
+    };
+    if is_signed(kind) {
+        signed
+    } else {
+        unsigned_op(signed)
     }
 }
 
-/// The comparison "less", with a sign or without.
-pub fn less(signed: bool) -> RegOp
-    ensures { result ≡ less signed }
-{
-    if signed { RegOp::Slt } else { RegOp::Sltu }
+/// The addition of a number.
+fn add_op(kind: IntKind) -> ImmOp {
+    if is_word(kind) {
+        ImmOp::Addiw
+    } else {
+        ImmOp::Addi
+    }
 }
 
-/// The branch that is taken where the truth of a register isn't `when`.
-pub fn inverted(when: bool) -> BranchOp
-    ensures { result ≡ inverted when }
+/// The operation on bits with a number.
+fn bit_op(op: IntOp) -> Option<ImmOp> {
+    match op {
+        IntOp::And => Some(ImmOp::Andi),
+        IntOp::Or => Some(ImmOp::Ori),
+        IntOp::Xor => Some(ImmOp::Xori),
+        _ => None,
+    }
+}
+
+/// The operation with a number on either side, where the order doesn't matter.
+fn with_number(f: &Function<'_>, op: ImmOp, a: u32, b: u32) -> Option<Work>
+    ensures { IfSome result WorkFits }
 {
-    if when { BranchOp::Beq } else { BranchOp::Bne }
+    match (f.short(a), f.short(b)) {
+        (_, Some(v)) => Some(Work::Immediate(op, a, v)),
+        (Some(v), None) => Some(Work::Immediate(op, b, v)),
+        (None, None) => None,
+    }
+}
+
+/// A difference from a number is a sum.
+fn difference(f: &Function<'_>, kind: IntKind, a: u32, b: u32) -> Option<Work>
+    ensures { IfSome result WorkFits }
+{
+    match f.short(b) {
+        Some(v) if v > -2048 => Some(Work::Immediate(add_op(kind), a, -v)),
+        _ => None,
+    }
+}
+
+/// The power of two that a positive number is.
+fn power_of(number: i32) -> Option<u8> {
+    let mut power = 1u32;
+    for k in 0u8..31 {
+        if i64::from(number) == i64::from(power) {
+            return Some(k);
+        }
+        power = power.wrapping_mul(2);
+    }
+    None
+}
+
+/// The shift that multiplies by a temp.
+fn shift_by(f: &Function<'_>, a: u32, b: u32) -> Option<Work>
+    ensures { IfSome result WorkFits }
+{
+    let power = power_of(f.number(b)?)?;
+    Some(Work::Shift(ShiftOp::Slli, a, power))
+}
+
+/// A product with a power of two, in 64 bits, is a shift.
+fn product(f: &Function<'_>, kind: IntKind, a: u32, b: u32) -> Option<Work>
+    ensures { IfSome result WorkFits }
+{
+    if !is_wide(kind) {
+        return None;
+    }
+    match shift_by(f, a, b) {
+        Some(work) => Some(work),
+        None => shift_by(f, b, a),
+    }
+}
+
+/// The shift of a kind by a count.
+fn shift_op(kind: IntKind, op: IntOp) -> ShiftOp {
+    match (op, kind) {
+        (IntOp::Shl, IntKind::I32 | IntKind::U32) => ShiftOp::Slliw,
+        (IntOp::Shl, _) => ShiftOp::Slli,
+        (_, IntKind::I32) => ShiftOp::Sraiw,
+        (_, IntKind::I8 | IntKind::I16 | IntKind::I64) => ShiftOp::Srai,
+        _ => ShiftOp::Srli,
+    }
+}
+
+/// A number as the count of a shift of a kind.
+fn count_of(kind: IntKind, number: i32) -> u8 {
+    let bits = u32::from(bits_of(kind));
+    (number.cast_unsigned() % bits) as u8
+}
+
+/// A shift by a number.
+fn shift(f: &Function<'_>, op: IntOp, kind: IntKind, a: u32, b: u32) -> Option<Work>
+    ensures { IfSome result WorkFits }
+{
+    let number = f.number(b)?;
+    Some(Work::Shift(shift_op(kind, op), a, count_of(kind, number)))
+}
+
+/// How an operation is computed.
+fn plan(f: &Function<'_>, op: IntOp, kind: IntKind, a: u32, b: u32) -> Work
+    ensures { WorkFits result }
+{
+    let short = match op {
+        IntOp::Add => with_number(f, add_op(kind), a, b),
+        IntOp::Sub => difference(f, kind, a, b),
+        IntOp::Mul => product(f, kind, a, b),
+        IntOp::Shl | IntOp::Shr => shift(f, op, kind, a, b),
+        IntOp::Div | IntOp::Rem => None,
+        IntOp::And => with_number(f, ImmOp::Andi, a, b),
+        IntOp::Or => with_number(f, ImmOp::Ori, a, b),
+        IntOp::Xor => with_number(f, ImmOp::Xori, a, b),
+    };
+    match short {
+        Some(work) => work,
+        None => Work::Registers(reg_op(kind, op), a, b),
+    }
+}
+
+/// Whether the result has its kind without being reduced.
+fn is_exact(op: IntOp, kind: IntKind, work: Work) -> bool {
+    match (op, kind) {
+        (_, IntKind::I32 | IntKind::I64 | IntKind::U64) => true,
+        (IntOp::And | IntOp::Or | IntOp::Xor, _) => true,
+        (IntOp::Rem, IntKind::U32) => true,
+        (IntOp::Shr, _) => matches!(work, Work::Shift(_, _, _)),
+        _ => false,
+    }
+}
+
+fn compute(code: &mut Code, f: &Function<'_>, work: Work, r: Reg) -> Result<(), NoMemory>
+    requires { WorkFits work }
+    ensures { OnOk result (Grows 7 code.old code.new) }
+{
+    match work {
+        Work::Registers(op, a, b) => {
+            let a = operand(code, f, a, left())?;
+            let b = operand(code, f, b, right())?;
+            code.put(instr::operation(op, r, a, b))
+        }
+        Work::Immediate(op, a, number) => {
+            let a = operand(code, f, a, left())?;
+            code.put(instr::immediate(op, r, a, number))
+        }
+        Work::Shift(op, a, count) => {
+            let a = operand(code, f, a, left())?;
+            code.put(instr::shift(op, r, a, count))
+        }
+    }
+}
+
+/// A shift of a kind of 8 or 16 bits by a register: only so many bits of the count matter.
+fn narrow_shift(
+    code: &mut Code,
+    f: &Function<'_>,
+    op: IntOp,
+    kind: IntKind,
+    to: u32,
+    a: u32,
+    b: u32,
+) -> Result<(), NoMemory>
+    ensures { OnOk result (Grows 13 code.old code.new) }
+{
+    let a = operand(code, f, a, left())?;
+    let b = operand(code, f, b, right())?;
+    let r = f.target(to);
+    code.put(instr::immediate(ImmOp::Andi, right(), b, i32::from(bits_of(kind)) - 1))?;
+    code.put(instr::operation(reg_op(kind, op), r, a, right()))?;
+    if matches!(op, IntOp::Shl) {
+        reduce(code, kind, r, r)?;
+    }
+    keep(code, f, to, r)
+}
+
+/// An operation on integers.
+pub fn integer(
+    code: &mut Code,
+    f: &Function<'_>,
+    op: IntOp,
+    kind: IntKind,
+    to: u32,
+    a: u32,
+    b: u32,
+) -> Result<(), NoMemory>
+    ensures { OnOk result (Grows (operation_cost kind) code.old code.new) }
+{
+    let work = plan(f, op, kind, a, b);
+    let is_shift = matches!(op, IntOp::Shl | IntOp::Shr);
+    if is_shift && bits_of(kind) < 32 && matches!(work, Work::Registers(_, _, _)) {
+        return narrow_shift(code, f, op, kind, to, a, b);
+    }
+    let r = f.target(to);
+    compute(code, f, work, r)?;
+    if !is_exact(op, kind, work) {
+        reduce(code, kind, r, r)?;
+    }
+    keep(code, f, to, r)
 }

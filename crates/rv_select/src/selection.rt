@@ -1,18 +1,24 @@
 //! Selection: the text of a program's code.
-ghost use Rattle.std.specs.Prelude.{◌≡◌, ℕ, ◌*◌, ◌%◌, ◌^◌, ◌<◌, ◌≤◌, ◌++◌, List, [], ◌∷◌, pos, OnOk, IfOk, slice_index, length};
-ghost use Rattle.rv_instr.specs.declared.instr.Instr.TheVariants.{Cjal};
-ghost use Rattle.rv_select.specs.Code.{prologue, list_code, label_place, function_code};
-ghost use Rattle.rv_select.specs.Form.{AreNamed, IsIntegerFun, IsIntegerCode};
-ghost use Rattle.rv_select.specs.Selected.{Selects};
+ghost use Rattle.std.specs.Prelude.{◌≡◌, ◌+◌, ◌*◌, ◌≤◌, ◌<◌, ◌++◌, [], ◌∷◌, length, OnOk, IfOk, vec_len};
+ghost use Rattle.std.specs.List.{sum_by};
+ghost use Rattle.purecap_abi.specs.Saving.{IsFor};
+ghost use Rattle.tac_ir.specs.Costs.{function_cost};
+ghost use Rattle.rv_select.specs.Growing.{Grows, room, IsText, AreFramed, AreEntries};
 
-use crate::emit::{emit, prologue, put};
-use crate::labels::label_places;
-use crate::words::words_of;
+use crate::emit::Code;
+use crate::functions::select_function;
+use crate::homes::{Entries, Function};
+use crate::instructions as instr;
+use crate::numbers::all_written;
+use crate::services::ask;
+use c_tree::Typed;
 use ck_base::NoMemory;
 use elf_file::Line;
-use rv_instr::{Instr, Reg};
-use std::alloc::{AllocError, Global};
-use tac_ir::{Tac, TacFun, TacInstr};
+use obj_mem::Frame;
+use reg_alloc::Places;
+use rv_instr::Instr;
+use std::alloc::Global;
+use tac_ir::{Tac, TacFun};
 
 /// The text of a program, with the places in it that an image names. Places are in bytes from the text's base.
 #[derive(Debug, Drop)]
@@ -26,58 +32,135 @@ pub struct Items {
     pub lines: Vec<Line>,
 }
 
-// The second pass: the frame, and the code of each instruction.
-fn emit_all(
+/// The order of the table: the globals, the literals, the functions, and the heap.
+fn entries_of(p: &Typed) -> Entries {
+    let literals = p.globals.as_slice().len() as u64;
+    let functions = literals.saturating_add(p.literals.as_slice().len() as u64);
+    let heap = functions.saturating_add(p.funs.as_slice().len() as u64);
+    Entries {
+        literals,
+        functions,
+        heap,
+    }
+}
+
+/// Calls `main`, and exits with its result.
+fn begin(code: &mut Code, main: u32) -> Result<(), NoMemory>
+    ensures { OnOk result (Grows 3 code.old code.new) }
+{
+    code.call(main)?;
+    ask(code, 3)
+}
+
+/// The code of one function, behind that of others.
+fn one_function(
     alloc: Global,
-    temps: u32,
-    code: &[TacInstr],
-    places: &[u32],
-) -> Result<Vec<Instr>, AllocError>
-    requires few { temps ≤ 200 }
-    requires named { AreNamed 200 (length places.now) code.now }
-    requires short { length code.now < 2 ^ 20 }
-    requires near { (l : ℕ) → l < length places.now → slice_index places.now l < 2 ^ 25 }
-    ensures { IfOk result (λ made. made.items ≡ prologue temps ∷ list_code (λ l. slice_index places.now l) 1 code.now) }
+    code: &mut Code,
+    t: &TacFun,
+    places: &Places,
+    frame: &Frame,
+    entries: Entries,
+) -> Result<(), NoMemory>
+    requires framed { IsFor places.now.homes frame.now }
+    requires room { code.old + function_cost t.now ≤ room }
+    ensures some { OnOk result (code.old < code.new) }
+    ensures few { OnOk result (Grows (function_cost t.now) code.old code.new) }
+{
+    let written = all_written(alloc, t)?;
+    let f = Function {
+        places,
+        frame,
+        saved: purecap_abi::saved(frame, places),
+        written: written.as_slice(),
+        entries,
+    };
+    select_function(alloc, code, &f, t)
+}
+
+/// The code of one function more, and where it is entered.
+fn one_more(
+    alloc: Global,
+    code: &mut Code,
+    made: &mut Vec<u32>,
+    t: &TacFun,
+    places: &Places,
+    frame: &Frame,
+    table: Entries,
+) -> Result<(), NoMemory>
+    requires framed { IsFor places.now.homes frame.now }
+    requires room { code.old + function_cost t.now ≤ room }
+    ensures some { OnOk result (code.old < code.new) }
+    ensures few { OnOk result (Grows (function_cost t.now) code.old code.new) }
+    ensures len { OnOk result (vec_len made.new ≡ vec_len made.old + 1) }
+    ensures entry { OnOk result (made.new.items ≡ made.old.items ++ 4 * code.old ∷ []) }
+{
+    let at = 4 * (code.len() as u32);
+    made.push(at)?;
+    one_function(alloc, code, t, places, frame, table)
+}
+
+/// The code of all functions in their order, and where they are entered.
+fn all_functions(
+    alloc: Global,
+    code: &mut Code,
+    funs: &[TacFun],
+    places: &[Places],
+    frames: &[Frame],
+    table: Entries,
+) -> Result<Vec<u32>, NoMemory>
+    requires places { length places.now ≡ length funs.now }
+    requires frames { length frames.now ≡ length funs.now }
+    requires framed { AreFramed places.now frames.now }
+    requires room { code.old + sum_by function_cost funs.now ≤ room }
+    ensures few { IfOk result (λ entries. Grows (sum_by function_cost funs.now) code.old code.new) }
+    ensures len { IfOk result (λ entries. vec_len entries ≡ length funs.now) }
+    ensures entries { IfOk result (λ entries. AreEntries code.new entries.items) }
 {
     let mut made = Vec::new(alloc);
-    put(&mut made, prologue(temps))?;
-    let mut at = 1u32;
-    for i in code {
-        emit(&mut made, at, i, places)?;
-        at += words_of(i);
+    for k in 0..funs.len() {
+        one_more(
+            alloc, code, &mut made, &funs[k], &places[k], &frames[k], table,
+        )?;
     }
     Ok(made)
 }
 
-// The code of a function.
-fn select_function(alloc: Global, f: &TacFun) -> Result<Vec<Instr>, AllocError>
-    requires { IsIntegerFun f.now }
-    ensures { IfOk result (λ code. code.items ≡ function_code f.now) }
+/// Selects the machine's instructions for a program's code. The text begins with a call of `main`, and then has the functions in
+/// their order. It refuses nothing but for want of memory.
+pub fn select(
+    alloc: Global,
+    t: &Tac,
+    p: &Typed,
+    places: &Vec<Places>,
+    frames: &Vec<Frame>,
+) -> Result<Items, NoMemory>
+    requires places { vec_len places.now ≡ length t.now.funs }
+    requires frames { vec_len frames.now ≡ length t.now.funs }
+    requires framed { AreFramed places.now.items frames.now.items }
+    requires costs { 3 + sum_by function_cost t.now.funs ≤ room }
+    ensures size { IfOk result (λ items. vec_len items.code ≤ 3 + sum_by function_cost t.now.funs) }
+    ensures text { IfOk result (λ items. IsText items.code.items items.lines.items) }
+    ensures start { IfOk result (λ items. items.start ≡ 0) }
+    ensures each { IfOk result (λ items. vec_len items.entries ≡ length t.now.funs) }
+    ensures entries { IfOk result (λ items. AreEntries (vec_len items.code) items.entries.items) }
 {
-    let code = f.code.as_slice();
-    let places = label_places(alloc, code)?;
-    let mut made = emit_all(alloc, f.temps, code, &places)?;
-    put(&mut made, Instr::Cjal(Reg::ZERO, 0))?;
-    Ok(made)
-}
-
-/// The code of a program of one function over integers. Where that is well formed for a program and within it, the code has at most
-/// 128 bytes for each unit of the program's weight and 4,096 more; and run from its start under a legal map, it does what the
-/// three-address code means, all of it within the program's count of steps for each turn. It refuses nothing but for want of memory.
-pub fn select(alloc: Global, t: &Tac) -> Result<Items, NoMemory>
-    requires form { IsIntegerCode t.now }
-    ensures selects { IfOk result (λ items. Selects t.now items.code.items items.start) }
-    ensures start { IfOk result (λ items. (items.start % 4 ≡ 0) × (items.start < 4 * length items.code.items)) }
-    ensures entries { IfOk result (λ items. items.entries.items ≡ items.start ∷ []) }
-    ensures lines { IfOk result (λ items. items.lines.items ≡ []) }
-{
-    let funs = t.funs.as_slice();
-    let code = select_function(alloc, &funs[0])?;
-    let entries = vec![in alloc; 0u32; 1]?;
+    let table = entries_of(p);
+    let mut code = Code::new(alloc);
+    begin(&mut code, p.main)?;
+    let entries = all_functions(
+        alloc,
+        &mut code,
+        t.funs.as_slice(),
+        places.as_slice(),
+        frames.as_slice(),
+        table,
+    )?;
+    code.lead_to_entries(entries.as_slice());
+    let (code, lines) = code.into_parts();
     Ok(Items {
         code,
         start: 0,
         entries,
-        lines: Vec::new(alloc),
+        lines,
     })
 }

@@ -1,0 +1,137 @@
+-- A text stays one as words and lines are added.
+use Rattle.std.proofs.Common.{◌≡◌, ℕ, zero, suc, ◌+◌, ◌-◌, ◌*◌, ◌<◌, ◌≤◌, ◌&&◌, Bool, true, false, List, [], ◌∷◌, ◌++◌, length, refl, sym, ap, ◌∙◌, subst, arith}
+use Rattle.std.specs.Prelude.{nat_lt, nat_le, ◌^◌, ◌||◌, if◌then◌else◌}
+use Rattle.std.specs.List.{All}
+use Rattle.std.proofs.lemmas.Bool.Decides.{nat_tests}
+use Rattle.std.proofs.lemmas.List.{length-append}
+use Rattle.std.proofs.lemmas.List.Elements.{All-append, All-set}
+use Rattle.std.proofs.Math.ListN.{set, length-set}
+use Rattle.rv_instr.specs.declared.instr.Instr.{Instr}
+use Rattle.rv_instr.specs.Range.{InRange}
+use Rattle.elf_file.specs.declared.image.Line.{Line}
+use Rattle.elf_file.specs.Image.{lines_ok}
+use Rattle.purecap_abi.specs.Words.{Appends, is_short, is_word, most_words}
+use Rattle.tac_ir.specs.Costs.{number_cost}
+use Rattle.rv_select.specs.Growing.{IsText}
+
+-- ---- lines
+
+pub both_from : (a b : Bool) → a && b ≡ true → (a ≡ true) × (b ≡ true)
+both_from true b h = (refl, h)
+both_from false b h = absurd (cc)
+
+pub both_of : (a b : Bool) → a ≡ true → b ≡ true → a && b ≡ true
+both_of a b p q = subst (λ v. v && b ≡ true) (sym p) q
+
+pub lines_more : (least a b : ℕ) (ls : List Line) → a ≤ b → lines_ok least a ls ≡ true → lines_ok least b ls ≡ true
+lines_more least a b [] h o = refl
+lines_more least a b (l ∷ ls) h o =
+    let p = both_from (nat_le least l.at && nat_lt l.at a && nat_lt l.kind 2) (lines_ok (l.at + 1) a ls) o in
+    let q = both_from (nat_le least l.at && nat_lt l.at a) (nat_lt l.kind 2) p.0 in
+    let r = both_from (nat_le least l.at) (nat_lt l.at a) q.0 in
+    let below : nat_lt l.at b ≡ true = grind (arith, nat_tests, r.1) in
+    both_of _ _ (both_of _ _ (both_of _ _ r.0 below) q.1) (lines_more (l.at + 1) a b ls h p.1)
+
+pub lines_add : (least n : ℕ) (ls : List Line) (l : Line) → l.at ≡ 4 * n → l.kind < 2 → least ≤ 4 * n → lines_ok least (4 * n) ls ≡ true → lines_ok least (4 * (n + 1)) (ls ++ l ∷ []) ≡ true
+lines_add least n [] l e k h o =
+    let a : nat_le least l.at ≡ true = grind (arith, nat_tests) in
+    let b : nat_lt l.at (4 * (n + 1)) ≡ true = grind (arith, nat_tests) in
+    let c : nat_lt l.kind 2 ≡ true = grind (arith, nat_tests) in
+    both_of _ _ (both_of _ _ (both_of _ _ a b) c) refl
+lines_add least n (x ∷ xs) l e k h o =
+    let p = both_from (nat_le least x.at && nat_lt x.at (4 * n) && nat_lt x.kind 2) (lines_ok (x.at + 1) (4 * n) xs) o in
+    let q = both_from (nat_le least x.at && nat_lt x.at (4 * n)) (nat_lt x.kind 2) p.0 in
+    let r = both_from (nat_le least x.at) (nat_lt x.at (4 * n)) q.0 in
+    let next : x.at + 1 ≤ 4 * n = grind (arith, nat_tests, r.1) in
+    let below : nat_lt x.at (4 * (n + 1)) ≡ true = grind (arith, nat_tests, next) in
+    both_of _ _ (both_of _ _ (both_of _ _ r.0 below) q.1) (lines_add (x.at + 1) n xs l e k next p.1)
+
+-- ---- words
+
+pub all_one : (i : Instr) → InRange i → All InRange (i ∷ [])
+all_one i h zero d j = h
+all_one i h (suc k) d j = absurd (omega arith)
+
+pub text_none : IsText [] []
+text_none = record { in_range = λ k d h. absurd (omega arith); lines = refl }
+
+pub text_more : (old added : List Instr) (ls : List Line) → IsText old ls → All InRange added → IsText (old ++ added) ls
+text_more old added ls t r = record {
+  in_range = All-append InRange old added t.in_range r;
+  lines = lines_more 0 (4 * length old) (4 * length (old ++ added)) ls (omega (arith, length-append old added)) t.lines;
+}
+
+pub text_put : (old new : List Instr) (i : Instr) (ls : List Line) → new ≡ old ++ i ∷ [] → InRange i → IsText old ls → IsText new ls
+text_put old new i ls e r t = subst (λ w. IsText w ls) (sym e) (text_more old (i ∷ []) ls t (all_one i r))
+
+pub text_put_all : (old new added : List Instr) (ls : List Line) → new ≡ old ++ added → All InRange added → IsText old ls → IsText new ls
+text_put_all old new added ls e r t = subst (λ w. IsText w ls) (sym e) (text_more old added ls t r)
+
+pub text_appends : (most : ℕ) (old new : List Instr) (ls : List Line) → Appends most old new → IsText old ls → IsText new ls
+text_appends most old new ls a t = subst (λ w. IsText w ls) (sym a.is) (text_more old a.added ls t a.in_range)
+
+pub text_line : (old new : List Instr) (i : Instr) (ls ks : List Line) (l : Line) → new ≡ old ++ i ∷ [] → ks ≡ ls ++ l ∷ [] → InRange i → l.at ≡ 4 * length old → l.kind < 2 → IsText old ls → IsText new ks
+text_line old new i ls ks l e f r a k t =
+    let size : length (old ++ i ∷ []) ≡ length old + 1 = length-append old (i ∷ []) in
+    let whole : IsText (old ++ i ∷ []) (ls ++ l ∷ []) = record {
+      in_range = All-append InRange old (i ∷ []) t.in_range (all_one i r);
+      lines = subst (λ n. lines_ok 0 (4 * n) (ls ++ l ∷ []) ≡ true) (sym size) (lines_add 0 (length old) ls l a k (omega arith) t.lines);
+    } in
+    subst (λ w. IsText w ks) (sym e) (subst (λ v. IsText (old ++ i ∷ []) v) (sym f) whole)
+
+pub text_set : (old : List Instr) (k : ℕ) (i : Instr) (ls : List Line) → InRange i → IsText old ls → IsText (set old k i) ls
+text_set old k i ls r t = record {
+  in_range = All-set InRange old k i r t.in_range;
+  lines = subst (λ n. lines_ok 0 (4 * n) ls ≡ true) (sym (length-set old k i)) t.lines;
+}
+
+-- ---- lengths
+
+pub appends_length : (most : ℕ) (old new : List Instr) → Appends most old new → (length old ≤ length new) × (length new ≤ length old + most)
+appends_length most old new a =
+    let e : length new ≡ length old + length a.added = ap length a.is ∙ length-append old a.added in
+    let f : length a.added ≤ most = a.few in
+    (omega (arith, e), omega (arith, e, f))
+
+-- ---- parts
+
+pub part_in_range : (most : ℕ) (old new : List Instr) → old ≡ [] → Appends most old new → All InRange new
+part_in_range most old new e a =
+    let f : new ≡ a.added = a.is ∙ ap (λ v. v ++ a.added) e in
+    subst (λ w. All InRange w) (sym f) a.in_range
+
+pub part_few : (most : ℕ) (old new : List Instr) → old ≡ [] → Appends most old new → length new ≤ most
+part_few most old new e a =
+    let f : new ≡ a.added = a.is ∙ ap (λ v. v ++ a.added) e in
+    let g : length new ≡ length a.added = ap length f in
+    let h : length a.added ≤ most = a.few in
+    omega (arith, g, h)
+
+-- the words of a number
+pub most_words-le : (n : ℕ) → most_words n ≤ number_cost n
+unfolding most_words
+most_words-le n =
+    elim (is_short n) as (λ (b : Bool). (if b then 1 else (if is_word n then 2 else (if nat_le n (2 ^ 40) then 4 else (if nat_le n (2 ^ 52) then 6 else 8)))) ≤ (if b then 1 else 8)) [
+      | true ↦ omega arith
+      | false ↦ elim (is_word n) as (λ (b : Bool). (if b then 2 else (if nat_le n (2 ^ 40) then 4 else (if nat_le n (2 ^ 52) then 6 else 8))) ≤ 8) [
+        | true ↦ omega arith
+        | false ↦ elim (nat_le n (2 ^ 40)) as (λ (b : Bool). (if b then 4 else (if nat_le n (2 ^ 52) then 6 else 8)) ≤ 8) [
+          | true ↦ omega arith
+          | false ↦ elim (nat_le n (2 ^ 52)) as (λ (b : Bool). (if b then 6 else 8) ≤ 8) [ true ↦ omega arith | false ↦ omega arith ]
+        ]
+      ]
+    ]
+
+pub near_words : (offset : ℕ) → (if nat_lt offset 2048 then 1 else 3) ≤ 3
+near_words offset = elim (nat_lt offset 2048) as (λ (b : Bool). (if b then 1 else 3) ≤ 3) [ true ↦ omega arith | false ↦ omega arith ]
+
+pub word_words : (n : ℕ) → is_word n ≡ true → most_words n ≤ 2
+unfolding most_words
+word_words n h =
+    rw h (elim (is_short n) as (λ (b : Bool). (if b then 1 else 2) ≤ 2) [ true ↦ omega arith | false ↦ omega arith ])
+
+pub low_words : (n : ℕ) → n < 2 ^ 31 → most_words n ≤ 2
+low_words n h = word_words n (grind (arith, nat_tests, h))
+
+pub high_words : (n : ℕ) → 2 ^ 64 - 2 ^ 31 ≤ n → most_words n ≤ 2
+high_words n h = word_words n (grind (arith, nat_tests, h))

@@ -1,0 +1,6 @@
+use Rattle.std.proofs.Common.{◌≡◌, ◌+◌, ◌-◌, ◌*◌, ◌≤◌, length, take}
+use Rattle.std.specs.Prelude.{vec_len, min, max}
+use Rattle.rv_select.proofs.functions.register_parameters.Given as goal
+
+abbrev pub invariant-loop-k : goal.invariant-loop-k
+invariant-loop-k l = record { kept : l.fn.code ≤ l.code; few : l.code + 2 * vec_len l.moves ≤ l.fn.code + 3 * min l.k l.params }

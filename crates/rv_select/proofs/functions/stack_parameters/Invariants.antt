@@ -1,0 +1,6 @@
+use Rattle.std.proofs.Common.{◌≡◌, ◌+◌, ◌-◌, ◌*◌, ◌≤◌, length, take}
+use Rattle.std.specs.Prelude.{vec_len, min, max}
+use Rattle.rv_select.proofs.functions.stack_parameters.Given as goal
+
+abbrev pub invariant-loop-k : goal.invariant-loop-k
+invariant-loop-k l = record { kept : l.fn.code ≤ l.code; few : l.code ≤ l.fn.code + 6 * (l.k - 8); end : l.k ≤ max 8 l.params }

@@ -1,0 +1,154 @@
+// Calls and returns.
+ghost use Rattle.std.specs.Prelude.{◌≡◌, ◌+◌, ◌-◌, ◌*◌, ◌≤◌, ◌<◌, min, OnOk, IfOk, length, vec_len};
+ghost use Rattle.purecap_abi.specs.Saving.{IsFor};
+ghost use Rattle.rv_select.specs.Growing.{Grows, room};
+ghost use Rattle.tac_ir.specs.Costs.{places_cost};
+
+use crate::emit::Code;
+use crate::homes::{Function, Place, bring, keep_some, operand, register};
+use crate::instructions as instr;
+use crate::moves::{Move, move_all};
+use crate::registers::{left, right, way};
+use ck_base::{NoMemory, Pos};
+use rv_instr::Reg;
+use std::alloc::Global;
+
+/// Whether a register is one of c10 to c17, in which arguments stand.
+fn is_argument(number: u8) -> bool {
+    number >= 10 && number < 18
+}
+
+/// A temp that comes to the register of an argument from elsewhere.
+#[derive(Clone, Copy, Debug)]
+struct Bring {
+    to: Reg,
+    temp: u32,
+}
+
+/// How the first eight arguments come to their registers: moves between these, and then what stands elsewhere.
+#[derive(Drop)]
+struct Placed {
+    moves: Vec<Move>,
+    others: Vec<Bring>,
+}
+
+/// How one of the first eight arguments comes to its register.
+fn place_argument(f: &Function<'_>, all: &mut Placed, to: Reg, temp: u32) -> Result<(), NoMemory>
+    ensures { OnOk result (vec_len all.new.moves + vec_len all.new.others ≡ vec_len all.old.moves + vec_len all.old.others + 1) }
+{
+    match f.place(temp) {
+        Place::Register(from) if is_argument(from) => all.moves.push(Move {
+            from: register(from),
+            to,
+        })?,
+        _ => all.others.push(Bring { to, temp })?,
+    }
+    Ok(())
+}
+
+/// How the first eight arguments come to their registers.
+fn arguments_of(alloc: Global, f: &Function<'_>, args: &[u32]) -> Result<Placed, NoMemory>
+    ensures { IfOk result (λ all. vec_len all.moves + vec_len all.others ≤ min (length args.now) 8) }
+{
+    let mut all = Placed {
+        moves: Vec::new(alloc),
+        others: Vec::new(alloc),
+    };
+    for k in 0u8..8 {
+        if let Some(t) = args.get(k as usize) {
+            place_argument(f, &mut all, purecap_abi::argument(k), *t)?;
+        }
+    }
+    Ok(all)
+}
+
+/// Stores the arguments past eight, in at most six words each.
+fn stack_arguments(code: &mut Code, f: &Function<'_>, args: &[u32]) -> Result<(), NoMemory>
+    ensures { OnOk result (Grows (6 * (length args.now - 8)) code.old code.new) }
+{
+    for k in 8..args.len() {
+        let r = operand(code, f, args[k], left())?;
+        code.store_far(r, Reg::STACK, stack_place(k), right())?;
+    }
+    Ok(())
+}
+
+/// Where an argument past eight stands, in bytes from the caller's stack address.
+pub fn stack_place(k: usize) -> u64 {
+    if k >= 8 && k <= 4194304 {
+        purecap_abi::stack_argument(k as u64)
+    } else {
+        16
+    }
+}
+
+/// Brings the arguments to where they stand: at most three words for each of the first eight, and six for the others.
+fn arguments(alloc: Global, code: &mut Code, f: &Function<'_>, args: &[u32]) -> Result<(), NoMemory>
+    ensures { OnOk result (Grows (places_cost (length args.now)) code.old code.new) }
+{
+    stack_arguments(code, f, args)?;
+    let Placed { moves, others } = arguments_of(alloc, f, args)?;
+    move_all(code, moves, left())?;
+    for other in &others {
+        bring(code, f, other.to, other.temp)?;
+    }
+    Ok(())
+}
+
+/// A call of a function.
+pub fn call(
+    alloc: Global,
+    code: &mut Code,
+    f: &Function<'_>,
+    to: Option<u32>,
+    fun: u32,
+    args: &[u32],
+) -> Result<(), NoMemory>
+    ensures { OnOk result (Grows (4 + places_cost (length args.now)) code.old code.new) }
+{
+    arguments(alloc, code, f, args)?;
+    code.call(fun)?;
+    keep_some(code, f, to, Reg::RESULT)
+}
+
+/// What is called, and from where in the source.
+#[derive(Clone, Copy, Debug)]
+pub struct Callee {
+    pub value: u32,
+    pub pos: Pos,
+}
+
+/// A call through a value, which comes to c31.
+pub fn call_value(
+    alloc: Global,
+    code: &mut Code,
+    f: &Function<'_>,
+    to: Option<u32>,
+    callee: Callee,
+    args: &[u32],
+) -> Result<(), NoMemory>
+    requires { code.old + (7 + places_cost (length args.now)) ≤ room }
+    ensures { OnOk result (Grows (7 + places_cost (length args.now)) code.old code.new) }
+{
+    bring(code, f, way(), callee.value)?;
+    arguments(alloc, code, f, args)?;
+    code.put_at(instr::jump_through(Reg::LINK, way()), callee.pos, 0)?;
+    keep_some(code, f, to, Reg::RESULT)
+}
+
+/// A return, with the value in c10.
+pub fn leave(
+    alloc: Global,
+    code: &mut Code,
+    f: &Function<'_>,
+    value: Option<u32>,
+) -> Result<(), NoMemory>
+    requires { IsFor f.now.places.now.homes f.now.frame.now }
+    ensures { OnOk result (Grows 24 code.old code.new) }
+{
+    if let Some(t) = value {
+        bring(code, f, Reg::RESULT, t)?;
+    }
+    let end = purecap_abi::epilogue(alloc, f.frame, f.places)?;
+    code.put_all(end.as_slice())
+}

@@ -1,0 +1,369 @@
+// Capabilities, objects, and what is loaded, stored and copied.
+ghost use Rattle.std.specs.Prelude.{◌+◌, ◌-◌, ◌≤◌, ◌<◌, OnOk, IfSome};
+ghost use Rattle.rv_instr.specs.Range.{FitsBits};
+ghost use Rattle.rv_select.specs.Growing.{Grows, room};
+ghost use Rattle.tac_ir.specs.Costs.{amount_cost, load_cost};
+
+use crate::emit::Code;
+use crate::homes::{Function, bring, keep, operand};
+use crate::instructions as instr;
+use crate::registers::{count, left, right, way};
+use ck_base::{NoMemory, Pos};
+use ck_int::IntKind;
+use rv_instr::{BranchOp, CapGetOp, CapRegOp, ImmOp, LoadOp, Reg, RegOp, StoreOp};
+use tac_ir::{Amount, CapWork, TacKind};
+
+/// The instruction of an intrinsic.
+#[derive(Clone, Copy, Debug)]
+enum Intrinsic {
+    OfOne(CapGetOp),
+    OfTwo(CapRegOp),
+}
+
+fn instruction_of(op: CapWork) -> Intrinsic {
+    match op {
+        CapWork::Base => Intrinsic::OfOne(CapGetOp::Cgetbase),
+        CapWork::Offset => Intrinsic::OfOne(CapGetOp::Cgetoffset),
+        CapWork::Length => Intrinsic::OfOne(CapGetOp::Cgetlen),
+        CapWork::Tag => Intrinsic::OfOne(CapGetOp::Cgettag),
+        CapWork::Perms => Intrinsic::OfOne(CapGetOp::Cgetperm),
+        CapWork::Clear => Intrinsic::OfOne(CapGetOp::Ccleartag),
+        CapWork::SetAddress => Intrinsic::OfTwo(CapRegOp::Csetaddr),
+        CapWork::AndPerms => Intrinsic::OfTwo(CapRegOp::Candperm),
+        CapWork::EqualExact => Intrinsic::OfTwo(CapRegOp::Csetequalexact),
+        CapWork::Rounded => Intrinsic::OfOne(CapGetOp::Crrl),
+        CapWork::Mask => Intrinsic::OfOne(CapGetOp::Cram),
+    }
+}
+
+/// The register of the second operand, where there is one.
+fn second(code: &mut Code, f: &Function<'_>, b: Option<u32>) -> Result<Reg, NoMemory>
+    ensures { OnOk result (Grows 3 code.old code.new) }
+{
+    match b {
+        None => Ok(Reg::ZERO),
+        Some(t) => operand(code, f, t, right()),
+    }
+}
+
+/// An intrinsic on a capability, or on a length.
+pub fn capability(
+    code: &mut Code,
+    f: &Function<'_>,
+    op: CapWork,
+    to: u32,
+    a: u32,
+    b: Option<u32>,
+) -> Result<(), NoMemory>
+    ensures { OnOk result (Grows 10 code.old code.new) }
+{
+    let a = operand(code, f, a, left())?;
+    let r = f.target(to);
+    match instruction_of(op) {
+        Intrinsic::OfOne(op) => code.put(instr::of_one(op, r, a))?,
+        Intrinsic::OfTwo(op) => {
+            let b = second(code, f, b)?;
+            code.put(instr::of_two(op, r, a, b))?;
+        }
+    }
+    keep(code, f, to, r)
+}
+
+/// The register that holds an amount.
+fn amount(code: &mut Code, f: &Function<'_>, by: Amount) -> Result<Reg, NoMemory>
+    ensures { OnOk result (Grows (amount_cost by - 1) code.old code.new) }
+{
+    match by {
+        Amount::Temp(t) => operand(code, f, t, right()),
+        Amount::Number(n) => {
+            code.long_number(right(), n)?;
+            Ok(right())
+        }
+    }
+}
+
+/// The number that an amount is, where 12 bits of two's complement hold it.
+fn short_amount(f: &Function<'_>, by: Amount) -> Option<i32>
+    ensures { IfSome result (FitsBits 12) }
+{
+    match by {
+        Amount::Temp(t) => f.short(t),
+        Amount::Number(n) => match i32::try_from(n.cast_signed()) {
+            Ok(v) if v >= -2048 && v < 2048 => Some(v),
+            _ => None,
+        },
+    }
+}
+
+/// A capability moved by bytes.
+pub fn offset(
+    code: &mut Code,
+    f: &Function<'_>,
+    to: u32,
+    base: u32,
+    by: Amount,
+) -> Result<(), NoMemory>
+    ensures { OnOk result (Grows (6 + amount_cost by) code.old code.new) }
+{
+    let a = operand(code, f, base, left())?;
+    let r = f.target(to);
+    match short_amount(f, by) {
+        Some(bytes) => code.put(instr::advance(r, a, bytes))?,
+        None => {
+            let b = amount(code, f, by)?;
+            code.put(instr::of_two(CapRegOp::Cincoffset, r, a, b))?;
+        }
+    }
+    keep(code, f, to, r)
+}
+
+/// A capability with narrower bounds.
+pub fn narrow(
+    code: &mut Code,
+    f: &Function<'_>,
+    to: u32,
+    base: u32,
+    length: Amount,
+    exact: bool,
+) -> Result<(), NoMemory>
+    ensures { OnOk result (Grows (6 + amount_cost length) code.old code.new) }
+{
+    let a = operand(code, f, base, left())?;
+    let b = amount(code, f, length)?;
+    let r = f.target(to);
+    let op = if exact {
+        CapRegOp::Csetboundsexact
+    } else {
+        CapRegOp::Csetbounds
+    };
+    code.put(instr::of_two(op, r, a, b))?;
+    keep(code, f, to, r)
+}
+
+/// How a kind is loaded.
+fn load_op(kind: IntKind) -> LoadOp {
+    match kind {
+        IntKind::Bool | IntKind::U8 => LoadOp::Lbu,
+        IntKind::I8 => LoadOp::Lb,
+        IntKind::I16 => LoadOp::Lh,
+        IntKind::U16 => LoadOp::Lhu,
+        IntKind::I32 => LoadOp::Lw,
+        IntKind::U32 => LoadOp::Lwu,
+        IntKind::I64 | IntKind::U64 => LoadOp::Ld,
+    }
+}
+
+/// How a kind is stored.
+fn store_op(kind: TacKind) -> StoreOp {
+    match kind {
+        TacKind::Int(IntKind::Bool | IntKind::I8 | IntKind::U8) => StoreOp::Sb,
+        TacKind::Int(IntKind::I16 | IntKind::U16) => StoreOp::Sh,
+        TacKind::Int(IntKind::I32 | IntKind::U32) => StoreOp::Sw,
+        TacKind::Int(IntKind::I64 | IntKind::U64) => StoreOp::Sd,
+        TacKind::Cap(_) => StoreOp::Csc,
+    }
+}
+
+/// A value is loaded. A truth value is 1 for any byte but zero.
+pub fn load(
+    code: &mut Code,
+    f: &Function<'_>,
+    to: u32,
+    from: u32,
+    kind: TacKind,
+    pos: Pos,
+) -> Result<(), NoMemory>
+    requires { code.old + 7 ≤ room }
+    ensures { OnOk result (Grows (load_cost kind) code.old code.new) }
+{
+    let a = operand(code, f, from, left())?;
+    let r = f.target(to);
+    match kind {
+        TacKind::Cap(_) => code.put_at(instr::load_capability(r, a), pos, 0)?,
+        TacKind::Int(k) => code.put_at(instr::load(load_op(k), r, a), pos, 0)?,
+    }
+    if let TacKind::Int(IntKind::Bool) = kind {
+        code.put(instr::operation(RegOp::Sltu, r, Reg::ZERO, r))?;
+    }
+    keep(code, f, to, r)
+}
+
+/// A value is stored.
+pub fn store(
+    code: &mut Code,
+    f: &Function<'_>,
+    at: u32,
+    value: u32,
+    kind: TacKind,
+    pos: Pos,
+) -> Result<(), NoMemory>
+    requires { code.old + 7 ≤ room }
+    ensures { OnOk result (Grows 7 code.old code.new) }
+{
+    let a = operand(code, f, at, left())?;
+    let b = operand(code, f, value, right())?;
+    code.put_at(instr::store(store_op(kind), b, a, 0), pos, 0)
+}
+
+/// A length or a count as a number of 32 bits. No object has more bytes.
+fn number_of(n: u64) -> i32 {
+    i32::try_from(n).unwrap_or(i32::MAX)
+}
+
+/// The pointer to a local.
+pub fn local(code: &mut Code, f: &Function<'_>, to: u32, var: u32) -> Result<(), NoMemory>
+    ensures { OnOk result (Grows 9 code.old code.new) }
+{
+    let object = f.object(var);
+    let r = f.target(to);
+    code.moved(r, Reg::STACK, object.at)?;
+    code.number(right(), number_of(object.length))?;
+    code.put(instr::of_two(CapRegOp::Csetboundsexact, r, r, right()))?;
+    keep(code, f, to, r)
+}
+
+/// An entry of the table.
+fn entry(code: &mut Code, f: &Function<'_>, to: u32, number: u64) -> Result<(), NoMemory>
+    ensures { OnOk result (Grows 6 code.old code.new) }
+{
+    let r = f.target(to);
+    code.load_far(r, Reg::TABLE, number.saturating_mul(16), r)?;
+    keep(code, f, to, r)
+}
+
+/// The pointer to a global or to a literal.
+pub fn global(
+    code: &mut Code,
+    f: &Function<'_>,
+    to: u32,
+    number: u32,
+    literal: bool,
+) -> Result<(), NoMemory>
+    ensures { OnOk result (Grows 6 code.old code.new) }
+{
+    let before = if literal { f.entries.literals } else { 0 };
+    entry(code, f, to, before.saturating_add(u64::from(number)))
+}
+
+/// The sentry of a function.
+pub fn function(code: &mut Code, f: &Function<'_>, to: u32, fun: u32) -> Result<(), NoMemory>
+    ensures { OnOk result (Grows 6 code.old code.new) }
+{
+    entry(
+        code,
+        f,
+        to,
+        f.entries.functions.saturating_add(u64::from(fun)),
+    )
+}
+
+/// Makes so many parts of 16 bytes zero, one or more, from an offset in the frame on.
+fn zero_loop(code: &mut Code, at: u64, parts: u64) -> Result<(), NoMemory>
+    ensures { OnOk result (Grows 9 code.old code.new) }
+{
+    code.moved(left(), Reg::STACK, at)?;
+    code.number(right(), number_of(parts))?;
+    code.put(instr::store(StoreOp::Csc, Reg::ZERO, left(), 0))?;
+    code.put(instr::advance(left(), left(), 16))?;
+    code.put(instr::immediate(ImmOp::Addi, right(), right(), -1))?;
+    code.put(instr::branch(BranchOp::Bne, right(), Reg::ZERO, -12))
+}
+
+/// The bytes of a local become zero.
+pub fn zero(code: &mut Code, f: &Function<'_>, var: u32) -> Result<(), NoMemory>
+    ensures { OnOk result (Grows 10 code.old code.new) }
+{
+    let object = f.object(var);
+    let parts = object.length / 16 + u64::from(object.length % 16 != 0);
+    if parts > 4 || object.at > 1984 {
+        return zero_loop(code, object.at, parts);
+    }
+    for k in 0..parts {
+        code.put(instr::store(
+            StoreOp::Csc,
+            Reg::ZERO,
+            Reg::STACK,
+            (object.at + 16 * k) as i32,
+        ))?;
+    }
+    Ok(())
+}
+
+/// Loads a unit of so many bytes to c31 from where c28 points.
+fn load_unit(code: &mut Code, unit: u8, pos: Pos) -> Result<(), NoMemory>
+    requires { code.old + 1 ≤ room }
+    ensures { OnOk result (Grows 1 code.old code.new) }
+{
+    match unit {
+        1 => code.put_at(instr::load(LoadOp::Lbu, way(), left()), pos, 0),
+        2 => code.put_at(instr::load(LoadOp::Lhu, way(), left()), pos, 0),
+        4 => code.put_at(instr::load(LoadOp::Lwu, way(), left()), pos, 0),
+        8 => code.put_at(instr::load(LoadOp::Ld, way(), left()), pos, 0),
+        _ => code.put_at(instr::load_capability(way(), left()), pos, 0),
+    }
+}
+
+/// Stores a unit of so many bytes from c31 where c29 points.
+fn store_unit(code: &mut Code, unit: u8, pos: Pos) -> Result<(), NoMemory>
+    requires { code.old + 1 ≤ room }
+    ensures { OnOk result (Grows 1 code.old code.new) }
+{
+    let op = match unit {
+        1 => StoreOp::Sb,
+        2 => StoreOp::Sh,
+        4 => StoreOp::Sw,
+        8 => StoreOp::Sd,
+        _ => StoreOp::Csc,
+    };
+    code.put_at(instr::store(op, way(), right(), 0), pos, 0)
+}
+
+/// Copies one unit.
+fn copy_unit(code: &mut Code, unit: u8, from: Pos, to: Pos) -> Result<(), NoMemory>
+    requires { code.old + 2 ≤ room }
+    ensures { OnOk result (Grows 2 code.old code.new) }
+{
+    load_unit(code, unit, from)?;
+    store_unit(code, unit, to)
+}
+
+/// Where a struct is copied from and to, in the code and in the source.
+#[derive(Clone, Copy, Debug)]
+pub struct Ends {
+    pub from: u32,
+    pub to: u32,
+    pub from_pos: Pos,
+    pub to_pos: Pos,
+}
+
+/// Copies a struct in units.
+pub fn copy_units(
+    code: &mut Code,
+    f: &Function<'_>,
+    ends: Ends,
+    bytes: u64,
+    unit: u8,
+) -> Result<(), NoMemory>
+    requires { code.old + 14 ≤ room }
+    ensures { OnOk result (Grows 14 code.old code.new) }
+{
+    let units = if unit == 0 {
+        0
+    } else {
+        bytes / u64::from(unit)
+    };
+    if units == 0 {
+        return Ok(());
+    }
+    bring(code, f, left(), ends.from)?;
+    bring(code, f, right(), ends.to)?;
+    if units == 1 {
+        return copy_unit(code, unit, ends.from_pos, ends.to_pos);
+    }
+    code.number(count(), number_of(units))?;
+    copy_unit(code, unit, ends.from_pos, ends.to_pos)?;
+    code.put(instr::advance(left(), left(), i32::from(unit)))?;
+    code.put(instr::advance(right(), right(), i32::from(unit)))?;
+    code.put(instr::immediate(ImmOp::Addi, count(), count(), -1))?;
+    code.put(instr::branch(BranchOp::Bne, count(), Reg::ZERO, -20))
+}

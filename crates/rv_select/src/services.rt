@@ -1,0 +1,125 @@
+// The library functions.
+ghost use Rattle.std.specs.Prelude.{◌+◌, ◌≤◌, OnOk};
+ghost use Rattle.rv_select.specs.Growing.{Grows};
+ghost use Rattle.tac_ir.specs.Costs.{service_cost};
+
+use crate::emit::Code;
+use crate::homes::{Function, bring, keep_some};
+use crate::instructions as instr;
+use crate::registers::{count, left, right, spare, way};
+use ck_base::NoMemory;
+use rv_instr::{BranchOp, CapGetOp, CapRegOp, ImmOp, Instr, Reg, RegOp};
+use tac_ir::LibOp;
+
+/// Asks the environment for a service.
+#[tactic(auto, unfolding(rv_instr::specs::Range::InRange))]
+pub fn ask(code: &mut Code, service: u8) -> Result<(), NoMemory>
+    ensures { OnOk result (Grows 2 code.old code.new) }
+{
+    code.put(instr::immediate(ImmOp::Addi, Reg::SERVICE, Reg::ZERO, i32::from(service)))?;
+    code.put(Instr::Ecall)
+}
+
+/// Brings the first argument to c10, where there is one.
+fn first_argument(code: &mut Code, f: &Function<'_>, args: &[u32]) -> Result<(), NoMemory>
+    ensures { OnOk result (Grows 3 code.old code.new) }
+{
+    match args.first() {
+        None => Ok(()),
+        Some(t) => bring(code, f, Reg::RESULT, *t),
+    }
+}
+
+/// A call of a library function.
+pub fn service(
+    code: &mut Code,
+    f: &Function<'_>,
+    op: LibOp,
+    to: Option<u32>,
+    args: &[u32],
+) -> Result<(), NoMemory>
+    ensures { OnOk result (Grows (service_cost op) code.old code.new) }
+{
+    match op {
+        LibOp::PutChar => {
+            first_argument(code, f, args)?;
+            ask(code, 1)?;
+            keep_some(code, f, to, Reg::RESULT)
+        }
+        LibOp::GetChar => {
+            ask(code, 2)?;
+            keep_some(code, f, to, Reg::RESULT)
+        }
+        LibOp::Exit => {
+            first_argument(code, f, args)?;
+            ask(code, 3)
+        }
+        LibOp::Malloc => {
+            first_argument(code, f, args)?;
+            allocate(code, f.entries.heap.saturating_mul(16))?;
+            keep_some(code, f, to, Reg::RESULT)
+        }
+    }
+}
+
+/// The length of c10 becomes one that has exact bounds, in x30, and x29 the mask of its alignment, at least 16.
+fn round(code: &mut Code) -> Result<(), NoMemory>
+    ensures { OnOk result (Grows 3 code.old code.new) }
+{
+    code.put(instr::of_one(CapGetOp::Crrl, count(), Reg::RESULT))?;
+    code.put(instr::of_one(CapGetOp::Cram, right(), Reg::RESULT))?;
+    code.put(instr::immediate(ImmOp::Andi, right(), right(), -16))
+}
+
+/// x4 becomes the least address from the heap's next on that the mask in x29 keeps; x29 becomes the end of the object there.
+fn find(code: &mut Code) -> Result<(), NoMemory>
+    ensures { OnOk result (Grows 4 code.old code.new) }
+{
+    code.put(instr::immediate(ImmOp::Xori, spare(), right(), -1))?;
+    code.put(instr::operation(RegOp::Add, spare(), left(), spare()))?;
+    code.put(instr::operation(RegOp::And, spare(), spare(), right()))?;
+    code.put(instr::operation(RegOp::Add, right(), spare(), count()))
+}
+
+/// x10 becomes the bytes of the heap that are then used, and x30 the heap's length.
+fn measure(code: &mut Code) -> Result<(), NoMemory>
+    ensures { OnOk result (Grows 3 code.old code.new) }
+{
+    code.put(instr::of_one(CapGetOp::Cgetbase, Reg::RESULT, left()))?;
+    code.put(instr::operation(RegOp::Sub, Reg::RESULT, right(), Reg::RESULT))?;
+    code.put(instr::of_one(CapGetOp::Cgetlen, count(), left()))
+}
+
+/// c10 becomes the pointer to the object, and the heap's next address moves behind it.
+fn take(code: &mut Code, heap: u64) -> Result<(), NoMemory>
+    ensures { OnOk result (Grows 7 code.old code.new) }
+{
+    code.put(instr::of_two(CapRegOp::Csetaddr, Reg::RESULT, left(), spare()))?;
+    code.put(instr::operation(RegOp::Sub, count(), right(), spare()))?;
+    code.put(instr::of_two(CapRegOp::Csetboundsexact, Reg::RESULT, Reg::RESULT, count()))?;
+    code.put(instr::of_two(CapRegOp::Csetaddr, left(), left(), right()))?;
+    code.store_far(left(), Reg::TABLE, heap, way())
+}
+
+/// A length in x10 becomes the pointer to a new object of the heap, or null where the heap hasn't so many bytes left. The address
+/// of the table's entry of the heap, which stands at an offset in the table, is the heap's next address.
+fn allocate(code: &mut Code, heap: u64) -> Result<(), NoMemory>
+    ensures { OnOk result (Grows 25 code.old code.new) }
+{
+    code.load_far(left(), Reg::TABLE, heap, left())?;
+    code.put(instr::of_one(CapGetOp::Cgetlen, right(), left()))?;
+    let longer = code.len();
+    code.put(instr::branch(BranchOp::Bltu, right(), Reg::RESULT, 8))?;
+    round(code)?;
+    find(code)?;
+    measure(code)?;
+    let full = code.len();
+    code.put(instr::branch(BranchOp::Bltu, count(), Reg::RESULT, 8))?;
+    take(code, heap)?;
+    code.put(instr::jump(Reg::ZERO, 8))?;
+    let none = code.len();
+    code.put(instr::immediate(ImmOp::Addi, Reg::RESULT, Reg::ZERO, 0))?;
+    code.lead(longer, none);
+    code.lead(full, none);
+    Ok(())
+}
