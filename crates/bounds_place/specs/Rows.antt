@@ -2,11 +2,16 @@
 use Rattle.std.specs.Prelude.{ℕ, ◌+◌, ◌-◌, ◌^◌, min, List, [], ◌∷◌}
 use Rattle.cap_concentrate.specs.Rounding.{rounded_up}
 use Rattle.obj_mem.specs.Legal.{ObjectNeed, owned_of, alignment_of}
+use Rattle.cap_layout.specs.declared.answers.Owned.{Owned}
 use Rattle.bounds_place.specs.declared.needs.Need.{Need}
 
 -- the owned length and the alignment that an object asks for
 abbrev pub need : ObjectNeed → Need
 need n = record { owned = owned_of n; align = alignment_of n }
+
+-- the same, as the frames of functions count it
+abbrev pub owned_need : ObjectNeed → Owned
+owned_need n = record { length = owned_of n; align = alignment_of n }
 
 -- what it takes at most, wherever it stands
 abbrev pub room : Need → ℕ

@@ -5,4 +5,5 @@ mod needs;
 mod placing;
 mod rows;
 
+pub use needs::local_needs;
 pub use placing::place;

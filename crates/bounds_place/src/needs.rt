@@ -8,12 +8,12 @@ ghost use Rattle.cap_layout.specs.Kept.{AreLayoutsOf};
 ghost use Rattle.obj_mem.specs.Objects.{object_alignment};
 ghost use Rattle.obj_mem.specs.Legal.{room_of};
 ghost use Rattle.obj_mem.specs.Needs.{need_of, global_need, literal_need, local_needs};
-ghost use Rattle.bounds_place.specs.Rows.{need, room, counted};
+ghost use Rattle.bounds_place.specs.Rows.{need, room, counted, owned_need};
 ghost use Rattle.bounds_place.specs.Placing.{data_room, locals_exceed, exceeds};
 
 use c_tree::{FunDef, Typed};
 use cap_concentrate::{alignment_mask, rounded_length};
-use cap_layout::Layouts;
+use cap_layout::{Layouts, Owned};
 use std::alloc::{AllocError, Global};
 
 /// The owned length of an object and its alignment, in bytes.
@@ -139,4 +139,36 @@ pub fn some_locals_exceed(layouts: &Layouts, p: &Typed) -> bool
         found = found || over;
     }
     found
+}
+
+// What an object takes, as the frames of functions count it.
+fn owned_need(n: Need) -> Owned
+    ensures length { result.length ≡ n.owned }
+    ensures align { result.align ≡ n.align }
+{
+    Owned {
+        length: n.owned,
+        align: n.align,
+    }
+}
+
+/// What the locals of a function that are objects ask for, in the order of their declarations: their owned lengths and their
+/// objects' alignments.
+pub fn local_needs(
+    alloc: Global,
+    layouts: &Layouts,
+    p: &Typed,
+    f: &FunDef,
+) -> Result<Vec<Owned>, AllocError>
+    requires { AreLayoutsOf p.now.types layouts.now }
+    ensures { IfOk result (λ ns. ns.items ≡ map owned_need (local_needs p.now.types f.now)) }
+{
+    let vars = f.vars.as_slice();
+    let mut needs = Vec::new(alloc);
+    for v in vars {
+        if !v.simple {
+            needs.push(owned_need(need_of(layouts, p, v.of)))?;
+        }
+    }
+    Ok(needs)
 }

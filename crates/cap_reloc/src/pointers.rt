@@ -2,13 +2,14 @@
 ghost use Rattle.std.specs.Prelude.{◌≡◌, ℕ, ◌+◌, ◌-◌, ◌%◌, ◌^◌, ◌<◌, ◌++◌, ◌∷◌, [], map, length, slice_get, IfOk, OnOk, Bool, Some};
 ghost use Rattle.std.specs.List.{zip};
 ghost use Rattle.cap_concentrate.specs.Rounding.{owned};
+ghost use Rattle.cap_layout.specs.Kept.{AreLayoutsOf};
 ghost use Rattle.obj_mem.specs.Needs.{need_of, global_need, literal_need, is_const, is_const_of};
 ghost use Rattle.cap_reloc.specs.Levels.{const_by};
 ghost use Rattle.cap_reloc.specs.Pointers.{whole, global_pointer, literal_pointer, object_pointers, sentry, heap, table_pointers};
 
 use c_tree::{CType, GlobalDef, Literal, Typed};
 use cap_concentrate::rounded_length;
-use cap_layout::layout;
+use cap_layout::Layouts;
 use obj_mem::Map;
 use std::alloc::{AllocError, Global};
 
@@ -86,11 +87,12 @@ fn is_const(p: &Typed, t: u32) -> bool
 }
 
 // The size of an object of a type, in bytes. A type without a layout has no objects.
-fn size_of(p: &Typed, t: u32) -> u64
+fn size_of(layouts: &Layouts, p: &Typed, t: u32) -> u64
+    requires { AreLayoutsOf p.now.types layouts.now }
     ensures value { (permissions : ℕ) → result ≡ (need_of p.now.types t permissions).length }
     ensures small { result < 2 ^ 63 }
 {
-    match layout(p, t) {
+    match layouts.layout(p, t) {
         Ok(l) => l.size,
         Err(_) => 0,
     }
@@ -110,11 +112,12 @@ fn whole(base: u64, size: u64, perms: u64) -> Pointer
     }
 }
 
-fn global_pointer(p: &Typed, g: &GlobalDef, base: u64) -> Pointer
+fn global_pointer(layouts: &Layouts, p: &Typed, g: &GlobalDef, base: u64) -> Pointer
+    requires { AreLayoutsOf p.now.types layouts.now }
     ensures { result ≡ global_pointer p.now.types (g.now, base) }
 {
     let perms = if is_const(p, g.of) { CONST } else { DATA };
-    whole(base, size_of(p, g.of), perms)
+    whole(base, size_of(layouts, p, g.of), perms)
 }
 
 fn literal_pointer(l: &Literal, base: u64) -> Pointer
@@ -145,14 +148,20 @@ fn heap(m: &Map) -> Pointer
     }
 }
 
-fn global_pointers(alloc: Global, m: &Map, p: &Typed) -> Result<Vec<Pointer>, AllocError>
+fn global_pointers(
+    alloc: Global,
+    layouts: &Layouts,
+    m: &Map,
+    p: &Typed,
+) -> Result<Vec<Pointer>, AllocError>
+    requires { AreLayoutsOf p.now.types layouts.now }
     ensures { IfOk result (λ cs. cs.items ≡ map (global_pointer p.now.types) (zip p.now.globals m.now.globals)) }
 {
     let globals = p.globals.as_slice().iter();
     let bases = m.globals.as_slice().iter();
     globals
         .zip(bases)
-        .map(|(g, base)| global_pointer(p, g, *base))
+        .map(|(g, base)| global_pointer(layouts, p, g, *base))
         .collect(alloc)
 }
 
@@ -172,7 +181,8 @@ fn literal_pointers(alloc: Global, m: &Map, p: &Typed) -> Result<Vec<Pointer>, A
 pub fn object_pointers(alloc: Global, m: &Map, p: &Typed) -> Result<Vec<Pointer>, AllocError>
     ensures { IfOk result (λ cs. cs.items ≡ object_pointers p.now m.now) }
 {
-    let mut pointers = global_pointers(alloc, m, p)?;
+    let layouts = Layouts::new(alloc, p)?;
+    let mut pointers = global_pointers(alloc, &layouts, m, p)?;
     pointers.extend_from_slice(&literal_pointers(alloc, m, p)?)?;
     Ok(pointers)
 }
