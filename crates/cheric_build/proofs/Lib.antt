@@ -1,12 +1,4 @@
-pub mod Texts
-pub mod Filling
-pub mod Extents
-pub mod Standing
-pub mod Program
-pub mod BuiltProgram
-pub mod Counting
 pub mod Fronted
 pub mod Rooms
-pub mod SameBuilt
 pub mod Once
 pub mod FileAnswers

@@ -1,4 +1,2 @@
-pub mod Text
-pub mod Image
 pub mod Front
-pub mod Built
+pub mod FromFile

@@ -11,7 +11,7 @@ use ck_base::{Pos, Refusal};
 use std::alloc::Global;
 
 /// The start of a file.
-pub const START: Pos = Pos { line: 1, col: 1 };
+const START: Pos = Pos { line: 1, col: 1 };
 
 /// The most bytes of a file.
 const MOST_BYTES: usize = 4_194_304;

@@ -3,7 +3,7 @@
 
 mod building;
 mod front_end;
-mod text;
 
-pub use building::{Built, build, build_typed};
+pub use building::build;
 pub use front_end::front;
+pub use typed_build::{Built, build_typed};

@@ -136,11 +136,11 @@ const UNPUT: [(&str, &str, u64, u64, u8, &str); 7] = [
     ),
     (
         "cheric build a.c",
-        "int g;int main(void){return 0;}",
+        "char a[40000000];char b[40000000];int main(void){return 0;}",
         0,
         0,
         10,
-        "refused 150 1:1\n",
+        "refused 141 1:1\n",
     ),
     ("cheric build b.c", HI, 0, 0, 20, "file\n"),
     ("cheric build a.c", HI, 1, 0, 20, "file\n"),

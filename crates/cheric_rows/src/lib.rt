@@ -19,3 +19,5 @@ mod refusals;
 mod run_command;
 #[cfg(test)]
 mod whole_files;
+#[cfg(test)]
+mod whole_language;

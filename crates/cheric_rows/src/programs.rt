@@ -1,7 +1,7 @@
 //! Programs that the front end gives of files, and the calls that take such.
 ghost use Rattle.std.specs.Prelude.{◌≡◌, true, [], ◌∷◌, IfOk};
 ghost use Rattle.c_tree.specs.Typing.{Sound};
-ghost use Rattle.tac_lower.specs.Form.{is_integer_form};
+ghost use Rattle.int_lower.specs.Form.{is_integer_form};
 ghost use Rattle.cheric_rows.specs.OneFunction.{frame};
 
 use bounds_place::place;
@@ -9,11 +9,11 @@ use c_tree::{Typed, weight};
 use cap_reloc::{Table, table};
 use cheric_build::{build, build_typed, front};
 use ck_base::{NoMemory, Pos, Refusal, Sequence};
+use int_lower::{is_integer_form, lower};
 use obj_mem::{Frame, Map};
 use std::alloc::Global;
 use std::test::Fail;
 use tac_ir::well_formed;
-use tac_lower::{is_integer_form, lower};
 
 const COUNTS: &str = "int main(void){int a=3;while(a)a=a-1;return 0;}";
 
@@ -55,11 +55,11 @@ fn a_file_over_integers_is_lowered_and_built(rt: HostRuntime) -> Result<(), Fail
     Ok(())
 }
 
-/// Files that are typed to programs of another form, and the code at their start by which they are not built.
-const NOT_BUILT: [(&str, u16); 5] = [
-    ("int g;int main(void){return 0;}", 150),
-    ("int main(void){int *p=0;return !p;}", 150),
-    ("int f(void){return 0;}int main(void){return f();}", 150),
+/// Files that are typed to programs that are not over integers alone, and the code at their start by which they are not built (0: none).
+const OTHERS: [(&str, u16); 5] = [
+    ("int g;int main(void){return 0;}", 0),
+    ("int main(void){int *p=0;return !p;}", 0),
+    ("int f(void){return 0;}int main(void){return f();}", 0),
     (
         "char a[40000000];char b[40000000];int main(void){return 0;}",
         141,
@@ -74,13 +74,14 @@ fn refused(alloc: Global, file: &str) -> Result<(bool, Option<Refusal>), Refusal
 }
 
 #[test]
-fn other_programs_are_refused_at_their_start(rt: HostRuntime) -> Result<(), Fail> {
+fn other_programs_are_built_or_refused_at_their_start(rt: HostRuntime) -> Result<(), Fail> {
     let alloc = rt.alloc();
-    for &(file, code) in &NOT_BUILT {
+    for &(file, code) in &OTHERS {
         let (has_form, refusal) = refused(alloc, file)?;
-        let want = Refusal::Code(code, Pos { line: 1, col: 1 });
+        let at_start = Refusal::Code(code, Pos { line: 1, col: 1 });
+        let want = (code != 0).then_some(at_start);
         assert!(rt; !has_form, "{file}");
-        assert_eq!(rt; refusal, Some(want), "{file}");
+        assert_eq!(rt; refusal, want, "{file}");
     }
     Ok(())
 }

@@ -6,7 +6,7 @@ use std::alloc::Global;
 use std::test::Fail;
 
 /// Files, and what the command says of them: mostly the whole line.
-const REFUSED: [(&str, &str); 17] = [
+const REFUSED: [(&str, &str); 16] = [
     ("", "refused 135 1:1\n"),
     ("int main(void){return 0;}@", "refused 100 1:26\n"),
     ("int main(void){return 0;}/*", "refused 101 1:26\n"),
@@ -41,11 +41,6 @@ const REFUSED: [(&str, &str); 17] = [
     (
         "char a[40000000];char b[40000000];int main(void){return 0;}",
         "refused 141 1:1\n",
-    ),
-    // within the limit of room, and not of the form that is built
-    (
-        "char a[40000000];char b[20000000];int main(void){return 0;}",
-        "refused 150 1:1\n",
     ),
 ];
 

@@ -7,7 +7,7 @@ use std::fmt::Write;
 use std::test::Fail;
 
 /// A program that counts the words of its input.
-const WORDS: &str = r"typedef struct Node Node;
+pub const WORDS: &str = r"typedef struct Node Node;
 struct Node { Node *next; char *word; int count; };
 static Node *table[16];
 static int same(const char *a, const char *b) {
@@ -84,11 +84,10 @@ const START: Pos = Pos { line: 1, col: 1 };
 const MAIN: &str = "int main(void){return 0;}";
 
 #[test]
-fn a_program_of_many_parts_is_typed_and_not_built(rt: HostRuntime) -> Result<(), Fail> {
+fn a_program_of_many_parts_is_typed_and_built(rt: HostRuntime) -> Result<(), Fail> {
     let alloc = rt.alloc();
     assert_eq!(rt; front(alloc, WORDS.as_bytes()).err(), None);
-    let refusal = build(alloc, WORDS.as_bytes()).err();
-    assert_eq!(rt; refusal, Some(Refusal::Code(150, START)));
+    assert_eq!(rt; build(alloc, WORDS.as_bytes()).err(), None);
     Ok(())
 }
 
@@ -164,11 +163,10 @@ fn unions_that_share_their_members_are_typed(rt: HostRuntime) -> Result<(), Fail
 }
 
 #[test]
-fn structs_and_unions_in_one_another_are_not_built(rt: HostRuntime) -> Result<(), Fail> {
+fn structs_and_unions_in_one_another_are_built(rt: HostRuntime) -> Result<(), Fail> {
     let alloc = rt.alloc();
     for file in [unions(alloc, 10_000)?, structs(alloc, 50_000)?] {
-        let refusal = build(alloc, file.as_bytes()).err();
-        assert_eq!(rt; refusal, Some(Refusal::Code(150, START)));
+        assert_eq!(rt; build(alloc, file.as_bytes()).err(), None);
     }
     Ok(())
 }

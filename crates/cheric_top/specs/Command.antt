@@ -8,9 +8,7 @@ use Rattle.obj_mem.specs.declared.map.Map.{Map}
 use Rattle.cap_machine.specs.declared.end.End.{End}
 use Rattle.cap_machine.specs.Step.{act, limits}
 use Rattle.image_load.specs.Loading.{Loaded, loading}
-use Rattle.c_tree.specs.declared.typed.Typed.{Typed}
-use Rattle.c_tree.specs.File.{Accepts}
-use Rattle.cheric_build.specs.Built.{IsBuilt, IsFileRefusal}
+use Rattle.cheric_build.specs.FromFile.{IsBuiltFrom, IsFileRefusal}
 use Rattle.cheric_top.specs.Answers.{answer_of, IsSaid}
 use Rattle.cheric_top.specs.Lines.{Mode, Run, Build, Exec, Line, IsLine}
 use Rattle.cheric_top.specs.declared.answer.Answer.{Answer}
@@ -73,18 +71,16 @@ pub record RanLoaded (before after : Seen) (loaded : Loaded) (steps : ℕ) (answ
   pub counted : Counted limits before after ending
   pub answered : answer ≡ answer_of loaded.image ending
 
--- A file that is accepted as a typed program, and the bytes that were built of each program as which it is, with their map and count.
+-- The bytes that were built of a file, with their map and count
 pub record Compiled (file : List ℕ) : Type 0 where
-  pub program : Typed
-  pub accepted : Accepts file program
   pub elf : List ℕ
   pub map : Map
   pub count : ℕ
-  pub built : (p : Typed) → Accepts file p → IsBuilt p elf map count
+  pub built : IsBuiltFrom file elf map count
 
 -- what the bytes load to
 abbrev pub loaded_of : {file : List ℕ} → Compiled file → Loaded
-loaded_of c = (c.built c.program c.accepted).loaded
+loaded_of c = c.built.built.image.loaded
 
 -- ---- mode `run`
 

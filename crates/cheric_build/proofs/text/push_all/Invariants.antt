@@ -1,6 +1,0 @@
-use Rattle.std.proofs.Common.{◌≡◌, ◌++◌, drop}
-use Rattle.cheric_build.specs.Text.{code_bytes}
-use Rattle.cheric_build.proofs.text.push_all.Given as goal
-
-abbrev pub invariant-loop-i : goal.invariant-loop-i
-invariant-loop-i l = l.text.items ++ code_bytes (drop l.i-index l.code) ≡ l.fn.text.items ++ code_bytes l.code

@@ -1,0 +1,197 @@
+//! Programs of the whole language by the command: what they put, and how they end.
+
+use crate::calls::{Answer, answers, answers_input, one_file, sure_file};
+use crate::whole_files::WORDS;
+use ck_base::NoMemory;
+use std::alloc::Global;
+use std::test::Fail;
+
+/// Files, with the status, output and line of a run.
+const PROGRAMS: [(&str, u8, &str, &str); 19] = [
+    // an array has exact bounds
+    (
+        "int main(void){int a[10];int i;for(i=0;i<=10;i=i+1){a[i]=i;putchar(65+i);}return 0;}",
+        2,
+        "ABCDEFGHIJ",
+        "trap bounds 1:54\n",
+    ),
+    // and a large object those of its owned length
+    (
+        "int main(void){char *p=malloc(100000);p[100095]=1;putchar(79);p[100096]=1;return 0;}",
+        2,
+        "O",
+        "trap bounds 1:64\n",
+    ),
+    (
+        "char a[4095];int main(void){a[4094]=1;a[4095]=1;return 0;}",
+        2,
+        "",
+        "trap bounds 1:40\n",
+    ),
+    (
+        "char a[4095];char b[4097];int main(void){b[4103]=1;putchar(79);b[4104]=1;return 0;}",
+        2,
+        "O",
+        "trap bounds 1:65\n",
+    ),
+    // a pointer to a member has the member's bounds
+    (
+        "struct S{char a[4];int b;};int main(void){struct S s;char *p=s.a;p[3]=1;p[4]=2;putchar(s.b);return 0;}",
+        2,
+        "",
+        "trap bounds 1:74\n",
+    ),
+    // a capability integer keeps what it points to, and a plain one its address alone
+    (
+        "int main(void){int x=7;uintptr_t u=(uintptr_t)&x;int *p=(int*)(u+0);putchar(48+*p);unsigned long n=(unsigned long)&x;p=(int*)n;putchar(48+*p);return 0;}",
+        2,
+        "7",
+        "trap tag 1:139\n",
+    ),
+    // a byte that is stored over a pointer takes its tag
+    (
+        "int main(void){int x=5;int *p=&x;unsigned char *c=(unsigned char*)&p;c[0]=c[0];putchar(48+*p);return 0;}",
+        2,
+        "",
+        "trap tag 1:91\n",
+    ),
+    // a pointer that is moved far and back has no tag
+    (
+        "int main(void){\nchar a[40];char *p=a+400;p=p-400;p[0]=65;putchar(a[0]);\np=a+20000;p=p-20000;\np[0]=66;return 0;}",
+        2,
+        "A",
+        "trap tag 4:2\n",
+    ),
+    (
+        "int f(int n){return f(n+1);}int main(void){return f(0);}",
+        3,
+        "",
+        "stack 1:5\n",
+    ),
+    (
+        "int main(void){char *s=\"ab\";putchar(s[0]);s[1]=65;return 0;}",
+        2,
+        "a",
+        "trap store 1:44\n",
+    ),
+    // a function's pointer is called, and an object's is not
+    (
+        "int one(int x){return x+1;}\nint main(void){\nvoid *v=(void*)one;int (*f)(int)=(int(*)(int))v;putchar(f(64));\nint d=3;uintptr_t u=(uintptr_t)&d;int (*g)(int)=(int(*)(int))u;\nreturn g(1);}",
+        2,
+        "A",
+        "trap execute 5:9\n",
+    ),
+    // the heap has room for one allocation of its size
+    (
+        "int main(void){char *p=malloc(16777216);char *q=malloc(1);putchar(p?89:78);putchar(q?89:78);return 0;}",
+        0,
+        "YN",
+        "exit 0\n",
+    ),
+    // a struct's pointer is copied with it
+    (
+        "int main(void){int x=8;struct P{int *p;char c;}a,b;a.p=&x;b=a;putchar(48+*b.p);return 0;}",
+        0,
+        "8",
+        "exit 0\n",
+    ),
+    (
+        "int main(void){char a[40];putchar(48+cheri_tag_get(a));putchar(cheri_length_get(a));putchar(48+cheri_tag_get(cheri_tag_clear(a)));return 0;}",
+        0,
+        "1(0",
+        "exit 0\n",
+    ),
+    // operands from left to right; an assignment takes its place first
+    (
+        "int n;int f(int c){putchar(c);return n++;}int main(void){int a[4];a[f('a')]=f('b')+f('c')*f('d');return a[0];}",
+        1,
+        "abcd",
+        "exit 7\n",
+    ),
+    (
+        "int main(void){int i=0,s=0;do{switch(i){case 1:continue;case 3:s+=10;default:s++;break;case 5:return s;}}while(++i<9);return 0;}",
+        1,
+        "",
+        "exit 14\n",
+    ),
+    // sums wrap, and shift counts are taken modulo the width
+    (
+        "int main(void){short s=32767;s++;long n=1;int k=33;return (s<0)+2*((1<<k)==2)+4*((n<<k)!=0);}",
+        1,
+        "",
+        "exit 7\n",
+    ),
+    (
+        "struct N{struct N*next;int v;};int main(void){struct N*l=0;int i;for(i=0;i<5;i++){struct N*n=malloc(sizeof*n);n->v=i;n->next=l;l=n;}for(;l;l=l->next)putchar('0'+l->v);return 0;}",
+        0,
+        "43210",
+        "exit 0\n",
+    ),
+    (
+        "static int c=3;static int*p[2]={&c,0};int main(void){*p[0]+=4;static char t[]=\"xy\";t[0]++;putchar(t[0]);return p[1]?0:c;}",
+        1,
+        "y",
+        "exit 7\n",
+    ),
+];
+
+/// Whether running the file is answered so.
+fn runs(alloc: Global, file: &str, answer: Answer<'_>) -> Result<bool, NoMemory> {
+    let mut files = one_file(alloc, "a.c", file.as_bytes(), 0)?;
+    answers(alloc, &mut files, "cheric run a.c", [0; 2], answer)
+}
+
+#[test]
+fn programs_of_the_whole_language_run(rt: HostRuntime) -> Result<(), Fail> {
+    for &(file, status, put, line) in &PROGRAMS {
+        let answer = Answer { status, put, line };
+        assert!(rt; runs(rt.alloc(), file, answer)?, "{file}");
+    }
+    Ok(())
+}
+
+#[test]
+fn words_are_counted(rt: HostRuntime) -> Result<(), Fail> {
+    let alloc = rt.alloc();
+    let mut files = sure_file(alloc, "a.c", WORDS.as_bytes())?;
+    let answer = Answer {
+        status: 0,
+        put: "be 2\nnot 1\nor 1\nto 2\n",
+        line: "exit 0\n",
+    };
+    let input = (b"to be or not to be\n".as_slice(), 0);
+    let counts = answers_input(alloc, &mut files, "cheric run a.c", input, [0; 2], answer)?;
+    assert!(rt; counts);
+    Ok(())
+}
+
+/// A function of so many statements, each of weight 2.
+fn heavy(alloc: Global, count: usize) -> Result<String, NoMemory> {
+    let mut file = String::from_str(alloc, "int g;int main(void){")?;
+    file.push_str(&"7;".repeat(alloc, count)?)?;
+    file.push_str("}")?;
+    Ok(file)
+}
+
+#[test]
+fn a_program_of_the_greatest_weight_runs_and_a_heavier_one_is_refused(
+    rt: HostRuntime,
+) -> Result<(), Fail> {
+    let alloc = rt.alloc();
+    let most = Answer {
+        status: 0,
+        put: "",
+        line: "exit 0\n",
+    };
+    let more = Answer {
+        status: 10,
+        put: "",
+        line: "refused 142 1:1\n",
+    };
+    // the function weighs 8 and its block 1
+    for &(count, answer) in &[(3_885, most), (3_886, more)] {
+        let file = heavy(alloc, count)?;
+        assert_eq!(rt; runs(alloc, &file, answer), Ok(true), "{count}");
+    }
+    Ok(())
+}

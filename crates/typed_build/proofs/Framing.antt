@@ -1,0 +1,86 @@
+-- Frames of a program's functions are those that a legal map may have.
+use Rattle.std.proofs.Common.{◌≡◌, ℕ, zero, suc, ◌+◌, ◌<◌, ◌≤◌, List, [], ◌∷◌, length, map, Some, refl, sym, ap, ◌∙◌, subst, arith}
+use Rattle.std.specs.Prelude.{slice_get}
+use Rattle.std.specs.List.{All}
+use Rattle.std.proofs.lemmas.Option.{slice_get_within}
+use Rattle.std.proofs.lemmas.List.Elements.{All-weaker}
+use Rattle.c_tree.specs.TreeWeight.{function_weight}
+use Rattle.c_tree.specs.declared.typed.FunDef.{FunDef}
+use Rattle.c_tree.specs.declared.typed.Typed.{Typed}
+use Rattle.obj_mem.specs.Legal.{AreFrames, IsFrame}
+use Rattle.obj_mem.specs.Needs.{local_needs, function_needs, weight_by, weight_in}
+use Rattle.obj_mem.specs.declared.map.Frame.{Frame}
+use Rattle.reg_alloc.specs.Placed as alloc
+use Rattle.reg_alloc.specs.declared.places.Home.{Home}
+use Rattle.reg_alloc.specs.declared.places.Home.TheVariants.{Register, Slot}
+use Rattle.reg_alloc.specs.declared.places.Places.{Places}
+use Rattle.purecap_abi.specs.Frames.{HasFrame}
+use Rattle.purecap_abi.specs.Saving.{IsSlotBelow, IsFor, AreHomes}
+use Rattle.tac_ir.specs.Costs.{outgoing}
+use Rattle.tac_ir.specs.Within.{FunctionCosts}
+use Rattle.tac_ir.specs.declared.code.TacFun.{TacFun}
+use Rattle.typed_build.specs.Frames.{HasHomes, FrameFits, FramesFit}
+
+there : {A : Type 0} (xs : List A) (k : ℕ) → k < length xs → (x : A) × (slice_get xs k ≡ Some x)
+there [] k lt = absurd (omega arith)
+there (x ∷ xs) zero lt = (x, refl)
+there (x ∷ xs) (suc k) lt = there xs k (omega arith)
+
+-- ---- homes
+
+slot_below : (n m : ℕ) → n ≡ m → (h : Home) → alloc.IsSlotBelow n h → IsSlotBelow m h
+slot_below n m e (Register r) b = tt
+slot_below n m e (Slot s) b = omega (arith, b, e)
+
+pub has_homes : (f : TacFun) (n : ℕ) (homes : List Home) → n ≡ f.temps → length homes ≡ n → All (alloc.IsSlotBelow n) homes → HasHomes f homes
+has_homes f n homes e long slots = record { len = long ∙ e; slots = All-weaker (alloc.IsSlotBelow n) (IsSlotBelow f.temps) (slot_below n f.temps e) homes slots }
+
+slot_same : (n m : ℕ) → n ≡ m → (h : Home) → IsSlotBelow n h → IsSlotBelow m h
+slot_same n m e (Register r) b = tt
+slot_same n m e (Slot s) b = omega (arith, b, e)
+
+pub are_homes : (f : TacFun) (homes : List Home) (w : ℕ) → HasHomes f homes → FunctionCosts w f → w ≤ 7780 → AreHomes homes
+are_homes f homes w h c light = record {
+  slots = All-weaker (IsSlotBelow f.temps) (IsSlotBelow (length homes)) (slot_same f.temps (length homes) (sym h.len)) homes h.slots;
+  few = omega (arith, h.len, c.temps, light);
+}
+
+-- ---- one frame
+
+pub frame_fits : (p : Typed) (d : FunDef) (f : TacFun) (l : Places) (g : Frame) → HasHomes f l.homes → FunctionCosts (function_weight p d) f
+    → HasFrame (map Rattle.bounds_place.specs.Rows.owned_need (local_needs p.types d)) l.homes (outgoing f.code) g → IsFor l.homes g → FrameFits p d l g
+frame_fits p d f l g h c has own = record {
+  legal = has.legal (record { locals = local_needs p.types d; weight = function_weight p d }) refl (omega (arith, h.len, c.temps));
+  framed = own;
+}
+
+-- ---- all of them
+
+frames_from : (p : Typed) (k : ℕ) (ds : List FunDef) (gs : List Frame) → length gs ≡ length ds
+    → ((j : ℕ) (d : FunDef) (g : Frame) → slice_get ds j ≡ Some d → slice_get gs j ≡ Some g → (weight_in p (k + j) ≡ function_weight p d) × IsFrame (record { locals = local_needs p.types d; weight = function_weight p d }) g)
+    → AreFrames (function_needs p.types (weight_in p) k ds) gs
+frames_from p k [] [] n h = tt
+frames_from p k [] (g ∷ gs) n h = absurd (omega (arith, n))
+frames_from p k (d ∷ ds) [] n h = absurd (omega (arith, n))
+frames_from p k (d ∷ ds) (g ∷ gs) n h =
+    let here = h 0 d g refl refl in
+    let at : weight_in p k ≡ function_weight p d = ap (weight_in p) (let z : k ≡ k + 0 = omega arith in z) ∙ here.0 in (
+      subst (λ w. IsFrame (record { locals = local_needs p.types d; weight = w }) g) (sym at) here.1,
+      frames_from p (suc k) ds gs (omega (arith, n)) (λ j e f a b.
+          let next = h (suc j) e f a b in
+          (ap (weight_in p) (let z : suc k + j ≡ k + suc j = omega arith in z) ∙ next.0, next.1)),
+    )
+
+pub are_frames : (p : Typed) (places : List Places) (frames : List Frame) → length places ≡ length p.funs → length frames ≡ length p.funs → FramesFit p places frames → AreFrames (function_needs p.types (weight_in p) 0 p.funs) frames
+are_frames p places frames m n h =
+    frames_from p 0 p.funs frames n (λ j d g a b.
+    let lt = slice_get_within p.funs j d a in
+    let l = there places j (omega (arith, lt, m)) in
+    let own : weight_in p (0 + j) ≡ function_weight p d = ap (weight_in p) (let z : 0 + j ≡ j = omega arith in z) ∙ ap (weight_by p) a in
+    (own, (h j d l.0 g a l.1 b).legal))
+
+pub framed : (p : Typed) (places : List Places) (frames : List Frame) → length places ≡ length p.funs → FramesFit p places frames → (k : ℕ) (l : Places) (g : Frame) → slice_get places k ≡ Some l → slice_get frames k ≡ Some g → IsFor l.homes g
+framed p places frames m h k l g a b =
+    let lt = slice_get_within places k l a in
+    let d = there p.funs k (omega (arith, lt, m)) in
+    (h k d.0 l g d.1 a b).framed

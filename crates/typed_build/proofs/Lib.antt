@@ -1,0 +1,14 @@
+pub mod Texts
+pub mod Filling
+pub mod Extents
+pub mod Standing
+pub mod Program
+pub mod BuiltProgram
+pub mod WholeImage
+pub mod Weighing
+pub mod Framing
+pub mod Coding
+pub mod Counting
+pub mod Growing
+pub mod Passing
+pub mod SameBuilt

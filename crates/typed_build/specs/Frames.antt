@@ -1,0 +1,56 @@
+-- Homes and frames of a program's functions.
+use Rattle.std.specs.Prelude.{◌≡◌, ℕ, ◌^◌, ◌<◌, true, List, length, slice_get, Some, ⊤}
+use Rattle.std.specs.List.{All}
+use Rattle.ck_base.specs.declared.refusal.Refusal.{Refusal}
+use Rattle.ck_base.specs.declared.refusal.Refusal.TheVariants.{Code, NoMemory}
+use Rattle.c_tree.specs.TreeWeight.{function_weight}
+use Rattle.c_tree.specs.declared.typed.FunDef.{FunDef}
+use Rattle.c_tree.specs.declared.typed.Typed.{Typed}
+use Rattle.obj_mem.specs.Legal.{IsFrame}
+use Rattle.obj_mem.specs.Needs.{local_needs}
+use Rattle.obj_mem.specs.declared.map.Frame.{Frame}
+use Rattle.reg_alloc.specs.declared.places.Home.{Home}
+use Rattle.reg_alloc.specs.declared.places.Places.{Places}
+use Rattle.purecap_abi.specs.Saving.{IsSlotBelow, IsFor}
+use Rattle.tac_ir.specs.declared.code.Tac.{Tac}
+use Rattle.tac_ir.specs.declared.code.TacFun.{TacFun}
+use Rattle.tac_live.specs.Live.{is_numbered}
+use Rattle.typed_build.specs.Built.{start}
+
+-- ---- giving up
+
+-- a check failed that isn't proved to pass; want of memory is free
+abbrev pub IsGivenUp : Refusal → Type 0
+IsGivenUp (Code code pos) = (pos ≡ start) × (code ≡ 150)
+IsGivenUp NoMemory = ⊤
+
+-- ---- homes
+
+-- code whose live intervals can be counted
+pub record IsCountable (f : TacFun) : Type 0 where
+  pub numbered : is_numbered f ≡ true
+  pub short : length f.code < 2 ^ 32
+
+abbrev pub AreCountable : Tac → Type 0
+AreCountable t = (k : ℕ) (f : TacFun) → slice_get t.funs k ≡ Some f → IsCountable f
+
+-- one home for each temp, and no more slots than temps
+pub record HasHomes (f : TacFun) (homes : List Home) : Type 0 where
+  pub len : length homes ≡ f.temps
+  pub slots : All (IsSlotBelow f.temps) homes
+
+-- for each function
+abbrev pub HaveHomes : List TacFun → List Places → Type 0
+HaveHomes funs places = (k : ℕ) (f : TacFun) (l : Places) → slice_get funs k ≡ Some f → slice_get places k ≡ Some l → HasHomes f l.homes
+
+-- ---- frames
+
+-- a frame for these homes that a legal map may have for the function
+pub record FrameFits (p : Typed) (d : FunDef) (l : Places) (g : Frame) : Type 0 where
+  pub legal : IsFrame (record { locals = local_needs p.types d; weight = function_weight p d }) g
+  pub framed : IsFor l.homes g
+
+-- for each function
+abbrev pub FramesFit : Typed → List Places → List Frame → Type 0
+FramesFit p places frames =
+    (k : ℕ) (d : FunDef) (l : Places) (g : Frame) → slice_get p.funs k ≡ Some d → slice_get places k ≡ Some l → slice_get frames k ≡ Some g → FrameFits p d l g

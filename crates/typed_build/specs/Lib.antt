@@ -1,0 +1,5 @@
+pub mod Text
+pub mod Image
+pub mod Built
+pub mod Frames
+pub mod Coded

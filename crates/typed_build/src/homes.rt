@@ -1,0 +1,47 @@
+//! The homes of the temps of a program's functions.
+ghost use Rattle.std.specs.Prelude.{◌≡◌, ◌<◌, ◌^◌, ℕ, IsTrue, IfOk, Some, length, slice_get, vec_len};
+ghost use Rattle.tac_ir.specs.declared.code.TacFun.{TacFun as Function};
+ghost use Rattle.typed_build.specs.Frames.{IsCountable, AreCountable, HasHomes, HaveHomes};
+
+use ck_base::NoMemory;
+use reg_alloc::{Places, allocate};
+use std::alloc::Global;
+use tac_ir::{Tac, TacFun};
+use tac_live::{calls, intervals};
+
+/// Whether the instructions of each function can be counted in 32 bits.
+pub fn is_short(t: &Tac) -> bool
+    ensures { IsTrue result → (k : ℕ) (f : Function) → slice_get t.now.funs k ≡ Some f → length f.code < 2 ^ 32 }
+{
+    for f in t.funs.as_slice() {
+        if f.code.as_slice().len() > u32::MAX as usize {
+            return false;
+        }
+    }
+    true
+}
+
+/// The homes of a function's temps: by linear scan over their live intervals.
+fn homes_of(alloc: Global, f: &TacFun, temps: u32) -> Result<Places, NoMemory>
+    requires countable { IsCountable f.now }
+    requires temps { temps ≡ f.now.temps }
+    ensures { IfOk result (λ l. HasHomes f.now l.homes) }
+{
+    let live = intervals(alloc, f)?;
+    let calls = calls(alloc, f)?;
+    allocate(alloc, &live, &calls)
+}
+
+/// The homes of the temps of each function.
+pub fn places_of(alloc: Global, t: &Tac) -> Result<Vec<Places>, NoMemory>
+    requires { AreCountable t.now }
+    ensures len { IfOk result (λ places. vec_len places ≡ length t.now.funs) }
+    ensures homes { IfOk result (λ places. HaveHomes t.now.funs places.items) }
+{
+    let mut places = Vec::new(alloc);
+    let funs = t.funs.as_slice();
+    for f in funs {
+        places.push(homes_of(alloc, f, f.temps)?)?;
+    }
+    Ok(places)
+}

@@ -1,0 +1,13 @@
+//! From a typed program to the ELF file of machine code.
+#![tactic(auto)]
+
+mod building;
+mod counts;
+mod frames;
+mod homes;
+mod image;
+mod integers;
+mod text;
+mod whole;
+
+pub use building::{Built, START, build_typed};
