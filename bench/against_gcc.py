@@ -3,14 +3,12 @@
 
 Each is run by `./cheric run` and as `gcc -O0 -fwrapv -funsigned-char` builds it; both must put the same bytes and exit with the same
 number. It needs gcc and what ./cheric needs. It proves nothing and is no part of the gate."""
-import os
 import subprocess
 import sys
 import tempfile
 
+from calls import ROOT, prepared
 from programs import program
-
-ROOT = os.path.dirname(os.path.dirname(os.path.abspath(__file__)))
 
 
 def by_cheric(source):
@@ -32,6 +30,7 @@ def main():
     count = int(sys.argv[1]) if len(sys.argv) > 1 else 200
     seed = int(sys.argv[2]) if len(sys.argv) > 2 else 1
     other = 0
+    prepared()
     with tempfile.TemporaryDirectory() as work:
         source, target = f"{work}/p.c", f"{work}/p"
         for k in range(seed, seed + count):

@@ -6,14 +6,14 @@ A file is accepted where `cheric run` runs it, or refuses it only by 141 or 150.
 code of the refusal or by gcc's error; each has to be a choice that docs/ states, as that an array of unknown length at file scope is 132,
 or that `;` may stand alone at file scope. It needs what ./cheric needs, and gcc. It proves nothing and is no part of the gate."""
 import collections
-import os
 import random
 import re
 import subprocess
 import sys
 import tempfile
 
-ROOT = os.path.dirname(os.path.dirname(os.path.abspath(__file__)))
+from calls import ROOT, prepared
+
 CHERIC = f"{ROOT}/cheric"
 TABLE = f"{ROOT}/crates/cheric_rows/src/front_tables.rt"
 TOKEN = re.compile(r"[A-Za-z_]\w*|\.?\d[\w.]*|'(?:[^'\\]|\\.)*'|\"(?:[^\"\\]|\\.)*\"|<<=|>>=|->|\+\+|--|<<|>>|<=|>=|==|!=|&&|\|\||[-+*/%&|^]=|\S")
@@ -63,8 +63,7 @@ def main():
         with open(before, "w", encoding="utf-8") as file:
             file.write(BEFORE)
         gcc = ["gcc", "-std=c11", "-fsyntax-only", "-funsigned-char", "-pedantic-errors", "-fno-builtin", "-Wno-pointer-sign", "-include", before, source]
-        # The first call builds the command.
-        subprocess.run([CHERIC], stdin=subprocess.DEVNULL)
+        prepared()
         for _ in range(count):
             text = changed(random.choice(seeds))
             with open(source, "w", encoding="utf-8") as file:

@@ -4,12 +4,11 @@
 A file is `accept`ed where `cheric build` builds it or refuses it by 150 alone; else the code and the place have to be those of the row.
 It needs what ./cheric needs. It proves nothing and is no part of the gate."""
 import json
-import os
 import subprocess
 import sys
 import tempfile
 
-ROOT = os.path.dirname(os.path.dirname(os.path.abspath(__file__)))
+from calls import ROOT, prepared
 
 
 def answer(folder, text):
@@ -25,6 +24,7 @@ def main():
     with open(f"{ROOT}/bench/front_rows.json", encoding="utf-8") as it:
         rows = json.load(it)
     wrong = 0
+    prepared()
     with tempfile.TemporaryDirectory() as folder:
         for row in rows:
             got = answer(folder, row["text"])

@@ -9,7 +9,8 @@ import sys
 import tempfile
 import tty
 
-ROOT = os.path.dirname(os.path.dirname(os.path.abspath(__file__)))
+from calls import ROOT, prepared
+
 CHERIC = f"{ROOT}/cheric"
 HI = "int main(void){putchar(72);putchar(105);return 0;}"
 ECHO = "int main(void){int c;while((c=getchar())!=-1)putchar(c);return 0;}"
@@ -48,9 +49,8 @@ RUN = [
     ("int f(void);int main(void){return f();}", "", "", "refused 130 1:35", 10),
     ("enum{A=1/0};" + END, "", "", "refused 134 1:8", 10),
     ("int a[]; " + END, "", "", "refused 132 1:5", 10),
-    # Accepted, and not of the form that is built.
-    ("int a[3]={1,2,3,};" + END, "", "", "refused 150 1:1", 10),
-    ("char s[2]=\"ab\";" + END, "", "", "refused 150 1:1", 10),
+    ("int a[3]={1,2,3,};" + END, "", "", "exit 0", 0),
+    ("char s[2]=\"ab\";" + END, "", "", "exit 0", 0),
     # A function that is declared and not defined is none of the program's.
     ("int f(void);" + END, "", "", "exit 0", 0),
 ]
@@ -74,7 +74,7 @@ class Rows:
         return sorted(os.listdir(self.folder))
 
     def row(self, words, output, line, status, taken="", out=None):
-        """The words behind `cheric` are answered so."""
+        """The words behind `cheric` are answered so; with any output where it is None."""
         self.count += 1
         run = subprocess.run([CHERIC, *words], cwd=self.folder, input=None if taken is None else taken.encode(),
                              stdout=out or subprocess.PIPE, stderr=subprocess.PIPE)
@@ -82,7 +82,7 @@ class Rows:
         first = got[1].splitlines()[0] if got[1] else ""
         # A refusal by 120 is at any place.
         same = first.startswith(line + " ") if line == "refused 120" else got[1] == line + "\n"
-        if got[0] != output or got[2] != status or not same:
+        if (output is not None and got[0] != output) or got[2] != status or not same:
             self.wrong += 1
             print(f"cheric {' '.join(words)}: {got}, and not {(output, line, status)}")
 
@@ -169,16 +169,26 @@ def len_of_build(rows):
 
 
 def example_rows(rows):
+    """The examples; what each one shows stands in its first lines. Where a frame's size decides the output, it is not compared."""
     for name, taken, output, line, status in [
         ("hi.c", "", "Hi", "exit 0", 0), ("bytes.c", "", "Hi", "exit 0", 0), ("bye.c", "", "bye", "exit 44", 1),
-        ("echo.c", "one line\n", "one line\n", "exit 0", 0),
+        ("echo.c", "one line\n", "one line\n", "exit 0", 0), ("trap_tag.c", "", "7", "trap tag 8:19", 2),
+        ("trap_sealed.c", "", "f", "trap sealed 10:12", 2), ("trap_load.c", "", "w", "trap load 8:14", 2),
+        ("trap_store.c", "", "a", "trap store 6:6", 2), ("trap_storecap.c", "", "i", "trap storecap 10:5", 2),
+        ("trap_bounds.c", "", "ABCDEFGHIJ", "trap bounds 6:10", 2), ("trap_align.c", "", "1", "trap align 7:16", 2),
+        ("trap_execute.c", "", "A", "trap execute 11:13", 2), ("padding.c", "", "PO", "trap bounds 9:6", 2),
+        ("member_bounds.c", "", "4", "trap bounds 13:6", 2), ("provenance.c", "", "22", "trap tag 12:19", 2),
+        ("far_pointer.c", "", "A", "trap tag 10:6", 2), ("capabilities.c", "", "1\n40\n8\n4\n", "trap bounds 16:6", 2),
+        ("heap_is_full.c", "", "YN", "exit 0", 0), ("list.c", "sorted\n", "deorst", "exit 6", 1),
+        ("function_pointers.c", "", "7\n3\n10\n2\n", "exit 0", 0), ("structs.c", "", "8\n2\n5\n", "exit 0", 0),
+        ("words.c", "to be or not to be\n", "be 2\nnot 1\nor 1\nto 2\n", "exit 0", 0), ("wraps.c", "", "WDRS", "exit 0", 0),
+        ("stack_exhausted.c", "", None, "stack 4:12", 3),
     ]:
         rows.row(["run", f"{ROOT}/examples/{name}"], output, line, status, taken)
 
 
 def main():
-    # The first call builds the command.
-    subprocess.run([CHERIC], stdin=subprocess.DEVNULL)
+    prepared()
     with tempfile.TemporaryDirectory() as folder:
         rows = Rows(folder)
         for part in (run_rows, line_rows, image_rows, example_rows):

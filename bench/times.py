@@ -20,9 +20,9 @@ import sys
 import tempfile
 import time
 
+from calls import ROOT, prepared
 from programs import program
 
-ROOT = os.path.dirname(os.path.dirname(os.path.abspath(__file__)))
 CHERIC = f"{ROOT}/crates/cheric_cli/out/cheric_cli"
 MOST_BYTES = 4_194_304
 MAIN = "int main(void){return 0;}"
@@ -228,10 +228,7 @@ def hostile(work):
 
 def main():
     parts = {"building": building, "running": running, "front": front, "long": long, "hostile": hostile}
-    # The first call builds the command.
-    subprocess.run([f"{ROOT}/cheric"], stdin=subprocess.DEVNULL)
-    if not os.path.exists(CHERIC):
-        return 1
+    prepared()
     with tempfile.TemporaryDirectory() as work:
         for name in sys.argv[1:] or parts:
             parts[name](work)
