@@ -1,12 +1,5 @@
--- What lowering finds out of types.
-use Rattle.std.specs.Prelude.{◌≡◌, ℕ, ◌<◌, List, Option, Some, None, slice_get}
-use Rattle.c_tree.specs.Layout.{bare_of}
-use Rattle.c_tree.specs.declared.typed.CType.{CType}
-
--- the type behind one word `const`
-abbrev pub IsConst : CType → Option ℕ → Type 0
-IsConst c None = (go : ℕ → Option CType) → bare_of (Some c) go ≡ Some c
-IsConst c (Some t) = (go : ℕ → Option CType) → bare_of (Some c) go ≡ go t
+-- What lowering finds out of a program.
+use Rattle.std.specs.Prelude.{◌≡◌, ℕ, ◌<◌, List, Some, slice_get}
 
 -- all numbers of a list are below a number
 pub record AreBelow (k : ℕ) (xs : List ℕ) : Type 0 where

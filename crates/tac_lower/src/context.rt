@@ -105,7 +105,7 @@ impl<'a> Context<'a> {
 
     /// Where a member begins in the struct or union of expression `a`.
     pub fn member_offset(self, a: u32, member: u32) -> u64 {
-        member_offset(self.p, self.type_of(a), member)
+        member_offset(self.p, self.types, self.type_of(a), member)
     }
 
     /// What expression `k` writes.

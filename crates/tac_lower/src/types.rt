@@ -1,15 +1,11 @@
 //! What lowering asks of the types of a program, in a table by their numbers.
 
-ghost use Rattle.std.specs.Prelude.{◌≡◌, ◌<◌, true, length, MatchOption, Some, None};
-ghost use Rattle.c_tree.specs.Layout.{bare, members_of};
-ghost use Rattle.tac_lower.specs.Known.{IsConst};
-
 use c_tree::{CType, Member, Typed};
-use cap_layout::{Layout, Layouts, offset_of, owned};
+use cap_layout::{Layout, Layouts, owned};
 use ck_base::NoMemory;
 use ck_int::IntKind;
 use std::alloc::Global;
-use tac_ir::TacKind;
+use tac_ir::{TacKind, bare};
 
 /// The kind of an `int`.
 pub const INT: TacKind = TacKind::Int(IntKind::I32);
@@ -75,60 +71,38 @@ fn is_record(c: &CType) -> bool {
     matches!(c, CType::Struct(_, _) | CType::Union(_, _))
 }
 
-fn inner_of(c: &CType) -> Option<u32>
-    ensures { IsConst c.now result }
-{
-    match c {
-        CType::Const(inner) => Some(*inner),
-        _ => None,
-    }
-}
-
-/// The type behind the words `const`.
-fn bare<'a>(types: &'a [CType], t: u32) -> Option<&'a CType>
-    ensures { MatchOption result (bare types.now t ≡ None) (λ c. bare types.now t ≡ Some c.now) }
-{
-    let mut left = types.len();
-    let mut of = t;
-    while left > 0 {
-        left -= 1;
-        match types.get(of as usize) {
-            None => return None,
-            Some(c) => match inner_of(c) {
-                None => return Some(c),
-                Some(inner) => of = inner,
-            },
-        }
-    }
-    None
-}
-
-fn members_of(c: &CType) -> &[Member]
-    ensures { result.now ≡ members_of (Some c.now) }
-{
-    match c {
-        CType::Struct(_, members) | CType::Union(_, members) => members.as_slice(),
+/// The members of a struct; none, where a type is another one.
+fn struct_members(types: &[CType], t: u32) -> &[Member] {
+    match bare(types, t) {
+        Some(CType::Struct(_, members)) => members.as_slice(),
         _ => &[],
     }
 }
 
-/// A type has so many members, or more.
-fn has_member(types: &[CType], t: u32, member: u32) -> bool
-    ensures { result ≡ true → member < length (members_of (bare types.now t)) }
-{
-    match bare(types, t) {
-        None => false,
-        Some(c) => (member as usize) < members_of(c).len(),
+/// The least multiple of an alignment that is not below a number.
+fn aligned(end: u64, align: u64) -> u64 {
+    if align == 0 {
+        end
+    } else {
+        end.div_ceil(align).saturating_mul(align)
     }
 }
 
-/// Where a member of a struct or union begins.
-pub fn member_offset(p: &Typed, t: u32, member: u32) -> u64 {
-    if has_member(p.types.as_slice(), t, member) {
-        offset_of(p, t, member).unwrap_or(0)
-    } else {
-        0
+/// Where a member of a struct or union begins (C11 6.7.2.1): in a struct at the least multiple of its alignment that is not below
+/// the end of the member before it, and in a union at 0.
+pub fn member_offset(p: &Typed, table: &[TypeFacts], t: u32, member: u32) -> u64 {
+    let mut end: u64 = 0;
+    let mut left = member;
+    for m in struct_members(p.types.as_slice(), t) {
+        let f = facts_at(table, m.of);
+        let start = aligned(end, f.align);
+        if left == 0 {
+            return start;
+        }
+        left -= 1;
+        end = start.saturating_add(f.size);
     }
+    0
 }
 
 fn facts_of(bare: Option<&CType>, layout: Layout) -> TypeFacts {
