@@ -6,4 +6,4 @@ mod placing;
 mod rows;
 
 pub use needs::local_needs;
-pub use placing::place;
+pub use placing::{exceeds_limit, place};

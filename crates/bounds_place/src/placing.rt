@@ -90,6 +90,17 @@ fn exceeds(layouts: &Layouts, p: &Typed, globals: &[Need], literals: &[Need]) ->
     data_exceeds(globals, literals) | some_locals_exceed(layouts, p)
 }
 
+/// Whether the objects of a program exceed their limit of 67,108,864 bytes: its globals and literals together, or the locals of one
+/// function.
+pub fn exceeds_limit(alloc: Global, layouts: &Layouts, p: &Typed) -> Result<bool, AllocError>
+    requires { AreLayoutsOf p.now.types layouts.now }
+    ensures { IfOk result (λ answer. answer ≡ exceeds p.now) }
+{
+    let globals = global_needs(alloc, layouts, p)?;
+    let literals = literal_needs(alloc, p)?;
+    Ok(exceeds(layouts, p, &globals, &literals))
+}
+
 // The addresses of functions, from their offsets in the text.
 fn addresses(alloc: Global, entries: &[u32]) -> Result<Vec<u64>, AllocError>
     ensures { IfOk result (λ es. es.items ≡ map (λ at. 1073741824 + at) entries.now) }

@@ -1,15 +1,17 @@
 //! Building: from a typed program to the ELF file.
-ghost use Rattle.std.specs.Prelude.{◌≡◌, ◌+◌, ◌*◌, ◌≤◌, ℕ, true, false, IfOk, IfErr, OnOk, length};
+ghost use Rattle.std.specs.Prelude.{◌≡◌, ◌≤◌, false, IfOk, IfErr, OnOk};
 ghost use Rattle.c_tree.specs.File.{weight_limit};
 ghost use Rattle.c_tree.specs.Typing.{Sound};
 ghost use Rattle.c_tree.specs.Weight.{weight};
-ghost use Rattle.bounds_place.specs.Placing.{exceeds, AreOffsets, IsRefusal as ExceedsLimit};
+ghost use Rattle.cap_layout.specs.Kept.{AreLayoutsOf};
+ghost use Rattle.bounds_place.specs.Placing.{exceeds, IsRefusal as ExceedsLimit};
 ghost use Rattle.typed_build.specs.Built.{IsBuilt, IsRefusal};
 
 use crate::integers::build_integers;
 use crate::whole::build_whole;
-use bounds_place::place;
+use bounds_place::exceeds_limit;
 use c_tree::{Typed, weight};
+use cap_layout::Layouts;
 use ck_base::{NoMemory, Pos, Refusal};
 use int_lower::is_integer_form;
 use obj_mem::Map;
@@ -22,9 +24,6 @@ pub const START: Pos = Pos { line: 1, col: 1 };
 
 /// What comes where a check fails that isn't proved to pass.
 pub const UNPROVED: Refusal = Refusal::Code(150, START);
-
-/// A text for a trial of the limit, with 4 bytes for each function.
-const TRIAL: u64 = 268_435_456;
 
 /// The most weight of a program.
 const MOST_WEIGHT: u64 = 7_780;
@@ -44,29 +43,15 @@ pub struct Built {
     pub places: Vec<Places>,
 }
 
-/// The offsets of so many functions in a text that has 4 bytes for each.
-fn trial_offsets(alloc: Global, count: usize) -> Result<Vec<u32>, NoMemory>
-    requires { count ≤ 67108864 }
-    ensures { IfOk result (λ offsets. AreOffsets offsets.items 268435456 × (length offsets.items ≡ count)) }
-{
-    let mut offsets = Vec::new(alloc);
-    for k in 0..count {
-        offsets.push(4 * k as u32)?;
-    }
-    Ok(offsets)
-}
-
-/// Whether the objects of a program are within their limit: a trial of placing them says it.
-fn limit(alloc: Global, p: &Typed) -> Result<(), Refusal>
+/// The objects of a program are within their limit.
+fn limit(alloc: Global, layouts: &Layouts, p: &Typed) -> Result<(), Refusal>
+    requires { AreLayoutsOf p.now.types layouts.now }
     ensures within { OnOk result (exceeds p.now ≡ false) }
     ensures refused { IfErr result (ExceedsLimit p.now) }
 {
-    let count = p.funs.as_slice().len();
-    if count > 67_108_864 {
-        return Err(Refusal::NoMemory);
+    if exceeds_limit(alloc, layouts, p)? {
+        return Err(Refusal::Code(141, START));
     }
-    let offsets = trial_offsets(alloc, count)?;
-    place(alloc, p, &Vec::new(alloc), &offsets, TRIAL)?;
     Ok(())
 }
 
@@ -82,9 +67,10 @@ pub fn build_typed(alloc: Global, p: &Typed) -> Result<Built, Refusal>
     if is_integer_form(p) {
         return build_integers(alloc, p);
     }
-    limit(alloc, p)?;
+    let layouts = Layouts::new(alloc, p)?;
+    limit(alloc, &layouts, p)?;
     if weight(p) > MOST_WEIGHT {
         return Err(Refusal::Code(142, START));
     }
-    build_whole(alloc, p)
+    build_whole(alloc, &layouts, p)
 }

@@ -78,7 +78,8 @@ fn select_all(
 }
 
 /// Any program, of which it is not yet proved that its runs are what it means. What was made of it is checked on the way.
-pub fn build_whole(alloc: Global, p: &Typed) -> Result<Built, Refusal>
+pub fn build_whole(alloc: Global, layouts: &Layouts, p: &Typed) -> Result<Built, Refusal>
+    requires layouts { AreLayoutsOf p.now.types layouts.now }
     requires sound { Sound p.now }
     requires within { exceeds p.now ≡ false }
     requires light { weight p.now ≤ weight_limit }
@@ -88,14 +89,13 @@ pub fn build_whole(alloc: Global, p: &Typed) -> Result<Built, Refusal>
 {
     let code = code_of(alloc, p)?;
     let places = places_of(alloc, &code)?;
-    let layouts = Layouts::new(alloc, p)?;
-    let Selected { frames, items } = select_all(alloc, &layouts, p, &code, &places)?;
+    let Selected { frames, items } = select_all(alloc, layouts, p, &code, &places)?;
     let text = text_of(alloc, &items.code)?;
     let map = place(alloc, p, &frames, &items.entries, text.len() as u64)?;
     let contents = table(alloc, &map, p)?;
     let image = image_of(&map, items.start, text, contents, items.lines);
     let elf = write(alloc, &image)?;
-    let Some(count) = count_of(&layouts, p) else {
+    let Some(count) = count_of(layouts, p) else {
         return Err(UNPROVED);
     };
     if !passes(alloc, elf.as_slice())? {
