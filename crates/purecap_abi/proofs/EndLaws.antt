@@ -1,4 +1,4 @@
--- The words with which functions begin and end are few, and each is in range.
+-- The words with which functions begin and end are few, and each is plain.
 use Rattle.std.proofs.Common.{◌≡◌, ℕ, suc, ◌+◌, ◌*◌, ◌<◌, ◌≤◌, pos, neg_ℤ, Bool, true, false, List, [], ◌∷◌, ◌++◌, length, take, get_or, Option, Some, None, refl, sym, ap, ◌∙◌, arith, if◌then◌else◌, append_assoc}
 use Rattle.std.specs.Prelude.{nat_lt, nat_le}
 use Rattle.std.specs.List.{filter}
@@ -12,14 +12,13 @@ use Rattle.rv_instr.specs.declared.ops.RegOp.{RegOp}
 use Rattle.rv_instr.specs.declared.ops.RegOp.TheVariants.{Sub, And}
 use Rattle.rv_instr.specs.declared.ops.CapImmOp.TheVariants.{Cincoffsetimm}
 use Rattle.rv_instr.specs.declared.ops.CapRegOp.TheVariants.{Cincoffset, Csetaddr}
-use Rattle.rv_instr.specs.declared.ops.CapGetOp.{CapGetOp}
 use Rattle.rv_instr.specs.declared.ops.CapGetOp.TheVariants.{Cmove}
 use Rattle.rv_instr.specs.Range.{InRange, FitsBits}
 use Rattle.reg_alloc.specs.declared.places.Home.{Home}
 use Rattle.obj_mem.specs.declared.map.Frame.{Frame}
 use Rattle.purecap_abi.specs.declared.ends.Way.{Way}
 use Rattle.purecap_abi.specs.declared.ends.Way.TheVariants.{ToFrame, FromFrame}
-use Rattle.purecap_abi.specs.Words.{wide_code, load_code, store_code, moved_code}
+use Rattle.purecap_abi.specs.Words.{IsPlainWord, wide_code, load_code, store_code, moved_code}
 use Rattle.purecap_abi.specs.Saving.{kept_homes, kept_registers, is_home, keeps_stack, registers_at, stack_at}
 use Rattle.purecap_abi.specs.Ends.{negative, take_plain, take_aligned, take_code, give_plain, give_code, stack_code, keep, keep_from, keep_at, keep_code, before_store, link_store, prologue_code, epilogue_code}
 use Rattle.purecap_abi.proofs.Ranges.{all_none, all_cons, all_one, fits_pos, AreAtMost, AreFew, r_wide, r_clc, r_csc, r_move, r_register, load_few, store_few, moved_few}
@@ -28,43 +27,43 @@ use Rattle.purecap_abi.proofs.FrameLaws.{kept_most, length_filter}
 -- ---- lists of words
 
 at_none : AreAtMost 0 []
-at_none = record { few = omega arith; in_range = all_none }
+at_none = record { few = omega arith; plain = all_none }
 
-at_one : (i : Instr) → InRange i → AreAtMost 1 (i ∷ [])
-at_one i h = record { few = omega arith; in_range = all_one i h }
+at_one : (i : Instr) → IsPlainWord i → AreAtMost 1 (i ∷ [])
+at_one i h = record { few = omega arith; plain = all_one i h }
 
-at_cons : (n : ℕ) (i : Instr) (is : List Instr) → InRange i → AreAtMost n is → AreAtMost (suc n) (i ∷ is)
-at_cons n i is h a = record { few = let f = a.few in omega arith; in_range = all_cons i is h a.in_range }
+at_cons : (n : ℕ) (i : Instr) (is : List Instr) → IsPlainWord i → AreAtMost n is → AreAtMost (suc n) (i ∷ is)
+at_cons n i is h a = record { few = let f = a.few in omega arith; plain = all_cons i is h a.plain }
 
 at_both : (m n : ℕ) (is js : List Instr) → AreAtMost m is → AreAtMost n js → AreAtMost (m + n) (is ++ js)
 at_both m n is js a b = record {
   few = let f = a.few in let g = b.few in omega (arith, length-append is js);
-  in_range = All-append InRange is js a.in_range b.in_range;
+  plain = All-append IsPlainWord is js a.plain b.plain;
 }
 
 at_more : (m n : ℕ) (is : List Instr) → m ≤ n → AreAtMost m is → AreAtMost n is
-at_more m n is h a = record { few = let f = a.few in omega arith; in_range = a.in_range }
+at_more m n is h a = record { few = let f = a.few in omega arith; plain = a.plain }
 
 at_three : (near : Bool) (is : List Instr) → AreFew near is → AreAtMost 3 is
-at_three true is f = record { few = let g = f.few in omega arith; in_range = f.in_range }
-at_three false is f = record { few = let g = f.few in omega arith; in_range = f.in_range }
+at_three true is f = record { few = let g = f.few in omega arith; plain = f.plain }
+at_three false is f = record { few = let g = f.few in omega arith; plain = f.plain }
 
 at_wide : (to n : ℕ) → to < 32 → AreAtMost 2 (wide_code to n)
-at_wide to n h = record { few = omega arith; in_range = r_wide to n h }
+at_wide to n h = record { few = omega arith; plain = r_wide to n h }
 
 -- ---- words
 
-r_op : (o : RegOp) (to a b : ℕ) → to < 32 → a < 32 → b < 32 → InRange (Op o to a b)
+r_op : (o : RegOp) (to a b : ℕ) → to < 32 → a < 32 → b < 32 → IsPlainWord (Op o to a b)
 unfolding InRange
-r_op o to a b h j k = (h, j, k)
+r_op o to a b h j k = record { in_range = (h, j, k); anywhere = refl }
 
-r_get : (o : CapGetOp) (to from : ℕ) → to < 32 → from < 32 → InRange (CapGet o to from)
+r_get : (to from : ℕ) → to < 32 → from < 32 → IsPlainWord (CapGet Cmove to from)
 unfolding InRange
-r_get o to from h j = (h, j)
+r_get to from h j = record { in_range = (h, j); anywhere = refl }
 
-r_return : InRange (Cjalr 0 1 (pos 0))
+r_return : IsPlainWord (Cjalr 0 1 (pos 0))
 unfolding InRange
-r_return = (omega arith, omega arith, fits_pos 0 (omega arith))
+r_return = record { in_range = (omega arith, omega arith, fits_pos 0 (omega arith)); anywhere = refl }
 
 fits_down : (n : ℕ) → n ≤ 2048 → FitsBits 12 (neg_ℤ (pos n))
 fits_down n h = (omega (arith, ints), omega (arith, ints))
@@ -131,7 +130,7 @@ homes_kept : (homes : List Home) → AreRegisters (kept_homes homes)
 unfolding kept_homes
 homes_kept homes = filtered (is_home homes) kept_registers all_kept
 
-r_keep : (way : Way) (register base at : ℕ) → register < 32 → base < 32 → at < 2048 → InRange (keep way register base at)
+r_keep : (way : Way) (register base at : ℕ) → register < 32 → base < 32 → at < 2048 → IsPlainWord (keep way register base at)
 r_keep ToFrame register base at h j k = r_csc register base (pos at) h j (fits_pos at k)
 r_keep FromFrame register base at h j k = r_clc register base (pos at) h j (fits_pos at k)
 
@@ -158,7 +157,7 @@ kept_all way at (r ∷ rs) h few = kept_at way at (r ∷ rs) h few
 -- ---- whole
 
 before_most : (f : Frame) → AreAtMost 8 (before_store f)
-before_most f = at_cons 7 (CapGet Cmove 28 2) (take_code f) (r_get Cmove 28 2 (omega arith) (omega arith)) (takes f)
+before_most f = at_cons 7 (CapGet Cmove 28 2) (take_code f) (r_get 28 2 (omega arith) (omega arith)) (takes f)
 
 pub prologue_most : (homes : List Home) (f : Frame) → AreAtMost 27 (prologue_code homes f)
 prologue_most homes f =

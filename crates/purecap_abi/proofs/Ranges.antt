@@ -1,4 +1,4 @@
--- Each word that is appended is in range.
+-- Each word that is appended is plain.
 use Rattle.std.proofs.Common.{◌≡◌, ℕ, zero, suc, ◌+◌, ◌%◌, ◌^◌, ◌<◌, ◌≤◌, ℤ, pos, ◌-ℤ◌, Bool, true, false, List, [], ◌∷◌, ◌++◌, length, refl, sym, ap, ◌∙◌, subst, arith, if◌then◌else◌, inl, inr, append_assoc}
 use Rattle.std.specs.Prelude.{nat_lt, Result, Ok, Err, OnOk}
 use Rattle.std.specs.List.{All}
@@ -17,26 +17,26 @@ use Rattle.rv_instr.specs.declared.ops.CapRegOp.{CapRegOp}
 use Rattle.rv_instr.specs.declared.ops.CapRegOp.TheVariants.{Cincoffset}
 use Rattle.rv_instr.specs.declared.ops.ShiftOp.TheVariants.{Slli}
 use Rattle.rv_instr.specs.Range.{InRange, FitsBits}
-use Rattle.purecap_abi.specs.Words.{Appends, low, high, is_short, is_word, most_words, upper, wide_code, near_code, load_code, store_code, low_code, low_move, moved_code}
+use Rattle.purecap_abi.specs.Words.{IsPlainWord, Appends, low, high, is_short, is_word, most_words, upper, wide_code, near_code, load_code, store_code, low_code, low_move, moved_code}
 
 -- ---- lists
 
-pub all_none : All InRange []
+pub all_none : All IsPlainWord []
 all_none k d h = absurd (omega arith)
 
-pub all_cons : (i : Instr) (is : List Instr) → InRange i → All InRange is → All InRange (i ∷ is)
+pub all_cons : (i : Instr) (is : List Instr) → IsPlainWord i → All IsPlainWord is → All IsPlainWord (i ∷ is)
 all_cons i is h hs zero d j = h
 all_cons i is h hs (suc k) d j = hs k d (omega arith)
 
-pub all_one : (i : Instr) → InRange i → All InRange (i ∷ [])
+pub all_one : (i : Instr) → IsPlainWord i → All IsPlainWord (i ∷ [])
 all_one i h = all_cons i [] h all_none
 
 -- ---- what was appended
 
-pub appends_code : (most : ℕ) (old new code : List Instr) → new ≡ old ++ code → length code ≤ most → All InRange code → Appends most old new
-appends_code most old new code e h r = record { added = code; is = e; few = h; in_range = r }
+pub appends_code : (most : ℕ) (old new code : List Instr) → new ≡ old ++ code → length code ≤ most → All IsPlainWord code → Appends most old new
+appends_code most old new code e h r = record { added = code; is = e; few = h; plain = r }
 
-pub appends_one : (old new : List Instr) (i : Instr) → new ≡ old ++ i ∷ [] → InRange i → Appends 1 old new
+pub appends_one : (old new : List Instr) (i : Instr) → new ≡ old ++ i ∷ [] → IsPlainWord i → Appends 1 old new
 appends_one old new i e r = appends_code 1 old new (i ∷ []) e (omega arith) (all_one i r)
 
 pub appends_then : (a b c : ℕ) (x y z : List Instr) → Appends a x y → Appends b y z → a + b ≤ c → Appends c x z
@@ -44,11 +44,11 @@ appends_then a b c x y z p q h = record {
   added = p.added ++ q.added;
   is = q.is ∙ ap (λ v. v ++ q.added) p.is ∙ append_assoc x p.added q.added;
   few = let f = p.few in let g = q.few in omega (arith, length-append p.added q.added);
-  in_range = All-append InRange p.added q.added p.in_range q.in_range;
+  plain = All-append IsPlainWord p.added q.added p.plain q.plain;
 }
 
 pub appends_more : (a b : ℕ) (x y : List Instr) → Appends a x y → a ≤ b → Appends b x y
-appends_more a b x y p h = record { added = p.added; is = p.is; few = let f = p.few in omega arith; in_range = p.in_range }
+appends_more a b x y p h = record { added = p.added; is = p.is; few = let f = p.few in omega arith; plain = p.plain }
 
 pub on_ok : {T E : Type 0} (r : Result T E) (P Q : Type 0) → OnOk r P → (P → Q) → OnOk r Q
 on_ok (Ok x) P Q p f = f p
@@ -67,59 +67,59 @@ fits_low n = elim (cases_lt (n % 4096) 2048) as (λ _. FitsBits 12 (low n)) [
 
 -- ---- instructions
 
-pub r_upper : (to n : ℕ) → to < 32 → InRange (upper to n)
+pub r_upper : (to n : ℕ) → to < 32 → IsPlainWord (upper to n)
 unfolding InRange
-r_upper to n h = (h, omega arith)
+r_upper to n h = record { in_range = (h, omega arith); anywhere = refl }
 
-pub r_imm : (o : ImmOp) (to from n : ℕ) → to < 32 → from < 32 → InRange (Imm o to from (low n))
+pub r_imm : (o : ImmOp) (to from n : ℕ) → to < 32 → from < 32 → IsPlainWord (Imm o to from (low n))
 unfolding InRange
-r_imm o to from n h j = (h, j, fits_low n)
+r_imm o to from n h j = record { in_range = (h, j, fits_low n); anywhere = refl }
 
-pub r_shift : (to : ℕ) → to < 32 → InRange (Shift Slli to to 12)
+pub r_shift : (to : ℕ) → to < 32 → IsPlainWord (Shift Slli to to 12)
 unfolding InRange
-r_shift to h = (h, h, omega arith)
+r_shift to h = record { in_range = (h, h, omega arith); anywhere = refl }
 
-pub r_register : (o : CapRegOp) (to base by : ℕ) → to < 32 → base < 32 → by < 32 → InRange (CapReg o to base by)
+pub r_register : (o : CapRegOp) (to base by : ℕ) → to < 32 → base < 32 → by < 32 → IsPlainWord (CapReg o to base by)
 unfolding InRange
-r_register o to base by h j k = (h, j, k)
+r_register o to base by h j k = record { in_range = (h, j, k); anywhere = refl }
 
-pub r_clc : (to base : ℕ) (z : ℤ) → to < 32 → base < 32 → FitsBits 12 z → InRange (Clc to base z)
+pub r_clc : (to base : ℕ) (z : ℤ) → to < 32 → base < 32 → FitsBits 12 z → IsPlainWord (Clc to base z)
 unfolding InRange
-r_clc to base z h j k = (h, j, k)
+r_clc to base z h j k = record { in_range = (h, j, k); anywhere = refl }
 
-pub r_csc : (from base : ℕ) (z : ℤ) → from < 32 → base < 32 → FitsBits 12 z → InRange (Store Csc from base z)
+pub r_csc : (from base : ℕ) (z : ℤ) → from < 32 → base < 32 → FitsBits 12 z → IsPlainWord (Store Csc from base z)
 unfolding InRange
-r_csc from base z h j k = (h, j, k)
+r_csc from base z h j k = record { in_range = (h, j, k); anywhere = refl }
 
-pub r_move : (to base : ℕ) (z : ℤ) → to < 32 → base < 32 → FitsBits 12 z → InRange (CapImm Cincoffsetimm to base z)
+pub r_move : (to base : ℕ) (z : ℤ) → to < 32 → base < 32 → FitsBits 12 z → IsPlainWord (CapImm Cincoffsetimm to base z)
 unfolding InRange
-r_move to base z h j k = (h, j, k)
+r_move to base z h j k = record { in_range = (h, j, k); anywhere = refl }
 
 -- ---- the words of this crate
 
-pub r_wide : (to n : ℕ) → to < 32 → All InRange (wide_code to n)
+pub r_wide : (to n : ℕ) → to < 32 → All IsPlainWord (wide_code to n)
 r_wide to n h = all_cons (upper to n) (Imm Addiw to to (low n) ∷ []) (r_upper to n h) (all_one (Imm Addiw to to (low n)) (r_imm Addiw to to n h h))
 
-pub r_near : (to base offset : ℕ) → to < 32 → base < 32 → All InRange (near_code to base offset)
+pub r_near : (to base offset : ℕ) → to < 32 → base < 32 → All IsPlainWord (near_code to base offset)
 r_near to base offset h j = all_cons (upper to offset) (CapReg Cincoffset to base to ∷ []) (r_upper to offset h) (all_one (CapReg Cincoffset to base to) (r_register Cincoffset to base to h j h))
 
 -- one word, or at most three
 pub record AreFew (near : Bool) (code : List Instr) : Type 0 where
   pub few : length code ≤ (if near then 1 else 3)
-  pub in_range : All InRange code
+  pub plain : All IsPlainWord code
 
 pub appends_few : (near : Bool) (old new code : List Instr) → new ≡ old ++ code → AreFew near code → Appends (if near then 1 else 3) old new
-appends_few near old new code e f = appends_code _ old new code e f.few f.in_range
+appends_few near old new code e f = appends_code _ old new code e f.few f.plain
 
 pub load_few : (to base offset scratch : ℕ) → to < 32 → base < 32 → scratch < 32 → AreFew (nat_lt offset 2048) (load_code to base offset scratch)
 load_few to base offset scratch h j k = by (nat_lt offset 2048) refl
   where
     by : (b : Bool) → nat_lt offset 2048 ≡ b
         → AreFew b (if b then Clc to base (pos offset) ∷ [] else near_code scratch base offset ++ Clc to scratch (low offset) ∷ [])
-    by true e = record { few = omega arith; in_range = all_one _ (r_clc to base (pos offset) h j (fits_pos offset (grind (arith, nat_tests)))) }
+    by true e = record { few = omega arith; plain = all_one _ (r_clc to base (pos offset) h j (fits_pos offset (grind (arith, nat_tests)))) }
     by false e = record {
       few = omega arith;
-      in_range = All-append InRange (near_code scratch base offset) (Clc to scratch (low offset) ∷ []) (r_near scratch base offset k j) (all_one _ (r_clc to scratch (low offset) h k (fits_low offset)));
+      plain = All-append IsPlainWord (near_code scratch base offset) (Clc to scratch (low offset) ∷ []) (r_near scratch base offset k j) (all_one _ (r_clc to scratch (low offset) h k (fits_low offset)));
     }
 
 pub store_few : (from base offset scratch : ℕ) → from < 32 → base < 32 → scratch < 32 → AreFew (nat_lt offset 2048) (store_code from base offset scratch)
@@ -127,34 +127,34 @@ store_few from base offset scratch h j k = by (nat_lt offset 2048) refl
   where
     by : (b : Bool) → nat_lt offset 2048 ≡ b
         → AreFew b (if b then Store Csc from base (pos offset) ∷ [] else near_code scratch base offset ++ Store Csc from scratch (low offset) ∷ [])
-    by true e = record { few = omega arith; in_range = all_one _ (r_csc from base (pos offset) h j (fits_pos offset (grind (arith, nat_tests)))) }
+    by true e = record { few = omega arith; plain = all_one _ (r_csc from base (pos offset) h j (fits_pos offset (grind (arith, nat_tests)))) }
     by false e = record {
       few = omega arith;
-      in_range = All-append InRange (near_code scratch base offset) (Store Csc from scratch (low offset) ∷ []) (r_near scratch base offset k j) (all_one _ (r_csc from scratch (low offset) h k (fits_low offset)));
+      plain = All-append IsPlainWord (near_code scratch base offset) (Store Csc from scratch (low offset) ∷ []) (r_near scratch base offset k j) (all_one _ (r_csc from scratch (low offset) h k (fits_low offset)));
     }
 
 pub record AreAtMost (most : ℕ) (code : List Instr) : Type 0 where
   pub few : length code ≤ most
-  pub in_range : All InRange code
+  pub plain : All IsPlainWord code
 
 low_move_few : (to offset : ℕ) → to < 32 → AreAtMost 1 (low_move to offset)
 low_move_few to offset h = by (nat_lt 0 (offset % 4096))
   where
     by : (b : Bool) → AreAtMost 1 (if b then CapImm Cincoffsetimm to to (low offset) ∷ [] else [])
-    by true = record { few = omega arith; in_range = all_one _ (r_move to to (low offset) h h (fits_low offset)) }
-    by false = record { few = omega arith; in_range = all_none }
+    by true = record { few = omega arith; plain = all_one _ (r_move to to (low offset) h h (fits_low offset)) }
+    by false = record { few = omega arith; plain = all_none }
 
 pub moved_few : (to base offset : ℕ) → to < 32 → base < 32 → AreFew (nat_lt offset 2048) (moved_code to base offset)
 moved_few to base offset h j = by (nat_lt offset 2048) refl
   where
     by : (b : Bool) → nat_lt offset 2048 ≡ b
         → AreFew b (if b then CapImm Cincoffsetimm to base (pos offset) ∷ [] else near_code to base offset ++ low_move to offset)
-    by true e = record { few = omega arith; in_range = all_one _ (r_move to base (pos offset) h j (fits_pos offset (grind (arith, nat_tests)))) }
+    by true e = record { few = omega arith; plain = all_one _ (r_move to base (pos offset) h j (fits_pos offset (grind (arith, nat_tests)))) }
     by false e =
         let l = low_move_few to offset h in
         record {
           few = let f = l.few in omega (arith, length-append (near_code to base offset) (low_move to offset));
-          in_range = All-append InRange (near_code to base offset) (low_move to offset) (r_near to base offset h j) l.in_range;
+          plain = All-append IsPlainWord (near_code to base offset) (low_move to offset) (r_near to base offset h j) l.plain;
         }
 
 -- ---- numbers
@@ -163,11 +163,11 @@ pub low_few : (op : ImmOp) (to n : ℕ) → to < 32 → AreAtMost 1 (low_code op
 low_few op to n h = by (nat_lt 0 (n % 4096))
   where
     by : (b : Bool) → AreAtMost 1 (if b then Imm op to to (low n) ∷ [] else [])
-    by true = record { few = omega arith; in_range = all_one (Imm op to to (low n)) (r_imm op to to n h h) }
-    by false = record { few = omega arith; in_range = all_none }
+    by true = record { few = omega arith; plain = all_one (Imm op to to (low n)) (r_imm op to to n h h) }
+    by false = record { few = omega arith; plain = all_none }
 
 pub appends_most : (most : ℕ) (old new code : List Instr) → new ≡ old ++ code → AreAtMost most code → Appends most old new
-appends_most most old new code e a = appends_code most old new code e a.few a.in_range
+appends_most most old new code e a = appends_code most old new code e a.few a.plain
 
 -- a number of more than 32 bits takes two words more than what is left over its low 12
 pub most_high : (n : ℕ) → n < 2 ^ 64 → is_short n ≡ false → is_word n ≡ false → most_words (high n) + 2 ≤ most_words n

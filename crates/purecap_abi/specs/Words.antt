@@ -1,22 +1,38 @@
 -- The words that selection appends, and what they are. Registers stand by their numbers.
-use Rattle.std.specs.Prelude.{ℕ, ◌≡◌, ◌+◌, ◌-◌, ◌/◌, ◌%◌, ◌^◌, ◌≤◌, ◌||◌, nat_lt, nat_le, ℤ, pos, ◌-ℤ◌, Bool, List, [], ◌∷◌, ◌++◌, length, if◌then◌else◌}
+use Rattle.std.specs.Prelude.{ℕ, ◌≡◌, ◌+◌, ◌-◌, ◌/◌, ◌%◌, ◌^◌, ◌≤◌, ◌||◌, nat_lt, nat_le, ℤ, pos, ◌-ℤ◌, Bool, true, false, List, [], ◌∷◌, ◌++◌, length, if◌then◌else◌}
 use Rattle.std.specs.List.{All}
 use Rattle.rv_instr.specs.declared.instr.Instr.{Instr}
-use Rattle.rv_instr.specs.declared.instr.Instr.TheVariants.{Upper, Store, Clc, Imm, CapImm, CapReg}
-use Rattle.rv_instr.specs.declared.ops.UpperOp.TheVariants.{Lui}
+use Rattle.rv_instr.specs.declared.instr.Instr.TheVariants.{Upper, Cjal, Branch, Store, Clc, Imm, Ecall, Ebreak, CapImm, CapReg, CapGet}
+use Rattle.rv_instr.specs.declared.ops.UpperOp.TheVariants.{Lui, Auipcc}
 use Rattle.rv_instr.specs.declared.ops.ImmOp.{ImmOp}
 use Rattle.rv_instr.specs.declared.ops.ImmOp.TheVariants.{Addiw}
 use Rattle.rv_instr.specs.declared.ops.StoreOp.TheVariants.{Csc}
 use Rattle.rv_instr.specs.declared.ops.CapImmOp.TheVariants.{Cincoffsetimm}
 use Rattle.rv_instr.specs.declared.ops.CapRegOp.TheVariants.{Cincoffset}
+use Rattle.rv_instr.specs.declared.ops.CapGetOp.TheVariants.{Csealentry}
 use Rattle.rv_instr.specs.Range.{InRange}
 
--- At most so many words were appended, and each of them is in range
+-- It leads nowhere by an offset, asks nothing of the environment, and makes no pointer to code: so it may stand anywhere in a text
+abbrev pub stands_anywhere : Instr → Bool
+stands_anywhere (Upper Auipcc to field) = false
+stands_anywhere (Cjal link offset) = false
+stands_anywhere (Branch op a b offset) = false
+stands_anywhere Ecall = false
+stands_anywhere Ebreak = false
+stands_anywhere (CapGet Csealentry to from) = false
+stands_anywhere i = true
+
+-- a word of the machine that may stand anywhere
+pub record IsPlainWord (i : Instr) : Type 0 where
+  pub in_range : InRange i
+  pub anywhere : stands_anywhere i ≡ true
+
+-- At most so many words were appended, and each of them is plain
 pub record Appends (most : ℕ) (old new : List Instr) : Type 0 where
   pub added : List Instr
   pub is : new ≡ old ++ added
   pub few : length added ≤ most
-  pub in_range : All InRange added
+  pub plain : All IsPlainWord added
 
 -- ---- numbers
 

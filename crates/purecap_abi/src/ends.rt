@@ -2,12 +2,11 @@
 ghost use Rattle.std.specs.Prelude.{◌≡◌, ℕ, ◌+◌, ◌-◌, ◌*◌, ◌^◌, ◌<◌, ◌≤◌, ◌++◌, [], ◌∷◌, length, pos, neg_ℤ, OnOk, IfOk, if◌then◌else◌};
 ghost use Rattle.std.specs.Option.{ForSome};
 ghost use Rattle.std.specs.List.{All};
-ghost use Rattle.rv_instr.specs.Range.{InRange};
 ghost use Rattle.rv_instr.specs.declared.instr.Instr.TheVariants.{CapImm, CapReg};
 ghost use Rattle.rv_instr.specs.declared.ops.CapImmOp.TheVariants.{Cincoffsetimm};
 ghost use Rattle.purecap_abi.specs.Saving.{kept_here, kept_homes, IsFor};
 ghost use Rattle.rv_instr.specs.declared.ops.CapRegOp.TheVariants.{Cincoffset};
-ghost use Rattle.purecap_abi.specs.Words.{wide_code};
+ghost use Rattle.purecap_abi.specs.Words.{wide_code, IsPlainWord};
 ghost use Rattle.purecap_abi.specs.Ends.{take_plain, take_aligned, take_code, give_plain, give_code, stack_code, keep, keep_from, keep_code, before_store, prologue_code, epilogue_code, StoresLinkFirst};
 
 use crate::offsets::Saved;
@@ -207,7 +206,7 @@ fn keep_all(code: &mut Vec<Instr>, places: &Places, way: Way, s: &Saved) -> Resu
 pub fn prologue(alloc: Global, f: &Frame, places: &Places) -> Result<Vec<Instr>, NoMemory>
     requires { IsFor places.now.homes f.now }
     ensures code { IfOk result (λ code. code.items ≡ prologue_code places.now.homes f.now) }
-    ensures in_range { IfOk result (λ code. All InRange code.items) }
+    ensures plain { IfOk result (λ code. All IsPlainWord code.items) }
     ensures few { IfOk result (λ code. length code.items ≤ 27) }
     ensures first { IfOk result (λ code. StoresLinkFirst code.items (length (before_store f.now))) }
 {
@@ -245,7 +244,7 @@ pub fn first_store(f: &Frame) -> u32
 pub fn epilogue(alloc: Global, f: &Frame, places: &Places) -> Result<Vec<Instr>, NoMemory>
     requires { IsFor places.now.homes f.now }
     ensures code { IfOk result (λ code. code.items ≡ epilogue_code places.now.homes f.now) }
-    ensures in_range { IfOk result (λ code. All InRange code.items) }
+    ensures plain { IfOk result (λ code. All IsPlainWord code.items) }
     ensures few { IfOk result (λ code. length code.items ≤ 20) }
 {
     let mut code = Vec::new(alloc);

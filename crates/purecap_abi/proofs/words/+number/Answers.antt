@@ -3,8 +3,7 @@ use Rattle.rv_instr.specs.declared.instr.Instr.{Instr}
 use Rattle.rv_instr.specs.declared.instr.Instr.TheVariants.{Shift}
 use Rattle.rv_instr.specs.declared.ops.ImmOp.TheVariants.{Addi, Addiw}
 use Rattle.rv_instr.specs.declared.ops.ShiftOp.TheVariants.{Slli}
-use Rattle.rv_instr.specs.Range.{InRange}
-use Rattle.purecap_abi.specs.Words.{most_words, is_short, is_word, low_code}
+use Rattle.purecap_abi.specs.Words.{IsPlainWord, most_words, is_short, is_word, low_code}
 use Rattle.purecap_abi.specs.Numbers.{Makes}
 use Rattle.purecap_abi.proofs.Ranges.{on_ok, appends_one, appends_then, appends_more, appends_most, low_few, r_upper, r_imm, r_shift, most_short, most_word, most_high}
 use Rattle.purecap_abi.proofs.Numbers.{makes_short, makes_word, makes_wide}
@@ -16,7 +15,7 @@ returns-then-is_short-clause-words t c =
     on_ok c.put.result _ _ c.put.ensures
     (λ e. appends_more 1 (most_words a.value) a.code.now.items c.put.new.code.items
     (appends_one a.code.now.items c.put.new.code.items c.with_low.result e
-    (subst (λ (i : Instr). InRange i) (sym c.with_low.ensures) (r_imm Addi a.to 0 a.value c.known.ensures (omega arith))))
+    (subst (λ (i : Instr). IsPlainWord i) (sym c.with_low.ensures) (r_imm Addi a.to 0 a.value c.known.ensures (omega arith))))
     (most_short a.value))
 
 pub returns-then-is_short-clause-value : goal.returns-then-is_short-clause-value
@@ -35,7 +34,7 @@ returns-then-is_word-clause-words t c =
     (λ e. appends_more 2 (most_words a.value) a.code.now.items c.add_low.new.code.items
     (appends_then 1 1 2 a.code.now.items put.new.code.items c.add_low.new.code.items
     (appends_one a.code.now.items put.new.code.items c.upper.result c.in_ok-put.ensures
-    (subst (λ (i : Instr). InRange i) (sym c.upper.ensures) (r_upper a.to a.value c.known.ensures)))
+    (subst (λ (i : Instr). IsPlainWord i) (sym c.upper.ensures) (r_upper a.to a.value c.known.ensures)))
     (appends_most 1 put.new.code.items c.add_low.new.code.items (low_code Addiw a.to a.value) e (low_few Addiw a.to a.value c.known.ensures)) (omega arith))
     (most_word a.value long))
 
