@@ -36,3 +36,6 @@ entries_push n m es a h = record {
       (λ (w : k ≡ length es). let v : j < length es = omega arith in rw (at_last es (4 * n) k w, get_or-append es (4 * n ∷ []) 0 j v) (a.inside j v))
       (last_or_before es (4 * n) k i);
 }
+
+pub entries_more : (n m : ℕ) (es : List ℕ) → AreEntries n es → n ≤ m → AreEntries m es
+entries_more n m es a h = record { whole = a.whole; inside = λ k i. let u = a.inside k i in omega arith; ascend = a.ascend }

@@ -1,18 +1,14 @@
--- A text stays one as words and lines are added.
+-- Lines stay in order as words and lines are added, and what the words of the calling convention are.
 use Rattle.std.proofs.Common.{◌≡◌, ℕ, zero, suc, ◌+◌, ◌-◌, ◌*◌, ◌<◌, ◌≤◌, ◌&&◌, Bool, true, false, List, [], ◌∷◌, ◌++◌, length, refl, sym, ap, ◌∙◌, subst, arith}
 use Rattle.std.specs.Prelude.{nat_lt, nat_le, ◌^◌, ◌||◌, if◌then◌else◌}
 use Rattle.std.specs.List.{All}
 use Rattle.std.proofs.lemmas.Bool.Decides.{nat_tests}
 use Rattle.std.proofs.lemmas.List.{length-append}
-use Rattle.std.proofs.lemmas.List.Elements.{All-append, All-set}
-use Rattle.std.proofs.Math.ListN.{set, length-set}
 use Rattle.rv_instr.specs.declared.instr.Instr.{Instr}
-use Rattle.rv_instr.specs.Range.{InRange}
 use Rattle.elf_file.specs.declared.image.Line.{Line}
 use Rattle.elf_file.specs.Image.{lines_ok}
-use Rattle.purecap_abi.specs.Words.{Appends, is_short, is_word, most_words}
+use Rattle.purecap_abi.specs.Words.{IsPlainWord, Appends, is_short, is_word, most_words}
 use Rattle.tac_ir.specs.Costs.{number_cost}
-use Rattle.rv_select.specs.Growing.{IsText}
 
 -- ---- lines
 
@@ -46,45 +42,6 @@ lines_add least n (x ∷ xs) l e k h o =
     let below : nat_lt x.at (4 * (n + 1)) ≡ true = grind (arith, nat_tests, next) in
     both_of _ _ (both_of _ _ (both_of _ _ r.0 below) q.1) (lines_add (x.at + 1) n xs l e k next p.1)
 
--- ---- words
-
-pub all_one : (i : Instr) → InRange i → All InRange (i ∷ [])
-all_one i h zero d j = h
-all_one i h (suc k) d j = absurd (omega arith)
-
-pub text_none : IsText [] []
-text_none = record { in_range = λ k d h. absurd (omega arith); lines = refl }
-
-pub text_more : (old added : List Instr) (ls : List Line) → IsText old ls → All InRange added → IsText (old ++ added) ls
-text_more old added ls t r = record {
-  in_range = All-append InRange old added t.in_range r;
-  lines = lines_more 0 (4 * length old) (4 * length (old ++ added)) ls (omega (arith, length-append old added)) t.lines;
-}
-
-pub text_put : (old new : List Instr) (i : Instr) (ls : List Line) → new ≡ old ++ i ∷ [] → InRange i → IsText old ls → IsText new ls
-text_put old new i ls e r t = subst (λ w. IsText w ls) (sym e) (text_more old (i ∷ []) ls t (all_one i r))
-
-pub text_put_all : (old new added : List Instr) (ls : List Line) → new ≡ old ++ added → All InRange added → IsText old ls → IsText new ls
-text_put_all old new added ls e r t = subst (λ w. IsText w ls) (sym e) (text_more old added ls t r)
-
-pub text_appends : (most : ℕ) (old new : List Instr) (ls : List Line) → Appends most old new → IsText old ls → IsText new ls
-text_appends most old new ls a t = subst (λ w. IsText w ls) (sym a.is) (text_more old a.added ls t a.in_range)
-
-pub text_line : (old new : List Instr) (i : Instr) (ls ks : List Line) (l : Line) → new ≡ old ++ i ∷ [] → ks ≡ ls ++ l ∷ [] → InRange i → l.at ≡ 4 * length old → l.kind < 2 → IsText old ls → IsText new ks
-text_line old new i ls ks l e f r a k t =
-    let size : length (old ++ i ∷ []) ≡ length old + 1 = length-append old (i ∷ []) in
-    let whole : IsText (old ++ i ∷ []) (ls ++ l ∷ []) = record {
-      in_range = All-append InRange old (i ∷ []) t.in_range (all_one i r);
-      lines = subst (λ n. lines_ok 0 (4 * n) (ls ++ l ∷ []) ≡ true) (sym size) (lines_add 0 (length old) ls l a k (omega arith) t.lines);
-    } in
-    subst (λ w. IsText w ks) (sym e) (subst (λ v. IsText (old ++ i ∷ []) v) (sym f) whole)
-
-pub text_set : (old : List Instr) (k : ℕ) (i : Instr) (ls : List Line) → InRange i → IsText old ls → IsText (set old k i) ls
-text_set old k i ls r t = record {
-  in_range = All-set InRange old k i r t.in_range;
-  lines = subst (λ n. lines_ok 0 (4 * n) ls ≡ true) (sym (length-set old k i)) t.lines;
-}
-
 -- ---- lengths
 
 pub appends_length : (most : ℕ) (old new : List Instr) → Appends most old new → (length old ≤ length new) × (length new ≤ length old + most)
@@ -95,10 +52,10 @@ appends_length most old new a =
 
 -- ---- parts
 
-pub part_in_range : (most : ℕ) (old new : List Instr) → old ≡ [] → Appends most old new → All InRange new
-part_in_range most old new e a =
+pub part_plain : (most : ℕ) (old new : List Instr) → old ≡ [] → Appends most old new → All IsPlainWord new
+part_plain most old new e a =
     let f : new ≡ a.added = a.is ∙ ap (λ v. v ++ a.added) e in
-    subst (λ w. All InRange w) (sym f) a.in_range
+    subst (λ w. All IsPlainWord w) (sym f) a.plain
 
 pub part_few : (most : ℕ) (old new : List Instr) → old ≡ [] → Appends most old new → length new ≤ most
 part_few most old new e a =

@@ -1,2 +1,4 @@
+pub mod ContainedCode
 pub mod Growing
+pub mod Leading
 pub mod Work

@@ -127,7 +127,7 @@ pub fn call_value(
     callee: Callee,
     args: &[u32],
 ) -> Result<(), NoMemory>
-    requires { code.old + (7 + places_cost (length args.now)) ≤ room }
+    requires { code.old.words + (7 + places_cost (length args.now)) ≤ room }
     ensures { OnOk result (Grows (7 + places_cost (length args.now)) code.old code.new) }
 {
     bring(code, f, way(), callee.value)?;

@@ -163,6 +163,8 @@ pub fn branch(
     ensures { OnOk result (Grows 5 code.old code.new) }
 {
     let r = operand(code, f, on, left())?;
-    code.put(instr::branch(inverted(when), r, Reg::ZERO, 8))?;
-    code.jump(label)
+    let over = code.branch(inverted(when), r, Reg::ZERO)?;
+    code.jump(label)?;
+    code.land(over);
+    Ok(())
 }

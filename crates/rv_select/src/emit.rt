@@ -1,21 +1,24 @@
 // The code as it grows.
-ghost use Rattle.std.specs.Prelude.{◌≡◌, ℕ, ◌+◌, ◌-◌, ◌*◌, ◌^◌, ◌<◌, ◌≤◌, length, OnOk, vec_len};
+ghost use Rattle.std.specs.Prelude.{◌≡◌, ℕ, ◌+◌, ◌-◌, ◌*◌, ◌^◌, ◌<◌, ◌≤◌, pos, length, OnOk, IfOk, Some, vec_len};
 ghost use Rattle.std.specs.List.{All};
-ghost use Rattle.rv_instr.specs.Range.{InRange};
+ghost use Rattle.purecap_abi.specs.Words.{IsPlainWord};
 ghost use Rattle.tac_ir.specs.Costs.{number_cost};
-ghost use Rattle.rv_select.specs.Growing.{IsText, Grows, room};
+ghost use Rattle.rv_select.specs.ContainedCode.{IsContainedCode};
+ghost use Rattle.rv_select.specs.Leading.{IsStill};
+ghost use Rattle.rv_select.specs.Growing.{IsText, AreEntries, Grows, Adds, room};
 
-use crate::instructions::jump;
+use crate::instructions::{branch, jump};
 use crate::jumps::{Jump, Mark, lead, lead_to_entries, lead_to_marks};
 use crate::parts::{load_part, moved_part, number_part, store_part, word_part};
 use ck_base::{NoMemory, Pos};
 use elf_file::Line;
-use rv_instr::{Instr, Reg};
+use rv_instr::{BranchOp, ImmOp, Instr, Reg};
 use std::alloc::Global;
 use std::marker::Model;
 
 /// The code so far, with the places in the source of its accesses and calls, and the jumps that lead nowhere yet. A clause sees the
-/// number of its words. Each of them has a word of the machine, and the lines ascend and lie in it.
+/// numbers of its words and of the functions that it enters. Each word is one of the machine, and all of them obey the rules of
+/// contained code, where they may lead to the next word; the lines ascend and lie in the code.
 #[derive(Drop)]
 pub struct Code {
     alloc: Global,
@@ -25,20 +28,36 @@ pub struct Code {
     marks: Vec<Mark>,
     jumps: Vec<Jump>,
     calls: Vec<Jump>,
+    /// Where each function is entered, in bytes.
+    entries: Vec<u32>,
+    /// The word with which the loop at hand begins.
+    top: usize,
 }
 
 impl Model for Code {
-    ghost Value = { ℕ };
+    ghost use Rattle.std.specs.Prelude.{vec_len};
+    ghost use Rattle.rv_select.specs.Growing.{Size};
+    ghost use Rattle.rv_select.specs.Leading.{IsGrowing};
 
-    ghost view = { λ c. vec_len c.words };
+    ghost Value = { Size };
 
-    ghost invariant = { λ c. IsText c.words.items c.lines.items };
+    ghost view = { λ c. record { words = vec_len c.words; entries = vec_len c.entries } };
+
+    ghost invariant = { λ c. IsGrowing c.words.items c.lines.items c.marks.items c.entries.items c.top };
+}
+
+/// The whole code, the places in the source of its accesses and calls, and where its functions are entered.
+#[derive(Drop)]
+pub struct Complete {
+    pub words: Vec<Instr>,
+    pub lines: Vec<Line>,
+    pub entries: Vec<u32>,
 }
 
 impl Code {
     /// No code.
     pub fn new(alloc: Global) -> Code
-        ensures { result ≡ 0 }
+        ensures { result ≡ record { words = 0; entries = 0 } }
     {
         Code {
             alloc,
@@ -47,20 +66,22 @@ impl Code {
             marks: Vec::new(alloc),
             jumps: Vec::new(alloc),
             calls: Vec::new(alloc),
+            entries: Vec::new(alloc),
+            top: 0,
         }
     }
 
     /// The number of words.
     pub fn len(&self) -> usize
-        ensures { result ≡ self.now }
+        ensures { result ≡ self.now.words }
     {
         self.words.len()
     }
 
     /// Appends an instruction.
     pub fn put(&mut self, i: Instr) -> Result<(), NoMemory>
-        requires { InRange i }
-        ensures { OnOk result (self.new ≡ self.old + 1) }
+        requires { IsPlainWord i }
+        ensures { OnOk result (Adds 1 self.old self.new) }
     {
         self.words.push(i)?;
         Ok(())
@@ -68,8 +89,8 @@ impl Code {
 
     /// Appends instructions.
     pub fn put_all(&mut self, all: &[Instr]) -> Result<(), NoMemory>
-        requires { All InRange all.now }
-        ensures { OnOk result (self.new ≡ self.old + length all.now) }
+        requires { All IsPlainWord all.now }
+        ensures { OnOk result (Adds (length all.now) self.old self.new) }
     {
         self.words.extend_from_slice(all)?;
         Ok(())
@@ -77,10 +98,10 @@ impl Code {
 
     /// Appends an instruction with a place in the source: of kind 0 for an access or a call, and 1 for the first store of a prologue.
     pub fn put_at(&mut self, i: Instr, pos: Pos, kind: u32) -> Result<(), NoMemory>
-        requires in_range { InRange i }
-        requires room { self.old < room }
+        requires plain { IsPlainWord i }
+        requires room { self.old.words < room }
         requires kind { kind < 2 }
-        ensures { OnOk result (self.new ≡ self.old + 1) }
+        ensures { OnOk result (Adds 1 self.old self.new) }
     {
         let at = 4 * (self.words.as_slice().len() as u32);
         self.words.push(i)?;
@@ -90,6 +111,30 @@ impl Code {
             col: pos.col,
             kind,
         })?;
+        Ok(())
+    }
+
+    /// Appends the first instruction of a function, which is entered there.
+    pub fn enter(&mut self, i: Instr) -> Result<(), NoMemory>
+        requires plain { IsPlainWord i }
+        requires room { self.old.words < room }
+        ensures words { OnOk result (self.new.words ≡ self.old.words + 1) }
+        ensures entries { OnOk result (self.new.entries ≡ self.old.entries + 1) }
+    {
+        let at = 4 * (self.words.as_slice().len() as u32);
+        self.words.push(i)?;
+        self.entries.push(at)?;
+        Ok(())
+    }
+
+    /// Asks the environment for the service of a number, in two words.
+    pub fn ask(&mut self, service: u8) -> Result<(), NoMemory>
+        requires least { 1 ≤ service }
+        requires most { service ≤ 3 }
+        ensures { OnOk result (Adds 2 self.old self.new) }
+    {
+        let sets = Instr::Imm(ImmOp::Addi, Reg::SERVICE, Reg::ZERO, i32::from(service));
+        self.words.extend_from_slice(&[sets, Instr::Ecall])?;
         Ok(())
     }
 
@@ -145,6 +190,57 @@ impl Code {
         self.put_all(part.as_slice())
     }
 
+    /// Appends a jump or a branch, which leads to itself until it is led elsewhere.
+    fn put_still(&mut self, i: Instr) -> Result<(), NoMemory>
+        requires { IsStill i }
+        ensures { OnOk result (Adds 1 self.old self.new) }
+    {
+        self.words.push(i)?;
+        Ok(())
+    }
+
+    /// Branches to where `land` says. The answer is the place of the branch.
+    pub fn branch(&mut self, op: BranchOp, a: Reg, b: Reg) -> Result<usize, NoMemory>
+        ensures { OnOk result (Adds 1 self.old self.new) }
+    {
+        let at = self.words.len();
+        self.put_still(branch(op, a, b, 0))?;
+        Ok(at)
+    }
+
+    /// Jumps to where `land` says. The answer is the place of the jump.
+    pub fn skip(&mut self) -> Result<usize, NoMemory>
+        ensures { OnOk result (Adds 1 self.old self.new) }
+    {
+        let at = self.words.len();
+        self.put_still(jump(Reg::ZERO, 0))?;
+        Ok(at)
+    }
+
+    /// Leads the jump or branch at a place to the next word.
+    pub fn land(&mut self, at: usize)
+        ensures { self.new ≡ self.old }
+    {
+        let next = self.words.len();
+        lead(&mut self.words, at, next);
+    }
+
+    /// A loop begins with the next word.
+    pub fn open_loop(&mut self)
+        ensures { self.new ≡ self.old }
+    {
+        self.top = self.words.len();
+    }
+
+    /// Branches to the first word of the loop.
+    pub fn close_loop(&mut self, op: BranchOp, a: Reg, b: Reg) -> Result<(), NoMemory>
+        ensures { OnOk result (Adds 1 self.old self.new) }
+    {
+        let at = self.branch(op, a, b)?;
+        lead(&mut self.words, at, self.top);
+        Ok(())
+    }
+
     /// A label stands here.
     pub fn label(&mut self, label: u32) -> Result<(), NoMemory>
         ensures { self.new ≡ self.old }
@@ -156,27 +252,20 @@ impl Code {
 
     /// Jumps to a label of the function.
     pub fn jump(&mut self, label: u32) -> Result<(), NoMemory>
-        ensures { OnOk result (self.new ≡ self.old + 1) }
+        ensures { OnOk result (Adds 1 self.old self.new) }
     {
         let at = self.words.len();
         self.jumps.push(Jump { at, to: label })?;
-        self.put(jump(Reg::ZERO, 0))
+        self.put_still(jump(Reg::ZERO, 0))
     }
 
     /// Calls a function by its number.
     pub fn call(&mut self, fun: u32) -> Result<(), NoMemory>
-        ensures { OnOk result (self.new ≡ self.old + 1) }
+        ensures { OnOk result (Adds 1 self.old self.new) }
     {
         let at = self.words.len();
         self.calls.push(Jump { at, to: fun })?;
-        self.put(jump(Reg::LINK, 0))
-    }
-
-    /// Leads the jump or branch at a word to another word.
-    pub fn lead(&mut self, at: usize, to: usize)
-        ensures { self.new ≡ self.old }
-    {
-        lead(&mut self.words, at, to);
+        self.put_still(jump(Reg::LINK, 0))
     }
 
     /// Leads the jumps of the function at hand to its labels, and forgets both.
@@ -194,29 +283,32 @@ impl Code {
         Ok(())
     }
 
-    /// Leads the calls to the functions' entries, which are in bytes.
-    pub fn lead_to_entries(&mut self, entries: &[u32])
-        ensures { self.new ≡ self.old }
-    {
-        lead_to_entries(&mut self.words, self.calls.as_slice(), entries);
-    }
-
-    /// The instructions and the lines.
-    pub fn into_parts(self) -> (Vec<Instr>, Vec<Line>)
-        ensures len { vec_len result.0 ≡ self }
-        ensures text { IsText result.0.items result.1.items }
+    /// Leads the calls to the functions' entries, and appends a jump to itself, so that no run falls off the code's end.
+    pub fn complete(self) -> Result<Complete, NoMemory>
+        ensures len { IfOk result (λ c. vec_len c.words ≡ self.words + 1) }
+        ensures each { IfOk result (λ c. vec_len c.entries ≡ self.entries) }
+        ensures text { IfOk result (λ c. IsText c.words.items c.lines.items) }
+        ensures entries { IfOk result (λ c. AreEntries (vec_len c.words) c.entries.items) }
+        ensures contained { IfOk result (λ c. IsContainedCode c.words.items c.entries.items 0) }
     {
         let Code {
             alloc: _,
-            words,
+            mut words,
             lines,
             marks,
             jumps,
             calls,
+            entries,
+            top: _,
         } = self;
         drop(marks);
         drop(jumps);
-        drop(calls);
-        (words, lines)
+        lead_to_entries(&mut words, calls.as_slice(), entries.as_slice());
+        words.push(Instr::Cjal(Reg::ZERO, 0))?;
+        Ok(Complete {
+            words,
+            lines,
+            entries,
+        })
     }
 }

@@ -1,10 +1,10 @@
 // The code of a function.
 ghost use Rattle.std.specs.Prelude.{◌≡◌, ◌+◌, ◌-◌, ◌*◌, ◌≤◌, ◌<◌, min, length, OnOk, vec_len};
 ghost use Rattle.std.specs.List.{All};
-ghost use Rattle.rv_instr.specs.Range.{InRange};
+ghost use Rattle.purecap_abi.specs.Words.{IsPlainWord};
 ghost use Rattle.purecap_abi.specs.Saving.{IsFor};
 ghost use Rattle.tac_ir.specs.Costs.{cost, function_cost, places_cost};
-ghost use Rattle.rv_select.specs.Growing.{Grows, room};
+ghost use Rattle.rv_select.specs.Growing.{Grows, Enters, room};
 
 use crate::calls::{Callee, call, call_value, leave, stack_place};
 use crate::comparisons::{branch, comparison};
@@ -64,7 +64,7 @@ fn capabilities(code: &mut Code, f: &Function<'_>, i: &TacInstr) -> Result<(), N
 
 /// What reads and writes memory.
 fn access(code: &mut Code, f: &Function<'_>, i: &TacInstr) -> Result<(), NoMemory>
-    requires room { code.old + cost i.now ≤ room }
+    requires room { code.old.words + cost i.now ≤ room }
     ensures { OnOk result (Grows (cost i.now) code.old code.new) }
 {
     match i {
@@ -104,7 +104,7 @@ fn access(code: &mut Code, f: &Function<'_>, i: &TacInstr) -> Result<(), NoMemor
 /// What leads elsewhere.
 fn control(alloc: Global, code: &mut Code, f: &Function<'_>, i: &TacInstr) -> Result<(), NoMemory>
     requires framed { IsFor f.now.places.now.homes f.now.frame.now }
-    requires room { code.old + cost i.now ≤ room }
+    requires room { code.old.words + cost i.now ≤ room }
     ensures { OnOk result (Grows (cost i.now) code.old code.new) }
 {
     match i {
@@ -139,7 +139,7 @@ fn instruction(
     i: &TacInstr,
 ) -> Result<(), NoMemory>
     requires framed { IsFor f.now.places.now.homes f.now.frame.now }
-    requires room { code.old + cost i.now ≤ room }
+    requires room { code.old.words + cost i.now ≤ room }
     ensures { OnOk result (Grows (cost i.now) code.old code.new) }
 {
     match i {
@@ -162,13 +162,15 @@ fn instruction(
     }
 }
 
-/// The words of a prologue, with the line of its first store.
+/// The words of a prologue, at the first of which the function is entered, with the line of its first store.
 fn prologue(code: &mut Code, words: &[Instr], first: usize, name: Pos) -> Result<(), NoMemory>
-    requires in_range { All InRange words.now }
-    requires room { code.old + length words.now ≤ room }
-    ensures { OnOk result (code.new ≡ code.old + length words.now) }
+    requires some { 0 < length words.now }
+    requires plain { All IsPlainWord words.now }
+    requires room { code.old.words + length words.now ≤ room }
+    ensures { OnOk result (Enters (length words.now) code.old code.new) }
 {
-    for k in 0..words.len() {
+    code.enter(words[0])?;
+    for k in 1..words.len() {
         if k == first {
             code.put_at(words[k], name, 1)?;
         } else {
@@ -181,9 +183,8 @@ fn prologue(code: &mut Code, words: &[Instr], first: usize, name: Pos) -> Result
 /// The prologue, with the line of its first store.
 fn begin(alloc: Global, code: &mut Code, f: &Function<'_>, name: Pos) -> Result<(), NoMemory>
     requires framed { IsFor f.now.places.now.homes f.now.frame.now }
-    requires room { code.old + 27 ≤ room }
-    ensures some { OnOk result (code.old < code.new) }
-    ensures few { OnOk result (Grows 27 code.old code.new) }
+    requires room { code.old.words + 27 ≤ room }
+    ensures { OnOk result (Enters 27 code.old code.new) }
 {
     let words = purecap_abi::prologue(alloc, f.frame, f.places)?;
     prologue(
@@ -202,8 +203,9 @@ fn register_parameters(
     moves: &mut Vec<Move>,
 ) -> Result<(), NoMemory>
     requires { vec_len moves.old ≤ 0 }
-    ensures kept { OnOk result (code.old ≤ code.new) }
-    ensures few { OnOk result (code.new + 2 * vec_len moves.new ≤ code.old + 3 * min params 8) }
+    ensures kept { OnOk result (code.old.words ≤ code.new.words) }
+    ensures few { OnOk result (code.new.words + 2 * vec_len moves.new ≤ code.old.words + 3 * min params 8) }
+    ensures entries { OnOk result (code.new.entries ≡ code.old.entries) }
 {
     for k in 0u8..8 {
         if u32::from(k) < params {
@@ -255,9 +257,8 @@ pub fn select_function(
     t: &TacFun,
 ) -> Result<(), NoMemory>
     requires framed { IsFor f.now.places.now.homes f.now.frame.now }
-    requires room { code.old + function_cost t.now ≤ room }
-    ensures some { OnOk result (code.old < code.new) }
-    ensures few { OnOk result (Grows (function_cost t.now) code.old code.new) }
+    requires room { code.old.words + function_cost t.now ≤ room }
+    ensures { OnOk result (Enters (function_cost t.now) code.old code.new) }
 {
     begin(alloc, code, f, t.name)?;
     parameters(alloc, code, f, t.params)?;

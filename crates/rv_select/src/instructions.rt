@@ -1,8 +1,11 @@
-// The instructions that selection makes. Each has a word of the machine.
+// The instructions that selection makes. Each has a word of the machine, and but for branches and jumps it may stand anywhere in a text.
 #![tactic(auto, unfolding(rv_instr::specs::Range::InRange))]
 
-ghost use Rattle.std.specs.Prelude.{◌≡◌, ◌^◌, ◌<◌};
+ghost use Rattle.std.specs.Prelude.{◌≡◌, ◌^◌, ◌<◌, Some, false};
 ghost use Rattle.rv_instr.specs.Range.{InRange, FitsBits, IsEven, count_bits};
+ghost use Rattle.purecap_abi.specs.Words.{IsPlainWord};
+ghost use Rattle.rv_select.specs.ContainedCode.{offset_of};
+ghost use Rattle.rv_select.specs.Work.{seals};
 
 use rv_instr::{
     BranchOp, CapGetOp, CapImmOp, CapRegOp, ImmOp, Instr, LoadOp, Reg, RegOp, ShiftOp, StoreOp,
@@ -17,7 +20,7 @@ fn known(r: Reg)
 
 /// An operation on two integers.
 pub fn operation(op: RegOp, to: Reg, a: Reg, b: Reg) -> Instr
-    ensures { InRange result }
+    ensures { IsPlainWord result }
 {
     known(to);
     known(a);
@@ -28,7 +31,7 @@ pub fn operation(op: RegOp, to: Reg, a: Reg, b: Reg) -> Instr
 /// An operation on an integer and a number of 12 bits.
 pub fn immediate(op: ImmOp, to: Reg, a: Reg, number: i32) -> Instr
     requires { FitsBits 12 number }
-    ensures { InRange result }
+    ensures { IsPlainWord result }
 {
     known(to);
     known(a);
@@ -47,7 +50,7 @@ fn width(op: ShiftOp) -> u8
 
 /// A shift by a count, of which the bits count that the shift has.
 pub fn shift(op: ShiftOp, to: Reg, a: Reg, count: u8) -> Instr
-    ensures { InRange result }
+    ensures { IsPlainWord result }
 {
     let count = count % width(op);
     known(to);
@@ -55,9 +58,10 @@ pub fn shift(op: ShiftOp, to: Reg, a: Reg, count: u8) -> Instr
     Instr::Shift(op, to, a, count)
 }
 
-/// What one register tells, or a register without its tag.
+/// What one register tells, or a register without its tag. No register is sealed.
 pub fn of_one(op: CapGetOp, to: Reg, a: Reg) -> Instr
-    ensures { InRange result }
+    requires { seals op ≡ false }
+    ensures { IsPlainWord result }
 {
     known(to);
     known(a);
@@ -66,14 +70,14 @@ pub fn of_one(op: CapGetOp, to: Reg, a: Reg) -> Instr
 
 /// A register that becomes another.
 pub fn moving(to: Reg, from: Reg) -> Instr
-    ensures { InRange result }
+    ensures { IsPlainWord result }
 {
     of_one(CapGetOp::Cmove, to, from)
 }
 
 /// A capability, changed by a register.
 pub fn of_two(op: CapRegOp, to: Reg, a: Reg, b: Reg) -> Instr
-    ensures { InRange result }
+    ensures { IsPlainWord result }
 {
     known(to);
     known(a);
@@ -84,7 +88,7 @@ pub fn of_two(op: CapRegOp, to: Reg, a: Reg, b: Reg) -> Instr
 /// A capability, moved by a number of 12 bits.
 pub fn advance(to: Reg, a: Reg, bytes: i32) -> Instr
     requires { FitsBits 12 bytes }
-    ensures { InRange result }
+    ensures { IsPlainWord result }
 {
     known(to);
     known(a);
@@ -93,7 +97,7 @@ pub fn advance(to: Reg, a: Reg, bytes: i32) -> Instr
 
 /// Loads an integer from where a capability points.
 pub fn load(op: LoadOp, to: Reg, at: Reg) -> Instr
-    ensures { InRange result }
+    ensures { IsPlainWord result }
 {
     known(to);
     known(at);
@@ -102,7 +106,7 @@ pub fn load(op: LoadOp, to: Reg, at: Reg) -> Instr
 
 /// Loads a capability from where a capability points.
 pub fn load_capability(to: Reg, at: Reg) -> Instr
-    ensures { InRange result }
+    ensures { IsPlainWord result }
 {
     known(to);
     known(at);
@@ -112,7 +116,7 @@ pub fn load_capability(to: Reg, at: Reg) -> Instr
 /// Stores a register at a number of 12 bits behind a capability.
 pub fn store(op: StoreOp, from: Reg, at: Reg, bytes: i32) -> Instr
     requires { FitsBits 12 bytes }
-    ensures { InRange result }
+    ensures { IsPlainWord result }
 {
     known(from);
     known(at);
@@ -123,7 +127,8 @@ pub fn store(op: StoreOp, from: Reg, at: Reg, bytes: i32) -> Instr
 pub fn branch(op: BranchOp, a: Reg, b: Reg, bytes: i32) -> Instr
     requires range { FitsBits 13 bytes }
     requires even { IsEven bytes }
-    ensures { InRange result }
+    ensures in_range { InRange result }
+    ensures leads { offset_of result ≡ Some bytes }
 {
     known(a);
     known(b);
@@ -134,7 +139,8 @@ pub fn branch(op: BranchOp, a: Reg, b: Reg, bytes: i32) -> Instr
 pub fn jump(link: Reg, bytes: i32) -> Instr
     requires range { FitsBits 21 bytes }
     requires even { IsEven bytes }
-    ensures { InRange result }
+    ensures in_range { InRange result }
+    ensures leads { offset_of result ≡ Some bytes }
 {
     known(link);
     Instr::Cjal(link, bytes)
@@ -142,7 +148,7 @@ pub fn jump(link: Reg, bytes: i32) -> Instr
 
 /// A jump through a register, that links.
 pub fn jump_through(link: Reg, to: Reg) -> Instr
-    ensures { InRange result }
+    ensures { IsPlainWord result }
 {
     known(link);
     known(to);

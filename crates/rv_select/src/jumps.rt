@@ -1,7 +1,7 @@
 // Jumps and branches, and where they lead.
-ghost use Rattle.std.specs.Prelude.{◌≡◌, IfSome, vec_len};
-ghost use Rattle.std.specs.List.{All};
+ghost use Rattle.std.specs.Prelude.{◌≡◌, ◌+◌, ◌*◌, pos, ◌+ℤ◌, IfSome};
 ghost use Rattle.rv_instr.specs.Range.{InRange, FitsBits, IsEven};
+ghost use Rattle.rv_select.specs.Leading.{AreSound, IsSoFar, AreMarks, AreEntered, IsLed, IsMarked, AreLed};
 
 use crate::instructions::{branch, jump};
 use rv_instr::Instr;
@@ -24,6 +24,7 @@ pub struct Mark {
 fn hop(from: usize, to: usize) -> Option<i32>
     ensures range { IfSome result (FitsBits 21) }
     ensures even { IfSome result IsEven }
+    ensures there { IfSome result (λ bytes. pos (4 * to) ≡ pos (4 * from) +ℤ bytes) }
 {
     if to >= from {
         let words = to - from;
@@ -42,63 +43,86 @@ fn hop(from: usize, to: usize) -> Option<i32>
     }
 }
 
-/// The jump or the branch, by so many bytes.
-fn by(i: Instr, bytes: i32) -> Instr
+/// The jump or the branch, by so many bytes, where it can hold them.
+fn led(i: Instr, bytes: i32) -> Option<Instr>
     requires was { InRange i }
     requires range { FitsBits 21 bytes }
     requires even { IsEven bytes }
-    ensures { InRange result }
+    ensures in_range { IfSome result InRange }
+    ensures led { IfSome result (IsLed i bytes) }
 {
     match i {
-        Instr::Cjal(link, _) => jump(link, bytes),
-        Instr::Branch(op, a, b, _) if bytes >= -4096 && bytes < 4096 => branch(op, a, b, bytes),
-        _ => i,
+        Instr::Cjal(link, _) => Some(jump(link, bytes)),
+        Instr::Branch(op, a, b, _) if bytes >= -4096 && bytes < 4096 => {
+            Some(branch(op, a, b, bytes))
+        }
+        _ => None,
     }
 }
 
 /// Where a label stands, among labels in ascending order.
-fn place_of(marks: &[Mark], label: u32) -> Option<usize> {
+fn place_of(marks: &[Mark], label: u32) -> Option<usize>
+    ensures { IfSome result (IsMarked marks.now) }
+{
     let k = marks.binary_search_by_key(&label, |m| m.label).ok()?;
     let mark = marks.get(k)?;
     Some(mark.at)
 }
 
-/// Leads the jump or branch at a word to another word.
+/// Leads the jump or branch at a word to another word, where it can reach it.
 pub fn lead(words: &mut Vec<Instr>, at: usize, to: usize)
-    requires { All InRange words.old.items }
-    ensures in_range { All InRange words.new.items }
-    ensures len { vec_len words.new ≡ vec_len words.old }
+    requires sound { AreSound words.old.items }
+    requires target { IsSoFar words.old.items to }
+    ensures { AreLed words.old.items words.new.items }
 {
     if at < words.len()
         && let Some(bytes) = hop(at, to)
+        && let Some(i) = led(words[at], bytes)
     {
-        let i = words[at];
-        words[at] = by(i, bytes);
+        words[at] = i;
+    }
+}
+
+/// Leads a jump to its label. The labels are in ascending order.
+fn lead_to_mark(words: &mut Vec<Instr>, jump: Jump, marks: &[Mark])
+    requires sound { AreSound words.old.items }
+    requires marks { AreMarks words.old.items marks.now }
+    ensures { AreLed words.old.items words.new.items }
+{
+    if let Some(to) = place_of(marks, jump.to) {
+        lead(words, jump.at, to);
     }
 }
 
 /// Leads each jump to its label. The labels are in ascending order.
 pub fn lead_to_marks(words: &mut Vec<Instr>, jumps: &[Jump], marks: &[Mark])
-    requires { All InRange words.old.items }
-    ensures in_range { All InRange words.new.items }
-    ensures len { vec_len words.new ≡ vec_len words.old }
+    requires sound { AreSound words.old.items }
+    requires marks { AreMarks words.old.items marks.now }
+    ensures { AreLed words.old.items words.new.items }
 {
     for jump in jumps {
-        if let Some(to) = place_of(marks, jump.to) {
-            lead(words, jump.at, to);
-        }
+        lead_to_mark(words, *jump, marks);
+    }
+}
+
+/// Leads a call to its function's entry, which is in bytes.
+fn lead_to_entry(words: &mut Vec<Instr>, call: Jump, entries: &[u32])
+    requires sound { AreSound words.old.items }
+    requires entries { AreEntered words.old.items entries.now }
+    ensures { AreLed words.old.items words.new.items }
+{
+    if let Some(to) = entries.get(call.to as usize) {
+        lead(words, call.at, (*to / 4) as usize);
     }
 }
 
 /// Leads each call to its function's entry, which is in bytes.
 pub fn lead_to_entries(words: &mut Vec<Instr>, calls: &[Jump], entries: &[u32])
-    requires { All InRange words.old.items }
-    ensures in_range { All InRange words.new.items }
-    ensures len { vec_len words.new ≡ vec_len words.old }
+    requires sound { AreSound words.old.items }
+    requires entries { AreEntered words.old.items entries.now }
+    ensures { AreLed words.old.items words.new.items }
 {
     for call in calls {
-        if let Some(to) = entries.get(call.to as usize) {
-            lead(words, call.at, (*to / 4) as usize);
-        }
+        lead_to_entry(words, *call, entries);
     }
 }

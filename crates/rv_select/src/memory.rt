@@ -2,6 +2,7 @@
 ghost use Rattle.std.specs.Prelude.{◌+◌, ◌-◌, ◌≤◌, ◌<◌, OnOk, IfSome};
 ghost use Rattle.rv_instr.specs.Range.{FitsBits};
 ghost use Rattle.rv_select.specs.Growing.{Grows, room};
+ghost use Rattle.rv_select.specs.Work.{NeverSeals};
 ghost use Rattle.tac_ir.specs.Costs.{amount_cost, load_cost};
 
 use crate::emit::Code;
@@ -20,7 +21,9 @@ enum Intrinsic {
     OfTwo(CapRegOp),
 }
 
-fn instruction_of(op: CapWork) -> Intrinsic {
+fn instruction_of(op: CapWork) -> Intrinsic
+    ensures { NeverSeals result }
+{
     match op {
         CapWork::Base => Intrinsic::OfOne(CapGetOp::Cgetbase),
         CapWork::Offset => Intrinsic::OfOne(CapGetOp::Cgetoffset),
@@ -173,7 +176,7 @@ pub fn load(
     kind: TacKind,
     pos: Pos,
 ) -> Result<(), NoMemory>
-    requires { code.old + 7 ≤ room }
+    requires { code.old.words + 7 ≤ room }
     ensures { OnOk result (Grows (load_cost kind) code.old code.new) }
 {
     let a = operand(code, f, from, left())?;
@@ -197,7 +200,7 @@ pub fn store(
     kind: TacKind,
     pos: Pos,
 ) -> Result<(), NoMemory>
-    requires { code.old + 7 ≤ room }
+    requires { code.old.words + 7 ≤ room }
     ensures { OnOk result (Grows 7 code.old code.new) }
 {
     let a = operand(code, f, at, left())?;
@@ -263,10 +266,11 @@ fn zero_loop(code: &mut Code, at: u64, parts: u64) -> Result<(), NoMemory>
 {
     code.moved(left(), Reg::STACK, at)?;
     code.number(right(), number_of(parts))?;
+    code.open_loop();
     code.put(instr::store(StoreOp::Csc, Reg::ZERO, left(), 0))?;
     code.put(instr::advance(left(), left(), 16))?;
     code.put(instr::immediate(ImmOp::Addi, right(), right(), -1))?;
-    code.put(instr::branch(BranchOp::Bne, right(), Reg::ZERO, -12))
+    code.close_loop(BranchOp::Bne, right(), Reg::ZERO)
 }
 
 /// The bytes of a local become zero.
@@ -291,7 +295,7 @@ pub fn zero(code: &mut Code, f: &Function<'_>, var: u32) -> Result<(), NoMemory>
 
 /// Loads a unit of so many bytes to c31 from where c28 points.
 fn load_unit(code: &mut Code, unit: u8, pos: Pos) -> Result<(), NoMemory>
-    requires { code.old + 1 ≤ room }
+    requires { code.old.words + 1 ≤ room }
     ensures { OnOk result (Grows 1 code.old code.new) }
 {
     match unit {
@@ -305,7 +309,7 @@ fn load_unit(code: &mut Code, unit: u8, pos: Pos) -> Result<(), NoMemory>
 
 /// Stores a unit of so many bytes from c31 where c29 points.
 fn store_unit(code: &mut Code, unit: u8, pos: Pos) -> Result<(), NoMemory>
-    requires { code.old + 1 ≤ room }
+    requires { code.old.words + 1 ≤ room }
     ensures { OnOk result (Grows 1 code.old code.new) }
 {
     let op = match unit {
@@ -320,7 +324,7 @@ fn store_unit(code: &mut Code, unit: u8, pos: Pos) -> Result<(), NoMemory>
 
 /// Copies one unit.
 fn copy_unit(code: &mut Code, unit: u8, from: Pos, to: Pos) -> Result<(), NoMemory>
-    requires { code.old + 2 ≤ room }
+    requires { code.old.words + 2 ≤ room }
     ensures { OnOk result (Grows 2 code.old code.new) }
 {
     load_unit(code, unit, from)?;
@@ -344,7 +348,7 @@ pub fn copy_units(
     bytes: u64,
     unit: u8,
 ) -> Result<(), NoMemory>
-    requires { code.old + 14 ≤ room }
+    requires { code.old.words + 14 ≤ room }
     ensures { OnOk result (Grows 14 code.old code.new) }
 {
     let units = if unit == 0 {
@@ -361,9 +365,10 @@ pub fn copy_units(
         return copy_unit(code, unit, ends.from_pos, ends.to_pos);
     }
     code.number(count(), number_of(units))?;
+    code.open_loop();
     copy_unit(code, unit, ends.from_pos, ends.to_pos)?;
     code.put(instr::advance(left(), left(), i32::from(unit)))?;
     code.put(instr::advance(right(), right(), i32::from(unit)))?;
     code.put(instr::immediate(ImmOp::Addi, count(), count(), -1))?;
-    code.put(instr::branch(BranchOp::Bne, count(), Reg::ZERO, -20))
+    code.close_loop(BranchOp::Bne, count(), Reg::ZERO)
 }

@@ -1,7 +1,7 @@
 // Words that the calling convention's crate makes, before they join the code.
 ghost use Rattle.std.specs.Prelude.{◌-◌, ◌^◌, ◌<◌, ◌≤◌, IfOk, length};
 ghost use Rattle.std.specs.List.{All};
-ghost use Rattle.rv_instr.specs.Range.{InRange};
+ghost use Rattle.purecap_abi.specs.Words.{IsPlainWord};
 ghost use Rattle.tac_ir.specs.Costs.{number_cost};
 
 use ck_base::NoMemory;
@@ -17,7 +17,7 @@ fn near(offset: u64) -> u64
 
 /// A register becomes a number.
 pub fn number_part(alloc: Global, to: Reg, value: u64) -> Result<Vec<Instr>, NoMemory>
-    ensures in_range { IfOk result (λ part. All InRange part.items) }
+    ensures plain { IfOk result (λ part. All IsPlainWord part.items) }
     ensures few { IfOk result (λ part. length part.items ≤ number_cost value) }
     ensures low { IfOk result (λ part. value < 2 ^ 31 → length part.items ≤ 2) }
     ensures high { IfOk result (λ part. 2 ^ 64 - 2 ^ 31 ≤ value → length part.items ≤ 2) }
@@ -29,7 +29,7 @@ pub fn number_part(alloc: Global, to: Reg, value: u64) -> Result<Vec<Instr>, NoM
 
 /// A register becomes a number of 32 bits; for another number there are no words.
 pub fn word_part(alloc: Global, to: Reg, value: u64) -> Result<Vec<Instr>, NoMemory>
-    ensures in_range { IfOk result (λ part. All InRange part.items) }
+    ensures plain { IfOk result (λ part. All IsPlainWord part.items) }
     ensures few { IfOk result (λ part. length part.items ≤ 2) }
 {
     if value < 0x8000_0000 {
@@ -49,7 +49,7 @@ pub fn load_part(
     offset: u64,
     scratch: Reg,
 ) -> Result<Vec<Instr>, NoMemory>
-    ensures in_range { IfOk result (λ part. All InRange part.items) }
+    ensures plain { IfOk result (λ part. All IsPlainWord part.items) }
     ensures few { IfOk result (λ part. length part.items ≤ 3) }
 {
     let mut part = Vec::new(alloc);
@@ -65,7 +65,7 @@ pub fn store_part(
     offset: u64,
     scratch: Reg,
 ) -> Result<Vec<Instr>, NoMemory>
-    ensures in_range { IfOk result (λ part. All InRange part.items) }
+    ensures plain { IfOk result (λ part. All IsPlainWord part.items) }
     ensures few { IfOk result (λ part. length part.items ≤ 3) }
 {
     let mut part = Vec::new(alloc);
@@ -75,7 +75,7 @@ pub fn store_part(
 
 /// A register becomes a base moved by an offset.
 pub fn moved_part(alloc: Global, to: Reg, base: Reg, offset: u64) -> Result<Vec<Instr>, NoMemory>
-    ensures in_range { IfOk result (λ part. All InRange part.items) }
+    ensures plain { IfOk result (λ part. All IsPlainWord part.items) }
     ensures few { IfOk result (λ part. length part.items ≤ 3) }
 {
     let mut part = Vec::new(alloc);

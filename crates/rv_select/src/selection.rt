@@ -1,16 +1,15 @@
 //! Selection: the text of a program's code.
-ghost use Rattle.std.specs.Prelude.{◌≡◌, ◌+◌, ◌*◌, ◌≤◌, ◌<◌, ◌++◌, [], ◌∷◌, length, OnOk, IfOk, vec_len};
+ghost use Rattle.std.specs.Prelude.{◌≡◌, ◌+◌, ◌*◌, ◌≤◌, ◌<◌, length, OnOk, IfOk, vec_len};
 ghost use Rattle.std.specs.List.{sum_by};
 ghost use Rattle.purecap_abi.specs.Saving.{IsFor};
 ghost use Rattle.tac_ir.specs.Costs.{function_cost};
-ghost use Rattle.rv_select.specs.Growing.{Grows, room, IsText, AreFramed, AreEntries};
+ghost use Rattle.rv_select.specs.ContainedCode.{IsContainedCode};
+ghost use Rattle.rv_select.specs.Growing.{Grows, Enters, room, IsText, AreFramed, AreEntries};
 
-use crate::emit::Code;
+use crate::emit::{Code, Complete};
 use crate::functions::select_function;
 use crate::homes::{Entries, Function};
-use crate::instructions as instr;
 use crate::numbers::all_written;
-use crate::services::ask;
 use c_tree::Typed;
 use ck_base::NoMemory;
 use elf_file::Line;
@@ -49,7 +48,7 @@ fn begin(code: &mut Code, main: u32) -> Result<(), NoMemory>
     ensures { OnOk result (Grows 3 code.old code.new) }
 {
     code.call(main)?;
-    ask(code, 3)
+    code.ask(3)
 }
 
 /// The code of one function, behind that of others.
@@ -62,9 +61,8 @@ fn one_function(
     entries: Entries,
 ) -> Result<(), NoMemory>
     requires framed { IsFor places.now.homes frame.now }
-    requires room { code.old + function_cost t.now ≤ room }
-    ensures some { OnOk result (code.old < code.new) }
-    ensures few { OnOk result (Grows (function_cost t.now) code.old code.new) }
+    requires room { code.old.words + function_cost t.now ≤ room }
+    ensures { OnOk result (Enters (function_cost t.now) code.old code.new) }
 {
     let written = all_written(alloc, t)?;
     let f = Function {
@@ -77,29 +75,7 @@ fn one_function(
     select_function(alloc, code, &f, t)
 }
 
-/// The code of one function more, and where it is entered.
-fn one_more(
-    alloc: Global,
-    code: &mut Code,
-    made: &mut Vec<u32>,
-    t: &TacFun,
-    places: &Places,
-    frame: &Frame,
-    table: Entries,
-) -> Result<(), NoMemory>
-    requires framed { IsFor places.now.homes frame.now }
-    requires room { code.old + function_cost t.now ≤ room }
-    ensures some { OnOk result (code.old < code.new) }
-    ensures few { OnOk result (Grows (function_cost t.now) code.old code.new) }
-    ensures len { OnOk result (vec_len made.new ≡ vec_len made.old + 1) }
-    ensures entry { OnOk result (made.new.items ≡ made.old.items ++ 4 * code.old ∷ []) }
-{
-    let at = 4 * (code.len() as u32);
-    made.push(at)?;
-    one_function(alloc, code, t, places, frame, table)
-}
-
-/// The code of all functions in their order, and where they are entered.
+/// The code of all functions in their order.
 fn all_functions(
     alloc: Global,
     code: &mut Code,
@@ -107,26 +83,22 @@ fn all_functions(
     places: &[Places],
     frames: &[Frame],
     table: Entries,
-) -> Result<Vec<u32>, NoMemory>
+) -> Result<(), NoMemory>
     requires places { length places.now ≡ length funs.now }
     requires frames { length frames.now ≡ length funs.now }
     requires framed { AreFramed places.now frames.now }
-    requires room { code.old + sum_by function_cost funs.now ≤ room }
-    ensures few { IfOk result (λ entries. Grows (sum_by function_cost funs.now) code.old code.new) }
-    ensures len { IfOk result (λ entries. vec_len entries ≡ length funs.now) }
-    ensures entries { IfOk result (λ entries. AreEntries code.new entries.items) }
+    requires room { code.old.words + sum_by function_cost funs.now ≤ room }
+    ensures few { OnOk result (code.new.words ≤ code.old.words + sum_by function_cost funs.now) }
+    ensures each { OnOk result (code.new.entries ≡ code.old.entries + length funs.now) }
 {
-    let mut made = Vec::new(alloc);
     for k in 0..funs.len() {
-        one_more(
-            alloc, code, &mut made, &funs[k], &places[k], &frames[k], table,
-        )?;
+        one_function(alloc, code, &funs[k], &places[k], &frames[k], table)?;
     }
-    Ok(made)
+    Ok(())
 }
 
-/// Selects the machine's instructions for a program's code. The text begins with a call of `main`, and then has the functions in
-/// their order. It refuses nothing but for want of memory.
+/// Selects the machine's instructions for a program's code. The text begins with a call of `main`, then has the functions in their
+/// order, and ends with a jump to itself. It refuses nothing but for want of memory.
 pub fn select(
     alloc: Global,
     t: &Tac,
@@ -137,17 +109,18 @@ pub fn select(
     requires places { vec_len places.now ≡ length t.now.funs }
     requires frames { vec_len frames.now ≡ length t.now.funs }
     requires framed { AreFramed places.now.items frames.now.items }
-    requires costs { 3 + sum_by function_cost t.now.funs ≤ room }
-    ensures size { IfOk result (λ items. vec_len items.code ≤ 3 + sum_by function_cost t.now.funs) }
+    requires costs { 4 + sum_by function_cost t.now.funs ≤ room }
+    ensures size { IfOk result (λ items. vec_len items.code ≤ 4 + sum_by function_cost t.now.funs) }
     ensures text { IfOk result (λ items. IsText items.code.items items.lines.items) }
     ensures start { IfOk result (λ items. items.start ≡ 0) }
     ensures each { IfOk result (λ items. vec_len items.entries ≡ length t.now.funs) }
     ensures entries { IfOk result (λ items. AreEntries (vec_len items.code) items.entries.items) }
+    ensures contained { IfOk result (λ items. IsContainedCode items.code.items items.entries.items items.start) }
 {
     let table = entries_of(p);
     let mut code = Code::new(alloc);
     begin(&mut code, p.main)?;
-    let entries = all_functions(
+    all_functions(
         alloc,
         &mut code,
         t.funs.as_slice(),
@@ -155,10 +128,13 @@ pub fn select(
         frames.as_slice(),
         table,
     )?;
-    code.lead_to_entries(entries.as_slice());
-    let (code, lines) = code.into_parts();
+    let Complete {
+        words,
+        lines,
+        entries,
+    } = code.complete()?;
     Ok(Items {
-        code,
+        code: words,
         start: 0,
         entries,
         lines,

@@ -8,17 +8,8 @@ use crate::homes::{Function, bring, keep_some};
 use crate::instructions as instr;
 use crate::registers::{count, left, right, spare, way};
 use ck_base::NoMemory;
-use rv_instr::{BranchOp, CapGetOp, CapRegOp, ImmOp, Instr, Reg, RegOp};
+use rv_instr::{BranchOp, CapGetOp, CapRegOp, ImmOp, Reg, RegOp};
 use tac_ir::LibOp;
-
-/// Asks the environment for a service.
-#[tactic(auto, unfolding(rv_instr::specs::Range::InRange))]
-pub fn ask(code: &mut Code, service: u8) -> Result<(), NoMemory>
-    ensures { OnOk result (Grows 2 code.old code.new) }
-{
-    code.put(instr::immediate(ImmOp::Addi, Reg::SERVICE, Reg::ZERO, i32::from(service)))?;
-    code.put(Instr::Ecall)
-}
 
 /// Brings the first argument to c10, where there is one.
 fn first_argument(code: &mut Code, f: &Function<'_>, args: &[u32]) -> Result<(), NoMemory>
@@ -43,16 +34,16 @@ pub fn service(
     match op {
         LibOp::PutChar => {
             first_argument(code, f, args)?;
-            ask(code, 1)?;
+            code.ask(1)?;
             keep_some(code, f, to, Reg::RESULT)
         }
         LibOp::GetChar => {
-            ask(code, 2)?;
+            code.ask(2)?;
             keep_some(code, f, to, Reg::RESULT)
         }
         LibOp::Exit => {
             first_argument(code, f, args)?;
-            ask(code, 3)
+            code.ask(3)
         }
         LibOp::Malloc => {
             first_argument(code, f, args)?;
@@ -108,18 +99,16 @@ fn allocate(code: &mut Code, heap: u64) -> Result<(), NoMemory>
 {
     code.load_far(left(), Reg::TABLE, heap, left())?;
     code.put(instr::of_one(CapGetOp::Cgetlen, right(), left()))?;
-    let longer = code.len();
-    code.put(instr::branch(BranchOp::Bltu, right(), Reg::RESULT, 8))?;
+    let longer = code.branch(BranchOp::Bltu, right(), Reg::RESULT)?;
     round(code)?;
     find(code)?;
     measure(code)?;
-    let full = code.len();
-    code.put(instr::branch(BranchOp::Bltu, count(), Reg::RESULT, 8))?;
+    let full = code.branch(BranchOp::Bltu, count(), Reg::RESULT)?;
     take(code, heap)?;
-    code.put(instr::jump(Reg::ZERO, 8))?;
-    let none = code.len();
+    let done = code.skip()?;
+    code.land(longer);
+    code.land(full);
     code.put(instr::immediate(ImmOp::Addi, Reg::RESULT, Reg::ZERO, 0))?;
-    code.lead(longer, none);
-    code.lead(full, none);
+    code.land(done);
     Ok(())
 }

@@ -7,3 +7,5 @@ mod costs;
 mod selection;
 #[cfg(test)]
 mod three_address_code;
+#[cfg(test)]
+mod whole_selection;

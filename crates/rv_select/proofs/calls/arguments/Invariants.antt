@@ -1,6 +1,7 @@
 use Rattle.std.proofs.Common.{◌≡◌, ◌+◌, ◌-◌, ◌*◌, ◌≤◌, length, take}
 use Rattle.std.specs.Prelude.{vec_len, min, max}
+use Rattle.rv_select.specs.Growing.{Grows}
 use Rattle.rv_select.proofs.calls.arguments.Given as goal
 
 abbrev pub invariant-loop-other : goal.invariant-loop-other
-invariant-loop-other l = record { kept : l.initial.code ≤ l.code; few : l.code ≤ l.initial.code + 3 * l.other-index }
+invariant-loop-other l = record { grown : Grows (3 * l.other-index) l.initial.code l.code }

@@ -3,4 +3,8 @@ use Rattle.std.specs.Prelude.{vec_len, min, max}
 use Rattle.rv_select.proofs.functions.register_parameters.Given as goal
 
 abbrev pub invariant-loop-k : goal.invariant-loop-k
-invariant-loop-k l = record { kept : l.fn.code ≤ l.code; few : l.code + 2 * vec_len l.moves ≤ l.fn.code + 3 * min l.k l.params }
+invariant-loop-k l = record {
+  kept : l.fn.code.words ≤ l.code.words;
+  few : l.code.words + 2 * vec_len l.moves ≤ l.fn.code.words + 3 * min l.k l.params;
+  entries : l.code.entries ≡ l.fn.code.entries;
+}

@@ -9,9 +9,9 @@ instruction-requires-clause-room c =
     let lt : c.loop-i.i-index < length c.as_slice-all.result.now = omega (arith, c.loop-i-test.true) in
     let r = sum_room cost c.as_slice-all.result.now c.loop-i.i-index c.i-item.result lt c.i-item.is in
     let e : sum_by cost c.as_slice-all.result.now ≡ sum_by cost c.args.t.now.code = ap (sum_by cost) c.as_slice-all.ensures in
-    let f = c.loop-i.invariant.few in
+    let f = c.loop-i.invariant.grown.1 in
     let g = c.requires.room in
-    let p = c.in_ok-begin.ensures.few in
+    let p = c.in_ok-begin.ensures in
     let q = c.in_ok-parameters.ensures in
     omega (arith, r, e, f, g, p.1, q.1)
 
@@ -19,6 +19,6 @@ pub loop-i-preserved : goal.loop-i-preserved
 loop-i-preserved c =
     let lt : c.loop-i.i-index < length c.as_slice-all.result.now = omega (arith, c.loop-i-test.true) in
     let r = sum_step cost c.as_slice-all.result.now c.loop-i.i-index c.i-item.result lt c.i-item.is in
-    let a = c.loop-i.invariant in
+    let a = c.loop-i.invariant.grown in
     let e = c.in_ok-instruction.ensures in
-    record { kept = omega (arith, a.kept, e.0); few = omega (arith, r, a.few, e.1) }
+    record { grown = (omega (arith, a.0, e.0), omega (arith, r, a.1, e.1), omega (arith, a.2, e.2)) }

@@ -2,7 +2,8 @@ use Rattle.std.proofs.Common.{◌≡◌, ◌+◌, ◌-◌, ◌*◌, ◌≤◌, l
 use Rattle.std.specs.Prelude.{vec_len, min, max}
 use Rattle.std.specs.List.{sum_by}
 use Rattle.tac_ir.specs.Costs.{cost}
+use Rattle.rv_select.specs.Growing.{Grows}
 use Rattle.rv_select.proofs.functions.select_function.Given as goal
 
 abbrev pub invariant-loop-i : goal.invariant-loop-i
-invariant-loop-i l = record { kept : l.initial.code ≤ l.code; few : l.code ≤ l.initial.code + sum_by cost (take l.i-index l.all) }
+invariant-loop-i l = record { grown : Grows (sum_by cost (take l.i-index l.all)) l.initial.code l.code }

@@ -1,6 +1,7 @@
 use Rattle.std.proofs.Common.{◌≡◌, ◌+◌, ◌-◌, ◌*◌, ◌≤◌, length, take}
 use Rattle.std.specs.Prelude.{vec_len, min, max}
+use Rattle.rv_select.specs.Growing.{Grows}
 use Rattle.rv_select.proofs.functions.stack_parameters.Given as goal
 
 abbrev pub invariant-loop-k : goal.invariant-loop-k
-invariant-loop-k l = record { kept : l.fn.code ≤ l.code; few : l.code ≤ l.fn.code + 6 * (l.k - 8); end : l.k ≤ max 8 l.params }
+invariant-loop-k l = record { grown : Grows (6 * (l.k - 8)) l.fn.code l.code; end : l.k ≤ max 8 l.params }

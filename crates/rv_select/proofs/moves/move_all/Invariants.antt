@@ -3,7 +3,11 @@ use Rattle.std.specs.Prelude.{vec_len}
 use Rattle.rv_select.proofs.moves.move_all.Given as goal
 
 abbrev pub invariant-loop-scratch : goal.invariant-loop-scratch
-invariant-loop-scratch l = record { kept : l.initial.code ≤ l.code; few : l.code + 2 * vec_len l.moves ≤ l.initial.code + 2 * vec_len l.initial.moves }
+invariant-loop-scratch l = record {
+  kept : l.initial.code.words ≤ l.code.words;
+  few : l.code.words + 2 * vec_len l.moves ≤ l.initial.code.words + 2 * vec_len l.initial.moves;
+  entries : l.code.entries ≡ l.initial.code.entries;
+}
 
 abbrev pub decreases-loop-scratch : goal.decreases-loop-scratch
 decreases-loop-scratch l = vec_len l.moves

@@ -3,18 +3,17 @@ use Rattle.std.specs.List.{sum_by}
 use Rattle.std.proofs.lemmas.Option.{slice_get_read}
 use Rattle.tac_ir.specs.Costs.{function_cost}
 use Rattle.rv_select.proofs.TakeSums.{sum_step, sum_room}
-use Rattle.rv_select.proofs.Entries.{entries_push}
 use Rattle.rv_select.proofs.selection.all_functions.Goals as goal
 
-pub one_more-requires-clause-framed : goal.one_more-requires-clause-framed
-one_more-requires-clause-framed c =
+pub one_function-requires-clause-framed : goal.one_function-requires-clause-framed
+one_function-requires-clause-framed c =
     let lt : c.loop-k.k < length c.args.funs.now = omega (arith, c.loop-k-test.true) in
     c.requires.framed c.loop-k.k c.index-places-k.result c.index-frames-k.result
     (slice_get_read c.args.places.now (length c.args.funs.now) c.loop-k.k c.index-places-k.result (omega (arith, c.requires.places)) lt c.index-places-k.is)
     (slice_get_read c.args.frames.now (length c.args.funs.now) c.loop-k.k c.index-frames-k.result (omega (arith, c.requires.frames)) lt c.index-frames-k.is)
 
-pub one_more-requires-clause-room : goal.one_more-requires-clause-room
-one_more-requires-clause-room c =
+pub one_function-requires-clause-room : goal.one_function-requires-clause-room
+one_function-requires-clause-room c =
     let lt : c.loop-k.k < length c.args.funs.now = omega (arith, c.loop-k-test.true) in
     let r = sum_room function_cost c.args.funs.now c.loop-k.k c.index-funs-k.result lt c.index-funs-k.is in
     let f = c.loop-k.invariant.few in
@@ -26,10 +25,5 @@ loop-k-preserved c =
     let lt : c.loop-k.k < length c.args.funs.now = omega (arith, c.loop-k-test.true) in
     let r = sum_step function_cost c.args.funs.now c.loop-k.k c.index-funs-k.result lt c.index-funs-k.is in
     let a = c.loop-k.invariant in
-    let e = c.in_ok-one_more.ensures in
-    record {
-      kept = omega (arith, a.kept, e.few.0);
-      few = omega (arith, r, a.few, e.few.1);
-      len = omega (arith, a.len, e.len);
-      entries = rw e.entry (entries_push c.loop-k.code c.one_more.new.code c.loop-k.made.items a.entries e.some);
-    }
+    let e = c.in_ok-one_function.ensures in
+    record { few = omega (arith, r, a.few, e.1); each = omega (arith, a.each, e.2) }
