@@ -1,5 +1,5 @@
 -- Entries stay what they are as code and an entry are added.
-use Rattle.std.proofs.Common.{◌≡◌, ℕ, ◌+◌, ◌*◌, ◌%◌, ◌<◌, ◌≤◌, List, [], ◌∷◌, ◌++◌, length, get_or, refl, sym, ap, ◌∙◌, subst, arith, rules, inl, inr, ⊎_elim, ◌⊎◌}
+use Rattle.std.proofs.Common.{◌≡◌, ℕ, ◌*◌, ◌<◌, ◌≤◌, List, [], ◌∷◌, ◌++◌, length, get_or, sym, subst, arith, rules, ⊎_elim, ◌⊎◌}
 use Rattle.std.proofs.lemmas.List.{length-append}
 use Rattle.std.proofs.Math.ListN.{get_or-append}
 use Rattle.std.proofs.Math.Seq.{get_or-append_seam}
@@ -32,10 +32,16 @@ entries_push n m es a h = record {
       (λ (w : k ≡ length es). rw (at_last es (4 * n) k w) (omega arith))
       (last_or_before es (4 * n) k i);
   ascend = λ j k o i. ⊎_elim
-      (λ (w : k < length es). let v : j < length es = omega arith in rw (get_or-append es (4 * n ∷ []) 0 k w, get_or-append es (4 * n ∷ []) 0 j v) (a.ascend j k o w))
-      (λ (w : k ≡ length es). let v : j < length es = omega arith in rw (at_last es (4 * n) k w, get_or-append es (4 * n ∷ []) 0 j v) (a.inside j v))
+      (λ (w : k < length es). let v : j < length es = omega arith in
+      rw (get_or-append es (4 * n ∷ []) 0 k w, get_or-append es (4 * n ∷ []) 0 j v) (a.ascend j k o w))
+      (λ (w : k ≡ length es). let v : j < length es = omega arith in
+      rw (at_last es (4 * n) k w, get_or-append es (4 * n ∷ []) 0 j v) (a.inside j v))
       (last_or_before es (4 * n) k i);
 }
 
 pub entries_more : (n m : ℕ) (es : List ℕ) → AreEntries n es → n ≤ m → AreEntries m es
-entries_more n m es a h = record { whole = a.whole; inside = λ k i. let u = a.inside k i in omega arith; ascend = a.ascend }
+entries_more n m es a h = record {
+  whole = a.whole;
+  inside = λ k i. let u = a.inside k i in omega arith;
+  ascend = a.ascend;
+}

@@ -1,13 +1,11 @@
 -- Lines stay in order as words and lines are added, and what the words of the calling convention are.
-use Rattle.std.proofs.Common.{◌≡◌, ℕ, zero, suc, ◌+◌, ◌-◌, ◌*◌, ◌<◌, ◌≤◌, ◌&&◌, Bool, true, false, List, [], ◌∷◌, ◌++◌, length, refl, sym, ap, ◌∙◌, subst, arith}
-use Rattle.std.specs.Prelude.{nat_lt, nat_le, ◌^◌, ◌||◌, if◌then◌else◌}
-use Rattle.std.specs.List.{All}
+use Rattle.std.proofs.Common.{◌≡◌, ℕ, ◌+◌, ◌-◌, ◌*◌, ◌<◌, ◌≤◌, ◌&&◌, Bool, true, false, List, [], ◌∷◌, ◌++◌, length, refl, sym, ap, ◌∙◌, subst, arith}
+use Rattle.std.specs.Prelude.{nat_lt, nat_le, ◌^◌, if◌then◌else◌}
 use Rattle.std.proofs.lemmas.Bool.Decides.{nat_tests}
-use Rattle.std.proofs.lemmas.List.{length-append}
 use Rattle.rv_instr.specs.declared.instr.Instr.{Instr}
 use Rattle.elf_file.specs.declared.image.Line.{Line}
 use Rattle.elf_file.specs.Image.{lines_ok}
-use Rattle.purecap_abi.specs.Words.{IsPlainWord, Appends, is_short, is_word, most_words}
+use Rattle.purecap_abi.specs.Words.{Appends, is_short, is_word, most_words}
 use Rattle.tac_ir.specs.Costs.{number_cost}
 
 -- ---- lines
@@ -28,34 +26,23 @@ lines_more least a b (l ∷ ls) h o =
     let below : nat_lt l.at b ≡ true = grind (arith, nat_tests, r.1) in
     both_of _ _ (both_of _ _ (both_of _ _ r.0 below) q.1) (lines_more (l.at + 1) a b ls h p.1)
 
-pub lines_add : (least n : ℕ) (ls : List Line) (l : Line) → l.at ≡ 4 * n → l.kind < 2 → least ≤ 4 * n → lines_ok least (4 * n) ls ≡ true → lines_ok least (4 * (n + 1)) (ls ++ l ∷ []) ≡ true
+pub lines_add : (least n : ℕ) (ls : List Line) (l : Line) → l.at ≡ 4 * n → l.kind < 2 → least ≤ 4 * n
+    → lines_ok least (4 * n) ls ≡ true → lines_ok least (4 * (n + 1)) (ls ++ l ∷ []) ≡ true
 lines_add least n [] l e k h o =
     let a : nat_le least l.at ≡ true = grind (arith, nat_tests) in
     let b : nat_lt l.at (4 * (n + 1)) ≡ true = grind (arith, nat_tests) in
     let c : nat_lt l.kind 2 ≡ true = grind (arith, nat_tests) in
     both_of _ _ (both_of _ _ (both_of _ _ a b) c) refl
 lines_add least n (x ∷ xs) l e k h o =
-    let p = both_from (nat_le least x.at && nat_lt x.at (4 * n) && nat_lt x.kind 2) (lines_ok (x.at + 1) (4 * n) xs) o in
+    let p = both_from (nat_le least x.at && nat_lt x.at (4 * n) && nat_lt x.kind 2)
+    (lines_ok (x.at + 1) (4 * n) xs) o in
     let q = both_from (nat_le least x.at && nat_lt x.at (4 * n)) (nat_lt x.kind 2) p.0 in
     let r = both_from (nat_le least x.at) (nat_lt x.at (4 * n)) q.0 in
     let next : x.at + 1 ≤ 4 * n = grind (arith, nat_tests, r.1) in
     let below : nat_lt x.at (4 * (n + 1)) ≡ true = grind (arith, nat_tests, next) in
     both_of _ _ (both_of _ _ (both_of _ _ r.0 below) q.1) (lines_add (x.at + 1) n xs l e k next p.1)
 
--- ---- lengths
-
-pub appends_length : (most : ℕ) (old new : List Instr) → Appends most old new → (length old ≤ length new) × (length new ≤ length old + most)
-appends_length most old new a =
-    let e : length new ≡ length old + length a.added = ap length a.is ∙ length-append old a.added in
-    let f : length a.added ≤ most = a.few in
-    (omega (arith, e), omega (arith, e, f))
-
 -- ---- parts
-
-pub part_plain : (most : ℕ) (old new : List Instr) → old ≡ [] → Appends most old new → All IsPlainWord new
-part_plain most old new e a =
-    let f : new ≡ a.added = a.is ∙ ap (λ v. v ++ a.added) e in
-    subst (λ w. All IsPlainWord w) (sym f) a.plain
 
 pub part_few : (most : ℕ) (old new : List Instr) → old ≡ [] → Appends most old new → length new ≤ most
 part_few most old new e a =
@@ -68,19 +55,24 @@ part_few most old new e a =
 pub most_words-le : (n : ℕ) → most_words n ≤ number_cost n
 unfolding most_words
 most_words-le n =
-    elim (is_short n) as (λ (b : Bool). (if b then 1 else (if is_word n then 2 else (if nat_le n (2 ^ 40) then 4 else (if nat_le n (2 ^ 52) then 6 else 8)))) ≤ (if b then 1 else 8)) [
+    elim (is_short n) as
+    (λ (b : Bool).
+    (if b then 1 else
+    (if is_word n then 2 else (if nat_le n (2 ^ 40) then 4 else (if nat_le n (2 ^ 52) then 6 else 8)))) ≤
+    (if b then 1 else 8)) [
       | true ↦ omega arith
-      | false ↦ elim (is_word n) as (λ (b : Bool). (if b then 2 else (if nat_le n (2 ^ 40) then 4 else (if nat_le n (2 ^ 52) then 6 else 8))) ≤ 8) [
-        | true ↦ omega arith
-        | false ↦ elim (nat_le n (2 ^ 40)) as (λ (b : Bool). (if b then 4 else (if nat_le n (2 ^ 52) then 6 else 8)) ≤ 8) [
-          | true ↦ omega arith
-          | false ↦ elim (nat_le n (2 ^ 52)) as (λ (b : Bool). (if b then 6 else 8) ≤ 8) [ true ↦ omega arith | false ↦ omega arith ]
-        ]
-      ]
+      | false ↦ elim (is_word n) as
+          (λ (b : Bool).
+          (if b then 2 else (if nat_le n (2 ^ 40) then 4 else (if nat_le n (2 ^ 52) then 6 else 8))) ≤ 8) [
+            | true ↦ omega arith
+            | false ↦ elim (nat_le n (2 ^ 40)) as
+                (λ (b : Bool). (if b then 4 else (if nat_le n (2 ^ 52) then 6 else 8)) ≤ 8) [
+                  | true ↦ omega arith
+                  | false ↦ elim (nat_le n (2 ^ 52)) as
+                      (λ (b : Bool). (if b then 6 else 8) ≤ 8) [ true ↦ omega arith | false ↦ omega arith ]
+                ]
+          ]
     ]
-
-pub near_words : (offset : ℕ) → (if nat_lt offset 2048 then 1 else 3) ≤ 3
-near_words offset = elim (nat_lt offset 2048) as (λ (b : Bool). (if b then 1 else 3) ≤ 3) [ true ↦ omega arith | false ↦ omega arith ]
 
 pub word_words : (n : ℕ) → is_word n ≡ true → most_words n ≤ 2
 unfolding most_words

@@ -41,7 +41,8 @@ Adds count old new = (new.words ≡ old.words + count) × (new.entries ≡ old.e
 abbrev pub Enters : (most : ℕ) (old new : Size) → Type 0
 Enters most old new = (old.words < new.words) × (new.words ≤ old.words + most) × (new.entries ≡ old.entries + 1)
 
--- the words that a text has at most: those of 128 bytes for each unit of the greatest weight, 7,780, and of 4,096 more are fewer
+-- the words that a text has at most: those of 128 bytes for each unit of the greatest weight, 7,780, and of 4,096
+-- more are fewer
 abbrev pub room : ℕ
 room = 262144
 
@@ -55,4 +56,5 @@ reduce_words k = 2
 
 -- each frame is one for the homes at its place
 abbrev pub AreFramed : List Places → List Frame → Type 0
-AreFramed places frames = (k : ℕ) (l : Places) (f : Frame) → slice_get places k ≡ Some l → slice_get frames k ≡ Some f → IsFor l.homes f
+AreFramed places frames =
+    (k : ℕ) (l : Places) (f : Frame) → slice_get places k ≡ Some l → slice_get frames k ≡ Some f → IsFor l.homes f

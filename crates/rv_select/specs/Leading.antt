@@ -1,5 +1,5 @@
 -- Where the jumps of the growing code lead.
-use Rattle.std.specs.Prelude.{◌≡◌, ℕ, ◌+◌, ◌*◌, ◌%◌, ◌<◌, ◌≤◌, ℤ, pos, true, List, length, Option, Some, None, slice_get}
+use Rattle.std.specs.Prelude.{◌≡◌, ℕ, ◌+◌, ◌*◌, ℤ, pos, true, List, length, Some, slice_get}
 use Rattle.std.specs.List.{All}
 use Rattle.rv_instr.specs.Range.{InRange}
 use Rattle.rv_instr.specs.declared.instr.Instr.{Instr}
@@ -33,7 +33,8 @@ pub record AreTargets (words : List Instr) (marks : List Mark) (entries : List �
   pub loop : IsSoFar words top
 
 -- the code so far, its lines, and its targets
-pub record IsGrowing (words : List Instr) (lines : List Line) (marks : List Mark) (entries : List ℕ) (top : ℕ) : Type 0 where
+pub record IsGrowing (words : List Instr) (lines : List Line) (marks : List Mark) (entries : List ℕ)
+    (top : ℕ) : Type 0 where
   pub sound : AreSound words
   pub ordered : lines_ok 0 (4 * length words) lines ≡ true
   pub ascend : AreEntries (length words) entries

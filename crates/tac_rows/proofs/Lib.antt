@@ -1,1 +1,2 @@
+mod Framed
 mod Tried

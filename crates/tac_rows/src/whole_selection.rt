@@ -42,7 +42,7 @@ fn program(alloc: Global) -> Typed {
 // putchar(72), behind a jump over nothing; return that byte.
 fn code(alloc: Global) -> Result<Tac, NoMemory>
     ensures one { IfOk result (λ t. length t.funs ≡ 1) }
-    ensures cheap { IfOk result (λ t. sum_by function_cost t.funs < 100) }
+    ensures cheap { IfOk result (λ t. sum_by function_cost t.funs < 200) }
 {
     let args = Sequence::from_vec(vec![in alloc; 0u32]?);
     let code = vec![in alloc;

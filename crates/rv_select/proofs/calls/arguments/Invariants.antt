@@ -1,5 +1,4 @@
-use Rattle.std.proofs.Common.{◌≡◌, ◌+◌, ◌-◌, ◌*◌, ◌≤◌, length, take}
-use Rattle.std.specs.Prelude.{vec_len, min, max}
+use Rattle.std.proofs.Common.{◌*◌}
 use Rattle.rv_select.specs.Growing.{Grows}
 use Rattle.rv_select.proofs.calls.arguments.Given as goal
 

@@ -1,5 +1,5 @@
-use Rattle.std.proofs.Common.{◌≡◌, ◌+◌, ◌-◌, ◌*◌, ◌≤◌, length, take}
-use Rattle.std.specs.Prelude.{vec_len, min, max}
+use Rattle.std.proofs.Common.{◌+◌, ◌≤◌, length}
+use Rattle.std.specs.Prelude.{vec_len, min}
 use Rattle.rv_select.proofs.calls.arguments_of.Given as goal
 
 abbrev pub invariant-loop-k : goal.invariant-loop-k

@@ -1,5 +1,5 @@
-use Rattle.std.proofs.Common.{◌≡◌, ◌+◌, ◌-◌, ◌*◌, ◌≤◌, length, take}
-use Rattle.std.specs.Prelude.{vec_len, min, max}
+use Rattle.std.proofs.Common.{◌-◌, ◌*◌, ◌≤◌, length}
+use Rattle.std.specs.Prelude.{max}
 use Rattle.rv_select.specs.Growing.{Grows}
 use Rattle.rv_select.proofs.calls.stack_arguments.Given as goal
 

@@ -1,4 +1,4 @@
-use Rattle.std.proofs.Common.{◌≤◌, ◌+◌, arith}
+use Rattle.std.proofs.Common.{arith}
 use Rattle.rv_select.proofs.KindCosts.{load_least}
 use Rattle.rv_select.proofs.functions.access.Goals as goal
 

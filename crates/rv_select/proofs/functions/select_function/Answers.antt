@@ -1,4 +1,4 @@
-use Rattle.std.proofs.Common.{◌≡◌, ◌+◌, ◌*◌, ◌<◌, ◌≤◌, length, take, get_or, ap, arith}
+use Rattle.std.proofs.Common.{◌≡◌, ◌<◌, length, ap, arith}
 use Rattle.std.specs.List.{sum_by}
 use Rattle.tac_ir.specs.Costs.{cost}
 use Rattle.rv_select.proofs.TakeSums.{sum_step, sum_room}
@@ -8,7 +8,8 @@ pub instruction-requires-clause-room : goal.instruction-requires-clause-room
 instruction-requires-clause-room c =
     let lt : c.loop-i.i-index < length c.as_slice-all.result.now = omega (arith, c.loop-i-test.true) in
     let r = sum_room cost c.as_slice-all.result.now c.loop-i.i-index c.i-item.result lt c.i-item.is in
-    let e : sum_by cost c.as_slice-all.result.now ≡ sum_by cost c.args.t.now.code = ap (sum_by cost) c.as_slice-all.ensures in
+    let e : sum_by cost c.as_slice-all.result.now ≡ sum_by cost c.args.t.now.code = ap
+    (sum_by cost) c.as_slice-all.ensures in
     let f = c.loop-i.invariant.grown.1 in
     let g = c.requires.room in
     let p = c.in_ok-begin.ensures in

@@ -6,4 +6,7 @@ use Rattle.rv_select.proofs.instructions.branch.Goals as goal
 
 pub returns : goal.returns
 unfolding InRange
-returns c = rw (to_z-of_z w32 c.args.bytes c.ranges.bytes) (record { in_range = (c.known.ensures, c.known-2.ensures, c.requires.range, c.requires.even); leads = refl })
+returns c = rw (to_z-of_z w32 c.args.bytes c.ranges.bytes) (record {
+  in_range = (c.known.ensures, c.known-2.ensures, c.requires.range, c.requires.even);
+  leads = refl;
+})

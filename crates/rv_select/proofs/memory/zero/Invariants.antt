@@ -1,5 +1,3 @@
-use Rattle.std.proofs.Common.{◌≡◌, ◌+◌, ◌-◌, ◌*◌, ◌≤◌, length, take}
-use Rattle.std.specs.Prelude.{vec_len, min, max}
 use Rattle.rv_select.specs.Growing.{Grows}
 use Rattle.rv_select.proofs.memory.zero.Given as goal
 

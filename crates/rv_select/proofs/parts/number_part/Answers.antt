@@ -1,4 +1,4 @@
-use Rattle.std.proofs.Common.{◌≡◌, ◌≤◌, length, arith}
+use Rattle.std.proofs.Common.{arith}
 use Rattle.purecap_abi.specs.Words.{most_words}
 use Rattle.rv_select.proofs.Texts.{part_few, most_words-le, low_words, high_words}
 use Rattle.rv_select.proofs.parts.number_part.Goals as goal

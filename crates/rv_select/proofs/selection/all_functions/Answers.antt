@@ -1,5 +1,4 @@
-use Rattle.std.proofs.Common.{◌≡◌, ◌+◌, ◌*◌, ◌<◌, ◌≤◌, length, take, get_or, arith}
-use Rattle.std.specs.List.{sum_by}
+use Rattle.std.proofs.Common.{◌<◌, length, arith}
 use Rattle.std.proofs.lemmas.Option.{slice_get_read}
 use Rattle.tac_ir.specs.Costs.{function_cost}
 use Rattle.rv_select.proofs.TakeSums.{sum_step, sum_room}
@@ -9,8 +8,10 @@ pub one_function-requires-clause-framed : goal.one_function-requires-clause-fram
 one_function-requires-clause-framed c =
     let lt : c.loop-k.k < length c.args.funs.now = omega (arith, c.loop-k-test.true) in
     c.requires.framed c.loop-k.k c.index-places-k.result c.index-frames-k.result
-    (slice_get_read c.args.places.now (length c.args.funs.now) c.loop-k.k c.index-places-k.result (omega (arith, c.requires.places)) lt c.index-places-k.is)
-    (slice_get_read c.args.frames.now (length c.args.funs.now) c.loop-k.k c.index-frames-k.result (omega (arith, c.requires.frames)) lt c.index-frames-k.is)
+    (slice_get_read c.args.places.now (length c.args.funs.now) c.loop-k.k c.index-places-k.result
+    (omega (arith, c.requires.places)) lt c.index-places-k.is)
+    (slice_get_read c.args.frames.now (length c.args.funs.now) c.loop-k.k c.index-frames-k.result
+    (omega (arith, c.requires.frames)) lt c.index-frames-k.is)
 
 pub one_function-requires-clause-room : goal.one_function-requires-clause-room
 one_function-requires-clause-room c =

@@ -5,7 +5,8 @@ use Rattle.rv_select.proofs.emit.Code.put_at.Goals as goal
 
 pub invariant_of-self-in_err-push-2 : goal.invariant_of-self-in_err-push-2
 invariant_of-self-in_err-push-2 c =
-    rw c.in_err-push-2.ensures.items (growing_put _ _ _ _ _ _ _ c.in_ok-push.ensures.items c.self.invariant c.requires.plain)
+    rw c.in_err-push-2.ensures.items
+    (growing_put _ _ _ _ _ _ _ c.in_ok-push.ensures.items c.self.invariant c.requires.plain)
 
 pub invariant_of-self-2 : goal.invariant_of-self-2
 invariant_of-self-2 c =
