@@ -8,6 +8,7 @@ pub mod WholeImage
 pub mod Weighing
 pub mod Framing
 pub mod Coding
+pub mod ContainedCode
 pub mod Counting
 pub mod Growing
 pub mod Passing
