@@ -1,8 +1,9 @@
 -- The text of contained code is a contained text, wherever it stands.
-use Rattle.std.proofs.Common.{◌≡◌, ℕ, zero, suc, ◌+◌, ◌-◌, ◌*◌, ◌/◌, ◌%◌, ◌^◌, ◌<◌, ◌≤◌, ◌⊎◌, ⊎_elim, ℤ, pos, negsuc, List, [], ◌++◌, length, Some, refl, sym, ap, ◌∙◌, subst, arith, length-append}
-use Rattle.std.specs.Prelude.{◌+ℤ◌, Contains, slice_get}
-use Rattle.std.specs.List.{All}
+use Rattle.std.proofs.Common.{◌≡◌, ℕ, zero, suc, ◌+◌, ◌-◌, ◌*◌, ◌/◌, ◌%◌, ◌^◌, ◌<◌, ◌≤◌, ◌⊎◌, inl, ⊎_elim, ℤ, pos, negsuc, Bool, true, false, if◌then◌else◌, List, [], ◌∷◌, ◌++◌, length, Some, refl, sym, ap, ◌∙◌, subst, arith, length-append}
+use Rattle.std.specs.Prelude.{◌+ℤ◌, Contains, slice_get, map}
+use Rattle.std.specs.List.{All, filter}
 use Rattle.std.proofs.lemmas.Int.{ints}
+use Rattle.std.proofs.lemmas.List.Elements.{All-cons}
 use Rattle.std.proofs.lemmas.List.{length-replicate}
 use Rattle.std.proofs.lemmas.Option.{same_Some, slice_get_within}
 use Rattle.ck_int.specs.Kinds.{kept_of}
@@ -12,6 +13,10 @@ use Rattle.rv_instr.specs.declared.instr.Instr.TheVariants.{Branch, Cjal, Ecall}
 use Rattle.rv_code.specs.Decoding.{decode_of}
 use Rattle.cap_machine.specs.Rows.{plus}
 use Rattle.cap_machine.specs.ContainedText.{Text, end_of, IsPlace, word_at, instr_at, Stands, target, IsContainedText}
+use Rattle.elf_file.specs.declared.image.Image.{Image}
+use Rattle.elf_file.specs.declared.image.Reloc.{Reloc}
+use Rattle.image_load.specs.Contained.{executes, entries_of}
+use Rattle.image_load.specs.Judging.{address_of}
 use Rattle.rv_select.specs.ContainedCode.{offset_of, AreContained, IsTarget, IsEntry, EndsInPlainJump, IsContainedCode}
 use Rattle.rv_select.proofs.Contained.{get_right, contained_still, contained_append, no_first, target_left}
 use Rattle.typed_build.specs.Built.{word_in}
@@ -217,3 +222,28 @@ contained_text code entries places start base c in_range whole high entered =
     (all_contained all base places whole (omega (arith, size, high))
     (filled_in_range code (filler n) in_range (filler_in_range n)) (filled_contained code n c.words)
     (filled_end code n c.last) at)
+
+-- ---- an image
+
+-- what holds of the addresses of those that execute
+of_executing : (P : ℕ → Type 0) (rs : List Reloc) → All (λ r. executes r ≡ true → P (address_of r)) rs
+    → All P (map address_of (filter executes rs))
+of_executing P [] h = λ k d lt. absurd (omega arith)
+of_executing P (r ∷ rs) h = by (executes r) refl (of_executing P rs (λ k d lt. h (suc k) d (omega arith)))
+  where
+    by : (b : Bool) → executes r ≡ b → All P (map address_of (filter executes rs))
+        → All P (map address_of (if b then r ∷ filter executes rs else filter executes rs))
+    by true e rest = All-cons P (address_of r) (map address_of (filter executes rs)) (h 0 r (omega arith) e) rest
+    by false e rest = rest
+
+-- the entry places of an image that is entered at the code's start, and whose relocations with Execute point to its entries
+pub entered_places : (i : Image) (entries : List ℕ) (start : ℕ) → i.entry ≡ i.text_base + start
+    → All (λ r. executes r ≡ true → IsEnteredAt i.text_base entries start (address_of r)) i.relocs
+    → (x : ℕ) → Contains (entries_of i) x → IsEnteredAt i.text_base entries start x
+entered_places i entries start e h x (zero, lt, is) =
+    record { offset = start; is = sym is ∙ e; among = inl refl }
+entered_places i entries start e h x (suc k, lt, is) =
+    let P = IsEnteredAt i.text_base entries start in
+    let all = of_executing P i.relocs h in
+    let more : suc k < suc (length (map address_of (filter executes i.relocs))) = lt in
+    subst P is (all k x (omega arith))
