@@ -1,5 +1,6 @@
 //! Sizes, alignments, offsets and counts: each public call on known values.
 ghost use Rattle.std.specs.Prelude.{◌<◌, length};
+ghost use Rattle.cap_layout.specs.Kept.{AreLayoutsOf};
 
 use crate::given::{got, none, with_types};
 use c_tree::{CType, Expr, ExprKind, FunDef, Member, Stmt, StmtKind, Typed, VarDef};
@@ -245,13 +246,20 @@ fn types_have_layouts(rt: HostRuntime) {
     }
 }
 
+// The layouts of a program's types.
+fn kept(rt: &impl Abort, alloc: Global, p: &Typed) -> Layouts
+    ensures { AreLayoutsOf p.now.types result.now }
+{
+    match Layouts::new(alloc, p) {
+        Ok(layouts) => layouts,
+        Err(_) => panic!(rt; "no memory"),
+    }
+}
+
 #[test]
 fn layouts_are_kept(rt: HostRuntime) {
     let p = program(&rt, rt.alloc());
-    let layouts = match Layouts::new(rt.alloc(), &p) {
-        Ok(layouts) => layouts,
-        Err(_) => panic!(rt; "no memory"),
-    };
+    let layouts = kept(&rt, rt.alloc(), &p);
     for &(t, size, align) in &LAYOUTS {
         assert!(rt; is_layout(layouts.layout(&p, t), size, align), "of {t}");
     }
@@ -280,8 +288,9 @@ fn members_have_offsets(rt: HostRuntime) {
 #[test]
 fn parts_are_counted(rt: HostRuntime) {
     let p = program(&rt, rt.alloc());
-    assert!(rt; granules(&p) == 2 * (257 + 1));
-    assert!(rt; copies(&p) == 2 + 2 + 1);
+    let layouts = kept(&rt, rt.alloc(), &p);
+    assert!(rt; granules(&layouts, &p) == 2 * (257 + 1));
+    assert!(rt; copies(&layouts, &p) == 2 + 2 + 1);
 }
 
 // Arrays and the words `const`, by turns, each of the type before.

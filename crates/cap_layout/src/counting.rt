@@ -2,11 +2,12 @@
 ghost use Rattle.std.specs.Prelude.{◌≡◌, ◌≤◌, sum_by, slice_get};
 ghost use Rattle.c_tree.specs.Layout.{extent, bare, size_limit};
 ghost use Rattle.c_tree.specs.Weight.{counted};
+ghost use Rattle.cap_layout.specs.Kept.{AreLayoutsOf};
 ghost use Rattle.c_tree.specs.Counts.{parts, size_of, var_granules, fun_granules, granules, is_record, copied, expr_copies, value_copies, stmt_copies, copies};
 
+use crate::kept::Layouts;
 use crate::owning::owned;
 use crate::records::{Record, record_at};
-use crate::sizes::layout;
 use c_tree::{Expr, ExprKind, FunDef, Stmt, StmtKind, Typed, VarDef};
 
 fn parts(n: u64) -> u64
@@ -16,33 +17,36 @@ fn parts(n: u64) -> u64
     n.div_ceil(16)
 }
 
-fn size_of(p: &Typed, t: u32) -> u64
+fn size_of(layouts: &Layouts, p: &Typed, t: u32) -> u64
+    requires { AreLayoutsOf p.now.types layouts.now }
     ensures is { result ≡ size_of (extent p.now.types t) }
     ensures bound { result ≤ size_limit }
 {
-    match layout(p, t) {
+    match layouts.layout(p, t) {
         Ok(l) => l.size,
         Err(_) => 0,
     }
 }
 
-fn var_granules(p: &Typed, v: &VarDef) -> u64
+fn var_granules(layouts: &Layouts, p: &Typed, v: &VarDef) -> u64
+    requires { AreLayoutsOf p.now.types layouts.now }
     ensures { result ≡ var_granules p.now.types v.now }
 {
     if v.simple {
         0
     } else {
-        parts(owned(size_of(p, v.of)).length)
+        parts(owned(size_of(layouts, p, v.of)).length)
     }
 }
 
-fn fun_granules(p: &Typed, f: &FunDef) -> u64
+fn fun_granules(layouts: &Layouts, p: &Typed, f: &FunDef) -> u64
+    requires { AreLayoutsOf p.now.types layouts.now }
     ensures { result ≡ counted (fun_granules p.now.types f.now) }
 {
     let vars = f.vars.as_slice();
     let mut total: u64 = 0;
     for v in vars {
-        total = total.saturating_add(var_granules(p, v));
+        total = total.saturating_add(var_granules(layouts, p, v));
     }
     total
 }
@@ -50,13 +54,14 @@ fn fun_granules(p: &Typed, f: &FunDef) -> u64
 /// How many parts of 16 bytes, rounded up for each object, all locals that are objects have. A count of 2^64 or more is 2^64 - 1
 /// here. A type without a layout counts nothing.
 #[tactic(auto, unfolding(c_tree::specs::Counts::granules))]
-pub fn granules(p: &Typed) -> u64
+pub fn granules(layouts: &Layouts, p: &Typed) -> u64
+    requires { AreLayoutsOf p.now.types layouts.now }
     ensures { result ≡ counted (granules p.now) }
 {
     let funs = p.funs.as_slice();
     let mut total: u64 = 0;
     for f in funs {
-        total = total.saturating_add(fun_granules(p, f));
+        total = total.saturating_add(fun_granules(layouts, p, f));
     }
     total
 }
@@ -71,61 +76,67 @@ fn is_record(p: &Typed, t: u32) -> bool
     }
 }
 
-fn copied(p: &Typed, t: u32) -> u64
+fn copied(layouts: &Layouts, p: &Typed, t: u32) -> u64
+    requires { AreLayoutsOf p.now.types layouts.now }
     ensures { result ≡ copied p.now.types t }
 {
     if is_record(p, t) {
-        parts(size_of(p, t))
+        parts(size_of(layouts, p, t))
     } else {
         0
     }
 }
 
-fn expr_copies(p: &Typed, e: &Expr) -> u64
+fn expr_copies(layouts: &Layouts, p: &Typed, e: &Expr) -> u64
+    requires { AreLayoutsOf p.now.types layouts.now }
     ensures { result ≡ expr_copies p.now.types e.now }
 {
     match e.kind {
-        ExprKind::Assign(_, _) => copied(p, e.of),
+        ExprKind::Assign(_, _) => copied(layouts, p, e.of),
         _ => 0,
     }
 }
 
-fn value_copies(p: &Typed, value: u32) -> u64
+fn value_copies(layouts: &Layouts, p: &Typed, value: u32) -> u64
+    requires { AreLayoutsOf p.now.types layouts.now }
     ensures { result ≡ value_copies p.now.types (slice_get p.now.exprs value) }
 {
     match p.exprs.as_slice().get(value as usize) {
         None => 0,
-        Some(e) => copied(p, e.of),
+        Some(e) => copied(layouts, p, e.of),
     }
 }
 
-fn stmt_copies(p: &Typed, s: &Stmt) -> u64
+fn stmt_copies(layouts: &Layouts, p: &Typed, s: &Stmt) -> u64
+    requires { AreLayoutsOf p.now.types layouts.now }
     ensures { result ≡ stmt_copies p.now.types p.now.exprs s.now }
 {
     match s.kind {
-        StmtKind::Init { value, .. } => value_copies(p, value),
+        StmtKind::Init { value, .. } => value_copies(layouts, p, value),
         _ => 0,
     }
 }
 
-fn exprs_copies(p: &Typed) -> u64
+fn exprs_copies(layouts: &Layouts, p: &Typed) -> u64
+    requires { AreLayoutsOf p.now.types layouts.now }
     ensures { result ≡ counted (sum_by (expr_copies p.now.types) p.now.exprs) }
 {
     let exprs = p.exprs.as_slice();
     let mut total: u64 = 0;
     for e in exprs {
-        total = total.saturating_add(expr_copies(p, e));
+        total = total.saturating_add(expr_copies(layouts, p, e));
     }
     total
 }
 
-fn stmts_copies(p: &Typed) -> u64
+fn stmts_copies(layouts: &Layouts, p: &Typed) -> u64
+    requires { AreLayoutsOf p.now.types layouts.now }
     ensures { result ≡ counted (sum_by (stmt_copies p.now.types p.now.exprs) p.now.stmts) }
 {
     let stmts = p.stmts.as_slice();
     let mut total: u64 = 0;
     for s in stmts {
-        total = total.saturating_add(stmt_copies(p, s));
+        total = total.saturating_add(stmt_copies(layouts, p, s));
     }
     total
 }
@@ -133,8 +144,9 @@ fn stmts_copies(p: &Typed) -> u64
 /// How many parts of 16 bytes, rounded up for each copy, are copied by the assignments of structs and unions and by the
 /// initialisations from their values. A count of 2^64 or more is 2^64 - 1 here.
 #[tactic(auto, unfolding(c_tree::specs::Counts::copies))]
-pub fn copies(p: &Typed) -> u64
+pub fn copies(layouts: &Layouts, p: &Typed) -> u64
+    requires { AreLayoutsOf p.now.types layouts.now }
     ensures { result ≡ counted (copies p.now) }
 {
-    exprs_copies(p).saturating_add(stmts_copies(p))
+    exprs_copies(layouts, p).saturating_add(stmts_copies(layouts, p))
 }
