@@ -77,12 +77,12 @@ entries_inside from size place [] a b h k d l = absurd (omega arith)
 entries_inside from size place (c ∷ cs) a b h zero d l = record { aligned = a; above = b; below = omega arith }
 entries_inside from size place (c ∷ cs) a b h (suc k) d l = entries_inside from size (place + 16) cs (omega arith) (omega arith) (omega arith) k d (omega arith)
 
-all_map : {A B : Type 0} (P : B → Type 0) (f : A → B) (xs : List A) → ((k : ℕ) (x : A) → slice_get xs k ≡ Some x → P (f x)) → All P (map f xs)
+pub all_map : {A B : Type 0} (P : B → Type 0) (f : A → B) (xs : List A) → ((k : ℕ) (x : A) → slice_get xs k ≡ Some x → P (f x)) → All P (map f xs)
 all_map P f [] h k d l = absurd (omega arith)
 all_map P f (x ∷ xs) h zero d l = h 0 x refl
 all_map P f (x ∷ xs) h (suc k) d l = all_map P f xs (λ j y e. h (suc j) y e) k d (omega arith)
 
-all_pairs : {X B : Type 0} (P : B → Type 0) (f : X × ℕ → List B) (xs : List X) (bs : List ℕ) → ((k : ℕ) (x : X) → slice_get xs k ≡ Some x → All P (f (x, get_or bs k 0))) → All P (flat_map f (zip xs bs))
+pub all_pairs : {X B : Type 0} (P : B → Type 0) (f : X × ℕ → List B) (xs : List X) (bs : List ℕ) → ((k : ℕ) (x : X) → slice_get xs k ≡ Some x → All P (f (x, get_or bs k 0))) → All P (flat_map f (zip xs bs))
 all_pairs P f [] bs h = All-nil P
 all_pairs P f (x ∷ xs) [] h = All-nil P
 all_pairs P f (x ∷ xs) (b ∷ bs) h = All-append P (f (x, b)) (flat_map f (zip xs bs)) (h 0 x refl) (all_pairs P f xs bs (λ k y e. h (suc k) y e))

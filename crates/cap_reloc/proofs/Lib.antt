@@ -1,9 +1,11 @@
 pub mod Contents
+pub mod Fitted
 pub mod Consts
 pub mod Inside
 pub mod Maps
 pub mod Objects
 pub mod Pairs
+pub mod Pointing
 pub mod Rows
 pub mod Sizes
 pub mod Starts

@@ -49,7 +49,7 @@ unfolding permissions_in
 either_permissions true x y q e f = e
 either_permissions false x y q e f = f
 
-need_permissions : (o : Option Extent) (q : ℕ) → (need_by o q).permissions ≡ q
+pub need_permissions : (o : Option Extent) (q : ℕ) → (need_by o q).permissions ≡ q
 unfolding permissions_in
 need_permissions None q = refl
 need_permissions (Some x) q = either_permissions (nat_le x.size size_limit) (record { length = x.size; align = x.align; permissions = q }) (nothing_of q) q refl refl
@@ -145,7 +145,7 @@ module _ (p : Typed) (m : Map) (legal : Legal p m) where
       let l = pairs_length literal_pointer p.literals m.literals literals_length in
       omega (arith, length-append (map (global_pointer p.types) (zip p.globals m.globals)) (map literal_pointer (zip p.literals m.literals)))
 
-  front_at : (k : ℕ) (d : Pointer) → k < length (object_pointers p m) → get_or (table_pointers p m) k d ≡ get_or (object_pointers p m) k d
+  pub front_at : (k : ℕ) (d : Pointer) → k < length (object_pointers p m) → get_or (table_pointers p m) k d ≡ get_or (object_pointers p m) k d
   unfolding table_pointers
   front_at k d h =
       let l = length-append (object_pointers p m) (map (sentry m) m.entries) in
@@ -165,7 +165,7 @@ module _ (p : Typed) (m : Map) (legal : Legal p m) where
   map_at (e ∷ es) zero d h = refl
   map_at (e ∷ es) (suc f) d h = map_at es f d (omega arith)
 
-  function_at : (f : ℕ) (d : Pointer) → f < length p.funs → get_or (table_pointers p m) (length p.globals + length p.literals + f) d ≡ sentry m (get_or m.entries f 0)
+  pub function_at : (f : ℕ) (d : Pointer) → f < length p.funs → get_or (table_pointers p m) (length p.globals + length p.literals + f) d ≡ sentry m (get_or m.entries f 0)
   unfolding table_pointers
   function_at f d h =
       let o = objects_length in

@@ -1,4 +1,5 @@
 pub mod Begins
 pub mod Initial
+pub mod Stored
 pub mod Pointers
 pub mod Levels

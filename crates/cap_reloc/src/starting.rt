@@ -7,6 +7,7 @@ ghost use Rattle.obj_mem.specs.Needs.{Legal};
 ghost use Rattle.obj_mem.specs.Table.{table_length};
 ghost use Rattle.cap_reloc.specs.Begins.{asked_by, beginning, IsRelocation, IsInside};
 ghost use Rattle.cap_reloc.specs.Initial.{AreInitial, ObjectsBegin};
+ghost use Rattle.cap_reloc.specs.Stored.{IsPointer};
 
 use crate::beginning::Table;
 use crate::bytes::{initial_bytes, stretch_of};
@@ -31,6 +32,9 @@ pub fn table(alloc: Global, m: &Map, p: &Typed) -> Result<Table, NoMemory>
     // Each relocation is that of what begins at its place, and stores the bits of that value.
     ensures relocs { IfOk result (λ t. Paired (IsRelocation m.now) (beginning p.now m.now) t.relocs.items) }
     ensures places { IfOk result (λ t. All (IsInside t.base (length t.bytes.items)) t.relocs.items) }
+
+    // A machine can store it as it is; it is the sentry of an entry, or a pointer without Execute whose bounds lie off the text.
+    ensures pointers { IfOk result (λ t. All (IsPointer m.now) t.relocs.items) }
     ensures bytes { IfOk result (λ t. AreInitial p.now m.now t.base t.bytes.items) }
 
     // The bytes of each object, and of the table, are in particular these.

@@ -13,6 +13,8 @@ use Rattle.obj_mem.specs.Needs.{Legal}
 use Rattle.cap_reloc.specs.Initial.{contents, byte_of, lowest, highest, AreInitial}
 use Rattle.cap_reloc.proofs.Inside.{all_inside}
 use Rattle.cap_reloc.proofs.Objects.{objects_begin}
+use Rattle.cap_reloc.proofs.Pointing.{all_point}
+use Rattle.cap_reloc.specs.Stored.{IsPointer}
 use Rattle.std.specs.Prelude.{slice_index}
 use Rattle.cap_reloc.specs.Pointers.{extent_of, entries, entry_of, link_relocs, object_pointers}
 use Rattle.cap_reloc.proofs.Under.{globals_length, literals_length, objects_below, all_there, few, all_extents, globals_lie, literals_lie, relocations_are}
@@ -100,3 +102,12 @@ returns-clause-places c =
     c.stretch_of-stretch.ensures.from c.stretch_of-stretch.ensures.to c.in_ok-bytes.ensures.length c.in_ok-bytes.ensures.each in
     subst (λ rs. All (IsInside c.stretch_of-stretch.result.base (length c.in_ok-bytes.bytes.items)) rs) (sym is)
     (all_inside p m c.requires.legal (well_typed c.args.p.now c.requires.sound) c.requires.length c.stretch_of-stretch.result.base c.in_ok-bytes.bytes.items i)
+
+pub returns-clause-pointers : goal.returns-clause-pointers
+returns-clause-pointers c =
+    let p = c.args.p.now in
+    let m = c.args.m.now in
+    let e = c.deref-2.ensures.value ∙ c.in_ok-put_functions.ensures c.in_ok-pointers.ensures in
+    let is = c.in_ok-relocs.ensures ∙ ap (λ cs. entries m.table.0 cs ++ flat_map (link_relocs p cs) (zip p.globals m.globals)) e in
+    let typed = c.requires.sound.types.types in
+    subst (All (IsPointer m)) (sym is) (all_point p typed.program typed.shows (well_typed p c.requires.sound) m c.requires.legal)
