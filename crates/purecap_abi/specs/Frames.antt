@@ -13,7 +13,6 @@ use Rattle.purecap_abi.specs.Placing.{greatest_of}
 
 -- the owned length and the alignment of a local: a power of two, at least 16, which divides the length where it is above 16
 pub record IsLocal (o : Owned) : Type 0 where
-  pub some : 1 ≤ o.length
   pub power : (k : ℕ) × (o.align ≡ 2 ^ k)
   pub least : 16 ≤ o.align
   pub multiple : 16 < o.align → o.length % o.align ≡ 0
