@@ -25,10 +25,13 @@ all_get P (y ∷ ys) h (suc k) x e = all_get P ys (All-tail P y ys h) k x e
 some_function : (p : Typed) → WellTyped p → 0 < length p.funs
 some_function p w = omega (arith, slice_get_within p.funs p.main w.main.main w.main.there)
 
-pub some_word : (p : Typed) → WellTyped p → (words : ℕ) (entries : List ℕ) → length entries ≡ length p.funs → AreEntries words entries → 0 < words
+pub some_word : (p : Typed) → WellTyped p → (words : ℕ) (entries : List ℕ) → length entries ≡ length p.funs
+    → AreEntries words entries → 0 < words
 some_word p w words entries n h = omega (arith, h.inside 0 (omega (arith, some_function p w, n)))
 
-pub coded_of : (p : Typed) (code : List Instr) (start : ℕ) (lines : List Line) → weight p ≤ 7780 → 4 * length code ≤ 128 * weight p + 4096 → IsText code lines → start ≡ 0 → 0 < length code → IsCoded p code start lines
+pub coded_of : (p : Typed) (code : List Instr) (start : ℕ) (lines : List Line) → weight p ≤ 7780
+    → 4 * length code ≤ 128 * weight p + 4096 → IsText code lines → start ≡ 0 → 0 < length code
+    → IsCoded p code start lines
 coded_of p code start lines light size text at some =
     let rules = rules_from_test 0 (4 * length code) lines text.lines in
     record {
@@ -42,7 +45,8 @@ coded_of p code start lines light size text at some =
       kinds = rules.2;
     }
 
-pub offsets_of : (words size : ℕ) (entries : List ℕ) → AreEntries words entries → 4 * words ≤ size → AreOffsets entries size
+pub offsets_of : (words size : ℕ) (entries : List ℕ) → AreEntries words entries → 4 * words ≤ size
+    → AreOffsets entries size
 offsets_of words size entries h room = record {
   multiple = λ f at e. let i = index f at e in ap (λ n. n % 4) (sym i.1) ∙ h.whole f i.0;
   below = λ f at e. let i = index f at e in omega (arith, i.1, h.inside f i.0, room);

@@ -1,13 +1,14 @@
--- A program of the form has no objects among its locals, and copies no structs.
-use Rattle.std.proofs.Common.{◌≡◌, ℕ, zero, suc, ◌+◌, ◌*◌, ◌%◌, ◌<◌, ◌≤◌, true, List, [], ◌∷◌, ◌++◌, length, Option, Some, None, refl, sym, ap, ◌∙◌, subst, arith, ⊎_elim}
+-- The parts of 16 bytes of a program's objects and copies: few of any program, and none of one of the form.
+use Rattle.std.proofs.Common.{◌≡◌, ℕ, suc, ◌+◌, ◌*◌, ◌≤◌, Bool, true, false, List, [], ◌∷◌, length, Option, Some, None, refl, ap, ◌∙◌, arith, ⊎_elim}
 use Rattle.std.specs.Prelude.{slice_get, sum_by, if◌then◌else◌}
 use Rattle.std.specs.List.{list_all}
+use Rattle.std.proofs.lemmas.Bool.Decides.{nat_tests}
 use Rattle.std.proofs.lemmas.List.Sums.{sum_by-cons}
-use Rattle.std.proofs.lemmas.Option.{slice_get_within}
 use Rattle.cap_concentrate.specs.Rounding.{owned}
-use Rattle.bounds_place.specs.Placing.{AreOffsets}
+use Rattle.cap_concentrate.proofs.Owned.{owned_small}
 use Rattle.c_tree.specs.Counts.{var_granules, fun_granules, granules, copied, expr_copies, kind_copies, value_copies, init_copies, stmt_copies, copies, is_record, parts, size_of}
-use Rattle.c_tree.specs.Layout.{extent}
+use Rattle.c_tree.specs.Layout.{Extent, extent, bare, size_limit}
+use Rattle.c_tree.specs.Weight.{kind_weight, expr_weight, stmt_weight, fun_weight, weight}
 use Rattle.c_tree.specs.declared.typed.CType.{CType}
 use Rattle.c_tree.specs.declared.typed.Expr.{Expr}
 use Rattle.c_tree.specs.declared.typed.ExprKind.{ExprKind}
@@ -21,7 +22,8 @@ use Rattle.int_lower.proofs.Assembled.{form_expressions}
 use Rattle.int_lower.proofs.Alone.{alone}
 use Rattle.int_lower.proofs.Trees.{all_get, and_both, or_one, bare_plain, void_bare}
 
-no_granules_in : (types : List CType) (vs : List VarDef) → list_all (is_form_variable types) vs ≡ true → sum_by (var_granules types) vs ≡ 0
+no_granules_in : (types : List CType) (vs : List VarDef) → list_all (is_form_variable types) vs ≡ true
+    → sum_by (var_granules types) vs ≡ 0
 no_granules_in types [] h = refl
 no_granules_in types (v ∷ vs) h =
     let here = and_both (is_form_variable types v) (list_all (is_form_variable types) vs) h in
@@ -34,7 +36,8 @@ no_granules p h =
     let a = alone p h in
     ap (sum_by (fun_granules p.types)) a.only ∙ sum_by-cons (fun_granules p.types) a.d [] ∙ (let q = no_granules_in p.types a.d.vars a.simple in omega (arith, q))
 
-all_zero : {A : Type 0} (f : A → ℕ) (xs : List A) → ((k : ℕ) (x : A) → slice_get xs k ≡ Some x → f x ≡ 0) → sum_by f xs ≡ 0
+all_zero : {A : Type 0} (f : A → ℕ) (xs : List A) → ((k : ℕ) (x : A) → slice_get xs k ≡ Some x → f x ≡ 0)
+    → sum_by f xs ≡ 0
 all_zero f [] h = refl
 all_zero f (x ∷ xs) h = omega (arith, sum_by-cons f x xs, h 0 x refl, all_zero f xs (λ k y e. h (suc k) y e))
 
@@ -72,39 +75,78 @@ module _ (p : Typed) (h : is_integer_form p ≡ true) where
       let s = all_zero (stmt_copies p.types p.exprs) p.stmts (λ k x at. of_init x.kind) in
       omega (arith, e, s)
 
--- ---- offsets of 4 bytes for each function
+-- ---- how many there are of any program
 
-offset-last : (xs : List ℕ) (x j at n : ℕ) → ((i a : ℕ) → slice_get xs i ≡ Some a → a ≡ 4 * (i + n)) → x ≡ 4 * (length xs + n) → slice_get (xs ++ x ∷ []) j ≡ Some at → at ≡ 4 * (j + n)
-offset-last [] x zero at n h e g = let q : x ≡ at = cc in omega arith
-offset-last [] x (suc j) at n h e g = absurd cc
-offset-last (y ∷ xs) x zero at n h e g = h 0 at g
-offset-last (y ∷ xs) x (suc j) at n h e g =
-    offset-last xs x j at (n + 1) (λ i a q. h (suc i) a q ∙ (let z : 4 * (suc i + n) ≡ 4 * (i + (n + 1)) = omega arith in z)) (e ∙ (let z : 4 * (length (y ∷ xs) + n) ≡ 4 * (length xs + (n + 1)) = omega arith in z)) g
-    ∙ (let z : 4 * (j + (n + 1)) ≡ 4 * (suc j + n) = omega arith in z)
+sum_most : {A : Type 0} (f : A → ℕ) (most : ℕ) (xs : List A) → ((x : A) → f x ≤ most) → sum_by f xs ≤ most * length xs
+sum_most f most [] h = omega arith
+sum_most f most (x ∷ xs) h =
+    let e : most * length (x ∷ xs) ≡ most + most * length xs = omega arith in
+    omega (arith, sum_by-cons f x xs, h x, sum_most f most xs h)
 
-pub offset-more : (xs : List ℕ) (x j at : ℕ) → ((i a : ℕ) → slice_get xs i ≡ Some a → a ≡ 4 * i) → x ≡ 4 * length xs → slice_get (xs ++ x ∷ []) j ≡ Some at → at ≡ 4 * j
-offset-more xs x j at h e g = offset-last xs x j at 0 (λ i a q. h i a q ∙ (let z : 4 * i ≡ 4 * (i + 0) = omega arith in z)) (e ∙ (let z : 4 * length xs ≡ 4 * (length xs + 0) = omega arith in z)) g ∙ (let z : 4 * (j + 0) ≡ 4 * j = omega arith in z)
+sum_weighed : {A : Type 0} (f g : A → ℕ) (most : ℕ) (xs : List A) → ((x : A) → f x ≤ most * g x)
+    → sum_by f xs ≤ most * sum_by g xs
+sum_weighed f g most [] h = omega arith
+sum_weighed f g most (x ∷ xs) h =
+    let e : most * (g x + sum_by g xs) ≡ most * g x + most * sum_by g xs = omega arith in
+    let s = ap (λ v. most * v) (sum_by-cons g x xs) in
+    omega (arith, sum_by-cons f x xs, h x, sum_weighed f g most xs h)
 
--- offsets that are these lie in a text of so many bytes
-pub are_offsets : (xs : List ℕ) → length xs ≤ 67108864 → ((i a : ℕ) → slice_get xs i ≡ Some a → a ≡ 4 * i) → AreOffsets xs 268435456
-are_offsets xs few h = record {
-  multiple = λ f at e. let q = h f at e in omega arith;
-  below = λ f at e. let q = h f at e in let lt = slice_get_within xs f at e in omega arith;
-  distinct = λ f g at e k. let q = h f at e in let r = h g at k in omega arith;
-}
+size_most : (o : Option Extent) → size_of o ≤ size_limit
+size_most None = omega arith
+size_most (Some x) = grind (arith, nat_tests)
 
--- those of one function
-pub one_offset : (start size : ℕ) → start % 4 ≡ 0 → start < size → AreOffsets (start ∷ []) size
-one_offset start size even lt = record {
-  multiple = λ f at e. ap (λ n. n % 4) (sym (is f at e)) ∙ even;
-  below = λ f at e. subst (λ n. n < size) (is f at e) lt;
-  distinct = λ f g at e k. first f at e ∙ sym (first g at k);
-}
-  where
-    is : (f at : ℕ) → slice_get (start ∷ []) f ≡ Some at → start ≡ at
-    is zero at e = cc
-    is (suc f) at e = absurd cc
+either_most : (b : Bool) (n most : ℕ) → n ≤ most → (if b then n else 0) ≤ most
+either_most true n most h = h
+either_most false n most h = omega arith
 
-    first : (f at : ℕ) → slice_get (start ∷ []) f ≡ Some at → f ≡ 0
-    first zero at e = refl
-    first (suc f) at e = absurd cc
+neither_most : (b : Bool) (n most : ℕ) → n ≤ most → (if b then 0 else n) ≤ most
+neither_most true n most h = omega arith
+neither_most false n most h = h
+
+var_most : (types : List CType) (v : VarDef) → var_granules types v ≤ 4194304
+var_most types v =
+    let own = owned_small (size_of (extent types v.of)) (omega (arith, size_most (extent types v.of))) in
+    neither_most v.simple (parts (owned (size_of (extent types v.of)))) 4194304 (omega (arith, own))
+
+copied_most : (types : List CType) (t : ℕ) → copied types t ≤ 4194304
+copied_most types t =
+    either_most (is_record (bare types t)) (parts (size_of (extent types t))) 4194304
+    (omega (arith, size_most (extent types t)))
+
+kind_most : (types : List CType) (k : ExprKind) (t : ℕ) → kind_copies types k t ≤ 4194304
+kind_most types (exprs.Assign a b) t = copied_most types t
+kind_most types k t = omega arith
+
+value_most : (types : List CType) (o : Option Expr) → value_copies types o ≤ 4194304
+value_most types None = omega arith
+value_most types (Some e) = copied_most types e.of
+
+init_most : (types : List CType) (es : List Expr) (k : StmtKind) → init_copies types es k ≤ 4194304
+init_most types es (stmts.Init x offset a) = value_most types (slice_get es a)
+init_most types es k = omega arith
+
+kind_weighs : (k : ExprKind) → 1 ≤ kind_weight k
+kind_weighs (exprs.Call f xs) = omega arith
+kind_weighs (exprs.Library n xs) = omega arith
+kind_weighs k = omega arith
+
+-- a program has at most 4,194,304 parts of 16 bytes for each unit of its weight
+pub few_granules : (p : Typed) → granules p ≤ 4194304 * weight p
+unfolding granules weight
+few_granules p =
+    omega (
+      arith,
+      sum_weighed (fun_granules p.types) fun_weight 4194304 p.funs
+          (λ f. omega (arith, sum_most (var_granules p.types) 4194304 f.vars (var_most p.types))),
+    )
+
+pub few_copies : (p : Typed) → copies p ≤ 4194304 * weight p
+unfolding copies weight
+few_copies p =
+    omega (
+      arith,
+      sum_weighed (expr_copies p.types) expr_weight 4194304 p.exprs
+          (λ e. omega (arith, kind_most p.types e.kind e.of, kind_weighs e.kind)),
+      sum_weighed (stmt_copies p.types p.exprs) stmt_weight 4194304 p.stmts
+          (λ s. omega (arith, init_most p.types p.exprs s.kind)),
+    )

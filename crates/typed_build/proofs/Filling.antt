@@ -12,7 +12,9 @@ front : {A : Type 0} (xs : List A) (k : ℕ) (d : A) → k < length xs → drop 
 front xs k d lt = drop-cons xs k d lt ∙ ap (λ n. get_or xs k d ∷ drop n xs) (let q : suc k ≡ k + 1 = omega arith in q)
 
 -- the bytes of one instruction more
-pub pushed-more : (o o1 start : List ℕ) (code : List Instr) (i : Instr) (k : ℕ) → k < length code → i ≡ get_or code k i → o1 ≡ o ++ instr_bytes i → o ++ code_bytes (drop k code) ≡ start → o1 ++ code_bytes (drop (k + 1) code) ≡ start
+pub pushed-more : (o o1 start : List ℕ) (code : List Instr) (i : Instr) (k : ℕ) → k < length code
+    → i ≡ get_or code k i → o1 ≡ o ++ instr_bytes i → o ++ code_bytes (drop k code) ≡ start
+    → o1 ++ code_bytes (drop (k + 1) code) ≡ start
 pushed-more o o1 start code i k lt is e h =
     ap (λ t. t ++ code_bytes (drop (k + 1) code)) e
     ∙ append_assoc o (instr_bytes i) (code_bytes (drop (k + 1) code))
@@ -21,7 +23,8 @@ pushed-more o o1 start code i k lt is e h =
     ∙ h
 
 -- a word more of the filling
-pub filled-more : (o o1 start : List ℕ) (count k : ℕ) → k < count → o1 ≡ o ++ instr_bytes (Cjal 0 (pos 0)) → o ++ code_bytes (filler (count - k)) ≡ start → o1 ++ code_bytes (filler (count - (k + 1))) ≡ start
+pub filled-more : (o o1 start : List ℕ) (count k : ℕ) → k < count → o1 ≡ o ++ instr_bytes (Cjal 0 (pos 0))
+    → o ++ code_bytes (filler (count - k)) ≡ start → o1 ++ code_bytes (filler (count - (k + 1))) ≡ start
 filled-more o o1 start count k within e h =
     let step : count - k ≡ suc (count - (k + 1)) = omega arith in
     ap (λ t. t ++ code_bytes (filler (count - (k + 1)))) e
@@ -30,7 +33,9 @@ filled-more o o1 start count k within e h =
     ∙ h
 
 -- one frame more
-pub framed-more : (o o1 all : List Frame) (fs : List TacFun) (f : TacFun) (k : ℕ) → k < length fs → f ≡ get_or fs k f → o1 ≡ o ++ frame_of f ∷ [] → o ++ map frame_of (drop k fs) ≡ all → o1 ++ map frame_of (drop (k + 1) fs) ≡ all
+pub framed-more : (o o1 all : List Frame) (fs : List TacFun) (f : TacFun) (k : ℕ) → k < length fs
+    → f ≡ get_or fs k f → o1 ≡ o ++ frame_of f ∷ [] → o ++ map frame_of (drop k fs) ≡ all
+    → o1 ++ map frame_of (drop (k + 1) fs) ≡ all
 framed-more o o1 all fs f k lt is e h =
     ap (λ t. t ++ map frame_of (drop (k + 1) fs)) e
     ∙ append_assoc o (frame_of f ∷ []) (map frame_of (drop (k + 1) fs))

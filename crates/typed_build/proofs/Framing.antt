@@ -32,14 +32,16 @@ slot_below : (n m : ℕ) → n ≡ m → (h : Home) → alloc.IsSlotBelow n h �
 slot_below n m e (Register r) b = tt
 slot_below n m e (Slot s) b = omega (arith, b, e)
 
-pub has_homes : (f : TacFun) (n : ℕ) (homes : List Home) → n ≡ f.temps → length homes ≡ n → All (alloc.IsSlotBelow n) homes → HasHomes f homes
+pub has_homes : (f : TacFun) (n : ℕ) (homes : List Home) → n ≡ f.temps → length homes ≡ n
+    → All (alloc.IsSlotBelow n) homes → HasHomes f homes
 has_homes f n homes e long slots = record { len = long ∙ e; slots = All-weaker (alloc.IsSlotBelow n) (IsSlotBelow f.temps) (slot_below n f.temps e) homes slots }
 
 slot_same : (n m : ℕ) → n ≡ m → (h : Home) → IsSlotBelow n h → IsSlotBelow m h
 slot_same n m e (Register r) b = tt
 slot_same n m e (Slot s) b = omega (arith, b, e)
 
-pub are_homes : (f : TacFun) (homes : List Home) (w : ℕ) → HasHomes f homes → FunctionCosts w f → w ≤ 7780 → AreHomes homes
+pub are_homes : (f : TacFun) (homes : List Home) (w : ℕ) → HasHomes f homes → FunctionCosts w f → w ≤ 7780
+    → AreHomes homes
 are_homes f homes w h c light = record {
   slots = All-weaker (IsSlotBelow f.temps) (IsSlotBelow (length homes)) (slot_same f.temps (length homes) (sym h.len)) homes h.slots;
   few = omega (arith, h.len, c.temps, light);
@@ -47,8 +49,10 @@ are_homes f homes w h c light = record {
 
 -- ---- one frame
 
-pub frame_fits : (p : Typed) (d : FunDef) (f : TacFun) (l : Places) (g : Frame) → HasHomes f l.homes → FunctionCosts (function_weight p d) f
-    → HasFrame (map Rattle.bounds_place.specs.Rows.owned_need (local_needs p.types d)) l.homes (outgoing f.code) g → IsFor l.homes g → FrameFits p d l g
+pub frame_fits : (p : Typed) (d : FunDef) (f : TacFun) (l : Places) (g : Frame) → HasHomes f l.homes
+    → FunctionCosts (function_weight p d) f
+    → HasFrame (map Rattle.bounds_place.specs.Rows.owned_need (local_needs p.types d)) l.homes (outgoing f.code) g
+    → IsFor l.homes g → FrameFits p d l g
 frame_fits p d f l g h c has own = record {
   legal = has.legal (record { locals = local_needs p.types d; weight = function_weight p d }) refl (omega (arith, h.len, c.temps));
   framed = own;
@@ -71,7 +75,9 @@ frames_from p k (d ∷ ds) (g ∷ gs) n h =
           (ap (weight_in p) (let z : suc k + j ≡ k + suc j = omega arith in z) ∙ next.0, next.1)),
     )
 
-pub are_frames : (p : Typed) (places : List Places) (frames : List Frame) → length places ≡ length p.funs → length frames ≡ length p.funs → FramesFit p places frames → AreFrames (function_needs p.types (weight_in p) 0 p.funs) frames
+pub are_frames : (p : Typed) (places : List Places) (frames : List Frame) → length places ≡ length p.funs
+    → length frames ≡ length p.funs → FramesFit p places frames
+    → AreFrames (function_needs p.types (weight_in p) 0 p.funs) frames
 are_frames p places frames m n h =
     frames_from p 0 p.funs frames n (λ j d g a b.
     let lt = slice_get_within p.funs j d a in
@@ -79,7 +85,9 @@ are_frames p places frames m n h =
     let own : weight_in p (0 + j) ≡ function_weight p d = ap (weight_in p) (let z : 0 + j ≡ j = omega arith in z) ∙ ap (weight_by p) a in
     (own, (h j d l.0 g a l.1 b).legal))
 
-pub framed : (p : Typed) (places : List Places) (frames : List Frame) → length places ≡ length p.funs → FramesFit p places frames → (k : ℕ) (l : Places) (g : Frame) → slice_get places k ≡ Some l → slice_get frames k ≡ Some g → IsFor l.homes g
+pub framed : (p : Typed) (places : List Places) (frames : List Frame) → length places ≡ length p.funs
+    → FramesFit p places frames → (k : ℕ) (l : Places) (g : Frame) → slice_get places k ≡ Some l
+    → slice_get frames k ≡ Some g → IsFor l.homes g
 framed p places frames m h k l g a b =
     let lt = slice_get_within places k l a in
     let d = there p.funs k (omega (arith, lt, m)) in

@@ -71,12 +71,15 @@ sides t map loaded = record {
   report = report loaded.image;
 }
 
-same_count : (p r : Typed) (q : Program) → IsOrdered p → IsOrdered r → is_integer_form p ≡ true → is_integer_form r ≡ true → Shows p q → Shows r q → count_of p ≡ count_of r
+same_count : (p r : Typed) (q : Program) → IsOrdered p → IsOrdered r → is_integer_form p ≡ true
+    → is_integer_form r ≡ true → Shows p q → Shows r q → count_of p ≡ count_of r
 unfolding count_of
 same_count p r q o u f g s t =
     omega (arith, weight_of_program p q o s, weight_of_program r q u t, no_granules p f, no_granules r g, no_copies p f, no_copies r g)
 
-pub built_same : (p r : Typed) (q : Program) → IsOrdered p → IsOrdered r → is_integer_form p ≡ true → is_integer_form r ≡ true → Shows p q → Shows r q → (file : List ℕ) (m : Map) (count : ℕ) → IsBuilt p file m count → IsBuilt r file m count
+pub built_same : (p r : Typed) (q : Program) → IsOrdered p → IsOrdered r → is_integer_form p ≡ true
+    → is_integer_form r ≡ true → Shows p q → Shows r q → (file : List ℕ) (m : Map) (count : ℕ)
+    → IsBuilt p file m count → IsBuilt r file m count
 built_same p r q o u f g s t file m count h =
     let one = only_routine p f q s in
     let needs = needs_are p f q s one.0 one.1 ∙ sym (needs_are r g q t one.0 one.1) in

@@ -31,7 +31,8 @@ not_empty : (n : ℕ) → 0 < n → eqb n 0 ≡ false
 not_empty n h = grind (arith, nat_tests)
 
 -- an extent that isn't empty has a region among those that it was added to
-with_is : (e : Extent) (rs : List Region) → 0 < e.1 → with_region e rs ≡ insert rs (prefix_len (λ r. nat_lt r.base e.0) rs) (region_of e)
+with_is : (e : Extent) (rs : List Region) → 0 < e.1
+    → with_region e rs ≡ insert rs (prefix_len (λ r. nat_lt r.base e.0) rs) (region_of e)
 unfolding with_region
 with_is e rs some = ap (λ b. cond b rs (insert rs (prefix_len (λ r. nat_lt r.base e.0) rs) (region_of e))) (not_empty e.1 some)
 
@@ -50,12 +51,14 @@ or_cases false b h = inr h
 abbrev has : ℕ → Region → Bool
 has x r = nat_le r.base x && nat_lt x (r.base + r.length)
 
-inserted_here : (rs : List Region) (k : ℕ) (r : Region) (x : ℕ) → k ≤ length rs → has x r ≡ true → lies_in (insert rs k r) x ≡ true
+inserted_here : (rs : List Region) (k : ℕ) (r : Region) (x : ℕ) → k ≤ length rs → has x r ≡ true
+    → lies_in (insert rs k r) x ≡ true
 inserted_here rs zero r x le h = or_left (has x r) (lies_in rs x) h
 inserted_here [] (suc k) r x le h = absurd (omega arith)
 inserted_here (q ∷ rs) (suc k) r x le h = or_right (has x q) _ (inserted_here rs k r x (omega arith) h)
 
-inserted_other : (rs : List Region) (k : ℕ) (r : Region) (x : ℕ) → lies_in rs x ≡ true → lies_in (insert rs k r) x ≡ true
+inserted_other : (rs : List Region) (k : ℕ) (r : Region) (x : ℕ) → lies_in rs x ≡ true
+    → lies_in (insert rs k r) x ≡ true
 inserted_other rs zero r x h = or_right (has x r) (lies_in rs x) h
 inserted_other [] (suc k) r x h = absurd cc
 inserted_other (q ∷ rs) (suc k) r x h =
@@ -64,7 +67,8 @@ inserted_other (q ∷ rs) (suc k) r x h =
       | inr there ↦ or_right (has x q) (lies_in (insert rs k r) x) (inserted_other rs k r x there)
     ]
 
-pub added_here : (e : Extent) (rs : List Region) (x : ℕ) → 0 < e.1 → e.0 ≤ x → x < end_of e → lies_in (with_region e rs) x ≡ true
+pub added_here : (e : Extent) (rs : List Region) (x : ℕ) → 0 < e.1 → e.0 ≤ x → x < end_of e
+    → lies_in (with_region e rs) x ≡ true
 added_here e rs x some from to =
     subst (λ z. lies_in z x ≡ true) (sym (with_is e rs some))
     (inserted_here rs _ (region_of e) x (prefix_len-le-length (λ r. nat_lt r.base e.0) rs) (both (nat_le e.0 x) (nat_lt x (end_of e)) (le-leb e.0 x from) (lt-ltb x (end_of e) to)))
@@ -82,7 +86,8 @@ added_other e rs x h = by (eqb e.1 0)
     by false = inserted_other rs _ (region_of e) x h
 
 -- the first of the extents fits where it stands
-pub fits_first : (e : Extent) (rs : List Region) → 0 < e.1 → LieFrom 0 (with_region e rs) → fits_inside (fresh (with_region e rs)) e.0 e.1 ≡ true
+pub fits_first : (e : Extent) (rs : List Region) → 0 < e.1 → LieFrom 0 (with_region e rs)
+    → fits_inside (fresh (with_region e rs)) e.0 e.1 ≡ true
 fits_first e rs some lie =
     let k = prefix_len (λ r. nat_lt r.base e.0) rs in
     let all = insert rs k (region_of e) in
@@ -99,13 +104,15 @@ fits_first e rs some lie =
 
 -- ---- writes
 
-written_inside : (m : List Area) (at : ℕ) (new : List ℕ) (tag : Bool) (x : ℕ) → IsMemory m → is_inside (written m at new tag) x ≡ is_inside m x
+written_inside : (m : List Area) (at : ℕ) (new : List ℕ) (tag : Bool) (x : ℕ) → IsMemory m
+    → is_inside (written m at new tag) x ≡ is_inside m x
 written_inside m at new tag x h = elim (cases_Bool (fits_inside m at (length new))) [
   | inl fits ↦ (Writes-written m at new tag h fits).same_inside x
   | inr past ↦ ap (λ m'. is_inside m' x) (written-outside m at new tag past)
 ]
 
-outside : (r : Reloc) (x from size : ℕ) → IsInside from size r → (x < from) ⊎ (from + size ≤ x) → (n : ℕ) → n ≡ 16 → (x < r.place) ⊎ (r.place + n ≤ x)
+outside : (r : Reloc) (x from size : ℕ) → IsInside from size r → (x < from) ⊎ (from + size ≤ x) → (n : ℕ) → n ≡ 16
+    → (x < r.place) ⊎ (r.place + n ≤ x)
 outside r x from size i (inl before) n e = inl (let a = i.above in omega arith)
 outside r x from size i (inr behind) n e = inr (let a = i.below in omega arith)
 
@@ -114,14 +121,16 @@ unfolding relocated
 relocated_memory m [] h = h
 relocated_memory m (r ∷ rs) h = relocated_memory (written m r.place (little_bytes 16 (memory_bits (capability_of r).fields)) true) rs (IsMemory-written m r.place (little_bytes 16 (memory_bits (capability_of r).fields)) true h (small-little_bytes 16 (memory_bits (capability_of r).fields)))
 
-pub relocated_inside : (m : List Area) (rs : List Reloc) (x : ℕ) → IsMemory m → is_inside (relocated m rs) x ≡ is_inside m x
+pub relocated_inside : (m : List Area) (rs : List Reloc) (x : ℕ) → IsMemory m
+    → is_inside (relocated m rs) x ≡ is_inside m x
 unfolding relocated
 relocated_inside m [] x h = refl
 relocated_inside m (r ∷ rs) x h =
     let bytes = little_bytes 16 (memory_bits (capability_of r).fields) in
     relocated_inside (written m r.place bytes true) rs x (IsMemory-written m r.place bytes true h (small-little_bytes 16 (memory_bits (capability_of r).fields))) ∙ written_inside m r.place bytes true x h
 
-pub relocated_other : (m : List Area) (rs : List Reloc) (from size x : ℕ) → IsMemory m → All (IsInside from size) rs → (x < from) ⊎ (from + size ≤ x) → byte_at (relocated m rs) x ≡ byte_at m x
+pub relocated_other : (m : List Area) (rs : List Reloc) (from size x : ℕ) → IsMemory m → All (IsInside from size) rs
+    → (x < from) ⊎ (from + size ≤ x) → byte_at (relocated m rs) x ≡ byte_at m x
 unfolding relocated
 relocated_other m [] from size x h there out = refl
 relocated_other m (r ∷ rs) from size x h there out =
@@ -168,7 +177,9 @@ module _ (i : Image) (fine : judged i ≡ Ok tt) (some : 0 < length i.text) (tex
       ∙ (IsZeroed-fresh (with_region (text_of i) others) lie).inside x ∙ h
 
   -- the bytes of the text
-  pub text_byte : (x : ℕ) → i.text_base ≤ x → x < i.text_base + length i.text → (x < i.initial_base) ⊎ (i.initial_base + length i.initial ≤ x) → byte_at (memory_of i) x ≡ Some (slice_index i.text (x - i.text_base))
+  pub text_byte : (x : ℕ) → i.text_base ≤ x → x < i.text_base + length i.text
+      → (x < i.initial_base) ⊎ (i.initial_base + length i.initial ≤ x)
+      → byte_at (memory_of i) x ≡ Some (slice_index i.text (x - i.text_base))
   unfolding memory_of
   text_byte x from to out =
       relocated_other third i.relocs i.initial_base (length i.initial) x third_memory there out
@@ -176,8 +187,11 @@ module _ (i : Image) (fine : judged i ≡ Ok tt) (some : 0 < length i.text) (tex
       ∙ (Writes-written first i.text_base i.text false first_memory (fits_first (text_of i) others some lie)).bytes_there x from to
 
   -- a word of the text
-  pub text_word : (k v : ℕ) → i.text_base % 16 ≡ 0 → 4 * k + 4 ≤ length i.text → (i.text_base + length i.text ≤ i.initial_base) ⊎ (i.initial_base + length i.initial ≤ i.text_base) → v < 2 ^ 32
-      → ((j : ℕ) → j < 4 → slice_index i.text (4 * k + j) ≡ v / 256 ^ j % 256) → number_at (memory_of i) (i.text_base + 4 * k) 4 ≡ Some v
+  pub text_word : (k v : ℕ) → i.text_base % 16 ≡ 0 → 4 * k + 4 ≤ length i.text
+      → (i.text_base + length i.text ≤ i.initial_base) ⊎ (i.initial_base + length i.initial ≤ i.text_base)
+      → v < 2 ^ 32
+      → ((j : ℕ) → j < 4 → slice_index i.text (4 * k + j) ≡ v / 256 ^ j % 256)
+      → number_at (memory_of i) (i.text_base + 4 * k) 4 ≡ Some v
   unfolding Spells
   text_word k v even room apart below bytes =
       number_at-Spells (memory_of i) (i.text_base + 4 * k) 4 v is_memory (omega arith) (omega arith) (omega arith)

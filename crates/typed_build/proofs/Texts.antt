@@ -73,7 +73,8 @@ is_text words small =
       most = omega (arith, owned_monotone x 1000016 near.1 (lit≤ tt), most);
     }
 
-pub length-text_of : (code : List Instr) → IsText (length code) (text_length (length code)) → length (text_of code) ≡ text_length (length code)
+pub length-text_of : (code : List Instr) → IsText (length code) (text_length (length code))
+    → length (text_of code) ≡ text_length (length code)
 length-text_of code t =
     omega (arith, length-append (code_bytes code) (code_bytes (filler (missing (length code)))), length-code_bytes code, length-code_bytes (filler (missing (length code))), length-replicate (missing (length code)) (Cjal 0 (pos 0)), t.whole, t.room)
 
@@ -86,7 +87,8 @@ pub word_below : (i : Instr) → InRange i → word_of (fields_of i) < 2 ^ 32
 word_below i h = Encodes-below (word_of (fields_of i)) i (encodes i h)
 
 -- the bytes of the word of instruction k
-pub bytes_at : (code : List Instr) (k : ℕ) (i : Instr) → slice_get code k ≡ Some i → take 4 (drop (4 * k) (code_bytes code)) ≡ instr_bytes i
+pub bytes_at : (code : List Instr) (k : ℕ) (i : Instr) → slice_get code k ≡ Some i
+    → take 4 (drop (4 * k) (code_bytes code)) ≡ instr_bytes i
 bytes_at [] k i e = absurd cc
 bytes_at (j ∷ is) zero i e =
     let same : j ≡ i = cc in
@@ -97,7 +99,8 @@ bytes_at (j ∷ is) (suc k) i e =
     ap (λ x. take 4 (drop x (bs ++ code_bytes is))) n ∙ ap (take 4) (drop-append-add bs (code_bytes is) (4 * k)) ∙ bytes_at is k i e
 
 -- each of them
-pub byte_in : (code : List Instr) (k j : ℕ) (i : Instr) → slice_get code k ≡ Some i → j < 4 → get_or (code_bytes code) (4 * k + j) 0 ≡ word_of (fields_of i) / 256 ^ j % 256
+pub byte_in : (code : List Instr) (k j : ℕ) (i : Instr) → slice_get code k ≡ Some i → j < 4
+    → get_or (code_bytes code) (4 * k + j) 0 ≡ word_of (fields_of i) / 256 ^ j % 256
 byte_in code k j i e lt =
     sym (get_or-drop (4 * k) (code_bytes code) j 0) ∙ sym (get_or-take 4 (drop (4 * k) (code_bytes code)) j 0 lt)
     ∙ ap (λ bs. get_or bs j 0) (bytes_at code k i e) ∙ get_or-little_bytes 4 (word_of (fields_of i)) j lt
@@ -109,7 +112,8 @@ little_again v h =
     (subst (λ n. v < 256 ^ n) (sym (length-little_bytes 4 v)) (omega arith))
 
 -- each word is an instruction
-pub decodes : (code : List Instr) (k : ℕ) (i : Instr) → slice_get code k ≡ Some i → InRange i → decode_of (word_in (code_bytes code) k) ≡ Some i
+pub decodes : (code : List Instr) (k : ℕ) (i : Instr) → slice_get code k ≡ Some i → InRange i
+    → decode_of (word_in (code_bytes code) k) ≡ Some i
 decodes code k i e h =
     ap (λ bs. decode_of (little_number bs)) (bytes_at code k i e) ∙ ap decode_of (little_again (word_of (fields_of i)) (word_below i h))
     ∙ decode_of-encoded (word_of (fields_of i)) i (encodes i h)
@@ -127,7 +131,8 @@ filled code = code ++ filler (missing (length code))
 pub text_is : (code : List Instr) → text_of code ≡ code_bytes (filled code)
 text_is code = sym (flat_map-append instr_bytes code (filler (missing (length code))))
 
-pub front_get : {A : Type 0} (xs ys : List A) (k : ℕ) (x : A) → slice_get xs k ≡ Some x → slice_get (xs ++ ys) k ≡ Some x
+pub front_get : {A : Type 0} (xs ys : List A) (k : ℕ) (x : A) → slice_get xs k ≡ Some x
+    → slice_get (xs ++ ys) k ≡ Some x
 front_get [] ys k x e = absurd cc
 front_get (z ∷ xs) ys zero x e = e
 front_get (z ∷ xs) ys (suc k) x e = front_get xs ys k x e
@@ -141,7 +146,9 @@ filler_get zero k i e = absurd cc
 filler_get (suc n) zero i e = let same : Cjal 0 (pos 0) ≡ i = cc in subst InRange same filler_in_range
 filler_get (suc n) (suc k) i e = filler_get n k i e
 
-pub filled_in_range : (xs ys : List Instr) → ((k : ℕ) (i : Instr) → slice_get xs k ≡ Some i → InRange i) → ((k : ℕ) (i : Instr) → slice_get ys k ≡ Some i → InRange i) → (k : ℕ) (i : Instr) → slice_get (xs ++ ys) k ≡ Some i → InRange i
+pub filled_in_range : (xs ys : List Instr) → ((k : ℕ) (i : Instr) → slice_get xs k ≡ Some i → InRange i)
+    → ((k : ℕ) (i : Instr) → slice_get ys k ≡ Some i → InRange i) → (k : ℕ) (i : Instr)
+    → slice_get (xs ++ ys) k ≡ Some i → InRange i
 filled_in_range [] ys h g k i e = g k i e
 filled_in_range (x ∷ xs) ys h g zero i e = h 0 i e
 filled_in_range (x ∷ xs) ys h g (suc k) i e = filled_in_range xs ys (λ j. h (suc j)) g k i e
@@ -152,7 +159,8 @@ there (x ∷ xs) zero lt = (x, refl)
 there (x ∷ xs) (suc k) lt = there xs k (omega arith)
 
 -- each word of a text is an instruction
-pub all_decode : (code : List Instr) → ((k : ℕ) (i : Instr) → slice_get code k ≡ Some i → InRange i) → (k : ℕ) → 4 * k < length (text_of code) → (i : Instr) × (decode_of (word_in (text_of code) k) ≡ Some i)
+pub all_decode : (code : List Instr) → ((k : ℕ) (i : Instr) → slice_get code k ≡ Some i → InRange i) → (k : ℕ)
+    → 4 * k < length (text_of code) → (i : Instr) × (decode_of (word_in (text_of code) k) ≡ Some i)
 all_decode code in_range k lt =
     let all = filled code in
     let at = there all k (omega (arith, lt, ap length (text_is code), length-code_bytes all)) in

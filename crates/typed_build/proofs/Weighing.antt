@@ -1,5 +1,5 @@
 -- What the costs of a program's code come to, by the weights of its functions.
-use Rattle.std.proofs.Common.{◌≡◌, ℕ, zero, suc, ◌*◌, ◌^◌, ◌<◌, ◌≤◌, true, List, [], ◌∷◌, length, Some, refl, ap, arith}
+use Rattle.std.proofs.Common.{◌≡◌, ℕ, zero, suc, ◌*◌, ◌≤◌, true, List, [], ◌∷◌, length, Some, refl, ap, arith}
 use Rattle.std.specs.Prelude.{slice_get, ◌&&◌, Bool, false}
 use Rattle.std.specs.List.{sum_by}
 use Rattle.std.proofs.lemmas.List.Sums.{sum_by-cons}
@@ -24,7 +24,8 @@ sum_member f (y ∷ ys) zero x e = let s : y ≡ x = cc in omega (arith, sum_by-
 sum_member f (y ∷ ys) (suc k) x e = omega (arith, sum_by-cons f y ys, sum_member f ys k x e)
 
 sum_below : {A B : Type 0} (f : A → ℕ) (g : B → ℕ) (xs : List A) (ys : List B) → length xs ≡ length ys
-    → ((k : ℕ) (a : A) (b : B) → slice_get xs k ≡ Some a → slice_get ys k ≡ Some b → f a ≤ 32 * g b) → sum_by f xs ≤ 32 * sum_by g ys
+    → ((k : ℕ) (a : A) (b : B) → slice_get xs k ≡ Some a → slice_get ys k ≡ Some b → f a ≤ 32 * g b)
+    → sum_by f xs ≤ 32 * sum_by g ys
 sum_below f g [] [] n h = omega arith
 sum_below f g [] (y ∷ ys) n h = absurd (omega (arith, n))
 sum_below f g (x ∷ xs) [] n h = absurd (omega (arith, n))
@@ -56,11 +57,12 @@ module _ (p : Typed) (o : IsOrdered p) (light : weight p ≤ 7780) where
   pub one_light : (k : ℕ) (d : FunDef) → slice_get p.funs k ≡ Some d → function_weight p d ≤ 7780
   one_light k d e = omega (arith, sum_member (function_weight p) p.funs k d e, weight_of_functions p o, light)
 
-  pub few_functions : length p.funs < 2 ^ 32
+  pub few_functions : length p.funs ≤ 7780
   few_functions = omega (arith, sum_least (function_weight p) p.funs (λ d. omega arith), weight_of_functions p o, light)
 
   module _ (t : Tac) (within : WithinCosts t p) (formed : is_well_formed t p ≡ true) where
-    pub one_within : (k : ℕ) (f : TacFun) (d : FunDef) → slice_get t.funs k ≡ Some f → slice_get p.funs k ≡ Some d → FunctionCosts (function_weight p d) f × (function_weight p d ≤ 7780)
+    pub one_within : (k : ℕ) (f : TacFun) (d : FunDef) → slice_get t.funs k ≡ Some f → slice_get p.funs k ≡ Some d
+        → FunctionCosts (function_weight p d) f × (function_weight p d ≤ 7780)
     one_within k f d e g =
         let own : weight_in p k ≡ function_weight p d = ap (weight_by p) g in
         let c = within.functions k f e in

@@ -130,7 +130,8 @@ abbrev pub start : Pos
 start = record { line = 1; col = 1 }
 
 -- At the start of the file: 141 where the objects of a program exceed their limit; else 142 where it is too heavy. 150 comes of no program over
--- integers; it would come where what was made of a program fails a check that isn't proved to pass. Want of memory is free.
+-- integers; it would come where a program's three-address code, or the audit of its image, fails a check that isn't proved to pass. Want of
+-- memory is free.
 abbrev pub IsCode : Typed → ℕ → Type 0
 IsCode p code =
     ((code ≡ 141) × (exceeds p ≡ true))

@@ -1,7 +1,9 @@
 -- The code of a program, on its way to the text of its image.
-use Rattle.std.specs.Prelude.{◌≡◌, ℕ, ◌+◌, ◌*◌, ◌%◌, ◌^◌, ◌<◌, ◌≤◌, true, List, length, map, slice_get, Some}
+use Rattle.std.specs.Prelude.{◌≡◌, ℕ, ◌+◌, ◌*◌, ◌%◌, ◌^◌, ◌<◌, ◌≤◌, true, List, length, map, slice_get, Some, ⊤}
 use Rattle.std.specs.List.{All}
 use Rattle.std.specs.List.Sorted.{IsStrictlyIncreasing}
+use Rattle.ck_base.specs.declared.refusal.Refusal.{Refusal}
+use Rattle.ck_base.specs.declared.refusal.Refusal.TheVariants.{Code, NoMemory}
 use Rattle.c_tree.specs.Weight.{weight}
 use Rattle.c_tree.specs.declared.typed.Typed.{Typed}
 use Rattle.elf_file.specs.declared.image.Line.{Line}
@@ -14,7 +16,13 @@ use Rattle.tac_ir.specs.WellFormed.{is_well_formed}
 use Rattle.tac_ir.specs.Within.{WithinCosts}
 use Rattle.tac_ir.specs.declared.code.Tac.{Tac}
 use Rattle.tac_ir.specs.declared.code.TacFun.{TacFun}
-use Rattle.typed_build.specs.declared.whole.Selected.{Selected}
+use Rattle.typed_build.specs.Built.{start}
+use Rattle.typed_build.specs.declared.written.Selected.{Selected}
+
+-- a check failed that isn't proved to pass; want of memory is free
+abbrev pub IsGivenUp : Refusal → Type 0
+IsGivenUp (Code code pos) = (pos ≡ start) × (code ≡ 150)
+IsGivenUp NoMemory = ⊤
 
 -- three-address code that passed the checks
 pub record IsChecked (p : Typed) (t : Tac) : Type 0 where
@@ -35,7 +43,7 @@ pub record IsCoded (p : Typed) (code : List Instr) (start : ℕ) (lines : List L
 
 -- with the frames of its functions, which a legal map may have, and the places where these are entered
 pub record Selects (p : Typed) (s : Selected) : Type 0 where
-  pub coded : IsCoded p s.items.code.items s.items.start s.items.lines.items
+  pub coded : IsCoded p s.code.items s.start s.lines.items
   pub frames : AreFrames (function_needs p.types (weight_in p) 0 p.funs) s.frames.items
-  pub each : length s.items.entries.items ≡ length p.funs
-  pub entries : AreEntries (length s.items.code.items) s.items.entries.items
+  pub each : length s.entries.items ≡ length p.funs
+  pub entries : AreEntries (length s.code.items) s.entries.items

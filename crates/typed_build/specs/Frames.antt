@@ -1,8 +1,6 @@
 -- Homes and frames of a program's functions.
-use Rattle.std.specs.Prelude.{◌≡◌, ℕ, ◌^◌, ◌<◌, true, List, length, slice_get, Some, ⊤}
+use Rattle.std.specs.Prelude.{◌≡◌, ℕ, ◌^◌, ◌<◌, true, List, length, slice_get, Some}
 use Rattle.std.specs.List.{All}
-use Rattle.ck_base.specs.declared.refusal.Refusal.{Refusal}
-use Rattle.ck_base.specs.declared.refusal.Refusal.TheVariants.{Code, NoMemory}
 use Rattle.c_tree.specs.TreeWeight.{function_weight}
 use Rattle.c_tree.specs.declared.typed.FunDef.{FunDef}
 use Rattle.c_tree.specs.declared.typed.Typed.{Typed}
@@ -15,14 +13,6 @@ use Rattle.purecap_abi.specs.Saving.{IsSlotBelow, IsFor}
 use Rattle.tac_ir.specs.declared.code.Tac.{Tac}
 use Rattle.tac_ir.specs.declared.code.TacFun.{TacFun}
 use Rattle.tac_live.specs.Live.{is_numbered}
-use Rattle.typed_build.specs.Built.{start}
-
--- ---- giving up
-
--- a check failed that isn't proved to pass; want of memory is free
-abbrev pub IsGivenUp : Refusal → Type 0
-IsGivenUp (Code code pos) = (pos ≡ start) × (code ≡ 150)
-IsGivenUp NoMemory = ⊤
 
 -- ---- homes
 

@@ -1,10 +1,10 @@
--- The image of a program under a map, and what is asked of its file.
+-- The image of a program under a map, and files that load.
 use Rattle.std.specs.Prelude.{◌≡◌, ℕ, ◌+◌, List, Ok}
 use Rattle.elf_file.specs.declared.image.Image.{Image}
 use Rattle.elf_file.specs.declared.image.Line.{Line}
 use Rattle.elf_file.specs.declared.image.Reloc.{Reloc}
-use Rattle.image_load.specs.Contained.{Contained}
-use Rattle.image_load.specs.Loading.{Loaded, loading}
+use Rattle.elf_file.specs.Reading.{reading}
+use Rattle.image_load.specs.Judging.{judged}
 use Rattle.obj_mem.specs.declared.map.Map.{Map}
 
 -- its parts stand where the map says, and it is entered so many bytes behind the text's base
@@ -23,8 +23,8 @@ image_of map start text base initial relocs lines = record {
   lines = lines;
 }
 
--- a file loads, as a contained image: no run of it leaves its text
-pub record Passes (file : List ℕ) : Type 0 where
-  pub loaded : Loaded
-  pub loads : loading file ≡ Ok loaded
-  pub contained : Contained loaded.image
+-- a file is read as an image that no test of the loader refuses
+pub record Loads (file : List ℕ) : Type 0 where
+  pub image : Image
+  pub read : reading file ≡ Ok image
+  pub fine : judged image ≡ Ok tt

@@ -1,5 +1,7 @@
 pub mod Text
 pub mod Image
+pub mod Written
+pub mod Integers
 pub mod Built
 pub mod Frames
 pub mod Coded

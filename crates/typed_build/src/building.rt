@@ -64,13 +64,13 @@ pub fn build_typed(alloc: Global, p: &Typed) -> Result<Built, Refusal>
     ensures light { OnOk result (weight p.now ≤ weight_limit) }
     ensures refused { IfErr result (IsRefusal p.now) }
 {
-    if is_integer_form(p) {
-        return build_integers(alloc, p);
-    }
     let layouts = Layouts::new(alloc, p)?;
     limit(alloc, &layouts, p)?;
     if weight(p) > MOST_WEIGHT {
         return Err(Refusal::Code(142, START));
+    }
+    if is_integer_form(p) {
+        return build_integers(alloc, &layouts, p);
     }
     build_whole(alloc, &layouts, p)
 }

@@ -1,12 +1,14 @@
-//! The image of a program, and whether it loads.
-ghost use Rattle.std.specs.Prelude.{◌≡◌, ◌+◌, ◌<◌, ◌^◌, IfOk, true};
-ghost use Rattle.typed_build.specs.Image.{image_of, Passes};
+//! The image of a program, and whether it is contained.
+ghost use Rattle.std.specs.Prelude.{◌≡◌, ◌+◌, ◌<◌, ◌^◌, IfOk, Ok, true};
+ghost use Rattle.elf_file.specs.declared.image.Image.{Image};
+ghost use Rattle.elf_file.specs.Reading.{reading};
+ghost use Rattle.image_load.specs.Contained.{Contained};
+ghost use Rattle.typed_build.specs.Image.{image_of, Loads};
 
 use cap_reloc::Table;
 use ck_base::{NoMemory, Sequence};
 use elf_audit::{Verdict, audit};
 use elf_file::{Image, Line, View};
-use image_load::judge;
 use obj_mem::Map;
 use std::alloc::Global;
 
@@ -35,16 +37,13 @@ pub fn image_of(map: &Map, start: u32, text: Vec<u8>, contents: Table, lines: Ve
     }
 }
 
-/// Whether a file loads, and no run of its image leaves the text: it passes the loader's tests and the audit of its words and
-/// relocations.
-pub fn passes(alloc: Global, file: &[u8]) -> Result<bool, NoMemory>
-    ensures { IfOk result (λ passes. passes ≡ true → Passes file.now) }
+/// Whether no run of the image of a file that loads leaves the text: its words and relocations pass the audit.
+pub fn is_contained(alloc: Global, file: &[u8]) -> Result<bool, NoMemory>
+    requires { Loads file.now }
+    ensures { IfOk result (λ answer. answer ≡ true → (i : Image) → reading file.now ≡ Ok i → Contained i) }
 {
     let Ok(view) = View::read(file) else {
-        return Ok(false);
-    };
-    let Ok(()) = judge(&view) else {
-        return Ok(false);
+        unreachable!();
     };
     Ok(matches!(audit(alloc, &view)?, Verdict::Yes))
 }

@@ -1,23 +1,24 @@
 //! Building of programs over integers: the path whose runs are proved to be what the program means.
-ghost use Rattle.std.specs.Prelude.{◌≡◌, true, false, map, IfOk, IfErr, OnOk};
+ghost use Rattle.std.specs.Prelude.{◌≡◌, ◌≤◌, true, map, IfOk, IfErr};
+ghost use Rattle.c_tree.specs.File.{weight_limit};
 ghost use Rattle.c_tree.specs.Typing.{Sound};
-ghost use Rattle.obj_mem.specs.Counted.{count_of};
-ghost use Rattle.bounds_place.specs.Placing.{exceeds};
+ghost use Rattle.c_tree.specs.Weight.{weight};
+ghost use Rattle.c_tree.specs.declared.typed.Typed.{Typed as Program};
+ghost use Rattle.cap_layout.specs.Kept.{AreLayoutsOf};
+ghost use Rattle.int_select.specs.Form.{IsIntegerCode};
 ghost use Rattle.int_select.specs.Selected.{frames_of};
 ghost use Rattle.int_lower.specs.Form.{is_integer_form};
 ghost use Rattle.typed_build.specs.Built.{IsBuilt, IsRefusal};
+ghost use Rattle.typed_build.specs.Integers.{IsLowered, SelectsIntegers};
 
 use crate::building::Built;
-use crate::image::image_of;
-use crate::text::text_of;
-use bounds_place::place;
-use c_tree::{Typed, weight};
-use cap_layout::{copies, granules};
-use cap_reloc::table;
+use crate::counts::count_of;
+use crate::written::{Selected, Written, write_program};
+use c_tree::Typed;
+use cap_layout::Layouts;
 use ck_base::{NoMemory, Refusal, Sequence};
-use elf_file::write;
 use int_lower::lower;
-use int_select::select;
+use int_select::{Items, select};
 use obj_mem::Frame;
 use reg_alloc::{Home, Places};
 use std::alloc::Global;
@@ -60,32 +61,40 @@ fn places_of(alloc: Global, t: &Tac) -> Result<Vec<Places>, NoMemory> {
     Ok(places)
 }
 
-/// The count of instructions for each turn.
-fn count_of(p: &Typed) -> u64
-    requires { is_integer_form p.now ≡ true }
-    ensures { result ≡ count_of p.now }
+/// The frames and the machine code for three-address code of one function over integers.
+fn select_integers(alloc: Global, t: &Tac) -> Result<Selected, NoMemory>
+    requires { IsIntegerCode t.now }
+    ensures { IfOk result (λ s. (p : Program) → IsLowered p t.now → SelectsIntegers p t.now s) }
 {
-    32 * weight(p) + 8 * granules(p) + 128 * copies(p) + 4096
+    let frames = frames_of(alloc, t)?;
+    let Items {
+        code,
+        start,
+        entries,
+        lines,
+    } = select(alloc, t)?;
+    Ok(Selected {
+        frames,
+        code,
+        start,
+        entries,
+        lines,
+    })
 }
 
 /// A program over integers.
-pub fn build_integers(alloc: Global, p: &Typed) -> Result<Built, Refusal>
+pub fn build_integers(alloc: Global, layouts: &Layouts, p: &Typed) -> Result<Built, Refusal>
+    requires layouts { AreLayoutsOf p.now.types layouts.now }
     requires sound { Sound p.now }
     requires form { is_integer_form p.now ≡ true }
+    requires light { weight p.now ≤ weight_limit }
     ensures built { IfOk result (λ b. IsBuilt p.now b.elf.items b.map b.count) }
-    ensures within { OnOk result (exceeds p.now ≡ false) }
     ensures refused { IfErr result (IsRefusal p.now) }
 {
     let code = lower(alloc, p)?;
-    let items = select(alloc, &code)?;
-    let text = text_of(alloc, &items.code)?;
-    let frames = frames_of(alloc, &code)?;
-    let map = place(alloc, p, &frames, &items.entries, text.len() as u64)?;
-    let contents = table(alloc, &map, p)?;
-    let lines = Vec::new(alloc);
-    let image = image_of(&map, items.start, text, contents, lines);
-    let elf = write(alloc, &image)?;
-    let count = count_of(p);
+    let selected = select_integers(alloc, &code)?;
+    let Written { elf, map } = write_program(alloc, p, selected)?;
+    let count = count_of(layouts, p);
     let places = places_of(alloc, &code)?;
     Ok(Built {
         elf,

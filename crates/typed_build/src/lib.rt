@@ -9,5 +9,6 @@ mod image;
 mod integers;
 mod text;
 mod whole;
+mod written;
 
 pub use building::{Built, START, build_typed};
