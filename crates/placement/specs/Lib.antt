@@ -1,0 +1,4 @@
+pub mod Endings
+pub mod Trees
+pub mod Relations
+pub mod Runs

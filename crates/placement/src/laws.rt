@@ -1,0 +1,1 @@
+//! Laws of the meanings with and without addresses.
