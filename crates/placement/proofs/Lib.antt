@@ -5,3 +5,9 @@ pub mod SimExpressions
 pub mod SimValues
 pub mod SimStatements
 pub mod SimCalls
+pub mod Shapes
+pub mod Good
+pub mod Stored
+pub mod Changes
+pub mod Added
+pub mod Ended

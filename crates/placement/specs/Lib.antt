@@ -2,3 +2,4 @@ pub mod Endings
 pub mod Trees
 pub mod Relations
 pub mod Runs
+pub mod Memories
