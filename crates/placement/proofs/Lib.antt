@@ -11,3 +11,5 @@ pub mod Stored
 pub mod Changes
 pub mod Added
 pub mod Ended
+pub mod Entered
+pub mod Instance

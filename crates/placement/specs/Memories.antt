@@ -1,11 +1,14 @@
 -- When the memory of a strict run and that of a placed run stand for one another.
-use Rattle.std.specs.Prelude.{◌≡◌, ℕ, ◌+◌, ◌-◌, ◌^◌, ◌<◌, ◌≤◌, List, [], ◌∷◌, Option, Some, None, slice_get}
+use Rattle.std.specs.Prelude.{◌≡◌, ℕ, ◌+◌, ◌-◌, ◌%◌, ◌^◌, ◌<◌, ◌≤◌, List, [], ◌∷◌, Option, Some, None, slice_get}
 use Rattle.obj_mem.specs.Values.{Value, Addresses}
 use Rattle.obj_mem.specs.Objects.{Cell, Byte, Unwritten, PartOf, Shape, Content}
-use Rattle.obj_mem.specs.Legal.{Apart}
+use Rattle.cap_concentrate.specs.Rounding.{alignment, owned}
+use Rattle.obj_mem.specs.declared.map.Frame.{Frame}
+use Rattle.obj_mem.specs.Legal.{Apart, slot_of}
 use Rattle.obj_mem.specs.Agreement.{IsNotReturned, SameMemory}
 use Rattle.obj_mem.specs.Standing.{IsGood, IsSpread}
-use Rattle.cheri_c_sem.specs.Modes.{Store}
+use Rattle.cheri_c_sem.specs.Modes.{Store, slot_offset}
+use Rattle.cheri_c_sem.specs.Tree.{Fun}
 use Rattle.placement.specs.Relations.{Relation}
 
 -- ---- what stands in objects
@@ -99,3 +102,25 @@ module _ (globals functions : ℕ) (a : Addresses) (stack size : ℕ) where
 
   abbrev pub memories : Relation Store Store
   memories = record { good = λ s v. IsGood s.memory.shapes functions v; stand = Stand; later = Later }
+
+-- ---- frames
+
+-- where local n is in a frame
+abbrev pub local_at : Frame → ℕ → ℕ
+local_at f n = slot_offset (slot_of f n)
+
+-- a local of this length has its owned length in the frame, at a multiple of its alignment wherever the frame stands
+pub record LocalFits (f : Frame) (n length : ℕ) : Type 0 where
+  pub within : local_at f n + owned length ≤ f.size
+  pub aligned : local_at f n % alignment length ≡ 0
+  pub frame_aligned : f.align % alignment length ≡ 0
+
+-- a frame for objects of these lengths, no two of which have a byte in common
+pub record FrameFits (lengths : List ℕ) (f : Frame) : Type 0 where
+  pub some : 0 < f.align
+  pub locals : (n length : ℕ) → slice_get lengths n ≡ Some length → LocalFits f n length
+  pub apart : (n n' length length' : ℕ) → slice_get lengths n ≡ Some length → slice_get lengths n' ≡ Some length' → (n ≡ n' → ⊥) → Apart (local_at f n) (owned length) (local_at f n') (owned length')
+
+-- each function of a program has one
+abbrev pub FramesFit : List Fun → List Frame → Type 0
+FramesFit funs frames = (i : ℕ) (f : Fun) (g : Frame) → slice_get funs i ≡ Some f → slice_get frames i ≡ Some g → FrameFits f.objects g
