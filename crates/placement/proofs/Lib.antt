@@ -13,3 +13,6 @@ pub mod Added
 pub mod Ended
 pub mod Entered
 pub mod Instance
+pub mod Objects
+pub mod Filled
+pub mod Lawful

@@ -59,7 +59,7 @@ blank_good : (n : ℕ) → CellsGood (replicate n Unwritten)
 blank_good zero = tt
 blank_good (suc n) = (tt, blank_good n)
 
-bytes_good : (n x : ℕ) → CellsGood (bytes_of n x)
+pub bytes_good : (n x : ℕ) → CellsGood (bytes_of n x)
 bytes_good zero x = tt
 bytes_good (suc n) x = (omega arith, bytes_good n (x / 256))
 
@@ -171,7 +171,7 @@ module _ (s : List Shape) (functions : ℕ) where
 
   -- ---- what is fetched
 
-  abbrev PieceGood : Piece → Type 0
+  abbrev pub PieceGood : Piece → Type 0
   PieceGood (Tagged v) = IsGood s functions v
   PieceGood (Plain cs) = CellsGood cs
 
@@ -232,12 +232,12 @@ module _ (s : List Shape) (functions : ℕ) where
   with_good shapes c i (Plain cs) h g =
       let o = opened_good shapes c (i / 16) (value_at c (i / 16)) g in record { cells = put_good (opened Strict shapes c (i / 16)).cells i cs o.cells h; values = o.values }
 
-  put_piece_good : (m : Memory) → ContentsGood s functions m.contents → (p : Value) (n : ℕ) (u : Piece) → PieceGood u → WhereOk (λ x. ContentsGood s functions x.contents) (put Strict m p n u)
+  pub put_piece_good : (m : Memory) → ContentsGood s functions m.contents → (p : Value) (n : ℕ) (u : Piece) → PieceGood u → WhereOk (λ x. ContentsGood s functions x.contents) (put Strict m p n u)
   put_piece_good m g p n u h =
       onward_ok (λ x. Unit {0}) (λ x. ContentsGood s functions x.contents) (reach (store_access n u) p) _ (anything _) (λ x _. spot_ok (λ y. ContentsGood s functions y.contents) Strict m x n _ (λ c e.
         content_set m.contents x.object _ (with_good m.shapes c x.at u h (content_at m.contents x.object g c e)) g))
 
-  stored_good : (n : ℕ) (v : Value) → IsGood s functions v → PieceGood (stored_piece n v)
+  pub stored_good : (n : ℕ) (v : Value) → IsGood s functions v → PieceGood (stored_piece n v)
   stored_good n (Int x) g = bytes_good n x
   stored_good n (Raw a u) g = join_good (bytes_of 8 a) (bytes_of 8 u) (bytes_good 8 a) (bytes_good 8 u)
   stored_good n (Fun f) g = g
@@ -264,7 +264,7 @@ module _ (s : List Shape) (functions : ℕ) where
 -- ---- the objects stay the same
 
 module _ (d : Mode) where
-  put_shapes : (m : Memory) (p : Value) (n : ℕ) (u : Piece) → WhereOk (λ x. x.shapes ≡ m.shapes) (put d m p n u)
+  pub put_shapes : (m : Memory) (p : Value) (n : ℕ) (u : Piece) → WhereOk (λ x. x.shapes ≡ m.shapes) (put d m p n u)
   put_shapes m p n u = onward_ok (λ x. Unit {0}) (λ x. x.shapes ≡ m.shapes) (reach (store_access n u) p) _ (anything _) (λ x _. spot_ok (λ y. y.shapes ≡ m.shapes) d m x n _ (λ c e. refl))
 
   pub store_shapes : (m : Memory) (p : Value) (n : ℕ) (v : Value) → WhereOk (λ x. x.shapes ≡ m.shapes) (store d m p n v)
