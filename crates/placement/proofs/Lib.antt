@@ -16,3 +16,4 @@ pub mod Instance
 pub mod Objects
 pub mod Filled
 pub mod Lawful
+pub mod Started
