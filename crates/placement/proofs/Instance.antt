@@ -1,6 +1,8 @@
 -- The operations of the strict meaning and those under a map keep memories standing for one another.
-use Rattle.std.proofs.Common.{◌≡◌, ℕ, zero, suc, ◌+◌, ◌-◌, ◌%◌, ◌^◌, ◌<◌, ◌≤◌, ◌&&◌, Bool, true, false, List, length, Option, Some, None, Result, Ok, Err, refl, sym, ap, ◌∙◌, subst, arith}
+use Rattle.std.proofs.Common.{◌≡◌, ℕ, zero, suc, ◌+◌, ◌-◌, ◌%◌, ◌^◌, ◌<◌, ◌≤◌, ◌&&◌, Bool, true, false, List, length, Option, Some, None, Result, Ok, Err, refl, sym, ap, ◌∙◌, subst, inl, inr, arith}
 use Rattle.std.specs.Prelude.{slice_get, if◌then◌else◌}
+use Rattle.std.proofs.lemmas.Bool.{cases_lt}
+use Rattle.std.proofs.lemmas.Bool.Decides.{nat_tests}
 use Rattle.ck_int.specs.declared.kinds.IntKind.{IntKind}
 use Rattle.ck_int.specs.declared.kinds.IntOp.{IntOp}
 use Rattle.ck_int.specs.Arithmetic.{binary_of}
@@ -17,6 +19,7 @@ use Rattle.obj_mem.specs.Values.{Value, Int, Live, Fun, Raw, Addresses}
 use Rattle.obj_mem.specs.Objects.{Shape, Mode, Placed, Strict, owned_of_shape, whole_pointer}
 use Rattle.obj_mem.specs.Access.{unspecified, onward, load}
 use Rattle.obj_mem.specs.Pointers.{get_tag, get_permissions}
+use Rattle.obj_mem.specs.Comparisons.{is_low, unequal_where, equal}
 use Rattle.obj_mem.specs.Table.{addresses_of}
 use Rattle.obj_mem.specs.Agreement.{Paired, SameShape, Answers}
 use Rattle.obj_mem.specs.Standing.{IsBased, IsGood, IsSpread, PointersAgree}
@@ -95,6 +98,22 @@ module _ (globals : ℕ) (funs : List Function) (m : Map) (laid : IsLaid (addres
     agree : PointersAgree s.memory.shapes p.memory.shapes (length funs) a
     agree = pointers_agree_law s.memory.shapes p.memory.shapes (length funs) a e.same.shapes e.spread
 
+    high : (c : ℕ) → 2 ^ 64 ≤ c → is_low c ≡ false
+    high c h = grind (arith, nat_tests)
+
+    -- an address that no capability has is no low one
+    high_label : (v : Value) (c : ℕ) → 2 ^ 64 ≤ c → Answers ◌≡◌ (equal Strict s.memory.shapes v (null_at c)) (equal (Placed a) p.memory.shapes v (null_at c))
+    high_label (Int x) c h = tt
+    high_label (Raw x u) c h = refl
+    high_label (Live o low top at q) c h = subst (λ b. Answers ◌≡◌ (unequal_where b) (equal (Placed a) p.memory.shapes (Live o low top at q) (null_at c))) (sym (high c h)) tt
+    high_label (Fun f) c h = subst (λ b. Answers ◌≡◌ (unequal_where b) (equal (Placed a) p.memory.shapes (Fun f) (null_at c))) (sym (high c h)) tt
+
+    labels_of : (v : Value) (c : ℕ) → Good v → Answers ◌≡◌ (equal Strict s.memory.shapes v (null_at c)) (equal (Placed a) p.memory.shapes v (null_at c))
+    labels_of v c g = elim (cases_lt c (2 ^ 64)) as (λ _. Answers ◌≡◌ (equal Strict s.memory.shapes v (null_at c)) (equal (Placed a) p.memory.shapes v (null_at c))) [
+      | inl word ↦ agree.equalities v (null_at c) g (word, let z : 0 < 2 ^ 64 = omega arith in z)
+      | inr far ↦ high_label v c far
+    ]
+
     works_of : (work : Work) (v w : Value) → Good v → Good w → Answers (Both Good) (work_of Strict s work v w) (work_of (Placed a) p work v w)
     works_of Base v w g h = made IsWord Good (λ n. Int n) (λ n b. b) _ _ (both_ways IsWord _ _ (agree.bases v) (base_good s.memory.shapes (length funs) v))
     works_of Offset v w g h = made IsWord Good (λ n. Int n) (λ n b. b) _ _ (both_ways IsWord _ _ (agree.offsets v) (offset_good s.memory.shapes (length funs) v g))
@@ -134,6 +153,7 @@ module _ (globals : ℕ) (funs : List Function) (m : Map) (laid : IsLaid (addres
     ints = ints_of a;
     addresses = λ objects first frame s p e v g. both_ways IsWord _ _ ((agree objects first frame s p e).addresses v) (address_good s.memory.shapes (length funs) v g);
     comparisons = λ objects first frame s p e op signed v w g h. (agree objects first frame s p e).comparisons signed op v w g h;
+    labels = λ objects first frame s p e signed v c g. labels_of objects first frame s p e v c g;
     differences = λ objects first frame s p e v w g h. (agree objects first frame s p e).distances v w g h;
     offsets = λ objects first frame s p e v by g. both_ways (IsGood s.memory.shapes (length funs)) _ _ ((agree objects first frame s p e).moves v g by) (move_good s.memory.shapes (length funs) v by g);
     narrows = λ objects first frame s p e v n exact g. both_ways (IsGood s.memory.shapes (length funs)) _ _ ((agree objects first frame s p e).narrows v g n exact) (narrow_good s.memory.shapes (length funs) v n g);

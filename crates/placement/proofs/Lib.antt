@@ -17,3 +17,5 @@ pub mod Objects
 pub mod Filled
 pub mod Lawful
 pub mod Started
+pub mod Ordering
+pub mod FitExpressions

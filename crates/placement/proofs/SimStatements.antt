@@ -15,9 +15,9 @@ use Rattle.cheri_c_sem.specs.Tree as tree
 use Rattle.cheri_c_sem.specs.Meaning.{At, value_of}
 use Rattle.cheri_c_sem.specs.Statements.{Flow, Goes, Breaks, Continues, Returns, after, after_body, after_switch, loop, repeat, default_of, label_value, enter_one, enter, leave_one, leave, in_block, find_label, switch_on, jump, part_of_local, test_of, step_of, exec, execs, execs_from}
 use Rattle.placement.specs.Relations.{IsWord, Both, Relation, AllGood, Keeps}
-use Rattle.placement.specs.Trees.{IsFit, DeclaredFit, AllDeclaredFit, LabelFit, LabelsFit, TestFit, StepFit, DoesFit, DoFit}
+use Rattle.placement.specs.Trees.{IsFit, DeclaredFit, AllDeclaredFit, TestFit, StepFit, DoesFit, DoFit}
 use Rattle.placement.proofs.Sim.{no_values, itself, Stands, Sim, sim_give, sim_ends, sim_bind, sim_then, sim_choose, sim_ask, sim_state, sim_turn, sim_set_variable, sim_unset_variable, sim_change}
-use Rattle.placement.proofs.Operated.{unasked, nothing_good, compared}
+use Rattle.placement.proofs.Operated.{unasked, nothing_good}
 use Rattle.placement.proofs.SimExpressions.{in_place, alone, sim_store, sim_copy, sim_test, all_left}
 use Rattle.placement.proofs.SimValues.{sim_value, sim_place}
 
@@ -97,23 +97,23 @@ module _ {M N : Type 0} {r : Relation M N} {ops : Operations M} {pops : Operatio
 
   -- ---- `switch`
 
-  label_good : (m : M) (j : Kind) (c : ℕ) → IsWord c → r.good m (label_value j c)
-  label_good m (Plain i) c h = k.words m c h
-  label_good m (Capability signed) c h = k.nulls m c h
+  same_label : (first frame : ℕ) (m : M) (n : N) → r.stand objects first frame m n → (j : Kind) (v : Value) (c : ℕ) → r.good m v → Answers ◌≡◌ (compare_by ops m Eq j v (label_value j c)) (compare_by pops n Eq j v (label_value j c))
+  same_label first frame m n e (Plain i) v c g = refl
+  same_label first frame m n e (Capability signed) v c g = k.labels objects first frame m n e signed v c g
 
-  sim_find_label : {known : List Value} (p : Pos) (j : Kind) (v : Value) (ls : List Label) (otherwise : Option ℕ) → LabelsFit globals functions objects ls → ((m : M) → AllGood r m known → r.good m v)
+  sim_find_label : {known : List Value} (p : Pos) (j : Kind) (v : Value) (ls : List Label) (otherwise : Option ℕ) → ((m : M) → AllGood r m known → r.good m v)
       → Sim k.order objects known no_values (find_label ops w p j v ls otherwise) (find_label pops w p j v ls otherwise)
-  sim_find_label p j v [] otherwise h g = sim_give k.order objects no_values otherwise (λ m a. tt)
-  sim_find_label p j v (Default i ∷ ls) otherwise h g = sim_find_label p j v ls otherwise h.1 g
-  sim_find_label p j v (Case c i ∷ ls) otherwise h g =
+  sim_find_label p j v [] otherwise g = sim_give k.order objects no_values otherwise (λ m a. tt)
+  sim_find_label p j v (Default i ∷ ls) otherwise g = sim_find_label p j v ls otherwise g
+  sim_find_label p j v (Case c i ∷ ls) otherwise g =
       sim_bind k.order objects no_values no_values
-      (sim_ask k.order objects no_values p _ _ (λ first frame m n e a. unasked _ _ (compared k m w objects first frame n e Eq j v (label_value j c) (g m a) (label_good m j c h.0))))
-      (λ same. sim_choose k.order objects no_values same (sim_give k.order objects no_values (Some i) (λ m a. tt)) (sim_find_label p j v ls otherwise h.1 g))
+      (sim_ask k.order objects no_values p _ _ (λ first frame m n e a. unasked _ _ (same_label first frame m n e j v c (g m a))))
+      (λ same. sim_choose k.order objects no_values same (sim_give k.order objects no_values (Some i) (λ m a. tt)) (sim_find_label p j v ls otherwise g))
 
-  sim_switch_on : {known : List Value} (p : Pos) (j : Kind) (v : Value) (ds : List Declared) (ls : List Label) {f : ℕ → Then M Flow} {g : ℕ → Then N Flow} → AllDeclaredFit globals functions objects ds → LabelsFit globals functions objects ls
+  sim_switch_on : {known : List Value} (p : Pos) (j : Kind) (v : Value) (ds : List Declared) (ls : List Label) {f : ℕ → Then M Flow} {g : ℕ → Then N Flow} → AllDeclaredFit globals functions objects ds
       → ((m : M) → AllGood r m known → r.good m v) → ((i : ℕ) → Sim k.order objects known in_flow (f i) (g i)) → Sim k.order objects known in_flow (switch_on ops w p j v ds ls f) (switch_on pops w p j v ds ls g)
-  sim_switch_on p j v ds ls hd hl g h =
-      sim_in_block ds hd (sim_bind k.order objects no_values in_flow (sim_find_label p j v ls (default_of ls) hl g) (λ to. sim_jump to h))
+  sim_switch_on p j v ds ls hd g h =
+      sim_in_block ds hd (sim_bind k.order objects no_values in_flow (sim_find_label p j v ls (default_of ls) g) (λ to. sim_jump to h))
 
   -- ---- initialisation
 
@@ -177,7 +177,7 @@ module _ {M N : Type 0} {r : Relation M N} {ops : Operations M} {pops : Operatio
       sim_exec (Do_while p j b e) h = sim_do (sim_exec b h.1) (sim_test_of (Some (p, j, e)) h.0)
       sim_exec (For ds first t step b) h = sim_in_block ds h.0 (sim_bind k.order objects in_flow in_flow (sim_execs first h.1) (λ f.
           sim_after f (sim_while (sim_test_of t h.2) (sim_exec b h.4) (sim_step_of step h.3))))
-      sim_exec (Switch p j e ds ls ss) h = sim_bind k.order objects itself in_flow (value e h.0) (λ v. sim_switch_on p j v ds ls h.1 h.2 (λ m a. a.0) (λ i. sim_execs_from ss i h.3))
+      sim_exec (Switch p j e ds ls ss) h = sim_bind k.order objects itself in_flow (value e h.0) (λ v. sim_switch_on p j v ds ls h.1 (λ m a. a.0) (λ i. sim_execs_from ss i h.2))
       sim_exec Break h = sim_give k.order objects in_flow Breaks (λ m a. tt)
       sim_exec Continue h = sim_give k.order objects in_flow Continues (λ m a. tt)
       sim_exec (Return None) h = sim_give k.order objects in_flow (Returns nothing) (λ m a. (nothing_good k m, tt))

@@ -3,6 +3,7 @@ use Rattle.std.specs.Prelude.{◌≡◌, ℕ, ◌+◌, ◌<◌, ◌^◌, Bool, L
 use Rattle.ck_int.specs.declared.kinds.IntKind.{IntKind}
 use Rattle.ck_int.specs.declared.kinds.IntOp.{IntOp}
 use Rattle.ck_int.specs.declared.kinds.CmpOp.{CmpOp}
+use Rattle.ck_int.specs.declared.kinds.CmpOp.TheVariants.{Eq}
 use Rattle.obj_mem.specs.Values.{Value, Int, Fun}
 use Rattle.obj_mem.specs.Agreement.{Answers, CopyAnswers}
 use Rattle.cheri_c_sem.specs.Kinds.{Kind, bytes_of, null_at, number_of}
@@ -71,6 +72,8 @@ module _ {M N : Type 0} (r : Relation M N) where
       pub ints : (op : IntOp) (k count : IntKind) (x y : ℕ) → Answers (Both IsWord) (ops.int op k count x y) (pops.int op k count x y)
       pub addresses : Standing (λ _ _ _ m n. (v : Value) → r.good m v → Answers (Both IsWord) (ops.address m v) (pops.address n v))
       pub comparisons : Standing (λ _ _ _ m n. (op : CmpOp) (signed : Bool) (v w : Value) → r.good m v → r.good m w → Answers ◌≡◌ (ops.compare m op signed v w) (pops.compare n op signed v w))
+      -- with the label of a `switch`, whatever it is
+      pub labels : Standing (λ _ _ _ m n. (signed : Bool) (v : Value) (c : ℕ) → r.good m v → Answers ◌≡◌ (ops.compare m Eq signed v (null_at c)) (pops.compare n Eq signed v (null_at c)))
       pub differences : Standing (λ _ _ _ m n. (v w : Value) → r.good m v → r.good m w → Answers ◌≡◌ (ops.difference m v w) (pops.difference n v w))
       pub offsets : Standing (λ _ _ _ m n. (v : Value) (by : ℕ) → r.good m v → Answers (Both (r.good m)) (ops.offset m v by) (pops.offset n v by))
       pub narrows : Standing (λ _ _ _ m n. (v : Value) (length : ℕ) (exact : Bool) → r.good m v → Answers (Both (r.good m)) (ops.narrow m v length exact) (pops.narrow n v length exact))

@@ -1,6 +1,6 @@
 -- Trees whose constants are words, and whose objects and functions are there.
 use Rattle.std.specs.Prelude.{◌≡◌, ℕ, ◌<◌, ◌^◌, List, [], ◌∷◌, length, Option, Some, None, slice_get}
-use Rattle.cheri_c_sem.specs.Tree.{Ex, Number, Null, Load, Aggregate, Pointer_to, Convert, Discard, Unary, Not, Binary, Compare, And, Or, Conditional, Comma, Assign, Copy, Compound, Call, Library, Variable, Local, Object, Function, Deref, Member, Exs, Nil, Cons, Declared, Simple, Objects, Label, Case, Default, St, Do, Give, Init, Fill, Block, If, While, Do_while, For, Switch, Break, Continue, Return, Empty, Sts, End, Seq, Parameter, In_variable, In_object, Fun}
+use Rattle.cheri_c_sem.specs.Tree.{Ex, Number, Null, Load, Aggregate, Pointer_to, Convert, Discard, Unary, Not, Binary, Compare, And, Or, Conditional, Comma, Assign, Copy, Compound, Call, Library, Variable, Local, Object, Function, Deref, Member, Exs, Nil, Cons, Declared, Simple, Objects, St, Do, Give, Init, Fill, Block, If, While, Do_while, For, Switch, Break, Continue, Return, Empty, Sts, End, Seq, Parameter, In_variable, In_object, Fun}
 use Rattle.cheri_c_sem.specs.Kinds.{Kind}
 use Rattle.ck_base.specs.declared.positions.Pos.{Pos}
 
@@ -47,14 +47,6 @@ module _ (globals functions objects : ℕ) where
   AllDeclaredFit [] = Unit {0}
   AllDeclaredFit (d ∷ ds) = DeclaredFit d × AllDeclaredFit ds
 
-  abbrev pub LabelFit : Label → Type 0
-  LabelFit (Case v n) = v < 2 ^ 64
-  LabelFit (Default n) = Unit {0}
-
-  abbrev pub LabelsFit : List Label → Type 0
-  LabelsFit [] = Unit {0}
-  LabelsFit (l ∷ ls) = LabelFit l × LabelsFit ls
-
   abbrev pub TestFit : Option (Pos × Kind × Ex) → Type 0
   TestFit None = Unit {0}
   TestFit (Some t) = IsFit t.2
@@ -74,7 +66,7 @@ module _ (globals functions objects : ℕ) where
     DoesFit (While p k e b) = IsFit e × DoesFit b
     DoesFit (Do_while p k b e) = IsFit e × DoesFit b
     DoesFit (For ds first t step b) = AllDeclaredFit ds × DoFit first × TestFit t × StepFit step × DoesFit b
-    DoesFit (Switch p k e ds ls ss) = IsFit e × AllDeclaredFit ds × LabelsFit ls × DoFit ss
+    DoesFit (Switch p k e ds ls ss) = IsFit e × AllDeclaredFit ds × DoFit ss
     DoesFit Break = Unit {0}
     DoesFit Continue = Unit {0}
     DoesFit (Return e) = StepFit e
