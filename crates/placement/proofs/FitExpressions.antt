@@ -105,7 +105,7 @@ module _ (p : Typed) (vars : List VarDef) where
   sign_fit pos k e unary.Complement f = f
   sign_fit pos k e unary.LogicalNot f = f
 
-  abbrev F : Ty → Frame
+  abbrev pub F : Ty → Frame
   F gives = record { program = p; vars = vars; gives = gives }
 
   module _ (gives : Ty) (tree : ℕ → Ex) (go : ℕ → Term) where

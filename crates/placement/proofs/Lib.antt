@@ -19,3 +19,4 @@ pub mod Lawful
 pub mod Started
 pub mod Ordering
 pub mod FitExpressions
+pub mod FitStatements
