@@ -20,3 +20,5 @@ pub mod Started
 pub mod Ordering
 pub mod FitExpressions
 pub mod FitStatements
+pub mod Initial
+pub mod TypedFits
