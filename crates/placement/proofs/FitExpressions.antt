@@ -87,7 +87,7 @@ module _ (p : Typed) (vars : List VarDef) where
   few true = omega arith
   few false = omega arith
 
-  permitted : (o : Option GlobalDef) → permissions_of p vars o < 4096
+  pub permitted : (o : Option GlobalDef) → permissions_of p vars o < 4096
   permitted None = omega arith
   permitted (Some g) = few (is_const p.types g.of)
 

@@ -22,3 +22,4 @@ pub mod FitExpressions
 pub mod FitStatements
 pub mod Initial
 pub mod TypedFits
+pub mod Independent

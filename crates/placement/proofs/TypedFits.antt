@@ -60,7 +60,7 @@ globals_lengths p (g ∷ gs) h =
     let one : (global_need p.types g).length ≡ size_in p.types g.of = need_length (extent p.types g.of) a.0 (if is_const p.types g.of then const_permissions else data_permissions) a.1 a.2 in
     ap (λ v. v ∷ map length_of (map (global_tree p) gs)) (sym one) ∙ ap (λ vs. (global_need p.types g).length ∷ vs) (globals_lengths p gs (λ k. h (suc k)))
 
-literals_lengths : (ls : List Literal) → map length (map (λ (s : Literal). s.bytes) ls) ≡ map length_needed (map literal_need ls)
+pub literals_lengths : (ls : List Literal) → map length (map (λ (s : Literal). s.bytes) ls) ≡ map length_needed (map literal_need ls)
 literals_lengths [] = refl
 literals_lengths (l ∷ ls) = ap (λ vs. length l.bytes ∷ vs) (literals_lengths ls)
 
@@ -76,7 +76,7 @@ locals_lengths p (v ∷ vs) h = go v.simple refl (locals_lengths p vs (λ k. h (
         let one : (local_need p.types v).length ≡ size_in p.types v.of = need_length (extent p.types v.of) a.0 data_permissions a.1 a.2 in
         rw e (ap (λ n. n ∷ map length_needed (map (local_need p.types) (filter is_object vs))) one ∙ ap (λ ns. size_in p.types v.of ∷ ns) r)
 
-functions_count : (p : Typed) (weight : ℕ → ℕ) (fs : List FunDef) (j k : ℕ) → length (function_trees p j fs) ≡ length (function_needs p.types weight k fs)
+pub functions_count : (p : Typed) (weight : ℕ → ℕ) (fs : List FunDef) (j k : ℕ) → length (function_trees p j fs) ≡ length (function_needs p.types weight k fs)
 functions_count p weight [] j k = refl
 functions_count p weight (f ∷ fs) j k = ap suc (functions_count p weight fs (suc j) (suc k))
 

@@ -28,3 +28,14 @@ Agrees o p = IsOpen o.ending ⊎ ((p ≡ o) ⊎ (IsStack p.ending × Begins p.do
 -- the same of what runs come to
 abbrev pub Follows : Outcome Ending → Outcome Ending → Type 0
 Follows o p = IsOpen o.ending ⊎ ((p ≡ o) ⊎ (IsStack p.ending × Begins p.output o.output))
+
+-- the strict meaning says how the run ends
+abbrev pub IsDefined : Ending → Type 0
+IsDefined (ending.Unspecified reason pos) = ⊥
+IsDefined (ending.Outside pos) = ⊥
+IsDefined e = Unit {0}
+
+-- A placed run has the output of the strict one, takes as many bytes and ends as it does; or it ends for want of stack, and its output is
+-- the beginning of the strict run's
+abbrev pub IsAsMeant : Outcome Ending → Outcome Ending → Type 0
+IsAsMeant o p = (p ≡ o) ⊎ (IsStack p.ending × Begins p.output o.output)

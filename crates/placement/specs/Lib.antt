@@ -3,3 +3,4 @@ pub mod Trees
 pub mod Relations
 pub mod Runs
 pub mod Memories
+pub mod Independence
