@@ -1,5 +1,5 @@
 -- An object more.
-use Rattle.std.proofs.Common.{◌≡◌, ◌⊎◌, ℕ, zero, suc, ◌+◌, ◌-◌, ◌*◌, ◌/◌, ◌%◌, ◌^◌, ◌<◌, ◌≤◌, max, Bool, true, false, nat_lt, List, [], ◌∷◌, ◌++◌, length, Option, Some, None, Result, Ok, Err, refl, sym, ap, ◌∙◌, subst, inl, inr, arith}
+use Rattle.std.proofs.Common.{◌≡◌, ℕ, zero, suc, ◌+◌, ◌-◌, ◌/◌, ◌%◌, ◌<◌, ◌≤◌, Bool, true, false, nat_lt, List, [], ◌∷◌, ◌++◌, length, Some, None, Ok, refl, sym, ap, ◌∙◌, subst, inl, arith}
 use Rattle.std.specs.Prelude.{slice_get, if◌then◌else◌}
 use Rattle.std.proofs.lemmas.Bool.Decides.{nat_tests}
 use Rattle.std.proofs.Math.Nat.{mul-mod_left}
@@ -8,17 +8,17 @@ use Rattle.cap_concentrate.proofs.Least.{rounded_up_ge, rounded_up_near}
 use Rattle.cap_concentrate.proofs.Owned.{owned_ge}
 use Rattle.obj_mem.specs.declared.ending.Reason.TheVariants as R
 use Rattle.obj_mem.specs.Values.{Value, Live, Addresses}
-use Rattle.obj_mem.specs.Objects.{Life, Active, Shape, Memory, Placed, Strict, object_alignment, add, blank, data_permissions}
+use Rattle.obj_mem.specs.Objects.{Active, Shape, Memory, Placed, Strict, add, blank, data_permissions}
 use Rattle.obj_mem.specs.Access.{unspecified}
-use Rattle.obj_mem.specs.Heap.{strict_heap, allocation_alignment, Allocation, allocated, refused, placed_allocate, strict_allocate, allocate}
-use Rattle.obj_mem.specs.Legal.{Apart, ObjectNeed}
+use Rattle.obj_mem.specs.Heap.{strict_heap, allocation_alignment, allocated, placed_allocate, allocate}
+use Rattle.obj_mem.specs.Legal.{Apart}
 use Rattle.obj_mem.specs.Agreement.{Paired, IsNotReturned, SameShape, Answers}
 use Rattle.obj_mem.specs.Standing.{IsBased, IsGood, IsSpread}
 use Rattle.obj_mem.proofs.Powers.{power_one, length_aligned}
 use Rattle.obj_mem.proofs.Units.{memory_agrees_law}
 use Rattle.cheri_c_sem.specs.Modes.{Store, taken}
-use Rattle.placement.specs.Relations.{IsWord, Moved}
-use Rattle.placement.specs.Memories.{KeepsShapes, KeepsStack, IsClear, IsLaid, Stand, Later, memories}
+use Rattle.placement.specs.Relations.{Moved}
+use Rattle.placement.specs.Memories.{KeepsShapes, KeepsStack, IsClear, IsLaid, Stand, memories}
 use Rattle.placement.proofs.Shapes.{swap, smaller, kept_same, clear_part, there_later, alive_later}
 use Rattle.placement.proofs.Good.{whole_good}
 use Rattle.placement.proofs.Stored.{blank_content, content_more}
@@ -159,20 +159,22 @@ module _ (globals functions : ℕ) (a : Addresses) (stack size : ℕ) (laid : Is
       let off_text = swap a.text (a.text_end - a.text) r.start (owned n) (smaller a.text (a.text_end - a.text) a.heap (a.heap_end - a.heap) r.start (owned n) (omega arith) (omega arith) (swap a.heap (a.heap_end - a.heap) a.text (a.text_end - a.text) laid.heap_text)) in
       let off_stack = swap stack size r.start (owned n) (smaller stack size a.heap (a.heap_end - a.heap) r.start (owned n) (omega arith) (omega arith) (swap a.heap (a.heap_end - a.heap) stack size laid.heap_stack)) in
       let frame_to = e.frame_to in
-      let keeps = keeps_more s.memory.shapes (New n 0) in
-      (record {
-        same = (memory_agrees_law a).adds s.memory p.memory e.same n 0 r.start;
-        spread = spread_add t functions a h e.spread based clear off_text;
-        contents = content_more _ functions s.memory.contents (blank Strict (owned n)) (contents_later s.memory.shapes _ functions keeps s.memory.contents e.contents) (blank_content _ functions (owned n));
-        globals_there = λ i l. there_later s.memory.shapes _ keeps i (e.globals_there i l);
-        locals_alive = λ i l. alive_later s.memory.shapes _ keeps (first + i) (e.locals_alive i l);
-        heap_from = omega arith;
-        heap_least = r.sums;
-        heap_to = to;
-        heap_clear = clear_add t h (r.start + owned n) (a.heap_end - (r.start + owned n)) (clear_part t p.heap (a.heap_end - p.heap) (r.start + owned n) (a.heap_end - (r.start + owned n)) (omega arith) (omega arith) e.heap_clear) (inl (omega arith));
-        frame_to = frame_to;
-        stack_clear = clear_add t h stack (frame - stack) e.stack_clear (smaller r.start (owned n) stack size stack (frame - stack) (omega arith) (omega arith) off_stack);
-      }, record { strict = keeps; placed = keeps_more t h; kept_stack = stack_more stack size t h off_stack })
+      let keeps = keeps_more s.memory.shapes (New n 0) in (
+        record {
+          same = (memory_agrees_law a).adds s.memory p.memory e.same n 0 r.start;
+          spread = spread_add t functions a h e.spread based clear off_text;
+          contents = content_more _ functions s.memory.contents (blank Strict (owned n)) (contents_later s.memory.shapes _ functions keeps s.memory.contents e.contents) (blank_content _ functions (owned n));
+          globals_there = λ i l. there_later s.memory.shapes _ keeps i (e.globals_there i l);
+          locals_alive = λ i l. alive_later s.memory.shapes _ keeps (first + i) (e.locals_alive i l);
+          heap_from = omega arith;
+          heap_least = r.sums;
+          heap_to = to;
+          heap_clear = clear_add t h (r.start + owned n) (a.heap_end - (r.start + owned n)) (clear_part t p.heap (a.heap_end - p.heap) (r.start + owned n) (a.heap_end - (r.start + owned n)) (omega arith) (omega arith) e.heap_clear) (inl (omega arith));
+          frame_to = frame_to;
+          stack_clear = clear_add t h stack (frame - stack) e.stack_clear (smaller r.start (owned n) stack size stack (frame - stack) (omega arith) (omega arith) off_stack);
+        },
+        record { strict = keeps; placed = keeps_more t h; kept_stack = stack_more stack size t h off_stack },
+      )
 
   abbrev AllocatesAlike : Value × Store → Value × Store → Type 0
   AllocatesAlike x y = (x.0 ≡ y.0) × IsGood x.1.memory.shapes functions x.0 × Moved (memories globals functions a stack size) objects first frame s p x.1 y.1

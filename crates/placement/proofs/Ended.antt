@@ -1,15 +1,13 @@
 -- The objects of a call end.
-use Rattle.std.proofs.Common.{◌≡◌, ◌⊎◌, ℕ, zero, suc, ◌+◌, ◌-◌, ◌<◌, ◌≤◌, List, [], ◌∷◌, ◌++◌, length, Option, Some, None, refl, sym, ap, ◌∙◌, subst, inl, inr, arith}
+use Rattle.std.proofs.Common.{◌≡◌, ◌⊎◌, ℕ, zero, suc, ◌+◌, ◌<◌, ◌≤◌, List, [], ◌∷◌, length, Option, Some, None, refl, sym, ap, ◌∙◌, subst, inl, inr, arith}
 use Rattle.std.specs.Prelude.{slice_get, slice_set}
-use Rattle.obj_mem.specs.Values.{Value, Addresses}
-use Rattle.obj_mem.specs.Objects.{Life, Active, Inactive, Returned, Shape, Content, Memory, Mode, Placed, Strict, with_life_by, end}
+use Rattle.obj_mem.specs.Values.{Addresses}
+use Rattle.obj_mem.specs.Objects.{Returned, Shape, with_life_by, end}
 use Rattle.obj_mem.specs.Agreement.{IsNotReturned, SameMemory}
-use Rattle.obj_mem.specs.Standing.{IsGood}
 use Rattle.obj_mem.proofs.Units.{memory_agrees_law}
 use Rattle.cheri_c_sem.specs.Modes.{Store, Plan, with_memory, operations}
 use Rattle.cheri_c_sem.specs.Calls.{end_locals}
-use Rattle.placement.specs.Memories.{KeepsShapes, Kept}
-use Rattle.placement.proofs.Shapes.{IsFrom, AreFrom, KeepsOwned, from_kept, kept_same, some_same, get_set, set_is, set_other, same_place}
+use Rattle.placement.proofs.Shapes.{IsFrom, KeepsOwned, from_kept, kept_same, some_same, get_set, set_is, set_other, same_place}
 
 -- count objects from number k on end
 pub record Ended (k count : ℕ) (t u : List Shape) : Type 0 where
@@ -66,10 +64,12 @@ one_ended k t (Some g) is = record { back = back; forth = forth; below = λ i l.
       where
         go : ((i ≡ k) × (v ≡ h)) ⊎ ((i ≡ k → ⊥) × (slice_get t i ≡ Some v)) → (u : Shape) × (slice_get t i ≡ Some u) × IsFrom u v × (IsNotReturned v.life → (i < k) ⊎ (k + 1 ≤ i))
         go (inl q) =
-            let r : Returned ≡ v.life = sym (ap (λ z. z.life) q.1) in
-            (g, subst (λ j. slice_get t j ≡ Some g) (sym q.0) is,
-            subst (IsFrom g) (sym q.1) (record { base = refl; owned = refl; length = refl; stayed = λ x. absurd x }),
-            λ x. absurd (subst IsNotReturned (sym r) x))
+            let r : Returned ≡ v.life = sym (ap (λ z. z.life) q.1) in (
+              g,
+              subst (λ j. slice_get t j ≡ Some g) (sym q.0) is,
+              subst (IsFrom g) (sym q.1) (record { base = refl; owned = refl; length = refl; stayed = λ x. absurd x }),
+              λ x. absurd (subst IsNotReturned (sym r) x),
+            )
         go (inr q) = (v, q.1, from_kept v v (kept_same v), λ x. apart_places i k q.0)
 
     forth : KeepsOwned t (slice_set t k h)

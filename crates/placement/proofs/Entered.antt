@@ -1,5 +1,5 @@
 -- A call takes a frame.
-use Rattle.std.proofs.Common.{◌≡◌, ◌⊎◌, ℕ, zero, suc, ◌+◌, ◌-◌, ◌*◌, ◌/◌, ◌%◌, ◌^◌, ◌<◌, ◌≤◌, Bool, true, false, ◌||◌, nat_lt, List, [], ◌∷◌, ◌++◌, length, Option, Some, None, refl, sym, ap, ◌∙◌, subst, inl, inr, arith}
+use Rattle.std.proofs.Common.{◌≡◌, ◌⊎◌, ℕ, zero, suc, ◌+◌, ◌-◌, ◌*◌, ◌/◌, ◌%◌, ◌<◌, ◌≤◌, Bool, true, false, ◌||◌, nat_lt, List, [], ◌∷◌, ◌++◌, length, Option, Some, None, refl, sym, ap, ◌∙◌, subst, inl, inr, arith}
 use Rattle.std.specs.Prelude.{slice_get, slice_set, if◌then◌else◌}
 use Rattle.std.proofs.lemmas.Nat.{div-add-mod'}
 use Rattle.std.proofs.lemmas.Bool.Decides.{nat_tests}
@@ -7,21 +7,21 @@ use Rattle.std.proofs.Math.Nat.{mul-mod_left}
 use Rattle.cap_concentrate.specs.Rounding.{alignment, owned}
 use Rattle.obj_mem.specs.declared.map.Map.{Map}
 use Rattle.obj_mem.specs.declared.map.Frame.{Frame}
-use Rattle.obj_mem.specs.Values.{Value, Addresses}
-use Rattle.obj_mem.specs.Objects.{Life, Active, Inactive, Returned, Shape, Content, Memory, Mode, Placed, Strict, add, rest, blank, with_life_by}
+use Rattle.obj_mem.specs.Values.{Addresses}
+use Rattle.obj_mem.specs.Objects.{Active, Inactive, Shape, Memory, Mode, Placed, Strict, add, rest, blank, with_life_by}
 use Rattle.obj_mem.specs.Legal.{Apart}
 use Rattle.obj_mem.specs.Table.{addresses_of}
-use Rattle.obj_mem.specs.Agreement.{Paired, SameShape, SameMemory, IsNotReturned}
-use Rattle.obj_mem.specs.Standing.{IsBased, IsGood, IsSpread}
+use Rattle.obj_mem.specs.Agreement.{SameMemory, IsNotReturned}
+use Rattle.obj_mem.specs.Standing.{IsBased, IsSpread}
 use Rattle.obj_mem.proofs.Units.{memory_agrees_law}
-use Rattle.cheri_c_sem.specs.Modes.{Store, Plan, with_memory, with_local, operations, below, frame_within, local_offset, placed_plan, strict_plan}
+use Rattle.cheri_c_sem.specs.Modes.{Store, with_local, operations, below, frame_within, local_offset, placed_plan, strict_plan}
 use Rattle.cheri_c_sem.specs.Calls.{add_locals, end_locals}
 use Rattle.placement.specs.Relations.{Moved, Entry}
-use Rattle.placement.specs.Memories.{Kept, KeepsShapes, KeepsStack, IsClear, IsLaid, IsThere, IsAlive, ContentsGood, Stand, Later, memories, local_at, LocalFits, FrameFits}
-use Rattle.placement.proofs.Shapes.{IsFrom, AreFrom, swap, smaller, apart_as, keeps_same, keeps_twice, stack_twice, there_later, alive_later, good_later, good_owned, owned_kept, clear_part, clear_same, clear_later, spread_same, kept_same}
+use Rattle.placement.specs.Memories.{KeepsShapes, KeepsStack, IsClear, IsLaid, IsThere, IsAlive, ContentsGood, Stand, Later, memories, local_at, FrameFits}
+use Rattle.placement.proofs.Shapes.{IsFrom, AreFrom, swap, smaller, apart_as, keeps_same, keeps_twice, there_later, alive_later, good_later, good_owned, clear_part, clear_same, clear_later, spread_same}
 use Rattle.placement.proofs.Stored.{blank_content, content_more}
 use Rattle.placement.proofs.Changes.{contents_owned, contents_later}
-use Rattle.placement.proofs.Added.{get_last, get_front, last_is, as_long, keeps_more, spread_add, clear_add}
+use Rattle.placement.proofs.Added.{last_is, as_long, keeps_more, spread_add, clear_add}
 use Rattle.placement.proofs.Ended.{Ended, Ends, ends, ends_same}
 
 -- ---- a local is added
@@ -151,9 +151,9 @@ module _ (globals functions : ℕ) (m : Map) (laid : IsLaid (addresses_of m) m.s
         let longer : length s'.memory.shapes ≡ first + suc j = subst (λ t. length t ≡ first + suc j) (sym is_s) (let z = length_more s.memory.shapes (local_shape l 0) in omega (arith, z, long)) in
         let next : (k n : ℕ) → slice_get ls k ≡ Some n → slice_get lengths (suc j + k) ≡ Some n = λ k n f. subst (λ x. slice_get lengths x ≡ Some n) (shift j k) (part (suc k) n f) in
         let clear' : (k n : ℕ) → slice_get ls k ≡ Some n → IsClear p'.memory.shapes (here + local_at fr (suc j + k)) (owned n) = λ k n f.
-            subst (λ t. IsClear t (here + local_at fr (suc j + k)) (owned n)) (sym is_p)
-            (clear_add p.memory.shapes (local_shape l b) (here + local_at fr (suc j + k)) (owned n) (subst (λ x. IsClear p.memory.shapes (here + local_at fr x) (owned n)) (shift j k) (clear (suc k) n f))
-            (shifted here (local_at fr j) (owned l) (local_at fr (suc j + k)) (owned n) (fits.apart j (suc j + k) l n there (next k n f) (before j k)))) in
+        subst (λ t. IsClear t (here + local_at fr (suc j + k)) (owned n)) (sym is_p)
+        (clear_add p.memory.shapes (local_shape l b) (here + local_at fr (suc j + k)) (owned n) (subst (λ x. IsClear p.memory.shapes (here + local_at fr x) (owned n)) (shift j k) (clear (suc k) n f))
+        (shifted here (local_at fr j) (owned l) (local_at fr (suc j + k)) (owned n) (fits.apart j (suc j + k) l n there (next k n f) (before j k)))) in
         let offset : (placed_plan m).local here i j ≡ b = ap (λ o. here + local_offset o j) is in
         let r = add_all ls (suc j) s' p' next e' longer clear' in
         let counted : suc j + length ls ≡ j + suc (length ls) = omega arith in
@@ -317,20 +317,22 @@ module _ (globals functions : ℕ) (m : Map) (laid : IsLaid (addresses_of m) m.s
         let hl = st.heap_least in
         let ht = st.heap_to in
         let ft = e.frame_to in
-        let from : AreFrom p'.memory.shapes placed_out.memory.shapes = λ j h g. let y = placed_ends.shapes.back j h g in (y.0, y.1, y.2) in
-        (record {
-          same = ends_same addresses strict_plan (placed_plan m) lengths s' p' number st.same;
-          spread = spread_same p'.memory.shapes placed_out.memory.shapes functions addresses from st.spread;
-          contents = subst (λ cs. ContentsGood strict_out.memory.shapes functions cs) (sym strict_ends.contents) (contents_owned s'.memory.shapes strict_out.memory.shapes functions strict_ends.shapes.forth s'.memory.contents st.contents);
-          globals_there = λ j l. there_later s.memory.shapes strict_out.memory.shapes strict_keeps j (e.globals_there j l);
-          locals_alive = λ j l. alive_later s.memory.shapes strict_out.memory.shapes strict_keeps (cfirst + j) (e.locals_alive j l);
-          heap_from = omega (arith, hp, hf);
-          heap_least = omega (arith, hp, hs, hl);
-          heap_to = omega (arith, hp, ht);
-          heap_clear = subst (λ n. IsClear placed_out.memory.shapes n (addresses.heap_end - n)) (sym hp) (clear_same p'.memory.shapes placed_out.memory.shapes from p'.heap (addresses.heap_end - p'.heap) st.heap_clear);
-          frame_to = ft;
-          stack_clear = clear_later m.stack.0 m.stack.1 (frame - m.stack.0) p.memory.shapes placed_out.memory.shapes placed_keeps fresh_apart (omega (arith, ft)) e.stack_clear;
-        }, record { strict = strict_keeps; placed = placed_keeps; kept_stack = fresh_apart })
+        let from : AreFrom p'.memory.shapes placed_out.memory.shapes = λ j h g. let y = placed_ends.shapes.back j h g in (y.0, y.1, y.2) in (
+          record {
+            same = ends_same addresses strict_plan (placed_plan m) lengths s' p' number st.same;
+            spread = spread_same p'.memory.shapes placed_out.memory.shapes functions addresses from st.spread;
+            contents = subst (λ cs. ContentsGood strict_out.memory.shapes functions cs) (sym strict_ends.contents) (contents_owned s'.memory.shapes strict_out.memory.shapes functions strict_ends.shapes.forth s'.memory.contents st.contents);
+            globals_there = λ j l. there_later s.memory.shapes strict_out.memory.shapes strict_keeps j (e.globals_there j l);
+            locals_alive = λ j l. alive_later s.memory.shapes strict_out.memory.shapes strict_keeps (cfirst + j) (e.locals_alive j l);
+            heap_from = omega (arith, hp, hf);
+            heap_least = omega (arith, hp, hs, hl);
+            heap_to = omega (arith, hp, ht);
+            heap_clear = subst (λ n. IsClear placed_out.memory.shapes n (addresses.heap_end - n)) (sym hp) (clear_same p'.memory.shapes placed_out.memory.shapes from p'.heap (addresses.heap_end - p'.heap) st.heap_clear);
+            frame_to = ft;
+            stack_clear = clear_later m.stack.0 m.stack.1 (frame - m.stack.0) p.memory.shapes placed_out.memory.shapes placed_keeps fresh_apart (omega (arith, ft)) e.stack_clear;
+          },
+          record { strict = strict_keeps; placed = placed_keeps; kept_stack = fresh_apart },
+        )
 
   pub entry : Entry (memories globals functions addresses m.stack.0 m.stack.1) (operations strict_plan) (operations (placed_plan m)) globals functions objects cfirst frame s p i lengths at here
   unfolding operations

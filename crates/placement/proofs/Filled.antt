@@ -1,5 +1,5 @@
 -- What stands in the objects with which a program begins.
-use Rattle.std.proofs.Common.{◌≡◌, ℕ, zero, suc, ◌+◌, ◌-◌, ◌%◌, ◌^◌, ◌<◌, ◌≤◌, Bool, true, false, ◌||◌, ◌&&◌, nat_lt, List, [], ◌∷◌, ◌++◌, length, replicate, Option, Some, None, Result, Ok, Err, refl, sym, ap, ◌∙◌, subst, arith}
+use Rattle.std.proofs.Common.{◌≡◌, ℕ, zero, suc, ◌+◌, ◌-◌, ◌%◌, ◌^◌, ◌<◌, ◌≤◌, Bool, true, false, ◌||◌, nat_lt, List, [], ◌∷◌, ◌++◌, length, replicate, Option, Some, None, Result, Ok, Err, refl, sym, ap, ◌∙◌, subst, arith}
 use Rattle.std.specs.Prelude.{slice_get, slice_set, find}
 use Rattle.std.proofs.lemmas.Bool.Decides.{nat_tests}
 use Rattle.std.proofs.Common.{length-append}
@@ -9,14 +9,14 @@ use Rattle.cap_ops.specs.Access.{in_order}
 use Rattle.obj_mem.specs.declared.map.Map.{Map}
 use Rattle.obj_mem.specs.declared.ending.Fault.{Fault}
 use Rattle.obj_mem.specs.declared.ending.Fault.TheVariants as F
-use Rattle.obj_mem.specs.Values.{Value, Int, Live, Fun, Raw, Addresses}
-use Rattle.obj_mem.specs.Objects.{Life, Active, Inactive, Returned, Shape, Content, Note, Memory, Mode, Placed, Strict, owned_of_shape, is_note_of}
-use Rattle.obj_mem.specs.Access.{Spot, misses, unless, reach, onward, outside_unless_active, past_member, takes_padding, padding_where, at_place, at_spot, Piece, store_access, with_piece, put, stored_piece, store}
+use Rattle.obj_mem.specs.Values.{Value, Int, Live, Addresses}
+use Rattle.obj_mem.specs.Objects.{Life, Active, Inactive, Returned, Shape, Content, Note, Memory, Mode, Placed, Strict, owned_of_shape}
+use Rattle.obj_mem.specs.Access.{Spot, misses, unless, reach, onward, outside_unless_active, takes_padding, padding_where, at_place, at_spot, Piece, store_access, put, stored_piece, store}
 use Rattle.obj_mem.specs.Table.{addresses_of}
-use Rattle.obj_mem.specs.Agreement.{Paired, SameShape, SameMemory, Answers}
+use Rattle.obj_mem.specs.Agreement.{SameShape, SameMemory, Answers}
 use Rattle.obj_mem.proofs.Pairs.{Both, neither, both, get_both}
 use Rattle.obj_mem.proofs.Units.{memory_agrees_law}
-use Rattle.cheri_c_sem.specs.Modes.{Store, Plan, with_memory, stored, operations, placed_plan, strict_plan}
+use Rattle.cheri_c_sem.specs.Modes.{Store, stored, operations, placed_plan, strict_plan}
 use Rattle.cheri_c_sem.specs.Tree.{Global, Starting}
 use Rattle.cheri_c_sem.specs.Calls.{memory_or, written, with_bytes, with_links, all_bytes, fill_globals, link_globals, fill_literals}
 use Rattle.obj_mem.specs.Standing.{IsGood}

@@ -1,12 +1,10 @@
 -- Placement independence.
-use Rattle.std.proofs.Common.{◌≡◌, ◌⊎◌, ℕ, zero, suc, ◌+◌, ◌-◌, ◌%◌, ◌^◌, ◌<◌, ◌≤◌, true, List, [], ◌∷◌, ◌++◌, length, map, Option, Some, None, refl, sym, ap, ◌∙◌, subst, inl, inr, arith}
+use Rattle.std.proofs.Common.{◌≡◌, ℕ, zero, suc, ◌+◌, ◌^◌, ◌<◌, ◌≤◌, true, List, [], ◌∷◌, ◌++◌, length, map, Some, refl, sym, ap, ◌∙◌, subst, inl, inr, arith}
 use Rattle.std.specs.Prelude.{slice_get}
 use Rattle.std.specs.List.{AllByRecursion}
-use Rattle.std.proofs.lemmas.Option.{slice_get_within}
 use Rattle.cap_concentrate.specs.Rounding.{owned}
 use Rattle.cap_concentrate.proofs.Owned.{owned_small}
 use Rattle.ck_base.specs.World.{World, Outcome}
-use Rattle.ck_int.specs.Kinds.{kept_of}
 use Rattle.c_tree.specs.declared.typed.FunDef.{FunDef}
 use Rattle.c_tree.specs.declared.typed.GlobalDef.{GlobalDef}
 use Rattle.c_tree.specs.declared.typed.Link.{Link}
@@ -16,28 +14,25 @@ use Rattle.c_tree.specs.declared.typed.Target.TheVariants as target
 use Rattle.c_tree.specs.declared.typed.Typed.{Typed}
 use Rattle.c_tree.specs.Statics.{is_exact, is_near}
 use Rattle.c_tree.specs.Terms as terms
-use Rattle.c_tree.specs.Typing.{Sound}
 use Rattle.c_tree.specs.Views.{Shows, IsOrdered}
-use Rattle.c_tree.specs.WellTyped.{WellTyped, OwnsBytes, LinkFits, FunctionFits, outside}
+use Rattle.c_tree.specs.WellTyped.{WellTyped, OwnsBytes, outside}
 use Rattle.c_tree.specs.Types.{bare}
 use Rattle.c_facts.proofs.Sound.{well_typed}
 use Rattle.obj_mem.specs.declared.map.Map.{Map}
 use Rattle.obj_mem.specs.declared.ending.Ending.{Ending}
 use Rattle.obj_mem.specs.declared.ending.Ending.TheVariants as ending
-use Rattle.obj_mem.specs.Values.{Value, Live, Fun}
 use Rattle.obj_mem.specs.Objects.{const_permissions}
-use Rattle.obj_mem.specs.Legal.{owned_of, IsLegal}
-use Rattle.obj_mem.specs.Needs.{literal_need, function_needs, needs_of, weight_in, Legal}
+use Rattle.obj_mem.specs.Legal.{IsLegal}
+use Rattle.obj_mem.specs.Needs.{literal_need, needs_of, weight_in}
 use Rattle.obj_mem.specs.Standing.{IsFitted, AreExact}
 use Rattle.obj_mem.proofs.Spread.{objects_are_exact_law}
 use Rattle.cheri_c_sem.specs.Types.{size_of_extent, size_in}
-use Rattle.cheri_c_sem.specs.Programs.{parameter_of, stmt_tree, lengths_of, function_tree, function_trees, value_at, global_tree, program_tree}
-use Rattle.cheri_c_sem.specs.Expressions.{permissions_of}
+use Rattle.cheri_c_sem.specs.Programs.{function_tree, function_trees, value_at, global_tree, program_tree}
 use Rattle.cheri_c_sem.specs.Tree as tree
 use Rattle.cheri_c_sem.specs.Tree.{Starting, Global, Program}
 use Rattle.cheri_c_sem.specs.Runs.{placed, strict, placed_run, strict_run}
 use Rattle.placement.specs.Endings.{IsOpen, IsDefined, IsAsMeant, Follows}
-use Rattle.placement.specs.Independence.{HasBytes, PlacementIndependence}
+use Rattle.placement.specs.Independence.{PlacementIndependence}
 use Rattle.placement.specs.Relations.{IsWord}
 use Rattle.placement.specs.Trees.{FunctionFit, FunctionsFit}
 use Rattle.placement.proofs.Objects.{length_of}
@@ -116,14 +111,24 @@ module _ (p : Typed) (q : terms.Program) (o : IsOrdered p) (s : Shows p q) (w : 
       let own : n ≡ owned (size_in p.types owns.0.of) = owns.4 ∙ ap owned (sym is) in
       let within = owns.3.within in
       let small : owned x.size ≤ 2 ^ 26 = owned_small x.size (omega (arith, within)) in
-      let size = owns.4 in
-      (size_in p.types owns.0.of, global_length g owns.0 owns.2, subst (λ v. IsFitted v k.low (k.low + k.length)) own (exact_fitted n k.low k.length inside (omega (arith, inside, size, small)) ex),
-      near_kept k.low k.length k.offset (omega (arith, inside, size, small)) near, kept_word k.offset, permitted p [] (slice_get p.globals g))
+      let size = owns.4 in (
+        size_in p.types owns.0.of,
+        global_length g owns.0 owns.2,
+        subst (λ v. IsFitted v k.low (k.low + k.length)) own (exact_fitted n k.low k.length inside (omega (arith, inside, size, small)) ex),
+        near_kept k.low k.length k.offset (omega (arith, inside, size, small)) near,
+        kept_word k.offset,
+        permitted p [] (slice_get p.globals g),
+      )
   pointer_fits k (target.Literal l) n owns inside ex near =
       let small = literal_small p.literals m.literals exact.1 l owns.0 owns.1 in
-      let size = owns.2 in
-      (length owns.0.bytes, literal_length l owns.0 owns.1, subst (λ v. IsFitted v k.low (k.low + k.length)) size (exact_fitted n k.low k.length inside (omega (arith, inside, size, small)) ex),
-      near_kept k.low k.length k.offset (omega (arith, inside, size, small)) near, kept_word k.offset, let z : const_permissions < 4096 = omega arith in z)
+      let size = owns.2 in (
+        length owns.0.bytes,
+        literal_length l owns.0 owns.1,
+        subst (λ v. IsFitted v k.low (k.low + k.length)) size (exact_fitted n k.low k.length inside (omega (arith, inside, size, small)) ex),
+        near_kept k.low k.length k.offset (omega (arith, inside, size, small)) near,
+        kept_word k.offset,
+        let z : const_permissions < 4096 = omega arith in z,
+      )
   pointer_fits k (target.Fun f) n owns inside ex near = owns.0
 
   global_fits : (i : ℕ) (g : Global) → slice_get (map (global_tree p) p.globals) i ≡ Some g → GlobalFit lengths (length p.funs) g

@@ -1,5 +1,5 @@
 -- The operations of the strict meaning and those under a map keep memories standing for one another.
-use Rattle.std.proofs.Common.{◌≡◌, ℕ, zero, suc, ◌+◌, ◌-◌, ◌%◌, ◌^◌, ◌<◌, ◌≤◌, ◌&&◌, Bool, true, false, List, length, Option, Some, None, Result, Ok, Err, refl, sym, ap, ◌∙◌, subst, inl, inr, arith}
+use Rattle.std.proofs.Common.{◌≡◌, ℕ, ◌+◌, ◌-◌, ◌%◌, ◌^◌, ◌<◌, ◌≤◌, Bool, true, false, List, length, Option, Some, Result, Ok, Err, refl, sym, ap, ◌∙◌, subst, inl, inr, arith}
 use Rattle.std.specs.Prelude.{slice_get, if◌then◌else◌}
 use Rattle.std.proofs.lemmas.Bool.{cases_lt}
 use Rattle.std.proofs.lemmas.Bool.Decides.{nat_tests}
@@ -13,26 +13,25 @@ use Rattle.cap_concentrate.proofs.Owned.{owned_ge, alignment_pos}
 use Rattle.obj_mem.specs.declared.map.Map.{Map}
 use Rattle.obj_mem.specs.declared.ending.Fault.{Fault}
 use Rattle.obj_mem.specs.declared.ending.Fault.TheVariants as F
-use Rattle.obj_mem.specs.declared.ending.Reason.{Reason}
 use Rattle.obj_mem.specs.declared.ending.Reason.TheVariants as reason
 use Rattle.obj_mem.specs.Values.{Value, Int, Live, Fun, Raw, Addresses}
-use Rattle.obj_mem.specs.Objects.{Shape, Mode, Placed, Strict, owned_of_shape, whole_pointer}
-use Rattle.obj_mem.specs.Access.{unspecified, onward, load}
-use Rattle.obj_mem.specs.Pointers.{get_tag, get_permissions}
+use Rattle.obj_mem.specs.Objects.{Shape, Placed, Strict, owned_of_shape, whole_pointer}
+use Rattle.obj_mem.specs.Access.{unspecified, onward}
+use Rattle.obj_mem.specs.Pointers.{get_tag}
 use Rattle.obj_mem.specs.Comparisons.{is_low, unequal_where, equal}
 use Rattle.obj_mem.specs.Table.{addresses_of}
 use Rattle.obj_mem.specs.Agreement.{Paired, SameShape, Answers}
-use Rattle.obj_mem.specs.Standing.{IsBased, IsGood, IsSpread, PointersAgree}
+use Rattle.obj_mem.specs.Standing.{IsGood, IsSpread, PointersAgree}
 use Rattle.obj_mem.proofs.Pairs as pairs
 use Rattle.obj_mem.proofs.Pairs.{neither, both, get_both}
 use Rattle.obj_mem.proofs.Agree.{pointers_agree_law}
 use Rattle.obj_mem.proofs.Units.{memory_agrees_law}
-use Rattle.cheri_c_sem.specs.Kinds.{Kind, number_of, truth, null_at}
+use Rattle.cheri_c_sem.specs.Kinds.{number_of, truth, null_at}
 use Rattle.cheri_c_sem.specs.Operations.{Work, Base, Offset, Length, Tag, Perms, Clear, Set_address, And_perms, Equal_exact, Rounded, Mask}
-use Rattle.cheri_c_sem.specs.Modes.{Store, Plan, int_of, is_undefined, work_of, overlap_of, laps, operations, placed_plan, strict_plan}
+use Rattle.cheri_c_sem.specs.Modes.{Store, int_of, is_undefined, work_of, overlap_of, laps, operations, placed_plan, strict_plan}
 use Rattle.cheri_c_sem.specs.Tree.{Fun as Function}
 use Rattle.placement.specs.Relations.{IsWord, Both, Order, Keeps}
-use Rattle.placement.specs.Memories.{IsThere, IsLaid, Stand, Later, memories, FramesFit}
+use Rattle.placement.specs.Memories.{IsThere, IsLaid, Stand, memories, FramesFit}
 use Rattle.placement.proofs.Shapes.{keeps_same, keeps_twice, stack_same, stack_twice, good_later}
 use Rattle.placement.proofs.Good.{WhereOk, both_ways, move_good, narrow_good, clear_good, mask_good, address_good, set_good, base_good, length_good, offset_good, permissions_good, whole_good}
 use Rattle.placement.proofs.Stored.{load_good}

@@ -1,18 +1,16 @@
 -- What a legal map gives the objects with which a program begins.
-use Rattle.std.proofs.Common.{◌≡◌, ◌⊎◌, ℕ, zero, suc, ◌+◌, ◌-◌, ◌%◌, ◌^◌, ◌<◌, ◌≤◌, List, [], ◌∷◌, ◌++◌, length, map, Option, Some, None, refl, sym, ap, ◌∙◌, subst, inl, inr, arith}
+use Rattle.std.proofs.Common.{◌≡◌, ℕ, zero, suc, ◌+◌, ◌-◌, ◌<◌, List, [], ◌∷◌, ◌++◌, length, map, Some, refl, sym, ap, ◌∙◌, subst, arith}
 use Rattle.std.specs.Prelude.{slice_get, slice_index_or}
-use Rattle.cap_concentrate.specs.Rounding.{alignment, owned}
+use Rattle.cap_concentrate.specs.Rounding.{owned}
 use Rattle.obj_mem.specs.declared.map.Map.{Map}
-use Rattle.obj_mem.specs.declared.map.Frame.{Frame}
 use Rattle.obj_mem.specs.Values.{Addresses}
-use Rattle.obj_mem.specs.Objects.{Active, Shape}
-use Rattle.obj_mem.specs.Legal.{ObjectNeed, FunctionNeed, Needs, owned_of, Apart, AreApart, IsApartFrom, AllApart, AllInRange, placed_at, AreAligned, objects_of, parts_of, IsLegal}
+use Rattle.obj_mem.specs.Objects.{Shape}
+use Rattle.obj_mem.specs.Legal.{ObjectNeed, Needs, owned_of, Apart, AreApart, IsApartFrom, AllApart, placed_at, AreAligned, objects_of, parts_of, IsLegal}
 use Rattle.obj_mem.specs.Table.{addresses_of}
-use Rattle.obj_mem.specs.Agreement.{IsNotReturned}
-use Rattle.obj_mem.specs.Standing.{IsBased, IsSpread, IsExact, AreExact}
+use Rattle.obj_mem.specs.Standing.{IsBased, IsSpread, AreExact}
 use Rattle.placement.specs.Memories.{IsClear, IsLaid}
 use Rattle.placement.proofs.Shapes.{swap}
-use Rattle.placement.proofs.Objects.{object_shape, shapes_from}
+use Rattle.placement.proofs.Objects.{shapes_from}
 
 abbrev pub length_needed : ObjectNeed → ℕ
 length_needed n = n.length

@@ -1,9 +1,8 @@
 -- The objects with which a program begins.
-use Rattle.std.proofs.Common.{◌≡◌, ℕ, zero, suc, ◌+◌, ◌-◌, ◌<◌, ◌≤◌, List, [], ◌∷◌, ◌++◌, length, map, Option, Some, None, refl, sym, ap, ◌∙◌, subst, arith, append_assoc}
-use Rattle.std.specs.Prelude.{slice_get}
+use Rattle.std.proofs.Common.{◌≡◌, ℕ, suc, List, [], ◌∷◌, ◌++◌, length, map, refl, sym, ap, ◌∙◌, subst, arith, append_assoc}
 use Rattle.cap_concentrate.specs.Rounding.{owned}
 use Rattle.obj_mem.specs.Values.{Addresses}
-use Rattle.obj_mem.specs.Objects.{Life, Active, Shape, Content, Note, Memory, Mode, Placed, Strict, add, blank}
+use Rattle.obj_mem.specs.Objects.{Active, Shape, Placed, Strict, add, blank}
 use Rattle.obj_mem.specs.Agreement.{SameMemory}
 use Rattle.obj_mem.proofs.Units.{memory_agrees_law}
 use Rattle.cheri_c_sem.specs.Modes.{Store, Plan, with_object, operations}

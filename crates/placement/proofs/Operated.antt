@@ -1,5 +1,5 @@
 -- Operations that are made of those that a relation keeps.
-use Rattle.std.proofs.Common.{◌≡◌, ℕ, ◌+◌, ◌-◌, ◌*◌, ◌%◌, ◌^◌, ◌<◌, Bool, true, false, List, [], ◌∷◌, length, Option, Some, None, Result, Ok, Err, refl, sym, ap, subst, arith}
+use Rattle.std.proofs.Common.{◌≡◌, ℕ, ◌-◌, ◌*◌, ◌^◌, Bool, true, false, List, Result, Ok, Err, refl, sym, subst, arith}
 use Rattle.std.specs.Prelude.{if◌then◌else◌, pos}
 use Rattle.ck_int.specs.declared.kinds.IntKind.{IntKind}
 use Rattle.ck_int.specs.declared.kinds.IntKind.TheVariants as int
@@ -8,14 +8,13 @@ use Rattle.ck_int.specs.declared.kinds.IntOp.TheVariants.{Add, Sub, Mul, Div, Re
 use Rattle.ck_int.specs.declared.kinds.CmpOp.{CmpOp}
 use Rattle.ck_int.specs.declared.kinds.CmpOp.TheVariants.{Ne}
 use Rattle.ck_int.specs.Kinds.{wrapped}
-use Rattle.ck_int.specs.Arithmetic.{binary_of}
 use Rattle.ck_int.proofs.Laws.{wrapped-below, converted-below, IsKept-below, IsKept-binary_of}
-use Rattle.obj_mem.specs.Values.{Value, Int, Live, Fun, Raw}
+use Rattle.obj_mem.specs.Values.{Value, Int}
 use Rattle.obj_mem.specs.declared.ending.Fault.{Fault}
 use Rattle.obj_mem.specs.declared.ending.Fault.TheVariants as F
 use Rattle.obj_mem.specs.Agreement.{Answers}
 use Rattle.cheri_c_sem.specs.Kinds.{Kind, Plain, Capability, pointer, zero_of, nothing, truth, number_of, null_at, read_as, address_kind, int_kind}
-use Rattle.cheri_c_sem.specs.Operations.{Operations, Work, Set_address, on_ok, compare_by, is_true, to_int, convert_by, number_by, int_by, derive_by, move_by, is_live, steps_of, capability_by, plus_by, difference_by}
+use Rattle.cheri_c_sem.specs.Operations.{Operations, Set_address, on_ok, compare_by, is_true, to_int, convert_by, number_by, int_by, derive_by, move_by, is_live, steps_of, capability_by, plus_by, difference_by}
 use Rattle.cheri_c_sem.specs.Tree.{Operation, Whole, Derived, Moved, Apart, Sign, Positive, Negative, Complement}
 use Rattle.cheri_c_sem.specs.Tree as tree
 use Rattle.cheri_c_sem.specs.Meaning.{operate_by, sign_by}

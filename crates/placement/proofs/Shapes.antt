@@ -1,11 +1,11 @@
 -- Objects as a run goes on.
-use Rattle.std.proofs.Common.{◌≡◌, ◌⊎◌, ℕ, zero, suc, ◌+◌, ◌-◌, ◌<◌, ◌≤◌, List, [], ◌∷◌, ◌++◌, length, Option, Some, None, refl, sym, ap, ◌∙◌, subst, inl, inr, arith}
+use Rattle.std.proofs.Common.{◌≡◌, ◌⊎◌, ℕ, zero, suc, ◌+◌, ◌-◌, ◌≤◌, List, [], ◌∷◌, Option, Some, None, refl, sym, ap, ◌∙◌, subst, inl, inr, arith}
 use Rattle.std.specs.Prelude.{slice_get, slice_set}
 use Rattle.obj_mem.specs.Values.{Value, Int, Live, Fun, Raw, Addresses}
-use Rattle.obj_mem.specs.Objects.{Life, Active, Inactive, Returned, Shape, with_life_by}
+use Rattle.obj_mem.specs.Objects.{Life, Shape, with_life_by}
 use Rattle.obj_mem.specs.Legal.{Apart}
 use Rattle.obj_mem.specs.Agreement.{IsNotReturned}
-use Rattle.obj_mem.specs.Standing.{IsBased, IsFitted, IsSettled, IsGood, IsSpread}
+use Rattle.obj_mem.specs.Standing.{IsBased, IsFitted, IsGood, IsSpread}
 use Rattle.placement.specs.Memories.{Kept, KeepsShapes, KeepsStack, IsClear, IsThere, IsAlive}
 
 -- ---- extents

@@ -1,5 +1,5 @@
 -- Calls agree, and so do programs.
-use Rattle.std.proofs.Common.{◌≡◌, ℕ, zero, suc, ◌+◌, ◌<◌, ◌^◌, Bool, true, false, List, [], ◌∷◌, ◌++◌, length, replicate, Option, Some, None, refl, sym, subst, inl, inr, arith}
+use Rattle.std.proofs.Common.{◌≡◌, ℕ, zero, suc, ◌+◌, ◌<◌, List, [], ◌∷◌, ◌++◌, length, replicate, Option, Some, None, refl, sym, subst, inl, inr}
 use Rattle.std.specs.Prelude.{slice_get}
 use Rattle.std.specs.List.{AllByRecursion}
 use Rattle.ck_base.specs.World.{World}
@@ -8,7 +8,7 @@ use Rattle.obj_mem.specs.declared.ending.Ending.TheVariants as ending
 use Rattle.obj_mem.specs.Values.{Value, Int}
 use Rattle.cheri_c_sem.specs.Kinds.{Kind, nothing}
 use Rattle.cheri_c_sem.specs.Operations.{Operations}
-use Rattle.cheri_c_sem.specs.Steps.{State, Fate, Then, ◌>>=◌, ◌>>◌, give, over}
+use Rattle.cheri_c_sem.specs.Steps.{State, Fate, Then, ◌>>=◌, ◌>>◌, give}
 use Rattle.cheri_c_sem.specs.Tree.{Parameter, In_variable, In_object, At_end, Gives_nothing, Gives_zero, Lacks, Fun}
 use Rattle.cheri_c_sem.specs.Meaning.{At, store}
 use Rattle.cheri_c_sem.specs.Statements.{Flow, Goes, Breaks, Continues, Returns, exec}
@@ -16,10 +16,10 @@ use Rattle.cheri_c_sem.specs.Calls as parts
 use Rattle.cheri_c_sem.specs.Calls.{add_locals, end_locals, pass_one, pass, at_end, result_of, close, back, in_frame, calls}
 use Rattle.placement.specs.Endings.{Begins, Agrees}
 use Rattle.placement.specs.Runs.{twin, exits}
-use Rattle.placement.specs.Relations.{IsWord, Both, Relation, AllGood, VarsGood, Keeps, Entry}
+use Rattle.placement.specs.Relations.{IsWord, Relation, AllGood, VarsGood, Keeps, Entry}
 use Rattle.placement.specs.Trees.{ParameterFit, ParametersFit, FunctionFit, FunctionsFit}
 use Rattle.placement.proofs.Growing.{begins_same}
-use Rattle.placement.proofs.Sim.{Grows, KeepsOutput, no_values, itself, Stands, Onward, Sim, vars_climb, sim_give, sim_ends, sim_bind, sim_then, sim_answer, sim_set_variable, sim_change}
+use Rattle.placement.proofs.Sim.{Grows, no_values, itself, Stands, Onward, Sim, vars_climb, sim_give, sim_ends, sim_bind, sim_then, sim_answer, sim_set_variable, sim_change}
 use Rattle.placement.proofs.Operated.{nothing_good}
 use Rattle.placement.proofs.SimExpressions.{alone, sim_store}
 use Rattle.placement.proofs.SimStatements.{in_flow, sim_exec}
@@ -116,14 +116,14 @@ module _ {M N : Type 0} {r : Relation M N} {ops : Operations M} {pops : Operatio
         ((sim_work call call' h f fit vs).agrees s1 n1 here (record { memory = entry.stand; vars = none_good m1 f.vars }) (all_to s.mem m1 vs entry.climbs a) _ _
         (λ v t. gr v (record t { mem = end_locals ops t.mem t.first f.objects; vars = s.vars; first = s.first; frame = s.frame }))
         (λ v t u o b.
-            let is_first : t.first ≡ ops.count s.mem = o.first in
-            let moved = entry.leaves t.mem u (subst (λ c. r.stand (length f.objects) c here t.mem u) is_first o.stands.memory) o.later in
-            let m3 : M = end_locals ops t.mem (ops.count s.mem) f.objects in
-            let n3 : N = end_locals pops u (ops.count s.mem) f.objects in
-            let t3 : State M = record t { mem = m3; vars = s.vars; first = s.first; frame = s.frame } in
-            subst (λ c. Agrees (g v (record t { mem = end_locals ops t.mem c f.objects; vars = s.vars; first = s.first; frame = s.frame }))
-              (l v (record (twin t u here) { mem = end_locals pops u c f.objects; vars = s.vars; first = s.first; frame = frame }))) (sym is_first)
-            (q v t3 n3 (record { stands = record { memory = moved.0; vars = vars_climb k.order objects s.mem m3 n n3 s.vars moved.1 e.vars }; later = moved.1; first = refl }) (entry.keeps t.mem v b.0, tt))))
+        let is_first : t.first ≡ ops.count s.mem = o.first in
+        let moved = entry.leaves t.mem u (subst (λ c. r.stand (length f.objects) c here t.mem u) is_first o.stands.memory) o.later in
+        let m3 : M = end_locals ops t.mem (ops.count s.mem) f.objects in
+        let n3 : N = end_locals pops u (ops.count s.mem) f.objects in
+        let t3 : State M = record t { mem = m3; vars = s.vars; first = s.first; frame = s.frame } in
+        subst (λ c. Agrees (g v (record t { mem = end_locals ops t.mem c f.objects; vars = s.vars; first = s.first; frame = s.frame }))
+        (l v (record (twin t u here) { mem = end_locals pops u c f.objects; vars = s.vars; first = s.first; frame = frame }))) (sym is_first)
+        (q v t3 n3 (record { stands = record { memory = moved.0; vars = vars_climb k.order objects s.mem m3 n n3 s.vars moved.1 e.vars }; later = moved.1; first = refl }) (entry.keeps t.mem v b.0, tt))))
 
     framed : (objects : ℕ) (s : State M) (n : N) (frame : ℕ) → Stands k.order objects s n frame → AllGood r s.mem vs → (g : Value → State M → Fate) (l : Value → State N → Fate) → Grows g
         → ((x : Value) (t : State M) (u : N) → Onward k.order objects s n frame t u → AllGood r t.mem (itself x) → Agrees (g x t) (l x (twin t u frame)))

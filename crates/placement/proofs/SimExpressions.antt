@@ -1,6 +1,6 @@
 -- Expressions agree, over calls that do.
-use Rattle.std.proofs.Common.{◌≡◌, ℕ, zero, suc, ◌+◌, ◌-◌, ◌%◌, ◌^◌, ◌<◌, Bool, true, false, not, List, [], ◌∷◌, ◌++◌, length, Option, Some, None, Result, Ok, Err, refl, sym, subst, arith}
-use Rattle.std.specs.Prelude.{slice_get, slice_index_or, ◌/◌, if◌then◌else◌}
+use Rattle.std.proofs.Common.{◌≡◌, ℕ, zero, suc, ◌+◌, ◌%◌, Bool, true, false, List, [], ◌∷◌, ◌++◌, Option, Some, None, Result, Ok, Err, refl, subst, arith}
+use Rattle.std.specs.Prelude.{slice_get, slice_index_or, ◌/◌}
 use Rattle.std.specs.List.{AllByRecursion}
 use Rattle.ck_base.specs.World.{World}
 use Rattle.ck_base.specs.declared.positions.Pos.{Pos}
@@ -10,18 +10,17 @@ use Rattle.obj_mem.specs.declared.ending.Fault.{Fault}
 use Rattle.obj_mem.specs.declared.ending.Fault.TheVariants as F
 use Rattle.obj_mem.specs.Values.{Value, Int, Live, Fun, Raw}
 use Rattle.obj_mem.specs.Agreement.{Answers}
-use Rattle.cheri_c_sem.specs.Kinds.{Kind, bytes_of, nothing, null_at, number_of, truth, read_as}
-use Rattle.cheri_c_sem.specs.Operations.{Operations, convert_by, compare_by, is_true, on_ok}
-use Rattle.cheri_c_sem.specs.Steps.{State, Fate, Then, ◌>>=◌, ◌>>◌, give, ask, unit_answer, set_memory, byte_or_end}
+use Rattle.cheri_c_sem.specs.Kinds.{Kind, bytes_of, nothing, number_of, read_as}
+use Rattle.cheri_c_sem.specs.Operations.{Operations}
+use Rattle.cheri_c_sem.specs.Steps.{State, Fate, Then, ◌>>=◌, ◌>>◌, give, unit_answer, set_memory, byte_or_end}
 use Rattle.cheri_c_sem.specs.Tree.{Service, Put_char, Get_char, Malloc, Exit, Address, Bounds, Works, Narrowing, Ex, Number, Null, Load, Aggregate, Pointer_to, Convert, Discard, Unary, Not, Binary, Compare, And, Or, Conditional, Comma, Assign, Copy, Compound, Call, Library, Variable, Local, Object, Function, Deref, Member, Exs, Nil, Cons}
 use Rattle.cheri_c_sem.specs.Tree as tree
-use Rattle.cheri_c_sem.specs.Meaning.{Place, In, At, position_of, capability_of, further, first_of, second_of, nowhere, given, load, store, copy_units, copy, test, operate_by, sign_by, point_to, called, allocate, serve, value_of, place_of, values_of}
-use Rattle.placement.specs.Endings.{Begins, Agrees}
+use Rattle.cheri_c_sem.specs.Meaning.{Place, In, At, position_of, capability_of, further, first_of, second_of, nowhere, given, load, store, copy_units, copy, test, point_to, called, allocate, serve}
+use Rattle.placement.specs.Endings.{Agrees}
 use Rattle.placement.specs.Runs.{twin}
-use Rattle.placement.specs.Relations.{IsWord, Both, Relation, Order, AllGood, VarsGood, Moved, Keeps}
-use Rattle.placement.specs.Trees.{IsFit, AreFit}
-use Rattle.placement.proofs.Sim.{Grows, KeepsOutput, no_values, itself, Stands, Onward, Sim, here, onward, all_climb, all_join, changed, grows_answer, grows_unit, answered, unit_answered, sim_give, sim_ends, sim_bind, sim_then, sim_known, sim_choose, sim_answer, sim_ask, sim_turn, sim_set_variable, sim_change, sim_memory, sim_put, sim_get}
-use Rattle.placement.proofs.Operated.{on_both, unasked, Anything, nothing_good, truth_good, compared, tested, converts, operates, signs, read_good}
+use Rattle.placement.specs.Relations.{IsWord, Both, Relation, AllGood, VarsGood, Moved, Keeps}
+use Rattle.placement.proofs.Sim.{KeepsOutput, no_values, itself, Stands, Onward, Sim, here, onward, all_climb, changed, grows_answer, grows_unit, answered, unit_answered, sim_give, sim_ends, sim_bind, sim_then, sim_choose, sim_answer, sim_ask, sim_set_variable, sim_change, sim_memory, sim_put, sim_get}
+use Rattle.placement.proofs.Operated.{on_both, unasked, nothing_good, tested, read_good}
 
 -- the value in a place
 abbrev pub in_place : Place → List Value
@@ -99,8 +98,8 @@ module _ {M N : Type 0} {r : Relation M N} {ops : Operations M} {pops : Operatio
         unit_answered k.order objects (Moved r objects s.first frame s.mem n) from to (ops.copy_unit s.mem v z unit) (pops.copy_unit n v z unit)
         (k.copies objects s.first frame s.mem n e.memory v z unit) s n frame _ _
         (λ m' n' b. let o = changed k.order objects s n frame e m' n' b in
-          rest.agrees (record s { mem = m' }) n' frame o.stands (all_climb k.order objects s.mem m' n n' known b.1 a) f l g
-          (λ x t u o' b'. q x t u (onward k.order objects s (record s { mem = m' }) t n n' u frame o o') b'));
+        rest.agrees (record s { mem = m' }) n' frame o.stands (all_climb k.order objects s.mem m' n n' known b.1 a) f l g
+        (λ x t u o' b'. q x t u (onward k.order objects s (record s { mem = m' }) t n n' u frame o o') b'));
   }
 
   sim_units : {known : List Value} (count unit at : ℕ) (from to : Place) → Sim k.order objects known no_values (copy_units ops w count unit at from to) (copy_units pops w count unit at from to)
@@ -123,8 +122,8 @@ module _ {M N : Type 0} {r : Relation M N} {ops : Operations M} {pops : Operatio
   sim_point_to p (Some o) to h = sim_bind k.order objects itself itself
       (sim_ask k.order objects itself p _ _ (λ first frame m n e a. alone (r.good m) _ _ (k.narrows objects first frame m n e (capability_of to) o.owned true (h m a))))
       (λ v. sim_then k.order objects no_values itself
-        (sim_change k.order objects (λ s. ops.note_member s.mem v o.own) (λ s. pops.note_member s.mem v o.own) (λ s n frame e a. k.notes objects s.first frame s.mem n e.memory v o.own))
-        (sim_give k.order objects itself v (λ m a. (a.0, tt))))
+      (sim_change k.order objects (λ s. ops.note_member s.mem v o.own) (λ s. pops.note_member s.mem v o.own) (λ s n frame e a. k.notes objects s.first frame s.mem n e.memory v o.own))
+      (sim_give k.order objects itself v (λ m a. (a.0, tt))))
 
   pub sim_called : {known : List Value} (p : Pos) (fits : List Bool) (v : Value) → Sim k.order objects known no_values (called ops w p fits v) (called pops w p fits v)
   sim_called p fits (Fun f) = sim_choose k.order objects no_values (slice_index_or fits f false) (sim_give k.order objects no_values f (λ m a. tt)) (sim_ends k.order objects no_values (ending.Outside p))
@@ -154,7 +153,7 @@ module _ {M N : Type 0} {r : Relation M N} {ops : Operations M} {pops : Operatio
         answered k.order objects (λ x y. (x.0 ≡ y.0) × r.good x.1 x.0 × Moved r objects s.first frame s.mem n x.1 y.1) p (ops.allocate s.mem bytes) (pops.allocate n bytes)
         (k.allocations objects s.first frame s.mem n e.memory bytes h) s n frame _ _
         (λ x y b. subst (λ v. Agrees (f x.0 (record s { mem = x.1 })) (l v (twin (record s { mem = x.1 }) y.1 frame))) b.0
-          (q x.0 (record s { mem = x.1 }) y.1 (changed k.order objects s n frame e x.1 y.1 b.2) (b.1, tt)));
+        (q x.0 (record s { mem = x.1 }) y.1 (changed k.order objects s n frame e x.1 y.1 b.2) (b.1, tt)));
   }
 
   -- what getchar gives

@@ -1,5 +1,5 @@
 -- Statements agree, over calls that do.
-use Rattle.std.proofs.Common.{◌≡◌, ℕ, zero, suc, ◌+◌, ◌<◌, ◌^◌, Bool, true, false, List, [], ◌∷◌, ◌++◌, Option, Some, None, refl, subst, arith}
+use Rattle.std.proofs.Common.{◌≡◌, ℕ, zero, suc, ◌+◌, ◌<◌, Bool, true, List, [], ◌∷◌, ◌++◌, Option, Some, None, refl, subst}
 use Rattle.std.specs.List.{AllByRecursion}
 use Rattle.ck_base.specs.World.{World}
 use Rattle.ck_base.specs.declared.positions.Pos.{Pos}
@@ -9,7 +9,7 @@ use Rattle.obj_mem.specs.Values.{Value}
 use Rattle.obj_mem.specs.Agreement.{Answers}
 use Rattle.cheri_c_sem.specs.Kinds.{Kind, Plain, Capability, nothing}
 use Rattle.cheri_c_sem.specs.Operations.{Operations, compare_by}
-use Rattle.cheri_c_sem.specs.Steps.{State, Then, give, ask}
+use Rattle.cheri_c_sem.specs.Steps.{State, Then, give}
 use Rattle.cheri_c_sem.specs.Tree.{Ex, Declared, Simple, Objects, Label, Case, Default, St, Do, Give, Init, Fill, Block, If, While, Do_while, For, Switch, Break, Continue, Return, Empty, Sts, End, Seq}
 use Rattle.cheri_c_sem.specs.Tree as tree
 use Rattle.cheri_c_sem.specs.Meaning.{At, value_of}
@@ -61,7 +61,7 @@ module _ {M N : Type 0} {r : Relation M N} {ops : Operations M} {pops : Operatio
   sim_loop zero ht hc hu = sim_ends k.order objects in_flow ending.Turns
   sim_loop (suc n) ht hc hu = sim_bind k.order objects no_values in_flow ht (λ v. sim_choose k.order objects in_flow v
       (sim_bind k.order objects in_flow in_flow hc (λ f. sim_after_body f
-        (sim_then k.order objects no_values in_flow hu (sim_then k.order objects no_values in_flow (sim_turn k.order objects) (sim_loop n ht hc hu)))))
+      (sim_then k.order objects no_values in_flow hu (sim_then k.order objects no_values in_flow (sim_turn k.order objects) (sim_loop n ht hc hu)))))
       (sim_give k.order objects in_flow Goes (λ m a. tt)))
 
   sim_repeat : {known : List Value} (n : ℕ) {c : Then M Flow} {c' : Then N Flow} {t : Then M Bool} {t' : Then N Bool}
@@ -69,8 +69,8 @@ module _ {M N : Type 0} {r : Relation M N} {ops : Operations M} {pops : Operatio
   sim_repeat zero hc ht = sim_ends k.order objects in_flow ending.Turns
   sim_repeat (suc n) hc ht = sim_bind k.order objects in_flow in_flow hc (λ f. sim_after_body f
       (sim_bind k.order objects no_values in_flow ht (λ v. sim_choose k.order objects in_flow v
-        (sim_then k.order objects no_values in_flow (sim_turn k.order objects) (sim_repeat n hc ht))
-        (sim_give k.order objects in_flow Goes (λ m a. tt)))))
+      (sim_then k.order objects no_values in_flow (sim_turn k.order objects) (sim_repeat n hc ht))
+      (sim_give k.order objects in_flow Goes (λ m a. tt)))))
 
   -- ---- blocks
 

@@ -1,13 +1,13 @@
 -- Memories stand for one another at the start of a program, and so its runs agree.
-use Rattle.std.proofs.Common.{◌≡◌, ◌⊎◌, ℕ, zero, suc, ◌+◌, ◌-◌, ◌%◌, ◌^◌, ◌<◌, ◌≤◌, min, true, List, [], ◌∷◌, ◌++◌, length, map, Option, Some, None, refl, sym, ap, ◌∙◌, subst, inl, inr, arith, length-append}
+use Rattle.std.proofs.Common.{◌≡◌, ℕ, zero, suc, ◌+◌, ◌-◌, ◌^◌, ◌<◌, ◌≤◌, true, List, [], ◌∷◌, ◌++◌, length, map, Some, refl, sym, ap, ◌∙◌, subst, inl, inr, arith, length-append}
 use Rattle.std.specs.Prelude.{slice_get, slice_index_or}
 use Rattle.std.specs.List.{AllByRecursion}
 use Rattle.cap_concentrate.specs.Rounding.{owned}
 use Rattle.cap_concentrate.proofs.Owned.{owned_ge}
-use Rattle.ck_base.specs.World.{World, nothing_done}
+use Rattle.ck_base.specs.World.{World}
 use Rattle.obj_mem.specs.declared.map.Map.{Map}
 use Rattle.obj_mem.specs.Values.{Value, Int, Live, Fun, Raw, Addresses}
-use Rattle.obj_mem.specs.Objects.{Active, Shape, Memory, no_objects, Placed, Strict}
+use Rattle.obj_mem.specs.Objects.{Active, Shape, no_objects}
 use Rattle.obj_mem.specs.Pointers.{is_near}
 use Rattle.obj_mem.specs.Legal.{Needs, IsLegal}
 use Rattle.obj_mem.specs.Table.{addresses_of}
@@ -15,18 +15,16 @@ use Rattle.obj_mem.specs.Agreement.{SameMemory}
 use Rattle.obj_mem.specs.Standing.{IsFitted, IsGood, IsSpread, AreExact}
 use Rattle.cheri_c_sem.specs.Modes.{Store, operations, placed_plan, strict_plan}
 use Rattle.cheri_c_sem.specs.Steps.{Fate, outcome_of}
-use Rattle.cheri_c_sem.specs.Tree as tree
 use Rattle.cheri_c_sem.specs.Tree.{Global, Starting, Program}
-use Rattle.cheri_c_sem.specs.Calls.{start, add_globals, add_literals, fill_globals, fill_literals, link_globals, first_state, calls, fate, meant}
+use Rattle.cheri_c_sem.specs.Calls.{start, add_globals, add_literals, first_state, fate}
 use Rattle.cheri_c_sem.specs.Runs.{placed_run, strict_run}
-use Rattle.placement.specs.Endings.{IsOpen, IsStack, Agrees, Follows}
+use Rattle.placement.specs.Endings.{Agrees, Follows}
 use Rattle.placement.specs.Relations.{IsWord}
 use Rattle.placement.specs.Trees.{FunctionsFit}
-use Rattle.placement.specs.Runs.{exits}
-use Rattle.placement.specs.Memories.{IsThere, IsClear, IsLaid, ContentsGood, FramesFit, Stand, memories}
+use Rattle.placement.specs.Memories.{IsThere, IsClear, ContentsGood, FramesFit, Stand, memories}
 use Rattle.placement.proofs.SimCalls.{runs_agree}
 use Rattle.placement.proofs.Instance.{keeps}
-use Rattle.placement.proofs.Objects.{object_shape, shapes_from, length_of, Adds, globals_added, literals_added, globals_same, literals_same, globals_blank, literals_blank}
+use Rattle.placement.proofs.Objects.{object_shape, shapes_from, length_of, globals_added, literals_added, globals_same, literals_same, globals_blank, literals_blank}
 use Rattle.placement.proofs.Filled.{Ready, IsOf, LinksFit, GlobalsFit, LiteralsFit, globals_filled, literals_filled, globals_linked}
 use Rattle.placement.proofs.Lawful.{length_needed, placed_shapes, laid, spread, heap_clear, stack_clear}
 
@@ -153,9 +151,12 @@ module _ (pr : Program) (n : Needs) (m : Map) (legal : IsLegal n m) (exact_globa
   globals_from (g ∷ gs) k h =
       let x = h 0 g refl in
       let z : k + 0 ≡ k = omega arith in
-      let f = x.1 in
-      (is_of k g.length (subst (λ i. slice_get (lengths_of pr) i ≡ Some g.length) z x.0), f.bytes, links_fit g.length g.links f.links,
-      globals_from gs (suc k) (λ i y e. let w = h (suc i) y e in (subst (λ i. slice_get (lengths_of pr) i ≡ Some y.length) (next k i) w.0, w.1)))
+      let f = x.1 in (
+        is_of k g.length (subst (λ i. slice_get (lengths_of pr) i ≡ Some g.length) z x.0),
+        f.bytes,
+        links_fit g.length g.links f.links,
+        globals_from gs (suc k) (λ i y e. let w = h (suc i) y e in (subst (λ i. slice_get (lengths_of pr) i ≡ Some y.length) (next k i) w.0, w.1)),
+      )
     where
       next : (k i : ℕ) → k + suc i ≡ suc k + i
       next k i = omega arith
@@ -163,9 +164,10 @@ module _ (pr : Program) (n : Needs) (m : Map) (legal : IsLegal n m) (exact_globa
   literals_from : (ls : List (List ℕ)) (k : ℕ) → ((i : ℕ) (bs : List ℕ) → slice_get ls i ≡ Some bs → slice_get (lengths_of pr) (k + i) ≡ Some (length bs)) → LiteralsFit functions m t u active k ls
   literals_from [] k h = tt
   literals_from (bs ∷ ls) k h =
-      let z : k + 0 ≡ k = omega arith in
-      (is_of k (length bs) (subst (λ i. slice_get (lengths_of pr) i ≡ Some (length bs)) z (h 0 bs refl)),
-      literals_from ls (suc k) (λ i y e. subst (λ i. slice_get (lengths_of pr) i ≡ Some (length y)) (next k i) (h (suc i) y e)))
+      let z : k + 0 ≡ k = omega arith in (
+        is_of k (length bs) (subst (λ i. slice_get (lengths_of pr) i ≡ Some (length bs)) z (h 0 bs refl)),
+        literals_from ls (suc k) (λ i y e. subst (λ i. slice_get (lengths_of pr) i ≡ Some (length y)) (next k i) (h (suc i) y e)),
+      )
     where
       next : (k i : ℕ) → k + suc i ≡ suc k + i
       next k i = omega arith

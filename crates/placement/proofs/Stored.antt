@@ -1,16 +1,15 @@
 -- What a strict run keeps in memory is good.
-use Rattle.std.proofs.Common.{◌≡◌, ℕ, zero, suc, ◌+◌, ◌-◌, ◌*◌, ◌/◌, ◌%◌, ◌^◌, ◌<◌, ◌≤◌, ◌==◌, ◌&&◌, Bool, true, false, List, [], ◌∷◌, ◌++◌, take, drop, length, replicate, Option, Some, None, Result, Ok, Err, refl, sym, ap, ◌∙◌, arith, subst}
+use Rattle.std.proofs.Common.{◌≡◌, ℕ, zero, suc, ◌+◌, ◌*◌, ◌/◌, ◌%◌, ◌^◌, ◌<◌, ◌≤◌, ◌==◌, ◌&&◌, Bool, true, false, List, [], ◌∷◌, ◌++◌, take, drop, length, replicate, Option, Some, None, Result, Ok, Err, refl, ap, arith, subst}
 use Rattle.std.specs.Prelude.{slice_get, slice_set, if◌then◌else◌}
 use Rattle.std.proofs.Math.Nat.{pow-succ'}
 use Rattle.std.proofs.lemmas.List.{length-take, length-drop}
 use Rattle.ck_int.specs.declared.kinds.IntKind.TheVariants as int
 use Rattle.obj_mem.specs.declared.ending.Fault.{Fault}
-use Rattle.obj_mem.specs.declared.ending.Fault.TheVariants as F
 use Rattle.obj_mem.specs.declared.ending.UnitFault.{UnitFault}
 use Rattle.obj_mem.specs.declared.ending.Reason.{Reason}
 use Rattle.obj_mem.specs.declared.ending.Reason.TheVariants as R
 use Rattle.obj_mem.specs.Values.{Value, Int, Live, Fun, Raw}
-use Rattle.obj_mem.specs.Objects.{Cell, Byte, Unwritten, PartOf, Life, Active, Inactive, Returned, Shape, Content, Memory, Mode, Placed, Strict, held, value_at, cell_or, seen_through, byte_at, bytes_at, put_at, parts, opened_by, opened, with_bytes, with_value, fresh, blank}
+use Rattle.obj_mem.specs.Objects.{Cell, Byte, Unwritten, PartOf, Life, Active, Inactive, Returned, Shape, Content, Memory, Mode, Strict, held, value_at, cell_or, seen_through, bytes_at, put_at, parts, opened_by, opened, blank}
 use Rattle.obj_mem.specs.Access.{Spot, reach, onward, outside_unless_active, padding_where, at_place, at_spot, Piece, Tagged, Plain, load_access, store_access, piece_of, fetch, with_piece, put, has_unwritten, has_part, number_of, read_as, known, loaded, load, bytes_of, stored_piece, store, carried, as_load, as_store, then_put, copy_unit}
 use Rattle.obj_mem.specs.Standing.{IsGood}
 use Rattle.cheri_c_sem.specs.Kinds as kinds
@@ -190,7 +189,7 @@ module _ (s : List Shape) (functions : ℕ) where
   fetch_good : (m : Memory) → ContentsGood s functions m.contents → (p : Value) (n : ℕ) → WhereOk (λ u. PieceGood u × IsLong n u) (fetch Strict m p n)
   fetch_good m g p n =
       onward_ok (λ x. Unit {0}) (λ u. PieceGood u × IsLong n u) (reach (load_access n) p) _ (anything _) (λ x _. spot_ok (λ u. PieceGood u × IsLong n u) Strict m x n _ (λ c e.
-        let h = content_at m.contents x.object g c e in piece_good m c x n h (value_at c (x.at / 16)) (get_value c.values (x.at / 16) h.values)))
+      let h = content_at m.contents x.object g c e in piece_good m c x n h (value_at c (x.at / 16)) (get_value c.values (x.at / 16) h.values)))
 
   -- ---- loads
 
@@ -235,7 +234,7 @@ module _ (s : List Shape) (functions : ℕ) where
   pub put_piece_good : (m : Memory) → ContentsGood s functions m.contents → (p : Value) (n : ℕ) (u : Piece) → PieceGood u → WhereOk (λ x. ContentsGood s functions x.contents) (put Strict m p n u)
   put_piece_good m g p n u h =
       onward_ok (λ x. Unit {0}) (λ x. ContentsGood s functions x.contents) (reach (store_access n u) p) _ (anything _) (λ x _. spot_ok (λ y. ContentsGood s functions y.contents) Strict m x n _ (λ c e.
-        content_set m.contents x.object _ (with_good m.shapes c x.at u h (content_at m.contents x.object g c e)) g))
+      content_set m.contents x.object _ (with_good m.shapes c x.at u h (content_at m.contents x.object g c e)) g))
 
   pub stored_good : (n : ℕ) (v : Value) → IsGood s functions v → PieceGood (stored_piece n v)
   stored_good n (Int x) g = bytes_good n x
