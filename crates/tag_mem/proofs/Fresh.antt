@@ -15,7 +15,7 @@ IsRegion-at low [] k d h lt = absurd (omega arith)
 IsRegion-at low (r ∷ rs) zero d h lt = h.1
 IsRegion-at low (r ∷ rs) (suc k) d h lt = IsRegion-at (r.base + r.length) rs k d h.2 (omega arith)
 
-IsArea-fresh : (r : Region) → IsRegion r → IsArea (fresh_area r)
+pub IsArea-fresh : (r : Region) → IsRegion r → IsArea (fresh_area r)
 IsArea-fresh r h = record {
   base = h.base;
   granules = rw (length-replicate {A = ℕ} r.length 0, length-replicate (r.length / 16) false) (omega (arith, h.length));

@@ -6,3 +6,8 @@ pub mod Fresh
 pub mod Places
 pub mod Sizes
 pub mod Reading
+pub mod Bits
+pub mod Granules
+pub mod Kept
+pub mod Replacing
+pub mod Filling

@@ -2,9 +2,10 @@
 use Rattle.std.proofs.Common.{◌≡◌, ℕ, zero, suc, ◌+◌, ◌-◌, ◌*◌, ◌/◌, ◌%◌, ◌^◌, ◌<◌, ◌≤◌, List, [], ◌∷◌, ◌++◌, length, take, drop, replicate, get_or, refl, sym, ap, ◌∙◌, arith}
 use Rattle.std.specs.Prelude.{All}
 use Rattle.std.specs.Int.{byte_at, byte_worth, bytes_low_first, from_le_bytes, sum_through, w128}
-use Rattle.std.proofs.lemmas.List.{drop-replicate, length-append, length-drop}
+use Rattle.std.proofs.lemmas.List.{places, drop-replicate, length-append, length-drop}
 use Rattle.std.proofs.lemmas.List.Elements.{All-head, All-tail, All-from_get_or}
-use Rattle.std.proofs.Math.Nat.{div-div-eq-div-mul, div-one, pow-suc, pow-succ'}
+use Rattle.std.proofs.Math.Nat.{div-div-eq-div-mul, div-one, pow-suc, pow-succ', mul_comm, one-le-pow}
+use lib.Arith.{mod-mul}
 use Rattle.tag_mem.specs.Numbers.{little_number, little_bytes}
 
 -- what the bytes up to the place k are worth
@@ -37,6 +38,11 @@ number-zeros : (bs : List ℕ) (k : ℕ) → little_number (bs ++ replicate k 0)
 number-zeros [] zero = refl
 number-zeros [] (suc k) = omega (arith, number-zeros [] k)
 number-zeros (b ∷ bs) k = ap (λ n. b + 256 * n) (number-zeros bs k)
+
+-- sixteen bytes
+pub number-whole : (bs : List ℕ) → length bs ≡ 16 → from_le_bytes w128 bs ≡ little_number bs
+unfolding worth
+number-whole bs size = worth-number bs 15 (omega (arith, size))
 
 -- bytes at the front of an array of zeros
 pub number-padded : (bs : List ℕ) → length bs ≤ 16 → from_le_bytes w128 (bs ++ drop (length bs) (replicate 16 0)) ≡ little_number bs
@@ -117,3 +123,32 @@ number-spelled (b ∷ bs) v each below =
     let high : v / 256 < 256 ^ length bs = let wide : v < 256 ^ length bs * 256 = rw (← pow-suc 256 (length bs)) below in omega (arith, wide) in
     let rest = number-spelled bs (v / 256) (λ k h. each (suc k) (omega arith) ∙ ap (λ n. n % 256) (quotient v k)) high in
     omega (arith, low, rest)
+
+-- ---- parts of a number
+
+-- the number of the bytes from a place on
+pub number-drop : (bs : List ℕ) (k : ℕ) → All (λ b. b < 256) bs → little_number (drop k bs) ≡ little_number bs / 256 ^ k
+number-drop bs zero small = sym (div-one (little_number bs))
+number-drop [] (suc k) small = omega (arith, below_zero (256 ^ suc k)) where
+  below_zero : (n : ℕ) → 0 / n ≡ 0
+  below_zero n = omega arith
+number-drop (b ∷ bs) (suc k) small =
+    let low = All-head (λ b. b < 256) b bs small in
+    number-drop bs k (All-tail (λ b. b < 256) b bs small) ∙ ap (λ n. n / 256 ^ k) (omega (arith, low)) ∙ sym (quotient (b + 256 * little_number bs) k)
+
+-- the number of the first bytes
+pub number-take : (bs : List ℕ) (n : ℕ) → All (λ b. b < 256) bs → little_number (take n bs) ≡ little_number bs % 256 ^ n
+number-take bs zero small = omega arith
+number-take [] (suc n) small = omega (arith, below_zero (256 ^ suc n)) where
+  below_zero : (n : ℕ) → 0 % n ≡ 0
+  below_zero n = omega arith
+number-take (b ∷ bs) (suc n) small =
+    let low = All-head (λ b. b < 256) b bs small in
+    rw (pow-succ' 256 n, number-take bs n (All-tail (λ b. b < 256) b bs small)) (split b (little_number bs) (256 ^ n) low (one-le-pow n 256 (omega arith))) where
+      split : (b v p : ℕ) → b < 256 → 0 < p → b + 256 * (v % p) ≡ (b + 256 * v) % (256 * p)
+      split b v p low some =
+          let whole : (b + 256 * v) % (p * 256) ≡ ((b + 256 * v) / 256 % p) * 256 + (b + 256 * v) % 256 = mod-mul (b + 256 * v) {m = p} {c = 256} some (omega arith) in
+          let high : (b + 256 * v) / 256 ≡ v = omega (arith, low) in
+          let rest : (b + 256 * v) % 256 ≡ b = omega (arith, low) in
+          let sum : (v % p) * 256 + b ≡ b + 256 * (v % p) = omega arith in
+          sym (ap (λ (m : ℕ). (b + 256 * v) % m) (mul_comm 256 p) ∙ whole ∙ ap (λ (x : ℕ). (x % p) * 256 + (b + 256 * v) % 256) high ∙ ap (λ (x : ℕ). (v % p) * 256 + x) rest ∙ sum)

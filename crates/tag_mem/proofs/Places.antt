@@ -37,6 +37,7 @@ fits_inside-none m at n e = rw e refl
 
 -- what is known of the area at the place of an address
 pub record IsAt (m : List Area) (at i : ℕ) (a : Area) : Type 0 where
+  pub found : area_at m at ≡ Some a
   pub here : has a at ≡ true
   pub fits : (n : ℕ) → leb (at + n) (end_of a) ≡ fits_inside m at n
   pub writes : (new : List ℕ) (tag : Bool) → set m i (area_with a at new tag) ≡ written m at new tag
@@ -49,6 +50,7 @@ at_place items m at i a same place is =
     let first = first_found items at i a p.0 p.1 p.2 in
     let found : area_at items at ≡ Some a = first.0 ∙ ap (λ (x : Area). Some x) (sym is) in
     record {
+      found = found;
       here = rw is p.1;
       fits = λ n. sym (fits_inside-found items at n a found);
       writes = λ new tag. ap (λ (x : Area). set items i (area_with x at new tag)) is ∙ sym (first.1 new tag);

@@ -1,16 +1,19 @@
 -- What a read says of memory, address by address.
-use Rattle.std.proofs.Common.{◌≡◌, ℕ, ◌+◌, ◌-◌, ◌/◌, ◌%◌, ◌^◌, ◌<◌, ◌≤◌, leb, ltb, Bool, true, false, List, [], ◌∷◌, length, drop, get_or, Option, Some, None, refl, sym, ap, ◌∙◌, arith, inl, inr}
-use Rattle.std.specs.Prelude.{All, is_some}
+use Rattle.std.proofs.Common.{◌≡◌, ℕ, zero, suc, ◌+◌, ◌-◌, ◌*◌, ◌/◌, ◌%◌, ◌^◌, ◌<◌, ◌≤◌, leb, ltb, Bool, true, false, List, [], ◌∷◌, length, take, drop, get_or, Option, Some, None, refl, sym, ap, ◌∙◌, arith, rules, inl, inr}
+use Rattle.std.specs.Prelude.{All, is_some, IsTrue}
 use Rattle.std.specs.Option.{option_map}
 use Rattle.std.proofs.lemmas.Bool.{cases_Bool, both_ways, false_from_ne_true, and_from, le-leb, lt-ltb}
-use Rattle.std.proofs.lemmas.List.{length-drop, length-take-le, get_or-take, get_or-drop}
+use Rattle.std.proofs.lemmas.Nat.{pow-add}
+use Rattle.std.proofs.Math.Nat.{pow-suc}
+use Rattle.std.proofs.lemmas.List.{places, take-take, drop-take, length-drop, length-take-le, get_or-take, get_or-drop}
 use Rattle.std.proofs.lemmas.List.Elements.{All-drop, All-take}
 use Rattle.std.proofs.lemmas.Option.{none-some, same_Some}
 use Rattle.tag_mem.specs.Areas.{Area, IsArea, AreasFrom, IsMemory, end_of, has, bytes_in, tag_in, area_at, is_inside, byte_at, tag_at}
 use Rattle.tag_mem.specs.Numbers.{little_number}
-use Rattle.tag_mem.specs.Memory.{number_at, capability_at, Spells}
+use Rattle.tag_mem.specs.Memory.{number_at, capability_at, Spells, Holds}
+use Rattle.tag_mem.specs.Granules.{granule_bytes}
 use Rattle.tag_mem.proofs.ByAddress.{starts, ends}
-use Rattle.tag_mem.proofs.LittleEndian.{number-below, number-byte, number-spelled}
+use Rattle.tag_mem.proofs.LittleEndian.{number-below, number-byte, number-spelled, number-drop, number-take}
 
 -- ---- the area that has an address
 
@@ -147,6 +150,12 @@ Spells-found m at n a h granule e k lt =
     let part = part_found m at n a h granule e in
     part.each k lt ∙ ap (λ (b : ℕ). Some b) (sym (number-byte (bytes_in a at n) k part.small (omega (arith, part.size))))
 
+pub Holds-found : (m : List Area) (at : ℕ) (a : Area) (g : List ℕ) → IsMemory m → at % 16 ≡ 0 → area_at m at ≡ Some a → granule_bytes g ≡ bytes_in a at 16 → Holds m at g
+unfolding Holds
+Holds-found m at a g h aligned e is k lt =
+    let part = part_found m at 16 a h (omega (arith, aligned)) e in
+    part.each k lt ∙ ap (λ (bs : List ℕ). Some (get_or bs k 0)) (sym is)
+
 -- what a read that answers has found
 found_by : {B : Type 0} (f : Area → B) (m : List Area) (x : ℕ) (v : B) → option_map f (area_at m x) ≡ Some v → (a : Area) × (area_at m x ≡ Some a) × (f a ≡ v)
 found_by {B} f m x v e = go (area_at m x) refl e where
@@ -206,3 +215,33 @@ capability_at-paired m at = go (area_at m at) where
 pub capability_at-from_parts : (m : List Area) (at v : ℕ) (t : Bool) → number_at m at 16 ≡ Some v → tag_at m at ≡ Some t → capability_at m at ≡ Some (v, t)
 unfolding paired
 capability_at-from_parts m at v t number tag = capability_at-paired m at ∙ rw (number, tag) refl
+
+-- ---- a number within the number of its granule
+
+pub number-part : (a : Area) (at n : ℕ) → IsArea a → IsTrue (has a at) → at % 16 + n ≤ 16
+    → little_number (bytes_in a (at / 16 * 16) 16) / 2 ^ (8 * (at % 16)) % 2 ^ (8 * n) ≡ little_number (bytes_in a at n)
+number-part a at n area is_here granule =
+    let here : has a at ≡ true = search rules in
+    let low = starts a at here in
+    let whole : List ℕ = bytes_in a (at / 16 * 16) 16 in
+    let o : ℕ = at % 16 in
+    let small : All (λ b. b < 256) whole = All-take (λ b. b < 256) 16 (drop (at / 16 * 16 - a.base) a.bytes) (All-drop (λ b. b < 256) (at / 16 * 16 - a.base) a.bytes area.bytes) in
+    let place : at / 16 * 16 - a.base + o ≡ at - a.base = omega (arith, low, area.base) in
+    let part : take n (drop o whole) ≡ bytes_in a at n =
+    drop_within o n 16 (drop (at / 16 * 16 - a.base) a.bytes) granule ∙ ap (take n) (drop-drop-add (at / 16 * 16 - a.base) o a.bytes ∙ ap (λ (k : ℕ). drop k a.bytes) place) in
+    rw (eight o, eight n) (sym (number-take (drop o whole) n (All-drop (λ b. b < 256) o whole small) ∙ ap (λ (v : ℕ). v % 256 ^ n) (number-drop whole o small)) ∙ ap little_number part) where
+      next : (k : ℕ) → 8 * suc k ≡ 8 * k + 8
+      next k = omega arith
+
+      eight : (k : ℕ) → 2 ^ (8 * k) ≡ 256 ^ k
+      eight zero = refl
+      eight (suc k) = ap (λ (e : ℕ). 2 ^ e) (next k) ∙ pow-add 2 (8 * k) 8 ∙ ap (λ (e : ℕ). e * 2 ^ 8) (eight k) ∙ sym (pow-suc 256 k)
+
+      rest : (o n m : ℕ) → o + n ≤ m → m ≡ o + (m - o)
+      rest o n m within = omega (arith, within)
+
+      drop_within : (o n m : ℕ) (xs : List ℕ) → o + n ≤ m → take n (drop o (take m xs)) ≡ take n (drop o xs)
+      drop_within o n m xs within = ap (λ (e : ℕ). take n (drop o (take e xs))) (rest o n m within) ∙ ap (take n) (drop-take o (m - o) xs) ∙ take-take n (m - o) (drop o xs) (omega (arith, within))
+
+      drop-drop-add : (i j : ℕ) (xs : List ℕ) → drop j (drop i xs) ≡ drop (i + j) xs
+      drop-drop-add i j xs = grind (arith, places)

@@ -3,6 +3,7 @@ use Rattle.std.specs.Prelude.{◌≡◌, ℕ, ◌+◌, ◌-◌, ◌/◌, ◌%◌
 use Rattle.std.specs.Option.{option_map, option_map_or}
 use Rattle.tag_mem.specs.Areas.{Area, end_of, has, bytes_in, tag_in, area_at, is_inside, byte_at, tag_at, extents}
 use Rattle.tag_mem.specs.Numbers.{little_number}
+use Rattle.tag_mem.specs.Granules.{granule_bytes}
 
 -- 1, 2, 4 or 8 bytes
 abbrev pub IsAccessSize : ℕ → Type 0
@@ -53,6 +54,10 @@ written (a ∷ m) at new tag = if has a at then area_with a at new tag ∷ m els
 -- the n bytes from an address on are those of the number
 unfoldable pub Spells : List Area → ℕ → ℕ → ℕ → Type 0
 Spells m at n v = (k : ℕ) → k < n → byte_at m (at + k) ≡ Some (v / 256 ^ k % 256)
+
+-- the bytes of this granule stand from the address on
+unfoldable pub Holds : List Area → ℕ → List ℕ → Type 0
+Holds m at granule = (k : ℕ) → k < 16 → byte_at m (at + k) ≡ Some (slice_index (granule_bytes granule) k)
 
 -- The bytes stand from the address on, and the tag on each granule that they touch. All else is as it was.
 pub record Writes (old new : List Area) (at : ℕ) (bytes : List ℕ) (tag : Bool) : Type 0 where

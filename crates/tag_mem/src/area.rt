@@ -1,11 +1,17 @@
-//! One region's bytes and tags.
+//! One region's granules and tags.
 
-ghost use Rattle.std.specs.Prelude.{◌≡◌, ◌+◌, ◌%◌, ◌≤◌, length, nat_le, IsTrue, IfOk};
-ghost use Rattle.tag_mem.specs.Areas.{has, end_of, bytes_in, tag_in};
-ghost use Rattle.tag_mem.specs.Memory.{area_with};
+ghost use Rattle.std.specs.Prelude.{◌≡◌, ◌+◌, ◌*◌, ◌/◌, ◌%◌, ◌≤◌, ◌<◌, length, nat_le, IsTrue, IfOk, false};
+ghost use Rattle.std.specs.Borrow.{sem};
+ghost use Rattle.tag_mem.specs.Areas.{IsArea, has, end_of, bytes_in, tag_in};
+ghost use Rattle.tag_mem.specs.Numbers.{little_number};
+ghost use Rattle.tag_mem.specs.Granules.{granule_bytes};
+ghost use Rattle.tag_mem.specs.Memory.{replaced, area_with};
 ghost use Rattle.tag_mem.specs.Regions.{IsRegion, fresh_area};
+ghost use Rattle.tag_mem.specs.Lending.{LendsOfArea};
 
+use crate::number::{part, whole_number};
 use crate::region::Region;
+use crate::tags::Tags;
 use ck_base::NoMemory;
 use std::alloc::Global;
 use std::marker::Model;
@@ -13,22 +19,34 @@ use std::marker::Model;
 /// The bytes of a granule: as many as share one tag.
 const GRANULE: usize = 16;
 
-/// The bytes from a base on, and a tag for each granule of them.
+/// The granules from a base on, and a tag for each of them.
 #[derive(Drop)]
 pub struct Area {
     base: u64,
-    bytes: Vec<u8>,
-    tags: Vec<bool>,
+    granules: Vec<[u8; 16]>,
+    tags: Tags,
 }
 
 impl Model for Area {
     ghost use Rattle.tag_mem.specs.Areas.{Area as AreaView, IsArea};
+    ghost use Rattle.tag_mem.specs.Granules.{area_of};
 
     ghost Value = { AreaView };
 
-    ghost view = { λ a. record { base = a.base; bytes = a.bytes.items; tags = a.tags.items } };
+    ghost view = { λ a. area_of a.base a.granules.items a.tags };
 
-    ghost invariant = { λ a. IsArea (record { base = a.base; bytes = a.bytes.items; tags = a.tags.items }) };
+    ghost invariant = { λ a. IsArea (area_of a.base a.granules.items a.tags) };
+}
+
+/// The granule with these bytes from a place on.
+fn with_bytes(granule: &[u8; 16], place: usize, bytes: &[u8]) -> [u8; 16]
+    requires { place + length bytes.now ≤ 16 }
+    ensures value { result ≡ replaced place bytes.now (granule_bytes granule.now) }
+    ensures whole { granule_bytes result ≡ result }
+{
+    let mut result = *granule;
+    result[place..place + bytes.len()].copy_from_slice(bytes);
+    result
 }
 
 impl Area {
@@ -37,14 +55,13 @@ impl Area {
         requires { IsRegion region }
         ensures { IfOk result (λ area. area ≡ fresh_area region) }
     {
-        let length = region.length as usize;
-        let mut bytes = Vec::new(alloc);
-        bytes.resize(length, 0)?;
-        let mut tags = Vec::new(alloc);
-        tags.resize(length / GRANULE, false)?;
+        let count = region.length as usize / GRANULE;
+        let mut granules = Vec::new(alloc);
+        granules.resize(count, [0; GRANULE])?;
+        let tags = Tags::clear(alloc, count)?;
         Ok(Area {
             base: region.base,
-            bytes,
+            granules,
             tags,
         })
     }
@@ -53,18 +70,16 @@ impl Area {
     pub fn has(&self, at: u64) -> bool
         ensures { result ≡ has self.now at }
     {
-        self.base <= at && at < self.base + self.bytes.len() as u64
+        self.base <= at && at < self.base + (self.granules.len() * GRANULE) as u64
     }
 
-    /// The bytes of a granule from an address on.
-    pub fn bytes(&self, at: u64, count: usize) -> &[u8]
+    /// The granule of an address.
+    pub fn granule(&self, at: u64) -> &[u8; 16]
         requires place { IsTrue (has self.now at) }
-        requires granule { at % 16 + count ≤ 16 }
-        ensures value { result.now ≡ bytes_in self.now at count }
-        ensures len { length result.now ≡ count }
+        ensures value { granule_bytes result.now ≡ bytes_in self.now (at / 16 * 16) 16 }
+        ensures area { IsArea self.now }
     {
-        let offset = (at - self.base) as usize;
-        &self.bytes[offset..offset + count]
+        &self.granules[(at - self.base) as usize / GRANULE]
     }
 
     /// The tag of the granule of an address.
@@ -72,23 +87,61 @@ impl Area {
         requires { IsTrue (has self.now at) }
         ensures { result ≡ tag_in self.now at }
     {
-        self.tags[(at - self.base) as usize / GRANULE]
+        self.tags.get((at - self.base) as usize / GRANULE)
     }
 
-    /// Writes the bytes from an address on, and the tag on each granule that they touch. False, and nothing changed, where
-    /// they go past the end.
-    pub fn store(&mut self, at: u64, bytes: &[u8], tag: bool) -> bool
-        requires { IsTrue (has self.old at) }
-        ensures fits { result ≡ nat_le (at + length bytes.now) (end_of self.old) }
-        ensures value { self.new ≡ area_with self.old at bytes.now tag }
+    /// Lends the granule of an address, whose tag is cleared.
+    pub fn granule_mut(&mut self, at: u64) -> &mut [u8; 16]
+        requires place { IsTrue (has self.old at) }
+        requires aligned { at % 16 ≡ 0 }
+        ensures* writes_back { sem 𝓛 (LendsOfArea self.entry at result) }
+        ensures value { granule_bytes result.now ≡ bytes_in self.old at 16 }
     {
-        let offset = (at - self.base) as usize;
-        if bytes.len() > self.bytes.len() - offset {
+        let k = (at - self.base) as usize / GRANULE;
+        self.tags.set(k, false);
+        &mut self.granules[k]
+    }
+
+    /// The little-endian number of `n` bytes of a granule from an address on.
+    pub fn number(&self, at: u64, n: u8) -> u64
+        requires place { IsTrue (has self.now at) }
+        requires size { n ≤ 8 }
+        requires granule { at % 16 + n ≤ 16 }
+        ensures value { result ≡ little_number (bytes_in self.now at n) }
+    {
+        part(whole_number(self.granule(at)), at % 16, n)
+    }
+
+    /// Writes bytes of one granule from an address on, and the granule's tag.
+    pub fn store(&mut self, at: u64, bytes: &[u8], tag: bool)
+        requires place { IsTrue (has self.old at) }
+        requires some { 0 < length bytes.now }
+        requires granule { at % 16 + length bytes.now ≤ 16 }
+        ensures { self.new ≡ area_with self.old at bytes.now tag }
+    {
+        let granule = with_bytes(self.granule(at), at as usize % GRANULE, bytes);
+        let k = (at - self.base) as usize / GRANULE;
+        self.granules[k] = granule;
+        self.tags.set(k, tag);
+    }
+
+    /// Fills the granules from an address on, and clears their tags. False, and nothing changed, where the bytes go past the
+    /// end.
+    pub fn fill(&mut self, at: u64, bytes: &[u8]) -> bool
+        requires place { IsTrue (has self.old at) }
+        requires aligned { at % 16 ≡ 0 }
+        ensures fits { result ≡ nat_le (at + length bytes.now) (end_of self.old) }
+        ensures value { self.new ≡ area_with self.old at bytes.now false }
+    {
+        if bytes.len() > self.granules.len() * GRANULE - (at - self.base) as usize {
             return false;
         }
-        let end = offset + bytes.len();
-        self.bytes[offset..end].copy_from_slice(bytes);
-        self.tags[offset / GRANULE..end.div_ceil(GRANULE)].fill(tag);
+        let mut done = 0;
+        while done < bytes.len() {
+            let count = (bytes.len() - done).min(GRANULE);
+            self.store(at + done as u64, &bytes[done..done + count], false);
+            done += count;
+        }
         true
     }
 }

@@ -6,6 +6,7 @@ mod area;
 mod mem;
 mod number;
 mod region;
+mod tags;
 
 pub use mem::Mem;
 pub use region::Region;

@@ -1,15 +1,17 @@
 //! Memory.
 
-ghost use Rattle.std.specs.Prelude.{◌≡◌, ◌+◌, ◌%◌, ◌<◌, ◌≤◌, ◌^◌, ◌*◌, length, is_some, IsTrue, IfSome, IfOk, false, Some};
+ghost use Rattle.std.specs.Prelude.{◌≡◌, ◌+◌, ◌%◌, ◌<◌, ◌≤◌, ◌^◌, ◌*◌, length, is_some, IsTrue, IfSome, IfOk, true, false, Some};
 ghost use Rattle.std.specs.Bool.{OnTrue, OnFalse};
+ghost use Rattle.std.specs.Borrow.{sem};
 ghost use Rattle.tag_mem.specs.Areas.{IsMemory, area_at, has, is_inside, tag_at};
 ghost use Rattle.std.specs.Option.{option_copied};
 ghost use Rattle.tag_mem.specs.Numbers.{little_bytes};
-ghost use Rattle.tag_mem.specs.Memory.{place_of, number_at, capability_at, fits_inside, written, IsAccessSize, Spells, Writes};
+ghost use Rattle.tag_mem.specs.Memory.{place_of, number_at, capability_at, fits_inside, written, IsAccessSize, Spells, Holds, Writes};
+ghost use Rattle.tag_mem.specs.Lending.{LendsGranule, LendsIn};
 ghost use Rattle.tag_mem.specs.Regions.{LieFrom, fresh, IsZeroed};
 
 use crate::area::Area;
-use crate::number::little_number;
+use crate::number::whole_number;
 use crate::region::Region;
 use ck_base::NoMemory;
 use std::alloc::Global;
@@ -57,8 +59,8 @@ impl Mem {
         ensures below { IfSome result (λ v. v < 256 ^ n) }
         ensures by_address { IfSome result (Spells self.now at n) }
     {
-        let bytes = self.area(at)?.bytes(at, n as usize);
-        Some(little_number(bytes) as u64)
+        let area = self.area(at)?;
+        Some(area.number(at, n))
     }
 
     /// Writes the low `n` bytes of a number, little endian, and clears the tag of their granule; `n` is 1, 2, 4 or 8 and
@@ -84,7 +86,7 @@ impl Mem {
         ensures tag { IfSome result (λ c. tag_at self.now at ≡ Some c.1) }
     {
         let area = self.area(at)?;
-        Some((little_number(area.bytes(at, 16)), area.tag(at)))
+        Some((whole_number(area.granule(at)), area.tag(at)))
     }
 
     /// Writes the 128 bits of a capability at a multiple of 16, and its tag. False, and nothing changed, exactly where the
@@ -109,7 +111,42 @@ impl Mem {
         ensures by_address { OnTrue result (Writes self.old self.new at bytes.now false) }
         ensures outside { OnFalse result (self.new ≡ self.old) }
     {
-        self.store(at, bytes, false)
+        match self.place(at) {
+            Some(i) => self.areas[i].fill(at, bytes),
+            None => false,
+        }
+    }
+
+    /// Lends the granule at a multiple of 16. None exactly where the address is outside the regions.
+    pub fn granule(&self, at: u64) -> Option<&[u8; 16]>
+        requires { at % 16 ≡ 0 }
+        ensures inside { is_some result ≡ is_inside self.now at }
+        ensures by_address { IfSome result (λ g. Holds self.now at g.now) }
+    {
+        let area = self.area(at)?;
+        Some(area.granule(at))
+    }
+
+    /// Lends the granule at a multiple of 16 to be written, and clears its tag. None, and nothing changed, exactly where the
+    /// address is outside the regions.
+    pub fn granule_mut(&mut self, at: u64) -> Option<&mut [u8; 16]>
+        requires { at % 16 ≡ 0 }
+        ensures* writes_back { sem 𝓛 (LendsGranule self.entry at result) }
+        ensures inside { is_some result ≡ is_inside self.old at }
+        ensures by_address { IfSome result (λ g. Holds self.old at g.now) }
+    {
+        let i = self.place(at)?;
+        Some(self.granule_in(i, at))
+    }
+
+    fn granule_in(&mut self, i: usize, at: u64) -> &mut [u8; 16]
+        requires place { place_of self.old at ≡ Some i }
+        requires aligned { at % 16 ≡ 0 }
+        ensures* writes_back { sem 𝓛 (LendsIn self.entry at result) }
+        ensures inside { is_inside self.old at ≡ true }
+        ensures value { Holds self.old at result.now }
+    {
+        self.areas[i].granule_mut(at)
     }
 
     /// The area that has an address.
@@ -128,16 +165,20 @@ impl Mem {
         self.areas.iter().position(|area| area.has(at))
     }
 
-    /// Writes bytes in the area that has the address, and the tag on each granule that they touch.
+    /// Writes bytes of one granule in the area that has the address, and the granule's tag.
     fn store(&mut self, at: u64, bytes: &[u8], tag: bool) -> bool
-        ensures fits { result ≡ fits_inside self.old at (length bytes.now) }
-        ensures inside { at % 16 + length bytes.now ≤ 16 → result ≡ is_inside self.old at }
+        requires some { 0 < length bytes.now }
+        requires granule { at % 16 + length bytes.now ≤ 16 }
+        ensures inside { result ≡ is_inside self.old at }
         ensures value { self.new ≡ written self.old at bytes.now tag }
         ensures by_address { OnTrue result (Writes self.old self.new at bytes.now tag) }
         ensures outside { OnFalse result (self.new ≡ self.old) }
     {
         match self.place(at) {
-            Some(i) => self.areas[i].store(at, bytes, tag),
+            Some(i) => {
+                self.areas[i].store(at, bytes, tag);
+                true
+            }
             None => false,
         }
     }

@@ -1,8 +1,8 @@
 use Rattle.std.proofs.Common.{ℕ, ◌≡◌, List, Some, sym, ap, ◌∙◌}
 use Rattle.std.specs.Prelude.{is_some}
 use Rattle.tag_mem.specs.Areas.{Area, area_at}
-use Rattle.tag_mem.specs.Numbers.{little_number}
-use Rattle.tag_mem.proofs.Reading.{is_inside-found, is_inside-nowhere, number_at-found, number_at-nowhere, Spells-found}
+use Rattle.tag_mem.specs.Memory.{number_at}
+use Rattle.tag_mem.proofs.Reading.{is_inside-found, is_inside-nowhere, number_at-found, number_at-nowhere, number_at-below, Spells-found}
 use Rattle.tag_mem.proofs.Sizes.{in_granule}
 use Rattle.tag_mem.proofs.mem.Mem.read.Goals as goal
 
@@ -17,17 +17,22 @@ returns-in_err-area c =
       by_address = rw none tt;
     }
 
+pub number-requires : goal.number-requires
+number-requires c =
+    let part = in_granule c.args.at c.args.n c.requires.size c.requires.aligned in
+    record { place = c.in_ok-area.ensures.here; size = part.most; granule = part.granule }
+
 pub returns : goal.returns
 returns c =
     let memory : List Area = c.args.self.now in
     let at : ℕ = c.args.at in
-    let area : Area = c.in_ok-area.field-0.now in
+    let area : Area = c.in_ok-area.area.now in
     let found : area_at memory at ≡ Some area = sym c.in_ok-area.ensures.found in
     let part = in_granule at c.args.n c.requires.size c.requires.aligned in
-    let number = c.little_number.ensures.value ∙ ap little_number c.bytes-bytes.ensures.value in
+    let value : Some c.number.result ≡ number_at memory at c.args.n = rw c.number.ensures.value (sym (number_at-found memory at area found c.args.n)) in
     record {
       inside = is_inside-found memory at area found;
-      value = rw number (sym (number_at-found memory at area found c.args.n));
-      below = rw c.bytes-bytes.ensures.len at c.little_number.ensures.below;
-      by_address = rw number (Spells-found memory at c.args.n area c.in_ok-area.ensures.memory part.granule found);
+      value = value;
+      below = number_at-below memory at c.args.n c.number.result c.in_ok-area.ensures.memory part.granule (sym value);
+      by_address = rw c.number.ensures.value (Spells-found memory at c.args.n area c.in_ok-area.ensures.memory part.granule found);
     }
