@@ -140,3 +140,61 @@ fn refuses_addresses_outside(rt: HostRuntime) -> Result<(), Fail> {
     assert_ends(&rt, &mut mem);
     Ok(())
 }
+
+/// One region of 65 granules, whose tags take two words.
+fn long_memory(alloc: Global) -> Result<Mem, NoMemory> {
+    let region = Region {
+        base: 65_536,
+        length: 1_040,
+    };
+    let regions = vec![in alloc; region]?;
+    Mem::new(alloc, &regions)
+}
+
+/// What stands in the last granule of the first word of tags, and in the first of the next.
+fn has_last_caps(mem: &Mem, first: (u128, bool), second: (u128, bool)) -> bool {
+    mem.cap_at(66_544) == Some(first) && mem.cap_at(66_560) == Some(second)
+}
+
+/// The number in a granule that is lent.
+fn lent_number(mem: &Mem, at: u64) -> Option<u128> {
+    let granule = mem.granule(at)?;
+    Some(u128::from_le_bytes(*granule))
+}
+
+/// Writes the first byte of a granule that is lent.
+fn write_lent(mem: &mut Mem, at: u64, byte: u8) -> bool {
+    match mem.granule_mut(at) {
+        Some(granule) => {
+            granule[0] = byte;
+            true
+        }
+        None => false,
+    }
+}
+
+fn assert_lent(rt: &impl Abort, mem: &mut Mem) {
+    assert!(rt; mem.set_cap(66_544, BITS, true));
+    assert!(rt; mem.set_cap(66_560, BITS, true));
+    assert!(rt; has_last_caps(mem, (BITS, true), (BITS, true)));
+    assert!(rt; lent_number(mem, 66_544) == Some(BITS));
+    assert!(rt; has_last_caps(mem, (BITS, true), (BITS, true)), "lent for reading");
+    assert!(rt; mem.granule_mut(66_544).is_some());
+    assert!(rt; has_last_caps(mem, (BITS, false), (BITS, true)), "lent for writing");
+}
+
+fn assert_lent_outside(rt: &impl Abort, mem: &mut Mem) {
+    assert!(rt; lent_number(mem, 66_576).is_none());
+    assert!(rt; !write_lent(mem, 66_576, 7));
+    assert!(rt; has_last_caps(mem, (BITS, false), (BITS, true)), "nothing changed");
+    assert!(rt; write_lent(mem, 66_560, 7));
+    assert!(rt; has_last_caps(mem, (BITS, false), (BITS + 7, false)), "written");
+}
+
+#[test]
+fn lends_granules(rt: HostRuntime) -> Result<(), Fail> {
+    let mut mem = long_memory(rt.alloc())?;
+    assert_lent(&rt, &mut mem);
+    assert_lent_outside(&rt, &mut mem);
+    Ok(())
+}

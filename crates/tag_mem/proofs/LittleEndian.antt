@@ -1,7 +1,7 @@
 -- The number that bytes spell, and the bytes of a number.
 use Rattle.std.proofs.Common.{◌≡◌, ℕ, zero, suc, ◌+◌, ◌-◌, ◌*◌, ◌/◌, ◌%◌, ◌^◌, ◌<◌, ◌≤◌, List, [], ◌∷◌, ◌++◌, length, take, drop, replicate, get_or, refl, sym, ap, ◌∙◌, arith}
 use Rattle.std.specs.Prelude.{All}
-use Rattle.std.specs.Int.{byte_at, byte_worth, bytes_low_first, from_le_bytes, sum_through, w128}
+use Rattle.std.specs.Int.{byte_at, byte_worth, bytes_low_first, from_le_bytes, sum_through, w64, w128}
 use Rattle.std.proofs.lemmas.List.{places, drop-replicate, length-append, length-drop}
 use Rattle.std.proofs.lemmas.List.Elements.{All-head, All-tail, All-from_get_or}
 use Rattle.std.proofs.Math.Nat.{div-div-eq-div-mul, div-one, pow-suc, pow-succ', mul_comm, one-le-pow}
@@ -43,6 +43,11 @@ number-zeros (b ∷ bs) k = ap (λ n. b + 256 * n) (number-zeros bs k)
 pub number-whole : (bs : List ℕ) → length bs ≡ 16 → from_le_bytes w128 bs ≡ little_number bs
 unfolding worth
 number-whole bs size = worth-number bs 15 (omega (arith, size))
+
+-- eight bytes
+pub number-half : (bs : List ℕ) → length bs ≡ 8 → from_le_bytes w64 bs ≡ little_number bs
+unfolding worth
+number-half bs size = worth-number bs 7 (omega (arith, size))
 
 -- bytes at the front of an array of zeros
 pub number-padded : (bs : List ℕ) → length bs ≤ 16 → from_le_bytes w128 (bs ++ drop (length bs) (replicate 16 0)) ≡ little_number bs

@@ -5,7 +5,7 @@ use Rattle.std.specs.Option.{option_map}
 use Rattle.std.proofs.lemmas.Bool.{cases_Bool, both_ways, false_from_ne_true, and_from, le-leb, lt-ltb}
 use Rattle.std.proofs.lemmas.Nat.{pow-add}
 use Rattle.std.proofs.Math.Nat.{pow-suc}
-use Rattle.std.proofs.lemmas.List.{places, take-take, drop-take, length-drop, length-take-le, get_or-take, get_or-drop}
+use Rattle.std.proofs.lemmas.List.{take-take, drop-take, drop-drop, length-drop, length-take-le, get_or-take, get_or-drop}
 use Rattle.std.proofs.lemmas.List.Elements.{All-drop, All-take}
 use Rattle.std.proofs.lemmas.Option.{none-some, same_Some}
 use Rattle.tag_mem.specs.Areas.{Area, IsArea, AreasFrom, IsMemory, end_of, has, bytes_in, tag_in, area_at, is_inside, byte_at, tag_at}
@@ -218,18 +218,23 @@ capability_at-from_parts m at v t number tag = capability_at-paired m at ∙ rw 
 
 -- ---- a number within the number of its granule
 
-pub number-part : (a : Area) (at n : ℕ) → IsArea a → IsTrue (has a at) → at % 16 + n ≤ 16
-    → little_number (bytes_in a (at / 16 * 16) 16) / 2 ^ (8 * (at % 16)) % 2 ^ (8 * n) ≡ little_number (bytes_in a at n)
-number-part a at n area is_here granule =
+pub number-part : (a : Area) (at n : ℕ) → IsArea a → IsTrue (has a at) → at % 8 + n ≤ 8
+    → little_number (take 8 (drop (8 * (at % 16 / 8)) (bytes_in a (at / 16 * 16) 16))) / 2 ^ (8 * (at % 8)) % 2 ^ (8 * n) ≡ little_number (bytes_in a at n)
+number-part a at n area is_here within =
     let here : has a at ≡ true = search rules in
     let low = starts a at here in
-    let whole : List ℕ = bytes_in a (at / 16 * 16) 16 in
-    let o : ℕ = at % 16 in
-    let small : All (λ b. b < 256) whole = All-take (λ b. b < 256) 16 (drop (at / 16 * 16 - a.base) a.bytes) (All-drop (λ b. b < 256) (at / 16 * 16 - a.base) a.bytes area.bytes) in
-    let place : at / 16 * 16 - a.base + o ≡ at - a.base = omega (arith, low, area.base) in
-    let part : take n (drop o whole) ≡ bytes_in a at n =
-    drop_within o n 16 (drop (at / 16 * 16 - a.base) a.bytes) granule ∙ ap (take n) (drop-drop-add (at / 16 * 16 - a.base) o a.bytes ∙ ap (λ (k : ℕ). drop k a.bytes) place) in
-    rw (eight o, eight n) (sym (number-take (drop o whole) n (All-drop (λ b. b < 256) o whole small) ∙ ap (λ (v : ℕ). v % 256 ^ n) (number-drop whole o small)) ∙ ap little_number part) where
+    let start : ℕ = at / 8 * 8 - a.base in
+    let half : List ℕ = take 8 (drop start a.bytes) in
+    let o : ℕ = at % 8 in
+    let small : All (λ b. b < 256) half = All-take (λ b. b < 256) 8 (drop start a.bytes) (All-drop (λ b. b < 256) start a.bytes area.bytes) in
+    let first : at / 16 * 16 - a.base + 8 * (at % 16 / 8) ≡ start = omega (arith, low, area.base) in
+    let place : start + o ≡ at - a.base = omega (arith, low, area.base) in
+    let is_half : take 8 (drop (8 * (at % 16 / 8)) (bytes_in a (at / 16 * 16) 16)) ≡ half =
+    drop_within (8 * (at % 16 / 8)) 8 16 (drop (at / 16 * 16 - a.base) a.bytes) (omega arith)
+    ∙ ap (take 8) (drop-drop (8 * (at % 16 / 8)) (at / 16 * 16 - a.base) a.bytes ∙ ap (λ (k : ℕ). drop k a.bytes) first) in
+    let part : take n (drop o half) ≡ bytes_in a at n =
+    drop_within o n 8 (drop start a.bytes) within ∙ ap (take n) (drop-drop o start a.bytes ∙ ap (λ (k : ℕ). drop k a.bytes) place) in
+    rw (eight o, eight n, is_half) (sym (number-take (drop o half) n (All-drop (λ b. b < 256) o half small) ∙ ap (λ (v : ℕ). v % 256 ^ n) (number-drop half o small)) ∙ ap little_number part) where
       next : (k : ℕ) → 8 * suc k ≡ 8 * k + 8
       next k = omega arith
 
@@ -241,7 +246,5 @@ number-part a at n area is_here granule =
       rest o n m within = omega (arith, within)
 
       drop_within : (o n m : ℕ) (xs : List ℕ) → o + n ≤ m → take n (drop o (take m xs)) ≡ take n (drop o xs)
-      drop_within o n m xs within = ap (λ (e : ℕ). take n (drop o (take e xs))) (rest o n m within) ∙ ap (take n) (drop-take o (m - o) xs) ∙ take-take n (m - o) (drop o xs) (omega (arith, within))
-
-      drop-drop-add : (i j : ℕ) (xs : List ℕ) → drop j (drop i xs) ≡ drop (i + j) xs
-      drop-drop-add i j xs = grind (arith, places)
+      drop_within o n m xs within =
+          ap (λ (e : ℕ). take n (drop o (take e xs))) (rest o n m within) ∙ ap (take n) (drop-take o (m - o) xs) ∙ take-take n (m - o) (drop o xs) (omega (arith, within))

@@ -9,7 +9,7 @@ ghost use Rattle.tag_mem.specs.Memory.{replaced, area_with};
 ghost use Rattle.tag_mem.specs.Regions.{IsRegion, fresh_area};
 ghost use Rattle.tag_mem.specs.Lending.{LendsOfArea};
 
-use crate::number::{part, whole_number};
+use crate::number::{half_number, part};
 use crate::region::Region;
 use crate::tags::Tags;
 use ck_base::NoMemory;
@@ -102,14 +102,14 @@ impl Area {
         &mut self.granules[k]
     }
 
-    /// The little-endian number of `n` bytes of a granule from an address on.
+    /// The little-endian number of `n` bytes of half a granule from an address on.
     pub fn number(&self, at: u64, n: u8) -> u64
         requires place { IsTrue (has self.now at) }
-        requires size { n ≤ 8 }
-        requires granule { at % 16 + n ≤ 16 }
+        requires within { at % 8 + n ≤ 8 }
         ensures value { result ≡ little_number (bytes_in self.now at n) }
     {
-        part(whole_number(self.granule(at)), at % 16, n)
+        let half = half_number(self.granule(at), (at % 16 / 8) as usize);
+        part(half, at % 8, n)
     }
 
     /// Writes bytes of one granule from an address on, and the granule's tag.

@@ -1,6 +1,6 @@
 //! Numbers that bytes spell.
 
-ghost use Rattle.std.specs.Prelude.{◌≡◌, ◌≤◌, ◌<◌, ◌^◌, ◌*◌, ◌/◌, ◌%◌};
+ghost use Rattle.std.specs.Prelude.{◌≡◌, ◌≤◌, ◌<◌, ◌^◌, ◌*◌, ◌/◌, ◌%◌, take, drop};
 ghost use Rattle.tag_mem.specs.Granules.{granule_bytes};
 ghost use Rattle.tag_mem.specs.Numbers.{little_number};
 
@@ -11,11 +11,24 @@ pub fn whole_number(bytes: &[u8; 16]) -> u128
     u128::from_le_bytes(*bytes)
 }
 
-/// Its `n` bytes from the byte k on.
-pub fn part(whole: u128, k: u64, n: u8) -> u64
-    requires place { k < 16 }
-    requires size { n ≤ 8 }
-    ensures { result ≡ whole / 2 ^ (8 * k) % 2 ^ (8 * n) }
+/// The number that the 8 bytes of one half of a granule spell.
+pub fn half_number(bytes: &[u8; 16], half: usize) -> u64
+    requires { half < 2 }
+    ensures { result ≡ little_number (take 8 (drop (8 * half) (granule_bytes bytes.now))) }
 {
-    ((whole >> (8 * k)) % (1 << (8 * n))) as u64
+    let (halves, _) = bytes.as_chunks::<8>();
+    u64::from_le_bytes(halves[half])
+}
+
+/// The `n` bytes of a number from the byte k on.
+pub fn part(number: u64, k: u64, n: u8) -> u64
+    requires place { k < 8 }
+    requires size { n ≤ 8 }
+    ensures { result ≡ number / 2 ^ (8 * k) % 2 ^ (8 * n) }
+{
+    if n == 8 {
+        number >> (8 * k)
+    } else {
+        (number >> (8 * k)) % (1 << (8 * n))
+    }
 }

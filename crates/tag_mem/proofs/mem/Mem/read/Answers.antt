@@ -20,7 +20,7 @@ returns-in_err-area c =
 pub number-requires : goal.number-requires
 number-requires c =
     let part = in_granule c.args.at c.args.n c.requires.size c.requires.aligned in
-    record { place = c.in_ok-area.ensures.here; size = part.most; granule = part.granule }
+    record { place = c.in_ok-area.ensures.here; within = part.within }
 
 pub returns : goal.returns
 returns c =
