@@ -9,3 +9,4 @@ pub mod Counters
 pub mod Widths
 pub mod KeptRows
 pub mod Containment
+pub mod KeptBounds

@@ -6,6 +6,7 @@ mod capability_rows;
 mod end;
 mod integer_rows;
 mod integers;
+mod kept;
 mod machine;
 mod memory_rows;
 mod state;

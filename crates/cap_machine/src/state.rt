@@ -1,11 +1,12 @@
 //! Reading and writing the state.
 ghost use Rattle.std.specs.Prelude.{◌≡◌, ℕ};
+ghost use Rattle.cap_ops.specs.Capability.{usable, added};
 ghost use Rattle.cap_machine.specs.State.{register, integer, with_register, next, counter};
 ghost use Rattle.cap_machine.specs.Rows.{set, set_integer, link, jump, trap};
 
 use crate::end::{End, Step};
 use crate::machine::Machine;
-use cap_ops::{Cap, Cause, add, null, seal_entry};
+use cap_ops::{Cap, Cause, UNSEALED, add, null, seal_entry};
 use rv_instr::Reg;
 
 /// The address of a capability.
@@ -13,6 +14,27 @@ pub fn address(c: Cap) -> u64
     ensures { result ≡ c.fields.address }
 {
     c.fields.address
+}
+
+fn is_usable(c: Cap) -> bool
+    ensures { result ≡ usable c }
+{
+    c.tag && c.fields.otype == UNSEALED
+}
+
+/// The counter at the next instruction. Within a block of 2048 addresses the bounds stay.
+#[tactic(auto, using(crate::proofs::KeptBounds::moved_in_block))]
+fn next_counter(c: Cap) -> Cap
+    ensures { result ≡ added c 4 }
+{
+    let at = address(c);
+    if at % 2048 >= 2044 {
+        return add(c, 4);
+    }
+    let mut next = c;
+    next.tag = is_usable(c);
+    next.fields.address = at + 4;
+    next
 }
 
 impl Machine {
@@ -54,7 +76,7 @@ impl Machine {
     pub(crate) fn advance(&mut self)
         ensures { self.new ≡ next self.old }
     {
-        self.pc = add(self.pc, 4);
+        self.pc = next_counter(self.pc);
     }
 
     pub(crate) fn trap(&self, cause: Cause) -> Step

@@ -8,10 +8,10 @@ ghost use Rattle.cap_machine.specs.Containment.{IsContained, Keeps, LeavesContai
 ghost use Rattle.cap_machine.specs.Step.{fetched, low_byte, answered, read_value, call, is_call, act, limits, ending_of};
 
 use crate::end::{End, Step};
+use crate::kept::{Kept, check};
 use crate::machine::Machine;
-use cap_ops::{Access, Cause, check, null};
+use cap_ops::{Access, Cause, null};
 use ck_base::{Sink, Source};
-use rv_code::decode;
 use rv_instr::{Instr, Reg};
 
 /// Whether this is an environment call.
@@ -24,14 +24,14 @@ fn is_call(i: &Instr) -> bool
 impl Machine {
     /// The instruction at the counter, or how the step ends without one.
     #[tactic(auto, unfolding(crate::specs::Step::fetched))]
-    fn fetch(&self) -> Result<Instr, End>
+    fn fetch(&self, kept: &mut Kept) -> Result<Instr, End>
         ensures { result ≡ fetched self.now }
     {
-        match check(self.pc, self.counter(), Access::Jump) {
+        match check(kept.counter(), self.pc, self.counter(), Access::Jump) {
             Err(cause) => Err(End::Trap(cause, self.counter())),
             Ok(at) => match self.mem.read(at, 4) {
                 None => Err(End::Trap(Cause::Bounds, self.counter())),
-                Some(word) => match decode(word as u32) {
+                Some(word) => match kept.decode(at, word as u32) {
                     None => Err(End::Illegal(self.counter())),
                     Some(i) => Ok(i),
                 },
@@ -41,7 +41,7 @@ impl Machine {
 
     /// An instruction that is no environment call.
     #[tactic(auto, unfolding(crate::specs::Rows::row))]
-    fn row(&mut self, i: Instr) -> Step
+    fn row(&mut self, kept: &mut Kept, i: Instr) -> Step
         ensures { (result, self.new) ≡ row self.old i }
     {
         match i {
@@ -49,9 +49,9 @@ impl Machine {
             Instr::Cjal(rd, z) => self.cjal_row(rd, z),
             Instr::Cjalr(rd, rs1, z) => self.cjalr_row(rd, rs1, z),
             Instr::Branch(op, rs1, rs2, z) => self.branch_row(op, rs1, rs2, z),
-            Instr::Load(op, rd, rs1, z) => self.load_row(op, rd, rs1, z),
-            Instr::Store(op, rs2, rs1, z) => self.store_row(op, rs2, rs1, z),
-            Instr::Clc(rd, rs1, z) => self.clc_row(rd, rs1, z),
+            Instr::Load(op, rd, rs1, z) => self.load_row(kept.held(rs1), op, rd, rs1, z),
+            Instr::Store(op, rs2, rs1, z) => self.store_row(kept.held(rs1), op, rs2, rs1, z),
+            Instr::Clc(rd, rs1, z) => self.clc_row(kept.held(rs1), rd, rs1, z),
             Instr::Imm(op, rd, rs1, z) => self.imm_row(op, rd, rs1, z),
             Instr::Shift(op, rd, rs1, n) => self.shift_row(op, rd, rs1, n),
             Instr::Op(op, rd, rs1, rs2) => self.op_row(op, rd, rs1, rs2),
@@ -126,21 +126,30 @@ impl Machine {
         }
     }
 
-    /// One instruction. A fault of the input or the output, a trap and every other end leave the machine as it was.
-    pub fn step<I: Source, O: Sink>(&mut self, input: &mut I, out: &mut O) -> Step
+    /// One instruction, by what the steps before it kept.
+    fn next_step<I: Source, O: Sink>(&mut self, kept: &mut Kept, input: &mut I, out: &mut O) -> Step
         ensures acted { Acted limits (act self.old) (seen (I.left input.old) (I.faults input.old) (O.held out.old) (O.faults out.old)) (seen (I.left input.new) (I.faults input.new) (O.held out.new) (O.faults out.new)) self.old self.new (ending_of result) }
         ensures contained { StaysContained self.old self.new (ending_of result) }
     {
-        match self.fetch() {
+        match self.fetch(kept) {
             Err(end) => Step::Ended(end),
             Ok(i) => {
                 if is_call(&i) {
                     self.call(input, out)
                 } else {
-                    self.row(i)
+                    self.row(kept, i)
                 }
             }
         }
+    }
+
+    /// One instruction. A fault of the input or the output, a trap and every other end leave the machine as it was.
+    pub fn step<I: Source, O: Sink>(&mut self, input: &mut I, out: &mut O) -> Step
+        ensures acted { Acted limits (act self.old) (seen (I.left input.old) (I.faults input.old) (O.held out.old) (O.faults out.old)) (seen (I.left input.new) (I.faults input.new) (O.held out.new) (O.faults out.new)) self.old self.new (ending_of result) }
+        ensures contained { StaysContained self.old self.new (ending_of result) }
+    {
+        let mut kept = Kept::new();
+        self.next_step(&mut kept, input, out)
     }
 
     /// At most so many instructions: a run over the world of the call, where the source tells its bytes. It ends by `Steps`
@@ -152,8 +161,9 @@ impl Machine {
         ensures counted { Counted limits (seen (I.left input.old) (I.faults input.old) (O.held out.old) (O.faults out.old)) (seen (I.left input.new) (I.faults input.new) (O.held out.new) (O.faults out.new)) result }
         ensures contained { StaysContained self.old self.new (Some result) }
     {
+        let mut kept = Kept::new();
         for _done in 0..steps {
-            match self.step(input, out) {
+            match self.next_step(&mut kept, input, out) {
                 Step::Next => {}
                 Step::Ended(end) => return end,
             }

@@ -22,7 +22,7 @@ loop-done-preserved g c =
     let k : c.args.steps - c.loop-done._done ≡ suc (c.args.steps - (c.loop-done._done + 1)) = omega arith in
     let running = subst (λ k. Running limits act c.args.steps c.args.self.now first now c.loop-done.self k) k c.loop-done.invariant.running in
     record {
-      running = Running-acted limits act c.args.steps c.args.self.now first now _ c.loop-done.self c.step.new.self _ running c.in-Next.ensures.acted;
+      running = Running-acted limits act c.args.steps c.args.self.now first now _ c.loop-done.self c.next_step.new.self _ running c.in-Next.ensures.acted;
       contained = λ t text has. c.in-Next.ensures.contained t text (c.loop-done.invariant.contained t text has).state;
     }
 
@@ -32,7 +32,7 @@ returns-in-Ended g c =
     let now = seen (g.I.Source.left c.loop-done.input) (g.I.Source.faults c.loop-done.input) (g.O.Sink.held c.loop-done.out) (g.O.Sink.faults c.loop-done.out) in
     let k : c.args.steps - c.loop-done._done ≡ suc (c.args.steps - (c.loop-done._done + 1)) = omega arith in
     let running = subst (λ k. Running limits act c.args.steps c.args.self.now first now c.loop-done.self k) k c.loop-done.invariant.running in
-    let both = run_ended limits act own_endings state_and_ending c.args.steps c.args.self.now first now _ c.loop-done.self c.step.new.self _ c.in-Ended.end c.requires.source_room c.requires.sink_room running c.in-Ended.ensures.acted in
+    let both = run_ended limits act own_endings state_and_ending c.args.steps c.args.self.now first now _ c.loop-done.self c.next_step.new.self _ c.in-Ended.end c.requires.source_room c.requires.sink_room running c.in-Ended.ensures.acted in
     record { run = both.0; counted = both.1; contained = λ t text has. c.in-Ended.ensures.contained t text (c.loop-done.invariant.contained t text has).state }
 
 pub returns : goal.returns

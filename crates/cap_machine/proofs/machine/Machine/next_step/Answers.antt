@@ -4,7 +4,7 @@ use Rattle.cap_machine.specs.Containment.{Keeps}
 use Rattle.cap_machine.proofs.Containment.{act_kept, row_leaves}
 use Rattle.ck_base.specs.Calls.{seen}
 use Rattle.cap_machine.proofs.Endings.{row_well, acted, act-fetched, act_on-call, act_on-row}
-use Rattle.cap_machine.proofs.machine.Machine.step.Goals as goal
+use Rattle.cap_machine.proofs.machine.Machine.next_step.Goals as goal
 
 pub returns-in-Err-clause-acted : goal.returns-in-Err-clause-acted
 returns-in-Err-clause-acted g c = rw (act-fetched c.args.self.now _ (sym c.in-Err.ensures)) (refl, refl, refl)

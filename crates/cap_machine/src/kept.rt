@@ -1,0 +1,198 @@
+//! What one step found out and a later one may use again: the bounds of capabilities, and the instructions of words. No
+//! answer depends on it.
+ghost use Rattle.std.specs.Prelude.{◌≡◌, ℕ, ◌+◌, ◌*◌, ◌&&◌, ◌<◌, false, Ok, IsTrue};
+ghost use Rattle.cap_concentrate.specs.Decoding.{base_at, top_at, base_of, top_of};
+ghost use Rattle.cap_ops.specs.Access.{IsAccess, checked, size, loads, stores, stores_tagged, jumps};
+ghost use Rattle.cap_ops.specs.Capability.{base, top, permits, lacks};
+ghost use Rattle.rv_code.specs.Decoding.{decode_of};
+
+use cap_concentrate::{Fields, bounds_of};
+use cap_ops::{
+    Access, Cap, Cause, EXECUTE, LOAD, STORE, STORE_CAPABILITY, UNSEALED, check as check_anew, null,
+};
+use rv_code::decode;
+use rv_instr::{Instr, Reg};
+
+/// The bounds that some fields give at the addresses of a block of 2048 bytes.
+#[derive(Clone, Copy)]
+pub struct Bounds {
+    internal: bool,
+    t: u16,
+    b: u16,
+    block: u64,
+    base: u64,
+    top: u128,
+    ghost base_is: { base_of internal t b (block * 2048) ≡ base },
+    ghost top_is: { top_of internal t b (block * 2048) ≡ top },
+}
+
+/// What a word decodes to.
+#[derive(Clone, Copy)]
+struct Decoded {
+    word: u32,
+    instruction: Option<Instr>,
+    ghost is: { decode_of word ≡ instruction },
+}
+
+/// The bounds of the counter and of what each register last lent to an access, and the words that were last decoded.
+#[derive(Drop)]
+pub struct Kept {
+    counter: Bounds,
+    held: [Bounds; 32],
+    decoded: [Decoded; 256],
+}
+
+/// The bounds that the fields give.
+fn bounds_anew(f: Fields) -> Bounds
+    ensures base { result.base ≡ base_at f f.address }
+    ensures top { result.top ≡ top_at f f.address }
+{
+    let (base, top) = bounds_of(f);
+    Bounds {
+        internal: f.internal,
+        t: f.t,
+        b: f.b,
+        block: f.address / 2048,
+        base,
+        top,
+    }
+}
+
+fn decode_anew(word: u32) -> Decoded
+    ensures { result.instruction ≡ decode_of word }
+{
+    let instruction = decode(word);
+    Decoded { word, instruction }
+}
+
+fn permits(perms: u16, bit: u32) -> bool
+    requires { bit < 16 }
+    ensures { result ≡ permits perms bit }
+{
+    (perms >> bit) % 2 == 1
+}
+
+/// The bytes of an access.
+fn size(a: Access) -> u8
+    ensures { result ≡ size a }
+{
+    match a {
+        Access::Load(n) | Access::Store(n) => n,
+        Access::LoadCap | Access::StoreCap(_) => 16,
+        Access::Jump => 4,
+    }
+}
+
+/// Whether the permissions are enough for an access.
+fn is_permitted(perms: u16, a: Access) -> bool
+    ensures load { IsTrue result → (loads a && lacks perms LOAD) ≡ false }
+    ensures store { IsTrue result → (stores a && lacks perms STORE) ≡ false }
+    ensures capability { IsTrue result → (stores_tagged a && lacks perms STORE_CAPABILITY) ≡ false }
+    ensures jump { IsTrue result → (jumps a && lacks perms EXECUTE) ≡ false }
+{
+    match a {
+        Access::Load(_) | Access::LoadCap => permits(perms, LOAD),
+        Access::Store(_) | Access::StoreCap(false) => permits(perms, STORE),
+        Access::StoreCap(true) => permits(perms, STORE) && permits(perms, STORE_CAPABILITY),
+        Access::Jump => permits(perms, EXECUTE),
+    }
+}
+
+impl Bounds {
+    /// Whether the fields give these bounds by their block; where they do not, they may give them all the same.
+    fn are_of(&self, f: Fields) -> bool
+        ensures base { IsTrue result → base_at f f.address ≡ self.now.base }
+        ensures top { IsTrue result → top_at f f.address ≡ self.now.top }
+    {
+        if self.block != f.address / 2048 {
+            return false;
+        }
+        if self.b != f.b {
+            return false;
+        }
+        if self.t != f.t {
+            return false;
+        }
+        if self.internal != f.internal {
+            return false;
+        }
+        true
+    }
+
+    /// Whether an access passes its check.
+    fn allow(&self, c: Cap, at: u64, a: Access) -> bool
+        requires access { IsAccess a }
+        requires base { base c ≡ self.now.base }
+        requires top { top c ≡ self.now.top }
+        ensures { IsTrue result → checked c at a ≡ Ok at }
+    {
+        let size = u64::from(size(a));
+        if !c.tag {
+            return false;
+        }
+        if c.fields.otype != UNSEALED {
+            return false;
+        }
+        if !is_permitted(c.fields.perms, a) {
+            return false;
+        }
+        if at < self.base {
+            return false;
+        }
+        if self.top < u128::from(at) + u128::from(size) {
+            return false;
+        }
+        if at % size != 0 {
+            return false;
+        }
+        true
+    }
+}
+
+/// The address, or the first cause by which the access fails there. The bounds become those of the capability.
+pub fn check(kept: &mut Bounds, c: Cap, at: u64, a: Access) -> Result<u64, Cause>
+    requires { IsAccess a }
+    ensures { result ≡ checked c at a }
+{
+    if !kept.are_of(c.fields) {
+        *kept = bounds_anew(c.fields);
+    }
+    if kept.allow(c, at, a) {
+        Ok(at)
+    } else {
+        check_anew(c, at, a)
+    }
+}
+
+impl Kept {
+    pub fn new() -> Kept {
+        let first = bounds_anew(null(0).fields);
+        Kept {
+            counter: first,
+            held: [first; 32],
+            decoded: [decode_anew(0); 256],
+        }
+    }
+
+    /// The bounds of the counter.
+    pub fn counter(&mut self) -> &mut Bounds {
+        &mut self.counter
+    }
+
+    /// The bounds of what a register holds.
+    pub fn held(&mut self, r: Reg) -> &mut Bounds {
+        &mut self.held[r.number() as usize]
+    }
+
+    /// The instruction of the word at an address, and None exactly where it has none.
+    pub fn decode(&mut self, at: u64, word: u32) -> Option<Instr>
+        ensures { result ≡ decode_of word }
+    {
+        let k = (at / 4 % 256) as usize;
+        if self.decoded[k].word == word {
+            return self.decoded[k].instruction;
+        }
+        self.decoded[k] = decode_anew(word);
+        self.decoded[k].instruction
+    }
+}
