@@ -1,9 +1,10 @@
 -- A file of an image is read as that image.
-use Rattle.std.proofs.Common.{◌≡◌, ℕ, ◌+◌, ◌-◌, ◌*◌, ◌%◌, ◌^◌, ◌<◌, ◌≤◌, Bool, true, eqb, leb, List, [], ◌++◌, length, get_or, take, drop, Result, Ok, Err, subst, Vec, Global, refl, sym, ap, ◌∙◌, arith, eq-eqb}
-use Rattle.std.specs.Prelude.{◌&&◌, map, IfOk, OnOk}
+use Rattle.std.proofs.Common.{◌≡◌, ℕ, ◌+◌, ◌-◌, ◌*◌, ◌%◌, ◌^◌, ◌<◌, ◌≤◌, Bool, true, eqb, leb, List, [], ◌∷◌, ◌++◌, length, get_or, take, drop, Result, Ok, Err, subst, Vec, Global, inl, inr, refl, sym, ap, ◌∙◌, arith, eq-eqb}
+use Rattle.std.specs.Prelude.{◌&&◌, ◌⊎◌, false, map, IfOk, OnOk, if◌then◌else◌}
 use Rattle.std.specs.Str.{bytes_eq}
-use Rattle.std.proofs.lemmas.Bool.{le-leb, and_from}
+use Rattle.std.proofs.lemmas.Bool.{le-leb, and_from, ne_eqb}
 use Rattle.std.proofs.lemmas.List.{take_at, drop_at, drop-drop, length-append, length-drop, length-replicate}
+use Rattle.elf_file.specs.declared.field.Field.{Field}
 use Rattle.elf_file.specs.declared.field.Field.TheVariants.{Half, Word, Xword}
 use Rattle.elf_file.specs.declared.headers.Headers.{Headers}
 use Rattle.elf_file.specs.declared.image.Image.{Image}
@@ -12,14 +13,14 @@ use Rattle.elf_file.specs.declared.image.Reloc.{Reloc}
 use Rattle.elf_file.specs.declared.refusal.ElfRefusal.{ElfRefusal}
 use Rattle.elf_file.specs.declared.refusal.ElfRefusal.TheVariants as refusal
 use Rattle.elf_file.specs.Fields.{spelled, size_of, xword_at, meets, Fit}
-use Rattle.elf_file.specs.File.{Rest, zeros_for, file_of, file_with, headers_of, gap_behind, relocs_bytes, lines_bytes, IsRestOf, IsFileOf, FitsFields}
-use Rattle.elf_file.specs.Headers.{rounded, e_ident, section_names, text_at, initial_at, relocs_at, lines_at, words_at, names_at, end_of, file_header, program_header, section_header, program_headers, section_headers, image_words}
-use Rattle.elf_file.specs.Image.{reloc_of, line_of, lines_ok, KeepsRules}
-use Rattle.elf_file.specs.Reading.{e_machine, e_entry, e_flags, headers_in, part, records, image_in, has_ident, has_file_header, sizes_ok, has_tables, has_contents, guard, reading_parts, reading}
+use Rattle.elf_file.specs.File.{Rest, zeros_for, file_of, file_with, headers_of, words_fields, gap_behind, relocs_bytes, lines_bytes, IsRestOf, IsFileOf, FitsFields}
+use Rattle.elf_file.specs.Headers.{rounded, e_ident, section_names, text_at, initial_at, relocs_at, lines_at, words_at, words_size, names_at, end_of, file_header, program_header, section_header, program_headers, section_headers, image_words, count_words}
+use Rattle.elf_file.specs.Image.{reloc_of, line_of, lines_ok, has_count, KeepsRules}
+use Rattle.elf_file.specs.Reading.{e_machine, e_entry, e_flags, sh_size, headers_in, part, records, image_in, has_ident, has_file_header, sizes_ok, has_tables, version_fits, has_contents, guard, reading_parts, reading}
 use Rattle.elf_file.proofs.Lines.{test_from_rules, starts_from_none}
 use Rattle.elf_file.proofs.Records.{length-relocs_bytes, relocs_again, length-lines_bytes, lines_again}
-use Rattle.elf_file.proofs.Runs.{length_spelled, meets_again, field_in, Fit-append}
-use Rattle.elf_file.proofs.Sizes.{size_of_file_header, size_of_program_headers, size_of_section_headers, size_of_image_words}
+use Rattle.elf_file.proofs.Runs.{length_spelled, spelled-append, meets_again, field_in, Fit-append, Fit-front}
+use Rattle.elf_file.proofs.Sizes.{size_of_file_header, size_of_program_headers, size_of_section_headers, size_of_words, words_size_most}
 
 -- ---- the headers fit
 
@@ -75,7 +76,8 @@ section_headers_fit h k =
     let initial = section_header 7 1 3 h.initial_base (initial_at h) h.initial_size 16 in
     let relocs = section_header 13 1 0 0 (relocs_at h) h.relocs_size 16 in
     let lines = section_header 24 1 0 0 (lines_at h) h.lines_size 16 in
-    let words = section_header 34 1 0 0 (words_at h) 96 16 in
+    let long = words_size_most h.counted in
+    let words = section_header 34 1 0 0 (words_at h) (words_size h.counted) 16 in
     let names = section_header 44 3 0 0 (names_at h) 54 16 in
     Fit-append (none ++ text ++ initial ++ relocs ++ lines ++ words) names
     (Fit-append (none ++ text ++ initial ++ relocs ++ lines) words
@@ -88,7 +90,7 @@ section_headers_fit h k =
     (section_header_fits 7 1 3 h.initial_base (initial_at h) h.initial_size 16 (omega arith) (omega arith) (omega arith) k.initial_base (omega arith) (omega arith) (omega arith)))
     (section_header_fits 13 1 0 0 (relocs_at h) h.relocs_size 16 (omega arith) (omega arith) (omega arith) (omega arith) (omega arith) (omega arith) (omega arith)))
     (section_header_fits 24 1 0 0 (lines_at h) h.lines_size 16 (omega arith) (omega arith) (omega arith) (omega arith) (omega arith) (omega arith) (omega arith)))
-    (section_header_fits 34 1 0 0 (words_at h) 96 16 (omega arith) (omega arith) (omega arith) (omega arith) (omega arith) (omega arith) (omega arith)))
+    (section_header_fits 34 1 0 0 (words_at h) (words_size h.counted) 16 (omega arith) (omega arith) (omega arith) (omega arith) (omega arith) (omega arith) (omega arith)))
     (section_header_fits 44 3 0 0 (names_at h) 54 16 (omega arith) (omega arith) (omega arith) (omega arith) (omega arith) (omega arith) (omega arith))
 
 headers_fit : (i : Image) → FitsFields i → end_of (headers_of i) < 2 ^ 64 → HeadersFit (headers_of i)
@@ -108,9 +110,12 @@ headers_fit i f end =
 
 -- ---- the file
 
--- the file from its words, its lines, its relocations, its initial bytes, its text and each table on
+-- the file from its names, its words, its lines, its relocations, its initial bytes, its text and each table on
+abbrev pub names_on : Rest → Image → List ℕ
+names_on r i = section_names ++ (r.tail ++ [])
+
 abbrev pub words_on : Rest → Image → List ℕ
-words_on r i = spelled (image_words i.version i.table (headers_of i)) ++ (section_names ++ (r.tail ++ []))
+words_on r i = spelled (words_fields i) ++ (r.words_gap ++ names_on r i)
 
 abbrev pub lines_on : Rest → Image → List ℕ
 lines_on r i = lines_bytes i.lines ++ (r.lines_gap ++ words_on r i)
@@ -140,6 +145,9 @@ ident_long = refl
 names_long : length section_names ≡ 54
 unfolding section_names
 names_long = refl
+
+length_words : (i : Image) → length (spelled (words_fields i)) ≡ words_size (has_count i)
+length_words i = length_spelled (words_fields i) ∙ size_of_words i.version i.table (headers_of i) (has_count i) i.count
 
 -- ---- where the pieces are
 
@@ -180,27 +188,26 @@ record Parts (r : Rest) (i : Image) : Type 0 where
   lines : part (lines_at (headers_of i)) (16 * length i.lines) (file_with r i) ≡ lines_bytes i.lines
   words : drop (words_at (headers_of i)) (file_with r i) ≡ words_on r i
   names : part (names_at (headers_of i)) 54 (file_with r i) ≡ section_names
+  names_from : drop (names_at (headers_of i)) (file_with r i) ≡ names_on r i
 
 parts : (r : Rest) (i : Image) → IsRestOf i r → Parts r i
 parts r i k =
     let f = file_with r i in
     let h = headers_of i in
-    let w = image_words i.version i.table h in
     let a = part_from text_at h.text_size f i.text r.text_gap (initial_on r i) (text_from r i) refl refl k.text_gap in
     let b = part_from (initial_at h) h.initial_size f i.initial r.initial_gap (relocs_on r i) a.1 (omega arith) refl k.initial_gap in
     let c = part_from (relocs_at h) h.relocs_size f (relocs_bytes i.relocs) r.relocs_gap (lines_on r i) b.1 (omega arith) (length-relocs_bytes i.relocs) k.relocs_gap in
     let d = part_from (lines_at h) h.lines_size f (lines_bytes i.lines) r.lines_gap (words_on r i) c.1 (omega arith) (length-lines_bytes i.lines) k.lines_gap in
-    let names_place : names_at h ≡ words_at h + 96 = omega arith in
+    let words_long : length (spelled (words_fields i)) ≡ words_size h.counted = length_words i in
+    let e = part_from (words_at h) (words_size h.counted) f (spelled (words_fields i)) r.words_gap (names_on r i) d.1 (omega arith) words_long k.words_gap in
     record {
       text = a.0;
       initial = b.0;
       relocs = c.0;
       lines = d.0;
       words = d.1;
-      names =
-          ap (λ (n : ℕ). part n 54 f) names_place
-          ∙ ap (take 54) (behind 96 f (words_at h) (spelled w) (section_names ++ (r.tail ++ [])) d.1 (length_spelled w ∙ size_of_image_words i.version i.table h))
-          ∙ take_at section_names (r.tail ++ []) 54 names_long;
+      names = ap (take 54) e.1 ∙ take_at section_names (r.tail ++ []) 54 names_long;
+      names_from = e.1;
     }
 
 -- the file has all its parts
@@ -208,30 +215,28 @@ length_file : (r : Rest) (i : Image) → IsRestOf i r → end_of (headers_of i) 
 length_file r i k =
     let f = file_with r i in
     let h = headers_of i in
-    let words = spelled (image_words i.version i.table h) in
-    let from : length (drop (words_at h) f) ≡ length f - words_at h = length-drop (words_at h) f in
-    let on : length (drop (words_at h) f) ≡ length (words_on r i) = ap length (parts r i k).words in
-    let a = length-append words (section_names ++ (r.tail ++ [])) in
+    let from : length (drop (names_at h) f) ≡ length f - names_at h = length-drop (names_at h) f in
+    let on : length (drop (names_at h) f) ≡ length (names_on r i) = ap length (parts r i k).names_from in
     let b = length-append section_names (r.tail ++ []) in
-    let c : length words ≡ 96 = length_spelled (image_words i.version i.table h) ∙ size_of_image_words i.version i.table h in
-    omega (arith, from, on, a, b, c, names_long)
+    omega (arith, from, on, b, names_long)
 
 -- ---- the headers are read again
 
 same_headers : (g h : Headers) → g.entry ≡ h.entry → g.text_base ≡ h.text_base → g.text_size ≡ h.text_size → g.initial_base ≡ h.initial_base → g.initial_size ≡ h.initial_size
-    → g.heap.0 ≡ h.heap.0 → g.heap.1 ≡ h.heap.1 → g.stack.0 ≡ h.stack.0 → g.stack.1 ≡ h.stack.1 → g.relocs_size ≡ h.relocs_size → g.lines_size ≡ h.lines_size → g ≡ h
-same_headers g h a b c d e l m n o p q =
+    → g.heap.0 ≡ h.heap.0 → g.heap.1 ≡ h.heap.1 → g.stack.0 ≡ h.stack.0 → g.stack.1 ≡ h.stack.1 → g.relocs_size ≡ h.relocs_size → g.lines_size ≡ h.lines_size → g.counted ≡ h.counted → g ≡ h
+same_headers g h a b c d e l m n o p q s =
     ap (λ (x : ℕ). record g { entry = x }) a
     ∙ ap (λ (x : ℕ). record g { entry = h.entry; text_base = x }) b
     ∙ ap (λ (x : ℕ). record g { entry = h.entry; text_base = h.text_base; text_size = x }) c
     ∙ ap (λ (x : ℕ). record g { entry = h.entry; text_base = h.text_base; text_size = h.text_size; initial_base = x }) d
     ∙ ap (λ (x : ℕ). record g { entry = h.entry; text_base = h.text_base; text_size = h.text_size; initial_base = h.initial_base; initial_size = x }) e
-    ∙ ap (λ (x : ℕ). record h { heap = (x, g.heap.1); stack = g.stack; relocs_size = g.relocs_size; lines_size = g.lines_size }) l
-    ∙ ap (λ (x : ℕ). record h { heap = (h.heap.0, x); stack = g.stack; relocs_size = g.relocs_size; lines_size = g.lines_size }) m
-    ∙ ap (λ (x : ℕ). record h { stack = (x, g.stack.1); relocs_size = g.relocs_size; lines_size = g.lines_size }) n
-    ∙ ap (λ (x : ℕ). record h { stack = (h.stack.0, x); relocs_size = g.relocs_size; lines_size = g.lines_size }) o
-    ∙ ap (λ (x : ℕ). record h { relocs_size = x; lines_size = g.lines_size }) p
-    ∙ ap (λ (x : ℕ). record h { lines_size = x }) q
+    ∙ ap (λ (x : ℕ). record h { heap = (x, g.heap.1); stack = g.stack; relocs_size = g.relocs_size; lines_size = g.lines_size; counted = g.counted }) l
+    ∙ ap (λ (x : ℕ). record h { heap = (h.heap.0, x); stack = g.stack; relocs_size = g.relocs_size; lines_size = g.lines_size; counted = g.counted }) m
+    ∙ ap (λ (x : ℕ). record h { stack = (x, g.stack.1); relocs_size = g.relocs_size; lines_size = g.lines_size; counted = g.counted }) n
+    ∙ ap (λ (x : ℕ). record h { stack = (h.stack.0, x); relocs_size = g.relocs_size; lines_size = g.lines_size; counted = g.counted }) o
+    ∙ ap (λ (x : ℕ). record h { relocs_size = x; lines_size = g.lines_size; counted = g.counted }) p
+    ∙ ap (λ (x : ℕ). record h { lines_size = x; counted = g.counted }) q
+    ∙ ap (λ (x : Bool). record h { counted = x }) s
 
 module _ (r : Rest) (i : Image) (k : IsRestOf i r) (fits : FitsFields i) (rules : KeepsRules i) (end : end_of (headers_of i) < 2 ^ 64) where
   header_fit : Fit (file_header i.entry r.flags)
@@ -280,14 +285,35 @@ module _ (r : Rest) (i : Image) (k : IsRestOf i r) (fits : FitsFields i) (rules 
       (program_field 272 30 h.stack.1 (omega arith) refl refl)
       (section_field 512 35 h.relocs_size (omega arith) refl refl)
       (section_field 576 45 h.lines_size (omega arith) refl refl)
+      (counted_again (has_count i) (section_field 640 55 (words_size h.counted) (omega arith) refl refl))
+    where
+      counted_again : (counted : Bool) → sh_size 5 (file_with r i) ≡ words_size counted → eqb (sh_size 5 (file_with r i)) 104 ≡ counted
+      counted_again true e = eq-eqb _ _ e
+      counted_again false e = ne_eqb _ _ (λ same. omega (arith, e, same))
 
   -- ---- the image is read again
 
-  word_again : (place n v : ℕ) → n < 12 → words_at (headers_of i) + size_of (take n (image_words i.version i.table (headers_of i))) ≡ place
-      → get_or (image_words i.version i.table (headers_of i)) n (Half 0) ≡ Xword v → xword_at place (file_with r i) ≡ v
-  unfolding image_words
+  word_again : (place n v : ℕ) → n < length (words_fields i) → words_at (headers_of i) + size_of (take n (words_fields i)) ≡ place → get_or (words_fields i) n (Half 0) ≡ Xword v
+      → xword_at place (file_with r i) ≡ v
   word_again place n v lt at is =
-      field_in (image_words i.version i.table (headers_of i)) (file_with r i) (section_names ++ (r.tail ++ [])) (words_at (headers_of i)) place n (Xword v) (parts r i k).words fits.words lt at is
+      field_in (words_fields i) (file_with r i) (r.words_gap ++ names_on r i) (words_at (headers_of i)) place n (Xword v) (parts r i k).words fits.words lt at is
+
+  count_again : (image_in (headers_of i) (file_with r i)).count ≡ i.count
+  unfolding size_of image_words count_words
+  count_again =
+      let h = headers_of i in
+      let Count : Bool → Type 0 = λ counted. (if counted then xword_at (words_at h + 96) (file_with r i) else 0) ≡ i.count in
+      elim rules.version as (λ _. Count (has_count i)) [
+        | inl one ↦ subst Count (sym (ne_eqb i.version 2 (λ two. omega (arith, one.0, two)))) (sym one.1)
+        | inr two ↦
+            let counted : has_count i ≡ true = eq-eqb _ _ two in
+            let thirteen : words_fields i ≡ image_words i.version i.table h ++ (Xword i.count ∷ []) = ap (λ (b : Bool). image_words i.version i.table h ++ count_words b i.count) counted in
+            subst Count (sym counted)
+            (word_again (words_at h + 96) 12 i.count
+            (let n = ap length thirteen in omega (arith, n))
+            (ap (λ (fs : List Field). words_at h + size_of (take 12 fs)) thirteen)
+            (ap (λ (fs : List Field). get_or fs 12 (Half 0)) thirteen))
+      ]
 
   image_again : image_in (headers_of i) (file_with r i) ≡ i
   unfolding size_of image_words
@@ -295,12 +321,14 @@ module _ (r : Rest) (i : Image) (k : IsRestOf i r) (fits : FitsFields i) (rules 
       let h = headers_of i in
       let p = parts r i k in
       let j = image_in h (file_with r i) in
-      let version : j.version ≡ i.version = word_again (words_at h) 0 i.version (omega arith) (omega arith) refl in
-      let table : j.table.0 ≡ i.table.0 = word_again (words_at h + 48) 6 i.table.0 (omega arith) refl refl in
-      let table_size : j.table.1 ≡ i.table.1 = word_again (words_at h + 56) 7 i.table.1 (omega arith) refl refl in
+      let most : 12 ≤ length (words_fields i) = let n = length-append (image_words i.version i.table h) (count_words (has_count i) i.count) in omega (arith, n) in
+      let version : j.version ≡ i.version = word_again (words_at h) 0 i.version (omega (arith, most)) (omega arith) refl in
+      let table : j.table.0 ≡ i.table.0 = word_again (words_at h + 48) 6 i.table.0 (omega (arith, most)) refl refl in
+      let table_size : j.table.1 ≡ i.table.1 = word_again (words_at h + 56) 7 i.table.1 (omega (arith, most)) refl refl in
       ap (λ (x : ℕ). record j { version = x }) version
-      ∙ ap (λ (x : List ℕ). record j { version = i.version; text = x }) p.text
-      ∙ ap (λ (x : List ℕ). record j { version = i.version; text = i.text; initial = x }) p.initial
+      ∙ ap (λ (x : ℕ). record j { version = i.version; count = x }) count_again
+      ∙ ap (λ (x : List ℕ). record j { version = i.version; count = i.count; text = x }) p.text
+      ∙ ap (λ (x : List ℕ). record j { version = i.version; count = i.count; text = i.text; initial = x }) p.initial
       ∙ ap (λ (x : ℕ). record i { table = (x, j.table.1); relocs = j.relocs; lines = j.lines }) table
       ∙ ap (λ (x : ℕ). record i { table = (i.table.0, x); relocs = j.relocs; lines = j.lines }) table_size
       ∙ ap (λ (x : List Reloc). record i { relocs = x; lines = j.lines }) (ap (λ (b : List ℕ). map reloc_of (records 40 b)) p.relocs ∙ relocs_again i.relocs fits.relocs)
@@ -350,16 +378,24 @@ module _ (r : Rest) (i : Image) (k : IsRestOf i r) (fits : FitsFields i) (rules 
       (ap (λ (b : List ℕ). bytes_eq b section_names) p.names)
       (ap (λ (j : Image). lines_ok 0 (length i.text) j.lines) image_again ∙ test_from_rules 0 (length i.text) i.lines (starts_from_none i.lines) rules.ascend rules.in_text rules.kinds))
       (ap (λ (j : Image). meets (image_words j.version j.table h) (drop (words_at h) f)) image_again
-      ∙ ap (meets w) p.words
-      ∙ meets_again w (section_names ++ (r.tail ++ [])) fits.words)
+      ∙ ap (meets w) (p.words ∙ spelled-append w (count_words (has_count i) i.count) (r.words_gap ++ names_on r i))
+      ∙ meets_again w (spelled (count_words (has_count i) i.count) ++ (r.words_gap ++ names_on r i)) (Fit-front w (count_words (has_count i) i.count) fits.words))
+
+  passes_version : version_fits (has_count i) i.version ≡ true
+  passes_version =
+      let Fits : Bool → Type 0 = λ counted. version_fits counted i.version ≡ true in
+      elim rules.version as (λ _. Fits (has_count i)) [
+        | inl one ↦ subst Fits (sym (ne_eqb i.version 2 (λ two. omega (arith, one.0, two)))) (eq-eqb _ _ one.0)
+        | inr two ↦ subst Fits (sym (eq-eqb i.version 2 two)) (eq-eqb _ _ two)
+      ]
 
   parts_again : reading_parts (headers_of i) (file_with r i) ≡ Ok i
   unfolding reading_parts
   parts_again =
       let f = file_with r i in
       let h = headers_of i in
-      passes3 (leb (end_of h) (length f)) (eqb (image_in h f).version 1) (has_contents h f) refusal.Part refusal.Version refusal.Field (Ok (image_in h f))
-      (le-leb _ _ (length_file r i k)) (ap (λ (j : Image). eqb j.version 1) image_again ∙ eq-eqb _ _ rules.version) passes_contents
+      passes3 (leb (end_of h) (length f)) (version_fits (has_count i) (image_in h f).version) (has_contents h f) refusal.Part refusal.Version refusal.Field (Ok (image_in h f))
+      (le-leb _ _ (length_file r i k)) (ap (λ (j : Image). version_fits (has_count i) j.version) image_again ∙ passes_version) passes_contents
       ∙ ap (λ (j : Image). Ok j) image_again
     where
       passes3 : {A : Type 0} (a b c : Bool) (p q s : ElfRefusal) (x : Result A ElfRefusal) → a ≡ true → b ≡ true → c ≡ true → guard a p (guard b q (guard c s x)) ≡ x
@@ -397,6 +433,7 @@ file_of_is_file i = record {
     initial_gap = length-replicate (gap_behind (length i.initial)) 0;
     relocs_gap = length-replicate (gap_behind (40 * length i.relocs)) 0;
     lines_gap = length-replicate (gap_behind (16 * length i.lines)) 0;
+    words_gap = length-replicate (gap_behind (words_size (has_count i))) 0;
   };
   is = refl;
 }

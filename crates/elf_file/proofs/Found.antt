@@ -1,10 +1,10 @@
 -- What is read keeps the rules, and its file is a file of it.
 use Rattle.std.proofs.Common.{◌≡◌, ℕ, zero, suc, ◌+◌, ◌*◌, ◌/◌, ◌%◌, ◌^◌, ◌<◌, ◌≤◌, Bool, true, false, eqb, leb, List, [], ◌∷◌, ◌++◌, length, slice_index, take, drop, Result, Ok, Err, subst, inl, inr, refl, sym, ap, ◌∙◌, arith, eq-eqb}
-use Rattle.std.specs.Prelude.{◌⊎◌, map, IfOk}
+use Rattle.std.specs.Prelude.{◌⊎◌, map, IfOk, if◌then◌else◌}
 use Rattle.std.specs.List.{flat_map}
 use Rattle.std.specs.Simd.{first_chunks}
 use Rattle.std.proofs.Math.Seq.{take-add}
-use Rattle.std.proofs.lemmas.Bool.{and_from, cases_lt, eqb-true, leb-true}
+use Rattle.std.proofs.lemmas.Bool.{and_from, cases_lt, eqb-true, leb-true, ne_eqb}
 use Rattle.std.proofs.lemmas.List.{append-nil, drop-drop, get_or_past, get_or-take, length-drop, length-take, length-take-le, take_all, take-append-drop}
 use Rattle.byteorder.specs.Numbers.{little_from-lt}
 use Rattle.elf_file.specs.declared.field.Field.{Field}
@@ -14,14 +14,15 @@ use Rattle.elf_file.specs.declared.image.Image.{Image}
 use Rattle.elf_file.specs.declared.image.Line.{Line}
 use Rattle.elf_file.specs.declared.image.Reloc.{Reloc}
 use Rattle.elf_file.specs.declared.refusal.ElfRefusal.{ElfRefusal}
-use Rattle.elf_file.specs.Fields.{width_of, value_of, number, spelled, size_of, meets}
-use Rattle.elf_file.specs.File.{Rest, file_with, headers_of, gap_behind, relocs_bytes, lines_bytes, IsFileOf}
-use Rattle.elf_file.specs.Headers.{rounded, section_names, text_at, initial_at, relocs_at, lines_at, words_at, names_at, end_of, file_header, program_headers, section_headers, image_words}
-use Rattle.elf_file.specs.Image.{reloc_fields, reloc_of, line_fields, line_of, KeepsRules}
-use Rattle.elf_file.specs.Reading.{e_entry, e_flags, headers_in, part, image_in, has_ident, has_file_header, has_tables, has_contents, guard, reading_parts, reading}
-use Rattle.elf_file.proofs.Again.{words_on, lines_on, relocs_on, initial_on, text_on, sections_on, programs_on, header_on}
+use Rattle.elf_file.specs.Fields.{width_of, value_of, number, xword_at, spelled, size_of, meets}
+use Rattle.elf_file.specs.File.{Rest, file_with, headers_of, words_fields, gap_behind, relocs_bytes, lines_bytes, IsFileOf}
+use Rattle.elf_file.specs.Headers.{rounded, section_names, text_at, initial_at, relocs_at, lines_at, words_at, words_size, names_at, end_of, file_header, program_headers, section_headers, image_words, count_words}
+use Rattle.elf_file.specs.Image.{reloc_fields, reloc_of, line_fields, line_of, has_count, KeepsRules}
+use Rattle.elf_file.specs.Reading.{e_entry, e_flags, headers_in, part, image_in, has_ident, has_file_header, has_tables, version_fits, has_contents, guard, reading_parts, reading}
+use Rattle.elf_file.proofs.Again.{names_on, words_on, lines_on, relocs_on, initial_on, text_on, sections_on, programs_on, header_on}
 use Rattle.elf_file.proofs.Lines.{rules_from_test}
-use Rattle.elf_file.proofs.Sizes.{size_of_file_header, size_of_program_headers, size_of_section_headers, size_of_image_words}
+use Rattle.elf_file.proofs.Runs.{spelled-append}
+use Rattle.elf_file.proofs.Sizes.{size_of_file_header, size_of_program_headers, size_of_section_headers, size_of_image_words, words_size_least, words_size_most}
 use Rattle.elf_file.proofs.Spelled.{AreBytes, AreBytes-drop, meets_spelled}
 use Rattle.elf_file.proofs.Tested.{same_ident, TablesAre, tables_are, contents_are, length_text, has_lines}
 
@@ -99,7 +100,7 @@ record Passes (file : List ℕ) (i : Image) : Type 0 where
   headers : leb text_at (length file) ≡ true
   tables : has_tables (headers_in file) file ≡ true
   end : leb (end_of (headers_in file)) (length file) ≡ true
-  version : eqb (image_in (headers_in file) file).version 1 ≡ true
+  version : version_fits (headers_in file).counted (image_in (headers_in file) file).version ≡ true
   contents : has_contents (headers_in file) file ≡ true
   is : image_in (headers_in file) file ≡ i
 
@@ -134,13 +135,22 @@ passes file i e =
 
 -- ---- the rules
 
+-- the version test says the version, and with it whether there is a count
+version_rule : (counted : Bool) (version count : ℕ) → version_fits counted version ≡ true → ((version ≡ 1) × ((if counted then count else 0) ≡ 0)) ⊎ (version ≡ 2)
+version_rule true version count e = inr (eqb-true version 2 e)
+version_rule false version count e = inl (eqb-true version 1 e, refl)
+
+counted_by : (counted : Bool) (version : ℕ) → version_fits counted version ≡ true → eqb version 2 ≡ counted
+counted_by true version e = e
+counted_by false version e = ne_eqb version 2 (λ two. let one = eqb-true version 1 e in omega (arith, one, two))
+
 rules_kept : (file : List ℕ) (i : Image) → Passes file i → KeepsRules (image_in (headers_in file) file)
 rules_kept file i p =
     let h = headers_in file in
     let room : end_of h ≤ length file = leb-true (end_of h) (length file) p.end in
     let lines = rules_from_test 0 (length (image_in h file).text) (image_in h file).lines (has_lines h file room p.contents) in
     record {
-      version = eqb-true (image_in h file).version 1 p.version;
+      version = version_rule h.counted (image_in h file).version (xword_at (words_at h + 96) file) p.version;
       text = ap (λ (n : ℕ). n % 4) (length_text h file room) ∙ (tables_are h file p.tables).text;
       ascend = lines.0;
       in_text = lines.1;
@@ -162,6 +172,21 @@ fields_cut fs at size file h e room met =
     let here : part at size file ≡ spelled fs = ap (λ (n : ℕ). take n (drop at file)) (sym e) ∙ meets_spelled fs (drop at file) (AreBytes-drop at file h) (omega (arith, length-drop at file)) met in
     ap (λ (x : List ℕ). x ++ drop (at + size) file) (sym here) ∙ cut at size file
 
+-- the count, where it stands
+one_sized : (x : ℕ) → size_of (Xword x ∷ []) ≡ 8
+unfolding size_of
+one_sized x = refl
+
+counted_cut : (counted : Bool) (at : ℕ) (file : List ℕ) → AreBytes file → at + words_size counted ≤ length file
+    → spelled (count_words counted (if counted then xword_at (at + 96) file else 0)) ++ drop (at + words_size counted) file ≡ drop (at + 96) file
+unfolding count_words spelled meets
+counted_cut true at file h room =
+    let x = xword_at (at + 96) file in
+    let place : at + 104 ≡ at + 96 + 8 = omega arith in
+    ap (λ (n : ℕ). spelled (Xword x ∷ []) ++ drop n file) place
+    ∙ fields_cut (Xword x ∷ []) (at + 96) 8 file h (one_sized x) (omega (arith, room)) (meets_cons (Xword x) [] (drop (at + 96) file) refl refl)
+counted_cut false at file h room = refl
+
 -- a part, the gap behind it, and what follows
 part_cut : (at size : ℕ) (file p t : List ℕ) → at % 16 ≡ 0 → p ≡ part at size file → t ≡ drop (rounded (at + size)) file → p ++ (part (at + size) (gap_behind size) file ++ t) ≡ drop at file
 part_cut at size file p t whole pe te =
@@ -182,6 +207,7 @@ the_rest file =
       initial_gap = part (initial_at h + h.initial_size) (gap_behind h.initial_size) file;
       relocs_gap = part (relocs_at h + h.relocs_size) (gap_behind h.relocs_size) file;
       lines_gap = part (lines_at h + h.lines_size) (gap_behind h.lines_size) file;
+      words_gap = part (words_at h + words_size h.counted) (gap_behind (words_size h.counted)) file;
       tail = drop (end_of h) file;
     }
 
@@ -220,14 +246,15 @@ fills file h room tables =
     }
 
 -- the headers of the image are those of the file
-headers_same : (file : List ℕ) → end_of (headers_in file) ≤ length file → Fills file → headers_of (image_in (headers_in file) file) ≡ headers_in file
-headers_same file room f =
+headers_same : (file : List ℕ) → end_of (headers_in file) ≤ length file → version_fits (headers_in file).counted (image_in (headers_in file) file).version ≡ true → Fills file → headers_of (image_in (headers_in file) file) ≡ headers_in file
+headers_same file room v f =
     let h = headers_in file in
     let i = image_in h file in
-    ap (λ (x : ℕ). record h { text_size = x; initial_size = length i.initial; relocs_size = 40 * length i.relocs; lines_size = 16 * length i.lines }) (length_text h file room)
-    ∙ ap (λ (x : ℕ). record h { initial_size = x; relocs_size = 40 * length i.relocs; lines_size = 16 * length i.lines }) f.initial
-    ∙ ap (λ (x : ℕ). record h { relocs_size = x; lines_size = 16 * length i.lines }) f.relocs
-    ∙ ap (λ (x : ℕ). record h { lines_size = x }) f.lines
+    ap (λ (x : ℕ). record h { text_size = x; initial_size = length i.initial; relocs_size = 40 * length i.relocs; lines_size = 16 * length i.lines; counted = has_count i }) (length_text h file room)
+    ∙ ap (λ (x : ℕ). record h { initial_size = x; relocs_size = 40 * length i.relocs; lines_size = 16 * length i.lines; counted = has_count i }) f.initial
+    ∙ ap (λ (x : ℕ). record h { relocs_size = x; lines_size = 16 * length i.lines; counted = has_count i }) f.relocs
+    ∙ ap (λ (x : ℕ). record h { lines_size = x; counted = has_count i }) f.lines
+    ∙ ap (λ (x : Bool). record h { counted = x }) (counted_by h.counted i.version v)
 
 module _ (file : List ℕ) (i : Image) (h : AreBytes file) (p : Passes file i) where
   room : end_of (headers_in file) ≤ length file
@@ -240,19 +267,39 @@ module _ (file : List ℕ) (i : Image) (h : AreBytes file) (p : Passes file i) w
   filled = fills file h room tables
 
   same : headers_of (image_in (headers_in file) file) ≡ headers_in file
-  same = headers_same file room filled
+  same = headers_same file room p.version filled
 
-  -- from the words on, from the lines on, and so forth up to the whole file
+  -- from the names on, from the count on, from the words on, from the lines on, and so forth up to the whole file
+  names_cut : names_on (the_rest file) (image_in (headers_in file) file) ≡ drop (names_at (headers_in file)) file
+  names_cut =
+      let hs = headers_in file in
+      let r = the_rest file in
+      let contents = contents_are hs file p.contents in
+      ap (λ (x : List ℕ). section_names ++ x) (append-nil r.tail) ∙ ap (λ (x : List ℕ). x ++ r.tail) (sym contents.names) ∙ cut (names_at hs) 54 file
+
+  count_cut : spelled (count_words (headers_in file).counted (image_in (headers_in file) file).count) ++ ((the_rest file).words_gap ++ names_on (the_rest file) (image_in (headers_in file) file))
+      ≡ drop (words_at (headers_in file) + 96) file
+  count_cut =
+      let hs = headers_in file in
+      let x = xword_at (words_at hs + 96) file in
+      let size = words_size hs.counted in
+      let least = words_size_least hs.counted in
+      let next : names_at hs ≡ words_at hs + size + gap_behind size = omega arith in
+      let gap : (the_rest file).words_gap ++ names_on (the_rest file) (image_in hs file) ≡ drop (words_at hs + size) file =
+      ap (λ (y : List ℕ). (the_rest file).words_gap ++ y) (names_cut ∙ ap (λ (n : ℕ). drop n file) next) ∙ cut (words_at hs + size) (gap_behind size) file in
+      ap (λ (y : List ℕ). spelled (count_words hs.counted (if hs.counted then x else 0)) ++ y) gap ∙ counted_cut hs.counted (words_at hs) file h (omega (arith, room))
+
   words_cut : words_on (the_rest file) (image_in (headers_in file) file) ≡ drop (words_at (headers_in file)) file
   words_cut =
       let hs = headers_in file in
       let j = image_in hs file in
-      let r = the_rest file in
+      let gap = (the_rest file).words_gap ++ names_on (the_rest file) j in
       let contents = contents_are hs file p.contents in
-      let next : names_at hs ≡ words_at hs + 96 = omega arith in
-      ap (λ (x : Headers). spelled (image_words j.version j.table x) ++ (section_names ++ (r.tail ++ []))) same
-      ∙ ap (λ (x : List ℕ). spelled (image_words j.version j.table hs) ++ x)
-      (ap (λ (x : List ℕ). section_names ++ x) (append-nil r.tail) ∙ ap (λ (x : List ℕ). x ++ r.tail) (sym contents.names) ∙ cut (names_at hs) 54 file ∙ ap (λ (n : ℕ). drop n file) next)
+      let least = words_size_least hs.counted in
+      ap (λ (x : Headers). spelled (image_words j.version j.table x ++ count_words (has_count j) j.count) ++ gap) same
+      ∙ ap (λ (b : Bool). spelled (image_words j.version j.table hs ++ count_words b j.count) ++ gap) (counted_by hs.counted j.version p.version)
+      ∙ spelled-append (image_words j.version j.table hs) (count_words hs.counted j.count) gap
+      ∙ ap (λ (x : List ℕ). spelled (image_words j.version j.table hs) ++ x) count_cut
       ∙ fields_cut (image_words j.version j.table hs) (words_at hs) 96 file h (size_of_image_words j.version j.table hs) (omega (arith, room)) contents.words
 
   lines_cut : lines_on (the_rest file) (image_in (headers_in file) file) ≡ drop (lines_at (headers_in file)) file
@@ -297,6 +344,9 @@ module _ (file : List ℕ) (i : Image) (h : AreBytes file) (p : Passes file i) w
           initial_gap = length_part (initial_at hs + hs.initial_size) (gap_behind hs.initial_size) file (omega (arith, room)) ∙ ap gap_behind (sym filled.initial);
           relocs_gap = length_part (relocs_at hs + hs.relocs_size) (gap_behind hs.relocs_size) file (omega (arith, room)) ∙ ap gap_behind (sym filled.relocs);
           lines_gap = length_part (lines_at hs + hs.lines_size) (gap_behind hs.lines_size) file (omega (arith, room)) ∙ ap gap_behind (sym filled.lines);
+          words_gap =
+              length_part (words_at hs + words_size hs.counted) (gap_behind (words_size hs.counted)) file (omega (arith, room))
+              ∙ ap (λ (b : Bool). gap_behind (words_size b)) (sym (counted_by hs.counted (image_in hs file).version p.version));
         };
         is = sym file_cut;
       }

@@ -78,7 +78,28 @@ field_in fs file rest base place k f e h lt at is =
     ∙ ap (number (width_of (get_or fs k (Half 0)))) (ap (λ (p : ℕ). drop p file) (sym at) ∙ sym (drop-drop (size_of (take k fs)) base file) ∙ ap (drop (size_of (take k fs))) e)
     ∙ field_again k fs rest (Half 0) h lt ∙ ap value_of is
 
+-- the spelling of fields, and of those behind them
+pub spelled-append : (a b : List Field) (rest : List ℕ) → spelled (a ++ b) ++ rest ≡ spelled a ++ (spelled b ++ rest)
+unfolding spelled
+spelled-append [] b rest = refl
+spelled-append (f ∷ a) b rest =
+    spelled_cons f (a ++ b) rest ∙ ap (λ (x : List ℕ). bytes_of f ++ x) (spelled-append a b rest) ∙ sym (spelled_cons f a (spelled b ++ rest))
+
+pub spelled_both : (a b : List Field) → spelled (a ++ b) ≡ spelled a ++ spelled b
+unfolding spelled
+spelled_both [] b = refl
+spelled_both (f ∷ a) b = ap (λ (x : List ℕ). bytes_of f ++ x) (spelled_both a b) ∙ sym (append_assoc (bytes_of f) (spelled a) (spelled b))
+
+-- the first ones of fields that fit
+pub Fit-front : (a b : List Field) → Fit (a ++ b) → Fit a
+unfolding Fit
+Fit-front [] b h = tt
+Fit-front (f ∷ a) b h = (h.0, Fit-front a b h.1)
+
 pub Fit-append : (a b : List Field) → Fit a → Fit b → Fit (a ++ b)
 unfolding Fit
 Fit-append [] b ha hb = hb
 Fit-append (f ∷ a) b ha hb = (ha.0, Fit-append a b ha.1 hb)
+
+pub fit_both : (a b : List Field) → Fit a → Fit b → Fit (a ++ b)
+fit_both a b = Fit-append a b

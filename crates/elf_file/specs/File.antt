@@ -1,13 +1,14 @@
 -- The files of an image.
-use Rattle.std.specs.Prelude.{◌≡◌, ℕ, ◌-◌, ◌*◌, ◌<◌, ◌^◌, List, [], ◌∷◌, length, replicate}
+use Rattle.std.specs.Prelude.{◌≡◌, ℕ, ◌-◌, ◌*◌, ◌<◌, ◌^◌, List, [], ◌∷◌, ◌++◌, length, replicate}
 use Rattle.std.specs.List.{flat_map, concat, All}
+use Rattle.elf_file.specs.declared.field.Field.{Field}
 use Rattle.elf_file.specs.declared.headers.Headers.{Headers}
 use Rattle.elf_file.specs.declared.image.Image.{Image}
 use Rattle.elf_file.specs.declared.image.Line.{Line}
 use Rattle.elf_file.specs.declared.image.Reloc.{Reloc}
 use Rattle.elf_file.specs.Fields.{spelled, Fit}
-use Rattle.elf_file.specs.Headers.{rounded, e_ident, section_names, file_header, program_headers, section_headers, image_words}
-use Rattle.elf_file.specs.Image.{reloc_fields, line_fields}
+use Rattle.elf_file.specs.Headers.{rounded, e_ident, section_names, words_size, file_header, program_headers, section_headers, image_words, count_words}
+use Rattle.elf_file.specs.Image.{reloc_fields, line_fields, has_count}
 
 -- the headers that its file has
 abbrev pub headers_of : Image → Headers
@@ -21,7 +22,12 @@ headers_of i = record {
   stack = i.stack;
   relocs_size = 40 * length i.relocs;
   lines_size = 16 * length i.lines;
+  counted = has_count i;
 }
+
+-- the words of .ck_image, in the headers' numbers
+abbrev pub words_fields : Image → List Field
+words_fields i = image_words i.version i.table (headers_of i) ++ count_words (has_count i) i.count
 
 abbrev pub relocs_bytes : List Reloc → List ℕ
 relocs_bytes rs = flat_map (λ r. spelled (reloc_fields r)) rs
@@ -33,7 +39,7 @@ lines_bytes ls = flat_map (λ l. spelled (line_fields l)) ls
 abbrev pub gap_behind : ℕ → ℕ
 gap_behind size = rounded size - size
 
--- what the format leaves open: the flags of the file header, the bytes in the four gaps between the parts, and those after the
+-- what the format leaves open: the flags of the file header, the bytes in the five gaps between the parts, and those after the
 -- last part
 pub record Rest : Type 0 where
   pub flags : ℕ
@@ -41,6 +47,7 @@ pub record Rest : Type 0 where
   pub initial_gap : List ℕ
   pub relocs_gap : List ℕ
   pub lines_gap : List ℕ
+  pub words_gap : List ℕ
   pub tail : List ℕ
 
 -- the file, piece by piece
@@ -53,7 +60,8 @@ file_with r i =
     ∷ i.initial ∷ r.initial_gap
     ∷ relocs_bytes i.relocs ∷ r.relocs_gap
     ∷ lines_bytes i.lines ∷ r.lines_gap
-    ∷ spelled (image_words i.version i.table h) ∷ section_names ∷ r.tail ∷ [])
+    ∷ spelled (words_fields i) ∷ r.words_gap
+    ∷ section_names ∷ r.tail ∷ [])
 
 -- zero bytes behind a part of that size
 abbrev pub padding : ℕ → List ℕ
@@ -69,6 +77,7 @@ zeros_for i =
       initial_gap = padding h.initial_size;
       relocs_gap = padding h.relocs_size;
       lines_gap = padding h.lines_size;
+      words_gap = padding (words_size h.counted);
       tail = [];
     }
 
@@ -83,6 +92,7 @@ pub record IsRestOf (i : Image) (r : Rest) : Type 0 where
   pub initial_gap : length r.initial_gap ≡ gap_behind (length i.initial)
   pub relocs_gap : length r.relocs_gap ≡ gap_behind (40 * length i.relocs)
   pub lines_gap : length r.lines_gap ≡ gap_behind (16 * length i.lines)
+  pub words_gap : length r.words_gap ≡ gap_behind (words_size (has_count i))
 
 -- the bytes are a file of the image, whatever the format leaves open
 pub record IsFileOf (i : Image) (file : List ℕ) : Type 0 where
@@ -92,6 +102,6 @@ pub record IsFileOf (i : Image) (file : List ℕ) : Type 0 where
 
 -- each number of the image fits its field
 pub record FitsFields (i : Image) : Type 0 where
-  pub words : Fit (image_words i.version i.table (headers_of i))
+  pub words : Fit (words_fields i)
   pub relocs : All (λ r. Fit (reloc_fields r)) i.relocs
   pub lines : All (λ l. Fit (line_fields l)) i.lines

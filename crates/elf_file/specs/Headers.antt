@@ -1,5 +1,5 @@
 -- The headers of an image's file, field by field as in the ELF64 object file format, and where its six parts stand.
-use Rattle.std.specs.Prelude.{ℕ, ◌+◌, ◌*◌, ◌/◌, List, [], ◌∷◌, ◌++◌}
+use Rattle.std.specs.Prelude.{ℕ, ◌+◌, ◌*◌, ◌/◌, Bool, List, [], ◌∷◌, ◌++◌, if◌then◌else◌}
 use Rattle.elf_file.specs.declared.field.Field.{Field}
 use Rattle.elf_file.specs.declared.field.Field.TheVariants.{Half, Word, Xword}
 use Rattle.elf_file.specs.declared.headers.Headers.{Headers}
@@ -26,8 +26,12 @@ lines_at h = rounded (relocs_at h + h.relocs_size)
 abbrev pub words_at : Headers → ℕ
 words_at h = rounded (lines_at h + h.lines_size)
 
+-- twelve words of eight bytes, and a thirteenth where the count stands behind them
+abbrev pub words_size : Bool → ℕ
+words_size counted = if counted then 104 else 96
+
 abbrev pub names_at : Headers → ℕ
-names_at h = rounded (words_at h + 96)
+names_at h = rounded (words_at h + words_size h.counted)
 
 abbrev pub end_of : Headers → ℕ
 end_of h = names_at h + 54
@@ -103,7 +107,7 @@ section_headers h =
     ++ section_header 7 1 3 h.initial_base (initial_at h) h.initial_size 16
     ++ section_header 13 1 0 0 (relocs_at h) h.relocs_size 16
     ++ section_header 24 1 0 0 (lines_at h) h.lines_size 16
-    ++ section_header 34 1 0 0 (words_at h) 96 16
+    ++ section_header 34 1 0 0 (words_at h) (words_size h.counted) 16
     ++ section_header 44 3 0 0 (names_at h) 54 16
 
 -- ---- the words of .ck_image
@@ -118,6 +122,10 @@ image_words version table h =
     ∷ Xword h.heap.0 ∷ Xword h.heap.1
     ∷ Xword h.stack.0 ∷ Xword h.stack.1
     ∷ []
+
+-- and behind these, in version 2, the count
+unfoldable pub count_words : Bool → ℕ → List Field
+count_words counted count = if counted then Xword count ∷ [] else []
 
 -- ---- the names of the sections
 

@@ -1,5 +1,5 @@
 -- What an image says, and the rules that it keeps.
-use Rattle.std.specs.Prelude.{◌≡◌, ℕ, ◌+◌, ◌%◌, ◌<◌, ◌==◌, ◌&&◌, nat_le, nat_lt, Bool, true, List, [], ◌∷◌, length, map, Option}
+use Rattle.std.specs.Prelude.{◌≡◌, ℕ, ◌+◌, ◌%◌, ◌<◌, ◌==◌, ◌&&◌, ◌⊎◌, nat_le, nat_lt, Bool, true, List, [], ◌∷◌, ◌++◌, length, map, Option, if◌then◌else◌}
 use Rattle.std.specs.List.{All, find}
 use Rattle.std.specs.List.Sorted.{IsStrictlyIncreasing}
 use Rattle.elf_file.specs.declared.field.Field.{Field}
@@ -36,11 +36,16 @@ line_of bytes = record {
   kind = word_at 12 bytes;
 }
 
--- the twelve words of .ck_image: version, entry, then base and length of text, data, table, heap and stack
+-- whether .ck_image has the count: in version 2
+abbrev pub has_count : Image → Bool
+has_count i = i.version == 2
+
+-- the words of .ck_image: version, entry, then base and length of text, data, table, heap and stack; and in version 2 the count
 abbrev pub words_of : Image → List ℕ
 words_of i =
-    i.version ∷ i.entry ∷ i.text_base ∷ length i.text ∷ i.initial_base ∷ length i.initial
-    ∷ i.table.0 ∷ i.table.1 ∷ i.heap.0 ∷ i.heap.1 ∷ i.stack.0 ∷ i.stack.1 ∷ []
+    (i.version ∷ i.entry ∷ i.text_base ∷ length i.text ∷ i.initial_base ∷ length i.initial
+    ∷ i.table.0 ∷ i.table.1 ∷ i.heap.0 ∷ i.heap.1 ∷ i.stack.0 ∷ i.stack.1 ∷ [])
+    ++ (if has_count i then i.count ∷ [] else [])
 
 -- ---- its lines
 
@@ -56,7 +61,8 @@ position_of i pc = find (λ l. i.text_base + l.at == pc) i.lines
 -- ---- the rules of the format
 
 pub record KeepsRules (i : Image) : Type 0 where
-  pub version : i.version ≡ 1
+  -- version 1, which has no count, or version 2
+  pub version : ((i.version ≡ 1) × (i.count ≡ 0)) ⊎ (i.version ≡ 2)
   -- whole instructions
   pub text : length i.text % 4 ≡ 0
   -- by strictly ascending offset, each in the text, and of kind 0 or 1

@@ -7,6 +7,7 @@ use Rattle.elf_file.specs.Image.{reloc_of, line_of}
 abbrev pub image_of : Parts → Image
 image_of p = record {
   version = p.version;
+  count = p.count;
   entry = p.headers.entry;
   text_base = p.headers.text_base;
   text = p.text.now;

@@ -1,6 +1,6 @@
 -- What a reader of a file is given: the image, or the first refusal. Bytes between the parts and after them are not looked
 -- at. The names e_entry, p_vaddr, sh_size and so on are those of ELF64.
-use Rattle.std.specs.Prelude.{ℕ, ◌+◌, ◌*◌, ◌/◌, ◌%◌, ◌==◌, ◌&&◌, nat_le, Bool, List, length, map, take, drop, Result, Ok, Err, if◌then◌else◌}
+use Rattle.std.specs.Prelude.{ℕ, ◌+◌, ◌*◌, ◌/◌, ◌%◌, ◌==◌, ◌&&◌, nat_le, Bool, true, List, length, map, take, drop, Result, Ok, Err, if◌then◌else◌}
 use Rattle.std.specs.Simd.{first_chunks}
 use Rattle.std.specs.Str.{bytes_eq}
 use Rattle.elf_file.specs.declared.headers.Headers.{Headers}
@@ -8,7 +8,7 @@ use Rattle.elf_file.specs.declared.image.Image.{Image}
 use Rattle.elf_file.specs.declared.refusal.ElfRefusal.{ElfRefusal}
 use Rattle.elf_file.specs.declared.refusal.ElfRefusal.TheVariants as refusal
 use Rattle.elf_file.specs.Fields.{half_at, word_at, xword_at, meets}
-use Rattle.elf_file.specs.Headers.{text_at, initial_at, relocs_at, lines_at, words_at, names_at, end_of, e_ident, section_names, file_header, program_headers, section_headers, image_words}
+use Rattle.elf_file.specs.Headers.{text_at, initial_at, relocs_at, lines_at, words_at, words_size, names_at, end_of, e_ident, section_names, file_header, program_headers, section_headers, image_words}
 use Rattle.elf_file.specs.Image.{reloc_of, line_of, lines_ok}
 
 -- ---- the fields that an image chooses
@@ -44,6 +44,7 @@ headers_in file = record {
   stack = (p_vaddr 3 file, p_memsz 3 file);
   relocs_size = sh_size 3 file;
   lines_size = sh_size 4 file;
+  counted = sh_size 5 file == words_size true;
 }
 
 -- ---- the image in the parts
@@ -58,6 +59,7 @@ records size bytes = first_chunks size (length bytes / size) bytes
 abbrev pub image_in : Headers → List ℕ → Image
 image_in h file = record {
   version = xword_at (words_at h) file;
+  count = if h.counted then xword_at (words_at h + 96) file else 0;
   entry = h.entry;
   text_base = h.text_base;
   text = part text_at h.text_size file;
@@ -84,12 +86,17 @@ has_file_header file = meets (file_header (e_entry file) (e_flags file)) (drop 1
 abbrev pub sizes_ok : Headers → Bool
 sizes_ok h = h.text_size % 4 == 0 && h.relocs_size % 40 == 0 && h.lines_size % 16 == 0
 
--- all else in the tables is what the format says for these numbers, so that segments agree with their sections
+-- all else in the tables is what the format says for these numbers, so that segments agree with their sections, and .ck_image
+-- has the twelve words, or these and the count
 unfoldable pub has_tables : Headers → List ℕ → Bool
 has_tables h file = sizes_ok h && meets (program_headers h) (drop 64 file) && meets (section_headers h) (drop 288 file)
 
--- the names are the format's, the lines keep their rules, and the words of .ck_image, whose version and table may be any here,
--- agree with the headers
+-- version 2 has the count, and version 1 does not
+abbrev pub version_fits : Bool → ℕ → Bool
+version_fits counted version = if counted then version == 2 else version == 1
+
+-- the names are the format's, the lines keep their rules, and the words of .ck_image, whose version, table and count may be any
+-- here, agree with the headers
 unfoldable pub has_contents : Headers → List ℕ → Bool
 has_contents h file =
     let i = image_in h file in
@@ -104,7 +111,7 @@ guard test refused rest = if test then rest else Err refused
 unfoldable pub reading_parts : Headers → List ℕ → Result Image ElfRefusal
 reading_parts h file =
     guard (nat_le (end_of h) (length file)) refusal.Part
-    (guard ((image_in h file).version == 1) refusal.Version
+    (guard (version_fits h.counted (image_in h file).version) refusal.Version
     (guard (has_contents h file) refusal.Field
     (Ok (image_in h file))))
 

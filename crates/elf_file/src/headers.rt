@@ -3,7 +3,7 @@
 ghost use Rattle.std.specs.Prelude.{◌≡◌, ◌+◌, ◌<◌, ◌^◌};
 ghost use Rattle.std.specs.List.{flat_map};
 ghost use Rattle.elf_file.specs.Fields.{Fit};
-ghost use Rattle.elf_file.specs.Headers.{rounded, program_header, section_header, initial_at, relocs_at, lines_at, words_at, names_at, end_of, file_header, program_headers, section_headers, image_words};
+ghost use Rattle.elf_file.specs.Headers.{rounded, program_header, section_header, initial_at, relocs_at, lines_at, words_at, words_size, names_at, end_of, file_header, program_headers, section_headers, image_words};
 
 use crate::field::Field;
 use crate::field::Field::{Half, Word, Xword};
@@ -20,6 +20,8 @@ pub struct Headers {
     pub stack: (u64, u64),
     pub relocs_size: u64,
     pub lines_size: u64,
+    /// Whether the image's words end with the count.
+    pub counted: bool,
 }
 
 // The codes of the headers, by their names in ELF64.
@@ -99,12 +101,20 @@ impl Headers {
         rounded(self.lines_at() + self.lines_size as u128)
     }
 
+    /// The size of the image's words.
+    pub fn words_size(self) -> u64
+        ensures value { result ≡ words_size self.counted }
+        ensures small { result < 128 }
+    {
+        if self.counted { 104 } else { 96 }
+    }
+
     /// Where the names of the sections stand in the file.
     pub fn names_at(self) -> u128
         ensures value { result ≡ names_at self }
         ensures small { result < 2 ^ 70 }
     {
-        rounded(self.words_at() + 96)
+        rounded(self.words_at() + self.words_size() as u128)
     }
 
     /// Where the last part ends.
@@ -252,7 +262,7 @@ pub fn section_headers(h: Headers) -> [[Field; 10]; 7]
         ),
         unloaded(13, SHT_PROGBITS, h.relocs_at(), h.relocs_size),
         unloaded(24, SHT_PROGBITS, h.lines_at(), h.lines_size),
-        unloaded(34, SHT_PROGBITS, h.words_at(), 96),
+        unloaded(34, SHT_PROGBITS, h.words_at(), h.words_size()),
         unloaded(44, SHT_STRTAB, h.names_at(), 54),
     ]
 }

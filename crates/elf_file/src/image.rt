@@ -29,7 +29,7 @@ pub struct Line {
 /// What the file of an image holds. The pairs are a base and a length in bytes.
 #[derive(Debug, Drop)]
 pub struct Image {
-    /// The version of the format.
+    /// The version of the format: 1, or 2 for an image that has a count.
     pub version: u64,
     /// The address of the first instruction.
     pub entry: u64,
@@ -46,4 +46,6 @@ pub struct Image {
     pub relocs: Sequence<Reloc>,
     /// The places of the source, by ascending offset in the text.
     pub lines: Sequence<Line>,
+    /// How many instructions are enough for each turn of the program; 0 in version 1, which does not say it.
+    pub count: u64,
 }

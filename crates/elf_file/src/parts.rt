@@ -1,6 +1,6 @@
 //! The parts of a file, as slices of the file.
 
-ghost use Rattle.std.specs.Prelude.{◌≡◌, ◌+◌, ◌≤◌, length};
+ghost use Rattle.std.specs.Prelude.{◌≡◌, ◌+◌, ◌≤◌, length, take};
 ghost use Rattle.elf_file.specs.Headers.{end_of};
 ghost use Rattle.elf_file.specs.Image.{words_of, reloc_of, line_of};
 ghost use Rattle.elf_file.specs.Parts.{image_of};
@@ -15,6 +15,7 @@ use crate::image::{Line, Reloc};
 pub struct Parts<'a> {
     pub headers: Headers,
     pub version: u64,
+    pub count: u64,
     pub table: (u64, u64),
     pub text: &'a [u8],
     pub initial: &'a [u8],
@@ -57,6 +58,18 @@ pub fn part(file: &[u8], at: u128, size: u64) -> &[u8]
     part
 }
 
+/// The count of the image, or 0 where its words do not have it.
+fn count_in(file: &[u8], h: Headers) -> u64
+    requires { end_of h ≤ length file.now }
+    ensures { result ≡ (image_in h file.now).count }
+{
+    if h.counted {
+        xword_at(file, h.words_at() as usize + 96)
+    } else {
+        0
+    }
+}
+
 impl<'a> Parts<'a> {
     /// The parts where the headers say that they are.
     pub fn in_file(file: &'a [u8], h: Headers) -> Self
@@ -69,6 +82,7 @@ impl<'a> Parts<'a> {
         Parts {
             headers: h,
             version: xword_at(file, words_at),
+            count: count_in(file, h),
             table: (xword_at(file, words_at + 48), xword_at(file, words_at + 56)),
             text: part(file, TEXT_AT as u128, h.text_size),
             initial: part(file, h.initial_at(), h.initial_size),
@@ -77,9 +91,17 @@ impl<'a> Parts<'a> {
         }
     }
 
-    /// The words of the image: version, entry, then base and length of text, data, table, heap and stack.
-    pub fn words(&self) -> [u64; 12]
-        ensures { result ≡ words_of (image_of self.now) }
+    /// How many words the image has.
+    pub fn number_of_words(&self) -> usize
+        ensures { result ≡ length (words_of (image_of self.now)) }
+    {
+        if self.version == 2 { 13 } else { 12 }
+    }
+
+    /// The words of the image: version, entry, then base and length of text, data, table, heap and stack; and the count, which
+    /// only version 2 has.
+    pub fn words(&self) -> [u64; 13]
+        ensures { take (length (words_of (image_of self.now))) result ≡ words_of (image_of self.now) }
     {
         let h = self.headers;
         [
@@ -95,6 +117,7 @@ impl<'a> Parts<'a> {
             h.heap.1,
             h.stack.0,
             h.stack.1,
+            self.count,
         ]
     }
 }

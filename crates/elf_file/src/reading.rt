@@ -5,7 +5,7 @@ ghost use Rattle.elf_file.specs.Fields.{meets};
 ghost use Rattle.elf_file.specs.Headers.{end_of, words_at, program_headers, section_headers, image_words};
 ghost use Rattle.elf_file.specs.Parts.{image_of};
 ghost use Rattle.elf_file.specs.Image.{line_of, lines_ok};
-ghost use Rattle.elf_file.specs.Reading.{p_vaddr, p_memsz, sh_size, headers_in, has_ident, has_file_header, sizes_ok, has_tables, image_in, has_contents, reading_parts, reading};
+ghost use Rattle.elf_file.specs.Reading.{p_vaddr, p_memsz, sh_size, headers_in, has_ident, has_file_header, sizes_ok, has_tables, image_in, version_fits, has_contents, reading_parts, reading};
 
 use crate::field::{half_at, meets, word_at, xword_at};
 use crate::headers::{
@@ -75,6 +75,7 @@ fn headers_in(file: &[u8]) -> Headers
         stack: (p_vaddr(file, 3), p_memsz(file, 3)),
         relocs_size: sh_size(file, 3),
         lines_size: sh_size(file, 4),
+        counted: sh_size(file, 5) == 104,
     }
 }
 
@@ -149,6 +150,13 @@ fn has_words(h: Headers, file: &[u8], parts: &Parts<'_>) -> bool
     meets(rest, &image_words(parts.version, parts.table, h))
 }
 
+/// Whether the image's words are those of its version: version 2 has the count, and version 1 does not.
+fn version_fits(counted: bool, version: u64) -> bool
+    ensures { result ≡ version_fits counted version }
+{
+    if counted { version == 2 } else { version == 1 }
+}
+
 /// The view of the parts of a file, where they keep the format.
 #[tactic(auto, unfolding(crate::specs::Reading::reading_parts))]
 pub fn read_parts<'a>(h: Headers, file: &'a [u8]) -> Result<View<'a>, ElfRefusal>
@@ -158,7 +166,7 @@ pub fn read_parts<'a>(h: Headers, file: &'a [u8]) -> Result<View<'a>, ElfRefusal
         return Err(ElfRefusal::Part);
     }
     let parts = Parts::in_file(file, h);
-    if parts.version != 1 {
+    if !version_fits(h.counted, parts.version) {
         return Err(ElfRefusal::Version);
     }
     if !has_contents(h, file, &parts) {

@@ -22,7 +22,7 @@ pub enum ElfRefusal {
     /// A part leaves the file.
     #[error("a part leaves the file")]
     Part,
-    /// The version of the image is not 1.
+    /// The image is not of version 1 without a count, nor of version 2 with one.
     #[error("the image has another version")]
     Version,
 }

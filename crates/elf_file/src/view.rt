@@ -71,7 +71,10 @@ impl<'a> View<'a> {
     pub fn word(&self, k: u8) -> Option<u64>
         ensures { result ≡ slice_get (words_of self.now) k }
     {
-        self.parts.words().get(k as usize).copied()
+        let words = self.parts.words();
+        words[..self.parts.number_of_words()]
+            .get(k as usize)
+            .copied()
     }
 
     /// The line at an address: the one whose offset in the text is the address less the text's base. None exactly where there

@@ -1,10 +1,10 @@
 //! Writing the file of an image.
 
 ghost use Rattle.std.specs.Prelude.{◌≡◌, ◌<◌, ◌^◌, ◌*◌, ◌++◌, length, All, OnOk, IfOk, Ok};
-ghost use Rattle.elf_file.specs.Headers.{e_ident, section_names, file_header, program_headers, section_headers, image_words};
+ghost use Rattle.elf_file.specs.Headers.{e_ident, section_names, words_size, file_header, program_headers, section_headers, count_words};
 ghost use Rattle.elf_file.specs.Fields.{spelled, Fit};
 ghost use Rattle.elf_file.specs.Image.{reloc_fields, line_fields, KeepsRules};
-ghost use Rattle.elf_file.specs.File.{headers_of, relocs_bytes, lines_bytes, padding, file_of, FitsFields};
+ghost use Rattle.elf_file.specs.File.{headers_of, words_fields, relocs_bytes, lines_bytes, padding, file_of, FitsFields};
 ghost use Rattle.elf_file.specs.Reading.{reading};
 
 use crate::field::Field::{Word, Xword};
@@ -30,6 +30,7 @@ fn headers_of(i: &Image) -> Headers
         stack: i.stack,
         relocs_size: size_of_relocs(i.relocs.as_slice()),
         lines_size: size_of_lines(i.lines.as_slice()),
+        counted: i.version == 2,
     }
 }
 
@@ -133,6 +134,30 @@ fn put_parts(out: &mut Vec<u8>, h: Headers, i: &Image) -> Result<(), AllocError>
     put_padding(out, h.lines_size)
 }
 
+/// Appends the count, where the image's words have it.
+#[tactic(auto, unfolding(crate::specs::Headers::count_words, crate::specs::Fields::spelled, crate::specs::Fields::Fit))]
+fn put_count(out: &mut Vec<u8>, counted: bool, count: u64) -> Result<(), AllocError>
+    ensures bytes { OnOk result (out.new.items ≡ out.old.items ++ spelled (count_words counted count)) }
+    ensures fits { Fit (count_words counted count) }
+{
+    if !counted {
+        return Ok(());
+    }
+    put(out, &[Xword(count as u128)])
+}
+
+/// Appends the image's words, and the zero bytes behind them.
+#[tactic(auto, using(crate::proofs::Runs::spelled_both, crate::proofs::Runs::fit_both))]
+fn put_words(out: &mut Vec<u8>, i: &Image) -> Result<(), AllocError>
+    ensures bytes { OnOk result (out.new.items ≡ out.old.items ++ spelled (words_fields i.now) ++ padding (words_size (headers_of i.now).counted)) }
+    ensures fits { OnOk result (Fit (words_fields i.now)) }
+{
+    let h = headers_of(i);
+    put(out, &image_words(i.version, i.table, h))?;
+    put_count(out, h.counted, i.count)?;
+    put_padding(out, h.words_size())
+}
+
 /// The file of an image.
 fn file(alloc: Global, i: &Image) -> Result<Vec<u8>, NoMemory>
     ensures bytes { IfOk result (λ file. file.items ≡ file_of i.now) }
@@ -143,7 +168,7 @@ fn file(alloc: Global, i: &Image) -> Result<Vec<u8>, NoMemory>
     let mut out = Vec::new(alloc);
     put_headers(&mut out, h)?;
     put_parts(&mut out, h, i)?;
-    put(&mut out, &image_words(i.version, i.table, h))?;
+    put_words(&mut out, i)?;
     put_names(&mut out)?;
     Ok(out)
 }

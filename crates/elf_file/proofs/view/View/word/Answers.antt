@@ -1,4 +1,4 @@
-use Rattle.std.proofs.Common.{◌≡◌, ℕ, List, slice_get, ap, ◌∙◌, arith}
+use Rattle.std.proofs.Common.{◌≡◌, ℕ, List, take, slice_get, ap, ◌∙◌, arith}
 use Rattle.std.proofs.lemmas.Grind.{common_steps}
 use Rattle.std.proofs.lemmas.Option.{gets}
 use Rattle.elf_file.specs.declared.image.Image.{Image}
@@ -7,5 +7,9 @@ use Rattle.elf_file.proofs.view.View.word.Goals as goal
 
 pub returns : goal.returns
 returns c =
-    let read : c.copied.result ≡ slice_get c.words.result c.args.k = grind (arith, common_steps, gets) in
-    read ∙ ap (λ (words : List ℕ). slice_get words c.args.k) c.words.ensures ∙ ap (λ (i : Image). slice_get (words_of i) c.args.k) c.self.view_is
+    let all : List ℕ = c.words-words.result in
+    let read : c.copied.result ≡ slice_get (take c.number_of_words.result all) c.args.k = grind (arith, common_steps, gets) in
+    read
+    ∙ ap (λ (n : ℕ). slice_get (take n all) c.args.k) c.number_of_words.ensures
+    ∙ ap (λ (words : List ℕ). slice_get words c.args.k) c.words-words.ensures
+    ∙ ap (λ (i : Image). slice_get (words_of i) c.args.k) c.self.view_is
