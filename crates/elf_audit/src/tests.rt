@@ -100,6 +100,7 @@ fn image(
         stack: (262_144, 4_096),
         relocs: Sequence::from_vec(vec![in alloc; reloc]?),
         lines: Sequence::from_vec(Vec::new(alloc)),
+        count: 0,
     })
 }
 

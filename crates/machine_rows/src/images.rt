@@ -1,4 +1,4 @@
-//! An image and its file, both written by hand from the format. The file is in words of eight bytes, little endian.
+//! An image and its files of both versions, written by hand from the format. The files are in words of eight bytes, little endian.
 
 use ck_base::NoMemory;
 use elf_file::{ElfRefusal, Image, Line, Reloc, Sequence, View, write};
@@ -32,19 +32,56 @@ const PROGRAM_HEADERS: [[u64; 7]; 4] = [
 ];
 
 /// Each with sh_name and sh_type, sh_flags, sh_addr, sh_offset, sh_size, sh_link and sh_info, sh_addralign and sh_entsize: none,
-/// text, data, relocations, lines, image and names.
-const SECTION_HEADERS: [[u64; 8]; 7] = [
+/// text, data, relocations and lines.
+const SECTION_HEADERS: [[u64; 8]; 5] = [
     [0, 0, 0, 0, 0, 0, 0, 0],
     [0x1_0000_0001, 6, 0x1_0000, 736, 12, 0, 16, 0],
     [0x1_0000_0007, 3, 0x10_0000, 752, 20, 0, 16, 0],
     [0x1_0000_000d, 0, 0, 784, 40, 0, 16, 0],
     [0x1_0000_0018, 0, 0, 832, 32, 0, 16, 0],
-    [0x1_0000_0022, 0, 0, 864, 96, 0, 16, 0],
-    [0x3_0000_002c, 0, 0, 960, 54, 0, 16, 0],
 ];
 
-/// The parts up to the names, with zeros behind them.
-const PARTS: [[u64; 2]; 14] = [
+/// What differs between the versions.
+struct Form {
+    version: u64,
+    /// The headers of the sections of the image and the names.
+    sections: [[u64; 8]; 2],
+    /// What stands behind the twelve words of the image: the count, and zeros up to the names.
+    behind: &'static [u64],
+    /// The words of the image from the thirteenth on.
+    words: [(u8, Option<u64>); 2],
+    /// The length of the file.
+    len: usize,
+}
+
+/// The count of the image of version 2.
+const COUNT: u64 = 0x1234;
+
+const FORMS: [Form; 2] = [
+    Form {
+        version: 1,
+        sections: [
+            [0x1_0000_0022, 0, 0, 864, 96, 0, 16, 0],
+            [0x3_0000_002c, 0, 0, 960, 54, 0, 16, 0],
+        ],
+        behind: &[],
+        words: [(12, None), (13, None)],
+        len: 1014,
+    },
+    Form {
+        version: 2,
+        sections: [
+            [0x1_0000_0022, 0, 0, 864, 104, 0, 16, 0],
+            [0x3_0000_002c, 0, 0, 976, 54, 0, 16, 0],
+        ],
+        behind: &[COUNT, 0],
+        words: [(12, Some(COUNT)), (13, None)],
+        len: 1030,
+    },
+];
+
+/// The parts up to the lines, with zeros behind them.
+const PARTS: [[u64; 2]; 8] = [
     // At 736, three instructions.
     [0x0000_0073_0000_0013, 0x0000_006f],
     // At 752, 20 initial bytes.
@@ -57,20 +94,15 @@ const PARTS: [[u64; 2]; 14] = [
     // At 832, two lines, each with at and line, and column and kind.
     [0x3_0000_0000, 1],
     [0x5_0000_0004, 0x1_0000_0002],
-    // At 864, version and entry, and base and length of text, data, table, heap and stack.
-    [1, 0x1_0004],
-    [0x1_0000, 12],
-    [0x10_0000, 20],
-    [0x10_0000, 16],
-    [0x20_0000, 0x1_0000],
-    [0x40_0000, 0x2_0000],
 ];
 
-/// The names of the sections at 960.
-const NAMES: [u8; 54] = *b"\0.text\0.data\0.ck_relocs\0.ck_lines\0.ck_image\0.shstrtab\0";
+/// At 872, behind the version: the entry, and base and length of text, data, table, heap and stack.
+const WORDS: [u64; 11] = [
+    0x1_0004, 0x1_0000, 12, 0x10_0000, 20, 0x10_0000, 16, 0x20_0000, 0x1_0000, 0x40_0000, 0x2_0000,
+];
 
-/// The length of the file.
-const LEN: usize = 1014;
+/// The names of the sections.
+const NAMES: [u8; 54] = *b"\0.text\0.data\0.ck_relocs\0.ck_lines\0.ck_image\0.shstrtab\0";
 
 const RELOC: Reloc = Reloc {
     place: 0x10_0000,
@@ -101,13 +133,18 @@ fn put(bytes: &mut Vec<u8>, words: &[u64]) -> Result<(), AllocError> {
     Ok(())
 }
 
-fn file(alloc: Global) -> Result<Vec<u8>, AllocError> {
+/// The file of a version, with this version word.
+fn file(alloc: Global, form: &Form, version: u64) -> Result<Vec<u8>, AllocError> {
     let mut bytes = Vec::new(alloc);
     for words in [
         FILE_HEADER.as_slice(),
         PROGRAM_HEADERS.as_flattened(),
         SECTION_HEADERS.as_flattened(),
+        form.sections.as_flattened(),
         PARTS.as_flattened(),
+        &[version],
+        WORDS.as_slice(),
+        form.behind,
     ] {
         put(&mut bytes, words)?;
     }
@@ -125,9 +162,9 @@ fn sequence<T: Copy>(alloc: Global, items: &[T]) -> Result<Sequence<T>, AllocErr
     Ok(Sequence::from_vec(Vec::from_slice(alloc, items)?))
 }
 
-fn image(alloc: Global) -> Result<Image, AllocError> {
+fn image(alloc: Global, form: &Form) -> Result<Image, AllocError> {
     Ok(Image {
-        version: 1,
+        version: form.version,
         entry: 0x1_0004,
         text_base: 0x1_0000,
         text: sequence(alloc, &TEXT)?,
@@ -138,18 +175,19 @@ fn image(alloc: Global) -> Result<Image, AllocError> {
         stack: (0x40_0000, 0x2_0000),
         relocs: sequence(alloc, &[RELOC])?,
         lines: sequence(alloc, &[FIRST, SECOND])?,
+        count: if form.version == 2 { COUNT } else { 0 },
     })
 }
 
 /// The file that is written of the image.
-fn written(alloc: Global) -> Result<Vec<u8>, NoMemory> {
-    let image = image(alloc)?;
+fn written(alloc: Global, form: &Form) -> Result<Vec<u8>, NoMemory> {
+    let image = image(alloc, form)?;
     write(alloc, &image)
 }
 
 /// These are the bytes of the file.
-fn is_file(alloc: Global, bytes: &[u8]) -> bool {
-    file(alloc).is_ok_and(|file| file.as_slice() == bytes)
+fn is_file(alloc: Global, form: &Form, bytes: &[u8]) -> bool {
+    file(alloc, form, form.version).is_ok_and(|file| file.as_slice() == bytes)
 }
 
 /// An address, and the line that stands there.
@@ -165,25 +203,20 @@ fn stands_at(view: &View<'_>, &(pc, line): &(u64, Option<Line>)) -> bool {
     view.position(pc) == line
 }
 
-/// The number of a word, and the word.
-const WORDS: [(u8, Option<u64>); 13] = [
-    (0, Some(1)),
-    (1, Some(0x1_0004)),
-    (2, Some(0x1_0000)),
-    (3, Some(12)),
-    (4, Some(0x10_0000)),
-    (5, Some(20)),
-    (6, Some(0x10_0000)),
-    (7, Some(16)),
-    (8, Some(0x20_0000)),
-    (9, Some(0x1_0000)),
-    (10, Some(0x40_0000)),
-    (11, Some(0x2_0000)),
-    (12, None),
-];
-
 fn has_word(view: &View<'_>, &(k, word): &(u8, Option<u64>)) -> bool {
     view.word(k) == word
+}
+
+/// Whether the words from the second to the twelfth are those of the file.
+fn has_words(view: &View<'_>) -> bool {
+    let mut k = 1;
+    for &word in &WORDS {
+        if k > 11 || view.word(k) != Some(word) {
+            return false;
+        }
+        k += 1;
+    }
+    true
 }
 
 fn assert_parts(rt: &impl Abort, view: &View<'_>) {
@@ -193,22 +226,26 @@ fn assert_parts(rt: &impl Abort, view: &View<'_>) {
     assert!(rt; view.reloc(1) == None);
 }
 
-fn assert_rows(rt: &impl Abort, view: &View<'_>) {
+fn assert_rows(rt: &impl Abort, view: &View<'_>, form: &Form) {
     for row in &POSITIONS {
         assert!(rt; stands_at(view, row), "{row:?}");
     }
-    for row in &WORDS {
+    assert!(rt; view.word(0) == Some(form.version));
+    assert!(rt; has_words(view));
+    for row in &form.words {
         assert!(rt; has_word(view, row), "{row:?}");
     }
 }
 
 #[test]
 fn writes_and_reads_an_image(rt: HostRuntime) -> Result<(), Fail> {
-    let written = written(rt.alloc())?;
-    assert!(rt; is_file(rt.alloc(), &written));
-    let view = View::read(&written)?;
-    assert_parts(&rt, &view);
-    assert_rows(&rt, &view);
+    for form in &FORMS {
+        let written = written(rt.alloc(), form)?;
+        assert!(rt; is_file(rt.alloc(), form, &written));
+        let view = View::read(&written)?;
+        assert_parts(&rt, &view);
+        assert_rows(&rt, &view, form);
+    }
     Ok(())
 }
 
@@ -230,8 +267,10 @@ fn is_refused_with(
 }
 
 /// The refusal of the file whose byte at this place has each of its bits changed.
-fn refusal_at(place: usize) -> Option<ElfRefusal> {
+fn refusal_at(form: &Form, place: usize) -> Option<ElfRefusal> {
     match place {
+        // The count, and what stands behind it.
+        960..976 if form.version == 2 => None,
         // The identification and the machine.
         0..16 | 18..20 => Some(ElfRefusal::Ident),
         // The flags, the text and initial bytes, what stands behind them, the relocation, and the table's base and length.
@@ -251,9 +290,9 @@ const SECOND_LINES: [(u8, Option<ElfRefusal>); 4] = [
     (12, Some(ElfRefusal::Field)),
 ];
 
-fn assert_bytes(rt: &impl Abort, alloc: Global, file: &[u8]) {
+fn assert_bytes(rt: &impl Abort, alloc: Global, form: &Form, file: &[u8]) {
     for (place, byte) in file.iter().enumerate() {
-        let wanted = refusal_at(place);
+        let wanted = refusal_at(form, place);
         assert!(rt;
             is_refused_with(file, alloc, place, !*byte, wanted),
             "byte {place}: {wanted:?}"
@@ -272,9 +311,49 @@ fn assert_second_lines(rt: &impl Abort, alloc: Global, file: &[u8]) {
 
 #[test]
 fn refuses_each_wrong_byte(rt: HostRuntime) -> Result<(), Fail> {
-    let file = file(rt.alloc())?;
-    assert_bytes(&rt, rt.alloc(), &file);
-    assert_second_lines(&rt, rt.alloc(), &file);
+    for form in &FORMS {
+        let file = file(rt.alloc(), form, form.version)?;
+        assert_bytes(&rt, rt.alloc(), form, &file);
+        assert_second_lines(&rt, rt.alloc(), &file);
+    }
+    Ok(())
+}
+
+/// The refusal of a file with this version word, where the image's part has the size of that form.
+fn version_refusal(form: &Form, version: u64) -> Option<ElfRefusal> {
+    if version == form.version {
+        None
+    } else {
+        Some(ElfRefusal::Version)
+    }
+}
+
+/// The size of the image's part stands here, in the low byte of its field.
+const SIZE_AT: usize = 640;
+
+/// Sizes of the image's part that no version has.
+const OTHER_SIZES: [u8; 9] = [0, 8, 88, 95, 97, 100, 103, 105, 112];
+
+fn assert_versions(rt: &impl Abort, alloc: Global, form: &Form) -> Result<(), Fail> {
+    for version in 0..4 {
+        let file = file(alloc, form, version)?;
+        let wanted = version_refusal(form, version);
+        assert!(rt; View::read(&file).err() == wanted, "{version}: {wanted:?}");
+        for &size in &OTHER_SIZES {
+            assert!(rt;
+                is_refused_with(&file, alloc, SIZE_AT, size, Some(ElfRefusal::Field)),
+                "{version}, {size} bytes"
+            );
+        }
+    }
+    Ok(())
+}
+
+#[test]
+fn reads_each_version_with_its_size_alone(rt: HostRuntime) -> Result<(), Fail> {
+    for form in &FORMS {
+        assert_versions(&rt, rt.alloc(), form)?;
+    }
     Ok(())
 }
 
@@ -293,9 +372,9 @@ fn truncation(len: usize) -> (ElfRefusal, u8) {
     }
 }
 
-fn assert_truncations(rt: &impl Abort, file: &[u8]) {
-    assert!(rt; file.len() == LEN);
-    for len in 0..LEN {
+fn assert_truncations(rt: &impl Abort, form: &Form, file: &[u8]) {
+    assert!(rt; file.len() == form.len);
+    for len in 0..form.len {
         let (refusal, number) = truncation(len);
         assert!(rt;
             is_truncated(file, len, refusal, number),
@@ -306,10 +385,12 @@ fn assert_truncations(rt: &impl Abort, file: &[u8]) {
 
 #[test]
 fn refuses_each_truncation(rt: HostRuntime) -> Result<(), Fail> {
-    let mut file = file(rt.alloc())?;
-    assert_truncations(&rt, &file);
-    // Bytes behind the last part are not looked at.
-    file.push(0xff)?;
-    assert!(rt; View::read(&file).is_ok());
+    for form in &FORMS {
+        let mut file = file(rt.alloc(), form, form.version)?;
+        assert_truncations(&rt, form, &file);
+        // Bytes behind the last part are not looked at.
+        file.push(0xff)?;
+        assert!(rt; View::read(&file).is_ok());
+    }
     Ok(())
 }
