@@ -18,9 +18,12 @@ use Rattle.obj_mem.specs.declared.map.Frame.{Frame}
 use Rattle.obj_mem.specs.Legal.{ObjectNeed, FunctionNeed, owned_of, alignment_of, room_of, AreFrames, IsEntry, IsLegal}
 use Rattle.obj_mem.specs.Needs.{global_need, literal_need, function_needs, needs_of}
 use Rattle.bounds_place.specs.declared.needs.Need.{Need}
+use Rattle.bounds_place.specs.declared.sizes.Sizes.{Sizes}
 use Rattle.bounds_place.specs.Rows.{need, room, bases_from, end_from}
 use Rattle.bounds_place.specs.Parts.{IsTable, AreData, HasParts}
 use Rattle.bounds_place.specs.Placing.{AreOffsets, AllWithin, IsStretch, weightless, IsPlacing, locals_exceed, exceeds}
+use Rattle.bounds_place.specs.Sizes.{in_range}
+use Rattle.bounds_place.proofs.Ranges.{heap_ranged, stack_ranged}
 use Rattle.bounds_place.proofs.Lengths.{divides_power, divides_short}
 use Rattle.bounds_place.proofs.Behind.{alignment_from, row_aligned, objects_at, objects_end, objects_apart, objects_within, objects_most, within_more, within_most, apart_from_all, all_in_range}
 
@@ -55,21 +58,21 @@ entries_differ text entries w f g entry (Some at) (Some at') e e' q q' =
 
 -- ---- the map of the parts
 
-pub whole_map : (table : ℕ) (globals literals : List ℕ) (frames : List Frame) (entries : List ℕ) (text : ℕ) → Map
-whole_map table globals literals frames entries text = record {
+pub whole_map : (table : ℕ) (globals literals : List ℕ) (frames : List Frame) (entries : List ℕ) (text : ℕ) (sizes : Sizes) → Map
+whole_map table globals literals frames entries text sizes = record {
   text = (1073741824, text);
   entries = map (λ at. 1073741824 + at) entries;
   globals = globals;
   literals = literals;
   table = (4294967296, table);
-  heap = (16777216, 16777216);
-  stack = (33554432, 1048576);
+  heap = (16777216, sizes.heap);
+  stack = (16777216 + sizes.heap, sizes.stack);
   frames = frames;
 }
 
-is_whole : (table : ℕ) (globals literals : List ℕ) (frames : List Frame) (entries : List ℕ) (text : ℕ) (m : Map) → HasParts table globals literals frames entries text m → m ≡ whole_map table globals literals frames entries text
+is_whole : (table : ℕ) (globals literals : List ℕ) (frames : List Frame) (entries : List ℕ) (text : ℕ) (sizes : Sizes) (m : Map) → HasParts table globals literals frames entries text sizes m → m ≡ whole_map table globals literals frames entries text sizes
 unfolding whole_map
-is_whole table globals literals frames entries text m h = λ i. record {
+is_whole table globals literals frames entries text sizes m h = λ i. record {
   text = (h.text_base i, h.text_length i);
   entries = h.entries_are i;
   globals = h.globals_are i;
@@ -82,12 +85,18 @@ is_whole table globals literals frames entries text m h = λ i. record {
 
 module _ (gs ls : List ObjectNeed) (frames : List Frame) (entries : List ℕ) (text table count : ℕ)
     (t : IsTable count table) (few : count ≤ 536870912) (within : room_of gs + room_of ls ≤ size_limit)
-    (offsets : AreOffsets entries text) (own : owned text ≡ text) (most : text ≤ 2 ^ 30) where
+    (offsets : AreOffsets entries text) (own : owned text ≡ text) (most : text ≤ 2 ^ 30)
+    (sizes : Sizes) (ranged : in_range sizes ≡ true) where
   pub legal : (functions : List FunctionNeed) → length entries ≡ length functions → AreFrames functions frames
-      → IsLegal (record { globals = gs; literals = ls; functions = functions }) (whole_map table (bases_from (4294967296 + table) (map need gs)) (bases_from (end_from (4294967296 + table) (map need gs)) (map need ls)) frames entries text)
+      → IsLegal (record { globals = gs; literals = ls; functions = functions }) (whole_map table (bases_from (4294967296 + table) (map need gs)) (bases_from (end_from (4294967296 + table) (map need gs)) (map need ls)) frames entries text sizes)
   unfolding whole_map objects_at
   legal functions ne af =
       let small = t.small in
+      let heap = heap_ranged sizes ranged in
+      let stack = stack_ranged sizes ranged in
+      let heap_low = heap.least in
+      let heap_high = heap.most in
+      let stack_high = stack.most in
       let fin = objects_end (4294967296 + table) gs ls in
       let w : AllWithin (4294967296 + table) fin (objects_at (4294967296 + table) gs ls) = objects_within (4294967296 + table) gs ls in
       let e = objects_most (4294967296 + table) gs ls in
@@ -102,9 +111,9 @@ module _ (gs ls : List ObjectNeed) (frames : List Frame) (entries : List ℕ) (t
           (
             (inr (omega arith), (inr (omega arith), apart_from_all (4294967296, table) (4294967296 + table) fin _ (omega arith) w)),
             (
-              (inl (omega arith), apart_from_all (16777216, 16777216) (4294967296 + table) fin _ (omega arith) w),
+              (inl (omega arith), apart_from_all (16777216, sizes.heap) (4294967296 + table) fin _ (omega arith) w),
               (
-                apart_from_all (33554432, 1048576) (4294967296 + table) fin _ (omega arith) w,
+                apart_from_all (16777216 + sizes.heap, sizes.stack) (4294967296 + table) fin _ (omega arith) w,
                 objects_apart (4294967296 + table) gs ls,
               ),
             ),
@@ -117,22 +126,27 @@ module _ (gs ls : List ObjectNeed) (frames : List Frame) (entries : List ℕ) (t
         in_text = λ f entry q. entry_at text entries offsets f entry (slice_get entries f) refl (sym (slice_get-map (λ at. 1073741824 + at) entries f) ∙ q);
         distinct = λ f g entry q q'. entries_differ text entries offsets f g entry (slice_get entries f) (slice_get entries g) refl refl
             (sym (slice_get-map (λ at. 1073741824 + at) entries f) ∙ q) (sym (slice_get-map (λ at. 1073741824 + at) entries g) ∙ q');
-        heap_length = refl;
-        heap_least = omega arith;
-        heap_most = omega arith;
+        heap_length = heap.multiple;
+        heap_least = heap.least;
+        heap_most = heap.most;
         heap_base = refl;
-        large_heap = λ h. absurd (omega arith);
-        stack_base = refl;
-        stack_length = refl;
-        stack_least = omega arith;
-        stack_most = omega arith;
+        large_heap = λ h. refl;
+        stack_base = let even = heap.multiple in omega arith;
+        stack_length = stack.multiple;
+        stack_least = stack.least;
+        stack_most = stack.most;
       }
 
   pub stretch : (functions : List FunctionNeed)
-      → (size : ℕ) × IsStretch (record { globals = gs; literals = ls; functions = functions }) (whole_map table (bases_from (4294967296 + table) (map need gs)) (bases_from (end_from (4294967296 + table) (map need gs)) (map need ls)) frames entries text) size
+      → (size : ℕ) × IsStretch (record { globals = gs; literals = ls; functions = functions }) (whole_map table (bases_from (4294967296 + table) (map need gs)) (bases_from (end_from (4294967296 + table) (map need gs)) (map need ls)) frames entries text sizes) size
   unfolding whole_map objects_at
   stretch functions =
       let small = t.small in
+      let heap = heap_ranged sizes ranged in
+      let stack = stack_ranged sizes ranged in
+      let heap_low = heap.least in
+      let heap_high = heap.most in
+      let stack_high = stack.most in
       let fin = objects_end (4294967296 + table) gs ls in
       let w : AllWithin (4294967296 + table) fin (objects_at (4294967296 + table) gs ls) = objects_within (4294967296 + table) gs ls in
       let e = objects_most (4294967296 + table) gs ls in
@@ -159,13 +173,13 @@ pub sum_room : (ns : List ObjectNeed) → sum_by room (map need ns) ≡ room_of 
 sum_room [] = refl
 sum_room (n ∷ ns) = sum_by-cons room (need n) (map need ns) ∙ ap (λ v. owned_of n + alignment_of n + v) (sum_room ns)
 
-pub placing_law : (p : Typed) (frames : List Frame) (entries : List ℕ) (text table : ℕ) (m : Map)
-    → HasParts table (bases_from (4294967296 + table) (map need (map (global_need p.types) p.globals))) (bases_from (end_from (4294967296 + table) (map need (map (global_need p.types) p.globals))) (map need (map literal_need p.literals))) frames entries text m
+pub placing_law : (p : Typed) (frames : List Frame) (entries : List ℕ) (text table : ℕ) (sizes : Sizes) (m : Map)
+    → HasParts table (bases_from (4294967296 + table) (map need (map (global_need p.types) p.globals))) (bases_from (end_from (4294967296 + table) (map need (map (global_need p.types) p.globals))) (map need (map literal_need p.literals))) frames entries text sizes m
     → IsTable (length p.globals + length p.literals + length p.funs + 2) table → length p.globals + length p.literals + length p.funs + 2 ≤ 536870912
     → room_of (map (global_need p.types) p.globals) + room_of (map literal_need p.literals) ≤ size_limit
-    → length entries ≡ length p.funs → AreOffsets entries text → owned text ≡ text → text ≤ 2 ^ 30
-    → IsPlacing p frames entries text m
-placing_law p frames entries text table m h t few within ne offsets own most =
+    → length entries ≡ length p.funs → AreOffsets entries text → owned text ≡ text → text ≤ 2 ^ 30 → in_range sizes ≡ true
+    → IsPlacing p frames entries text sizes m
+placing_law p frames entries text table sizes m h t few within ne offsets own most ranged =
     let gs = map (global_need p.types) p.globals in
     let ls = map literal_need p.literals in
     let count = length p.globals + length p.literals + length p.funs + 2 in
@@ -173,10 +187,10 @@ placing_law p frames entries text table m h t few within ne offsets own most =
     let ll : length ls ≡ length p.literals = length-map p.literals literal_need in
     let zeros : length (function_needs p.types (λ f. zero) 0 p.funs) ≡ length p.funs = length-functions p.types (λ f. zero) 0 p.funs in
     let same : length gs + length ls + length (function_needs p.types (λ f. zero) 0 p.funs) + 2 ≡ count = omega arith in
-    let is = is_whole table (bases_from (4294967296 + table) (map need gs)) (bases_from (end_from (4294967296 + table) (map need gs)) (map need ls)) frames entries text m h in
+    let is = is_whole table (bases_from (4294967296 + table) (map need gs)) (bases_from (end_from (4294967296 + table) (map need gs)) (map need ls)) frames entries text sizes m h in
     record {
       legal = λ weight af. subst (λ x. IsLegal (needs_of weight p) x) (sym is)
-          (legal gs ls frames entries text table count t few within offsets own most (function_needs p.types weight 0 p.funs) (ne ∙ sym (length-functions p.types weight 0 p.funs)) af);
+          (legal gs ls frames entries text table count t few within offsets own most sizes ranged (function_needs p.types weight 0 p.funs) (ne ∙ sym (length-functions p.types weight 0 p.funs)) af);
       frames_are = h.frames_are;
       text_is = h.text_length;
       entries_are = subst (λ b. m.entries ≡ map (λ at. b + at) entries) (sym h.text_base) h.entries_are;
@@ -184,7 +198,7 @@ placing_law p frames entries text table m h t few within ne offsets own most =
       heap_is = h.heap_length;
       stack_is = h.stack_length;
       stretch = subst (λ x. (size : ℕ) × IsStretch (weightless p) x size) (sym is)
-          (stretch gs ls frames entries text table count t few within offsets own most (function_needs p.types (λ f. zero) 0 p.funs));
+          (stretch gs ls frames entries text table count t few within offsets own most sizes ranged (function_needs p.types (λ f. zero) 0 p.funs));
     }
 
 -- ---- what objects ask for
@@ -216,15 +230,15 @@ pub room_law : (gs ls : List ObjectNeed) (xs ys : List Need) → xs ≡ map need
 room_law gs ls xs ys e f = omega (arith, ap (sum_by room) e ∙ sum_room gs, ap (sum_by room) f ∙ sum_room ls)
 
 -- the parts of the map where what the rows were made of is known
-pub placed_law : (p : Typed) (frames : List Frame) (entries : List ℕ) (text table : ℕ) (m : Map) (xs ys : List Need) (bs cs : List ℕ)
+pub placed_law : (p : Typed) (frames : List Frame) (entries : List ℕ) (text table : ℕ) (sizes : Sizes) (m : Map) (xs ys : List Need) (bs cs : List ℕ)
     → xs ≡ map need (map (global_need p.types) p.globals) → ys ≡ map need (map literal_need p.literals)
     → bs ≡ bases_from (4294967296 + table) xs → cs ≡ bases_from (end_from (4294967296 + table) xs) ys
-    → HasParts table bs cs frames entries text m
+    → HasParts table bs cs frames entries text sizes m
     → IsTable (length xs + length ys + length p.funs + 2) table → length p.funs ≤ 268435456
     → sum_by room xs + sum_by room ys ≤ size_limit
-    → length entries ≡ length p.funs → AreOffsets entries text → owned text ≡ text → text ≤ 2 ^ 30
-    → IsPlacing p frames entries text m
-placed_law p frames entries text table m xs ys bs cs ex ey eb ec h t few within ne offsets own most =
+    → length entries ≡ length p.funs → AreOffsets entries text → owned text ≡ text → text ≤ 2 ^ 30 → in_range sizes ≡ true
+    → IsPlacing p frames entries text sizes m
+placed_law p frames entries text table sizes m xs ys bs cs ex ey eb ec h t few within ne offsets own most ranged =
     let gs = map (global_need p.types) p.globals in
     let ls = map literal_need p.literals in
     let lx : length xs ≡ length p.globals = ap length ex ∙ length-map gs need ∙ length-map p.globals (global_need p.types) in
@@ -232,12 +246,12 @@ placed_law p frames entries text table m xs ys bs cs ex ey eb ec h t few within 
     let r = room_law gs ls xs ys ex ey in
     let kb : bs ≡ bases_from (4294967296 + table) (map need gs) = eb ∙ ap (bases_from (4294967296 + table)) ex in
     let kc : cs ≡ bases_from (end_from (4294967296 + table) (map need gs)) (map need ls) = ec ∙ ap (λ v. bases_from (end_from (4294967296 + table) v) ys) ex ∙ ap (bases_from (end_from (4294967296 + table) (map need gs))) ey in
-    let h' = subst (λ v. HasParts table v (bases_from (end_from (4294967296 + table) (map need gs)) (map need ls)) frames entries text m) kb (subst (λ v. HasParts table bs v frames entries text m) kc h) in
+    let h' = subst (λ v. HasParts table v (bases_from (end_from (4294967296 + table) (map need gs)) (map need ls)) frames entries text sizes m) kb (subst (λ v. HasParts table bs v frames entries text sizes m) kc h) in
     let same : length xs + length ys + length p.funs + 2 ≡ length p.globals + length p.literals + length p.funs + 2 = omega arith in
     let t' = subst (λ v. IsTable v table) same t in
     let a = data_law gs ls xs ys ex ey within in
     let count = a.count in
-    placing_law p frames entries text table m h' t' (omega arith) (omega arith) ne offsets own most
+    placing_law p frames entries text table sizes m h' t' (omega arith) (omega arith) ne offsets own most ranged
 
 -- ---- the limit
 

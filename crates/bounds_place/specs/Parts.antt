@@ -7,6 +7,7 @@ use Rattle.obj_mem.specs.declared.map.Map.{Map}
 use Rattle.obj_mem.specs.declared.map.Frame.{Frame}
 use Rattle.bounds_place.specs.Rows.{room}
 use Rattle.bounds_place.specs.declared.needs.Need.{Need}
+use Rattle.bounds_place.specs.declared.sizes.Sizes.{Sizes}
 
 -- the length of a table of so many entries
 pub record IsTable (entries size : ℕ) : Type 0 where
@@ -20,8 +21,8 @@ pub record AreData (globals literals : List Need) : Type 0 where
   pub within : sum_by room globals + sum_by room literals ≤ size_limit
   pub count : length globals + length literals ≤ size_limit
 
--- text and table at their places, and the heap and the stack
-pub record HasParts (table : ℕ) (globals literals : List ℕ) (frames : List Frame) (entries : List ℕ) (text : ℕ) (m : Map) : Type 0 where
+-- text and table at their places, and the heap with the stack behind it
+pub record HasParts (table : ℕ) (globals literals : List ℕ) (frames : List Frame) (entries : List ℕ) (text : ℕ) (sizes : Sizes) (m : Map) : Type 0 where
   pub text_base : m.text.0 ≡ 1073741824
   pub text_length : m.text.1 ≡ text
   pub entries_are : m.entries ≡ map (λ at. 1073741824 + at) entries
@@ -30,7 +31,7 @@ pub record HasParts (table : ℕ) (globals literals : List ℕ) (frames : List F
   pub table_base : m.table.0 ≡ 4294967296
   pub table_length : m.table.1 ≡ table
   pub heap_base : m.heap.0 ≡ 16777216
-  pub heap_length : m.heap.1 ≡ 16777216
-  pub stack_base : m.stack.0 ≡ 33554432
-  pub stack_length : m.stack.1 ≡ 1048576
+  pub heap_length : m.heap.1 ≡ sizes.heap
+  pub stack_base : m.stack.0 ≡ 16777216 + sizes.heap
+  pub stack_length : m.stack.1 ≡ sizes.stack
   pub frames_are : m.frames ≡ frames

@@ -13,6 +13,7 @@ use Rattle.obj_mem.specs.declared.map.Frame.{Frame}
 use Rattle.obj_mem.specs.Legal.{Needs, room_of, AreApart, objects_of, AreFrames, IsLegal}
 use Rattle.obj_mem.specs.Needs.{local_needs, global_need, literal_need, function_needs, needs_of}
 use Rattle.obj_mem.specs.Table.{table_length}
+use Rattle.bounds_place.specs.declared.sizes.Sizes.{Sizes}
 
 -- ---- the limit of 67,108,864 bytes
 
@@ -67,13 +68,13 @@ pub record IsStretch (n : Needs) (m : Map) (size : ℕ) : Type 0 where
 abbrev pub weightless : Typed → Needs
 weightless p = needs_of (λ f. zero) p
 
-pub record IsPlacing (p : Typed) (frames : List Frame) (entries : List ℕ) (text : ℕ) (m : Map) : Type 0 where
+pub record IsPlacing (p : Typed) (frames : List Frame) (entries : List ℕ) (text : ℕ) (sizes : Sizes) (m : Map) : Type 0 where
   -- legal for all weights of functions for which the frames keep their rules
   pub legal : (weight : ℕ → ℕ) → AreFrames (function_needs p.types weight 0 p.funs) frames → IsLegal (needs_of weight p) m
   pub frames_are : m.frames ≡ frames
   pub text_is : m.text.1 ≡ text
   pub entries_are : m.entries ≡ map (λ at. m.text.0 + at) entries
   pub table_is : m.table.1 ≡ table_length (weightless p)
-  pub heap_is : m.heap.1 ≡ 16777216
-  pub stack_is : m.stack.1 ≡ 1048576
+  pub heap_is : m.heap.1 ≡ sizes.heap
+  pub stack_is : m.stack.1 ≡ sizes.stack
   pub stretch : (size : ℕ) × IsStretch (weightless p) m size

@@ -4,6 +4,8 @@
 mod needs;
 mod placing;
 mod rows;
+mod sizes;
 
 pub use needs::local_needs;
 pub use placing::{exceeds_limit, place};
+pub use sizes::{Sizes, USUAL, is_heap, is_stack};

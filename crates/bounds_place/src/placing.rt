@@ -1,5 +1,5 @@
 //! Where the parts of a program stand.
-ghost use Rattle.std.specs.Prelude.{◌≡◌, ℕ, ◌+◌, ◌*◌, ◌%◌, ◌^◌, ◌<◌, ◌≤◌, false, map, length, IfOk, IfErr, sum_by, nat_lt};
+ghost use Rattle.std.specs.Prelude.{◌≡◌, ℕ, ◌+◌, ◌*◌, ◌%◌, ◌^◌, ◌<◌, ◌≤◌, true, false, map, length, IfOk, IfErr, sum_by, nat_lt};
 ghost use Rattle.cap_concentrate.specs.Rounding.{owned};
 ghost use Rattle.c_tree.specs.Layout.{size_limit};
 ghost use Rattle.cap_layout.specs.Kept.{AreLayoutsOf};
@@ -7,9 +7,11 @@ ghost use Rattle.obj_mem.specs.Needs.{global_need, literal_need};
 ghost use Rattle.bounds_place.specs.Rows.{need, room, bases_from, end_from};
 ghost use Rattle.bounds_place.specs.Parts.{IsTable, AreData, HasParts};
 ghost use Rattle.bounds_place.specs.Placing.{data_room, exceeds, IsRefusal, AreOffsets, IsPlacing};
+ghost use Rattle.bounds_place.specs.Sizes.{in_range};
 
 use crate::needs::{LIMIT, Need, global_needs, literal_needs, room, some_locals_exceed};
 use crate::rows::row;
+use crate::sizes::Sizes;
 use c_tree::Typed;
 use cap_concentrate::rounded_length;
 use cap_layout::Layouts;
@@ -17,10 +19,8 @@ use ck_base::{Pos, Refusal, Sequence};
 use obj_mem::{Frame, Map, Slot};
 use std::alloc::{AllocError, Global};
 
-/// The heap and the stack: base and length.
-const HEAP: (u64, u64) = (16_777_216, 16_777_216);
-
-const STACK: (u64, u64) = (33_554_432, 1_048_576);
+/// Where the heap begins, which has the stack behind it.
+const HEAP: u64 = 16_777_216;
 
 /// Where the text begins, and where the table, which has the globals and the literals behind it.
 const TEXT: u64 = 1_073_741_824;
@@ -136,14 +136,17 @@ fn copies_of(alloc: Global, frames: &[Frame]) -> Result<Vec<Frame>, AllocError>
 }
 
 // The map of these parts.
+#[tactic(auto, using(crate::proofs::Ranges::heap_most))]
 fn map_of(
     alloc: Global,
     made: Data,
     frames: &[Frame],
     entries: &[u32],
     text: u64,
+    sizes: Sizes,
 ) -> Result<Map, AllocError>
-    ensures { IfOk result (HasParts made.table made.globals.items made.literals.items frames.now entries.now text) }
+    requires { in_range sizes ≡ true }
+    ensures { IfOk result (HasParts made.table made.globals.items made.literals.items frames.now entries.now text sizes) }
 {
     let addresses = addresses(alloc, entries)?;
     let frames = copies_of(alloc, frames)?;
@@ -153,14 +156,15 @@ fn map_of(
         globals: Sequence::from_vec(made.globals),
         literals: Sequence::from_vec(made.literals),
         table: (TABLE, made.table),
-        heap: HEAP,
-        stack: STACK,
+        heap: (HEAP, sizes.heap),
+        stack: (HEAP + sizes.heap, sizes.stack),
         frames: Sequence::from_vec(frames),
     })
 }
 
 /// A legal map of a program, with these frames and a text of `text` bytes, in which the functions begin at the offsets
-/// `entries`. It has a heap of 16,777,216 bytes and a stack of 1,048,576. The table, the globals and the literals lie in one stretch from the table's base on.
+/// `entries`. Its heap and its stack have the lengths of `sizes`. The table, the globals and the literals lie in one stretch from the
+/// table's base on.
 ///
 /// It is refused by 141 at 1:1 exactly where the globals and literals together, or the locals of one function that are objects,
 /// exceed 67,108,864 bytes, each counted as its owned length and its object's alignment.
@@ -170,13 +174,15 @@ pub fn place(
     frames: &Vec<Frame>,
     entries: &Vec<u32>,
     text: u64,
+    sizes: Sizes,
 ) -> Result<Map, Refusal>
     requires entries { length entries.now.items ≡ length p.now.funs }
     requires offsets { AreOffsets entries.now.items text }
     requires whole { text % 16 ≡ 0 }
     requires owned { owned text ≡ text }
     requires most { text ≤ 2 ^ 30 }
-    ensures placed { IfOk result (IsPlacing p.now frames.now.items entries.now.items text) }
+    requires sizes { in_range sizes ≡ true }
+    ensures placed { IfOk result (IsPlacing p.now frames.now.items entries.now.items text sizes) }
     ensures within { IfOk result (λ m. exceeds p.now ≡ false) }
     ensures refused { IfErr result (IsRefusal p.now) }
 {
@@ -191,5 +197,5 @@ pub fn place(
         return Err(Refusal::NoMemory);
     }
     let made = data_of(alloc, &globals, &literals, functions)?;
-    Ok(map_of(alloc, made, frames, entries, text)?)
+    Ok(map_of(alloc, made, frames, entries, text, sizes)?)
 }

@@ -1,8 +1,9 @@
 //! Maps of known programs.
-ghost use Rattle.std.specs.Prelude.{◌≡◌, length};
+ghost use Rattle.std.specs.Prelude.{◌≡◌, true, length};
+ghost use Rattle.bounds_place.specs.Sizes.{in_range};
 
 use crate::given::{got, none};
-use bounds_place::place;
+use bounds_place::{Sizes, USUAL, is_heap, is_stack, place};
 use c_tree::{CType, FunDef, GlobalDef, Literal, Typed, VarDef};
 use ck_base::{Pos, Refusal, Sequence, Span};
 use ck_int::IntKind;
@@ -109,18 +110,26 @@ fn frames(alloc: Global) -> Result<Vec<Frame>, AllocError> {
 }
 
 #[tactic(auto, using(cap_concentrate::proofs::Laws::owned_short))]
-fn map(rt: &impl Abort, alloc: Global, lengths: &[u64], local: u64) -> Result<Map, Refusal> {
+fn map(
+    rt: &impl Abort,
+    alloc: Global,
+    lengths: &[u64],
+    local: u64,
+    sizes: Sizes,
+) -> Result<Map, Refusal>
+    requires { in_range sizes ≡ true }
+{
     let p = program(rt, alloc, lengths, local);
     let frames = got(rt, frames(alloc));
     match vec![in alloc; 8] {
-        Ok(entries) => place(alloc, &p, &frames, &entries, 64),
+        Ok(entries) => place(alloc, &p, &frames, &entries, 64, sizes),
         Err(_) => panic!(rt; "no memory"),
     }
 }
 
 #[test]
 fn objects_stand_behind_the_table(rt: HostRuntime) {
-    let m = got(&rt, map(&rt, rt.alloc(), &[4095, 4097, 100_000], 4097));
+    let m = got(&rt, map(&rt, rt.alloc(), &[4095, 4097, 100_000], 4097, USUAL));
     let globals = [4_294_967_408, 4_294_971_504, 4_294_975_616];
     assert!(rt; m.text == (1_073_741_824, 64));
     assert!(rt; m.table == (4_294_967_296, 112));
@@ -130,13 +139,73 @@ fn objects_stand_behind_the_table(rt: HostRuntime) {
     assert!(rt; m.frames.as_slice().len() == 1);
 }
 
+/// The heap, and the stack behind it, by their lengths.
+const SIZES: [(Sizes, (u64, u64), (u64, u64)); 3] = [
+    (USUAL, (16_777_216, 16_777_216), (33_554_432, 1_048_576)),
+    (
+        Sizes {
+            heap: 67_108_864,
+            stack: 33_554_432,
+        },
+        (16_777_216, 67_108_864),
+        (83_886_080, 33_554_432),
+    ),
+    (
+        Sizes {
+            heap: 16_842_752,
+            stack: 65_536,
+        },
+        (16_777_216, 16_842_752),
+        (33_619_968, 65_536),
+    ),
+];
+
+fn assert_sizes(rt: &impl Abort, alloc: Global, sizes: Sizes, heap: (u64, u64), stack: (u64, u64))
+    requires { in_range sizes ≡ true }
+{
+    let m = got(rt, map(rt, alloc, &[4095], 4097, sizes));
+    assert!(rt; m.heap == heap);
+    assert!(rt; m.stack == stack);
+}
+
+#[test]
+fn heap_and_stack_have_their_sizes(rt: HostRuntime) {
+    for &(sizes, heap, stack) in &SIZES {
+        if sizes.in_range() {
+            assert_sizes(&rt, rt.alloc(), sizes, heap, stack);
+        } else {
+            panic!(rt; "sizes out of range");
+        }
+    }
+}
+
+/// Lengths, with whether a heap and whether a stack may have them.
+const LENGTHS: [(u64, bool, bool); 9] = [
+    (0, false, false),
+    (65_535, false, false),
+    (65_536, false, true),
+    (1_000_000, false, false),
+    (16_777_215, false, false),
+    (16_777_216, true, true),
+    (33_554_432, true, true),
+    (33_619_968, true, false),
+    (67_174_400, false, false),
+];
+
+#[test]
+fn lengths_are_multiples_in_a_range(rt: HostRuntime) {
+    for &(n, heap, stack) in &LENGTHS {
+        assert!(rt; is_heap(n) == heap && is_stack(n) == stack, "{n}");
+    }
+}
+
 // How a program with globals of these lengths and a local of that length is refused.
 #[tactic(auto, using(cap_concentrate::proofs::Laws::owned_short))]
 fn refusal(rt: &impl Abort, alloc: Global, lengths: &[u64], local: u64) -> Option<Refusal> {
     let p = program(rt, alloc, lengths, local);
     let frames = got(rt, frames(alloc));
     match vec![in alloc; 0] {
-        Ok(entries) => place(alloc, &p, &frames, &entries, 16).err(),
+        Ok(entries) => place(alloc, &p, &frames, &entries, 16, USUAL).err(),
         Err(_) => panic!(rt; "no memory"),
     }
 }

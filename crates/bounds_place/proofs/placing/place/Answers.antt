@@ -21,11 +21,11 @@ returns-clause-placed c =
     let m = c.in_ok-map_of.field-0 in
     let funs : length c.as_slice-functions.result.now ≡ length p.funs = ap length c.as_slice-functions.ensures in
     let parts =
-    subst (λ v. HasParts made.table made.globals.items made.literals.items v c.args.entries.now.items c.args.text m) c.deref-5.ensures.value
-    (subst (λ v. HasParts made.table made.globals.items made.literals.items c.deref-5.result.now v c.args.text m) c.deref-6.ensures.value c.in_ok-map_of.ensures) in
+    subst (λ v. HasParts made.table made.globals.items made.literals.items v c.args.entries.now.items c.args.text c.args.sizes m) c.deref-5.ensures.value
+    (subst (λ v. HasParts made.table made.globals.items made.literals.items c.deref-5.result.now v c.args.text c.args.sizes m) c.deref-6.ensures.value c.in_ok-map_of.ensures) in
     let table = subst (λ v. IsTable (length c.deref-3.result.now + length c.deref-4.result.now + v + 2) made.table) funs c.in_ok-made.ensures.table in
     let few : length p.funs ≤ 268435456 = omega (arith, funs, c.if-functions-gt-MOST_FUNCTIONS.false) in
-    placed_law p c.args.frames.now.items c.args.entries.now.items c.args.text made.table m c.deref-3.result.now c.deref-4.result.now made.globals.items made.literals.items
+    placed_law p c.args.frames.now.items c.args.entries.now.items c.args.text made.table c.args.sizes m c.deref-3.result.now c.deref-4.result.now made.globals.items made.literals.items
     xs ys c.in_ok-made.ensures.globals c.in_ok-made.ensures.literals parts table few
     (within_law p c.deref-3.result.now c.deref-4.result.now xs ys (sym c.exceeds.ensures ∙ c.if-exceeds.false))
-    c.requires.entries c.requires.offsets c.requires.owned c.requires.most
+    c.requires.entries c.requires.offsets c.requires.owned c.requires.most c.requires.sizes
