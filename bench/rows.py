@@ -14,7 +14,6 @@ from calls import ROOT, prepared
 CHERIC = f"{ROOT}/cheric"
 HI = "int main(void){putchar(72);putchar(105);return 0;}"
 ECHO = "int main(void){int c;while((c=getchar())!=-1)putchar(c);return 0;}"
-NINE = "int f(int a,int b,int c,int d,int e,int g,int h,int i,int j){return 0;}int main(void){return 0;}"
 END = "int main(void){return 0;}"
 
 # A C file, its input, its output, the line and the status.
@@ -40,7 +39,6 @@ RUN = [
     ("int main(void){int *p=5;return 0;}", "", "", "refused 133 1:23", 10),
     ("int n;int a[n];" + END, "", "", "refused 134 1:13", 10),
     ("int main(void){putchar();return 0;}", "", "", "refused 136 1:16", 10),
-    (NINE, "", "", "refused 137 1:5", 10),
     ("char a[67108865];" + END, "", "", "refused 140 1:6", 10),
     ("char a[40000000];char b[40000000];" + END, "", "", "refused 141 1:1", 10),
     (" " * 4_194_305, "", "", "refused 143 1:1", 10),

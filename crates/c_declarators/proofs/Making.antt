@@ -61,23 +61,23 @@ param_more a b c ks ps i k d lt all h g =
 
 -- ---- what one part makes
 
-pub function_made : (a b c : Nodes) (f : Formed) (ks : List ℕ) (ts : List Ty) (of n : ℕ) (given m l : Bool) → f.of < type_count a → HasTypes a b ks ts → HasType b c of (Function (type_in b f.of) (tys (map (type_in b) ks))) →
-    given ≡ is_given (type_in a f.of) → m ≡ (f.faults.misfits || not given) → l ≡ (f.faults.too_many || nat_lt 8 n) →
-    Makes a c f (record { of = of; faults = record { lacks = f.faults.lacks; misfits = m; too_many = l; too_large = f.faults.too_large } }) (λ s x. gives_on (tys ts) n x)
-function_made a b c f ks ts of n given m l lt h g q e d =
+pub function_made : (a b c : Nodes) (f : Formed) (ks : List ℕ) (ts : List Ty) (of : ℕ) (given m : Bool) → f.of < type_count a → HasTypes a b ks ts → HasType b c of (Function (type_in b f.of) (tys (map (type_in b) ks))) →
+    given ≡ is_given (type_in a f.of) → m ≡ (f.faults.misfits || not given) →
+    Makes a c f (record { of = of; faults = record { lacks = f.faults.lacks; misfits = m; too_large = f.faults.too_large } }) (λ s x. gives_on (tys ts) x)
+function_made a b c f ks ts of given m lt h g q e =
     let t : type_in c of ≡ Function (type_in a f.of) (tys ts) =
     g.is.is ∙ ap (λ u. Function u (tys (map (type_in b) ks))) (h.keeps.types f.of lt) ∙ ap (λ us. Function (type_in a f.of) (tys us)) h.are.are in
     let r : m ≡ (f.faults.misfits || not (is_given (type_in a f.of))) = e ∙ ap (λ z. f.faults.misfits || not z) q in
     record {
       keeps = keeps_then a b c h.keeps g.keeps;
       there = g.is.there;
-      is = λ s k. λ i. record { of = t i; lacks = f.faults.lacks; misfits = r i; too_many = d i; too_large = f.faults.too_large };
+      is = λ s k. λ i. record { of = t i; lacks = f.faults.lacks; misfits = r i; too_large = f.faults.too_large };
     }
 
 -- ---- what all parts make
 
 made_kept : (s : State) (a b : Nodes) (w : Wrap) (x : meant_types.Formed) → Keeps a b → WrapIsThere a w → made_on s b w x ≡ made_on s a w x
-made_kept s a b (Gives p) x k h = ap (λ ts. gives_on (tys ts) (length p.params.items) x) (signature_kept a b p.params.items k h)
+made_kept s a b (Gives p) x k h = ap (λ ts. gives_on (tys ts) x) (signature_kept a b p.params.items k h)
 made_kept s a b _ x k h = refl
 
 pub nothing_made : (a : Nodes) (of : ℕ) (ws : List Wrap) (f : Formed) → IsWhole a → of < type_count a → f.of ≡ of → ((n : Nodes) → formed_in n f ≡ plainly (type_in n of)) → MakesOf a a f (λ s. all_on s a (drop (length ws) ws) (plainly (type_in a of)))

@@ -28,11 +28,8 @@ signature_is : (w : Work) (ps : List Param) → signature (map (param_in w) ps) 
 signature_is w [] = refl
 signature_is w (p ∷ ps) = ap (λ ts. also (in_signature (type_in w.nodes p.of)) ts) (signature_is w ps)
 
-gives_is : (R : Scope → meant_scopes.Scope → Type 0) (s : State) (w : Work) (ps : List Param) (x : meant.Prototype) (f : meant_types.Formed) → x.params ≡ map (param_in w) ps → wrap_on s (meant.Gives x) f ≡ gives_on (tys (signature_types w.nodes ps)) (length ps) f
-gives_is R s w ps x f e =
-    ap (λ qs. gives_on (signature qs) (length qs) f) e
-    ∙ ap (λ ts. gives_on ts (length (map (param_in w) ps)) f) (signature_is w ps)
-    ∙ ap (λ n. gives_on (tys (signature_types w.nodes ps)) n f) (length-map ps (param_in w))
+gives_is : (R : Scope → meant_scopes.Scope → Type 0) (s : State) (w : Work) (ps : List Param) (x : meant.Prototype) (f : meant_types.Formed) → x.params ≡ map (param_in w) ps → wrap_on s (meant.Gives x) f ≡ gives_on (tys (signature_types w.nodes ps)) f
+gives_is R s w ps x f e = ap (λ qs. gives_on (signature qs) f) e ∙ ap (λ ts. gives_on ts f) (signature_is w ps)
 
 wrap_is : (R : Scope → meant_scopes.Scope → Type 0) (s : State) (w : Work) (a : Wrap) (b : meant.Wrap) (f : meant_types.Formed) → IsWrap R w a b → wrap_on s b f ≡ made_on s w.nodes a f
 wrap_is R s w (Point q) (meant.Point r) f h = ap (λ x. wrap_on s (meant.Point x) f) h
@@ -86,4 +83,4 @@ unfolding formed
 formed_is R w n g of xs ys s m a h = form_is R s w xs ys (plainly (type_in w.nodes of)) a ∙ sym (m.is s h.stands)
 
 pub faults_in : (n : Nodes) (f : Formed) → HasFaults f.faults (formed_in n f)
-faults_in n f = record { lacks = refl; misfits = refl; too_many = refl; too_large = refl }
+faults_in n f = record { lacks = refl; misfits = refl; too_large = refl }

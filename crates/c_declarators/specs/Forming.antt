@@ -15,18 +15,17 @@ use Rattle.c_declarators.specs.declared.parts.Wrap.TheVariants.{Point, Row, Give
 use Rattle.c_declarators.specs.declared.parts.Formed.{Formed}
 
 abbrev pub formed_in : Nodes → Formed → meant_types.Formed
-formed_in n f = record { of = type_in n f.of; lacks = f.faults.lacks; misfits = f.faults.misfits; too_many = f.faults.too_many; too_large = f.faults.too_large }
+formed_in n f = record { of = type_in n f.of; lacks = f.faults.lacks; misfits = f.faults.misfits; too_large = f.faults.too_large }
 
 -- the types of parameters in the type of their function
 abbrev pub signature_types : Nodes → List Param → List Ty
 signature_types n ps = map (λ (p : Param). in_signature (type_in n p.of)) ps
 
-abbrev pub gives_on : Tys → ℕ → meant_types.Formed → meant_types.Formed
-gives_on ps count f = record {
+abbrev pub gives_on : Tys → meant_types.Formed → meant_types.Formed
+gives_on ps f = record {
   of = Function f.of ps;
   lacks = f.lacks;
   misfits = f.misfits || not (is_given f.of);
-  too_many = f.too_many || nat_lt 8 count;
   too_large = f.too_large;
 }
 
@@ -34,7 +33,7 @@ gives_on ps count f = record {
 abbrev pub made_on : State → Nodes → Wrap → meant_types.Formed → meant_types.Formed
 made_on s n (Point q) f = wrap_on s (meant.Point q) f
 made_on s n (Row k) f = wrap_on s (meant.Row k) f
-made_on s n (Gives p) f = gives_on (tys (signature_types n p.params.items)) (length p.params.items) f
+made_on s n (Gives p) f = gives_on (tys (signature_types n p.params.items)) f
 
 -- what the parts of a declarator make, the last of the list first
 abbrev pub all_on : State → Nodes → List Wrap → meant_types.Formed → meant_types.Formed

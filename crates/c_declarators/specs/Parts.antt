@@ -108,7 +108,6 @@ IsFormed w f x = x ≡ formed_in w.nodes f
 pub record HasFaults (f : Faults) (x : meant_types.Formed) : Type 0 where
   pub lacks : x.lacks ≡ f.lacks
   pub misfits : x.misfits ≡ f.misfits
-  pub too_many : x.too_many ≡ f.too_many
   pub too_large : x.too_large ≡ f.too_large
 
 -- a test that does not look at the state

@@ -130,7 +130,6 @@ fn row(nodes: &mut Nodes<'_>, count: u64, f: Formed) -> Result<Formed, NoMemory>
         faults: Faults {
             lacks: either(f.faults.lacks, !sound),
             misfits: either(f.faults.misfits, function),
-            too_many: f.faults.too_many,
             too_large: either(f.faults.too_large, large),
         },
     })
@@ -149,7 +148,7 @@ fn gives(nodes: &mut Nodes<'_>, params: &[Param], f: Formed) -> Result<Formed, N
     requires whole { IsWhole nodes.old }
     requires there { f.of < type_count nodes.old }
     requires params { All (ParamIsThere nodes.old) params.now }
-    ensures { IfOk result (λ g. Makes nodes.old nodes.new f g (λ s x. gives_on (tys (signature_types nodes.old params.now)) (length params.now) x)) }
+    ensures { IfOk result (λ g. Makes nodes.old nodes.new f g (λ s x. gives_on (tys (signature_types nodes.old params.now)) x)) }
 {
     let given = is_given(nodes, f.of);
     let types = signature(nodes, params)?;
@@ -159,7 +158,6 @@ fn gives(nodes: &mut Nodes<'_>, params: &[Param], f: Formed) -> Result<Formed, N
         faults: Faults {
             lacks: f.faults.lacks,
             misfits: either(f.faults.misfits, !given),
-            too_many: either(f.faults.too_many, params.len() > 8),
             too_large: f.faults.too_large,
         },
     })
@@ -189,7 +187,6 @@ fn plainly(of: u32) -> Formed
         faults: Faults {
             lacks: false,
             misfits: false,
-            too_many: false,
             too_large: false,
         },
     }

@@ -7,7 +7,7 @@ use crate::forming::either;
 use c_types::Faults;
 use ck_base::{Pos, Refusal};
 
-/// The rules on the type itself, and others on what is declared, at one place, the lowest code first: 132, 133, 137, 140.
+/// The rules on the type itself, and others on what is declared, at one place, the lowest code first: 132, 133, 140.
 pub fn judge(faults: Faults, lacks: bool, misfits: bool, pos: Pos) -> Result<(), Refusal>
     ensures { (f : Formed) → HasFaults faults f → IsJudged (judge f lacks misfits pos) result }
 {
@@ -16,9 +16,6 @@ pub fn judge(faults: Faults, lacks: bool, misfits: bool, pos: Pos) -> Result<(),
     }
     if either(faults.misfits, misfits) {
         return Err(Refusal::Code(133, pos));
-    }
-    if faults.too_many {
-        return Err(Refusal::Code(137, pos));
     }
     if faults.too_large {
         return Err(Refusal::Code(140, pos));

@@ -115,7 +115,7 @@ fn named_member<'a>(
 }
 
 /// A member behind those that stand before it: 131 for a second one of its name, and then the rules on its type, which is complete and no
-/// function's (132, 133, 137, 140).
+/// function's (132, 133, 140).
 pub fn add_member<'a>(
     work: &mut Work<'a>,
     s: Specified,

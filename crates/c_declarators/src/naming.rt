@@ -74,7 +74,6 @@ fn constant_of(name: Name, value: i32) -> Decl
         faults: Faults {
             lacks: false,
             misfits: false,
-            too_many: false,
             too_large: false,
         },
         what: DeclKind::Constant(value),

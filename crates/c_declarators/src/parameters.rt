@@ -84,7 +84,7 @@ fn place_of(name: Option<Name>, first: Name) -> Name
 }
 
 /// A parameter, which begins at this token: 131 for a second one of its name, and then the rules on its type, which once it is adjusted is
-/// complete and no struct or union (132, 133, 137, 140). `only` says that it is the only one.
+/// complete and no struct or union (132, 133, 140). `only` says that it is the only one.
 pub fn parameter_from(
     work: &mut Work<'_>,
     only: bool,

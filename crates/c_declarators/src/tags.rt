@@ -90,7 +90,6 @@ fn tag_of(name: Name, kind: TagKind, defines: bool) -> Decl
         faults: Faults {
             lacks: false,
             misfits: false,
-            too_many: false,
             too_large: false,
         },
         what: DeclKind::Tag(kind),

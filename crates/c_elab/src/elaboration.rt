@@ -62,7 +62,7 @@ fn all_externals(work: &mut Work<'_>, kids: &[u32], depth: u32) -> Result<(), Re
     Ok(())
 }
 
-/// The typed program of a file's tree (C11 6.5 to 6.9), or the first rule that fails: 130 to 137 and 140.
+/// The typed program of a file's tree (C11 6.5 to 6.9), or the first rule that fails: 130 to 136 and 140.
 pub fn elab(alloc: Global, tree: &Tree, file: &[u8]) -> Result<Typed, Refusal>
     requires few { length tree.now.nodes ≤ 67_108_864 }
     requires readable { HasReading tree.now file.now }

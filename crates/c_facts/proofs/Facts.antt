@@ -46,7 +46,7 @@ abbrev mutual
   TypeOk tags (Pointer t) = TypeOk tags t
   TypeOk tags (Array t n) = TypeOk tags t × (x : Extent) × (type_extent tags t ≡ Some x) × (n * x.size ≤ size_limit)
   TypeOk tags (Tagged n) = Unit {0}
-  TypeOk tags (Function r ps) = TypeOk tags r × holds (is_given r) × TypesOk tags ps × (count ps ≤ 8)
+  TypeOk tags (Function r ps) = TypeOk tags r × holds (is_given r) × TypesOk tags ps
   TypeOk tags (Const t) = TypeOk tags t × holds (may_be_const t)
 
   -- the parameters of a function have no qualifiers of their own

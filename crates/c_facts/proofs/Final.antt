@@ -289,7 +289,6 @@ module _ (p : Typed) (s : State) (q : Program) (o : IsOrdered p) (sh : Shows p (
           result = ok.result;
           takes = ok.takes;
           type_is = type_same ∙ ok.is;
-          few = tu.3;
           params_first = λ j l. ap (λ xs. slice_get xs j) (params_same ∙ ok.params) ∙ numbers_at 0 (count ok.takes) j (omega (arith, l, len)) ∙ ap Some (omega arith);
           params_count = len;
           params_fit = parameters_by ok.takes z.body.vars f.vars (λ j v h. let w = var_to j v h in (w.0, w.1, ap (λ (x : Variable). x.of) w.2)) ok.fit;

@@ -184,21 +184,18 @@ declarator_ok k t xs rs s h i x e = refused _ x e
 pub record Passes (f : Formed) : Type 0 where
   pub lacks : f.lacks ≡ false
   pub misfits : f.misfits ≡ false
-  pub too_many : f.too_many ≡ false
   pub too_large : f.too_large ≡ false
 
 passes_wrap : (s : State) (w : Wrap) (f : Formed) → Passes (wrap_on s w f) → Passes f
-passes_wrap s (Point q) f p = record { lacks = p.lacks; misfits = p.misfits; too_many = p.too_many; too_large = p.too_large }
+passes_wrap s (Point q) f p = record { lacks = p.lacks; misfits = p.misfits; too_large = p.too_large }
 passes_wrap s (Row n) f p = record {
   lacks = (or_parts f.lacks (not (is_function f.of || is_complete s f.of)) p.lacks).0;
   misfits = (or_parts f.misfits (is_function f.of) p.misfits).0;
-  too_many = p.too_many;
   too_large = (or_parts f.too_large (over_limit s (Array f.of n)) p.too_large).0;
 }
 passes_wrap s (Gives q) f p = record {
   lacks = p.lacks;
   misfits = (or_parts f.misfits (not (is_given f.of)) p.misfits).0;
-  too_many = (or_parts f.too_many (nat_lt 8 (length q.params)) p.too_many).0;
   too_large = p.too_large;
 }
 
@@ -244,7 +241,6 @@ wrap_ok s (Gives q) f h p k = (
   k,
   not_false (is_given f.of) (or_parts f.misfits (not (is_given f.of)) p.misfits).1,
   signature_ok s.tags q.params h.params,
-  omega (arith, signature_count q.params, ltb-false 8 (length q.params) (or_parts f.too_many (nat_lt 8 (length q.params)) p.too_many).1),
 )
 
 form_ok : (s : State) (ws : List Wrap) (f : Formed) → AllWraps s.tags ws → Passes (form_on s ws f) → TypeOk s.tags f.of → TypeOk s.tags (form_on s ws f).of
@@ -260,19 +256,18 @@ pub record Judged (f : Formed) (lacks misfits : Bool) : Type 0 where
   pub complete : lacks ≡ false
   pub fits : misfits ≡ false
 
-four : {A : Type 0} (a b c d : Bool) (p : Pos) (k : Doing A) (s : State) (x : A × State) → (need a 132 p >> need b 133 p >> need c 137 p >> need d 140 p >> k) s ≡ Ok x → (a ≡ true) × (b ≡ true) × (c ≡ true) × (d ≡ true) × (k s ≡ Ok x)
-four true true true true p k s x e = (refl, refl, refl, refl, e)
-four false b c d p k s x e = refused _ x e
-four true false c d p k s x e = refused _ x e
-four true true false d p k s x e = refused _ x e
-four true true true false p k s x e = refused _ x e
+three : {A : Type 0} (a b c : Bool) (p : Pos) (k : Doing A) (s : State) (x : A × State) → (need a 132 p >> need b 133 p >> need c 140 p >> k) s ≡ Ok x → (a ≡ true) × (b ≡ true) × (c ≡ true) × (k s ≡ Ok x)
+three true true true p k s x e = (refl, refl, refl, e)
+three false b c p k s x e = refused _ x e
+three true false c p k s x e = refused _ x e
+three true true false p k s x e = refused _ x e
 
 pub judged : {A : Type 0} (f : Formed) (lacks misfits : Bool) (p : Pos) (d : Doing A) (s : State) (x : A × State) → (judge f lacks misfits p >> d) s ≡ Ok x → Judged f lacks misfits × (d s ≡ Ok x)
 judged f lacks misfits p d s x e =
-    let q = four (not (f.lacks || lacks)) (not (f.misfits || misfits)) (not f.too_many) (not f.too_large) p d s x e in
+    let q = three (not (f.lacks || lacks)) (not (f.misfits || misfits)) (not f.too_large) p d s x e in
     let a = or_parts f.lacks lacks (not-true _ q.0) in
     let b = or_parts f.misfits misfits (not-true _ q.1) in
-    (record { passes = record { lacks = a.0; misfits = b.0; too_many = not-true _ q.2; too_large = not-true _ q.3 }; complete = a.1; fits = b.1 }, q.4)
+    (record { passes = record { lacks = a.0; misfits = b.0; too_large = not-true _ q.2 }; complete = a.1; fits = b.1 }, q.3)
 
 -- ---- type names, members and parameters
 

@@ -80,7 +80,7 @@ mutual
   type_kept ts us g (Pointer t) h = type_kept ts us g t h
   type_kept ts us g (Array t n) h = (type_kept ts us g t h.0, h.1, extent_kept ts us g t h.1 h.2, h.3)
   type_kept ts us g (Tagged n) h = tt
-  type_kept ts us g (Function r ps) h = (type_kept ts us g r h.0, h.1, types_kept ts us g ps h.2, h.3)
+  type_kept ts us g (Function r ps) h = (type_kept ts us g r h.0, h.1, types_kept ts us g ps h.2)
   type_kept ts us g (Const t) h = (type_kept ts us g t h.0, h.1)
 
   pub types_kept : (ts us : List TagState) → TagsGrow ts us → (ps : Tys) → TypesOk ts ps → TypesOk us ps

@@ -321,11 +321,6 @@ composite_may (Tagged m) t e b = refl
 composite_may (Function r ps) t e b = absurd (false≢true b)
 composite_may (Const s) t e b = absurd (false≢true b)
 
-composites_count : (ss ts : Tys) → count (composites ss ts) ≡ count ss
-composites_count no_types ts = refl
-composites_count (also s ss) no_types = refl
-composites_count (also s ss) (also t ts) = ap (λ n. n + 1) (composites_count ss ts)
-
 longer : (m n size : ℕ) → m * size ≤ size_limit → n * size ≤ size_limit → max m n * size ≤ size_limit
 longer m n size p q =
     elim (cases_lt m n) as (λ _. max m n * size ≤ size_limit) [
@@ -348,7 +343,7 @@ mutual
   composite_ok ts (Tagged m) (Tagged n) e p q = p
   composite_ok ts (Function r ps) (Function s qs) e p q =
       let c = and_parts (compatible r s) (all_agree loose ps qs) e in
-      (composite_ok ts r s c.0 p.0 q.0, composite_given r s c.0 p.1, composites_ok ts ps qs c.1 p.2 q.2, rw (composites_count ps qs) p.3)
+      (composite_ok ts r s c.0 p.0 q.0, composite_given r s c.0 p.1, composites_ok ts ps qs c.1 p.2 q.2)
   composite_ok ts (Const s) (Const t) e p q = (composite_ok ts s t e p.0 q.0, composite_may s t e p.1)
   composite_ok ts s t e p q = absurd (false≢true e)
 

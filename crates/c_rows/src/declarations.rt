@@ -15,7 +15,6 @@ const NAME: Span = Span { start: 0, end: 1 };
 const SOUND: Faults = Faults {
     lacks: false,
     misfits: false,
-    too_many: false,
     too_large: false,
 };
 
@@ -588,19 +587,13 @@ fn code_of(scopes: &mut Scopes, p: &mut Typed, at: u32, faults: Faults) -> u16 {
 }
 
 // Which rules a type breaks, in the order of `Faults`, and the code that comes first.
-const LOWEST: [(bool, bool, bool, u16); 4] = [
-    (true, true, true, 132),
-    (false, true, true, 133),
-    (false, false, true, 137),
-    (false, false, false, 140),
-];
+const LOWEST: [(bool, bool, u16); 3] = [(true, true, 132), (false, true, 133), (false, false, 140)];
 
 fn have_codes(rt: &impl Abort, scopes: &mut Scopes, p: &mut Typed) {
-    for &(lacks, misfits, too_many, code) in &LOWEST {
+    for &(lacks, misfits, code) in &LOWEST {
         let faults = Faults {
             lacks,
             misfits,
-            too_many,
             too_large: true,
         };
         assert!(rt; code_of(scopes, p, 6, faults) == code, "{code}");
@@ -618,7 +611,6 @@ fn the_lowest_code_comes_first(rt: HostRuntime) {
     let faults = Faults {
         lacks: false,
         misfits: false,
-        too_many: false,
         too_large: true,
     };
     assert!(rt; code_of(&mut scopes, &mut p, 7, faults) == 131);

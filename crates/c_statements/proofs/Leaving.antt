@@ -30,15 +30,14 @@ sound a false e = refl
 sound true true e = absurd cc
 sound false true e = absurd cc
 
-judged : {A : Type 0} (Q : A → State → Type 0) (a b c d : Bool) (p : Pos) (k : Doing A) (s : State) → (b ≡ true → Holds Q (k s)) → Holds Q (((need a 132 p >> need b 133 p >> need c 137 p >> need d 140 p) >> k) s)
-judged Q true true true true p k s h = h refl
-judged Q true true true false p k s h = tt
-judged Q true true false d p k s h = tt
-judged Q true false c d p k s h = tt
-judged Q false b c d p k s h = tt
+judged : {A : Type 0} (Q : A → State → Type 0) (a b c : Bool) (p : Pos) (k : Doing A) (s : State) → (b ≡ true → Holds Q (k s)) → Holds Q (((need a 132 p >> need b 133 p >> need c 140 p) >> k) s)
+judged Q true true true p k s h = h refl
+judged Q true true false p k s h = tt
+judged Q true false c p k s h = tt
+judged Q false b c p k s h = tt
 
 pub holds_judge : {A : Type 0} (Q : A → State → Type 0) (f : Formed) (lacks misfits : Bool) (p : Pos) (k : Doing A) (s : State) → (misfits ≡ false → Holds Q (k s)) → Holds Q ((judge f lacks misfits p >> k) s)
-holds_judge Q f lacks misfits p k s h = judged Q (not (f.lacks || lacks)) (not (f.misfits || misfits)) (not f.too_many) (not f.too_large) p k s (λ e. h (sound f.misfits misfits e))
+holds_judge Q f lacks misfits p k s h = judged Q (not (f.lacks || lacks)) (not (f.misfits || misfits)) (not f.too_large) p k s (λ e. h (sound f.misfits misfits e))
 
 -- a test, the rules on a type, and a step
 pub holds_admitted : {A : Type 0} (Q : A → State → Type 0) (b : Bool) (f : Formed) (lacks misfits : Bool) (p : Pos) (k : Doing A) (s : State) → (b ≡ true → misfits ≡ false → Holds Q (k s)) → Holds Q ((need b 131 p >> judge f lacks misfits p >> k) s)

@@ -38,7 +38,7 @@ fn declare_in(nodes: &mut Nodes<'_>, d: Decl) -> Result<(), Refusal>
 }
 
 /// The name of an object, of a function or of a type is declared in the innermost scope: 131 where it does not agree with what it denotes
-/// there, then the rules on its type (132, 133, 137, 140).
+/// there, then the rules on its type (132, 133, 140).
 pub fn declare_name(work: &mut Work<'_>, d: Decl) -> Result<Entity, Refusal>
     requires whole { IsWhole work.old.nodes }
     requires there { d.of < type_count work.old.nodes }

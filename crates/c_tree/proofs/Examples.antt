@@ -154,7 +154,7 @@ rows =
     -- int main(void){putchar();return 0;}
     row (node Kinds.File (at 1 (codes "")) (more (node Kinds.FunctionDefinition (at 1 (codes "int")) (more (node Kinds.Specifiers (at 1 (codes "int")) (more (node (Kinds.Specifier words.Int) (at 1 (codes "int")) nil) nil)) (more (node Kinds.Function (at 9 (codes "(")) (more (node Kinds.DeclaredName (at 5 (codes "main")) nil) (more (node Kinds.Parameters (at 9 (codes "(")) (more (node Kinds.Parameter (at 10 (codes "void")) (more (node Kinds.Specifiers (at 10 (codes "void")) (more (node (Kinds.Specifier words.Void) (at 10 (codes "void")) nil) nil)) nil)) nil)) nil))) (more (node Kinds.Block (at 15 (codes "{")) (more (node Kinds.ExpressionStatement (at 16 (codes "putchar")) (more (node Kinds.Call (at 23 (codes "(")) (more (node Kinds.Name (at 16 (codes "putchar")) nil) nil)) nil)) (more (node Kinds.Return (at 26 (codes "return")) (more (node Kinds.Number (at 33 (codes "0")) nil) nil)) nil))) nil)))) nil)) 136 16 ∷
     -- int f(int a,int b,int c,int d,int e,int g,int h,int i,int j){return 0;}int main(void){return 0;}
-    row (node Kinds.File (at 1 (codes "")) (more (node Kinds.FunctionDefinition (at 1 (codes "int")) (more (node Kinds.Specifiers (at 1 (codes "int")) (more (node (Kinds.Specifier words.Int) (at 1 (codes "int")) nil) nil)) (more (node Kinds.Function (at 6 (codes "(")) (more (node Kinds.DeclaredName (at 5 (codes "f")) nil) (more (node Kinds.Parameters (at 6 (codes "(")) (more (node Kinds.Parameter (at 7 (codes "int")) (more (node Kinds.Specifiers (at 7 (codes "int")) (more (node (Kinds.Specifier words.Int) (at 7 (codes "int")) nil) nil)) (more (node Kinds.DeclaredName (at 11 (codes "a")) nil) nil))) (more (node Kinds.Parameter (at 13 (codes "int")) (more (node Kinds.Specifiers (at 13 (codes "int")) (more (node (Kinds.Specifier words.Int) (at 13 (codes "int")) nil) nil)) (more (node Kinds.DeclaredName (at 17 (codes "b")) nil) nil))) (more (node Kinds.Parameter (at 19 (codes "int")) (more (node Kinds.Specifiers (at 19 (codes "int")) (more (node (Kinds.Specifier words.Int) (at 19 (codes "int")) nil) nil)) (more (node Kinds.DeclaredName (at 23 (codes "c")) nil) nil))) (more (node Kinds.Parameter (at 25 (codes "int")) (more (node Kinds.Specifiers (at 25 (codes "int")) (more (node (Kinds.Specifier words.Int) (at 25 (codes "int")) nil) nil)) (more (node Kinds.DeclaredName (at 29 (codes "d")) nil) nil))) (more (node Kinds.Parameter (at 31 (codes "int")) (more (node Kinds.Specifiers (at 31 (codes "int")) (more (node (Kinds.Specifier words.Int) (at 31 (codes "int")) nil) nil)) (more (node Kinds.DeclaredName (at 35 (codes "e")) nil) nil))) (more (node Kinds.Parameter (at 37 (codes "int")) (more (node Kinds.Specifiers (at 37 (codes "int")) (more (node (Kinds.Specifier words.Int) (at 37 (codes "int")) nil) nil)) (more (node Kinds.DeclaredName (at 41 (codes "g")) nil) nil))) (more (node Kinds.Parameter (at 43 (codes "int")) (more (node Kinds.Specifiers (at 43 (codes "int")) (more (node (Kinds.Specifier words.Int) (at 43 (codes "int")) nil) nil)) (more (node Kinds.DeclaredName (at 47 (codes "h")) nil) nil))) (more (node Kinds.Parameter (at 49 (codes "int")) (more (node Kinds.Specifiers (at 49 (codes "int")) (more (node (Kinds.Specifier words.Int) (at 49 (codes "int")) nil) nil)) (more (node Kinds.DeclaredName (at 53 (codes "i")) nil) nil))) (more (node Kinds.Parameter (at 55 (codes "int")) (more (node Kinds.Specifiers (at 55 (codes "int")) (more (node (Kinds.Specifier words.Int) (at 55 (codes "int")) nil) nil)) (more (node Kinds.DeclaredName (at 59 (codes "j")) nil) nil))) nil)))))))))) nil))) (more (node Kinds.Block (at 61 (codes "{")) (more (node Kinds.Return (at 62 (codes "return")) (more (node Kinds.Number (at 69 (codes "0")) nil) nil)) nil)) nil)))) (more (node Kinds.FunctionDefinition (at 72 (codes "int")) (more (node Kinds.Specifiers (at 72 (codes "int")) (more (node (Kinds.Specifier words.Int) (at 72 (codes "int")) nil) nil)) (more (node Kinds.Function (at 80 (codes "(")) (more (node Kinds.DeclaredName (at 76 (codes "main")) nil) (more (node Kinds.Parameters (at 80 (codes "(")) (more (node Kinds.Parameter (at 81 (codes "void")) (more (node Kinds.Specifiers (at 81 (codes "void")) (more (node (Kinds.Specifier words.Void) (at 81 (codes "void")) nil) nil)) nil)) nil)) nil))) (more (node Kinds.Block (at 86 (codes "{")) (more (node Kinds.Return (at 87 (codes "return")) (more (node Kinds.Number (at 94 (codes "0")) nil) nil)) nil)) nil)))) nil))) 137 5 ∷
+    row (node Kinds.File (at 1 (codes "")) (more (node Kinds.FunctionDefinition (at 1 (codes "int")) (more (node Kinds.Specifiers (at 1 (codes "int")) (more (node (Kinds.Specifier words.Int) (at 1 (codes "int")) nil) nil)) (more (node Kinds.Function (at 6 (codes "(")) (more (node Kinds.DeclaredName (at 5 (codes "f")) nil) (more (node Kinds.Parameters (at 6 (codes "(")) (more (node Kinds.Parameter (at 7 (codes "int")) (more (node Kinds.Specifiers (at 7 (codes "int")) (more (node (Kinds.Specifier words.Int) (at 7 (codes "int")) nil) nil)) (more (node Kinds.DeclaredName (at 11 (codes "a")) nil) nil))) (more (node Kinds.Parameter (at 13 (codes "int")) (more (node Kinds.Specifiers (at 13 (codes "int")) (more (node (Kinds.Specifier words.Int) (at 13 (codes "int")) nil) nil)) (more (node Kinds.DeclaredName (at 17 (codes "b")) nil) nil))) (more (node Kinds.Parameter (at 19 (codes "int")) (more (node Kinds.Specifiers (at 19 (codes "int")) (more (node (Kinds.Specifier words.Int) (at 19 (codes "int")) nil) nil)) (more (node Kinds.DeclaredName (at 23 (codes "c")) nil) nil))) (more (node Kinds.Parameter (at 25 (codes "int")) (more (node Kinds.Specifiers (at 25 (codes "int")) (more (node (Kinds.Specifier words.Int) (at 25 (codes "int")) nil) nil)) (more (node Kinds.DeclaredName (at 29 (codes "d")) nil) nil))) (more (node Kinds.Parameter (at 31 (codes "int")) (more (node Kinds.Specifiers (at 31 (codes "int")) (more (node (Kinds.Specifier words.Int) (at 31 (codes "int")) nil) nil)) (more (node Kinds.DeclaredName (at 35 (codes "e")) nil) nil))) (more (node Kinds.Parameter (at 37 (codes "int")) (more (node Kinds.Specifiers (at 37 (codes "int")) (more (node (Kinds.Specifier words.Int) (at 37 (codes "int")) nil) nil)) (more (node Kinds.DeclaredName (at 41 (codes "g")) nil) nil))) (more (node Kinds.Parameter (at 43 (codes "int")) (more (node Kinds.Specifiers (at 43 (codes "int")) (more (node (Kinds.Specifier words.Int) (at 43 (codes "int")) nil) nil)) (more (node Kinds.DeclaredName (at 47 (codes "h")) nil) nil))) (more (node Kinds.Parameter (at 49 (codes "int")) (more (node Kinds.Specifiers (at 49 (codes "int")) (more (node (Kinds.Specifier words.Int) (at 49 (codes "int")) nil) nil)) (more (node Kinds.DeclaredName (at 53 (codes "i")) nil) nil))) (more (node Kinds.Parameter (at 55 (codes "int")) (more (node Kinds.Specifiers (at 55 (codes "int")) (more (node (Kinds.Specifier words.Int) (at 55 (codes "int")) nil) nil)) (more (node Kinds.DeclaredName (at 59 (codes "j")) nil) nil))) nil)))))))))) nil))) (more (node Kinds.Block (at 61 (codes "{")) (more (node Kinds.Return (at 62 (codes "return")) (more (node Kinds.Number (at 69 (codes "0")) nil) nil)) nil)) nil)))) (more (node Kinds.FunctionDefinition (at 72 (codes "int")) (more (node Kinds.Specifiers (at 72 (codes "int")) (more (node (Kinds.Specifier words.Int) (at 72 (codes "int")) nil) nil)) (more (node Kinds.Function (at 80 (codes "(")) (more (node Kinds.DeclaredName (at 76 (codes "main")) nil) (more (node Kinds.Parameters (at 80 (codes "(")) (more (node Kinds.Parameter (at 81 (codes "void")) (more (node Kinds.Specifiers (at 81 (codes "void")) (more (node (Kinds.Specifier words.Void) (at 81 (codes "void")) nil) nil)) nil)) nil)) nil))) (more (node Kinds.Block (at 86 (codes "{")) (more (node Kinds.Return (at 87 (codes "return")) (more (node Kinds.Number (at 94 (codes "0")) nil) nil)) nil)) nil)))) nil))) 0 0 ∷
     -- char a[67108865];int main(void){return 0;}
     row (node Kinds.File (at 1 (codes "")) (more (node Kinds.Declaration (at 1 (codes "char")) (more (node Kinds.Specifiers (at 1 (codes "char")) (more (node (Kinds.Specifier words.Char) (at 1 (codes "char")) nil) nil)) (more (node Kinds.InitDeclarator (at 6 (codes "a")) (more (node Kinds.Array (at 7 (codes "[")) (more (node Kinds.DeclaredName (at 6 (codes "a")) nil) (more (node Kinds.Number (at 8 (codes "67108865")) nil) nil))) nil)) nil))) (more (node Kinds.FunctionDefinition (at 18 (codes "int")) (more (node Kinds.Specifiers (at 18 (codes "int")) (more (node (Kinds.Specifier words.Int) (at 18 (codes "int")) nil) nil)) (more (node Kinds.Function (at 26 (codes "(")) (more (node Kinds.DeclaredName (at 22 (codes "main")) nil) (more (node Kinds.Parameters (at 26 (codes "(")) (more (node Kinds.Parameter (at 27 (codes "void")) (more (node Kinds.Specifiers (at 27 (codes "void")) (more (node (Kinds.Specifier words.Void) (at 27 (codes "void")) nil) nil)) nil)) nil)) nil))) (more (node Kinds.Block (at 32 (codes "{")) (more (node Kinds.Return (at 33 (codes "return")) (more (node Kinds.Number (at 40 (codes "0")) nil) nil)) nil)) nil)))) nil))) 140 6 ∷
     -- int f(void){return 0;}

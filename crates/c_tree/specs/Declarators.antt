@@ -300,16 +300,15 @@ declarator_of k t xs rs = refuse 120 t.pos
 -- ---- the type that a declarator makes
 
 -- The type, and which rules it breaks: an array has elements of complete object type; a function gives no array, no function, no struct and no
--- union, and has at most 8 parameters; an array is not over the limit
+-- union; an array is not over the limit
 pub record Formed : Type 0 where
   pub of : Ty
   pub lacks : Bool
   pub misfits : Bool
-  pub too_many : Bool
   pub too_large : Bool
 
 abbrev pub plainly : Ty → Formed
-plainly t = record { of = t; lacks = false; misfits = false; too_many = false; too_large = false }
+plainly t = record { of = t; lacks = false; misfits = false; too_large = false }
 
 abbrev pub pointer_to : Bool → Ty → Ty
 pointer_to true t = Const (Pointer t)
@@ -331,14 +330,12 @@ wrap_on s (Row n) f = record {
   of = Array f.of n;
   lacks = f.lacks || not (is_function f.of || is_complete s f.of);
   misfits = f.misfits || is_function f.of;
-  too_many = f.too_many;
   too_large = f.too_large || over_limit s (Array f.of n);
 }
 wrap_on s (Gives p) f = record {
   of = Function f.of (signature p.params);
   lacks = f.lacks;
   misfits = f.misfits || not (is_given f.of);
-  too_many = f.too_many || nat_lt 8 (length p.params);
   too_large = f.too_large;
 }
 
@@ -352,7 +349,7 @@ formed s t ws = form_on s ws (plainly t)
 -- the rules on the type itself, and others on what is declared, at one place, the lowest code first
 abbrev pub judge : Formed → (lacks misfits : Bool) → Pos → Doing Unit
 judge f lacks misfits p =
-    need (not (f.lacks || lacks)) 132 p >> need (not (f.misfits || misfits)) 133 p >> need (not f.too_many) 137 p >> need (not f.too_large) 140 p
+    need (not (f.lacks || lacks)) 132 p >> need (not (f.misfits || misfits)) 133 p >> need (not f.too_large) 140 p
 
 -- ---- type names (6.7.7)
 

@@ -268,7 +268,6 @@ pub record FunctionFits (p : Typed) (f : FunDef) : Type 0 where
   pub result : Ty
   pub takes : Tys
   pub type_is : type_in p f.of ≡ Function result takes
-  pub few : count takes ≤ 8
   pub params_first : (k : ℕ) → k < length f.params → slice_get f.params k ≡ Some k
   pub params_count : length f.params ≡ count takes
   pub params_fit : ParametersFit p takes f.vars

@@ -79,4 +79,4 @@ definition_is s d t block r st =
     let n = not (is_function f.of) in
     let same : (f.misfits || (is_typedef s.storage || (n || not (is_there p)))) ≡ ((f.misfits || not (is_there p)) || (is_typedef s.storage || n)) = either_way f.misfits (is_typedef s.storage) n (not (is_there p)) in
     after_linked t p block r ((need b 131 t.pos >> judge f false (is_typedef s.storage || (n || not (is_there p))) t.pos >> linked_routine t f.of e) st)
-    ∙ ap (λ (m : Bool). continued (continued ((need b 131 t.pos >> (need (not (f.lacks || false)) 132 t.pos >> need (not m) 133 t.pos >> need (not f.too_many) 137 t.pos >> need (not f.too_large) 140 t.pos) >> linked_routine t f.of e) st) (begins t)) (λ j. defines_body j p block r)) same
+    ∙ ap (λ (m : Bool). continued (continued ((need b 131 t.pos >> (need (not (f.lacks || false)) 132 t.pos >> need (not m) 133 t.pos >> need (not f.too_large) 140 t.pos) >> linked_routine t f.of e) st) (begins t)) (λ j. defines_body j p block r)) same

@@ -34,7 +34,7 @@ name_of file d = record { kind = Word; text = text_at file d.name; span = d.name
 
 -- the type that its declarator makes, and the rules that it breaks
 abbrev pub formed_of : Typed → Decl → Formed
-formed_of p d = record { of = type_named p d.of; lacks = d.faults.lacks; misfits = d.faults.misfits; too_many = d.faults.too_many; too_large = d.faults.too_large }
+formed_of p d = record { of = type_named p d.of; lacks = d.faults.lacks; misfits = d.faults.misfits; too_large = d.faults.too_large }
 
 -- ---- ordinary names. The truth value says whether an initialiser stands with the name
 

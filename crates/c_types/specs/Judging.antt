@@ -16,7 +16,7 @@ IsJudged d (Err NoMemory) = ⊥
 
 -- a type and the rules that it breaks
 abbrev pub formed_with : Ty → Faults → Formed
-formed_with of f = record { of = of; lacks = f.lacks; misfits = f.misfits; too_many = f.too_many; too_large = f.too_large }
+formed_with of f = record { of = of; lacks = f.lacks; misfits = f.misfits; too_large = f.too_large }
 
 -- the tests on a declaration: whether it agrees with what its name denotes, and the rules on its type
 abbrev pub admits : Bool → Formed → (lacks misfits : Bool) → Pos → Doing Unit

@@ -57,8 +57,7 @@ impl<'a> Scopes<'a> {
     /// A name is declared, and the answer is what it denotes then. A new object or function is added to the program, and a new local to
     /// those of the function at work. After a refusal the scopes and the program are as they were: 131 at the name where it denotes
     /// something else in the scope or has another type, 132 where an object lacks a complete type, 133 where the type, the storage class
-    /// and what stands with the name do not fit one another, 137 for more than 8 parameters, and 140 for an array of more than
-    /// 67,108,864 bytes; the lowest code first.
+    /// and what stands with the name do not fit one another, and 140 for an array of more than 67,108,864 bytes; the lowest code first.
     pub fn declare(&mut self, p: &mut Typed, d: Decl) -> Result<Entry, Refusal>
         ensures answers { Declares self.old.file.now self.old p.old self.new p.new d result }
         ensures extends { Extends p.old p.new }

@@ -38,8 +38,6 @@ pub struct Faults {
     /// An array has functions as elements; or a function gives an array, a function, a struct or a union; or a function definition has no
     /// parameters of its own.
     pub misfits: bool,
-    /// A function has more than 8 parameters.
-    pub too_many: bool,
     /// An array has more than 67,108,864 bytes.
     pub too_large: bool,
 }

@@ -33,9 +33,6 @@ fn judge(faults: Faults, lacks: bool, misfits: bool, pos: Pos) -> Result<(), Ref
     if either(faults.misfits, misfits) {
         return Err(Refusal::Code(133, pos));
     }
-    if faults.too_many {
-        return Err(Refusal::Code(137, pos));
-    }
     if faults.too_large {
         return Err(Refusal::Code(140, pos));
     }

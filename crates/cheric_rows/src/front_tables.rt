@@ -608,7 +608,7 @@ pub(super) const STATEMENTS: [(&str, &str); 30] = [
     // nine parameters
     (
         "int f(int a,int b,int c,int d,int e,int g,int h,int i,int j){return 0;}int main(void){return 0;}",
-        "137 1:5",
+        "typed",
     ),
     // not complete, before it is a struct
     (

@@ -6,7 +6,7 @@ use std::alloc::Global;
 use std::test::Fail;
 
 /// Files, and what the command says of them: mostly the whole line.
-const REFUSED: [(&str, &str); 16] = [
+const REFUSED: [(&str, &str); 15] = [
     ("", "refused 135 1:1\n"),
     ("int main(void){return 0;}@", "refused 100 1:26\n"),
     ("int main(void){return 0;}/*", "refused 101 1:26\n"),
@@ -30,10 +30,6 @@ const REFUSED: [(&str, &str); 16] = [
         "refused 134 1:13\n",
     ),
     ("int main(void){putchar();return 0;}", "refused 136 1:16\n"),
-    (
-        "int f(int a,int b,int c,int d,int e,int g,int h,int i,int j){return 0;}int main(void){return 0;}",
-        "refused 137 1:5\n",
-    ),
     (
         "char a[67108865];int main(void){return 0;}",
         "refused 140 1:6\n",
