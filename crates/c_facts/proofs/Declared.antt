@@ -18,7 +18,7 @@ use Rattle.c_tree.specs.Readings.{Storage, Plain, Internal, External, Defining_t
 use Rattle.c_tree.specs.Declarators.{Formed, formed, judge, is_new}
 use Rattle.c_tree.specs.Initializers.{every_slot, with_count}
 use Rattle.c_tree.specs.Statics.{Start, There, Number, Entry, ask_for, start_slot, is_start, start_slots, known_value, initial_bytes, Found, nothing_found}
-use Rattle.c_tree.specs.Declarations.{linked_from, linked, file_names, agrees_static, agrees_routine, agrees_linked, object_agrees, function_agrees, alias_agrees, new_static, known_static, linked_static, new_routine, known_routine, linked_routine, new_local, no_items, Behind, has_any, complete_now, static_of, fill_static, init_static, init_action, fill_local, init_local, is_open, declare_alias, declare_function, waits, is_external, declare_global, declare_external, ready, declare_internal, declare_local, declare_in_block, declare_object, declare, declare_named, init_declarator, both, declare_all, is_alone, declaration, named_function}
+use Rattle.c_tree.specs.Declarations.{linked_from, linked, file_names, agrees_static, agrees_routine, agrees_linked, object_agrees, function_agrees, alias_agrees, new_static, known_static, linked_static, new_routine, known_routine, linked_routine, new_local, no_items, Behind, has_any, complete_now, static_of, fill_static, init_static, init_action, fill_local, init_local, is_open, declare_alias, declare_function, waits, is_external, declare_global, declare_external, ready, declare_internal, declare_local, declare_in_block, declare_object, declare, declare_named, init_declarator, both, declare_all, is_alone, declaration, named_function, may_be_external}
 use Rattle.c_tree.specs.Views.{times_in}
 use Rattle.c_tree.specs.WellTyped.{holds, all_declared}
 use Rattle.c_facts.proofs.Agreeing.{refines, refines_self, composite_left, composite_right}
@@ -663,10 +663,11 @@ declare_global_ok storage t p ws b s h k g here i w x e =
 declare_external_ok : (t : Lexeme) (p : Specified) (ws : List Rattle.c_tree.specs.Readings.Wrap) (b : Behind) (s : State) → TypeOk s.tags p.of → AllWraps s.tags ws → Inv true s → Strict s → (x : Items × State) → declare_external t (formed s p.of ws) b s ≡ Ok x → Done s x
 declare_external_ok t p ws b s h k i w x e =
     let F = formed s p.of ws in
-    let test = is_new s t.text && not (named_function s t.text) && object_agrees s None t.text F.of false in
+    let named = may_be_external s (find_in (innermost s.scopes).names t.text) in
+    let test = named && not (named_function s t.text) && object_agrees s None t.text F.of false in
     let y = first_then ((need test 131 t.pos >> judge F false (has_any b) t.pos >> linked_static t F.of false (linked s t.text)) s) (λ k. give no_items) x e in
     let c = checked test t.pos F false (has_any b) (linked_static t F.of false (linked s t.text)) s y.0 y.1 in
-    let a = (and_parts (is_new s t.text && not (named_function s t.text)) (object_agrees s None t.text F.of false) c.0).1 in
+    let a = (and_parts (named && not (named_function s t.text)) (object_agrees s None t.text F.of false) c.0).1 in
     let l = linked_static_ok t F.of false (linked s t.text) s refl (λ k q. linked_agrees s (linked s t.text) F.of false a k q) (formed_ok s p.of ws k c.1.passes h) i w y.0 c.2 in
     nothing_done s y.0.1 l.inv l.grown (ap length l.post.locals) l.post.strict x y.2
 

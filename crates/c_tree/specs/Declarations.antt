@@ -207,10 +207,20 @@ declare_global storage t f b = look >>= λ s.
     judge f (not (waits s f.of b)) false t.pos >>
     linked_static t f.of (has_any b || not (is_external storage)) (linked s t.text) >>= λ k. init_static k t b >> give no_items
 
+abbrev pub has_linkage : Option StaticState → Bool
+has_linkage None = false
+has_linkage (Some g) = g.linked
+
+-- what a name of the block's scope may denote before: nothing, or an object with linkage, which may be declared again (6.7p3)
+abbrev pub may_be_external : State → Option Entity → Bool
+may_be_external s None = true
+may_be_external s (Some (Static k)) = has_linkage (slice_get s.statics k)
+may_be_external s (Some e) = false
+
 -- in a block, `extern` names an object of the file
 abbrev pub declare_external : Lexeme → Formed → Behind → Doing Items
 declare_external t f b = look >>= λ s.
-    need (is_new s t.text && not (named_function s t.text) && object_agrees s None t.text f.of false) 131 t.pos >>
+    need (may_be_external s (find_in (innermost s.scopes).names t.text) && not (named_function s t.text) && object_agrees s None t.text f.of false) 131 t.pos >>
     judge f false (has_any b) t.pos >> linked_static t f.of false (linked s t.text) >>= λ k. give no_items
 
 abbrev pub ready : State → Ty → Behind → Bool

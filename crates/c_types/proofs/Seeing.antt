@@ -12,15 +12,15 @@ use Rattle.c_tree.specs.Types.{Ty, compatible, agree, composite, is_function}
 use Rattle.c_tree.specs.Views.{types_of}
 use Rattle.c_tree.specs.Scopes as meant
 use Rattle.c_tree.specs.Scopes.{Entity, Local, Static, Routine, Alias, Enumerator, Library, State, StaticState, RoutineState, LocalState, TagState, find_in}
-use Rattle.c_tree.specs.Declarations.{alias_agrees, object_agrees, function_agrees, definition_agrees, agrees_static, agrees_routine, agrees_library, is_there, is_routine, linked_routine, file_names, named_function}
+use Rattle.c_tree.specs.Declarations.{alias_agrees, object_agrees, function_agrees, definition_agrees, agrees_static, agrees_routine, agrees_library, is_there, is_routine, linked_routine, file_names, named_function, has_linkage, may_be_external}
 use Rattle.c_interner.specs.Numbers.{type_named}
 use Rattle.c_interner.specs.Agreement.{lengths_of}
 use Rattle.c_interner.specs.declared.agreement.Lengths.TheVariants.{Equal, Compatible}
 use Rattle.c_types.specs.declared.scopes.Scope.{Scope}
 use Rattle.c_types.specs.declared.scopes.Scopes.{Scopes}
 use Rattle.c_types.specs.declared.scopes.TagInfo.{TagInfo}
-use Rattle.c_types.specs.Members.{parts_of, is_defined, defined_at}
-use Rattle.c_types.specs.Fitting.{both_agree, same_alias, alias_seen, object_seen, function_seen, definition_seen, callee_seen, routine_seen_by, joined}
+use Rattle.c_types.specs.Members.{parts_of, is_defined, defined_at, linked_at}
+use Rattle.c_types.specs.Fitting.{both_agree, same_alias, alias_seen, object_seen, function_seen, definition_seen, callee_seen, external_seen, routine_seen_by, joined}
 use Rattle.c_types.specs.Naming.{given_at, begun_at}
 use Rattle.c_types.specs.Stands.{Stands, Declared, ShowScopes, name_in, object_of, entity_kept, entity_seen, static_seen, global_kept, routine_seen, fun_kept, local_seen, var_kept, named, SeenTag, tag_seen, tag_kept, part_seen, members_kept}
 use Rattle.c_types.proofs.Looking.{seen_at, seen_length, type_is}
@@ -46,6 +46,15 @@ object_seen_is s (Some (Routine k)) name t b = refl
 object_seen_is s (Some (Alias u)) name t b = refl
 object_seen_is s (Some (Enumerator z)) name t b = refl
 object_seen_is s (Some (Library k of)) name t b = refl
+
+pub external_seen_is : (s : State) (e : Option Entity) → may_be_external s e ≡ external_seen s (option_map entity_seen e)
+external_seen_is s None = refl
+external_seen_is s (Some (Local k u)) = refl
+external_seen_is s (Some (Static k)) = refl
+external_seen_is s (Some (Routine k)) = refl
+external_seen_is s (Some (Alias u)) = refl
+external_seen_is s (Some (Enumerator z)) = refl
+external_seen_is s (Some (Library k of)) = refl
 
 joined_seen : (o : Option Ty) → o ≡ joined (option_map (λ t. Some t) o)
 joined_seen None = refl
@@ -179,6 +188,14 @@ defined_seen (Some g) = refl
 pub defined_is : (sc : Scopes) (p : Typed) (s : State) (k : ℕ) → Stands sc p s → defined_at (slice_get sc.objects.items k) ≡ is_defined (slice_get s.statics k)
 defined_is sc p s k h =
     ap defined_at (ap (λ xs. slice_get xs k) h.objects ∙ slice_get-map object_of s.statics k) ∙ defined_seen (slice_get s.statics k)
+
+linked_seen : (o : Option StaticState) → linked_at (option_map object_of o) ≡ has_linkage o
+linked_seen None = refl
+linked_seen (Some g) = refl
+
+pub linkage_is : (sc : Scopes) (p : Typed) (s : State) (k : ℕ) → Stands sc p s → linked_at (slice_get sc.objects.items k) ≡ has_linkage (slice_get s.statics k)
+linkage_is sc p s k h =
+    ap linked_at (ap (λ xs. slice_get xs k) h.objects ∙ slice_get-map object_of s.statics k) ∙ linked_seen (slice_get s.statics k)
 
 -- ---- the scope of the file
 

@@ -10,7 +10,7 @@ use Rattle.c_tree.specs.Scopes as meant
 use Rattle.c_tree.specs.Scopes.{Entity, Enumerator, State, Doing, give, need, look, change, ◌>>=◌, ◌>>◌, find_in, find_tag, innermost, at_file_scope, bind_name, change_routine, is_complete}
 use Rattle.c_tree.specs.Readings.{Storage, Plain, Internal, External, Defining_type}
 use Rattle.c_tree.specs.Declarators.{Formed, judge, is_new, named_tag, begin_tag, new_enumeration, named_enumeration}
-use Rattle.c_tree.specs.Declarations.{linked, named_function, object_agrees, function_agrees, definition_agrees, alias_agrees, new_static, linked_static, linked_routine, new_local, is_open, is_external}
+use Rattle.c_tree.specs.Declarations.{linked, named_function, may_be_external, object_agrees, function_agrees, definition_agrees, alias_agrees, new_static, linked_static, linked_routine, new_local, is_open, is_external}
 use Rattle.c_tree.specs.Programs.{is_typedef}
 use Rattle.c_types.specs.declared.entries.Decl.{Decl}
 use Rattle.c_types.specs.declared.entries.Storage.TheVariants as storages
@@ -69,7 +69,7 @@ declares_global storage t f defines = look >>= λ s.
 
 abbrev pub declares_external : Lexeme → Formed → Bool → Doing ℕ
 declares_external t f defines = look >>= λ s.
-    need (is_new s t.text && not (named_function s t.text) && object_agrees s None t.text f.of false) 131 t.pos >>
+    need (may_be_external s (find_in (innermost s.scopes).names t.text) && not (named_function s t.text) && object_agrees s None t.text f.of false) 131 t.pos >>
     judge f false defines t.pos >> linked_static t f.of false (linked s t.text)
 
 abbrev pub is_ready : State → Ty → Bool → Bool

@@ -4,7 +4,7 @@ use Rattle.ck_base.specs.Tokens.{Lexeme}
 use Rattle.c_tree.specs.Types.{Ty, agree, same, is_function}
 use Rattle.c_tree.specs.Scopes.{State, Doing, give, find_in, innermost, at_file_scope}
 use Rattle.c_tree.specs.Declarators.{is_new}
-use Rattle.c_tree.specs.Declarations.{agrees_static, agrees_routine, agrees_library, agrees_linked, linked, has_number, known_routine, new_routine, alias_agrees, function_agrees, object_agrees, named_function}
+use Rattle.c_tree.specs.Declarations.{agrees_static, agrees_routine, agrees_library, agrees_linked, linked, has_number, known_routine, new_routine, alias_agrees, function_agrees, object_agrees, named_function, has_linkage, may_be_external}
 use Rattle.c_types.specs.Stands.{Seen, static, routine, alias, library}
 
 -- two types that are there agree up to the lengths of arrays
@@ -60,8 +60,17 @@ abbrev pub object_seen : State → Option Seen → List ℕ → Ty → Bool → 
 object_seen s None name t defines = agrees_linked s (linked s name) t defines
 object_seen s (Some x) name t defines = static_or_none s (seen_static x) t defines
 
+abbrev pub linked_or_none : State → Option ℕ → Bool
+linked_or_none s None = false
+linked_or_none s (Some k) = has_linkage (slice_get s.statics k)
+
+abbrev pub external_seen : State → Option Seen → Bool
+external_seen s None = true
+external_seen s (Some x) = linked_or_none s (seen_static x)
+
 abbrev pub external_fits : State → List ℕ → Ty → Bool
-external_fits s name t = is_new s name && not (named_function s name) && object_agrees s None name t false
+external_fits s name t =
+    may_be_external s (find_in (innermost s.scopes).names name) && not (named_function s name) && object_agrees s None name t false
 
 abbrev pub is_callee : Seen → Bool
 is_callee (routine k) = true

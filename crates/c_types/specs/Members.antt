@@ -21,3 +21,8 @@ is_defined (Some g) = g.defined
 abbrev pub defined_at : Option ObjectInfo → Bool
 defined_at None = false
 defined_at (Some o) = o.defined
+
+-- whether it has linkage
+abbrev pub linked_at : Option ObjectInfo → Bool
+linked_at None = false
+linked_at (Some o) = o.linked

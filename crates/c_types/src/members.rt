@@ -1,5 +1,6 @@
 // What is known of what was declared.
 ghost use Rattle.std.specs.Prelude.{◌≡◌, List, length, map, option_map, Some, slice_get};
+ghost use Rattle.c_tree.specs.Declarations.{has_linkage};
 ghost use Rattle.c_tree.specs.Scopes.{State, TagState, StaticState, RoutineState, LocalState};
 ghost use Rattle.c_tree.specs.Types.{Ty};
 ghost use Rattle.c_tree.specs.Views.{types_of};
@@ -71,6 +72,16 @@ impl<'a> Scopes<'a> {
         match self.object(k) {
             None => false,
             Some(object) => object.defined,
+        }
+    }
+
+    // Whether an object of static storage duration has linkage (C11 6.2.2).
+    pub(crate) fn has_linkage(&self, k: u32) -> bool
+        ensures { (p : Typed) (s : State) → Stands self.now p s → result ≡ has_linkage (slice_get s.statics k) }
+    {
+        match self.object(k) {
+            None => false,
+            Some(object) => object.linked,
         }
     }
 

@@ -2,15 +2,15 @@
 ghost use Rattle.std.specs.Prelude.{◌≡◌, ℕ, List, Bool, true, false, not, ◌&&◌, ◌||◌, ◌<◌, length, Some, None, option_map, bytes_eq, if◌then◌else◌, slice_get, IfOk, IsOk, OnOk, OnErr};
 ghost use Rattle.std.specs.Map.{lookup};
 ghost use Rattle.indexmap.specs.IndexMap.{spare};
-ghost use Rattle.c_tree.specs.Declarations.{new_static, known_static, linked_static, linked, agrees_static, is_external, named_function};
-ghost use Rattle.c_tree.specs.Scopes.{State, changed_at, change_static};
+ghost use Rattle.c_tree.specs.Declarations.{new_static, known_static, linked_static, linked, agrees_static, is_external, named_function, may_be_external};
+ghost use Rattle.c_tree.specs.Scopes.{State, changed_at, change_static, find_in, innermost};
 ghost use Rattle.c_tree.specs.Types.{Ty, composite};
 ghost use Rattle.c_tree.specs.Views.{types_of};
 ghost use Rattle.c_tree.specs.declared.typed.GlobalDef.{GlobalDef};
 ghost use Rattle.c_interner.specs.Numbers.{AddsTypes, type_named};
 ghost use Rattle.c_types.specs.Calls.{Given, Keeps, Answers, Extends};
 ghost use Rattle.c_types.specs.Declares.{storage_of, name_of, formed_of, declares_internal, declares_external, declares_global};
-ghost use Rattle.c_types.specs.Fitting.{seen_static, object_seen, external_fits, callee_seen};
+ghost use Rattle.c_types.specs.Fitting.{seen_static, object_seen, external_seen, external_fits, callee_seen};
 ghost use Rattle.c_types.specs.Naming.{IsNamed, given_at};
 ghost use Rattle.c_types.specs.Rooms.{HasNameRoom};
 ghost use Rattle.c_types.specs.Stands.{Stands, named, global_kept, declared_at, entity_kept, text_at};
@@ -56,10 +56,10 @@ pub(crate) fn agree_with(agrees: bool, defines: bool, defined: bool) -> bool
     }
 }
 
-fn all_three(is_new: bool, function: bool, agrees: bool) -> bool
-    ensures { result ≡ (is_new && not function && agrees) }
+fn all_three(external: bool, function: bool, agrees: bool) -> bool
+    ensures { result ≡ (external && not function && agrees) }
 {
-    if is_new {
+    if external {
         if function { false } else { agrees }
     } else {
         false
@@ -334,13 +334,37 @@ impl<'a> Scopes<'a> {
         }
     }
 
+    // Whether what a name of a block denotes, if anything, may be declared there by `extern`: an object with linkage (C11 6.7p3).
+    fn is_new_or_linked(&self, found: Option<Entity>) -> bool
+        ensures { (p : Typed) (s : State) → Stands self.now p s → result ≡ external_seen s (option_map (entity_kept (types_of p.types)) found) }
+    {
+        match found {
+            None => true,
+            Some(entity) => match object_number(entity) {
+                None => false,
+                Some(k) => self.has_linkage(k),
+            },
+        }
+    }
+
+    // The same of a name of the innermost scope.
+    fn may_be_external(&self, name: &[u8]) -> bool
+        ensures { (p : Typed) (s : State) → Stands self.now p s → result ≡ may_be_external s (find_in (innermost s.scopes).names name.now) }
+    {
+        self.is_new_or_linked(self.look_here(name))
+    }
+
     // Whether the declaration of an object by `extern` in a block agrees with what its name denotes.
     fn external_fits(&self, p: &Typed, d: Decl) -> Result<bool, NoMemory>
         ensures { IfOk result (λ r. (s : State) → Stands self.now p.now s → d.of < length p.now.types → r ≡ external_fits s (text_at self.now.file.now d.name) (type_named p.now d.of)) }
     {
         let name = self.text(d.name);
         let agrees = self.object_agrees(p, None, d, false)?;
-        Ok(all_three(self.is_new(name), self.is_function_name(name), agrees))
+        Ok(all_three(
+            self.may_be_external(name),
+            self.is_function_name(name),
+            agrees,
+        ))
     }
 
     // An object of the file is declared by `extern` in a block (C11 6.2.2p4).
