@@ -3,13 +3,13 @@ use Rattle.std.proofs.Common.{◌≡◌, ℕ, zero, suc, ◌+◌, ◌<◌, ◌�
 use Rattle.std.specs.Prelude.{slice_index_or, Bool, not, ◌||◌, nat_lt}
 use Rattle.std.proofs.lemmas.List.{take_more, drop_all}
 use Rattle.std.proofs.lemmas.List.Elements.{All-push}
-use Rattle.c_tree.specs.Types.{Ty, Function, in_signature}
+use Rattle.c_tree.specs.Types.{Ty, Function, bare, in_signature}
 use Rattle.c_tree.specs.Views.{tys}
 use Rattle.c_tree.specs.Scopes.{State}
 use Rattle.c_tree.specs.Declarators as meant_types
 use Rattle.c_tree.specs.Declarators.{plainly, is_given}
 use Rattle.c_nodes.specs.declared.nodes.Nodes.{Nodes}
-use Rattle.c_nodes.specs.Nodes.{IsWhole, Keeps, HasType, type_in, type_count}
+use Rattle.c_nodes.specs.Nodes.{IsWhole, Keeps, IsType, HasType, type_in, type_count}
 use Rattle.c_nodes.proofs.Keeping.{keeps_same, keeps_then}
 use Rattle.c_declarators.specs.declared.parts.Param.{Param}
 use Rattle.c_declarators.specs.declared.parts.Wrap.{Wrap}
@@ -61,17 +61,17 @@ param_more a b c ks ps i k d lt all h g =
 
 -- ---- what one part makes
 
-pub function_made : (a b c : Nodes) (f : Formed) (ks : List ℕ) (ts : List Ty) (of : ℕ) (given m : Bool) → f.of < type_count a → HasTypes a b ks ts → HasType b c of (Function (type_in b f.of) (tys (map (type_in b) ks))) →
+pub function_made : (a b c : Nodes) (f : Formed) (ks : List ℕ) (ts : List Ty) (result of : ℕ) (given m : Bool) → IsType a result (bare (type_in a f.of)) → HasTypes a b ks ts → HasType b c of (Function (type_in b result) (tys (map (type_in b) ks))) →
     given ≡ is_given (type_in a f.of) → m ≡ (f.faults.misfits || not given) →
     Makes a c f (record { of = of; faults = record { lacks = f.faults.lacks; misfits = m; too_large = f.faults.too_large } }) (λ s x. gives_on (tys ts) x)
-function_made a b c f ks ts of given m lt h g q e =
-    let t : type_in c of ≡ Function (type_in a f.of) (tys ts) =
-    g.is.is ∙ ap (λ u. Function u (tys (map (type_in b) ks))) (h.keeps.types f.of lt) ∙ ap (λ us. Function (type_in a f.of) (tys us)) h.are.are in
+function_made a b c f ks ts result of given m t h g q e =
+    let made : type_in c of ≡ Function (bare (type_in a f.of)) (tys ts) =
+    g.is.is ∙ ap (λ u. Function u (tys (map (type_in b) ks))) (h.keeps.types result t.there ∙ t.is) ∙ ap (λ us. Function (bare (type_in a f.of)) (tys us)) h.are.are in
     let r : m ≡ (f.faults.misfits || not (is_given (type_in a f.of))) = e ∙ ap (λ z. f.faults.misfits || not z) q in
     record {
       keeps = keeps_then a b c h.keeps g.keeps;
       there = g.is.there;
-      is = λ s k. λ i. record { of = t i; lacks = f.faults.lacks; misfits = r i; too_large = f.faults.too_large };
+      is = λ s k. λ i. record { of = made i; lacks = f.faults.lacks; misfits = r i; too_large = f.faults.too_large };
     }
 
 -- ---- what all parts make

@@ -1,6 +1,6 @@
 -- The types that declarators make, over the types by their numbers.
 use Rattle.std.specs.Prelude.{◌≡◌, ℕ, ◌<◌, not, ◌||◌, nat_lt, List, [], ◌∷◌, length, map, All}
-use Rattle.c_tree.specs.Types.{Ty, Tys, Function, in_signature}
+use Rattle.c_tree.specs.Types.{Ty, Tys, Function, bare, in_signature}
 use Rattle.c_tree.specs.Views.{tys}
 use Rattle.c_tree.specs.Scopes.{State}
 use Rattle.c_tree.specs.Readings as meant
@@ -23,7 +23,7 @@ signature_types n ps = map (λ (p : Param). in_signature (type_in n p.of)) ps
 
 abbrev pub gives_on : Tys → meant_types.Formed → meant_types.Formed
 gives_on ps f = record {
-  of = Function f.of ps;
+  of = Function (bare f.of) ps;
   lacks = f.lacks;
   misfits = f.misfits || not (is_given f.of);
   too_large = f.too_large;

@@ -144,6 +144,7 @@ fn is_given(nodes: &Nodes<'_>, t: u32) -> bool
     !nodes.is_array(t) && !nodes.is_function(t) && !nodes.is_tagged(nodes.bare(t))
 }
 
+// A function gives a type without a qualifier of its own (C11 6.7.6.3p5, as C17 words it).
 fn gives(nodes: &mut Nodes<'_>, params: &[Param], f: Formed) -> Result<Formed, NoMemory>
     requires whole { IsWhole nodes.old }
     requires there { f.of < type_count nodes.old }
@@ -151,8 +152,9 @@ fn gives(nodes: &mut Nodes<'_>, params: &[Param], f: Formed) -> Result<Formed, N
     ensures { IfOk result (λ g. Makes nodes.old nodes.new f g (λ s x. gives_on (tys (signature_types nodes.old params.now)) x)) }
 {
     let given = is_given(nodes, f.of);
+    let plain = nodes.bare(f.of);
     let types = signature(nodes, params)?;
-    let of = nodes.type_number(CType::Function(f.of, Sequence::from_vec(types)))?;
+    let of = nodes.type_number(CType::Function(plain, Sequence::from_vec(types)))?;
     Ok(Formed {
         of,
         faults: Faults {

@@ -230,6 +230,18 @@ not_false : (b : Bool) → not b ≡ false → b ≡ true
 not_false true e = refl
 not_false false e = absurd (false≢true (sym e))
 
+-- what a function may give, without a qualifier of its own
+given_bare : (ts : List TagState) (t : Ty) → TypeOk ts t → is_given t ≡ true → is_given (bare t) ≡ true
+given_bare ts (Const Void) h e = refl
+given_bare ts (Const (Int k n)) h e = refl
+given_bare ts (Const (Cap b)) h e = refl
+given_bare ts (Const (Pointer t)) h e = refl
+given_bare ts (Const (Tagged n)) h e = e
+given_bare ts (Const (Array t n)) h e = absurd (false≢true h.1)
+given_bare ts (Const (Function r ps)) h e = absurd (false≢true h.1)
+given_bare ts (Const (Const t)) h e = absurd (false≢true h.1)
+given_bare ts t h e = e
+
 wrap_ok : (s : State) (w : Wrap) (f : Formed) → WrapOk s.tags w → Passes (wrap_on s w f) → TypeOk s.tags f.of → TypeOk s.tags (wrap_on s w f).of
 wrap_ok s (Point true) f h p k = (k, refl)
 wrap_ok s (Point false) f h p k = k
@@ -238,8 +250,8 @@ wrap_ok s (Row n) f h p k =
     let c = ⊎_elim (λ g. absurd (false≢true (sym (or_parts f.misfits (is_function f.of) p.misfits).1 ∙ g))) (λ c. complete_is s f.of c) (or_cases (is_function f.of) (is_complete s f.of) l) in
     (k, c.0, c.1, times_size n c.0 (type_extent s.tags f.of) c.1 (ltb-false size_limit _ (or_parts f.too_large (over_limit s (Array f.of n)) p.too_large).1))
 wrap_ok s (Gives q) f h p k = (
-  k,
-  not_false (is_given f.of) (or_parts f.misfits (not (is_given f.of)) p.misfits).1,
+  bare_ok s.tags f.of k,
+  given_bare s.tags f.of k (not_false (is_given f.of) (or_parts f.misfits (not (is_given f.of)) p.misfits).1),
   signature_ok s.tags q.params h.params,
 )
 

@@ -45,7 +45,7 @@ own_ok ts (w ∷ v ∷ ws) p h e = own_ok ts (v ∷ ws) p h.1 e
 
 own_type : (s : State) (ws : List Wrap) (f : Formed) (p : Prototype) → own_prototype ws ≡ Some p → (r : Ty) × ((form_on s ws f).of ≡ Function r (signature p.params))
 own_type s [] f p e = absurd (none-some p e)
-own_type s (Gives q ∷ []) f p e = (f.of, ap (λ (x : Prototype). Function f.of (signature x.params)) (same_Some q p e))
+own_type s (Gives q ∷ []) f p e = (bare f.of, ap (λ (x : Prototype). Function (bare f.of) (signature x.params)) (same_Some q p e))
 own_type s (Point q ∷ []) f p e = absurd (none-some p e)
 own_type s (Row n ∷ []) f p e = absurd (none-some p e)
 own_type s (w ∷ v ∷ ws) f p e = own_type s (v ∷ ws) (wrap_on s w f) p e

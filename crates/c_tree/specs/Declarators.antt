@@ -300,7 +300,7 @@ declarator_of k t xs rs = refuse 120 t.pos
 -- ---- the type that a declarator makes
 
 -- The type, and which rules it breaks: an array has elements of complete object type; a function gives no array, no function, no struct and no
--- union; an array is not over the limit
+-- union, and what it gives has no qualifier of its own (6.7.6.3p5); an array is not over the limit
 pub record Formed : Type 0 where
   pub of : Ty
   pub lacks : Bool
@@ -333,7 +333,7 @@ wrap_on s (Row n) f = record {
   too_large = f.too_large || over_limit s (Array f.of n);
 }
 wrap_on s (Gives p) f = record {
-  of = Function f.of (signature p.params);
+  of = Function (bare f.of) (signature p.params);
   lacks = f.lacks;
   misfits = f.misfits || not (is_given f.of);
   too_large = f.too_large;
