@@ -34,7 +34,8 @@ fun_granules types f = sum_by (var_granules types) f.vars
 unfoldable pub granules : Typed → ℕ
 granules p = sum_by (fun_granules p.types) p.funs
 
--- ---- copies: the parts of all struct and union values that are assigned or with which a local is initialised
+-- ---- copies: the parts of all struct and union values that are assigned, with which a local is initialised, or that a conditional expression
+-- chooses
 
 abbrev pub is_record : Option CType → Bool
 is_record (Some (types.Struct tag ms)) = true
@@ -47,6 +48,7 @@ copied types t = (if is_record (bare types t) then parts (size_of (extent types 
 
 abbrev pub kind_copies : List CType → ExprKind → ℕ → ℕ
 kind_copies types (exprs.Assign a b) t = copied types t
+kind_copies types (exprs.Conditional c a b) t = copied types t
 kind_copies types _ t = 0
 
 abbrev pub expr_copies : List CType → Expr → ℕ

@@ -92,7 +92,7 @@ fn expr_copies(layouts: &Layouts, p: &Typed, e: &Expr) -> u64
     ensures { result ≡ expr_copies p.now.types e.now }
 {
     match e.kind {
-        ExprKind::Assign(_, _) => copied(layouts, p, e.of),
+        ExprKind::Assign(_, _) | ExprKind::Conditional(_, _, _) => copied(layouts, p, e.of),
         _ => 0,
     }
 }
@@ -141,8 +141,9 @@ fn stmts_copies(layouts: &Layouts, p: &Typed) -> u64
     total
 }
 
-/// How many parts of 16 bytes, rounded up for each copy, are copied by the assignments of structs and unions and by the
-/// initialisations from their values. A count of 2^64 or more is 2^64 - 1 here.
+/// How many parts of 16 bytes, rounded up for each copy, are copied by the assignments of structs and unions, by the
+/// initialisations from their values and by the conditional expressions that choose one. A count of 2^64 or more is 2^64 - 1
+/// here.
 #[tactic(auto, unfolding(c_tree::specs::Counts::copies))]
 pub fn copies(layouts: &Layouts, p: &Typed) -> u64
     requires { AreLayoutsOf p.now.types layouts.now }

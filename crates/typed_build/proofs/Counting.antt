@@ -54,6 +54,7 @@ no_copy p kind t h = plain_no_copy p.types t h
 
 kind_no_copy : (types : List CType) (kind : ExprKind) (t : ℕ) → copied types t ≡ 0 → kind_copies types kind t ≡ 0
 kind_no_copy types (exprs.Assign a b) t h = h
+kind_no_copy types (exprs.Conditional c a b) t h = h
 kind_no_copy types kind t h = refl
 
 module _ (p : Typed) (h : is_integer_form p ≡ true) where
