@@ -129,11 +129,14 @@ fn expression(kind: ExprKind, of: u32) -> Expr {
     }
 }
 
-// A read, and assignments of values of two structs and of an integer.
+// A read, assignments of values of two structs and of an integer, and conditional expressions that choose a struct and an integer.
 fn expressions(alloc: Global) -> Result<Vec<Expr>, AllocError> {
     let mut expressions = vec![in alloc; expression(ExprKind::Load(0), 10)]?;
     for of in [10, 8, 2] {
         expressions.push(expression(ExprKind::Assign(0, 0), of))?;
+    }
+    for of in [10, 2] {
+        expressions.push(expression(ExprKind::Conditional(0, 0, 0), of))?;
     }
     Ok(expressions)
 }
@@ -290,7 +293,7 @@ fn parts_are_counted(rt: HostRuntime) {
     let p = program(&rt, rt.alloc());
     let layouts = kept(&rt, rt.alloc(), &p);
     assert!(rt; granules(&layouts, &p) == 2 * (257 + 1));
-    assert!(rt; copies(&layouts, &p) == 2 + 2 + 1);
+    assert!(rt; copies(&layouts, &p) == 2 + 2 + 1 + 2);
 }
 
 // Arrays and the words `const`, by turns, each of the type before.

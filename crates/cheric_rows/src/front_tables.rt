@@ -65,7 +65,7 @@ pub(super) const WORDS: [(&str, &str); 16] = [
 ];
 
 /// Types of functions, lengths, what is completed later, and one name for one thing (6.2.5, 6.7, 6.7.6, 6.9.2).
-pub(super) const DECLARATIONS: [(&str, &str); 35] = [
+pub(super) const DECLARATIONS: [(&str, &str); 45] = [
     // () is (void)
     (
         "int f();int main(void){return f();}int f(void){return 3;}",
@@ -164,6 +164,50 @@ pub(super) const DECLARATIONS: [(&str, &str); 35] = [
     ),
     // another type
     ("int x;int main(void){extern char x;return 0;}", "131 1:34"),
+    // an object of the file is declared again in a block
+    (
+        "int main(void){extern int x;extern int x;return x;}int x;",
+        "typed",
+    ),
+    // with the length that the first does not have
+    (
+        "int main(void){extern int a[];extern int a[3];return sizeof a==12;}int a[3];",
+        "typed",
+    ),
+    // with another type
+    (
+        "int main(void){extern int x;extern char x;return 0;}int x;",
+        "131 1:41",
+    ),
+    // the object of the block has no linkage
+    (
+        "int main(void){static int x;extern int x;return 0;}",
+        "131 1:40",
+    ),
+    // a variable, where the block has the object of the file
+    (
+        "int main(void){extern int x;int x;return 0;}int x;",
+        "131 1:33",
+    ),
+    // a function's result has no const of its own
+    (
+        "const int f(void);int f(void){return 1;}int main(void){return f();}",
+        "typed",
+    ),
+    // in a typedef name neither
+    (
+        "typedef const int T;T f(void);int(*p)(void)=f;int f(void){return 1;}int main(void){return p();}",
+        "typed",
+    ),
+    // what a result points to keeps it
+    (
+        "const int*f(void);int*f(void){return 0;}int main(void){return 0;}",
+        "131 1:23",
+    ),
+    // void is never completed
+    ("void a;int main(void){return 0;}", "132 1:6"),
+    // which is judged at the end of the file
+    ("void a;int main(void){return x;}", "130 1:30"),
     // extern in a block has no initialiser
     ("int main(void){extern int x=1;return 0;}", "133 1:27"),
     // an object of a block that stays
@@ -516,7 +560,7 @@ pub(super) const CONSTANTS: [(&str, &str); 29] = [
 ];
 
 /// Jumps, `return` and `switch`, scopes and parameters, and `main` (6.8, 6.2.1, 5.1.2.2.1).
-pub(super) const STATEMENTS: [(&str, &str); 30] = [
+pub(super) const STATEMENTS: [(&str, &str); 32] = [
     // in their places
     (
         "int main(void){int i;for(i=0;i<9;i++){if(i==3)continue;if(i==5)break;}do{i--;}while(i);switch(i){case 'a':break;default:;}return i;}",
@@ -607,7 +651,17 @@ pub(super) const STATEMENTS: [(&str, &str); 30] = [
     ),
     // nine parameters
     (
-        "int f(int a,int b,int c,int d,int e,int g,int h,int i,int j){return 0;}int main(void){return 0;}",
+        "int f(int a,int b,int c,int d,int e,int g,int h,int i,int j){return j;}int main(void){return f(1,2,3,4,5,6,7,8,9);}",
+        "typed",
+    ),
+    // nine parameters take nine arguments
+    (
+        "int f(int a,int b,int c,int d,int e,int g,int h,int i,int j){return j;}int main(void){return f(1,2,3,4,5,6,7,8);}",
+        "136 1:94",
+    ),
+    // nine in a type name
+    (
+        "int main(void){return sizeof(int(*)(int,int,int,int,int,int,int,int,int))==16;}",
         "typed",
     ),
     // not complete, before it is a struct

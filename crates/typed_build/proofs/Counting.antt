@@ -116,6 +116,7 @@ copied_most types t =
 
 kind_most : (types : List CType) (k : ExprKind) (t : ℕ) → kind_copies types k t ≤ 4194304
 kind_most types (exprs.Assign a b) t = copied_most types t
+kind_most types (exprs.Conditional c a b) t = copied_most types t
 kind_most types k t = omega arith
 
 value_most : (types : List CType) (o : Option Expr) → value_copies types o ≤ 4194304

@@ -1,7 +1,7 @@
 // Files and literals with what the standard says of them.
 
 // A file, and its tokens, each with its kind, position and spelling, and how it ends.
-pub static READINGS: [(&str, &str); 32] = [
+pub static READINGS: [(&str, &str); 33] = [
     ("", "end"),
     (" \t\r\n\x0b\x0c", "end"),
     ("int\n  x;\n", "Word 1:1 int, Word 2:3 x, Punct 2:4 ;, end"),
@@ -53,6 +53,7 @@ pub static READINGS: [(&str, &str); 32] = [
     // Directive lines are skipped at the beginning of a line, behind spaces and tabs.
     ("# 1 \"a.c\" 2\nx", "Word 2:1 x, end"),
     (" \t#\tline 7\nx\n#12", "Word 2:1 x, end"),
+    ("# 1.5\nx", "Word 2:1 x, end"),
     (
         "#pragma once /*\nx*/\n#pragma packed\r\n#pragma",
         "Word 2:1 x, Punct 2:2 *, Punct 2:3 /, end",
