@@ -7,7 +7,14 @@ use std::alloc::Global;
 use std::test::Fail;
 
 /// Files, with the status, output and line of a run.
-const PROGRAMS: [(&str, u8, &str, &str); 19] = [
+const PROGRAMS: [(&str, u8, &str, &str); 20] = [
+    // parameters past eight, a pointer among them, by a pointer to the function and by its name
+    (
+        "int f(int a,int b,int c,int d,int e,int g,int h,int i,char*p,int j){putchar(p[j]);return a<b?f(a+1,b,c,d,e,g,h,i,p,j+1):c+i;}int main(void){int(*q)(int,int,int,int,int,int,int,int,char*,int)=f;return q(1,3,5,0,0,0,0,7,\"abc\",0);}",
+        1,
+        "abc",
+        "exit 12\n",
+    ),
     // an array has exact bounds
     (
         "int main(void){int a[10];int i;for(i=0;i<=10;i=i+1){a[i]=i;putchar(65+i);}return 0;}",
