@@ -1,4 +1,4 @@
-/* What a pointer holds, by the intrinsics of CHERI C: its tag, its length, how far it is inside, and bounds that are set narrower.
+/* What a pointer holds, by the intrinsics of CHERI C: tag, length and offset, and bounds that are set narrower.
    Output: 1, 40, 8 and 4, a line each. Then `trap bounds 16:6`, status 2. */
 static void number(unsigned long n) {
     if (n > 9) number(n / 10);

@@ -1,4 +1,4 @@
-/* A pointer may leave its object by less than 1,024 bytes and come back; from farther away it comes back without a tag.
+/* A pointer may leave its object by less than 1,024 bytes and come back; from farther away its tag is gone.
    Output: A. Then `trap tag 10:6`, status 2. */
 int main(void) {
     char a[40];

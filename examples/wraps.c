@@ -1,4 +1,4 @@
-/* Arithmetic that C leaves undefined has a value: sums wrap, a quotient by zero is -1, shift counts are taken modulo the width.
+/* What C leaves undefined has a value: sums wrap, a quotient by zero is -1, shift counts are taken modulo 32.
    Output: WDRS. Then `exit 0`, status 0. */
 int main(void) {
     int most = 2147483647, zero = 0, one = 1;
