@@ -7,7 +7,7 @@ use std::alloc::Global;
 use std::test::Fail;
 
 /// Files, with the status, output and line of a run.
-const PROGRAMS: [(&str, u8, &str, &str); 20] = [
+const PROGRAMS: [(&str, u8, &str, &str); 21] = [
     // parameters past eight, a pointer among them, by a pointer to the function and by its name
     (
         "int f(int a,int b,int c,int d,int e,int g,int h,int i,char*p,int j){putchar(p[j]);return a<b?f(a+1,b,c,d,e,g,h,i,p,j+1):c+i;}int main(void){int(*q)(int,int,int,int,int,int,int,int,char*,int)=f;return q(1,3,5,0,0,0,0,7,\"abc\",0);}",
@@ -132,6 +132,13 @@ const PROGRAMS: [(&str, u8, &str, &str); 20] = [
         "struct N{struct N*next;int v;};int main(void){struct N*l=0;int i;for(i=0;i<5;i++){struct N*n=malloc(sizeof*n);n->v=i;n->next=l;l=n;}for(;l;l=l->next)putchar('0'+l->v);return 0;}",
         0,
         "43210",
+        "exit 0\n",
+    ),
+    // the meaning says nothing of a local of a function that returned; the machine goes on, and never leaves its text
+    (
+        "int *f(void){int x=1;return &x;}int main(void){int *p=f();*p=7;putchar(65);return 0;}",
+        0,
+        "A",
         "exit 0\n",
     ),
     (
