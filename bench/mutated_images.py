@@ -1,10 +1,11 @@
 #!/usr/bin/env python3
 """bench/mutated_images.py [COUNT [SEED]] [--jobs N]: images that another hand changed, by the auditor and the machine.
 
-COUNT images (1,000 by default, from SEED 1 on) are made of built ones: in each a few words of the text, relocations or bytes of the header
-are set anew, often to an instruction or a capability that nearly keeps the rules. Each is read by `cheric audit`. Where that answers `audit
-yes` the image is run by `cheric exec` on an input of some bytes, and must never end by `illegal` or `break`. The last line counts the images by
-what the auditor answered. It needs what ./cheric needs. It proves nothing and is no part of the gate."""
+COUNT images (1,000 by default, from SEED 1 on) are made of built ones: in each a few words of the text, relocations or
+the entry are set anew, often to what nearly keeps the rules. Each is read by `cheric audit`. Where that answers `audit
+yes` the image is run by `cheric exec` on an input of some bytes, and must never end by `illegal` or `break`. The last
+line counts the images by what the auditor answered. It needs what ./cheric needs. It proves nothing and is no part of
+the gate."""
 import os
 import random
 import struct
@@ -85,7 +86,8 @@ def main():
             with open(os.path.join(folder, name), "rb") as file:
                 built.append(file.read())
     counts, faults = {}, 0
-    for line, fault in each(lambda seed: answered(cheric, built, seed), range(words.seed, words.seed + words.count), words.jobs):
+    seeds = range(words.seed, words.seed + words.count)
+    for line, fault in each(lambda seed: answered(cheric, built, seed), seeds, words.jobs):
         counts[line] = counts.get(line, 0) + 1
         if fault:
             faults += 1

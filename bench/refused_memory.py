@@ -1,9 +1,10 @@
 #!/usr/bin/env python3
-"""bench/refused_memory.py [--from N]: the command with one allocation refused at a time, by an unproved build.
+"""bench/refused_memory.py [FIRST [LAST]] [--only NAME]: the command with one allocation refused at a time.
 
-For three files (one that puts two bytes, one that calls itself, one that counts words) `rt try --fail-alloc` refuses each allocation of a run
-by its number. Each such run must answer `memory`, with nothing put, or as it does with all its memory. A line is printed for each number that
-does otherwise, and one for each file; after 2,000 runs or ten minutes it stops, and says with which number to go on. It needs rt. It proves nothing and is no part of the gate."""
+For three files (one that puts two bytes, one that calls itself, one that counts words) an unproved build of the command
+is run once for each number from FIRST to LAST (1 to 20 by default), with the allocation of that number refused. The
+status must be that of `memory` with nothing put, or the file's own with its own output. A line tells each number's answer.
+Each run builds anew, which takes half a minute or more. It needs rt. It proves nothing and is no part of the gate."""
 import argparse
 import os
 import subprocess
@@ -12,34 +13,52 @@ import tempfile
 
 from calls import ROOT
 
-FILES = {
-    "hi": "int main(void){putchar(72);putchar(105);return 0;}",
-    "calls": "int f(int n){return n<2?1:n*f(n-1);}int main(void){putchar(65);return f(5);}",
-    "words": None,
-}
+MEMORY = 30
+CALLS = "int f(int n){return n<2?1:n*f(n-1);}int main(void){putchar(65);return f(5);}"
+FILES = [
+    ("hi", "int main(void){putchar(72);putchar(105);return 0;}", "Hi", 0),
+    ("calls", CALLS, "A", 1),
+    ("words", None, "", 0),
+]
 
 
-def tried(name, text, first):
+def answer(path, number):
+    """What one run puts, and its status; None where `rt try` gave none."""
+    words = ["rt", "try", "--steps", "1", "--fail-alloc", str(number), "--data", f"a.c={path}", "--", "run", "a.c"]
+    crate = f"{ROOT}/crates/cheric_cli"
+    run = subprocess.run(words, cwd=crate, stdin=subprocess.DEVNULL, capture_output=True, text=True, check=False)
+    ended = f"run=ended status={run.returncode} " in run.stderr
+    return run.stdout, run.returncode if ended else None
+
+
+def faults(name, text, own, numbers):
+    count = 0
     with tempfile.TemporaryDirectory() as folder:
         path = f"{folder}/a.c"
         with open(path, "w", encoding="utf-8") as file:
             file.write(text)
-        words = ["rt", "try", "--steps", "1", "--fail-alloc", f"{first}..", "--data", f"a.c={path}", "--", "run", "a.c"]
-        run = subprocess.run(words, cwd=f"{ROOT}/crates/cheric_cli", stdin=subprocess.DEVNULL, capture_output=True, text=True, check=False)
-    lines = (run.stdout + run.stderr).splitlines()
-    told = [it for it in lines if "fault" in it or "hang" in it or "other output" in it]
-    print(*told, sep="\n" if told else "")
-    print(f"{name}: status {run.returncode}; {lines[-1] if lines else 'nothing said'}")
-    return run.returncode in (0, 1)
+        for number in numbers:
+            got = answer(path, number)
+            fits = got in (("", MEMORY), own)
+            count += not fits
+            print(f"{name} {number}: status {got[1]}, {len(got[0])} bytes put{'' if fits else ', OTHERWISE'}", flush=True)
+    return count
 
 
 def main():
     words = argparse.ArgumentParser(description=__doc__, formatter_class=argparse.RawDescriptionHelpFormatter)
-    words.add_argument("--from", dest="first", type=int, default=1)
+    words.add_argument("first", nargs="?", type=int, default=1)
+    words.add_argument("last", nargs="?", type=int, default=20)
+    words.add_argument("--only", choices=[it[0] for it in FILES])
     words = words.parse_args()
     with open(os.path.join(ROOT, "examples", "words.c"), encoding="utf-8") as file:
-        FILES["words"] = file.read()
-    return 0 if all([tried(name, text, words.first) for name, text in FILES.items()]) else 1
+        text_of_words = file.read()
+    count = 0
+    for name, text, put, status in FILES:
+        if words.only in (None, name):
+            count += faults(name, text or text_of_words, (put, status), range(words.first, words.last + 1))
+    print(f"{count} answered otherwise")
+    return 1 if count else 0
 
 
 if __name__ == "__main__":
