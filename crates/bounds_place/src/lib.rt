@@ -1,4 +1,9 @@
 //! Places the text, the table, the globals, the literals, the heap and the stack of a program.
+//!
+//! Promise: `place` gives a legal map, in which no two objects share a byte, or 141 exactly where the objects exceed
+//! their limit.
+//! Definitions (`specs/`): `Legal` and `Needs` of `obj_mem`; here `Placing`.
+//! Main lemmas (`proofs/`): `Legal`, `Steps`.
 #![tactic(auto)]
 
 mod needs;

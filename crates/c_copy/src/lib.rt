@@ -1,5 +1,9 @@
-//! Copies of the expressions and statements of a typed program into new lists, with other numbers for its objects and functions, and
-//! the test that a typed program's numbers are in order.
+//! Copies of the expressions and statements of a typed program into new lists, with other numbers for its objects and
+//! functions, and the test that a typed program's numbers are in order.
+//!
+//! Promise: a copy has the term of its original; `is_ordered` is exact.
+//! Definitions (`specs/`): `Copying`, `Ordered`.
+//! Main lemmas (`proofs/`): `Copies`, `Marking`.
 #![tactic(auto)]
 
 mod expressions;

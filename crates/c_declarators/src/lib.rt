@@ -1,4 +1,8 @@
 //! What declaration specifiers, tags, enumerators, declarators, members and parameters make of their parts (C11 6.7).
+//!
+//! Promise: each gives what the definition's rule gives, or the first refusal.
+//! Definitions (`specs/`): `Declarators` of `c_tree`; here `Steps`, `Forming`.
+//! Main lemmas (`proofs/`): `Deriving`, `Tagging`.
 #![tactic(auto)]
 
 mod building;

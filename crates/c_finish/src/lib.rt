@@ -1,4 +1,8 @@
 //! The end of the elaboration of a C file: the rules that wait for the end of the file, and the finished program.
+//!
+//! Promise: the program is the definition's, or the failure that stands first in the file decides.
+//! Definitions (`specs/`): `Programs` of `c_tree`; here `Finished`, `Faults`.
+//! Main lemmas (`proofs/`): `Ending`, `Faulting`.
 #![tactic(auto)]
 
 mod faults;

@@ -1,5 +1,9 @@
-//! The types of a program by their numbers: one number for equal types, whether two types agree, and the composite of two compatible
-//! types (C11 6.2.7).
+//! The types of a program by their numbers: one number for equal types, whether two types agree, and the composite of
+//! two compatible types (C11 6.2.7).
+//!
+//! Promise: a number names the type that was asked for; agreement and composite are those of the definition.
+//! Definitions (`specs/`): `Types` of `c_tree`; here `Numbers`, `Agreement`.
+//! Main lemmas (`proofs/`): `Keeping`, `Pairing`.
 #![tactic(auto)]
 
 mod agreement;

@@ -1,4 +1,10 @@
-//! The tokens of a C file (C11 6.4, narrowed to the language that is compiled), as slices of the file, and the values of its literals.
+//! The tokens of a C file (C11 6.4, narrowed to the language that is compiled), as slices of the file, and the values
+//! of its literals.
+//!
+//! Promise: `Tokens::next` gives the longest token, the end, or the first place that breaks the rules; a file has one
+//! reading.
+//! Definitions (`specs/`): `Lexes`, `Tokens` and `Literals` of `ck_base`; here `Fronts`, `Spelled`, `Reader`.
+//! Main lemmas (`proofs/`): `Longest`, `OneReading`.
 #![tactic(auto)]
 
 mod forms;

@@ -1,4 +1,9 @@
 //! The typed expressions of a C file, by their numbers, and their values and conversions (C11 6.3).
+//!
+//! Promise: each node has the term of the definition, and what is kept of it is what the definition says of that
+//! term.
+//! Definitions (`specs/`): `Conversions`, `Terms` of `c_tree`; here `Nodes`, `Facts`.
+//! Main lemmas (`proofs/`): `Converting`, `Keeping`.
 #![tactic(auto)]
 
 mod agreement;

@@ -1,4 +1,8 @@
-//! The tree of a C file, from its tokens.
+//! The tree of a C file, from its tokens (C11 6.5 to 6.9, annex A).
+//!
+//! Promise: `parse` gives the one tree of a file, or the first of 100 to 104, 121 and 120 that applies.
+//! Definitions (`specs/`): `Parsed`; `Parses` of `c_tree`.
+//! Main lemmas (`proofs/`): `Sound`, `Complete`, `OneAnswer`.
 #![tactic(auto)]
 
 mod counts;

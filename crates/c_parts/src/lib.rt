@@ -1,4 +1,9 @@
-//! Expressions, type names, specifiers, declarators and parameters of a C file's tree: the recursion over its syntax (C11 6.5, 6.7).
+//! Expressions, type names, specifiers, declarators and parameters of a C file's tree: the recursion over its syntax
+//! (C11 6.5, 6.7).
+//!
+//! Promise: each part is typed as the definition's reading of it, or refused by its first rule.
+//! Definitions (`specs/`): `Readings`, `Programs` of `c_tree`; here `Gathered`, `Folding`.
+//! Main lemmas (`proofs/`): `Gathering`, `Calling`.
 #![tactic(auto)]
 
 mod parts;

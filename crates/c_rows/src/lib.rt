@@ -1,4 +1,9 @@
 //! Tests of the crates that read C and place its objects, and nothing else.
+//!
+//! Promise: none: a test that fails stops the gate. They stand apart, so that a crate is proved once, whatever its
+//! tests say.
+//! Definitions (`specs/`): none.
+//! Main lemmas (`proofs/`): none.
 #![tactic(auto)]
 
 #[cfg(test)]

@@ -1,4 +1,8 @@
 //! The rules on the operands of the expressions of a C file (C11 6.4.4, 6.4.5, 6.5).
+//!
+//! Promise: an operator gives its typed node, or the first rule that its operands break.
+//! Definitions (`specs/`): `Expressions` of `c_tree`; here `Rules`, `Called`, `Services`.
+//! Main lemmas (`proofs/`): `Asking`, `Choosing`.
 #![tactic(auto)]
 
 mod assignments;

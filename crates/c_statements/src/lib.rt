@@ -1,4 +1,8 @@
 //! The declarations of a C file with their initialisers (C11 6.7), and its statements (C11 6.8).
+//!
+//! Promise: each is typed as the definition's reading of it, or refused by its first rule.
+//! Definitions (`specs/`): `Declarations`, `Statements` of `c_tree`; here `Declaring`, `Statements`.
+//! Main lemmas (`proofs/`): `Stating`, `Initializing`.
 #![tactic(auto)]
 
 mod declarations;

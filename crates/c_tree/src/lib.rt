@@ -1,4 +1,8 @@
-//! The trees of a C program: as it is written, and with its types known.
+//! The trees of a C program: as it is written, and with its types known; and the rules between them (C11 6.5 to 6.9).
+//!
+//! Promise: `weight` is the sum over a program's nodes; a tree is typed in one way, or refused by one rule.
+//! Definitions (`specs/`): `Parses` (grammar), `Typing`, `File` (accepted or refused), `WellTyped`.
+//! Main lemmas (`proofs/`): `OneAnswer`, `OneFile`.
 #![tactic(auto)]
 
 mod syntax;

@@ -1,7 +1,10 @@
-//! The capability format: the fields of 128 bits, the bounds that they give, and the rounding of a
-//! request (CHERI ISAv9, CHERI Concentrate for 128-bit capabilities).
+//! The capability format: the fields of 128 bits, the bounds that they give, and the rounding of a request (CHERI
+//! ISAv9, CHERI Concentrate for 128-bit capabilities). No call takes memory, and none refuses.
 //!
-//! No call takes memory, and none refuses.
+//! Promise: bounds that are set are the least that a capability can have; owned lengths have exact ones; moves nearby
+//! keep them.
+//! Definitions (`specs/`): `Packing`, `Decoding`, `Rounding`, `Encoding`.
+//! Main lemmas (`proofs/`): `Least`, `Owned`, `Near`, `Encoded`.
 #![tactic(auto)]
 
 mod decoding;

@@ -1,5 +1,9 @@
-//! Sizes, alignments and member offsets of the types of a C program (C11 6.2.8, 6.7.2.1), and the counts of its objects and
-//! copies. No call but `Layouts::new` takes memory.
+//! Sizes, alignments and member offsets of the types of a C program (C11 6.2.8, 6.7.2.1), and the counts of its
+//! objects and copies. No call but `Layouts::new` takes memory.
+//!
+//! Promise: a type's layout is that of the definition, and `TooLarge` and `Incomplete` come exactly where it says.
+//! Definitions (`specs/`): `Layout` and `Counts` of `c_tree`; here `Answers`, `Kept`.
+//! Main lemmas (`proofs/`): `Found`, `Steps`.
 #![tactic(auto)]
 
 mod answers;

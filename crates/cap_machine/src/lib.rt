@@ -1,5 +1,9 @@
-//! The capability machine: RV64IM with CHERI capabilities, one row per instruction, over 32 capability registers, a program
-//! counter that is a capability, and tagged memory.
+//! The capability machine: RV64IM with CHERI capabilities, one row per instruction, over 32 capability registers, a
+//! program counter that is a capability, and tagged memory.
+//!
+//! Promise: a step is its row, a run is its steps, and no run of a contained text leaves it.
+//! Definitions (`specs/`): `State`, `Integers`, `Rows`, `Step`, `ContainedText`, `Containment`.
+//! Main lemmas (`proofs/`): `Containment`, `KeptRows`.
 #![tactic(auto)]
 
 mod capability_rows;

@@ -1,8 +1,9 @@
-//! Capabilities with their tag, the operations on them, and the check of an access (CHERI ISAv9).
+//! Capabilities with their tag, the operations on them, and the check of an access (CHERI ISAv9). What does not
+//! succeed gives the same capability with the tag clear; none traps, and no call takes memory.
 //!
-//! A narrowing, a mask or a seal that does not succeed gives the same capability with the tag clear,
-//! and a move clears the tag where the bounds would change. None traps, and none widens. No call
-//! takes memory.
+//! Promise: no operation sets a tag or widens; `check` gives the first cause by which an access fails.
+//! Definitions (`specs/`): `Capability`, `Access`, `Bounded`.
+//! Main lemmas (`proofs/`): `Inside`, `Laws`.
 #![tactic(auto)]
 
 mod access;

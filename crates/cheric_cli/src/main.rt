@@ -1,4 +1,8 @@
 //! The command `cheric`, over the system's files and standard streams.
+//!
+//! Promise: none of its own: it hands the real streams to `cheric` of `cheric_top`, and its status to the caller.
+//! Definitions (`specs/`): `Command` of `cheric_top`.
+//! Main lemmas (`proofs/`): none.
 #![tactic(auto)]
 
 use cheric_top::cheric;

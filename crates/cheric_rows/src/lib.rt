@@ -1,4 +1,8 @@
-//! Tests that cross crates, and nothing else.
+//! Tests that cross crates, and nothing else: programs by the command, refusals, images by hand, hostile files.
+//!
+//! Promise: none: a test that fails stops the gate.
+//! Definitions (`specs/`): `OneFunction`, the form of trees that a table of tests asks for.
+//! Main lemmas (`proofs/`): `OneFunction`.
 #![tactic(auto)]
 
 #[cfg(test)]

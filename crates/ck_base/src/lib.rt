@@ -1,5 +1,10 @@
-//! The outside, as the crates above see it: a source of bytes, a sink and files by name, in memory and over the system;
-//! the places and refusals of a C file; and its tokens, as definitions.
+//! The outside, as the crates above see it: a source of bytes, a sink and files by name, in memory and over the
+//! system; the places and refusals of a C file; and its tokens, as definitions.
+//!
+//! Promise: a source, sink or file in memory fails exactly in the calls that are named; a count of faults never
+//! falls.
+//! Definitions (`specs/`): `World`, `Runs`, `Calls`, `Agreement`, `Outside`, `Files`, `Lexes`.
+//! Main lemmas (`proofs/`): `NamedFiles`.
 #![tactic(auto)]
 
 mod adapters;

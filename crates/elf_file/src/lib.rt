@@ -1,10 +1,11 @@
-//! The ELF64 file of a purecap image: what an image holds, the bytes of its file, and a reader whose parts are slices of the
-//! file.
+//! The ELF64 file of a purecap image: what an image holds, the bytes of its file, and a reader whose parts are slices
+//! of the file. Behind the file header, four program headers and seven section headers, 736 bytes in all, stand six
+//! parts, each at a multiple of 16.
 //!
-//! A file has the file header, four program headers (text, initial data, heap and stack) and seven section headers, in 736
-//! bytes. Behind them stand six parts, each at a multiple of 16: `.text`, `.data`, `.ck_relocs` (40 bytes for a relocation),
-//! `.ck_lines` (16 bytes for a line), `.ck_image` (twelve words of eight bytes, and in version 2 a thirteenth, the count) and
-//! `.shstrtab`. All numbers are little endian.
+//! Promise: reading gives the image or the first refusal in order, and what was written of an image is read as that
+//! image.
+//! Definitions (`specs/`): `Image`, `File`, `Headers`, `Parts`, `Reading`, `Refusal`.
+//! Main lemmas (`proofs/`): `Found`, `Again`.
 #![tactic(auto)]
 
 mod field;

@@ -1,4 +1,9 @@
 //! Loading: the machine that an image describes.
+//!
+//! Promise: `load` gives exactly the image's state or the first refusal; a contained image is loaded to a contained
+//! state.
+//! Definitions (`specs/`): `Judging`, `State`, `Loading`, `Contained`.
+//! Main lemmas (`proofs/`): `Judged`, `First`.
 #![tactic(auto)]
 
 mod extent;

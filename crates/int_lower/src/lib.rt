@@ -1,4 +1,8 @@
-//! Lowering: from a typed program over integer variables to three-address code.
+//! Lowering of programs over integers: `is_integer_form`, and the three-address code of one.
+//!
+//! Promise: the code does what the program means, and is within the program.
+//! Definitions (`specs/`): `Form`, `Compiled`.
+//! Main lemmas (`proofs/`): `SameMeaning`, `Whole`.
 #![tactic(auto)]
 
 mod branches;

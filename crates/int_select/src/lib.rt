@@ -1,4 +1,8 @@
-//! Selects the machine's instructions for three-address code. So far it takes one function without parameters, over integers.
+//! Selects the machine's instructions for the code of programs over integers: one function without parameters.
+//!
+//! Promise: the machine's runs of what is selected are those of the code, in both directions, within its count.
+//! Definitions (`specs/`): `Selected`, `Tracking`.
+//! Main lemmas (`proofs/`): `Whole`, `Instrs`.
 #![tactic(auto)]
 
 mod emit;

@@ -1,4 +1,10 @@
-//! Tests of the crates below the language: numbers, worlds, capabilities, memory, instructions, images and the machine, and nothing else.
+//! Tests of the crates below the language: numbers, worlds, capabilities, memory, instructions, images and the
+//! machine.
+//!
+//! Promise: none: a test that fails stops the gate. They stand apart, so that a crate is proved once, whatever its
+//! tests say.
+//! Definitions (`specs/`): none.
+//! Main lemmas (`proofs/`): none.
 #![tactic(auto)]
 
 #[cfg(test)]

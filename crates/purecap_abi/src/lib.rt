@@ -1,7 +1,10 @@
-//! Frames and calls of pure-capability code: where arguments and saved registers stand, how a function begins and ends, and the
-//! words that selection needs for numbers and for places that are far from a base.
+//! Frames and calls of pure-capability code: where arguments and saved registers stand, how a function begins and
+//! ends, and the words for numbers and far places. The callee keeps c8, c9 and c18 to c27; the words here use no
+//! scratch register but c28, c29 and c30.
 //!
-//! The callee keeps c8, c9 and c18 to c27. The words of this crate use no other scratch registers than c28, c29 and c30.
+//! Promise: a frame is one that a legal map may have; prologue, epilogue and numbers are theirs word for word.
+//! Definitions (`specs/`): `Frames`, `Saving`, `Ends`, `Words`, `Numbers`.
+//! Main lemmas (`proofs/`): `FrameLaws`, `EndLaws`.
 #![tactic(auto)]
 
 mod arguments;

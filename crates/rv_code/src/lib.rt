@@ -1,7 +1,9 @@
-//! Instructions as words of 32 bits, and back.
+//! Instructions as words of 32 bits, and back (RISC-V unprivileged ISA, formats and opcodes).
 //!
-//! `specs/Encoding.antt` says which word is which instruction, by the formats of
-//! `specs/Formats.antt` and the rows of `specs/Table.antt`. `proofs/Laws.antt` has laws to cite.
+//! Promise: a word decodes to an instruction exactly where it encodes that instruction, and an instruction has one
+//! word.
+//! Definitions (`specs/`): `Formats`, `Table`, `Encoding`, `Decoding`.
+//! Main lemmas (`proofs/`): `Laws`, `ReadBack`.
 #![tactic(auto)]
 
 mod code;

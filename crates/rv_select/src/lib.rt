@@ -1,4 +1,9 @@
 //! Selects the machine's instructions for three-address code.
+//!
+//! Promise: each instruction has a word, the size is within the costs, lines ascend, entries are distinct, and the
+//! code is contained.
+//! Definitions (`specs/`): `Growing`, `ContainedCode`.
+//! Main lemmas (`proofs/`): `Texts`, `KindCosts`, `Contained`.
 #![tactic(auto)]
 
 mod calls;

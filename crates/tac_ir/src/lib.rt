@@ -1,4 +1,8 @@
 //! Three-address code: what it is, what it means, and what it costs.
+//!
+//! Promise: `well_formed` and `is_within_costs` are exact; `run_tac` gives the meaning of code over integers.
+//! Definitions (`specs/`): `Effects`, `Meaning`, `WellFormed`, `Costs`, `Within`, `Intervals`.
+//! Main lemmas (`proofs/`): `Whole`, `Weighing`.
 #![tactic(auto)]
 
 mod body;

@@ -1,4 +1,8 @@
 //! Lowering: from typed programs to three-address code.
+//!
+//! Promise: `lower` is safe and total for every typed program.
+//! Definitions (`specs/`): `Lowered`.
+//! Main lemmas (`proofs/`): `Below`.
 #![tactic(auto)]
 
 mod calls;

@@ -1,4 +1,9 @@
 //! Tests of three-address code and of the code that is selected for it, and nothing else.
+//!
+//! Promise: none: a test that fails stops the gate. They stand apart, so that a crate is proved once, whatever its
+//! tests say.
+//! Definitions (`specs/`): none.
+//! Main lemmas (`proofs/`): `Tried`.
 #![tactic(auto)]
 
 #[cfg(test)]
