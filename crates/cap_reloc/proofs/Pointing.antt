@@ -47,7 +47,7 @@ at_place : (m : Map) (place : ℕ) (c : Pointer) → Points m c → IsPointer m 
 at_place m place c h = record {
   storable = record { exact = h.storable.exact; from = h.storable.from; to = h.storable.to; above = h.storable.above; below = h.storable.below };
   kind = elim h.kind [
-    | inl s ↦ inl (record { word = s.word; base = s.base; length = s.length; entry = s.entry })
+    | inl s ↦ inl (record { word = s.word; base = s.base; length = s.length; entry = s.entry; function = s.function; entered = s.entered })
     | inr d ↦ inr (record { word = d.word; apart = d.apart })
   ];
 }
@@ -191,7 +191,14 @@ module _ (p : Typed) (q : Program) (shows : Shows p q) (w : WellTyped p) (m : Ma
       let at : entry ≡ (m.text.0 + (entry + 2 ^ 64 - m.text.0) % 2 ^ 64) % 2 ^ 64 = omega arith in
       record {
         storable = record { exact = legal.text_exact; from = low; to = high; above = omega arith; below = omega arith };
-        kind = inl (record { word = refl; base = refl; length = refl; entry = subst (Rattle.obj_mem.specs.Legal.IsEntry m.text) at i });
+        kind = inl (record {
+          word = refl;
+          base = refl;
+          length = refl;
+          entry = subst (Rattle.obj_mem.specs.Legal.IsEntry m.text) at i;
+          function = f;
+          entered = e ∙ ap Some at;
+        });
       }
 
   heap_points : Points m (heap m)

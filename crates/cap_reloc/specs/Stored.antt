@@ -1,5 +1,5 @@
 -- What holds of each relocation under a legal map: a machine can store it as it is, and it gives no way into the text but an entry.
-use Rattle.std.specs.Prelude.{ℕ, ◌≡◌, ◌+◌, ◌%◌, ◌^◌, ◌<◌, ◌≤◌, ◌⊎◌}
+use Rattle.std.specs.Prelude.{ℕ, ◌≡◌, ◌+◌, ◌%◌, ◌^◌, ◌<◌, ◌≤◌, ◌⊎◌, Some, slice_get}
 use Rattle.cap_concentrate.specs.Rounding.{Encodable}
 use Rattle.elf_file.specs.declared.image.Reloc.{Reloc}
 use Rattle.obj_mem.specs.declared.map.Map.{Map}
@@ -19,12 +19,14 @@ pub record IsStorable (r : Reloc) : Type 0 where
   pub above : r.base < address_in r + 1024
   pub below : address_in r < r.base + r.length + 1024
 
--- the sentry of a function: it has the text's bounds, and the address of an entry
+-- the sentry of a function: it has the text's bounds, and the address of the function's entry
 pub record IsSentry (m : Map) (r : Reloc) : Type 0 where
   pub word : r.perms ≡ 2 ^ 63 + function_permissions
   pub base : r.base ≡ m.text.0
   pub length : r.length ≡ m.text.1
   pub entry : IsEntry m.text (address_in r)
+  pub function : ℕ
+  pub entered : slice_get m.entries function ≡ Some (address_in r)
 
 -- no sentry, and without Execute
 abbrev pub IsDataWord : ℕ → Type 0

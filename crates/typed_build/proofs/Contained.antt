@@ -16,12 +16,13 @@ use Rattle.obj_mem.specs.Values.{function_permissions}
 use Rattle.typed_build.specs.Coded.{Selects}
 use Rattle.typed_build.specs.Written.{IsWritten, image_in}
 use Rattle.typed_build.specs.declared.written.Selected.{Selected}
+use Rattle.bounds_place.specs.declared.sizes.Sizes.{Sizes}
 use Rattle.typed_build.proofs.Writes.{sized}
 
 sentry_executes : permits (2 ^ 63 + function_permissions) EXECUTE ≡ true
 sentry_executes = refl
 
-data_does_not : (word : ℕ) → IsDataWord word → permits word EXECUTE ≡ false
+pub data_does_not : (word : ℕ) → IsDataWord word → permits word EXECUTE ≡ false
 data_does_not word (inl e) = rw e refl
 data_does_not word (inr e) = rw e refl
 
@@ -52,9 +53,9 @@ module _ (t : Text) (m : Map) (base : t.base ≡ m.text.0) (size : length t.byte
   contained h = elim h.kind as (λ _. IsContainedReloc t r) [ inl s ↦ by_sentry s | inr d ↦ by_data d ]
 
 pub relocs_contained : (p : Typed) (s : Selected) (given : Selects p s)
-    → (m : Map) (file : List ℕ) (w : IsWritten p s m file)
-    → All (IsContainedReloc (text_in (image_in p s m file w))) w.relocs
-relocs_contained p s given m file w =
-    let t = text_in (image_in p s m file w) in
+    → (sizes : Sizes) (m : Map) (file : List ℕ) (w : IsWritten p s sizes m file)
+    → All (IsContainedReloc (text_in (image_in p s sizes m file w))) w.relocs
+relocs_contained p s given sizes m file w =
+    let t = text_in (image_in p s sizes m file w) in
     let size = sized p s given ∙ sym w.placing.text_is in
     All-weaker (IsPointer m) (IsContainedReloc t) (contained t m refl size) w.relocs w.begins.pointers

@@ -20,6 +20,9 @@ use Rattle.typed_build.specs.Built.{IsBuilt, RunsAsMeant}
 use Rattle.typed_build.specs.Integers.{IsLowered, SelectsIntegers}
 use Rattle.typed_build.specs.Written.{IsWritten}
 use Rattle.typed_build.specs.declared.written.Selected.{Selected}
+use Rattle.bounds_place.specs.Sizes.{in_range}
+use Rattle.bounds_place.specs.declared.sizes.Sizes.{Sizes}
+use Rattle.image_load.specs.Loading.{Loaded}
 use Rattle.typed_build.proofs.Program.{frames_fit}
 use Rattle.typed_build.proofs.Running.{runs}
 use Rattle.typed_build.proofs.Writes.{is_image}
@@ -98,14 +101,16 @@ selects_of p t s low g =
 -- ---- what is written
 
 pub is_built : (p : Typed) (t : Tac) (s : Selected) → IsLowered p t → SelectsIntegers p t s
-    → (m : Map) (file : List ℕ) → IsWritten p s m file → (count : ℕ) → count ≡ count_of p → IsBuilt p file m count
-is_built p t s low given m file w count counted =
-    let i = is_image p s given.selects m file w in
+    → (sizes : Sizes) → in_range sizes ≡ true → (m : Map) (file : List ℕ) → IsWritten p s sizes m file
+    → (count : ℕ) → count ≡ count_of p → IsBuilt p file m count
+is_built p t s low given sizes chosen m file w count counted =
+    let i = is_image p s given.selects sizes chosen m file w in
     record {
       image = i.0;
       counted = counted;
+      says = ap (λ (l : Loaded). l.image.count) i.1 ∙ sym counted;
       contained = λ other. absurd (false≢true (sym other ∙ low.form));
       runs = λ form.
           subst (RunsAsMeant p m i.0.loaded) (sym counted)
-          (subst (λ l. RunsAsMeant p m l (count_of p)) (sym i.1) (runs p t s low given m file w));
+          (subst (λ l. RunsAsMeant p m l (count_of p)) (sym i.1) (runs p t s low given sizes chosen m file w));
     }

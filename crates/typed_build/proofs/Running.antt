@@ -34,12 +34,14 @@ use Rattle.typed_build.specs.Integers.{IsLowered, SelectsIntegers}
 use Rattle.typed_build.specs.Text.{text_of}
 use Rattle.typed_build.specs.Written.{IsWritten, image_in}
 use Rattle.typed_build.specs.declared.written.Selected.{Selected}
+use Rattle.bounds_place.specs.Sizes.{in_range}
+use Rattle.bounds_place.specs.declared.sizes.Sizes.{Sizes}
 use Rattle.typed_build.proofs.Program.{table_small, IsData, is_data}
 use Rattle.typed_build.proofs.Standing.{added_here, added_other, is_memory, is_there, text_word}
 use Rattle.typed_build.proofs.Texts.{text_is, filled, byte_in, word_below, small_bytes, front_get}
 use Rattle.typed_build.proofs.Writes.{code_of, loaded_of, short, is_sized, sized, legal}
 
-module _ (p : Typed) (t : Tac) (s : Selected) (low : IsLowered p t) (given : SelectsIntegers p t s) (m : Map) (file : List ℕ) (w : IsWritten p s m file) where
+module _ (p : Typed) (t : Tac) (s : Selected) (low : IsLowered p t) (given : SelectsIntegers p t s) (sizes : Sizes) (chosen : in_range sizes ≡ true) (m : Map) (file : List ℕ) (w : IsWritten p s sizes m file) where
   abbrev code : List Instr
   code = code_of s
 
@@ -47,10 +49,10 @@ module _ (p : Typed) (t : Tac) (s : Selected) (low : IsLowered p t) (given : Sel
   text = text_of code
 
   abbrev image : Image
-  image = image_in p s m file w
+  image = image_in p s sizes m file w
 
   allowed : Legal p m
-  allowed = legal p s given.selects m w.placing
+  allowed = legal p s given.selects sizes chosen m w.placing
 
   one : IsAlone p
   one = alone p low.form

@@ -1,5 +1,5 @@
 -- A program's machine code that is placed and written with the program's initial data loads, as the image of the program.
-use Rattle.std.proofs.Common.{◌≡◌, ℕ, ◌+◌, ◌*◌, ◌%◌, ◌^◌, ◌<◌, ◌≤◌, true, false, List, length, Ok, refl, sym, ap, ◌∙◌, subst, arith}
+use Rattle.std.proofs.Common.{◌≡◌, ℕ, ◌+◌, ◌*◌, ◌%◌, ◌^◌, ◌<◌, ◌≤◌, true, false, List, length, Ok, inr, refl, sym, ap, ◌∙◌, subst, arith}
 use Rattle.std.proofs.lemmas.List.Elements.{All-weaker}
 use Rattle.c_tree.specs.Views.{IsOrdered}
 use Rattle.c_tree.specs.declared.typed.Typed.{Typed}
@@ -9,6 +9,8 @@ use Rattle.obj_mem.specs.Needs.{Legal, weight_in}
 use Rattle.obj_mem.specs.Table.{table_length}
 use Rattle.obj_mem.specs.declared.map.Map.{Map}
 use Rattle.bounds_place.specs.Placing.{exceeds, AreOffsets, IsPlacing}
+use Rattle.bounds_place.specs.Sizes.{in_range}
+use Rattle.bounds_place.specs.declared.sizes.Sizes.{Sizes}
 use Rattle.cap_reloc.specs.Begins.{asked_by}
 use Rattle.cap_reloc.specs.Stored.{IsPointer}
 use Rattle.rv_instr.specs.declared.instr.Instr.{Instr}
@@ -62,7 +64,7 @@ module _ (p : Typed) (s : Selected) (given : Selects p s) where
 
   -- ---- under a map
 
-  module _ (m : Map) (placing : IsPlacing p s.frames.items s.entries.items (size_of s) m) where
+  module _ (sizes : Sizes) (chosen : in_range sizes ≡ true) (m : Map) (placing : IsPlacing p s.frames.items s.entries.items (size_of s) sizes m) where
     pub legal : Legal p m
     legal = placing.legal (weight_in p) given.frames
 
@@ -82,11 +84,11 @@ module _ (p : Typed) (s : Selected) (given : Selects p s) where
 
     module _ (base : ℕ) (bytes : List ℕ) (relocs : List Reloc) (begins : Begins p m base bytes relocs) where
       abbrev image : Image
-      image = image_with s m base bytes relocs
+      image = image_with p s m base bytes relocs
 
       pub keeps_rules : KeepsRules image
       keeps_rules = record {
-        version = refl;
+        version = inr refl;
         text = omega (arith, sized, is_sized.whole);
         ascend = given.coded.ascend;
         in_text =
@@ -146,19 +148,18 @@ module _ (p : Typed) (s : Selected) (given : Selects p s) where
 
   -- ---- written
 
-  module _ (m : Map) (file : List ℕ) (w : IsWritten p s m file) where
-    pub is_image : (i : IsImage p file m) × (i.loaded ≡ loaded_of (image_in p s m file w))
+  module _ (sizes : Sizes) (chosen : in_range sizes ≡ true) (m : Map) (file : List ℕ) (w : IsWritten p s sizes m file) where
+    pub is_image : (i : IsImage p file m) × (i.loaded ≡ loaded_of (image_in p s sizes m file w))
     unfolding loading
     is_image = (
       record {
-        legal = legal m w.placing;
-        heap = w.placing.heap_is;
-        stack = w.placing.stack_is;
-        table = table_long m w.placing;
-        loaded = loaded_of (image_in p s m file w);
-        loads = ap after_reading w.read ∙ ap (loaded_as (image_in p s m file w)) w.fine;
+        legal = legal sizes chosen m w.placing;
+        table = table_long sizes chosen m w.placing;
+        loaded = loaded_of (image_in p s sizes m file w);
+        loads = ap after_reading w.read ∙ ap (loaded_as (image_in p s sizes m file w)) w.fine;
+        version = refl;
         whole = w.whole;
-        extents = extents m w.placing w.base w.bytes w.relocs w.begins;
+        extents = extents sizes chosen m w.placing w.base w.bytes w.relocs w.begins;
         filled = record { code = code_of s; is = refl; size = given.coded.size };
         words = all_decode (code_of s) given.coded.in_range;
         relocates = w.begins.relocates;

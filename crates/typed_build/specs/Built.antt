@@ -84,18 +84,17 @@ pub record HasExtents (map : Map) (image : Image) : Type 0 where
 abbrev pub word_in : List ℕ → ℕ → ℕ
 word_in text k = little_number (take 4 (drop (4 * k) text))
 
--- What the image of a program is. Under a legal map, with a heap of 16,777,216 bytes and a stack of 1,048,576, the file is the one that is
--- written for its image, and it loads at the map's extents.
+-- What the image of a program is. Under a legal map the file is the one that is written for its image, and it loads at
+-- the map's extents.
 pub record IsImage (p : Typed) (file : List ℕ) (map : Map) : Type 0 where
   -- each object has room of its own, with exact bounds
   pub legal : Legal p map
-  pub heap : map.heap.1 ≡ 16777216
-  pub stack : map.stack.1 ≡ 1048576
   -- the table has one entry for each global, literal and function, one for the heap, and one more
   pub table : map.table.1 ≡ table_length (asked_by p)
   -- the file loads, to this image and this first state of the machine
   pub loaded : Loaded
   pub loads : loading file ≡ Ok loaded
+  pub version : loaded.image.version ≡ 2
   -- and it is the file that is written for the image, with nothing behind it
   pub whole : file ≡ file_of loaded.image
   pub extents : HasExtents map loaded.image
@@ -114,11 +113,13 @@ pub record RunsAsMeant (p : Typed) (map : Map) (loaded : Loaded) (count : ℕ) :
   pub keeps : KeepsToOutside (sides_of p map loaded)
   pub does_all : DoesAllThatIsMeant (sides_of p map loaded) count
 
--- What is built of a program: its image and its count; of a program over integers that its runs are what it means, and of every other one that its
--- image is contained
+-- What is built of a program: its image and its count; of a program over integers that its runs are what it means, and of
+-- every other one that its image is contained
 pub record IsBuilt (p : Typed) (file : List ℕ) (map : Map) (count : ℕ) : Type 0 where
   pub image : IsImage p file map
   pub counted : count ≡ count_of p
+  -- which the file says
+  pub says : image.loaded.image.count ≡ count
   -- of every other program no run, whatever it does, leaves the text or makes code of data
   pub contained : is_integer_form p ≡ false → Contained image.loaded.image
   -- of a program over integers
@@ -129,9 +130,9 @@ pub record IsBuilt (p : Typed) (file : List ℕ) (map : Map) (count : ℕ) : Typ
 abbrev pub start : Pos
 start = record { line = 1; col = 1 }
 
--- At the start of the file: 141 where the objects of a program exceed their limit; else 142 where it is too heavy. 150 comes of no program over
--- integers; it would come where a program's three-address code, or the audit of its image, fails a check that isn't proved to pass. Want of
--- memory is free.
+-- At the start of the file: 141 where the objects of a program exceed their limit; else 142 where it is too heavy. 150
+-- comes of no program over integers; it would come where a program's three-address code fails a check that isn't proved to
+-- pass. Want of memory is free.
 abbrev pub IsCode : Typed → ℕ → Type 0
 IsCode p code =
     ((code ≡ 141) × (exceeds p ≡ true))

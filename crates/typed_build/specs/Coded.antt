@@ -11,6 +11,7 @@ use Rattle.obj_mem.specs.Legal.{AreFrames}
 use Rattle.obj_mem.specs.Needs.{weight_in, function_needs}
 use Rattle.rv_instr.specs.Range.{InRange}
 use Rattle.rv_instr.specs.declared.instr.Instr.{Instr}
+use Rattle.rv_select.specs.ContainedCode.{IsContainedCode}
 use Rattle.rv_select.specs.Growing.{AreEntries}
 use Rattle.tac_ir.specs.WellFormed.{is_well_formed}
 use Rattle.tac_ir.specs.Within.{WithinCosts}
@@ -47,3 +48,7 @@ pub record Selects (p : Typed) (s : Selected) : Type 0 where
   pub frames : AreFrames (function_needs p.types (weight_in p) 0 p.funs) s.frames.items
   pub each : length s.entries.items ≡ length p.funs
   pub entries : AreEntries (length s.code.items) s.entries.items
+
+-- whose words, entries and start obey the rules of contained code
+abbrev pub HasContainedCode : Selected → Type 0
+HasContainedCode s = IsContainedCode s.code.items s.entries.items s.start

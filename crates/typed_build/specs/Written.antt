@@ -3,8 +3,10 @@ use Rattle.std.specs.Prelude.{◌≡◌, ℕ, List, length, Ok}
 use Rattle.std.specs.List.{All}
 use Rattle.c_tree.specs.declared.typed.Typed.{Typed}
 use Rattle.obj_mem.specs.Agreement.{Paired}
+use Rattle.obj_mem.specs.Counted.{count_of}
 use Rattle.obj_mem.specs.declared.map.Map.{Map}
 use Rattle.bounds_place.specs.Placing.{IsPlacing}
+use Rattle.bounds_place.specs.declared.sizes.Sizes.{Sizes}
 use Rattle.cap_reloc.specs.Begins.{beginning, IsRelocation, IsInside}
 use Rattle.cap_reloc.specs.Initial.{AreInitial}
 use Rattle.cap_reloc.specs.Stored.{IsPointer}
@@ -24,20 +26,21 @@ pub record Begins (p : Typed) (m : Map) (base : ℕ) (bytes : List ℕ) (relocs 
   pub pointers : All (IsPointer m) relocs
   pub initial : AreInitial p m base bytes
 
-abbrev pub image_with : Selected → Map → ℕ → List ℕ → List Reloc → Image
-image_with s m base bytes relocs = image_of m s.start (text_of s.code.items) base bytes relocs s.lines.items
+abbrev pub image_with : Typed → Selected → Map → ℕ → List ℕ → List Reloc → Image
+image_with p s m base bytes relocs =
+    image_of m s.start (text_of s.code.items) base bytes relocs s.lines.items (count_of p)
 
 -- The file of the code under a map: it is read as the image of that code and these initial data, and no test of the loader refuses it
-pub record IsWritten (p : Typed) (s : Selected) (m : Map) (file : List ℕ) : Type 0 where
-  pub placing : IsPlacing p s.frames.items s.entries.items (text_length (length s.code.items)) m
+pub record IsWritten (p : Typed) (s : Selected) (sizes : Sizes) (m : Map) (file : List ℕ) : Type 0 where
+  pub placing : IsPlacing p s.frames.items s.entries.items (text_length (length s.code.items)) sizes m
   pub base : ℕ
   pub bytes : List ℕ
   pub relocs : List Reloc
   pub begins : Begins p m base bytes relocs
-  pub whole : file ≡ file_of (image_with s m base bytes relocs)
-  pub read : reading file ≡ Ok (image_with s m base bytes relocs)
-  pub fine : judged (image_with s m base bytes relocs) ≡ Ok tt
+  pub whole : file ≡ file_of (image_with p s m base bytes relocs)
+  pub read : reading file ≡ Ok (image_with p s m base bytes relocs)
+  pub fine : judged (image_with p s m base bytes relocs) ≡ Ok tt
 
 -- the image
-abbrev pub image_in : (p : Typed) (s : Selected) (m : Map) (file : List ℕ) → IsWritten p s m file → Image
-image_in p s m file w = image_with s m w.base w.bytes w.relocs
+abbrev pub image_in : (p : Typed) (s : Selected) (sizes : Sizes) (m : Map) (file : List ℕ) → IsWritten p s sizes m file → Image
+image_in p s sizes m file w = image_with p s m w.base w.bytes w.relocs

@@ -1,15 +1,16 @@
 //! Building: from a typed program to the ELF file.
-ghost use Rattle.std.specs.Prelude.{◌≡◌, ◌≤◌, false, IfOk, IfErr, OnOk};
+ghost use Rattle.std.specs.Prelude.{◌≡◌, ◌≤◌, true, false, IfOk, IfErr, OnOk};
 ghost use Rattle.c_tree.specs.File.{weight_limit};
 ghost use Rattle.c_tree.specs.Typing.{Sound};
 ghost use Rattle.c_tree.specs.Weight.{weight};
 ghost use Rattle.cap_layout.specs.Kept.{AreLayoutsOf};
 ghost use Rattle.bounds_place.specs.Placing.{exceeds, IsRefusal as ExceedsLimit};
+ghost use Rattle.bounds_place.specs.Sizes.{in_range, HasSizes};
 ghost use Rattle.typed_build.specs.Built.{IsBuilt, IsRefusal};
 
 use crate::integers::build_integers;
 use crate::whole::build_whole;
-use bounds_place::exceeds_limit;
+use bounds_place::{Sizes, exceeds_limit};
 use c_tree::{Typed, weight};
 use cap_layout::Layouts;
 use ck_base::{NoMemory, Pos, Refusal};
@@ -55,11 +56,14 @@ fn limit(alloc: Global, layouts: &Layouts, p: &Typed) -> Result<(), Refusal>
     Ok(())
 }
 
-/// Builds a typed program. It is refused, at the start of its file, by 141 where its objects exceed their limit, and then by 142 where
-/// its weight does. Of a program over integers it is proved that the runs of what is built are what the program means.
-pub fn build_typed(alloc: Global, p: &Typed) -> Result<Built, Refusal>
+/// Builds a typed program; the heap and the stack have the lengths of `sizes`. It is refused, at the start of its file, by 141
+/// where its objects exceed their limit, and then by 142 where its weight does. Of a program over integers it is proved that
+/// the runs of what is built are what the program means.
+pub fn build_typed(alloc: Global, p: &Typed, sizes: Sizes) -> Result<Built, Refusal>
     requires sound { Sound p.now }
+    requires sizes { in_range sizes ≡ true }
     ensures built { IfOk result (λ b. IsBuilt p.now b.elf.items b.map b.count) }
+    ensures sized { IfOk result (λ b. HasSizes sizes b.map) }
     ensures within { OnOk result (exceeds p.now ≡ false) }
     ensures light { OnOk result (weight p.now ≤ weight_limit) }
     ensures refused { IfErr result (IsRefusal p.now) }
@@ -70,7 +74,7 @@ pub fn build_typed(alloc: Global, p: &Typed) -> Result<Built, Refusal>
         return Err(Refusal::Code(142, START));
     }
     if is_integer_form(p) {
-        return build_integers(alloc, &layouts, p);
+        return build_integers(alloc, &layouts, p, sizes);
     }
-    build_whole(alloc, &layouts, p)
+    build_whole(alloc, &layouts, p, sizes)
 }

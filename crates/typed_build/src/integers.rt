@@ -1,5 +1,6 @@
 //! Building of programs over integers: the path whose runs are proved to be what the program means.
 ghost use Rattle.std.specs.Prelude.{◌≡◌, ◌≤◌, true, map, IfOk, IfErr};
+ghost use Rattle.bounds_place.specs.Sizes.{in_range, HasSizes};
 ghost use Rattle.c_tree.specs.File.{weight_limit};
 ghost use Rattle.c_tree.specs.Typing.{Sound};
 ghost use Rattle.c_tree.specs.Weight.{weight};
@@ -14,6 +15,7 @@ ghost use Rattle.typed_build.specs.Integers.{IsLowered, SelectsIntegers};
 use crate::building::Built;
 use crate::counts::count_of;
 use crate::written::{Selected, Written, write_program};
+use bounds_place::Sizes;
 use c_tree::Typed;
 use cap_layout::Layouts;
 use ck_base::{NoMemory, Refusal, Sequence};
@@ -83,18 +85,25 @@ fn select_integers(alloc: Global, t: &Tac) -> Result<Selected, NoMemory>
 }
 
 /// A program over integers.
-pub fn build_integers(alloc: Global, layouts: &Layouts, p: &Typed) -> Result<Built, Refusal>
+pub fn build_integers(
+    alloc: Global,
+    layouts: &Layouts,
+    p: &Typed,
+    sizes: Sizes,
+) -> Result<Built, Refusal>
     requires layouts { AreLayoutsOf p.now.types layouts.now }
     requires sound { Sound p.now }
     requires form { is_integer_form p.now ≡ true }
     requires light { weight p.now ≤ weight_limit }
+    requires sizes { in_range sizes ≡ true }
     ensures built { IfOk result (λ b. IsBuilt p.now b.elf.items b.map b.count) }
+    ensures sized { IfOk result (λ b. HasSizes sizes b.map) }
     ensures refused { IfErr result (IsRefusal p.now) }
 {
     let code = lower(alloc, p)?;
     let selected = select_integers(alloc, &code)?;
-    let Written { elf, map } = write_program(alloc, p, selected)?;
     let count = count_of(layouts, p);
+    let Written { elf, map } = write_program(alloc, p, selected, count, sizes)?;
     let places = places_of(alloc, &code)?;
     Ok(Built {
         elf,

@@ -5,17 +5,18 @@ ghost use Rattle.c_tree.specs.Typing.{Sound};
 ghost use Rattle.c_tree.specs.Weight.{weight};
 ghost use Rattle.cap_layout.specs.Kept.{AreLayoutsOf};
 ghost use Rattle.bounds_place.specs.Placing.{exceeds};
+ghost use Rattle.bounds_place.specs.Sizes.{in_range, HasSizes};
 ghost use Rattle.int_lower.specs.Form.{is_integer_form};
 ghost use Rattle.typed_build.specs.Built.{IsBuilt, IsRefusal};
-ghost use Rattle.typed_build.specs.Coded.{IsGivenUp, IsChecked, Selects};
+ghost use Rattle.typed_build.specs.Coded.{IsGivenUp, IsChecked, Selects, HasContainedCode};
 ghost use Rattle.typed_build.specs.Frames.{HaveHomes};
 
 use crate::building::{Built, UNPROVED};
 use crate::counts::count_of;
 use crate::frames::frames_of;
 use crate::homes::{is_short, places_of};
-use crate::image::is_contained;
 use crate::written::{Selected, Written, write_program};
+use bounds_place::Sizes;
 use c_tree::Typed;
 use cap_layout::Layouts;
 use ck_base::{NoMemory, Refusal};
@@ -54,7 +55,8 @@ fn select_all(
     requires checked { IsChecked p.now code.now }
     requires places { vec_len places.now ≡ length code.now.funs }
     requires homes { HaveHomes code.now.funs places.now.items }
-    ensures { IfOk result (Selects p.now) }
+    ensures selects { IfOk result (Selects p.now) }
+    ensures contained { IfOk result HasContainedCode }
 {
     let frames = frames_of(alloc, layouts, p, code, places)?;
     let Items {
@@ -72,25 +74,28 @@ fn select_all(
     })
 }
 
-/// Any program, of which it is not yet proved that its runs are what it means. Its three-address code is checked, and that its image is
-/// contained.
-pub fn build_whole(alloc: Global, layouts: &Layouts, p: &Typed) -> Result<Built, Refusal>
+/// Any program, of which it is not yet proved that its runs are what it means. Its three-address code is checked.
+pub fn build_whole(
+    alloc: Global,
+    layouts: &Layouts,
+    p: &Typed,
+    sizes: Sizes,
+) -> Result<Built, Refusal>
     requires layouts { AreLayoutsOf p.now.types layouts.now }
     requires sound { Sound p.now }
     requires within { exceeds p.now ≡ false }
     requires light { weight p.now ≤ weight_limit }
     requires other { is_integer_form p.now ≡ false }
+    requires sizes { in_range sizes ≡ true }
     ensures built { IfOk result (λ b. IsBuilt p.now b.elf.items b.map b.count) }
+    ensures sized { IfOk result (λ b. HasSizes sizes b.map) }
     ensures refused { IfErr result (IsRefusal p.now) }
 {
     let code = code_of(alloc, p)?;
     let places = places_of(alloc, &code)?;
     let selected = select_all(alloc, layouts, p, &code, &places)?;
-    let Written { elf, map } = write_program(alloc, p, selected)?;
-    if !is_contained(alloc, elf.as_slice())? {
-        return Err(UNPROVED);
-    }
     let count = count_of(layouts, p);
+    let Written { elf, map } = write_program(alloc, p, selected, count, sizes)?;
     Ok(Built {
         elf,
         map,

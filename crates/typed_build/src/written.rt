@@ -1,13 +1,15 @@
 //! The image of a program's machine code: placed, with the program's initial data, and written.
-ghost use Rattle.std.specs.Prelude.{◌≡◌, false, IfOk, IfErr, OnOk};
+ghost use Rattle.std.specs.Prelude.{◌≡◌, true, false, IfOk, IfErr, OnOk};
 ghost use Rattle.c_tree.specs.Typing.{Sound};
 ghost use Rattle.bounds_place.specs.Placing.{exceeds, IsRefusal as ExceedsLimit};
+ghost use Rattle.bounds_place.specs.Sizes.{in_range};
+ghost use Rattle.obj_mem.specs.Counted.{count_of};
 ghost use Rattle.typed_build.specs.Coded.{Selects};
 ghost use Rattle.typed_build.specs.Written.{IsWritten};
 
 use crate::image::image_of;
 use crate::text::text_of;
-use bounds_place::place;
+use bounds_place::{Sizes, place};
 use c_tree::Typed;
 use cap_reloc::table;
 use ck_base::Refusal;
@@ -37,11 +39,20 @@ pub struct Written {
     pub map: Map,
 }
 
-/// The file of a program's machine code under a legal map. It loads.
-pub fn write_program(alloc: Global, p: &Typed, selected: Selected) -> Result<Written, Refusal>
+/// The file of a program's machine code under a legal map, whose heap and stack have these lengths. It loads, and says the
+/// program's count.
+pub fn write_program(
+    alloc: Global,
+    p: &Typed,
+    selected: Selected,
+    count: u64,
+    sizes: Sizes,
+) -> Result<Written, Refusal>
     requires sound { Sound p.now }
     requires selects { Selects p.now selected }
-    ensures written { IfOk result (λ w. IsWritten p.now selected w.map w.elf.items) }
+    requires count { count ≡ count_of p.now }
+    requires sizes { in_range sizes ≡ true }
+    ensures written { IfOk result (λ w. IsWritten p.now selected sizes w.map w.elf.items) }
     ensures within { OnOk result (exceeds p.now ≡ false) }
     ensures refused { IfErr result (ExceedsLimit p.now) }
 {
@@ -53,9 +64,9 @@ pub fn write_program(alloc: Global, p: &Typed, selected: Selected) -> Result<Wri
         lines,
     } = selected;
     let text = text_of(alloc, &code)?;
-    let map = place(alloc, p, &frames, &entries, text.len() as u64)?;
+    let map = place(alloc, p, &frames, &entries, text.len() as u64, sizes)?;
     let contents = table(alloc, &map, p)?;
-    let image = image_of(&map, start, text, contents, lines);
+    let image = image_of(&map, start, text, contents, lines, count);
     let elf = write(alloc, &image)?;
     Ok(Written { elf, map })
 }

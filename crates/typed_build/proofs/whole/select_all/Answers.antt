@@ -43,8 +43,8 @@ select-requires-clause-framed c =
     omega (arith, c.requires.places, places.ok, same_count c.args.code.now p c.requires.checked.formed) in
     framed p places.items c.in_ok-frames.frames.items count c.in_ok-frames.ensures.fit
 
-pub returns : goal.returns
-returns c =
+pub returns-clause-selects : goal.returns-clause-selects
+returns-clause-selects c =
     let p = c.args.p.now in
     let checked = c.requires.checked in
     let typed = well_typed p c.requires.sound in

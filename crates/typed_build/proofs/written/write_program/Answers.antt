@@ -27,6 +27,7 @@ place-requires c =
       whole = ap (λ n. n % 16) is ∙ sized.whole;
       owned = subst (λ n. owned n ≡ n) (sym is) sized.owned;
       most = omega (arith, is, sized.most);
+      sizes = c.requires.sizes;
     }
 
 pub table-requires : goal.table-requires
@@ -38,11 +39,11 @@ table-requires c =
     let text = c.in_ok-text.text in
     let count : c.len.result ≡ length text.items = omega (arith, c.len.ensures, text.ok) in
     let is = long p s given c.len.result text.items c.deref.result.now count c.in_ok-text.ensures c.deref.ensures.value in
-    let placing = subst (λ n. IsPlacing p s.frames.items s.entries.items n m) is c.in_ok-map.ensures.placed in
+    let placing = subst (λ n. IsPlacing p s.frames.items s.entries.items n c.args.sizes m) is c.in_ok-map.ensures.placed in
     record {
       sound = c.requires.sound;
-      legal = legal p s given m placing;
-      length = table_long p s given m placing;
+      legal = legal p s given c.args.sizes c.requires.sizes m placing;
+      length = table_long p s given c.args.sizes c.requires.sizes m placing;
     }
 
 pub image_of-image-requires : goal.image_of-image-requires
@@ -54,8 +55,8 @@ image_of-image-requires c =
     let text = c.in_ok-text.text in
     let count : c.len.result ≡ length text.items = omega (arith, c.len.ensures, text.ok) in
     let is = long p s given c.len.result text.items c.deref.result.now count c.in_ok-text.ensures c.deref.ensures.value in
-    let placing = subst (λ n. IsPlacing p s.frames.items s.entries.items n m) is c.in_ok-map.ensures.placed in
-    entry_below p s given m placing
+    let placing = subst (λ n. IsPlacing p s.frames.items s.entries.items n c.args.sizes m) is c.in_ok-map.ensures.placed in
+    entry_below p s given c.args.sizes c.requires.sizes m placing
 
 pub returns-clause-written : goal.returns-clause-written
 returns-clause-written c =
@@ -66,7 +67,7 @@ returns-clause-written c =
     let text = c.in_ok-text.text in
     let count : c.len.result ≡ length text.items = omega (arith, c.len.ensures, text.ok) in
     let is = long p s given c.len.result text.items c.deref.result.now count c.in_ok-text.ensures c.deref.ensures.value in
-    let placing = subst (λ n. IsPlacing p s.frames.items s.entries.items n m) is c.in_ok-map.ensures.placed in
+    let placing = subst (λ n. IsPlacing p s.frames.items s.entries.items n c.args.sizes m) is c.in_ok-map.ensures.placed in
     let t = c.in_ok-contents.contents in
     let base = t.base in
     let bytes = t.bytes.items in
@@ -78,11 +79,12 @@ returns-clause-written c =
       pointers = given_data.pointers;
       initial = given_data.bytes;
     } in
-    let image : c.image_of-image.result ≡ image_with s m base bytes relocs =
+    let image : c.image_of-image.result ≡ image_with p s m base bytes relocs =
     c.image_of-image.ensures
-    ∙ ap (λ x. image_of m s.start x base bytes relocs s.lines.items) (c.in_ok-text.ensures ∙ ap text_of c.deref.ensures.value) in
+    ∙ ap (λ x. image_of m s.start x base bytes relocs s.lines.items c.args.count) (c.in_ok-text.ensures ∙ ap text_of c.deref.ensures.value)
+    ∙ ap (λ n. image_of m s.start (text_of s.code.items) base bytes relocs s.lines.items n) c.requires.count in
     let elf = c.in_ok-elf.elf.items in
-    let rules = keeps_rules p s given m placing base bytes relocs begins in
+    let rules = keeps_rules p s given c.args.sizes c.requires.sizes m placing base bytes relocs begins in
     let ordered = (well_typed p c.requires.sound).ordered in
     record {
       placing = placing;
@@ -92,5 +94,5 @@ returns-clause-written c =
       begins = begins;
       whole = c.in_ok-elf.ensures.bytes ∙ ap file_of image;
       read = subst (λ (i : Image). KeepsRules i → reading elf ≡ Ok i) image c.in_ok-elf.ensures.read_back rules;
-      fine = fine p s given m placing base bytes relocs begins ordered c.in_ok-map.ensures.within;
+      fine = fine p s given c.args.sizes c.requires.sizes m placing base bytes relocs begins ordered c.in_ok-map.ensures.within;
     }
