@@ -11,7 +11,8 @@ use Rattle.placement.proofs.Shapes.{IsFrom, KeepsOwned, from_kept, kept_same, so
 
 -- count objects from number k on end
 pub record Ended (k count : ℕ) (t u : List Shape) : Type 0 where
-  pub back : (i : ℕ) (h : Shape) → slice_get u i ≡ Some h → (g : Shape) × (slice_get t i ≡ Some g) × IsFrom g h × (IsNotReturned h.life → (i < k) ⊎ (k + count ≤ i))
+  pub back : (i : ℕ) (h : Shape) → slice_get u i ≡ Some h → (g : Shape) × (slice_get t i ≡ Some g) × IsFrom g h
+      × (IsNotReturned h.life → (i < k) ⊎ (k + count ≤ i))
   pub forth : KeepsOwned t u
   pub below : (i : ℕ) → i < k → slice_get u i ≡ slice_get t i
 
@@ -54,15 +55,23 @@ one_ended k t None is = record {
   where
     no : (i : ℕ) (h : Shape) → slice_get t i ≡ Some h → i ≡ k → ⊥
     no i h e q = let f : slice_get t k ≡ Some h = subst (λ j. slice_get t j ≡ Some h) q e in absurd cc
-one_ended k t (Some g) is = record { back = back; forth = forth; below = λ i l. set_other t k i (record g { life = Returned }) (not_equal i k l) }
+one_ended k t (Some g) is =
+    record {
+      back = back;
+      forth = forth;
+      below = λ i l. set_other t k i (record g { life = Returned })
+          (not_equal i k l);
+    }
   where
     h : Shape
     h = record g { life = Returned }
 
-    back : (i : ℕ) (v : Shape) → slice_get (slice_set t k h) i ≡ Some v → (u : Shape) × (slice_get t i ≡ Some u) × IsFrom u v × (IsNotReturned v.life → (i < k) ⊎ (k + 1 ≤ i))
+    back : (i : ℕ) (v : Shape) → slice_get (slice_set t k h) i ≡ Some v → (u : Shape) × (slice_get t i ≡ Some u)
+        × IsFrom u v × (IsNotReturned v.life → (i < k) ⊎ (k + 1 ≤ i))
     back i v e = go (get_set t k g h is i v e)
       where
-        go : ((i ≡ k) × (v ≡ h)) ⊎ ((i ≡ k → ⊥) × (slice_get t i ≡ Some v)) → (u : Shape) × (slice_get t i ≡ Some u) × IsFrom u v × (IsNotReturned v.life → (i < k) ⊎ (k + 1 ≤ i))
+        go : ((i ≡ k) × (v ≡ h)) ⊎ ((i ≡ k → ⊥) × (slice_get t i ≡ Some v)) → (u : Shape) × (slice_get t i ≡ Some u)
+            × IsFrom u v × (IsNotReturned v.life → (i < k) ⊎ (k + 1 ≤ i))
         go (inl q) =
             let r : Returned ≡ v.life = sym (ap (λ z. z.life) q.1) in (
               g,
@@ -82,7 +91,12 @@ one_ended k t (Some g) is = record { back = back; forth = forth; below = λ i l.
         go (inr d) = (u, set_other t k i h d ∙ e, refl)
 
 from_twice : (f g h : Shape) → IsFrom f g → IsFrom g h → IsFrom f h
-from_twice f g h a b = record { base = b.base ∙ a.base; owned = b.owned ∙ a.owned; length = b.length ∙ a.length; stayed = λ x. a.stayed (b.stayed x) }
+from_twice f g h a b = record {
+  base = b.base ∙ a.base;
+  owned = b.owned ∙ a.owned;
+  length = b.length ∙ a.length;
+  stayed = λ x. a.stayed (b.stayed x);
+}
 
 more_ended : (k count : ℕ) (t u v : List Shape) → Ended k 1 t u → Ended (suc k) count u v → Ended k (suc count) t v
 more_ended k count t u v a b = record {
@@ -115,13 +129,16 @@ module _ (d : Plan) where
       let t : Store = with_memory s (end s.memory k) in
       let r = ends ls t (suc k) in
       record {
-        shapes = more_ended k (length ls) s.memory.shapes t.memory.shapes _ (one_ended k s.memory.shapes (slice_get s.memory.shapes k) refl) r.shapes;
+        shapes = more_ended k (length ls) s.memory.shapes t.memory.shapes _
+            (one_ended k s.memory.shapes (slice_get s.memory.shapes k) refl) r.shapes;
         contents = r.contents;
         heap = r.heap;
       }
 
 module _ (a : Addresses) (d d' : Plan) where
-  pub ends_same : (lengths : List ℕ) (s p : Store) (k : ℕ) → SameMemory s.memory p.memory → SameMemory (end_locals (operations d) s k lengths).memory (end_locals (operations d') p k lengths).memory
+  pub ends_same : (lengths : List ℕ) (s p : Store) (k : ℕ) → SameMemory s.memory p.memory
+      → SameMemory (end_locals (operations d) s k lengths).memory (end_locals (operations d') p k lengths).memory
   unfolding operations
   ends_same [] s p k e = e
-  ends_same (l ∷ ls) s p k e = ends_same ls (with_memory s (end s.memory k)) (with_memory p (end p.memory k)) (suc k) ((memory_agrees_law a).ends s.memory p.memory e k)
+  ends_same (l ∷ ls) s p k e = ends_same ls (with_memory s (end s.memory k)) (with_memory p (end p.memory k)) (suc k)
+      ((memory_agrees_law a).ends s.memory p.memory e k)

@@ -31,12 +31,14 @@ pub also : {A : Type 0} (P Q : A → Type 0) (x : Result A Fault) → WhereOk P 
 also P Q (Ok x) h f = f x h
 also P Q (Err e) h f = tt
 
-pub onward_ok : {A B : Type 0} (P : A → Type 0) (Q : B → Type 0) (x : Result A Fault) (f : A → Result B Fault) → WhereOk P x → ((v : A) → P v → WhereOk Q (f v)) → WhereOk Q (onward x f)
+pub onward_ok : {A B : Type 0} (P : A → Type 0) (Q : B → Type 0) (x : Result A Fault) (f : A → Result B Fault)
+    → WhereOk P x → ((v : A) → P v → WhereOk Q (f v)) → WhereOk Q (onward x f)
 onward_ok P Q (Ok x) f h g = g x h
 onward_ok P Q (Err e) f h g = tt
 
 -- answers that are equal, and of which the first is P
-pub both_ways : {A : Type 0} (P : A → Type 0) (x y : Result A Fault) → Answers ◌≡◌ x y → WhereOk P x → Answers (Both P) x y
+pub both_ways : {A : Type 0} (P : A → Type 0) (x y : Result A Fault) → Answers ◌≡◌ x y → WhereOk P x
+    → Answers (Both P) x y
 both_ways P (Ok x) (Ok y) h g = (h, g)
 both_ways P (Ok x) (Err e) h g = absurd h
 both_ways P (Err (F.Cause c)) y h g = h
@@ -53,10 +55,12 @@ both_false false c e = (refl, e)
 least_top_ge : (start end : ℕ) → end ≤ least_top start end
 unfolding least_top
 least_top_ge start end =
-    cond_both (nat_le (end - start) 4095) end (rounded_up end (2 ^ (bounds_exponent start end + 3))) (λ v. end ≤ v) (λ _. omega arith) (λ _. rounded_up_ge end _ (pow_pos _))
+    cond_both (nat_le (end - start) 4095) end (rounded_up end (2 ^ (bounds_exponent start end + 3))) (λ v. end ≤ v)
+    (λ _. omega arith) (λ _. rounded_up_ge end _ (pow_pos _))
 
 near_itself : (at len : ℕ) → is_near at (at + len) at ≡ true
-near_itself at len = let e : (at + 2 ^ 64 + 1023 - at) % 2 ^ 64 < at + len + 2047 - at = omega arith in grind (arith, nat_tests)
+near_itself at len = let e : (at + 2 ^ 64 + 1023 - at) % 2 ^ 64 < at + len + 2047 - at = omega arith in
+    grind (arith, nat_tests)
 
 module _ (s : List Shape) (functions : ℕ) where
   pub move_good : (v : Value) (by : ℕ) → IsGood s functions v → WhereOk (IsGood s functions) (strict_move v by)
@@ -65,18 +69,31 @@ module _ (s : List Shape) (functions : ℕ) where
   move_good (Fun f) by g = tt
   move_good (Live o low high at p) by g = go (is_near low high ((at + by) % 2 ^ 64)) refl
     where
-      go : (b : Bool) → is_near low high ((at + by) % 2 ^ 64) ≡ b → WhereOk (IsGood s functions) (if b then Ok (Live o low high ((at + by) % 2 ^ 64) p) else unspecified R.Excursion)
-      go true e = record { shape = g.shape; there = g.there; fitted = g.fitted; near = e; word = omega arith; twelve_bits = g.twelve_bits }
+      go : (b : Bool) → is_near low high ((at + by) % 2 ^ 64) ≡ b
+          → WhereOk (IsGood s functions)
+          (if b then Ok (Live o low high ((at + by) % 2 ^ 64) p) else unspecified R.Excursion)
+      go true e = record {
+        shape = g.shape;
+        there = g.there;
+        fitted = g.fitted;
+        near = e;
+        word = omega arith;
+        twelve_bits = g.twelve_bits;
+      }
       go false e = tt
 
   pub narrow_good : (v : Value) (len : ℕ) → IsGood s functions v → WhereOk (IsGood s functions) (strict_narrow v len)
   narrow_good (Int x) len g = g
   narrow_good (Raw a u) len g = g
   narrow_good (Fun f) len g = tt
-  narrow_good (Live o low high at p) len g = go (nat_lt (least_base at (at + len)) low || nat_lt high (least_top at (at + len))) (is_rounding at len) refl refl
+  narrow_good (Live o low high at p) len g =
+      go (nat_lt (least_base at (at + len)) low || nat_lt high (least_top at (at + len))) (is_rounding at len) refl refl
     where
-      go : (b c : Bool) → (nat_lt (least_base at (at + len)) low || nat_lt high (least_top at (at + len))) ≡ b → is_rounding at len ≡ c
-          → WhereOk (IsGood s functions) (if b then unspecified R.Address else if c then unspecified R.Rounding else Ok (Live o at (at + len) at p))
+      go : (b c : Bool) → (nat_lt (least_base at (at + len)) low || nat_lt high (least_top at (at + len))) ≡ b
+          → is_rounding at len ≡ c
+          → WhereOk (IsGood s functions)
+          (if b then unspecified R.Address else if c then unspecified R.Rounding else Ok
+          (Live o at (at + len) at p))
       go true c e f = tt
       go false true e f = tt
       go false false e f =
@@ -89,7 +106,12 @@ module _ (s : List Shape) (functions : ℕ) where
           record {
             shape = g.shape;
             there = g.there;
-            fitted = record { ordered = omega arith; inside = omega (arith, i, t, up); whole = rw x n.0; multiple = rw x n.1 };
+            fitted = record {
+              ordered = omega arith;
+              inside = omega (arith, i, t, up);
+              whole = rw x n.0;
+              multiple = rw x n.1;
+            };
             near = near_itself at len;
             word = g.word;
             twelve_bits = g.twelve_bits;
@@ -107,7 +129,15 @@ module _ (s : List Shape) (functions : ℕ) where
   mask_good (Fun f) bits g = tt
   mask_good (Live o low high at p) bits g =
       let t = g.twelve_bits in
-      record { shape = g.shape; there = g.there; fitted = g.fitted; near = g.near; word = g.word; twelve_bits = omega (arith, t, and_le_l p bits) }
+      record {
+        shape = g.shape;
+        there = g.there;
+        fitted = g.fitted;
+        near = g.near;
+        word = g.word;
+        twelve_bits = omega
+            (arith, t, and_le_l p bits);
+      }
 
   pub address_good : (v : Value) → IsGood s functions v → WhereOk IsWord (get_address Strict s v)
   address_good (Int x) g = g
@@ -115,7 +145,8 @@ module _ (s : List Shape) (functions : ℕ) where
   address_good (Fun f) g = tt
   address_good (Live o low high at p) g = tt
 
-  pub set_good : (v : Value) (to : ℕ) → IsGood s functions v → IsWord to → WhereOk (IsGood s functions) (set_address Strict s v to)
+  pub set_good : (v : Value) (to : ℕ) → IsGood s functions v → IsWord to
+      → WhereOk (IsGood s functions) (set_address Strict s v to)
   set_good (Int x) to g h = g
   set_good (Raw a u) to g h = (h, g.1)
   set_good (Fun f) to g h = tt
@@ -126,7 +157,8 @@ module _ (s : List Shape) (functions : ℕ) where
   base_below f a = omega arith
 
   length_below : (base top : ℕ) → length_between base top < 2 ^ 64
-  length_below base top = cond_both (nat_lt top base) (2 ^ 64 - 1) (min (top - base) (2 ^ 64 - 1)) (λ v. v < 2 ^ 64) (λ _. omega arith) (λ _. omega arith)
+  length_below base top = cond_both (nat_lt top base) (2 ^ 64 - 1) (min (top - base) (2 ^ 64 - 1)) (λ v. v < 2 ^ 64)
+      (λ _. omega arith) (λ _. omega arith)
 
   pub base_good : (v : Value) → WhereOk IsWord (get_base Strict s v)
   base_good (Int x) = omega arith
@@ -156,15 +188,18 @@ module _ (s : List Shape) (functions : ℕ) where
 near_start : (owns : ℕ) → is_near 0 owns 0 ≡ true
 near_start owns = grind (arith, nat_tests)
 
-pub whole_good : (s : List Shape) (functions o p : ℕ) (h : Shape) → slice_get s o ≡ Some h → h.owned ≡ owned h.length → h.length ≤ 2 ^ 40 → p < 4096 → IsGood s functions (Live o 0 h.owned 0 p)
+pub whole_good : (s : List Shape) (functions o p : ℕ) (h : Shape) → slice_get s o ≡ Some h → h.owned ≡ owned h.length
+    → h.length ≤ 2 ^ 40 → p < 4096 → IsGood s functions (Live o 0 h.owned 0 p)
 whole_good s functions o p h there is small twelve = record {
   shape = h;
   there = there;
   fitted = record {
     ordered = omega arith;
     inside = omega arith;
-    whole = let z : h.owned - 0 ≡ h.owned = omega arith in rw z (subst (λ v. owned v ≡ v) (sym is) (owned-owned h.length (omega arith)));
-    multiple = let z : 0 * alignment (h.owned - 0) ≡ 0 = omega arith in subst (λ v. v % alignment (h.owned - 0) ≡ 0) z (mul-mod_left 0 (alignment (h.owned - 0)));
+    whole = let z : h.owned - 0 ≡ h.owned =
+        omega arith in rw z (subst (λ v. owned v ≡ v) (sym is) (owned-owned h.length (omega arith)));
+    multiple = let z : 0 * alignment (h.owned - 0) ≡ 0 = omega arith in subst (λ v. v % alignment (h.owned - 0) ≡ 0)
+        z (mul-mod_left 0 (alignment (h.owned - 0)));
   };
   near = near_start h.owned;
   word = omega arith;

@@ -1,4 +1,5 @@
--- The pointers with which objects begin have bounds that have an encoding wherever their object is aligned, and are near them.
+-- The pointers with which objects begin have bounds that have an encoding wherever their object is aligned, and are
+-- near them.
 use Rattle.std.proofs.Common.{◌≡◌, ℕ, ◌+◌, ◌-◌, ◌*◌, ◌/◌, ◌%◌, ◌^◌, ◌<◌, ◌≤◌, ◌==◌, true, sym, ap, ◌∙◌, subst, inl, inr, arith}
 use Rattle.std.specs.Prelude.{ℤ, pos, negsuc, ◌+ℤ◌, int_lt}
 use Rattle.std.proofs.lemmas.Bool.{cases_lt, and_parts, eqb-true}
@@ -25,7 +26,8 @@ unfolding owned
 long_whole at n e long within fits =
     let M = 2 ^ (e + 3) in
     let am : at % M ≡ 0 = fits.base_multiple in
-    let nm : n % M ≡ 0 = let z : 0 + n ≡ n = omega arith in ap (λ v. v % M) (sym z) ∙ ap (λ v. (v + n) % M) (sym am) ∙ mod-add-mod at M n ∙ fits.top_multiple in
+    let nm : n % M ≡ 0 = let z : 0 + n ≡ n = omega arith in ap (λ v. v % M) (sym z) ∙ ap (λ v. (v + n) % M) (sym am)
+    ∙ mod-add-mod at M n ∙ fits.top_multiple in
     let short = fits.short in
     let f = bounds_exponent 0 n in
     let k = alignment_long n long (omega arith) in
@@ -34,9 +36,14 @@ long_whole at n e long within fits =
       | inl less ↦ absurd (omega (arith, up, short, k.first e less))
       | inr good ↦ good
     ] in
-    let a' : at % 2 ^ (f + 3) ≡ 0 = ap (λ v. v % 2 ^ (f + 3)) (finer at f e le am) ∙ mul-mod_left (at / 2 ^ (e + 3) * 2 ^ (e - f)) (2 ^ (f + 3)) in
-    let n' : n % 2 ^ (f + 3) ≡ 0 = ap (λ v. v % 2 ^ (f + 3)) (finer n f e le nm) ∙ mul-mod_left (n / 2 ^ (e + 3) * 2 ^ (e - f)) (2 ^ (f + 3)) in
-    (subst (λ v. rounded_up n v ≡ n) (sym k.is) (rounded_up_multiple n (2 ^ (f + 3)) (pow_pos (f + 3)) n'), subst (λ v. at % v ≡ 0) (sym k.is) a')
+    let a' : at % 2 ^ (f + 3) ≡ 0 = ap (λ v. v % 2 ^ (f + 3)) (finer at f e le am) ∙ mul-mod_left
+    (at / 2 ^ (e + 3) * 2 ^ (e - f)) (2 ^ (f + 3)) in
+    let n' : n % 2 ^ (f + 3) ≡ 0 = ap (λ v. v % 2 ^ (f + 3)) (finer n f e le nm) ∙ mul-mod_left
+    (n / 2 ^ (e + 3) * 2 ^ (e - f)) (2 ^ (f + 3)) in (
+      subst (λ v. rounded_up n v ≡ n) (sym k.is) (rounded_up_multiple n (2 ^ (f + 3)) (pow_pos (f + 3)) n'),
+      subst
+          (λ v. at % v ≡ 0) (sym k.is) a',
+    )
 
 encodable_whole : (at n : ℕ) → Encodable at (at + n) → IsWhole at n
 encodable_whole at n e =
@@ -54,7 +61,8 @@ exact_whole at n within e =
     let b : least_base at (at + n) ≡ at = eqb-true (least_base at (at + n)) at t.0 in
     let u : least_top at (at + n) ≡ at + n = eqb-true (least_top at (at + n)) (at + n) t.1 in
     let l = least_functions at (at + n) (omega arith) within in
-    encodable_whole at n (subst (λ v. Encodable at v) u (subst (λ v. Encodable v (least_top at (at + n))) b l.encodable))
+    encodable_whole at n (subst (λ v. Encodable at v) u
+    (subst (λ v. Encodable v (least_top at (at + n))) b l.encodable))
 
 pub exact_fitted : (owns at n : ℕ) → at + n ≤ owns → at + n ≤ 2 ^ 64 → is_exact at n ≡ true → IsFitted owns at (at + n)
 exact_fitted owns at n inside within e =
@@ -64,7 +72,8 @@ exact_fitted owns at n inside within e =
 
 -- ---- addresses
 
-kept_near : (low n : ℕ) (z : ℤ) → low + n ≤ 2 ^ 41 → int_lt (pos low) (z +ℤ pos 1024) ≡ true → int_lt z (pos (low + n + 1024)) ≡ true → (kept_of z + 2 ^ 64 + 1023 - low) % 2 ^ 64 < low + n + 2047 - low
+kept_near : (low n : ℕ) (z : ℤ) → low + n ≤ 2 ^ 41 → int_lt (pos low) (z +ℤ pos 1024) ≡ true
+    → int_lt z (pos (low + n + 1024)) ≡ true → (kept_of z + 2 ^ 64 + 1023 - low) % 2 ^ 64 < low + n + 2047 - low
 unfolding kept_of
 kept_near low n (pos k) small a b =
     let x : low < k + 1024 = grind (arith, ints, a) in
@@ -74,7 +83,8 @@ kept_near low n (negsuc k) small a b =
     let x : low + k < 1023 = grind (arith, ints, a) in
     omega (arith, x)
 
-pub near_kept : (low n : ℕ) (z : ℤ) → low + n ≤ 2 ^ 41 → is_near low n z ≡ true → pointers.is_near low (low + n) (kept_of z) ≡ true
+pub near_kept : (low n : ℕ) (z : ℤ) → low + n ≤ 2 ^ 41 → is_near low n z ≡ true
+    → pointers.is_near low (low + n) (kept_of z) ≡ true
 near_kept low n z small e =
     let t = and_parts (int_lt (pos low) (z +ℤ pos 1024)) (int_lt z (pos (low + n + 1024))) e in
     let k = kept_near low n z small t.0 t.1 in

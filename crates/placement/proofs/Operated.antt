@@ -22,11 +22,13 @@ use Rattle.ck_base.specs.World.{World}
 use Rattle.placement.specs.Relations.{IsWord, Both, Relation, Keeps}
 
 -- both answers agree, and then so do those that are made of them
-pub on_both : {M N A B : Type 0} (ops : Operations M) (pops : Operations N) (P : A → Type 0) (Q : B → Type 0) (x y : Result A Fault) (f g : A → Result B Fault) → Answers (Both P) x y
+pub on_both : {M N A B : Type 0} (ops : Operations M) (pops : Operations N) (P : A → Type 0) (Q : B → Type 0)
+    (x y : Result A Fault) (f g : A → Result B Fault) → Answers (Both P) x y
     → ((v : A) → P v → Answers (Both Q) (f v) (g v)) → Answers (Both Q) (on_ok ops f x) (on_ok pops g y)
 on_both ops pops P Q (Ok v) (Ok w) f g h q = subst (λ z. Answers (Both Q) (f v) (g z)) h.0 (q v h.1)
 on_both ops pops P Q (Ok v) (Err e) f g h q = absurd h
-on_both ops pops P Q (Err (F.Cause c)) y f g h q = subst (λ z. Answers (Both Q) (Err (F.Cause c)) (on_ok pops g z)) (sym h) refl
+on_both ops pops P Q (Err (F.Cause c)) y f g h q = subst (λ z. Answers (Both Q) (Err (F.Cause c)) (on_ok pops g z))
+    (sym h) refl
 on_both ops pops P Q (Err F.Outside) y f g h q = tt
 on_both ops pops P Q (Err (F.Unspecified u)) y f g h q = tt
 
@@ -41,7 +43,8 @@ unasked (Err (F.Cause c)) y h = h
 unasked (Err F.Outside) y h = tt
 unasked (Err (F.Unspecified u)) y h = tt
 
-module _ {M N : Type 0} {r : Relation M N} {ops : Operations M} {pops : Operations N} {globals functions : ℕ} {funs : List tree.Fun} (k : Keeps r ops pops globals functions funs) (m : M) where
+module _ {M N : Type 0} {r : Relation M N} {ops : Operations M} {pops : Operations N} {globals functions : ℕ}
+    {funs : List tree.Fun} (k : Keeps r ops pops globals functions funs) (m : M) where
   abbrev Good : Value → Type 0
   Good v = r.good m v
 
@@ -61,18 +64,23 @@ module _ {M N : Type 0} {r : Relation M N} {ops : Operations M} {pops : Operatio
   read_good (Capability signed) x g = g
 
   module _ (w : World) (objects first frame : ℕ) (n : N) (e : r.stand objects first frame m n) where
-    pub compared : (op : CmpOp) (j : Kind) (x y : Value) → Good x → Good y → Answers ◌≡◌ (compare_by ops m op j x y) (compare_by pops n op j x y)
+    pub compared : (op : CmpOp) (j : Kind) (x y : Value) → Good x → Good y
+        → Answers ◌≡◌ (compare_by ops m op j x y) (compare_by pops n op j x y)
     compared op (Plain i) x y g h = refl
     compared op (Capability signed) x y g h = k.comparisons objects first frame m n e op signed x y g h
 
     pub tested : (j : Kind) (x : Value) → Good x → Answers ◌≡◌ (is_true ops m j x) (is_true pops n j x)
     tested j x g = compared Ne j x (zero_of j) g (zero_good j)
 
-    wrapped_answer : (i : IntKind) (x : Value) → Good x → Answers (Both Good) (on_ok ops (λ a. Ok (Int (wrapped i (pos a)))) (ops.address m x)) (on_ok pops (λ a. Ok (Int (wrapped i (pos a)))) (pops.address n x))
-    wrapped_answer i x g = on_both ops pops IsWord Good _ _ _ _ (k.addresses objects first frame m n e x g) (λ a h. (refl, k.words m _ (wrapped-below i (pos a))))
+    wrapped_answer : (i : IntKind) (x : Value) → Good x
+        → Answers (Both Good) (on_ok ops (λ a. Ok (Int (wrapped i (pos a)))) (ops.address m x))
+        (on_ok pops (λ a. Ok (Int (wrapped i (pos a)))) (pops.address n x))
+    wrapped_answer i x g = on_both ops pops IsWord Good _ _ _ _ (k.addresses objects first frame m n e x g)
+        (λ a h. (refl, k.words m _ (wrapped-below i (pos a))))
 
     to_int_answer : (i : IntKind) (x : Value) → Good x → Answers (Both Good) (to_int ops m i x) (to_int pops n i x)
-    to_int_answer int.Bool x g = on_both ops pops Anything Good _ _ _ _ (unasked _ _ (tested pointer x g)) (λ b h. (refl, truth_good b))
+    to_int_answer int.Bool x g = on_both ops pops Anything Good _ _ _ _ (unasked _ _ (tested pointer x g))
+        (λ b h. (refl, truth_good b))
     to_int_answer int.I8 x g = wrapped_answer int.I8 x g
     to_int_answer int.U8 x g = wrapped_answer int.U8 x g
     to_int_answer int.I16 x g = wrapped_answer int.I16 x g
@@ -82,7 +90,8 @@ module _ {M N : Type 0} {r : Relation M N} {ops : Operations M} {pops : Operatio
     to_int_answer int.I64 x g = wrapped_answer int.I64 x g
     to_int_answer int.U64 x g = wrapped_answer int.U64 x g
 
-    pub converts : (old new : Kind) (x : Value) → Good x → Answers (Both Good) (convert_by ops m old new x) (convert_by pops n old new x)
+    pub converts : (old new : Kind) (x : Value) → Good x → Answers (Both Good) (convert_by ops m old new x)
+        (convert_by pops n old new x)
     converts (Plain i) (Plain j) x g = (refl, k.words m _ (converted-below i j (number_of x)))
     converts (Plain i) (Capability signed) x g = (refl, k.nulls m _ (k.word m x g))
     converts (Capability signed) (Plain j) x g = to_int_answer j x g
@@ -92,42 +101,59 @@ module _ {M N : Type 0} {r : Relation M N} {ops : Operations M} {pops : Operatio
     numbered (Plain i) x g = (refl, k.word m x g)
     numbered (Capability signed) x g = k.addresses objects first frame m n e x g
 
-    integers : (op : IntOp) (i : IntKind) (count : Kind) (x y : Value) → Good x → Good y → Answers (Both Good) (int_by ops m op i count x y) (int_by pops n op i count x y)
+    integers : (op : IntOp) (i : IntKind) (count : Kind) (x y : Value) → Good x → Good y
+        → Answers (Both Good) (int_by ops m op i count x y) (int_by pops n op i count x y)
     integers op i count x y g h = on_both ops pops IsWord Good _ _ _ _ (numbered count y h) (λ b q.
-        on_both ops pops IsWord Good _ _ _ _ (k.ints op i (int_kind count) (number_of x) b) (λ v z. (refl, k.words m v z)))
+        on_both ops pops IsWord Good _ _ _ _ (k.ints op i (int_kind count) (number_of x) b)
+        (λ v z. (refl, k.words m v z)))
 
     of_two : (right : Bool) (x y : Value) → Good x → Good y → Good (if right then y else x)
     of_two true x y g h = h
     of_two false x y g h = g
 
-    derives : (op : IntOp) (signed : Bool) (count : Kind) (right : Bool) (x y : Value) → Good x → Good y → Answers (Both Good) (derive_by ops m op signed count right x y) (derive_by pops n op signed count right x y)
-    derives op signed count right x y g h = on_both ops pops IsWord Good _ _ _ _ (k.addresses objects first frame m n e x g) (λ a p.
+    derives : (op : IntOp) (signed : Bool) (count : Kind) (right : Bool) (x y : Value) → Good x → Good y
+        → Answers (Both Good) (derive_by ops m op signed count right x y) (derive_by pops n op signed count right x y)
+    derives op signed count right x y g h =
+        on_both ops pops IsWord Good _ _ _ _ (k.addresses objects first frame m n e x g) (λ a p.
         on_both ops pops IsWord Good _ _ _ _ (numbered count y h) (λ b q.
         on_both ops pops IsWord Good _ _ _ _ (k.ints op (address_kind signed) (int_kind count) a b) (λ v z.
-        k.works objects first frame m n e Set_address (if right then y else x) (Int v) (of_two right x y g h) (k.words m v z))))
+        k.works objects first frame m n e Set_address (if right then y else x) (Int v) (of_two right x y g h)
+        (k.words m v z))))
 
     -- a pointer that is moved where it points to an object, and a result that derives from it elsewhere
-    moves_or_derives : (live : Bool) (minus : Bool) (by : Value) (to : Value) (count : Kind) (op : IntOp) (signed right : Bool) (x y : Value) → Good by → Good to → Good x → Good y
-        → Answers (Both Good) (if live then on_ok ops (move_by ops m minus to) (number_by ops m count by) else derive_by ops m op signed count right x y)
-        (if live then on_ok pops (move_by pops n minus to) (number_by pops n count by) else derive_by pops n op signed count right x y)
+    moves_or_derives : (live : Bool) (minus : Bool) (by : Value) (to : Value) (count : Kind) (op : IntOp)
+        (signed right : Bool) (x y : Value) → Good by → Good to → Good x → Good y
+        → Answers (Both Good) (if live then on_ok ops (move_by ops m minus to) (number_by ops m count by)
+        else derive_by ops m op signed count right x y)
+        (if live then on_ok pops (move_by pops n minus to) (number_by pops n count by) else derive_by pops n op
+        signed count right x y)
     moves_or_derives true minus by to count op signed right x y gb gt gx gy =
-        on_both ops pops IsWord Good _ _ _ _ (numbered count by gb) (λ a p. k.offsets objects first frame m n e to (steps_of ops minus a) gt)
+        on_both ops pops IsWord Good _ _ _ _ (numbered count by gb)
+        (λ a p. k.offsets objects first frame m n e to (steps_of ops minus a) gt)
     moves_or_derives false minus by to count op signed right x y gb gt gx gy = derives op signed count right x y gx gy
 
-    addressed_or_derives : (live : Bool) (by : Value) (to : Value) (count : Kind) (op : IntOp) (signed right : Bool) (x y : Value) → Good by → Good to → Good x → Good y
-        → Answers (Both Good) (if live then on_ok ops (move_by ops m false to) (ops.address m by) else derive_by ops m op signed count right x y)
-        (if live then on_ok pops (move_by pops n false to) (pops.address n by) else derive_by pops n op signed count right x y)
+    addressed_or_derives : (live : Bool) (by : Value) (to : Value) (count : Kind) (op : IntOp) (signed right : Bool)
+        (x y : Value) → Good by → Good to → Good x → Good y
+        → Answers (Both Good) (if live then on_ok ops (move_by ops m false to) (ops.address m by) else derive_by ops
+        m op signed count right x y)
+        (if live then on_ok pops (move_by pops n false to) (pops.address n by) else derive_by pops n op signed count
+        right x y)
     addressed_or_derives true by to count op signed right x y gb gt gx gy =
-        on_both ops pops IsWord Good _ _ _ _ (k.addresses objects first frame m n e by gb) (λ a p. k.offsets objects first frame m n e to (steps_of ops false a) gt)
+        on_both ops pops IsWord Good _ _ _ _ (k.addresses objects first frame m n e by gb)
+        (λ a p. k.offsets objects first frame m n e to (steps_of ops false a) gt)
     addressed_or_derives false by to count op signed right x y gb gt gx gy = derives op signed count right x y gx gy
 
     capabilities : (op : IntOp) (signed : Bool) (count : Kind) (right plain : Bool) (x y : Value) → Good x → Good y
-        → Answers (Both Good) (capability_by ops m op signed count right plain x y) (capability_by pops n op signed count right plain x y)
-    capabilities Add signed count false true x y g h = moves_or_derives (is_live ops x) false y x count Add signed false x y h g g h
-    capabilities Add signed count true true x y g h = addressed_or_derives (is_live ops y) x y count Add signed true x y g h g h
+        → Answers (Both Good) (capability_by ops m op signed count right plain x y)
+        (capability_by pops n op signed count right plain x y)
+    capabilities Add signed count false true x y g h = moves_or_derives (is_live ops x) false y x count Add signed
+        false x y h g g h
+    capabilities Add signed count true true x y g h = addressed_or_derives (is_live ops y) x y count Add signed true
+        x y g h g h
     capabilities Add signed count false false x y g h = derives Add signed count false x y g h
     capabilities Add signed count true false x y g h = derives Add signed count true x y g h
-    capabilities Sub signed count false true x y g h = moves_or_derives (is_live ops x) true y x count Sub signed false x y h g g h
+    capabilities Sub signed count false true x y g h = moves_or_derives (is_live ops x) true y x count Sub signed
+        false x y h g g h
     capabilities Sub signed count false false x y g h = derives Sub signed count false x y g h
     capabilities Sub signed count true plain x y g h = derives Sub signed count true x y g h
     capabilities Mul signed count right plain x y g h = derives Mul signed count right x y g h
@@ -139,24 +165,33 @@ module _ {M N : Type 0} {r : Relation M N} {ops : Operations M} {pops : Operatio
     capabilities Shl signed count right plain x y g h = derives Shl signed count right x y g h
     capabilities Shr signed count right plain x y g h = derives Shr signed count right x y g h
 
-    sums : (size : ℕ) (minus : Bool) (index : Kind) (x y : Value) → Good x → Good y → Answers (Both Good) (plus_by ops m size minus index x y) (plus_by pops n size minus index x y)
-    sums size minus index x y g h = on_both ops pops IsWord Good _ _ _ _ (numbered index y h) (λ a p. k.offsets objects first frame m n e x (steps_of ops minus (a * size)) g)
+    sums : (size : ℕ) (minus : Bool) (index : Kind) (x y : Value) → Good x → Good y
+        → Answers (Both Good) (plus_by ops m size minus index x y) (plus_by pops n size minus index x y)
+    sums size minus index x y g h = on_both ops pops IsWord Good _ _ _ _ (numbered index y h)
+        (λ a p. k.offsets objects first frame m n e x (steps_of ops minus (a * size)) g)
 
-    distances : (size : ℕ) (x y : Value) → Good x → Good y → Answers (Both Good) (difference_by ops m size x y) (difference_by pops n size x y)
-    distances size x y g h = on_both ops pops Anything Good _ _ _ _ (unasked _ _ (k.differences objects first frame m n e x y g h)) (λ d p.
+    distances : (size : ℕ) (x y : Value) → Good x → Good y → Answers (Both Good) (difference_by ops m size x y)
+        (difference_by pops n size x y)
+    distances size x y g h =
+        on_both ops pops Anything Good _ _ _ _ (unasked _ _ (k.differences objects first frame m n e x y g h)) (λ d p.
         (refl, k.words m _ (IsKept-below int.I64 _ (IsKept-binary_of Div int.I64 d size))))
 
-    pub operates : (op : Operation) (x y : Value) → Good x → Good y → Answers (Both Good) (operate_by ops w op m x y) (operate_by pops w op n x y)
+    pub operates : (op : Operation) (x y : Value) → Good x → Good y → Answers (Both Good) (operate_by ops w op m x y)
+        (operate_by pops w op n x y)
     operates (Whole op i count) x y g h = integers op i count x y g h
     operates (Derived op signed count right plain) x y g h = capabilities op signed count right plain x y g h
     operates (Moved size minus false index) x y g h = sums size minus index x y g h
     operates (Moved size minus true index) x y g h = sums size minus index y x h g
     operates (Apart size) x y g h = distances size x y g h
 
-    pub signs : (sign : Sign) (j : Kind) (x : Value) → Good x → Answers (Both Good) (sign_by ops w sign j m x) (sign_by pops w sign j n x)
+    pub signs : (sign : Sign) (j : Kind) (x : Value) → Good x → Answers (Both Good) (sign_by ops w sign j m x)
+        (sign_by pops w sign j n x)
     signs Positive (Plain i) x g = (refl, g)
     signs Negative (Plain i) x g = integers Sub i (Plain i) (Int 0) x (k.words m 0 (omega arith)) g
     signs Complement (Plain i) x g = integers Xor i (Plain i) (Int (2 ^ 64 - 1)) x (k.words m _ (omega arith)) g
-    signs Positive (Capability signed) x g = derives Xor signed (Capability signed) true (null_at 0) x (k.nulls m 0 (omega arith)) g
-    signs Negative (Capability signed) x g = derives Sub signed (Capability signed) true (null_at 0) x (k.nulls m 0 (omega arith)) g
-    signs Complement (Capability signed) x g = derives Xor signed (Capability signed) true (null_at (2 ^ 64 - 1)) x (k.nulls m _ (omega arith)) g
+    signs Positive (Capability signed) x g = derives Xor signed (Capability signed) true (null_at 0) x
+        (k.nulls m 0 (omega arith)) g
+    signs Negative (Capability signed) x g = derives Sub signed (Capability signed) true (null_at 0) x
+        (k.nulls m 0 (omega arith)) g
+    signs Complement (Capability signed) x g = derives Xor signed (Capability signed) true (null_at (2 ^ 64 - 1)) x
+        (k.nulls m _ (omega arith)) g

@@ -14,11 +14,13 @@ all_from : (P : ℕ → Type 0) (xs : List ℕ) → ((j a : ℕ) → slice_get x
 all_from P [] h = tt
 all_from P (x ∷ xs) h = (h 0 x refl, all_from P xs (λ j a e. h (suc j) a e))
 
-front_and_last : (P : ℕ → Type 0) (xs : List ℕ) (y : ℕ) → ((j a : ℕ) → slice_get (xs ++ y ∷ []) j ≡ Some a → P a) → AllByRecursion P xs × P y
+front_and_last : (P : ℕ → Type 0) (xs : List ℕ) (y : ℕ) → ((j a : ℕ) → slice_get (xs ++ y ∷ []) j ≡ Some a → P a)
+    → AllByRecursion P xs × P y
 front_and_last P [] y h = (tt, h 0 y refl)
 front_and_last P (x ∷ xs) y h = let r = front_and_last P xs y (λ j a e. h (suc j) a e) in ((h 0 x refl, r.0), r.1)
 
-after_operands : (k : ℕ) (kind : ExprKind) → ((j a : ℕ) → slice_get (operands kind) j ≡ Some a → a < k) → IsAfterOperands k kind
+after_operands : (k : ℕ) (kind : ExprKind) → ((j a : ℕ) → slice_get (operands kind) j ≡ Some a → a < k)
+    → IsAfterOperands k kind
 after_operands k (exprs.Load a) h = h 0 a refl
 after_operands k (exprs.Decay a) h = h 0 a refl
 after_operands k (exprs.Deref a) h = h 0 a refl

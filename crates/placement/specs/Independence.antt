@@ -1,4 +1,5 @@
--- Placement independence: where the meaning without addresses is defined, it is the meaning at the addresses of each legal map.
+-- Placement independence: where the meaning without addresses is defined, it is the meaning at the addresses of each
+-- legal map.
 use Rattle.std.specs.Prelude.{ℕ, ◌<◌}
 use Rattle.std.specs.List.{AllByRecursion}
 use Rattle.ck_base.specs.World.{World}
@@ -15,4 +16,5 @@ HasBytes w = AllByRecursion (λ b. b < 256) w.bytes
 
 -- Of every sound program, legal map, input and number of turns
 abbrev pub PlacementIndependence : Type 0
-PlacementIndependence = (p : Typed) → Sound p → (m : Map) → Legal p m → (w : World) → HasBytes w → (turns : ℕ) → IsDefined (strict p w turns).ending → IsAsMeant (strict p w turns) (placed p m w turns)
+PlacementIndependence = (p : Typed) → Sound p → (m : Map) → Legal p m → (w : World) → HasBytes w → (turns : ℕ)
+    → IsDefined (strict p w turns).ending → IsAsMeant (strict p w turns) (placed p m w turns)

@@ -50,11 +50,13 @@ pub record KeepsShapes (s t : List Shape) : Type 0 where
 
 -- and no new one that has not returned takes a byte of the stack, which has this base and length
 pub record KeepsStack (stack size : ℕ) (s t : List Shape) : Type 0 where
-  pub fresh : (i : ℕ) (h : Shape) → slice_get s i ≡ None → slice_get t i ≡ Some h → IsNotReturned h.life → Apart h.base h.owned stack size
+  pub fresh : (i : ℕ) (h : Shape) → slice_get s i ≡ None → slice_get t i ≡ Some h → IsNotReturned h.life
+      → Apart h.base h.owned stack size
 
 -- no object that has not returned takes one of these bytes
 pub record IsClear (shapes : List Shape) (from length : ℕ) : Type 0 where
-  pub clear : (i : ℕ) (h : Shape) → slice_get shapes i ≡ Some h → IsNotReturned h.life → Apart h.base h.owned from length
+  pub clear : (i : ℕ) (h : Shape) → slice_get shapes i ≡ Some h → IsNotReturned h.life
+      → Apart h.base h.owned from length
 
 -- ---- where text, heap and stack lie
 
@@ -79,7 +81,8 @@ abbrev pub IsAlive : List Shape → ℕ → Type 0
 IsAlive shapes i = (h : Shape) × (slice_get shapes i ≡ Some h) × IsNotReturned h.life
 
 module _ (globals functions : ℕ) (a : Addresses) (stack size : ℕ) where
-  -- Memory of a strict run, and that of a placed one in a call whose objects are so many from a number on and whose frame has this address
+  -- Memory of a strict run, and that of a placed one in a call whose objects are so many from a number on and whose
+  -- frame has this address
   pub record Stand (objects first frame : ℕ) (s p : Store) : Type 0 where
     pub same : SameMemory s.memory p.memory
     pub spread : IsSpread p.memory.shapes functions a
@@ -119,8 +122,10 @@ pub record LocalFits (f : Frame) (n length : ℕ) : Type 0 where
 pub record FrameFits (lengths : List ℕ) (f : Frame) : Type 0 where
   pub some : 0 < f.align
   pub locals : (n length : ℕ) → slice_get lengths n ≡ Some length → LocalFits f n length
-  pub apart : (n n' length length' : ℕ) → slice_get lengths n ≡ Some length → slice_get lengths n' ≡ Some length' → (n ≡ n' → ⊥) → Apart (local_at f n) (owned length) (local_at f n') (owned length')
+  pub apart : (n n' length length' : ℕ) → slice_get lengths n ≡ Some length → slice_get lengths n' ≡ Some length'
+      → (n ≡ n' → ⊥) → Apart (local_at f n) (owned length) (local_at f n') (owned length')
 
 -- each function of a program has one
 abbrev pub FramesFit : List Fun → List Frame → Type 0
-FramesFit funs frames = (i : ℕ) (f : Fun) (g : Frame) → slice_get funs i ≡ Some f → slice_get frames i ≡ Some g → FrameFits f.objects g
+FramesFit funs frames = (i : ℕ) (f : Fun) (g : Frame) → slice_get funs i ≡ Some f → slice_get frames i ≡ Some g
+    → FrameFits f.objects g
