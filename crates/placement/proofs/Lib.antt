@@ -23,3 +23,4 @@ pub mod FitStatements
 pub mod Initial
 pub mod TypedFits
 pub mod Independent
+mod Rows

@@ -20,9 +20,8 @@ IsStack e = ⊥
 abbrev pub Begins : List ℕ → List ℕ → Type 0
 Begins xs ys = (rest : List ℕ) × (xs ++ rest ≡ ys)
 
--- of a strict run and a placed one: the strict one leaves open what follows; they come to the same; or the placed
--- one ends for want of
--- stack, and has put the beginning of what the strict one puts
+-- of a strict run and a placed one: the strict one leaves open what follows; they come to the same; or the placed one
+-- ends for want of stack, and has put the beginning of what the strict one puts
 abbrev pub Agrees : Fate → Fate → Type 0
 Agrees o p = IsOpen o.ending ⊎ ((p ≡ o) ⊎ (IsStack p.ending × Begins p.done.output o.done.output))
 
@@ -37,7 +36,6 @@ IsDefined (ending.Outside pos) = ⊥
 IsDefined e = Unit {0}
 
 -- A placed run has the output of the strict one, takes as many bytes and ends as it does; or it ends for want of
--- stack, and its output is
--- the beginning of the strict run's
+-- stack, and its output is the beginning of the strict run's
 abbrev pub IsAsMeant : Outcome Ending → Outcome Ending → Type 0
 IsAsMeant o p = (p ≡ o) ⊎ (IsStack p.ending × Begins p.output o.output)

@@ -19,10 +19,8 @@ abbrev pub Both : {A : Type 0} → (A → Type 0) → A → A → Type 0
 Both P x y = (x ≡ y) × P x
 
 -- Between two memories: what values a run over the first one has; that the two stand for one another in a call whose
--- objects are so many
--- from a number on, and whose frame has this address in the second one; and that the second two come of the first
--- two by running on in
--- one call
+-- objects are so many from a number on, and whose frame has this address in the second one; and that the second two
+-- come of the first two by running on in one call
 pub record Relation (M N : Type 0) : Type 1 where
   pub good : M → Value → Type 0
   pub stand : (objects first frame : ℕ) → M → N → Type 0
@@ -53,9 +51,8 @@ module _ {M N : Type 0} (r : Relation M N) where
     abbrev pub Standing : ((objects first frame : ℕ) → M → N → Type 0) → Type 0
     Standing Q = (objects first frame : ℕ) (m : M) (n : N) → r.stand objects first frame m n → Q objects first frame m n
 
-    -- a call of function i, which has objects of these lengths, where the second run has a frame for it: the
-    -- memories stand for one
-    -- another in the call, and when its objects end they do so in the caller again
+    -- a call of function i, which has objects of these lengths, where the second run has a frame for it: the memories
+    -- stand for one another in the call, and when its objects end they do so in the caller again
     pub record Entry (objects first frame : ℕ) (m : M) (n : N) (i : ℕ) (lengths : List ℕ) (at here : ℕ) : Type 0 where
       pub number : ops.count m ≡ pops.count n
       pub stand : r.stand (length lengths) (ops.count m) here (add_locals ops m at i 0 lengths)
