@@ -65,6 +65,7 @@ fn decode_anew(word: u32) -> Decoded
     Decoded { word, instruction }
 }
 
+#[inline(always)]
 fn permits(perms: u16, bit: u32) -> bool
     requires { bit < 16 }
     ensures { result ≡ permits perms bit }
@@ -73,6 +74,7 @@ fn permits(perms: u16, bit: u32) -> bool
 }
 
 /// The bytes of an access.
+#[inline(always)]
 fn size(a: Access) -> u8
     ensures { result ≡ size a }
 {
@@ -84,6 +86,7 @@ fn size(a: Access) -> u8
 }
 
 /// Whether the permissions are enough for an access.
+#[inline(always)]
 fn is_permitted(perms: u16, a: Access) -> bool
     ensures load { IsTrue result → (loads a && lacks perms LOAD) ≡ false }
     ensures store { IsTrue result → (stores a && lacks perms STORE) ≡ false }
@@ -100,6 +103,7 @@ fn is_permitted(perms: u16, a: Access) -> bool
 
 impl Bounds {
     /// Whether the fields give these bounds by their block; where they do not, they may give them all the same.
+    #[inline(always)]
     fn are_of(&self, f: Fields) -> bool
         ensures base { IsTrue result → base_at f f.address ≡ self.now.base }
         ensures top { IsTrue result → top_at f f.address ≡ self.now.top }
@@ -120,6 +124,7 @@ impl Bounds {
     }
 
     /// Whether an access passes its check.
+    #[inline(always)]
     fn allow(&self, c: Cap, at: u64, a: Access) -> bool
         requires access { IsAccess a }
         requires base { base c ≡ self.now.base }
@@ -150,6 +155,7 @@ impl Bounds {
 }
 
 /// The address, or the first cause by which the access fails there. The bounds become those of the capability.
+#[inline(always)]
 pub fn check(kept: &mut Bounds, c: Cap, at: u64, a: Access) -> Result<u64, Cause>
     requires { IsAccess a }
     ensures { result ≡ checked c at a }
@@ -175,16 +181,19 @@ impl Kept {
     }
 
     /// The bounds of the counter.
+    #[inline(always)]
     pub fn counter(&mut self) -> &mut Bounds {
         &mut self.counter
     }
 
     /// The bounds of what a register holds.
+    #[inline(always)]
     pub fn held(&mut self, r: Reg) -> &mut Bounds {
         &mut self.held[r.number() as usize]
     }
 
     /// The instruction of the word at an address, and None exactly where it has none.
+    #[inline(always)]
     pub fn decode(&mut self, at: u64, word: u32) -> Option<Instr>
         ensures { result ≡ decode_of word }
     {

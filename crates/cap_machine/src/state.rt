@@ -10,12 +10,14 @@ use cap_ops::{Cap, Cause, UNSEALED, add, null, seal_entry};
 use rv_instr::Reg;
 
 /// The address of a capability.
+#[inline(always)]
 pub fn address(c: Cap) -> u64
     ensures { result ≡ c.fields.address }
 {
     c.fields.address
 }
 
+#[inline(always)]
 fn is_usable(c: Cap) -> bool
     ensures { result ≡ usable c }
 {
@@ -24,6 +26,7 @@ fn is_usable(c: Cap) -> bool
 
 /// The counter at the next instruction. Within a block of 2048 addresses the bounds stay.
 #[tactic(auto, using(crate::proofs::KeptBounds::moved_in_block))]
+#[inline(always)]
 fn next_counter(c: Cap) -> Cap
     ensures { result ≡ added c 4 }
 {
@@ -39,6 +42,7 @@ fn next_counter(c: Cap) -> Cap
 
 impl Machine {
     /// The capability that a register holds; register 0 is null.
+    #[inline(always)]
     pub fn register(&self, r: Reg) -> Cap
         ensures { result ≡ register self.now r }
     {

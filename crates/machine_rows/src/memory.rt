@@ -178,17 +178,29 @@ fn assert_lent(rt: &impl Abort, mem: &mut Mem) {
     assert!(rt; mem.set_cap(66_560, BITS, true));
     assert!(rt; has_last_caps(mem, (BITS, true), (BITS, true)));
     assert!(rt; lent_number(mem, 66_544) == Some(BITS));
-    assert!(rt; has_last_caps(mem, (BITS, true), (BITS, true)), "lent for reading");
+    assert!(rt;
+        has_last_caps(mem, (BITS, true), (BITS, true)),
+        "lent for reading"
+    );
     assert!(rt; mem.granule_mut(66_544).is_some());
-    assert!(rt; has_last_caps(mem, (BITS, false), (BITS, true)), "lent for writing");
+    assert!(rt;
+        has_last_caps(mem, (BITS, false), (BITS, true)),
+        "lent for writing"
+    );
 }
 
 fn assert_lent_outside(rt: &impl Abort, mem: &mut Mem) {
     assert!(rt; lent_number(mem, 66_576).is_none());
     assert!(rt; !write_lent(mem, 66_576, 7));
-    assert!(rt; has_last_caps(mem, (BITS, false), (BITS, true)), "nothing changed");
+    assert!(rt;
+        has_last_caps(mem, (BITS, false), (BITS, true)),
+        "nothing changed"
+    );
     assert!(rt; write_lent(mem, 66_560, 7));
-    assert!(rt; has_last_caps(mem, (BITS, false), (BITS + 7, false)), "written");
+    assert!(rt;
+        has_last_caps(mem, (BITS, false), (BITS + 7, false)),
+        "written"
+    );
 }
 
 #[test]

@@ -67,6 +67,7 @@ impl Area {
     }
 
     /// Whether the address lies in the region.
+    #[inline(always)]
     pub fn has(&self, at: u64) -> bool
         ensures { result ≡ has self.now at }
     {
@@ -74,6 +75,7 @@ impl Area {
     }
 
     /// The granule of an address.
+    #[inline(always)]
     pub fn granule(&self, at: u64) -> &[u8; 16]
         requires place { IsTrue (has self.now at) }
         ensures value { granule_bytes result.now ≡ bytes_in self.now (at / 16 * 16) 16 }
@@ -83,6 +85,7 @@ impl Area {
     }
 
     /// The tag of the granule of an address.
+    #[inline(always)]
     pub fn tag(&self, at: u64) -> bool
         requires { IsTrue (has self.now at) }
         ensures { result ≡ tag_in self.now at }
@@ -103,6 +106,7 @@ impl Area {
     }
 
     /// The little-endian number of `n` bytes of half a granule from an address on.
+    #[inline(always)]
     pub fn number(&self, at: u64, n: u8) -> u64
         requires place { IsTrue (has self.now at) }
         requires within { at % 8 + n ≤ 8 }

@@ -51,6 +51,7 @@ impl Mem {
 
     /// The little-endian number of `n` bytes at an address, where `n` is 1, 2, 4 or 8 and divides the address. None exactly
     /// where the address is outside the regions.
+    #[inline]
     pub fn read(&self, at: u64, n: u8) -> Option<u64>
         requires size { IsAccessSize n }
         requires aligned { at % n ≡ 0 }

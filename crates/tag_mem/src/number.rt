@@ -5,6 +5,7 @@ ghost use Rattle.tag_mem.specs.Granules.{granule_bytes};
 ghost use Rattle.tag_mem.specs.Numbers.{little_number};
 
 /// The number that 16 bytes spell, the lowest first.
+#[inline(always)]
 pub fn whole_number(bytes: &[u8; 16]) -> u128
     ensures { result ≡ little_number (granule_bytes bytes.now) }
 {
@@ -12,6 +13,7 @@ pub fn whole_number(bytes: &[u8; 16]) -> u128
 }
 
 /// The number that the 8 bytes of one half of a granule spell.
+#[inline(always)]
 pub fn half_number(bytes: &[u8; 16], half: usize) -> u64
     requires { half < 2 }
     ensures { result ≡ little_number (take 8 (drop (8 * half) (granule_bytes bytes.now))) }
@@ -21,6 +23,7 @@ pub fn half_number(bytes: &[u8; 16], half: usize) -> u64
 }
 
 /// The `n` bytes of a number from the byte k on.
+#[inline(always)]
 pub fn part(number: u64, k: u64, n: u8) -> u64
     requires place { k < 8 }
     requires size { n ≤ 8 }
