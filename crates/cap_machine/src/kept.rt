@@ -43,6 +43,7 @@ pub struct Kept {
 }
 
 /// The bounds that the fields give.
+#[inline(never)]
 fn bounds_anew(f: Fields) -> Bounds
     ensures base { result.base ≡ base_at f f.address }
     ensures top { result.top ≡ top_at f f.address }
@@ -166,8 +167,18 @@ pub fn check(kept: &mut Bounds, c: Cap, at: u64, a: Access) -> Result<u64, Cause
     if kept.allow(c, at, a) {
         Ok(at)
     } else {
-        check_anew(c, at, a)
+        cause_of(c, at, a)
     }
+}
+
+/// The same where the bounds may not allow it.
+#[cold]
+#[inline(never)]
+fn cause_of(c: Cap, at: u64, a: Access) -> Result<u64, Cause>
+    requires { IsAccess a }
+    ensures { result ≡ checked c at a }
+{
+    check_anew(c, at, a)
 }
 
 impl Kept {

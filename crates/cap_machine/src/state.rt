@@ -24,6 +24,15 @@ fn is_usable(c: Cap) -> bool
     c.tag && c.fields.otype == UNSEALED
 }
 
+/// The counter at the next instruction, of which nothing is known.
+#[cold]
+#[inline(never)]
+fn next_block(c: Cap) -> Cap
+    ensures { result ≡ added c 4 }
+{
+    add(c, 4)
+}
+
 /// The counter at the next instruction. Within a block of 2048 addresses the bounds stay.
 #[tactic(auto, using(crate::proofs::KeptBounds::moved_in_block))]
 #[inline(always)]
@@ -32,7 +41,7 @@ fn next_counter(c: Cap) -> Cap
 {
     let at = address(c);
     if at % 2048 >= 2044 {
-        return add(c, 4);
+        return next_block(c);
     }
     let mut next = c;
     next.tag = is_usable(c);
