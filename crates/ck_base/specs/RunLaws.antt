@@ -1,5 +1,5 @@
 -- A run that was done act by act over real objects is a run over the world of the call.
-use Rattle.std.specs.Prelude.{◌≢◌, IfSome, ◌≡◌, ℕ, zero, suc, ◌+◌, ◌-◌, ◌^◌, ◌<◌, ◌≤◌, ◌⊎◌, min, Bool, true, false, cond, List, [], ◌∷◌, ◌++◌, length, drop, Option, Some, None, ⊤, slice_get, refl}
+use Rattle.std.specs.Prelude.{◌≢◌, IfSome, ◌≡◌, ℕ, zero, suc, ◌+◌, ◌-◌, ◌^◌, ◌<◌, ◌≤◌, ◌⊎◌, min, Bool, true, false, cond, List, [], ◌∷◌, ◌++◌, length, take, drop, Option, Some, None, ⊤, slice_get, refl}
 use Rattle.std.proofs.lemmas.Bool.Decides.{nat_tests}
 use Rattle.std.proofs.Common.{eq-eqb, sym, ◌∙◌, ap, subst, inl, inr, arith, append_assoc}
 use Rattle.std.proofs.lemmas.List.{append-nil, drop-drop, drop_min, length_push}
@@ -8,7 +8,7 @@ use Rattle.std.specs.Io.KnownBytes.{Appends, Keeps}
 use Rattle.ck_base.specs.Outside.{Takes, AppendsPart}
 use Rattle.ck_base.specs.World.{World, Done, nothing_done, fails_after, with_sure_output}
 use Rattle.ck_base.specs.Runs.{Act, Goes, Puts, Reads, Ends, Limits, stopped, with_put, with_read, act_in, run, outcome}
-use Rattle.ck_base.specs.Calls.{Seen, BeginsWith, PutFailed, ReadFailed, Acted, IsWorldOf, RanIn, IsRun, Counted}
+use Rattle.ck_base.specs.Calls.{Seen, BeginsWith, PutFailed, ReadFailed, Acted, IsWorldOf, RanIn, IsRun, Grows, Counted}
 
 -- the failing call comes after this many
 abbrev pub Later : Option ℕ → ℕ → Type 0
@@ -55,6 +55,12 @@ Appends-Appends None b c x y p q = p
 Appends-Appends (Some a) None c x y p q = absurd p
 Appends-Appends (Some a) (Some b) None x y p q = q
 Appends-Appends (Some a) (Some b) (Some c) x y p q = q ∙ ap (λ l. l ++ y) p ∙ append_assoc a x y
+
+Grows-same : (a b : Option (List ℕ)) → b ≡ a → Grows a b
+Grows-same a b e = ([], subst (λ x. Appends a x []) (sym e) (Appends-nil a))
+
+Grows-Grows : (a b c : Option (List ℕ)) → Grows a b → Grows b c → Grows a c
+Grows-Grows a b c p q = (p.0 ++ q.0, Appends-Appends a b c p.0 q.0 p.1 q.1)
 
 -- a put that failed appended nothing, or its one byte
 part_of : (a b c : Option (List ℕ)) (x : List ℕ) (byte : ℕ) (P : List ℕ → Type 0) → Appends a b x → AppendsPart b c (byte ∷ []) → P (x ++ byte ∷ []) → Appends a c x ⊎ ((byte : ℕ) × Appends a c (x ++ byte ∷ []) × P (x ++ byte ∷ []))
@@ -263,10 +269,20 @@ module _ {S E : Type 0} (limits : Limits E) (act : S → Act S E) where
         subst (λ y. RanIn (outcome limits act wanted first n) bytes before next (wanted s' y)) (sym (same_Some x limits.read_fault acted.0))
         (read_failed now next s s' k to e in_room sofar acted.1 acted.2)
 
-  -- A run over real objects that goes on: no count has risen, and where the source tells its bytes it is a run over its worlds.
+  -- an act only appends to what the sink holds
+  acted_grows : (now next : Seen) (s s' : S) (o : Option E) (a : Act S E) → Acted limits a now next s s' o → Grows now.held next.held
+  acted_grows now next s s' o (Goes t) acted = Grows-same now.held next.held (ap (λ x. x.held) acted.2)
+  acted_grows now next s s' o (Ends x) acted = Grows-same now.held next.held (ap (λ x. x.held) acted.2)
+  acted_grows now next s s' o (Puts b t) (inl acted) = (b ∷ [], acted.2.held)
+  acted_grows now next s s' o (Puts b t) (inr acted) = (take acted.2.held.0 (b ∷ []), acted.2.held.1)
+  acted_grows now next s s' o (Reads to) (inl acted) = Grows-same now.held next.held acted.3.held
+  acted_grows now next s s' o (Reads to) (inr acted) = Grows-same now.held next.held acted.2.held
+
+  -- A run over real objects that goes on: no count has risen, what the sink holds only grew, and where the source tells its bytes it is a run over its worlds.
   pub record Running (n : ℕ) (first : S) (before now : Seen) (s : S) (k : ℕ) : Type 0 where
     pub source_faults : now.source_faults ≡ before.source_faults
     pub sink_faults : now.sink_faults ≡ before.sink_faults
+    pub grows : Grows before.held now.held
     pub sofar : (bytes : List ℕ) → before.left ≡ Some bytes → SoFar n first bytes before now s k
 
   -- The program's own endings are no faults of the outside.
@@ -278,7 +294,7 @@ module _ {S E : Type 0} (limits : Limits E) (act : S → Act S E) where
     pub steps_write : limits.steps ≢ limits.write_fault
 
   pub Running-first : (n : ℕ) (first : S) (before : Seen) → Running n first before before first n
-  Running-first n first before = record { source_faults = refl; sink_faults = refl; sofar = λ bytes left. SoFar-first n first bytes before left }
+  Running-first n first before = record { source_faults = refl; sink_faults = refl; grows = Grows-same before.held before.held refl; sofar = λ bytes left. SoFar-first n first bytes before left }
 
   -- an act that goes on leaves the counts
   acted_counts : (now next : Seen) (s s' : S) (a : Act S E) → Acted limits a now next s s' None → (next.source_faults ≡ now.source_faults) × (next.sink_faults ≡ now.sink_faults)
@@ -295,27 +311,29 @@ module _ {S E : Type 0} (limits : Limits E) (act : S → Act S E) where
       record {
         source_faults = counts.0 ∙ running.source_faults;
         sink_faults = counts.1 ∙ running.sink_faults;
+        grows = Grows-Grows before.held now.held next.held running.grows (acted_grows now next s s' None (act s) acted);
         sofar = λ bytes left. SoFar-acted n first bytes before now next s s' k (act s) refl (running.sofar bytes left) acted;
       }
 
   -- an ending that leaves the counts and is no fault
-  no_fault : (before next : Seen) (x : E) → next.source_faults ≡ before.source_faults → next.sink_faults ≡ before.sink_faults → x ≢ limits.read_fault → x ≢ limits.write_fault → Counted limits before next x
-  no_fault before next x source sink not_read not_write = record {
+  no_fault : (before next : Seen) (x : E) → next.source_faults ≡ before.source_faults → next.sink_faults ≡ before.sink_faults → x ≢ limits.read_fault → x ≢ limits.write_fault → Grows before.held next.held → Counted limits before next x
+  no_fault before next x source sink not_read not_write grows = record {
     source = omega arith;
     sink = omega arith;
     read_fault = (λ h. absurd (not_read h), λ h. absurd (omega arith));
     write_fault = (λ h. absurd (not_write h), λ h. absurd (omega arith));
+    grows = grows;
   }
 
-  Counted-acted : HasOwnEndings → (before now next : Seen) (s s' : S) (x : E) (a : Act S E) → act s ≡ a → before.source_faults < 2 ^ 64 - 1 → before.sink_faults < 2 ^ 64 - 1 → now.source_faults ≡ before.source_faults → now.sink_faults ≡ before.sink_faults → Acted limits a now next s s' (Some x) → Counted limits before next x
-  Counted-acted own before now next s s' x (Goes t) e in_room out_room source sink acted = absurd (let h : Some x ≡ None = acted.0 in cc)
-  Counted-acted own before now next s s' x (Ends y) e in_room out_room source sink acted =
+  Counted-acted : HasOwnEndings → (before now next : Seen) (s s' : S) (x : E) (a : Act S E) → act s ≡ a → before.source_faults < 2 ^ 64 - 1 → before.sink_faults < 2 ^ 64 - 1 → now.source_faults ≡ before.source_faults → now.sink_faults ≡ before.sink_faults → Grows before.held next.held → Acted limits a now next s s' (Some x) → Counted limits before next x
+  Counted-acted own before now next s s' x (Goes t) e in_room out_room source sink grows acted = absurd (let h : Some x ≡ None = acted.0 in cc)
+  Counted-acted own before now next s s' x (Ends y) e in_room out_room source sink grows acted =
       let same : x ≡ y = same_Some x y acted.0 in
       no_fault before next x (ap (λ q. q.source_faults) acted.2 ∙ source) (ap (λ q. q.sink_faults) acted.2 ∙ sink)
       (λ h. own.read s (e ∙ ap Ends (sym same ∙ h)))
-      (λ h. own.write s (e ∙ ap Ends (sym same ∙ h)))
-  Counted-acted own before now next s s' x (Puts b t) e in_room out_room source sink (inl acted) = absurd (let h : Some x ≡ None = acted.0 in cc)
-  Counted-acted own before now next s s' x (Puts b t) e in_room out_room source sink (inr acted) =
+      (λ h. own.write s (e ∙ ap Ends (sym same ∙ h))) grows
+  Counted-acted own before now next s s' x (Puts b t) e in_room out_room source sink grows (inl acted) = absurd (let h : Some x ≡ None = acted.0 in cc)
+  Counted-acted own before now next s s' x (Puts b t) e in_room out_room source sink grows (inr acted) =
       let same : x ≡ limits.write_fault = same_Some x limits.write_fault acted.0 in
       let rises : now.sink_faults < next.sink_faults = acted.2.sink_faults.more (omega arith) in
       let keeps : next.source_faults ≡ now.source_faults = acted.2.source_faults in
@@ -324,9 +342,10 @@ module _ {S E : Type 0} (limits : Limits E) (act : S → Act S E) where
         sink = omega arith;
         read_fault = (λ h. absurd (own.apart (sym h ∙ same)), λ h. absurd (omega arith));
         write_fault = (λ h. omega arith, λ h. same);
+        grows = grows;
       }
-  Counted-acted own before now next s s' x (Reads to) e in_room out_room source sink (inl acted) = absurd (let h : Some x ≡ None = acted.1 in cc)
-  Counted-acted own before now next s s' x (Reads to) e in_room out_room source sink (inr acted) =
+  Counted-acted own before now next s s' x (Reads to) e in_room out_room source sink grows (inl acted) = absurd (let h : Some x ≡ None = acted.1 in cc)
+  Counted-acted own before now next s s' x (Reads to) e in_room out_room source sink grows (inr acted) =
       let same : x ≡ limits.read_fault = same_Some x limits.read_fault acted.0 in
       let rises : now.source_faults < next.source_faults = acted.2.source_faults.more (omega arith) in
       let keeps : next.sink_faults ≡ now.sink_faults = acted.2.sink_faults in
@@ -335,20 +354,22 @@ module _ {S E : Type 0} (limits : Limits E) (act : S → Act S E) where
         sink = omega arith;
         read_fault = (λ h. omega arith, λ h. same);
         write_fault = (λ h. absurd (own.apart (sym same ∙ h)), λ h. absurd (omega arith));
+        grows = grows;
       }
 
   -- the run ends with an act
   pub run_ended : HasOwnEndings → {X : Type 0} (wanted : S → E → X) (n : ℕ) (first : S) (before now next : Seen) (s s' : S) (k : ℕ) (x : E) → before.source_faults < 2 ^ 64 - 1 → before.sink_faults < 2 ^ 64 - 1 → Running n first before now s (suc k) → Acted limits (act s) now next s s' (Some x) → IsRun (outcome limits act wanted first n) before next (wanted s' x) × Counted limits before next x
   run_ended own wanted n first before now next s s' k x in_room out_room running acted = (
     IfSome-from before.left (λ bytes. RanIn (outcome limits act wanted first n) bytes before next (wanted s' x)) (λ bytes left. RanIn-acted wanted n first bytes before now next s s' k x (act s) refl in_room out_room (running.sofar bytes left) acted),
-    Counted-acted own before now next s s' x (act s) refl in_room out_room running.source_faults running.sink_faults acted,
+    Counted-acted own before now next s s' x (act s) refl in_room out_room running.source_faults running.sink_faults
+    (Grows-Grows before.held now.held next.held running.grows (acted_grows now next s s' (Some x) (act s) acted)) acted,
   )
 
   -- the run did all its acts
   pub run_all : HasOwnEndings → {X : Type 0} (wanted : S → E → X) (n : ℕ) (first : S) (before now : Seen) (s : S) → Running n first before now s 0 → IsRun (outcome limits act wanted first n) before now (wanted s limits.steps) × Counted limits before now limits.steps
   run_all own wanted n first before now s running = (
     IfSome-from before.left (λ bytes. RanIn (outcome limits act wanted first n) bytes before now (wanted s limits.steps)) (λ bytes left. RanIn-all wanted n first bytes before now s (running.sofar bytes left)),
-    no_fault before now limits.steps running.source_faults running.sink_faults own.steps_read own.steps_write,
+    no_fault before now limits.steps running.source_faults running.sink_faults own.steps_read own.steps_write running.grows,
   )
 
 -- a run of which less is wanted
