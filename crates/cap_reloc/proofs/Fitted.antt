@@ -11,7 +11,9 @@ use Rattle.cap_concentrate.proofs.Least.{finer, rounded_up_multiple}
 use Rattle.cap_concentrate.proofs.Owned.{alignment_short, alignment_long, alignment_pos, owned_short}
 use Rattle.c_tree.specs.Statics.{is_near}
 
--- ---- bounds with an encoding begin at a multiple of their length's alignment, and their length is its own owned length
+-- ---- bounds with an encoding
+
+-- they begin at a multiple of their length's alignment, and their length is its own owned length
 
 pub record IsFit (low n : ℕ) : Type 0 where
   pub whole : owned n ≡ n
@@ -46,7 +48,10 @@ long_fit low n e long most h =
 pub encodable_fit : (low n : ℕ) → n ≤ 2 ^ 64 → Encodable low (low + n) → IsFit low n
 encodable_fit low n most h =
     elim (cases_lt n 4096) as (λ _. IsFit low n) [
-      | inl small ↦ record { whole = owned_short n small; multiple = subst (λ v. low % v ≡ 0) (sym (alignment_short n small)) (omega arith) }
+      | inl small ↦ record {
+        whole = owned_short n small;
+        multiple = subst (λ v. low % v ≡ 0) (sym (alignment_short n small)) (omega arith);
+      }
       | inr long ↦ elim h.form as (λ _. IsFit low n) [
         | inl short ↦ absurd (omega arith)
         | inr f ↦ long_fit low n f.0 long most f.1
@@ -60,7 +65,8 @@ pub record LeadsNear (base low n a : ℕ) : Type 0 where
   pub above : base + low < a + 1024
   pub below : a < base + low + n + 1024
 
-pub near_address : (base low n : ℕ) (z : ℤ) → 65536 ≤ base → base + low + n ≤ 2 ^ 40 → is_near low n z ≡ true → LeadsNear base low n ((base + kept_of z) % 2 ^ 64)
+pub near_address : (base low n : ℕ) (z : ℤ) → 65536 ≤ base → base + low + n ≤ 2 ^ 40 → is_near low n z ≡ true
+    → LeadsNear base low n ((base + kept_of z) % 2 ^ 64)
 unfolding kept_of
 near_address base low n (pos k) from to h =
     let p = and_parts (int_lt (pos low) (pos k +ℤ pos 1024)) (int_lt (pos k) (pos (low + n + 1024))) h in
