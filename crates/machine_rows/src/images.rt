@@ -136,18 +136,14 @@ fn put(bytes: &mut Vec<u8>, words: &[u64]) -> Result<(), AllocError> {
 /// The file of a version, with this version word.
 fn file(alloc: Global, form: &Form, version: u64) -> Result<Vec<u8>, AllocError> {
     let mut bytes = Vec::new(alloc);
-    for words in [
-        FILE_HEADER.as_slice(),
-        PROGRAM_HEADERS.as_flattened(),
-        SECTION_HEADERS.as_flattened(),
-        form.sections.as_flattened(),
-        PARTS.as_flattened(),
-        &[version],
-        WORDS.as_slice(),
-        form.behind,
-    ] {
-        put(&mut bytes, words)?;
-    }
+    put(&mut bytes, &FILE_HEADER)?;
+    put(&mut bytes, PROGRAM_HEADERS.as_flattened())?;
+    put(&mut bytes, SECTION_HEADERS.as_flattened())?;
+    put(&mut bytes, form.sections.as_flattened())?;
+    put(&mut bytes, PARTS.as_flattened())?;
+    put(&mut bytes, &[version])?;
+    put(&mut bytes, &WORDS)?;
+    put(&mut bytes, form.behind)?;
     bytes.extend_from_slice(&NAMES)?;
     Ok(bytes)
 }
