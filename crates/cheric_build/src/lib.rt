@@ -8,6 +8,7 @@
 mod building;
 mod front_end;
 
-pub use building::build;
+pub use bounds_place::Sizes;
+pub use building::{build, build_sized};
 pub use front_end::front;
 pub use typed_build::{Built, build_typed};

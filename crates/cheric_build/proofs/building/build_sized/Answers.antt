@@ -1,7 +1,7 @@
 use Rattle.std.proofs.Common.{rules}
 use Rattle.cheric_build.proofs.FileAnswers.{broken_file, built_of, refused_of}
 use Rattle.cheric_build.proofs.Once.{once}
-use Rattle.cheric_build.proofs.building.build.Goals as goal
+use Rattle.cheric_build.proofs.building.build_sized.Goals as goal
 
 pub returns-in_err-p-clause-refused : goal.returns-in_err-p-clause-refused
 returns-in_err-p-clause-refused c =
