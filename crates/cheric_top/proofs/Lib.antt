@@ -1,2 +1,4 @@
 pub mod Words
+pub mod Added
+pub mod Loads
 pub mod Said

@@ -7,7 +7,6 @@ use Rattle.ck_base.specs.Files.{FileMap, Gets}
 use Rattle.ck_base.specs.declared.outside.FileError.TheVariants.{Missing, TooLong}
 use Rattle.elf_file.specs.declared.image.Image.{Image}
 use Rattle.elf_file.specs.Reading.{reading}
-use Rattle.elf_file.specs.Refusal.{refusal_number}
 use Rattle.elf_file.specs.declared.refusal.ElfRefusal.{ElfRefusal}
 use Rattle.cap_machine.specs.declared.machine.Machine.{Machine}
 use Rattle.image_load.specs.Judging.{Judged, judged}
@@ -15,6 +14,7 @@ use Rattle.image_load.specs.State.{machine_of}
 use Rattle.image_load.specs.Loading.{Loaded, Loads, loading, loaded_as, after_reading}
 use Rattle.image_load.specs.declared.refusal.LoadRefusal.{LoadRefusal}
 use Rattle.image_load.specs.declared.refusal.LoadRefusal.TheVariants as refusal
+use Rattle.cheric_top.proofs.Loads.{loaded_of, is_loaded}
 use Rattle.cheric_top.specs.Answers.{refused_as}
 use Rattle.cheric_top.specs.Command.{HasRead, IsUnreadable, ExecStopped, files_seen}
 
@@ -56,19 +56,6 @@ read_from (Err e) l h = cc
 pub image_read : (file : List ℕ) (l : Loaded) → loading file ≡ Ok l → (reading file ≡ Ok l.image) × (l.machine ≡ machine_of l.image)
 unfolding loading
 image_read file l h = read_from (reading file) l h
-
-abbrev pub loaded_of : Image → Loaded
-loaded_of i = record { image = i; machine = machine_of i }
-
--- an image that was read and judged fine is loaded
-pub is_loaded : (file : List ℕ) (i : Image) → reading file ≡ Ok i → judged i ≡ Ok tt → loading file ≡ Ok (loaded_of i)
-unfolding loading
-is_loaded file i read fine = ap after_reading read ∙ ap (loaded_as i) fine
-
--- a file that is not read is not loaded
-pub not_read : (file : List ℕ) (e : ElfRefusal) → reading file ≡ Err e → loading file ≡ Err (refusal_number e)
-unfolding loading
-not_read file e read = ap after_reading read
 
 -- what is said of a file whose load was refused
 pub not_loaded : (before after : Seen) (file : List ℕ) (i : Image) (e : LoadRefusal) → after ≡ before → reading file ≡ Ok i → Loads i (Err e) → ExecStopped before after file (refused_as e)

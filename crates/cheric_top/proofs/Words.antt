@@ -3,7 +3,6 @@ use Rattle.std.proofs.Common.{◌≡◌, ℕ, ◌<◌, ◌≤◌, List, [], ◌�
 use Rattle.std.specs.Prelude.{◌&&◌, MatchOption, codes}
 use Rattle.std.specs.Cmp.Lexicographic.{pointwise}
 use Rattle.std.proofs.lemmas.Bool.{eqb-true, false≢true}
-use Rattle.cheric_top.specs.Lines.{IsNumber, SetsSteps}
 
 and_parts : (a b : Bool) → true ≡ (a && b) → (true ≡ a) × (true ≡ b)
 and_parts true b h = (refl, h)
@@ -36,8 +35,7 @@ module _ {A : Type 0} (bytes : A → List ℕ) where
   three (a ∷ b ∷ []) y z e f low = absurd (omega arith)
   three (a ∷ b ∷ c ∷ xs) y z e f low = (bytes a, ap (λ w. bytes a ∷ bytes w ∷ bytes c ∷ map bytes xs) (sym e) ∙ ap (λ w. bytes a ∷ bytes y ∷ bytes w ∷ map bytes xs) (sym f))
 
--- ---- the option `--steps`
-
-pub sets_steps : (r : Option ℕ) (option word : List ℕ) → option ≡ codes "--steps" → MatchOption r ((n : ℕ) → IsNumber word n → ⊥) (λ n. IsNumber word n) → MatchOption r ((n : ℕ) → SetsSteps (option ∷ word ∷ []) n → ⊥) (λ n. SetsSteps (option ∷ word ∷ []) n)
-sets_steps None option word e h = λ n s. h n s.1
-sets_steps (Some n) option word e h = (e, h)
+  pub more : (xs : List A) (x y : A) → x ≡ get_or xs 0 x → y ≡ get_or xs 1 y → 2 ≤ length xs → map bytes xs ≡ bytes x ∷ bytes y ∷ map bytes (drop 2 xs)
+  more [] x y e f low = absurd (omega arith)
+  more (a ∷ []) x y e f low = absurd (omega arith)
+  more (a ∷ b ∷ xs) x y e f low = ap (λ z. bytes z ∷ bytes b ∷ map bytes xs) (sym e) ∙ ap (λ z. bytes x ∷ bytes z ∷ map bytes xs) (sym f)

@@ -14,7 +14,9 @@ use Rattle.image_load.specs.declared.refusal.LoadRefusal.{LoadRefusal}
 use Rattle.image_load.specs.declared.refusal.LoadRefusal.TheVariants as refusal
 use Rattle.image_load.specs.Loading.{load_number}
 use Rattle.cheric_top.specs.declared.answer.Answer.{Answer}
-use Rattle.cheric_top.specs.declared.answer.Answer.TheVariants.{Exit, Built, Trap, TrapAt, Stack, Steps, Break, Illegal, Refused, Words, NotLoaded, File, Input, Output, Memory}
+use Rattle.elf_audit.specs.declared.verdict.Verdict.{Verdict}
+use Rattle.elf_audit.specs.declared.verdict.Verdict.TheVariants as verdict
+use Rattle.cheric_top.specs.declared.answer.Answer.TheVariants.{Exit, Built, Trap, TrapAt, Stack, Steps, Break, Illegal, Audited, Refused, Words, NotLoaded, File, Input, Output, Memory}
 
 -- ---- the answer of a run
 
@@ -46,6 +48,10 @@ refused_as e = NotLoaded (load_number e)
 
 -- ---- statuses and lines
 
+abbrev pub audit_status : Verdict → ℕ
+audit_status verdict.Yes = 0
+audit_status v = 7
+
 abbrev pub status_of : Answer → ℕ
 status_of (Exit zero) = 0
 status_of (Exit (suc n)) = 1
@@ -56,6 +62,7 @@ status_of (Stack pos) = 3
 status_of Steps = 4
 status_of (Break pc) = 6
 status_of (Illegal pc) = 6
+status_of (Audited verdict) = audit_status verdict
 status_of (Refused code pos) = 10
 status_of Words = 11
 status_of (NotLoaded number) = 12
@@ -77,6 +84,12 @@ cause_text cause.Execute = codes "execute"
 abbrev pub pos_text : Pos → List ℕ
 pos_text pos = decimal pos.line ++ codes ":" ++ decimal pos.col
 
+-- a word by its address, a relocation by its number from 0, each with the reason
+abbrev pub audit_text : Verdict → List ℕ
+audit_text verdict.Yes = codes "audit yes"
+audit_text (verdict.Word at reason) = codes "audit no word " ++ decimal at ++ codes " " ++ decimal reason
+audit_text (verdict.Reloc k reason) = codes "audit no reloc " ++ decimal k ++ codes " " ++ decimal reason
+
 abbrev pub text_of : Answer → List ℕ
 text_of (Exit n) = codes "exit " ++ decimal n
 text_of (Built n) = codes "built " ++ decimal n
@@ -86,6 +99,7 @@ text_of (Stack pos) = codes "stack " ++ pos_text pos
 text_of Steps = codes "steps"
 text_of (Break pc) = codes "break " ++ decimal pc
 text_of (Illegal pc) = codes "illegal " ++ decimal pc
+text_of (Audited verdict) = audit_text verdict
 text_of (Refused code pos) = codes "refused " ++ decimal code ++ codes " " ++ pos_text pos
 text_of Words = codes "words"
 text_of (NotLoaded number) = codes "image " ++ decimal number

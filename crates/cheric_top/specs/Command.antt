@@ -8,9 +8,12 @@ use Rattle.obj_mem.specs.declared.map.Map.{Map}
 use Rattle.cap_machine.specs.declared.end.End.{End}
 use Rattle.cap_machine.specs.Step.{act, limits}
 use Rattle.image_load.specs.Loading.{Loaded, loading}
+use Rattle.bounds_place.specs.declared.sizes.Sizes.{Sizes}
+use Rattle.bounds_place.specs.Sizes.{HasSizes}
 use Rattle.cheric_build.specs.FromFile.{IsBuiltFrom, IsFileRefusal}
 use Rattle.cheric_top.specs.Answers.{answer_of, IsSaid}
-use Rattle.cheric_top.specs.Lines.{Mode, Run, Build, Exec, Line, IsLine}
+use Rattle.cheric_top.specs.Audit.{AuditSays}
+use Rattle.cheric_top.specs.Lines.{Mode, Run, Build, Exec, Audit, Line, IsLine}
 use Rattle.cheric_top.specs.declared.answer.Answer.{Answer}
 use Rattle.cheric_top.specs.declared.answer.Answer.TheVariants.{Built, Refused, Words, NotLoaded, File, Memory}
 
@@ -71,15 +74,16 @@ pub record RanLoaded (before after : Seen) (loaded : Loaded) (steps : ℕ) (answ
   pub counted : Counted limits before after ending
   pub answered : answer ≡ answer_of loaded.image ending
 
--- The bytes that were built of a file, with their map and count
-pub record Compiled (file : List ℕ) : Type 0 where
+-- The bytes that were built of a file for a heap and a stack of these sizes, with their map and count
+pub record Compiled (file : List ℕ) (sizes : Sizes) : Type 0 where
   pub elf : List ℕ
   pub map : Map
   pub count : ℕ
   pub built : IsBuiltFrom file elf map count
+  pub sized : HasSizes sizes map
 
 -- what the bytes load to
-abbrev pub loaded_of : {file : List ℕ} → Compiled file → Loaded
+abbrev pub loaded_of : {file : List ℕ} {sizes : Sizes} → Compiled file sizes → Loaded
 loaded_of c = c.built.built.image.loaded
 
 -- ---- mode `run`
@@ -90,8 +94,8 @@ RunStopped before after file Memory = after ≡ before
 RunStopped before after file answer = ⊥
 
 -- the file was refused, or there was no memory; or the bytes that were built of it were loaded and run
-abbrev pub RunSays : Seen → Seen → List ℕ → ℕ → Answer → Type 0
-RunSays before after file steps answer = RunStopped before after file answer ⊎ ((compiled : Compiled file) × RanLoaded before after (loaded_of compiled) steps answer)
+abbrev pub RunSays : Seen → Seen → List ℕ → ℕ → Sizes → Answer → Type 0
+RunSays before after file steps sizes answer = RunStopped before after file answer ⊎ ((compiled : Compiled file sizes) × RanLoaded before after (loaded_of compiled) steps answer)
 
 -- ---- mode `exec`
 
@@ -117,20 +121,21 @@ pub record FailedToPut (before after : FilesSeen) (name : List ℕ) : Type 0 whe
   pub others : SameOthers before.told after.told name
   pub counted : before.faults < after.faults
 
-abbrev pub BuildSays : FilesSeen → FilesSeen → List ℕ → List ℕ → Answer → Type 0
-BuildSays before after file elf (Built n) = (compiled : Compiled file) × HasPut before after elf compiled.elf × (n ≡ length compiled.elf)
-BuildSays before after file elf (Refused code pos) = (after ≡ before) × IsFileRefusal file (Code code pos)
-BuildSays before after file elf File = Compiled file × FailedToPut before after elf
-BuildSays before after file elf Memory = after ≡ before
-BuildSays before after file elf answer = ⊥
+abbrev pub BuildSays : FilesSeen → FilesSeen → List ℕ → List ℕ → Sizes → Answer → Type 0
+BuildSays before after file elf sizes (Built n) = (compiled : Compiled file sizes) × HasPut before after elf compiled.elf × (n ≡ length compiled.elf)
+BuildSays before after file elf sizes (Refused code pos) = (after ≡ before) × IsFileRefusal file (Code code pos)
+BuildSays before after file elf sizes File = Compiled file sizes × FailedToPut before after elf
+BuildSays before after file elf sizes Memory = after ≡ before
+BuildSays before after file elf sizes answer = ⊥
 
 -- ---- all modes
 
 -- what each answer says of a file that was read; a later mode is a case more
 abbrev pub ModeSays : Around → List ℕ → Mode → Answer → Type 0
-ModeSays a file (Run steps) answer = FilesKept a × RunSays a.before a.after file steps answer
+ModeSays a file (Run steps sizes) answer = FilesKept a × RunSays a.before a.after file steps sizes answer
 ModeSays a file (Exec steps) answer = FilesKept a × ExecSays a.before a.after file steps answer
-ModeSays a file (Build elf) answer = Untouched a × BuildSays a.files_before a.files_after file elf answer
+ModeSays a file (Build elf sizes) answer = Untouched a × BuildSays a.files_before a.files_after file elf sizes answer
+ModeSays a file Audit answer = FilesKept a × Untouched a × AuditSays file answer
 
 -- what each answer says of a line: its file was not read, and nothing was put or taken; or it was, and so on by the mode
 abbrev pub LineSays : Around → Line → Answer → Type 0

@@ -2,6 +2,7 @@
 
 use cap_ops::Cause;
 use ck_base::Pos;
+use elf_audit::Verdict;
 
 /// What the command answers: how a run ended, what was built, why a file was refused, or what went wrong.
 #[derive(Clone, Copy, Debug, PartialEq, Eq)]
@@ -22,6 +23,8 @@ pub enum Answer {
     Break(u64),
     /// A word at this address is no instruction, or an environment call has another number.
     Illegal(u64),
+    /// An image was audited.
+    Audited(Verdict),
     /// The file was refused by this code at this place.
     Refused(u16, Pos),
     /// The words are none of the defined lines.

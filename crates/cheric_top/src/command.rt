@@ -1,5 +1,7 @@
 //! The call that does all that the program does.
-ghost use Rattle.std.specs.Prelude.{◌≡◌, ◌<◌, ◌-◌, ◌^◌, IfOk, MatchResult, map, string_bytes};
+ghost use Rattle.std.specs.Prelude.{◌≡◌, ◌<◌, ◌-◌, ◌^◌, true, IfOk, MatchResult, map, string_bytes};
+ghost use Rattle.bounds_place.specs.declared.sizes.Sizes.{Sizes as SizesOf};
+ghost use Rattle.bounds_place.specs.Sizes.{in_range};
 ghost use Rattle.ck_base.specs.Calls.{seen};
 ghost use Rattle.cheric_top.specs.Lines.{Build};
 ghost use Rattle.cheric_top.specs.Asked.{mode_of};
@@ -7,10 +9,12 @@ ghost use Rattle.cheric_top.specs.declared.line.Mode.TheVariants as modes;
 ghost use Rattle.cheric_top.specs.Command.{files_seen, around, HasRead, NotRead, BuildSays, Says, IsDone};
 
 use crate::answer::Answer;
+use crate::auditing::audit_file;
 use crate::line::{Mode, line_of};
 use crate::message::say;
 use crate::running::{exec_file, run_file};
-use cheric_build::build;
+use bounds_place::Sizes;
+use cheric_build::build_sized;
 use ck_base::{FileError, Files, NoMemory, PutError, Refusal, Sink, Source};
 use std::alloc::Global;
 
@@ -31,7 +35,7 @@ fn read<F: Files>(alloc: Global, files: &mut F, name: &str) -> Result<Vec<u8>, A
 
 /// The name under which a built file is put.
 fn elf_name(alloc: Global, name: &str, elf: Option<&str>) -> Result<String, NoMemory>
-    ensures { IfOk result (λ s. mode_of name.now (modes.Build elf.entry) ≡ Build (string_bytes s)) }
+    ensures { IfOk result (λ s. (sizes : SizesOf) → mode_of name.now (modes.Build elf.entry sizes) ≡ Build (string_bytes s) sizes) }
 {
     if let Some(elf) = elf {
         return Ok(String::from_str(alloc, elf)?);
@@ -41,12 +45,19 @@ fn elf_name(alloc: Global, name: &str, elf: Option<&str>) -> Result<String, NoMe
     Ok(elf)
 }
 
-/// Builds a C file, and puts the bytes that were built under a name.
-fn build_file<F: Files>(alloc: Global, file: &[u8], elf: &str, files: &mut F) -> Answer
-    requires { F.faults files.old < 2 ^ 64 - 1 }
-    ensures { BuildSays (files_seen (F.told files.old) (F.faults files.old)) (files_seen (F.told files.new) (F.faults files.new)) file.now elf.now result }
+/// Builds a C file for a heap and a stack of these sizes, and puts the bytes that were built under a name.
+fn build_file<F: Files>(
+    alloc: Global,
+    file: &[u8],
+    elf: &str,
+    sizes: Sizes,
+    files: &mut F,
+) -> Answer
+    requires files_room { F.faults files.old < 2 ^ 64 - 1 }
+    requires sizes { in_range sizes ≡ true }
+    ensures { BuildSays (files_seen (F.told files.old) (F.faults files.old)) (files_seen (F.told files.new) (F.faults files.new)) file.now elf.now sizes result }
 {
-    let built = match build(alloc, file) {
+    let built = match build_sized(alloc, file, sizes) {
         Ok(built) => built,
         Err(Refusal::Code(code, pos)) => return Answer::Refused(code, pos),
         Err(Refusal::NoMemory) => return Answer::Memory,
@@ -79,21 +90,23 @@ fn work<F: Files, I: Source, O: Sink>(
         Err(answer) => return answer,
     };
     match line.mode {
-        Mode::Run(steps) => run_file(alloc, &file, steps, input, out),
+        Mode::Run(steps, sizes) => run_file(alloc, &file, (steps, sizes), input, out),
         Mode::Exec(steps) => exec_file(alloc, &file, steps, input, out),
-        Mode::Build(elf) => match elf_name(alloc, line.name, elf) {
-            Ok(elf) => build_file(alloc, &file, &elf, files),
+        Mode::Build(elf, sizes) => match elf_name(alloc, line.name, elf) {
+            Ok(elf) => build_file(alloc, &file, &elf, sizes, files),
             Err(NoMemory) => Answer::Memory,
         },
+        Mode::Audit => audit_file(alloc, &file),
     }
 }
 
 /// Does all that the program does, and gives the status with which it ends.
 ///
-/// `words` begins with the program's name. The lines are `run FILE` and `exec FILE`, each with or without `--steps N` behind,
-/// and `build FILE`, with or without `--out NAME` behind. `run` builds a C file, loads the bytes and runs them over `input` and
-/// `out`; `build` puts them under NAME, or under FILE followed by `.elf`; `exec` loads and runs such a file. One line of text
-/// on the outcome goes to `notes`.
+/// `words` begins with the program's name. The lines are `run FILE`, `build FILE`, `exec FILE` and `audit FILE`, with the options
+/// `--steps N`, `--out NAME`, `--heap N` and `--stack N` behind, in any order and each at most once; an option that a mode does not
+/// use has no effect. `run` builds a C file, loads the bytes and runs them over `input` and `out`; `build` puts them under NAME, or
+/// under FILE followed by `.elf`; `exec` loads and runs such a file, and `audit` says whether a run of it can leave its text, or
+/// which word or relocation first breaks a rule. One line of text on the outcome goes to `notes`.
 pub fn cheric<F: Files, I: Source, O: Sink, N: Sink>(
     alloc: Global,
     words: &Vec<String>,

@@ -7,6 +7,7 @@
 #![tactic(auto)]
 
 mod answer;
+mod auditing;
 mod command;
 mod line;
 mod message;

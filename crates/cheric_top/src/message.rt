@@ -1,13 +1,14 @@
 //! The line and the status of an answer.
 ghost use Rattle.std.specs.Prelude.{◌≡◌, ◌++◌, ◌≤◌, ◌<◌, ◌+◌, ◌-◌, ◌^◌, ℕ, [], length, decimal, codes};
 ghost use Rattle.arrayvec.specs.ArrayString.{array_string_len};
-ghost use Rattle.cheric_top.specs.Answers.{status_of, line_of, cause_text, pos_text, text_of, IsSaid};
+ghost use Rattle.cheric_top.specs.Answers.{audit_status, status_of, line_of, cause_text, pos_text, audit_text, text_of, IsSaid};
 ghost use Rattle.cheric_top.specs.declared.answer.Answer.TheVariants as answers;
 
 use crate::answer::Answer;
 use arrayvec::ArrayString;
 use cap_ops::Cause;
 use ck_base::{Pos, Sink};
+use elf_audit::Verdict;
 use itoa::Buffer;
 
 /// The most bytes of a line.
@@ -122,6 +123,32 @@ fn refused_text(code: u16, pos: Pos) -> Line
     line
 }
 
+/// A word, a number and a reason.
+fn reasoned(word: &str, n: u64, reason: u8) -> Line
+    requires { length word.now ≤ 16 }
+    ensures bytes { result.bytes ≡ word.now ++ decimal n ++ codes " " ++ decimal reason }
+    ensures len { array_string_len result ≤ 63 }
+{
+    let mut line = Line::new();
+    line.push_str(word);
+    push_number(&mut line, n);
+    line.push_str(" ");
+    push_number(&mut line, u64::from(reason));
+    line
+}
+
+/// The text of a verdict.
+fn audit_text(verdict: Verdict) -> Line
+    ensures bytes { result.bytes ≡ audit_text verdict }
+    ensures len { array_string_len result ≤ 63 }
+{
+    match verdict {
+        Verdict::Yes => alone("audit yes"),
+        Verdict::Word(at, reason) => reasoned("audit no word ", at, reason),
+        Verdict::Reloc(k, reason) => reasoned("audit no reloc ", k, reason),
+    }
+}
+
 /// The text of an answer.
 fn text_of(answer: Answer) -> Line
     ensures bytes { result.bytes ≡ text_of answer }
@@ -136,6 +163,7 @@ fn text_of(answer: Answer) -> Line
         Answer::Steps => alone("steps"),
         Answer::Break(pc) => numbered("break ", pc),
         Answer::Illegal(pc) => numbered("illegal ", pc),
+        Answer::Audited(verdict) => audit_text(verdict),
         Answer::Refused(code, pos) => refused_text(code, pos),
         Answer::Words => alone("words"),
         Answer::NotLoaded(number) => numbered("image ", u64::from(number)),
@@ -143,6 +171,15 @@ fn text_of(answer: Answer) -> Line
         Answer::Input => alone("input"),
         Answer::Output => alone("output"),
         Answer::Memory => alone("memory"),
+    }
+}
+
+fn audit_status(verdict: Verdict) -> u8
+    ensures { result ≡ audit_status verdict }
+{
+    match verdict {
+        Verdict::Yes => 0,
+        Verdict::Word(..) | Verdict::Reloc(..) => 7,
     }
 }
 
@@ -156,6 +193,7 @@ fn status_of(answer: Answer) -> u8
         Answer::Stack(_) => 3,
         Answer::Steps => 4,
         Answer::Break(_) | Answer::Illegal(_) => 6,
+        Answer::Audited(verdict) => audit_status(verdict),
         Answer::Refused(..) => 10,
         Answer::Words => 11,
         Answer::NotLoaded(_) => 12,

@@ -1,5 +1,6 @@
 //! Running an image: one that is built of a C file, and one that stands in a file.
-ghost use Rattle.std.specs.Prelude.{◌≡◌, ◌<◌, ◌-◌, ◌^◌, Ok, Err, MatchResult};
+ghost use Rattle.std.specs.Prelude.{◌≡◌, ◌<◌, ◌-◌, ◌^◌, true, Ok, Err, MatchResult};
+ghost use Rattle.bounds_place.specs.Sizes.{in_range};
 ghost use Rattle.ck_base.specs.Calls.{seen};
 ghost use Rattle.image_load.specs.Judging.{judged};
 ghost use Rattle.image_load.specs.State.{machine_of};
@@ -8,9 +9,10 @@ ghost use Rattle.cheric_top.specs.Answers.{answer_of, trapped, place_of, refused
 ghost use Rattle.cheric_top.specs.Command.{RanLoaded, RunSays, ExecSays};
 
 use crate::answer::Answer;
+use bounds_place::Sizes;
 use cap_machine::End;
 use cap_ops::Cause;
-use cheric_build::build;
+use cheric_build::build_sized;
 use ck_base::{Pos, Refusal, Sink, Source};
 use elf_file::{Line as Position, View};
 use image_load::{LoadRefusal, load};
@@ -81,19 +83,21 @@ fn run_image<I: Source, O: Sink>(
     Ok(answer_of(view, end))
 }
 
-/// Builds a C file, loads the bytes that were built, and runs them.
+/// Builds a C file for a heap and a stack of these sizes, loads the bytes that were built, and runs them.
 pub fn run_file<I: Source, O: Sink>(
     alloc: Global,
     file: &[u8],
-    steps: u64,
+    limit: (u64, Sizes),
     input: &mut I,
     out: &mut O,
 ) -> Answer
     requires source_room { I.faults input.old < 2 ^ 64 - 1 }
     requires sink_room { O.faults out.old < 2 ^ 64 - 1 }
-    ensures { RunSays (seen (I.left input.old) (I.faults input.old) (O.held out.old) (O.faults out.old)) (seen (I.left input.new) (I.faults input.new) (O.held out.new) (O.faults out.new)) file.now steps result }
+    requires sizes { in_range limit.1 ≡ true }
+    ensures { RunSays (seen (I.left input.old) (I.faults input.old) (O.held out.old) (O.faults out.old)) (seen (I.left input.new) (I.faults input.new) (O.held out.new) (O.faults out.new)) file.now limit.0 limit.1 result }
 {
-    let built = match build(alloc, file) {
+    let (steps, sizes) = limit;
+    let built = match build_sized(alloc, file, sizes) {
         Ok(built) => built,
         Err(Refusal::Code(code, pos)) => return Answer::Refused(code, pos),
         Err(Refusal::NoMemory) => return Answer::Memory,

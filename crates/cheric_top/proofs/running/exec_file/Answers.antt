@@ -2,7 +2,8 @@ use Rattle.std.proofs.Common.{◌∙◌, inl, inr, refl, sym, ap, subst, Err}
 use Rattle.ck_base.specs.Calls.{seen}
 use Rattle.cheric_top.specs.Command.{ExecStopped}
 use Rattle.cheric_top.specs.declared.answer.Answer.{Answer}
-use Rattle.cheric_top.proofs.Said.{loaded_of, is_loaded, not_read, not_loaded}
+use Rattle.cheric_top.proofs.Loads.{loaded_of, is_loaded, not_read}
+use Rattle.cheric_top.proofs.Said.{not_loaded}
 use Rattle.cheric_top.proofs.running.exec_file.Goals as goal
 
 pub returns-in-Err : goal.returns-in-Err

@@ -24,8 +24,8 @@ returns-in-Ok-run_image g c =
     let read : ◌≡◌ {A = Result Image ElfRefusal} (Ok c.in-Ok-read.view) (Ok b.loaded.image) = sym c.in-Ok-read.is ∙ c.read.ensures.exact ∙ ap reading c.deref.ensures.value ∙ r.0 in
     let same : b.loaded.image ≡ c.in-Ok-read.view = cc in
     inr (
-      record { elf = c.in-Ok.built.elf.items; map = c.in-Ok.built.map; count = c.in-Ok.built.count; built = c.in-Ok.ensures.built },
-      subst (λ (l : Loaded). RanLoaded before after l c.args.steps c.in-Ok-run_image.answer) (same_loaded b.loaded c.in-Ok-read.view same r.1) c.in-Ok-run_image.ensures.1,
+      record { elf = c.in-Ok.built.elf.items; map = c.in-Ok.built.map; count = c.in-Ok.built.count; built = c.in-Ok.ensures.built; sized = c.in-Ok.ensures.sized },
+      subst (λ (l : Loaded). RanLoaded before after l c.args.limit.0 c.in-Ok-run_image.answer) (same_loaded b.loaded c.in-Ok-read.view same r.1) c.in-Ok-run_image.ensures.1,
     )
 
 pub returns-in-Err-Code : goal.returns-in-Err-Code
