@@ -1,8 +1,10 @@
 //! The modes `build` and `exec` of the command.
 
 use crate::calls::{Answer, answers, one_file, sure_file};
+use crate::whole_files::WORDS;
 use cheric_build::build;
 use ck_base::{Files, NoMemory, SureFiles};
+use elf_file::View;
 use std::alloc::Global;
 use std::fmt::Write;
 use std::test::Fail;
@@ -174,6 +176,92 @@ fn a_refused_file_puts_no_name(rt: HostRuntime) -> Result<(), Fail> {
         let answer = quiet(status, line);
         assert!(rt;
             puts_no_name(alloc, words, file, [call, note], answer)?,
+            "{words}, {line}"
+        );
+    }
+    Ok(())
+}
+
+/// The base of a built text.
+const TEXT: u64 = 1_073_741_824;
+
+/// The first word of a text stands here in the file.
+const TEXT_AT: usize = 736;
+
+/// The file with another word of its text, counted from 0.
+fn with_word(alloc: Global, elf: &[u8], k: usize, word: u32) -> Result<Vec<u8>, NoMemory> {
+    let mut bytes = Vec::from_slice(alloc, elf)?;
+    if k <= 262_144 && TEXT_AT + 4 * k + 4 <= bytes.len() {
+        let at = TEXT_AT + 4 * k;
+        bytes[at..at + 4].copy_from_slice(&word.to_le_bytes());
+    }
+    Ok(bytes)
+}
+
+/// Whether auditing a file says this, takes nothing and puts nothing.
+fn audits(alloc: Global, elf: &[u8], status: u8, line: &str) -> Result<bool, NoMemory> {
+    let mut files = one_file(alloc, "b", elf, 0)?;
+    answers(
+        alloc,
+        &mut files,
+        "cheric audit b",
+        [0; 2],
+        quiet(status, line),
+    )
+}
+
+/// How many words the text of a file has.
+fn words_in(elf: &[u8]) -> usize {
+    View::read(elf).map_or(0, |view| view.text().len() / 4)
+}
+
+/// Whether the file with another word is audited by its place and a reason.
+fn names_word(alloc: Global, elf: &[u8], k: usize, word: u32, reason: u8) -> Result<bool, Fail> {
+    let mut line = String::new(alloc);
+    writeln!(
+        line,
+        "audit no word {} {reason}",
+        TEXT.wrapping_add(4 * k as u64)
+    )?;
+    let bytes = with_word(alloc, elf, k, word)?;
+    Ok(audits(alloc, &bytes, 7, &line)?)
+}
+
+#[test]
+fn built_files_are_audited(rt: HostRuntime) -> Result<(), Fail> {
+    let alloc = rt.alloc();
+    for file in [HI, WORDS] {
+        let elf = build(alloc, file.as_bytes())?.elf;
+        assert!(rt; audits(alloc, &elf, 0, "audit yes\n")?, "{file}");
+    }
+    let elf = build(alloc, HI.as_bytes())?.elf;
+    let count = words_in(&elf);
+    assert!(rt; count > 1);
+    // `ebreak` as the first word, and `addi x10,x0,72` as the last one.
+    assert!(rt; names_word(alloc, &elf, 0, 0x0010_0073, 2)?);
+    assert!(rt; names_word(alloc, &elf, count.saturating_sub(1), 0x0480_0513, 6)?);
+    assert!(rt; audits(alloc, elf.get(..63).unwrap_or(&[]), 12, "image 1\n")?);
+    Ok(())
+}
+
+/// Words, the failing call of the files and of the notes, with the status and line of an audit of a file that is audited by a yes.
+const AUDITS: [(&str, u64, u64, u8, &str); 5] = [
+    ("cheric audit b", 0, 0, 0, "audit yes\n"),
+    ("cheric audit b --steps 9 --out c", 0, 0, 0, "audit yes\n"),
+    ("cheric audit b", 1, 0, 20, "file\n"),
+    ("cheric audit b", 0, 1, 22, ""),
+    ("cheric audit c", 0, 0, 20, "file\n"),
+];
+
+#[test]
+fn an_audit_reads_its_file_alone(rt: HostRuntime) -> Result<(), Fail> {
+    let alloc = rt.alloc();
+    let elf = build(alloc, HI.as_bytes())?.elf;
+    for &(words, call, note, status, line) in &AUDITS {
+        let mut files = one_file(alloc, "b", &elf, call)?;
+        let answer = quiet(status, line);
+        assert!(rt;
+            answers(alloc, &mut files, words, [0, note], answer)?,
             "{words}, {line}"
         );
     }

@@ -73,6 +73,7 @@ fn file(
         stack: (STACK, 4096),
         relocs: Sequence::from_vec(relocs),
         lines: Sequence::from_vec(Vec::new(alloc)),
+        count: 0,
     };
     write(alloc, &image)
 }
@@ -91,11 +92,12 @@ fn file_outcome(
 }
 
 /// Version, word, entry and the heap's base, with what becomes of the image.
-const IMAGES: [(u64, u32, u64, u64, Outcome); 10] = [
+const IMAGES: [(u64, u32, u64, u64, Outcome); 11] = [
     (1, 0x0010_0073, TEXT, HEAP, Outcome::Ended(End::Break(TEXT))),
     (1, 0, TEXT, HEAP, Outcome::Ended(End::Illegal(TEXT))),
     (0, 0, TEXT, HEAP, Outcome::NotRead(ElfRefusal::Version)),
-    (2, 0, TEXT, HEAP, Outcome::NotRead(ElfRefusal::Version)),
+    (2, 0, TEXT, HEAP, Outcome::Ended(End::Illegal(TEXT))),
+    (3, 0, TEXT, HEAP, Outcome::NotRead(ElfRefusal::Version)),
     (
         1,
         0,
@@ -192,13 +194,14 @@ const WIDE: Reloc = Reloc {
 };
 
 /// Version, word, entry, the heap's base and the relocation, with the status and line of the command's mode `exec`.
-const EXECUTED: [(u64, u32, u64, u64, Reloc, u8, &str); 6] = [
+const EXECUTED: [(u64, u32, u64, u64, Reloc, u8, &str); 7] = [
     (1, 0x0010_0073, TEXT, HEAP, RELOC, 6, "break 65536\n"),
     (1, 0, TEXT, HEAP, RELOC, 6, "illegal 65536\n"),
     (1, 0, TEXT + 2, HEAP, RELOC, 12, "image 15\n"),
     (1, 0, TEXT, STACK, RELOC, 12, "image 12\n"),
     (1, 0, TEXT, HEAP, WIDE, 12, "image 14\n"),
-    (2, 0, TEXT, HEAP, RELOC, 12, "image 6\n"),
+    (2, 0, TEXT, HEAP, RELOC, 6, "illegal 65536\n"),
+    (3, 0, TEXT, HEAP, RELOC, 12, "image 6\n"),
 ];
 
 #[test]
@@ -214,6 +217,50 @@ fn the_command_runs_or_refuses_images(rt: HostRuntime) -> Result<(), Fail> {
         };
         assert!(rt;
             answers(alloc, &mut files, "cheric exec a.elf", [0; 2], answer)?,
+            "{line}"
+        );
+    }
+    Ok(())
+}
+
+/// A sentry's permissions on the table, and all permissions but Execute on the text.
+const EXECUTE: Reloc = Reloc {
+    perms: 0x8000_0000_0000_0003,
+    ..RELOC
+};
+
+const OVER_TEXT: Reloc = Reloc {
+    base: TEXT,
+    length: 16,
+    ..RELOC
+};
+
+/// Version, word, entry and the relocation, with the status and line of the command's mode `audit`.
+const AUDITED: [(u64, u32, u64, Reloc, u8, &str); 8] = [
+    // `cjal c0,0`
+    (1, 0x0000_006f, TEXT, RELOC, 0, "audit yes\n"),
+    (2, 0x0000_006f, TEXT, RELOC, 0, "audit yes\n"),
+    (1, 0x0000_006f, TEXT, EXECUTE, 7, "audit no reloc 0 7\n"),
+    (2, 0x0000_006f, TEXT, OVER_TEXT, 7, "audit no reloc 0 8\n"),
+    (1, 0, TEXT, RELOC, 7, "audit no word 65536 1\n"),
+    (1, 0x0010_0073, TEXT, EXECUTE, 7, "audit no word 65536 2\n"),
+    (1, 0x0000_0073, TEXT, RELOC, 7, "audit no word 65536 4\n"),
+    (1, 0, TEXT + 2, RELOC, 12, "image 15\n"),
+];
+
+#[test]
+fn the_command_audits_images(rt: HostRuntime) -> Result<(), Fail> {
+    let alloc = rt.alloc();
+    for &(version, word, entry, reloc, status, line) in &AUDITED {
+        let elf = file(alloc, version, word, entry, HEAP, reloc)?;
+        let mut files = one_file(alloc, "a.elf", &elf, 0)?;
+        let answer = Answer {
+            status,
+            put: "",
+            line,
+        };
+        assert!(rt;
+            answers(alloc, &mut files, "cheric audit a.elf", [0; 2], answer)?,
             "{line}"
         );
     }

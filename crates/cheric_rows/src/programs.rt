@@ -4,7 +4,7 @@ ghost use Rattle.c_tree.specs.Typing.{Sound};
 ghost use Rattle.int_lower.specs.Form.{is_integer_form};
 ghost use Rattle.cheric_rows.specs.OneFunction.{frame};
 
-use bounds_place::place;
+use bounds_place::{USUAL, place};
 use c_tree::{Typed, weight};
 use cap_reloc::{Table, table};
 use cheric_build::{build, build_typed, front};
@@ -31,7 +31,7 @@ fn lowered(alloc: Global, p: &Typed) -> Result<(bool, u32), NoMemory>
 fn built(alloc: Global, file: &str, p: &Typed) -> Result<(bool, u64), Refusal>
     requires sound { Sound p.now }
 {
-    let typed = build_typed(alloc, p)?;
+    let typed = build_typed(alloc, p, USUAL)?;
     let built = build(alloc, file.as_bytes())?;
     Ok((typed.elf.as_slice() == built.elf.as_slice(), built.count))
 }
@@ -70,7 +70,7 @@ const OTHERS: [(&str, u16); 5] = [
 /// Whether the program of a file is of the form, and the refusal by which it is not built.
 fn refused(alloc: Global, file: &str) -> Result<(bool, Option<Refusal>), Refusal> {
     let p = front(alloc, file.as_bytes())?;
-    Ok((is_integer_form(&p), build_typed(alloc, &p).err()))
+    Ok((is_integer_form(&p), build_typed(alloc, &p, USUAL).err()))
 }
 
 #[test]
@@ -119,7 +119,7 @@ fn placed(alloc: Global, p: &Typed) -> Result<Option<(Map, Table)>, Refusal>
     }
     let frames = one_frame(alloc)?;
     let entries = one_entry(alloc)?;
-    let map = place(alloc, p, &frames, &entries, 16)?;
+    let map = place(alloc, p, &frames, &entries, 16, USUAL)?;
     let contents = table(alloc, &map, p)?;
     Ok(Some((map, contents)))
 }

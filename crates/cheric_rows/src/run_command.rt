@@ -69,17 +69,33 @@ const FILES: [(&str, u8, &str, &str); 17] = [
 ];
 
 /// Lines on a file that puts `Hi`, with their status, output and line.
-const LINES: [(&str, u8, &str, &str); 6] = [
+const LINES: [(&str, u8, &str, &str); 11] = [
     ("cheric run a.c --steps 0", 4, "", "steps\n"),
     ("cheric run a.c --steps 1", 4, "", "steps\n"),
     ("cheric run a.c --steps 0000000099999", 0, "Hi", "exit 0\n"),
     ("cheric run a.c --steps 1000000000000", 0, "Hi", "exit 0\n"),
+    // options in any order, and one that the mode does not use
+    ("cheric run a.c --heap 33554432 --steps 0", 4, "", "steps\n"),
+    ("cheric run a.c --steps 0 --stack 65536", 4, "", "steps\n"),
+    (
+        "cheric run a.c --stack 33554432 --heap 67108864",
+        0,
+        "Hi",
+        "exit 0\n",
+    ),
+    ("cheric run a.c --out b", 0, "Hi", "exit 0\n"),
+    (
+        "cheric exec a.c --heap 16777216 --out b",
+        12,
+        "",
+        "image 1\n",
+    ),
     ("cheric run b.c", 20, "", "file\n"),
     ("cheric exec b.c --steps 9", 20, "", "file\n"),
 ];
 
 /// Words that are no line.
-const NO_LINES: [&str; 23] = [
+const NO_LINES: [&str; 33] = [
     "",
     "cheric",
     "cheric run",
@@ -97,12 +113,23 @@ const NO_LINES: [&str; 23] = [
     "cheric run a.c --steps 9 --steps 9",
     "cheric run a.c --steps 00000000000009",
     "cheric run a.c --steps 1000000000001",
-    "cheric run a.c --out b",
     "cheric run --steps 9 a.c",
     "cheric --steps 9 run a.c",
-    "cheric build a.c --steps 9",
     "cheric build a.c --out",
-    "cheric exec a.c --out b",
+    "cheric build a.c --out b --out b",
+    // sizes that no heap and no stack may have
+    "cheric run a.c --heap 100000",
+    "cheric run a.c --heap 65536",
+    "cheric run a.c --heap 16777217",
+    "cheric run a.c --heap 67174400",
+    "cheric run a.c --stack 0",
+    "cheric run a.c --stack 65537",
+    "cheric run a.c --stack 33619968",
+    "cheric build a.c --heap 0",
+    "cheric exec a.c --stack 1",
+    "cheric audit a.c --heap x",
+    "cheric run a.c --heap 16777216 --stack 65536 --heap 16777216",
+    "cheric audit",
 ];
 
 /// Failing calls of the files, the output and the notes, with the status, output and line of the file that puts `Hi`.

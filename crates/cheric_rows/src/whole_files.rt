@@ -1,5 +1,6 @@
 //! Whole files: a program of many parts, and files that are large in one thing.
 
+use bounds_place::USUAL;
 use cheric_build::{build, build_typed, front};
 use ck_base::{Pos, Refusal};
 use std::alloc::Global;
@@ -193,7 +194,7 @@ fn many_large_objects_are_typed_and_not_built(rt: HostRuntime) -> Result<(), Fai
     let file = objects(alloc, 20_000, "char g", "[60000000];")?;
     let p = front(alloc, file.as_bytes())?;
     assert_eq!(rt; p.globals.as_slice().len(), 20_000);
-    let refusal = build_typed(alloc, &p).err();
+    let refusal = build_typed(alloc, &p, USUAL).err();
     assert_eq!(rt; refusal, Some(Refusal::Code(141, START)));
     Ok(())
 }

@@ -2,7 +2,9 @@
 
 use crate::calls::{Answer, answers, answers_input, one_file, sure_file};
 use crate::whole_files::WORDS;
-use ck_base::NoMemory;
+use bounds_place::Sizes;
+use cheric_build::build_sized;
+use ck_base::{NoMemory, Refusal};
 use std::alloc::Global;
 use std::test::Fail;
 
@@ -176,6 +178,77 @@ fn words_are_counted(rt: HostRuntime) -> Result<(), Fail> {
     let input = (b"to be or not to be\n".as_slice(), 0);
     let counts = answers_input(alloc, &mut files, "cheric run a.c", input, [0; 2], answer)?;
     assert!(rt; counts);
+    Ok(())
+}
+
+/// Words on a file that asks for a whole heap and one byte more, with the output.
+const HEAPS: [(&str, &str); 3] = [
+    ("cheric run a.c", "YN"),
+    ("cheric run a.c --heap 16777216", "YN"),
+    ("cheric run a.c --heap 33554432", "YY"),
+];
+
+#[test]
+fn the_heap_has_the_chosen_length(rt: HostRuntime) -> Result<(), Fail> {
+    let alloc = rt.alloc();
+    let file =
+        "int main(void){char *p=malloc(16777216);char *q=malloc(1);putchar(p?89:78);putchar(q?89:78);return 0;}";
+    for &(words, put) in &HEAPS {
+        let mut files = one_file(alloc, "a.c", file.as_bytes(), 0)?;
+        let answer = Answer {
+            status: 0,
+            put,
+            line: "exit 0\n",
+        };
+        assert!(rt;
+            answers(alloc, &mut files, words, [0; 2], answer)?,
+            "{words}"
+        );
+    }
+    Ok(())
+}
+
+/// A function that calls itself until the stack is exhausted, and puts a dot each time.
+const DEEP: &str = "int f(int n){putchar(46);return f(n+1);}int main(void){return f(0);}";
+
+/// The smallest stack that there is.
+const SMALL: Sizes = Sizes {
+    heap: 16_777_216,
+    stack: 65_536,
+};
+
+/// How many calls of the first function stand on the smallest stack beside one of the second.
+fn depth(alloc: Global) -> Result<u64, Refusal> {
+    let map = build_sized(alloc, DEEP.as_bytes(), SMALL)?.map;
+    match map.frames.as_slice() {
+        [f, main] if f.size > 0 && main.size <= 65_536 => Ok((65_536 - main.size) / f.size),
+        _ => Ok(0),
+    }
+}
+
+#[test]
+fn the_stack_has_the_chosen_length(rt: HostRuntime) -> Result<(), Fail> {
+    let alloc = rt.alloc();
+    let mut dots = String::new(alloc);
+    for _ in 0..depth(alloc)? {
+        dots.push_str(".")?;
+    }
+    assert!(rt; dots.len() > 0);
+    let mut files = one_file(alloc, "a.c", DEEP.as_bytes(), 0)?;
+    let answer = Answer {
+        status: 3,
+        put: &dots,
+        line: "stack 1:5\n",
+    };
+    assert!(rt;
+        answers(
+            alloc,
+            &mut files,
+            "cheric run a.c --stack 65536",
+            [0; 2],
+            answer
+        )?
+    );
     Ok(())
 }
 
