@@ -60,12 +60,12 @@ fn source(alloc: Global, bytes: &[u8], failing: u64) -> Result<MemSource, NoMemo
     Ok(MemSource::new(Vec::from_slice(alloc, bytes)?, fails))
 }
 
-/// An output of 1024 bytes, of which the call with this number fails (0: none).
+/// An output of 4096 bytes, of which the call with this number fails (0: none).
 fn sink(alloc: Global, failing: u64) -> Result<MemSink, NoMemory>
     ensures { IfOk result (λ sink. sink.faults ≡ 0) }
 {
     let fails = only(alloc, failing)?;
-    MemSink::new(alloc, 1024, fails)
+    MemSink::new(alloc, 4096, fails)
 }
 
 /// What the command answers: its status, and all that it puts to the output and to the notes.

@@ -244,6 +244,19 @@ fn built_files_are_audited(rt: HostRuntime) -> Result<(), Fail> {
     Ok(())
 }
 
+#[test]
+fn a_built_file_says_its_version_and_its_count(rt: HostRuntime) -> Result<(), Fail> {
+    let alloc = rt.alloc();
+    for file in [HI, WORDS] {
+        let built = build(alloc, file.as_bytes())?;
+        let view = View::read(&built.elf)?;
+        assert!(rt; view.word(0) == Some(2), "{file}");
+        assert!(rt; view.word(12) == Some(built.count), "{file}");
+        assert!(rt; view.word(13) == None, "{file}");
+    }
+    Ok(())
+}
+
 /// Words, the failing call of the files and of the notes, with the status and line of an audit of a file that is audited by a yes.
 const AUDITS: [(&str, u64, u64, u8, &str); 5] = [
     ("cheric audit b", 0, 0, 0, "audit yes\n"),

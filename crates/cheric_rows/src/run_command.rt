@@ -78,7 +78,7 @@ const LINES: [(&str, u8, &str, &str); 11] = [
     ("cheric run a.c --heap 33554432 --steps 0", 4, "", "steps\n"),
     ("cheric run a.c --steps 0 --stack 65536", 4, "", "steps\n"),
     (
-        "cheric run a.c --stack 33554432 --heap 67108864",
+        "cheric run a.c --stack 131072 --heap 16842752",
         0,
         "Hi",
         "exit 0\n",
