@@ -20,7 +20,7 @@ use Rattle.cheri_c_sem.specs.Modes.{Store, taken}
 use Rattle.placement.specs.Relations.{Moved}
 use Rattle.placement.specs.Memories.{KeepsShapes, KeepsStack, IsClear, IsLaid, Stand, memories}
 use Rattle.placement.proofs.Shapes.{swap, smaller, kept_same, clear_part, there_later, alive_later}
-use Rattle.placement.proofs.Good.{whole_good}
+use Rattle.placement.proofs.Good.{not_below, whole_good}
 use Rattle.placement.proofs.Stored.{blank_content, content_more}
 use Rattle.placement.proofs.Changes.{contents_later}
 
@@ -107,9 +107,6 @@ clear_add t h from n c x = record { clear = λ i g e y. go i g y (get_last t h i
 
 not_less : (a b : ℕ) → b ≤ a → nat_lt a b ≡ false
 not_less a b h = grind (arith, nat_tests)
-
-not_below : (a b : ℕ) → nat_lt a b ≡ false → b ≤ a
-not_below a b e = grind (arith, nat_tests)
 
 -- an alignment of an allocation
 own_from : (n : ℕ) → 16 ≤ allocation_alignment n

@@ -15,6 +15,7 @@ use Rattle.obj_mem.proofs.Units.{memory_agrees_law}
 use Rattle.cheri_c_sem.specs.Modes.{Store, with_memory, stored, copied}
 use Rattle.placement.specs.Relations.{Moved}
 use Rattle.placement.specs.Memories.{KeepsShapes, IsAlive, ValuesGood, ContentsGood, Stand, memories}
+use Rattle.placement.proofs.Lists.{some_same}
 use Rattle.placement.proofs.Shapes.{Alters, alters_same, alters_life, KeepsOwned, owned_kept, good_owned, there_later, alive_later, clear_same, spread_same, stack_altered}
 use Rattle.placement.proofs.Good.{WhereOk}
 use Rattle.placement.proofs.Stored.{WhereUnitOk, blank_content, content_set, store_good, copy_good, store_shapes, copy_shapes}
@@ -61,11 +62,8 @@ pub stands_placed : (s t : List Shape) → Paired SameShape s t → (k : ℕ) �
     → slice_get t k ≡ Some g → IsNotReturned g.life
 stands_placed s t e k a g f = placed_life (slice_get s k) (slice_get t k) (get_both SameShape k s t e) a.0 a.1 a.2 g f
 
-some_is : {A : Type 0} (o : Option A) (x y : A) → o ≡ Some x → o ≡ Some y → x ≡ y
-some_is o x y e f = cc
-
 stands_strict : (s : List Shape) (k : ℕ) → IsAlive s k → (g : Shape) → slice_get s k ≡ Some g → IsNotReturned g.life
-stands_strict s k a g f = subst (λ z. IsNotReturned z.life) (some_is (slice_get s k) a.0 g a.1 f) a.2
+stands_strict s k a g f = subst (λ z. IsNotReturned z.life) (some_same (slice_get s k) a.0 g a.1 f) a.2
 
 note_shapes : (d : Mode) (m : Memory) (v : Value) (own : ℕ) → (note_member d m v own).shapes ≡ m.shapes
 note_shapes (Placed a) m (Int x) own = refl

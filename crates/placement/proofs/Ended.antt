@@ -7,7 +7,8 @@ use Rattle.obj_mem.specs.Agreement.{IsNotReturned, SameMemory}
 use Rattle.obj_mem.proofs.Units.{memory_agrees_law}
 use Rattle.cheri_c_sem.specs.Modes.{Store, Plan, with_memory, operations}
 use Rattle.cheri_c_sem.specs.Calls.{end_locals}
-use Rattle.placement.proofs.Shapes.{IsFrom, KeepsOwned, from_kept, kept_same, some_same, get_set, set_is, set_other, same_place}
+use Rattle.placement.proofs.Lists.{some_same}
+use Rattle.placement.proofs.Shapes.{IsFrom, KeepsOwned, from_kept, kept_same, get_set, set_is, set_other, same_place}
 
 -- count objects from number k on end
 pub record Ended (k count : ℕ) (t u : List Shape) : Type 0 where

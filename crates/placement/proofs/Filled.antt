@@ -1,5 +1,5 @@
 -- What stands in the objects with which a program begins.
-use Rattle.std.proofs.Common.{◌≡◌, ℕ, zero, suc, ◌+◌, ◌-◌, ◌%◌, ◌^◌, ◌<◌, ◌≤◌, Bool, true, false, ◌||◌, nat_lt, List, [], ◌∷◌, ◌++◌, length, replicate, Option, Some, None, Result, Ok, Err, refl, sym, ap, ◌∙◌, subst, arith}
+use Rattle.std.proofs.Common.{◌≡◌, ℕ, zero, suc, ◌+◌, ◌-◌, ◌%◌, ◌^◌, ◌<◌, ◌≤◌, Bool, false, ◌||◌, nat_lt, List, [], ◌∷◌, ◌++◌, length, replicate, Option, Some, None, Result, Ok, Err, refl, sym, ap, ◌∙◌, subst, arith}
 use Rattle.std.specs.Prelude.{slice_get, slice_set, find}
 use Rattle.std.proofs.lemmas.Bool.Decides.{nat_tests}
 use Rattle.std.proofs.Common.{length-append}
@@ -10,7 +10,7 @@ use Rattle.obj_mem.specs.declared.map.Map.{Map}
 use Rattle.obj_mem.specs.declared.ending.Fault.{Fault}
 use Rattle.obj_mem.specs.declared.ending.Fault.TheVariants as F
 use Rattle.obj_mem.specs.Values.{Value, Int, Live, Addresses}
-use Rattle.obj_mem.specs.Objects.{Life, Active, Inactive, Returned, Shape, Content, Note, Memory, Mode, Placed, Strict, owned_of_shape}
+use Rattle.obj_mem.specs.Objects.{Life, Active, Shape, Content, Note, Memory, Mode, Placed, Strict, owned_of_shape}
 use Rattle.obj_mem.specs.Access.{Spot, misses, unless, reach, onward, outside_unless_active, takes_padding, padding_where, at_place, at_spot, Piece, store_access, put, stored_piece, store}
 use Rattle.obj_mem.specs.Table.{addresses_of}
 use Rattle.obj_mem.specs.Agreement.{SameShape, SameMemory, Answers}
@@ -22,7 +22,7 @@ use Rattle.cheri_c_sem.specs.Calls.{memory_or, written, with_bytes, with_links, 
 use Rattle.obj_mem.specs.Standing.{IsGood}
 use Rattle.placement.specs.Memories.{ContentsGood}
 use Rattle.placement.proofs.Good.{WhereOk}
-use Rattle.placement.proofs.Stored.{PieceGood, put_piece_good, stored_good, bytes_good}
+use Rattle.placement.proofs.Stored.{PieceGood, padded, living, put_piece_good, stored_good, bytes_good}
 
 -- ---- a store at the start succeeds, or fails by a cause that does not depend on the mode
 
@@ -86,16 +86,6 @@ set_length : {A : Type 0} (xs : List A) (i : ℕ) (x : A) → length (slice_set 
 set_length [] i x = refl
 set_length (y ∷ xs) zero x = refl
 set_length (y ∷ xs) (suc i) x = ap suc (set_length xs i x)
-
-padded : {A : Type 0} (Q : A → Type 0) (b : Bool) (x : Result A Fault) → WhereOk Q x → WhereOk Q (padding_where b x)
-padded Q true x h = tt
-padded Q false x h = h
-
-living : {A : Type 0} (Q : A → Type 0) (l : Life) (x : Result A Fault) → WhereOk Q x
-    → WhereOk Q (outside_unless_active l x)
-living Q Active x h = h
-living Q Inactive x h = tt
-living Q Returned x h = tt
 
 placed_ok : {A : Type 0} (Q : A → Type 0) (d : Mode) (m : Memory) (p : Spot) (n : ℕ) (a : Option Shape)
     (b : Option Content) (f : Content → Result A Fault) → ((c : Content) → WhereOk Q (f c))

@@ -45,7 +45,7 @@ both_ways P (Err (F.Cause c)) y h g = h
 both_ways P (Err F.Outside) y h g = tt
 both_ways P (Err (F.Unspecified u)) y h g = tt
 
-not_below : (a b : ℕ) → nat_lt a b ≡ false → b ≤ a
+pub not_below : (a b : ℕ) → nat_lt a b ≡ false → b ≤ a
 not_below a b e = grind (arith, nat_tests)
 
 both_false : (b c : Bool) → (b || c) ≡ false → (b ≡ false) × (c ≡ false)

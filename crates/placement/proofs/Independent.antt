@@ -35,34 +35,15 @@ use Rattle.placement.specs.Endings.{IsOpen, IsDefined, IsAsMeant, Follows}
 use Rattle.placement.specs.Independence.{PlacementIndependence}
 use Rattle.placement.specs.Relations.{IsWord}
 use Rattle.placement.specs.Trees.{FunctionFit, FunctionsFit}
+use Rattle.placement.proofs.Lists.{map_get, map_from, map_length, front_get, back_get}
 use Rattle.placement.proofs.Objects.{length_of}
 use Rattle.placement.proofs.Started.{PointerFits, GlobalFit, follows}
 use Rattle.placement.proofs.Initial.{exact_fitted, near_kept, kept_word}
 use Rattle.placement.proofs.FitExpressions.{permitted}
 use Rattle.placement.proofs.FitStatements.{parameters_fit, statement_fit}
-use Rattle.placement.proofs.TypedFits.{map_from, own_is, globals_same_lengths, literals_lengths, functions_count, frames_fit}
+use Rattle.placement.proofs.TypedFits.{own_is, globals_same_lengths, literals_lengths, functions_count, frames_fit}
 
 -- ---- lists
-
-map_get : {A B : Type 0} (f : A → B) (xs : List A) (i : ℕ) (x : A) → slice_get xs i ≡ Some x
-    → slice_get (map f xs) i ≡ Some (f x)
-map_get f [] i x e = absurd cc
-map_get f (y ∷ xs) zero x e = let q : y ≡ x = cc in ap (λ z. Some (f z)) q
-map_get f (y ∷ xs) (suc i) x e = map_get f xs i x e
-
-map_length : {A B : Type 0} (f : A → B) (xs : List A) → length (map f xs) ≡ length xs
-map_length f [] = refl
-map_length f (x ∷ xs) = ap suc (map_length f xs)
-
-front_get : {A : Type 0} (xs ys : List A) (i : ℕ) (x : A) → slice_get xs i ≡ Some x → slice_get (xs ++ ys) i ≡ Some x
-front_get [] ys i x e = absurd cc
-front_get (y ∷ xs) ys zero x e = e
-front_get (y ∷ xs) ys (suc i) x e = front_get xs ys i x e
-
-back_get : {A : Type 0} (xs ys : List A) (i : ℕ) → slice_get (xs ++ ys) (length xs + i) ≡ slice_get ys i
-back_get [] ys i = let z : 0 + i ≡ i = omega arith in ap (slice_get ys) z
-back_get (x ∷ xs) ys i = let z : suc (length xs) + i ≡ suc (length xs + i) =
-    omega arith in ap (slice_get (x ∷ xs ++ ys)) z ∙ back_get xs ys i
 
 trees_count : (p : Typed) (fs : List FunDef) (j : ℕ) → length (function_trees p j fs) ≡ length fs
 trees_count p [] j = refl

@@ -9,6 +9,7 @@ use Rattle.obj_mem.specs.Legal.{ObjectNeed, Needs, owned_of, Apart, AreApart, Is
 use Rattle.obj_mem.specs.Table.{addresses_of}
 use Rattle.obj_mem.specs.Standing.{IsBased, IsSpread, AreExact}
 use Rattle.placement.specs.Memories.{IsClear, IsLaid}
+use Rattle.placement.proofs.Lists.{map_get, map_join}
 use Rattle.placement.proofs.Shapes.{swap}
 use Rattle.placement.proofs.Objects.{shapes_from}
 
@@ -19,12 +20,6 @@ abbrev extent_of : Shape → ℕ × ℕ
 extent_of s = (s.base, s.owned)
 
 -- ---- extents by their places
-
-map_get : (t : List Shape) (k : ℕ) (s : Shape) → slice_get t k ≡ Some s
-    → slice_get (map extent_of t) k ≡ Some (s.base, s.owned)
-map_get [] k s e = absurd cc
-map_get (x ∷ t) zero s e = let q : x ≡ s = cc in ap (λ z. Some (extent_of z)) q
-map_get (x ∷ t) (suc k) s e = map_get t k s e
 
 apart_from : (x y : ℕ × ℕ) (es : List (ℕ × ℕ)) (k : ℕ) → IsApartFrom x es → slice_get es k ≡ Some y → AreApart x y
 apart_from x y [] k h e = absurd cc
@@ -90,10 +85,6 @@ based_get [] k s h e = absurd cc
 based_get (x ∷ t) zero s h e = let q : x ≡ s = cc in subst (λ z. IsBased z.base z.owned z.length) q h.0
 based_get (x ∷ t) (suc k) s h e = based_get t k s h.1 e
 
-map_join : (s t : List Shape) → map extent_of (s ++ t) ≡ map extent_of s ++ map extent_of t
-map_join [] t = refl
-map_join (x ∷ s) t = ap (λ v. extent_of x ∷ v) (map_join s t)
-
 same_from : (base : ℕ → ℕ) (j : ℕ) → base (0 + j) ≡ base j
 same_from base j = let z : 0 + j ≡ j = omega arith in ap base z
 
@@ -116,7 +107,7 @@ module _ (n : Needs) (m : Map) (legal : IsLegal n m) (exact_globals : AreExact n
 
   extents : map extent_of placed_shapes ≡ objects_of n m
   extents =
-      map_join (shapes_from (base_at m.globals) 0 (map length_needed n.globals))
+      map_join extent_of (shapes_from (base_at m.globals) 0 (map length_needed n.globals))
       (shapes_from (base_at m.literals) 0 (map length_needed n.literals))
       ∙ ap (λ es. es ++ map extent_of (shapes_from (base_at m.literals) 0 (map length_needed n.literals)))
       (extents_from n.globals m.globals (base_at m.globals) 0 (same_from (base_at m.globals)) legal.globals)
@@ -125,7 +116,7 @@ module _ (n : Needs) (m : Map) (legal : IsLegal n m) (exact_globals : AreExact n
 
   extent_is : (k : ℕ) (s : Shape) → slice_get placed_shapes k ≡ Some s
       → slice_get (objects_of n m) k ≡ Some (s.base, s.owned)
-  extent_is k s e = subst (λ es. slice_get es k ≡ Some (s.base, s.owned)) extents (map_get placed_shapes k s e)
+  extent_is k s e = subst (λ es. slice_get es k ≡ Some (s.base, s.owned)) extents (map_get extent_of placed_shapes k s e)
 
   all_based : AllBased placed_shapes
   all_based = based_join _ _

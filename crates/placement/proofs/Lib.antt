@@ -1,4 +1,5 @@
 pub mod Growing
+pub mod Lists
 pub mod Sim
 pub mod Operated
 pub mod SimExpressions

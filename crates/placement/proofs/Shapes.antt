@@ -7,6 +7,7 @@ use Rattle.obj_mem.specs.Legal.{Apart}
 use Rattle.obj_mem.specs.Agreement.{IsNotReturned}
 use Rattle.obj_mem.specs.Standing.{IsBased, IsFitted, IsGood, IsSpread}
 use Rattle.placement.specs.Memories.{Kept, KeepsShapes, KeepsStack, IsClear, IsThere, IsAlive}
+use Rattle.placement.proofs.Lists.{some_same}
 
 -- ---- extents
 
@@ -59,9 +60,6 @@ keeps_twice s t u a b = record {
   kept = λ i g e. let x = a.kept i g e in let y = b.kept i x.0 x.1 in
       (y.0, y.1, kept_twice g x.0 y.0 x.2 y.2);
 }
-
-pub some_same : {A : Type 0} (o : Option A) (x y : A) → o ≡ Some x → o ≡ Some y → x ≡ y
-some_same o x y e f = cc
 
 pub some_not_none : {A : Type 0} (o : Option A) (x : A) → o ≡ Some x → o ≡ None → ⊥
 some_not_none o x e f = cc

@@ -1,5 +1,5 @@
 -- Memories stand for one another at the start of a program, and so its runs agree.
-use Rattle.std.proofs.Common.{◌≡◌, ℕ, zero, suc, ◌+◌, ◌-◌, ◌^◌, ◌<◌, ◌≤◌, true, List, [], ◌∷◌, ◌++◌, length, map, Some, refl, sym, ap, ◌∙◌, subst, inl, inr, arith, length-append}
+use Rattle.std.proofs.Common.{◌≡◌, ℕ, suc, ◌+◌, ◌-◌, ◌^◌, ◌<◌, ◌≤◌, true, List, [], ◌∷◌, ◌++◌, length, map, Some, refl, sym, ap, ◌∙◌, subst, inl, inr, arith, length-append}
 use Rattle.std.specs.Prelude.{slice_get, slice_index_or}
 use Rattle.std.specs.List.{AllByRecursion}
 use Rattle.cap_concentrate.specs.Rounding.{owned}
@@ -22,6 +22,7 @@ use Rattle.placement.specs.Endings.{Agrees, Follows}
 use Rattle.placement.specs.Relations.{IsWord}
 use Rattle.placement.specs.Trees.{FunctionsFit}
 use Rattle.placement.specs.Memories.{IsThere, IsClear, ContentsGood, FramesFit, Stand, memories}
+use Rattle.placement.proofs.Lists.{map_get, map_from, map_join, map_length, front_get, back_get, below_get}
 use Rattle.placement.proofs.SimCalls.{runs_agree}
 use Rattle.placement.proofs.Instance.{keeps}
 use Rattle.placement.proofs.Objects.{object_shape, shapes_from, length_of, globals_added, literals_added, globals_same, literals_same, globals_blank, literals_blank}
@@ -46,43 +47,6 @@ pub record GlobalFit (lengths : List ℕ) (functions : ℕ) (g : Global) : Type 
 
 abbrev pub lengths_of : Program → List ℕ
 lengths_of p = map length_of p.globals ++ map length p.literals
-
--- ---- lists
-
-map_get : {A B : Type 0} (f : A → B) (xs : List A) (i : ℕ) (x : A) → slice_get xs i ≡ Some x
-    → slice_get (map f xs) i ≡ Some (f x)
-map_get f [] i x e = absurd cc
-map_get f (y ∷ xs) zero x e = let q : y ≡ x = cc in ap (λ z. Some (f z)) q
-map_get f (y ∷ xs) (suc i) x e = map_get f xs i x e
-
-map_from : {A B : Type 0} (f : A → B) (xs : List A) (i : ℕ) (y : B) → slice_get (map f xs) i ≡ Some y
-    → (x : A) × (slice_get xs i ≡ Some x) × (f x ≡ y)
-map_from f [] i y e = absurd cc
-map_from f (x ∷ xs) zero y e = (x, refl, cc)
-map_from f (x ∷ xs) (suc i) y e = map_from f xs i y e
-
-map_join : {A B : Type 0} (f : A → B) (xs ys : List A) → map f (xs ++ ys) ≡ map f xs ++ map f ys
-map_join f [] ys = refl
-map_join f (x ∷ xs) ys = ap (λ v. f x ∷ v) (map_join f xs ys)
-
-front_get : {A : Type 0} (xs ys : List A) (i : ℕ) (x : A) → slice_get xs i ≡ Some x → slice_get (xs ++ ys) i ≡ Some x
-front_get [] ys i x e = absurd cc
-front_get (y ∷ xs) ys zero x e = e
-front_get (y ∷ xs) ys (suc i) x e = front_get xs ys i x e
-
-back_get : {A : Type 0} (xs ys : List A) (i : ℕ) → slice_get (xs ++ ys) (length xs + i) ≡ slice_get ys i
-back_get [] ys i = let z : 0 + i ≡ i = omega arith in ap (slice_get ys) z
-back_get (x ∷ xs) ys i = let z : suc (length xs) + i ≡ suc (length xs + i) =
-    omega arith in ap (slice_get (x ∷ xs ++ ys)) z ∙ back_get xs ys i
-
-below_get : {A : Type 0} (xs : List A) (i : ℕ) → i < length xs → (x : A) × (slice_get xs i ≡ Some x)
-below_get [] i l = absurd (omega arith)
-below_get (x ∷ xs) zero l = (x, refl)
-below_get (x ∷ xs) (suc i) l = below_get xs i (omega arith)
-
-map_length : {A B : Type 0} (f : A → B) (xs : List A) → length (map f xs) ≡ length xs
-map_length f [] = refl
-map_length f (x ∷ xs) = ap suc (map_length f xs)
 
 -- ---- the strict objects
 

@@ -87,11 +87,11 @@ seen_length shapes c i (suc n) = ap suc (seen_length shapes c (suc i) n)
 
 -- ---- answers
 
-padded : {A : Type 0} (Q : A → Type 0) (b : Bool) (x : Result A Fault) → WhereOk Q x → WhereOk Q (padding_where b x)
+pub padded : {A : Type 0} (Q : A → Type 0) (b : Bool) (x : Result A Fault) → WhereOk Q x → WhereOk Q (padding_where b x)
 padded Q true x h = tt
 padded Q false x h = h
 
-living : {A : Type 0} (Q : A → Type 0) (l : Life) (x : Result A Fault) → WhereOk Q x
+pub living : {A : Type 0} (Q : A → Type 0) (l : Life) (x : Result A Fault) → WhereOk Q x
     → WhereOk Q (outside_unless_active l x)
 living Q Active x h = h
 living Q Inactive x h = tt

@@ -32,19 +32,9 @@ use Rattle.cheri_c_sem.specs.Modes.{slot_offset}
 use Rattle.cheri_c_sem.specs.Programs.{lengths_of, global_tree, function_tree, function_trees}
 use Rattle.cheri_c_sem.specs.Tree as tree
 use Rattle.placement.specs.Memories.{local_at, LocalFits, FrameFits, FramesFit}
+use Rattle.placement.proofs.Lists.{map_from}
 use Rattle.placement.proofs.Objects.{length_of}
 use Rattle.placement.proofs.Lawful.{length_needed}
-
--- ---- lists
-
-pub map_from : {A B : Type 0} (f : A → B) (xs : List A) (i : ℕ) (y : B) → slice_get (map f xs) i ≡ Some y
-    → (x : A) × (slice_get xs i ≡ Some x) × (f x ≡ y)
-map_from f [] i y e = absurd cc
-map_from f (x ∷ xs) zero y e = (x, refl, cc)
-map_from f (x ∷ xs) (suc i) y e = map_from f xs i y e
-
-some_is : {A : Type 0} (o : Option A) (x y : A) → o ≡ Some x → o ≡ Some y → x ≡ y
-some_is o x y e f = cc
 
 -- ---- lengths
 
