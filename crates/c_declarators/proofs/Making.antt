@@ -1,6 +1,6 @@
 -- Types that declarators make, step by step.
 use Rattle.std.proofs.Common.{◌≡◌, ℕ, zero, suc, ◌+◌, ◌<◌, ◌≤◌, ◌-◌, List, [], ◌∷◌, ◌++◌, length, map, take, drop, get_or, drop-cons, All, refl, sym, ap, ◌∙◌, arith}
-use Rattle.std.specs.Prelude.{slice_index_or, Bool, not, ◌||◌, nat_lt}
+use Rattle.std.specs.Prelude.{slice_index_or, Bool, not, ◌||◌}
 use Rattle.std.proofs.lemmas.List.{take_more, drop_all}
 use Rattle.std.proofs.lemmas.List.Elements.{All-push}
 use Rattle.c_tree.specs.Types.{Ty, Function, bare, in_signature}

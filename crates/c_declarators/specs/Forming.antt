@@ -1,5 +1,5 @@
 -- The types that declarators make, over the types by their numbers.
-use Rattle.std.specs.Prelude.{◌≡◌, ℕ, ◌<◌, not, ◌||◌, nat_lt, List, [], ◌∷◌, length, map, All}
+use Rattle.std.specs.Prelude.{◌≡◌, ℕ, ◌<◌, not, ◌||◌, List, [], ◌∷◌, map, All}
 use Rattle.c_tree.specs.Types.{Ty, Tys, Function, bare, in_signature}
 use Rattle.c_tree.specs.Views.{tys}
 use Rattle.c_tree.specs.Scopes.{State}

@@ -1,6 +1,6 @@
 //! The types that declarators make (C11 6.7.6).
 
-ghost use Rattle.std.specs.Prelude.{◌≡◌, ℕ, ◌<◌, ◌||◌, length, All, MatchOption, IfOk};
+ghost use Rattle.std.specs.Prelude.{◌≡◌, ℕ, ◌<◌, ◌||◌, All, MatchOption, IfOk};
 ghost use Rattle.c_tree.specs.Types.{Pointer, adjusted, in_signature};
 ghost use Rattle.c_tree.specs.Scopes.{State, is_complete};
 ghost use Rattle.c_tree.specs.Readings.{Point, Row};
