@@ -16,9 +16,10 @@ use rv_instr::{BranchOp, ImmOp, Instr, Reg};
 use std::alloc::Global;
 use std::marker::Model;
 
-/// The code so far, with the places in the source of its accesses and calls, and the jumps that lead nowhere yet. A clause sees the
-/// numbers of its words and of the functions that it enters. Each word is one of the machine, and all of them obey the rules of
-/// contained code, where they may lead to the next word; the lines ascend and lie in the code.
+/// The code so far, with the places in the source of its accesses and calls, and the jumps that lead nowhere yet. A
+/// clause sees the numbers of its words and of the functions that it enters. Each word is one of the machine, and all
+/// of them obey the rules of contained code, where they may lead to the next word; the lines ascend and lie in the
+/// code.
 #[derive(Drop)]
 pub struct Code {
     alloc: Global,
@@ -96,7 +97,8 @@ impl Code {
         Ok(())
     }
 
-    /// Appends an instruction with a place in the source: of kind 0 for an access or a call, and 1 for the first store of a prologue.
+    /// Appends an instruction with a place in the source: of kind 0 for an access or a call, and 1 for the first
+    /// store of a prologue.
     pub fn put_at(&mut self, i: Instr, pos: Pos, kind: u32) -> Result<(), NoMemory>
         requires plain { IsPlainWord i }
         requires room { self.old.words < room }
@@ -168,7 +170,8 @@ impl Code {
         self.put_all(part.as_slice())
     }
 
-    /// Stores a capability at an offset behind a base, by a scratch register that is neither the base nor what is stored.
+    /// Stores a capability at an offset behind a base, by a scratch register that is neither the base nor what is
+    /// stored.
     pub fn store_far(
         &mut self,
         from: Reg,
@@ -283,7 +286,8 @@ impl Code {
         Ok(())
     }
 
-    /// Leads the calls to the functions' entries, and appends a jump to itself, so that no run falls off the code's end.
+    /// Leads the calls to the functions' entries, and appends a jump to itself, so that no run falls off the code's
+    /// end.
     pub fn complete(self) -> Result<Complete, NoMemory>
         ensures len { IfOk result (λ c. vec_len c.words ≡ self.words + 1) }
         ensures each { IfOk result (λ c. vec_len c.entries ≡ self.entries) }

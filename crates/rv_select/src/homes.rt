@@ -24,7 +24,8 @@ pub enum Place {
     Slot(u64),
 }
 
-/// The table of the program's capabilities: how many entries stand before those of the literals, of the functions, and of the heap.
+/// The table of the program's capabilities: how many entries stand before those of the literals, of the functions,
+/// and of the heap.
 #[derive(Clone, Copy, Debug)]
 pub struct Entries {
     pub literals: u64,

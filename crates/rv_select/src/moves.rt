@@ -43,8 +43,8 @@ fn redirect(moves: &mut Vec<Move>, from: Reg, to: Reg)
     }
 }
 
-/// Carries out moves as if all were done at once, with two words for each at most. Their targets differ, and none reads or writes
-/// the scratch register.
+/// Carries out moves as if all were done at once, with two words for each at most. Their targets differ, and none
+/// reads or writes the scratch register.
 pub fn move_all(code: &mut Code, moves: Vec<Move>, scratch: Reg) -> Result<(), NoMemory>
     ensures { OnOk result (Grows (2 * vec_len moves) code.old code.new) }
 {

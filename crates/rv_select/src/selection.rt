@@ -97,8 +97,8 @@ fn all_functions(
     Ok(())
 }
 
-/// Selects the machine's instructions for a program's code. The text begins with a call of `main`, then has the functions in their
-/// order, and ends with a jump to itself. It refuses nothing but for want of memory.
+/// Selects the machine's instructions for a program's code. The text begins with a call of `main`, then has the
+/// functions in their order, and ends with a jump to itself. It refuses nothing but for want of memory.
 pub fn select(
     alloc: Global,
     t: &Tac,

@@ -62,7 +62,8 @@ fn round(code: &mut Code) -> Result<(), NoMemory>
     code.put(instr::immediate(ImmOp::Andi, right(), right(), -16))
 }
 
-/// x4 becomes the least address from the heap's next on that the mask in x29 keeps; x29 becomes the end of the object there.
+/// x4 becomes the least address from the heap's next on that the mask in x29 keeps; x29 becomes the end of the object
+/// there.
 fn find(code: &mut Code) -> Result<(), NoMemory>
     ensures { OnOk result (Grows 4 code.old code.new) }
 {
@@ -92,8 +93,8 @@ fn take(code: &mut Code, heap: u64) -> Result<(), NoMemory>
     code.store_far(left(), Reg::TABLE, heap, way())
 }
 
-/// A length in x10 becomes the pointer to a new object of the heap, or null where the heap hasn't so many bytes left. The address
-/// of the table's entry of the heap, which stands at an offset in the table, is the heap's next address.
+/// A length in x10 becomes the pointer to a new object of the heap, or null where the heap hasn't so many bytes left.
+/// The address of the table's entry of the heap, which stands at an offset in the table, is the heap's next address.
 fn allocate(code: &mut Code, heap: u64) -> Result<(), NoMemory>
     ensures { OnOk result (Grows 25 code.old code.new) }
 {
