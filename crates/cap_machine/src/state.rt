@@ -1,5 +1,5 @@
 //! Reading and writing the state.
-ghost use Rattle.std.specs.Prelude.{◌≡◌, ℕ};
+ghost use Rattle.std.specs.Prelude.{◌≡◌, ℕ, ◌%◌, ◌<◌};
 ghost use Rattle.cap_ops.specs.Capability.{usable, added};
 ghost use Rattle.cap_machine.specs.State.{register, integer, with_register, next, counter};
 ghost use Rattle.cap_machine.specs.Rows.{set, set_integer, link, jump, trap};
@@ -33,20 +33,15 @@ fn next_block(c: Cap) -> Cap
     add(c, 4)
 }
 
-/// The counter at the next instruction. Within a block of 2048 addresses the bounds stay.
-#[tactic(auto, using(crate::proofs::KeptBounds::moved_in_block))]
+/// Moves the counter to the next instruction within a block of 2048 addresses, where its bounds stay.
 #[inline(always)]
-fn next_counter(c: Cap) -> Cap
-    ensures { result ≡ added c 4 }
+fn step_in_block(c: &mut Cap)
+    requires { c.old.fields.address % 2048 < 2044 }
+    ensures { c.new ≡ added c.old 4 }
 {
-    let at = address(c);
-    if at % 2048 >= 2044 {
-        return next_block(c);
-    }
-    let mut next = c;
-    next.tag = is_usable(c);
-    next.fields.address = at + 4;
-    next
+    let at = address(*c);
+    c.tag = is_usable(*c);
+    c.fields.address = at + 4;
 }
 
 impl Machine {
@@ -89,7 +84,11 @@ impl Machine {
     pub(crate) fn advance(&mut self)
         ensures { self.new ≡ next self.old }
     {
-        self.pc = next_counter(self.pc);
+        if address(self.pc) % 2048 < 2044 {
+            step_in_block(&mut self.pc);
+        } else {
+            self.pc = next_block(self.pc);
+        }
     }
 
     pub(crate) fn trap(&self, cause: Cause) -> Step
