@@ -129,7 +129,10 @@ fn map(
 
 #[test]
 fn objects_stand_behind_the_table(rt: HostRuntime) {
-    let m = got(&rt, map(&rt, rt.alloc(), &[4095, 4097, 100_000], 4097, USUAL));
+    let m = got(
+        &rt,
+        map(&rt, rt.alloc(), &[4095, 4097, 100_000], 4097, USUAL),
+    );
     let globals = [4_294_967_408, 4_294_971_504, 4_294_975_616];
     assert!(rt; m.text == (1_073_741_824, 64));
     assert!(rt; m.table == (4_294_967_296, 112));

@@ -362,7 +362,7 @@ module _ {S E : Type 0} (limits : Limits E) (act : S → Act S E) where
   run_ended own wanted n first before now next s s' k x in_room out_room running acted = (
     IfSome-from before.left (λ bytes. RanIn (outcome limits act wanted first n) bytes before next (wanted s' x)) (λ bytes left. RanIn-acted wanted n first bytes before now next s s' k x (act s) refl in_room out_room (running.sofar bytes left) acted),
     Counted-acted own before now next s s' x (act s) refl in_room out_room running.source_faults running.sink_faults
-    (Grows-Grows before.held now.held next.held running.grows (acted_grows now next s s' (Some x) (act s) acted)) acted,
+        (Grows-Grows before.held now.held next.held running.grows (acted_grows now next s s' (Some x) (act s) acted)) acted,
   )
 
   -- the run did all its acts
