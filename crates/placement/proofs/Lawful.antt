@@ -116,7 +116,8 @@ module _ (n : Needs) (m : Map) (legal : IsLegal n m) (exact_globals : AreExact n
 
   extent_is : (k : ℕ) (s : Shape) → slice_get placed_shapes k ≡ Some s
       → slice_get (objects_of n m) k ≡ Some (s.base, s.owned)
-  extent_is k s e = subst (λ es. slice_get es k ≡ Some (s.base, s.owned)) extents (map_get extent_of placed_shapes k s e)
+  extent_is k s e = subst (λ es. slice_get es k ≡ Some (s.base, s.owned)) extents
+      (map_get extent_of placed_shapes k s e)
 
   all_based : AllBased placed_shapes
   all_based = based_join _ _

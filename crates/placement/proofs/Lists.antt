@@ -21,7 +21,8 @@ pub map_join : {A B : Type 0} (f : A → B) (xs ys : List A) → map f (xs ++ ys
 map_join f [] ys = refl
 map_join f (x ∷ xs) ys = ap (λ v. f x ∷ v) (map_join f xs ys)
 
-pub front_get : {A : Type 0} (xs ys : List A) (i : ℕ) (x : A) → slice_get xs i ≡ Some x → slice_get (xs ++ ys) i ≡ Some x
+pub front_get : {A : Type 0} (xs ys : List A) (i : ℕ) (x : A) → slice_get xs i ≡ Some x
+    → slice_get (xs ++ ys) i ≡ Some x
 front_get [] ys i x e = absurd cc
 front_get (y ∷ xs) ys zero x e = e
 front_get (y ∷ xs) ys (suc i) x e = front_get xs ys i x e

@@ -1,5 +1,5 @@
--- Why the law asks that the input is of bytes: for numbers that are none the strict meaning and the placed one can differ, since the
--- first compares the numbers and the second the bits that they have room for.
+-- Why the law asks that the input is of bytes: for numbers that are none the strict meaning and the placed one can
+-- differ, since the first compares the numbers and the second the bits that they have room for.
 use Rattle.std.specs.Prelude.{◌≡◌, ◌+◌, ◌^◌, true, false, [], ◌∷◌, Some, None, refl}
 use Rattle.ck_base.specs.World.{World}
 use Rattle.ck_int.specs.declared.kinds.IntKind.TheVariants as int
@@ -16,7 +16,10 @@ use Rattle.cheri_c_sem.proofs.Words.{at, args, main, map}
 
 -- uintptr_t u=getchar();return cheri_is_equal_exact(u,(uintptr_t)5);
 abbrev compared : Program
-compared = main 0 [] (Return (Some (Library (at 9) (Works work.Equal_exact) (args (Convert (at 5) (Plain int.I32) (Capability false) true (Library (at 6) Get_char (args [])) ∷ Null 5 ∷ [])))) ∷ [])
+compared = main 0 [] (Return
+    (Some (Library (at 9) (Works work.Equal_exact)
+    (args (Convert (at 5) (Plain int.I32) (Capability false) true (Library (at 6) Get_char (args [])) ∷ Null 5 ∷
+    [])))) ∷ [])
 
 -- an input that is not of bytes
 abbrev no_bytes : World
