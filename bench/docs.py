@@ -1,10 +1,10 @@
 #!/usr/bin/env python3
 """bench/docs.py [--run] [--cheric FILE]: whether what README.md and docs/ name is there.
 
-Each link leads to a file. Each name in the tables of definitions is a definition of the specs, a function, a type or a field. Each row of
-docs/promises.md names a crate, functions of it and clauses of their contracts. With --run each program of docs/causes.md and docs/refusals.md
-that stands beside its line is run by `./cheric` and must end by that line, and each file of examples/ must put and say what its first comment
-says. It proves nothing and is no part of the gate."""
+Each link leads to a file. Each name in the tables of definitions is a definition of the specs, a function, a type or a
+field. What stands behind a promise of docs/promises.md is a crate, functions of it and clauses of their contracts. With
+--run each program of docs/causes.md and docs/refusals.md that stands beside its line is run by `./cheric` and must end by
+that line. It proves nothing and is no part of the gate."""
 import glob
 import os
 import re
@@ -14,7 +14,8 @@ from calls import answer_of, parser, prepared
 
 TOP = os.path.dirname(os.path.dirname(os.path.abspath(__file__)))
 PAGES = ["README.md", *sorted(os.path.relpath(it, TOP) for it in glob.glob(f"{TOP}/docs/*.md"))]
-DEFINED = re.compile(r"\b(?:fn|struct|enum|const|trait|type|mod|ensures|requires|(?:pub\s+)?(?:record|data|module))\s+([A-Za-z_]\w*)")
+WORDS = "fn|struct|enum|const|trait|type|mod|ensures|requires|record|data|module"
+DEFINED = re.compile(rf"\b(?:{WORDS})\s+([A-Za-z_]\w*)")
 NAMED = re.compile(r"\bpub\s+([A-Za-z_]\w*)\s*:", re.M)
 BRANCH = re.compile(r"^\s+(?:pub )?([A-Za-z_][\w-]*)\s*(?::|\{|\(|,|;|=>)", re.M)
 
@@ -69,19 +70,17 @@ def definition_faults(page, text, known):
 
 
 def promise_faults(page, text, known):
-    for cells in rows_of(text):
-        crate = re.fullmatch(r"`(\w+)`", cells[1]) if len(cells) == 4 else None
-        if not crate:
-            continue
-        own = names_in(sources(crate[1]))
+    """Behind each promise stand its crates and functions, a colon, and the clauses, in italics."""
+    crates = set(os.listdir(f"{TOP}/crates"))
+    for behind in re.findall(r"\*(`[^*]+)\*", text):
+        named, _, clauses = " ".join(behind.split()).partition(": ")
+        words = list(words_of(named))
+        own = set().union(*(names_in(sources(it)) for it in words if it in crates))
         if not own:
-            yield f"{page}: no crate {crate[1]}"
-        for word in words_of(cells[2]):
-            if word not in own and word not in known:
-                yield f"{page}: {crate[1]} has no {word}"
-        for word in words_of(cells[3]):
-            if word not in own and word not in known:
-                yield f"{page}: {crate[1]} has no clause {word}"
+            yield f"{page}: no crate in {named}"
+        for word in [*words, *words_of(clauses)]:
+            if word not in own and word not in crates and word not in known:
+                yield f"{page}: {named}: no {word}"
 
 
 def told(page, text):
