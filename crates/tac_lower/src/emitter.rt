@@ -280,4 +280,9 @@ impl Emitter {
     pub fn leave(&mut self, value: Option<u32>) -> Result<(), NoMemory> {
         self.push(TacInstr::Return(value))
     }
+
+    /// Whether the last instruction is a return, so that no run comes behind it.
+    pub fn has_left(&self) -> bool {
+        matches!(self.code.as_slice().last(), Some(TacInstr::Return(_)))
+    }
 }

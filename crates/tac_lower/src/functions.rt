@@ -119,8 +119,12 @@ fn take_parameters(cx: Context, d: &FunDef, out: &mut Emitter) -> Result<(), NoM
     Ok(())
 }
 
-/// The end of a function gives 0 or null, if the function gives a value (C11 5.1.2.2.3, 6.9.1p12).
+/// The end of a function gives 0 or null, if the function gives a value (C11 5.1.2.2.3, 6.9.1p12). Behind a return no run comes
+/// to the end.
 fn end_function(gives: Option<TacKind>, out: &mut Emitter) -> Result<(), NoMemory> {
+    if out.has_left() {
+        return Ok(());
+    }
     match gives {
         None => out.leave(None),
         Some(kind) => {

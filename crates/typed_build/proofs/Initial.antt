@@ -1,11 +1,14 @@
 -- Where the initial data of a program stand under a map, and how many bytes they have.
 use Rattle.std.proofs.Common.{◌≡◌, ℕ, zero, suc, ◌+◌, ◌*◌, ◌%◌, ◌^◌, ◌≤◌, min, max, List, [], ◌∷◌, length, map, refl, sym, ap, ◌∙◌, subst, arith, inl, inr}
+use Rattle.std.proofs.lemmas.Bool.{cases_lt}
 use Rattle.std.proofs.lemmas.List.{length-map}
 use Rattle.c_tree.specs.Layout.{size_limit}
 use Rattle.c_tree.specs.declared.typed.CType.{CType}
 use Rattle.c_tree.specs.declared.typed.FunDef.{FunDef}
 use Rattle.c_tree.specs.declared.typed.Typed.{Typed}
 use Rattle.cap_concentrate.specs.Rounding.{owned}
+use Rattle.cap_concentrate.proofs.Owned.{owned_short, owned_near}
+use Rattle.bounds_place.proofs.Lengths.{alignment_most}
 use Rattle.obj_mem.specs.Legal.{AllInRange, AreApart, objects_of}
 use Rattle.obj_mem.specs.Needs.{Legal, global_need, literal_need, weight_in, function_needs}
 use Rattle.obj_mem.specs.Table.{table_length, entry_count}
@@ -13,7 +16,6 @@ use Rattle.obj_mem.specs.declared.map.Map.{Map}
 use Rattle.bounds_place.specs.Placing.{AllWithin, IsStretch, weightless, data_room}
 use Rattle.cap_reloc.specs.Begins.{asked_by}
 use Rattle.cap_reloc.specs.Initial.{AreInitial, lowest, highest}
-use Rattle.cap_reloc.proofs.Sizes.{owned_most}
 use Rattle.typed_build.proofs.Locals.{few_needs}
 
 -- ---- the lowest base and the highest end
@@ -62,7 +64,15 @@ same_table p =
     let m = length_needs p.types (weight_in p) 0 p.funs in
     ap (λ k. owned (16 * k)) (omega (arith, n, m))
 
-pub table_most : (p : Typed) → data_room p ≤ size_limit → length p.funs ≤ 7780 → table_length (asked_by p) ≤ 134497280
+-- an owned length is little more than the length
+owned_little : (n : ℕ) → n ≤ 67248640 → owned n ≤ 67600000
+owned_little n most =
+    elim (cases_lt n 4096) as (λ _. owned n ≤ 67600000) [
+      | inl short ↦ omega (arith, owned_short n short)
+      | inr long ↦ omega (arith, owned_near n, alignment_most n (omega arith) (omega arith))
+    ]
+
+pub table_most : (p : Typed) → data_room p ≤ size_limit → length p.funs ≤ 7780 → table_length (asked_by p) ≤ 67600000
 table_most p within few =
     let globals = few_needs (map (global_need p.types) p.globals) in
     let literals = few_needs (map literal_need p.literals) in
@@ -70,7 +80,7 @@ table_most p within few =
     let l = length-map p.literals literal_need in
     let entries : 16 * entry_count (asked_by p) ≤ 67248640 =
     omega (arith, entries_are p, globals, literals, within, few, g, l) in
-    omega (arith, owned_most (16 * entry_count (asked_by p)) (omega (arith, entries)), entries)
+    omega (arith, owned_little (16 * entry_count (asked_by p)) (omega (arith, entries)), entries)
 
 -- ---- where they stand
 

@@ -97,7 +97,7 @@ module _ (p : Typed) (t : Tac) (s : Selected) (low : IsLowered p t) (given : Sel
   stack_there x from to =
       is_there image w.fine some small begun.small w.begins.inside x
       (added_other (text_extent image) _ x (added_other (initial_of image) _ x
-      (added_other m.heap _ x (added_here m.stack [] x (omega (arith, w.placing.stack_is)) from to))))
+      (added_other m.heap _ x (added_here m.stack [] x (omega (arith, allowed.stack_least)) from to))))
 
   apart_data : (m.text.0 + length text ≤ w.base) ⊎ (w.base + length w.bytes ≤ m.text.0)
   apart_data = by allowed.apart.0.0

@@ -108,10 +108,12 @@ module _ (p : Typed) (s : Selected) (given : Selects p s) where
       fine ordered within =
           let sz = is_sized in
           let d = stands in
-          let heap = placing.heap_is in
-          let stack = placing.stack_is in
+          let heap = legal.heap_length in
+          let stack = legal.stack_length in
+          let heap_most = legal.heap_most in
+          let stack_most = legal.stack_most in
           let table = table_most p (data_within p within) (few_functions p ordered given.coded.light) in
-          let many : m.table.1 ≤ 134497280 = omega (arith, table_long, table) in
+          let many : m.table.1 ≤ 67600000 = omega (arith, table_long, table) in
           let whole : length (text_of (code_of s)) % 16 ≡ 0 = omega (arith, sized, sz.whole) in
           let long : length (text_of (code_of s)) ≤ 1048576 = omega (arith, sized, sz.most) in
           let from = d.from in
@@ -128,7 +130,7 @@ module _ (p : Typed) (s : Selected) (given : Selects p s) where
           d.below)
           (lies m.heap (omega arith) (omega (arith, heap)) range.2.2.0 range.2.2.1)
           (lies m.stack (omega arith) (omega (arith, stack)) range.2.2.2.0 range.2.2.2.1)
-          long (omega (arith, long, most, many, heap, stack)))
+          long (omega (arith, long, most, many, heap_most, stack_most)))
           (none_overlap (text_extent image) (initial_of image) m.heap m.stack
           (free (text_extent image) (initial_of image) (text_off (initial_of image) d.off_text))
           (free (text_extent image) m.heap (text_off m.heap legal.apart.0.1.0))
