@@ -1,2 +1,5 @@
+pub mod Emitted
 pub mod Known
 pub mod Lowered
+pub mod Nodes
+pub mod Tables

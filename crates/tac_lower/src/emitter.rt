@@ -1,5 +1,9 @@
 //! The code of a function while it is made.
 
+ghost use Rattle.std.specs.Prelude.{◌≡◌, ◌+◌, ◌^◌, ◌<◌, [], length, IfOk};
+ghost use Rattle.tac_ir.specs.declared.code.TacInstr.TheVariants as instr;
+ghost use Rattle.tac_lower.specs.Emitted.{Made, Labelled, Pushed};
+
 use ck_base::{NoMemory, Pos, Sequence};
 use ck_int::{CmpOp, IntKind, IntOp};
 use std::alloc::Global;
@@ -33,7 +37,11 @@ pub struct Emitter {
 
 impl Emitter {
     /// No instructions.
-    pub fn new(alloc: Global) -> Self {
+    pub fn new(alloc: Global) -> Self
+        ensures code { result.code.items ≡ [] }
+        ensures kinds { result.kinds.items ≡ [] }
+        ensures labels { result.labels ≡ 0 }
+    {
         Emitter {
             code: Vec::new(alloc),
             kinds: Vec::new(alloc),
@@ -41,25 +49,34 @@ impl Emitter {
         }
     }
 
-    fn push(&mut self, i: TacInstr) -> Result<(), NoMemory> {
+    fn push(&mut self, i: TacInstr) -> Result<(), NoMemory>
+        ensures { IfOk result (λ _. Pushed self.old self.new i) }
+    {
         self.code.push(i)?;
         Ok(())
     }
 
     /// How many temps there are. Numbers above those of 32 bits are all alike.
-    pub fn temps(&self) -> u32 {
+    pub fn temps(&self) -> u32
+        ensures { length self.now.kinds.items < 2 ^ 32 → result ≡ length self.now.kinds.items }
+    {
         u32::try_from(self.kinds.len()).unwrap_or(u32::MAX)
     }
 
     /// A new temp.
-    pub fn temp(&mut self, kind: TacKind) -> Result<u32, NoMemory> {
+    pub fn temp(&mut self, kind: TacKind) -> Result<u32, NoMemory>
+        ensures temp { IfOk result (λ t. length self.old.kinds.items < 2 ^ 32 → t ≡ length self.old.kinds.items) }
+        ensures made { IfOk result (λ _. Made self.old self.new kind) }
+    {
         let t = self.temps();
         self.kinds.push(kind)?;
         Ok(t)
     }
 
     /// A new label.
-    pub fn label(&mut self) -> u32 {
+    pub fn label(&mut self) -> u32
+        ensures { self.old.labels + 1 < 2 ^ 32 → Labelled self.old self.new result }
+    {
         let l = self.labels;
         self.labels = l.saturating_add(1);
         l
@@ -84,7 +101,9 @@ impl Emitter {
     }
 
     /// An integer in the 64 bits of its extension, or null with that address.
-    pub fn constant(&mut self, to: u32, kind: TacKind, value: u64) -> Result<(), NoMemory> {
+    pub fn constant(&mut self, to: u32, kind: TacKind, value: u64) -> Result<(), NoMemory>
+        ensures { IfOk result (λ _. Pushed self.old self.new (instr.Const to kind value)) }
+    {
         self.push(TacInstr::Const { to, kind, value })
     }
 
@@ -95,7 +114,9 @@ impl Emitter {
         Ok(t)
     }
 
-    pub fn copy(&mut self, to: u32, from: u32) -> Result<(), NoMemory> {
+    pub fn copy(&mut self, to: u32, from: u32) -> Result<(), NoMemory>
+        ensures { IfOk result (λ _. Pushed self.old self.new (instr.Copy to from)) }
+    {
         self.push(TacInstr::Copy { to, from })
     }
 
@@ -116,14 +137,9 @@ impl Emitter {
         }
     }
 
-    pub fn int(
-        &mut self,
-        op: IntOp,
-        kind: IntKind,
-        to: u32,
-        a: u32,
-        b: u32,
-    ) -> Result<(), NoMemory> {
+    pub fn int(&mut self, op: IntOp, kind: IntKind, to: u32, a: u32, b: u32) -> Result<(), NoMemory>
+        ensures { IfOk result (λ _. Pushed self.old self.new (instr.Int op kind to a b)) }
+    {
         self.push(TacInstr::Int { op, kind, to, a, b })
     }
 
@@ -134,7 +150,9 @@ impl Emitter {
         to: u32,
         a: u32,
         b: u32,
-    ) -> Result<(), NoMemory> {
+    ) -> Result<(), NoMemory>
+        ensures { IfOk result (λ _. Pushed self.old self.new (instr.Cmp op kind to a b)) }
+    {
         self.push(TacInstr::Cmp { op, kind, to, a, b })
     }
 
@@ -144,7 +162,9 @@ impl Emitter {
         from: u32,
         old: TacKind,
         new: TacKind,
-    ) -> Result<(), NoMemory> {
+    ) -> Result<(), NoMemory>
+        ensures { IfOk result (λ _. Pushed self.old self.new (instr.Convert to from old new)) }
+    {
         self.push(TacInstr::Convert { to, from, old, new })
     }
 
@@ -160,11 +180,15 @@ impl Emitter {
         Ok(t)
     }
 
-    pub fn work(&mut self, op: CapWork, to: u32, a: u32, b: Option<u32>) -> Result<(), NoMemory> {
+    pub fn work(&mut self, op: CapWork, to: u32, a: u32, b: Option<u32>) -> Result<(), NoMemory>
+        ensures { IfOk result (λ _. Pushed self.old self.new (instr.Cap op to a b)) }
+    {
         self.push(TacInstr::Cap { op, to, a, b })
     }
 
-    pub fn offset(&mut self, to: u32, base: u32, by: Amount) -> Result<(), NoMemory> {
+    pub fn offset(&mut self, to: u32, base: u32, by: Amount) -> Result<(), NoMemory>
+        ensures { IfOk result (λ _. Pushed self.old self.new (instr.Offset to base by)) }
+    {
         self.push(TacInstr::Offset { to, base, by })
     }
 
@@ -174,7 +198,9 @@ impl Emitter {
         base: u32,
         length: Amount,
         exact: bool,
-    ) -> Result<(), NoMemory> {
+    ) -> Result<(), NoMemory>
+        ensures { IfOk result (λ _. Pushed self.old self.new (instr.Narrow to base length exact)) }
+    {
         self.push(TacInstr::Narrow {
             to,
             base,
@@ -183,7 +209,9 @@ impl Emitter {
         })
     }
 
-    pub fn load(&mut self, to: u32, from: u32, kind: TacKind, pos: Pos) -> Result<(), NoMemory> {
+    pub fn load(&mut self, to: u32, from: u32, kind: TacKind, pos: Pos) -> Result<(), NoMemory>
+        ensures { IfOk result (λ _. Pushed self.old self.new (instr.Load to from kind pos)) }
+    {
         self.push(TacInstr::Load {
             to,
             from,
@@ -192,7 +220,9 @@ impl Emitter {
         })
     }
 
-    pub fn store(&mut self, at: u32, value: u32, kind: TacKind, pos: Pos) -> Result<(), NoMemory> {
+    pub fn store(&mut self, at: u32, value: u32, kind: TacKind, pos: Pos) -> Result<(), NoMemory>
+        ensures { IfOk result (λ _. Pushed self.old self.new (instr.Store at value kind pos)) }
+    {
         self.push(TacInstr::Store {
             at,
             value,
@@ -207,7 +237,9 @@ impl Emitter {
         self.push(TacInstr::Local { to, var })
     }
 
-    pub fn global(&mut self, to: u32, number: u32, literal: bool) -> Result<(), NoMemory> {
+    pub fn global(&mut self, to: u32, number: u32, literal: bool) -> Result<(), NoMemory>
+        ensures { IfOk result (λ _. Pushed self.old self.new (instr.Global to number literal)) }
+    {
         self.push(TacInstr::Global {
             to,
             number,
@@ -215,11 +247,15 @@ impl Emitter {
         })
     }
 
-    pub fn function(&mut self, to: u32, fun: u32) -> Result<(), NoMemory> {
+    pub fn function(&mut self, to: u32, fun: u32) -> Result<(), NoMemory>
+        ensures { IfOk result (λ _. Pushed self.old self.new (instr.Function to fun)) }
+    {
         self.push(TacInstr::Function { to, fun })
     }
 
-    pub fn copy_units(&mut self, c: Copied) -> Result<(), NoMemory> {
+    pub fn copy_units(&mut self, c: Copied) -> Result<(), NoMemory>
+        ensures { IfOk result (λ _. Pushed self.old self.new (instr.CopyUnits c.from c.to c.bytes c.unit c.from_pos c.to_pos)) }
+    {
         self.push(TacInstr::CopyUnits {
             from: c.from,
             to: c.to,
@@ -231,15 +267,21 @@ impl Emitter {
     }
 
     /// A label stands here.
-    pub fn stand(&mut self, label: u32) -> Result<(), NoMemory> {
+    pub fn stand(&mut self, label: u32) -> Result<(), NoMemory>
+        ensures { IfOk result (λ _. Pushed self.old self.new (instr.Label label)) }
+    {
         self.push(TacInstr::Label(label))
     }
 
-    pub fn jump(&mut self, label: u32) -> Result<(), NoMemory> {
+    pub fn jump(&mut self, label: u32) -> Result<(), NoMemory>
+        ensures { IfOk result (λ _. Pushed self.old self.new (instr.Jump label)) }
+    {
         self.push(TacInstr::Jump(label))
     }
 
-    pub fn branch(&mut self, on: u32, when: bool, label: u32) -> Result<(), NoMemory> {
+    pub fn branch(&mut self, on: u32, when: bool, label: u32) -> Result<(), NoMemory>
+        ensures { IfOk result (λ _. Pushed self.old self.new (instr.Branch on when label)) }
+    {
         self.push(TacInstr::Branch { on, when, label })
     }
 
@@ -277,7 +319,9 @@ impl Emitter {
         self.jump(top)
     }
 
-    pub fn leave(&mut self, value: Option<u32>) -> Result<(), NoMemory> {
+    pub fn leave(&mut self, value: Option<u32>) -> Result<(), NoMemory>
+        ensures { IfOk result (λ _. Pushed self.old self.new (instr.Return value)) }
+    {
         self.push(TacInstr::Return(value))
     }
 

@@ -11,6 +11,7 @@ mod context;
 mod emitter;
 mod expressions;
 mod functions;
+mod laws;
 mod lowering;
 mod operations;
 mod places;
@@ -19,6 +20,7 @@ mod switches;
 mod types;
 mod writes;
 
+pub use laws::{finished_code_is_well_formed, jumps_keep_code_well_formed, typed_expressions_fit};
 pub use lowering::lower;
 
 #[cfg(test)]

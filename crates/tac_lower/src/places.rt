@@ -184,7 +184,7 @@ pub fn struct_assignment(
         to: Target::At(t),
         pos: place_pos(cx, a),
         bytes: facts.size,
-        unit: unit_of(facts.align),
+        unit: unit_of(facts.size, facts.align),
     };
     struct_copy(cx, b, destination, out)?;
     Ok(t)

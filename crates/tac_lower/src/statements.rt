@@ -56,7 +56,7 @@ fn initialise_object(
             to: Target::Within(base, offset),
             pos,
             bytes: facts.size,
-            unit: unit_of(facts.align),
+            unit: unit_of(facts.size, facts.align),
         };
         return struct_copy(cx, a, destination, out);
     }

@@ -1,5 +1,14 @@
 //! What lowering asks of the types of a program, in a table by their numbers.
 
+ghost use Rattle.std.specs.Prelude.{◌≡◌, true, List, IfOk, Some, None, MatchOption, slice_get};
+ghost use Rattle.cheri_c_sem.specs.Compatible.{kind_number};
+ghost use Rattle.tac_ir.specs.Effects.{kind_of};
+ghost use Rattle.tac_ir.specs.WellFormed.{same_kind, units_fit};
+ghost use Rattle.tac_lower.specs.Emitted.{is_capability};
+ghost use Rattle.tac_lower.specs.Nodes.{or_int};
+ghost use Rattle.tac_lower.specs.Tables.{kept_by, target_by, given_by, FactsFit, TableFits};
+ghost use Rattle.c_tree.specs.declared.typed.CType.{CType};
+
 use c_tree::{CType, Member, Typed};
 use cap_layout::{Layout, Layouts, owned};
 use ck_base::NoMemory;
@@ -19,6 +28,9 @@ pub const POINTER: TacKind = TacKind::Cap(false);
 /// The greatest size of an object.
 const LIMIT: u64 = 67_108_864;
 
+/// How many numbers have 32 bits.
+const MOST: usize = 4_294_967_296;
+
 /// A type without `const` around it.
 #[derive(Clone, Copy)]
 pub struct TypeFacts {
@@ -35,7 +47,7 @@ pub struct TypeFacts {
 }
 
 /// What is known of a number without a type.
-const NO_FACTS: TypeFacts = TypeFacts {
+pub const NO_FACTS: TypeFacts = TypeFacts {
     kind: None,
     target: None,
     gives: None,
@@ -44,7 +56,9 @@ const NO_FACTS: TypeFacts = TypeFacts {
     align: 1,
 };
 
-fn kind_of(c: &CType) -> Option<TacKind> {
+fn kind_of(c: &CType) -> Option<TacKind>
+    ensures { result ≡ kept_by (Some c.now) }
+{
     match c {
         CType::Int(kind, _) => Some(TacKind::Int(*kind)),
         CType::Cap(signed) => Some(TacKind::Cap(*signed)),
@@ -53,14 +67,18 @@ fn kind_of(c: &CType) -> Option<TacKind> {
     }
 }
 
-fn target_of(c: &CType) -> Option<u32> {
+fn target_of(c: &CType) -> Option<u32>
+    ensures { result ≡ target_by (Some c.now) }
+{
     match c {
         CType::Pointer(t) => Some(*t),
         _ => None,
     }
 }
 
-fn gives_of(c: &CType) -> Option<u32> {
+fn gives_of(c: &CType) -> Option<u32>
+    ensures { result ≡ given_by (Some c.now) }
+{
     match c {
         CType::Function(t, _) => Some(*t),
         _ => None,
@@ -105,9 +123,12 @@ pub fn member_offset(p: &Typed, table: &[TypeFacts], t: u32, member: u32) -> u64
     0
 }
 
-fn facts_of(bare: Option<&CType>, layout: Layout) -> TypeFacts {
+/// The facts of a type that has a layout.
+fn facts_of(types: &[CType], t: u32, layout: Layout) -> TypeFacts
+    ensures { FactsFit types.now t result }
+{
     let Layout { size, align } = layout;
-    match bare {
+    match bare(types, t) {
         None => TypeFacts {
             size,
             align,
@@ -125,23 +146,46 @@ fn facts_of(bare: Option<&CType>, layout: Layout) -> TypeFacts {
 }
 
 /// The facts of all types of a program, in their order.
-pub fn type_table(alloc: Global, p: &Typed) -> Result<Vec<TypeFacts>, NoMemory> {
+pub fn type_table(alloc: Global, p: &Typed) -> Result<Vec<TypeFacts>, NoMemory>
+    ensures { IfOk result (λ table. TableFits p.now.types table.items) }
+{
     let layouts = Layouts::new(alloc, p)?;
     let types = p.types.as_slice();
     let mut table = Vec::new(alloc);
-    let count = u32::try_from(types.len()).unwrap_or(u32::MAX);
+    let count = types.len().min(MOST);
     for t in 0..count {
-        let layout = layouts.layout(p, t).unwrap_or(Layout { size: 0, align: 1 });
-        table.push(facts_of(bare(types, t), layout))?;
+        let number = t as u32;
+        let layout = layouts
+            .layout(p, number)
+            .unwrap_or(Layout { size: 0, align: 1 });
+        table.push(facts_of(types, number, layout))?;
     }
     Ok(table)
 }
 
+fn entry(table: &[TypeFacts], t: u32) -> Option<&TypeFacts>
+    ensures { MatchOption result (slice_get table.now t ≡ None) (λ f. slice_get table.now t ≡ Some f.now) }
+{
+    table.get(t as usize)
+}
+
 /// The facts of a type.
-pub fn facts_at(table: &[TypeFacts], t: u32) -> TypeFacts {
-    match table.get(t as usize) {
+pub fn facts_at(table: &[TypeFacts], t: u32) -> TypeFacts
+    ensures { (types : List CType) → TableFits types table.now → FactsFit types t result }
+{
+    match entry(table, t) {
         None => NO_FACTS,
         Some(f) => *f,
+    }
+}
+
+/// A kind; where there is none, that of an `int`.
+pub fn or_int(kind: Option<TacKind>) -> TacKind
+    ensures { result ≡ or_int kind }
+{
+    match kind {
+        None => INT,
+        Some(k) => k,
     }
 }
 
@@ -150,14 +194,56 @@ pub fn owned_length(size: u64) -> u64 {
     owned(size.min(LIMIT)).length
 }
 
-/// The length of a unit in which a struct or union is copied: at most 16 bytes, and at most its alignment.
-pub fn unit_of(align: u64) -> u8 {
-    align.min(16) as u8
+/// The length of a unit in which so many bytes are copied: at most 16 bytes, and at most their alignment.
+pub fn unit_of(size: u64, align: u64) -> u8
+    ensures { units_fit size result ≡ true }
+{
+    if align >= 16 && size % 16 == 0 {
+        16
+    } else if align >= 8 && size % 8 == 0 {
+        8
+    } else if align >= 4 && size % 4 == 0 {
+        4
+    } else if align >= 2 && size % 2 == 0 {
+        2
+    } else {
+        1
+    }
 }
 
 /// A kind is that of a capability.
-pub fn is_capability(kind: TacKind) -> bool {
+pub fn is_capability(kind: TacKind) -> bool
+    ensures { result ≡ is_capability kind }
+{
     matches!(kind, TacKind::Cap(_))
+}
+
+/// The number of an integer kind among them.
+fn kind_number(k: IntKind) -> u8
+    ensures { result ≡ kind_number k }
+{
+    match k {
+        IntKind::Bool => 0,
+        IntKind::I8 => 1,
+        IntKind::U8 => 2,
+        IntKind::I16 => 3,
+        IntKind::U16 => 4,
+        IntKind::I32 => 5,
+        IntKind::U32 => 6,
+        IntKind::I64 => 7,
+        IntKind::U64 => 8,
+    }
+}
+
+/// Two kinds are one.
+pub fn same_kind(a: TacKind, b: TacKind) -> bool
+    ensures { result ≡ same_kind (kind_of a) (kind_of b) }
+{
+    match (a, b) {
+        (TacKind::Int(j), TacKind::Int(k)) => kind_number(j) == kind_number(k),
+        (TacKind::Cap(s), TacKind::Cap(t)) => s == t,
+        (TacKind::Int(_), TacKind::Cap(_)) | (TacKind::Cap(_), TacKind::Int(_)) => false,
+    }
 }
 
 /// The kind of integer that a kind counts as: the address of a capability is an integer of 64 bits.
