@@ -31,7 +31,7 @@ use Rattle.tac_ir.specs.WellFormed.{constant_fits}
 use Rattle.tac_ir.specs.declared.code.TacKind.{TacKind}
 use Rattle.tac_ir.specs.declared.code.TacKind.TheVariants as kind
 use Rattle.tac_lower.specs.Emitted.{RightFits, ComputedFits}
-use Rattle.tac_lower.specs.Nodes.{kept_as, points, or_int, expression, scalar_in, weight_in, IsTyped, IsScalar, HasOne, HasTwo, HasThree, ConstantNode, IntNode, CapabilityNode, SameNode, NotNode, AddressNode, DerefNode, SumNode, CompareNode, TruthNode, DifferenceNode, CommaNode, AssignNode, CompoundNode, StepNode, ConditionalNode, NameNode, NodeFits}
+use Rattle.tac_lower.specs.Nodes.{kept_as, points, or_int, expression, scalar_in, weight_in, IsTyped, IsScalar, HasOne, HasTwo, HasThree, ConstantNode, IntNode, CapabilityNode, SameNode, NotNode, AddressNode, DerefNode, SumNode, CompareNode, TruthNode, DifferenceNode, CommaNode, AssignNode, CompoundNode, StepNode, ConditionalNode, NameNode, AreTyped, CallNode, LibraryNode, NodeFits}
 use Rattle.tac_lower.proofs.Constants.{kept_fits}
 
 -- ---- one node
@@ -398,6 +398,52 @@ module _ (f : Frame) (o : IsOrdered f.program) where
         let h = of_none (term.Var n) of e.pos (fits (exprs.Var n) is) in
         record { there = slice_get_within f.vars n h.0 h.1; weight = ap term_weight (same (exprs.Var n) is) }
 
+    each_typed : (xs : List ℕ) → TermsFit f (terms (map x xs)) → (j a : ℕ) → slice_get xs j ≡ Some a → IsTyped f a
+    unfolding TermsFit
+    each_typed [] h j a g = absurd cc
+    each_typed (y ∷ ys) h zero a g = let q : y ≡ a = cc in subst (λ z. IsTyped f z) q (record { fits = h.0 })
+    each_typed (y ∷ ys) h (suc j) a g = each_typed ys h.1 j a g
+
+    weights : (xs : List ℕ) → terms_weight (terms (map x xs)) ≡ sum_by (λ j. term_weight (x j)) xs
+    weights [] = refl
+    weights (y ∷ ys) = omega (arith, sum_by-cons (λ j. term_weight (x j)) y ys, weights ys)
+
+    of_call : (g : Term) (ys : Terms) → TermFits f (term.term term.Call (with_term g ys) of e.pos) → TermFits f g × TermsFit f ys × ShapeFits f term.Call (with_term g ys) of
+    unfolding TermFits
+    of_call g ys h = (h.0.0, h.0.1, h.1)
+
+    of_library : (n : ℕ) (ys : Terms) → TermFits f (term.term (term.Library n) ys of e.pos) → TermsFit f ys × ShapeFits f (term.Library n) ys of
+    unfolding TermFits
+    of_library n ys h = (h.0, h.1)
+
+    pub call_node : (g : ℕ) (xs : List ℕ) → Is (exprs.Call g xs) → CallNode f k g xs
+    call_node g xs is =
+        let h = of_call (x g) (terms (map x xs)) (fits (exprs.Call g xs) is) in
+        let q : term_weight (x k) ≡ 4 + (term_weight (x g) + terms_weight (terms (map x xs))) = ap term_weight (same (exprs.Call g xs) is) in
+        record {
+          called = record { fits = h.0 };
+          arguments = record { each = each_typed xs h.1 };
+          weight = omega (arith, q, weights xs);
+          result = h.2.0;
+          takes = h.2.1;
+          of = h.2.2;
+          fit = h.2.3;
+          gives = ap kept_as (of_is ∙ h.2.4) ∙ bare_kept h.2.0;
+        }
+
+    pub library_node : (n : ℕ) (xs : List ℕ) → Is (exprs.Library n xs) → LibraryNode f k n xs
+    library_node n xs is =
+        let h = of_library n (terms (map x xs)) (fits (exprs.Library n xs) is) in
+        let q : term_weight (x k) ≡ 4 + terms_weight (terms (map x xs)) = ap term_weight (same (exprs.Library n xs) is) in
+        record {
+          arguments = record { each = each_typed xs h.0 };
+          weight = omega (arith, q, weights xs);
+          service = h.1.0;
+          there = h.1.1;
+          fit = h.1.2;
+          gives = of_is ∙ h.1.3;
+        }
+
     by_kind : (kd : ExprKind) → Is kd → NodeFits f k kd
     by_kind (exprs.Constant n) is = constant_node n is
     by_kind (exprs.Literal n) is = literal_node n is
@@ -426,8 +472,8 @@ module _ (f : Frame) (o : IsOrdered f.program) where
     by_kind (exprs.Compound q a b s) is = compound_node q a b s is
     by_kind (exprs.Step a adds front) is = step_node a adds front is
     by_kind (exprs.Conditional a b c) is = conditional_node a b c is
-    by_kind (exprs.Call g xs) is = tt
-    by_kind (exprs.Library n xs) is = tt
+    by_kind (exprs.Call g xs) is = call_node g xs is
+    by_kind (exprs.Library n xs) is = library_node n xs is
 
     pub node_fits : NodeFits f k e.kind
     node_fits = by_kind e.kind refl

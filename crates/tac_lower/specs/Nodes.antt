@@ -1,19 +1,22 @@
 -- The expressions of a function of a typed program: how their values are kept, and what is known of each and its operands.
-use Rattle.std.specs.Prelude.{◌≡◌, ℕ, ◌+◌, ◌<◌, ◌⊎◌, Bool, true, false, Option, Some, None, List, length, slice_get}
+use Rattle.std.specs.Prelude.{◌≡◌, ℕ, ◌+◌, ◌<◌, ◌⊎◌, Bool, true, false, Option, Some, None, List, length, map, sum_by, slice_get}
 use Rattle.ck_int.specs.declared.kinds.IntKind.{IntKind}
 use Rattle.ck_int.specs.declared.kinds.IntKind.TheVariants as int
 use Rattle.ck_int.specs.declared.kinds.IntOp.{IntOp}
 use Rattle.c_tree.specs.declared.typed.ExprKind.{ExprKind}
 use Rattle.c_tree.specs.declared.typed.ExprKind.TheVariants as exprs
+use Rattle.c_tree.specs.declared.typed.UnaryOp.{UnaryOp}
 use Rattle.c_tree.specs.declared.typed.UnaryOp.TheVariants as unary
 use Rattle.c_tree.specs.declared.typed.FunDef.{FunDef}
 use Rattle.c_tree.specs.declared.typed.Typed.{Typed}
 use Rattle.cheri_c_sem.specs.Types.{is_shift}
-use Rattle.c_tree.specs.Terms.{Term, type_of}
+use Rattle.c_tree.specs.Expressions.{given_type}
+use Rattle.c_tree.specs.Libraries.{Service, services}
+use Rattle.c_tree.specs.Terms.{Term, type_of, terms}
 use Rattle.c_tree.specs.TreeWeight.{term_weight}
-use Rattle.c_tree.specs.Types.{Ty, Int, Cap, Pointer, Const}
+use Rattle.c_tree.specs.Types.{Ty, Tys, Int, Cap, Pointer, Function, Const}
 use Rattle.c_tree.specs.Views.{terms_of, term_at}
-use Rattle.c_tree.specs.WellTyped.{Frame, TermFits, type_in}
+use Rattle.c_tree.specs.WellTyped.{Frame, TermFits, type_in, ArgumentsFit, AllAskedFit, list_of}
 use Rattle.tac_ir.specs.WellFormed.{constant_fits}
 use Rattle.tac_ir.specs.declared.code.TacKind.{TacKind}
 use Rattle.tac_ir.specs.declared.code.TacKind.TheVariants as kinds
@@ -36,6 +39,13 @@ points t = false
 abbrev pub or_int : Option TacKind → TacKind
 or_int None = kinds.Int int.I32
 or_int (Some k) = k
+
+-- the kind of what a unary operation gives
+abbrev pub unary_kind : UnaryOp → TacKind → TacKind
+unary_kind unary.LogicalNot k = kinds.Int int.I32
+unary_kind unary.Plus k = k
+unary_kind unary.Minus k = k
+unary_kind unary.Complement k = k
 
 -- expression k
 abbrev pub expression : Typed → ℕ → Term
@@ -188,7 +198,34 @@ pub record NameNode (f : Frame) (k n count : ℕ) : Type 0 where
   pub there : n < count
   pub weight : weight_in f.program k ≡ 1
 
--- Expression k by its kind. (Calls are not among these so far)
+-- the weight of some expressions
+abbrev pub weights_in : Typed → List ℕ → ℕ
+weights_in p ks = sum_by (λ k. weight_in p k) ks
+
+pub record AreTyped (f : Frame) (ks : List ℕ) : Type 0 where
+  pub each : (j k : ℕ) → slice_get ks j ≡ Some k → IsTyped f k
+
+-- a call, by the type of the function: its arguments have the types of the parameters, and its value that of the result
+pub record CallNode (f : Frame) (k g : ℕ) (args : List ℕ) : Type 0 where
+  pub called : IsTyped f g
+  pub arguments : AreTyped f args
+  pub weight : weight_in f.program k ≡ 4 + weight_in f.program g + weights_in f.program args
+  pub result : Ty
+  pub takes : Tys
+  pub of : type_of (expression f.program g) ≡ Pointer (Function result takes)
+  pub fit : ArgumentsFit takes (terms (map (expression f.program) args))
+  pub gives : scalar_in f.program k ≡ kept_as result
+
+-- a call of a library function or intrinsic, by what it asks and gives
+pub record LibraryNode (f : Frame) (k n : ℕ) (args : List ℕ) : Type 0 where
+  pub arguments : AreTyped f args
+  pub weight : weight_in f.program k ≡ 4 + weights_in f.program args
+  pub service : Service
+  pub there : slice_get services n ≡ Some service
+  pub fit : AllAskedFit service.takes (terms (map (expression f.program) args))
+  pub gives : type_of (expression f.program k) ≡ given_type service.gives (list_of (terms (map (expression f.program) args)))
+
+-- Expression k by its kind
 abbrev pub NodeFits : Frame → ℕ → ExprKind → Type 0
 NodeFits f k (exprs.Constant n) = ConstantNode f k n
 NodeFits f k (exprs.Literal n) = NameNode f k n (length f.program.literals)
@@ -217,5 +254,5 @@ NodeFits f k (exprs.Assign a b) = AssignNode f k a b
 NodeFits f k (exprs.Compound o a b t) = CompoundNode f k o a b t
 NodeFits f k (exprs.Step a adds front) = StepNode f k a
 NodeFits f k (exprs.Conditional a b c) = ConditionalNode f k a b c
-NodeFits f k (exprs.Call g xs) = Unit {0}
-NodeFits f k (exprs.Library n xs) = Unit {0}
+NodeFits f k (exprs.Call g xs) = CallNode f k g xs
+NodeFits f k (exprs.Library n xs) = LibraryNode f k n xs
