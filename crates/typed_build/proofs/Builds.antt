@@ -1,5 +1,5 @@
 -- What is written of a program's contained code is built of it.
-use Rattle.std.proofs.Common.{◌≡◌, ℕ, zero, suc, ◌+◌, ◌^◌, ◌≤◌, true, false, List, [], ◌∷◌, length, map, Some, refl, sym, ap, ◌∙◌, subst, arith, inr}
+use Rattle.std.proofs.Common.{◌≡◌, ℕ, zero, suc, ◌+◌, ◌^◌, ◌≤◌, true, false, List, [], ◌∷◌, length, map, Some, refl, sym, ap, ◌∙◌, subst, arith, inl, inr}
 use Rattle.std.specs.Prelude.{slice_get, Contains}
 use Rattle.std.specs.List.{All}
 use Rattle.std.proofs.lemmas.Bool.{false≢true}
@@ -51,7 +51,7 @@ module _ (p : Typed) (s : Selected) (given : Selects p s) (code : HasContainedCo
   abbrev image : Image
   image = image_in p s sizes m file w
 
-  Entered : Reloc → Type 0
+  abbrev Entered : Reloc → Type 0
   Entered r = executes r ≡ true → IsEnteredAt m.text.0 s.entries.items s.start (address_of r)
 
   by_sentry : (r : Reloc) → IsSentry m r → Entered r

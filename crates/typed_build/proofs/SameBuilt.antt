@@ -92,11 +92,10 @@ built_same p r q o u f g s t file m count h =
     record {
       image = record {
         legal = subst (λ n. IsLegal n m) needs i.legal;
-        heap = i.heap;
-        stack = i.stack;
         table = i.table ∙ tables;
         loaded = i.loaded;
         loads = i.loads;
+        version = i.version;
         whole = i.whole;
         extents = i.extents;
         filled = record { code = i.filled.code; is = i.filled.is; size = omega (arith, i.filled.size, weight_of_program p q o s, weight_of_program r q u t) };
@@ -105,6 +104,7 @@ built_same p r q o u f g s t file m count h =
         begins = initial_same p r a b m i.loaded.image.initial_base i.loaded.image.initial i.begins;
       };
       counted = h.counted ∙ same_count p r q o u f g s t;
+      says = h.says;
       contained = λ other. absurd (false≢true (sym other ∙ g));
       runs = λ form. record {
         does_what = subst (λ x. DoesWhatIsMeant (sides x m i.loaded)) tree runs.does_what;
