@@ -251,7 +251,7 @@ fn types_have_layouts(rt: HostRuntime) {
 
 // The layouts of a program's types.
 fn kept(rt: &impl Abort, alloc: Global, p: &Typed) -> Layouts
-    ensures { AreLayoutsOf p.now.types result.now }
+    ensures { AreLayoutsOf p.now.types result }
 {
     match Layouts::new(alloc, p) {
         Ok(layouts) => layouts,

@@ -1,5 +1,7 @@
 //! Tagged memory: each call on its happy path, and at the ends of the regions.
 
+ghost use Rattle.std.specs.Prelude.{◌≡◌, ◌%◌};
+
 use ck_base::NoMemory;
 use std::alloc::Global;
 use std::process::Abort;
@@ -157,13 +159,17 @@ fn has_last_caps(mem: &Mem, first: (u128, bool), second: (u128, bool)) -> bool {
 }
 
 /// The number in a granule that is lent.
-fn lent_number(mem: &Mem, at: u64) -> Option<u128> {
+fn lent_number(mem: &Mem, at: u64) -> Option<u128>
+    requires { at % 16 ≡ 0 }
+{
     let granule = mem.granule(at)?;
     Some(u128::from_le_bytes(*granule))
 }
 
 /// Writes the first byte of a granule that is lent.
-fn write_lent(mem: &mut Mem, at: u64, byte: u8) -> bool {
+fn write_lent(mem: &mut Mem, at: u64, byte: u8) -> bool
+    requires { at % 16 ≡ 0 }
+{
     match mem.granule_mut(at) {
         Some(granule) => {
             granule[0] = byte;
