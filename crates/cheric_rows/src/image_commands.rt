@@ -221,7 +221,7 @@ fn names_word(alloc: Global, elf: &[u8], k: usize, word: u32, reason: u8) -> Res
     writeln!(
         line,
         "audit no word {} {reason}",
-        TEXT.wrapping_add(4 * k as u64)
+        TEXT.wrapping_add((k as u64).wrapping_mul(4))
     )?;
     let bytes = with_word(alloc, elf, k, word)?;
     Ok(audits(alloc, &bytes, 7, &line)?)
