@@ -24,19 +24,19 @@ use Rattle.c_copy.specs.Copying.{AllBelow, expr_shape, stmt_form, IsKindWith, Is
 
 -- ---- lists whose items name earlier items
 
-grow-append : {N T : Type 0} (make : N → (ℕ → T) → T) (bad : T) (ns ms : List N) (ts : List T) → grow make bad (ns ++ ms) ts ≡ grow make bad ms (grow make bad ns ts)
+pub grow-append : {N T : Type 0} (make : N → (ℕ → T) → T) (bad : T) (ns ms : List N) (ts : List T) → grow make bad (ns ++ ms) ts ≡ grow make bad ms (grow make bad ns ts)
 unfolding grow
 grow-append make bad [] ms ts = refl
 grow-append make bad (n ∷ ns) ms ts = grow-append make bad ns ms (ts ++ make n (λ k. slice_index_or ts k bad) ∷ [])
 
-length-grow : {N T : Type 0} (make : N → (ℕ → T) → T) (bad : T) (ns : List N) (ts : List T) → length (grow make bad ns ts) ≡ length ts + length ns
+pub length-grow : {N T : Type 0} (make : N → (ℕ → T) → T) (bad : T) (ns : List N) (ts : List T) → length (grow make bad ns ts) ≡ length ts + length ns
 unfolding grow
 length-grow make bad [] ts = omega arith
 length-grow make bad (n ∷ ns) ts =
     let v = make n (λ k. slice_index_or ts k bad) in
     length-grow make bad ns (ts ++ v ∷ []) ∙ omega (arith, length-append ts (v ∷ []))
 
-grow-front : {N T : Type 0} (make : N → (ℕ → T) → T) (bad : T) (ns : List N) (ts : List T) (k : ℕ) → k < length ts → get_or (grow make bad ns ts) k bad ≡ get_or ts k bad
+pub grow-front : {N T : Type 0} (make : N → (ℕ → T) → T) (bad : T) (ns : List N) (ts : List T) (k : ℕ) → k < length ts → get_or (grow make bad ns ts) k bad ≡ get_or ts k bad
 unfolding grow
 grow-front make bad [] ts k lt = refl
 grow-front make bad (n ∷ ns) ts k lt =
@@ -49,7 +49,7 @@ unfolding grow
 one_more make bad x ys ts = refl
 
 -- an item's tree is made from the trees of those before it
-at_seam : {N T : Type 0} (make : N → (ℕ → T) → T) (bad : T) (xs : List N) (x : N) (ys : List N) → get_or (forest make bad (xs ++ x ∷ ys)) (length xs) bad ≡ make x (λ k. slice_index_or (forest make bad xs) k bad)
+pub at_seam : {N T : Type 0} (make : N → (ℕ → T) → T) (bad : T) (xs : List N) (x : N) (ys : List N) → get_or (forest make bad (xs ++ x ∷ ys)) (length xs) bad ≡ make x (λ k. slice_index_or (forest make bad xs) k bad)
 at_seam {N} {T} make bad xs x ys =
     let ts : List T = forest make bad xs in
     let v : T = make x (λ k. slice_index_or ts k bad) in
@@ -60,16 +60,23 @@ at_seam {N} {T} make bad xs x ys =
     ∙ grow-front make bad ys (ts ++ v ∷ []) (length ts) lt
     ∙ get_or-append_seam ts v [] bad
 
+-- an item's tree stays as more items come
+pub forest_front : {N T : Type 0} (make : N → (ℕ → T) → T) (bad : T) (xs ys : List N) (k : ℕ) → k < length xs → get_or (forest make bad (xs ++ ys)) k bad ≡ get_or (forest make bad xs) k bad
+forest_front {N} {T} make bad xs ys k lt =
+    let ts : List T = forest make bad xs in
+    let l : length ts ≡ length xs = length-grow make bad xs [] ∙ omega arith in
+    ap (λ zs. get_or zs k bad) (grow-append make bad xs ys []) ∙ grow-front make bad ys ts k (omega arith)
+
 -- ---- lists
 
-map_seen : {T : Type 0} (f g : ℕ → T) (ks : List ℕ) (k : ℕ) → AllBelow k ks → ((j : ℕ) → j < k → f j ≡ g j) → map f ks ≡ map g ks
+pub map_seen : {T : Type 0} (f g : ℕ → T) (ks : List ℕ) (k : ℕ) → AllBelow k ks → ((j : ℕ) → j < k → f j ≡ g j) → map f ks ≡ map g ks
 map_seen f g [] k h e = refl
 map_seen f g (a ∷ ks) k h e =
     let x = e a (h 0 a refl) in
     let y = map_seen f g ks k (λ j q i. h (suc j) q i) e in
     cc
 
-map_map : {A B C : Type 0} (f : B → C) (g : A → B) (xs : List A) → map f (map g xs) ≡ map (λ x. f (g x)) xs
+pub map_map : {A B C : Type 0} (f : B → C) (g : A → B) (xs : List A) → map f (map g xs) ≡ map (λ x. f (g x)) xs
 map_map f g [] = refl
 map_map f g (x ∷ xs) = ap (λ ys. f (g x) ∷ ys) (map_map f g xs)
 
@@ -82,12 +89,12 @@ extends_then xs ys zs a b = (a.0 ++ b.0, b.1 ∙ ap (λ ws. ws ++ b.0) a.1 ∙ a
 pub extends_push : {A : Type 0} (xs ys zs : List A) (x : A) → Extends xs ys → zs ≡ ys ++ x ∷ [] → Extends xs zs
 extends_push xs ys zs x a e = extends_then xs ys zs a (x ∷ [], e)
 
-longer : {A : Type 0} (new newer more : List A) (e : Extends new newer) → newer ++ more ≡ new ++ (e.0 ++ more)
+pub longer : {A : Type 0} (new newer more : List A) (e : Extends new newer) → newer ++ more ≡ new ++ (e.0 ++ more)
 longer new newer more e = ap (λ ws. ws ++ more) e.1 ∙ append_assoc new e.0 more
 
 -- ---- nodes
 
-kind_is : (ts : List Ty) (k : ExprKind) (t : Ty) (p : Pos) (go : ℕ → Term) → kind_term ts k t p go ≡ term (expr_shape ts k) (terms (map go (operands k))) t p
+pub kind_is : (ts : List Ty) (k : ExprKind) (t : Ty) (p : Pos) (go : ℕ → Term) → kind_term ts k t p go ≡ term (expr_shape ts k) (terms (map go (operands k))) t p
 kind_is ts (exprs.Constant n) t p go = refl
 kind_is ts (exprs.Literal k) t p go = refl
 kind_is ts (exprs.Var k) t p go = refl
@@ -123,17 +130,17 @@ actions_with_map : (n : programs.Numbers) (xs : List Action) → actions_with n 
 actions_with_map n [] = refl
 actions_with_map n (x ∷ xs) = ap (λ ys. with_action (action_with n x) ys) (actions_with_map n xs)
 
-two_listed : {T : Type 0} (f : ℕ → T) (a b : Option ℕ) → listed f a ++ listed f b ≡ map f (listed same_number a ++ listed same_number b)
+pub two_listed : {T : Type 0} (f : ℕ → T) (a b : Option ℕ) → listed f a ++ listed f b ≡ map f (listed same_number a ++ listed same_number b)
 two_listed f None None = refl
 two_listed f None (Some b) = refl
 two_listed f (Some a) None = refl
 two_listed f (Some a) (Some b) = refl
 
-one_listed : {T : Type 0} (f : ℕ → T) (a : Option ℕ) → listed f a ≡ map f (listed same_number a)
+pub one_listed : {T : Type 0} (f : ℕ → T) (a : Option ℕ) → listed f a ≡ map f (listed same_number a)
 one_listed f None = refl
 one_listed f (Some a) = refl
 
-action_is : (es : List Term) (k : StmtKind) (p : Pos) (go : ℕ → Action) → kind_action es k p go ≡ action (stmt_form k) (terms (map (term_at es) (values k))) (actions (map go (parts k))) p
+pub action_is : (es : List Term) (k : StmtKind) (p : Pos) (go : ℕ → Action) → kind_action es k p go ≡ action (stmt_form k) (terms (map (term_at es) (values k))) (actions (map go (parts k))) p
 action_is es (stmts.If a x y) p go = ap (λ ys. action (stmt_form (stmts.If a x y)) (terms (term_at es a ∷ [])) (actions (go x ∷ ys)) p) (one_listed go y)
 action_is es (stmts.For vars first a b x) p go =
     let u = two_listed (term_at es) a b in
@@ -143,10 +150,10 @@ action_is es (stmts.For vars first a b x) p go =
 action_is es (stmts.Return a) p go = ap (λ xs. action (stmt_form (stmts.Return a)) (terms xs) (actions []) p) (one_listed (term_at es) a)
 action_is es _ p go = refl
 
-term_same : (m n : Shape) (xs ys : Terms) (s t : Ty) (p q : Pos) → m ≡ n → xs ≡ ys → s ≡ t → p ≡ q → term m xs s p ≡ term n ys t q
+pub term_same : (m n : Shape) (xs ys : Terms) (s t : Ty) (p q : Pos) → m ≡ n → xs ≡ ys → s ≡ t → p ≡ q → term m xs s p ≡ term n ys t q
 term_same m n xs ys s t p q a b c d = cc
 
-action_same : (f g : Form) (xs ys : Terms) (us ws : Actions) (p q : Pos) → f ≡ g → xs ≡ ys → us ≡ ws → p ≡ q → action f xs us p ≡ action g ys ws q
+pub action_same : (f g : Form) (xs ys : Terms) (us ws : Actions) (p q : Pos) → f ≡ g → xs ≡ ys → us ≡ ws → p ≡ q → action f xs us p ≡ action g ys ws q
 action_same f g xs ys us ws p q a b c d = cc
 
 -- the operands of a copy
@@ -191,7 +198,7 @@ copies_kept t old new newer ks js e c = record { are = λ ts n more a. ap (λ zs
 pub no_copies : (t : Numbers) (old new : List Expr) → AreCopies t old new [] []
 no_copies t old new = record { are = λ ts n more a. refl }
 
-both_maps : {A B C : Type 0} (f : A → C) (g : B → C) (xs : List A) (ys : List B) (x : A) (y : B) → map f xs ≡ map g ys → f x ≡ g y → map f (xs ++ x ∷ []) ≡ map g (ys ++ y ∷ [])
+pub both_maps : {A B C : Type 0} (f : A → C) (g : B → C) (xs : List A) (ys : List B) (x : A) (y : B) → map f xs ≡ map g ys → f x ≡ g y → map f (xs ++ x ∷ []) ≡ map g (ys ++ y ∷ [])
 both_maps f g xs ys x y e h = map-append f xs (x ∷ []) ∙ ap (λ zs. zs ++ f x ∷ []) e ∙ ap (λ z. map g ys ++ z ∷ []) h ∙ sym (map-append g ys (y ∷ []))
 
 pub copies_push : (t : Numbers) (old new newer : List Expr) (ks js ls : List ℕ) (k j : ℕ) → Extends new newer → AreCopies t old new ks js → IsCopy t old newer k j → ls ≡ js ++ j ∷ [] → AreCopies t old newer (ks ++ k ∷ []) ls

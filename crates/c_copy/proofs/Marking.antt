@@ -17,7 +17,7 @@ use Rattle.c_copy.specs.Ordered.{HasMarks, Marks, IsUnmarked, AreMarked, AreType
 
 -- ---- each item
 
-get-push : {A : Type 0} (xs : List A) (y : A) (k : ℕ) (x : A) → slice_get (xs ++ y ∷ []) k ≡ Some x → (slice_get xs k ≡ Some x) ⊎ ((k ≡ length xs) × (y ≡ x))
+pub get-push : {A : Type 0} (xs : List A) (y : A) (k : ℕ) (x : A) → slice_get (xs ++ y ∷ []) k ≡ Some x → (slice_get xs k ≡ Some x) ⊎ ((k ≡ length xs) × (y ≡ x))
 get-push [] y zero x e = inr (refl, cc)
 get-push [] y (suc k) x e = absurd cc
 get-push (z ∷ xs) y zero x e = inl e

@@ -13,7 +13,7 @@ use ck_base::{NoMemory, Sequence};
 use std::alloc::Global;
 
 /// The numbers of an expression's operands, in the order of the source.
-pub(crate) fn operands(alloc: Global, kind: &ExprKind) -> Result<Vec<u32>, NoMemory>
+pub fn operands(alloc: Global, kind: &ExprKind) -> Result<Vec<u32>, NoMemory>
     ensures { IfOk result (λ v. v.items ≡ operands kind.now) }
 {
     match kind {
@@ -111,24 +111,11 @@ fn call_with(alloc: Global, xs: &[u32]) -> Result<ExprKind, NoMemory>
     }
 }
 
-/// The expression with these operands, and with the new numbers of objects and functions.
-pub(crate) fn kind_with(
-    alloc: Global,
-    numbers: &Numbers,
-    kind: &ExprKind,
-    xs: &[u32],
-) -> Result<ExprKind, NoMemory>
-    ensures { IfOk result (IsKindWith numbers.now kind.now xs.now) }
+/// The expression with these operands, where it has some.
+pub fn inner_with(alloc: Global, kind: &ExprKind, xs: &[u32]) -> Result<ExprKind, NoMemory>
+    ensures { IfOk result (IsPlainWith kind.now xs.now) }
 {
     match kind {
-        ExprKind::Constant(_)
-        | ExprKind::Literal(_)
-        | ExprKind::Var(_)
-        | ExprKind::Global(_)
-        | ExprKind::Fun(_) => {
-            none(xs)?;
-            leaf_with(numbers, kind)
-        }
         ExprKind::Conditional(_, _, _) => {
             let (a, b, c) = three(xs)?;
             Ok(ExprKind::Conditional(a, b, c))
@@ -153,5 +140,27 @@ pub(crate) fn kind_with(
             let (a, b) = two(xs)?;
             join_with(kind, a, b)
         }
+    }
+}
+
+/// The expression with these operands, and with the new numbers of objects and functions.
+pub(crate) fn kind_with(
+    alloc: Global,
+    numbers: &Numbers,
+    kind: &ExprKind,
+    xs: &[u32],
+) -> Result<ExprKind, NoMemory>
+    ensures { IfOk result (IsKindWith numbers.now kind.now xs.now) }
+{
+    match kind {
+        ExprKind::Constant(_)
+        | ExprKind::Literal(_)
+        | ExprKind::Var(_)
+        | ExprKind::Global(_)
+        | ExprKind::Fun(_) => {
+            none(xs)?;
+            leaf_with(numbers, kind)
+        }
+        _ => inner_with(alloc, kind, xs),
     }
 }

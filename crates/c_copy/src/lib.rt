@@ -16,6 +16,9 @@ mod statements;
 mod stmt_kinds;
 
 pub use expressions::Source;
+pub use kinds::{inner_with, operands};
+pub use lists::{all_below, listed, none, two};
 pub use numbers::Numbers;
 pub use ordered::check_order;
 pub use statements::{Copied, statement};
+pub use stmt_kinds::{parts, stmt_with, values};

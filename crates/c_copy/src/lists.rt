@@ -6,7 +6,8 @@ ghost use Rattle.c_copy.specs.Copying.{AllBelow};
 use ck_base::NoMemory;
 use std::alloc::Global;
 
-pub(crate) fn listed(alloc: Global, xs: &[u32]) -> Result<Vec<u32>, NoMemory>
+/// The numbers of a list.
+pub fn listed(alloc: Global, xs: &[u32]) -> Result<Vec<u32>, NoMemory>
     ensures { IfOk result (λ v. v.items ≡ xs.now) }
 {
     let v = Vec::from_slice(alloc, xs)?;
@@ -55,8 +56,8 @@ pub(crate) fn list_to(alloc: Global, xs: &[u32], a: u32) -> Result<Vec<u32>, NoM
     Ok(v)
 }
 
-// The list is empty.
-pub(crate) fn none(xs: &[u32]) -> Result<(), NoMemory>
+/// The list is empty. Else NoMemory.
+pub fn none(xs: &[u32]) -> Result<(), NoMemory>
     ensures { OnOk result (xs.now ≡ []) }
 {
     match xs {
@@ -75,7 +76,8 @@ pub(crate) fn one(xs: &[u32]) -> Result<u32, NoMemory>
     }
 }
 
-pub(crate) fn two(xs: &[u32]) -> Result<(u32, u32), NoMemory>
+/// The numbers of a list of two. Else NoMemory.
+pub fn two(xs: &[u32]) -> Result<(u32, u32), NoMemory>
     ensures { IfOk result (λ x. xs.now ≡ x.0 ∷ x.1 ∷ []) }
 {
     match xs {
@@ -93,8 +95,8 @@ pub(crate) fn three(xs: &[u32]) -> Result<(u32, u32, u32), NoMemory>
     }
 }
 
-// Each number is below another.
-pub(crate) fn all_below(xs: &[u32], k: u32) -> Result<(), NoMemory>
+/// Each number is below another. Else NoMemory.
+pub fn all_below(xs: &[u32], k: u32) -> Result<(), NoMemory>
     ensures { OnOk result (AllBelow k xs.now) }
 {
     for x in xs {

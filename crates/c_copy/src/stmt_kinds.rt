@@ -22,7 +22,7 @@ fn maybe_two(alloc: Global, a: Option<u32>, b: Option<u32>) -> Result<Vec<u32>, 
 }
 
 /// The expressions that a statement names.
-pub(crate) fn values(alloc: Global, kind: &StmtKind) -> Result<Vec<u32>, NoMemory>
+pub fn values(alloc: Global, kind: &StmtKind) -> Result<Vec<u32>, NoMemory>
     ensures { IfOk result (λ v. v.items ≡ values kind.now) }
 {
     match kind {
@@ -41,7 +41,7 @@ pub(crate) fn values(alloc: Global, kind: &StmtKind) -> Result<Vec<u32>, NoMemor
 }
 
 /// The statements that a statement names.
-pub(crate) fn parts(alloc: Global, kind: &StmtKind) -> Result<Vec<u32>, NoMemory>
+pub fn parts(alloc: Global, kind: &StmtKind) -> Result<Vec<u32>, NoMemory>
     ensures { IfOk result (λ v. v.items ≡ parts kind.now) }
 {
     match kind {
@@ -244,7 +244,7 @@ fn plain_with(kind: &StmtKind) -> Result<StmtKind, NoMemory>
 }
 
 /// The statement with these expressions and statements.
-pub(crate) fn stmt_with(
+pub fn stmt_with(
     alloc: Global,
     kind: &StmtKind,
     xs: &[u32],

@@ -7,7 +7,7 @@ use Rattle.std.proofs.lemmas.List.{length-reverse}
 use Rattle.std.proofs.lemmas.List.Elements.{All-push}
 use Rattle.ck_base.specs.Tokens.{Lexeme}
 use Rattle.c_tree.specs.declared.typed.Member.{Member}
-use Rattle.c_tree.specs.Types.{Ty, Void, adjusted, bare, is_function, is_tagged, is_void}
+use Rattle.c_tree.specs.Types.{Ty, Void, adjusted, is_function, is_void}
 use Rattle.c_tree.specs.Scopes as meant_scopes
 use Rattle.c_tree.specs.Scopes.{Part, State, give, is_complete, ◌>>◌}
 use Rattle.c_tree.specs.Readings as meant
@@ -124,7 +124,7 @@ nothing_is w only d y t h =
     let n : length y.wraps ≡ length d.wraps.items = as_many any_scope w (reverse d.wraps.items) y.wraps h.wraps ∙ length-reverse d.wraps.items in
     by_parts only y.name y.wraps t ∙ rw (e, empty_is y.wraps, n) refl
 
-pub parameter_step : (s : State) (only : Bool) (x : meant.Specified) (t : Lexeme) (y : meant.Derived) (f : meant_types.Formed) (of : Ty) (at : Lexeme) (z l m : Bool) →
-    formed s x.of y.wraps ≡ f → adjusted f.of ≡ of → place_of y.name t ≡ at → is_nothing only y.name y.wraps x.of ≡ z → is_free s y.name ≡ true → l ≡ not (z || is_complete s of) → m ≡ is_tagged (bare of) →
-    parameter_from only x t y s ≡ (judge f l m at.pos >> give (record { name = y.name; at = at; of = of; nothing = z })) s
-parameter_step s only x t y f of at z l m e a p n b i j = rw (e, a, p, n, b, i, j) refl
+pub parameter_step : (s : State) (only : Bool) (x : meant.Specified) (t : Lexeme) (y : meant.Derived) (f : meant_types.Formed) (of : Ty) (at : Lexeme) (z : Bool) →
+    formed s x.of y.wraps ≡ f → adjusted f.of ≡ of → place_of y.name t ≡ at → is_nothing only y.name y.wraps x.of ≡ z → is_free s y.name ≡ true →
+    parameter_from only x t y s ≡ (judge f false false at.pos >> give (record { name = y.name; at = at; of = of; nothing = z })) s
+parameter_step s only x t y f of at z e a p n b = rw (e, a, p, n, b) refl

@@ -141,7 +141,7 @@ fn is_given(nodes: &Nodes<'_>, t: u32) -> bool
     requires there { t < type_count nodes.now }
     ensures { result ≡ is_given (type_in nodes.now t) }
 {
-    !nodes.is_array(t) && !nodes.is_function(t) && !nodes.is_tagged(nodes.bare(t))
+    !nodes.is_array(t) && !nodes.is_function(t)
 }
 
 // A function gives a type without a qualifier of its own (C11 6.7.6.3p5, as C17 words it).

@@ -14,9 +14,9 @@ use Rattle.c_tree.specs.Readings as meant
 use Rattle.c_tree.specs.Readings.{Reading}
 use Rattle.c_tree.specs.Statements.{all_items, block_action}
 use Rattle.c_tree.specs.Types.{Ty, bare, is_scalar}
-use Rattle.c_tree.specs.Terms.{Action, Variable, Block, action, actions, no_terms}
+use Rattle.c_tree.specs.Terms.{Action, Variable, Block, action, actions, no_terms, numbers_from}
 use Rattle.c_tree.specs.Programs as programs
-use Rattle.c_tree.specs.Programs.{reading, readings, numbers_from}
+use Rattle.c_tree.specs.Programs.{reading, readings}
 use Rattle.c_tree.specs.Scopes as scopes
 use Rattle.c_tree.specs.Scopes.{State, LocalState, RoutineState, Body, Doing, with_changed, changed_at, change_routine, outer_scopes}
 use Rattle.c_tree.specs.Views as views

@@ -12,6 +12,7 @@ use Rattle.c_tree.specs.Syntax.{Syn, Syns, StandsAt}
 use Rattle.c_tree.specs.Readings.{Reading}
 use Rattle.c_tree.specs.Scopes.{State, Doing, Fault, give, continued, ◌>>◌}
 use Rattle.c_tree.specs.Declarations.{declaration}
+use Rattle.c_tree.specs.Passed.{call_name, calls_in}
 use Rattle.c_tree.specs.Programs.{reading, readings, all_externals, parts, typing, finished, ended, earliest, last_faults, beginning}
 use Rattle.c_tree.specs.Typing.{Reads, IsSpelled}
 use Rattle.c_nodes.specs.Nodes.{IsWhole}
@@ -24,7 +25,7 @@ use Rattle.c_parts.proofs.Kids.{cut, no_parts, opened, parts_kept}
 use Rattle.c_statements.proofs.Stating.{readings_more, readings_nil}
 use Rattle.c_items.specs.declared.items.Items.{Items}
 use Rattle.c_items.specs.Items.{ItemsThere, IsItems}
-use Rattle.c_finish.specs.Finished.{Finished}
+use Rattle.c_finish.specs.Finished.{Finished, IsSyntax}
 use Rattle.c_elab.specs.Elaborated.{Elaborated}
 use Rattle.c_elab.proofs.Written.{written}
 
@@ -84,15 +85,15 @@ file_steps u v w xs k ks f h =
 
 -- ---- the whole file
 
-pub elaborated : (x : Syn) (t : State) (a : Unit) (r : Result Typed Refusal) → all_externals (readings (parts x)) beginning ≡ Ok (a, t) → Finished (ended (earliest (last_faults t)) t) r → Elaborated x r
+pub elaborated : (x : Syn) (t : State) (a : Unit) (r : Result Typed Refusal) → all_externals (readings (parts x)) beginning ≡ Ok (a, t) → Finished (ended (call_name (calls_in x)) (earliest (last_faults t)) t) r → Elaborated x r
 unfolding typing
-elaborated x t a (Ok p) e h = record { program = h.program; given = ap finished e ∙ h.is; shows = h.shows; ordered = h.ordered }
-elaborated x t a (Err (Code code place)) e h = ap finished e ∙ h
+elaborated x t a (Ok p) e h = record { program = h.program; given = ap (finished (call_name (calls_in x))) e ∙ h.is; shows = h.shows; ordered = h.ordered }
+elaborated x t a (Err (Code code place)) e h = ap (finished (call_name (calls_in x))) e ∙ h
 elaborated x t a (Err NoMemory) e h = tt
 
 pub elaboration_fails : (x : Syn) (u v : Work) (q : Refusal) → Shows u beginning → Answers freely u v (all_externals (readings (parts x))) NothingThere IsNothing (Err q) → Elaborated x (Err q)
 unfolding typing
-elaboration_fails x u v (Code code place) h a = ap finished (a beginning h)
+elaboration_fails x u v (Code code place) h a = ap (finished (call_name (calls_in x))) (a beginning h)
 elaboration_fails x u v NoMemory h a = tt
 
 pub nothing_done : (w : Work) → IsWhole w.nodes → Done freely w w (give (tt {0})) (Unit {0}) (λ s a. Unit {0})
@@ -106,6 +107,10 @@ root_is w tree file x e f r = record {
   spelled = subst (λ (b : List ℕ). IsSpelled b x) (sym f) r.spelled;
   written = written r.tokens x r.derives r.accepted;
 }
+
+-- the tree stays
+pub syntax_is : (w v : Work) (tree : Tree) (x : Syn) → w.tree.now ≡ tree → v.tree.now ≡ w.tree.now → StandsAt tree.nodes tree.root x → IsSyntax v x
+syntax_is w v tree x e f h = subst (λ (t : Tree). StandsAt t.nodes t.root x) (sym (f ∙ e)) h
 
 pub root_parts : (w : Work) (k : ℕ) (x : Syn) (n : Node) → IsPart w k x → slice_get w.tree.now.nodes k ≡ Some n → AreParts w n.kids (parts x)
 root_parts w k x n p g = let o = opened w k x n p g in subst (λ (y : Syn). AreParts w n.kids (parts y)) (sym o.is) o.node.parts

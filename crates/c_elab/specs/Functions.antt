@@ -5,12 +5,12 @@ use Rattle.ck_base.specs.Tokens.{Lexeme}
 use Rattle.c_tree.specs.declared.typed.VarDef.{VarDef}
 use Rattle.c_tree.specs.Syntax.{Syn, first_token}
 use Rattle.c_tree.specs.Types.{bare, is_scalar}
-use Rattle.c_tree.specs.Terms.{Action}
+use Rattle.c_tree.specs.Terms.{Action, numbers_from}
 use Rattle.c_tree.specs.Readings as meant
 use Rattle.c_tree.specs.Scopes.{State, Body, Doing, look, leave, change, change_routine, ◌>>=◌, ◌>>◌}
 use Rattle.c_tree.specs.Statements.{block_action}
 use Rattle.c_tree.specs.Expressions.{routine_type}
-use Rattle.c_tree.specs.Programs.{reading, body_context, define_named, parameter_name, parameter_local, numbers_from}
+use Rattle.c_tree.specs.Programs.{reading, body_context, define_named, parameter_name, parameter_local, first_incomplete, refused_at}
 use Rattle.c_tree.specs.Views.{types_of}
 use Rattle.c_types.specs.declared.scopes.Scopes.{Scopes}
 use Rattle.c_types.specs.Stands.{Stands, text_at, var_kept, local_seen}
@@ -99,7 +99,7 @@ types_body k count c z = (reading z).body c >>= λ i. finishes k count i (first_
 
 -- the parameters and the body of a function whose definition was begun
 abbrev pub defines : ℕ → meant.Prototype → Syn → Doing Unit
-defines k q z = look >>= λ now. change (opened q) >> types_body k (length q.params) (body_context (routine_type (slice_get now.routines k))) z
+defines k q z = look >>= λ now. change (opened q) >> look >>= λ s. refused_at 132 (first_incomplete s.tags q.params) >> types_body k (length q.params) (body_context (routine_type (slice_get now.routines k))) z
 
 -- specifiers, a declarator and a block
 abbrev pub defines_from : Syn → Syn → Syn → Doing Unit

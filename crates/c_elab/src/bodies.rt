@@ -1,16 +1,18 @@
 //! The bodies of functions (C11 6.9.1).
 
-ghost use Rattle.std.specs.Prelude.{◌≡◌, true, Some, ◌+◌, ◌<◌, ◌∷◌, ◌++◌, [], All, IfOk, OnOk, length, slice_get, slice_set};
+ghost use Rattle.std.specs.Prelude.{◌≡◌, true, Some, ◌+◌, ◌<◌, ◌∷◌, ◌++◌, [], All, IfOk, OnOk, length, map, slice_get, slice_set};
 ghost use Rattle.c_tree.specs.Syntax.{Syn};
 ghost use Rattle.c_tree.specs.Expressions.{routine_type};
-ghost use Rattle.c_tree.specs.Programs.{body_context, given_by, numbers_from};
+ghost use Rattle.c_tree.specs.Programs.{body_context, first_incomplete};
+ghost use Rattle.c_tree.specs.Terms.{numbers_from};
+ghost use Rattle.c_tree.specs.Types.{given_by};
 ghost use Rattle.c_tree.specs.Scopes.{State};
 ghost use Rattle.c_nodes.specs.Nodes.{IsWhole, type_in, type_count};
 ghost use Rattle.c_work.specs.Work.{Shows};
 ghost use Rattle.c_work.specs.Answers.{Answers, freely, NothingThere, IsNothing, action_in, action_count};
 ghost use Rattle.c_work.specs.Parts.{IsPart, HasPart};
 ghost use Rattle.c_declarators.specs.Forming.{ParamIsThere};
-ghost use Rattle.c_declarators.specs.Parts.{IsPrototype, shown_in};
+ghost use Rattle.c_declarators.specs.Parts.{IsPrototype, param_in, shown_in};
 ghost use Rattle.c_items.specs.Items.{ContextThere, context_in, ItemsThere, items_in};
 ghost use Rattle.c_items.specs.Shown.{AnswersFor};
 ghost use Rattle.c_elab.specs.Functions.{AreMarked, VariableThere, variable_in, variables_from, ends, finishes, types_body, defines};
@@ -234,6 +236,18 @@ fn type_body(
     finish_body(work, k, count, items, node.first)
 }
 
+// The place of the first parameter whose type is not complete.
+fn first_incomplete(work: &Work<'_>, params: &[Param]) -> Option<Pos>
+    ensures { (s : State) → Shows work.now s → result ≡ first_incomplete s.tags (map (param_in work.now) params.now) }
+{
+    for param in params {
+        if !work.nodes.scopes.is_complete(&work.nodes.p, param.of) {
+            return Some(param.at.pos);
+        }
+    }
+    None
+}
+
 fn count_of(params: &[Param]) -> Result<u32, NoMemory>
     ensures { IfOk result (λ n. n ≡ length params.now) }
 {
@@ -255,6 +269,9 @@ pub(crate) fn define_body<'a>(
 {
     let count = count_of(p.params.as_slice())?;
     let context = context_of(work, k)?;
+    if let Some(place) = first_incomplete(work, p.params.as_slice()) {
+        return Err(Refusal::Code(132, place));
+    }
     open_body(work, p)?;
     type_body(work, k, context, count, block, depth)
 }

@@ -1,11 +1,13 @@
 //! Function definitions (C11 6.9.1).
 
-ghost use Rattle.std.specs.Prelude.{◌≡◌, true, ◌||◌, not};
+ghost use Rattle.std.specs.Prelude.{◌≡◌, ◌<◌, true, ◌||◌, not};
 ghost use Rattle.ck_base.specs.Tokens.{Lexeme};
 ghost use Rattle.c_tree.specs.Syntax.{Syn, Syns};
 ghost use Rattle.c_tree.specs.Readings as meant;
-ghost use Rattle.c_tree.specs.Programs.{reading, readings, function_definition, define_named};
-ghost use Rattle.c_nodes.specs.Nodes.{IsWhole};
+ghost use Rattle.c_tree.specs.Scopes.{State};
+ghost use Rattle.c_tree.specs.Programs.{reading, readings, function_definition, define_named, gives_complete};
+ghost use Rattle.c_nodes.specs.Nodes.{IsWhole, type_in, type_count};
+ghost use Rattle.c_work.specs.Work.{Shows};
 ghost use Rattle.c_work.specs.Answers.{Answers, freely, NothingThere, IsNothing};
 ghost use Rattle.c_work.specs.Parts.{IsPart, HasPart, AreParts, HaveParts};
 ghost use Rattle.c_declarators.specs.Parts.{SpecifiedThere, IsSpecified, DerivedThere, ShowsDerived};
@@ -15,6 +17,7 @@ ghost use Rattle.c_elab.specs.Functions.{IsDeclarator, first_prototype, defines_
 
 use crate::bodies::define_body;
 use c_declarators::{Derived, Formed, Prototype, Specified, Wrap, formed};
+use c_nodes::Class;
 use c_parts::{derived, specified, three};
 use c_statements::declare_definition;
 use c_types::{Decl, DeclKind, Faults};
@@ -35,15 +38,39 @@ fn own_prototype<'a>(wraps: Vec<Wrap<'a>>) -> Option<Prototype<'a>>
     }
 }
 
-// What is declared of a function with its body: 133 where the declarator itself is not that of a function.
-fn defined_as(s: Specified, name: Name, f: Formed, is_own: bool) -> Decl
-    ensures { result ≡ record { name = name.span; pos = name.pos; of = f.of; faults = record f.faults { misfits = f.faults.misfits || not is_own }; what = DeclKind.Fun; storage = s.storage; defines = true } }
+// Whether a function of a type may be defined: it gives void, or what is complete.
+fn gives_complete(work: &Work<'_>, of: u32) -> bool
+    requires whole { IsWhole work.now.nodes }
+    requires there { of < type_count work.now.nodes }
+    ensures { (s : State) → Shows work.now s → result ≡ gives_complete s (type_in work.now.nodes of) }
+{
+    match work.nodes.class(of) {
+        Class::Function(gives) => {
+            let void = work.nodes.is_bare_void(gives);
+            let complete = work.nodes.scopes.is_complete(&work.nodes.p, gives);
+            void || complete
+        }
+        Class::Void
+        | Class::Int(_, _)
+        | Class::Cap(_)
+        | Class::Pointer(_)
+        | Class::Array(_, _)
+        | Class::Tagged(_)
+        | Class::Const(_) => true,
+    }
+}
+
+// What is declared of a function with its body: 132 where what it gives is not complete, 133 where the declarator itself is not that of a
+// function.
+fn defined_as(s: Specified, name: Name, f: Formed, is_complete: bool, is_own: bool) -> Decl
+    ensures { result ≡ record { name = name.span; pos = name.pos; of = f.of; faults = record f.faults { lacks = f.faults.lacks || not is_complete; misfits = f.faults.misfits || not is_own }; what = DeclKind.Fun; storage = s.storage; defines = true } }
 {
     Decl {
         name: name.span,
         pos: name.pos,
         of: f.of,
         faults: Faults {
+            lacks: f.faults.lacks || !is_complete,
             misfits: f.faults.misfits || !is_own,
             ..f.faults
         },
@@ -70,7 +97,8 @@ fn define_so<'a>(
 {
     let f = formed(work, s.of, wraps.as_slice())?;
     let own = own_prototype(wraps);
-    let k = declare_definition(work, defined_as(s, name, f, own.is_some()))?;
+    let complete = gives_complete(work, f.of);
+    let k = declare_definition(work, defined_as(s, name, f, complete, own.is_some()))?;
     match own {
         None => Err(Refusal::NoMemory),
         Some(p) => define_body(work, k, p, block, depth),

@@ -58,7 +58,7 @@ abbrev mutual
 
 -- ---- they stay
 
-at_number : {A : Type 0} (xs : List A) (k : ℕ) → k < length xs → (x : A) × (slice_get xs k ≡ Some x)
+pub at_number : {A : Type 0} (xs : List A) (k : ℕ) → k < length xs → (x : A) × (slice_get xs k ≡ Some x)
 at_number [] k l = absurd (omega (arith, l))
 at_number (x ∷ xs) zero l = (x, refl)
 at_number (x ∷ xs) (suc k) l = at_number xs k (omega (arith, l))

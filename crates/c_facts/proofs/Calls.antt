@@ -1,21 +1,21 @@
 -- Calls of functions and of library functions (C11 6.5.2.2).
-use Rattle.std.proofs.Common.{◌≡◌, ℕ, zero, suc, Bool, true, List, [], ◌∷◌, length, Option, Some, None, Ok, refl, sym, ap, subst, ◌∙◌, arith}
+use Rattle.std.proofs.Common.{◌≡◌, ℕ, zero, suc, Bool, true, List, [], ◌∷◌, length, Option, Some, None, Ok, refl, sym, ap, subst, ◌∙◌, ⊎_elim, arith}
 use Rattle.std.specs.Prelude.{slice_get, ◌==◌}
-use Rattle.std.proofs.lemmas.Bool.{false≢true, eqb-true}
+use Rattle.std.proofs.lemmas.Bool.{false≢true, and_parts, or_cases, eqb-true}
 use Rattle.std.proofs.lemmas.Option.{same_Some}
 use Rattle.ck_base.specs.declared.positions.Pos.{Pos}
-use Rattle.c_tree.specs.Types.{Ty, Void, Int, Cap, Pointer, Array, Tagged, Function, Const, Tys, no_types, also, int, unsigned_long, bare, is_scalar, is_capability}
+use Rattle.c_tree.specs.Types.{Ty, Void, Int, Cap, Pointer, Array, Tagged, Function, Const, Tys, no_types, also, int, unsigned_long, bare, is_scalar, is_void, is_tagged, is_capability}
 use Rattle.c_tree.specs.Terms.{Call, Library, Term, term, with_term, terms, type_of}
-use Rattle.c_tree.specs.Scopes.{TagState, State, Doing, give, need, ◌>>=◌, ◌>>◌}
+use Rattle.c_tree.specs.Scopes.{TagState, State, Doing, give, need, is_complete, ◌>>=◌, ◌>>◌}
 use Rattle.c_tree.specs.Conversions.{Operand, operand_type, assigned}
-use Rattle.c_tree.specs.Expressions.{gives, arguments, many, call_of, call, asked, all_asked, given_type, library_call}
+use Rattle.c_tree.specs.Expressions.{gives, arguments, many, call_of, may_be_given, all_complete, is_callable, call, asked, all_asked, given_type, library_call}
 use Rattle.c_tree.specs.Declarators.{is_given}
 use Rattle.c_tree.specs.Libraries.{Asked, Any_capability, A, Given, Of, As_argument, Service, services}
 use Rattle.c_tree.specs.WellTyped.{ArgumentsFit, AskedFits, AllAskedFit, list_of}
-use Rattle.c_facts.proofs.Facts.{TypeOk, TypesOk, IsValue, scalar, nothing, tagged, TermOk, TermsOk, OperandOk, ValueOk, Inv, Grows, Kept}
-use Rattle.c_facts.proofs.Growing.{term_kept, type_kept, types_kept, value_kept, grows_self}
+use Rattle.c_facts.proofs.Facts.{Complete, TypeOk, TypesOk, IsValue, scalar, nothing, tagged, AllTaken, TermOk, TermsOk, OperandOk, ValueOk, Inv, Grows, Kept}
+use Rattle.c_facts.proofs.Growing.{term_kept, type_kept, types_kept, value_type_kept, value_kept, taken_kept, grows_self}
 use Rattle.c_facts.proofs.Steps.{given, needed, refused, first_then}
-use Rattle.c_facts.proofs.Scalars.{bare_ok}
+use Rattle.c_facts.proofs.Scalars.{bare_ok, complete_is}
 use Rattle.c_facts.proofs.Converted.{Operands, gave, made, assigned_ok}
 use Rattle.c_facts.proofs.Operators.{onward}
 
@@ -53,44 +53,73 @@ arguments_ok m no_types [] s i k h x e = given (Kept m true s (λ r ys. Argument
 arguments_ok m no_types (a ∷ rest) s i k h x e = given (Kept m true s (λ r ys. ArgumentsOk m r no_types (a ∷ rest) ys)) [] s x e (record { inv = i; grown = grows_self true s; post = record { fits = tt; match = λ n. absurd (omega (arith, n)) } })
 arguments_ok m (also t ts) [] s i k h x e = given (Kept m true s (λ r ys. ArgumentsOk m r (also t ts) [] ys)) [] s x e (record { inv = i; grown = grows_self true s; post = record { fits = tt; match = λ n. absurd (omega (arith, n)) } })
 
--- what a function gives is a value
-given_value : (ts : List TagState) (r : Ty) → TypeOk ts r → is_given r ≡ true → IsValue ts (bare r)
-given_value ts Void h g = nothing refl
-given_value ts (Int k n) h g = scalar refl
-given_value ts (Cap s) h g = scalar refl
-given_value ts (Pointer t) h g = scalar refl
-given_value ts (Const Void) h g = nothing refl
-given_value ts (Const (Int k n)) h g = scalar refl
-given_value ts (Const (Cap s)) h g = scalar refl
-given_value ts (Const (Pointer t)) h g = scalar refl
-given_value ts (Const (Array t n)) h g = absurd (false≢true h.1)
-given_value ts (Const (Function q ps)) h g = absurd (false≢true h.1)
-given_value ts (Const (Const t)) h g = absurd (false≢true h.1)
-given_value ts (Const (Tagged n)) h g = absurd (false≢true g)
-given_value ts (Tagged n) h g = absurd (false≢true g)
-given_value ts (Array t n) h g = absurd (false≢true g)
-given_value ts (Function q ps) h g = absurd (false≢true g)
+-- what a function gives is a value, where it is complete if it is a struct or union
+pub given_value : (ts : List TagState) (r : Ty) → TypeOk ts r → is_given r ≡ true → (is_tagged (bare r) ≡ true → Complete ts (bare r)) → IsValue ts (bare r)
+given_value ts Void h g c = nothing refl
+given_value ts (Int k n) h g c = scalar refl
+given_value ts (Cap s) h g c = scalar refl
+given_value ts (Pointer t) h g c = scalar refl
+given_value ts (Tagged n) h g c = tagged n refl (c refl)
+given_value ts (Const Void) h g c = nothing refl
+given_value ts (Const (Int k n)) h g c = scalar refl
+given_value ts (Const (Cap s)) h g c = scalar refl
+given_value ts (Const (Pointer t)) h g c = scalar refl
+given_value ts (Const (Tagged n)) h g c = tagged n refl (c refl)
+given_value ts (Const (Array t n)) h g c = absurd (false≢true h.1)
+given_value ts (Const (Function q ps)) h g c = absurd (false≢true h.1)
+given_value ts (Const (Const t)) h g c = absurd (false≢true h.1)
+given_value ts (Array t n) h g c = absurd (false≢true g)
+given_value ts (Function q ps) h g c = absurd (false≢true g)
+
+pub bare_complete : (ts : List TagState) (t : Ty) → Complete ts t → Complete ts (bare t)
+bare_complete ts (Const t) c = c
+bare_complete ts Void c = c
+bare_complete ts (Int k n) c = c
+bare_complete ts (Cap s) c = c
+bare_complete ts (Pointer t) c = c
+bare_complete ts (Array t n) c = c
+bare_complete ts (Tagged n) c = c
+bare_complete ts (Function r ps) c = c
+
+tagged_not_void : (t : Ty) → is_tagged t ≡ true → is_void t ≡ true → ⊥
+tagged_not_void (Tagged n) e f = false≢true f
+tagged_not_void t e f = false≢true e
+
+-- a struct or union that may be given is complete
+pub given_complete : (s : State) (r : Ty) → may_be_given s r ≡ true → is_tagged (bare r) ≡ true → Complete s.tags (bare r)
+given_complete s r e t =
+    ⊎_elim (λ v. absurd (tagged_not_void (bare r) t v)) (λ c. bare_complete s.tags r (complete_is s r c)) (or_cases (is_void (bare r)) (is_complete s r) e)
+
+all_taken : (s : State) (ps : Tys) → TypesOk s.tags ps → all_complete s ps ≡ true → AllTaken s.tags ps
+all_taken s no_types h e = tt
+all_taken s (also t ts) h e =
+    let p = and_parts (is_complete s t) (all_complete s ts) e in (h.1, complete_is s t p.0, all_taken s ts h.2 p.1)
 
 module _ (m : Bool) (s : State) (i : Inv m s) where
-  call_by : (t : Ty) (f : Operand) (xs : List Operand) (p : Pos) → operand_type f ≡ t → ValueOk m s f.is → AllValues m s xs → (x : Operand × State) → call_of t f xs p s ≡ Ok x → Operands m s x
-  call_by (Pointer (Function r ps)) f xs p q h j x e =
+  call_by : (t : Ty) (f : Operand) (xs : List Operand) (p : Pos) → operand_type f ≡ t → is_callable s t ≡ true → ValueOk m s f.is → AllValues m s xs → (x : Operand × State) → call_of t f xs p s ≡ Ok x → Operands m s x
+  call_by (Pointer (Function r ps)) f xs p q callable h j x e =
       let go : List Term → Doing Operand = λ ys. need (length xs == many ps) 136 f.first >> gives (term Call (with_term f.is (terms ys)) (bare r) p) f.first in
       let a = first_then (arguments ps xs s) go x e in
       let k : TypeOk s.tags (Pointer (Function r ps)) = subst (TypeOk s.tags) q h.type in
+      let may = and_parts (may_be_given s r) (all_complete s ps) callable in
       let c = arguments_ok m ps xs s i k.2 j a.0 a.1 in
       let z = a.0.1 in
       let n = needed (length xs == many ps) 136 f.first (gives (term Call (with_term f.is (terms a.0.0)) (bare r) p) f.first) z x a.2 in
       let w = value_kept m s z c.grown.refers f.is h in
       let l = type_kept s.tags z.tags c.grown.refers.tags r k.0 in
+      let value = value_type_kept s.tags z.tags c.grown.refers.tags (bare r) (given_value s.tags r k.0 k.1 (given_complete s r may.0)) in
+      let taken = taken_kept s.tags z.tags c.grown.refers.tags ps (all_taken s ps k.2 may.1) in
       onward m true s a.0 x c (gave m z c.inv _ f.first (made m z _ refl (record {
-        fits = ((w.fits, c.post.fits), (r, ps, q, c.post.match (eqb-true (length xs) (many ps) n.0), refl));
+        fits = ((w.fits, c.post.fits), (r, ps, q, c.post.match (eqb-true (length xs) (many ps) n.0), refl, value, taken));
         type = bare_ok z.tags r l;
-        value = given_value z.tags r l k.1;
+        value = value;
       })) x n.1)
-  call_by t f xs p q h j x e = refused _ x e
+  call_by t f xs p q callable h j x e = refused _ x e
 
   pub call_ok : (f : Operand) (xs : List Operand) (p : Pos) → ValueOk m s f.is → AllValues m s xs → (x : Operand × State) → call f xs p s ≡ Ok x → Operands m s x
-  call_ok f xs p h j x e = call_by (operand_type f) f xs p refl h j x e
+  call_ok f xs p h j x e =
+      let n = needed (is_callable s (operand_type f)) 132 f.first (call_of (operand_type f) f xs p) s x e in
+      call_by (operand_type f) f xs p refl n.0 h j x n.1
 
 -- ---- library functions
 

@@ -9,6 +9,7 @@ use Rattle.c_tree.specs.Scopes.{Entity, Library, Named, StaticState, RoutineStat
 use Rattle.c_tree.specs.Libraries.{Service, services, signature, aliases, builtin_name}
 use Rattle.c_tree.specs.Programs.{alias_name, service_names, names_of_services, file_scope, beginning, undefined_use, static_faults, routine_faults, is_there, last_faults, earlier, earliest, program_of, has_main, ended, all_externals, finished, parts, readings, typing, stands_before, pending_faults}
 use Rattle.c_tree.specs.Programs.{reaches}
+use Rattle.c_tree.specs.Passed.{Names, passed_program, call_name, calls_in}
 use Rattle.c_tree.specs.Statics.{aim_length}
 use Rattle.c_facts.proofs.Placed.{IsWaiting}
 use Rattle.c_facts.specs.Fitting.{IsFit, AreFit}
@@ -65,13 +66,12 @@ outside_beginning = record {
 -- ---- the end
 
 -- nothing is used that is not defined, and each object is complete
-pub record AtEnd (s : State) (q : Program) : Type 0 where
+pub record AtEnd (s : State) : Type 0 where
   pub outside : Outside s
   pub statics : (k : ℕ) (g : StaticState) → slice_get s.statics k ≡ Some g → Complete s.tags g.of × (IsUsed g.used → g.defined ≡ true)
   pub routines : (k : ℕ) (f : RoutineState) → slice_get s.routines k ≡ Some f → IsUsed f.used → is_there f.body ≡ true
   pub reached : (k : ℕ) (z : ℤ) → IsWaiting s.pending k z → reaches (aim_length s (To_global k)) z ≡ true
   pub main : has_main s.routines ≡ true
-  pub is : program_of s ≡ q
 
 empty_left : {A : Type 0} (xs ys : List A) → xs ++ ys ≡ [] → (xs ≡ []) × (ys ≡ [])
 empty_left [] ys e = (refl, e)
@@ -107,14 +107,14 @@ program_or : Program → Result Program Fault → Program
 program_or d (Ok r) = r
 program_or d (Err f) = d
 
-ended_at : (o : Option Fault) (s : State) (q : Program) → ended o s ≡ Ok q → (o ≡ None) × (has_main s.routines ≡ true) × (program_of s ≡ q)
+ended_at : (names : Names) (o : Option Fault) (s : State) (q : Program) → ended names o s ≡ Ok q → (o ≡ None) × (has_main s.routines ≡ true) × (passed_program names (program_of s) ≡ q)
 unfolding program_or
-ended_at None s q e = with_main (has_main s.routines) refl e
+ended_at names None s q e = with_main (has_main s.routines) refl e
   where
-    with_main : (b : Bool) → has_main s.routines ≡ b → (if b then Ok (program_of s) else Err (Rattle.c_tree.specs.Programs.fault 135 Rattle.c_tree.specs.Programs.file_begins)) ≡ Ok q → (◌≡◌ {A = Option Fault} None None) × (has_main s.routines ≡ true) × (program_of s ≡ q)
+    with_main : (b : Bool) → has_main s.routines ≡ b → (if b then Ok (passed_program names (program_of s)) else Err (Rattle.c_tree.specs.Programs.fault 135 Rattle.c_tree.specs.Programs.file_begins)) ≡ Ok q → (◌≡◌ {A = Option Fault} None None) × (has_main s.routines ≡ true) × (passed_program names (program_of s) ≡ q)
     with_main true i e = (refl, i, ap (program_or q) e)
     with_main false i e = absurd cc
-ended_at (Some f) s q e = absurd cc
+ended_at names (Some f) s q e = absurd cc
 
 -- what waits is reached
 pending_reached : (s : State) (ps : List Pending) → flat_map (pending_faults s) ps ≡ [] → (k : ℕ) (z : ℤ) → IsWaiting ps k z → reaches (aim_length s (To_global k)) z ≡ true
@@ -128,27 +128,30 @@ pending_reached s (p ∷ ps) e k z h =
     no_fault true f e = refl
     no_fault false f e = absurd cc
 
-at_end : (s : State) (q : Program) → Outside s → ended (earliest (last_faults s)) s ≡ Ok q → AtEnd s q
-at_end s q o e =
-    let d = ended_at (earliest (last_faults s)) s q e in
+at_end : (names : Names) (s : State) (q : Program) → Outside s → ended names (earliest (last_faults s)) s ≡ Ok q → AtEnd s × (passed_program names (program_of s) ≡ q)
+at_end names s q o e =
+    let d = ended_at names (earliest (last_faults s)) s q e in
     let all = earliest_none (last_faults s) d.0 in
     let a = empty_left (flat_map (static_faults s) s.statics ++ flat_map routine_faults s.routines) (flat_map (pending_faults s) s.pending) all in
-    let b = empty_left (flat_map (static_faults s) s.statics) (flat_map routine_faults s.routines) a.0 in
-    record {
-      outside = o;
-      statics = λ k g i. let f = none_flat (static_faults s) s.statics b.0 k g i in let h = empty_left _ (undefined_use g.defined g.used) f in (complete_end s g (is_complete s g.of) _ refl h.0, used_defined g.defined g.used h.1);
-      routines = λ k f i u. used_defined (is_there f.body) f.used (none_flat routine_faults s.routines b.1 k f i) u;
-      reached = pending_reached s s.pending a.1;
-      main = d.1;
-      is = d.2;
-    }
+    let b = empty_left (flat_map (static_faults s) s.statics) (flat_map routine_faults s.routines) a.0 in (
+      record {
+        outside = o;
+        statics = λ k g i. let f = none_flat (static_faults s) s.statics b.0 k g i in let h = empty_left _ (undefined_use g.defined g.used) f in (complete_end s g (is_complete s g.of) _ refl h.0, used_defined g.defined g.used h.1);
+        routines = λ k f i u. used_defined (is_there f.body) f.used (none_flat routine_faults s.routines b.1 k f i) u;
+        reached = pending_reached s s.pending a.1;
+        main = d.1;
+      },
+      d.2,
+    )
 
-finished_at : (r : Result (Unit {0} × State) Fault) (q : Program) → finished r ≡ Ok q → (y : Unit {0} × State) × (r ≡ Ok y) × (ended (earliest (last_faults y.1)) y.1 ≡ Ok q)
-finished_at (Ok y) q e = (y, refl, e)
-finished_at (Err f) q e = absurd cc
+finished_at : (names : Names) (r : Result (Unit {0} × State) Fault) (q : Program) → finished names r ≡ Ok q → (y : Unit {0} × State) × (r ≡ Ok y) × (ended names (earliest (last_faults y.1)) y.1 ≡ Ok q)
+finished_at names (Ok y) q e = (y, refl, e)
+finished_at names (Err f) q e = absurd cc
 
-pub typed_end : (x : Syn) (q : Program) → IsFit x → typing x ≡ Ok q → (s : State) × AtEnd s q
+pub typed_end : (x : Syn) (q : Program) → IsFit x → typing x ≡ Ok q → (names : Names) × (s : State) × AtEnd s × (passed_program names (program_of s) ≡ q)
 unfolding typing IsFit AreFit
 typed_end (node k t xs) q f e =
-    let y = finished_at (all_externals (readings xs) beginning) q e in
-    (y.0.1, at_end y.0.1 q (externals_ok xs (readings xs) beginning (all_good xs f.1) outside_beginning y.0 y.1) y.2)
+    let names = call_name (calls_in (node k t xs)) in
+    let y = finished_at names (all_externals (readings xs) beginning) q e in
+    let r = at_end names y.0.1 q (externals_ok xs (readings xs) beginning (all_good xs f.1) outside_beginning y.0 y.1) y.2 in
+    (names, y.0.1, r.0, r.1)

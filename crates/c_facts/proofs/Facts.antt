@@ -3,7 +3,7 @@ use Rattle.std.specs.Prelude.{◌≡◌, ℕ, ◌*◌, ◌<◌, ◌≤◌, ◌�
 use Rattle.ck_base.specs.declared.positions.Pos.{Pos}
 use Rattle.ck_int.specs.declared.kinds.IntOp.{IntOp}
 use Rattle.c_tree.specs.Layout.{Extent, size_limit}
-use Rattle.c_tree.specs.Types.{Ty, Void, Int, Cap, Pointer, Array, Tagged, Function, Const, Tys, no_types, also, char, int, long, bare, is_function, is_integer, is_pointer, is_scalar, is_void, is_tagged, count}
+use Rattle.c_tree.specs.Types.{Ty, Void, Int, Cap, Pointer, Array, Tagged, Function, Const, Tys, no_types, also, char, int, long, bare, is_function, is_integer, is_pointer, is_scalar, is_void, is_tagged}
 use Rattle.c_tree.specs.Terms as tree
 use Rattle.c_tree.specs.Terms.{Shape, Term, Terms, term, no_terms, with_term, type_of, Text}
 use Rattle.c_tree.specs.Scopes.{Entity, Local, Static, Routine, Alias, Enumerator, Library, Named, Scope, Part, TagState, StaticState, LocalState, RoutineState, State, type_extent, innermost, outer_scopes}
@@ -99,6 +99,11 @@ MemberOk tags s k t =
     (n : ℕ) × (g : TagState) × (ms : List Part) × (m : Part) × (bare s ≡ Tagged n) × (slice_get tags n ≡ Some g) × (g.members ≡ Some ms) × (slice_get ms k ≡ Some m)
     × (t ≡ as_qualified s m.of)
 
+-- what a function that is called takes: complete types without qualifiers
+abbrev pub AllTaken : List TagState → Tys → Type 0
+AllTaken tags no_types = Unit {0}
+AllTaken tags (also t ts) = (bare t ≡ t) × Complete tags t × AllTaken tags ts
+
 abbrev pub ComparesOk : Ty → Ty → Type 0
 ComparesOk s t = (holds (is_integer s) × (s ≡ t)) ⊎ (holds (is_pointer s) × holds (is_pointer t))
 
@@ -129,7 +134,7 @@ ShapeOk m s tree.Assign (with_term a (with_term b no_terms)) t =
     holds (is_modifiable a) × (t ≡ bare (type_of a)) × (type_of b ≡ t) × (holds (is_scalar t) ⊎ holds (is_tagged t)) × Complete s.tags t
 ShapeOk m s (tree.Compound o of) (with_term a (with_term b no_terms)) t = holds (is_modifiable a) × (t ≡ bare (type_of a)) × CompoundOk s.tags o of (type_of b) t
 ShapeOk m s tree.Conditional (with_term a (with_term b (with_term c no_terms))) t = holds (is_scalar (type_of a)) × (type_of b ≡ t) × (type_of c ≡ t)
-ShapeOk m s tree.Call (with_term g xs) t = (r : Ty) × (ps : Tys) × (type_of g ≡ Pointer (Function r ps)) × ArgumentsFit ps xs × (t ≡ bare r)
+ShapeOk m s tree.Call (with_term g xs) t = (r : Ty) × (ps : Tys) × (type_of g ≡ Pointer (Function r ps)) × ArgumentsFit ps xs × (t ≡ bare r) × IsValue s.tags t × AllTaken s.tags ps
 ShapeOk m s (tree.Library k) xs t = (f : Service) × (slice_get services k ≡ Some f) × AllAskedFit f.takes xs × (t ≡ given_type f.gives (list_of xs))
 ShapeOk m s n xs t = ⊥
 

@@ -4,7 +4,7 @@ use Rattle.std.proofs.Math.Nat.{zero-mod}
 use Rattle.std.proofs.lemmas.Int.{ints}
 use Rattle.std.specs.Prelude.{ℤ, pos, ◌+ℤ◌, ◌-ℤ◌, int_lt, ◌%◌, ◌^◌, slice_get, map, option_map, flat_map, if◌then◌else◌, ◌&&◌, ◌||◌, ◌==◌, not, bytes_eq, codes}
 use Rattle.std.specs.List.{position_or_len}
-use Rattle.std.proofs.lemmas.Bool.{false≢true, not-true, and_parts, and_from, or_cases, or_left, or_right, eqb-true, eq-eqb, le-leb, lt-ltb}
+use Rattle.std.proofs.lemmas.Bool.{false≢true, not-true, and_parts, and_from, or_cases, or_left, or_right, eqb-true, eq-eqb}
 use Rattle.std.proofs.lemmas.Option.{none-some, same_Some, slice_get_within, slice_get-map}
 use Rattle.ck_int.specs.declared.kinds.IntKind.{IntKind}
 use Rattle.c_tree.specs.declared.typed.GlobalDef.{GlobalDef}
@@ -15,7 +15,7 @@ use Rattle.c_tree.specs.declared.typed.VarDef.{VarDef}
 use Rattle.c_tree.specs.declared.typed.FunDef.{FunDef}
 use Rattle.c_tree.specs.declared.typed.Typed.{Typed}
 use Rattle.c_tree.specs.Types.{Ty, Void, Int, Cap, Pointer, Array, Tagged, Function, Const, Tys, no_types, also, int, bare, in_signature, is_scalar, agree, all_agree, compatible, same, same_kind, same_truth, count}
-use Rattle.c_tree.specs.Terms.{Aim, To_global, To_literal, To_function, Pointing, Object, Variable, Routine, Text, Program}
+use Rattle.c_tree.specs.Terms.{Aim, To_global, To_literal, To_function, Pointing, Object, Variable, Routine, Text, numbers_from}
 use Rattle.c_tree.specs.Scopes.{Reach, All, Within, Aiming, StaticState, LocalState, RoutineState, Body, State, type_extent}
 use Rattle.c_tree.specs.Layout.{Extent, size_limit}
 use Rattle.cap_concentrate.specs.Rounding.{least_base, least_top, alignment, owned}
@@ -23,7 +23,7 @@ use Rattle.cap_concentrate.proofs.Laws.{owned_exact, owned_small}
 use Rattle.c_tree.specs.Statics.{is_exact, is_near, aim_length, static_length, text_length}
 use Rattle.c_facts.proofs.Divides.{Multiple}
 use Rattle.c_facts.proofs.Placed.{Awaits, Reaches, Aims, AimingOk, AllAim, InitialOk, length_of_static}
-use Rattle.c_tree.specs.Programs.{is_there, numbers_from, numbers_of, aim_with, count_before, term_with, action_with, is_main, has_main, program_of, typing}
+use Rattle.c_tree.specs.Programs.{is_there, numbers_of, aim_with, count_before, term_with, action_with, is_main, has_main, program_of, typing}
 use Rattle.c_tree.specs.Programs as programs
 use Rattle.c_tree.specs.Views.{types_of, type_at, actions_of, action_at, no_action, IsOrdered, Shows, times_in}
 use Rattle.c_tree.specs.Views as views
@@ -33,9 +33,12 @@ use Rattle.c_facts.specs.Fitting.{IsFit}
 use Rattle.c_facts.proofs.Agreeing.{refines, same_is, kinds_are, truths_are, agree_self}
 use Rattle.c_facts.proofs.Facts.{Sized, TypeOk, IsUsed, Inv}
 use Rattle.c_facts.proofs.Numbers.{extent_within_limit}
-use Rattle.c_facts.proofs.Acts.{between}
-use Rattle.c_facts.proofs.Wholes.{ParamsFit, BodyOk}
-use Rattle.c_facts.proofs.Ended.{AtEnd, typed_end}
+use Rattle.c_facts.proofs.Wholes.{ParamsFit}
+use Rattle.c_facts.proofs.Ended.{typed_end}
+use Rattle.c_facts.proofs.Standing.{BodyStands, Standing}
+use Rattle.c_facts.proofs.PassedStates.{passed_state}
+use Rattle.c_facts.proofs.PassingState.{passed_stands}
+use Rattle.c_facts.proofs.PassingShown.{passed_shown}
 use Rattle.c_facts.proofs.Shown.{extent_at, has_extent, sized_there, ActionThere, action_there}
 use Rattle.c_facts.proofs.Numbered.{filtered_at, declared_with}
 use Rattle.c_facts.proofs.Fits.{Linked, action_fits}
@@ -166,13 +169,9 @@ main_found (f ∷ fs) e = main_by (is_main f) f fs refl e (λ h. main_found fs h
         let n : 1 + position_or_len is_main fs ≡ suc (position_or_len is_main fs) = omega arith in
         (q.0, ap (λ b. slice_get (f ∷ fs) (cond (not b) (1 + position_or_len is_main fs) 0)) i ∙ ap (slice_get (f ∷ fs)) n ∙ q.1, q.2)
 
-between_in : (a b k : ℕ) → a ≤ k → k < b → between a b k ≡ 1
-unfolding between
-between_in a b k l m = rw (le-leb a k l, lt-ltb k b m) refl
-
-module _ (p : Typed) (s : State) (q : Program) (o : IsOrdered p) (sh : Shows p (program_of s)) (e : AtEnd s q) where
+module _ (p : Typed) (s : State) (o : IsOrdered p) (sh : Shows p (program_of s)) (e : Standing s) where
   abbrev inv : Inv true s
-  inv = e.outside.inv
+  inv = e.inv
 
   shown_objects : map (views.object_of (types_of p.types)) p.globals ≡ flat_map (programs.object_of s) s.statics
   unfolding program_of
@@ -227,8 +226,8 @@ module _ (p : Typed) (s : State) (q : Program) (o : IsOrdered p) (sh : Shows p (
       record { number = b.0; routine = b.1; body = c.0; there = b.2; has = c.1; same = c.2 }
 
   module _ (k : ℕ) (f : FunDef) (there : slice_get p.funs k ≡ Some f) (z : Behind k f) where
-    abbrev ok : BodyOk s z.routine.of z.body
-    ok = e.outside.strict.bodies z.number z.routine z.body z.there z.has
+    abbrev ok : BodyStands s z.routine.of z.body
+    ok = e.bodies z.number z.routine z.body z.there z.has
 
     type_same : type_in p f.of ≡ z.routine.of
     type_same = ap (λ (r : Routine). r.of) (sym z.same)
@@ -253,7 +252,7 @@ module _ (p : Typed) (s : State) (q : Program) (o : IsOrdered p) (sh : Shows p (
     var_from j w h = mapped_at programs.variable_of z.body.vars j (views.variable_of (types_of p.types) w) (ap (λ xs. slice_get xs j) (sym vars_same) ∙ slice_get-map (views.variable_of (types_of p.types)) f.vars j ∙ ap (option_map (views.variable_of (types_of p.types))) h)
 
     sized : (j : ℕ) (v : LocalState) → slice_get z.body.vars j ≡ Some v → Sized s.tags v.of
-    sized j v h = let c = ok.complete j v h in (c.0.0, c.0.1, extent_within_limit s.tags inv.tags v.of c.0.0 c.1 c.0.1)
+    sized j v h = ok.sized j v h
 
     simple_scalar : (j : ℕ) (w : VarDef) → slice_get f.vars j ≡ Some w → w.simple ≡ true → is_scalar (bare (type_in p w.of)) ≡ true
     simple_scalar j w h simple =
@@ -298,7 +297,7 @@ module _ (p : Typed) (s : State) (q : Program) (o : IsOrdered p) (sh : Shows p (
               subst (IsComplete p) t (sized_there p s o sh inv v.0.of (w.of, o.vars k j f w there h, sym t) (sized j v.0 v.1));
           simple_scalar = simple_scalar;
           declared_once = λ j l m.
-              ap (λ a. times_in j (declared a)) action_same ∙ ap (times_in j) (declared_with (numbers_of s) z.body.action) ∙ ok.once j ∙ between_in (count ok.takes) (length z.body.vars) j (omega (arith, l, len)) (omega (arith, m, count_same));
+              ap (λ a. times_in j (declared a)) action_same ∙ ap (times_in j) (declared_with (numbers_of s) z.body.action) ∙ ok.once j (omega (arith, l, len)) (omega (arith, m, count_same));
           body = subst (ActionFits (record { program = p; vars = f.vars; gives = bare ok.result }) outside) (sym action_same)
               (action_fits p s o sh inv z.body.vars (numbers_of s) f.vars (bare ok.result) linked ok.gives ok.refined outside z.body.action ok.body
               (subst (ActionThere p) action_same (action_there p o f.body (o.funs k f there).1)));
@@ -446,7 +445,7 @@ module _ (p : Typed) (s : State) (q : Program) (o : IsOrdered p) (sh : Shows p (
       let x = (e.statics b.0 g b.2).0 in
       let t : g.of ≡ type_in p h.of = ap (λ (x : Object). x.of) b.3 in
       let st = starts x.0.size h g.initial (ap (λ (x : Object). x.bytes) b.3) (ap (λ (x : Object). x.links) b.3)
-      (λ j q. let y = e.outside.strict.begins b.0 g j b.2 q in subst (λ (z : Extent). InitialOk s z.size j) (same_Some y.0 x.0 (sym y.1 ∙ x.1)) y.2) in
+      (λ j q. let y = e.begins b.0 g j b.2 q in subst (λ (z : Extent). InitialOk s z.size j) (same_Some y.0 x.0 (sym y.1 ∙ x.1)) y.2) in
       record {
         extent = x.0;
         complete = has_extent p s o sh inv (type_in p h.of) (h.of, o.globals k h there, refl) x.0 (ap (type_extent s.tags) (sym t) ∙ x.1) (extent_within_limit s.tags inv.tags g.of x.0 (inv.statics b.0 g b.2) x.1);
@@ -459,6 +458,8 @@ module _ (p : Typed) (s : State) (q : Program) (o : IsOrdered p) (sh : Shows p (
 pub sound_well_typed : (p : Typed) (h : Sound p) → IsFit h.types.syntax → WellTyped p
 sound_well_typed p h fit =
     let t = h.types.types in
-    let s = typed_end h.types.syntax t.program fit t.given in
-    let sh = subst (Shows p) (sym s.1.is) t.shows in
-    record { ordered = t.ordered; globals = globals_fit p s.0 t.program t.ordered sh s.1; funs = functions_fit p s.0 t.program t.ordered sh s.1; main = main_fits p s.0 t.program t.ordered sh s.1 }
+    let e = typed_end h.types.syntax t.program fit t.given in
+    let s = passed_state e.0 e.1 in
+    let sh = subst (Shows p) (sym (passed_shown e.0 e.1 ∙ e.3)) t.shows in
+    let z = passed_stands e.0 e.1 e.2 in
+    record { ordered = t.ordered; globals = globals_fit p s t.ordered sh z; funs = functions_fit p s t.ordered sh z; main = main_fits p s t.ordered sh z }

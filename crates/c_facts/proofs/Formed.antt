@@ -11,12 +11,12 @@ use Rattle.c_tree.specs.declared.syntax.SpecifierWord.TheVariants as words
 use Rattle.ck_int.specs.declared.kinds.IntKind.TheVariants as kind
 use Rattle.c_tree.specs.Layout.{Extent, with_extent, times, size_limit}
 use Rattle.c_tree.specs.Syntax.{Syns, nil, more}
-use Rattle.c_tree.specs.Types.{Ty, Void, Int, Cap, Pointer, Array, Tagged, Function, Const, bool, char, signed_char, unsigned_char, int, long, unsigned_long, qualified, bare, is_function, is_tagged, adjusted, count}
+use Rattle.c_tree.specs.Types.{Ty, Void, Int, Cap, Pointer, Array, Tagged, Function, Const, bool, char, signed_char, unsigned_char, int, long, unsigned_long, qualified, bare, is_function, adjusted, count}
 use Rattle.c_tree.specs.Scopes.{Entity, Alias, Part, TagState, State, Doing, give, need, look, some_or, ◌>>=◌, ◌>>◌, find_name, type_extent, extent_size, is_complete}
 use Rattle.c_tree.specs.Readings.{Specified, Param, Prototype, Wrap, Point, Row, Gives, Derived, Reading}
 use Rattle.c_tree.specs.Declarators.{has_word, times_there, type_words, storage_words, storage_of, signs, word_type, specified_type, names_type, named_types, with_const, specifiers, alias_type, typedef_name, wrapped, no_derived, positive, array_length, constant, parts_const, declarator_of, Formed, plainly, over_limit, signature, is_given, wrap_on, form_on, formed, judge, abstract, has_register, type_name, has_part, add_member, member_declarators, member_of, place_of, is_free, is_nothing, parameter_from, parameter_of}
 use Rattle.c_facts.proofs.Facts.{TypeOk, TypesOk, PartOk, EntityOk, TagsGrow, Inv, Kept}
-use Rattle.c_facts.proofs.Growing.{type_kept, complete_kept, grows_self}
+use Rattle.c_facts.proofs.Growing.{type_kept, grows_self}
 use Rattle.c_facts.proofs.Steps.{given, needed, found, refused, first_then, needed_in, either}
 use Rattle.c_facts.proofs.Scalars.{branched, qualified_ok, bare_ok, bare_bare, complete_is}
 use Rattle.c_facts.proofs.Operators.{onward, if_some}
@@ -124,7 +124,7 @@ array_length_ok r s h i x e =
 
 params_kept : (ts us : List TagState) → TagsGrow ts us → (ps : List Param) → AllParams ts ps → AllParams us ps
 params_kept ts us g [] h = tt
-params_kept ts us g (p ∷ ps) h = (record { type = type_kept ts us g p.of h.0.type; complete = complete_kept ts us g p.of h.0.complete }, params_kept ts us g ps h.1)
+params_kept ts us g (p ∷ ps) h = (record { type = type_kept ts us g p.of h.0.type }, params_kept ts us g ps h.1)
 
 pub prototype_kept : (ts us : List TagState) → TagsGrow ts us → (p : Prototype) → PrototypeOk ts p → PrototypeOk us p
 prototype_kept ts us g p h = record { params = params_kept ts us g p.params h.params; scope = h.scope }
@@ -236,7 +236,7 @@ given_bare ts (Const Void) h e = refl
 given_bare ts (Const (Int k n)) h e = refl
 given_bare ts (Const (Cap b)) h e = refl
 given_bare ts (Const (Pointer t)) h e = refl
-given_bare ts (Const (Tagged n)) h e = e
+given_bare ts (Const (Tagged n)) h e = refl
 given_bare ts (Const (Array t n)) h e = absurd (false≢true h.1)
 given_bare ts (Const (Function r ps)) h e = absurd (false≢true h.1)
 given_bare ts (Const (Const t)) h e = absurd (false≢true h.1)
@@ -350,16 +350,13 @@ parameter_from_ok only p first d s k w i x e =
     let at = place_of d.name first in
     let nothing = is_nothing only d.name d.wraps p.of in
     let last : Doing Param = give (record { name = d.name; at = at; of = t; nothing = nothing }) in
-    let a = needed_in (is_free s d.name) 131 at.pos (judge f (not (nothing || is_complete s t)) (is_tagged (bare t)) at.pos) (λ _. last) s x e in
-    let j = judged f (not (nothing || is_complete s t)) (is_tagged (bare t)) at.pos last s x a.1 in
+    let a = needed_in (is_free s d.name) 131 at.pos (judge f false false at.pos) (λ _. last) s x e in
+    let j = judged f false false at.pos last s x a.1 in
     given (IsParam s) _ s x j.1
     (record {
       inv = i;
       grown = grows_self true s;
-      post = λ q. record {
-        type = adjusted_ok s.tags f.of (formed_ok s p.of d.wraps w j.0.passes k);
-        complete = ⊎_elim (λ g. absurd (false≢true (sym q ∙ g))) (λ c. complete_is s t c) (or_cases nothing (is_complete s t) (not_false _ j.0.complete));
-      };
+      post = λ q. record { type = adjusted_ok s.tags f.of (formed_ok s p.of d.wraps w j.0.passes k) };
     })
 
 pub parameter_of_ok : (t : Lexeme) (rs : List Reading) (only : Bool) (s : State) → AllDeclared rs → Inv false s → (x : Param × State) → parameter_of t rs only s ≡ Ok x → IsParam s x

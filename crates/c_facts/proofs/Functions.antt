@@ -1,36 +1,39 @@
 -- Function definitions and the declarations of a file (C11 6.9).
 use Rattle.std.proofs.Common.{◌≡◌, ℕ, zero, suc, ◌<◌, Bool, true, false, List, [], ◌∷◌, length, Option, Some, None, Ok, refl, sym, ap, subst, ◌∙◌, ⊎_elim, arith}
-use Rattle.std.specs.Prelude.{slice_get, map, option_map, not, ◌||◌, if◌then◌else◌}
+use Rattle.std.specs.Prelude.{slice_get, map, option_map, not, ◌||◌, ◌==◌, if◌then◌else◌}
 use Rattle.std.proofs.lemmas.Bool.{false≢true, or_parts, eqb-true, eq-eqb}
 use Rattle.std.proofs.lemmas.Option.{none-some, same_Some, slice_get-map}
+use Rattle.ck_base.specs.declared.positions.Pos.{Pos}
 use Rattle.ck_base.specs.Tokens.{Lexeme}
 use Rattle.c_tree.specs.declared.syntax.NodeKind.{NodeKind}
 use Rattle.c_tree.specs.declared.syntax.NodeKind.TheVariants as Kinds
 use Rattle.c_tree.specs.Syntax.{Syn, Syns, nil, more, first_token}
 use Rattle.c_tree.specs.Layout.{Extent, with_extent, times}
-use Rattle.c_tree.specs.Types.{Ty, Void, Int, Cap, Pointer, Array, Tagged, Const, Function, Tys, no_types, also, bare, adjusted, in_signature, is_function, count}
-use Rattle.c_tree.specs.Terms.{actions}
-use Rattle.c_tree.specs.Scopes.{Entity, Local, Static, Routine, Alias, Enumerator, Named, Scope, TagState, StaticState, LocalState, RoutineState, Body, State, Doing, give, need, look, change, ◌>>=◌, ◌>>◌, find_in, innermost, outer_scopes, leave, changed_at, change_routine, at_file_scope}
+use Rattle.c_tree.specs.Types.{Ty, Void, Int, Cap, Pointer, Array, Tagged, Const, Function, Tys, no_types, also, bare, adjusted, in_signature, is_function, is_tagged, count, given_by}
+use Rattle.c_tree.specs.Terms.{actions, numbers_from}
+use Rattle.c_tree.specs.Scopes.{Entity, Local, Static, Routine, Alias, Enumerator, Named, Scope, TagState, StaticState, LocalState, RoutineState, Body, State, Doing, give, need, look, change, ◌>>=◌, ◌>>◌, find_in, innermost, outer_scopes, leave, changed_at, change_routine, at_file_scope, type_extent, has_extent}
 use Rattle.c_tree.specs.Scopes as scopes
 use Rattle.c_tree.specs.Readings.{Specified, Param, Prototype, Wrap, Point, Row, Gives, Derived, Context, Items, Reading}
 use Rattle.c_tree.specs.Declarators.{Formed, formed, form_on, wrap_on, plainly, judge, signature}
 use Rattle.c_tree.specs.Declarations.{is_open, declaration, function_agrees, object_agrees, definition_agrees, linked_routine, file_names}
 use Rattle.c_tree.specs.Statements.{block_action}
-use Rattle.c_tree.specs.Expressions.{routine_type}
-use Rattle.c_tree.specs.Programs.{own_prototype, is_typedef, is_there, parameter_local, numbers_from, given_by, params_of, body_context, define_body, define_named, function_definition, external_of}
+use Rattle.c_tree.specs.Expressions.{routine_type, may_be_given}
+use Rattle.c_tree.specs.Programs.{gives_complete, first_incomplete, refused_at, own_prototype, is_typedef, is_there, parameter_local, params_of, body_context, define_body, define_named, function_definition, external_of}
 use Rattle.c_tree.specs.WellTyped.{holds, all_declared, outside}
 use Rattle.c_facts.proofs.Agreeing.{refines, refines_self}
-use Rattle.c_facts.proofs.Facts.{When, Complete, TypeOk, LocalOk, EntityOk, AllNames, AllScopes, RoutineGrows, LocalGrows, Refers, Inv, Grows, Kept}
-use Rattle.c_facts.proofs.Growing.{extent_kept, complete_kept, type_kept, tags_self, refers_self, refers_on, grows_self, grows_on, grows_loose, scopes_more}
+use Rattle.c_facts.proofs.Facts.{When, Complete, TypeOk, IsValue, LocalOk, EntityOk, AllNames, AllScopes, RoutineGrows, LocalGrows, Refers, Inv, Grows, Kept}
+use Rattle.c_facts.proofs.Growing.{extent_kept, refined_extent, complete_kept, type_kept, value_type_kept, tags_self, refers_self, refers_on, grows_self, grows_on, grows_loose, scopes_more}
 use Rattle.c_facts.proofs.Steps.{ok_is, given, refused, first_then, changed_from, changed_to, length-changed}
-use Rattle.c_facts.proofs.Scalars.{bare_ok, bare_bare}
+use Rattle.c_facts.proofs.Scalars.{bare_ok, bare_bare, extent_there}
+use Rattle.c_facts.proofs.Calls.{given_value, given_complete}
+use Rattle.c_facts.proofs.Pointers.{tagged_agrees}
 use Rattle.c_facts.proofs.Places.{entity_kept}
 use Rattle.c_facts.proofs.Evaluated.{weaker, regain}
 use Rattle.c_facts.proofs.Tags.{ParamOk, AllParams, ParamName, PrototypeOk, AllWraps, AllDeclared}
 use Rattle.c_facts.proofs.Formed.{formed_ok, signature_count, prototype_kept}
 use Rattle.c_facts.proofs.Acts.{action_kept, actions_kept, between, times_in-append, are_locals_kept}
 use Rattle.c_facts.proofs.Placed.{follows, begins_on, initials_self}
-use Rattle.c_facts.proofs.Wholes.{function_refined, params_refined, count_refined, ParamsFit, with_locals, BodyOk, body_kept, AllFiles, Strict, files_more, bodies_on, strict_still}
+use Rattle.c_facts.proofs.Wholes.{function_refined, bare_refines, params_refined, count_refined, ParamsFit, with_locals, BodyOk, body_kept, AllFiles, Strict, files_more, bodies_on, strict_still}
 use Rattle.c_facts.proofs.Declared.{routines_moved, linked_routine_ok, checked, AllDeclareAs, declaration_ok}
 use Rattle.c_facts.proofs.Stated.{ContextOk, Itemed, files_outer}
 
@@ -171,6 +174,8 @@ body_elsewhere q cs ls t b h =
       once = h.once;
       gives = h.gives;
       refined = h.refined;
+      value = h.value;
+      block = h.block;
       body = action_kept (with_locals q b.vars) (with_locals r b.vars) g h.gives outside b.action h.body;
     }
 
@@ -204,15 +209,37 @@ pub record Heads (s : State) (k : ℕ) (p : Prototype) (u : Ty) : Type 0 where
   pub type : routine.of ≡ u
   pub declared : Ty
   pub refined : refines (Function declared (signature p.params)) u ≡ true
+  pub given : is_tagged (bare declared) ≡ true → Complete s.tags (bare declared)
   pub prototype : PrototypeOk s.tags p
 
+abbrev AllComplete : List TagState → List Param → Type 0
+AllComplete ts ps = (k : ℕ) (p : Param) → slice_get ps k ≡ Some p → Complete ts p.of
+
+-- none of the parameters is incomplete
+none_incomplete : (ts : List TagState) (ps : List Param) → first_incomplete ts ps ≡ None → AllComplete ts ps
+none_incomplete ts [] e = λ k p q. absurd cc
+none_incomplete ts (p ∷ ps) e = by (has_extent (type_extent ts p.of)) refl e (λ f. none_incomplete ts ps f)
+  where
+    by : (b : Bool) → has_extent (type_extent ts p.of) ≡ b → (if b then first_incomplete ts ps else Some p.at.pos) ≡ None → (first_incomplete ts ps ≡ None → AllComplete ts ps) → AllComplete ts (p ∷ ps)
+    by true i e f zero q g = subst (λ (v : Param). Complete ts v.of) (same_Some p q g) (extent_there (type_extent ts p.of) i)
+    by true i e f (suc k) q g = f e k q g
+    by false i e f k q g = absurd (none-some p.at.pos (sym e))
+
+refused_in : {A B : Type 0} (o : Option Pos) (d : Doing A) (f : A → Doing B) (s : State) (x : B × State) → ((refused_at 132 o >> d) >>= f) s ≡ Ok x → (o ≡ None) × ((d >>= f) s ≡ Ok x)
+refused_in None d f s x e = (refl, e)
+refused_in (Some p) d f s x e = refused _ x e
+
+-- what a function gives stays complete where its type is refined
+refined_complete : (ts : List TagState) (s t : Ty) → refines s t ≡ true → (is_tagged s ≡ true → Complete ts s) → is_tagged t ≡ true → Complete ts t
+refined_complete ts s t e c h = let x = c (tagged_agrees (λ m n. m == n || m == 0) s t e ∙ h) in (x.0, refined_extent ts s t x.0 e x.1)
+
 -- parameters are complete
-params_complete : (ts : List TagState) (ps : List Param) (us : List TagState) → Rattle.c_facts.proofs.Facts.TagsGrow ts us → AllParams ts ps → (vs qs : List LocalState) (m : ℕ) (v : LocalState) → ((k : ℕ) (v : LocalState) → slice_get vs k ≡ Some v → (w : LocalState) × (slice_get qs k ≡ Some w) × LocalGrows v w) → vs ≡ map parameter_local ps → m < length vs → slice_get qs m ≡ Some v → Complete us v.of
+params_complete : (ts : List TagState) (ps : List Param) (us : List TagState) → Rattle.c_facts.proofs.Facts.TagsGrow ts us → AllComplete ts ps → (vs qs : List LocalState) (m : ℕ) (v : LocalState) → ((k : ℕ) (v : LocalState) → slice_get vs k ≡ Some v → (w : LocalState) × (slice_get qs k ≡ Some w) × LocalGrows v w) → vs ≡ map parameter_local ps → m < length vs → slice_get qs m ≡ Some v → Complete us v.of
 params_complete ts ps us g h vs qs m v f e l q =
     let w = item_below vs m l in
     let p = param_from ps m w.0 (ap (λ xs. slice_get xs m) (sym e) ∙ w.1) in
     let z = f m w.0 w.1 in
-    let c = (param_there ts ps m p.0 h p.1).complete in
+    let c = h m p.0 p.1 in
     let d : Complete us w.0.of = subst (Complete us) (sym p.2) (complete_kept ts us g p.0.of c) in
     let same : v.of ≡ w.0.of = ap (λ (v : LocalState). v.of) (same_Some v z.0 (sym q ∙ z.1)) ∙ z.2.fixed (complete_not_open us w.0.of d) in
     subst (Complete us) (sym same) d
@@ -238,7 +265,9 @@ define_body_ok k t u p block r s hd h o x e =
     let tu : TypeOk s.tags (Function f.result f.takes) = subst (TypeOk s.tags) (hd.type ∙ f.is) (o.inv.routines k hd.routine hd.there).0 in
     let cok : ContextOk a ctx = record { type = subst (TypeOk s.tags) (sym gives) (bare_ok s.tags f.result tu.0); bare = ap bare gives ∙ bare_bare s.tags f.result tu.0 ∙ sym gives } in
     let last : Items → Doing Unit = λ i. look >>= λ s. leave >> change (λ q. change_routine k (ending (record { params = numbers_from 0 (length (params_of (Some p))); vars = s.locals; action = block_action i (first_token block).pos })) (record q { locals = [] })) in
-    let y = first_then (r.body ctx a) last x e in
+    let all = refused_in (first_incomplete a.tags (params_of (Some p))) (r.body ctx) last a x e in
+    let complete : AllComplete s.tags ps = none_incomplete s.tags ps all.0 in
+    let y = first_then (r.body ctx a) last x all.1 in
     let j = h ctx a cok ch.0 strict_a y.0 y.1 in
     let q = y.0.1 in let it = y.0.0 in
     let b : Body = record { params = numbers_from 0 (length ps); vars = q.locals; action = block_action it (first_token block).pos } in
@@ -257,17 +286,20 @@ define_body_ok k t u p block r s hd h o x e =
     let la : length a.locals ≡ length ps = length-params ps in
     let fit : ParamsFit f.takes q.locals = params_refined (signature ps) f.takes q.locals f.params (fit_from ps q.locals (λ m v g.
     let w = aq.locals m (parameter_local v) (mapped_param ps m v g) in
-    (w.0, w.1, w.2.fixed (complete_not_open s.tags v.of (param_there s.tags ps m v hd.prototype.params g).complete)))) in
+    (w.0, w.1, w.2.fixed (complete_not_open s.tags v.of (complete m v g))))) in
+    let given = given_value s.tags f.result tu.0 tu.1 (refined_complete s.tags (bare hd.declared) (bare f.result) (bare_refines hd.declared f.result f.gives) hd.given) in
     let body : BodyOk r2 u b = record {
       result = f.result;
       takes = f.takes;
       is = f.is;
       params = ap (numbers_from 0) (sym len);
       fit = fit;
-      complete = λ m v g. (⊎_elim (λ lt. params_complete s.tags ps q.tags sq.tags hd.prototype.params a.locals q.locals m v (λ c w z. aq.locals c w z) refl lt g) (λ ge. j.0.post.complete m v ge g) (Rattle.std.proofs.lemmas.Bool.cases_lt m (length a.locals)), j.0.inv.locals m v g);
+      complete = λ m v g. (⊎_elim (λ lt. params_complete s.tags ps q.tags sq.tags complete a.locals q.locals m v (λ c w z. aq.locals c w z) refl lt g) (λ ge. j.0.post.complete m v ge g) (Rattle.std.proofs.lemmas.Bool.cases_lt m (length a.locals)), j.0.inv.locals m v g);
       once = λ m. times_in-append m it.vars (all_declared (actions it.actions)) ∙ j.0.post.once m ∙ ap (λ z. between z (length q.locals) m) (la ∙ sym len);
       gives = given_by u;
       refined = ap (λ z. refines z (bare f.result)) gives ∙ refines_self (bare f.result);
+      value = value_type_kept s.tags q.tags sq.tags (given_by u) (subst (IsValue s.tags) (sym gives) given);
+      block = (it.vars, actions it.actions, (first_token block).pos, refl);
       body = (tt, are_locals_kept (with_locals q q.locals) (with_locals r2 q.locals) qq2 it.vars j.0.post.vars, actions_kept (with_locals q q.locals) (with_locals r2 q.locals) qq2 (given_by u) outside (actions it.actions) j.0.post.fits);
     } in
     let kr : (z : RoutineState) → slice_get q.routines k ≡ Some z → refines u z.of ≡ true = λ z g.
@@ -307,8 +339,9 @@ define_named_ok p d (Some t) block r s h k g o x e =
     let en = find_in (innermost s.scopes).names t.text in
     let pr = own_prototype d.wraps in
     let misfits = is_typedef p.storage || (not (is_function F.of) || not (is_there pr)) in
-    let y = first_then ((need (definition_agrees s en t.text F.of) 131 t.pos >> judge F false misfits t.pos >> linked_routine t F.of en) s) (λ k. look >>= λ now. define_body k t (routine_type (slice_get now.routines k)) pr block r) x e in
-    let c = checked (definition_agrees s en t.text F.of) t.pos F false misfits (linked_routine t F.of en) s y.0 y.1 in
+    let lacks = not (gives_complete s F.of) in
+    let y = first_then ((need (definition_agrees s en t.text F.of) 131 t.pos >> judge F lacks misfits t.pos >> linked_routine t F.of en) s) (λ k. look >>= λ now. define_body k t (routine_type (slice_get now.routines k)) pr block r) x e in
+    let c = checked (definition_agrees s en t.text F.of) t.pos F lacks misfits (linked_routine t F.of en) s y.0 y.1 in
     let fits = or_parts (not (is_function F.of)) (not (is_there pr)) (or_parts (is_typedef p.storage) (not (is_function F.of) || not (is_there pr)) c.1.fits).1 in
     let there = there_is pr (not_lacking (is_there pr) fits.1) in
     let agrees : function_agrees s en t.text F.of true ≡ true = as_function s en t.text F.of (not_lacking (is_function F.of) fits.0) c.0 in
@@ -316,6 +349,7 @@ define_named_ok p d (Some t) block r s h k g o x e =
     let ty = formed_own s p.of d.wraps there.0 there.1 in
     let l = linked_routine_ok t F.of en true s agrees ok (ap is_function ty.1) o.inv o.strict y.0 c.2 in
     let q = y.0.1 in let n = y.0.0 in
+    let may : may_be_given s ty.0 ≡ true = ap (gives_complete s) (sym ty.1) ∙ not_lacking (gives_complete s F.of) c.1.complete in
     let rt = l.post.there (λ j u w. library_refused s en t.text F.of j u w agrees) in
     let now = subst (λ z. define_body n t (routine_type (slice_get q.routines n)) z block r q ≡ Ok x) there.1 y.2 in
     let u = routine_type (slice_get q.routines n) in
@@ -327,6 +361,7 @@ define_named_ok p d (Some t) block r s h k g o x e =
       type = sym is;
       declared = ty.0;
       refined = ap (refines (Function ty.0 (signature there.0.params))) is ∙ ap (λ t. refines t rt.0.of) (sym ty.1) ∙ rt.2;
+      given = λ v. complete_kept s.tags q.tags l.grown.refers.tags (bare ty.0) (given_complete s ty.0 may v);
       prototype = prototype_kept s.tags q.tags l.grown.refers.tags there.0 (own_ok s.tags d.wraps there.0 k there.1);
     })
     g (record { inv = l.inv; strict = l.post.strict; locals = l.post.locals ∙ o.locals; one = l.grown.deep ∙ o.one }) x now

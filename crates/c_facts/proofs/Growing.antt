@@ -12,7 +12,7 @@ use Rattle.c_tree.specs.Declarators.{in_int}
 use Rattle.c_tree.specs.Declarations.{is_open}
 use Rattle.c_tree.specs.WellTyped.{holds}
 use Rattle.c_facts.proofs.Agreeing.{refines, refines_self, refines_on, kinds_are}
-use Rattle.c_facts.proofs.Facts.{When, Complete, Sized, TypeOk, TypesOk, IsValue, scalar, nothing, tagged, PointsTo, LocalOk, StaticOk, RoutineOk, MemberOk, ShapeOk, TermOk, TermsOk, OperandOk, ValueOk, AllNames, AllScopes, TagGrows, TagsGrow, Refers, Adds, none, one, Still, Grows}
+use Rattle.c_facts.proofs.Facts.{When, Complete, Sized, TypeOk, TypesOk, IsValue, scalar, nothing, tagged, PointsTo, LocalOk, StaticOk, RoutineOk, MemberOk, AllTaken, ShapeOk, TermOk, TermsOk, OperandOk, ValueOk, AllNames, AllScopes, TagGrows, TagsGrow, Refers, Adds, none, one, Still, Grows}
 
 pub when_map : (m : Bool) (A B : Type 0) → (A → B) → When m A → When m B
 when_map true A B f a = f a
@@ -112,6 +112,10 @@ member_kept ts us g a k t h =
     let e = u.2.parts h.2 h.6 in
     (h.0, h.1, h.2, h.3, h.4, u.1 ∙ ap Some e, h.6, h.7, h.8)
 
+pub taken_kept : (ts us : List TagState) → TagsGrow ts us → (ps : Tys) → AllTaken ts ps → AllTaken us ps
+taken_kept ts us g no_types h = tt
+taken_kept ts us g (also p ps) h = (h.0, complete_kept ts us g p h.1, taken_kept ts us g ps h.2)
+
 shape_kept : (m : Bool) (s r : State) → Refers s r → (n : Shape) (xs : Terms) (t : Ty) → ShapeOk m s n xs t → ShapeOk m r n xs t
 shape_kept m s r g (tree.Constant n) no_terms t h = h
 shape_kept m s r g (tree.Literal k) no_terms t h = (h.0, h.1, h.2, when_map m _ _ (λ x. (x.0, g.texts k x.0 x.1, x.2)) h.3)
@@ -138,7 +142,7 @@ shape_kept m s r g tree.Assign (with_term a (with_term b no_terms)) t h = (h.0, 
 shape_kept m s r g (tree.Compound o of) (with_term a (with_term b no_terms)) t h =
     (h.0, h.1, ⊎_elim (λ p. inl (points_kept s.tags r.tags g.tags t p.0, p.1, p.2)) (λ p. inr p) h.2)
 shape_kept m s r g tree.Conditional (with_term a (with_term b (with_term c no_terms))) t h = h
-shape_kept m s r g tree.Call (with_term f xs) t h = h
+shape_kept m s r g tree.Call (with_term f xs) t h = (h.0, h.1, h.2, h.3, h.4, value_type_kept s.tags r.tags g.tags t h.5, taken_kept s.tags r.tags g.tags h.1 h.6)
 shape_kept m s r g (tree.Library k) xs t h = h
 shape_kept m s r g n xs t h = absurd h
 

@@ -13,7 +13,7 @@ use Rattle.c_tree.specs.Readings.{Param, Prototype, Reading}
 use Rattle.c_tree.specs.Declarators.{bind_local, bind_parameter, parameter_list, prototype_of}
 use Rattle.c_tree.specs.Programs.{type_of_kind}
 use Rattle.c_facts.proofs.Facts.{TypeOk, EntityOk, AllNames, AllScopes, Adds, none, Still, Inv, Grows, Kept}
-use Rattle.c_facts.proofs.Growing.{type_kept, complete_kept, still_self, grows_self, grows_on, grows_loose, scopes_more, names_more, names_added}
+use Rattle.c_facts.proofs.Growing.{type_kept, still_self, grows_self, grows_on, grows_loose, scopes_more, names_more, names_added}
 use Rattle.c_facts.proofs.Steps.{given, refused, first_then, either}
 use Rattle.c_facts.proofs.Tags.{ParamOk, AllParams, ParamName, PrototypeOk, AllDeclared, name_bound, name_grows, there_in, last_of, record_specifier_ok, enum_specifier_ok}
 use Rattle.c_facts.proofs.Formed.{typedef_ok, type_name_ok}
@@ -92,7 +92,7 @@ parameter_list_ok (r ∷ rs) k only qs s h c i n x e =
     let y = first_then (parameter_list (k + 1) only rs q) (λ ps. give (p ∷ ps)) x g in
     let z = parameter_list_ok rs (k + 1) only (qs ++ p ∷ []) q h.1 (omega (arith, c, length-append qs (p ∷ []))) b.inv b.names y.0 y.1 in
     let u = list_onward a q (qs ++ p ∷ []) y.0 b.grown b.count b.still z in
-    let ok : ParamOk y.0.1.tags p = record { type = type_kept a.tags y.0.1.tags u.grown.refers.tags p.of (l.post w).type; complete = complete_kept a.tags y.0.1.tags u.grown.refers.tags p.of (l.post w).complete } in
+    let ok : ParamOk y.0.1.tags p = record { type = type_kept a.tags y.0.1.tags u.grown.refers.tags p.of (l.post w).type } in
     params_then a qs p y.0 ok u x y.2) f.2)
 
 outer_all : (P : Entity → Type 0) (cs : List Scope) → AllScopes P cs → AllScopes P (outer_scopes cs)

@@ -6,7 +6,7 @@ use Rattle.std.proofs.lemmas.Bool.{false≢true, and_parts, or_left, or_right, c
 use Rattle.ck_int.specs.declared.kinds.IntKind.{IntKind}
 use Rattle.ck_int.specs.declared.kinds.IntKind.TheVariants as kind
 use Rattle.c_tree.specs.Layout.{Extent, with_extent, times, size_limit}
-use Rattle.c_tree.specs.Types.{Ty, Void, Int, Cap, Pointer, Array, Tagged, Function, Const, Tys, no_types, also, int, bare, bare_elements, qualified, is_integer, is_pointer, is_scalar, is_void, is_array, is_function, promoted, rank, width, has_sign, same, same_truth, is_const, without_sign, common, common_promoted, common_mixed, compatible, composite, composites, all_agree, count}
+use Rattle.c_tree.specs.Types.{Ty, Void, Int, Cap, Pointer, Array, Tagged, Function, Const, Tys, no_types, also, int, bare, bare_elements, qualified, is_integer, is_pointer, is_scalar, is_void, is_array, is_function, promoted, rank, width, has_sign, same, same_truth, is_const, without_sign, common, common_promoted, common_mixed, compatible, composite, composites, all_agree}
 use Rattle.c_tree.specs.Scopes.{TagState, State, type_extent, has_extent, is_complete}
 use Rattle.c_tree.specs.Expressions.{as_qualified}
 use Rattle.c_tree.specs.Declarators.{is_given}
@@ -223,7 +223,7 @@ pub complete_not_function : (ts : List TagState) (t : Ty) → Complete ts t → 
 complete_not_function ts (Function r ps) c e = none-some c.0 c.1
 complete_not_function ts t c e = false≢true e
 
-extent_there : (o : Option Extent) → has_extent o ≡ true → (x : Extent) × (o ≡ Some x)
+pub extent_there : (o : Option Extent) → has_extent o ≡ true → (x : Extent) × (o ≡ Some x)
 extent_there None e = absurd (false≢true e)
 extent_there (Some x) e = (x, refl)
 
@@ -294,7 +294,7 @@ composite_given (Cap a) t e b = refl
 composite_given (Pointer s) (Pointer t) e b = refl
 composite_given (Pointer s) t e b = refl
 composite_given (Array s m) t e b = absurd (false≢true b)
-composite_given (Tagged m) t e b = absurd (false≢true b)
+composite_given (Tagged m) t e b = refl
 composite_given (Function r ps) t e b = absurd (false≢true b)
 composite_given (Const Void) (Const t) e b = refl
 composite_given (Const (Int k n)) (Const t) e b = refl
@@ -303,7 +303,7 @@ composite_given (Const (Pointer s)) (Const (Pointer t)) e b = refl
 composite_given (Const (Pointer s)) (Const t) e b = refl
 composite_given (Const (Array s n)) (Const (Array t m)) e b = refl
 composite_given (Const (Array s n)) (Const t) e b = refl
-composite_given (Const (Tagged n)) (Const t) e b = absurd (false≢true b)
+composite_given (Const (Tagged n)) (Const t) e b = refl
 composite_given (Const (Function r ps)) (Const (Function s qs)) e b = refl
 composite_given (Const (Function r ps)) (Const t) e b = refl
 composite_given (Const (Const s)) (Const (Const t)) e b = refl

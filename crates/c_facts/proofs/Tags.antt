@@ -20,7 +20,7 @@ use Rattle.c_tree.specs.Expressions.{unevaluated, read_value}
 use Rattle.c_tree.specs.TreeLayout.{tree_extent}
 use Rattle.c_tree.specs.Programs.{tag_of, member_of_tag}
 use Rattle.c_tree.specs.WellTyped.{holds}
-use Rattle.c_facts.proofs.Facts.{Complete, TypeOk, TagOk, EntityOk, AllNames, AllScopes, TagGrows, TagsGrow, OpenStay, Refers, Adds, none, one, Inv, Grows, Kept}
+use Rattle.c_facts.proofs.Facts.{TypeOk, TagOk, EntityOk, AllNames, AllScopes, TagGrows, TagsGrow, OpenStay, Refers, Adds, none, one, Inv, Grows, Kept}
 use Rattle.c_facts.proofs.Growing.{when_all, type_kept, refers_self, refers_on, grows_self, grows_on, scopes_more}
 use Rattle.c_facts.proofs.Steps.{ok_is, given, needed, found, refused, first_then, needed_in, changed_from, changed_to}
 use Rattle.c_facts.proofs.Operators.{onward}
@@ -33,7 +33,6 @@ use Rattle.c_facts.proofs.Extents.{record_more, AllParts, AllTags, part_kept, pa
 -- a parameter, once it is adjusted
 pub record ParamOk (ts : List TagState) (p : Param) : Type 0 where
   pub type : TypeOk ts p.of
-  pub complete : Complete ts p.of
 
 abbrev pub AllParams : List TagState → List Param → Type 0
 AllParams ts [] = Unit {0}

@@ -3,16 +3,18 @@ use Rattle.std.proofs.Common.{◌≡◌, ℕ, zero, suc, ◌+◌, Bool, true, Li
 use Rattle.std.specs.Prelude.{slice_get, map, option_map, ◌&&◌, ◌||◌, ◌==◌, if◌then◌else◌, bytes_eq}
 use Rattle.std.proofs.lemmas.Bool.{false≢true, and_parts}
 use Rattle.std.proofs.lemmas.Option.{same_Some, slice_get-map}
-use Rattle.c_tree.specs.Types.{Ty, Void, Int, Cap, Pointer, Array, Tagged, Function, Const, Tys, no_types, also, bare, in_signature, all_agree, count}
+use Rattle.c_tree.specs.Types.{Ty, Function, Tys, no_types, also, bare, in_signature, all_agree, count}
 use Rattle.c_tree.specs.Scopes.{Entity, Local, Static, Routine, Alias, Enumerator, Named, Scope, TagState, StaticState, LocalState, Body, RoutineState, State, innermost, outer_scopes, in_innermost}
 use Rattle.c_tree.specs.Scopes as scopes
 use Rattle.c_tree.specs.Declarations.{linked_from, linked, file_names}
-use Rattle.c_tree.specs.Programs.{numbers_from}
+use Rattle.ck_base.specs.declared.positions.Pos.{Pos}
+use Rattle.c_tree.specs.Terms.{Block, Action, action, Actions, no_terms, numbers_from}
 use Rattle.c_tree.specs.Views.{times_in}
 use Rattle.c_tree.specs.WellTyped.{holds, declared, outside}
 use Rattle.c_facts.proofs.Agreeing.{refines, refines_self, refines_on}
-use Rattle.c_facts.proofs.Facts.{Complete, TypeOk, Refers, Adds, none, one, unused_static, unused_routine, Grows}
-use Rattle.c_facts.proofs.Growing.{complete_kept, type_kept}
+use Rattle.c_facts.proofs.Facts.{Complete, TypeOk, IsValue, Refers, Adds, none, one, unused_static, unused_routine, Grows}
+use Rattle.c_facts.proofs.Pointers.{bare_agrees}
+use Rattle.c_facts.proofs.Growing.{complete_kept, type_kept, value_type_kept}
 use Rattle.c_facts.proofs.Placed.{Begins, begins_on, follows, more_same}
 use Rattle.c_facts.proofs.Acts.{ActionOk, action_kept, between}
 
@@ -33,15 +35,7 @@ function_refined r ps (Function q qs) e = let p = and_parts (refines r q) (refin
 function_refined r ps u e = absurd (false≢true e)
 
 pub bare_refines : (s t : Ty) → refines s t ≡ true → refines (bare s) (bare t) ≡ true
-bare_refines (Const s) (Const t) e = e
-bare_refines Void Void e = e
-bare_refines (Int j m) (Int k n) e = e
-bare_refines (Cap a) (Cap b) e = e
-bare_refines (Pointer s) (Pointer t) e = e
-bare_refines (Array s m) (Array t n) e = e
-bare_refines (Tagged m) (Tagged n) e = e
-bare_refines (Function r ps) (Function q qs) e = e
-bare_refines s t e = absurd (false≢true e)
+bare_refines s t e = bare_agrees (λ m n. m == n || m == 0) s t e
 
 -- ---- functions with a body
 
@@ -68,6 +62,10 @@ count_refined (also p ps) no_types e = absurd (false≢true e)
 abbrev pub with_locals : State → List LocalState → State
 with_locals s vs = record s { locals = vs }
 
+-- the body of a function is a block
+abbrev pub IsBlock : Action → Type 0
+IsBlock x = (vars : List ℕ) × (ys : Actions) × (p : Pos) × (x ≡ action (Block vars) no_terms ys p)
+
 -- the body of a function of a type
 pub record BodyOk (s : State) (t : Ty) (b : Body) : Type 0 where
   pub result : Ty
@@ -79,6 +77,8 @@ pub record BodyOk (s : State) (t : Ty) (b : Body) : Type 0 where
   pub once : (k : ℕ) → times_in k (declared b.action) ≡ between (count takes) (length b.vars) k
   pub gives : Ty
   pub refined : holds (refines gives (bare result))
+  pub value : IsValue s.tags gives
+  pub block : IsBlock b.action
   pub body : ActionOk (with_locals s b.vars) gives outside b.action
 
 with_refers : (s r : State) (vs : List LocalState) → Refers s r → Refers (with_locals s vs) (with_locals r vs)
@@ -98,6 +98,8 @@ body_kept s r t u b g e h =
       once = λ k. h.once k ∙ ap (λ n. between n (length b.vars) k) c;
       gives = h.gives;
       refined = refines_on h.gives (bare h.result) (bare f.result) h.refined (bare_refines h.result f.result f.gives);
+      value = value_type_kept s.tags r.tags g.tags h.gives h.value;
+      block = h.block;
       body = action_kept (with_locals s b.vars) (with_locals r b.vars) (with_refers s r b.vars g) h.gives outside b.action h.body;
     }
 

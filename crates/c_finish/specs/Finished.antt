@@ -11,7 +11,9 @@ use Rattle.c_tree.specs.declared.typed.Stmt.{Stmt}
 use Rattle.c_tree.specs.declared.typed.FunDef.{FunDef}
 use Rattle.c_tree.specs.declared.typed.GlobalDef.{GlobalDef}
 use Rattle.c_tree.specs.declared.typed.Typed.{Typed}
+use Rattle.c_tree.specs.Syntax.{Syn, StandsAt}
 use Rattle.c_tree.specs.Terms.{Program, Tag}
+use Rattle.c_tree.specs.Passed.{passed_program, call_name, calls_in}
 use Rattle.c_tree.specs.Scopes.{Aiming, Fault, State, RoutineState}
 use Rattle.c_tree.specs.Views.{Shows, IsOrdered, TagAgrees, types_of, routine_of, member_of}
 use Rattle.c_tree.specs.Views as views
@@ -90,7 +92,15 @@ abbrev pub IsMain : Work → Option ℕ → Type 0
 IsMain w (Some k) = (s : State) → works.Shows w s → (programs.has_main s.routines ≡ true) × (position_or_len programs.is_main s.routines ≡ k)
 IsMain w None = (s : State) → works.Shows w s → programs.has_main s.routines ≡ false
 
--- the lists stand for the program of each state that the work stands for
+-- the lists stand for the program of each state that the work stands for, as it is written
+abbrev pub IsWritten : Work → Typed → Type 0
+IsWritten w p = (s : State) → works.Shows w s → Shows p (programs.program_of s)
+
+-- the syntax of the file
+abbrev pub IsSyntax : Work → Syn → Type 0
+IsSyntax w x = StandsAt w.tree.now.nodes w.tree.now.root x
+
+-- and the lists stand for the one that is run, where the calls have the names that the syntax gives them
 pub record IsProgram (w : Work) (p : Typed) : Type 0 where
-  pub shows : (s : State) → works.Shows w s → Shows p (programs.program_of s)
+  pub shows : (s : State) (x : Syn) → works.Shows w s → IsSyntax w x → Shows p (passed_program (call_name (calls_in x)) (programs.program_of s))
   pub ordered : IsOrdered p

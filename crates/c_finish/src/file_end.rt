@@ -1,11 +1,13 @@
 //! The end of a file (C11 6.9).
 
 ghost use Rattle.std.specs.Prelude.{◌≡◌, Some, None, IfOk, slice_get};
+ghost use Rattle.c_tree.specs.Syntax.{Syn};
 ghost use Rattle.c_tree.specs.Scopes.{State};
+ghost use Rattle.c_tree.specs.Passed.{call_name, calls_in};
 ghost use Rattle.c_tree.specs.Programs.{last_faults, earliest, ended};
 ghost use Rattle.c_nodes.specs.Nodes.{IsWhole};
 ghost use Rattle.c_work.specs.Work.{Shows};
-ghost use Rattle.c_finish.specs.Finished.{Finished, IsMain, IsProgram};
+ghost use Rattle.c_finish.specs.Finished.{Finished, IsMain, IsSyntax, IsWritten, IsProgram};
 ghost use Rattle.c_finish.specs.Tables.{HasDefinitions};
 
 use crate::faults::last_fault;
@@ -16,6 +18,7 @@ use crate::routines::routines;
 use crate::tables::{first_uses, last_definitions, last_fillings};
 use crate::tags::check_tags;
 use c_copy::{Copied, Numbers, check_order};
+use c_passing::pass;
 use c_tree::{FunDef, GlobalDef, Typed};
 use c_work::Work;
 use ck_base::{NoMemory, Pos, Refusal, Sequence};
@@ -52,11 +55,11 @@ fn assembled(
     }
 }
 
-// The program, where no rule fails.
-fn program(work: Work<'_>, definitions: &[Option<u32>], main: u32) -> Result<Typed, NoMemory>
+// The program as it is written, where no rule fails.
+fn written(work: Work<'_>, definitions: &[Option<u32>], main: u32) -> Result<Typed, NoMemory>
     requires definitions { HasDefinitions work.definitions.items definitions.now }
     requires main { IsMain work (Some main) }
-    ensures { IfOk result (IsProgram work.entry) }
+    ensures { IfOk result (IsWritten work.entry) }
 {
     let alloc = work.nodes.alloc;
     check_tags(&work)?;
@@ -69,7 +72,19 @@ fn program(work: Work<'_>, definitions: &[Option<u32>], main: u32) -> Result<Typ
         stmts: Vec::new(alloc),
     };
     let funs = routines(&work, &numbers, definitions, &mut copied)?;
-    let p = assembled(work, globals, funs, copied, main);
+    Ok(assembled(work, globals, funs, copied, main))
+}
+
+// The program that is run, where no rule fails.
+fn program(work: Work<'_>, definitions: &[Option<u32>], main: u32) -> Result<Typed, NoMemory>
+    requires definitions { HasDefinitions work.definitions.items definitions.now }
+    requires main { IsMain work (Some main) }
+    ensures { IfOk result (IsProgram work.entry) }
+{
+    let alloc = work.nodes.alloc;
+    let tree = work.tree;
+    let p = written(work, definitions, main)?;
+    let p = pass(alloc, p, tree)?;
     check_order(alloc, &p)?;
     Ok(p)
 }
@@ -77,7 +92,7 @@ fn program(work: Work<'_>, definitions: &[Option<u32>], main: u32) -> Result<Typ
 // The program, where no rule waits that fails: 135 where no `main` is defined.
 fn ending(work: Work<'_>, definitions: &[Option<u32>]) -> Result<Typed, Refusal>
     requires { HasDefinitions work.definitions.items definitions.now }
-    ensures { (s : State) → Shows work.entry s → Finished (ended None s) result }
+    ensures { (s : State) (x : Syn) → Shows work.entry s → IsSyntax work.entry x → Finished (ended (call_name (calls_in x)) None s) result }
 {
     let found = main_of(&work, definitions)?;
     match found {
@@ -93,7 +108,7 @@ fn ending(work: Work<'_>, definitions: &[Option<u32>]) -> Result<Typed, Refusal>
 /// is defined.
 pub fn finish(work: Work<'_>) -> Result<Typed, Refusal>
     requires whole { IsWhole work.nodes }
-    ensures { (s : State) → Shows work.entry s → Finished (ended (earliest (last_faults s)) s) result }
+    ensures { (s : State) (x : Syn) → Shows work.entry s → IsSyntax work.entry x → Finished (ended (call_name (calls_in x)) (earliest (last_faults s)) s) result }
 {
     let uses = first_uses(&work)?;
     let definitions = last_definitions(&work)?;

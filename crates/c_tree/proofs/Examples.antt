@@ -82,7 +82,9 @@ rows =
     -- typedef int T;typedef char T;int main(void){return 0;}
     row (node Kinds.File (at 1 (codes "")) (more (node Kinds.Declaration (at 1 (codes "typedef")) (more (node Kinds.Specifiers (at 1 (codes "typedef")) (more (node (Kinds.Specifier words.Typedef) (at 1 (codes "typedef")) nil) (more (node (Kinds.Specifier words.Int) (at 9 (codes "int")) nil) nil))) (more (node Kinds.InitDeclarator (at 13 (codes "T")) (more (node Kinds.DeclaredName (at 13 (codes "T")) nil) nil)) nil))) (more (node Kinds.Declaration (at 15 (codes "typedef")) (more (node Kinds.Specifiers (at 15 (codes "typedef")) (more (node (Kinds.Specifier words.Typedef) (at 15 (codes "typedef")) nil) (more (node (Kinds.Specifier words.Char) (at 23 (codes "char")) nil) nil))) (more (node Kinds.InitDeclarator (at 28 (codes "T")) (more (node Kinds.DeclaredName (at 28 (codes "T")) nil) nil)) nil))) (more (node Kinds.FunctionDefinition (at 30 (codes "int")) (more (node Kinds.Specifiers (at 30 (codes "int")) (more (node (Kinds.Specifier words.Int) (at 30 (codes "int")) nil) nil)) (more (node Kinds.Function (at 38 (codes "(")) (more (node Kinds.DeclaredName (at 34 (codes "main")) nil) (more (node Kinds.Parameters (at 38 (codes "(")) (more (node Kinds.Parameter (at 39 (codes "void")) (more (node Kinds.Specifiers (at 39 (codes "void")) (more (node (Kinds.Specifier words.Void) (at 39 (codes "void")) nil) nil)) nil)) nil)) nil))) (more (node Kinds.Block (at 44 (codes "{")) (more (node Kinds.Return (at 45 (codes "return")) (more (node Kinds.Number (at 52 (codes "0")) nil) nil)) nil)) nil)))) nil)))) 131 28 ∷
     -- struct S{int a;};struct S f(void);int main(void){return 0;}
-    row (node Kinds.File (at 1 (codes "")) (more (node Kinds.Declaration (at 1 (codes "struct")) (more (node Kinds.Specifiers (at 1 (codes "struct")) (more (node (Kinds.Record records.Struct) (at 1 (codes "struct")) (more (node Kinds.Tag (at 8 (codes "S")) nil) (more (node Kinds.Member (at 10 (codes "int")) (more (node Kinds.Specifiers (at 10 (codes "int")) (more (node (Kinds.Specifier words.Int) (at 10 (codes "int")) nil) nil)) (more (node Kinds.DeclaredName (at 14 (codes "a")) nil) nil))) nil))) nil)) nil)) (more (node Kinds.Declaration (at 18 (codes "struct")) (more (node Kinds.Specifiers (at 18 (codes "struct")) (more (node (Kinds.Record records.Struct) (at 18 (codes "struct")) (more (node Kinds.Tag (at 25 (codes "S")) nil) nil)) nil)) (more (node Kinds.InitDeclarator (at 27 (codes "f")) (more (node Kinds.Function (at 28 (codes "(")) (more (node Kinds.DeclaredName (at 27 (codes "f")) nil) (more (node Kinds.Parameters (at 28 (codes "(")) (more (node Kinds.Parameter (at 29 (codes "void")) (more (node Kinds.Specifiers (at 29 (codes "void")) (more (node (Kinds.Specifier words.Void) (at 29 (codes "void")) nil) nil)) nil)) nil)) nil))) nil)) nil))) (more (node Kinds.FunctionDefinition (at 35 (codes "int")) (more (node Kinds.Specifiers (at 35 (codes "int")) (more (node (Kinds.Specifier words.Int) (at 35 (codes "int")) nil) nil)) (more (node Kinds.Function (at 43 (codes "(")) (more (node Kinds.DeclaredName (at 39 (codes "main")) nil) (more (node Kinds.Parameters (at 43 (codes "(")) (more (node Kinds.Parameter (at 44 (codes "void")) (more (node Kinds.Specifiers (at 44 (codes "void")) (more (node (Kinds.Specifier words.Void) (at 44 (codes "void")) nil) nil)) nil)) nil)) nil))) (more (node Kinds.Block (at 49 (codes "{")) (more (node Kinds.Return (at 50 (codes "return")) (more (node Kinds.Number (at 57 (codes "0")) nil) nil)) nil)) nil)))) nil)))) 133 27 ∷
+    row (node Kinds.File (at 1 (codes "")) (more (node Kinds.Declaration (at 1 (codes "struct")) (more (node Kinds.Specifiers (at 1 (codes "struct")) (more (node (Kinds.Record records.Struct) (at 1 (codes "struct")) (more (node Kinds.Tag (at 8 (codes "S")) nil) (more (node Kinds.Member (at 10 (codes "int")) (more (node Kinds.Specifiers (at 10 (codes "int")) (more (node (Kinds.Specifier words.Int) (at 10 (codes "int")) nil) nil)) (more (node Kinds.DeclaredName (at 14 (codes "a")) nil) nil))) nil))) nil)) nil)) (more (node Kinds.Declaration (at 18 (codes "struct")) (more (node Kinds.Specifiers (at 18 (codes "struct")) (more (node (Kinds.Record records.Struct) (at 18 (codes "struct")) (more (node Kinds.Tag (at 25 (codes "S")) nil) nil)) nil)) (more (node Kinds.InitDeclarator (at 27 (codes "f")) (more (node Kinds.Function (at 28 (codes "(")) (more (node Kinds.DeclaredName (at 27 (codes "f")) nil) (more (node Kinds.Parameters (at 28 (codes "(")) (more (node Kinds.Parameter (at 29 (codes "void")) (more (node Kinds.Specifiers (at 29 (codes "void")) (more (node (Kinds.Specifier words.Void) (at 29 (codes "void")) nil) nil)) nil)) nil)) nil))) nil)) nil))) (more (node Kinds.FunctionDefinition (at 35 (codes "int")) (more (node Kinds.Specifiers (at 35 (codes "int")) (more (node (Kinds.Specifier words.Int) (at 35 (codes "int")) nil) nil)) (more (node Kinds.Function (at 43 (codes "(")) (more (node Kinds.DeclaredName (at 39 (codes "main")) nil) (more (node Kinds.Parameters (at 43 (codes "(")) (more (node Kinds.Parameter (at 44 (codes "void")) (more (node Kinds.Specifiers (at 44 (codes "void")) (more (node (Kinds.Specifier words.Void) (at 44 (codes "void")) nil) nil)) nil)) nil)) nil))) (more (node Kinds.Block (at 49 (codes "{")) (more (node Kinds.Return (at 50 (codes "return")) (more (node Kinds.Number (at 57 (codes "0")) nil) nil)) nil)) nil)))) nil)))) 0 0 ∷
+    -- struct S;struct S f(void);int main(void){f();return 0;}
+    row (node Kinds.File (at 1 (codes "")) (more (node Kinds.Declaration (at 1 (codes "struct")) (more (node Kinds.Specifiers (at 1 (codes "struct")) (more (node (Kinds.Record records.Struct) (at 1 (codes "struct")) (more (node Kinds.Tag (at 8 (codes "S")) nil) nil)) nil)) nil)) (more (node Kinds.Declaration (at 10 (codes "struct")) (more (node Kinds.Specifiers (at 10 (codes "struct")) (more (node (Kinds.Record records.Struct) (at 10 (codes "struct")) (more (node Kinds.Tag (at 17 (codes "S")) nil) nil)) nil)) (more (node Kinds.InitDeclarator (at 19 (codes "f")) (more (node Kinds.Function (at 20 (codes "(")) (more (node Kinds.DeclaredName (at 19 (codes "f")) nil) (more (node Kinds.Parameters (at 20 (codes "(")) (more (node Kinds.Parameter (at 21 (codes "void")) (more (node Kinds.Specifiers (at 21 (codes "void")) (more (node (Kinds.Specifier words.Void) (at 21 (codes "void")) nil) nil)) nil)) nil)) nil))) nil)) nil))) (more (node Kinds.FunctionDefinition (at 27 (codes "int")) (more (node Kinds.Specifiers (at 27 (codes "int")) (more (node (Kinds.Specifier words.Int) (at 27 (codes "int")) nil) nil)) (more (node Kinds.Function (at 35 (codes "(")) (more (node Kinds.DeclaredName (at 31 (codes "main")) nil) (more (node Kinds.Parameters (at 35 (codes "(")) (more (node Kinds.Parameter (at 36 (codes "void")) (more (node Kinds.Specifiers (at 36 (codes "void")) (more (node (Kinds.Specifier words.Void) (at 36 (codes "void")) nil) nil)) nil)) nil)) nil))) (more (node Kinds.Block (at 41 (codes "{")) (more (node Kinds.ExpressionStatement (at 42 (codes "f")) (more (node Kinds.Call (at 43 (codes "(")) (more (node Kinds.Name (at 42 (codes "f")) nil) nil)) nil)) (more (node Kinds.Return (at 46 (codes "return")) (more (node Kinds.Number (at 53 (codes "0")) nil) nil)) nil))) nil)))) nil)))) 132 42 ∷
     -- int (*f(int a))(void){return 0;}int main(void){return f(1)();}
     row (node Kinds.File (at 1 (codes "")) (more (node Kinds.FunctionDefinition (at 1 (codes "int")) (more (node Kinds.Specifiers (at 1 (codes "int")) (more (node (Kinds.Specifier words.Int) (at 1 (codes "int")) nil) nil)) (more (node Kinds.Function (at 16 (codes "(")) (more (node Kinds.ParenthesizedDeclarator (at 5 (codes "(")) (more (node Kinds.Pointer (at 6 (codes "*")) (more (node Kinds.Qualifiers (at 6 (codes "*")) nil) (more (node Kinds.Function (at 8 (codes "(")) (more (node Kinds.DeclaredName (at 7 (codes "f")) nil) (more (node Kinds.Parameters (at 8 (codes "(")) (more (node Kinds.Parameter (at 9 (codes "int")) (more (node Kinds.Specifiers (at 9 (codes "int")) (more (node (Kinds.Specifier words.Int) (at 9 (codes "int")) nil) nil)) (more (node Kinds.DeclaredName (at 13 (codes "a")) nil) nil))) nil)) nil))) nil))) nil)) (more (node Kinds.Parameters (at 16 (codes "(")) (more (node Kinds.Parameter (at 17 (codes "void")) (more (node Kinds.Specifiers (at 17 (codes "void")) (more (node (Kinds.Specifier words.Void) (at 17 (codes "void")) nil) nil)) nil)) nil)) nil))) (more (node Kinds.Block (at 22 (codes "{")) (more (node Kinds.Return (at 23 (codes "return")) (more (node Kinds.Number (at 30 (codes "0")) nil) nil)) nil)) nil)))) (more (node Kinds.FunctionDefinition (at 33 (codes "int")) (more (node Kinds.Specifiers (at 33 (codes "int")) (more (node (Kinds.Specifier words.Int) (at 33 (codes "int")) nil) nil)) (more (node Kinds.Function (at 41 (codes "(")) (more (node Kinds.DeclaredName (at 37 (codes "main")) nil) (more (node Kinds.Parameters (at 41 (codes "(")) (more (node Kinds.Parameter (at 42 (codes "void")) (more (node Kinds.Specifiers (at 42 (codes "void")) (more (node (Kinds.Specifier words.Void) (at 42 (codes "void")) nil) nil)) nil)) nil)) nil))) (more (node Kinds.Block (at 47 (codes "{")) (more (node Kinds.Return (at 48 (codes "return")) (more (node Kinds.Call (at 59 (codes "(")) (more (node Kinds.Call (at 56 (codes "(")) (more (node Kinds.Name (at 55 (codes "f")) nil) (more (node Kinds.Number (at 57 (codes "1")) nil) nil))) nil)) nil)) nil)) nil)))) nil))) 0 0 ∷
     -- int f(int a){return a;}int f(int a){return a;}int main(void){return 0;}
@@ -212,7 +214,7 @@ rows =
     -- int main(void){int a[];return 0;}
     row (node Kinds.File (at 1 (codes "")) (more (node Kinds.FunctionDefinition (at 1 (codes "int")) (more (node Kinds.Specifiers (at 1 (codes "int")) (more (node (Kinds.Specifier words.Int) (at 1 (codes "int")) nil) nil)) (more (node Kinds.Function (at 9 (codes "(")) (more (node Kinds.DeclaredName (at 5 (codes "main")) nil) (more (node Kinds.Parameters (at 9 (codes "(")) (more (node Kinds.Parameter (at 10 (codes "void")) (more (node Kinds.Specifiers (at 10 (codes "void")) (more (node (Kinds.Specifier words.Void) (at 10 (codes "void")) nil) nil)) nil)) nil)) nil))) (more (node Kinds.Block (at 15 (codes "{")) (more (node Kinds.Declaration (at 16 (codes "int")) (more (node Kinds.Specifiers (at 16 (codes "int")) (more (node (Kinds.Specifier words.Int) (at 16 (codes "int")) nil) nil)) (more (node Kinds.InitDeclarator (at 20 (codes "a")) (more (node Kinds.OpenArray (at 21 (codes "[")) (more (node Kinds.DeclaredName (at 20 (codes "a")) nil) nil)) nil)) nil))) (more (node Kinds.Return (at 24 (codes "return")) (more (node Kinds.Number (at 31 (codes "0")) nil) nil)) nil))) nil)))) nil)) 132 20 ∷
     -- void f(struct S{int a;}s);int main(void){return 0;}
-    row (node Kinds.File (at 1 (codes "")) (more (node Kinds.Declaration (at 1 (codes "void")) (more (node Kinds.Specifiers (at 1 (codes "void")) (more (node (Kinds.Specifier words.Void) (at 1 (codes "void")) nil) nil)) (more (node Kinds.InitDeclarator (at 6 (codes "f")) (more (node Kinds.Function (at 7 (codes "(")) (more (node Kinds.DeclaredName (at 6 (codes "f")) nil) (more (node Kinds.Parameters (at 7 (codes "(")) (more (node Kinds.Parameter (at 8 (codes "struct")) (more (node Kinds.Specifiers (at 8 (codes "struct")) (more (node (Kinds.Record records.Struct) (at 8 (codes "struct")) (more (node Kinds.Tag (at 15 (codes "S")) nil) (more (node Kinds.Member (at 17 (codes "int")) (more (node Kinds.Specifiers (at 17 (codes "int")) (more (node (Kinds.Specifier words.Int) (at 17 (codes "int")) nil) nil)) (more (node Kinds.DeclaredName (at 21 (codes "a")) nil) nil))) nil))) nil)) (more (node Kinds.DeclaredName (at 24 (codes "s")) nil) nil))) nil)) nil))) nil)) nil))) (more (node Kinds.FunctionDefinition (at 27 (codes "int")) (more (node Kinds.Specifiers (at 27 (codes "int")) (more (node (Kinds.Specifier words.Int) (at 27 (codes "int")) nil) nil)) (more (node Kinds.Function (at 35 (codes "(")) (more (node Kinds.DeclaredName (at 31 (codes "main")) nil) (more (node Kinds.Parameters (at 35 (codes "(")) (more (node Kinds.Parameter (at 36 (codes "void")) (more (node Kinds.Specifiers (at 36 (codes "void")) (more (node (Kinds.Specifier words.Void) (at 36 (codes "void")) nil) nil)) nil)) nil)) nil))) (more (node Kinds.Block (at 41 (codes "{")) (more (node Kinds.Return (at 42 (codes "return")) (more (node Kinds.Number (at 49 (codes "0")) nil) nil)) nil)) nil)))) nil))) 133 24 ∷
+    row (node Kinds.File (at 1 (codes "")) (more (node Kinds.Declaration (at 1 (codes "void")) (more (node Kinds.Specifiers (at 1 (codes "void")) (more (node (Kinds.Specifier words.Void) (at 1 (codes "void")) nil) nil)) (more (node Kinds.InitDeclarator (at 6 (codes "f")) (more (node Kinds.Function (at 7 (codes "(")) (more (node Kinds.DeclaredName (at 6 (codes "f")) nil) (more (node Kinds.Parameters (at 7 (codes "(")) (more (node Kinds.Parameter (at 8 (codes "struct")) (more (node Kinds.Specifiers (at 8 (codes "struct")) (more (node (Kinds.Record records.Struct) (at 8 (codes "struct")) (more (node Kinds.Tag (at 15 (codes "S")) nil) (more (node Kinds.Member (at 17 (codes "int")) (more (node Kinds.Specifiers (at 17 (codes "int")) (more (node (Kinds.Specifier words.Int) (at 17 (codes "int")) nil) nil)) (more (node Kinds.DeclaredName (at 21 (codes "a")) nil) nil))) nil))) nil)) (more (node Kinds.DeclaredName (at 24 (codes "s")) nil) nil))) nil)) nil))) nil)) nil))) (more (node Kinds.FunctionDefinition (at 27 (codes "int")) (more (node Kinds.Specifiers (at 27 (codes "int")) (more (node (Kinds.Specifier words.Int) (at 27 (codes "int")) nil) nil)) (more (node Kinds.Function (at 35 (codes "(")) (more (node Kinds.DeclaredName (at 31 (codes "main")) nil) (more (node Kinds.Parameters (at 35 (codes "(")) (more (node Kinds.Parameter (at 36 (codes "void")) (more (node Kinds.Specifiers (at 36 (codes "void")) (more (node (Kinds.Specifier words.Void) (at 36 (codes "void")) nil) nil)) nil)) nil)) nil))) (more (node Kinds.Block (at 41 (codes "{")) (more (node Kinds.Return (at 42 (codes "return")) (more (node Kinds.Number (at 49 (codes "0")) nil) nil)) nil)) nil)))) nil))) 0 0 ∷
     -- int main(void){const int x=1;x=2;return 0;}
     row (node Kinds.File (at 1 (codes "")) (more (node Kinds.FunctionDefinition (at 1 (codes "int")) (more (node Kinds.Specifiers (at 1 (codes "int")) (more (node (Kinds.Specifier words.Int) (at 1 (codes "int")) nil) nil)) (more (node Kinds.Function (at 9 (codes "(")) (more (node Kinds.DeclaredName (at 5 (codes "main")) nil) (more (node Kinds.Parameters (at 9 (codes "(")) (more (node Kinds.Parameter (at 10 (codes "void")) (more (node Kinds.Specifiers (at 10 (codes "void")) (more (node (Kinds.Specifier words.Void) (at 10 (codes "void")) nil) nil)) nil)) nil)) nil))) (more (node Kinds.Block (at 15 (codes "{")) (more (node Kinds.Declaration (at 16 (codes "const")) (more (node Kinds.Specifiers (at 16 (codes "const")) (more (node (Kinds.Specifier words.Const) (at 16 (codes "const")) nil) (more (node (Kinds.Specifier words.Int) (at 22 (codes "int")) nil) nil))) (more (node Kinds.InitDeclarator (at 26 (codes "x")) (more (node Kinds.DeclaredName (at 26 (codes "x")) nil) (more (node Kinds.Number (at 28 (codes "1")) nil) nil))) nil))) (more (node Kinds.ExpressionStatement (at 30 (codes "x")) (more (node (Kinds.Assignment None) (at 31 (codes "=")) (more (node Kinds.Name (at 30 (codes "x")) nil) (more (node Kinds.Number (at 32 (codes "2")) nil) nil))) nil)) (more (node Kinds.Return (at 34 (codes "return")) (more (node Kinds.Number (at 41 (codes "0")) nil) nil)) nil)))) nil)))) nil)) 133 30 ∷
     -- int main(void){char **p;const char **q=p;return 0;}
@@ -362,7 +364,7 @@ rows =
     -- int f(void v){return 0;}int main(void){return 0;}
     row (node Kinds.File (at 1 (codes "")) (more (node Kinds.FunctionDefinition (at 1 (codes "int")) (more (node Kinds.Specifiers (at 1 (codes "int")) (more (node (Kinds.Specifier words.Int) (at 1 (codes "int")) nil) nil)) (more (node Kinds.Function (at 6 (codes "(")) (more (node Kinds.DeclaredName (at 5 (codes "f")) nil) (more (node Kinds.Parameters (at 6 (codes "(")) (more (node Kinds.Parameter (at 7 (codes "void")) (more (node Kinds.Specifiers (at 7 (codes "void")) (more (node (Kinds.Specifier words.Void) (at 7 (codes "void")) nil) nil)) (more (node Kinds.DeclaredName (at 12 (codes "v")) nil) nil))) nil)) nil))) (more (node Kinds.Block (at 14 (codes "{")) (more (node Kinds.Return (at 15 (codes "return")) (more (node Kinds.Number (at 22 (codes "0")) nil) nil)) nil)) nil)))) (more (node Kinds.FunctionDefinition (at 25 (codes "int")) (more (node Kinds.Specifiers (at 25 (codes "int")) (more (node (Kinds.Specifier words.Int) (at 25 (codes "int")) nil) nil)) (more (node Kinds.Function (at 33 (codes "(")) (more (node Kinds.DeclaredName (at 29 (codes "main")) nil) (more (node Kinds.Parameters (at 33 (codes "(")) (more (node Kinds.Parameter (at 34 (codes "void")) (more (node Kinds.Specifiers (at 34 (codes "void")) (more (node (Kinds.Specifier words.Void) (at 34 (codes "void")) nil) nil)) nil)) nil)) nil))) (more (node Kinds.Block (at 39 (codes "{")) (more (node Kinds.Return (at 40 (codes "return")) (more (node Kinds.Number (at 47 (codes "0")) nil) nil)) nil)) nil)))) nil))) 132 12 ∷
     -- int f(int,void);int main(void){return 0;}
-    row (node Kinds.File (at 1 (codes "")) (more (node Kinds.Declaration (at 1 (codes "int")) (more (node Kinds.Specifiers (at 1 (codes "int")) (more (node (Kinds.Specifier words.Int) (at 1 (codes "int")) nil) nil)) (more (node Kinds.InitDeclarator (at 5 (codes "f")) (more (node Kinds.Function (at 6 (codes "(")) (more (node Kinds.DeclaredName (at 5 (codes "f")) nil) (more (node Kinds.Parameters (at 6 (codes "(")) (more (node Kinds.Parameter (at 7 (codes "int")) (more (node Kinds.Specifiers (at 7 (codes "int")) (more (node (Kinds.Specifier words.Int) (at 7 (codes "int")) nil) nil)) nil)) (more (node Kinds.Parameter (at 11 (codes "void")) (more (node Kinds.Specifiers (at 11 (codes "void")) (more (node (Kinds.Specifier words.Void) (at 11 (codes "void")) nil) nil)) nil)) nil))) nil))) nil)) nil))) (more (node Kinds.FunctionDefinition (at 17 (codes "int")) (more (node Kinds.Specifiers (at 17 (codes "int")) (more (node (Kinds.Specifier words.Int) (at 17 (codes "int")) nil) nil)) (more (node Kinds.Function (at 25 (codes "(")) (more (node Kinds.DeclaredName (at 21 (codes "main")) nil) (more (node Kinds.Parameters (at 25 (codes "(")) (more (node Kinds.Parameter (at 26 (codes "void")) (more (node Kinds.Specifiers (at 26 (codes "void")) (more (node (Kinds.Specifier words.Void) (at 26 (codes "void")) nil) nil)) nil)) nil)) nil))) (more (node Kinds.Block (at 31 (codes "{")) (more (node Kinds.Return (at 32 (codes "return")) (more (node Kinds.Number (at 39 (codes "0")) nil) nil)) nil)) nil)))) nil))) 132 11 ∷
+    row (node Kinds.File (at 1 (codes "")) (more (node Kinds.Declaration (at 1 (codes "int")) (more (node Kinds.Specifiers (at 1 (codes "int")) (more (node (Kinds.Specifier words.Int) (at 1 (codes "int")) nil) nil)) (more (node Kinds.InitDeclarator (at 5 (codes "f")) (more (node Kinds.Function (at 6 (codes "(")) (more (node Kinds.DeclaredName (at 5 (codes "f")) nil) (more (node Kinds.Parameters (at 6 (codes "(")) (more (node Kinds.Parameter (at 7 (codes "int")) (more (node Kinds.Specifiers (at 7 (codes "int")) (more (node (Kinds.Specifier words.Int) (at 7 (codes "int")) nil) nil)) nil)) (more (node Kinds.Parameter (at 11 (codes "void")) (more (node Kinds.Specifiers (at 11 (codes "void")) (more (node (Kinds.Specifier words.Void) (at 11 (codes "void")) nil) nil)) nil)) nil))) nil))) nil)) nil))) (more (node Kinds.FunctionDefinition (at 17 (codes "int")) (more (node Kinds.Specifiers (at 17 (codes "int")) (more (node (Kinds.Specifier words.Int) (at 17 (codes "int")) nil) nil)) (more (node Kinds.Function (at 25 (codes "(")) (more (node Kinds.DeclaredName (at 21 (codes "main")) nil) (more (node Kinds.Parameters (at 25 (codes "(")) (more (node Kinds.Parameter (at 26 (codes "void")) (more (node Kinds.Specifiers (at 26 (codes "void")) (more (node (Kinds.Specifier words.Void) (at 26 (codes "void")) nil) nil)) nil)) nil)) nil))) (more (node Kinds.Block (at 31 (codes "{")) (more (node Kinds.Return (at 32 (codes "return")) (more (node Kinds.Number (at 39 (codes "0")) nil) nil)) nil)) nil)))) nil))) 0 0 ∷
     -- int f(int a[]){return sizeof a;}int main(void){return 0;}
     row (node Kinds.File (at 1 (codes "")) (more (node Kinds.FunctionDefinition (at 1 (codes "int")) (more (node Kinds.Specifiers (at 1 (codes "int")) (more (node (Kinds.Specifier words.Int) (at 1 (codes "int")) nil) nil)) (more (node Kinds.Function (at 6 (codes "(")) (more (node Kinds.DeclaredName (at 5 (codes "f")) nil) (more (node Kinds.Parameters (at 6 (codes "(")) (more (node Kinds.Parameter (at 7 (codes "int")) (more (node Kinds.Specifiers (at 7 (codes "int")) (more (node (Kinds.Specifier words.Int) (at 7 (codes "int")) nil) nil)) (more (node Kinds.OpenArray (at 12 (codes "[")) (more (node Kinds.DeclaredName (at 11 (codes "a")) nil) nil)) nil))) nil)) nil))) (more (node Kinds.Block (at 15 (codes "{")) (more (node Kinds.Return (at 16 (codes "return")) (more (node Kinds.SizeofExpression (at 23 (codes "sizeof")) (more (node Kinds.Name (at 30 (codes "a")) nil) nil)) nil)) nil)) nil)))) (more (node Kinds.FunctionDefinition (at 33 (codes "int")) (more (node Kinds.Specifiers (at 33 (codes "int")) (more (node (Kinds.Specifier words.Int) (at 33 (codes "int")) nil) nil)) (more (node Kinds.Function (at 41 (codes "(")) (more (node Kinds.DeclaredName (at 37 (codes "main")) nil) (more (node Kinds.Parameters (at 41 (codes "(")) (more (node Kinds.Parameter (at 42 (codes "void")) (more (node Kinds.Specifiers (at 42 (codes "void")) (more (node (Kinds.Specifier words.Void) (at 42 (codes "void")) nil) nil)) nil)) nil)) nil))) (more (node Kinds.Block (at 47 (codes "{")) (more (node Kinds.Return (at 48 (codes "return")) (more (node Kinds.Number (at 55 (codes "0")) nil) nil)) nil)) nil)))) nil))) 0 0 ∷
     -- struct T f;int main(void){return 0;}
@@ -434,7 +436,7 @@ rows =
     []
 
 pub rows_are_right : all_right rows ≡ true
-unfolding typing constant_of is_null_constant init_declarator declaration specifiers record_specifier enumerator enum_specifier declarator_of formed type_name member_of parameter_of prototype_of named text string_initializer plain_initializer braced_initializer tag_scalars scalars every_slot members extent_within struct_offset bare_within services aliases function_definition file_scope program_of reading readings case_label common integer_of characters literal.type_of literal.simple_escape kinds.reduced kinds.kept_of kinds.wrapped kinds.value_of kinds.converted arithmetic.binary_of arithmetic.compare_of rounding.first_from rounding.alignment rounding.owned rounding.bounds_exponent rounding.least_base rounding.least_top
+unfolding typing constant_of is_null_constant init_declarator declaration specifiers record_specifier enumerator enum_specifier declarator_of formed type_name member_of parameter_of prototype_of named text string_initializer plain_initializer braced_initializer tag_scalars scalars every_slot members extent_within struct_offset bare_within services aliases function_definition file_scope program_of Rattle.c_tree.specs.Passed.passed_program reading readings case_label common integer_of characters literal.type_of literal.simple_escape kinds.reduced kinds.kept_of kinds.wrapped kinds.value_of kinds.converted arithmetic.binary_of arithmetic.compare_of rounding.first_from rounding.alignment rounding.owned rounding.bounds_exponent rounding.least_base rounding.least_top
 rows_are_right = refl
 
 abbrev more_rows : List Row
@@ -466,7 +468,7 @@ more_rows =
     []
 
 pub more_rows_are_right : all_right more_rows ≡ true
-unfolding typing constant_of is_null_constant init_declarator declaration specifiers record_specifier enumerator enum_specifier declarator_of formed type_name member_of parameter_of prototype_of named text string_initializer plain_initializer braced_initializer tag_scalars scalars every_slot members extent_within struct_offset bare_within services aliases function_definition file_scope program_of reading readings case_label common integer_of characters literal.type_of literal.simple_escape kinds.reduced kinds.kept_of kinds.wrapped kinds.value_of kinds.converted arithmetic.binary_of arithmetic.compare_of rounding.first_from rounding.alignment rounding.owned rounding.bounds_exponent rounding.least_base rounding.least_top
+unfolding typing constant_of is_null_constant init_declarator declaration specifiers record_specifier enumerator enum_specifier declarator_of formed type_name member_of parameter_of prototype_of named text string_initializer plain_initializer braced_initializer tag_scalars scalars every_slot members extent_within struct_offset bare_within services aliases function_definition file_scope program_of Rattle.c_tree.specs.Passed.passed_program reading readings case_label common integer_of characters literal.type_of literal.simple_escape kinds.reduced kinds.kept_of kinds.wrapped kinds.value_of kinds.converted arithmetic.binary_of arithmetic.compare_of rounding.first_from rounding.alignment rounding.owned rounding.bounds_exponent rounding.least_base rounding.least_top
 more_rows_are_right = refl
 
 -- a program, with the places of its nodes
@@ -492,5 +494,5 @@ pub a_program : typing (node Kinds.File (at 1 (codes "")) (more (node Kinds.Func
   } ∷ [];
   main = 0;
 })
-unfolding typing constant_of is_null_constant init_declarator declaration specifiers record_specifier enumerator enum_specifier declarator_of formed type_name member_of parameter_of prototype_of named text string_initializer plain_initializer braced_initializer tag_scalars scalars every_slot members extent_within struct_offset bare_within services aliases function_definition file_scope program_of reading readings case_label common integer_of characters literal.type_of literal.simple_escape kinds.reduced kinds.kept_of kinds.wrapped kinds.value_of kinds.converted arithmetic.binary_of arithmetic.compare_of rounding.first_from rounding.alignment rounding.owned rounding.bounds_exponent rounding.least_base rounding.least_top
+unfolding typing constant_of is_null_constant init_declarator declaration specifiers record_specifier enumerator enum_specifier declarator_of formed type_name member_of parameter_of prototype_of named text string_initializer plain_initializer braced_initializer tag_scalars scalars every_slot members extent_within struct_offset bare_within services aliases function_definition file_scope program_of Rattle.c_tree.specs.Passed.passed_program reading readings case_label common integer_of characters literal.type_of literal.simple_escape kinds.reduced kinds.kept_of kinds.wrapped kinds.value_of kinds.converted arithmetic.binary_of arithmetic.compare_of rounding.first_from rounding.alignment rounding.owned rounding.bounds_exponent rounding.least_base rounding.least_top
 a_program = refl

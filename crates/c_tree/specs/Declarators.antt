@@ -13,7 +13,7 @@ use Rattle.c_tree.specs.declared.syntax.RecordKind.{RecordKind}
 use Rattle.c_tree.specs.declared.syntax.RecordKind.TheVariants.{Struct, Union}
 use Rattle.c_tree.specs.Layout.{Extent, with_extent, behind, beside, no_members, whole, size_limit}
 use Rattle.c_tree.specs.Syntax.{Syn, Syns, node, nil, more}
-use Rattle.c_tree.specs.Types.{Ty, Void, Int, Cap, Pointer, Array, Tagged, Function, Const, Tys, no_types, also, bool, char, signed_char, unsigned_char, int, long, unsigned_long, qualified, bare, is_function, is_array, is_tagged, adjusted, in_signature}
+use Rattle.c_tree.specs.Types.{Ty, Void, Int, Cap, Pointer, Array, Tagged, Function, Const, Tys, no_types, also, bool, char, signed_char, unsigned_char, int, long, unsigned_long, qualified, bare, is_function, is_array, adjusted, in_signature}
 use Rattle.c_tree.specs.Scopes.{Entity, Local, Alias, Enumerator, Tagging, Recorded, Enumerated, Part, TagState, State, Doing, give, refuse, need, look, change, some_or, ◌>>=◌, ◌>>◌, find_in, find_name, find_tag, innermost, bind_name, bind_tag, enter, leave, changed_at, type_extent, extent_size, is_complete}
 use Rattle.c_tree.specs.Constants.{kind_of, constant_of}
 use Rattle.c_tree.specs.Conversions.{operand_type}
@@ -299,8 +299,8 @@ declarator_of k t xs rs = refuse 120 t.pos
 
 -- ---- the type that a declarator makes
 
--- The type, and which rules it breaks: an array has elements of complete object type; a function gives no array, no function, no struct and no
--- union, and what it gives has no qualifier of its own (6.7.6.3p5); an array is not over the limit
+-- The type, and which rules it breaks: an array has elements of complete object type; a function gives no array and no function, and what
+-- it gives has no qualifier of its own (6.7.6.3p5); an array is not over the limit
 pub record Formed : Type 0 where
   pub of : Ty
   pub lacks : Bool
@@ -322,7 +322,7 @@ signature [] = no_types
 signature (p ∷ ps) = also (in_signature p.of) (signature ps)
 
 abbrev pub is_given : Ty → Bool
-is_given t = not (is_array t) && not (is_function t) && not (is_tagged (bare t))
+is_given t = not (is_array t) && not (is_function t)
 
 abbrev pub wrap_on : State → Wrap → Formed → Formed
 wrap_on s (Point q) f = record f { of = pointer_to q f.of }
@@ -406,7 +406,7 @@ abbrev pub is_nothing : Bool → Option Lexeme → List Wrap → Ty → Bool
 is_nothing only None [] Void = only
 is_nothing only name ws t = false
 
--- A parameter is an object of complete type once it is adjusted, and no struct or union
+-- A parameter, with its type adjusted. That it is complete is asked where its function is defined or called
 abbrev pub parameter_from : Bool → Specified → Lexeme → Derived → Doing Param
 parameter_from only s first d = look >>= λ st.
     let f = formed st s.of d.wraps in
@@ -414,7 +414,7 @@ parameter_from only s first d = look >>= λ st.
     let at = place_of d.name first in
     let nothing = is_nothing only d.name d.wraps s.of in
     need (is_free st d.name) 131 at.pos >>
-    judge f (not (nothing || is_complete st t)) (is_tagged (bare t)) at.pos >>
+    judge f false false at.pos >>
     give (record { name = d.name; at = at; of = t; nothing = nothing })
 
 unfoldable pub parameter_of : Lexeme → List Reading → Bool → Doing Param

@@ -394,8 +394,20 @@ call_of (Pointer (Function r ps)) f xs p =
     gives (term Call (with_term f.is (terms ys)) (bare r) p) f.first
 call_of t f xs p = refuse 133 f.first
 
+-- p1, p4: what a function gives is void or complete, and what it takes is complete
+abbrev pub may_be_given : State → Ty → Bool
+may_be_given s t = is_void (bare t) || is_complete s t
+
+abbrev pub all_complete : State → Tys → Bool
+all_complete s no_types = true
+all_complete s (also t ts) = is_complete s t && all_complete s ts
+
+abbrev pub is_callable : State → Ty → Bool
+is_callable s (Pointer (Function r ps)) = may_be_given s r && all_complete s ps
+is_callable s t = true
+
 abbrev pub call : Operand → List Operand → Pos → Doing Operand
-call f xs p = call_of (operand_type f) f xs p
+call f xs p = look >>= λ s. need (is_callable s (operand_type f)) 132 f.first >> call_of (operand_type f) f xs p
 
 abbrev pub asked : Asked → Operand → Doing Term
 asked Any_capability x = need (is_capability (operand_type x)) 133 x.first >> give x.is

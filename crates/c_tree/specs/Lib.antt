@@ -19,6 +19,7 @@ pub mod Initializers
 pub mod Statics
 pub mod Declarations
 pub mod Statements
+pub mod Passed
 pub mod Programs
 pub mod Views
 pub mod Typing

@@ -7,17 +7,18 @@ use Rattle.ck_base.specs.Tokens.{Lexeme}
 use Rattle.c_tree.specs.declared.syntax.NodeKind.{NodeKind}
 use Rattle.c_tree.specs.declared.syntax.NodeKind.TheVariants as Kinds
 use Rattle.c_tree.specs.Syntax.{Syn, Syns, node, nil, more, first_token}
-use Rattle.c_tree.specs.Types.{Ty, Function, no_types, int, bare, same, is_scalar, is_function}
-use Rattle.c_tree.specs.Terms.{Shape, Global, Fun, Term, term, Terms, no_terms, with_term, Action, action, Actions, no_actions, with_action, Pointing, Object, Variable, Routine, Tag, Program, To_global, To_literal, To_function, Aim}
-use Rattle.c_tree.specs.Scopes.{Entity, Alias, Library, Named, Part, Scope, Reach, All, Within, Aiming, Pending, StaticState, LocalState, Body, RoutineState, TagState, State, Fault, Doing, give, refuse, need, look, change, ◌>>=◌, ◌>>◌, find_in, innermost, leave, change_routine, is_complete}
+use Rattle.c_tree.specs.Types.{Ty, Function, no_types, int, bare, same, is_scalar, is_function, given_by}
+use Rattle.c_tree.specs.Terms.{Shape, Global, Fun, Term, term, Terms, no_terms, with_term, Action, action, Actions, no_actions, with_action, Pointing, Object, Variable, Routine, Tag, Program, To_global, To_literal, To_function, Aim, numbers_from}
+use Rattle.c_tree.specs.Scopes.{Entity, Alias, Library, Named, Part, Scope, Reach, All, Within, Aiming, Pending, StaticState, LocalState, Body, RoutineState, TagState, State, Fault, Doing, give, refuse, need, look, change, ◌>>=◌, ◌>>◌, find_in, innermost, leave, change_routine, is_complete, has_extent, type_extent}
 use Rattle.c_tree.specs.Libraries.{Service, services, builtin_name, signature, aliases}
 use Rattle.c_tree.specs.Readings.{Specified, Storage, Defining_type, Param, Prototype, Wrap, Gives, Derived, Context, Slot, Filled, Reading}
-use Rattle.c_tree.specs.Expressions.{expression_of, routine_type}
+use Rattle.c_tree.specs.Expressions.{expression_of, routine_type, may_be_given}
 use Rattle.c_tree.specs.Declarators.{specifiers, typedef_name, record_specifier, enum_specifier, enumerator, declarator_of, type_name, member_of, parameter_of, prototype_of, formed, judge}
 use Rattle.c_tree.specs.Initializers.{takes_string, string_initializer, plain_initializer, braced_initializer}
 use Rattle.c_tree.specs.Statics.{aim_length}
 use Rattle.c_tree.specs.Declarations.{declaration, init_declarator, definition_agrees, linked_routine}
 use Rattle.c_tree.specs.Statements.{all_items, block_action, case_label, statement_of}
+use Rattle.c_tree.specs.Passed.{Names, passed_program, call_name, calls_in}
 
 -- ---- function definitions (6.9.1)
 
@@ -44,14 +45,6 @@ parameter_name p None = (let t = p.at in record t { text = []; span = record { s
 abbrev pub parameter_local : Param → LocalState
 parameter_local p = record { name = parameter_name p p.name; of = p.of; addressed = false }
 
-abbrev pub numbers_from : ℕ → ℕ → List ℕ
-numbers_from k zero = []
-numbers_from k (suc n) = k ∷ numbers_from (k + 1) n
-
-abbrev pub given_by : Ty → Ty
-given_by (Function r ps) = bare r
-given_by t = t
-
 abbrev pub params_of : Option Prototype → List Param
 params_of None = []
 params_of (Some p) = p.params
@@ -63,10 +56,25 @@ scope_of (Some p) = p.scope
 abbrev pub body_context : Ty → Context
 body_context t = record { gives = given_by t; in_loop = false; breakable = false }
 
+-- p3: a function that is defined gives void or what is complete
+abbrev pub gives_complete : State → Ty → Bool
+gives_complete s (Function r ps) = may_be_given s r
+gives_complete s t = true
+
+-- 6.7.6.3p4: and its parameters are complete
+abbrev pub first_incomplete : List TagState → List Param → Option Pos
+first_incomplete tags [] = None
+first_incomplete tags (p ∷ ps) = (if has_extent (type_extent tags p.of) then first_incomplete tags ps else Some p.at.pos)
+
+abbrev pub refused_at : ℕ → Option Pos → Doing Unit
+refused_at code None = give tt
+refused_at code (Some p) = refuse code p
+
 -- The parameters and the outermost block of the body are one scope (6.2.1p4)
 abbrev pub define_body : ℕ → Lexeme → Ty → Option Prototype → Syn → Reading → Doing Unit
 define_body k t of p block r =
     change (λ s. change_routine k (λ f. record f { name = t; begun = true }) (record s { locals = map parameter_local (params_of p); scopes = scope_of p ∷ s.scopes })) >>
+    look >>= λ s. refused_at 132 (first_incomplete s.tags (params_of p)) >>
     r.body (body_context of) >>= λ i. look >>= λ s.
     let body : Body = record { params = numbers_from 0 (length (params_of p)); vars = s.locals; action = block_action i (first_token block).pos } in
     leave >> change (λ s. change_routine k (λ f. record f { body = Some body }) (record s { locals = [] }))
@@ -78,8 +86,9 @@ define_named s d (Some t) block r = look >>= λ st.
     let e = find_in (innermost st.scopes).names t.text in
     let p = own_prototype d.wraps in
     need (definition_agrees st e t.text f.of) 131 t.pos >>
-    judge f false (is_typedef s.storage || (not (is_function f.of) || not (is_there p))) t.pos >>
-    linked_routine t f.of e >>= λ k. look >>= λ now. define_body k t (routine_type (slice_get now.routines k)) p block r
+    judge f (not (gives_complete st f.of)) (is_typedef s.storage || (not (is_function f.of) || not (is_there p))) t.pos >>
+    linked_routine t f.of e >>= λ k. look >>= λ now.
+    define_body k t (routine_type (slice_get now.routines k)) p block r
 
 unfoldable pub function_definition : Lexeme → Syns → List Reading → Doing Unit
 function_definition t (more x (more y (more z nil))) (r ∷ q ∷ p ∷ []) =
@@ -300,21 +309,22 @@ has_main (f ∷ fs) = is_main f || has_main fs
 abbrev pub file_begins : Pos
 file_begins = record { line = 1; col = 1 }
 
-abbrev pub ended : Option Fault → State → Result Program Fault
-ended (Some f) s = Err f
-ended None s = (if has_main s.routines then Ok (program_of s) else Err (fault 135 file_begins))
+-- Structs and unions go by pointers in the end
+abbrev pub ended : Names → Option Fault → State → Result Program Fault
+ended names (Some f) s = Err f
+ended names None s = (if has_main s.routines then Ok (passed_program names (program_of s)) else Err (fault 135 file_begins))
 
 abbrev pub all_externals : List Reading → Doing Unit
 all_externals [] = give tt
 all_externals (r ∷ rs) = r.external >> all_externals rs
 
-abbrev pub finished : Result (Unit × State) Fault → Result Program Fault
-finished (Ok x) = ended (earliest (last_faults x.1)) x.1
-finished (Err f) = Err f
+abbrev pub finished : Names → Result (Unit × State) Fault → Result Program Fault
+finished names (Ok x) = ended names (earliest (last_faults x.1)) x.1
+finished names (Err f) = Err f
 
 abbrev pub parts : Syn → Syns
 parts (node k t xs) = xs
 
 -- The program that a file is, or the first rule that fails
 unfoldable pub typing : Syn → Result Program Fault
-typing x = finished (all_externals (readings (parts x)) beginning)
+typing x = finished (call_name (calls_in x)) (all_externals (readings (parts x)) beginning)

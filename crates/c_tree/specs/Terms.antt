@@ -1,5 +1,5 @@
 -- Programs whose types are known, apart from the lists in which their nodes stand.
-use Rattle.std.specs.Prelude.{ℕ, ℤ, Bool, List, [], ◌∷◌, Option}
+use Rattle.std.specs.Prelude.{ℕ, zero, suc, ◌+◌, ℤ, Bool, List, [], ◌∷◌, Option}
 use Rattle.ck_base.specs.declared.positions.Pos.{Pos}
 use Rattle.ck_base.specs.declared.positions.Span.{Span}
 use Rattle.ck_int.specs.declared.kinds.IntOp.{IntOp}
@@ -140,6 +140,11 @@ pub record Variable : Type 0 where
   pub place : Pos
   pub of : Ty
   pub simple : Bool
+
+-- so many numbers, from one on
+abbrev pub numbers_from : ℕ → ℕ → List ℕ
+numbers_from k zero = []
+numbers_from k (suc n) = k ∷ numbers_from (k + 1) n
 
 pub record Object : Type 0 where
   pub name : Span

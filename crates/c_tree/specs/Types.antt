@@ -248,3 +248,8 @@ in_signature t = bare (adjusted t)
 abbrev pub count : Tys → ℕ
 count no_types = 0
 count (also t ts) = count ts + 1
+
+-- what a function gives, without qualifiers
+abbrev pub given_by : Ty → Ty
+given_by (Function r ps) = bare r
+given_by t = t

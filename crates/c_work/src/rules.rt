@@ -1,21 +1,23 @@
 //! The rules on operands that look at no size (C11 6.5.2.2 to 6.5.4, 6.5.15, 6.5.16.1, 6.8.4.1).
 
-ghost use Rattle.std.specs.Prelude.{◌≡◌, ◌<◌, map, slice_get};
+ghost use Rattle.std.specs.Prelude.{◌≡◌, ◌<◌, map, slice_get, IfOk};
 ghost use Rattle.c_tree.specs.Scopes.{State, type_extent};
 ghost use Rattle.cap_layout.specs.Answers.{IsLayout};
 ghost use Rattle.c_tree.specs.Conversions.{assigned};
 ghost use Rattle.c_tree.specs.Libraries.{services};
-ghost use Rattle.c_tree.specs.Expressions.{unary_on, cast, assign, condition, conditional, call, library_call, sized};
+ghost use Rattle.c_tree.specs.Types.{Pointer};
+ghost use Rattle.c_tree.specs.Views.{tys};
+ghost use Rattle.c_tree.specs.Expressions.{unary_on, cast, assign, condition, conditional, call, library_call, sized, may_be_given, all_complete, is_callable};
 ghost use Rattle.c_nodes.specs.Nodes.{IsWhole, type_in, type_count, term_count};
 ghost use Rattle.c_rules.specs.Called.{AreThere};
 ghost use Rattle.c_work.specs.Work.{Shows};
 ghost use Rattle.c_work.specs.Answers.{Answers, quietly, OperandThere, IsOperand, TermThere, IsTerm, operand_in};
 
 use crate::work::Work;
-use c_nodes::Operand;
+use c_nodes::{Class, Operand};
 use c_tree::UnaryOp;
 use cap_layout::{Layout, LayoutFault};
-use ck_base::{Pos, Refusal};
+use ck_base::{NoMemory, Pos, Refusal};
 
 impl Work<'_> {
     /// `+`, `-`, `~` and `!` (C11 6.5.3.3).
@@ -83,13 +85,73 @@ impl Work<'_> {
         c_rules::conditional(&mut self.nodes, a, b, c, pos)
     }
 
-    /// The call of a value (C11 6.5.2.2).
+    // Whether a function may give a value of the type.
+    fn may_be_given(&self, of: u32) -> bool
+        requires whole { IsWhole self.now.nodes }
+        requires there { of < type_count self.now.nodes }
+        ensures { (s : State) → Shows self.now s → result ≡ may_be_given s (type_in self.now.nodes of) }
+    {
+        let void = self.nodes.is_bare_void(of);
+        let complete = self.nodes.scopes.is_complete(&self.nodes.p, of);
+        void || complete
+    }
+
+    fn all_complete(&self, params: &[u32]) -> bool
+        ensures { (s : State) → Shows self.now s → result ≡ all_complete s (tys (map (type_in self.now.nodes) params.now)) }
+    {
+        for of in params {
+            if !self.nodes.scopes.is_complete(&self.nodes.p, *of) {
+                return false;
+            }
+        }
+        true
+    }
+
+    // The same of what a function gives and takes.
+    fn is_complete_function(&self, of: u32) -> Result<bool, NoMemory>
+        requires whole { IsWhole self.now.nodes }
+        requires there { of < type_count self.now.nodes }
+        ensures { IfOk result (λ b. (s : State) → Shows self.now s → b ≡ is_callable s (Pointer (type_in self.now.nodes of))) }
+    {
+        match self.nodes.class(of) {
+            Class::Function(gives) => {
+                let params = self.nodes.params(of)?;
+                let given = self.may_be_given(gives);
+                let taken = self.all_complete(params.as_slice());
+                Ok(given && taken)
+            }
+            Class::Void
+            | Class::Int(_, _)
+            | Class::Cap(_)
+            | Class::Pointer(_)
+            | Class::Array(_, _)
+            | Class::Tagged(_)
+            | Class::Const(_) => Ok(true),
+        }
+    }
+
+    fn is_callable(&self, of: u32) -> Result<bool, NoMemory>
+        requires whole { IsWhole self.now.nodes }
+        requires there { of < type_count self.now.nodes }
+        ensures { IfOk result (λ b. (s : State) → Shows self.now s → b ≡ is_callable s (type_in self.now.nodes of)) }
+    {
+        match self.nodes.target(of) {
+            None => Ok(true),
+            Some(function) => self.is_complete_function(function),
+        }
+    }
+
+    /// The call of a value (C11 6.5.2.2): 132 where it gives or takes what is not complete, 133 and 136 of the arguments.
     pub fn call(&mut self, f: Operand, xs: &[Operand], pos: Pos) -> Result<Operand, Refusal>
         requires whole { IsWhole self.old.nodes }
         requires called { OperandThere self.old f }
         requires operands { AreThere (term_count self.old.nodes) xs.now }
         ensures { Answers quietly self.old self.new (call (operand_in self.old f) (map (operand_in self.old) xs.now) pos) OperandThere IsOperand result }
     {
+        let callable = self.is_callable(self.nodes.of(f.node))?;
+        if !callable {
+            return Err(Refusal::Code(132, f.first));
+        }
         c_rules::call(&mut self.nodes, f, xs, pos)
     }
 

@@ -1,8 +1,7 @@
 use Rattle.std.proofs.Common.{Option, false, sym, ap, ◌∙◌}
-use Rattle.c_tree.specs.Types.{Ty}
 use Rattle.c_tree.specs.Readings.{Context}
 use Rattle.c_tree.specs.Expressions.{routine_type}
-use Rattle.c_tree.specs.Programs.{given_by}
+use Rattle.c_tree.specs.Types.{Ty, given_by}
 use Rattle.c_tree.specs.Scopes.{RoutineState}
 use Rattle.c_elab.proofs.bodies.context_of.Goals as goal
 

@@ -1,5 +1,5 @@
 use Rattle.std.proofs.Common.{◌≡◌}
-use Rattle.c_tree.specs.Programs.{numbers_from}
+use Rattle.c_tree.specs.Terms.{numbers_from}
 use Rattle.c_elab.proofs.bodies.numbers_below.Given as goal
 
 abbrev pub invariant-loop-k : goal.invariant-loop-k

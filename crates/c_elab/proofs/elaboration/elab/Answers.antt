@@ -2,7 +2,7 @@ use Rattle.std.proofs.lemmas.Result.{err_from_is_err_and}
 use Rattle.c_tree.specs.Programs.{parts, beginning}
 use Rattle.c_work.specs.declared.work.Work.{Work}
 use Rattle.c_parts.proofs.Kids.{have_kids}
-use Rattle.c_elab.proofs.Externals.{elaborated, elaboration_fails, root_is, root_parts}
+use Rattle.c_elab.proofs.Externals.{elaborated, elaboration_fails, root_is, root_parts, syntax_is}
 use Rattle.c_elab.proofs.elaboration.elab.Goals as goal
 
 pub all_externals-requires : goal.all_externals-requires
@@ -35,4 +35,4 @@ returns c = λ x r.
     let p = root_is w c.args.tree.now c.args.file.now x c.in_ok-work.ensures.tree c.in_ok-work.ensures.file r in
     let a = c.in_ok-all_externals.ensures (parts x) (rw c.as_slice.ensures (root_parts w c.args.tree.now.root x c.in_ok-root.root.now p c.in_ok-root.ensures)) in
     let m = a.gives beginning c.in_ok-work.ensures.shows in
-    elaborated x m.state m.value c.finish.result m.is (c.finish.ensures m.state m.shows)
+    elaborated x m.state m.value c.finish.result m.is (c.finish.ensures m.state x m.shows (syntax_is w c.all_externals.new.work c.args.tree.now x c.in_ok-work.ensures.tree a.grows.tree r.stands))

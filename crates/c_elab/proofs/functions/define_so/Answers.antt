@@ -25,6 +25,12 @@ declare_definition-requires c =
     let a = c.in_ok-f.ensures (some_wraps u c.args.wraps.items) (rw c.as_slice.ensures.value (are_some_wraps u c.args.wraps.items)) in
     record { whole = a.whole; there = rw c.defined_as.ensures a.there; what = ap (λ (x : Decl). x.what) c.defined_as.ensures; defines = ap (λ (x : Decl). x.defines) c.defined_as.ensures }
 
+pub gives_complete-complete-requires : goal.gives_complete-complete-requires
+gives_complete-complete-requires c =
+    let u : Work = c.args.work.now in
+    let a = c.in_ok-f.ensures (some_wraps u c.args.wraps.items) (rw c.as_slice.ensures.value (are_some_wraps u c.args.wraps.items)) in
+    record { whole = a.whole; there = a.there }
+
 pub define_body-requires : goal.define_body-requires
 define_body-requires c =
     let u : Work = c.args.work.now in
@@ -53,8 +59,8 @@ returns-in_err-k c = let q = err_from_is_err_and c.from_residual-in_err-k.result
     let f = c.in_ok-f.f in
     let ws = c.args.wraps.items in
     let form = λ (st : State) (e : meant.Derived) (i : IsDeclarator u name ws st e). c.in_ok-f.ensures e.wraps (rw c.as_slice.ensures.value (wraps_weaker (shown_in u st) any_scope u (reverse ws) e.wraps (λ m n j. tt) i.1)) in
-    let same : c.defined_as.result ≡ defined_decl c.args.s name f (is_some (first_prototype ws)) = c.defined_as.ensures ∙ ap (defined_decl c.args.s name f) (c.is_some.ensures ∙ ap is_some c.own_prototype-own.ensures) in
-    rw (q.1, q.2) (never_begun u v c.args.s y z name f ws w w (IsDeclarator u name ws) c.defined_as.result _ hy (c.in_ok-f.ensures (some_wraps u ws) (rw c.as_slice.ensures.value (are_some_wraps u ws))).grows.keeps
+    let same : c.defined_as.result ≡ defined_decl c.args.s name f c.gives_complete-complete.result (is_some (first_prototype ws)) = c.defined_as.ensures ∙ ap (defined_decl c.args.s name f c.gives_complete-complete.result) (c.is_some.ensures ∙ ap is_some c.own_prototype-own.ensures) in
+    rw (q.1, q.2) (never_begun u v c.args.s y z name f ws c.gives_complete-complete.result c.gives_complete-complete.ensures w w (IsDeclarator u name ws) c.defined_as.result _ hy (c.in_ok-f.ensures (some_wraps u ws) (rw c.as_slice.ensures.value (are_some_wraps u ws))).grows.keeps
     (λ st e i. i) form same c.in_err-k.ensures)
 
 pub returns-in-Some : goal.returns-in-Some
@@ -70,7 +76,7 @@ returns-in-Some c = λ y z hy hz.
     let a = c.in_ok-f.ensures (some_wraps u ws) (rw c.as_slice.ensures.value (are_some_wraps u ws)) in
     let k = a.grows.keeps in
     let form = λ (st : State) (e : meant.Derived) (i : IsDeclarator u name ws st e). c.in_ok-f.ensures e.wraps (rw c.as_slice.ensures.value (wraps_weaker (shown_in u st) any_scope u (reverse ws) e.wraps (λ m n j. tt) i.1)) in
-    let same : c.defined_as.result ≡ defined_decl c.args.s name f (is_some (first_prototype ws)) = c.defined_as.ensures ∙ ap (defined_decl c.args.s name f) (c.is_some.ensures ∙ ap is_some c.own_prototype-own.ensures) in
-    definition_begun u v c.args.s y z name f ws w c.define_body.new.work (IsDeclarator u name ws) c.defined_as.result c.in_ok-k.k p c.define_body.result hy k own (own_there u ws p own c.requires.parts)
+    let same : c.defined_as.result ≡ defined_decl c.args.s name f c.gives_complete-complete.result (is_some (first_prototype ws)) = c.defined_as.ensures ∙ ap (defined_decl c.args.s name f c.gives_complete-complete.result) (c.is_some.ensures ∙ ap is_some c.own_prototype-own.ensures) in
+    definition_begun u v c.args.s y z name f ws c.gives_complete-complete.result c.gives_complete-complete.ensures w c.define_body.new.work (IsDeclarator u name ws) c.defined_as.result c.in_ok-k.k p c.define_body.result hy k own (own_there u ws p own c.requires.parts)
     (λ st e i. i) form same c.in_ok-k.ensures
     (c.define_body.ensures z (part_kept u w c.args.block z (keeps_then u v w k c.in_ok-k.ensures.grows) hz))

@@ -1,7 +1,6 @@
+use Rattle.std.proofs.Common.{refl}
 use Rattle.c_finish.proofs.Ending.{program_is}
 use Rattle.c_finish.proofs.file_end.program.Goals as goal
 
 pub returns : goal.returns
-returns c =
-    program_is c.args.work c.assembled-p.result c.in_ok-numbers.numbers c.in_ok-globals.globals.items c.in_ok-funs.funs.items c.routines.new.into.exprs.items c.routines.new.into.stmts.items c.args.main c.in_ok-main.main c.assembled-p.ensures c.in_ok-check_tags.ensures
-    c.in_ok-numbers.ensures c.in_ok-main.ensures c.requires.main c.in_ok-globals.ensures c.in_ok-funs.ensures c.in_ok-check_order.ensures
+returns c = program_is c.args.work c.args.work.tree.now c.in_ok-p.p c.in_ok-p-2.p refl c.in_ok-p.ensures c.in_ok-p-2.ensures c.in_ok-check_order.ensures

@@ -1,0 +1,13 @@
+pub mod Bodies
+pub mod Building
+pub mod Calling
+pub mod Each
+pub mod Hiding
+pub mod Naming
+pub mod Numbering
+pub mod Passing
+pub mod Programs
+pub mod Returning
+pub mod Standing
+pub mod Stating
+pub mod Trees

@@ -1,0 +1,46 @@
+use Rattle.std.proofs.Common.{◌≡◌, ◌+◌, ◌*◌, take, map}
+use Rattle.c_copy.specs.Copying.{Extends}
+use Rattle.c_passing.specs.Lists.{hidden_in_each}
+use Rattle.c_passing.specs.Passes.{written_term, Hides, ArePassed, ArePassedArguments, AreCounted}
+use Rattle.c_passing.proofs.expressions.+expressions.Given as goal
+
+abbrev pub decreases-arguments : goal.decreases-arguments
+decreases-arguments l = 4 * l.depth + 1
+
+abbrev pub decreases-call_plainly : goal.decreases-call_plainly
+decreases-call_plainly l = 4 * l.depth + 2
+
+abbrev pub decreases-call_by_result : goal.decreases-call_by_result
+decreases-call_by_result l = 4 * l.depth + 2
+
+abbrev pub decreases-call : goal.decreases-call
+decreases-call l = 4 * l.depth + 3
+
+abbrev pub decreases-expression : goal.decreases-expression
+decreases-expression l = 4 * l.depth
+
+abbrev pub decreases-expressions : goal.decreases-expressions
+decreases-expressions l = 4 * l.depth + 1
+
+abbrev pub invariant-arguments-loop-x : goal.invariant-arguments-loop-x
+invariant-arguments-loop-x l =
+    let s = l.source in
+    let xs = map (written_term s) (take l.x-index l.xs) in
+    record {
+      extends : Extends l.initial.out.exprs.items l.out.exprs.items;
+      stmts : l.out.stmts ≡ l.initial.out.stmts;
+      hides : Hides s l.initial.out l.out (λ names. hidden_in_each names xs);
+      counted : AreCounted s l.first l.pos xs l.h;
+      are : ArePassedArguments s l.initial.out l.out l.first l.pos xs l.initial.list.items l.list.items;
+    }
+
+abbrev pub invariant-expressions-loop-k : goal.invariant-expressions-loop-k
+invariant-expressions-loop-k l =
+    let s = l.source in
+    let xs = map (written_term s) (take l.k-index l.ks) in
+    record {
+      extends : Extends l.initial.out.exprs.items l.out.exprs.items;
+      stmts : l.out.stmts ≡ l.initial.out.stmts;
+      hides : Hides s l.initial.out l.out (λ names. hidden_in_each names xs);
+      are : ArePassed s l.initial.out l.out xs l.js.items;
+    }

@@ -1,0 +1,25 @@
+use Rattle.std.proofs.Common.{refl, ap, subst}
+use Rattle.c_copy.proofs.Copies.{pushed}
+use Rattle.c_passing.specs.declared.nodes.Made.{Made}
+use Rattle.c_passing.specs.Numbered.{IsBare}
+use Rattle.c_passing.proofs.Passing.{on_both}
+use Rattle.c_passing.proofs.Returning.{param_copy_made}
+use Rattle.c_passing.proofs.functions.param_copy.Goals as goal
+
+pub returns-clause-is : goal.returns-clause-is
+returns-clause-is c =
+    let a = c.args in
+    pushed c.push_stmt.result _ _ _ (on_both c.push_stmt.result _ _ c.push_stmt.ensures.stmts c.push_stmt.ensures.rest) c.push_stmt.ensures.number
+    (λ x.
+    param_copy_made a.source.now a.out.now c.behind.new.self c.push_expr.new.self c.push_stmt.new.self a.v a.from a.to c.bare-t.result c.in_ok-of.of c.in_ok-pointer.pointer c.in_ok-place.place c.in_ok-value.value _ c.requires
+    (record {
+      bare = subst (λ ts. IsBare ts a.v.of c.bare-t.result) c.written_types.ensures c.bare-t.ensures;
+      number = c.in_ok-of.ensures;
+      pointer = c.in_ok-pointer.ensures;
+      behind = c.in_ok-place.ensures.is;
+      load = c.in_ok-value.ensures.exprs;
+      value_is = c.in_ok-value.ensures.number;
+      init = x.0;
+      number_is = refl;
+      exprs = ap (λ (m : Made). m.exprs.items) x.1;
+    }))

@@ -1,0 +1,38 @@
+use Rattle.std.proofs.Common.{◌≡◌, [], ◌∷◌, ◌++◌, refl, ap, ◌∙◌}
+use Rattle.c_tree.specs.declared.typed.StmtKind.TheVariants as stmts
+use Rattle.c_copy.proofs.Copies.{pushed}
+use Rattle.c_passing.specs.declared.nodes.Made.{Made}
+use Rattle.c_passing.proofs.Passing.{on_both}
+use Rattle.c_passing.proofs.Returning.{given_back_made}
+use Rattle.c_passing.proofs.statements.give_back.Goals as goal
+
+pub returns-clause-is : goal.returns-clause-is
+returns-clause-is c =
+    let p = c.args.pos in
+    let first = c.in_ok-first.first in
+    let second = c.in_ok-second.second in
+    let d = c.push_stmt-2.new.self in
+    let none : c.from_vec.result ≡ [] = c.from_vec.ensures ∙ c.new.ensures.items in
+    let both : c.from_vec-2.result ≡ first ∷ second ∷ [] =
+    c.from_vec-2.ensures ∙ c.in_ok-push-2.ensures.items ∙ ap (λ zs. zs ++ second ∷ []) (c.in_ok-push.ensures.items ∙ ap (λ zs. zs ++ first ∷ []) c.new-body.ensures.items) in
+    pushed c.push_stmt-3.result _ _ _ (on_both c.push_stmt-3.result _ _ c.push_stmt-3.ensures.stmts c.push_stmt-3.ensures.rest) c.push_stmt-3.ensures.number
+    (λ x.
+    given_back_made c.args.source.now c.args.out.now c.behind.new.self c.push_expr.new.self c.push_stmt.new.self d c.push_stmt-3.new.self c.args.value c.args.t c.in_ok-of.of c.in_ok-pointer.pointer c.in_ok-place.place c.in_ok-assigned.assigned first second _ p c.requires
+    (record {
+      number = c.in_ok-of.ensures;
+      pointer = c.in_ok-pointer.ensures;
+      extends = c.in_ok-place.ensures.extends;
+      behind = c.in_ok-place.ensures.is;
+      assign = c.in_ok-assigned.ensures.exprs;
+      assigned_is = c.in_ok-assigned.ensures.number;
+      evaluate = c.in_ok-first.ensures.stmts;
+      first_is = c.in_ok-first.ensures.number;
+      leave = c.in_ok-second.ensures.stmts;
+      second_is = c.in_ok-second.ensures.number;
+      block =
+          x.0
+          ∙ ap (λ zs. d.stmts.items ++ record { kind = stmts.Block zs c.from_vec-2.result; pos = p } ∷ []) none
+          ∙ ap (λ zs. d.stmts.items ++ record { kind = stmts.Block [] zs; pos = p } ∷ []) both;
+      number_is = refl;
+      exprs = ap (λ (m : Made). m.exprs.items) x.1 ∙ ap (λ (m : Made). m.exprs.items) c.in_ok-second.ensures.rest ∙ ap (λ (m : Made). m.exprs.items) c.in_ok-first.ensures.rest;
+    }))

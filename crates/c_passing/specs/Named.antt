@@ -1,0 +1,52 @@
+-- The names of calls that are known.
+use Rattle.std.specs.Prelude.{◌≡◌, ℕ, Bool, ◌&&◌, ◌==◌, if◌then◌else◌, List, [], ◌∷◌, ◌++◌, Option, Some, None}
+use Rattle.std.specs.Map.{lookup}
+use Rattle.ck_base.specs.declared.positions.Pos.{Pos}
+use Rattle.ck_base.specs.declared.positions.Span.{Span}
+use Rattle.ck_base.specs.Tokens.{Lexeme}
+use Rattle.c_tree.specs.declared.syntax.Node.{Node}
+use Rattle.c_tree.specs.declared.syntax.NodeKind.{NodeKind}
+use Rattle.c_tree.specs.declared.syntax.NodeKind.TheVariants as Kinds
+use Rattle.c_tree.specs.declared.syntax.Tree.{Tree}
+use Rattle.c_tree.specs.Syntax.{Syn, StandsAt}
+use Rattle.c_tree.specs.Passed.{same_place, calls_in}
+use Rattle.c_passing.specs.declared.names.Names.{Names}
+
+abbrev pub same_pair : ℕ × ℕ → ℕ × ℕ → Bool
+same_pair p q = p.0 == q.0 && p.1 == q.1
+
+-- the name that is known of the call at a place
+abbrev pub known_at : Names → Pos → Option Span
+known_at m p = lookup (same_pair (p.line, p.col)) m.known.entries
+
+abbrev pub name_or : Option Span → Span
+name_or None = record { start = 0; end = 0 }
+name_or (Some s) = s
+
+abbrev pub name_in : Names → Pos → Span
+name_in m p = name_or (known_at m p)
+
+-- the first of some calls that stands at a place
+abbrev pub first_at : List Lexeme → Pos → Option Span
+first_at [] p = None
+first_at (t ∷ ts) p = (if same_place t.pos p then Some t.span else first_at ts p)
+
+-- the names of these calls are known, and no others
+pub record Knows (m : Names) (ts : List Lexeme) : Type 0 where
+  pub are : (p : Pos) → known_at m p ≡ first_at ts p
+
+-- one more is known
+abbrev pub AddsName : Names → Names → Pos → Span → Type 0
+AddsName old new place name = (ts : List Lexeme) (t : Lexeme) → t.pos ≡ place → t.span ≡ name → Knows old ts → Knows new (ts ++ t ∷ [])
+
+-- the call that a node is, if it is one
+abbrev pub own_calls : NodeKind → Lexeme → List Lexeme
+own_calls Kinds.Call t = t ∷ []
+own_calls k t = []
+
+abbrev pub AddsCall : Names → Names → Node → Type 0
+AddsCall old new n = (ts : List Lexeme) (t : Lexeme) → t.pos ≡ n.pos → t.span ≡ n.text → Knows old ts → Knows new (ts ++ own_calls n.kind t)
+
+-- the calls in a part of a tree are known too
+abbrev pub Gathers : Tree → Names → Names → ℕ → Type 0
+Gathers tree old new k = (x : Syn) (ts : List Lexeme) → StandsAt tree.nodes k x → Knows old ts → Knows new (ts ++ calls_in x)

@@ -1,0 +1,111 @@
+-- What stands for the types of a program.
+use Rattle.std.specs.Prelude.{◌≡◌, ℕ, ◌+◌, ◌<◌, Bool, true, false, List, ◌∷◌, [], ◌++◌, length, map, Option, Some, None, slice_get, if◌then◌else◌}
+use Rattle.c_tree.specs.declared.typed.CType.{CType}
+use Rattle.c_tree.specs.declared.typed.CType.TheVariants as ctypes
+use Rattle.c_tree.specs.declared.typed.Member.{Member}
+use Rattle.c_tree.specs.Types.{Ty, Void, Pointer, bare, is_tagged}
+use Rattle.c_tree.specs.Views.{type_at, types_of, member_of}
+use Rattle.c_tree.specs.Passed.{by_pointer, passed, passed_member, result_types}
+use Rattle.c_copy.specs.Copying.{AllBelow}
+use Rattle.c_passing.specs.declared.types.Types.{Types}
+
+-- the type that a number names in a list
+abbrev pub type_in : List CType → ℕ → Ty
+type_in types k = type_at (types_of types) k
+
+-- a struct or union
+abbrev pub is_record : CType → Bool
+is_record (ctypes.Struct tag ms) = true
+is_record (ctypes.Union tag ms) = true
+is_record (ctypes.Incomplete tag) = true
+is_record c = false
+
+-- what is qualified
+abbrev pub const_of : CType → Option ℕ
+const_of (ctypes.Const t) = Some t
+const_of c = None
+
+-- what a function gives
+abbrev pub gives_of : CType → Option ℕ
+gives_of (ctypes.Function t ps) = Some t
+gives_of c = None
+
+-- the type of the result that a function of a type gives by a pointer, if there is one
+abbrev pub IsGivenIn : List CType → ℕ → Option ℕ → Type 0
+IsGivenIn types of None = result_types (type_in types of) ≡ []
+IsGivenIn types of (Some k) = (result_types (type_in types of) ≡ Pointer (bare (type_in types k)) ∷ []) × (by_pointer (type_in types k) ≡ true)
+
+-- a type without a qualifier of its own, as far as that matters
+pub record IsBare (types : List CType) (k n : ℕ) : Type 0 where
+  pub same : is_tagged (type_in types n) ≡ by_pointer (type_in types k)
+  pub is : by_pointer (type_in types k) ≡ true → type_in types n ≡ bare (type_in types k)
+
+-- type `n` of the new list stands for type `k` of the written one
+pub record IsNumber (types list : List CType) (k n : ℕ) : Type 0 where
+  pub there : n < length list
+  pub is : type_in list n ≡ passed (type_in types k)
+
+-- type `n` of the new list is the pointer to type `k` of the written one, where that goes by a pointer
+pub record IsPointer (types list : List CType) (k n : ℕ) : Type 0 where
+  pub there : n < length list
+  pub is : by_pointer (type_in types k) ≡ true → type_in list n ≡ Pointer (bare (type_in types k))
+
+pub record StartsVoid (list : List CType) : Type 0 where
+  pub there : 0 < length list
+  pub is : type_in list 0 ≡ Void
+
+-- a struct or union of the new list stands in the written one, with the same members
+abbrev pub IsKept : List CType → CType → Type 0
+IsKept types (ctypes.Struct tag ms) = (j : ℕ) × (slice_get types j ≡ Some (ctypes.Struct tag ms))
+IsKept types (ctypes.Union tag ms) = (j : ℕ) × (slice_get types j ≡ Some (ctypes.Union tag ms))
+IsKept types (ctypes.Incomplete tag) = (j : ℕ) × (slice_get types j ≡ Some (ctypes.Incomplete tag))
+IsKept types c = Unit {0}
+
+-- what stands for the first so many written types
+pub record Follows (types : List CType) (i : ℕ) (t : Types) : Type 0 where
+  pub void : StartsVoid t.list.items
+  pub number_count : length t.numbers.items ≡ i
+  pub pointer_count : length t.pointers.items ≡ i
+  pub numbers : (k n : ℕ) → slice_get t.numbers.items k ≡ Some n → IsNumber types t.list.items k n
+  pub pointers : (k n : ℕ) → slice_get t.pointers.items k ≡ Some n → IsPointer types t.list.items k n
+  pub kept : (k : ℕ) (c : CType) → slice_get t.list.items k ≡ Some c → IsKept types c
+
+-- what stands for the next type, which is this one, comes behind
+abbrev pub AddsType : List CType → Types → Types → CType → Type 0
+AddsType types old new c = (i : ℕ) → Follows types i old → slice_get types i ≡ Some c → Follows types (i + 1) new
+
+-- new types, and the numbers of what stands for one more written type
+pub record Keeps (old new : Types) (cs : List CType) (number pointer : ℕ) : Type 0 where
+  pub list : new.list.items ≡ old.list.items ++ cs
+  pub numbers : new.numbers.items ≡ old.numbers.items ++ number ∷ []
+  pub pointers : new.pointers.items ≡ old.pointers.items ++ pointer ∷ []
+
+-- what stands for a parameter
+abbrev pub passed_parameter : Ty → Ty
+passed_parameter t = (if by_pointer t then Pointer (bare t) else passed t)
+
+-- numbers of what stands for parameters of types come behind others
+pub record AreParameters (types : List CType) (t : Types) (ks before after : List ℕ) : Type 0 where
+  pub below : (i : ℕ) → Follows types i t → AllBelow i ks
+  pub are : (i : ℕ) → Follows types i t → map (type_in t.list.items) after ≡ map (type_in t.list.items) before ++ map passed_parameter (map (type_in types) ks)
+
+-- the members of a struct or union, with the numbers of what stands for their types
+pub record AreRenumbered (numbers : List ℕ) (ms ns : List Member) : Type 0 where
+  pub are : (types ts : List Ty) → ((k n : ℕ) → slice_get numbers k ≡ Some n → type_at ts n ≡ passed (type_at types k)) →
+      map (member_of ts) ns ≡ map passed_member (map (member_of types) ms)
+
+abbrev pub IsWithMembers : List ℕ → CType → CType → Type 0
+IsWithMembers numbers (ctypes.Struct tag ms) d = (ns : List Member) × (d ≡ ctypes.Struct tag ns) × AreRenumbered numbers ms ns
+IsWithMembers numbers (ctypes.Union tag ms) d = (ns : List Member) × (d ≡ ctypes.Union tag ns) × AreRenumbered numbers ms ns
+IsWithMembers numbers c d = d ≡ c
+
+-- the same list, where members have the numbers of what stands for their types
+pub record AreListed (numbers : List ℕ) (list new : List CType) : Type 0 where
+  pub types : types_of new ≡ types_of list
+  pub each : (k : ℕ) (d : CType) → slice_get new k ≡ Some d → (c : CType) × (slice_get list k ≡ Some c) × IsWithMembers numbers c d
+
+-- the types of the program that is run, for all written ones
+pub record TypesFit (types : List CType) (t : Types) (ts : List Ty) : Type 0 where
+  pub void : type_at ts 0 ≡ Void
+  pub numbers : (k n : ℕ) → slice_get t.numbers.items k ≡ Some n → type_at ts n ≡ passed (type_in types k)
+  pub pointers : (k n : ℕ) → slice_get t.pointers.items k ≡ Some n → by_pointer (type_in types k) ≡ true → type_at ts n ≡ Pointer (bare (type_in types k))

@@ -1,0 +1,155 @@
+-- What is made of an expression, of a statement, and of lists of them.
+use Rattle.std.specs.Prelude.{◌≡◌, ℕ, ◌+◌, ◌<◌, true, false, List, ◌++◌, length, map, Option, Some, None, slice_get}
+use Rattle.ck_base.specs.declared.positions.Pos.{Pos}
+use Rattle.c_tree.specs.declared.typed.Expr.{Expr}
+use Rattle.c_tree.specs.declared.typed.ExprKind.{ExprKind}
+use Rattle.c_tree.specs.declared.typed.Stmt.{Stmt}
+use Rattle.c_tree.specs.declared.typed.StmtKind.{StmtKind}
+use Rattle.c_tree.specs.declared.typed.StmtKind.TheVariants as stmts
+use Rattle.c_tree.specs.Types.{Ty, Void, bare}
+use Rattle.c_tree.specs.Terms as tree
+use Rattle.c_tree.specs.Terms.{Term, Terms, terms, with_term, term, leaf, step, join, Action, Variable}
+use Rattle.c_tree.specs.Views.{types_of, terms_of, term_at, actions_of, action_at, variable_of, operands, values, parts}
+use Rattle.c_tree.specs.Passed.{Names, Passing, by_pointer, passed_shape, passed_form, passed, passed_term, passed_action, by_address, by_result, given_back}
+use Rattle.c_copy.specs.Copying.{expr_shape, stmt_form, terms_in, actions_in, AllBelow}
+use Rattle.c_passing.specs.declared.nodes.Source.{Source}
+use Rattle.c_passing.specs.declared.nodes.Made.{Made}
+use Rattle.c_passing.specs.Numbered.{type_in, TypesFit}
+use Rattle.c_passing.specs.Named.{name_in}
+use Rattle.c_passing.specs.Lists.{hidden_for_each, passed_each, passed_each_argument, passed_each_action}
+
+-- ---- what is written
+
+abbrev pub written_type : Source → ℕ → Ty
+written_type s k = type_in s.program.now.types k
+
+abbrev pub written_term : Source → ℕ → Term
+written_term s k = term_at (terms_of s.program.now) k
+
+abbrev pub written_action : Source → ℕ → Action
+written_action s k = action_at (actions_of s.program.now) k
+
+-- the types of the program that is run, the names of calls and the numbers of variables are those that are known
+pub record Fits (s : Source) (ts : List Ty) (e : Passing) : Type 0 where
+  pub types : TypesFit s.program.now.types s.types.now ts
+  pub names : (p : Pos) → e.names p ≡ name_in s.names.now p
+  pub numbers : (k v : ℕ) → slice_get s.numbers.now k ≡ Some v → e.number k ≡ v
+
+-- ---- trees that stand in lists
+
+-- an expression of a list, by its number
+pub record HasTerm (ts : List Ty) (es : List Expr) (j : ℕ) (x : Term) : Type 0 where
+  pub there : j < length es
+  pub is : term_at (terms_in ts es) j ≡ x
+
+pub record HasTerms (ts : List Ty) (es : List Expr) (js : List ℕ) (xs : List Term) : Type 0 where
+  pub there : AllBelow (length es) js
+  pub are : map (term_at (terms_in ts es)) js ≡ xs
+
+-- a statement of a list, over its expressions and whatever stands behind them
+pub record HasAction (ts : List Ty) (es : List Expr) (ss : List Stmt) (j : ℕ) (x : Action) : Type 0 where
+  pub there : j < length ss
+  pub is : (more : List Expr) → action_at (actions_in ts (es ++ more) ss) j ≡ x
+
+pub record HasActions (ts : List Ty) (es : List Expr) (ss : List Stmt) (js : List ℕ) (xs : List Action) : Type 0 where
+  pub there : AllBelow (length ss) js
+  pub are : (more : List Expr) → map (action_at (actions_in ts (es ++ more) ss)) js ≡ xs
+
+-- ---- hidden locals
+
+-- these hidden locals are added
+pub record Hides (s : Source) (old new : Made) (vs : Names → List Variable) : Type 0 where
+  pub are : (ts : List Ty) (e : Passing) → Fits s ts e → map (variable_of ts) new.vars.items ≡ map (variable_of ts) old.vars.items ++ vs e.names
+
+-- the type of the hidden local for a value of a type, if there is one
+abbrev pub IsHidden : Source → ℕ → Option ℕ → Type 0
+IsHidden s of None = by_pointer (written_type s of) ≡ false
+IsHidden s of (Some t) = (by_pointer (written_type s of) ≡ true) × (written_type s t ≡ bare (written_type s of))
+
+-- ---- expressions
+
+-- an expression that does not depend on what is known
+pub record Makes (new : Made) (make : List Ty → Term) (j : ℕ) : Type 0 where
+  pub is : (ts : List Ty) → HasTerm ts new.exprs.items j (make ts)
+
+-- the same expression with these operands, as it is run
+pub record IsKindPassed (s : Source) (old : ExprKind) (xs : List ℕ) (new : ExprKind) : Type 0 where
+  pub operands : operands new ≡ xs
+  pub shape : (ts : List Ty) (e : Passing) → Fits s ts e → expr_shape ts new ≡ passed_shape e (expr_shape (types_of s.program.now.types) old)
+
+-- an expression as it is run, where its first hidden local is the next variable
+pub record IsPassed (s : Source) (old new : Made) (x : Term) (j : ℕ) : Type 0 where
+  pub is : (ts : List Ty) (e : Passing) → Fits s ts e → HasTerm ts new.exprs.items j (passed_term e (length old.vars.items) x)
+
+pub record ArePassed (s : Source) (old new : Made) (xs : List Term) (js : List ℕ) : Type 0 where
+  pub are : (ts : List Ty) (e : Passing) → Fits s ts e → HasTerms ts new.exprs.items js (passed_each e (length old.vars.items) xs)
+
+-- a written call
+abbrev pub written_call : Source → Expr → (f : ℕ) → List ℕ → Term
+written_call s e f xs = term tree.Call (with_term (written_term s f) (terms (map (written_term s) xs))) (written_type s e.of) e.pos
+
+-- an argument that goes by a pointer
+pub record IsByAddress (s : Source) (old new : Made) (h value t : ℕ) (p : Pos) (j : ℕ) : Type 0 where
+  pub is : (ts : List Ty) (e : Passing) (y : Term) → Fits s ts e → HasTerm ts old.exprs.items value y → HasTerm ts new.exprs.items j (by_address h y (written_type s t) p)
+
+-- a number comes behind those of the hidden locals for the arguments of a call at a place, which begin at another one
+pub record AreCounted (s : Source) (first : ℕ) (p : Pos) (xs : List Term) (next : ℕ) : Type 0 where
+  pub are : (ts : List Ty) (e : Passing) → Fits s ts e → next ≡ first + length (hidden_for_each e.names p xs)
+
+-- the arguments of a call at a place go behind the others, and their hidden locals begin at a number
+pub record ArePassedArguments (s : Source) (old new : Made) (first : ℕ) (p : Pos) (xs : List Term) (before after : List ℕ) : Type 0 where
+  pub are : (ts : List Ty) (e : Passing) (ys : List Term) → Fits s ts e → HasTerms ts old.exprs.items before ys →
+      HasTerms ts new.exprs.items after (ys ++ passed_each_argument e first (length old.vars.items) p xs)
+
+-- the hidden local of its result stands for a call
+pub record IsByResult (s : Source) (old new : Made) (h called : ℕ) (list : List ℕ) (t : ℕ) (p : Pos) (j : ℕ) : Type 0 where
+  pub is : (ts : List Ty) (e : Passing) (f : Term) (ys : List Term) → Fits s ts e → HasTerm ts old.exprs.items called f → HasTerms ts old.exprs.items list ys →
+      HasTerm ts new.exprs.items j (join tree.Comma (term tree.Call (with_term f (terms ys)) Void p) (leaf (tree.Var h) (written_type s t) p) (written_type s t) p)
+
+-- calls of what stands at a number, whose first own hidden local has a number too: one without a result by a pointer
+pub record IsPlainCall (s : Source) (old new : Made) (e : Expr) (called own : ℕ) (xs : List ℕ) (j : ℕ) : Type 0 where
+  pub is : (ts : List Ty) (g : Passing) (f : Term) → Fits s ts g → HasTerm ts old.exprs.items called f →
+      HasTerm ts new.exprs.items j
+      (term tree.Call (with_term f (terms (passed_each_argument g own (length old.vars.items) e.pos (map (written_term s) xs)))) (passed (written_type s e.of)) e.pos)
+
+-- and one with it
+pub record IsCallByResult (s : Source) (old new : Made) (e : Expr) (called own hidden t : ℕ) (xs : List ℕ) (j : ℕ) : Type 0 where
+  pub is : (ts : List Ty) (g : Passing) (f : Term) → Fits s ts g → HasTerm ts old.exprs.items called f →
+      HasTerm ts new.exprs.items j (by_result hidden f (terms (passed_each_argument g own (length old.vars.items) e.pos (map (written_term s) xs))) (written_type s t) e.pos)
+
+-- ---- statements
+
+-- the new numbers of variables
+pub record AreVariables (s : Source) (ks vs : List ℕ) : Type 0 where
+  pub are : (ts : List Ty) (e : Passing) → Fits s ts e → vs ≡ map e.number ks
+
+-- the same statement with the new numbers of its variables
+pub record IsRenumbered (s : Source) (old new : StmtKind) : Type 0 where
+  pub values : values new ≡ values old
+  pub parts : parts new ≡ parts old
+  pub form : (ts : List Ty) (e : Passing) → Fits s ts e → stmt_form new ≡ passed_form e (stmt_form old)
+
+-- `return` of a value by a pointer
+pub record IsGivenBack (s : Source) (old new : Made) (value t : ℕ) (p : Pos) (j : ℕ) : Type 0 where
+  pub is : (ts : List Ty) (e : Passing) (y : Term) → Fits s ts e → HasTerm ts old.exprs.items value y →
+      HasAction ts new.exprs.items new.stmts.items j (given_back y (written_type s t) p)
+
+-- an expression, and its type, if it is given back by a pointer
+abbrev pub IsGivenValue : Source → ℕ → Option (ℕ × ℕ) → Type 0
+IsGivenValue s a None = by_pointer (tree.type_of (written_term s a)) ≡ false
+IsGivenValue s a (Some x) = (a ≡ x.0) × (by_pointer (tree.type_of (written_term s a)) ≡ true) × (written_type s x.1 ≡ bare (tree.type_of (written_term s a)))
+
+-- the expression that a statement gives back by a pointer, and its type
+abbrev pub IsReturned : Source → StmtKind → Option (ℕ × ℕ) → Type 0
+IsReturned s k None = (a : ℕ) → k ≡ stmts.Return (Some a) → by_pointer (tree.type_of (written_term s a)) ≡ false
+IsReturned s k (Some x) =
+    (k ≡ stmts.Return (Some x.0)) × (by_pointer (tree.type_of (written_term s x.0)) ≡ true) × (written_type s x.1 ≡ bare (tree.type_of (written_term s x.0)))
+
+-- a statement as it is run
+pub record IsPassedAction (s : Source) (old new : Made) (x : Action) (j : ℕ) : Type 0 where
+  pub is : (ts : List Ty) (e : Passing) → Fits s ts e → HasAction ts new.exprs.items new.stmts.items j (passed_action e (length old.vars.items) x)
+
+-- statements go behind the others
+pub record ArePassedActions (s : Source) (old new : Made) (xs : List Action) (before after : List ℕ) : Type 0 where
+  pub are : (ts : List Ty) (e : Passing) (ys : List Action) → Fits s ts e → HasActions ts old.exprs.items old.stmts.items before ys →
+      HasActions ts new.exprs.items new.stmts.items after (ys ++ passed_each_action e (length old.vars.items) xs)

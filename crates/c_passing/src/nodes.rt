@@ -1,0 +1,148 @@
+//! What is passed, and the expressions and statements that are made for it.
+
+ghost use Rattle.std.specs.Prelude.{◌≡◌, ◌++◌, ◌∷◌, [], Some, IfOk, OnOk, length, slice_get};
+ghost use Rattle.c_tree.specs.Terms.{leaf, step};
+ghost use Rattle.c_tree.specs.Terms as tree;
+ghost use Rattle.c_tree.specs.Views.{type_at};
+ghost use Rattle.c_tree.specs.Passed.{behind};
+ghost use Rattle.c_copy.specs.Copying.{Extends};
+ghost use Rattle.c_passing.specs.Passes.{Makes};
+
+use crate::names::Names;
+use crate::types::Types;
+use c_tree::{CType, Expr, ExprKind, Stmt, StmtKind, Typed, VarDef};
+use ck_base::{NoMemory, Pos};
+use std::alloc::Global;
+
+/// The program as it is written, and what is known of the one that is run.
+#[derive(Clone, Copy)]
+pub(crate) struct Source<'a> {
+    pub alloc: Global,
+    pub program: &'a Typed,
+    pub types: &'a Types,
+    pub names: &'a Names,
+    /// The numbers of the variables of the function at work.
+    pub numbers: &'a [u32],
+}
+
+/// What was made.
+#[derive(Drop)]
+pub(crate) struct Made {
+    pub exprs: Vec<Expr>,
+    pub stmts: Vec<Stmt>,
+    /// The variables of the function at work.
+    pub vars: Vec<VarDef>,
+}
+
+impl<'a> Source<'a> {
+    pub(crate) fn written_types(&self) -> &'a [CType]
+        ensures { result.now ≡ self.now.program.now.types }
+    {
+        self.program.types.as_slice()
+    }
+
+    pub(crate) fn expr(&self, k: u32) -> Result<&'a Expr, NoMemory>
+        ensures { IfOk result (λ e. slice_get self.now.program.now.exprs k ≡ Some e.now) }
+    {
+        match self.program.exprs.as_slice().get(k as usize) {
+            Some(e) => Ok(e),
+            None => Err(NoMemory),
+        }
+    }
+
+    pub(crate) fn stmt(&self, k: u32) -> Result<&'a Stmt, NoMemory>
+        ensures { IfOk result (λ s. slice_get self.now.program.now.stmts k ≡ Some s.now) }
+    {
+        match self.program.stmts.as_slice().get(k as usize) {
+            Some(s) => Ok(s),
+            None => Err(NoMemory),
+        }
+    }
+
+    /// The new number of a variable.
+    pub(crate) fn variable(&self, k: u32) -> Result<u32, NoMemory>
+        ensures { IfOk result (λ v. slice_get self.now.numbers.now k ≡ Some v) }
+    {
+        match self.numbers.get(k as usize).copied() {
+            Some(v) => Ok(v),
+            None => Err(NoMemory),
+        }
+    }
+}
+
+impl Made {
+    pub(crate) fn push_expr(&mut self, kind: ExprKind, of: u32, pos: Pos) -> Result<u32, NoMemory>
+        ensures exprs { OnOk result (self.new.exprs.items ≡ self.old.exprs.items ++ record { kind = kind; of = of; pos = pos } ∷ []) }
+        ensures number { IfOk result (λ k. k ≡ length self.old.exprs.items) }
+        ensures rest { OnOk result (self.new ≡ record self.old { exprs = self.new.exprs }) }
+    {
+        let Ok(k) = u32::try_from(self.exprs.len()) else {
+            return Err(NoMemory);
+        };
+        self.exprs.push(Expr { kind, of, pos })?;
+        Ok(k)
+    }
+
+    pub(crate) fn push_stmt(&mut self, kind: StmtKind, pos: Pos) -> Result<u32, NoMemory>
+        ensures stmts { OnOk result (self.new.stmts.items ≡ self.old.stmts.items ++ record { kind = kind; pos = pos } ∷ []) }
+        ensures number { IfOk result (λ k. k ≡ length self.old.stmts.items) }
+        ensures rest { OnOk result (self.new ≡ record self.old { stmts = self.new.stmts }) }
+    {
+        let Ok(k) = u32::try_from(self.stmts.len()) else {
+            return Err(NoMemory);
+        };
+        self.stmts.push(Stmt { kind, pos })?;
+        Ok(k)
+    }
+
+    pub(crate) fn push_var(&mut self, v: VarDef) -> Result<(), NoMemory>
+        ensures vars { OnOk result (self.new.vars.items ≡ self.old.vars.items ++ v ∷ []) }
+        ensures rest { OnOk result (self.new ≡ record self.old { vars = self.new.vars }) }
+    {
+        self.vars.push(v)?;
+        Ok(())
+    }
+
+    /// The number of the next variable.
+    pub(crate) fn next_var(&self) -> Result<u32, NoMemory>
+        ensures { IfOk result (λ k. k ≡ length self.now.vars.items) }
+    {
+        match u32::try_from(self.vars.len()) {
+            Ok(k) => Ok(k),
+            Err(_) => Err(NoMemory),
+        }
+    }
+
+    /// What a variable points to.
+    pub(crate) fn behind(
+        &mut self,
+        k: u32,
+        pointer: u32,
+        of: u32,
+        pos: Pos,
+    ) -> Result<u32, NoMemory>
+        ensures extends { OnOk result (Extends self.old.exprs.items self.new.exprs.items) }
+        ensures rest { OnOk result (self.new ≡ record self.old { exprs = self.new.exprs }) }
+        ensures is { IfOk result (Makes self.new (λ ts. step tree.Deref (step tree.Load (leaf (tree.Var k) (type_at ts pointer) pos) (type_at ts pointer) pos) (type_at ts of) pos)) }
+    {
+        let place = self.push_expr(ExprKind::Var(k), pointer, pos)?;
+        let value = self.push_expr(ExprKind::Load(place), pointer, pos)?;
+        self.push_expr(ExprKind::Deref(value), of, pos)
+    }
+
+    /// The address of a variable.
+    pub(crate) fn address(
+        &mut self,
+        k: u32,
+        pointer: u32,
+        of: u32,
+        pos: Pos,
+    ) -> Result<u32, NoMemory>
+        ensures extends { OnOk result (Extends self.old.exprs.items self.new.exprs.items) }
+        ensures rest { OnOk result (self.new ≡ record self.old { exprs = self.new.exprs }) }
+        ensures is { IfOk result (Makes self.new (λ ts. step tree.Address (leaf (tree.Var k) (type_at ts of) pos) (type_at ts pointer) pos)) }
+    {
+        let place = self.push_expr(ExprKind::Var(k), of, pos)?;
+        self.push_expr(ExprKind::Address(place), pointer, pos)
+    }
+}

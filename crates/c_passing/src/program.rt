@@ -1,0 +1,87 @@
+//! The whole program as it is run.
+
+ghost use Rattle.std.specs.Prelude.{◌≡◌, IfOk, OnOk, map};
+ghost use Rattle.c_copy.specs.Copying.{Extends};
+ghost use Rattle.c_passing.specs.Routines.{written_routine, AreFunctions, IsObject, AreObjects, IsPassedProgram};
+
+use crate::functions::{Whole, function};
+use crate::names::Names;
+use crate::nodes::Made;
+use crate::types::{Types, listed, number_in};
+use c_tree::{FunDef, GlobalDef, Tree, Typed};
+use ck_base::{NoMemory, Sequence};
+use std::alloc::Global;
+
+fn functions(whole: &Whole<'_>, out: &mut Made) -> Result<Vec<FunDef>, NoMemory>
+    ensures { IfOk result (λ fs. AreFunctions whole.now (map (written_routine whole.now) whole.now.program.now.funs) out.new fs.items) }
+{
+    let mut list = Vec::new(whole.alloc);
+    for f in whole.program.funs.as_slice() {
+        let f = function(whole, f, out)?;
+        list.push(f)?;
+    }
+    Ok(list)
+}
+
+// An object with its type as it is run.
+fn object(alloc: Global, numbers: &[u32], g: &GlobalDef) -> Result<GlobalDef, NoMemory>
+    ensures { IfOk result (IsObject numbers.now g.now) }
+{
+    let of = number_in(numbers, g.of)?;
+    let bytes = Vec::from_slice(alloc, g.bytes.as_slice())?;
+    let links = Vec::from_slice(alloc, g.links.as_slice())?;
+    Ok(GlobalDef {
+        name: g.name,
+        pos: g.pos,
+        of,
+        bytes: Sequence::from_vec(bytes),
+        links: Sequence::from_vec(links),
+    })
+}
+
+fn objects(
+    alloc: Global,
+    numbers: &[u32],
+    globals: &[GlobalDef],
+) -> Result<Vec<GlobalDef>, NoMemory>
+    ensures { IfOk result (λ v. AreObjects numbers.now globals.now v.items) }
+{
+    let mut list = Vec::new(alloc);
+    for g in globals {
+        let g = object(alloc, numbers, g)?;
+        list.push(g)?;
+    }
+    Ok(list)
+}
+
+/// The program that is run in the place of one that is typed as it is written. Structs and unions go to functions and come back by pointers,
+/// through hidden locals, which have the names of the calls in the file's tree.
+pub fn pass(alloc: Global, p: Typed, tree: &Tree) -> Result<Typed, NoMemory>
+    ensures { IfOk result (IsPassedProgram tree.now p) }
+{
+    let names = Names::new(alloc, tree)?;
+    let types = Types::new(alloc, p.types.as_slice())?;
+    let mut out = Made {
+        exprs: Vec::new(alloc),
+        stmts: Vec::new(alloc),
+        vars: Vec::new(alloc),
+    };
+    let whole = Whole {
+        alloc,
+        program: &p,
+        types: &types,
+        names: &names,
+    };
+    let funs = functions(&whole, &mut out)?;
+    let objects = objects(alloc, types.numbers.as_slice(), p.globals.as_slice())?;
+    let list = listed(alloc, &types)?;
+    Ok(Typed {
+        types: Sequence::from_vec(list),
+        globals: Sequence::from_vec(objects),
+        literals: p.literals,
+        funs: Sequence::from_vec(funs),
+        exprs: Sequence::from_vec(out.exprs),
+        stmts: Sequence::from_vec(out.stmts),
+        main: p.main,
+    })
+}

@@ -1,0 +1,216 @@
+//! Statements as they are run.
+
+ghost use Rattle.std.specs.Prelude.{◌≡◌, ◌≤◌, true, IfOk, OnOk, length, map};
+ghost use Rattle.c_tree.specs.declared.typed.StmtKind.TheVariants as StmtKinds;
+ghost use Rattle.c_tree.specs.Types.{is_tagged};
+ghost use Rattle.c_tree.specs.Views.{parts};
+ghost use Rattle.c_tree.specs.Passed.{ahead, hidden_of};
+ghost use Rattle.c_copy.specs.Copying.{Extends, stmt_form};
+ghost use Rattle.c_passing.specs.Lists.{hidden_of_each};
+ghost use Rattle.c_passing.specs.Passes.{written_type, written_action, Hides, AreVariables, IsRenumbered, IsGivenBack, IsGivenValue, IsReturned, IsPassedAction, ArePassedActions};
+
+use crate::expressions::{expression, expressions};
+use crate::nodes::{Made, Source};
+use crate::types::{bare, by_pointer};
+use c_copy::{all_below, parts, stmt_with, values};
+use c_tree::{ExprKind, StmtKind};
+use ck_base::{NoMemory, Pos, Sequence};
+
+/// How many levels an expression, and a statement, may have.
+pub(crate) const LEVELS: u32 = 4000;
+
+// How many parts of a statement stand before its expressions.
+fn ahead(kind: &StmtKind) -> usize
+    ensures is { result ≡ ahead (stmt_form kind.now) }
+    ensures there { result ≤ length (parts kind.now) }
+{
+    match kind {
+        StmtKind::Do(_, _) => 1,
+        StmtKind::For { first, .. } => first.as_slice().len(),
+        _ => 0,
+    }
+}
+
+/// The new numbers of variables.
+pub(crate) fn variables(source: &Source<'_>, ks: &[u32]) -> Result<Vec<u32>, NoMemory>
+    ensures { IfOk result (λ v. AreVariables source.now ks.now v.items) }
+{
+    let mut list = Vec::new(source.alloc);
+    for k in ks {
+        let v = source.variable(*k)?;
+        list.push(v)?;
+    }
+    Ok(list)
+}
+
+// A statement with the new numbers of its variables.
+fn renumbered(source: &Source<'_>, kind: StmtKind) -> Result<StmtKind, NoMemory>
+    ensures { IfOk result (IsRenumbered source.now kind) }
+{
+    match kind {
+        StmtKind::Init { var, offset, value } => {
+            let var = source.variable(var)?;
+            Ok(StmtKind::Init { var, offset, value })
+        }
+        StmtKind::Block { vars, body } => {
+            let vars = variables(source, vars.as_slice())?;
+            Ok(StmtKind::Block {
+                vars: Sequence::from_vec(vars),
+                body,
+            })
+        }
+        StmtKind::For {
+            vars,
+            first,
+            test,
+            step,
+            body,
+        } => {
+            let vars = variables(source, vars.as_slice())?;
+            Ok(StmtKind::For {
+                vars: Sequence::from_vec(vars),
+                first,
+                test,
+                step,
+                body,
+            })
+        }
+        StmtKind::Switch {
+            on,
+            vars,
+            labels,
+            body,
+        } => {
+            let vars = variables(source, vars.as_slice())?;
+            Ok(StmtKind::Switch {
+                on,
+                vars: Sequence::from_vec(vars),
+                labels,
+                body,
+            })
+        }
+        other => Ok(other),
+    }
+}
+
+// `return` of a struct or union: it is put where the first parameter points to.
+fn give_back(
+    source: &Source<'_>,
+    value: u32,
+    t: u32,
+    pos: Pos,
+    out: &mut Made,
+) -> Result<u32, NoMemory>
+    requires { is_tagged (written_type source.now t) ≡ true }
+    ensures exprs { OnOk result (Extends out.old.exprs.items out.new.exprs.items) }
+    ensures stmts { OnOk result (Extends out.old.stmts.items out.new.stmts.items) }
+    ensures vars { OnOk result (out.new.vars ≡ out.old.vars) }
+    ensures is { IfOk result (IsGivenBack source.now out.old out.new value t pos) }
+{
+    let of = source.types.number(t)?;
+    let pointer = source.types.pointer(t)?;
+    let place = out.behind(0, pointer, of, pos)?;
+    let assigned = out.push_expr(ExprKind::Assign(place, value), of, pos)?;
+    let first = out.push_stmt(StmtKind::Expr(assigned), pos)?;
+    let second = out.push_stmt(StmtKind::Return(None), pos)?;
+    let mut body = Vec::new(source.alloc);
+    body.push(first)?;
+    body.push(second)?;
+    let kind = StmtKind::Block {
+        vars: Sequence::from_vec(Vec::new(source.alloc)),
+        body: Sequence::from_vec(body),
+    };
+    out.push_stmt(kind, pos)
+}
+
+// The value that is given back by a pointer, and its type.
+fn given_back(source: &Source<'_>, a: u32) -> Result<Option<(u32, u32)>, NoMemory>
+    ensures { IfOk result (IsGivenValue source.now a) }
+{
+    let e = source.expr(a)?;
+    let types = source.written_types();
+    if by_pointer(types, e.of) {
+        Ok(Some((a, bare(types, e.of))))
+    } else {
+        Ok(None)
+    }
+}
+
+// The same of what `return` has, if it has a value.
+fn of_return(source: &Source<'_>, value: Option<u32>) -> Result<Option<(u32, u32)>, NoMemory>
+    ensures { IfOk result (IsReturned source.now (StmtKinds.Return value)) }
+{
+    match value {
+        None => Ok(None),
+        Some(a) => given_back(source, a),
+    }
+}
+
+// The same of a statement.
+fn returned(source: &Source<'_>, kind: &StmtKind) -> Result<Option<(u32, u32)>, NoMemory>
+    ensures { IfOk result (IsReturned source.now kind.now) }
+{
+    match kind {
+        StmtKind::Return(value) => of_return(source, *value),
+        _ => Ok(None),
+    }
+}
+
+/// The number of statement `k` as it is run, which stands behind its parts at the end of the list.
+#[cycle(statements)]
+pub(crate) fn statement(
+    source: &Source<'_>,
+    k: u32,
+    depth: u32,
+    out: &mut Made,
+) -> Result<u32, NoMemory>
+    ensures exprs { OnOk result (Extends out.old.exprs.items out.new.exprs.items) }
+    ensures stmts { OnOk result (Extends out.old.stmts.items out.new.stmts.items) }
+    ensures hides { OnOk result (Hides source.now out.old out.new (λ names. hidden_of names (written_action source.now k))) }
+    ensures is { IfOk result (IsPassedAction source.now out.old out.new (written_action source.now k)) }
+{
+    if depth == 0 {
+        return Err(NoMemory);
+    }
+    let s = source.stmt(k)?;
+    match returned(source, &s.kind)? {
+        Some((a, t)) => {
+            let value = expression(source, a, LEVELS, out)?;
+            give_back(source, value, t, s.pos, out)
+        }
+        None => {
+            let ks = parts(source.alloc, &s.kind)?;
+            all_below(ks.as_slice(), k)?;
+            let (first, last) = ks.as_slice().split_at(ahead(&s.kind));
+            let mut js = Vec::new(source.alloc);
+            statements(source, first, depth - 1, out, &mut js)?;
+            let xs = values(source.alloc, &s.kind)?;
+            let vs = expressions(source, xs.as_slice(), LEVELS, out)?;
+            statements(source, last, depth - 1, out, &mut js)?;
+            let kind = stmt_with(source.alloc, &s.kind, vs.as_slice(), js.as_slice())?;
+            let kind = renumbered(source, kind)?;
+            out.push_stmt(kind, s.pos)
+        }
+    }
+}
+
+/// The numbers of some statements as they are run go behind the others.
+#[cycle(statements)]
+pub(crate) fn statements(
+    source: &Source<'_>,
+    ks: &[u32],
+    depth: u32,
+    out: &mut Made,
+    js: &mut Vec<u32>,
+) -> Result<(), NoMemory>
+    ensures exprs { OnOk result (Extends out.old.exprs.items out.new.exprs.items) }
+    ensures stmts { OnOk result (Extends out.old.stmts.items out.new.stmts.items) }
+    ensures hides { OnOk result (Hides source.now out.old out.new (λ names. hidden_of_each names (map (written_action source.now) ks.now))) }
+    ensures are { OnOk result (ArePassedActions source.now out.old out.new (map (written_action source.now) ks.now) js.old.items js.new.items) }
+{
+    for k in ks {
+        let j = statement(source, *k, depth, out)?;
+        js.push(j)?;
+    }
+    Ok(())
+}
