@@ -14,4 +14,5 @@ pub mod Passes
 pub mod Ranges
 pub mod Whole
 pub mod Emitted
+pub mod Contained
 mod Least

@@ -1,8 +1,9 @@
 //! Selects the machine's instructions for the code of programs over integers: one function without parameters.
 //!
-//! Promise: the machine's runs of what is selected are those of the code, in both directions, within its count.
-//! Definitions (`specs/`): `Selected`, `Tracking`.
-//! Main lemmas (`proofs/`): `Whole`, `Instrs`.
+//! Promise: the machine's runs of what is selected are those of the code, in both directions, within its count; and
+//! the text is contained.
+//! Definitions (`specs/`): `Selected`, `Tracking`; `ContainedCode` of `rv_select`.
+//! Main lemmas (`proofs/`): `Whole`, `Instrs`, `Contained`.
 #![tactic(auto)]
 
 mod emit;

@@ -4,6 +4,7 @@ ghost use Rattle.rv_instr.specs.declared.instr.Instr.TheVariants.{Cjal};
 ghost use Rattle.int_select.specs.Code.{prologue, list_code, label_place, function_code};
 ghost use Rattle.int_select.specs.Form.{AreNamed, IsIntegerFun, IsIntegerCode};
 ghost use Rattle.int_select.specs.Selected.{Selects};
+ghost use Rattle.rv_select.specs.ContainedCode.{IsContainedCode};
 
 use crate::emit::{emit, prologue, put};
 use crate::labels::label_places;
@@ -63,13 +64,15 @@ fn select_function(alloc: Global, f: &TacFun) -> Result<Vec<Instr>, AllocError>
 
 /// The code of a program of one function over integers. Where that is well formed for a program and within it, the code has at most
 /// 128 bytes for each unit of the program's weight and 4,096 more; and run from its start under a legal map, it does what the
-/// three-address code means, all of it within the program's count of steps for each turn. It refuses nothing but for want of memory.
+/// three-address code means, all of it within the program's count of steps for each turn. Whatever the code does, no run of it leaves
+/// its text. It refuses nothing but for want of memory.
 pub fn select(alloc: Global, t: &Tac) -> Result<Items, NoMemory>
     requires form { IsIntegerCode t.now }
     ensures selects { IfOk result (λ items. Selects t.now items.code.items items.start) }
     ensures start { IfOk result (λ items. (items.start % 4 ≡ 0) × (items.start < 4 * length items.code.items)) }
     ensures entries { IfOk result (λ items. items.entries.items ≡ items.start ∷ []) }
     ensures lines { IfOk result (λ items. items.lines.items ≡ []) }
+    ensures contained { IfOk result (λ items. IsContainedCode items.code.items items.entries.items items.start) }
 {
     let funs = t.funs.as_slice();
     let code = select_function(alloc, &funs[0])?;

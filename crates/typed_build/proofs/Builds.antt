@@ -1,7 +1,6 @@
 -- What is written of a program's contained code is built of it.
-use Rattle.std.proofs.Common.{◌≡◌, ℕ, zero, suc, ◌+◌, ◌^◌, ◌≤◌, true, false, List, [], ◌∷◌, length, map, Some, refl, sym, ap, ◌∙◌, subst, arith, inl, inr}
+use Rattle.std.proofs.Common.{◌≡◌, ℕ, zero, suc, ◌+◌, true, List, [], ◌∷◌, map, Some, refl, sym, ap, ◌∙◌, subst, arith, inl, inr}
 use Rattle.std.specs.Prelude.{slice_get, Contains}
-use Rattle.std.specs.List.{All}
 use Rattle.std.proofs.lemmas.Bool.{false≢true}
 use Rattle.std.proofs.lemmas.List.Elements.{All-weaker}
 use Rattle.bounds_place.specs.Sizes.{in_range}
@@ -16,13 +15,13 @@ use Rattle.image_load.specs.Loading.{Loaded}
 use Rattle.int_lower.specs.Form.{is_integer_form}
 use Rattle.obj_mem.specs.Counted.{count_of}
 use Rattle.obj_mem.specs.declared.map.Map.{Map}
-use Rattle.typed_build.specs.Built.{IsBuilt}
+use Rattle.typed_build.specs.Built.{IsBuilt, RunsAsMeant}
 use Rattle.typed_build.specs.Coded.{Selects, HasContainedCode}
 use Rattle.typed_build.specs.Written.{IsWritten, image_in}
 use Rattle.typed_build.specs.declared.written.Selected.{Selected}
 use Rattle.typed_build.proofs.Contained.{relocs_contained, data_does_not}
 use Rattle.typed_build.proofs.ContainedCode.{IsEnteredAt, contained_text, entered_places}
-use Rattle.typed_build.proofs.Writes.{is_image, legal, sized}
+use Rattle.typed_build.proofs.Writes.{loaded_of, is_image, legal, sized}
 
 -- ---- the entries of a map are those of the code, from the text's base on
 
@@ -77,13 +76,17 @@ module _ (p : Typed) (s : Selected) (given : Selects p s) (code : HasContainedCo
         relocs = relocs_contained p s given sizes m file w;
       }
 
-  pub is_built : (count : ℕ) → count ≡ count_of p → is_integer_form p ≡ false → IsBuilt p file m count
-  is_built count counted other =
+  -- of a program over integers its runs are what it means
+  abbrev RunAsMeant : ℕ → Type 0
+  RunAsMeant count = is_integer_form p ≡ true → RunsAsMeant p m (loaded_of image) count
+
+  pub is_built : (count : ℕ) → count ≡ count_of p → RunAsMeant count → IsBuilt p file m count
+  is_built count counted runs =
       let i = is_image p s given sizes chosen m file w in
       record {
         image = i.0;
         counted = counted;
         says = ap (λ (l : Loaded). l.image.count) i.1 ∙ sym counted;
-        contained = λ o. subst (λ (l : Loaded). Contained l.image) (sym i.1) contained;
-        runs = λ form. absurd (false≢true (sym other ∙ form));
+        contained = subst (λ (l : Loaded). Contained l.image) (sym i.1) contained;
+        runs = λ form. subst (λ l. RunsAsMeant p m l count) (sym i.1) (runs form);
       }

@@ -3,7 +3,6 @@ use Rattle.std.proofs.Common.{◌≡◌, ℕ, zero, suc, ◌*◌, ◌%◌, ◌<�
 use Rattle.std.specs.Prelude.{slice_get, slice_index}
 use Rattle.std.specs.List.{All}
 use Rattle.std.specs.List.Sorted.{IsStrictlyIncreasing}
-use Rattle.std.proofs.lemmas.Bool.{false≢true}
 use Rattle.std.proofs.lemmas.List.Elements.{All-nil}
 use Rattle.c_tree.specs.declared.typed.Typed.{Typed}
 use Rattle.elf_file.specs.declared.image.Line.{Line}
@@ -18,14 +17,15 @@ use Rattle.rv_select.specs.Growing.{AreEntries}
 use Rattle.tac_ir.specs.declared.code.Tac.{Tac}
 use Rattle.typed_build.specs.Built.{IsBuilt, RunsAsMeant}
 use Rattle.typed_build.specs.Integers.{IsLowered, SelectsIntegers}
-use Rattle.typed_build.specs.Written.{IsWritten}
+use Rattle.typed_build.specs.Coded.{HasContainedCode}
+use Rattle.typed_build.specs.Written.{IsWritten, image_in}
 use Rattle.typed_build.specs.declared.written.Selected.{Selected}
 use Rattle.bounds_place.specs.Sizes.{in_range}
 use Rattle.bounds_place.specs.declared.sizes.Sizes.{Sizes}
-use Rattle.image_load.specs.Loading.{Loaded}
 use Rattle.typed_build.proofs.Program.{frames_fit}
 use Rattle.typed_build.proofs.Running.{runs}
-use Rattle.typed_build.proofs.Writes.{is_image}
+use Rattle.typed_build.proofs.Writes.{loaded_of}
+use Rattle.typed_build.proofs.Builds.{is_built as built}
 
 -- ---- one function, which is entered where the image is
 
@@ -52,6 +52,7 @@ pub record GivenBy (t : Tac) (s : Selected) : Type 0 where
   pub below : s.start < 4 * length s.code.items
   pub entries : s.entries.items ≡ s.start ∷ []
   pub lines : s.lines.items ≡ []
+  pub contained : HasContainedCode s
 
 -- lines ascend, in a text of so many bytes
 record AreLines (size : ℕ) (lines : List Line) : Type 0 where
@@ -94,6 +95,7 @@ selects_of p t s low g =
             subst (AreEntries (length s.code.items)) (sym g.entries)
             (one_entry s.start (length s.code.items) g.even g.below);
       };
+      contained = g.contained;
       frames = g.frames;
       does = done;
     }
@@ -104,13 +106,7 @@ pub is_built : (p : Typed) (t : Tac) (s : Selected) → IsLowered p t → Select
     → (sizes : Sizes) → in_range sizes ≡ true → (m : Map) (file : List ℕ) → IsWritten p s sizes m file
     → (count : ℕ) → count ≡ count_of p → IsBuilt p file m count
 is_built p t s low given sizes chosen m file w count counted =
-    let i = is_image p s given.selects sizes chosen m file w in
-    record {
-      image = i.0;
-      counted = counted;
-      says = ap (λ (l : Loaded). l.image.count) i.1 ∙ sym counted;
-      contained = λ other. absurd (false≢true (sym other ∙ low.form));
-      runs = λ form.
-          subst (RunsAsMeant p m i.0.loaded) (sym counted)
-          (subst (λ l. RunsAsMeant p m l (count_of p)) (sym i.1) (runs p t s low given sizes chosen m file w));
-    }
+    built p s given.selects given.contained sizes chosen m file w count counted
+    (λ form.
+    subst (RunsAsMeant p m (loaded_of (image_in p s sizes m file w))) (sym counted)
+    (runs p t s low given sizes chosen m file w))

@@ -1,7 +1,6 @@
 -- What is built of a program of the form is built of every program that stands for the same.
 use Rattle.std.proofs.Common.{◌≡◌, ℕ, true, List, [], ◌∷◌, map, sym, ap, subst, ◌∙◌, arith}
 use Rattle.std.specs.Prelude.{slice_get}
-use Rattle.std.proofs.lemmas.Bool.{false≢true}
 use Rattle.ck_base.specs.Agreement.{Sides, DoesWhatIsMeant, KeepsToOutside, DoesAllThatIsMeant}
 use Rattle.ck_base.specs.Runs.{outcome, ending_alone}
 use Rattle.c_tree.specs.declared.typed.FunDef.{FunDef}
@@ -105,7 +104,7 @@ built_same p r q o u f g s t file m count h =
       };
       counted = h.counted ∙ same_count p r q o u f g s t;
       says = h.says;
-      contained = λ other. absurd (false≢true (sym other ∙ g));
+      contained = h.contained;
       runs = λ form. record {
         does_what = subst (λ x. DoesWhatIsMeant (sides x m i.loaded)) tree runs.does_what;
         keeps = subst (λ x. KeepsToOutside (sides x m i.loaded)) tree runs.keeps;

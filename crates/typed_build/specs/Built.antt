@@ -113,15 +113,15 @@ pub record RunsAsMeant (p : Typed) (map : Map) (loaded : Loaded) (count : ℕ) :
   pub keeps : KeepsToOutside (sides_of p map loaded)
   pub does_all : DoesAllThatIsMeant (sides_of p map loaded) count
 
--- What is built of a program: its image and its count; of a program over integers that its runs are what it means, and of
--- every other one that its image is contained
+-- What is built of a program: its image, which is contained, and its count; and of a program over integers that its runs
+-- are what it means
 pub record IsBuilt (p : Typed) (file : List ℕ) (map : Map) (count : ℕ) : Type 0 where
   pub image : IsImage p file map
   pub counted : count ≡ count_of p
   -- which the file says
   pub says : image.loaded.image.count ≡ count
-  -- of every other program no run, whatever it does, leaves the text or makes code of data
-  pub contained : is_integer_form p ≡ false → Contained image.loaded.image
+  -- no run, whatever it does, leaves the text or makes code of data
+  pub contained : Contained image.loaded.image
   -- of a program over integers
   pub runs : is_integer_form p ≡ true → RunsAsMeant p map image.loaded count
 

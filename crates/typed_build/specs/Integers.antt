@@ -13,7 +13,7 @@ use Rattle.tac_ir.specs.declared.code.Tac.{Tac}
 use Rattle.int_select.specs.Form.{IsIntegerCode}
 use Rattle.int_select.specs.Selected.{IsSelected, frames_of}
 use Rattle.int_lower.specs.Form.{is_integer_form}
-use Rattle.typed_build.specs.Coded.{Selects}
+use Rattle.typed_build.specs.Coded.{Selects, HasContainedCode}
 use Rattle.typed_build.specs.declared.written.Selected.{Selected}
 
 -- three-address code that does, under every legal map, what its program over integers means
@@ -28,5 +28,6 @@ pub record IsLowered (p : Typed) (t : Tac) : Type 0 where
 -- and machine code that does, under every legal map with its frames, what that means
 pub record SelectsIntegers (p : Typed) (t : Tac) (s : Selected) : Type 0 where
   pub selects : Selects p s
+  pub contained : HasContainedCode s
   pub frames : s.frames.items ≡ frames_of t
   pub does : IsSelected t s.code.items s.start p

@@ -11,4 +11,5 @@ returns c p low =
       below = given.start.1;
       entries = given.entries;
       lines = given.lines;
+      contained = given.contained;
     })
