@@ -5,14 +5,11 @@
 //! Main lemmas (`proofs/`): none.
 #![tactic(auto)]
 
-use cheric_top::cheric;
-use ck_base::{HostFiles, StdError, StdInput, StdOutput};
+use cheric_top::{Answer, cheric, status_of};
+use ck_base::{HostFiles, Sink, StdError, StdInput, StdOutput};
 use std::env;
 use std::io::{self, BufReader};
 use std::process::ExitCode;
-
-/// The status where there is no memory for the words or the input's buffer.
-const NO_MEMORY: u8 = 30;
 
 /// The words with which the program was called, or none where one isn't UTF-8.
 fn words_of(rt: &HostRuntime) -> io::Result<Vec<String>> {
@@ -40,6 +37,19 @@ fn run(rt: &HostRuntime) -> io::Result<u8> {
     Ok(cheric(alloc, &words, &mut files, &mut input, &mut out, &mut notes))
 }
 
+/// The answer where there is no memory for the words or the input's buffer, so nothing was done.
+fn without_memory(rt: &HostRuntime) -> u8 {
+    let mut notes: StdError<_> = StdOutput::new(rt.stderr());
+    match notes.put(b"memory\n") {
+        Ok(()) => status_of(Answer::Memory),
+        Err(_) => status_of(Answer::Output),
+    }
+}
+
 fn main(rt: HostRuntime) -> ExitCode {
-    ExitCode::from(run(&rt).unwrap_or(NO_MEMORY))
+    let status = match run(&rt) {
+        Ok(status) => status,
+        Err(_) => without_memory(&rt),
+    };
+    ExitCode::from(status)
 }

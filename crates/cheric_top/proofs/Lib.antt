@@ -1,4 +1,2 @@
-pub mod Words
-pub mod Added
 pub mod Loads
 pub mod Said

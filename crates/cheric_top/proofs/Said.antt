@@ -15,8 +15,12 @@ use Rattle.image_load.specs.Loading.{Loaded, Loads, loading, loaded_as, after_re
 use Rattle.image_load.specs.declared.refusal.LoadRefusal.{LoadRefusal}
 use Rattle.image_load.specs.declared.refusal.LoadRefusal.TheVariants as refusal
 use Rattle.cheric_top.proofs.Loads.{loaded_of, is_loaded}
-use Rattle.cheric_top.specs.Answers.{refused_as}
-use Rattle.cheric_top.specs.Command.{HasRead, IsUnreadable, ExecStopped, files_seen}
+use Rattle.ck_base.specs.declared.refusal.Refusal.{Refusal}
+use Rattle.ck_base.specs.declared.refusal.Refusal.TheVariants.{Code, NoMemory}
+use Rattle.bounds_place.specs.declared.sizes.Sizes.{Sizes}
+use Rattle.cheric_build.specs.FromFile.{IsFileRefusal}
+use Rattle.cheric_top.specs.Answers.{not_built, refused_as}
+use Rattle.cheric_top.specs.Command.{FilesSeen, HasRead, IsUnreadable, ExecStopped, NotBuilt, BuildSays, files_seen}
 
 -- ---- files
 
@@ -31,6 +35,18 @@ gets_missing (Some files) name h = (files, refl, inl h)
 pub gets_too_long : (told : Option FileMap) (name : List ℕ) → Gets told name (Err TooLong) → IsUnreadable told name
 gets_too_long None name h = absurd h
 gets_too_long (Some files) name h = (files, refl, inr h)
+
+-- ---- building
+
+-- a file that is not built leaves input and output as they were
+pub not_built_says : (s : Seen) (file : List ℕ) (r : Refusal) → IsFileRefusal file r → NotBuilt s s file (not_built r)
+not_built_says s file (Code code pos) h = (refl, h)
+not_built_says s file NoMemory h = refl
+
+-- and puts no name
+pub not_put : (s : FilesSeen) (file elf : List ℕ) (sizes : Sizes) (r : Refusal) → IsFileRefusal file r → BuildSays s s file elf sizes (not_built r)
+not_put s file elf sizes (Code code pos) h = (refl, h)
+not_put s file elf sizes NoMemory h = refl
 
 -- ---- loading
 

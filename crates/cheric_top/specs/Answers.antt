@@ -1,8 +1,10 @@
 -- What the command answers: the status and the line of each answer.
-use Rattle.std.specs.Prelude.{◌≡◌, ℕ, zero, suc, ◌<◌, ◌≤◌, List, [], ◌∷◌, ◌++◌, Option, Some, None, codes, decimal}
+use Rattle.std.specs.Prelude.{◌≡◌, ℕ, zero, suc, ◌<◌, ◌≤◌, Bool, true, false, if◌then◌else◌, List, [], ◌∷◌, ◌++◌, Option, Some, None, codes, decimal}
 use Rattle.std.specs.Io.KnownBytes.{Appends}
 use Rattle.ck_base.specs.Outside.{AppendsPart}
 use Rattle.ck_base.specs.declared.positions.Pos.{Pos}
+use Rattle.ck_base.specs.declared.refusal.Refusal.{Refusal}
+use Rattle.ck_base.specs.declared.refusal.Refusal.TheVariants.{Code, NoMemory}
 use Rattle.cap_ops.specs.declared.access.Cause.{Cause}
 use Rattle.cap_ops.specs.declared.access.Cause.TheVariants as cause
 use Rattle.cap_machine.specs.declared.end.End.{End}
@@ -10,18 +12,16 @@ use Rattle.cap_machine.specs.declared.end.End.TheVariants as end
 use Rattle.elf_file.specs.declared.image.Image.{Image}
 use Rattle.elf_file.specs.declared.image.Line.{Line}
 use Rattle.elf_file.specs.Image.{position_of}
+use Rattle.typed_build.specs.Built.{place_of}
 use Rattle.image_load.specs.declared.refusal.LoadRefusal.{LoadRefusal}
 use Rattle.image_load.specs.declared.refusal.LoadRefusal.TheVariants as refusal
 use Rattle.image_load.specs.Loading.{load_number}
 use Rattle.cheric_top.specs.declared.answer.Answer.{Answer}
 use Rattle.elf_audit.specs.declared.verdict.Verdict.{Verdict}
 use Rattle.elf_audit.specs.declared.verdict.Verdict.TheVariants as verdict
-use Rattle.cheric_top.specs.declared.answer.Answer.TheVariants.{Exit, Built, Trap, TrapAt, Stack, Steps, Break, Illegal, Audited, Refused, Words, NotLoaded, File, Input, Output, Memory}
+use Rattle.cheric_top.specs.declared.answer.Answer.TheVariants.{Exit, Built, Shown, Trap, TrapAt, Stack, Steps, Break, Illegal, Audited, Refused, Words, NotLoaded, File, Input, Output, Memory}
 
 -- ---- the answer of a run
-
-abbrev pub place_of : Line → Pos
-place_of l = record { line = l.line; col = l.col }
 
 abbrev pub trapped_at : Cause → Line → ℕ → Answer
 trapped_at c l zero = Trap c (place_of l)
@@ -40,6 +40,12 @@ answer_of image end.Steps = Steps
 answer_of image end.ReadFault = Input
 answer_of image end.WriteFault = Output
 
+-- ---- the answer where a file is not built
+
+abbrev pub not_built : Refusal → Answer
+not_built (Code code pos) = Refused code pos
+not_built NoMemory = Memory
+
 -- ---- the answer of a load that was refused
 
 abbrev pub refused_as : LoadRefusal → Answer
@@ -56,6 +62,7 @@ abbrev pub status_of : Answer → ℕ
 status_of (Exit zero) = 0
 status_of (Exit (suc n)) = 1
 status_of (Built n) = 0
+status_of Shown = 0
 status_of (Trap c pos) = 2
 status_of (TrapAt c pc) = 2
 status_of (Stack pos) = 3
@@ -93,6 +100,7 @@ audit_text (verdict.Reloc k reason) = codes "audit no reloc " ++ decimal k ++ co
 abbrev pub text_of : Answer → List ℕ
 text_of (Exit n) = codes "exit " ++ decimal n
 text_of (Built n) = codes "built " ++ decimal n
+text_of Shown = []
 text_of (Trap c pos) = codes "trap " ++ cause_text c ++ codes " " ++ pos_text pos
 text_of (TrapAt c pc) = codes "trap " ++ cause_text c ++ codes " at " ++ decimal pc
 text_of (Stack pos) = codes "stack " ++ pos_text pos
@@ -108,9 +116,14 @@ text_of Input = codes "input"
 text_of Output = codes "output"
 text_of Memory = codes "memory"
 
+-- nothing is said where what was asked for was put to the output
+abbrev pub is_silent : Answer → Bool
+is_silent Shown = true
+is_silent answer = false
+
 -- the answer's text and a line feed
 abbrev pub line_of : Answer → List ℕ
-line_of answer = text_of answer ++ 10 ∷ []
+line_of answer = if is_silent answer then [] else text_of answer ++ 10 ∷ []
 
 -- The answer was said: its line was put and its status is given; or the notes failed, after a front of the line, and it is 22.
 pub record IsSaid (answer : Answer) (status : ℕ) (held_before held_after : Option (List ℕ)) (faults_before faults_after : ℕ) : Type 0 where

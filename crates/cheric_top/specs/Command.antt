@@ -1,9 +1,10 @@
 -- The command: what each answer says of the words, the files, the input and the output.
-use Rattle.std.specs.Prelude.{◌≡◌, ◌⊎◌, ℕ, ◌<◌, ◌≤◌, List, length, Option, Some, None, Ok, Err}
+use Rattle.std.specs.Prelude.{◌≡◌, ◌⊎◌, ℕ, ◌<◌, ◌≤◌, List, [], length, Option, Some, None, Ok, Err}
 use Rattle.ck_base.specs.Files.{FileMap, HasFile, SameOthers}
-use Rattle.ck_base.specs.Calls.{Seen, IsRun, Counted}
+use Rattle.ck_base.specs.Calls.{Seen, seen, IsRun, Counted}
 use Rattle.ck_base.specs.Runs.{outcome, ending_alone}
 use Rattle.ck_base.specs.declared.refusal.Refusal.TheVariants.{Code}
+use Rattle.c_tree.specs.declared.typed.Typed.{Typed}
 use Rattle.obj_mem.specs.declared.map.Map.{Map}
 use Rattle.cap_machine.specs.declared.end.End.{End}
 use Rattle.cap_machine.specs.Step.{act, limits}
@@ -11,9 +12,13 @@ use Rattle.image_load.specs.Loading.{Loaded, loading}
 use Rattle.bounds_place.specs.declared.sizes.Sizes.{Sizes}
 use Rattle.bounds_place.specs.Sizes.{HasSizes}
 use Rattle.cheric_build.specs.FromFile.{IsBuiltFrom, IsFileRefusal}
+use Rattle.build_text.specs.Listing.{listing_text}
+use Rattle.build_text.specs.Map.{map_text}
+use Rattle.generator.specs.Generated.{generated}
+use Rattle.command_line.specs.Lines.{Mode, Run, Build, Exec, Audit, ShowMap, ShowListing, Line, OfFile, Generate, IsLine}
 use Rattle.cheric_top.specs.Answers.{answer_of, IsSaid}
 use Rattle.cheric_top.specs.Audit.{AuditSays}
-use Rattle.cheric_top.specs.Lines.{Mode, Run, Build, Exec, Audit, Line, IsLine}
+use Rattle.cheric_top.specs.Shown.{IsProgramOf, PutSays, summary}
 use Rattle.cheric_top.specs.declared.answer.Answer.{Answer}
 use Rattle.cheric_top.specs.declared.answer.Answer.TheVariants.{Built, Refused, Words, NotLoaded, File, Memory}
 
@@ -86,16 +91,17 @@ pub record Compiled (file : List ℕ) (sizes : Sizes) : Type 0 where
 abbrev pub loaded_of : {file : List ℕ} {sizes : Sizes} → Compiled file sizes → Loaded
 loaded_of c = c.built.built.image.loaded
 
--- ---- mode `run`
+-- the file was refused, or there was no memory: nothing was put or taken
+abbrev pub NotBuilt : Seen → Seen → List ℕ → Answer → Type 0
+NotBuilt before after file (Refused code pos) = (after ≡ before) × IsFileRefusal file (Code code pos)
+NotBuilt before after file Memory = after ≡ before
+NotBuilt before after file answer = ⊥
 
-abbrev pub RunStopped : Seen → Seen → List ℕ → Answer → Type 0
-RunStopped before after file (Refused code pos) = (after ≡ before) × IsFileRefusal file (Code code pos)
-RunStopped before after file Memory = after ≡ before
-RunStopped before after file answer = ⊥
+-- ---- mode `run`
 
 -- the file was refused, or there was no memory; or the bytes that were built of it were loaded and run
 abbrev pub RunSays : Seen → Seen → List ℕ → ℕ → Sizes → Answer → Type 0
-RunSays before after file steps sizes answer = RunStopped before after file answer ⊎ ((compiled : Compiled file sizes) × RanLoaded before after (loaded_of compiled) steps answer)
+RunSays before after file steps sizes answer = NotBuilt before after file answer ⊎ ((compiled : Compiled file sizes) × RanLoaded before after (loaded_of compiled) steps answer)
 
 -- ---- mode `exec`
 
@@ -128,6 +134,42 @@ BuildSays before after file elf sizes File = Compiled file sizes × FailedToPut 
 BuildSays before after file elf sizes Memory = after ≡ before
 BuildSays before after file elf sizes answer = ⊥
 
+-- ---- mode `map`
+
+-- the file was refused, or there was no memory; or it was built, and the text of its map was put
+abbrev pub MapSays : Seen → Seen → List ℕ → Sizes → Answer → Type 0
+MapSays before after file sizes answer =
+    NotBuilt before after file answer
+    ⊎ ((program : Typed) × (compiled : Compiled file sizes) × IsProgramOf file program compiled.elf compiled.map compiled.count × PutSays before after (map_text file program compiled.map) answer)
+
+-- ---- mode `list`
+
+-- the listing of the text of a loaded image
+abbrev pub listing_in : Loaded → List ℕ
+listing_in loaded = listing_text loaded.image.text_base loaded.image.text
+
+-- the file was refused, or there was no memory; or it was built, and the listing of its text was put
+abbrev pub ListingSays : Seen → Seen → List ℕ → Sizes → Answer → Type 0
+ListingSays before after file sizes answer = NotBuilt before after file answer ⊎ ((compiled : Compiled file sizes) × PutSays before after (listing_in (loaded_of compiled)) answer)
+
+-- ---- mode `gen`
+
+-- an input without bytes, and an output that tells nothing: neither has failed
+abbrev pub own_outside : Seen
+own_outside = seen (Some []) 0 None 0
+
+-- The generated file was run over an input and an output of its own
+pub record RanGenerated (file : List ℕ) (steps : ℕ) (sizes : Sizes) (ran : Answer) : Type 0 where
+  pub after : Seen
+  pub says : RunSays own_outside after file steps sizes ran
+  pub some : ran ≡ Memory → ⊥
+
+-- there was no memory; or the file was generated and run, and the summary was put
+abbrev pub GenerateSays : Seen → Seen → ℕ → ℕ → Sizes → Answer → Type 0
+GenerateSays before after functions steps sizes answer =
+    ((answer ≡ Memory) × (after ≡ before))
+    ⊎ ((ran : Answer) × RanGenerated (generated functions) steps sizes ran × PutSays before after (summary functions (length (generated functions)) ran) answer)
+
 -- ---- all modes
 
 -- what each answer says of a file that was read; a later mode is a case more
@@ -136,14 +178,22 @@ ModeSays a file (Run steps sizes) answer = FilesKept a × RunSays a.before a.aft
 ModeSays a file (Exec steps) answer = FilesKept a × ExecSays a.before a.after file steps answer
 ModeSays a file (Build elf sizes) answer = Untouched a × BuildSays a.files_before a.files_after file elf sizes answer
 ModeSays a file Audit answer = FilesKept a × Untouched a × AuditSays file answer
+ModeSays a file (ShowMap sizes) answer = FilesKept a × MapSays a.before a.after file sizes answer
+ModeSays a file (ShowListing sizes) answer = FilesKept a × ListingSays a.before a.after file sizes answer
 
--- what each answer says of a line: its file was not read, and nothing was put or taken; or it was, and so on by the mode
+-- the file of this name was not read, and nothing was put or taken; or it was, and so on by the mode
+abbrev pub FileSays : Around → List ℕ → Mode → Answer → Type 0
+FileSays a name mode answer = (NotRead a.files_before a.files_after name answer × Untouched a) ⊎ ((file : List ℕ) × HasRead a.files_before name file × ModeSays a file mode answer)
+
+-- what each answer says of a line
 abbrev pub LineSays : Around → Line → Answer → Type 0
-LineSays a line answer = (NotRead a.files_before a.files_after line.name answer × Untouched a) ⊎ ((file : List ℕ) × HasRead a.files_before line.name file × ModeSays a file line.mode answer)
+LineSays a (OfFile name mode) answer = FileSays a name mode answer
+LineSays a (Generate functions steps sizes) answer = FilesKept a × GenerateSays a.before a.after functions steps sizes answer
 
--- the words are no line
+-- the words are no line, or there was no memory to read them; nothing else was done
 abbrev pub NoLineSays : Around → List (List ℕ) → Answer → Type 0
 NoLineSays a words Words = ((line : Line) → IsLine words line → ⊥) × FilesKept a × Untouched a
+NoLineSays a words Memory = FilesKept a × Untouched a
 NoLineSays a words answer = ⊥
 
 -- what each answer says of the words

@@ -1,5 +1,4 @@
 pub mod Answers
-pub mod Lines
 pub mod Audit
-pub mod Asked
+pub mod Shown
 pub mod Command

@@ -11,6 +11,8 @@ pub enum Answer {
     Exit(u8),
     /// An ELF file of so many bytes was built and put.
     Built(u64),
+    /// What was asked for was put to the output, and there is nothing more to say.
+    Shown,
     /// An access or a call failed, at this place of the file.
     Trap(Cause, Pos),
     /// An instruction at this address failed, and no place is known.

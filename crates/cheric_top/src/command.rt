@@ -3,19 +3,21 @@ ghost use Rattle.std.specs.Prelude.{◌≡◌, ◌<◌, ◌-◌, ◌^◌, true, 
 ghost use Rattle.bounds_place.specs.declared.sizes.Sizes.{Sizes as SizesOf};
 ghost use Rattle.bounds_place.specs.Sizes.{in_range};
 ghost use Rattle.ck_base.specs.Calls.{seen};
-ghost use Rattle.cheric_top.specs.Lines.{Build};
-ghost use Rattle.cheric_top.specs.Asked.{mode_of};
-ghost use Rattle.cheric_top.specs.declared.line.Mode.TheVariants as modes;
-ghost use Rattle.cheric_top.specs.Command.{files_seen, around, HasRead, NotRead, BuildSays, Says, IsDone};
+ghost use Rattle.command_line.specs.Lines.{Build};
+ghost use Rattle.command_line.specs.Asked.{mode_of, IsInRange};
+ghost use Rattle.command_line.specs.declared.line.Mode.TheVariants as modes;
+ghost use Rattle.cheric_top.specs.Command.{files_seen, around, HasRead, NotRead, BuildSays, ModeSays, FileSays, Says, IsDone};
 
 use crate::answer::Answer;
 use crate::auditing::audit_file;
-use crate::line::{Mode, line_of};
+use crate::generating::show_generated;
 use crate::message::say;
-use crate::running::{exec_file, run_file};
+use crate::running::{exec_file, not_built, run_file};
+use crate::showing::{show_listing, show_map};
 use bounds_place::Sizes;
 use cheric_build::build_sized;
-use ck_base::{FileError, Files, NoMemory, PutError, Refusal, Sink, Source};
+use ck_base::{FileError, Files, NoMemory, PutError, Sink, Source};
+use command_line::{Line, Mode, line_of};
 use std::alloc::Global;
 
 /// The bytes of the file of this name, or the answer where it is not read.
@@ -59,13 +61,62 @@ fn build_file<F: Files>(
 {
     let built = match build_sized(alloc, file, sizes) {
         Ok(built) => built,
-        Err(Refusal::Code(code, pos)) => return Answer::Refused(code, pos),
-        Err(Refusal::NoMemory) => return Answer::Memory,
+        Err(refusal) => return not_built(refusal),
     };
     match files.put(alloc, elf, &built.elf) {
         Ok(()) => Answer::Built(built.elf.len() as u64),
         Err(PutError::NoMemory) => Answer::Memory,
         Err(PutError::Failed) => Answer::File,
+    }
+}
+
+/// Does what a mode does with a file that was read.
+fn work_on<F: Files, I: Source, O: Sink>(
+    alloc: Global,
+    name: &str,
+    mode: Mode<'_>,
+    file: &[u8],
+    files: &mut F,
+    input: &mut I,
+    out: &mut O,
+) -> Answer
+    requires files_room { F.faults files.old < 2 ^ 64 - 1 }
+    requires source_room { I.faults input.old < 2 ^ 64 - 1 }
+    requires sink_room { O.faults out.old < 2 ^ 64 - 1 }
+    requires ranged { IsInRange mode }
+    ensures { ModeSays (around (files_seen (F.told files.old) (F.faults files.old)) (files_seen (F.told files.new) (F.faults files.new)) (seen (I.left input.old) (I.faults input.old) (O.held out.old) (O.faults out.old)) (seen (I.left input.new) (I.faults input.new) (O.held out.new) (O.faults out.new))) file.now (mode_of name.now mode.entry) result }
+{
+    match mode {
+        Mode::Run(steps, sizes) => run_file(alloc, file, (steps, sizes), input, out),
+        Mode::Exec(steps) => exec_file(alloc, file, steps, input, out),
+        Mode::Build(elf, sizes) => match elf_name(alloc, name, elf) {
+            Ok(elf) => build_file(alloc, file, &elf, sizes, files),
+            Err(NoMemory) => Answer::Memory,
+        },
+        Mode::Audit => audit_file(alloc, file),
+        Mode::ShowMap(sizes) => show_map(alloc, file, sizes, out),
+        Mode::ShowListing(sizes) => show_listing(alloc, file, sizes, out),
+    }
+}
+
+/// Reads a file and does with it what a mode does.
+fn work_on_name<F: Files, I: Source, O: Sink>(
+    alloc: Global,
+    name: &str,
+    mode: Mode<'_>,
+    files: &mut F,
+    input: &mut I,
+    out: &mut O,
+) -> Answer
+    requires files_room { F.faults files.old < 2 ^ 64 - 1 }
+    requires source_room { I.faults input.old < 2 ^ 64 - 1 }
+    requires sink_room { O.faults out.old < 2 ^ 64 - 1 }
+    requires ranged { IsInRange mode }
+    ensures { FileSays (around (files_seen (F.told files.old) (F.faults files.old)) (files_seen (F.told files.new) (F.faults files.new)) (seen (I.left input.old) (I.faults input.old) (O.held out.old) (O.faults out.old)) (seen (I.left input.new) (I.faults input.new) (O.held out.new) (O.faults out.new))) name.now (mode_of name.now mode.entry) result }
+{
+    match read(alloc, files, name) {
+        Ok(file) => work_on(alloc, name, mode, &file, files, input, out),
+        Err(answer) => answer,
     }
 }
 
@@ -82,31 +133,26 @@ fn work<F: Files, I: Source, O: Sink>(
     requires sink_room { O.faults out.old < 2 ^ 64 - 1 }
     ensures { Says (around (files_seen (F.told files.old) (F.faults files.old)) (files_seen (F.told files.new) (F.faults files.new)) (seen (I.left input.old) (I.faults input.old) (O.held out.old) (O.faults out.old)) (seen (I.left input.new) (I.faults input.new) (O.held out.new) (O.faults out.new))) (map (λ s. string_bytes s) words.now.items) result }
 {
-    let Some(line) = line_of(words) else {
-        return Answer::Words;
-    };
-    let file = match read(alloc, files, line.name) {
-        Ok(file) => file,
-        Err(answer) => return answer,
-    };
-    match line.mode {
-        Mode::Run(steps, sizes) => run_file(alloc, &file, (steps, sizes), input, out),
-        Mode::Exec(steps) => exec_file(alloc, &file, steps, input, out),
-        Mode::Build(elf, sizes) => match elf_name(alloc, line.name, elf) {
-            Ok(elf) => build_file(alloc, &file, &elf, sizes, files),
-            Err(NoMemory) => Answer::Memory,
-        },
-        Mode::Audit => audit_file(alloc, &file),
+    match line_of(alloc, words.as_slice()) {
+        Ok(Some(Line::OfFile(name, mode))) => work_on_name(alloc, name, mode, files, input, out),
+        Ok(Some(Line::Generate(functions, steps, sizes))) => {
+            show_generated(alloc, functions, (steps, sizes), out)
+        }
+        Ok(None) => Answer::Words,
+        Err(NoMemory) => Answer::Memory,
     }
 }
 
 /// Does all that the program does, and gives the status with which it ends.
 ///
-/// `words` begins with the program's name. The lines are `run FILE`, `build FILE`, `exec FILE` and `audit FILE`, with the options
-/// `--steps N`, `--out NAME`, `--heap N` and `--stack N` behind, in any order and each at most once; an option that a mode does not
-/// use has no effect. `run` builds a C file, loads the bytes and runs them over `input` and `out`; `build` puts them under NAME, or
-/// under FILE followed by `.elf`; `exec` loads and runs such a file, and `audit` says whether a run of it can leave its text, or
-/// which word or relocation first breaks a rule. One line of text on the outcome goes to `notes`.
+/// `words` begins with the program's name. The lines are `run FILE`, `build FILE`, `exec FILE`, `audit FILE`, `map FILE`,
+/// `list FILE` and `gen N`, with the options `--steps N`, `--turns N`, `--out NAME`, `--heap N` and `--stack N`, in any
+/// order and each at most once; an option that a mode does not use has no effect. `run` builds a C file, loads the bytes
+/// and runs them over `input` and `out`; `build` puts them under NAME, or under FILE followed by `.elf`; `exec` loads and
+/// runs such a file, and `audit` says whether a run of it can leave its text, or which word or relocation first breaks a
+/// rule. `map` and `list` put to `out` where the parts of a C file's program stand, and the listing of its text. `gen`
+/// generates a C file of N functions, runs it and puts a summary to `out`. But for these three where they succeed, one
+/// line of text on the outcome goes to `notes`.
 pub fn cheric<F: Files, I: Source, O: Sink, N: Sink>(
     alloc: Global,
     words: &Vec<String>,

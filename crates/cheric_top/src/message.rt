@@ -1,7 +1,7 @@
 //! The line and the status of an answer.
 ghost use Rattle.std.specs.Prelude.{◌≡◌, ◌++◌, ◌≤◌, ◌<◌, ◌+◌, ◌-◌, ◌^◌, ℕ, [], length, decimal, codes};
 ghost use Rattle.arrayvec.specs.ArrayString.{array_string_len};
-ghost use Rattle.cheric_top.specs.Answers.{audit_status, status_of, line_of, cause_text, pos_text, audit_text, text_of, IsSaid};
+ghost use Rattle.cheric_top.specs.Answers.{audit_status, status_of, is_silent, line_of, cause_text, pos_text, audit_text, text_of, IsSaid};
 ghost use Rattle.cheric_top.specs.declared.answer.Answer.TheVariants as answers;
 
 use crate::answer::Answer;
@@ -14,7 +14,8 @@ use itoa::Buffer;
 /// The most bytes of a line.
 const ROOM: usize = 64;
 
-type Line = ArrayString<ROOM>;
+/// A line, on the stack.
+pub type Line = ArrayString<ROOM>;
 
 /// Appends a number in decimal.
 fn push_number(line: &mut Line, n: u64)
@@ -157,6 +158,7 @@ fn text_of(answer: Answer) -> Line
     match answer {
         Answer::Exit(n) => numbered("exit ", u64::from(n)),
         Answer::Built(n) => numbered("built ", n),
+        Answer::Shown => alone(""),
         Answer::Trap(cause, pos) => trap_text(cause, pos),
         Answer::TrapAt(cause, pc) => trap_at_text(cause, pc),
         Answer::Stack(pos) => placed("stack ", pos),
@@ -183,11 +185,12 @@ fn audit_status(verdict: Verdict) -> u8
     }
 }
 
-fn status_of(answer: Answer) -> u8
+/// The status of an answer.
+pub fn status_of(answer: Answer) -> u8
     ensures { result ≡ status_of answer }
 {
     match answer {
-        Answer::Exit(0) | Answer::Built(_) => 0,
+        Answer::Exit(0) | Answer::Built(_) | Answer::Shown => 0,
         Answer::Exit(_) => 1,
         Answer::Trap(..) | Answer::TrapAt(..) => 2,
         Answer::Stack(_) => 3,
@@ -204,15 +207,39 @@ fn status_of(answer: Answer) -> u8
     }
 }
 
-/// Says an answer: puts its line to the notes, and gives its status, or 22 where the notes fail. It takes no memory.
+/// Nothing is said where what was asked for was put to the output.
+fn is_silent(answer: Answer) -> bool
+    ensures { result ≡ is_silent answer }
+{
+    match answer {
+        Answer::Shown => true,
+        _ => false,
+    }
+}
+
+/// The line of an answer, which is empty where nothing is said.
+pub fn line_of(answer: Answer) -> Line
+    ensures { result.bytes ≡ line_of answer }
+{
+    if is_silent(answer) {
+        return Line::new();
+    }
+    let mut line = text_of(answer);
+    line.push_str("\n");
+    line
+}
+
+/// Says an answer: puts its line to the notes, and gives its status, or that of a failed output where the notes fail. It
+/// takes no memory.
 pub fn say<N: Sink>(answer: Answer, notes: &mut N) -> u8
     requires { N.faults notes.old < 2 ^ 64 - 1 }
     ensures { IsSaid answer result (N.held notes.old) (N.held notes.new) (N.faults notes.old) (N.faults notes.new) }
 {
-    let mut line = text_of(answer);
-    line.push_str("\n");
-    match notes.put(line.as_str().as_bytes()) {
+    if is_silent(answer) {
+        return status_of(answer);
+    }
+    match notes.put(line_of(answer).as_str().as_bytes()) {
         Ok(()) => status_of(answer),
-        Err(_) => 22,
+        Err(_) => status_of(Answer::Output),
     }
 }

@@ -5,7 +5,8 @@ ghost use Rattle.ck_base.specs.Calls.{seen};
 ghost use Rattle.image_load.specs.Judging.{judged};
 ghost use Rattle.image_load.specs.State.{machine_of};
 ghost use Rattle.image_load.specs.Loading.{Loads};
-ghost use Rattle.cheric_top.specs.Answers.{answer_of, trapped, place_of, refused_as};
+ghost use Rattle.typed_build.specs.Built.{place_of};
+ghost use Rattle.cheric_top.specs.Answers.{answer_of, trapped, not_built, refused_as};
 ghost use Rattle.cheric_top.specs.Command.{RanLoaded, RunSays, ExecSays};
 
 use crate::answer::Answer;
@@ -50,6 +51,16 @@ fn answer_of(view: &View<'_>, end: End) -> Answer
         End::Steps => Answer::Steps,
         End::ReadFault => Answer::Input,
         End::WriteFault => Answer::Output,
+    }
+}
+
+/// The answer where a file is not built.
+pub fn not_built(refusal: Refusal) -> Answer
+    ensures { result ≡ not_built refusal }
+{
+    match refusal {
+        Refusal::Code(code, pos) => Answer::Refused(code, pos),
+        Refusal::NoMemory => Answer::Memory,
     }
 }
 
@@ -99,8 +110,7 @@ pub fn run_file<I: Source, O: Sink>(
     let (steps, sizes) = limit;
     let built = match build_sized(alloc, file, sizes) {
         Ok(built) => built,
-        Err(Refusal::Code(code, pos)) => return Answer::Refused(code, pos),
-        Err(Refusal::NoMemory) => return Answer::Memory,
+        Err(refusal) => return not_built(refusal),
     };
     let Ok(view) = View::read(&built.elf) else {
         unreachable!()

@@ -1,6 +1,8 @@
-use Rattle.std.proofs.Common.{ℕ, List, refl, subst, arith, rules}
+use Rattle.std.proofs.Common.{ℕ, List, subst, sym, arith, rules}
 use Rattle.ck_base.specs.Files.{HasFile}
-use Rattle.cheric_top.specs.Command.{Compiled}
+use Rattle.cheric_top.specs.Command.{BuildSays, Compiled, files_seen}
+use Rattle.cheric_top.specs.declared.answer.Answer.{Answer}
+use Rattle.cheric_top.proofs.Said.{not_put}
 use Rattle.cheric_top.proofs.command.build_file.Goals as goal
 
 pub returns-in-Ok-put : goal.returns-in-Ok-put
@@ -11,11 +13,10 @@ returns-in-Ok-put g c =
       omega (arith, c.len.ensures, c.in-Ok.built.elf.ok),
     )
 
-pub returns-in-Err-Code : goal.returns-in-Err-Code
-returns-in-Err-Code g c =
-    let is = c.in-Err-Code.field-0-is in
-    let why = rw is at c.in-Err-Code.ensures.refused in
-    (refl, rw is why)
+pub returns-in-Err : goal.returns-in-Err
+returns-in-Err g c =
+    let now = files_seen (g.F.Files.told c.args.files.now) (g.F.Files.faults c.args.files.now) in
+    subst (λ (answer : Answer). BuildSays now now c.args.file.now c.args.elf.now c.args.sizes answer) (sym c.not_built.ensures) (not_put now c.args.file.now c.args.elf.now c.args.sizes c.in-Err.refusal c.in-Err.ensures.refused)
 
 pub returns : goal.returns
 returns g c =

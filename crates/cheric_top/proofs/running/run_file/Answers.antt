@@ -1,11 +1,12 @@
-use Rattle.std.proofs.Common.{◌≡◌, ◌∙◌, inl, inr, refl, ap, sym, subst, Ok, Err, Result}
+use Rattle.std.proofs.Common.{◌≡◌, ◌∙◌, inl, inr, ap, sym, subst, Ok, Err, Result}
 use Rattle.ck_base.specs.Calls.{seen}
 use Rattle.elf_file.specs.Reading.{reading}
 use Rattle.elf_file.specs.declared.image.Image.{Image}
 use Rattle.elf_file.specs.declared.refusal.ElfRefusal.{ElfRefusal}
 use Rattle.image_load.specs.Loading.{Loaded}
-use Rattle.cheric_top.specs.Command.{RanLoaded}
-use Rattle.cheric_top.proofs.Said.{image_read, same_loaded}
+use Rattle.cheric_top.specs.Command.{NotBuilt, RanLoaded}
+use Rattle.cheric_top.specs.declared.answer.Answer.{Answer}
+use Rattle.cheric_top.proofs.Said.{image_read, not_built_says, same_loaded}
 use Rattle.cheric_top.proofs.running.run_file.Goals as goal
 
 pub unreachable-requires : goal.unreachable-requires
@@ -28,8 +29,7 @@ returns-in-Ok-run_image g c =
       subst (λ (l : Loaded). RanLoaded before after l c.args.limit.0 c.in-Ok-run_image.answer) (same_loaded b.loaded c.in-Ok-read.view same r.1) c.in-Ok-run_image.ensures.1,
     )
 
-pub returns-in-Err-Code : goal.returns-in-Err-Code
-returns-in-Err-Code g c =
-    let is = c.in-Err-Code.field-0-is in
-    let why = rw is at c.in-Err-Code.ensures.refused in
-    inl (refl, rw is why)
+pub returns-in-Err : goal.returns-in-Err
+returns-in-Err g c =
+    let now = seen (g.I.Source.left c.args.input.now) (g.I.Source.faults c.args.input.now) (g.O.Sink.held c.args.out.now) (g.O.Sink.faults c.args.out.now) in
+    inl (subst (λ (answer : Answer). NotBuilt now now c.args.file.now answer) (sym c.not_built.ensures) (not_built_says now c.args.file.now c.in-Err.refusal c.in-Err.ensures.refused))

@@ -1,0 +1,7 @@
+use Rattle.std.proofs.Common.{◌≡◌, [], ◌++◌, ◌+◌, ◌*◌, string_bytes}
+use Rattle.build_text.specs.Lines.{lines}
+use Rattle.build_text.specs.Listing.{word_line, word_in}
+use Rattle.build_text.proofs.listing.listing_of.Given as goal
+
+abbrev pub invariant-loop-k : goal.invariant-loop-k
+invariant-loop-k l = string_bytes l.listing ≡ [] ++ lines (λ k. word_line (l.base + 4 * k) (word_in l.text k)) l.k

@@ -1,0 +1,14 @@
+//! The text of an instruction in a listing.
+//!
+//! Promise: `line` appends exactly the text of its instruction, or leaves the string as it was.
+//! Definitions (`specs/`): `Listing`.
+//! Main lemmas (`proofs/`): none.
+#![tactic(auto)]
+
+mod listing;
+mod names;
+mod operands;
+#[cfg(test)]
+mod vectors;
+
+pub use listing::line;
