@@ -1,0 +1,4 @@
+pub mod Parts
+pub mod Machine
+pub mod Weights
+pub mod Laws

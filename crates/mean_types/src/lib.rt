@@ -1,0 +1,14 @@
+//! What the meaning of programs asks of their types, as code.
+//!
+//! Promise: each answer is that of the definition: kinds, the facts of a type by its number.
+//! Definitions (`specs/`): `Views`, `Facts`; what they speak of is `cheri_c_sem`'s.
+#![tactic(auto)]
+
+mod kinds;
+mod types;
+
+pub use kinds::{
+    INT, Kind, NOTHING, POINTER, address_kind, bytes_of, constant_of, int_kind, null_at, number_of,
+    promoted, read_as, truth, zero_of,
+};
+pub use types::{TypeFacts, Types};

@@ -1,0 +1,12 @@
+pub mod Puts
+pub mod Exponents
+pub mod Casts
+pub mod Roundings
+pub mod Noted
+pub mod Spelled
+pub mod Sums
+pub mod Loads
+pub mod Changed
+pub mod Stores
+pub mod Products
+pub mod Copies

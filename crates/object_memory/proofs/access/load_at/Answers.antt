@@ -1,0 +1,11 @@
+use Rattle.std.proofs.Common.{sym, ◌∙◌}
+use Rattle.object_memory.specs.Answers.{mode_of, spot_of}
+use Rattle.object_memory.specs.Memories.{memory_at}
+use Rattle.object_memory.proofs.Loads.{load_plain}
+use Rattle.object_memory.proofs.access.load_at.Goals as goal
+
+pub returns-in-None : goal.returns-in-None
+returns-in-None c =
+    let there = c.in-Ok.ensures.value in
+    let none = c.in-None.ensures in
+    c.read.ensures ∙ sym (load_plain (mode_of c.args.mode) (memory_at c.args.objects.now c.args.notes.now) (spot_of c.args.s) c.args.n _ (sym there) (sym none))

@@ -1,0 +1,9 @@
+pub mod Views
+pub mod Answers
+pub mod Notes
+pub mod Reach
+pub mod Memories
+pub mod Copies
+pub mod State
+pub mod Allocations
+pub mod Integers
