@@ -10,6 +10,7 @@ use cap_ops::{Access, Cap, SENTRY, UNSEALED, add, check, with_address};
 use rv_instr::{BranchOp, ImmOp, Reg, RegOp, ShiftOp, UpperOp};
 
 /// An address moved by an immediate, modulo 2^64.
+#[inline(always)]
 pub fn plus(a: u64, z: i32) -> u64
     ensures { result ≡ plus a z }
 {
@@ -78,7 +79,7 @@ impl Machine {
     {
         let taken = is_taken(op, self.integer(rs1), self.integer(rs2));
         let offset = if taken { extended(z) } else { 4 };
-        self.pc = add(self.pc, offset);
+        self.move_by(offset);
         Step::Next
     }
 
@@ -86,8 +87,9 @@ impl Machine {
     pub(crate) fn cjal_row(&mut self, rd: Reg, z: i32) -> Step
         ensures { (result, self.new) ≡ cjal_row self.old rd z }
     {
-        let target = add(self.pc, extended(z));
-        self.jump(rd, target)
+        self.link(rd);
+        self.move_by(extended(z));
+        Step::Next
     }
 
     #[tactic(auto, unfolding(crate::specs::Rows::cjalr_row))]

@@ -1,9 +1,9 @@
 //! The results of the integer instructions.
 ghost use Rattle.std.specs.Prelude.{◌≡◌, ℕ, ◌<◌, ◌≤◌, ◌^◌, ◌*◌};
-ghost use Rattle.cap_machine.specs.Integers.{result_of, immediate_op, shift_op, is_taken, extended, upper, word, loaded_kind, loaded_bytes, stored_bytes, one_where};
+ghost use Rattle.cap_machine.specs.Integers.{result_of, immediate_op, shift_op, is_taken, extended, upper, word, loaded_kind, loaded_bytes, one_where};
 
 use ck_int::{CmpOp, IntKind, IntOp, binary, compare, convert};
-use rv_instr::{BranchOp, ImmOp, LoadOp, RegOp, ShiftOp, StoreOp};
+use rv_instr::{BranchOp, ImmOp, LoadOp, RegOp, ShiftOp};
 
 /// The sign extension of the low 32 bits.
 fn word(v: u64) -> u64
@@ -13,6 +13,7 @@ fn word(v: u64) -> u64
 }
 
 /// The result of an operation of two registers.
+#[inline(always)]
 #[tactic(auto, unfolding(crate::specs::Integers::result_of))]
 pub fn result_of(op: RegOp, a: u64, b: u64) -> u64
     ensures { result ≡ result_of op a b }
@@ -47,6 +48,7 @@ pub fn result_of(op: RegOp, a: u64, b: u64) -> u64
 }
 
 /// The register operation of an instruction with an immediate.
+#[inline(always)]
 pub fn immediate_op(op: ImmOp) -> RegOp
     ensures { result ≡ immediate_op op }
 {
@@ -62,6 +64,7 @@ pub fn immediate_op(op: ImmOp) -> RegOp
 }
 
 /// The register operation of a shift by a count in the instruction.
+#[inline(always)]
 pub fn shift_op(op: ShiftOp) -> RegOp
     ensures { result ≡ shift_op op }
 {
@@ -91,15 +94,12 @@ pub fn is_taken(op: BranchOp, a: u64, b: u64) -> bool
 }
 
 /// An immediate's sign extension to 64 bits.
+#[inline(always)]
 #[tactic(auto, unfolding(ck_int::specs::Kinds::kept_of))]
 pub fn extended(z: i32) -> u64
     ensures { result ≡ extended z }
 {
-    if z >= 0 {
-        z as u64
-    } else {
-        u64::MAX - (-1 - z) as u64
-    }
+    i64::from(z).cast_unsigned()
 }
 
 /// The 20 upper bits of a word, sign-extended to 64 bits.
@@ -110,6 +110,7 @@ pub fn upper(n: u32) -> u64
 }
 
 /// The kind that a load reads.
+#[inline(always)]
 pub fn loaded_kind(op: LoadOp) -> IntKind
     ensures { result ≡ loaded_kind op }
 {
@@ -125,6 +126,7 @@ pub fn loaded_kind(op: LoadOp) -> IntKind
 }
 
 /// The number of bytes that a load reads.
+#[inline(always)]
 pub fn loaded_bytes(op: LoadOp) -> u8
     ensures { result ≡ loaded_bytes op }
 {
@@ -133,18 +135,5 @@ pub fn loaded_bytes(op: LoadOp) -> u8
         LoadOp::Lh | LoadOp::Lhu => 2,
         LoadOp::Lw | LoadOp::Lwu => 4,
         LoadOp::Ld => 8,
-    }
-}
-
-/// The number of bytes that a store writes.
-pub fn stored_bytes(op: StoreOp) -> u8
-    ensures { result ≡ stored_bytes op }
-{
-    match op {
-        StoreOp::Sb => 1,
-        StoreOp::Sh => 2,
-        StoreOp::Sw => 4,
-        StoreOp::Sd => 8,
-        StoreOp::Csc => 16,
     }
 }

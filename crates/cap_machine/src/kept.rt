@@ -1,8 +1,8 @@
-//! What one step found out and a later one may use again: the bounds of capabilities, and the instructions of words. No
-//! answer depends on it.
-ghost use Rattle.std.specs.Prelude.{◌≡◌, ℕ, ◌+◌, ◌*◌, ◌&&◌, ◌<◌, false, Ok, IsTrue};
+//! What one step found out and a later one may use again: the bounds of capabilities with the regions where they
+//! lead, and the instructions of words. No answer depends on it.
+ghost use Rattle.std.specs.Prelude.{◌≡◌, ℕ, ◌+◌, ◌*◌, ◌&&◌, ◌<◌, ◌≤◌, false, Ok, IsTrue};
 ghost use Rattle.cap_concentrate.specs.Decoding.{base_at, top_at, base_of, top_of};
-ghost use Rattle.cap_ops.specs.Access.{IsAccess, checked, size, loads, stores, stores_tagged, jumps};
+ghost use Rattle.cap_ops.specs.Access.{IsAccess, answer, checked, size, loads, stores, stores_tagged, jumps};
 ghost use Rattle.cap_ops.specs.Capability.{base, top, permits, lacks};
 ghost use Rattle.rv_code.specs.Decoding.{decode_of};
 
@@ -21,9 +21,17 @@ pub struct Bounds {
     b: u16,
     block: u64,
     base: u64,
-    top: u128,
+    /// The top, or 2^64 - 1 where the top is above that.
+    top: u64,
     ghost base_is: { base_of internal t b (block * 2048) ≡ base },
-    ghost top_is: { top_of internal t b (block * 2048) ≡ top },
+    ghost top_is: { top ≤ top_of internal t b (block * 2048) },
+}
+
+/// The bounds of a capability, and the number of the region in which its last access was.
+#[derive(Clone, Copy)]
+pub struct Reach {
+    pub bounds: Bounds,
+    pub region: usize,
 }
 
 /// What a word decodes to.
@@ -34,21 +42,30 @@ struct Decoded {
     ghost is: { decode_of word ≡ instruction },
 }
 
-/// The bounds of the counter and of what each register last lent to an access, and the words that were last decoded.
+/// Where the counter reaches and what each register last lent to an access, and the words that were last decoded.
 #[derive(Drop)]
 pub struct Kept {
-    counter: Bounds,
-    held: [Bounds; 32],
+    counter: Reach,
+    held: [Reach; 32],
     decoded: [Decoded; 256],
 }
 
+/// The number, or 2^64 - 1 where it is above that.
+fn at_most_64_bits(n: u128) -> u64
+    ensures { result ≤ n }
+{
+    if n < 1 << 64 { n as u64 } else { u64::MAX }
+}
+
 /// The bounds that the fields give.
+#[cold]
 #[inline(never)]
 fn bounds_anew(f: Fields) -> Bounds
     ensures base { result.base ≡ base_at f f.address }
-    ensures top { result.top ≡ top_at f f.address }
+    ensures top { result.top ≤ top_at f f.address }
 {
     let (base, top) = bounds_of(f);
+    let top = at_most_64_bits(top);
     Bounds {
         internal: f.internal,
         t: f.t,
@@ -59,6 +76,8 @@ fn bounds_anew(f: Fields) -> Bounds
     }
 }
 
+#[cold]
+#[inline(never)]
 fn decode_anew(word: u32) -> Decoded
     ensures { result.instruction ≡ decode_of word }
 {
@@ -105,9 +124,9 @@ fn is_permitted(perms: u16, a: Access) -> bool
 impl Bounds {
     /// Whether the fields give these bounds by their block; where they do not, they may give them all the same.
     #[inline(always)]
-    fn are_of(&self, f: Fields) -> bool
-        ensures base { IsTrue result → base_at f f.address ≡ self.now.base }
-        ensures top { IsTrue result → top_at f f.address ≡ self.now.top }
+    fn are_of(&self, f: &Fields) -> bool
+        ensures base { IsTrue result → base_at f.now f.now.address ≡ self.now.base }
+        ensures top { IsTrue result → self.now.top ≤ top_at f.now f.now.address }
     {
         if self.block != f.address / 2048 {
             return false;
@@ -126,11 +145,11 @@ impl Bounds {
 
     /// Whether an access passes its check.
     #[inline(always)]
-    fn allow(&self, c: Cap, at: u64, a: Access) -> bool
+    fn allow(&self, c: &Cap, at: u64, a: Access) -> bool
         requires access { IsAccess a }
-        requires base { base c ≡ self.now.base }
-        requires top { top c ≡ self.now.top }
-        ensures { IsTrue result → checked c at a ≡ Ok at }
+        requires base { base c.now ≡ self.now.base }
+        requires top { self.now.top ≤ top c.now }
+        ensures { IsTrue result → checked c.now at a ≡ Ok at }
     {
         let size = u64::from(size(a));
         if !c.tag {
@@ -145,7 +164,10 @@ impl Bounds {
         if at < self.base {
             return false;
         }
-        if self.top < u128::from(at) + u128::from(size) {
+        if self.top < at {
+            return false;
+        }
+        if self.top - at < size {
             return false;
         }
         if at % size != 0 {
@@ -157,33 +179,51 @@ impl Bounds {
 
 /// The address, or the first cause by which the access fails there. The bounds become those of the capability.
 #[inline(always)]
-pub fn check(kept: &mut Bounds, c: Cap, at: u64, a: Access) -> Result<u64, Cause>
+pub fn check(kept: &mut Bounds, c: &Cap, at: u64, a: Access) -> Result<u64, Cause>
     requires { IsAccess a }
-    ensures { result ≡ checked c at a }
+    ensures { result ≡ checked c.now at a }
 {
-    if !kept.are_of(c.fields) {
+    if !kept.are_of(&c.fields) {
         *kept = bounds_anew(c.fields);
     }
     if kept.allow(c, at, a) {
         Ok(at)
     } else {
-        cause_of(c, at, a)
+        check_in_full(c, at, a)
     }
 }
 
-/// The same where the bounds may not allow it.
+/// The same without bounds that were kept.
+#[inline(always)]
+pub fn check_in_full(c: &Cap, at: u64, a: Access) -> Result<u64, Cause>
+    requires { IsAccess a }
+    ensures { result ≡ checked c.now at a }
+{
+    match cause_of(c, at, a) {
+        None => Ok(at),
+        Some(cause) => Err(cause),
+    }
+}
+
+/// Why the access fails there, and None where it passes.
 #[cold]
 #[inline(never)]
-fn cause_of(c: Cap, at: u64, a: Access) -> Result<u64, Cause>
+fn cause_of(c: &Cap, at: u64, a: Access) -> Option<Cause>
     requires { IsAccess a }
-    ensures { result ≡ checked c at a }
+    ensures { checked c.now at a ≡ answer at result }
 {
-    check_anew(c, at, a)
+    match check_anew(*c, at, a) {
+        Ok(_) => None,
+        Err(cause) => Some(cause),
+    }
 }
 
 impl Kept {
     pub fn new() -> Kept {
-        let first = bounds_anew(null(0).fields);
+        let first = Reach {
+            bounds: bounds_anew(null(0).fields),
+            region: 0,
+        };
         Kept {
             counter: first,
             held: [first; 32],
@@ -191,15 +231,15 @@ impl Kept {
         }
     }
 
-    /// The bounds of the counter.
+    /// Where the counter reaches.
     #[inline(always)]
-    pub fn counter(&mut self) -> &mut Bounds {
+    pub fn counter(&mut self) -> &mut Reach {
         &mut self.counter
     }
 
-    /// The bounds of what a register holds.
+    /// Where that reaches which a register holds.
     #[inline(always)]
-    pub fn held(&mut self, r: Reg) -> &mut Bounds {
+    pub fn held(&mut self, r: Reg) -> &mut Reach {
         &mut self.held[r.number() as usize]
     }
 

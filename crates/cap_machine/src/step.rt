@@ -23,13 +23,15 @@ fn is_call(i: &Instr) -> bool
 
 impl Machine {
     /// The instruction at the counter, or how the step ends without one.
+    #[inline(always)]
     #[tactic(auto, unfolding(crate::specs::Step::fetched))]
     fn fetch(&self, kept: &mut Kept) -> Result<Instr, End>
         ensures { result ≡ fetched self.now }
     {
-        match check(kept.counter(), self.pc, self.counter(), Access::Jump) {
+        let reach = kept.counter();
+        match check(&mut reach.bounds, &self.pc, self.counter(), Access::Jump) {
             Err(cause) => Err(End::Trap(cause, self.counter())),
-            Ok(at) => match self.mem.read(at, 4) {
+            Ok(at) => match self.mem.read_near(&mut reach.region, at, 4) {
                 None => Err(End::Trap(Cause::Bounds, self.counter())),
                 Some(word) => match kept.decode(at, word as u32) {
                     None => Err(End::Illegal(self.counter())),
@@ -40,6 +42,7 @@ impl Machine {
     }
 
     /// An instruction that is no environment call.
+    #[inline(always)]
     #[tactic(auto, unfolding(crate::specs::Rows::row))]
     fn row(&mut self, kept: &mut Kept, i: Instr) -> Step
         ensures { (result, self.new) ≡ row self.old i }
@@ -127,6 +130,7 @@ impl Machine {
     }
 
     /// One instruction, by what the steps before it kept.
+    #[inline(always)]
     fn next_step<I: Source, O: Sink>(&mut self, kept: &mut Kept, input: &mut I, out: &mut O) -> Step
         ensures acted { Acted limits (act self.old) (seen (I.left input.old) (I.faults input.old) (O.held out.old) (O.faults out.old)) (seen (I.left input.new) (I.faults input.new) (O.held out.new) (O.faults out.new)) self.old self.new (ending_of result) }
         ensures contained { StaysContained self.old self.new (ending_of result) }

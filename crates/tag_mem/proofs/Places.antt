@@ -1,10 +1,10 @@
 -- The area that has an address, by its place among the areas.
 use Rattle.std.proofs.Common.{◌≡◌, ℕ, zero, suc, ◌+◌, ◌<◌, ◌≤◌, leb, Bool, true, false, ltb, List, [], ◌∷◌, length, get_or, set, Some, None, refl, sym, ap, ◌∙◌, arith, inl, inr}
-use Rattle.std.proofs.lemmas.Bool.{cases_Bool, ltb-false}
+use Rattle.std.proofs.lemmas.Bool.{cases_Bool, ltb-true, ltb-false, lt-ltb, leb-true, and_parts, false_from_ne_true}
 use Rattle.std.proofs.lemmas.List.Quantifiers.{position-Some}
 use Rattle.std.proofs.lemmas.List.Sums.{fails_before_first}
 use Rattle.std.specs.List.{position_or_len}
-use Rattle.tag_mem.specs.Areas.{Area, end_of, has, area_at, is_inside}
+use Rattle.tag_mem.specs.Areas.{Area, AreasFrom, IsMemory, end_of, has, area_at, is_inside}
 use Rattle.tag_mem.specs.Memory.{place_of, area_with, written, fits_inside}
 
 -- the first area that has the address
@@ -66,6 +66,7 @@ no_place_behind m at e =
 
 -- no area has an address that has no place
 pub record IsNowhere (m : List Area) (at : ℕ) : Type 0 where
+  pub found : area_at m at ≡ None
   pub inside : is_inside m at ≡ false
   pub fits : (n : ℕ) → fits_inside m at n ≡ false
   pub writes : (new : List ℕ) (tag : Bool) → written m at new tag ≡ m
@@ -74,4 +75,31 @@ pub no_place : (m : List Area) (at : ℕ) → None ≡ place_of m at → IsNowhe
 no_place m at e =
     let behind = no_place_behind m at (sym e) in
     let none = none_found m at (λ k d lt. fails_before_first (λ (x : Area). has x at) m k d (omega (arith, behind))) in
-    record { inside = none.1; fits = λ n. fits_inside-none m at n none.0; writes = none.2 }
+    record { found = none.0; inside = none.1; fits = λ n. fits_inside-none m at n none.0; writes = none.2 }
+
+-- ---- areas do not overlap
+
+starts_behind : (low : ℕ) (m : List Area) (i : ℕ) (d : Area) → AreasFrom low m → i < length m → low ≤ (get_or m i d).base
+starts_behind low [] i d h lt = absurd (omega arith)
+starts_behind low (a ∷ m) zero d h lt = h.0
+starts_behind low (a ∷ m) (suc i) d h lt =
+    let behind = starts_behind (end_of a) m i d h.2 (omega arith) in
+    omega (arith, h.0, behind)
+
+next : (i : ℕ) → 1 + i ≡ suc i
+next i = omega arith
+
+only_from : (low : ℕ) (m : List Area) (at i : ℕ) (d : Area) → AreasFrom low m → i < length m → has (get_or m i d) at ≡ true
+    → position_or_len (λ (x : Area). has x at) m ≡ i
+only_from low [] at i d h lt here = absurd (omega arith)
+only_from low (a ∷ m) at zero d h lt here = rw here refl
+only_from low (a ∷ m) at (suc i) d h lt here =
+    let start = leb-true (get_or m i d).base at (and_parts _ _ here).0 in
+    let behind = starts_behind (end_of a) m i d h.2 (omega arith) in
+    let not_here : has a at ≡ false = false_from_ne_true (has a at) (λ there. omega (arith, start, behind, ltb-true at (end_of a) (and_parts _ _ there).1)) in
+    rw not_here (ap (λ (k : ℕ). 1 + k) (only_from (end_of a) m at i d h.2 (omega arith) here) ∙ next i)
+
+-- the only place of an address
+pub only_place : (m : List Area) (at i : ℕ) (d : Area) → IsMemory m → i < length m → has (get_or m i d) at ≡ true → place_of m at ≡ Some i
+unfolding IsMemory
+only_place m at i d h lt here = rw (only_from 0 m at i d h lt here, lt-ltb i (length m) lt) refl

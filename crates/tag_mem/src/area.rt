@@ -38,15 +38,14 @@ impl Model for Area {
     ghost invariant = { λ a. IsArea (area_of a.base a.granules.items a.tags) };
 }
 
-/// The granule with these bytes from a place on.
-fn with_bytes(granule: &[u8; 16], place: usize, bytes: &[u8]) -> [u8; 16]
+/// Puts bytes into a granule, from a place on.
+#[inline(always)]
+fn put(granule: &mut [u8; 16], place: usize, bytes: &[u8])
     requires { place + length bytes.now ≤ 16 }
-    ensures value { result ≡ replaced place bytes.now (granule_bytes granule.now) }
-    ensures whole { granule_bytes result ≡ result }
+    ensures value { granule.new ≡ replaced place bytes.now (granule_bytes granule.old) }
+    ensures whole { granule_bytes granule.new ≡ granule.new }
 {
-    let mut result = *granule;
-    result[place..place + bytes.len()].copy_from_slice(bytes);
-    result
+    granule[place..place + bytes.len()].copy_from_slice(bytes);
 }
 
 impl Area {
@@ -117,15 +116,15 @@ impl Area {
     }
 
     /// Writes bytes of one granule from an address on, and the granule's tag.
+    #[inline(always)]
     pub fn store(&mut self, at: u64, bytes: &[u8], tag: bool)
         requires place { IsTrue (has self.old at) }
         requires some { 0 < length bytes.now }
         requires granule { at % 16 + length bytes.now ≤ 16 }
         ensures { self.new ≡ area_with self.old at bytes.now tag }
     {
-        let granule = with_bytes(self.granule(at), at as usize % GRANULE, bytes);
         let k = (at - self.base) as usize / GRANULE;
-        self.granules[k] = granule;
+        put(&mut self.granules[k], at as usize % GRANULE, bytes);
         self.tags.set(k, tag);
     }
 

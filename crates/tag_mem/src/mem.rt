@@ -51,7 +51,6 @@ impl Mem {
 
     /// The little-endian number of `n` bytes at an address, where `n` is 1, 2, 4 or 8 and divides the address. None exactly
     /// where the address is outside the regions.
-    #[inline]
     pub fn read(&self, at: u64, n: u8) -> Option<u64>
         requires size { IsAccessSize n }
         requires aligned { at % n ≡ 0 }
@@ -60,7 +59,22 @@ impl Mem {
         ensures below { IfSome result (λ v. v < 256 ^ n) }
         ensures by_address { IfSome result (Spells self.now at n) }
     {
-        let area = self.area(at)?;
+        let mut near = 0;
+        self.read_near(&mut near, at, n)
+    }
+
+    /// The same. The address is looked for first in the region whose number is `near`, counted from 0, and `near` becomes
+    /// the number of the region that has it. No answer depends on it.
+    #[inline(always)]
+    pub fn read_near(&self, near: &mut usize, at: u64, n: u8) -> Option<u64>
+        requires size { IsAccessSize n }
+        requires aligned { at % n ≡ 0 }
+        ensures inside { is_some result ≡ is_inside self.now at }
+        ensures value { result ≡ number_at self.now at n }
+        ensures below { IfSome result (λ v. v < 256 ^ n) }
+        ensures by_address { IfSome result (Spells self.now at n) }
+    {
+        let area = self.area_near(near, at)?;
         Some(area.number(at, n))
     }
 
@@ -74,7 +88,40 @@ impl Mem {
         ensures by_address { OnTrue result (Writes self.old self.new at (little_bytes n v) false) }
         ensures outside { OnFalse result (self.new ≡ self.old) }
     {
-        self.store(at, &v.to_le_bytes()[..n as usize], false)
+        let mut near = 0;
+        self.write_near(&mut near, at, n, v)
+    }
+
+    /// The same, with the region that is looked at first, as in `read_near`.
+    #[inline(always)]
+    pub fn write_near(&mut self, near: &mut usize, at: u64, n: u8, v: u64) -> bool
+        requires size { IsAccessSize n }
+        requires aligned { at % n ≡ 0 }
+        ensures inside { result ≡ is_inside self.old at }
+        ensures value { self.new ≡ written self.old at (little_bytes n v) false }
+        ensures by_address { OnTrue result (Writes self.old self.new at (little_bytes n v) false) }
+        ensures outside { OnFalse result (self.new ≡ self.old) }
+    {
+        // A copy of so many bytes as are known here is one instruction.
+        match n {
+            1 => self.write_low(near, at, 1, v),
+            2 => self.write_low(near, at, 2, v),
+            4 => self.write_low(near, at, 4, v),
+            8 => self.write_low(near, at, 8, v),
+            _ => unreachable!(),
+        }
+    }
+
+    #[inline(always)]
+    fn write_low(&mut self, near: &mut usize, at: u64, n: u8, v: u64) -> bool
+        requires size { IsAccessSize n }
+        requires aligned { at % n ≡ 0 }
+        ensures inside { result ≡ is_inside self.old at }
+        ensures value { self.new ≡ written self.old at (little_bytes n v) false }
+        ensures by_address { OnTrue result (Writes self.old self.new at (little_bytes n v) false) }
+        ensures outside { OnFalse result (self.new ≡ self.old) }
+    {
+        self.store(near, at, &v.to_le_bytes()[..n as usize], false)
     }
 
     /// The 128 bits of a capability at a multiple of 16, as they stand in memory, and its tag. None exactly where the address
@@ -86,13 +133,25 @@ impl Mem {
         ensures by_address { IfSome result (λ c. Spells self.now at 16 c.0) }
         ensures tag { IfSome result (λ c. tag_at self.now at ≡ Some c.1) }
     {
-        let area = self.area(at)?;
+        let mut near = 0;
+        self.cap_near(&mut near, at)
+    }
+
+    /// The same, with the region that is looked at first, as in `read_near`.
+    #[inline(always)]
+    pub fn cap_near(&self, near: &mut usize, at: u64) -> Option<(u128, bool)>
+        requires { at % 16 ≡ 0 }
+        ensures inside { is_some result ≡ is_inside self.now at }
+        ensures value { result ≡ capability_at self.now at }
+        ensures by_address { IfSome result (λ c. Spells self.now at 16 c.0) }
+        ensures tag { IfSome result (λ c. tag_at self.now at ≡ Some c.1) }
+    {
+        let area = self.area_near(near, at)?;
         Some((whole_number(area.granule(at)), area.tag(at)))
     }
 
     /// Writes the 128 bits of a capability at a multiple of 16, and its tag. False, and nothing changed, exactly where the
     /// address is outside the regions.
-    #[tactic(auto, unfolding(crate::specs::Numbers::little_bytes))]
     pub fn set_cap(&mut self, at: u64, bits: u128, tag: bool) -> bool
         requires { at % 16 ≡ 0 }
         ensures inside { result ≡ is_inside self.old at }
@@ -100,7 +159,21 @@ impl Mem {
         ensures by_address { OnTrue result (Writes self.old self.new at (little_bytes 16 bits) tag) }
         ensures outside { OnFalse result (self.new ≡ self.old) }
     {
-        self.store(at, &bits.to_le_bytes(), tag)
+        let mut near = 0;
+        self.set_cap_near(&mut near, at, bits, tag)
+    }
+
+    /// The same, with the region that is looked at first, as in `read_near`.
+    #[inline(always)]
+    #[tactic(auto, unfolding(crate::specs::Numbers::little_bytes))]
+    pub fn set_cap_near(&mut self, near: &mut usize, at: u64, bits: u128, tag: bool) -> bool
+        requires { at % 16 ≡ 0 }
+        ensures inside { result ≡ is_inside self.old at }
+        ensures value { self.new ≡ written self.old at (little_bytes 16 bits) tag }
+        ensures by_address { OnTrue result (Writes self.old self.new at (little_bytes 16 bits) tag) }
+        ensures outside { OnFalse result (self.new ≡ self.old) }
+    {
+        self.store(near, at, &bits.to_le_bytes(), tag)
     }
 
     /// Writes bytes from a multiple of 16 on, and clears the tags of the granules that they touch. False, and nothing
@@ -160,14 +233,41 @@ impl Mem {
     }
 
     /// Its place among the areas.
+    #[inline(never)]
     fn place(&self, at: u64) -> Option<usize>
         ensures { result ≡ place_of self.now at }
     {
         self.areas.iter().position(|area| area.has(at))
     }
 
+    /// The same, looked for first at `near`, which becomes it.
+    #[inline(always)]
+    fn place_near(&self, near: &mut usize, at: u64) -> Option<usize>
+        ensures { result ≡ place_of self.now at }
+    {
+        let k = *near;
+        if k < self.areas.len() && self.areas[k].has(at) {
+            return Some(k);
+        }
+        let found = self.place(at);
+        *near = found.unwrap_or(k);
+        found
+    }
+
+    /// The area that has an address, looked for first at `near`.
+    #[inline(always)]
+    fn area_near(&self, near: &mut usize, at: u64) -> Option<&Area>
+        ensures found { option_copied result ≡ area_at self.now at }
+        ensures here { IfSome result (λ area. IsTrue (has area.now at)) }
+        ensures memory { IfSome result (λ _. IsMemory self.now) }
+    {
+        let i = self.place_near(near, at)?;
+        Some(&self.areas[i])
+    }
+
     /// Writes bytes of one granule in the area that has the address, and the granule's tag.
-    fn store(&mut self, at: u64, bytes: &[u8], tag: bool) -> bool
+    #[inline(always)]
+    fn store(&mut self, near: &mut usize, at: u64, bytes: &[u8], tag: bool) -> bool
         requires some { 0 < length bytes.now }
         requires granule { at % 16 + length bytes.now ≤ 16 }
         ensures inside { result ≡ is_inside self.old at }
@@ -175,7 +275,7 @@ impl Mem {
         ensures by_address { OnTrue result (Writes self.old self.new at bytes.now tag) }
         ensures outside { OnFalse result (self.new ≡ self.old) }
     {
-        match self.place(at) {
+        match self.place_near(near, at) {
             Some(i) => {
                 self.areas[i].store(at, bytes, tag);
                 true

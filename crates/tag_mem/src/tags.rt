@@ -26,6 +26,7 @@ impl Model for Tags {
 }
 
 /// The word with the bit k as the tag.
+#[inline(always)]
 fn with_bit(word: u64, k: usize, tag: bool) -> u64
     requires { k < 64 }
     ensures { result ≡ (if tag then bit_or word (1 * 2 ^ k % 2 ^ 64) else bit_and word (bit_not w64 (1 * 2 ^ k % 2 ^ 64))) }
@@ -47,6 +48,7 @@ impl Tags {
     }
 
     /// The tag i.
+    #[inline(always)]
     pub fn get(&self, i: usize) -> bool
         requires { i < length self.now }
         ensures { result ≡ slice_index_or self.now i false }
@@ -55,6 +57,7 @@ impl Tags {
     }
 
     /// Sets or clears the tag i, and leaves all others.
+    #[inline(always)]
     pub fn set(&mut self, i: usize, tag: bool)
         requires { i < length self.old }
         ensures { self.new ≡ slice_set self.old i tag }

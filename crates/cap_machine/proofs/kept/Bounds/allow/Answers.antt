@@ -1,5 +1,5 @@
 use Rattle.std.proofs.Common.{ℕ, ◌%◌, sym, ap, ◌∙◌, arith}
-use Rattle.std.proofs.lemmas.Bool.{not-false}
+use Rattle.cap_ops.specs.declared.capability.Cap.{Cap}
 use Rattle.cap_machine.proofs.Passed.{passes}
 use Rattle.cap_machine.proofs.kept.Bounds.allow.Goals as goal
 
@@ -7,7 +7,8 @@ pub returns : goal.returns
 returns c h =
     let bytes = c.from-size.ensures ∙ c.size.ensures in
     let permitted = c.if-not-is_permitted.ensures in
-    passes c.args.c c.args.at c.args.a (not-false c.args.c.tag c.if-not-c.false) c.if-c-ne-UNSEALED.false (permitted.load h) (permitted.store h) (permitted.capability h) (permitted.jump h)
+    let x : Cap = c.args.c.now in
+    passes x c.args.at c.args.a c.if-not-c.false c.if-c-ne-UNSEALED.false (permitted.load h) (permitted.store h) (permitted.capability h) (permitted.jump h)
     (omega (arith, c.requires.base, c.if-at-self.false))
-    (omega (arith, c.requires.top, c.if-self-from.false, c.from.ensures, c.from-2.ensures, bytes))
+    (omega (arith, c.requires.top, c.if-self-at.false, c.if-self-at-2.false, bytes))
     (ap (λ (n : ℕ). c.args.at % n) (sym bytes) ∙ c.if-at-size-ne0.false)

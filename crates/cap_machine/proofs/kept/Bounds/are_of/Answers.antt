@@ -1,4 +1,6 @@
-use Rattle.std.proofs.Common.{◌≡◌, Bool, true, false, refl}
+use Rattle.std.proofs.Common.{◌≡◌, ◌*◌, Bool, true, false, refl, arith}
+use Rattle.cap_concentrate.specs.Decoding.{top_of}
+use Rattle.cap_concentrate.specs.declared.fields.Fields.{Fields}
 use mathlib.Core.Bool.{not, beq}
 use Rattle.cap_machine.specs.declared.kept.Bounds.{Bounds}
 use Rattle.cap_machine.proofs.KeptBounds.{of_block}
@@ -13,5 +15,7 @@ same false true h = let e : true ≡ false = h in cc
 pub returns : goal.returns
 returns c =
     let now : Bounds = c.args.self.now in
-    let both = of_block c.args.f now.internal now.t now.b now.block now.base now.top c.if-self-f.false c.if-self-f-2.false c.if-self-f-3.false (same now.internal c.args.f.internal c.if-self-f-4.false) now.base_is now.top_is in
-    record { base = λ _. both.0; top = λ _. both.1 }
+    let f : Fields = c.args.f.now in
+    let both = of_block f now.internal now.t now.b now.block now.base (top_of now.internal now.t now.b (now.block * 2048)) c.if-self-f.false c.if-self-f-2.false c.if-self-f-3.false
+    (same now.internal f.internal c.if-self-f-4.false) now.base_is refl in
+    record { base = λ _. both.0; top = λ _. omega (arith, both.1, now.top_is) }

@@ -1,7 +1,7 @@
-use Rattle.std.proofs.Common.{◌≡◌, ℕ, ◌<◌, List, true, sym, ap, ◌∙◌, subst, refl, arith, rules, length, set}
+use Rattle.std.proofs.Common.{◌≡◌, ℕ, ◌<◌, List, sym, ap, ◌∙◌, subst, refl, arith, rules, length, set}
 use Rattle.std.proofs.lemmas.List.Elements.{All-from_get_or}
 use Rattle.tag_mem.specs.Areas.{Area, IsMemory, area_at}
-use Rattle.tag_mem.specs.Memory.{written, fits_inside, Writes}
+use Rattle.tag_mem.specs.Memory.{written}
 use Rattle.tag_mem.proofs.ByAddress.{IsMemory-written, Writes-written, fits_inside-granule}
 use Rattle.tag_mem.proofs.Places.{at_place, no_place}
 use Rattle.tag_mem.proofs.Reading.{is_inside-found}

@@ -4,7 +4,7 @@ use Rattle.tag_mem.specs.Areas.{Area, area_at}
 use Rattle.tag_mem.specs.Memory.{number_at}
 use Rattle.tag_mem.proofs.Reading.{is_inside-found, is_inside-nowhere, number_at-found, number_at-nowhere, number_at-below, Spells-found}
 use Rattle.tag_mem.proofs.Sizes.{in_granule}
-use Rattle.tag_mem.proofs.mem.Mem.read.Goals as goal
+use Rattle.tag_mem.proofs.mem.Mem.read_near.Goals as goal
 
 pub returns-in_err-area : goal.returns-in_err-area
 returns-in_err-area c =

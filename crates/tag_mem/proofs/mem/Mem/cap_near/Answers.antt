@@ -3,7 +3,7 @@ use Rattle.std.specs.Prelude.{is_some}
 use Rattle.tag_mem.specs.Areas.{Area, area_at, bytes_in}
 use Rattle.tag_mem.specs.Numbers.{little_number}
 use Rattle.tag_mem.proofs.Reading.{is_inside-found, is_inside-nowhere, capability_at-found, capability_at-nowhere, tag_at-found, Spells-found}
-use Rattle.tag_mem.proofs.mem.Mem.cap_at.Goals as goal
+use Rattle.tag_mem.proofs.mem.Mem.cap_near.Goals as goal
 
 pub returns-in_err-area : goal.returns-in_err-area
 returns-in_err-area c =

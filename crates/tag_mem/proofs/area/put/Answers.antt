@@ -7,7 +7,7 @@ use Rattle.tag_mem.specs.Memory.{replaced}
 use Rattle.tag_mem.specs.Granules.{granule_bytes}
 use Rattle.tag_mem.proofs.Granules.{same_granule}
 use Rattle.tag_mem.proofs.InArea.{length-replaced}
-use Rattle.tag_mem.proofs.area.with_bytes.Goals as goal
+use Rattle.tag_mem.proofs.area.put.Goals as goal
 
 pub returns : goal.returns
 returns c =

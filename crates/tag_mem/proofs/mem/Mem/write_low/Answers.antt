@@ -3,7 +3,7 @@ use Rattle.tag_mem.specs.Memory.{written}
 use Rattle.tag_mem.specs.Numbers.{little_bytes}
 use Rattle.tag_mem.proofs.LittleEndian.{length-little_bytes, take-little_bytes}
 use Rattle.tag_mem.proofs.Sizes.{in_granule}
-use Rattle.tag_mem.proofs.mem.Mem.write.Goals as goal
+use Rattle.tag_mem.proofs.mem.Mem.write_low.Goals as goal
 
 pub store-requires : goal.store-requires
 unfolding little_bytes
