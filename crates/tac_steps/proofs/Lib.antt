@@ -1,0 +1,4 @@
+pub mod Kept
+pub mod Meant
+pub mod Fewer
+pub mod Runs
