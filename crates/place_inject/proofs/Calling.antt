@@ -1,0 +1,139 @@
+-- Calls through values.
+use Rattle.std.proofs.Common.{◌≡◌, ℕ, ◌+◌, ◌%◌, ◌^◌, ◌≤◌, ◌==◌, ◌&&◌, ◌||◌, true, false, not, ltb, refl, ap, ◌∙◌, arith, Some}
+use Rattle.std.specs.Prelude.{find, ℤ, pos, Ok}
+use Rattle.std.proofs.lemmas.Bool.{cond_both, le-ltb, eq-eqb, or_from}
+use Rattle.ck_int.specs.Kinds.{kept_of}
+use Rattle.cap_concentrate.specs.Encoding.{with_bounds}
+use Rattle.cap_concentrate.specs.Rounding.{Encodable}
+use Rattle.cap_ops.specs.declared.access.Access.TheVariants as A
+use Rattle.cap_ops.specs.declared.access.Cause.TheVariants as C
+use Rattle.cap_ops.specs.declared.capability.Cap.{Cap}
+use Rattle.cap_ops.specs.declared.capability.TheConstants.{UNSEALED, SENTRY, EXECUTE}
+use Rattle.cap_ops.specs.Access.{fails, in_order, answer, checked}
+use Rattle.cap_ops.specs.Capability.{base, top, lacks, with_otype}
+use Rattle.cap_ops.proofs.Laws.{bounded_bounds, bounded_moved}
+use Rattle.cap_machine.specs.declared.machine.Machine.{Machine}
+use Rattle.cap_machine.specs.Integers.{extended}
+use Rattle.cap_machine.specs.State.{register}
+use Rattle.cap_machine.specs.Rows.{plus, trap, jump, unsealed, entered, cjalr_checked, cjalr_row}
+use Rattle.obj_mem.specs.Values.{Int, Live, Fun, Raw, Addresses, function_permissions, capability_of}
+use Rattle.obj_mem.specs.Objects.{base_in}
+use Rattle.obj_mem.specs.Access.{misses}
+use Rattle.place_inject.specs.Calling.{code_at, CalleesFit}
+use Rattle.place_inject.proofs.Checked.{Points, pointer, pointer_checked, untagged_checked}
+use Rattle.place_inject.proofs.Known.{pointer_is, plus_zero, integer_tag, raw_tag, points}
+use Rattle.place_inject.proofs.ReadBack.{none_fails}
+
+-- ---- a sentry
+
+module _ (a : Addresses) (f : ℕ) (enc : Encodable a.text a.text_end) (from : a.text ≤ a.entry f)
+    (to : a.entry f + 4 ≤ a.text_end) (aligned : a.entry f % 4 ≡ 0) (high : a.text_end ≤ 2 ^ 40) where
+  abbrev code : Cap
+  code = code_at a (a.entry f)
+
+  entered_is : (at : ℕ → ℕ) → entered (capability_of a at (Fun f)) (pos 0) ≡ code
+  unfolding capability_of with_bounds unsealed with_otype kept_of
+  entered_is at = refl
+
+  code_address : code.fields.address ≡ a.entry f
+  unfolding with_bounds
+  code_address = refl
+
+  not_sealed : fails code (a.entry f) A.Jump C.Sealed ≡ false
+  unfolding with_bounds
+  not_sealed = refl
+
+  may_execute : fails code (a.entry f) A.Jump C.Execute ≡ false
+  unfolding with_bounds
+  may_execute = refl
+
+  code_bounds : (base code ≡ a.text) × (top code ≡ a.text_end)
+  code_bounds = bounded_bounds a.text a.text_end function_permissions UNSEALED (a.entry f) enc
+      (omega (arith, from, to, high)) from (omega (arith, to))
+
+  code_checked : checked code (a.entry f) A.Jump ≡ Ok (a.entry f)
+  unfolding checked
+  code_checked =
+      let q = code_bounds in
+      let bounds : (ltb (a.entry f) (base code) || ltb (top code) (a.entry f + 4)) ≡ false =
+      or_from _ _ (le-ltb (a.entry f) (base code) (let e = q.0 in omega (arith, e, from)))
+      (le-ltb (top code) (a.entry f + 4) (let e = q.1 in omega (arith, e, to))) in
+      let align : not (a.entry f % 4 == 0) ≡ false = ap not (eq-eqb (a.entry f % 4) 0 aligned) in
+      ap (answer (a.entry f)) (none_fails (fails code (a.entry f) A.Jump) refl not_sealed refl refl refl may_execute bounds
+      align)
+
+  sentry_called : (m : Machine) (link rs : ℕ) (at : ℕ → ℕ) → register m rs ≡ capability_of a at (Fun f)
+      → cjalr_row m link rs (pos 0) ≡ jump m link code
+  unfolding cjalr_row
+  sentry_called m link rs at holds =
+      let q = code_bounds in
+      let place : plus code.fields.address (pos 0) ≡ a.entry f =
+      ap (λ x. plus x (pos 0)) code_address ∙ plus_zero (a.entry f) (omega (arith, to, high)) in
+      ap (λ r. cjalr_checked m link (entered r (pos 0))
+      (checked (entered r (pos 0)) (plus (entered r (pos 0)).fields.address (pos 0)) A.Jump)) holds
+      ∙ ap (λ c. cjalr_checked m link c (checked c (plus c.fields.address (pos 0)) A.Jump)) (entered_is at)
+      ∙ ap (λ x. cjalr_checked m link code (checked code x A.Jump)) place
+      ∙ ap (cjalr_checked m link code) code_checked
+      ∙ ap (jump m link) (bounded_moved a.text a.text_end function_permissions (a.entry f) (a.entry f) q.0 q.1 q.0 q.1)
+
+-- ---- a value without a tag
+
+entered_tag : (c : Cap) (z : ℤ) → (entered c z).tag ≡ c.tag
+unfolding unsealed
+entered_tag c z = cond_both (c.fields.otype == SENTRY && extended z == 0) (unsealed c) c (λ (d : Cap). d.tag ≡ c.tag)
+    (λ e. refl) (λ e. refl)
+
+untagged_called : (m : Machine) (link rs : ℕ) (c : Cap) → register m rs ≡ c → c.tag ≡ false
+    → cjalr_row m link rs (pos 0) ≡ trap m C.Tag
+unfolding cjalr_row
+untagged_called m link rs c holds untagged =
+    let d = entered c (pos 0) in
+    ap (λ r. cjalr_checked m link (entered r (pos 0))
+    (checked (entered r (pos 0)) (plus (entered r (pos 0)).fields.address (pos 0)) A.Jump)) holds
+    ∙ ap (cjalr_checked m link d)
+    (untagged_checked d (plus d.fields.address (pos 0)) A.Jump (entered_tag c (pos 0) ∙ untagged))
+
+-- ---- a pointer
+
+module _ (b low high at perms : ℕ) (p : Points b low high at perms) (no_execute : lacks perms EXECUTE ≡ true) where
+  abbrev c : Cap
+  c = pointer b low high at perms p
+
+  own_address : c.fields.address ≡ (b + at) % 2 ^ 64
+  unfolding with_bounds
+  own_address = refl
+
+  address : plus c.fields.address (pos 0) ≡ (b + at) % 2 ^ 64
+  address = ap (λ x. plus x (pos 0)) own_address ∙ plus_zero ((b + at) % 2 ^ 64) (omega arith)
+
+  not_entered : entered c (pos 0) ≡ c
+  unfolding with_bounds
+  not_entered = refl
+
+  execute_first : find (misses low high at perms A.Jump) in_order ≡ Some C.Execute
+  execute_first = rw no_execute refl
+
+  pointer_called : (m : Machine) (link rs : ℕ) → register m rs ≡ c
+      → cjalr_row m link rs (pos 0) ≡ trap m C.Execute
+  unfolding cjalr_row
+  pointer_called m link rs holds =
+      ap (λ r. cjalr_checked m link (entered r (pos 0))
+      (checked (entered r (pos 0)) (plus (entered r (pos 0)).fields.address (pos 0)) A.Jump)) holds
+      ∙ ap (λ d. cjalr_checked m link d (checked d (plus d.fields.address (pos 0)) A.Jump)) not_entered
+      ∙ ap (λ x. cjalr_checked m link c (checked c x A.Jump)) address
+      ∙ ap (cjalr_checked m link c) (pointer_checked b low high at perms p A.Jump tt
+      ∙ ap (answer ((b + at) % 2 ^ 64)) execute_first)
+
+-- ---- the law
+
+pub callees_fit_law : CalleesFit
+callees_fit_law functions a objects m fit lie link rs (Int n) k holds =
+    untagged_called m link rs _ holds (integer_tag a (base_in objects.shapes) n)
+callees_fit_law functions a objects m fit lie link rs (Raw address upper) k holds =
+    untagged_called m link rs _ holds (raw_tag a (base_in objects.shapes) address upper)
+callees_fit_law functions a objects m fit lie link rs (Fun f) k holds =
+    sentry_called a f lie.exact (fit.spread.in_text f k).0 (lie.within f k) (lie.aligned f k) fit.spread.text_to m link rs
+    (base_in objects.shapes) holds
+callees_fit_law functions a objects m fit lie link rs (Live o low high at perms) k holds =
+    pointer_called k.shape.base low high at perms (points functions a objects m.mem fit o low high at perms k) k.no_execute
+    m link rs (holds ∙ pointer_is a objects.shapes o low high at perms k.shape k.there)

@@ -1,0 +1,9 @@
+pub mod Acts
+pub mod Numbers
+pub mod Points
+pub mod Operands
+pub mod Results
+pub mod Kinded
+pub mod Simple
+pub mod Rows
+pub mod Jumps

@@ -1,0 +1,9 @@
+pub mod Acts
+pub mod Numbers
+pub mod Emitted
+pub mod Operands
+pub mod Kinds
+pub mod Results
+pub mod Words
+pub mod Instructions
+pub mod Jumps

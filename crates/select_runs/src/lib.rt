@@ -1,0 +1,16 @@
+//! What selected code does on the machine: what three-address code means over separate objects.
+//!
+//! Promise: laws: where the words that selection appends for an instruction stand in the text, a machine that stands for a
+//! state of three-address code goes on to one that stands for the state behind the instruction; so far of integer
+//! constants, copies, labels and jumps.
+//! Definitions (`specs/`): `Acts`, `Numbers`, `Emitted`, `Operands`, `Kinds`, `Results`, `Words`, `Instructions`,
+//! `Jumps`.
+//! Main lemmas (`proofs/`): `Acts`, `Operands`, `Results`, `Simple`.
+#![tactic(auto)]
+
+mod laws;
+
+pub use laws::{
+    constants_run, copies_run, jumps_run, labels_run, numbers_are_made, operands_come,
+    results_go_home,
+};
