@@ -1,6 +1,7 @@
 //! What the front end says of files.
 
 use crate::front_tables::{CONSTANTS, DECLARATIONS, OPERATORS, PLACES, STATEMENTS, TYPES, WORDS};
+use crate::{constant_files, declared_files, initialised_files, typed_files};
 use cheric_build::front;
 use ck_base::Refusal;
 use std::alloc::Global;
@@ -8,7 +9,7 @@ use std::fmt::Write;
 use std::test::Fail;
 
 /// `typed`, or the code and the place of the refusal.
-fn answer(alloc: Global, text: &[u8]) -> Result<String, Fail> {
+pub(super) fn answer(alloc: Global, text: &[u8]) -> Result<String, Fail> {
     let mut answer = String::new(alloc);
     match front(alloc, text) {
         Ok(_) => answer.push_str("typed")?,
@@ -64,6 +65,34 @@ fn expressions_are_typed_or_refused(rt: HostRuntime) -> Result<(), Fail> {
 #[test]
 fn statements_are_typed_or_refused(rt: HostRuntime) -> Result<(), Fail> {
     let wrong = wrong(rt.alloc(), &STATEMENTS)?;
+    assert_eq!(rt; wrong.as_str(), "");
+    Ok(())
+}
+
+#[test]
+fn declared_files_are_typed_or_refused(rt: HostRuntime) -> Result<(), Fail> {
+    let wrong = wrong(rt.alloc(), &declared_files::FILES)?;
+    assert_eq!(rt; wrong.as_str(), "");
+    Ok(())
+}
+
+#[test]
+fn initialised_files_are_typed_or_refused(rt: HostRuntime) -> Result<(), Fail> {
+    let wrong = wrong(rt.alloc(), &initialised_files::FILES)?;
+    assert_eq!(rt; wrong.as_str(), "");
+    Ok(())
+}
+
+#[test]
+fn typed_files_are_typed_or_refused(rt: HostRuntime) -> Result<(), Fail> {
+    let wrong = wrong(rt.alloc(), &typed_files::FILES)?;
+    assert_eq!(rt; wrong.as_str(), "");
+    Ok(())
+}
+
+#[test]
+fn constant_files_are_typed_or_refused(rt: HostRuntime) -> Result<(), Fail> {
+    let wrong = wrong(rt.alloc(), &constant_files::FILES)?;
     assert_eq!(rt; wrong.as_str(), "");
     Ok(())
 }

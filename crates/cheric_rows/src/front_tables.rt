@@ -65,7 +65,7 @@ pub(super) const WORDS: [(&str, &str); 16] = [
 ];
 
 /// Types of functions, lengths, what is completed later, and one name for one thing (6.2.5, 6.7, 6.7.6, 6.9.2).
-pub(super) const DECLARATIONS: [(&str, &str); 45] = [
+pub(super) const DECLARATIONS: [(&str, &str); 52] = [
     // () is (void)
     (
         "int f();int main(void){return f();}int f(void){return 3;}",
@@ -83,15 +83,50 @@ pub(super) const DECLARATIONS: [(&str, &str); 45] = [
     ),
     // a function gives no array
     ("int f(void)[3];int main(void){return 0;}", "133 1:5"),
-    // a function takes no struct
+    // a function takes a struct, which is const or not
     (
-        "struct S{int a;};int f(struct S s){return 0;}int main(void){return 0;}",
-        "133 1:33",
+        "struct S{int a;};int f(struct S s,const struct S t){return s.a;}int main(void){return 0;}",
+        "typed",
     ),
-    // a function gives no struct
+    // a function gives a struct
     (
         "struct S{int a;};struct S f(void);int main(void){return 0;}",
-        "133 1:27",
+        "typed",
+    ),
+    // its body gives one
+    (
+        "struct S{int a;};struct S f(struct S s){return s;}int main(void){return 0;}",
+        "typed",
+    ),
+    // another struct is no argument
+    (
+        "struct S{int a;};struct T{int a;};int f(struct S s){return 0;}int main(void){struct T t;return f(t);}",
+        "133 1:98",
+    ),
+    // what is given back is of the type
+    (
+        "struct S{int a;};struct T{int a;}t;struct S f(void){return t;}int main(void){return 0;}",
+        "133 1:60",
+    ),
+    // a call's value is read by .
+    (
+        "struct S{int a[2];};struct S f(void);int main(void){return f().a[1];}struct S f(void){struct S s={{1,2}};return s;}",
+        "typed",
+    ),
+    // and is no place
+    (
+        "struct S{int a;};struct S f(void);int main(void){f().a=1;return 0;}",
+        "133 1:50",
+    ),
+    // its result is not complete where the function is called
+    (
+        "struct S;struct S f(void);int main(void){f();return 0;}",
+        "132 1:42",
+    ),
+    // nor where it is defined
+    (
+        "struct S;struct S f(void){}int main(void){return 0;}",
+        "132 1:19",
     ),
     // a length is a constant expression
     ("int a[2+1];int main(void){return a[2];}", "typed"),
@@ -560,7 +595,7 @@ pub(super) const CONSTANTS: [(&str, &str); 29] = [
 ];
 
 /// Jumps, `return` and `switch`, scopes and parameters, and `main` (6.8, 6.2.1, 5.1.2.2.1).
-pub(super) const STATEMENTS: [(&str, &str); 32] = [
+pub(super) const STATEMENTS: [(&str, &str); 33] = [
     // in their places
     (
         "int main(void){int i;for(i=0;i<9;i++){if(i==3)continue;if(i==5)break;}do{i--;}while(i);switch(i){case 'a':break;default:;}return i;}",
@@ -664,9 +699,14 @@ pub(super) const STATEMENTS: [(&str, &str); 32] = [
         "int main(void){return sizeof(int(*)(int,int,int,int,int,int,int,int,int))==16;}",
         "typed",
     ),
-    // not complete, before it is a struct
+    // a prototype's parameter may be incomplete
     (
         "struct S;int f(struct S s);int main(void){return 0;}",
+        "typed",
+    ),
+    // not so that of a definition
+    (
+        "struct S;int f(struct S s){return 0;}int main(void){return 0;}",
         "132 1:25",
     ),
     // a parameter without a name

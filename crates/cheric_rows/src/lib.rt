@@ -8,21 +8,35 @@
 #[cfg(test)]
 mod calls;
 #[cfg(test)]
+mod constant_files;
+#[cfg(test)]
+mod declared_files;
+#[cfg(test)]
 mod examples;
+#[cfg(test)]
+mod front_chains;
 #[cfg(test)]
 mod front_rows;
 #[cfg(test)]
 mod front_tables;
 #[cfg(test)]
+mod hostile;
+#[cfg(test)]
 mod image_commands;
 #[cfg(test)]
 mod images;
+#[cfg(test)]
+mod initialised_files;
 #[cfg(test)]
 mod programs;
 #[cfg(test)]
 mod refusals;
 #[cfg(test)]
 mod run_command;
+#[cfg(test)]
+mod text_commands;
+#[cfg(test)]
+mod typed_files;
 #[cfg(test)]
 mod whole_files;
 #[cfg(test)]

@@ -6,7 +6,7 @@ use std::alloc::Global;
 use std::test::Fail;
 
 /// Files, and what the command says of them: mostly the whole line.
-const REFUSED: [(&str, &str); 15] = [
+const REFUSED: [(&str, &str); 16] = [
     ("", "refused 135 1:1\n"),
     ("int main(void){return 0;}@", "refused 100 1:26\n"),
     ("int main(void){return 0;}/*", "refused 101 1:26\n"),
@@ -36,6 +36,11 @@ const REFUSED: [(&str, &str); 15] = [
     ),
     (
         "char a[40000000];char b[40000000];int main(void){return 0;}",
+        "refused 141 1:1\n",
+    ),
+    // static locals are globals, with room for their bounds
+    (
+        "int main(void){static char a[67043328];static char b;return a[0]+b;}",
         "refused 141 1:1\n",
     ),
 ];

@@ -69,7 +69,7 @@ const FILES: [(&str, u8, &str, &str); 17] = [
 ];
 
 /// Lines on a file that puts `Hi`, with their status, output and line.
-const LINES: [(&str, u8, &str, &str); 11] = [
+const LINES: [(&str, u8, &str, &str); 16] = [
     ("cheric run a.c --steps 0", 4, "", "steps\n"),
     ("cheric run a.c --steps 1", 4, "", "steps\n"),
     ("cheric run a.c --steps 0000000099999", 0, "Hi", "exit 0\n"),
@@ -84,6 +84,12 @@ const LINES: [(&str, u8, &str, &str); 11] = [
         "exit 0\n",
     ),
     ("cheric run a.c --out b", 0, "Hi", "exit 0\n"),
+    ("cheric run a.c --turns 7", 0, "Hi", "exit 0\n"),
+    // options anywhere, and a value in the option's own word
+    ("cheric run a.c --steps=5", 4, "", "steps\n"),
+    ("cheric --steps 5 run a.c", 4, "", "steps\n"),
+    ("cheric run --steps 5 a.c", 4, "", "steps\n"),
+    ("cheric run -- a.c", 0, "Hi", "exit 0\n"),
     (
         "cheric exec a.c --heap 16777216 --out b",
         12,
@@ -95,7 +101,7 @@ const LINES: [(&str, u8, &str, &str); 11] = [
 ];
 
 /// Words that are no line.
-const NO_LINES: [&str; 33] = [
+const NO_LINES: [&str; 42] = [
     "",
     "cheric",
     "cheric run",
@@ -107,14 +113,23 @@ const NO_LINES: [&str; 33] = [
     "cheric run a.c --steps 9x",
     "cheric run a.c --steps +9",
     "cheric run a.c --steps -9",
-    "cheric run a.c --steps=9",
     "cheric run a.c --step 9",
     "cheric run a.c --steps 9 9",
     "cheric run a.c --steps 9 --steps 9",
     "cheric run a.c --steps 00000000000009",
     "cheric run a.c --steps 1000000000001",
-    "cheric run --steps 9 a.c",
-    "cheric --steps 9 run a.c",
+    "cheric run a.c --steps= 9",
+    "cheric --help",
+    "cheric run a.c --help",
+    "cheric run a.c --fly",
+    "cheric run a.c --turns x",
+    "cheric run a.c --turns 10000000000000",
+    "cheric gen 0",
+    "cheric gen 65",
+    "cheric gen 07",
+    "cheric gen +7",
+    "cheric gen a.c",
+    "cheric gen",
     "cheric build a.c --out",
     "cheric build a.c --out b --out b",
     // sizes that no heap and no stack may have

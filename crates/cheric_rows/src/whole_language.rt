@@ -9,7 +9,7 @@ use std::alloc::Global;
 use std::test::Fail;
 
 /// Files, with the status, output and line of a run.
-const PROGRAMS: [(&str, u8, &str, &str); 21] = [
+const PROGRAMS: [(&str, u8, &str, &str); 24] = [
     // parameters past eight, a pointer among them, by a pointer to the function and by its name
     (
         "int f(int a,int b,int c,int d,int e,int g,int h,int i,char*p,int j){putchar(p[j]);return a<b?f(a+1,b,c,d,e,g,h,i,p,j+1):c+i;}int main(void){int(*q)(int,int,int,int,int,int,int,int,char*,int)=f;return q(1,3,5,0,0,0,0,7,\"abc\",0);}",
@@ -95,6 +95,27 @@ const PROGRAMS: [(&str, u8, &str, &str); 21] = [
         "int main(void){char *p=malloc(16777216);char *q=malloc(1);putchar(p?89:78);putchar(q?89:78);return 0;}",
         0,
         "YN",
+        "exit 0\n",
+    ),
+    // a struct goes to a function by value, and comes back
+    (
+        "struct P{int a[3];char c;};struct P f(struct P p,int k){p.a[0]=p.a[0]+k;return p;}int main(void){struct P q;q.a[0]=60;struct P r=f(q,5);putchar(r.a[0]);putchar(q.a[0]);return 0;}",
+        0,
+        "A<",
+        "exit 0\n",
+    ),
+    // calls stand in one another's arguments, and each has its own hidden locals
+    (
+        "struct P{int a;int b;};struct P s(struct P p,struct P q){p.a=p.a-q.b;return p;}struct P n(int a,int b){struct P p={a,b};return p;}int main(void){putchar(s(s(n(70,1),n(0,2)),s(n(9,3),n(0,3))).a);return 0;}",
+        0,
+        "A",
+        "exit 0\n",
+    ),
+    // through a pointer to the function, and of a union
+    (
+        "union U{char c;int i;};union U f(const union U u){union U v;v.i=u.c;return v;}int main(void){union U(*p)(union U)=f;union U u;u.c=75;putchar(p(u).i);return 0;}",
+        0,
+        "K",
         "exit 0\n",
     ),
     // a struct's pointer is copied with it

@@ -1,0 +1,121 @@
+//! A hostile outside: each read and each put fails in turn, the notes fail in each mode, and brackets nest up to the limits.
+
+use crate::calls::{Answer, answers, answers_input, sure_file};
+use cheric_build::build;
+use ck_base::{NoMemory, Pos, Refusal, SureFiles};
+use std::alloc::Global;
+use std::fmt::Write;
+use std::test::Fail;
+
+/// A file that copies its input.
+const COPY: &str = "int main(void){int c;while((c=getchar())!=-1)putchar(c);return 0;}";
+
+/// The failing calls of the input and of the output where `abc` is copied, with the status, output and line.
+const FAILING: [(u64, u64, u8, &str, &str); 9] = [
+    (1, 0, 21, "", "input\n"),
+    (2, 0, 21, "a", "input\n"),
+    (3, 0, 21, "ab", "input\n"),
+    (4, 0, 21, "abc", "input\n"),
+    (5, 0, 0, "abc", "exit 0\n"),
+    (0, 1, 22, "", "output\n"),
+    (0, 2, 22, "a", "output\n"),
+    (0, 3, 22, "ab", "output\n"),
+    (0, 4, 0, "abc", "exit 0\n"),
+];
+
+/// The file that copies its input, and what is built of it.
+fn copying(alloc: Global) -> Result<SureFiles, Fail> {
+    let mut files = sure_file(alloc, "a.c", COPY.as_bytes())?;
+    let mut line = String::new(alloc);
+    writeln!(line, "built {}", build(alloc, COPY.as_bytes())?.elf.len())?;
+    let answer = Answer {
+        status: 0,
+        put: "",
+        line: &line,
+    };
+    let is_built = answers(alloc, &mut files, "cheric build a.c", [0; 2], answer)?;
+    Ok(is_built.then_some(files).ok_or("not built")?)
+}
+
+#[test]
+fn each_read_and_each_put_fails(rt: HostRuntime) -> Result<(), Fail> {
+    let alloc = rt.alloc();
+    let mut files = copying(alloc)?;
+    for &(read, byte, status, put, line) in &FAILING {
+        let answer = Answer { status, put, line };
+        for words in ["cheric run a.c", "cheric exec a.c.elf"] {
+            let input = (b"abc".as_slice(), read);
+            assert!(rt;
+                answers_input(alloc, &mut files, words, input, [byte, 0], answer)?,
+                "{words}, {read}, {byte}"
+            );
+        }
+    }
+    Ok(())
+}
+
+/// Words in each mode, each with its own message, which the notes don't take.
+const MODES: [&str; 9] = [
+    "cheric run a.c",
+    "cheric run a.c --steps 1",
+    "cheric run b.c",
+    "cheric run a.c.elf",
+    "cheric build a.c",
+    "cheric exec a.c.elf",
+    "cheric exec a.c",
+    "cheric audit a.c.elf",
+    "cheric",
+];
+
+#[test]
+fn the_notes_fail_in_each_mode(rt: HostRuntime) -> Result<(), Fail> {
+    let alloc = rt.alloc();
+    let mut files = copying(alloc)?;
+    let answer = Answer {
+        status: 22,
+        put: "",
+        line: "",
+    };
+    for &words in &MODES {
+        assert!(rt;
+            answers(alloc, &mut files, words, [0, 1], answer)?,
+            "{words}"
+        );
+    }
+    Ok(())
+}
+
+/// A file that returns 1 in so many brackets.
+fn nested(alloc: Global, count: usize) -> Result<String, NoMemory> {
+    let mut file = String::from_str(alloc, "int main(void){return ")?;
+    file.push_str(&"(".repeat(alloc, count)?)?;
+    file.push_str("1")?;
+    file.push_str(&")".repeat(alloc, count)?)?;
+    file.push_str(";}")?;
+    Ok(file)
+}
+
+/// Why the file of so many brackets is not built.
+fn refusal_of(alloc: Global, count: usize) -> Result<Option<Refusal>, NoMemory> {
+    let file = nested(alloc, count)?;
+    Ok(build(alloc, file.as_bytes()).err())
+}
+
+#[test]
+fn brackets_nest_up_to_the_limits(rt: HostRuntime) -> Result<(), Fail> {
+    let alloc = rt.alloc();
+    let file = nested(alloc, 100)?;
+    let mut files = sure_file(alloc, "a.c", file.as_bytes())?;
+    let answer = Answer {
+        status: 1,
+        put: "",
+        line: "exit 1\n",
+    };
+    assert!(rt; answers(alloc, &mut files, "cheric run a.c", [0; 2], answer)?);
+    let deep = refusal_of(alloc, 199)?;
+    assert!(rt; matches!(deep, Some(Refusal::Code(120, _))));
+    // a file of more than 200 open brackets, of which the function's body is the first
+    let deeper = refusal_of(alloc, 200)?;
+    assert_eq!(rt; deeper, Some(Refusal::Code(121, Pos { line: 1, col: 222 })));
+    Ok(())
+}
