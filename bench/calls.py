@@ -49,6 +49,13 @@ def prepared(cheric=f"{ROOT}/cheric"):
     return path
 
 
+def timed(cheric=f"{ROOT}/cheric"):
+    """The command for what is timed: in place of ./cheric the program that it calls, as the search of that
+    script for newer sources takes longer than a small file."""
+    path, own = prepared(cheric), os.path.abspath(f"{ROOT}/cheric")
+    return f"{ROOT}/crates/cheric_cli/out/cheric_cli" if path == own else path
+
+
 def each(work, items, jobs):
     """The results of `work` on the items, in their order, with so many at a time."""
     with ThreadPoolExecutor(max_workers=jobs) as pool:

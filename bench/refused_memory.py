@@ -1,64 +1,107 @@
 #!/usr/bin/env python3
-"""bench/refused_memory.py [FIRST [LAST]] [--only NAME]: the command with one allocation refused at a time.
+"""bench/refused_memory.py [--only NAME]: the proved command with one allocation refused at a time.
 
-For three files (one that puts two bytes, one that calls itself, one that counts words) an unproved build of the command
-is run once for each number from FIRST to LAST (1 to 20 by default), with the allocation of that number refused. The
-status must be that of `memory` with nothing put, or the file's own with its own output. A line tells each number's answer.
-Each run builds anew, which takes half a minute or more. It needs rt. It proves nothing and is no part of the gate."""
+For three files (one that puts two bytes, one that calls itself, one that counts words) the command runs once for each
+number from 1 on, in each of the modes `run`, `build`, `map` and `list`, with the allocation of that number refused,
+until a run makes fewer. The answer must be the file's own, or that of `memory` with nothing put and no file. A library before
+the C library's counts the allocations; gcc builds it. Each line has a file, a mode, and how many allocations were
+refused. It needs what ./cheric needs, and gcc. It proves nothing and is no part of the gate."""
 import argparse
 import os
 import subprocess
 import sys
 import tempfile
 
-from calls import ROOT
+from calls import ROOT, timed
 
 MEMORY = 30
-CALLS = "int f(int n){return n<2?1:n*f(n-1);}int main(void){putchar(65);return f(5);}"
-FILES = [
-    ("hi", "int main(void){putchar(72);putchar(105);return 0;}", "Hi", 0),
-    ("calls", CALLS, "A", 1),
-    ("words", None, "", 0),
-]
+MODES = ("run", "build", "map", "list")
+MOST = 100_000
+FILES = {
+    "hi": "int main(void){putchar(72);putchar(105);return 0;}",
+    "calls": "int f(int n){return n<2?1:n*f(n-1);}int main(void){putchar(65);return f(5);}",
+    "words": None,
+}
+COUNTS = r"""
+#define _GNU_SOURCE
+#include <dlfcn.h>
+#include <stddef.h>
+#include <stdlib.h>
+static long wanted = -1, made;
+__attribute__((constructor)) static void begin(void) {
+    const char *number = getenv("REFUSED");
+    made = 0;
+    wanted = number ? atol(number) : -1;
+}
+static int is_refused(void) { return wanted > 0 && ++made == wanted; }
+__attribute__((destructor)) static void end(void) {
+    if (wanted > 0 && made < wanted) _Exit(99);
+}
+#define NEXT(type, name) static type next; if (!next) next = (type)dlsym(RTLD_NEXT, name)
+typedef void *(*of_size)(size_t);
+typedef void *(*of_two)(size_t, size_t);
+typedef void *(*of_old)(void *, size_t);
+typedef int (*of_place)(void **, size_t, size_t);
+void *malloc(size_t n) { NEXT(of_size, "malloc"); return is_refused() ? NULL : next(n); }
+void *aligned_alloc(size_t a, size_t n) { NEXT(of_two, "aligned_alloc"); return is_refused() ? NULL : next(a, n); }
+void *realloc(void *p, size_t n) { NEXT(of_old, "realloc"); return is_refused() ? NULL : next(p, n); }
+int posix_memalign(void **p, size_t a, size_t n) {
+    NEXT(of_place, "posix_memalign");
+    return is_refused() ? 12 : next(p, a, n);
+}
+"""
+FEWER = 99
 
 
-def answer(path, number):
-    """What one run puts, and its status; None where `rt try` gave none."""
-    words = ["rt", "try", "--steps", "1", "--fail-alloc", str(number), "--data", f"a.c={path}", "--", "run", "a.c"]
-    crate = f"{ROOT}/crates/cheric_cli"
-    run = subprocess.run(words, cwd=crate, stdin=subprocess.DEVNULL, capture_output=True, text=True, check=False)
-    ended = f"run=ended status={run.returncode} " in run.stderr
-    return run.stdout, run.returncode if ended else None
+class Command:
+    """The command over a folder of its own, with the library that counts allocations."""
 
+    def __init__(self, program, folder):
+        self.program, self.folder, self.library = program, folder, f"{folder}/counts.so"
+        with open(f"{folder}/counts.c", "w", encoding="utf-8") as file:
+            file.write(COUNTS)
+        subprocess.run(["gcc", "-shared", "-fPIC", "-O1", "-o", self.library, f"{folder}/counts.c", "-ldl"], check=True)
 
-def faults(name, text, own, numbers):
-    count = 0
-    with tempfile.TemporaryDirectory() as folder:
-        path = f"{folder}/a.c"
-        with open(path, "w", encoding="utf-8") as file:
-            file.write(text)
-        for number in numbers:
-            got = answer(path, number)
-            fits = got in (("", MEMORY), own)
-            count += not fits
-            print(f"{name} {number}: status {got[1]}, {len(got[0])} bytes put{'' if fits else ', OTHERWISE'}", flush=True)
-    return count
+    def answer(self, mode, number):
+        """What a run puts, its line, its status, and whether it left an ELF file; an allocation is refused, or none."""
+        elf = f"{self.folder}/a.c.elf"
+        if os.path.exists(elf):
+            os.remove(elf)
+        around = {**os.environ, "LD_PRELOAD": self.library, **({"REFUSED": str(number)} if number else {})}
+        run = subprocess.run([self.program, mode, f"{self.folder}/a.c"], env=around, stdin=subprocess.DEVNULL,
+                             capture_output=True, check=False)
+        return run.stdout, run.stderr, run.returncode, os.path.exists(elf)
+
+    def refused(self, name, mode):
+        """The numbers of allocations that were refused, and of answers that are none of the two."""
+        own, otherwise = self.answer(mode, 0), 0
+        for number in range(1, MOST):
+            got = self.answer(mode, number)
+            if got[2] == FEWER:
+                print(f"{name} {mode}: {number - 1} allocations refused, {otherwise} answered otherwise", flush=True)
+                return otherwise
+            if got not in (own, (b"", b"memory\n", MEMORY, False)):
+                otherwise += 1
+                print(f"{name} {mode} {number}: {got}", flush=True)
+        raise SystemExit(f"{name} {mode}: more than {MOST} allocations")
 
 
 def main():
     words = argparse.ArgumentParser(description=__doc__, formatter_class=argparse.RawDescriptionHelpFormatter)
-    words.add_argument("first", nargs="?", type=int, default=1)
-    words.add_argument("last", nargs="?", type=int, default=20)
-    words.add_argument("--only", choices=[it[0] for it in FILES])
-    words = words.parse_args()
-    with open(os.path.join(ROOT, "examples", "words.c"), encoding="utf-8") as file:
-        text_of_words = file.read()
-    count = 0
-    for name, text, put, status in FILES:
-        if words.only in (None, name):
-            count += faults(name, text or text_of_words, (put, status), range(words.first, words.last + 1))
-    print(f"{count} answered otherwise")
-    return 1 if count else 0
+    words.add_argument("--only", choices=FILES)
+    only, otherwise = words.parse_args().only, 0
+    with tempfile.TemporaryDirectory() as folder:
+        command = Command(timed(), folder)
+        for name, text in FILES.items():
+            if only in (None, name):
+                if text is None:
+                    with open(f"{ROOT}/examples/{name}.c", encoding="utf-8") as file:
+                        text = file.read()
+                with open(f"{folder}/a.c", "w", encoding="utf-8") as file:
+                    file.write(text)
+                otherwise += sum(command.refused(name, mode) for mode in MODES)
+    print(f"{otherwise} answered otherwise")
+    return 1 if otherwise else 0
 
 
 if __name__ == "__main__":
