@@ -106,19 +106,21 @@ fn aligned(end: u64, align: u64) -> u64 {
     }
 }
 
-/// Where a member of a struct or union begins (C11 6.7.2.1): in a struct at the least multiple of its alignment that is not below
-/// the end of the member before it, and in a union at 0.
+/// Where a member of a struct or union begins (C11 6.7.2.1). In a struct it stands at the least multiple of its alignment, and of
+/// that with which bounds of its length are exact, that is not below the end of the member before it, which owns its padding; in a
+/// union at 0.
 pub fn member_offset(p: &Typed, table: &[TypeFacts], t: u32, member: u32) -> u64 {
     let mut end: u64 = 0;
     let mut left = member;
     for m in struct_members(p.types.as_slice(), t) {
         let f = facts_at(table, m.of);
-        let start = aligned(end, f.align);
+        let own = owned(f.size.min(LIMIT));
+        let start = aligned(end, f.align.max(own.align));
         if left == 0 {
             return start;
         }
         left -= 1;
-        end = start.saturating_add(f.size);
+        end = start.saturating_add(own.length);
     }
     0
 }
