@@ -2,7 +2,7 @@
 
 /// Files, and what the front end says of them: `typed`, or the code and the place of the first rule that they break. A remark
 /// stands before each.
-pub(super) const FILES: [(&str, &str); 144] = [
+pub(super) const FIRST: [(&str, &str); 36] = [
     // type, storage and qualifier words in any order
     (
         "unsigned const short int static volatile x=3;int main(void){return x;}",
@@ -159,6 +159,10 @@ pub(super) const FILES: [(&str, &str); 144] = [
         "enum E{A,B};int main(void){enum E;enum E e=B;return e;}",
         "typed",
     ),
+];
+
+/// More of them.
+pub(super) const SECOND: [(&str, &str); 36] = [
     // declarations without declarators; no rule refuses them
     (
         "int main(void){struct{int a;};enum{A};union U;int;for(int;;)break;return A;}",
@@ -316,6 +320,10 @@ pub(super) const FILES: [(&str, &str); 144] = [
         "int main(void){return sizeof(int(*)(int,int,int,int,int,int,int,int,int))==16;}",
         "typed",
     ),
+];
+
+/// More of them.
+pub(super) const THIRD: [(&str, &str); 36] = [
     // nine parameters in a parameter without a name
     (
         "int f(int a,int(*)(int,int,int,int,int,int,int,int,int));int main(void){return 0;}",
@@ -482,6 +490,10 @@ pub(super) const FILES: [(&str, &str); 144] = [
         "int __builtin_cheri_is_equal_exact(int a){return a;}int main(void){return __builtin_cheri_is_equal_exact(1);}",
         "typed",
     ),
+];
+
+/// More of them.
+pub(super) const FOURTH: [(&str, &str); 36] = [
     // a parameter hides the library function; an int is not called
     (
         "int f(int putchar){return putchar(1);}int main(void){return 0;}",

@@ -70,29 +70,85 @@ fn statements_are_typed_or_refused(rt: HostRuntime) -> Result<(), Fail> {
 }
 
 #[test]
-fn declared_files_are_typed_or_refused(rt: HostRuntime) -> Result<(), Fail> {
-    let wrong = wrong(rt.alloc(), &declared_files::FILES)?;
+fn first_declared_files_are_typed_or_refused(rt: HostRuntime) -> Result<(), Fail> {
+    let wrong = wrong(rt.alloc(), &declared_files::FIRST)?;
     assert_eq!(rt; wrong.as_str(), "");
     Ok(())
 }
 
 #[test]
-fn initialised_files_are_typed_or_refused(rt: HostRuntime) -> Result<(), Fail> {
-    let wrong = wrong(rt.alloc(), &initialised_files::FILES)?;
+fn second_declared_files_are_typed_or_refused(rt: HostRuntime) -> Result<(), Fail> {
+    let wrong = wrong(rt.alloc(), &declared_files::SECOND)?;
     assert_eq!(rt; wrong.as_str(), "");
     Ok(())
 }
 
 #[test]
-fn typed_files_are_typed_or_refused(rt: HostRuntime) -> Result<(), Fail> {
-    let wrong = wrong(rt.alloc(), &typed_files::FILES)?;
+fn third_declared_files_are_typed_or_refused(rt: HostRuntime) -> Result<(), Fail> {
+    let wrong = wrong(rt.alloc(), &declared_files::THIRD)?;
     assert_eq!(rt; wrong.as_str(), "");
     Ok(())
 }
 
 #[test]
-fn constant_files_are_typed_or_refused(rt: HostRuntime) -> Result<(), Fail> {
-    let wrong = wrong(rt.alloc(), &constant_files::FILES)?;
+fn fourth_declared_files_are_typed_or_refused(rt: HostRuntime) -> Result<(), Fail> {
+    let wrong = wrong(rt.alloc(), &declared_files::FOURTH)?;
+    assert_eq!(rt; wrong.as_str(), "");
+    Ok(())
+}
+
+#[test]
+fn first_initialised_files_are_typed_or_refused(rt: HostRuntime) -> Result<(), Fail> {
+    let wrong = wrong(rt.alloc(), &initialised_files::FIRST)?;
+    assert_eq!(rt; wrong.as_str(), "");
+    Ok(())
+}
+
+#[test]
+fn second_initialised_files_are_typed_or_refused(rt: HostRuntime) -> Result<(), Fail> {
+    let wrong = wrong(rt.alloc(), &initialised_files::SECOND)?;
+    assert_eq!(rt; wrong.as_str(), "");
+    Ok(())
+}
+
+#[test]
+fn third_initialised_files_are_typed_or_refused(rt: HostRuntime) -> Result<(), Fail> {
+    let wrong = wrong(rt.alloc(), &initialised_files::THIRD)?;
+    assert_eq!(rt; wrong.as_str(), "");
+    Ok(())
+}
+
+#[test]
+fn first_typed_files_are_typed_or_refused(rt: HostRuntime) -> Result<(), Fail> {
+    let wrong = wrong(rt.alloc(), &typed_files::FIRST)?;
+    assert_eq!(rt; wrong.as_str(), "");
+    Ok(())
+}
+
+#[test]
+fn second_typed_files_are_typed_or_refused(rt: HostRuntime) -> Result<(), Fail> {
+    let wrong = wrong(rt.alloc(), &typed_files::SECOND)?;
+    assert_eq!(rt; wrong.as_str(), "");
+    Ok(())
+}
+
+#[test]
+fn third_typed_files_are_typed_or_refused(rt: HostRuntime) -> Result<(), Fail> {
+    let wrong = wrong(rt.alloc(), &typed_files::THIRD)?;
+    assert_eq!(rt; wrong.as_str(), "");
+    Ok(())
+}
+
+#[test]
+fn first_constant_files_are_typed_or_refused(rt: HostRuntime) -> Result<(), Fail> {
+    let wrong = wrong(rt.alloc(), &constant_files::FIRST)?;
+    assert_eq!(rt; wrong.as_str(), "");
+    Ok(())
+}
+
+#[test]
+fn second_constant_files_are_typed_or_refused(rt: HostRuntime) -> Result<(), Fail> {
+    let wrong = wrong(rt.alloc(), &constant_files::SECOND)?;
     assert_eq!(rt; wrong.as_str(), "");
     Ok(())
 }

@@ -2,7 +2,7 @@
 
 /// Files, and what the front end says of them: `typed`, or the code and the place of the first rule that they break. A remark
 /// stands before each.
-pub(super) const FILES: [(&str, &str); 114] = [
+pub(super) const FIRST: [(&str, &str); 38] = [
     // inner braces are not left out: 3 does not convert to an array
     (
         "int a[2][2]={{1,2},3};int main(void){return 0;}",
@@ -160,6 +160,10 @@ pub(super) const FILES: [(&str, &str); 114] = [
         "int f(void){return 0;}int(*p)(void)=&f,(*q)(void)=*f,(*r)(void)=(int(*)(void))(intptr_t)f;int main(void){return p()+q()+r();}",
         "typed",
     ),
+];
+
+/// More of them.
+pub(super) const SECOND: [(&str, &str); 38] = [
     // a number is added to a function's address, also 0
     (
         "int f(void){return 0;}intptr_t i=(intptr_t)f+0;int main(void){return 0;}",
@@ -329,6 +333,10 @@ pub(super) const FILES: [(&str, &str); 114] = [
         "int g(const int a[2]){a=0;return a==0;}int main(void){return g(0);}",
         "typed",
     ),
+];
+
+/// More of them.
+pub(super) const THIRD: [(&str, &str); 38] = [
     // the object has the same type; the declarator with the body is none of a function
     (
         "int main(void){extern int x;return 0;}int x{return 1;}",
