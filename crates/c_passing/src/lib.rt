@@ -1,5 +1,9 @@
-//! The program that is run in the place of a typed one: structs and unions go to functions and come back by pointers, through hidden
-//! locals of the caller.
+//! The program that is run in the place of a typed one: structs and unions go to functions and come back by pointers,
+//! through hidden locals of the caller.
+//!
+//! Promise: `pass` gives the program that the typing puts in the place of one with its types as written.
+//! Definitions (`specs/`): `Passed` of `c_tree`; `Routines` (`IsPassedProgram`), `Passes`, `Numbered`, `Named`, `Lists`.
+//! Main lemmas (`proofs/`): `Programs`, `Passing`.
 #![tactic(auto)]
 
 mod calls;

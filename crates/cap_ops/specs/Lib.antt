@@ -1,3 +1,4 @@
 pub mod Capability
 pub mod Access
 pub mod Bounded
+pub mod Permissions

@@ -8,6 +8,7 @@ use Rattle.std.proofs.lemmas.List.Elements.{All-nil, All-append}
 use Rattle.std.proofs.lemmas.Nat.{pow-add, div-add-mod'}
 use Rattle.std.proofs.Math.Pow.{pow-lt}
 use Rattle.cap_concentrate.specs.Rounding.{alignment}
+use Rattle.cap_ops.specs.Permissions.{data_permissions, const_permissions}
 use Rattle.c_tree.specs.declared.typed.Typed.{Typed}
 use Rattle.c_tree.specs.declared.typed.GlobalDef.{GlobalDef}
 use Rattle.c_tree.specs.declared.typed.Link.{Link}
@@ -18,7 +19,6 @@ use Rattle.c_tree.specs.WellTyped.{WellTyped, LinkFits}
 use Rattle.obj_mem.specs.declared.map.Map.{Map}
 use Rattle.obj_mem.specs.Legal.{ObjectNeed, owned_of, alignment_of, AreAligned}
 use Rattle.obj_mem.specs.Needs.{nothing_of, need_by, global_need, literal_need, is_const, weight_in, Legal}
-use Rattle.obj_mem.specs.Objects.{data_permissions, const_permissions}
 use Rattle.obj_mem.specs.Table.{table_length, entry_count}
 use Rattle.cap_reloc.specs.declared.pointers.Pointer.{Pointer}
 use Rattle.cap_reloc.specs.Begins.{asked_by, IsInside}

@@ -9,6 +9,7 @@ use Rattle.ck_int.specs.Kinds.{kept_of}
 use Rattle.cap_concentrate.specs.Rounding.{Encodable, owned}
 use Rattle.cap_concentrate.proofs.Laws.{encodable_of_least}
 use Rattle.cap_concentrate.proofs.Owned.{owned_encodable}
+use Rattle.cap_ops.specs.Permissions.{data_permissions, const_permissions}
 use Rattle.c_tree.specs.declared.typed.Typed.{Typed}
 use Rattle.c_tree.specs.declared.typed.CType.{CType}
 use Rattle.c_tree.specs.declared.typed.GlobalDef.{GlobalDef}
@@ -24,7 +25,6 @@ use Rattle.c_tree.specs.WellTyped.{WellTyped, OwnsBytes, HasExtent, type_in}
 use Rattle.c_tree.proofs.ViewLayout.{extent_is}
 use Rattle.elf_file.specs.declared.image.Reloc.{Reloc}
 use Rattle.obj_mem.specs.declared.map.Map.{Map}
-use Rattle.obj_mem.specs.Objects.{data_permissions, const_permissions}
 use Rattle.obj_mem.specs.Legal.{ObjectNeed, AreApart, IsApartFrom, IsEntry, owned_of, placed_at}
 use Rattle.obj_mem.specs.Needs.{global_need, literal_need, is_const, weight_in, Legal}
 use Rattle.obj_mem.specs.Standing.{IsExact, AreExact}

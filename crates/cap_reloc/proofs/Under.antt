@@ -21,7 +21,6 @@ use Rattle.c_tree.specs.Layout.{Extent, extent, size_limit}
 use Rattle.c_tree.specs.WellTyped.{WellTyped, LinkFits, OwnsBytes}
 use Rattle.obj_mem.specs.declared.map.Map.{Map}
 use Rattle.obj_mem.specs.Agreement.{Paired}
-use Rattle.obj_mem.specs.Objects.{data_permissions, const_permissions}
 use Rattle.obj_mem.specs.Legal.{ObjectNeed, owned_of, placed_at, objects_of}
 use Rattle.obj_mem.specs.Needs.{nothing_of, need_by, global_need, literal_need, function_needs, is_const, weight_in, Legal}
 use Rattle.obj_mem.specs.Standing.{AreExact}
@@ -30,6 +29,7 @@ use Rattle.obj_mem.specs.Values.{Live, Fun}
 use Rattle.obj_mem.proofs.Pairs.{join_both}
 use Rattle.obj_mem.proofs.Spread.{objects_are_exact_law}
 use Rattle.ck_int.specs.Kinds.{kept_of}
+use Rattle.cap_ops.specs.Permissions.{data_permissions, const_permissions}
 use Rattle.cap_reloc.specs.declared.pointers.Pointer.{Pointer}
 use Rattle.cap_reloc.specs.Begins.{asked_by, beginning, links_begun, link_begun, IsRelocation}
 use Rattle.cap_reloc.specs.Initial.{lowest, highest}

@@ -4,6 +4,7 @@ use Rattle.std.specs.List.{zip, flat_map}
 use Rattle.cap_ops.specs.declared.capability.Cap.{Cap}
 use Rattle.cap_ops.specs.declared.capability.TheConstants.{UNSEALED, SENTRY}
 use Rattle.cap_ops.specs.Bounded.{bounded}
+use Rattle.cap_ops.specs.Permissions.{data_permissions, code_permissions}
 use Rattle.elf_file.specs.declared.image.Reloc.{Reloc}
 use Rattle.c_tree.specs.declared.typed.Typed.{Typed}
 use Rattle.c_tree.specs.declared.typed.GlobalDef.{GlobalDef}
@@ -11,8 +12,7 @@ use Rattle.c_tree.specs.declared.typed.Link.{Link}
 use Rattle.obj_mem.specs.declared.map.Map.{Map}
 use Rattle.obj_mem.specs.Legal.{Needs}
 use Rattle.obj_mem.specs.Needs.{needs_of, weight_in}
-use Rattle.obj_mem.specs.Values.{Live, Fun, function_permissions}
-use Rattle.obj_mem.specs.Objects.{data_permissions}
+use Rattle.obj_mem.specs.Values.{Live, Fun}
 use Rattle.obj_mem.specs.Table.{Start, Holds, WholeHeap, table_starts, start_of, start_capability, addresses_of, object_base}
 
 -- what a program asks of its map
@@ -51,7 +51,7 @@ stored_by r = bounded r.base (r.base + r.length) (r.perms % 128) (if nat_le (2 ^
 -- its bounds, its address counted from their base, and the word
 unfoldable pub relocation_of : Map → ℕ → Start → Reloc
 relocation_of m place (Holds (Live object low high offset permissions)) = record { place = place; base = object_base m object + low; offset = (offset + 2 ^ 64 - low) % 2 ^ 64; length = high - low; perms = permissions }
-relocation_of m place (Holds (Fun f)) = record { place = place; base = m.text.0; offset = slice_index m.entries f - m.text.0; length = m.text.1; perms = 2 ^ 63 + function_permissions }
+relocation_of m place (Holds (Fun f)) = record { place = place; base = m.text.0; offset = slice_index m.entries f - m.text.0; length = m.text.1; perms = 2 ^ 63 + code_permissions }
 relocation_of m place WholeHeap = record { place = place; base = m.heap.0; offset = 0; length = m.heap.1; perms = data_permissions }
 -- nothing begins as an integer, or as a capability without a tag
 relocation_of m place (Holds v) = record { place = place; base = 0; offset = 0; length = 0; perms = 0 }

@@ -2,6 +2,7 @@
 use Rattle.std.specs.Prelude.{ℕ, ◌+◌, ◌-◌, ◌%◌, ◌^◌, ◌<◌, ◌≤◌, List, [], ◌∷◌, ◌++◌, length, map, slice_index, slice_index_or}
 use Rattle.std.specs.List.{zip}
 use Rattle.ck_int.specs.Kinds.{kept_of}
+use Rattle.cap_ops.specs.Permissions.{data_permissions}
 use Rattle.elf_file.specs.declared.image.Reloc.{Reloc}
 use Rattle.c_tree.specs.declared.typed.Typed.{Typed}
 use Rattle.c_tree.specs.declared.typed.GlobalDef.{GlobalDef}
@@ -11,7 +12,6 @@ use Rattle.c_tree.specs.declared.typed.Link.{Link}
 use Rattle.c_tree.specs.declared.typed.Target.{Target}
 use Rattle.c_tree.specs.declared.typed.Target.TheVariants as target
 use Rattle.obj_mem.specs.declared.map.Map.{Map}
-use Rattle.obj_mem.specs.Objects.{data_permissions}
 use Rattle.obj_mem.specs.Legal.{ObjectNeed, owned_of}
 use Rattle.obj_mem.specs.Needs.{global_need, literal_need}
 use Rattle.cap_reloc.specs.declared.pointers.Pointer.{Pointer}

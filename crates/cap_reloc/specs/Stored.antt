@@ -2,11 +2,10 @@
 -- an entry.
 use Rattle.std.specs.Prelude.{ℕ, ◌≡◌, ◌+◌, ◌%◌, ◌^◌, ◌<◌, ◌≤◌, ◌⊎◌, Some, slice_get}
 use Rattle.cap_concentrate.specs.Rounding.{Encodable}
+use Rattle.cap_ops.specs.Permissions.{data_permissions, const_permissions, code_permissions}
 use Rattle.elf_file.specs.declared.image.Reloc.{Reloc}
 use Rattle.obj_mem.specs.declared.map.Map.{Map}
 use Rattle.obj_mem.specs.Legal.{AreApart, IsEntry}
-use Rattle.obj_mem.specs.Objects.{data_permissions, const_permissions}
-use Rattle.obj_mem.specs.Values.{function_permissions}
 
 -- the address of its capability
 abbrev pub address_in : Reloc → ℕ
@@ -22,7 +21,7 @@ pub record IsStorable (r : Reloc) : Type 0 where
 
 -- the sentry of a function: it has the text's bounds, and the address of the function's entry
 pub record IsSentry (m : Map) (r : Reloc) : Type 0 where
-  pub word : r.perms ≡ 2 ^ 63 + function_permissions
+  pub word : r.perms ≡ 2 ^ 63 + code_permissions
   pub base : r.base ≡ m.text.0
   pub length : r.length ≡ m.text.1
   pub entry : IsEntry m.text (address_in r)

@@ -2,6 +2,7 @@
 use Rattle.std.specs.Prelude.{ℕ, zero, suc, ◌+◌, ◌-◌, ◌%◌, List, [], ◌∷◌, ◌++◌, length, replicate, Option, Some, None, Result, Ok, Err, slice_get}
 use Rattle.ck_base.specs.World.{World, Outcome, nothing_done}
 use Rattle.ck_base.specs.declared.positions.Pos.{Pos}
+use Rattle.cap_ops.specs.Permissions.{data_permissions}
 use Rattle.obj_mem.specs.Values.{Value}
 use Rattle.obj_mem.specs.Values as value
 use Rattle.obj_mem.specs.declared.ending.Fault.{Fault}
@@ -43,7 +44,7 @@ module _ {M : Type 0} (ops : Operations M) where
   memory_or m (Err e) = m
 
   abbrev pub written : M → (object at bytes : ℕ) → Value → M
-  written m object at bytes v = memory_or m (ops.store m (further (ops.whole m object 125) at) bytes v)
+  written m object at bytes v = memory_or m (ops.store m (further (ops.whole m object data_permissions) at) bytes v)
 
   -- bytes from a place of an object on
   abbrev pub with_bytes : M → (object at : ℕ) → List ℕ → M
@@ -90,7 +91,7 @@ module _ {M : Type 0} (ops : Operations M) where
     pass_one p (In_variable x) v = set_variable x (Some v)
     pass_one p (In_object n k) v = λ s. (do
       change_memory (λ m. ops.zero m (s.first + n))
-      store ops w k (At p (ops.whole s.mem (s.first + n) 125)) v) s
+      store ops w k (At p (ops.whole s.mem (s.first + n) data_permissions)) v) s
 
     abbrev pub pass : Pos → List Parameter → List Value → Then M (Unit {0})
     pass p [] vs = give tt

@@ -3,6 +3,7 @@ use Rattle.std.specs.Prelude.{ℕ, zero, suc, ◌+◌, ◌-◌, ◌/◌, ◌%◌
 use Rattle.ck_base.specs.World.{World}
 use Rattle.ck_base.specs.declared.positions.Pos.{Pos}
 use Rattle.ck_int.specs.declared.kinds.IntOp.TheVariants.{Sub, Xor}
+use Rattle.cap_ops.specs.Permissions.{data_permissions}
 use Rattle.cap_ops.specs.declared.access.Cause.TheVariants as cause
 use Rattle.obj_mem.specs.Values.{Value}
 use Rattle.obj_mem.specs.Values as value
@@ -242,7 +243,7 @@ module _ {M : Type 0} (ops : Operations M) (w : World) where
 
       pub place_of : Ex → Then M Place
       place_of (Variable p x) = give (In p x)
-      place_of (Local p n) = λ s k. k (At p (ops.whole s.mem (s.first + n) 125)) s
+      place_of (Local p n) = λ s k. k (At p (ops.whole s.mem (s.first + n) data_permissions)) s
       place_of (Object p object permissions) = λ s k. k (At p (ops.whole s.mem object permissions)) s
       place_of (Function p f) = give (At p (value.Fun f))
       place_of (Deref p e) = do

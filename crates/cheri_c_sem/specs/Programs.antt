@@ -2,6 +2,7 @@
 use Rattle.std.specs.Prelude.{ℕ, zero, suc, ◌+◌, ◌==◌, List, [], ◌∷◌, length, map, Option, Some, None, slice_get, if◌then◌else◌}
 use Rattle.ck_base.specs.declared.positions.Pos.{Pos}
 use Rattle.ck_int.specs.Kinds.{kept_of}
+use Rattle.cap_ops.specs.Permissions.{const_permissions}
 use Rattle.c_tree.specs.Layout.{bare}
 use Rattle.c_tree.specs.declared.typed.CType.{CType}
 use Rattle.c_tree.specs.declared.typed.FunDef.{FunDef}
@@ -17,7 +18,6 @@ use Rattle.c_tree.specs.declared.typed.Target.TheVariants as target
 use Rattle.c_tree.specs.declared.typed.Typed.{Typed}
 use Rattle.c_tree.specs.declared.typed.VarDef.{VarDef}
 use Rattle.obj_mem.specs.Values as value
-use Rattle.obj_mem.specs.Objects.{const_permissions}
 use Rattle.cheri_c_sem.specs.Kinds.{Kind}
 use Rattle.cheri_c_sem.specs.Tree.{Ex, Declared, Simple, Objects, Label, Case, Default, St, Do, Give, Init, Fill, Block, If, While, Do_while, For, Switch, Break, Continue, Return, Empty, Sts, End, Seq, Parameter, In_variable, In_object, At_end, Gives_nothing, Gives_zero, Lacks, Fun, Global, Program}
 use Rattle.cheri_c_sem.specs.Types.{size_in, align_in, kind_of, is_record, is_void, result_type_of, unit_of, objects_before, is_simple, type_of_var}

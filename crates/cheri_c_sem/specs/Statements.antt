@@ -3,6 +3,7 @@ use Rattle.std.specs.Prelude.{ℕ, zero, suc, ◌+◌, Bool, true, List, [], ◌
 use Rattle.ck_base.specs.World.{World}
 use Rattle.ck_base.specs.declared.positions.Pos.{Pos}
 use Rattle.ck_int.specs.declared.kinds.CmpOp.TheVariants.{Eq}
+use Rattle.cap_ops.specs.Permissions.{data_permissions}
 use Rattle.obj_mem.specs.Values.{Value}
 use Rattle.obj_mem.specs.Values as value
 use Rattle.obj_mem.specs.declared.ending.Ending.TheVariants as ending
@@ -134,7 +135,7 @@ module _ {M : Type 0} (ops : Operations M) (w : World) where
   -- the place at an offset in a local of the current call
   abbrev pub part_of_local : Pos → (local offset : ℕ) → Then M Place
   part_of_local p local offset = λ s. (do
-    v ← ask p (λ m. ops.offset m (ops.whole m (s.first + local) 125) offset)
+    v ← ask p (λ m. ops.offset m (ops.whole m (s.first + local) data_permissions) offset)
     give (At p v)) s
 
   module _ (call : ℕ → List Value → Then M Value) where

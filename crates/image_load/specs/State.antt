@@ -5,6 +5,7 @@ use Rattle.cap_ops.specs.declared.capability.Cap.{Cap}
 use Rattle.cap_ops.specs.declared.capability.TheConstants.{UNSEALED}
 use Rattle.cap_ops.specs.Capability.{null_at}
 use Rattle.cap_ops.specs.Bounded.{bounded}
+use Rattle.cap_ops.specs.Permissions.{data_permissions, code_permissions}
 use Rattle.tag_mem.specs.Areas.{Area}
 use Rattle.tag_mem.specs.Memory.{written}
 use Rattle.tag_mem.specs.Numbers.{little_bytes}
@@ -41,13 +42,6 @@ memory_of i = relocated (written (written (fresh (regions_of (segments_of i))) i
 
 -- ---- registers
 
--- all permissions but Execute; Global and Execute
-abbrev pub data_permissions : ℕ
-data_permissions = 125
-
-abbrev pub text_permissions : ℕ
-text_permissions = 3
-
 -- a capability of an extent at an address
 abbrev pub of_extent : Extent → ℕ → ℕ → Cap
 of_extent e perms at = bounded e.0 (end_of e) perms UNSEALED at
@@ -58,4 +52,4 @@ registers_of i = slice_set (slice_set (replicate 32 (null_at 0)) 2 (of_extent i.
 
 -- the counter has the text, at the entry
 unfoldable pub machine_of : Image → Machine
-machine_of i = record { regs = registers_of i; pc = of_extent (text_of i) text_permissions i.entry; mem = memory_of i }
+machine_of i = record { regs = registers_of i; pc = of_extent (text_of i) code_permissions i.entry; mem = memory_of i }

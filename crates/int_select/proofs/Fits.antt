@@ -7,6 +7,7 @@ use Rattle.cap_concentrate.specs.Rounding.{Encodable}
 use Rattle.cap_ops.specs.declared.capability.Cap.{Cap}
 use Rattle.cap_ops.specs.declared.capability.TheConstants.{UNSEALED}
 use Rattle.cap_ops.specs.Bounded.{bounded}
+use Rattle.cap_ops.specs.Permissions.{data_permissions, code_permissions}
 use Rattle.rv_instr.specs.declared.instr.Instr.{Instr}
 use Rattle.rv_instr.specs.Range.{InRange}
 use Rattle.rv_code.specs.Formats.{word_of}
@@ -22,7 +23,6 @@ use Rattle.cheri_c_sem.specs.Steps.{State}
 use Rattle.tac_ir.specs.Effects.{kind_at, temp_in}
 use Rattle.tac_ir.specs.declared.code.TacKind.{TacKind}
 use Rattle.int_select.specs.Code.{slot, frame_size}
-use Rattle.int_select.specs.Selected.{data_permissions, text_permissions}
 use Rattle.int_select.specs.Tracking.{Moment}
 
 -- Where everything stands: the code from the text's base on, the stack, the temps with their kinds, and the world
@@ -53,7 +53,7 @@ abbrev pub place : Plan → ℕ → ℕ
 place g at = g.text + 4 * at
 
 abbrev pub counter_at : Plan → ℕ → Cap
-counter_at g at = bounded g.text g.text_end text_permissions UNSEALED (place g at)
+counter_at g at = bounded g.text g.text_end code_permissions UNSEALED (place g at)
 
 abbrev pub stack_at : Plan → ℕ → Cap
 stack_at g a = bounded g.low g.high data_permissions UNSEALED a

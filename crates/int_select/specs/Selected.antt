@@ -4,6 +4,7 @@ use Rattle.ck_base.specs.Runs.{outcome, ending_alone}
 use Rattle.ck_base.specs.Agreement.{Sides, DoesWhatIsMeant, KeepsToOutside, DoesAllThatIsMeant}
 use Rattle.cap_ops.specs.declared.capability.TheConstants.{UNSEALED}
 use Rattle.cap_ops.specs.Bounded.{bounded}
+use Rattle.cap_ops.specs.Permissions.{data_permissions, code_permissions}
 use Rattle.rv_instr.specs.declared.instr.Instr.{Instr}
 use Rattle.rv_instr.specs.Range.{InRange}
 use Rattle.rv_code.specs.Formats.{word_of}
@@ -34,18 +35,11 @@ use Rattle.int_select.specs.Code.{frame_size}
 
 -- ---- the first state of a run
 
--- data: all permissions but Execute; code: Global and Execute
-abbrev pub data_permissions : ℕ
-data_permissions = 125
-
-abbrev pub text_permissions : ℕ
-text_permissions = 3
-
 -- The code stands as the text of a map, and the machine is at its start, as loading leaves it: c2 has the stack, with its top as
 -- address, and c3 the table, with its base as address.
 pub record First (code : List Instr) (start : ℕ) (map : Map) (m : Machine) : Type 0 where
   pub registers : length m.regs ≡ 32
-  pub counter : m.pc ≡ bounded map.text.0 (map.text.0 + map.text.1) text_permissions UNSEALED (map.text.0 + start)
+  pub counter : m.pc ≡ bounded map.text.0 (map.text.0 + map.text.1) code_permissions UNSEALED (map.text.0 + start)
   pub stack : register m 2 ≡ bounded map.stack.0 (map.stack.0 + map.stack.1) data_permissions UNSEALED (map.stack.0 + map.stack.1)
   pub table : register m 3 ≡ bounded map.table.0 (map.table.0 + map.table.1) data_permissions UNSEALED map.table.0
   pub memory : IsMemory m.mem

@@ -2,6 +2,7 @@
 //!
 //! Promise: each call is its definition, whatever the operations are.
 //! Definitions (`specs/`): `Answers`; what they speak of is `cheri_c_sem`'s.
+//! Main lemmas (`proofs/`): none.
 #![tactic(auto)]
 
 mod arithmetic;

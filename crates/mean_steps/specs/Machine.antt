@@ -4,6 +4,7 @@ use Rattle.std.specs.Prelude.{ℕ, zero, suc, ◌+◌, ◌%◌, not, Bool, true,
 use Rattle.ck_base.specs.World.{World}
 use Rattle.ck_base.specs.Runs.{Act, Goes, Puts, Reads, Ends, Limits}
 use Rattle.ck_base.specs.declared.positions.Pos.{Pos}
+use Rattle.cap_ops.specs.Permissions.{data_permissions}
 use Rattle.obj_mem.specs.Values.{Value}
 use Rattle.obj_mem.specs.Values as value
 use Rattle.obj_mem.specs.declared.ending.Ending.{Ending}
@@ -191,7 +192,7 @@ module _ {M : Type 0} (ops : Operations M) (funs : List Fun) where
 
   abbrev pub designate : Ex → Moment M → Act (Moment M) Ending
   designate (Variable p x) m = Goes (with_place (In p x) m)
-  designate (Local p n) m = Goes (with_place (At p (ops.whole m.now.mem (m.now.first + n) 125)) m)
+  designate (Local p n) m = Goes (with_place (At p (ops.whole m.now.mem (m.now.first + n) data_permissions)) m)
   designate (Object p object permissions) m = Goes (with_place (At p (ops.whole m.now.mem object permissions)) m)
   designate (Function p f) m = Goes (with_place (At p (value.Fun f)) m)
   designate (Deref p e) m = Goes (two (Evaluate e) (Finish_place (Deref p e)) m)

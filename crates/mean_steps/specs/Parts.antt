@@ -2,6 +2,7 @@
 use Rattle.std.specs.Prelude.{ℕ, zero, suc, ◌+◌, ◌/◌, Bool, true, false, List, [], ◌∷◌, replicate, Option, Some, None, Result, Ok, Err, slice_get, slice_set, slice_index_or}
 use Rattle.ck_base.specs.declared.positions.Pos.{Pos}
 use Rattle.ck_int.specs.declared.kinds.CmpOp.TheVariants.{Eq}
+use Rattle.cap_ops.specs.Permissions.{data_permissions}
 use Rattle.cap_ops.specs.declared.access.Cause.TheVariants as cause
 use Rattle.obj_mem.specs.Values.{Value}
 use Rattle.obj_mem.specs.Values as value
@@ -126,7 +127,7 @@ module _ {M : Type 0} (ops : Operations M) where
   -- the place at an offset in a local of the current call
   abbrev pub part_of_local : Pos → (local offset : ℕ) → Part M Place
   part_of_local p local offset = λ n. (do
-    v ← ask p (λ m. ops.offset m (ops.whole m (n.first + local) 125) offset)
+    v ← ask p (λ m. ops.offset m (ops.whole m (n.first + local) data_permissions) offset)
     give (At p v)) n
 
   -- ---- single operations
@@ -188,7 +189,7 @@ module _ {M : Type 0} (ops : Operations M) where
   pass_one p (In_variable x) v = set_variable x (Some v)
   pass_one p (In_object j k) v = λ n. (do
     change_memory (λ m. ops.zero m (n.first + j))
-    store k (At p (ops.whole n.mem (n.first + j) 125)) v) n
+    store k (At p (ops.whole n.mem (n.first + j) data_permissions)) v) n
 
   abbrev pub pass : Pos → List Parameter → List Value → Part M (Unit {0})
   pass p [] vs = give tt

@@ -2,6 +2,7 @@
 //!
 //! Promise: each answer is that of the definition: kinds, the facts of a type by its number.
 //! Definitions (`specs/`): `Views`, `Facts`; what they speak of is `cheri_c_sem`'s.
+//! Main lemmas (`proofs/`): `Behind`.
 #![tactic(auto)]
 
 mod kinds;

@@ -1,6 +1,7 @@
 -- What a program asks of its map: its objects and functions, with the sizes and alignments of their types.
 use Rattle.std.specs.Prelude.{ℕ, zero, suc, List, [], ◌∷◌, length, map, nat_le, Bool, true, false, not, Option, Some, None, slice_get, if◌then◌else◌}
 use Rattle.std.specs.List.{filter}
+use Rattle.cap_ops.specs.Permissions.{data_permissions, const_permissions}
 use Rattle.c_tree.specs.Layout.{Extent, extent, size_limit}
 use Rattle.c_tree.specs.TreeWeight.{function_weight}
 use Rattle.c_tree.specs.declared.typed.Typed.{Typed}
@@ -10,7 +11,6 @@ use Rattle.c_tree.specs.declared.typed.GlobalDef.{GlobalDef}
 use Rattle.c_tree.specs.declared.typed.Literal.{Literal}
 use Rattle.c_tree.specs.declared.typed.FunDef.{FunDef}
 use Rattle.c_tree.specs.declared.typed.VarDef.{VarDef}
-use Rattle.obj_mem.specs.Objects.{data_permissions, const_permissions}
 use Rattle.obj_mem.specs.declared.map.Map.{Map}
 use Rattle.obj_mem.specs.Legal.{ObjectNeed, FunctionNeed, Needs, IsLegal}
 

@@ -185,13 +185,6 @@ zero_object d m k = record m {
 
 -- ---- pointers to objects
 
--- all but Execute; and Global, Load and Load_Capability, for string literals and globals of const type
-abbrev pub data_permissions : ℕ
-data_permissions = 125
-
-abbrev pub const_permissions : ℕ
-const_permissions = 21
-
 -- the pointer to a whole object
 abbrev pub whole_pointer : List Shape → ℕ → ℕ → Value
 whole_pointer shapes k permissions = Live k 0 (owned_of_shape (slice_get shapes k)) 0 permissions

@@ -6,9 +6,10 @@ use Rattle.cap_concentrate.specs.Encoding.{encoded_internal, encoded_t, encoded_
 use Rattle.cap_concentrate.specs.Packing.{fields_of, flipped}
 use Rattle.cap_concentrate.specs.Rounding.{alignment, owned, least_base, least_top}
 use Rattle.cap_concentrate.specs.declared.fields.Fields.{Fields}
+use Rattle.cap_ops.specs.Permissions.{code_permissions}
 use Rattle.obj_mem.specs.declared.ending.Fault.{Fault}
 use Rattle.obj_mem.specs.declared.ending.Reason.TheVariants as R
-use Rattle.obj_mem.specs.Values.{Value, Int, Live, Fun, Raw, Addresses, is_tagged, address_of, untagged, cleared, function_permissions}
+use Rattle.obj_mem.specs.Values.{Value, Int, Live, Fun, Raw, Addresses, is_tagged, address_of, untagged, cleared}
 use Rattle.obj_mem.specs.Objects.{Shape, Mode, Placed, Strict, base_in}
 use Rattle.obj_mem.specs.Access.{unspecified}
 
@@ -151,7 +152,7 @@ get_tag v = is_tagged v
 abbrev pub get_permissions : Value → ℕ
 get_permissions (Int n) = 0
 get_permissions (Live object low high offset permissions) = permissions
-get_permissions (Fun f) = function_permissions
+get_permissions (Fun f) = code_permissions
 get_permissions (Raw address upper) = (raw_fields address upper).perms
 
 -- the base of a pointer needs its object's address

@@ -5,12 +5,12 @@ use Rattle.cap_concentrate.specs.Rounding.{owned}
 use Rattle.cap_ops.specs.declared.capability.Cap.{Cap}
 use Rattle.cap_ops.specs.declared.capability.TheConstants.{UNSEALED}
 use Rattle.cap_ops.specs.Bounded.{bounded}
+use Rattle.cap_ops.specs.Permissions.{data_permissions, const_permissions}
 use Rattle.c_tree.specs.declared.typed.Link.{Link}
 use Rattle.c_tree.specs.declared.typed.Target.{Target}
 use Rattle.c_tree.specs.declared.typed.Target.TheVariants as target
 use Rattle.obj_mem.specs.declared.map.Map.{Map}
 use Rattle.obj_mem.specs.Values.{Value, Live, Fun, Addresses, capability_of}
-use Rattle.obj_mem.specs.Objects.{data_permissions, const_permissions}
 use Rattle.obj_mem.specs.Legal.{ObjectNeed, Needs, owned_of}
 
 -- ---- the table: 16 bytes for each global, each literal and each function, for the heap and for the allocator's own state

@@ -6,6 +6,7 @@ use Rattle.cap_ops.specs.declared.capability.Cap.{Cap}
 use Rattle.cap_ops.specs.declared.capability.TheConstants.{UNSEALED, SENTRY}
 use Rattle.cap_ops.specs.Capability.{null_at}
 use Rattle.cap_ops.specs.Bounded.{bounded}
+use Rattle.cap_ops.specs.Permissions.{code_permissions}
 use Rattle.obj_mem.specs.declared.value.Value as public
 use Rattle.obj_mem.specs.declared.value.Value.TheVariants as given
 
@@ -55,16 +56,12 @@ pub record Addresses : Type 0 where
   pub heap : ℕ
   pub heap_end : ℕ
 
--- Global and Execute
-abbrev pub function_permissions : ℕ
-function_permissions = 3
-
 -- The capability that a value is. `base` gives each object's base; the bounds are encoded in their canonical form
 unfoldable pub capability_of : Addresses → (ℕ → ℕ) → Value → Cap
 capability_of a base (Int n) = null_at n
 capability_of a base (Live object low high offset permissions) =
     bounded (base object + low) (base object + high) permissions UNSEALED ((base object + offset) % 2 ^ 64)
-capability_of a base (Fun f) = bounded a.text a.text_end function_permissions SENTRY (a.entry f)
+capability_of a base (Fun f) = bounded a.text a.text_end code_permissions SENTRY (a.entry f)
 capability_of a base (Raw address upper) = record { tag = false; fields = fields_of (flipped (upper * 2 ^ 64 + address)) }
 
 -- its 128 bits, and these bits as they stand in memory

@@ -4,6 +4,7 @@
 //! alone that make room.
 //! Definitions (`specs/`): `Views`, `Answers`, `Memories`, `Allocations`; the meaning of each call is one of `obj_mem`, and of
 //! integers one of `cheri_c_sem`.
+//! Main lemmas (`proofs/`): `Loads`, `Puts`, `Copies`, `Changed`.
 #![tactic(auto)]
 
 mod access;

@@ -6,9 +6,10 @@ use Rattle.std.proofs.Math.Nat.{mul-mod_left}
 use Rattle.cap_concentrate.specs.Rounding.{alignment, owned, rounded_up}
 use Rattle.cap_concentrate.proofs.Least.{rounded_up_ge, rounded_up_near}
 use Rattle.cap_concentrate.proofs.Owned.{owned_ge}
+use Rattle.cap_ops.specs.Permissions.{data_permissions}
 use Rattle.obj_mem.specs.declared.ending.Reason.TheVariants as R
 use Rattle.obj_mem.specs.Values.{Value, Live, Addresses}
-use Rattle.obj_mem.specs.Objects.{Active, Shape, Memory, Placed, Strict, add, blank, data_permissions}
+use Rattle.obj_mem.specs.Objects.{Active, Shape, Memory, Placed, Strict, add, blank}
 use Rattle.obj_mem.specs.Access.{unspecified}
 use Rattle.obj_mem.specs.Heap.{strict_heap, allocation_alignment, allocated, placed_allocate, allocate}
 use Rattle.obj_mem.specs.Legal.{Apart}

@@ -4,6 +4,7 @@ use Rattle.std.specs.Prelude.{slice_get, if◌then◌else◌}
 use Rattle.std.proofs.lemmas.Option.{slice_get_within, slice_get-get_or}
 use Rattle.ck_base.specs.declared.positions.Pos.{Pos}
 use Rattle.ck_int.proofs.Laws.{IsKept-below}
+use Rattle.cap_ops.specs.Permissions.{data_permissions, const_permissions}
 use Rattle.c_tree.specs.declared.typed.CType.{CType}
 use Rattle.c_tree.specs.declared.typed.Expr.{Expr}
 use Rattle.c_tree.specs.declared.typed.ExprKind.{ExprKind}
@@ -20,7 +21,6 @@ use Rattle.c_tree.specs.Terms.{Term, terms}
 use Rattle.c_tree.specs.Views.{types_of, type_at, kind_term, expr_from, no_term, terms_of, term_at, operands, IsOrdered}
 use Rattle.c_tree.specs.WellTyped.{Frame, TermFits, TermsFit, ConstantFits}
 use Rattle.c_tree.proofs.Forest.{forest_reads}
-use Rattle.obj_mem.specs.Objects.{data_permissions, const_permissions}
 use Rattle.obj_mem.specs.Needs.{is_const}
 use Rattle.cheri_c_sem.specs.Kinds.{Kind, Plain, Capability}
 use Rattle.cheri_c_sem.specs.Types.{size_in, is_simple, objects_before, is_record, is_void, is_pointer, kind_of, scalar_of}

@@ -5,6 +5,7 @@ use Rattle.std.specs.List.{AllByRecursion}
 use Rattle.cap_concentrate.specs.Rounding.{owned}
 use Rattle.cap_concentrate.proofs.Owned.{owned_small}
 use Rattle.ck_base.specs.World.{World, Outcome}
+use Rattle.cap_ops.specs.Permissions.{const_permissions}
 use Rattle.c_tree.specs.declared.typed.FunDef.{FunDef}
 use Rattle.c_tree.specs.declared.typed.GlobalDef.{GlobalDef}
 use Rattle.c_tree.specs.declared.typed.Link.{Link}
@@ -21,7 +22,6 @@ use Rattle.c_facts.proofs.Sound.{well_typed}
 use Rattle.obj_mem.specs.declared.map.Map.{Map}
 use Rattle.obj_mem.specs.declared.ending.Ending.{Ending}
 use Rattle.obj_mem.specs.declared.ending.Ending.TheVariants as ending
-use Rattle.obj_mem.specs.Objects.{const_permissions}
 use Rattle.obj_mem.specs.Legal.{IsLegal}
 use Rattle.obj_mem.specs.Needs.{literal_need, needs_of, weight_in}
 use Rattle.obj_mem.specs.Standing.{IsFitted, AreExact}

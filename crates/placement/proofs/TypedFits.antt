@@ -8,6 +8,7 @@ use Rattle.std.proofs.Math.Nat.{mul-mod_left}
 use Rattle.std.proofs.Math.Pow.{pow-lt}
 use Rattle.cap_concentrate.specs.Rounding.{alignment, owned}
 use Rattle.cap_concentrate.proofs.Owned.{alignment_power}
+use Rattle.cap_ops.specs.Permissions.{data_permissions, const_permissions}
 use Rattle.c_tree.specs.declared.typed.CType.{CType}
 use Rattle.c_tree.specs.declared.typed.FunDef.{FunDef}
 use Rattle.c_tree.specs.declared.typed.GlobalDef.{GlobalDef}
@@ -23,7 +24,6 @@ use Rattle.c_tree.proofs.ViewLayout.{extent_is}
 use Rattle.obj_mem.specs.declared.map.Map.{Map}
 use Rattle.obj_mem.specs.declared.map.Frame.{Frame}
 use Rattle.obj_mem.specs.declared.map.Slot.{Slot}
-use Rattle.obj_mem.specs.Objects.{data_permissions, const_permissions}
 use Rattle.obj_mem.specs.Legal.{Apart, slot_of, IsSlot, IsFrame, AreFrames, IsLegal}
 use Rattle.obj_mem.specs.Needs.{is_const, need_by, global_need, literal_need, local_need, is_object, function_needs, needs_of}
 use Rattle.obj_mem.proofs.Powers.{length_aligned, need_power}

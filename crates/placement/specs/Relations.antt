@@ -4,6 +4,7 @@ use Rattle.ck_int.specs.declared.kinds.IntKind.{IntKind}
 use Rattle.ck_int.specs.declared.kinds.IntOp.{IntOp}
 use Rattle.ck_int.specs.declared.kinds.CmpOp.{CmpOp}
 use Rattle.ck_int.specs.declared.kinds.CmpOp.TheVariants.{Eq}
+use Rattle.cap_ops.specs.Permissions.{data_permissions}
 use Rattle.obj_mem.specs.Values.{Value, Int, Fun}
 use Rattle.obj_mem.specs.Agreement.{Answers, CopyAnswers}
 use Rattle.cheri_c_sem.specs.Kinds.{Kind, bytes_of, null_at, number_of}
@@ -95,8 +96,8 @@ module _ {M N : Type 0} (r : Relation M N) where
       pub falls : (m : M) (k : Kind) → Answers (Both (r.good m)) (ops.falls k) (pops.falls k)
       -- pointers to objects
       pub local_pointers : Standing
-          (λ objects first _ m n. (i : ℕ) → i < objects → Both (r.good m) (ops.whole m (first + i) 125)
-          (pops.whole n (first + i) 125))
+          (λ objects first _ m n. (i : ℕ) → i < objects → Both (r.good m) (ops.whole m (first + i) data_permissions)
+          (pops.whole n (first + i) data_permissions))
       pub global_pointers : Standing (λ _ _ _ m n. (i permissions : ℕ) → i < globals → permissions < 4096
           → Both (r.good m) (ops.whole m i permissions) (pops.whole n i permissions))
       -- operations on memory

@@ -100,10 +100,3 @@ outgoing_by i = 0
 abbrev pub outgoing : List TacInstr → ℕ
 outgoing [] = 0
 outgoing (i ∷ is) = max (outgoing_by i) (outgoing is)
-
--- The steps in the loop of a Zero, for each 16 bytes, and in that of a CopyUnits, for each 16 bytes of a copy
-abbrev pub zero_steps : ℕ
-zero_steps = 8
-
-abbrev pub copy_steps : ℕ
-copy_steps = 128

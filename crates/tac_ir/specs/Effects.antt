@@ -3,11 +3,11 @@ use Rattle.std.specs.Prelude.{ℕ, ◌+◌, ◌/◌, Bool, true, false, not, Lis
 use Rattle.ck_base.specs.World.{World}
 use Rattle.ck_base.specs.declared.positions.Pos.{Pos}
 use Rattle.ck_int.specs.declared.kinds.IntKind.TheVariants as int
+use Rattle.cap_ops.specs.Permissions.{data_permissions, const_permissions}
 use Rattle.c_tree.specs.declared.typed.FunDef.{FunDef}
 use Rattle.c_tree.specs.declared.typed.Typed.{Typed}
 use Rattle.obj_mem.specs.Values as value
 use Rattle.obj_mem.specs.Values.{Value}
-use Rattle.obj_mem.specs.Objects.{data_permissions, const_permissions}
 use Rattle.cheri_c_sem.specs.Compatible.{compatible}
 use Rattle.cheri_c_sem.specs.Expressions.{permissions_of}
 use Rattle.cheri_c_sem.specs.Kinds.{Kind, Plain, Capability, null_at, nothing, number_of, truth}

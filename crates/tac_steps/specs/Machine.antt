@@ -1,8 +1,8 @@
 -- Three-address code as a machine with a small step. It keeps the number of the next instruction, and the calls that wait.
 use Rattle.std.specs.Prelude.{ℕ, zero, suc, ◌+◌, ◌/◌, ◌%◌, Bool, true, false, List, [], ◌∷◌, length, drop, map, Option, Some, None, slice_get}
 use Rattle.ck_base.specs.Runs.{Act, Goes, Puts, Reads, Ends, Limits}
+use Rattle.cap_ops.specs.Permissions.{data_permissions}
 use Rattle.c_tree.specs.declared.typed.Typed.{Typed}
-use Rattle.obj_mem.specs.Objects.{data_permissions}
 use Rattle.obj_mem.specs.Values as value
 use Rattle.obj_mem.specs.Values.{Value}
 use Rattle.obj_mem.specs.declared.ending.Ending.{Ending}
