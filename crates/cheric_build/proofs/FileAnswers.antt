@@ -24,7 +24,7 @@ use Rattle.typed_build.proofs.SameBuilt.{built_same}
 
 pub broken_file : (file : List ℕ) (e : Refusal) → IsBroken file e → IsFileRefusal file e
 broken_file file (Code code place) r = inl r.0
-broken_file file NoMemory r = tt
+broken_file file NoMemory r = r
 
 -- ---- a file that has this program, and one answer
 
@@ -66,4 +66,4 @@ module _ (file : List ℕ) (once : OneFile file) (p : Typed) (t : IsTyped file p
   pub refused_of : (r : Result Built Refusal) → IfErr r (IsRefusal p) → IfErr r (IsFileRefusal file)
   refused_of (Ok b) h = tt
   refused_of (Err (Code code place)) h = refused_by code place h.0 h.1
-  refused_of (Err NoMemory) h = tt
+  refused_of (Err NoMemory) h = t.reads.cut.short

@@ -31,7 +31,7 @@ broken file code place short (parsed.no_tree ts c h w) = (files.no_tree ts c h w
 
 pub is_broken : (file : List ℕ) (e : Refusal) → length file ≤ file_limit → OnCode e (IsRefused file) → IsBroken file e
 is_broken file (Code code place) short r = broken file code place short r
-is_broken file NoMemory short r = tt
+is_broken file NoMemory short r = short
 
 -- ---- the tree of a file
 
@@ -54,4 +54,4 @@ module _ (file : List ℕ) (tree : Tree) (t : IsTreeOf file tree) where
   pub refused : (r : Result Typed Refusal) → Elaborated t.parses.syntax r → IfErr r (IsBroken file)
   refused (Ok p) e = tt
   refused (Err (Code code place)) e = (files.typing t.tokens t.parses.syntax is_read e, tt)
-  refused (Err NoMemory) e = tt
+  refused (Err NoMemory) e = t.cut.short

@@ -4,6 +4,7 @@ use Rattle.std.specs.Prelude.{slice_get, sum_by, nat_lt, ◌||◌, if◌then◌e
 use Rattle.std.specs.List.{filter, list_any}
 use Rattle.std.proofs.lemmas.Bool.{false≢true, le-leb, le-ltb, ltb-false}
 use Rattle.std.proofs.lemmas.List.Sums.{sum_by-cons}
+use Rattle.cap_ops.specs.Permissions.{data_permissions, const_permissions}
 use Rattle.c_tree.specs.declared.typed.CType.{CType}
 use Rattle.c_tree.specs.declared.typed.FunDef.{FunDef}
 use Rattle.c_tree.specs.declared.typed.GlobalDef.{GlobalDef}
@@ -22,7 +23,6 @@ use Rattle.c_tree.proofs.ViewLayout.{extent_is}
 use Rattle.c_facts.proofs.Sound.{well_typed}
 use Rattle.obj_mem.specs.Legal.{owned_of, alignment_of, room_of}
 use Rattle.obj_mem.specs.Needs.{need_by, is_const, global_need, literal_need, local_need, local_needs, is_object}
-use Rattle.obj_mem.specs.Objects.{data_permissions, const_permissions}
 use Rattle.bounds_place.specs.Placing.{locals_exceed, data_room, exceeds}
 
 -- ---- sums over objects

@@ -1,11 +1,11 @@
 -- What the front end answers of a file: the typed program that it is, or the first rule that it breaks.
-use Rattle.std.specs.Prelude.{ℕ, List, ⊤}
+use Rattle.std.specs.Prelude.{ℕ, ◌≤◌, List, length, ⊤}
 use Rattle.ck_base.specs.declared.positions.Pos.{Pos}
 use Rattle.ck_base.specs.Tokens.{Lexeme}
 use Rattle.ck_base.specs.declared.refusal.Refusal.{Refusal}
 use Rattle.ck_base.specs.declared.refusal.Refusal.TheVariants.{Code, NoMemory}
 use Rattle.c_tree.specs.declared.typed.Typed.{Typed}
-use Rattle.c_tree.specs.File.{IsRead, Refused, room, too_heavy}
+use Rattle.c_tree.specs.File.{file_limit, IsRead, Refused, room, too_heavy}
 use Rattle.c_tree.specs.Syntax.{Syn}
 use Rattle.c_tree.specs.Typing.{TypesSyntax}
 
@@ -22,7 +22,7 @@ IsBeforeLimits (room tokens x p reads types none) = ⊥
 IsBeforeLimits (too_heavy tokens x p reads types has heavy) = ⊥
 IsBeforeLimits rule = ⊤
 
--- The first rule that a file breaks, up to its typing; want of memory is free
+-- The first rule that a file breaks, up to its typing; want of memory is free, but for a file that is too long
 abbrev pub IsBroken : List ℕ → Refusal → Type 0
 IsBroken file (Code code place) = (rule : Refused file code place) × IsBeforeLimits rule
-IsBroken file NoMemory = ⊤
+IsBroken file NoMemory = length file ≤ file_limit

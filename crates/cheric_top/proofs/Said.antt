@@ -5,6 +5,7 @@ use Rattle.std.specs.declared.alloc.Global.{Global}
 use Rattle.ck_base.specs.Calls.{Seen}
 use Rattle.ck_base.specs.Files.{FileMap, Gets}
 use Rattle.ck_base.specs.declared.outside.FileError.TheVariants.{Missing, TooLong}
+use Rattle.ck_base.specs.declared.outside.FileError.TheVariants as errors
 use Rattle.elf_file.specs.declared.image.Image.{Image}
 use Rattle.elf_file.specs.Reading.{reading}
 use Rattle.elf_file.specs.declared.refusal.ElfRefusal.{ElfRefusal}
@@ -20,7 +21,7 @@ use Rattle.ck_base.specs.declared.refusal.Refusal.TheVariants.{Code, NoMemory}
 use Rattle.bounds_place.specs.declared.sizes.Sizes.{Sizes}
 use Rattle.cheric_build.specs.FromFile.{IsFileRefusal}
 use Rattle.cheric_top.specs.Answers.{not_built, refused_as}
-use Rattle.cheric_top.specs.Command.{FilesSeen, HasRead, IsUnreadable, ExecStopped, NotBuilt, BuildSays, files_seen}
+use Rattle.cheric_top.specs.Command.{FilesSeen, HasRead, IsReadable, IsUnreadable, ExecStopped, NotBuilt, BuildSays, files_seen}
 
 -- ---- files
 
@@ -35,6 +36,10 @@ gets_missing (Some files) name h = (files, refl, inl h)
 pub gets_too_long : (told : Option FileMap) (name : List ℕ) → Gets told name (Err TooLong) → IsUnreadable told name
 gets_too_long None name h = absurd h
 gets_too_long (Some files) name h = (files, refl, inr h)
+
+pub gets_unread : (told : Option FileMap) (name : List ℕ) → Gets told name (Err errors.NoMemory) → IsReadable told name
+gets_unread None name h = h
+gets_unread (Some files) name h = h
 
 -- ---- building
 

@@ -1,5 +1,5 @@
 -- The command: what each answer says of the words, the files, the input and the output.
-use Rattle.std.specs.Prelude.{◌≡◌, ◌⊎◌, ℕ, ◌<◌, ◌≤◌, List, [], length, Option, Some, None, Ok, Err}
+use Rattle.std.specs.Prelude.{◌≡◌, ◌⊎◌, ℕ, ◌<◌, ◌≤◌, List, [], length, Option, Some, None, Ok, Err, ⊤}
 use Rattle.ck_base.specs.Files.{FileMap, HasFile, SameOthers}
 use Rattle.ck_base.specs.Calls.{Seen, seen, IsRun, Counted}
 use Rattle.ck_base.specs.Runs.{outcome, ending_alone}
@@ -7,7 +7,9 @@ use Rattle.ck_base.specs.declared.refusal.Refusal.TheVariants.{Code}
 use Rattle.c_tree.specs.declared.typed.Typed.{Typed}
 use Rattle.obj_mem.specs.declared.map.Map.{Map}
 use Rattle.cap_machine.specs.declared.end.End.{End}
+use Rattle.cap_machine.specs.Containment.{IsProper}
 use Rattle.cap_machine.specs.Step.{act, limits}
+use Rattle.image_load.specs.Contained.{Contained}
 use Rattle.image_load.specs.Loading.{Loaded, loading}
 use Rattle.bounds_place.specs.declared.sizes.Sizes.{Sizes}
 use Rattle.bounds_place.specs.Sizes.{HasSizes}
@@ -60,10 +62,15 @@ HasRead files name file = HasFile files.told name file × (length file ≤ 26843
 abbrev pub IsUnreadable : Option FileMap → List ℕ → Type 0
 IsUnreadable told name = (files : FileMap) × (told ≡ Some files) × ((files name ≡ None) ⊎ ((file : List ℕ) × (files name ≡ Some file) × (268435456 < length file)))
 
+-- where the files are told: the file is there, and not too long
+abbrev pub IsReadable : Option FileMap → List ℕ → Type 0
+IsReadable None name = ⊤
+IsReadable (Some files) name = (file : List ℕ) × (files name ≡ Some file) × (length file ≤ 268435456)
+
 -- what an answer says of a file that was not read
 abbrev pub WhyNotRead : FilesSeen → FilesSeen → List ℕ → Answer → Type 0
 WhyNotRead before after name File = (before.faults < after.faults) ⊎ IsUnreadable before.told name
-WhyNotRead before after name Memory = after.faults ≡ before.faults
+WhyNotRead before after name Memory = (after.faults ≡ before.faults) × IsReadable before.told name
 WhyNotRead before after name answer = ⊥
 
 -- it was not read, and no file changed
@@ -77,6 +84,8 @@ pub record RanLoaded (before after : Seen) (loaded : Loaded) (steps : ℕ) (answ
   pub ending : End
   pub ran : IsRun (outcome limits act ending_alone loaded.machine steps) before after ending
   pub counted : Counted limits before after ending
+  -- where the image is contained, as one that was built is: neither Illegal nor Break, whatever the input tells
+  pub proper : Contained loaded.image → IsProper ending
   pub answered : answer ≡ answer_of loaded.image ending
 
 -- The bytes that were built of a file for a heap and a stack of these sizes, with their map and count
@@ -162,6 +171,7 @@ own_outside = seen (Some []) 0 None 0
 pub record RanGenerated (file : List ℕ) (steps : ℕ) (sizes : Sizes) (ran : Answer) : Type 0 where
   pub after : Seen
   pub says : RunSays own_outside after file steps sizes ran
+  pub sure : (after.source_faults ≡ 0) × (after.sink_faults ≡ 0)
   pub some : ran ≡ Memory → ⊥
 
 -- there was no memory; or the file was generated and run, and the summary was put

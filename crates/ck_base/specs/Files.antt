@@ -9,7 +9,8 @@ use Rattle.ck_base.specs.declared.outside.FileError.TheVariants.{Failed, Missing
 abbrev pub FileMap : Type 0
 FileMap = List ℕ → Option (List ℕ)
 
--- What `get` answers. Where no map is told, neither `Missing` nor `TooLong` ever comes.
+-- What `get` answers. Where no map is told, neither `Missing` nor `TooLong` ever comes. Where one is told, memory can
+-- lack for a file alone that is there and not too long.
 abbrev pub Gets : Option FileMap → List ℕ → Result (Vec ℕ Global) FileError → Type 0
 Gets None name (Ok v) = length v.items ≤ 268435456
 Gets (Some files) name (Ok v) = (length v.items ≤ 268435456) × (files name ≡ Some v.items)
@@ -17,8 +18,9 @@ Gets None name (Err Missing) = ⊥
 Gets (Some files) name (Err Missing) = files name ≡ None
 Gets None name (Err TooLong) = ⊥
 Gets (Some files) name (Err TooLong) = (bytes : List ℕ) × (files name ≡ Some bytes) × (268435456 < length bytes)
+Gets None name (Err NoMemory) = ⊤
+Gets (Some files) name (Err NoMemory) = (bytes : List ℕ) × (files name ≡ Some bytes) × (length bytes ≤ 268435456)
 Gets told name (Err Failed) = ⊤
-Gets told name (Err NoMemory) = ⊤
 
 abbrev pub HasFile : Option FileMap → List ℕ → List ℕ → Type 0
 HasFile None name bytes = ⊤

@@ -1,4 +1,4 @@
-use Rattle.std.proofs.Common.{◌≡◌, ◌∙◌, ℕ, List, length, Some, None, inr, ap, subst, arith}
+use Rattle.std.proofs.Common.{◌≡◌, ◌∙◌, ℕ, List, length, Some, None, inr, ap, refl, subst, arith}
 use Rattle.ck_base.specs.Calls.{seen}
 use Rattle.generator.specs.Generated.{generated}
 use Rattle.cheric_top.specs.Command.{RunSays}
@@ -17,6 +17,6 @@ returns-in-Ok-summary_of g c = λ left faults.
     let bytes = all ∙ ap length c.in-Ok.ensures in
     inr (
       ran,
-      record { after = own; says = says; some = c.in_default-ran.not-Memory },
+      record { after = own; says = says; sure = (refl, refl); some = c.in_default-ran.not-Memory },
       subst (λ (text : List ℕ). PutSays before after text c.put.result) (c.as_bytes.ensures.value ∙ c.in-Ok-summary_of.ensures ∙ ap (λ n. summary c.args.functions n ran) bytes) (c.put.ensures left faults),
     )

@@ -4,6 +4,7 @@ use Rattle.ck_base.specs.Runs.{outcome, state_and_ending, ending_alone}
 use Rattle.ck_base.specs.RunLaws.{IsRun-less}
 use Rattle.cap_machine.specs.Step.{act, limits}
 use Rattle.cap_machine.specs.declared.machine.Machine.{Machine}
+use Rattle.image_load.specs.Contained.{text_in}
 use Rattle.cheric_top.proofs.running.run_image.Goals as goal
 
 pub returns : goal.returns
@@ -16,6 +17,7 @@ returns g c =
         ending = c.run-end.result;
         ran = subst (λ (m : Machine). IsRun (outcome limits act ending_alone m c.args.steps) before after c.run-end.result) c.in_ok-machine.ensures.value.1 run;
         counted = c.run-end.ensures.counted;
+        proper = λ h. (c.run-end.ensures.contained (text_in c.args.view.now) h.text (c.in_ok-machine.ensures.contained h)).proper;
         answered = c.answer_of.ensures;
       },
     )
