@@ -1,5 +1,5 @@
 -- Which constants are kept.
-use Rattle.std.proofs.Common.{◌≡◌, ℕ, ◌+◌, ◌^◌, ◌<◌, ◌≤◌, Bool, true, false, refl, ap, ◌∙◌, arith, Some}
+use Rattle.std.proofs.Common.{◌≡◌, ℕ, ◌^◌, ◌<◌, Bool, true, false, refl, ap, arith}
 use Rattle.std.specs.Prelude.{◌==◌, pos}
 use Rattle.std.proofs.lemmas.Bool.Decides.{nat_tests}
 use Rattle.ck_int.specs.declared.kinds.IntKind.{IntKind}
@@ -11,7 +11,7 @@ use Rattle.tac_ir.specs.WellFormed.{constant_fits, same_kind}
 use Rattle.tac_ir.specs.declared.code.TacKind.{TacKind}
 use Rattle.tac_ir.specs.declared.code.TacKind.TheVariants as kind
 use Rattle.tac_lower.specs.declared.emitter.Emitter.{Emitter}
-use Rattle.tac_lower.specs.Emitted.{HasKind, is_capability, HasInt, HasCapability, SameKind, SameCapability, IsWide, HasAddress, CountFits, Adds, HasRoom, RightFits, wide_of, Grown}
+use Rattle.tac_lower.specs.Emitted.{HasKind, HasInt, IsWide, CountFits, wide_of, Grown}
 use Rattle.tac_lower.proofs.Wells.{kept, kept_int}
 
 same_as : (m n : ℕ) → m ≡ n → (m == n) ≡ true

@@ -1,16 +1,14 @@
 -- The code of a function as a whole.
-use Rattle.std.proofs.Common.{◌≡◌, ℕ, zero, suc, ◌<◌, ◌≤◌, Bool, true, false, not, List, [], ◌∷◌, ◌++◌, length, Option, refl, sym, ap, ◌∙◌, subst, arith}
+use Rattle.std.proofs.Common.{◌≡◌, ℕ, ◌<◌, ◌≤◌, Bool, true, false, not, [], ◌∷◌, ◌++◌, length, Option, refl, sym, ap, ◌∙◌, subst, arith}
 use Rattle.std.specs.Prelude.{◌==◌, ◌&&◌, ◌||◌, nat_lt, nat_le}
 use Rattle.std.proofs.lemmas.Bool.Decides.{nat_tests}
 use Rattle.c_tree.specs.declared.typed.FunDef.{FunDef}
 use Rattle.c_tree.specs.declared.typed.Typed.{Typed}
 use Rattle.tac_ir.specs.WellFormed.{all_of, has_label, instruction_fits, labels_differ, ends_well, turns_fit, return_fits, signature_of, begins_with, param_kinds, function_fits}
 use Rattle.tac_ir.specs.declared.code.TacFun.{TacFun}
-use Rattle.tac_ir.specs.declared.code.TacInstr.{TacInstr}
 use Rattle.tac_ir.specs.declared.code.TacInstr.TheVariants as instr
-use Rattle.tac_ir.specs.declared.code.TacKind.{TacKind}
 use Rattle.tac_lower.specs.declared.emitter.Emitter.{Emitter}
-use Rattle.tac_lower.specs.Emitted.{Keeps, open_labels, IsOpen, Stands, WellListed, Follows, Ends, IsWell, Pushed}
+use Rattle.tac_lower.specs.Emitted.{open_labels, WellListed, Follows, Ends, IsWell, Pushed}
 use Rattle.tac_lower.proofs.Wells.{and_true, or_left, keeps_same, pushed_has}
 
 -- ---- where the code begins

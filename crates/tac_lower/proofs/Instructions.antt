@@ -1,6 +1,6 @@
 -- Which instructions are well formed, each by the kinds of the temps that it names.
-use Rattle.std.proofs.Common.{◌≡◌, ℕ, ◌%◌, ◌<◌, Bool, true, false, List, [], ◌∷◌, length, Some, None, Option, refl, sym, ap, ◌∙◌, subst, arith, if◌then◌else◌}
-use Rattle.std.specs.Prelude.{◌==◌, ◌&&◌, ◌||◌, nat_lt, pos, slice_get, slice_index_or}
+use Rattle.std.proofs.Common.{◌≡◌, ℕ, ◌<◌, Bool, true, false, List, length, Some, None, Option, refl, ap, ◌∙◌, arith, if◌then◌else◌}
+use Rattle.std.specs.Prelude.{◌&&◌}
 use Rattle.std.proofs.lemmas.Bool.Decides.{nat_tests}
 use Rattle.std.proofs.lemmas.Option.{slice_get_within, get_or_from_slice_get}
 use Rattle.ck_base.specs.declared.positions.Pos.{Pos}
@@ -25,7 +25,7 @@ use Rattle.tac_ir.specs.declared.code.TacInstr.TheVariants as instr
 use Rattle.tac_ir.specs.declared.code.TacKind.{TacKind}
 use Rattle.tac_ir.specs.declared.code.TacKind.TheVariants as kind
 use Rattle.tac_lower.specs.declared.emitter.Emitter.{Emitter}
-use Rattle.tac_lower.specs.Emitted.{HasKind, is_capability, HasInt, HasCapability, Keeps, AmountFits, CountFits, SameKind, SameCapability, IsWide, HasAddress, WorkFits, Pushed, Grown}
+use Rattle.tac_lower.specs.Emitted.{HasKind, is_capability, HasInt, HasCapability, Keeps, AmountFits, CountFits, SameKind, SameCapability, IsWide, WorkFits, Pushed, Grown}
 use Rattle.tac_lower.proofs.Wells.{and_true, or_left, or_right, same_number, LastsAnywhere, pushed_grown}
 
 and_three : (a b c : Bool) → a ≡ true → b ≡ true → c ≡ true → (a && b && c) ≡ true

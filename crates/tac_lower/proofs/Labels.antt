@@ -1,9 +1,8 @@
 -- Labels, jumps and branches.
-use Rattle.std.proofs.Common.{◌≡◌, ◌≢◌, ℕ, zero, suc, ◌+◌, ◌<◌, ◌≤◌, Bool, true, false, not, List, [], ◌∷◌, ◌++◌, length, Some, refl, sym, ap, ◌∙◌, subst, arith, ⊎_elim, inl, inr, ◌⊎◌}
-use Rattle.std.specs.Prelude.{◌==◌, ◌&&◌, ◌||◌, nat_lt, slice_get}
+use Rattle.std.proofs.Common.{◌≡◌, ℕ, ◌+◌, ◌<◌, ◌≤◌, Bool, true, false, not, List, [], ◌∷◌, ◌++◌, refl, sym, ap, ◌∙◌, subst, arith, ⊎_elim, inl, inr, ◌⊎◌}
+use Rattle.std.specs.Prelude.{◌==◌, ◌&&◌, ◌||◌, nat_lt}
 use Rattle.std.proofs.lemmas.Bool.Decides.{nat_tests}
 use Rattle.std.proofs.lemmas.Bool.{cases_lt}
-use Rattle.std.proofs.lemmas.List.{append-nil}
 use Rattle.c_tree.specs.declared.typed.FunDef.{FunDef}
 use Rattle.c_tree.specs.declared.typed.Typed.{Typed}
 use Rattle.tac_ir.specs.Meaning.{is_label}
@@ -12,8 +11,8 @@ use Rattle.tac_ir.specs.declared.code.TacInstr.{TacInstr}
 use Rattle.tac_ir.specs.declared.code.TacInstr.TheVariants as instr
 use Rattle.tac_ir.specs.declared.code.TacKind.{TacKind}
 use Rattle.tac_lower.specs.declared.emitter.Emitter.{Emitter}
-use Rattle.tac_lower.specs.Emitted.{HasKind, IsTemp, Keeps, open_labels, IsOpen, Stands, WellListed, Follows, Ends, IsWell, Built, Grown, with_open, AreNew, Pending, Labelled, Pushed}
-use Rattle.tac_lower.proofs.Wells.{and_true, and_both, or_left, or_right, same_number, has_append, well_label, well_branch, well_jump, well_back, keeps_same, keeps_then, extensional, pushed_has, pushed_rest}
+use Rattle.tac_lower.specs.Emitted.{IsTemp, Keeps, open_labels, IsOpen, Stands, WellListed, Follows, Ends, IsWell, Built, Grown, with_open, Pending, Labelled, Pushed}
+use Rattle.tac_lower.proofs.Wells.{and_true, and_both, or_left, or_right, same_number, well_label, well_branch, well_jump, well_back, keeps_same, keeps_then, extensional, pushed_has, pushed_rest}
 use Rattle.tac_lower.proofs.Instructions.{temp_of}
 
 -- ---- open labels
@@ -33,7 +32,7 @@ unfolding open_labels
 is_open e l lt h = record { is = and_true (nat_lt l e.labels) (not (has_label e.code.items l)) (grind (arith, nat_tests)) (ap not h) }
 
 -- a label that was not made is not open
-closed_past : (e : Emitter) (l : ℕ) → e.labels ≤ l → open_labels e l ≡ false
+pub closed_past : (e : Emitter) (l : ℕ) → e.labels ≤ l → open_labels e l ≡ false
 unfolding open_labels
 closed_past e l le = let q : nat_lt l e.labels ≡ false = grind (arith, nat_tests) in ap (λ b. b && not (has_label e.code.items l)) q
 

@@ -1,11 +1,9 @@
 -- What typing gives of each expression of a function.
-use Rattle.std.proofs.Common.{◌≡◌, ℕ, zero, suc, ◌+◌, ◌<◌, ◌^◌, Bool, true, false, List, [], ◌∷◌, map, length, get_or, Option, Some, None, refl, sym, ap, ◌∙◌, subst, arith, ⊎_elim, inl, inr, ◌⊎◌}
-use Rattle.std.specs.Prelude.{slice_get, sum_by, pos, ◌==◌, ◌||◌}
-use Rattle.std.proofs.lemmas.Bool.Decides.{nat_tests}
+use Rattle.std.proofs.Common.{◌≡◌, ℕ, zero, suc, ◌+◌, Bool, true, false, List, [], ◌∷◌, map, length, get_or, Some, refl, sym, ap, ◌∙◌, subst, arith, ⊎_elim, inl, inr, ◌⊎◌}
+use Rattle.std.specs.Prelude.{slice_get, sum_by, ◌==◌, ◌||◌}
 use Rattle.std.proofs.lemmas.Option.{slice_get_within}
 use Rattle.std.proofs.lemmas.List.Sums.{sum_by-cons}
 use Rattle.ck_base.specs.declared.positions.Pos.{Pos}
-use Rattle.ck_int.specs.Kinds.{IsKept, wrapped}
 use Rattle.ck_int.specs.declared.kinds.CmpOp.{CmpOp}
 use Rattle.ck_int.specs.declared.kinds.IntKind.{IntKind}
 use Rattle.ck_int.specs.declared.kinds.IntKind.TheVariants as int
@@ -25,14 +23,14 @@ use Rattle.c_tree.specs.TreeWeight.{shape_weight, term_weight, terms_weight}
 use Rattle.c_tree.specs.Types as ty
 use Rattle.c_tree.specs.Types.{Ty}
 use Rattle.c_tree.specs.Views.{types_of, kind_term, expr_from, no_term, terms_of, term_at, operands, IsOrdered}
-use Rattle.c_tree.specs.WellTyped.{Frame, type_in, TermFits, TermsFit, ShapeFits, OperandsFit, ConstantFits, UnaryFits, PointsToComplete, holds}
+use Rattle.c_tree.specs.WellTyped.{Frame, type_in, TermFits, TermsFit, ShapeFits, OperandsFit, ConstantFits, UnaryFits, Decays, PointsToComplete, holds}
 use Rattle.c_tree.proofs.Forest.{forest_reads}
-use Rattle.tac_ir.specs.WellFormed.{constant_fits}
 use Rattle.tac_ir.specs.declared.code.TacKind.{TacKind}
 use Rattle.tac_ir.specs.declared.code.TacKind.TheVariants as kind
 use Rattle.tac_lower.specs.Emitted.{RightFits, ComputedFits}
-use Rattle.tac_lower.specs.Nodes.{kept_as, points, or_int, expression, scalar_in, weight_in, IsTyped, IsScalar, HasOne, HasTwo, HasThree, ConstantNode, IntNode, CapabilityNode, SameNode, NotNode, AddressNode, DerefNode, SumNode, CompareNode, TruthNode, DifferenceNode, CommaNode, AssignNode, CompoundNode, StepNode, ConditionalNode, NameNode, AreTyped, CallNode, LibraryNode, NodeFits}
+use Rattle.tac_lower.specs.Nodes.{kept_as, points, or_int, expression, IsTyped, IsScalar, HasOne, HasTwo, HasThree, ConstantNode, IntNode, CapabilityNode, SameNode, NotNode, AddressNode, DerefNode, SumNode, CompareNode, TruthNode, DifferenceNode, CommaNode, AssignNode, CompoundNode, StepNode, ConditionalNode, NameNode, VarNode, FunNode, CallNode, LibraryNode, NodeFits}
 use Rattle.tac_lower.proofs.Constants.{kept_fits}
+use Rattle.tac_lower.proofs.Wells.{and_both}
 
 -- ---- one node
 
@@ -93,6 +91,35 @@ some_int t k n e = ap kept_as e
 bare_kept : (t : Ty) → kept_as (ty.bare t) ≡ kept_as t
 bare_kept (ty.Const t) = refl
 bare_kept t = refl
+
+-- types that agree are kept in one way
+int_same : (j k : IntKind) → ty.same_kind j k ≡ true → j ≡ k
+int_same int.Bool int.Bool h = refl
+int_same int.I8 int.I8 h = refl
+int_same int.U8 int.U8 h = refl
+int_same int.I16 int.I16 h = refl
+int_same int.U16 int.U16 h = refl
+int_same int.I32 int.I32 h = refl
+int_same int.U32 int.U32 h = refl
+int_same int.I64 int.I64 h = refl
+int_same int.U64 int.U64 h = refl
+int_same j k h = absurd cc
+
+truth_same : (a b : Bool) → ty.same_truth a b ≡ true → a ≡ b
+truth_same true b h = sym h
+truth_same false false h = refl
+truth_same false true h = absurd cc
+
+pub agree_kept : (lengths : ℕ → ℕ → Bool) (s t : Ty) → ty.agree lengths s t ≡ true → kept_as s ≡ kept_as t
+agree_kept l ty.Void ty.Void h = refl
+agree_kept l (ty.Int j m) (ty.Int k n) h = ap (λ z. Some (kind.Int z)) (int_same j k (and_both (ty.same_kind j k) (m == n) h).0)
+agree_kept l (ty.Cap a) (ty.Cap b) h = ap (λ z. Some (kind.Cap z)) (truth_same a b h)
+agree_kept l (ty.Pointer s) (ty.Pointer t) h = refl
+agree_kept l (ty.Array s m) (ty.Array t n) h = refl
+agree_kept l (ty.Tagged m) (ty.Tagged n) h = refl
+agree_kept l (ty.Function r ps) (ty.Function s qs) h = refl
+agree_kept l (ty.Const s) (ty.Const t) h = agree_kept l s t h
+agree_kept l s t h = absurd cc
 
 module _ (f : Frame) (o : IsOrdered f.program) where
   abbrev x : ℕ → Term
@@ -187,6 +214,9 @@ module _ (f : Frame) (o : IsOrdered f.program) where
           is = ⊎_elim (λ (d : (u : Ty) × (n : ℕ) × (t a ≡ ty.Array u n) × (of ≡ ty.Pointer u)). scalar (ty.Pointer d.0) (kind.Cap false) (of_is ∙ d.3) refl)
               (λ (d : holds (ty.is_function (t a)) × (of ≡ ty.Pointer (t a))). scalar (ty.Pointer (t a)) (kind.Cap false) (of_is ∙ d.1) refl) h.1;
         }
+
+    pub decays : (a : ℕ) → Is (exprs.Decay a) → Decays (t a) (t k)
+    decays a is = subst (λ z. Decays (t a) z) (sym of_is) (of_one term.Decay (x a) of e.pos (fits (exprs.Decay a) is)).1
 
     pub address_node : (a : ℕ) → Is (exprs.Address a) → AddressNode f k a
     address_node a is =
@@ -388,15 +418,20 @@ module _ (f : Frame) (o : IsOrdered f.program) where
         let h = of_none (term.Literal n) of e.pos (fits (exprs.Literal n) is) in
         record { there = slice_get_within f.program.literals n h.0 h.1; weight = ap term_weight (same (exprs.Literal n) is) }
 
-    pub fun_node : (n : ℕ) → Is (exprs.Fun n) → NameNode f k n (length f.program.funs)
+    pub fun_node : (n : ℕ) → Is (exprs.Fun n) → FunNode f k n
     fun_node n is =
         let h = of_none (term.Fun n) of e.pos (fits (exprs.Fun n) is) in
-        record { there = slice_get_within f.program.funs n h.0 h.1; weight = ap term_weight (same (exprs.Fun n) is) }
+        record { fun = h.0; there = h.1; agrees = ap (λ z. ty.compatible z (type_in f.program h.0.of)) of_is ∙ h.2; weight = ap term_weight (same (exprs.Fun n) is) }
 
-    pub var_node : (n : ℕ) → Is (exprs.Var n) → NameNode f k n (length f.vars)
+    pub var_node : (n : ℕ) → Is (exprs.Var n) → VarNode f k n
     var_node n is =
         let h = of_none (term.Var n) of e.pos (fits (exprs.Var n) is) in
-        record { there = slice_get_within f.vars n h.0 h.1; weight = ap term_weight (same (exprs.Var n) is) }
+        record {
+          var = h.0;
+          there = h.1;
+          kept = ap kept_as of_is ∙ agree_kept (λ m n. m == n || m == 0 || n == 0) of (type_in f.program h.0.of) h.2;
+          weight = ap term_weight (same (exprs.Var n) is);
+        }
 
     each_typed : (xs : List ℕ) → TermsFit f (terms (map x xs)) → (j a : ℕ) → slice_get xs j ≡ Some a → IsTyped f a
     unfolding TermsFit

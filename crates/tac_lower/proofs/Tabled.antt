@@ -1,5 +1,5 @@
 -- The table of a program's types, entry by entry.
-use Rattle.std.proofs.Common.{◌≡◌, ℕ, zero, suc, ◌+◌, ◌^◌, ◌<◌, ◌≤◌, Bool, false, List, [], ◌∷◌, ◌++◌, length, Option, Some, None, refl, sym, ap, ◌∙◌, subst, arith, length-append, min}
+use Rattle.std.proofs.Common.{◌≡◌, ℕ, zero, suc, ◌+◌, ◌^◌, ◌<◌, ◌≤◌, false, List, [], ◌∷◌, ◌++◌, length, Some, None, refl, sym, ap, subst, arith, length-append, min}
 use Rattle.std.specs.Prelude.{slice_get}
 use Rattle.c_tree.specs.Layout.{bare}
 use Rattle.c_tree.specs.declared.typed.CType.{CType}

@@ -1,10 +1,9 @@
 -- The types of a program by their numbers and as trees.
-use Rattle.std.proofs.Common.{◌≡◌, ℕ, zero, suc, ◌+◌, ◌<◌, ◌≤◌, Bool, true, false, List, [], ◌∷◌, ◌++◌, map, length, get_or, Option, Some, None, refl, sym, ap, ◌∙◌, subst, arith, length-append}
+use Rattle.std.proofs.Common.{◌≡◌, ℕ, zero, suc, ◌+◌, ◌<◌, ◌≤◌, false, List, [], ◌∷◌, ◌++◌, length, get_or, Option, Some, None, refl, sym, ap, ◌∙◌, subst, arith, length-append}
 use Rattle.std.specs.Prelude.{slice_get, slice_index_or}
 use Rattle.std.proofs.lemmas.Option.{slice_get_within, slice_get_past, slice_get-get_or}
-use Rattle.ck_base.specs.declared.positions.Pos.{Pos}
 use Rattle.c_tree.specs.Layout.{bare, bare_of, bare_within}
-use Rattle.c_tree.specs.Terms.{Term, type_of}
+use Rattle.c_tree.specs.Terms.{type_of}
 use Rattle.c_tree.specs.Types as ty
 use Rattle.c_tree.specs.Types.{Ty}
 use Rattle.c_tree.specs.Views.{grow, expr_from, types_of, type_from, kind_term, no_term, terms_of, IsOrdered}
@@ -18,7 +17,7 @@ use Rattle.c_tree.specs.declared.typed.Typed.{Typed}
 use Rattle.c_tree.proofs.Forest.{forest_reads}
 use Rattle.tac_ir.specs.declared.code.TacKind.{TacKind}
 use Rattle.tac_lower.specs.Nodes.{kept_as, points, expression, scalar_in}
-use Rattle.tac_lower.specs.Tables.{kept_by, target_by, is_some, FactsFit, TableFits}
+use Rattle.tac_lower.specs.Tables.{kept_by, target_by, is_some}
 use Rattle.tac_lower.proofs.Nodes.{expression_is}
 
 -- ---- past the lists
@@ -90,6 +89,11 @@ module _ (p : Typed) (o : IsOrdered p) where
   past_from (c ∷ cs) zero h = absurd cc
   past_from (c ∷ cs) (suc t) h = let q = past_from cs t h in omega arith
 
+  pub type_past : (t : ℕ) → slice_get p.types t ≡ None → type_in p t ≡ ty.Void
+  type_past t h =
+      let le : length p.types ≤ t = past_from p.types t h in
+      past_default (types_of p.types) ty.Void t (omega (arith, grow_length type_from ty.Void p.types []))
+
   same_type : (t : ℕ) → Same (bare p.types t) (type_in p t)
   same_type t = by (slice_get p.types t) refl
     where
@@ -97,8 +101,7 @@ module _ (p : Typed) (o : IsOrdered p) where
       by (Some c) h = within (length p.types) t (slice_get_within p.types t c h) c h
       by None h =
           let e : bare p.types t ≡ None = none_by p.types (length p.types) t h in
-          let le : length p.types ≤ t = past_from p.types t h in
-          let v : type_in p t ≡ ty.Void = past_default (types_of p.types) ty.Void t (omega (arith, grow_length type_from ty.Void p.types [])) in
+          let v = type_past t h in
           record { kept = ap kept_by e ∙ sym (ap kept_as v); target = ap (λ z. is_some (target_by z)) e ∙ sym (ap points v) }
 
   pub kept_is : (t : ℕ) → kept_by (bare p.types t) ≡ kept_as (type_in p t)

@@ -1,5 +1,5 @@
 -- Code stays well formed where an instruction is added.
-use Rattle.std.proofs.Common.{◌≡◌, ◌≢◌, ℕ, zero, suc, ◌+◌, ◌<◌, ◌≤◌, Bool, true, false, not, List, [], ◌∷◌, ◌++◌, length, Some, refl, sym, ap, ◌∙◌, subst, arith, append_assoc, length-append, ⊎_elim, inl, inr, ◌⊎◌}
+use Rattle.std.proofs.Common.{◌≡◌, ℕ, zero, suc, ◌<◌, Bool, true, false, not, List, [], ◌∷◌, ◌++◌, length, Some, refl, sym, ap, ◌∙◌, subst, arith, append_assoc, length-append}
 use Rattle.std.specs.Prelude.{◌==◌, ◌&&◌, ◌||◌, nat_lt, slice_get}
 use Rattle.std.proofs.lemmas.Bool.Decides.{nat_tests}
 use Rattle.c_tree.specs.declared.typed.FunDef.{FunDef}
@@ -11,7 +11,7 @@ use Rattle.tac_ir.specs.declared.code.TacInstr.{TacInstr}
 use Rattle.tac_ir.specs.declared.code.TacInstr.TheVariants as instr
 use Rattle.tac_ir.specs.declared.code.TacKind.{TacKind}
 use Rattle.tac_lower.specs.declared.emitter.Emitter.{Emitter}
-use Rattle.tac_lower.specs.Emitted.{HasKind, is_capability, HasInt, HasCapability, Keeps, open_labels, IsOpen, Stands, WellListed, Follows, Ends, IsWell, Built, Grown, Made, Pushed, Adds, SameKind, SameCapability, IsTemp}
+use Rattle.tac_lower.specs.Emitted.{HasKind, is_capability, HasInt, HasCapability, Keeps, open_labels, Stands, WellListed, Follows, Ends, IsWell, Built, Grown, Made, Pushed, Adds, SameKind, SameCapability, IsTemp}
 
 -- ---- truth values
 

@@ -240,3 +240,15 @@ pub record Adds (old new : Emitter) (m n : ℕ) : Type 0 where
 pub record HasRoom (e : Emitter) (n : ℕ) : Type 0 where
   pub temps : length e.kinds.items + n < 2 ^ 32
   pub labels : e.labels + n < 2 ^ 32
+
+-- the bytes of an object become zero, and a temp gets the pointer to it
+pub record Entered (old new : Emitter) (to var : ℕ) : Type 0 where
+  pub middle : Emitter
+  pub zero : Pushed old middle (instr.Zero var)
+  pub points : Pushed middle new (instr.Local to var)
+
+-- the last instruction is a Return
+pub record HasLeft (e : Emitter) : Type 0 where
+  pub front : List TacInstr
+  pub value : Option ℕ
+  pub is : e.code.items ≡ front ++ instr.Return value ∷ []

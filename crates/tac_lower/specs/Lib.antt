@@ -1,5 +1,12 @@
+pub mod Destinations
 pub mod Emitted
+pub mod Functions
 pub mod Known
 pub mod Lowered
 pub mod Nodes
+pub mod Parts
+pub mod Scenes
+pub mod Services
+pub mod Signed
+pub mod Statements
 pub mod Tables

@@ -9,12 +9,13 @@ use Rattle.c_tree.specs.declared.typed.UnaryOp.{UnaryOp}
 use Rattle.c_tree.specs.declared.typed.UnaryOp.TheVariants as unary
 use Rattle.c_tree.specs.declared.typed.FunDef.{FunDef}
 use Rattle.c_tree.specs.declared.typed.Typed.{Typed}
+use Rattle.c_tree.specs.declared.typed.VarDef.{VarDef}
 use Rattle.cheri_c_sem.specs.Types.{is_shift}
 use Rattle.c_tree.specs.Expressions.{given_type}
 use Rattle.c_tree.specs.Libraries.{Service, services}
 use Rattle.c_tree.specs.Terms.{Term, type_of, terms}
 use Rattle.c_tree.specs.TreeWeight.{term_weight}
-use Rattle.c_tree.specs.Types.{Ty, Tys, Int, Cap, Pointer, Function, Const}
+use Rattle.c_tree.specs.Types.{Ty, Tys, Int, Cap, Pointer, Function, Const, compatible}
 use Rattle.c_tree.specs.Views.{terms_of, term_at}
 use Rattle.c_tree.specs.WellTyped.{Frame, TermFits, type_in, ArgumentsFit, AllAskedFit, list_of}
 use Rattle.tac_ir.specs.WellFormed.{constant_fits}
@@ -125,6 +126,12 @@ pub record NotNode (f : Frame) (k a : ℕ) : Type 0 where
   pub operands : HasOne f k a
   pub is : IsScalar f.program k (kinds.Int int.I32)
 
+abbrev pub UnaryNode : Frame → ℕ → UnaryOp → ℕ → Type 0
+UnaryNode f k unary.LogicalNot a = NotNode f k a
+UnaryNode f k unary.Plus a = SameNode f k a
+UnaryNode f k unary.Minus a = SameNode f k a
+UnaryNode f k unary.Complement a = SameNode f k a
+
 -- a pointer to a place or a function
 pub record AddressNode (f : Frame) (k a : ℕ) : Type 0 where
   pub operands : HasOne f k a
@@ -198,6 +205,20 @@ pub record NameNode (f : Frame) (k n count : ℕ) : Type 0 where
   pub there : n < count
   pub weight : weight_in f.program k ≡ 1
 
+-- the name of a variable, which is kept as the variable is
+pub record VarNode (f : Frame) (k n : ℕ) : Type 0 where
+  pub var : VarDef
+  pub there : slice_get f.vars n ≡ Some var
+  pub kept : scalar_in f.program k ≡ kept_as (type_in f.program var.of)
+  pub weight : weight_in f.program k ≡ 1
+
+-- the name of a function, whose type agrees with the function's
+pub record FunNode (f : Frame) (k n : ℕ) : Type 0 where
+  pub fun : FunDef
+  pub there : slice_get f.program.funs n ≡ Some fun
+  pub agrees : compatible (type_of (expression f.program k)) (type_in f.program fun.of) ≡ true
+  pub weight : weight_in f.program k ≡ 1
+
 -- the weight of some expressions
 abbrev pub weights_in : Typed → List ℕ → ℕ
 weights_in p ks = sum_by (λ k. weight_in p k) ks
@@ -229,19 +250,16 @@ pub record LibraryNode (f : Frame) (k n : ℕ) (args : List ℕ) : Type 0 where
 abbrev pub NodeFits : Frame → ℕ → ExprKind → Type 0
 NodeFits f k (exprs.Constant n) = ConstantNode f k n
 NodeFits f k (exprs.Literal n) = NameNode f k n (length f.program.literals)
-NodeFits f k (exprs.Var n) = NameNode f k n (length f.vars)
+NodeFits f k (exprs.Var n) = VarNode f k n
 NodeFits f k (exprs.Global n) = NameNode f k n (length f.program.globals)
-NodeFits f k (exprs.Fun n) = NameNode f k n (length f.program.funs)
+NodeFits f k (exprs.Fun n) = FunNode f k n
 NodeFits f k (exprs.Load a) = SameNode f k a
 NodeFits f k (exprs.Decay a) = AddressNode f k a
 NodeFits f k (exprs.Deref a) = DerefNode f k a
 NodeFits f k (exprs.Member a m) = HasOne f k a
 NodeFits f k (exprs.Address a) = AddressNode f k a
 NodeFits f k (exprs.Convert a) = HasOne f k a
-NodeFits f k (exprs.Unary unary.LogicalNot a) = NotNode f k a
-NodeFits f k (exprs.Unary unary.Plus a) = SameNode f k a
-NodeFits f k (exprs.Unary unary.Minus a) = SameNode f k a
-NodeFits f k (exprs.Unary unary.Complement a) = SameNode f k a
+NodeFits f k (exprs.Unary o a) = UnaryNode f k o a
 NodeFits f k (exprs.Int o a b) = IntNode f k o a b
 NodeFits f k (exprs.Capability o a b right) = CapabilityNode f k o a b
 NodeFits f k (exprs.Plus a b minus) = SumNode f k a b

@@ -1,8 +1,19 @@
 //! Calls of functions, library functions and intrinsics.
 
-ghost use Rattle.std.specs.Prelude.{◌<◌};
+ghost use Rattle.std.specs.Prelude.{◌≡◌, ℕ, ◌+◌, ◌-◌, ◌*◌, ◌<◌, map, IfOk, IfSome, Some, slice_get, unwrap_or};
+ghost use Rattle.c_tree.specs.Libraries as libraries;
+ghost use Rattle.c_tree.specs.Libraries.{services};
+ghost use Rattle.c_tree.specs.Terms.{type_of};
+ghost use Rattle.c_tree.specs.Types.{Ty, Tys, Function, Pointer};
 ghost use Rattle.cheri_c_sem.specs.Order.{Ordered};
+ghost use Rattle.tac_ir.specs.WellFormed.{signature_of_function};
+ghost use Rattle.tac_lower.specs.declared.emitter.Emitter.{Emitter};
+ghost use Rattle.tac_lower.specs.Emitted.{HasKind, HasRoom, Grown, Adds};
 ghost use Rattle.tac_lower.specs.Known.{AreBelow};
+ghost use Rattle.tac_lower.specs.Nodes.{scalar_in, kind_in, expression, weight_in, weights_in, IsTyped, AreTyped, CallNode, LibraryNode};
+ghost use Rattle.tac_lower.specs.Scenes.{Ready, Scene, Lowered, frame_of};
+ghost use Rattle.tac_lower.specs.Services.{ServiceAsks, IntrinsicFits};
+ghost use Rattle.tac_lower.specs.Signed.{HaveKinds, ResultFits, signature_as};
 
 use crate::context::Context;
 use crate::emitter::Emitter;
@@ -14,7 +25,12 @@ use ck_base::NoMemory;
 use tac_ir::{Amount, CapWork, LibOp, TacKind};
 
 /// The number of the function that expression `f` names, if it names one.
-fn named_function(cx: Context, f: u32) -> Option<u32> {
+fn named_function(cx: Context, f: u32) -> Option<u32>
+    requires ready { Ready cx.p.now cx.types.now }
+    requires typed { IsTyped (frame_of cx.p.now cx.d.now) f }
+    ensures { IfSome result (λ n. (r : Ty) (ps : Tys) → type_of (expression cx.entry.p.now f) ≡ Pointer (Function r ps)
+        → signature_of_function cx.entry.p.now n ≡ Some (signature_as r ps)) }
+{
     let e = cx.node(f)?;
     let ExprKind::Decay(a) = e.kind else {
         return None;
@@ -31,6 +47,12 @@ fn named_function(cx: Context, f: u32) -> Option<u32> {
 fn arguments(cx: Context, k: u32, args: &[u32], out: &mut Emitter) -> Result<Vec<u32>, NoMemory>
     requires ordered { Ordered cx.p.now }
     requires before { AreBelow k args.now }
+    requires scene { Scene cx.p.now cx.d.now cx.types.now cx.homes.now out.old }
+    requires typed { AreTyped (frame_of cx.p.now cx.d.now) args.now }
+    requires room { HasRoom out.old (4 * weights_in cx.p.now args.now) }
+    ensures kinds { IfOk result (λ ts. HaveKinds out.new ts.items (map (kind_in cx.entry.p.now) args.now)) }
+    ensures lowered { IfOk result (λ _. Lowered cx.entry.p.now cx.entry.d.now cx.entry.types.now cx.entry.homes.now
+        out.old out.new (4 * weights_in cx.entry.p.now args.now)) }
 {
     let mut behind = written_behind(cx.alloc, cx.writes, args)?;
     let mut temps = Vec::new(cx.alloc);
@@ -55,6 +77,12 @@ pub fn call(
     requires ordered { Ordered cx.p.now }
     requires f_before { f < k }
     requires before { AreBelow k args.now }
+    requires scene { Scene cx.p.now cx.d.now cx.types.now cx.homes.now out.old }
+    requires node { CallNode (frame_of cx.p.now cx.d.now) k f args.now }
+    requires to { ResultFits out.old to (scalar_in cx.p.now k) }
+    requires room { HasRoom out.old (4 * weight_in cx.p.now k - 1) }
+    ensures lowered { IfOk result (λ _. Lowered cx.entry.p.now cx.entry.d.now cx.entry.types.now cx.entry.homes.now
+        out.old out.new (4 * weight_in cx.entry.p.now k - 1)) }
 {
     match named_function(cx, f) {
         Some(n) => {
@@ -82,21 +110,49 @@ pub fn library(
 ) -> Result<(), NoMemory>
     requires ordered { Ordered cx.p.now }
     requires before { AreBelow k args.now }
+    requires scene { Scene cx.p.now cx.d.now cx.types.now cx.homes.now out.old }
+    requires node { LibraryNode (frame_of cx.p.now cx.d.now) k number args.now }
+    requires to { ResultFits out.old to (scalar_in cx.p.now k) }
+    requires room { HasRoom out.old (4 * weight_in cx.p.now k - 1) }
+    ensures lowered { IfOk result (λ _. Lowered cx.entry.p.now cx.entry.d.now cx.entry.types.now cx.entry.homes.now
+        out.old out.new (4 * weight_in cx.entry.p.now k - 1)) }
 {
     let temps = arguments(cx, k, args, out)?;
     match service_of(number) {
         Service::Library(op) => out.service(op, to, temps),
         Service::Exit => out.service(LibOp::Exit, None, temps),
         Service::Intrinsic(i) => {
-            let a = temps.first().copied().unwrap_or(0);
-            let b = temps.get(1).copied();
-            let kind = match args.first() {
-                None => INT,
-                Some(x) => cx.kind(*x),
-            };
+            let kind = first_kind(cx, args);
+            let a = first_temp(temps.as_slice());
+            let b = second_temp(temps.as_slice());
             intrinsic_value(out, i, kind, to, a, b)
         }
     }
+}
+
+/// The kind of the first of some arguments; where there is none, that of an `int`.
+fn first_kind(cx: Context, args: &[u32]) -> TacKind
+    requires ready { Ready cx.p.now cx.types.now }
+    ensures { (x : ℕ) → slice_get args.now 0 ≡ Some x → result ≡ kind_in cx.entry.p.now x }
+{
+    match args.first() {
+        None => INT,
+        Some(x) => cx.kind(*x),
+    }
+}
+
+/// The first of some temps.
+fn first_temp(temps: &[u32]) -> u32
+    ensures { result ≡ unwrap_or (slice_get temps.now 0) 0 }
+{
+    temps.first().copied().unwrap_or(0)
+}
+
+/// The second of some temps, if there is one.
+fn second_temp(temps: &[u32]) -> Option<u32>
+    ensures { result ≡ slice_get temps.now 1 }
+{
+    temps.get(1).copied()
 }
 
 /// What a number of a library function or intrinsic stands for.
@@ -118,7 +174,9 @@ enum Intrinsic {
 }
 
 /// The library functions, and then the intrinsics.
-fn service_of(number: u8) -> Service {
+fn service_of(number: u8) -> Service
+    ensures { (s : libraries.Service) → slice_get services number ≡ Some s → ServiceAsks result s.takes s.gives }
+{
     match number {
         0 => Service::Library(LibOp::PutChar),
         1 => Service::Library(LibOp::GetChar),
@@ -149,7 +207,11 @@ fn intrinsic_value(
     to: Option<u32>,
     a: u32,
     b: Option<u32>,
-) -> Result<(), NoMemory> {
+) -> Result<(), NoMemory>
+    requires fits { IfSome to (λ t. IntrinsicFits out.old i kind t a b) }
+    ensures grown { IfOk result (λ _. Grown out.old out.new) }
+    ensures adds { IfOk result (λ _. Adds out.old out.new 0 0) }
+{
     let Some(to) = to else {
         return Ok(());
     };

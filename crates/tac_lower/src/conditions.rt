@@ -1,7 +1,10 @@
 //! Conditions as branches.
 
-ghost use Rattle.std.specs.Prelude.{◌<◌};
+ghost use Rattle.std.specs.Prelude.{◌≡◌, ◌+◌, ◌-◌, ◌*◌, ◌<◌, true, false, IfOk};
 ghost use Rattle.cheri_c_sem.specs.Order.{Ordered};
+ghost use Rattle.tac_lower.specs.Emitted.{IsOpen, Grown, Adds, HasRoom};
+ghost use Rattle.tac_lower.specs.Nodes.{weight_in, IsTyped, HasOne, HasTwo};
+ghost use Rattle.tac_lower.specs.Scenes.{Scene, Lowered, frame_of};
 
 use crate::context::Context;
 use crate::emitter::Emitter;
@@ -25,7 +28,26 @@ pub struct Jump {
     pub label: u32,
 }
 
-fn jump_if(out: &mut Emitter, truth: bool, jump: Jump) -> Result<(), NoMemory> {
+impl Junction {
+    pub fn and(a: u32, b: u32) -> Self
+        ensures { result ≡ record { both = true; a = a; b = b } }
+    {
+        Junction { both: true, a, b }
+    }
+
+    pub fn or(a: u32, b: u32) -> Self
+        ensures { result ≡ record { both = false; a = a; b = b } }
+    {
+        Junction { both: false, a, b }
+    }
+}
+
+#[tactic(auto, using(crate::proofs::Wells::grown_same, crate::proofs::Wells::adds_same))]
+fn jump_if(out: &mut Emitter, truth: bool, jump: Jump) -> Result<(), NoMemory>
+    requires open { IsOpen out.old jump.label }
+    ensures grown { IfOk result (λ _. Grown out.old out.new) }
+    ensures adds { IfOk result (λ _. Adds out.old out.new 0 0) }
+{
     if truth == jump.when {
         out.jump(jump.label)
     } else {
@@ -34,44 +56,57 @@ fn jump_if(out: &mut Emitter, truth: bool, jump: Jump) -> Result<(), NoMemory> {
 }
 
 /// Goes to a label where the truth of expression `k` is `when`.
-#[tactic(auto, using(crate::proofs::Below::unary, crate::proofs::Below::and_left, crate::proofs::Below::and_right, crate::proofs::Below::or_left, crate::proofs::Below::or_right))]
 #[cycle(expressions)]
 pub fn condition(cx: Context, k: u32, jump: Jump, out: &mut Emitter) -> Result<(), NoMemory>
     requires ordered { Ordered cx.p.now }
+    requires scene { Scene cx.p.now cx.d.now cx.types.now cx.homes.now out.old }
+    requires typed { IsTyped (frame_of cx.p.now cx.d.now) k }
+    requires open { IsOpen out.old jump.label }
+    requires room { HasRoom out.old (4 * weight_in cx.p.now k) }
+    ensures lowered { IfOk result (λ _. Lowered cx.entry.p.now cx.entry.d.now cx.entry.types.now cx.entry.homes.now
+        out.old out.new (4 * weight_in cx.entry.p.now k)) }
 {
     let Some(e) = cx.node(k) else {
         return jump_if(out, false, jump);
     };
     match &e.kind {
         ExprKind::Constant(n) => jump_if(out, *n != 0, jump),
-        ExprKind::Unary(UnaryOp::LogicalNot, a) => {
-            let jump = Jump {
-                when: !jump.when,
-                label: jump.label,
-            };
-            condition(cx, *a, jump, out)
-        }
-        ExprKind::And(a, b) => {
-            let j = Junction {
-                both: true,
-                a: *a,
-                b: *b,
-            };
-            joined_condition(cx, k, j, jump, out)
-        }
-        ExprKind::Or(a, b) => {
-            let j = Junction {
-                both: false,
-                a: *a,
-                b: *b,
-            };
-            joined_condition(cx, k, j, jump, out)
-        }
+        #[tactic(auto, using(crate::proofs::Below::unary))]
+        ExprKind::Unary(UnaryOp::LogicalNot, a) => opposite_condition(cx, k, *a, jump, out),
+        #[tactic(auto, using(crate::proofs::Below::and_left, crate::proofs::Below::and_right))]
+        ExprKind::And(a, b) => joined_condition(cx, k, Junction::and(*a, *b), jump, out),
+        #[tactic(auto, using(crate::proofs::Below::or_left, crate::proofs::Below::or_right))]
+        ExprKind::Or(a, b) => joined_condition(cx, k, Junction::or(*a, *b), jump, out),
         _ => {
             let on = operand(cx, k, Written::Nothing, out)?;
             out.branch(on, jump.when, jump.label)
         }
     }
+}
+
+/// Goes to a label where the truth of `!` before `a`, expression `k`, is `when`.
+#[cycle(expressions)]
+fn opposite_condition(
+    cx: Context,
+    k: u32,
+    a: u32,
+    jump: Jump,
+    out: &mut Emitter,
+) -> Result<(), NoMemory>
+    requires ordered { Ordered cx.p.now }
+    requires a_before { a < k }
+    requires scene { Scene cx.p.now cx.d.now cx.types.now cx.homes.now out.old }
+    requires node { HasOne (frame_of cx.p.now cx.d.now) k a }
+    requires open { IsOpen out.old jump.label }
+    requires room { HasRoom out.old (4 * weight_in cx.p.now k) }
+    ensures lowered { IfOk result (λ _. Lowered cx.entry.p.now cx.entry.d.now cx.entry.types.now cx.entry.homes.now
+        out.old out.new (4 * weight_in cx.entry.p.now k)) }
+{
+    let jump = Jump {
+        when: !jump.when,
+        label: jump.label,
+    };
+    condition(cx, a, jump, out)
 }
 
 /// Goes to a label where the truth of `&&` or `||`, expression `k`, is `when`.
@@ -86,11 +121,39 @@ pub fn joined_condition(
     requires ordered { Ordered cx.p.now }
     requires a_before { j.a < k }
     requires b_before { j.b < k }
+    requires scene { Scene cx.p.now cx.d.now cx.types.now cx.homes.now out.old }
+    requires node { HasTwo (frame_of cx.p.now cx.d.now) k j.a j.b }
+    requires open { IsOpen out.old jump.label }
+    requires room { HasRoom out.old (4 * weight_in cx.p.now k - 3) }
+    ensures lowered { IfOk result (λ _. Lowered cx.entry.p.now cx.entry.d.now cx.entry.types.now cx.entry.homes.now
+        out.old out.new (4 * weight_in cx.entry.p.now k - 3)) }
 {
-    if j.both != jump.when {
-        condition(cx, j.a, jump, out)?;
-        return condition(cx, j.b, jump, out);
+    if j.both == jump.when {
+        return joined_around(cx, k, j, jump, out);
     }
+    condition(cx, j.a, jump, out)?;
+    condition(cx, j.b, jump, out)
+}
+
+/// Goes to a label where both operands have the truth that leads there.
+#[cycle(expressions)]
+fn joined_around(
+    cx: Context,
+    k: u32,
+    j: Junction,
+    jump: Jump,
+    out: &mut Emitter,
+) -> Result<(), NoMemory>
+    requires ordered { Ordered cx.p.now }
+    requires a_before { j.a < k }
+    requires b_before { j.b < k }
+    requires scene { Scene cx.p.now cx.d.now cx.types.now cx.homes.now out.old }
+    requires node { HasTwo (frame_of cx.p.now cx.d.now) k j.a j.b }
+    requires open { IsOpen out.old jump.label }
+    requires room { HasRoom out.old (4 * weight_in cx.p.now k - 3) }
+    ensures lowered { IfOk result (λ _. Lowered cx.entry.p.now cx.entry.d.now cx.entry.types.now cx.entry.homes.now
+        out.old out.new (4 * weight_in cx.entry.p.now k - 3)) }
+{
     let around = Jump {
         when: !jump.when,
         label: out.label(),

@@ -1,10 +1,22 @@
 //! What the lowering of a function reads: the program, what is known of its types and expressions, and where variables stand.
 
-ghost use Rattle.std.specs.Prelude.{◌≡◌, MatchOption, Some, None, slice_get};
+ghost use Rattle.std.specs.Prelude.{◌≡◌, false, MatchOption, IfSome, Some, None, slice_get};
+ghost use Rattle.c_tree.specs.Types.{Ty, Pointer};
+ghost use Rattle.c_tree.specs.WellTyped.{type_in};
+ghost use Rattle.c_tree.specs.declared.typed.FunDef.{FunDef};
+ghost use Rattle.c_tree.specs.declared.typed.VarDef.{VarDef};
+ghost use Rattle.tac_ir.specs.declared.code.TacKind.TheVariants as kinds;
+ghost use Rattle.tac_lower.specs.declared.emitter.Emitter.{Emitter};
+ghost use Rattle.tac_lower.specs.Emitted.{HasKind};
+ghost use Rattle.c_tree.specs.Terms.{type_of};
+ghost use Rattle.tac_lower.specs.Nodes.{kept_as, or_int, points, expression, scalar_in, kind_in, IsTyped};
+ghost use Rattle.tac_lower.specs.Scenes.{Ready, Housed, frame_of};
+ghost use Rattle.tac_lower.specs.Signed.{NamesType};
+ghost use Rattle.tac_lower.specs.Tables.{is_some};
 
-use crate::types::{INT, TypeFacts, facts_at, member_offset};
+use crate::types::{NO_FACTS, TypeFacts, facts_at, member_offset, or_int};
 use crate::writes::{Written, written_at};
-use c_tree::{Expr, ExprKind, Stmt, Typed};
+use c_tree::{Expr, ExprKind, FunDef, Stmt, Typed};
 use ck_base::Pos;
 use std::alloc::Global;
 use tac_ir::TacKind;
@@ -23,6 +35,8 @@ pub enum Home {
 pub struct Context<'a> {
     pub alloc: Global,
     pub p: &'a Typed,
+    /// The function.
+    pub d: &'a FunDef,
     /// The facts of the types.
     pub types: &'a [TypeFacts],
     /// What the expressions write.
@@ -65,23 +79,37 @@ impl<'a> Context<'a> {
     }
 
     /// The facts of an expression's type.
-    pub fn facts(self, k: u32) -> TypeFacts {
-        facts_at(self.types, self.type_of(k))
+    pub fn facts(self, k: u32) -> TypeFacts
+        ensures kept { Ready self.entry.p.now self.entry.types.now → result.kind ≡ scalar_in self.entry.p.now k }
+        ensures points { Ready self.entry.p.now self.entry.types.now → is_some result.target ≡ points (type_of (expression self.entry.p.now k)) }
+        ensures pointed { (t : Ty) → Ready self.entry.p.now self.entry.types.now → type_of (expression self.entry.p.now k) ≡ Pointer t
+            → NamesType self.entry.p.now result.target t }
+    {
+        match self.node(k) {
+            None => NO_FACTS,
+            Some(e) => facts_at(self.types, e.of),
+        }
     }
 
     /// The kind of an expression's value, where it is a scalar.
-    pub fn scalar(self, k: u32) -> Option<TacKind> {
+    pub fn scalar(self, k: u32) -> Option<TacKind>
+        ensures { Ready self.entry.p.now self.entry.types.now → result ≡ scalar_in self.entry.p.now k }
+    {
         self.facts(k).kind
     }
 
     /// The kind of an expression's value; where it is none, that of an `int`.
-    pub fn kind(self, k: u32) -> TacKind {
-        self.scalar(k).unwrap_or(INT)
+    pub fn kind(self, k: u32) -> TacKind
+        ensures { Ready self.entry.p.now self.entry.types.now → result ≡ kind_in self.entry.p.now k }
+    {
+        or_int(self.scalar(k))
     }
 
     /// The kind of the values of a type; where it has none, that of an `int`.
-    pub fn kind_of_type(self, t: u32) -> TacKind {
-        facts_at(self.types, t).kind.unwrap_or(INT)
+    pub fn kind_of_type(self, t: u32) -> TacKind
+        ensures { Ready self.entry.p.now self.entry.types.now → result ≡ or_int (kept_as (type_in self.entry.p.now t)) }
+    {
+        or_int(facts_at(self.types, t).kind)
     }
 
     /// The size of place `k`, if it is a member.
@@ -96,8 +124,20 @@ impl<'a> Context<'a> {
     }
 
     /// The size of what a type points to, if it is a pointer.
-    pub fn element(self, t: u32) -> Option<u64> {
+    pub fn element(self, t: u32) -> Option<u64>
+        ensures { Ready self.entry.p.now self.entry.types.now → is_some result ≡ points (type_in self.entry.p.now t) }
+    {
         match facts_at(self.types, t).target {
+            None => None,
+            Some(of) => Some(facts_at(self.types, of).size),
+        }
+    }
+
+    /// The size of what expression `k` points to, if it is a pointer.
+    pub fn pointed_size(self, k: u32) -> Option<u64>
+        ensures { Ready self.entry.p.now self.entry.types.now → is_some result ≡ points (type_of (expression self.entry.p.now k)) }
+    {
+        match self.facts(k).target {
             None => None,
             Some(of) => Some(facts_at(self.types, of).size),
         }
@@ -114,12 +154,18 @@ impl<'a> Context<'a> {
     }
 
     /// Where a variable stands.
-    pub fn home(self, x: u32) -> Option<Home> {
+    pub fn home(self, x: u32) -> Option<Home>
+        ensures { result ≡ slice_get self.entry.homes.now x }
+    {
         self.homes.get(x as usize).copied()
     }
 
     /// The temp of variable `x`, if it is no object.
-    pub fn value_of_variable(self, x: u32) -> Option<u32> {
+    pub fn value_of_variable(self, x: u32) -> Option<u32>
+        ensures { (d : FunDef) (e : Emitter) (v : VarDef) → Housed self.entry.p.now d self.entry.homes.now e
+            → slice_get d.vars x ≡ Some v
+            → IfSome result (λ t. HasKind e t (or_int (kept_as (type_in self.entry.p.now v.of)))) }
+    {
         match self.home(x) {
             Some(Home::Temp(t, _)) => Some(t),
             _ => None,
@@ -127,21 +173,49 @@ impl<'a> Context<'a> {
     }
 
     /// The temp with the pointer to variable `x`, if it is an object.
-    pub fn pointer_to_variable(self, x: u32) -> Option<u32> {
+    pub fn pointer_to_variable(self, x: u32) -> Option<u32>
+        ensures { (d : FunDef) (e : Emitter) → Housed self.entry.p.now d self.entry.homes.now e
+            → IfSome result (λ t. HasKind e t (kinds.Cap false)) }
+    {
         match self.home(x) {
             Some(Home::Object(_, t)) => Some(t),
             _ => None,
         }
     }
 
+    /// The number of the variable that is place `a`, if it is one.
+    pub fn named_variable(self, a: u32) -> Option<u32> {
+        match self.node(a) {
+            None => None,
+            Some(e) => match e.kind {
+                ExprKind::Var(x) => Some(x),
+                _ => None,
+            },
+        }
+    }
+
     /// The temp of the variable that is place `a`, if it is one and no object.
-    pub fn variable(self, a: u32) -> Option<u32> {
+    pub fn variable(self, a: u32) -> Option<u32>
+        ensures { (e : Emitter) → Ready self.entry.p.now self.entry.types.now → IsTyped (frame_of self.entry.p.now self.entry.d.now) a
+            → Housed self.entry.p.now self.entry.d.now self.entry.homes.now e → IfSome result (λ t. HasKind e t (kind_in self.entry.p.now a)) }
+    {
         match self.node(a) {
             None => None,
             Some(e) => match e.kind {
                 ExprKind::Var(x) => self.value_of_variable(x),
                 _ => None,
             },
+        }
+    }
+
+    /// The temp with the pointer to the object that is place `a`, if it is a variable and an object.
+    pub fn object(self, a: u32) -> Option<u32>
+        ensures { (d : FunDef) (e : Emitter) → Housed self.entry.p.now d self.entry.homes.now e
+            → IfSome result (λ t. HasKind e t (kinds.Cap false)) }
+    {
+        match self.named_variable(a) {
+            None => None,
+            Some(x) => self.pointer_to_variable(x),
         }
     }
 

@@ -1,8 +1,12 @@
 //! The code of a function while it is made.
 
-ghost use Rattle.std.specs.Prelude.{◌≡◌, ◌+◌, ◌^◌, ◌<◌, [], length, IfOk};
+ghost use Rattle.std.specs.Prelude.{◌≡◌, ℕ, ◌+◌, ◌^◌, ◌<◌, [], length, true, false, IfOk, IfSome, Some, None};
+ghost use Rattle.tac_ir.specs.declared.code.TacKind.TheVariants as kinds;
 ghost use Rattle.tac_ir.specs.declared.code.TacInstr.TheVariants as instr;
-ghost use Rattle.tac_lower.specs.Emitted.{Made, Labelled, Pushed};
+ghost use Rattle.tac_ir.specs.WellFormed.{constant_fits, units_fit, is_unit};
+ghost use Rattle.cheri_c_sem.specs.Types.{is_shift};
+ghost use Rattle.ck_int.specs.declared.kinds.IntKind.TheVariants as int;
+ghost use Rattle.tac_lower.specs.Emitted.{HasKind, HasInt, HasCapability, IsTemp, SameKind, AmountFits, CountFits, SameCapability, WorkFits, IsOpen, Stands, Grown, Made, Labelled, Forked, Turned, Pushed, Entered, HasLeft, Adds, HasRoom};
 
 use ck_base::{NoMemory, Pos, Sequence};
 use ck_int::{CmpOp, IntKind, IntOp};
@@ -50,22 +54,24 @@ impl Emitter {
     }
 
     fn push(&mut self, i: TacInstr) -> Result<(), NoMemory>
-        ensures { IfOk result (λ _. Pushed self.old self.new i) }
+        ensures pushed { IfOk result (λ _. Pushed self.old self.new i) }
+        ensures adds { IfOk result (λ _. Adds self.old self.new 0 0) }
     {
         self.code.push(i)?;
         Ok(())
     }
 
-    /// How many temps there are. Numbers above those of 32 bits are all alike.
+    /// How many temps there are.
     pub fn temps(&self) -> u32
-        ensures { length self.now.kinds.items < 2 ^ 32 → result ≡ length self.now.kinds.items }
+        requires few { length self.now.kinds.items < 2 ^ 32 }
+        ensures { result ≡ length self.now.kinds.items }
     {
-        u32::try_from(self.kinds.len()).unwrap_or(u32::MAX)
+        self.kinds.len() as u32
     }
 
-    /// A new temp.
-    pub fn temp(&mut self, kind: TacKind) -> Result<u32, NoMemory>
-        ensures temp { IfOk result (λ t. length self.old.kinds.items < 2 ^ 32 → t ≡ length self.old.kinds.items) }
+    fn add_temp(&mut self, kind: TacKind) -> Result<u32, NoMemory>
+        requires few { length self.old.kinds.items < 2 ^ 32 }
+        ensures temp { IfOk result (λ t. t ≡ length self.old.kinds.items) }
         ensures made { IfOk result (λ _. Made self.old self.new kind) }
     {
         let t = self.temps();
@@ -73,55 +79,98 @@ impl Emitter {
         Ok(t)
     }
 
+    /// A new temp.
+    #[tactic(auto, using(crate::proofs::Wells::made_grown, crate::proofs::Wells::made_has, crate::proofs::Wells::made_adds))]
+    pub fn temp(&mut self, kind: TacKind) -> Result<u32, NoMemory>
+        requires room { HasRoom self.old 1 }
+        ensures next { IfOk result (λ t. t ≡ length self.old.kinds.items) }
+        ensures has { IfOk result (λ t. HasKind self.new t kind) }
+        ensures grown { IfOk result (λ _. Grown self.old self.new) }
+        ensures adds { IfOk result (λ _. Adds self.old self.new 1 0) }
+    {
+        let t = self.add_temp(kind)?;
+        Ok(t)
+    }
+
     /// A new label.
     pub fn label(&mut self) -> u32
-        ensures { self.old.labels + 1 < 2 ^ 32 → Labelled self.old self.new result }
+        requires few { self.old.labels + 1 < 2 ^ 32 }
+        ensures labelled { Labelled self.old self.new result }
     {
         let l = self.labels;
-        self.labels = l.saturating_add(1);
+        self.labels = l + 1;
         l
     }
 
     /// Two new labels of a choice.
-    pub fn fork(&mut self) -> Fork {
+    pub fn fork(&mut self) -> Fork
+        requires few { self.old.labels + 2 < 2 ^ 32 }
+        ensures forked { Forked self.old self.new result.other result.end }
+    {
         let other = self.label();
         let end = self.label();
         Fork { other, end }
     }
 
     /// The first way of a choice ends, and the second begins.
-    pub fn turn_fork(&mut self, fork: Fork) -> Result<(), NoMemory> {
+    pub fn turn_fork(&mut self, fork: Fork) -> Result<(), NoMemory>
+        requires end { IsOpen self.old fork.end }
+        ensures turned { IfOk result (λ _. Turned self.old self.new fork.other) }
+        ensures adds { IfOk result (λ _. Adds self.old self.new 0 0) }
+    {
         self.jump(fork.end)?;
         self.stand(fork.other)
     }
 
     /// The second way of a choice ends.
-    pub fn join_fork(&mut self, fork: Fork) -> Result<(), NoMemory> {
+    pub fn join_fork(&mut self, fork: Fork) -> Result<(), NoMemory>
+        ensures stands { IfOk result (λ _. Pushed self.old self.new (instr.Label fork.end)) }
+        ensures adds { IfOk result (λ _. Adds self.old self.new 0 0) }
+    {
         self.stand(fork.end)
     }
 
     /// An integer in the 64 bits of its extension, or null with that address.
+    #[tactic(auto, using(crate::proofs::Instructions::const_grown))]
     pub fn constant(&mut self, to: u32, kind: TacKind, value: u64) -> Result<(), NoMemory>
-        ensures { IfOk result (λ _. Pushed self.old self.new (instr.Const to kind value)) }
+        requires to { HasKind self.old to kind }
+        requires value { constant_fits kind value ≡ true }
+        ensures grown { IfOk result (λ _. Grown self.old self.new) }
+        ensures adds { IfOk result (λ _. Adds self.old self.new 0 0) }
     {
         self.push(TacInstr::Const { to, kind, value })
     }
 
     /// A new temp with a constant.
-    pub fn fresh_constant(&mut self, kind: TacKind, value: u64) -> Result<u32, NoMemory> {
+    #[tactic(auto, using(crate::proofs::Wells::grown_then, crate::proofs::Wells::kept))]
+    pub fn fresh_constant(&mut self, kind: TacKind, value: u64) -> Result<u32, NoMemory>
+        requires room { HasRoom self.old 1 }
+        requires value { constant_fits kind value ≡ true }
+        ensures has { IfOk result (λ t. HasKind self.new t kind) }
+        ensures grown { IfOk result (λ _. Grown self.old self.new) }
+        ensures adds { IfOk result (λ _. Adds self.old self.new 1 0) }
+    {
         let t = self.temp(kind)?;
         self.constant(t, kind, value)?;
         Ok(t)
     }
 
+    #[tactic(auto, using(crate::proofs::Instructions::copy_grown))]
     pub fn copy(&mut self, to: u32, from: u32) -> Result<(), NoMemory>
-        ensures { IfOk result (λ _. Pushed self.old self.new (instr.Copy to from)) }
+        requires same { SameKind self.old to from }
+        ensures grown { IfOk result (λ _. Grown self.old self.new) }
+        ensures adds { IfOk result (λ _. Adds self.old self.new 0 0) }
     {
         self.push(TacInstr::Copy { to, from })
     }
 
     /// A copy, unless the value is there.
-    pub fn transfer(&mut self, to: u32, from: u32) -> Result<(), NoMemory> {
+    #[tactic(auto, using(crate::proofs::Wells::grown_same, crate::proofs::Wells::adds_same))]
+    pub fn transfer(&mut self, to: u32, from: u32) -> Result<(), NoMemory>
+        requires same { SameKind self.old to from }
+        ensures grown { IfOk result (λ _. Grown self.old self.new) }
+        ensures adds { IfOk result (λ _. Adds self.old self.new 0 0) }
+    {
         if to == from {
             Ok(())
         } else {
@@ -130,19 +179,30 @@ impl Emitter {
     }
 
     /// A transfer, where the value is asked for.
-    pub fn give(&mut self, to: Option<u32>, from: u32) -> Result<(), NoMemory> {
+    #[tactic(auto, using(crate::proofs::Wells::grown_same, crate::proofs::Wells::adds_same))]
+    pub fn give(&mut self, to: Option<u32>, from: u32) -> Result<(), NoMemory>
+        requires same { IfSome to (λ t. SameKind self.old t from) }
+        ensures grown { IfOk result (λ _. Grown self.old self.new) }
+        ensures adds { IfOk result (λ _. Adds self.old self.new 0 0) }
+    {
         match to {
             None => Ok(()),
             Some(t) => self.transfer(t, from),
         }
     }
 
+    #[tactic(auto, using(crate::proofs::Instructions::int_grown))]
     pub fn int(&mut self, op: IntOp, kind: IntKind, to: u32, a: u32, b: u32) -> Result<(), NoMemory>
-        ensures { IfOk result (λ _. Pushed self.old self.new (instr.Int op kind to a b)) }
+        requires to { HasKind self.old to (kinds.Int kind) }
+        requires left { HasKind self.old a (kinds.Int kind) }
+        requires right { CountFits self.old (is_shift op) kind b }
+        ensures grown { IfOk result (λ _. Grown self.old self.new) }
+        ensures adds { IfOk result (λ _. Adds self.old self.new 0 0) }
     {
         self.push(TacInstr::Int { op, kind, to, a, b })
     }
 
+    #[tactic(auto, using(crate::proofs::Instructions::compare_grown))]
     pub fn compare(
         &mut self,
         op: CmpOp,
@@ -151,11 +211,16 @@ impl Emitter {
         a: u32,
         b: u32,
     ) -> Result<(), NoMemory>
-        ensures { IfOk result (λ _. Pushed self.old self.new (instr.Cmp op kind to a b)) }
+        requires to { HasKind self.old to (kinds.Int int.I32) }
+        requires left { HasKind self.old a kind }
+        requires right { HasKind self.old b kind }
+        ensures grown { IfOk result (λ _. Grown self.old self.new) }
+        ensures adds { IfOk result (λ _. Adds self.old self.new 0 0) }
     {
         self.push(TacInstr::Cmp { op, kind, to, a, b })
     }
 
+    #[tactic(auto, using(crate::proofs::Instructions::convert_grown))]
     pub fn convert(
         &mut self,
         to: u32,
@@ -163,35 +228,53 @@ impl Emitter {
         old: TacKind,
         new: TacKind,
     ) -> Result<(), NoMemory>
-        ensures { IfOk result (λ _. Pushed self.old self.new (instr.Convert to from old new)) }
+        requires to { HasKind self.old to new }
+        requires from { HasKind self.old from old }
+        ensures grown { IfOk result (λ _. Grown self.old self.new) }
+        ensures adds { IfOk result (λ _. Adds self.old self.new 0 0) }
     {
         self.push(TacInstr::Convert { to, from, old, new })
     }
 
     /// A new temp with a converted value.
+    #[tactic(auto, using(crate::proofs::Wells::grown_then, crate::proofs::Wells::kept))]
     pub fn fresh_conversion(
         &mut self,
         from: u32,
         old: TacKind,
         new: TacKind,
-    ) -> Result<u32, NoMemory> {
+    ) -> Result<u32, NoMemory>
+        requires room { HasRoom self.old 1 }
+        requires from { HasKind self.old from old }
+        ensures has { IfOk result (λ t. HasKind self.new t new) }
+        ensures grown { IfOk result (λ _. Grown self.old self.new) }
+        ensures adds { IfOk result (λ _. Adds self.old self.new 1 0) }
+    {
         let t = self.temp(new)?;
         self.convert(t, from, old, new)?;
         Ok(t)
     }
 
+    #[tactic(auto, using(crate::proofs::Instructions::work_grown))]
     pub fn work(&mut self, op: CapWork, to: u32, a: u32, b: Option<u32>) -> Result<(), NoMemory>
-        ensures { IfOk result (λ _. Pushed self.old self.new (instr.Cap op to a b)) }
+        requires fits { WorkFits self.old op to a b }
+        ensures grown { IfOk result (λ _. Grown self.old self.new) }
+        ensures adds { IfOk result (λ _. Adds self.old self.new 0 0) }
     {
         self.push(TacInstr::Cap { op, to, a, b })
     }
 
+    #[tactic(auto, using(crate::proofs::Instructions::offset_grown))]
     pub fn offset(&mut self, to: u32, base: u32, by: Amount) -> Result<(), NoMemory>
-        ensures { IfOk result (λ _. Pushed self.old self.new (instr.Offset to base by)) }
+        requires same { SameCapability self.old to base }
+        requires by { AmountFits self.old by }
+        ensures grown { IfOk result (λ _. Grown self.old self.new) }
+        ensures adds { IfOk result (λ _. Adds self.old self.new 0 0) }
     {
         self.push(TacInstr::Offset { to, base, by })
     }
 
+    #[tactic(auto, using(crate::proofs::Instructions::narrow_grown))]
     pub fn narrow(
         &mut self,
         to: u32,
@@ -199,7 +282,10 @@ impl Emitter {
         length: Amount,
         exact: bool,
     ) -> Result<(), NoMemory>
-        ensures { IfOk result (λ _. Pushed self.old self.new (instr.Narrow to base length exact)) }
+        requires same { SameCapability self.old to base }
+        requires by { AmountFits self.old length }
+        ensures grown { IfOk result (λ _. Grown self.old self.new) }
+        ensures adds { IfOk result (λ _. Adds self.old self.new 0 0) }
     {
         self.push(TacInstr::Narrow {
             to,
@@ -209,8 +295,12 @@ impl Emitter {
         })
     }
 
+    #[tactic(auto, using(crate::proofs::Instructions::load_grown))]
     pub fn load(&mut self, to: u32, from: u32, kind: TacKind, pos: Pos) -> Result<(), NoMemory>
-        ensures { IfOk result (λ _. Pushed self.old self.new (instr.Load to from kind pos)) }
+        requires to { HasKind self.old to kind }
+        requires from { HasCapability self.old from }
+        ensures grown { IfOk result (λ _. Grown self.old self.new) }
+        ensures adds { IfOk result (λ _. Adds self.old self.new 0 0) }
     {
         self.push(TacInstr::Load {
             to,
@@ -220,8 +310,12 @@ impl Emitter {
         })
     }
 
+    #[tactic(auto, using(crate::proofs::Instructions::store_grown))]
     pub fn store(&mut self, at: u32, value: u32, kind: TacKind, pos: Pos) -> Result<(), NoMemory>
-        ensures { IfOk result (λ _. Pushed self.old self.new (instr.Store at value kind pos)) }
+        requires at { HasCapability self.old at }
+        requires value { HasKind self.old value kind }
+        ensures grown { IfOk result (λ _. Grown self.old self.new) }
+        ensures adds { IfOk result (λ _. Adds self.old self.new 0 0) }
     {
         self.push(TacInstr::Store {
             at,
@@ -232,13 +326,17 @@ impl Emitter {
     }
 
     /// The block of an object is entered: its bytes become zero, and the pointer to it is made.
-    pub fn enter_object(&mut self, to: u32, var: u32) -> Result<(), NoMemory> {
+    pub fn enter_object(&mut self, to: u32, var: u32) -> Result<(), NoMemory>
+        ensures entered { IfOk result (λ _. Entered self.old self.new to var) }
+        ensures adds { IfOk result (λ _. Adds self.old self.new 0 0) }
+    {
         self.push(TacInstr::Zero { var })?;
         self.push(TacInstr::Local { to, var })
     }
 
     pub fn global(&mut self, to: u32, number: u32, literal: bool) -> Result<(), NoMemory>
-        ensures { IfOk result (λ _. Pushed self.old self.new (instr.Global to number literal)) }
+        ensures pushed { IfOk result (λ _. Pushed self.old self.new (instr.Global to number literal)) }
+        ensures adds { IfOk result (λ _. Adds self.old self.new 0 0) }
     {
         self.push(TacInstr::Global {
             to,
@@ -248,13 +346,19 @@ impl Emitter {
     }
 
     pub fn function(&mut self, to: u32, fun: u32) -> Result<(), NoMemory>
-        ensures { IfOk result (λ _. Pushed self.old self.new (instr.Function to fun)) }
+        ensures pushed { IfOk result (λ _. Pushed self.old self.new (instr.Function to fun)) }
+        ensures adds { IfOk result (λ _. Adds self.old self.new 0 0) }
     {
         self.push(TacInstr::Function { to, fun })
     }
 
+    #[tactic(auto, using(crate::proofs::Instructions::copy_units_grown))]
     pub fn copy_units(&mut self, c: Copied) -> Result<(), NoMemory>
-        ensures { IfOk result (λ _. Pushed self.old self.new (instr.CopyUnits c.from c.to c.bytes c.unit c.from_pos c.to_pos)) }
+        requires from { HasCapability self.old c.from }
+        requires to { HasCapability self.old c.to }
+        requires units { units_fit c.bytes c.unit ≡ true }
+        ensures grown { IfOk result (λ _. Grown self.old self.new) }
+        ensures adds { IfOk result (λ _. Adds self.old self.new 0 0) }
     {
         self.push(TacInstr::CopyUnits {
             from: c.from,
@@ -268,24 +372,35 @@ impl Emitter {
 
     /// A label stands here.
     pub fn stand(&mut self, label: u32) -> Result<(), NoMemory>
-        ensures { IfOk result (λ _. Pushed self.old self.new (instr.Label label)) }
+        ensures stands { IfOk result (λ _. Pushed self.old self.new (instr.Label label)) }
+        ensures adds { IfOk result (λ _. Adds self.old self.new 0 0) }
     {
         self.push(TacInstr::Label(label))
     }
 
+    #[tactic(auto, using(crate::proofs::Labels::jump_grown))]
     pub fn jump(&mut self, label: u32) -> Result<(), NoMemory>
-        ensures { IfOk result (λ _. Pushed self.old self.new (instr.Jump label)) }
+        requires open { IsOpen self.old label }
+        ensures grown { IfOk result (λ _. Grown self.old self.new) }
+        ensures adds { IfOk result (λ _. Adds self.old self.new 0 0) }
     {
         self.push(TacInstr::Jump(label))
     }
 
+    #[tactic(auto, using(crate::proofs::Labels::branch_grown))]
     pub fn branch(&mut self, on: u32, when: bool, label: u32) -> Result<(), NoMemory>
-        ensures { IfOk result (λ _. Pushed self.old self.new (instr.Branch on when label)) }
+        requires open { IsOpen self.old label }
+        requires temp { IsTemp self.old on }
+        ensures grown { IfOk result (λ _. Grown self.old self.new) }
+        ensures adds { IfOk result (λ _. Adds self.old self.new 0 0) }
     {
         self.push(TacInstr::Branch { on, when, label })
     }
 
-    pub fn call(&mut self, to: Option<u32>, fun: u32, args: Vec<u32>) -> Result<(), NoMemory> {
+    pub fn call(&mut self, to: Option<u32>, fun: u32, args: Vec<u32>) -> Result<(), NoMemory>
+        ensures pushed { IfOk result (λ _. Pushed self.old self.new (instr.Call to fun args.items)) }
+        ensures adds { IfOk result (λ _. Adds self.old self.new 0 0) }
+    {
         let args = Sequence::from_vec(args);
         self.push(TacInstr::Call { to, fun, args })
     }
@@ -297,7 +412,10 @@ impl Emitter {
         of: u32,
         args: Vec<u32>,
         pos: Pos,
-    ) -> Result<(), NoMemory> {
+    ) -> Result<(), NoMemory>
+        ensures pushed { IfOk result (λ _. Pushed self.old self.new (instr.CallValue to value of args.items pos)) }
+        ensures adds { IfOk result (λ _. Adds self.old self.new 0 0) }
+    {
         let args = Sequence::from_vec(args);
         self.push(TacInstr::CallValue {
             to,
@@ -308,25 +426,36 @@ impl Emitter {
         })
     }
 
-    pub fn service(&mut self, op: LibOp, to: Option<u32>, args: Vec<u32>) -> Result<(), NoMemory> {
+    pub fn service(&mut self, op: LibOp, to: Option<u32>, args: Vec<u32>) -> Result<(), NoMemory>
+        ensures pushed { IfOk result (λ _. Pushed self.old self.new (instr.Lib op to args.items)) }
+        ensures adds { IfOk result (λ _. Adds self.old self.new 0 0) }
+    {
         let args = Sequence::from_vec(args);
         self.push(TacInstr::Lib { op, to, args })
     }
 
     /// One turn is used, and a loop begins again.
-    pub fn turn_back(&mut self, top: u32) -> Result<(), NoMemory> {
+    #[tactic(auto, using(crate::proofs::Labels::back_grown))]
+    pub fn turn_back(&mut self, top: u32) -> Result<(), NoMemory>
+        requires stands { Stands self.old top }
+        ensures grown { IfOk result (λ _. Grown self.old self.new) }
+        ensures adds { IfOk result (λ _. Adds self.old self.new 0 0) }
+    {
         self.push(TacInstr::Turn)?;
-        self.jump(top)
+        self.push(TacInstr::Jump(top))
     }
 
     pub fn leave(&mut self, value: Option<u32>) -> Result<(), NoMemory>
-        ensures { IfOk result (λ _. Pushed self.old self.new (instr.Return value)) }
+        ensures pushed { IfOk result (λ _. Pushed self.old self.new (instr.Return value)) }
+        ensures adds { IfOk result (λ _. Adds self.old self.new 0 0) }
     {
         self.push(TacInstr::Return(value))
     }
 
     /// Whether the last instruction is a return, so that no run comes behind it.
-    pub fn has_left(&self) -> bool {
+    pub fn has_left(&self) -> bool
+        ensures { result ≡ true → HasLeft self.now }
+    {
         matches!(self.code.as_slice().last(), Some(TacInstr::Return(_)))
     }
 }

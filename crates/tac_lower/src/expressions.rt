@@ -1,30 +1,42 @@
 //! Expressions. A value is computed into a temp that is given, which may be a variable's: it is written when all that the
 //! expression reads of variables was read.
 
-ghost use Rattle.std.specs.Prelude.{◌<◌, IfSome};
+ghost use Rattle.std.specs.Prelude.{◌≡◌, ℕ, ◌+◌, ◌-◌, ◌*◌, ◌<◌, true, false, IfOk, IfSome};
+ghost use Rattle.ck_int.specs.declared.kinds.IntKind.TheVariants as int;
+ghost use Rattle.tac_ir.specs.declared.code.TacKind.TheVariants as kinds;
+ghost use Rattle.tac_lower.specs.declared.emitter.Emitter.{Emitter};
 ghost use Rattle.cheri_c_sem.specs.Order.{Ordered};
+ghost use Rattle.tac_lower.specs.Emitted.{HasKind, Holds, ChangeFits, HasRoom, Grown, Adds};
+ghost use Rattle.tac_lower.specs.Signed.{ResultFits};
+ghost use Rattle.tac_lower.specs.Tables.{is_some};
+ghost use Rattle.c_tree.specs.WellTyped.{type_in};
+ghost use Rattle.tac_lower.specs.Nodes.{scalar_in, kind_in, kept_as, or_int, points, weight_in, IsTyped, IsScalar, HasOne, HasTwo, HasThree, UnaryNode, SameNode, IntNode, CapabilityNode, DifferenceNode, CompareNode, TruthNode, SumNode, CommaNode, AssignNode, CompoundNode, StepNode, ConditionalNode};
+ghost use Rattle.tac_lower.specs.Scenes.{Ready, Housed, Scene, Lowered, frame_of};
 
 use crate::calls::{call, library};
 use crate::conditions::{Jump, Junction, condition, joined_condition};
 use crate::context::Context;
 use crate::emitter::Emitter;
 use crate::operations::{
-    Change, Held, Pace, Sign, changed, derived, difference, moved, moved_by, negated, signed,
-    stepped, whole,
+    Change, Held, Pace, Sign, changed, derived, difference, moved, negated, signed, stepped,
+    stride, whole,
 };
 use crate::places::{address, pointer, struct_assignment};
-use crate::types::{INT, int_kind};
+use crate::types::{INT, int_kind, is_signed, same_kind};
 use crate::writes::Written;
 use c_tree::{ExprKind, UnaryOp};
 use ck_base::NoMemory;
 use ck_int::{CmpOp, IntOp};
-use tac_ir::TacKind;
+use tac_ir::{Amount, TacKind};
 
-/// Two expressions have values of one kind.
-fn same_kind(cx: Context, k: u32, a: u32) -> bool {
-    match cx.scalar(k) {
-        None => false,
-        Some(kind) => cx.scalar(a) == Some(kind),
+/// Two expressions have values of one kind, scalars.
+fn kept_alike(cx: Context, k: u32, a: u32) -> bool
+    requires ready { Ready cx.p.now cx.types.now }
+    ensures { result ≡ true → scalar_in cx.entry.p.now a ≡ scalar_in cx.entry.p.now k }
+{
+    match (cx.scalar(k), cx.scalar(a)) {
+        (Some(j), Some(i)) => same_kind(i, j),
+        _ => false,
     }
 }
 
@@ -32,13 +44,17 @@ fn same_kind(cx: Context, k: u32, a: u32) -> bool {
 #[tactic(auto, using(crate::proofs::Below::convert))]
 fn kept_operand(cx: Context, k: u32) -> Option<u32>
     requires ordered { Ordered cx.p.now }
-    ensures { IfSome result (λ a. a < k) }
+    requires ready { Ready cx.p.now cx.types.now }
+    requires typed { IsTyped (frame_of cx.p.now cx.d.now) k }
+    ensures before { IfSome result (λ a. a < k) }
+    ensures typed { IfSome result (λ a. IsTyped (frame_of cx.entry.p.now cx.entry.d.now) a) }
+    ensures kept { IfSome result (λ a. scalar_in cx.entry.p.now a ≡ scalar_in cx.entry.p.now k) }
 {
     let Some(e) = cx.node(k) else {
         return None;
     };
     match e.kind {
-        ExprKind::Convert(a) => { if same_kind(cx, k, a) { Some(a) } else { None } }
+        ExprKind::Convert(a) => { if kept_alike(cx, k, a) { Some(a) } else { None } }
         _ => None,
     }
 }
@@ -46,6 +62,10 @@ fn kept_operand(cx: Context, k: u32) -> Option<u32>
 /// Expression `k` without the conversions around it that leave its value as it is.
 fn peeled(cx: Context, k: u32) -> u32
     requires ordered { Ordered cx.p.now }
+    requires ready { Ready cx.p.now cx.types.now }
+    requires typed { IsTyped (frame_of cx.p.now cx.d.now) k }
+    ensures typed { IsTyped (frame_of cx.entry.p.now cx.entry.d.now) result }
+    ensures kept { scalar_in cx.entry.p.now result ≡ scalar_in cx.entry.p.now k }
 {
     match kept_operand(cx, k) {
         None => k,
@@ -53,20 +73,34 @@ fn peeled(cx: Context, k: u32) -> u32
     }
 }
 
+/// The temp of the variable whose value is read, if it is no object and `later` does not write it.
+fn spared_variable(cx: Context, a: u32, later: Written) -> Option<u32>
+    requires ready { Ready cx.p.now cx.types.now }
+    requires typed { IsTyped (frame_of cx.p.now cx.d.now) a }
+    ensures { (e : Emitter) → Housed cx.entry.p.now cx.entry.d.now cx.entry.homes.now e
+        → IfSome result (λ t. HasKind e t (kind_in cx.entry.p.now a)) }
+{
+    match cx.named_variable(a) {
+        Some(x) if later.spares(x) => cx.variable(a),
+        _ => None,
+    }
+}
+
 /// The temp that has the value of expression `k` already, and that `later` does not write: a variable's, or the one with the
 /// pointer to an object.
 pub fn in_place(cx: Context, k: u32, later: Written) -> Option<u32>
     requires ordered { Ordered cx.p.now }
+    requires ready { Ready cx.p.now cx.types.now }
+    requires typed { IsTyped (frame_of cx.p.now cx.d.now) k }
+    ensures { (e : Emitter) → Housed cx.entry.p.now cx.entry.d.now cx.entry.homes.now e
+        → IfSome result (λ t. HasKind e t (kind_in cx.entry.p.now k)) }
 {
-    match cx.node(peeled(cx, k))?.kind {
-        ExprKind::Decay(a) | ExprKind::Address(a) => match cx.node(a)?.kind {
-            ExprKind::Var(x) => cx.pointer_to_variable(x),
-            _ => None,
-        },
-        ExprKind::Load(a) => match cx.node(a)?.kind {
-            ExprKind::Var(x) if later.spares(x) => cx.value_of_variable(x),
-            _ => None,
-        },
+    let j = peeled(cx, k);
+    let e = cx.node(j)?;
+    match e.kind {
+        ExprKind::Decay(a) => cx.object(a),
+        ExprKind::Address(a) => cx.object(a),
+        ExprKind::Load(a) => spared_variable(cx, a, later),
         _ => None,
     }
 }
@@ -74,6 +108,8 @@ pub fn in_place(cx: Context, k: u32, later: Written) -> Option<u32>
 /// The number of an index that is a plain constant.
 fn constant_index(cx: Context, k: u32) -> Option<u64>
     requires ordered { Ordered cx.p.now }
+    requires ready { Ready cx.p.now cx.types.now }
+    requires typed { IsTyped (frame_of cx.p.now cx.d.now) k }
 {
     match cx.scalar(k)? {
         TacKind::Cap(_) => None,
@@ -86,7 +122,14 @@ fn constant_index(cx: Context, k: u32) -> Option<u64>
 
 /// The temp of a value that is changed in steps: the one that is given, or one of its own where that belongs to a variable or
 /// none is given.
-fn own(cx: Context, to: Option<u32>, kind: TacKind, out: &mut Emitter) -> Result<u32, NoMemory> {
+fn own(cx: Context, to: Option<u32>, kind: TacKind, out: &mut Emitter) -> Result<u32, NoMemory>
+    requires scene { Scene cx.p.now cx.d.now cx.types.now cx.homes.now out.old }
+    requires room { HasRoom out.old (1) }
+    requires to { IfSome to (λ t. HasKind out.old t kind) }
+    ensures has { IfOk result (λ t. HasKind out.new t kind) }
+    ensures lowered { IfOk result (λ _. Lowered cx.entry.p.now cx.entry.d.now cx.entry.types.now cx.entry.homes.now
+        out.old out.new (1)) }
+{
     match to {
         Some(t) if cx.is_own(t) => Ok(t),
         _ => out.temp(kind),
@@ -97,6 +140,12 @@ fn own(cx: Context, to: Option<u32>, kind: TacKind, out: &mut Emitter) -> Result
 #[cycle(expressions)]
 pub fn operand(cx: Context, k: u32, later: Written, out: &mut Emitter) -> Result<u32, NoMemory>
     requires ordered { Ordered cx.p.now }
+    requires scene { Scene cx.p.now cx.d.now cx.types.now cx.homes.now out.old }
+    requires typed { IsTyped (frame_of cx.p.now cx.d.now) k }
+    requires room { HasRoom out.old (4 * weight_in cx.p.now k) }
+    ensures has { IfOk result (λ t. HasKind out.new t (kind_in cx.entry.p.now k)) }
+    ensures lowered { IfOk result (λ _. Lowered cx.entry.p.now cx.entry.d.now cx.entry.types.now cx.entry.homes.now
+        out.old out.new (4 * weight_in cx.entry.p.now k)) }
 {
     match in_place(cx, k, later) {
         Some(t) => Ok(t),
@@ -112,6 +161,14 @@ pub fn operand(cx: Context, k: u32, later: Written, out: &mut Emitter) -> Result
 #[cycle(expressions)]
 fn operand_in(cx: Context, k: u32, to: u32, out: &mut Emitter) -> Result<Held, NoMemory>
     requires ordered { Ordered cx.p.now }
+    requires scene { Scene cx.p.now cx.d.now cx.types.now cx.homes.now out.old }
+    requires typed { IsTyped (frame_of cx.p.now cx.d.now) k }
+    requires to { HasKind out.old to (kind_in cx.p.now k) }
+    requires room { HasRoom out.old (4 * weight_in cx.p.now k - 1) }
+    ensures holds { IfOk result (λ x. Holds out.new x) }
+    ensures kind { IfOk result (λ x. x.kind ≡ kind_in cx.entry.p.now k) }
+    ensures lowered { IfOk result (λ _. Lowered cx.entry.p.now cx.entry.d.now cx.entry.types.now cx.entry.homes.now
+        out.old out.new (4 * weight_in cx.entry.p.now k - 1)) }
 {
     let kind = cx.kind(k);
     match in_place(cx, k, Written::Nothing) {
@@ -127,6 +184,13 @@ fn operand_in(cx: Context, k: u32, to: u32, out: &mut Emitter) -> Result<Held, N
 #[cycle(expressions)]
 fn held(cx: Context, k: u32, later: Written, out: &mut Emitter) -> Result<Held, NoMemory>
     requires ordered { Ordered cx.p.now }
+    requires scene { Scene cx.p.now cx.d.now cx.types.now cx.homes.now out.old }
+    requires typed { IsTyped (frame_of cx.p.now cx.d.now) k }
+    requires room { HasRoom out.old (4 * weight_in cx.p.now k) }
+    ensures holds { IfOk result (λ x. Holds out.new x) }
+    ensures kind { IfOk result (λ x. x.kind ≡ kind_in cx.entry.p.now k) }
+    ensures lowered { IfOk result (λ _. Lowered cx.entry.p.now cx.entry.d.now cx.entry.types.now cx.entry.homes.now
+        out.old out.new (4 * weight_in cx.entry.p.now k)) }
 {
     let temp = operand(cx, k, later, out)?;
     Ok(Held {
@@ -141,88 +205,84 @@ fn pair(cx: Context, k: u32, a: u32, b: u32, out: &mut Emitter) -> Result<(Held,
     requires ordered { Ordered cx.p.now }
     requires a_before { a < k }
     requires b_before { b < k }
+    requires scene { Scene cx.p.now cx.d.now cx.types.now cx.homes.now out.old }
+    requires node { HasTwo (frame_of cx.p.now cx.d.now) k a b }
+    requires room { HasRoom out.old (4 * weight_in cx.p.now k - 4) }
+    ensures left { IfOk result (λ x. Holds out.new x.0) }
+    ensures right { IfOk result (λ x. Holds out.new x.1) }
+    ensures left_kind { IfOk result (λ x. x.0.kind ≡ kind_in cx.entry.p.now a) }
+    ensures right_kind { IfOk result (λ x. x.1.kind ≡ kind_in cx.entry.p.now b) }
+    ensures lowered { IfOk result (λ _. Lowered cx.entry.p.now cx.entry.d.now cx.entry.types.now cx.entry.homes.now
+        out.old out.new (4 * weight_in cx.entry.p.now k - 4)) }
 {
     let x = held(cx, a, cx.written(b), out)?;
     let y = held(cx, b, Written::Nothing, out)?;
     Ok((x, y))
 }
 
+/// The temp for the value of expression `k`, where it has one.
+fn asked(cx: Context, k: u32, to: u32) -> Option<u32>
+    requires ready { Ready cx.p.now cx.types.now }
+    ensures { (e : Emitter) → HasKind e to (kind_in cx.entry.p.now k) → ResultFits e result (scalar_in cx.entry.p.now k) }
+{
+    if cx.scalar(k).is_some() {
+        Some(to)
+    } else {
+        None
+    }
+}
+
 /// The value of expression `k`, in temp `to`.
 #[cycle(expressions)]
 pub fn value(cx: Context, k: u32, to: u32, out: &mut Emitter) -> Result<(), NoMemory>
     requires ordered { Ordered cx.p.now }
+    requires scene { Scene cx.p.now cx.d.now cx.types.now cx.homes.now out.old }
+    requires typed { IsTyped (frame_of cx.p.now cx.d.now) k }
+    requires to { HasKind out.old to (kind_in cx.p.now k) }
+    requires room { HasRoom out.old (4 * weight_in cx.p.now k - 1) }
+    ensures lowered { IfOk result (λ _. Lowered cx.entry.p.now cx.entry.d.now cx.entry.types.now cx.entry.homes.now
+        out.old out.new (4 * weight_in cx.entry.p.now k - 1)) }
 {
     let kind = cx.kind(k);
     let Some(e) = cx.node(k) else {
-        return out.constant(to, INT, 0);
+        return out.constant(to, kind, 0);
     };
     match &e.kind {
         ExprKind::Constant(n) => out.constant(to, kind, *n),
         #[tactic(auto, using(crate::proofs::Below::load))]
-        ExprKind::Load(a) => load(cx, *a, kind, to, out),
-        #[tactic(auto, using(crate::proofs::Below::decay, crate::proofs::Below::address))]
-        ExprKind::Decay(a) | ExprKind::Address(a) => address(cx, *a, to, out),
+        ExprKind::Load(a) => load(cx, k, *a, to, out),
+        #[tactic(auto, using(crate::proofs::Below::decay))]
+        ExprKind::Decay(a) => address(cx, k, *a, to, out),
+        #[tactic(auto, using(crate::proofs::Below::address))]
+        ExprKind::Address(a) => address(cx, k, *a, to, out),
         #[tactic(auto, using(crate::proofs::Below::convert))]
-        ExprKind::Convert(a) => conversion(cx, *a, cx.scalar(k), to, out),
+        ExprKind::Convert(a) => conversion(cx, k, *a, to, out),
         #[tactic(auto, using(crate::proofs::Below::unary))]
-        ExprKind::Unary(op, a) => unary(cx, *a, *op, to, out),
+        ExprKind::Unary(op, a) => unary(cx, k, *op, *a, to, out),
         #[tactic(auto, using(crate::proofs::Below::int_left, crate::proofs::Below::int_right))]
-        ExprKind::Int(op, a, b) => {
-            let (x, y) = pair(cx, k, *a, *b, out)?;
-            whole(out, *op, int_kind(kind), to, x.temp, y)
-        }
+        ExprKind::Int(op, a, b) => integer(cx, k, *op, *a, *b, to, out),
         #[tactic(auto, using(crate::proofs::Below::capability_left, crate::proofs::Below::capability_right))]
         ExprKind::Capability(op, a, b, right) => {
-            let (x, y) = pair(cx, k, *a, *b, out)?;
-            let signed = kind == TacKind::Cap(true);
-            derived(out, *op, signed, *right, to, x, y)
+            let from = Operation {
+                op: *op,
+                right: *right,
+            };
+            capability(cx, k, from, *a, *b, to, out)
         }
         #[tactic(auto, using(crate::proofs::Below::plus_left, crate::proofs::Below::plus_right))]
         ExprKind::Plus(a, b, minus) => sum(cx, k, *a, *b, *minus, to, out),
         #[tactic(auto, using(crate::proofs::Below::difference_left, crate::proofs::Below::difference_right))]
-        ExprKind::Difference(a, b) => {
-            let (x, y) = pair(cx, k, *a, *b, out)?;
-            let size = cx.element(cx.type_of(*a)).unwrap_or(0);
-            difference(out, size, to, x.temp, y.temp)
-        }
+        ExprKind::Difference(a, b) => distance(cx, k, *a, *b, to, out),
         #[tactic(auto, using(crate::proofs::Below::compare_left, crate::proofs::Below::compare_right))]
         ExprKind::Compare(op, a, b) => comparison(cx, k, *op, *a, *b, to, out),
         #[tactic(auto, using(crate::proofs::Below::and_left, crate::proofs::Below::and_right))]
-        ExprKind::And(a, b) => {
-            let j = Junction {
-                both: true,
-                a: *a,
-                b: *b,
-            };
-            truth(cx, k, j, to, out)
-        }
+        ExprKind::And(a, b) => truth(cx, k, Junction::and(*a, *b), to, out),
         #[tactic(auto, using(crate::proofs::Below::or_left, crate::proofs::Below::or_right))]
-        ExprKind::Or(a, b) => {
-            let j = Junction {
-                both: false,
-                a: *a,
-                b: *b,
-            };
-            truth(cx, k, j, to, out)
-        }
+        ExprKind::Or(a, b) => truth(cx, k, Junction::or(*a, *b), to, out),
         #[tactic(auto, using(crate::proofs::Below::conditional_test, crate::proofs::Below::conditional_left, crate::proofs::Below::conditional_right))]
-        ExprKind::Conditional(c, a, b) => {
-            let fork = out.fork();
-            let jump = Jump {
-                when: false,
-                label: fork.other,
-            };
-            condition(cx, *c, jump, out)?;
-            value(cx, *a, to, out)?;
-            out.turn_fork(fork)?;
-            value(cx, *b, to, out)?;
-            out.join_fork(fork)
-        }
+        ExprKind::Conditional(c, a, b) => choice(cx, k, *c, *a, *b, to, out),
         #[tactic(auto, using(crate::proofs::Below::comma_left, crate::proofs::Below::comma_right))]
-        ExprKind::Comma(a, b) => {
-            effect(cx, *a, out)?;
-            value(cx, *b, to, out)
-        }
+        ExprKind::Comma(a, b) => comma(cx, k, *a, *b, to, out),
         #[tactic(auto, using(crate::proofs::Below::assign_left, crate::proofs::Below::assign_right))]
         ExprKind::Assign(a, b) => assignment(cx, k, *a, *b, Some(to), out),
         #[tactic(auto, using(crate::proofs::Below::compound_left, crate::proofs::Below::compound_right))]
@@ -231,24 +291,156 @@ pub fn value(cx: Context, k: u32, to: u32, out: &mut Emitter) -> Result<(), NoMe
             compound(cx, k, change, *a, *b, Some(to), out)
         }
         #[tactic(auto, using(crate::proofs::Below::step))]
-        ExprKind::Step(a, adds, front) => step(cx, *a, *adds, *front, Some(to), out),
+        ExprKind::Step(a, adds, front) => step(cx, k, *a, *adds, *front, Some(to), out),
         #[tactic(auto, using(crate::proofs::Below::called, crate::proofs::Below::call_arguments))]
-        ExprKind::Call(f, args) => call(cx, k, *f, args.as_slice(), Some(to), out),
+        ExprKind::Call(f, args) => call(cx, k, *f, args.as_slice(), asked(cx, k, to), out),
         #[tactic(auto, using(crate::proofs::Below::library_arguments))]
-        ExprKind::Library(n, args) => library(cx, k, *n, args.as_slice(), Some(to), out),
-        ExprKind::Fun(f) => out.function(to, *f),
+        ExprKind::Library(n, args) => library(cx, k, *n, args.as_slice(), asked(cx, k, to), out),
         ExprKind::Literal(_)
         | ExprKind::Var(_)
         | ExprKind::Global(_)
+        | ExprKind::Fun(_)
         | ExprKind::Deref(_)
-        | ExprKind::Member(_, _) => out.constant(to, INT, 0),
+        | ExprKind::Member(_, _) => out.constant(to, kind, 0),
     }
+}
+
+/// A choice of two values, by the truth of `c` (C11 6.5.15).
+#[cycle(expressions)]
+fn choice(
+    cx: Context,
+    k: u32,
+    c: u32,
+    a: u32,
+    b: u32,
+    to: u32,
+    out: &mut Emitter,
+) -> Result<(), NoMemory>
+    requires ordered { Ordered cx.p.now }
+    requires c_before { c < k }
+    requires a_before { a < k }
+    requires b_before { b < k }
+    requires scene { Scene cx.p.now cx.d.now cx.types.now cx.homes.now out.old }
+    requires node { ConditionalNode (frame_of cx.p.now cx.d.now) k c a b }
+    requires to { HasKind out.old to (kind_in cx.p.now k) }
+    requires room { HasRoom out.old (4 * weight_in cx.p.now k - 1) }
+    ensures lowered { IfOk result (λ _. Lowered cx.entry.p.now cx.entry.d.now cx.entry.types.now cx.entry.homes.now
+        out.old out.new (4 * weight_in cx.entry.p.now k - 1)) }
+{
+    let fork = out.fork();
+    let jump = Jump {
+        when: false,
+        label: fork.other,
+    };
+    condition(cx, c, jump, out)?;
+    value(cx, a, to, out)?;
+    out.turn_fork(fork)?;
+    value(cx, b, to, out)?;
+    out.join_fork(fork)
+}
+
+/// The value of `b` behind what `a` does.
+#[cycle(expressions)]
+fn comma(cx: Context, k: u32, a: u32, b: u32, to: u32, out: &mut Emitter) -> Result<(), NoMemory>
+    requires ordered { Ordered cx.p.now }
+    requires a_before { a < k }
+    requires b_before { b < k }
+    requires scene { Scene cx.p.now cx.d.now cx.types.now cx.homes.now out.old }
+    requires node { CommaNode (frame_of cx.p.now cx.d.now) k a b }
+    requires to { HasKind out.old to (kind_in cx.p.now k) }
+    requires room { HasRoom out.old (4 * weight_in cx.p.now k - 1) }
+    ensures lowered { IfOk result (λ _. Lowered cx.entry.p.now cx.entry.d.now cx.entry.types.now cx.entry.homes.now
+        out.old out.new (4 * weight_in cx.entry.p.now k - 1)) }
+{
+    effect(cx, a, out)?;
+    value(cx, b, to, out)
+}
+
+/// An operation on plain integers.
+#[cycle(expressions)]
+fn integer(
+    cx: Context,
+    k: u32,
+    op: IntOp,
+    a: u32,
+    b: u32,
+    to: u32,
+    out: &mut Emitter,
+) -> Result<(), NoMemory>
+    requires ordered { Ordered cx.p.now }
+    requires a_before { a < k }
+    requires b_before { b < k }
+    requires scene { Scene cx.p.now cx.d.now cx.types.now cx.homes.now out.old }
+    requires node { IntNode (frame_of cx.p.now cx.d.now) k op a b }
+    requires to { HasKind out.old to (kind_in cx.p.now k) }
+    requires room { HasRoom out.old (4 * weight_in cx.p.now k - 1) }
+    ensures lowered { IfOk result (λ _. Lowered cx.entry.p.now cx.entry.d.now cx.entry.types.now cx.entry.homes.now
+        out.old out.new (4 * weight_in cx.entry.p.now k - 1)) }
+{
+    let (x, y) = pair(cx, k, a, b, out)?;
+    whole(out, op, int_kind(cx.kind(k)), to, x.temp, y)
+}
+
+/// An operation on capability integers, and whether its result derives from the right operand.
+#[derive(Clone, Copy)]
+struct Operation {
+    op: IntOp,
+    right: bool,
+}
+
+/// An operation on capability integers.
+#[cycle(expressions)]
+fn capability(
+    cx: Context,
+    k: u32,
+    from: Operation,
+    a: u32,
+    b: u32,
+    to: u32,
+    out: &mut Emitter,
+) -> Result<(), NoMemory>
+    requires ordered { Ordered cx.p.now }
+    requires a_before { a < k }
+    requires b_before { b < k }
+    requires scene { Scene cx.p.now cx.d.now cx.types.now cx.homes.now out.old }
+    requires node { CapabilityNode (frame_of cx.p.now cx.d.now) k from.op a b }
+    requires to { HasKind out.old to (kind_in cx.p.now k) }
+    requires room { HasRoom out.old (4 * weight_in cx.p.now k - 1) }
+    ensures lowered { IfOk result (λ _. Lowered cx.entry.p.now cx.entry.d.now cx.entry.types.now cx.entry.homes.now
+        out.old out.new (4 * weight_in cx.entry.p.now k - 1)) }
+{
+    let (x, y) = pair(cx, k, a, b, out)?;
+    let signed = is_signed(cx.kind(k));
+    derived(out, from.op, signed, from.right, to, x, y)
+}
+
+/// The difference of two pointers.
+#[cycle(expressions)]
+fn distance(cx: Context, k: u32, a: u32, b: u32, to: u32, out: &mut Emitter) -> Result<(), NoMemory>
+    requires ordered { Ordered cx.p.now }
+    requires a_before { a < k }
+    requires b_before { b < k }
+    requires scene { Scene cx.p.now cx.d.now cx.types.now cx.homes.now out.old }
+    requires node { DifferenceNode (frame_of cx.p.now cx.d.now) k a b }
+    requires to { HasKind out.old to (kind_in cx.p.now k) }
+    requires room { HasRoom out.old (4 * weight_in cx.p.now k - 1) }
+    ensures lowered { IfOk result (λ _. Lowered cx.entry.p.now cx.entry.d.now cx.entry.types.now cx.entry.homes.now
+        out.old out.new (4 * weight_in cx.entry.p.now k - 1)) }
+{
+    let (x, y) = pair(cx, k, a, b, out)?;
+    let size = cx.pointed_size(a).unwrap_or(0);
+    difference(out, size, to, x.temp, y.temp)
 }
 
 /// What expression `k` does, and no value.
 #[cycle(expressions)]
 pub fn effect(cx: Context, k: u32, out: &mut Emitter) -> Result<(), NoMemory>
     requires ordered { Ordered cx.p.now }
+    requires scene { Scene cx.p.now cx.d.now cx.types.now cx.homes.now out.old }
+    requires typed { IsTyped (frame_of cx.p.now cx.d.now) k }
+    requires room { HasRoom out.old (4 * weight_in cx.p.now k) }
+    ensures lowered { IfOk result (λ _. Lowered cx.entry.p.now cx.entry.d.now cx.entry.types.now cx.entry.homes.now
+        out.old out.new (4 * weight_in cx.entry.p.now k)) }
 {
     let Some(e) = cx.node(k) else {
         return Ok(());
@@ -264,7 +456,7 @@ pub fn effect(cx: Context, k: u32, out: &mut Emitter) -> Result<(), NoMemory>
             compound(cx, k, change, *a, *b, None, out)
         }
         #[tactic(auto, using(crate::proofs::Below::step))]
-        ExprKind::Step(a, adds, front) => step(cx, *a, *adds, *front, None, out),
+        ExprKind::Step(a, adds, front) => step(cx, k, *a, *adds, *front, None, out),
         #[tactic(auto, using(crate::proofs::Below::called, crate::proofs::Below::call_arguments))]
         ExprKind::Call(f, args) => call(cx, k, *f, args.as_slice(), None, out),
         #[tactic(auto, using(crate::proofs::Below::library_arguments))]
@@ -275,26 +467,17 @@ pub fn effect(cx: Context, k: u32, out: &mut Emitter) -> Result<(), NoMemory>
             effect(cx, *b, out)
         }
         #[tactic(auto, using(crate::proofs::Below::conditional_test, crate::proofs::Below::conditional_left, crate::proofs::Below::conditional_right))]
-        ExprKind::Conditional(c, a, b) => {
-            let fork = out.fork();
-            let jump = Jump {
-                when: false,
-                label: fork.other,
-            };
-            condition(cx, *c, jump, out)?;
-            effect(cx, *a, out)?;
-            out.turn_fork(fork)?;
-            effect(cx, *b, out)?;
-            out.join_fork(fork)
-        }
+        ExprKind::Conditional(c, a, b) => chosen_effect(cx, k, *c, *a, *b, out),
         #[tactic(auto, using(crate::proofs::Below::and_left, crate::proofs::Below::and_right))]
         ExprKind::And(a, b) => guarded_effect(cx, k, *a, *b, false, out),
         #[tactic(auto, using(crate::proofs::Below::or_left, crate::proofs::Below::or_right))]
         ExprKind::Or(a, b) => guarded_effect(cx, k, *a, *b, true, out),
         #[tactic(auto, using(crate::proofs::Below::load))]
         ExprKind::Load(a) => read_effect(cx, k, *a, out),
-        #[tactic(auto, using(crate::proofs::Below::deref, crate::proofs::Below::member))]
-        ExprKind::Deref(a) | ExprKind::Member(a, _) => effect(cx, *a, out),
+        #[tactic(auto, using(crate::proofs::Below::deref))]
+        ExprKind::Deref(a) => effect(cx, *a, out),
+        #[tactic(auto, using(crate::proofs::Below::member))]
+        ExprKind::Member(a, _) => effect(cx, *a, out),
         ExprKind::Constant(_)
         | ExprKind::Literal(_)
         | ExprKind::Var(_)
@@ -314,6 +497,38 @@ pub fn effect(cx: Context, k: u32, out: &mut Emitter) -> Result<(), NoMemory>
     }
 }
 
+/// What a choice of two values does.
+#[cycle(expressions)]
+fn chosen_effect(
+    cx: Context,
+    k: u32,
+    c: u32,
+    a: u32,
+    b: u32,
+    out: &mut Emitter,
+) -> Result<(), NoMemory>
+    requires ordered { Ordered cx.p.now }
+    requires c_before { c < k }
+    requires a_before { a < k }
+    requires b_before { b < k }
+    requires scene { Scene cx.p.now cx.d.now cx.types.now cx.homes.now out.old }
+    requires node { HasThree (frame_of cx.p.now cx.d.now) k c a b }
+    requires room { HasRoom out.old (4 * weight_in cx.p.now k) }
+    ensures lowered { IfOk result (λ _. Lowered cx.entry.p.now cx.entry.d.now cx.entry.types.now cx.entry.homes.now
+        out.old out.new (4 * weight_in cx.entry.p.now k)) }
+{
+    let fork = out.fork();
+    let jump = Jump {
+        when: false,
+        label: fork.other,
+    };
+    condition(cx, c, jump, out)?;
+    effect(cx, a, out)?;
+    out.turn_fork(fork)?;
+    effect(cx, b, out)?;
+    out.join_fork(fork)
+}
+
 /// The second operand of `&&` or `||`, `b`, for its effect, unless the truth of `a` is `when`.
 #[cycle(expressions)]
 fn guarded_effect(
@@ -327,6 +542,11 @@ fn guarded_effect(
     requires ordered { Ordered cx.p.now }
     requires a_before { a < k }
     requires b_before { b < k }
+    requires scene { Scene cx.p.now cx.d.now cx.types.now cx.homes.now out.old }
+    requires node { HasTwo (frame_of cx.p.now cx.d.now) k a b }
+    requires room { HasRoom out.old (4 * weight_in cx.p.now k) }
+    ensures lowered { IfOk result (λ _. Lowered cx.entry.p.now cx.entry.d.now cx.entry.types.now cx.entry.homes.now
+        out.old out.new (4 * weight_in cx.entry.p.now k)) }
 {
     let label = out.label();
     condition(cx, a, Jump { when, label }, out)?;
@@ -339,6 +559,11 @@ fn guarded_effect(
 fn read_effect(cx: Context, k: u32, a: u32, out: &mut Emitter) -> Result<(), NoMemory>
     requires ordered { Ordered cx.p.now }
     requires a_before { a < k }
+    requires scene { Scene cx.p.now cx.d.now cx.types.now cx.homes.now out.old }
+    requires node { SameNode (frame_of cx.p.now cx.d.now) k a }
+    requires room { HasRoom out.old (4 * weight_in cx.p.now k) }
+    ensures lowered { IfOk result (λ _. Lowered cx.entry.p.now cx.entry.d.now cx.entry.types.now cx.entry.homes.now
+        out.old out.new (4 * weight_in cx.entry.p.now k)) }
 {
     match cx.scalar(k) {
         None => effect(cx, a, out),
@@ -346,43 +571,52 @@ fn read_effect(cx: Context, k: u32, a: u32, out: &mut Emitter) -> Result<(), NoM
             Some(_) => Ok(()),
             None => {
                 let t = out.temp(kind)?;
-                load(cx, a, kind, t, out)
+                load(cx, k, a, t, out)
             }
         },
     }
 }
 
-/// The value at place `a`.
+/// The value at place `a`, read by expression `k`.
 #[cycle(expressions)]
-fn load(cx: Context, a: u32, kind: TacKind, to: u32, out: &mut Emitter) -> Result<(), NoMemory>
+fn load(cx: Context, k: u32, a: u32, to: u32, out: &mut Emitter) -> Result<(), NoMemory>
     requires ordered { Ordered cx.p.now }
+    requires a_before { a < k }
+    requires scene { Scene cx.p.now cx.d.now cx.types.now cx.homes.now out.old }
+    requires node { SameNode (frame_of cx.p.now cx.d.now) k a }
+    requires to { HasKind out.old to (kind_in cx.p.now k) }
+    requires room { HasRoom out.old (4 * weight_in cx.p.now k - 1) }
+    ensures lowered { IfOk result (λ _. Lowered cx.entry.p.now cx.entry.d.now cx.entry.types.now cx.entry.homes.now
+        out.old out.new (4 * weight_in cx.entry.p.now k - 1)) }
 {
     match cx.variable(a) {
         Some(t) => out.transfer(to, t),
         None => {
             let from = pointer(cx, a, Written::Nothing, out)?;
-            out.load(to, from, kind, cx.pos(a))
+            out.load(to, from, cx.kind(k), cx.pos(a))
         }
     }
 }
 
-/// The value of `a`, converted to a kind; to none where it is dropped.
+/// The value of `a`, converted to the kind of expression `k`; to none where it is dropped.
 #[cycle(expressions)]
-fn conversion(
-    cx: Context,
-    a: u32,
-    new: Option<TacKind>,
-    to: u32,
-    out: &mut Emitter,
-) -> Result<(), NoMemory>
+fn conversion(cx: Context, k: u32, a: u32, to: u32, out: &mut Emitter) -> Result<(), NoMemory>
     requires ordered { Ordered cx.p.now }
+    requires a_before { a < k }
+    requires scene { Scene cx.p.now cx.d.now cx.types.now cx.homes.now out.old }
+    requires node { HasOne (frame_of cx.p.now cx.d.now) k a }
+    requires to { HasKind out.old to (kind_in cx.p.now k) }
+    requires room { HasRoom out.old (4 * weight_in cx.p.now k - 1) }
+    ensures lowered { IfOk result (λ _. Lowered cx.entry.p.now cx.entry.d.now cx.entry.types.now cx.entry.homes.now
+        out.old out.new (4 * weight_in cx.entry.p.now k - 1)) }
 {
-    let Some(new) = new else {
+    let new = cx.kind(k);
+    if cx.scalar(k).is_none() {
         effect(cx, a, out)?;
-        return out.constant(to, INT, 0);
-    };
+        return out.constant(to, new, 0);
+    }
     let old = cx.kind(a);
-    if old == new {
+    if same_kind(old, new) {
         return value(cx, a, to, out);
     }
     let x = operand(cx, a, Written::Nothing, out)?;
@@ -391,18 +625,53 @@ fn conversion(
 
 /// A unary operation on `a`.
 #[cycle(expressions)]
-fn unary(cx: Context, a: u32, op: UnaryOp, to: u32, out: &mut Emitter) -> Result<(), NoMemory>
+fn unary(
+    cx: Context,
+    k: u32,
+    op: UnaryOp,
+    a: u32,
+    to: u32,
+    out: &mut Emitter,
+) -> Result<(), NoMemory>
     requires ordered { Ordered cx.p.now }
+    requires a_before { a < k }
+    requires scene { Scene cx.p.now cx.d.now cx.types.now cx.homes.now out.old }
+    requires node { UnaryNode (frame_of cx.p.now cx.d.now) k op a }
+    requires to { HasKind out.old to (kind_in cx.p.now k) }
+    requires room { HasRoom out.old (4 * weight_in cx.p.now k - 1) }
+    ensures lowered { IfOk result (λ _. Lowered cx.entry.p.now cx.entry.d.now cx.entry.types.now cx.entry.homes.now
+        out.old out.new (4 * weight_in cx.entry.p.now k - 1)) }
 {
-    let sign = match op {
+    match op {
         UnaryOp::LogicalNot => {
             let x = held(cx, a, Written::Nothing, out)?;
-            return negated(out, to, x);
+            negated(out, to, x)
         }
-        UnaryOp::Plus => Sign::Positive,
-        UnaryOp::Minus => Sign::Negative,
-        UnaryOp::Complement => Sign::Complement,
-    };
+        UnaryOp::Plus => signed_value(cx, k, Sign::Positive, a, to, out),
+        UnaryOp::Minus => signed_value(cx, k, Sign::Negative, a, to, out),
+        UnaryOp::Complement => signed_value(cx, k, Sign::Complement, a, to, out),
+    }
+}
+
+/// `+`, `-` or `~` of `a`.
+#[cycle(expressions)]
+fn signed_value(
+    cx: Context,
+    k: u32,
+    sign: Sign,
+    a: u32,
+    to: u32,
+    out: &mut Emitter,
+) -> Result<(), NoMemory>
+    requires ordered { Ordered cx.p.now }
+    requires a_before { a < k }
+    requires scene { Scene cx.p.now cx.d.now cx.types.now cx.homes.now out.old }
+    requires node { SameNode (frame_of cx.p.now cx.d.now) k a }
+    requires to { HasKind out.old to (kind_in cx.p.now k) }
+    requires room { HasRoom out.old (4 * weight_in cx.p.now k - 1) }
+    ensures lowered { IfOk result (λ _. Lowered cx.entry.p.now cx.entry.d.now cx.entry.types.now cx.entry.homes.now
+        out.old out.new (4 * weight_in cx.entry.p.now k - 1)) }
+{
     let x = operand_in(cx, a, to, out)?;
     signed(out, sign, to, x)
 }
@@ -421,6 +690,12 @@ fn comparison(
     requires ordered { Ordered cx.p.now }
     requires a_before { a < k }
     requires b_before { b < k }
+    requires scene { Scene cx.p.now cx.d.now cx.types.now cx.homes.now out.old }
+    requires node { CompareNode (frame_of cx.p.now cx.d.now) k a b }
+    requires to { HasKind out.old to (kind_in cx.p.now k) }
+    requires room { HasRoom out.old (4 * weight_in cx.p.now k - 1) }
+    ensures lowered { IfOk result (λ _. Lowered cx.entry.p.now cx.entry.d.now cx.entry.types.now cx.entry.homes.now
+        out.old out.new (4 * weight_in cx.entry.p.now k - 1)) }
 {
     let (x, y) = pair(cx, k, a, b, out)?;
     out.compare(op, x.kind, to, x.temp, y.temp)
@@ -432,6 +707,12 @@ fn truth(cx: Context, k: u32, j: Junction, to: u32, out: &mut Emitter) -> Result
     requires ordered { Ordered cx.p.now }
     requires a_before { j.a < k }
     requires b_before { j.b < k }
+    requires scene { Scene cx.p.now cx.d.now cx.types.now cx.homes.now out.old }
+    requires node { TruthNode (frame_of cx.p.now cx.d.now) k j.a j.b }
+    requires to { HasKind out.old to (kind_in cx.p.now k) }
+    requires room { HasRoom out.old (4 * weight_in cx.p.now k - 1) }
+    ensures lowered { IfOk result (λ _. Lowered cx.entry.p.now cx.entry.d.now cx.entry.types.now cx.entry.homes.now
+        out.old out.new (4 * weight_in cx.entry.p.now k - 1)) }
 {
     let fork = out.fork();
     let jump = Jump {
@@ -459,43 +740,98 @@ fn sum(
     requires ordered { Ordered cx.p.now }
     requires a_before { a < k }
     requires b_before { b < k }
+    requires scene { Scene cx.p.now cx.d.now cx.types.now cx.homes.now out.old }
+    requires node { SumNode (frame_of cx.p.now cx.d.now) k a b }
+    requires to { HasKind out.old to (kind_in cx.p.now k) }
+    requires room { HasRoom out.old (4 * weight_in cx.p.now k - 1) }
+    ensures lowered { IfOk result (λ _. Lowered cx.entry.p.now cx.entry.d.now cx.entry.types.now cx.entry.homes.now
+        out.old out.new (4 * weight_in cx.entry.p.now k - 1)) }
 {
-    match cx.element(cx.type_of(a)) {
-        Some(size) => match constant_index(cx, b) {
-            Some(n) => displaced(cx, a, size, minus, n, to, out),
-            None => {
-                let (base, i) = pair(cx, k, a, b, out)?;
-                moved(out, size, minus, to, base.temp, i)
-            }
-        },
+    match cx.pointed_size(a) {
+        Some(size) => pointer_first(cx, k, a, b, stride(size, minus), to, out),
         None => {
-            let size = cx.element(cx.type_of(b)).unwrap_or(0);
-            match constant_index(cx, a) {
-                Some(n) => displaced(cx, b, size, minus, n, to, out),
-                None => {
-                    let (i, base) = pair(cx, k, a, b, out)?;
-                    moved(out, size, minus, to, base.temp, i)
-                }
-            }
+            let size = cx.pointed_size(b).unwrap_or(0);
+            pointer_second(cx, k, a, b, stride(size, minus), to, out)
         }
     }
 }
 
-/// Pointer `a` moved by a known number of elements.
+/// Pointer `a` and integer `b`, with the bytes of an element.
 #[cycle(expressions)]
-fn displaced(
+fn pointer_first(
     cx: Context,
+    k: u32,
     a: u32,
-    size: u64,
-    minus: bool,
-    n: u64,
+    b: u32,
+    by: u64,
     to: u32,
     out: &mut Emitter,
 ) -> Result<(), NoMemory>
     requires ordered { Ordered cx.p.now }
+    requires a_before { a < k }
+    requires b_before { b < k }
+    requires scene { Scene cx.p.now cx.d.now cx.types.now cx.homes.now out.old }
+    requires node { HasTwo (frame_of cx.p.now cx.d.now) k a b }
+    requires pointer { IsScalar cx.p.now a (kinds.Cap false) }
+    requires to { HasKind out.old to (kinds.Cap false) }
+    requires room { HasRoom out.old (4 * weight_in cx.p.now k - 1) }
+    ensures lowered { IfOk result (λ _. Lowered cx.entry.p.now cx.entry.d.now cx.entry.types.now cx.entry.homes.now
+        out.old out.new (4 * weight_in cx.entry.p.now k - 1)) }
 {
-    let base = operand_in(cx, a, to, out)?;
-    moved_by(out, size, minus, to, base.temp, n)
+    match constant_index(cx, b) {
+        Some(n) => displaced(cx, a, by.wrapping_mul(n), to, out),
+        None => {
+            let (base, i) = pair(cx, k, a, b, out)?;
+            moved(out, by, to, base.temp, i)
+        }
+    }
+}
+
+/// Integer `a` and pointer `b`, with the bytes of an element.
+#[cycle(expressions)]
+fn pointer_second(
+    cx: Context,
+    k: u32,
+    a: u32,
+    b: u32,
+    by: u64,
+    to: u32,
+    out: &mut Emitter,
+) -> Result<(), NoMemory>
+    requires ordered { Ordered cx.p.now }
+    requires a_before { a < k }
+    requires b_before { b < k }
+    requires scene { Scene cx.p.now cx.d.now cx.types.now cx.homes.now out.old }
+    requires node { HasTwo (frame_of cx.p.now cx.d.now) k a b }
+    requires pointer { IsScalar cx.p.now b (kinds.Cap false) }
+    requires to { HasKind out.old to (kinds.Cap false) }
+    requires room { HasRoom out.old (4 * weight_in cx.p.now k - 1) }
+    ensures lowered { IfOk result (λ _. Lowered cx.entry.p.now cx.entry.d.now cx.entry.types.now cx.entry.homes.now
+        out.old out.new (4 * weight_in cx.entry.p.now k - 1)) }
+{
+    match constant_index(cx, a) {
+        Some(n) => displaced(cx, b, by.wrapping_mul(n), to, out),
+        None => {
+            let (i, base) = pair(cx, k, a, b, out)?;
+            moved(out, by, to, base.temp, i)
+        }
+    }
+}
+
+/// Pointer `k` moved by a known number of bytes.
+#[cycle(expressions)]
+fn displaced(cx: Context, k: u32, by: u64, to: u32, out: &mut Emitter) -> Result<(), NoMemory>
+    requires ordered { Ordered cx.p.now }
+    requires scene { Scene cx.p.now cx.d.now cx.types.now cx.homes.now out.old }
+    requires typed { IsTyped (frame_of cx.p.now cx.d.now) k }
+    requires pointer { IsScalar cx.p.now k (kinds.Cap false) }
+    requires to { HasKind out.old to (kinds.Cap false) }
+    requires room { HasRoom out.old (4 * weight_in cx.p.now k - 1) }
+    ensures lowered { IfOk result (λ _. Lowered cx.entry.p.now cx.entry.d.now cx.entry.types.now cx.entry.homes.now
+        out.old out.new (4 * weight_in cx.entry.p.now k - 1)) }
+{
+    let base = operand_in(cx, k, to, out)?;
+    out.offset(to, base.temp, Amount::Number(by))
 }
 
 /// Place `a` gets value `b`, which is also the value of assignment `k`.
@@ -511,6 +847,12 @@ fn assignment(
     requires ordered { Ordered cx.p.now }
     requires a_before { a < k }
     requires b_before { b < k }
+    requires scene { Scene cx.p.now cx.d.now cx.types.now cx.homes.now out.old }
+    requires node { AssignNode (frame_of cx.p.now cx.d.now) k a b }
+    requires to { IfSome to (λ t. HasKind out.old t (kind_in cx.p.now k)) }
+    requires room { HasRoom out.old (4 * weight_in cx.p.now k - 1) }
+    ensures lowered { IfOk result (λ _. Lowered cx.entry.p.now cx.entry.d.now cx.entry.types.now cx.entry.homes.now
+        out.old out.new (4 * weight_in cx.entry.p.now k - 1)) }
 {
     if cx.facts(k).record {
         struct_assignment(cx, k, a, b, out)?;
@@ -538,23 +880,56 @@ fn object_assignment(
     requires ordered { Ordered cx.p.now }
     requires a_before { a < k }
     requires b_before { b < k }
+    requires scene { Scene cx.p.now cx.d.now cx.types.now cx.homes.now out.old }
+    requires node { AssignNode (frame_of cx.p.now cx.d.now) k a b }
+    requires to { IfSome to (λ t. HasKind out.old t (kind_in cx.p.now k)) }
+    requires room { HasRoom out.old (4 * weight_in cx.p.now k - 1) }
+    ensures lowered { IfOk result (λ _. Lowered cx.entry.p.now cx.entry.d.now cx.entry.types.now cx.entry.homes.now
+        out.old out.new (4 * weight_in cx.entry.p.now k - 1)) }
 {
     let kind = cx.kind(a);
     let at = pointer(cx, a, cx.written(b), out)?;
-    let v = match to {
-        None => operand(cx, b, Written::Nothing, out)?,
-        Some(_) => {
-            let v = own(cx, to, kind, out)?;
-            value(cx, b, v, out)?;
-            v
-        }
-    };
+    let v = assigned(cx, b, to, kind, out)?;
     out.store(at, v, kind, cx.pos(a))?;
     out.give(to, v)
 }
 
+/// The value of `k` that is assigned, in a temp: of its own where it is also asked for.
+#[cycle(expressions)]
+fn assigned(
+    cx: Context,
+    k: u32,
+    to: Option<u32>,
+    kind: TacKind,
+    out: &mut Emitter,
+) -> Result<u32, NoMemory>
+    requires ordered { Ordered cx.p.now }
+    requires scene { Scene cx.p.now cx.d.now cx.types.now cx.homes.now out.old }
+    requires typed { IsTyped (frame_of cx.p.now cx.d.now) k }
+    requires kind { kind_in cx.p.now k ≡ kind }
+    requires to { IfSome to (λ t. HasKind out.old t kind) }
+    requires room { HasRoom out.old (4 * weight_in cx.p.now k) }
+    ensures has { IfOk result (λ t. HasKind out.new t kind) }
+    ensures lowered { IfOk result (λ _. Lowered cx.entry.p.now cx.entry.d.now cx.entry.types.now cx.entry.homes.now
+        out.old out.new (4 * weight_in cx.entry.p.now k)) }
+{
+    match to {
+        None => operand(cx, k, Written::Nothing, out),
+        Some(_) => {
+            let v = own(cx, to, kind, out)?;
+            value(cx, k, v, out)?;
+            Ok(v)
+        }
+    }
+}
+
 /// The operation of a compound assignment that is computed in a type, by its number.
-fn change_of(cx: Context, op: IntOp, of: u32) -> Change {
+fn change_of(cx: Context, op: IntOp, of: u32) -> Change
+    requires ready { Ready cx.p.now cx.types.now }
+    ensures op { result.op ≡ op }
+    ensures computed { result.computed ≡ or_int (kept_as (type_in cx.entry.p.now of)) }
+    ensures element { is_some result.element ≡ points (type_in cx.entry.p.now of) }
+{
     Change {
         op,
         computed: cx.kind_of_type(of),
@@ -576,6 +951,14 @@ fn compound(
     requires ordered { Ordered cx.p.now }
     requires a_before { a < k }
     requires b_before { b < k }
+    requires scene { Scene cx.p.now cx.d.now cx.types.now cx.homes.now out.old }
+    requires node { HasTwo (frame_of cx.p.now cx.d.now) k a b }
+    requires left { scalar_in cx.p.now a ≡ scalar_in cx.p.now k }
+    requires change { ChangeFits change (kind_in cx.p.now a) (kind_in cx.p.now b) }
+    requires to { IfSome to (λ t. HasKind out.old t (kind_in cx.p.now k)) }
+    requires room { HasRoom out.old (4 * weight_in cx.p.now k - 1) }
+    ensures lowered { IfOk result (λ _. Lowered cx.entry.p.now cx.entry.d.now cx.entry.types.now cx.entry.homes.now
+        out.old out.new (4 * weight_in cx.entry.p.now k - 1)) }
 {
     let kind = cx.kind(a);
     match cx.variable(a) {
@@ -600,6 +983,7 @@ fn compound(
 #[cycle(expressions)]
 fn step(
     cx: Context,
+    k: u32,
     a: u32,
     up: bool,
     front: bool,
@@ -607,9 +991,16 @@ fn step(
     out: &mut Emitter,
 ) -> Result<(), NoMemory>
     requires ordered { Ordered cx.p.now }
+    requires a_before { a < k }
+    requires scene { Scene cx.p.now cx.d.now cx.types.now cx.homes.now out.old }
+    requires node { StepNode (frame_of cx.p.now cx.d.now) k a }
+    requires to { IfSome to (λ t. HasKind out.old t (kind_in cx.p.now k)) }
+    requires room { HasRoom out.old (4 * weight_in cx.p.now k - 1) }
+    ensures lowered { IfOk result (λ _. Lowered cx.entry.p.now cx.entry.d.now cx.entry.types.now cx.entry.homes.now
+        out.old out.new (4 * weight_in cx.entry.p.now k - 1)) }
 {
     let kind = cx.kind(a);
-    let size = cx.element(cx.type_of(a)).unwrap_or(1);
+    let size = cx.pointed_size(a).unwrap_or(1);
     let pace = Pace { up, size };
     match cx.variable(a) {
         Some(temp) => variable_step(cx, pace, front, to, Held { temp, kind }, out),
@@ -617,16 +1008,23 @@ fn step(
             let at = pointer(cx, a, Written::Nothing, out)?;
             let old = own(cx, to, kind, out)?;
             out.load(old, at, kind, cx.pos(a))?;
-            let new = if front || to.is_none() {
-                old
-            } else {
-                out.temp(kind)?
-            };
+            let new = renewed(out, front || to.is_none(), old, kind)?;
             stepped(out, pace, new, Held { temp: old, kind })?;
             out.store(at, new, kind, cx.pos(a))?;
             out.give(to, old)
         }
     }
+}
+
+/// The temp of the new value of a place that is moved: that of the old one, where this is not asked for.
+fn renewed(out: &mut Emitter, same: bool, old: u32, kind: TacKind) -> Result<u32, NoMemory>
+    requires old { HasKind out.old old kind }
+    requires room { HasRoom out.old 1 }
+    ensures has { IfOk result (λ t. HasKind out.new t kind) }
+    ensures grown { IfOk result (λ _. Grown out.old out.new) }
+    ensures adds { IfOk result (λ _. Adds out.old out.new 1 0) }
+{
+    if same { Ok(old) } else { out.temp(kind) }
 }
 
 /// A variable is moved by one.
@@ -637,7 +1035,14 @@ fn variable_step(
     to: Option<u32>,
     v: Held,
     out: &mut Emitter,
-) -> Result<(), NoMemory> {
+) -> Result<(), NoMemory>
+    requires scene { Scene cx.p.now cx.d.now cx.types.now cx.homes.now out.old }
+    requires v { Holds out.old v }
+    requires to { IfSome to (λ t. HasKind out.old t v.kind) }
+    requires room { HasRoom out.old (2) }
+    ensures lowered { IfOk result (λ _. Lowered cx.entry.p.now cx.entry.d.now cx.entry.types.now cx.entry.homes.now
+        out.old out.new (2)) }
+{
     if front || to.is_none() {
         stepped(out, pace, v.temp, v)?;
         return out.give(to, v.temp);

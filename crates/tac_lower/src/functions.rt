@@ -1,12 +1,25 @@
 //! The code of a function.
 
-ghost use Rattle.std.specs.Prelude.{◌≡◌, IfOk};
-ghost use Rattle.cheri_c_sem.specs.Order.{Ordered};
+ghost use Rattle.std.specs.Prelude.{◌≡◌, ℕ, ◌+◌, ◌^◌, ◌<◌, ◌≤◌, [], true, false, length, IfOk, Some, slice_get};
+ghost use Rattle.c_tree.specs.TreeWeight.{function_weight};
+ghost use Rattle.c_tree.specs.Types.{Ty, Tys, Function};
+ghost use Rattle.c_tree.specs.WellTyped.{FunctionFits, type_in};
+ghost use Rattle.c_tree.specs.declared.typed.FunDef.{FunDef};
+ghost use Rattle.c_tree.specs.declared.typed.Typed.{Typed};
+ghost use Rattle.c_tree.specs.declared.typed.VarDef.{VarDef};
+ghost use Rattle.cheri_c_sem.specs.Programs.{lengths_of};
+ghost use Rattle.tac_ir.specs.WellFormed.{function_fits, type_of_param};
+ghost use Rattle.tac_lower.specs.declared.context.Home.TheVariants as homes;
+ghost use Rattle.tac_lower.specs.Emitted.{HasKind, WellListed, Keeps, Grown, Adds, HasRoom, open_labels};
+ghost use Rattle.tac_lower.specs.Functions.{AreParameters, Makes};
+ghost use Rattle.tac_lower.specs.Nodes.{kept_as, or_int};
+ghost use Rattle.tac_lower.specs.Scenes.{Ready, HomeFits, Housed, Scene, Lowered};
+ghost use Rattle.tac_lower.specs.Signed.{kept_parameter, ReturnFits};
 
 use crate::context::{Context, Home};
 use crate::emitter::Emitter;
 use crate::statements::{Exits, statement};
-use crate::types::{INT, POINTER, TypeFacts, facts_at};
+use crate::types::{POINTER, TypeFacts, facts_at, or_int};
 use crate::writes::Written;
 use c_tree::{FunDef, Typed, VarDef};
 use ck_base::{NoMemory, Sequence};
@@ -23,13 +36,17 @@ pub struct Program<'a> {
 }
 
 impl Program<'_> {
-    fn kind_of_type(self, t: u32) -> TacKind {
-        facts_at(self.types, t).kind.unwrap_or(INT)
+    fn kind_of_type(self, t: u32) -> TacKind
+        ensures { Ready self.entry.p.now self.entry.types.now → result ≡ or_int (kept_as (type_in self.entry.p.now t)) }
+    {
+        or_int(facts_at(self.types, t).kind)
     }
 }
 
 /// The type of a variable, by its number.
-fn type_of_variable(d: &FunDef, x: u32) -> u32 {
+fn type_of_variable(d: &FunDef, x: u32) -> u32
+    ensures { result ≡ type_of_param (slice_get d.now.vars x) }
+{
     match d.vars.as_slice().get(x as usize) {
         None => 0,
         Some(v) => v.of,
@@ -37,7 +54,14 @@ fn type_of_variable(d: &FunDef, x: u32) -> u32 {
 }
 
 /// The temps of the parameters, the first ones.
-fn parameter_temps(program: Program, d: &FunDef, out: &mut Emitter) -> Result<(), NoMemory> {
+fn parameter_temps(program: Program, d: &FunDef, out: &mut Emitter) -> Result<(), NoMemory>
+    requires ready { Ready program.p.now program.types.now }
+    requires none { out.old.kinds.items ≡ [] }
+    requires room { HasRoom out.old (length d.now.params) }
+    ensures parameters { IfOk result (λ _. AreParameters program.entry.p.now d.now out.new) }
+    ensures grown { IfOk result (λ _. Grown out.old out.new) }
+    ensures adds { IfOk result (λ _. Adds out.old out.new (length d.now.params) 0) }
+{
     for x in d.params.as_slice() {
         out.temp(program.kind_of_type(type_of_variable(d, *x)))?;
     }
@@ -53,64 +77,157 @@ struct Count {
     objects: u32,
 }
 
-/// The home of the next variable: a parameter that is no object has its temp.
+impl Count {
+    /// With one variable more.
+    fn with(self, v: &VarDef) -> Count
+        requires variable { self.variable + 1 < 2 ^ 32 }
+        requires objects { self.objects + 1 < 2 ^ 32 }
+        ensures variable { result.variable ≡ self.variable + 1 }
+        ensures simple { v.now.simple ≡ true → result.objects ≡ self.objects }
+        ensures object { v.now.simple ≡ false → result.objects ≡ self.objects + 1 }
+    {
+        let variable = self.variable + 1;
+        if v.simple {
+            Count {
+                variable,
+                objects: self.objects,
+            }
+        } else {
+            Count {
+                variable,
+                objects: self.objects + 1,
+            }
+        }
+    }
+}
+
+/// The home of a variable that is an object, by its number among these.
+fn object_home(n: u32, out: &mut Emitter) -> Result<Home, NoMemory>
+    requires room { HasRoom out.old 1 }
+    ensures home { IfOk result (λ h. (p : Typed) (d : FunDef) (v : VarDef) → n < length (lengths_of p d.vars)
+        → HomeFits p d out.new v h) }
+    ensures grown { IfOk result (λ _. Grown out.old out.new) }
+    ensures adds { IfOk result (λ _. Adds out.old out.new 1 0) }
+{
+    let t = out.temp(POINTER)?;
+    Ok(Home::Object(n, t))
+}
+
+/// The temp of variable `x`, which is no object: a parameter has its own.
+#[tactic(auto, using(crate::proofs::Wells::grown_same, crate::proofs::Wells::adds_same))]
+fn value_temp(x: u32, params: usize, kind: TacKind, out: &mut Emitter) -> Result<u32, NoMemory>
+    requires parameter { x < params → HasKind out.old x kind }
+    requires room { HasRoom out.old 1 }
+    ensures has { IfOk result (λ t. HasKind out.new t kind) }
+    ensures grown { IfOk result (λ _. Grown out.old out.new) }
+    ensures adds { IfOk result (λ _. Adds out.old out.new 1 0) }
+{
+    if (x as usize) < params {
+        Ok(x)
+    } else {
+        out.temp(kind)
+    }
+}
+
+/// The home of the next variable.
 fn next_home(
     program: Program,
-    params: usize,
+    d: &FunDef,
     v: &VarDef,
     count: Count,
     out: &mut Emitter,
-) -> Result<Home, NoMemory> {
-    if !v.simple {
-        let t = out.temp(POINTER)?;
-        return Ok(Home::Object(count.objects, t));
+) -> Result<Home, NoMemory>
+    requires ready { Ready program.p.now program.types.now }
+    requires parameters { AreParameters program.p.now d.now out.old }
+    requires fits { FunctionFits program.p.now d.now }
+    requires there { slice_get d.now.vars count.variable ≡ Some v.now }
+    requires object { v.now.simple ≡ false → count.objects < length (lengths_of program.p.now d.now.vars) }
+    requires room { HasRoom out.old 1 }
+    ensures home { IfOk result (λ h. HomeFits program.entry.p.now d.now out.new v.now h) }
+    ensures grown { IfOk result (λ _. Grown out.old out.new) }
+    ensures adds { IfOk result (λ _. Adds out.old out.new 1 0) }
+{
+    if v.simple {
+        let kind = program.kind_of_type(v.of);
+        let t = value_temp(count.variable, d.params.as_slice().len(), kind, out)?;
+        Ok(Home::Temp(t, kind))
+    } else {
+        object_home(count.objects, out)
     }
-    let kind = program.kind_of_type(v.of);
-    if (count.variable as usize) < params {
-        return Ok(Home::Temp(count.variable, kind));
-    }
-    let t = out.temp(kind)?;
-    Ok(Home::Temp(t, kind))
 }
 
 /// The homes of a function's variables, in their order.
-fn homes(program: Program, d: &FunDef, out: &mut Emitter) -> Result<Vec<Home>, NoMemory> {
-    let params = d.params.as_slice().len();
+fn homes(program: Program, d: &FunDef, out: &mut Emitter) -> Result<Vec<Home>, NoMemory>
+    requires ready { Ready program.p.now program.types.now }
+    requires fits { FunctionFits program.p.now d.now }
+    requires parameters { AreParameters program.p.now d.now out.old }
+    requires few { length d.now.vars < 2 ^ 32 }
+    requires room { HasRoom out.old (length d.now.vars) }
+    ensures housed { IfOk result (λ hs. Housed program.entry.p.now d.now hs.items out.new) }
+    ensures grown { IfOk result (λ _. Grown out.old out.new) }
+    ensures adds { IfOk result (λ _. Adds out.old out.new (length d.now.vars) 0) }
+{
     let mut found = Vec::new(program.alloc);
     let mut count = Count {
         variable: 0,
         objects: 0,
     };
     for v in d.vars.as_slice() {
-        let home = next_home(program, params, v, count, out)?;
+        let home = next_home(program, d, v, count, out)?;
         found.push(home)?;
-        count.variable = count.variable.saturating_add(1);
-        if !v.simple {
-            count.objects = count.objects.saturating_add(1);
-        }
+        count = count.with(v);
     }
     Ok(found)
 }
 
-/// A parameter that is an object is entered, and gets its argument, the value of temp `t`.
+/// A parameter that is an object, number `n` among these with the pointer in temp `at`, is entered and gets its
+/// argument, the value of temp `t`.
+fn take_object(
+    cx: Context,
+    d: &FunDef,
+    x: u32,
+    n: u32,
+    at: u32,
+    t: u32,
+    out: &mut Emitter,
+) -> Result<(), NoMemory>
+    requires scene { Scene cx.p.now d.now cx.types.now cx.homes.now out.old }
+    requires home { slice_get cx.homes.now x ≡ Some (homes.Object n at) }
+    requires value { HasKind out.old t (kept_parameter cx.p.now d.now x) }
+    ensures lowered { IfOk result (λ _. Lowered cx.entry.p.now d.now cx.entry.types.now cx.entry.homes.now
+        out.old out.new 0) }
+{
+    out.enter_object(at, n)?;
+    let kind = cx.kind_of_type(type_of_variable(d, x));
+    out.store(at, t, kind, d.pos)
+}
+
+/// A parameter that is an object gets its argument, the value of temp `t`.
 fn take_parameter(
     cx: Context,
     d: &FunDef,
     x: u32,
     t: u32,
     out: &mut Emitter,
-) -> Result<(), NoMemory> {
+) -> Result<(), NoMemory>
+    requires scene { Scene cx.p.now d.now cx.types.now cx.homes.now out.old }
+    requires value { HasKind out.old t (kept_parameter cx.p.now d.now x) }
+    ensures lowered { IfOk result (λ _. Lowered cx.entry.p.now d.now cx.entry.types.now cx.entry.homes.now
+        out.old out.new 0) }
+{
     match cx.home(x) {
-        Some(Home::Object(n, at)) => {
-            out.enter_object(at, n)?;
-            let kind = cx.kind_of_type(type_of_variable(d, x));
-            out.store(at, t, kind, d.pos)
-        }
+        Some(Home::Object(n, at)) => take_object(cx, d, x, n, at, t, out),
         _ => Ok(()),
     }
 }
 
-fn take_parameters(cx: Context, d: &FunDef, out: &mut Emitter) -> Result<(), NoMemory> {
+fn take_parameters(cx: Context, d: &FunDef, out: &mut Emitter) -> Result<(), NoMemory>
+    requires scene { Scene cx.p.now d.now cx.types.now cx.homes.now out.old }
+    requires parameters { AreParameters cx.p.now d.now out.old }
+    requires few { length d.now.params < 2 ^ 32 }
+    ensures lowered { IfOk result (λ _. Lowered cx.entry.p.now d.now cx.entry.types.now cx.entry.homes.now
+        out.old out.new 0) }
+{
     let mut t: u32 = 0;
     for x in d.params.as_slice() {
         take_parameter(cx, d, *x, t, out)?;
@@ -119,48 +236,76 @@ fn take_parameters(cx: Context, d: &FunDef, out: &mut Emitter) -> Result<(), NoM
     Ok(())
 }
 
-/// The end of a function gives 0 or null, if the function gives a value (C11 5.1.2.2.3, 6.9.1p12). Behind a return no run comes
-/// to the end.
-fn end_function(gives: Option<TacKind>, out: &mut Emitter) -> Result<(), NoMemory> {
-    if out.has_left() {
-        return Ok(());
-    }
-    match gives {
-        None => out.leave(None),
-        Some(kind) => {
-            let t = out.fresh_constant(kind, 0)?;
-            out.leave(Some(t))
-        }
-    }
-}
-
 /// The kind of what a function gives, if it gives a value.
-fn gives(types: &[TypeFacts], d: &FunDef) -> Option<TacKind> {
+fn gives(types: &[TypeFacts], d: &FunDef) -> Option<TacKind>
+    ensures { (p : Typed) (r : Ty) (ps : Tys) → Ready p types.now → type_in p d.now.of ≡ Function r ps
+        → result ≡ kept_as r }
+{
     match facts_at(types, d.of).gives {
         None => None,
         Some(t) => facts_at(types, t).kind,
     }
 }
 
+/// 0 or null of a kind, if there is one.
+fn end_value(kind: Option<TacKind>, out: &mut Emitter) -> Result<Option<u32>, NoMemory>
+    requires room { HasRoom out.old 1 }
+    ensures value { IfOk result (λ v. ReturnFits out.new kind v) }
+    ensures grown { IfOk result (λ _. Grown out.old out.new) }
+    ensures adds { IfOk result (λ _. Adds out.old out.new 1 0) }
+{
+    match kind {
+        None => Ok(None),
+        Some(kind) => {
+            let t = out.fresh_constant(kind, 0)?;
+            Ok(Some(t))
+        }
+    }
+}
+
+/// The end of a function gives 0 or null, if the function gives a value (C11 5.1.2.2.3, 6.9.1p12). Behind a return no
+/// run comes to the end.
+fn end_function(cx: Context, out: &mut Emitter) -> Result<(), NoMemory>
+    requires scene { Scene cx.p.now cx.d.now cx.types.now cx.homes.now out.old }
+    requires fits { FunctionFits cx.p.now cx.d.now }
+    requires closed { (l : ℕ) → open_labels out.old l ≡ false }
+    requires room { HasRoom out.old 1 }
+    ensures whole { IfOk result (λ _. WellListed cx.entry.p.now cx.entry.d.now out.new.kinds.items
+        out.new.code.items out.new.code.items) }
+    ensures keeps { IfOk result (λ _. Keeps out.old.kinds.items out.new.kinds.items) }
+    ensures adds { IfOk result (λ _. Adds out.old out.new 1 0) }
+{
+    if out.has_left() {
+        return Ok(());
+    }
+    let value = end_value(gives(cx.types, cx.d), out)?;
+    out.leave(value)
+}
+
 fn finished(d: &FunDef, out: Emitter) -> TacFun
-    ensures { result.name ≡ d.now.pos }
+    requires few { length d.now.params < 2 ^ 32 }
+    requires temps { length out.kinds.items < 2 ^ 32 }
+    ensures makes { Makes d.now out result }
 {
     let temps = out.temps();
     let Emitter { code, kinds, .. } = out;
     TacFun {
         name: d.pos,
-        params: u32::try_from(d.params.as_slice().len()).unwrap_or(u32::MAX),
+        params: d.params.as_slice().len() as u32,
         temps,
         kinds: Sequence::from_vec(kinds),
         code: Sequence::from_vec(code),
     }
 }
 
-/// The code of a function. The first temps are those of the parameters; then come those of the other variables, and of the
-/// pointers to objects.
+/// The code of a function. The first temps are those of the parameters; then come those of the other variables, and
+/// of the pointers to objects.
 pub fn function(program: Program, d: &FunDef) -> Result<TacFun, NoMemory>
-    requires ordered { Ordered program.p.now }
+    requires ready { Ready program.p.now program.types.now }
+    requires fits { FunctionFits program.p.now d.now }
+    requires light { function_weight program.p.now d.now ≤ 7780 }
     ensures named { IfOk result (λ f. f.name ≡ d.now.pos) }
+    ensures formed { IfOk result (λ f. function_fits program.entry.p.now d.now f ≡ true) }
 {
     let mut out = Emitter::new(program.alloc);
     parameter_temps(program, d, &mut out)?;
@@ -168,6 +313,7 @@ pub fn function(program: Program, d: &FunDef) -> Result<TacFun, NoMemory>
     let cx = Context {
         alloc: program.alloc,
         p: program.p,
+        d,
         types: program.types,
         writes: program.writes,
         homes: homes.as_slice(),
@@ -179,6 +325,6 @@ pub fn function(program: Program, d: &FunDef) -> Result<TacFun, NoMemory>
         continue_to: None,
     };
     statement(cx, d.body, exits, &mut out)?;
-    end_function(gives(program.types, d), &mut out)?;
+    end_function(cx, &mut out)?;
     Ok(finished(d, out))
 }

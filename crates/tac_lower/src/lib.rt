@@ -1,8 +1,8 @@
 //! Lowering: from typed programs to three-address code.
 //!
-//! Promise: `lower` is safe and total for every typed program.
-//! Definitions (`specs/`): `Lowered`.
-//! Main lemmas (`proofs/`): `Below`.
+//! Promise: `lower` gives well-formed code for every sound program of weight at most 7,780, function by function.
+//! Definitions (`specs/`): `Lowered`; `WellFormed` of `tac_ir`; on the way `Scenes`, `Emitted`, `Nodes`, `Functions`.
+//! Main lemmas (`proofs/`): `Bodies`, `Scening`, `Housing`.
 #![tactic(auto)]
 
 mod calls;
@@ -20,7 +20,10 @@ mod switches;
 mod types;
 mod writes;
 
-pub use laws::{finished_code_is_well_formed, jumps_keep_code_well_formed, typed_expressions_fit};
+pub use laws::{
+    calls_keep_code_well_formed, finished_code_is_well_formed, jumps_keep_code_well_formed,
+    library_calls_fit, parts_add_up, signatures_fit, typed_expressions_fit, typed_statements_fit,
+};
 pub use lowering::lower;
 
 #[cfg(test)]

@@ -1,7 +1,11 @@
 //! Lowering: from typed programs to three-address code.
 
-ghost use Rattle.std.specs.Prelude.{◌≡◌, IfOk};
+ghost use Rattle.std.specs.Prelude.{◌≡◌, ◌≤◌, true, IfOk};
+ghost use Rattle.c_tree.specs.Views.{IsOrdered};
+ghost use Rattle.c_tree.specs.Weight.{weight};
 ghost use Rattle.cheri_c_sem.specs.Order.{Ordered};
+ghost use Rattle.tac_ir.specs.WellFormed.{is_well_formed};
+ghost use Rattle.tac_lower.specs.Functions.{AreTypedFunctions};
 ghost use Rattle.tac_lower.specs.Lowered.{names_of, names_in};
 
 use crate::functions::{Program, function};
@@ -16,7 +20,11 @@ use tac_ir::Tac;
 /// expressions and statements lie in one another.
 pub fn lower(alloc: Global, p: &Typed) -> Result<Tac, NoMemory>
     requires ordered { Ordered p.now }
+    requires listed { IsOrdered p.now }
+    requires typed { AreTypedFunctions p.now }
+    requires light { weight p.now ≤ 7780 }
     ensures named { IfOk result (λ t. names_of t.funs ≡ names_in p.now.funs) }
+    ensures formed { IfOk result (λ t. is_well_formed t p.now ≡ true) }
 {
     let types = type_table(alloc, p)?;
     let writes = writes_table(alloc, p)?;

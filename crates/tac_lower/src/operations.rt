@@ -1,7 +1,16 @@
 //! Operations on values that are in temps.
 
+ghost use Rattle.std.specs.Prelude.{◌≡◌, ℕ, ◌^◌, ◌<◌, true, false, IfOk, IfSome, Some, None};
+ghost use Rattle.ck_int.specs.declared.kinds.IntKind.{IntKind};
+ghost use Rattle.ck_int.specs.declared.kinds.IntKind.TheVariants as int;
+ghost use Rattle.tac_ir.specs.declared.code.TacKind.TheVariants as kinds;
+ghost use Rattle.cheri_c_sem.specs.Types.{is_shift};
+ghost use Rattle.tac_ir.specs.WellFormed.{constant_fits};
+ghost use Rattle.tac_lower.specs.declared.emitter.Emitter.{Emitter};
+ghost use Rattle.tac_lower.specs.Emitted.{HasKind, HasInt, HasAddress, IsWide, AmountFits, CountFits, RightFits, SameKind, SameCapability, Holds, is_capability, wide_of, Grown, Adds, HasRoom, ChangeFits};
+
 use crate::emitter::Emitter;
-use crate::types::{LONG, POINTER, WORD, is_capability};
+use crate::types::{LONG, POINTER, WORD, is_capability, same_kind};
 use ck_base::NoMemory;
 use ck_int::{CmpOp, IntKind, IntOp, wrap};
 use tac_ir::{Amount, CapWork, TacKind};
@@ -13,29 +22,51 @@ pub struct Held {
     pub kind: TacKind,
 }
 
-fn is_shift(op: IntOp) -> bool {
+fn is_shift(op: IntOp) -> bool
+    ensures { result ≡ is_shift op }
+{
     matches!(op, IntOp::Shl | IntOp::Shr)
 }
 
 /// The number all of whose bits are set, as a kind keeps it.
-fn all_ones(kind: IntKind) -> u64 {
+fn all_ones(kind: IntKind) -> u64
+    ensures { constant_fits (kinds.Int kind) result ≡ true }
+{
     wrap(kind, i128::from(u64::MAX))
 }
 
 /// Whether a value is 0 or null.
-pub fn negated(out: &mut Emitter, to: u32, x: Held) -> Result<(), NoMemory> {
+pub fn negated(out: &mut Emitter, to: u32, x: Held) -> Result<(), NoMemory>
+    requires room { HasRoom out.old 1 }
+    requires to { HasKind out.old to (kinds.Int int.I32) }
+    requires x { Holds out.old x }
+    ensures grown { IfOk result (λ _. Grown out.old out.new) }
+    ensures adds { IfOk result (λ _. Adds out.old out.new 1 0) }
+{
     let zero = out.fresh_constant(x.kind, 0)?;
     out.compare(CmpOp::Eq, x.kind, to, x.temp, zero)
 }
 
 /// 0 less an integer.
-fn negative(out: &mut Emitter, kind: IntKind, to: u32, a: u32) -> Result<(), NoMemory> {
+fn negative(out: &mut Emitter, kind: IntKind, to: u32, a: u32) -> Result<(), NoMemory>
+    requires room { HasRoom out.old 1 }
+    requires to { HasKind out.old to (kinds.Int kind) }
+    requires a { HasKind out.old a (kinds.Int kind) }
+    ensures grown { IfOk result (λ _. Grown out.old out.new) }
+    ensures adds { IfOk result (λ _. Adds out.old out.new 1 0) }
+{
     let zero = out.fresh_constant(TacKind::Int(kind), 0)?;
     out.int(IntOp::Sub, kind, to, zero, a)
 }
 
 /// An integer with each bit turned.
-fn complement(out: &mut Emitter, kind: IntKind, to: u32, a: u32) -> Result<(), NoMemory> {
+fn complement(out: &mut Emitter, kind: IntKind, to: u32, a: u32) -> Result<(), NoMemory>
+    requires room { HasRoom out.old 1 }
+    requires to { HasKind out.old to (kinds.Int kind) }
+    requires a { HasKind out.old a (kinds.Int kind) }
+    ensures grown { IfOk result (λ _. Grown out.old out.new) }
+    ensures adds { IfOk result (λ _. Adds out.old out.new 1 0) }
+{
     let ones = out.fresh_constant(TacKind::Int(kind), all_ones(kind))?;
     out.int(IntOp::Xor, kind, to, a, ones)
 }
@@ -54,7 +85,13 @@ fn signed_integer(
     kind: IntKind,
     to: u32,
     a: u32,
-) -> Result<(), NoMemory> {
+) -> Result<(), NoMemory>
+    requires room { HasRoom out.old 1 }
+    requires to { HasKind out.old to (kinds.Int kind) }
+    requires a { HasKind out.old a (kinds.Int kind) }
+    ensures grown { IfOk result (λ _. Grown out.old out.new) }
+    ensures adds { IfOk result (λ _. Adds out.old out.new 1 0) }
+{
     match sign {
         Sign::Positive => out.transfer(to, a),
         Sign::Negative => negative(out, kind, to, a),
@@ -63,14 +100,27 @@ fn signed_integer(
 }
 
 /// The computed address stands in a temp of its own, and the capability gets it.
-fn signed_capability(out: &mut Emitter, sign: Sign, to: u32, x: Held) -> Result<(), NoMemory> {
+fn signed_capability(out: &mut Emitter, sign: Sign, to: u32, x: Held) -> Result<(), NoMemory>
+    requires room { HasRoom out.old 2 }
+    requires to { HasKind out.old to x.kind }
+    requires x { Holds out.old x }
+    requires capability { is_capability x.kind ≡ true }
+    ensures grown { IfOk result (λ _. Grown out.old out.new) }
+    ensures adds { IfOk result (λ _. Adds out.old out.new 2 0) }
+{
     let n = out.fresh_conversion(x.temp, x.kind, WORD)?;
     signed_integer(out, sign, IntKind::U64, n, n)?;
     out.work(CapWork::SetAddress, to, x.temp, Some(n))
 }
 
 /// `+`, `-` or `~`.
-pub fn signed(out: &mut Emitter, sign: Sign, to: u32, x: Held) -> Result<(), NoMemory> {
+pub fn signed(out: &mut Emitter, sign: Sign, to: u32, x: Held) -> Result<(), NoMemory>
+    requires room { HasRoom out.old 2 }
+    requires to { HasKind out.old to x.kind }
+    requires x { Holds out.old x }
+    ensures grown { IfOk result (λ _. Grown out.old out.new) }
+    ensures adds { IfOk result (λ _. Adds out.old out.new 2 0) }
+{
     match x.kind {
         TacKind::Int(kind) => signed_integer(out, sign, kind, to, x.temp),
         TacKind::Cap(_) => signed_capability(out, sign, to, x),
@@ -78,7 +128,13 @@ pub fn signed(out: &mut Emitter, sign: Sign, to: u32, x: Held) -> Result<(), NoM
 }
 
 /// A shift's count as an integer.
-fn as_count(out: &mut Emitter, x: Held) -> Result<u32, NoMemory> {
+fn as_count(out: &mut Emitter, x: Held) -> Result<u32, NoMemory>
+    requires room { HasRoom out.old 1 }
+    requires x { Holds out.old x }
+    ensures count { IfOk result (λ t. HasInt out.new t) }
+    ensures grown { IfOk result (λ _. Grown out.old out.new) }
+    ensures adds { IfOk result (λ _. Adds out.old out.new 1 0) }
+{
     if is_capability(x.kind) {
         out.fresh_conversion(x.temp, x.kind, WORD)
     } else {
@@ -87,7 +143,13 @@ fn as_count(out: &mut Emitter, x: Held) -> Result<u32, NoMemory> {
 }
 
 /// The right operand of an operation on integers.
-fn right_operand(out: &mut Emitter, op: IntOp, y: Held) -> Result<u32, NoMemory> {
+fn right_operand(out: &mut Emitter, op: IntOp, y: Held) -> Result<u32, NoMemory>
+    requires room { HasRoom out.old 1 }
+    requires y { Holds out.old y }
+    ensures count { IfOk result (λ t. (kind : IntKind) → RightFits (is_shift op) kind y.kind → CountFits out.new (is_shift op) kind t) }
+    ensures grown { IfOk result (λ _. Grown out.old out.new) }
+    ensures adds { IfOk result (λ _. Adds out.old out.new 1 0) }
+{
     if is_shift(op) {
         as_count(out, y)
     } else {
@@ -103,14 +165,24 @@ pub fn whole(
     to: u32,
     a: u32,
     y: Held,
-) -> Result<(), NoMemory> {
+) -> Result<(), NoMemory>
+    requires room { HasRoom out.old 1 }
+    requires to { HasKind out.old to (kinds.Int kind) }
+    requires a { HasKind out.old a (kinds.Int kind) }
+    requires y { Holds out.old y }
+    requires right { RightFits (is_shift op) kind y.kind }
+    ensures grown { IfOk result (λ _. Grown out.old out.new) }
+    ensures adds { IfOk result (λ _. Adds out.old out.new 1 0) }
+{
     let b = right_operand(out, op, y)?;
     out.int(op, kind, to, a, b)
 }
 
 /// The kind in which the address of a capability is computed. Only a quotient, a remainder and a shift to the right depend on
 /// the sign.
-fn address_kind(op: IntOp, signed: bool) -> IntKind {
+fn address_kind(op: IntOp, signed: bool) -> IntKind
+    ensures { IsWide (kinds.Int result) }
+{
     if signed && matches!(op, IntOp::Div | IntOp::Rem | IntOp::Shr) {
         IntKind::I64
     } else {
@@ -119,7 +191,13 @@ fn address_kind(op: IntOp, signed: bool) -> IntKind {
 }
 
 /// The right operand of an operation on addresses.
-fn address_operand(out: &mut Emitter, op: IntOp, kind: IntKind, y: Held) -> Result<u32, NoMemory> {
+fn address_operand(out: &mut Emitter, op: IntOp, kind: IntKind, y: Held) -> Result<u32, NoMemory>
+    requires room { HasRoom out.old 1 }
+    requires y { Holds out.old y }
+    ensures count { IfOk result (λ t. CountFits out.new (is_shift op) kind t) }
+    ensures grown { IfOk result (λ _. Grown out.old out.new) }
+    ensures adds { IfOk result (λ _. Adds out.old out.new 1 0) }
+{
     if is_shift(op) && !is_capability(y.kind) {
         Ok(y.temp)
     } else {
@@ -134,7 +212,15 @@ fn computed_address(
     signed: bool,
     x: Held,
     y: Held,
-) -> Result<Held, NoMemory> {
+) -> Result<Held, NoMemory>
+    requires room { HasRoom out.old 2 }
+    requires x { Holds out.old x }
+    requires y { Holds out.old y }
+    ensures held { IfOk result (λ n. Holds out.new n) }
+    ensures wide { IfOk result (λ n. IsWide n.kind) }
+    ensures grown { IfOk result (λ _. Grown out.old out.new) }
+    ensures adds { IfOk result (λ _. Adds out.old out.new 2 0) }
+{
     let kind = address_kind(op, signed);
     let n = out.fresh_conversion(x.temp, x.kind, TacKind::Int(kind))?;
     let m = address_operand(out, op, kind, y)?;
@@ -143,6 +229,20 @@ fn computed_address(
         temp: n,
         kind: TacKind::Int(kind),
     })
+}
+
+/// The temp of the operand from which a result derives: the right one only where that is asked and it is kept as the left one is.
+fn origin(right: bool, x: Held, y: Held) -> u32
+    ensures { (e : Emitter) → Holds e x → Holds e y → HasKind e result x.kind }
+{
+    if !right {
+        return x.temp;
+    }
+    if same_kind(y.kind, x.kind) {
+        y.temp
+    } else {
+        x.temp
+    }
 }
 
 /// An operation on capability integers. The result derives from the right operand where that is asked, else from the left one.
@@ -154,55 +254,71 @@ pub fn derived(
     to: u32,
     x: Held,
     y: Held,
-) -> Result<(), NoMemory> {
+) -> Result<(), NoMemory>
+    requires room { HasRoom out.old 2 }
+    requires to { HasKind out.old to (kinds.Cap signed) }
+    requires x { HasKind out.old x.temp (kinds.Cap signed) }
+    requires x_kind { x.kind ≡ kinds.Cap signed }
+    requires y { Holds out.old y }
+    ensures grown { IfOk result (λ _. Grown out.old out.new) }
+    ensures adds { IfOk result (λ _. Adds out.old out.new 2 0) }
+{
     let n = computed_address(out, op, signed, x, y)?;
-    let from = if right { y.temp } else { x.temp };
+    let from = origin(right, x, y);
     out.work(CapWork::SetAddress, to, from, Some(n.temp))
 }
 
 /// The integer kind of 64 bits to which a kind is extended.
-fn wide_kind(kind: TacKind) -> IntKind {
+fn wide_kind(kind: TacKind) -> IntKind
+    ensures { result ≡ wide_of kind }
+{
     match kind {
         TacKind::Int(IntKind::I8 | IntKind::I16 | IntKind::I32 | IntKind::I64) => IntKind::I64,
         _ => IntKind::U64,
     }
 }
 
-fn is_wide(kind: TacKind) -> bool {
+fn is_wide(kind: TacKind) -> bool
+    ensures { result ≡ true → kind ≡ kinds.Int (wide_of kind) }
+{
     matches!(kind, TacKind::Int(IntKind::I64 | IntKind::U64))
 }
 
 /// The size of an element, negative where a pointer is moved down, modulo 2^64.
-fn stride(size: u64, minus: bool) -> u64 {
+pub fn stride(size: u64, minus: bool) -> u64 {
     if minus { size.wrapping_neg() } else { size }
 }
 
-/// An index extended to 64 bits, in a temp of its own unless it has them.
-fn widened(out: &mut Emitter, i: Held) -> Result<u32, NoMemory> {
+/// An index, extended to 64 bits, times the size of an element, in a temp of its own.
+fn scaled(out: &mut Emitter, i: Held, by: u64) -> Result<u32, NoMemory>
+    requires room { HasRoom out.old 2 }
+    requires i { Holds out.old i }
+    ensures bytes { IfOk result (λ t. HasInt out.new t) }
+    ensures grown { IfOk result (λ _. Grown out.old out.new) }
+    ensures adds { IfOk result (λ _. Adds out.old out.new 2 0) }
+{
+    let kind = wide_kind(i.kind);
     if is_wide(i.kind) {
-        Ok(i.temp)
+        let size = out.fresh_constant(TacKind::Int(kind), by)?;
+        let to = out.temp(TacKind::Int(kind))?;
+        out.int(IntOp::Mul, kind, to, i.temp, size)?;
+        Ok(to)
     } else {
-        out.fresh_conversion(i.temp, i.kind, TacKind::Int(wide_kind(i.kind)))
+        let n = out.fresh_conversion(i.temp, i.kind, TacKind::Int(kind))?;
+        let size = out.fresh_constant(TacKind::Int(kind), by)?;
+        out.int(IntOp::Mul, kind, n, n, size)?;
+        Ok(n)
     }
 }
 
-/// A wide index times the size of an element, in a temp of its own.
-fn scaled(out: &mut Emitter, i: Held, by: u64) -> Result<u32, NoMemory> {
-    let kind = wide_kind(i.kind);
-    let n = widened(out, i)?;
-    let size = out.fresh_constant(TacKind::Int(kind), by)?;
-    let to = if n == i.temp {
-        out.temp(TacKind::Int(kind))?
-    } else {
-        n
-    };
-    out.int(IntOp::Mul, kind, to, n, size)?;
-    Ok(to)
-}
-
-/// The bytes of an index.
-fn bytes_of(out: &mut Emitter, i: Held, size: u64, minus: bool) -> Result<Amount, NoMemory> {
-    let by = stride(size, minus);
+/// The bytes of an index, by those of an element.
+fn bytes_of(out: &mut Emitter, i: Held, by: u64) -> Result<Amount, NoMemory>
+    requires room { HasRoom out.old 2 }
+    requires i { Holds out.old i }
+    ensures bytes { IfOk result (λ a. AmountFits out.new a) }
+    ensures grown { IfOk result (λ _. Grown out.old out.new) }
+    ensures adds { IfOk result (λ _. Adds out.old out.new 2 0) }
+{
     if by == 1 {
         Ok(Amount::Temp(as_count(out, i)?))
     } else {
@@ -210,16 +326,15 @@ fn bytes_of(out: &mut Emitter, i: Held, size: u64, minus: bool) -> Result<Amount
     }
 }
 
-/// A pointer moved by elements of a size, up or down.
-pub fn moved(
-    out: &mut Emitter,
-    size: u64,
-    minus: bool,
-    to: u32,
-    base: u32,
-    i: Held,
-) -> Result<(), NoMemory> {
-    let by = bytes_of(out, i, size, minus)?;
+/// A pointer moved by elements of so many bytes.
+pub fn moved(out: &mut Emitter, by: u64, to: u32, base: u32, i: Held) -> Result<(), NoMemory>
+    requires room { HasRoom out.old 2 }
+    requires base { SameCapability out.old to base }
+    requires i { Holds out.old i }
+    ensures grown { IfOk result (λ _. Grown out.old out.new) }
+    ensures adds { IfOk result (λ _. Adds out.old out.new 2 0) }
+{
+    let by = bytes_of(out, i, by)?;
     out.offset(to, base, by)
 }
 
@@ -231,13 +346,24 @@ pub fn moved_by(
     to: u32,
     base: u32,
     n: u64,
-) -> Result<(), NoMemory> {
+) -> Result<(), NoMemory>
+    requires base { SameCapability out.old to base }
+    ensures grown { IfOk result (λ _. Grown out.old out.new) }
+    ensures adds { IfOk result (λ _. Adds out.old out.new 0 0) }
+{
     let by = stride(size, minus).wrapping_mul(n);
     out.offset(to, base, Amount::Number(by))
 }
 
 /// The difference of two pointers in elements of a size.
-pub fn difference(out: &mut Emitter, size: u64, to: u32, a: u32, b: u32) -> Result<(), NoMemory> {
+pub fn difference(out: &mut Emitter, size: u64, to: u32, a: u32, b: u32) -> Result<(), NoMemory>
+    requires room { HasRoom out.old 2 }
+    requires to { HasKind out.old to (kinds.Int int.I64) }
+    requires a { HasKind out.old a (kinds.Cap false) }
+    requires b { HasKind out.old b (kinds.Cap false) }
+    ensures grown { IfOk result (λ _. Grown out.old out.new) }
+    ensures adds { IfOk result (λ _. Adds out.old out.new 2 0) }
+{
     let n = out.fresh_conversion(a, POINTER, LONG)?;
     let m = out.fresh_conversion(b, POINTER, LONG)?;
     if size == 1 {
@@ -266,10 +392,18 @@ fn changed_whole(
     to: u32,
     x: Held,
     y: Held,
-) -> Result<(), NoMemory> {
+) -> Result<(), NoMemory>
+    requires room { HasRoom out.old 2 }
+    requires to { HasKind out.old to x.kind }
+    requires x { Holds out.old x }
+    requires y { Holds out.old y }
+    requires right { RightFits (is_shift op) kind y.kind }
+    ensures grown { IfOk result (λ _. Grown out.old out.new) }
+    ensures adds { IfOk result (λ _. Adds out.old out.new 2 0) }
+{
     let b = right_operand(out, op, y)?;
     let computed = TacKind::Int(kind);
-    if x.kind == computed {
+    if same_kind(x.kind, computed) {
         return out.int(op, kind, to, x.temp, b);
     }
     let u = out.fresh_conversion(x.temp, x.kind, computed)?;
@@ -285,7 +419,14 @@ fn changed_capability(
     to: u32,
     x: Held,
     y: Held,
-) -> Result<(), NoMemory> {
+) -> Result<(), NoMemory>
+    requires room { HasRoom out.old 2 }
+    requires to { HasKind out.old to x.kind }
+    requires x { Holds out.old x }
+    requires y { Holds out.old y }
+    ensures grown { IfOk result (λ _. Grown out.old out.new) }
+    ensures adds { IfOk result (λ _. Adds out.old out.new 2 0) }
+{
     let n = computed_address(out, op, signed, x, y)?;
     if is_capability(x.kind) {
         out.work(CapWork::SetAddress, to, x.temp, Some(n.temp))
@@ -295,15 +436,17 @@ fn changed_capability(
 }
 
 /// A place's value, changed by a right operand.
-pub fn changed(
-    out: &mut Emitter,
-    change: Change,
-    to: u32,
-    x: Held,
-    y: Held,
-) -> Result<(), NoMemory> {
+pub fn changed(out: &mut Emitter, change: Change, to: u32, x: Held, y: Held) -> Result<(), NoMemory>
+    requires room { HasRoom out.old 2 }
+    requires to { HasKind out.old to x.kind }
+    requires x { Holds out.old x }
+    requires y { Holds out.old y }
+    requires change { ChangeFits change x.kind y.kind }
+    ensures grown { IfOk result (λ _. Grown out.old out.new) }
+    ensures adds { IfOk result (λ _. Adds out.old out.new 2 0) }
+{
     match change.element {
-        Some(size) => moved(out, size, change.op == IntOp::Sub, to, x.temp, y),
+        Some(size) => moved(out, stride(size, change.op == IntOp::Sub), to, x.temp, y),
         None => match change.computed {
             TacKind::Int(kind) => changed_whole(out, change.op, kind, to, x, y),
             TacKind::Cap(signed) => changed_capability(out, change.op, signed, to, x, y),
@@ -319,7 +462,13 @@ pub struct Pace {
 }
 
 /// A value moved by one.
-pub fn stepped(out: &mut Emitter, pace: Pace, to: u32, x: Held) -> Result<(), NoMemory> {
+pub fn stepped(out: &mut Emitter, pace: Pace, to: u32, x: Held) -> Result<(), NoMemory>
+    requires room { HasRoom out.old 1 }
+    requires to { HasKind out.old to x.kind }
+    requires x { Holds out.old x }
+    ensures grown { IfOk result (λ _. Grown out.old out.new) }
+    ensures adds { IfOk result (λ _. Adds out.old out.new 1 0) }
+{
     match x.kind {
         TacKind::Int(kind) => {
             let one = out.fresh_constant(x.kind, 1)?;

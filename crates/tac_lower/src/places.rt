@@ -1,10 +1,16 @@
 //! Places, and struct and union values: their pointers.
 
-ghost use Rattle.std.specs.Prelude.{◌<◌};
+ghost use Rattle.std.specs.Prelude.{◌≡◌, ◌+◌, ◌-◌, ◌*◌, ◌<◌, false, IfOk, IfSome};
+ghost use Rattle.tac_ir.specs.declared.code.TacKind.TheVariants as kinds;
+ghost use Rattle.tac_lower.specs.declared.emitter.Emitter.{Emitter};
+ghost use Rattle.tac_lower.specs.Destinations.{TargetFits, DestinationFits};
+ghost use Rattle.tac_lower.specs.Emitted.{HasKind, Grown, Adds, HasRoom};
+ghost use Rattle.tac_lower.specs.Nodes.{weight_in, kind_in, IsTyped, AddressNode, HasOne, HasTwo, HasThree};
+ghost use Rattle.tac_lower.specs.Scenes.{Ready, Housed, Scene, Lowered, frame_of};
 ghost use Rattle.cheri_c_sem.specs.Order.{Ordered};
 
 use crate::conditions::{Jump, condition};
-use crate::context::{Context, Home};
+use crate::context::Context;
 use crate::emitter::{Copied, Emitter};
 use crate::expressions::{effect, in_place, operand, value};
 use crate::types::{POINTER, owned_length, unit_of};
@@ -32,8 +38,13 @@ pub enum Target {
 
 impl Target {
     /// The temp with the pointer.
-    #[tactic(auto, using(crate::proofs::Below::deref, crate::proofs::Below::load))]
-    pub fn pointer(self, out: &mut Emitter) -> Result<u32, NoMemory> {
+    pub fn pointer(self, out: &mut Emitter) -> Result<u32, NoMemory>
+        requires target { TargetFits out.old self }
+        requires room { HasRoom out.old 1 }
+        ensures has { IfOk result (λ t. HasKind out.new t (kinds.Cap false)) }
+        ensures grown { IfOk result (λ _. Grown out.old out.new) }
+        ensures adds { IfOk result (λ _. Adds out.old out.new 1 0) }
+    {
         match self {
             Target::At(t) => Ok(t),
             Target::Within(base, offset) => within(out, base, offset),
@@ -42,7 +53,13 @@ impl Target {
 }
 
 /// The pointer at an offset in an object.
-pub fn within(out: &mut Emitter, base: u32, offset: u64) -> Result<u32, NoMemory> {
+pub fn within(out: &mut Emitter, base: u32, offset: u64) -> Result<u32, NoMemory>
+    requires base { HasKind out.old base (kinds.Cap false) }
+    requires room { HasRoom out.old 1 }
+    ensures has { IfOk result (λ t. HasKind out.new t (kinds.Cap false)) }
+    ensures grown { IfOk result (λ _. Grown out.old out.new) }
+    ensures adds { IfOk result (λ _. Adds out.old out.new 1 0) }
+{
     if offset == 0 {
         return Ok(base);
     }
@@ -52,10 +69,15 @@ pub fn within(out: &mut Emitter, base: u32, offset: u64) -> Result<u32, NoMemory
 }
 
 /// The pointer to a variable.
-fn variable_pointer(cx: Context, x: u32, to: u32, out: &mut Emitter) -> Result<(), NoMemory> {
-    match cx.home(x) {
-        Some(Home::Object(_, t)) => out.transfer(to, t),
-        _ => out.constant(to, POINTER, 0),
+fn variable_pointer(cx: Context, x: u32, to: u32, out: &mut Emitter) -> Result<(), NoMemory>
+    requires scene { Scene cx.p.now cx.d.now cx.types.now cx.homes.now out.old }
+    requires to { HasKind out.old to (kinds.Cap false) }
+    ensures lowered { IfOk result (λ _. Lowered cx.entry.p.now cx.entry.d.now cx.entry.types.now cx.entry.homes.now
+        out.old out.new (0)) }
+{
+    match cx.pointer_to_variable(x) {
+        Some(t) => out.transfer(to, t),
+        None => out.constant(to, POINTER, 0),
     }
 }
 
@@ -63,6 +85,10 @@ fn variable_pointer(cx: Context, x: u32, to: u32, out: &mut Emitter) -> Result<(
 #[tactic(auto, using(crate::proofs::Below::load))]
 fn base_in_place(cx: Context, k: u32) -> Option<u32>
     requires ordered { Ordered cx.p.now }
+    requires ready { Ready cx.p.now cx.types.now }
+    requires typed { IsTyped (frame_of cx.p.now cx.d.now) k }
+    ensures { (e : Emitter) → Housed cx.entry.p.now cx.entry.d.now cx.entry.homes.now e
+        → IfSome result (λ t. HasKind e t (kinds.Cap false)) }
 {
     let Some(e) = cx.node(k) else {
         return None;
@@ -79,29 +105,55 @@ fn base_in_place(cx: Context, k: u32) -> Option<u32>
 #[cycle(expressions)]
 pub fn pointer(cx: Context, k: u32, later: Written, out: &mut Emitter) -> Result<u32, NoMemory>
     requires ordered { Ordered cx.p.now }
+    requires scene { Scene cx.p.now cx.d.now cx.types.now cx.homes.now out.old }
+    requires typed { IsTyped (frame_of cx.p.now cx.d.now) k }
+    requires room { HasRoom out.old (4 * weight_in cx.p.now k) }
+    ensures has { IfOk result (λ t. HasKind out.new t (kinds.Cap false)) }
+    ensures lowered { IfOk result (λ _. Lowered cx.entry.p.now cx.entry.d.now cx.entry.types.now cx.entry.homes.now
+        out.old out.new (4 * weight_in cx.entry.p.now k)) }
 {
-    if let Some(e) = cx.node(k) {
-        match e.kind {
-            ExprKind::Deref(a) => return operand(cx, a, later, out),
-            ExprKind::Load(a) => return pointer(cx, a, later, out),
-            ExprKind::Var(x) => {
-                if let Some(t) = cx.pointer_to_variable(x) {
-                    return Ok(t);
-                }
-            }
-            _ => {}
-        }
+    let Some(e) = cx.node(k) else {
+        return fresh_place(cx, k, out);
+    };
+    match e.kind {
+        #[tactic(auto, using(crate::proofs::Below::deref))]
+        ExprKind::Deref(a) => operand(cx, a, later, out),
+        #[tactic(auto, using(crate::proofs::Below::load))]
+        ExprKind::Load(a) => pointer(cx, a, later, out),
+        ExprKind::Var(x) => match cx.pointer_to_variable(x) {
+            Some(t) => Ok(t),
+            None => fresh_place(cx, k, out),
+        },
+        _ => fresh_place(cx, k, out),
     }
+}
+
+/// The pointer to place `k`, in a new temp.
+#[cycle(expressions)]
+fn fresh_place(cx: Context, k: u32, out: &mut Emitter) -> Result<u32, NoMemory>
+    requires ordered { Ordered cx.p.now }
+    requires scene { Scene cx.p.now cx.d.now cx.types.now cx.homes.now out.old }
+    requires typed { IsTyped (frame_of cx.p.now cx.d.now) k }
+    requires room { HasRoom out.old (4 * weight_in cx.p.now k) }
+    ensures has { IfOk result (λ t. HasKind out.new t (kinds.Cap false)) }
+    ensures lowered { IfOk result (λ _. Lowered cx.entry.p.now cx.entry.d.now cx.entry.types.now cx.entry.homes.now
+        out.old out.new (4 * weight_in cx.entry.p.now k)) }
+{
     let t = out.temp(POINTER)?;
     place(cx, k, t, out)?;
     Ok(t)
 }
 
 /// The pointer to place `k`, in a temp that is written when all that the place reads of variables was read.
-#[tactic(auto, using(crate::proofs::Below::deref, crate::proofs::Below::member, crate::proofs::Below::load, crate::proofs::Below::comma_left, crate::proofs::Below::comma_right, crate::proofs::Below::conditional_test, crate::proofs::Below::conditional_left, crate::proofs::Below::conditional_right, crate::proofs::Below::assign_left, crate::proofs::Below::assign_right))]
 #[cycle(expressions)]
 pub fn place(cx: Context, k: u32, to: u32, out: &mut Emitter) -> Result<(), NoMemory>
     requires ordered { Ordered cx.p.now }
+    requires scene { Scene cx.p.now cx.d.now cx.types.now cx.homes.now out.old }
+    requires typed { IsTyped (frame_of cx.p.now cx.d.now) k }
+    requires to { HasKind out.old to (kinds.Cap false) }
+    requires room { HasRoom out.old (4 * weight_in cx.p.now k - 1) }
+    ensures lowered { IfOk result (λ _. Lowered cx.entry.p.now cx.entry.d.now cx.entry.types.now cx.entry.homes.now
+        out.old out.new (4 * weight_in cx.entry.p.now k - 1)) }
 {
     let Some(e) = cx.node(k) else {
         return out.constant(to, POINTER, 0);
@@ -111,25 +163,17 @@ pub fn place(cx: Context, k: u32, to: u32, out: &mut Emitter) -> Result<(), NoMe
         ExprKind::Global(g) => out.global(to, g, false),
         ExprKind::Literal(n) => out.global(to, n, true),
         ExprKind::Fun(f) => out.function(to, f),
+        #[tactic(auto, using(crate::proofs::Below::deref))]
         ExprKind::Deref(a) => value(cx, a, to, out),
-        ExprKind::Member(a, m) => member(cx, a, m, to, out),
+        #[tactic(auto, using(crate::proofs::Below::member))]
+        ExprKind::Member(a, m) => member(cx, k, a, m, to, out),
+        #[tactic(auto, using(crate::proofs::Below::load))]
         ExprKind::Load(a) => place(cx, a, to, out),
-        ExprKind::Comma(a, b) => {
-            effect(cx, a, out)?;
-            place(cx, b, to, out)
-        }
-        ExprKind::Conditional(c, a, b) => {
-            let fork = out.fork();
-            let jump = Jump {
-                when: false,
-                label: fork.other,
-            };
-            condition(cx, c, jump, out)?;
-            place(cx, a, to, out)?;
-            out.turn_fork(fork)?;
-            place(cx, b, to, out)?;
-            out.join_fork(fork)
-        }
+        #[tactic(auto, using(crate::proofs::Below::comma_left, crate::proofs::Below::comma_right))]
+        ExprKind::Comma(a, b) => place_behind(cx, k, a, b, to, out),
+        #[tactic(auto, using(crate::proofs::Below::conditional_test, crate::proofs::Below::conditional_left, crate::proofs::Below::conditional_right))]
+        ExprKind::Conditional(c, a, b) => place_choice(cx, k, c, a, b, to, out),
+        #[tactic(auto, using(crate::proofs::Below::assign_left, crate::proofs::Below::assign_right))]
         ExprKind::Assign(a, b) => {
             let t = struct_assignment(cx, k, a, b, out)?;
             out.transfer(to, t)
@@ -138,10 +182,75 @@ pub fn place(cx: Context, k: u32, to: u32, out: &mut Emitter) -> Result<(), NoMe
     }
 }
 
-/// The pointer to a member of place `a`.
+/// The pointer to place `b` behind what `a` does.
 #[cycle(expressions)]
-fn member(cx: Context, a: u32, m: u32, to: u32, out: &mut Emitter) -> Result<(), NoMemory>
+fn place_behind(
+    cx: Context,
+    k: u32,
+    a: u32,
+    b: u32,
+    to: u32,
+    out: &mut Emitter,
+) -> Result<(), NoMemory>
     requires ordered { Ordered cx.p.now }
+    requires a_before { a < k }
+    requires b_before { b < k }
+    requires scene { Scene cx.p.now cx.d.now cx.types.now cx.homes.now out.old }
+    requires node { HasTwo (frame_of cx.p.now cx.d.now) k a b }
+    requires to { HasKind out.old to (kinds.Cap false) }
+    requires room { HasRoom out.old (4 * weight_in cx.p.now k - 1) }
+    ensures lowered { IfOk result (λ _. Lowered cx.entry.p.now cx.entry.d.now cx.entry.types.now cx.entry.homes.now
+        out.old out.new (4 * weight_in cx.entry.p.now k - 1)) }
+{
+    effect(cx, a, out)?;
+    place(cx, b, to, out)
+}
+
+/// The pointer to one of two places, by the truth of `c`.
+#[cycle(expressions)]
+fn place_choice(
+    cx: Context,
+    k: u32,
+    c: u32,
+    a: u32,
+    b: u32,
+    to: u32,
+    out: &mut Emitter,
+) -> Result<(), NoMemory>
+    requires ordered { Ordered cx.p.now }
+    requires c_before { c < k }
+    requires a_before { a < k }
+    requires b_before { b < k }
+    requires scene { Scene cx.p.now cx.d.now cx.types.now cx.homes.now out.old }
+    requires node { HasThree (frame_of cx.p.now cx.d.now) k c a b }
+    requires to { HasKind out.old to (kinds.Cap false) }
+    requires room { HasRoom out.old (4 * weight_in cx.p.now k - 1) }
+    ensures lowered { IfOk result (λ _. Lowered cx.entry.p.now cx.entry.d.now cx.entry.types.now cx.entry.homes.now
+        out.old out.new (4 * weight_in cx.entry.p.now k - 1)) }
+{
+    let fork = out.fork();
+    let jump = Jump {
+        when: false,
+        label: fork.other,
+    };
+    condition(cx, c, jump, out)?;
+    place(cx, a, to, out)?;
+    out.turn_fork(fork)?;
+    place(cx, b, to, out)?;
+    out.join_fork(fork)
+}
+
+/// The pointer to a member of place `a`, expression `k`.
+#[cycle(expressions)]
+fn member(cx: Context, k: u32, a: u32, m: u32, to: u32, out: &mut Emitter) -> Result<(), NoMemory>
+    requires ordered { Ordered cx.p.now }
+    requires a_before { a < k }
+    requires scene { Scene cx.p.now cx.d.now cx.types.now cx.homes.now out.old }
+    requires node { HasOne (frame_of cx.p.now cx.d.now) k a }
+    requires to { HasKind out.old to (kinds.Cap false) }
+    requires room { HasRoom out.old (4 * weight_in cx.p.now k - 1) }
+    ensures lowered { IfOk result (λ _. Lowered cx.entry.p.now cx.entry.d.now cx.entry.types.now cx.entry.homes.now
+        out.old out.new (4 * weight_in cx.entry.p.now k - 1)) }
 {
     let offset = Amount::Number(cx.member_offset(a, m));
     match base_in_place(cx, a) {
@@ -153,10 +262,17 @@ fn member(cx: Context, a: u32, m: u32, to: u32, out: &mut Emitter) -> Result<(),
     }
 }
 
-/// The pointer to place or function `a` as a value: the one to a member is narrowed to it.
+/// The pointer to place or function `a` as the value of `k`: the one to a member is narrowed to it.
 #[cycle(expressions)]
-pub fn address(cx: Context, a: u32, to: u32, out: &mut Emitter) -> Result<(), NoMemory>
+pub fn address(cx: Context, k: u32, a: u32, to: u32, out: &mut Emitter) -> Result<(), NoMemory>
     requires ordered { Ordered cx.p.now }
+    requires a_before { a < k }
+    requires scene { Scene cx.p.now cx.d.now cx.types.now cx.homes.now out.old }
+    requires node { AddressNode (frame_of cx.p.now cx.d.now) k a }
+    requires to { HasKind out.old to (kind_in cx.p.now k) }
+    requires room { HasRoom out.old (4 * weight_in cx.p.now k - 1) }
+    ensures lowered { IfOk result (λ _. Lowered cx.entry.p.now cx.entry.d.now cx.entry.types.now cx.entry.homes.now
+        out.old out.new (4 * weight_in cx.entry.p.now k - 1)) }
 {
     place(cx, a, to, out)?;
     match cx.member_size(a) {
@@ -177,6 +293,12 @@ pub fn struct_assignment(
     requires ordered { Ordered cx.p.now }
     requires a_before { a < k }
     requires b_before { b < k }
+    requires scene { Scene cx.p.now cx.d.now cx.types.now cx.homes.now out.old }
+    requires node { HasTwo (frame_of cx.p.now cx.d.now) k a b }
+    requires room { HasRoom out.old (4 * weight_in cx.p.now k - 1) }
+    ensures has { IfOk result (λ t. HasKind out.new t (kinds.Cap false)) }
+    ensures lowered { IfOk result (λ _. Lowered cx.entry.p.now cx.entry.d.now cx.entry.types.now cx.entry.homes.now
+        out.old out.new (4 * weight_in cx.entry.p.now k - 1)) }
 {
     let facts = cx.facts(k);
     let t = pointer(cx, a, cx.written(b), out)?;
@@ -191,7 +313,6 @@ pub fn struct_assignment(
 }
 
 /// The copy of struct or union value `k`: of the chosen one, where it is a choice.
-#[tactic(auto, using(crate::proofs::Below::conditional_test, crate::proofs::Below::conditional_left, crate::proofs::Below::conditional_right, crate::proofs::Below::comma_left, crate::proofs::Below::comma_right, crate::proofs::Below::load))]
 #[cycle(expressions)]
 pub fn struct_copy(
     cx: Context,
@@ -200,29 +321,80 @@ pub fn struct_copy(
     out: &mut Emitter,
 ) -> Result<(), NoMemory>
     requires ordered { Ordered cx.p.now }
+    requires scene { Scene cx.p.now cx.d.now cx.types.now cx.homes.now out.old }
+    requires typed { IsTyped (frame_of cx.p.now cx.d.now) k }
+    requires destination { DestinationFits out.old destination }
+    requires room { HasRoom out.old (4 * weight_in cx.p.now k + 1) }
+    ensures lowered { IfOk result (λ _. Lowered cx.entry.p.now cx.entry.d.now cx.entry.types.now cx.entry.homes.now
+        out.old out.new (4 * weight_in cx.entry.p.now k + 1)) }
 {
-    if let Some(e) = cx.node(k) {
-        match e.kind {
-            ExprKind::Conditional(c, a, b) => {
-                let fork = out.fork();
-                let jump = Jump {
-                    when: false,
-                    label: fork.other,
-                };
-                condition(cx, c, jump, out)?;
-                struct_copy(cx, a, destination, out)?;
-                out.turn_fork(fork)?;
-                struct_copy(cx, b, destination, out)?;
-                return out.join_fork(fork);
-            }
-            ExprKind::Comma(a, b) => {
-                effect(cx, a, out)?;
-                return struct_copy(cx, b, destination, out);
-            }
-            ExprKind::Load(a) => return struct_copy(cx, a, destination, out),
-            _ => {}
+    let Some(e) = cx.node(k) else {
+        return plain_copy(cx, k, destination, out);
+    };
+    match e.kind {
+        #[tactic(auto, using(crate::proofs::Below::conditional_test, crate::proofs::Below::conditional_left, crate::proofs::Below::conditional_right))]
+        ExprKind::Conditional(c, a, b) => chosen_copy(cx, k, c, a, b, destination, out),
+        #[tactic(auto, using(crate::proofs::Below::comma_left, crate::proofs::Below::comma_right))]
+        ExprKind::Comma(a, b) => {
+            effect(cx, a, out)?;
+            struct_copy(cx, b, destination, out)
         }
+        #[tactic(auto, using(crate::proofs::Below::load))]
+        ExprKind::Load(a) => struct_copy(cx, a, destination, out),
+        _ => plain_copy(cx, k, destination, out),
     }
+}
+
+/// The copy of one of two struct or union values, by the truth of `c`.
+#[cycle(expressions)]
+fn chosen_copy(
+    cx: Context,
+    k: u32,
+    c: u32,
+    a: u32,
+    b: u32,
+    destination: Destination,
+    out: &mut Emitter,
+) -> Result<(), NoMemory>
+    requires ordered { Ordered cx.p.now }
+    requires c_before { c < k }
+    requires a_before { a < k }
+    requires b_before { b < k }
+    requires scene { Scene cx.p.now cx.d.now cx.types.now cx.homes.now out.old }
+    requires node { HasThree (frame_of cx.p.now cx.d.now) k c a b }
+    requires destination { DestinationFits out.old destination }
+    requires room { HasRoom out.old (4 * weight_in cx.p.now k + 1) }
+    ensures lowered { IfOk result (λ _. Lowered cx.entry.p.now cx.entry.d.now cx.entry.types.now cx.entry.homes.now
+        out.old out.new (4 * weight_in cx.entry.p.now k + 1)) }
+{
+    let fork = out.fork();
+    let jump = Jump {
+        when: false,
+        label: fork.other,
+    };
+    condition(cx, c, jump, out)?;
+    struct_copy(cx, a, destination, out)?;
+    out.turn_fork(fork)?;
+    struct_copy(cx, b, destination, out)?;
+    out.join_fork(fork)
+}
+
+/// The copy of the struct or union at place `k`.
+#[cycle(expressions)]
+fn plain_copy(
+    cx: Context,
+    k: u32,
+    destination: Destination,
+    out: &mut Emitter,
+) -> Result<(), NoMemory>
+    requires ordered { Ordered cx.p.now }
+    requires scene { Scene cx.p.now cx.d.now cx.types.now cx.homes.now out.old }
+    requires typed { IsTyped (frame_of cx.p.now cx.d.now) k }
+    requires destination { DestinationFits out.old destination }
+    requires room { HasRoom out.old (4 * weight_in cx.p.now k + 1) }
+    ensures lowered { IfOk result (λ _. Lowered cx.entry.p.now cx.entry.d.now cx.entry.types.now cx.entry.homes.now
+        out.old out.new (4 * weight_in cx.entry.p.now k + 1)) }
+{
     let from = pointer(cx, k, Written::Nothing, out)?;
     let to = destination.to.pointer(out)?;
     out.copy_units(Copied {

@@ -1,15 +1,23 @@
 //! Statements.
 
-ghost use Rattle.std.specs.Prelude.{◌<◌};
+ghost use Rattle.std.specs.Prelude.{◌+◌, ◌*◌, ◌<◌, false, length, IfOk};
+ghost use Rattle.c_tree.specs.Terms.{type_of};
+ghost use Rattle.c_tree.specs.WellTyped.{AreVars, FunctionFits, InitFits};
 ghost use Rattle.cheri_c_sem.specs.Order.{Ordered};
+ghost use Rattle.tac_ir.specs.declared.code.TacKind.TheVariants as kinds;
+ghost use Rattle.tac_lower.specs.Emitted.{HasKind, IsOpen, Stands, Grown, Turned, Adds, HasRoom};
 ghost use Rattle.tac_lower.specs.Known.{AreBelow};
+ghost use Rattle.tac_lower.specs.Nodes.{expression, weight_in, IsTyped};
+ghost use Rattle.tac_lower.specs.Parts.{heft_in, hefts_in, or_none, ReturnPart};
+ghost use Rattle.tac_lower.specs.Scenes.{Scene, Lowered, frame_of};
+ghost use Rattle.tac_lower.specs.Statements.{IsPart, AreParts, IsTypedIfAny, IsExit, AreExits, Begun, Behind};
 
 use crate::conditions::{Jump, condition};
 use crate::context::{Context, Home};
 use crate::emitter::Emitter;
 use crate::expressions::{effect, operand, value};
 use crate::places::{Destination, Target, struct_copy, within};
-use crate::switches::{Cases, compared_cases};
+use crate::switches::compared_cases;
 use crate::types::unit_of;
 use crate::writes::Written;
 use c_tree::{StmtKind, SwitchLabel};
@@ -23,7 +31,12 @@ pub struct Exits {
 }
 
 /// A variable's block is entered.
-fn enter_variable(cx: Context, x: u32, out: &mut Emitter) -> Result<(), NoMemory> {
+fn enter_variable(cx: Context, x: u32, out: &mut Emitter) -> Result<(), NoMemory>
+    requires scene { Scene cx.p.now cx.d.now cx.types.now cx.homes.now out.old }
+    requires there { x < length cx.d.now.vars }
+    ensures lowered { IfOk result (λ _. Lowered cx.entry.p.now cx.entry.d.now cx.entry.types.now cx.entry.homes.now
+        out.old out.new 0) }
+{
     match cx.home(x) {
         None => Ok(()),
         Some(Home::Temp(t, kind)) => out.constant(t, kind, 0),
@@ -32,7 +45,12 @@ fn enter_variable(cx: Context, x: u32, out: &mut Emitter) -> Result<(), NoMemory
 }
 
 /// A block is entered: its variables are 0 or null, and its objects are zero bytes.
-fn enter(cx: Context, vars: &[u32], out: &mut Emitter) -> Result<(), NoMemory> {
+fn enter(cx: Context, vars: &[u32], out: &mut Emitter) -> Result<(), NoMemory>
+    requires scene { Scene cx.p.now cx.d.now cx.types.now cx.homes.now out.old }
+    requires there { AreVars (frame_of cx.p.now cx.d.now) vars.now }
+    ensures lowered { IfOk result (λ _. Lowered cx.entry.p.now cx.entry.d.now cx.entry.types.now cx.entry.homes.now
+        out.old out.new 0) }
+{
     for x in vars {
         enter_variable(cx, *x, out)?;
     }
@@ -49,6 +67,12 @@ fn initialise_object(
     out: &mut Emitter,
 ) -> Result<(), NoMemory>
     requires ordered { Ordered cx.p.now }
+    requires scene { Scene cx.p.now cx.d.now cx.types.now cx.homes.now out.old }
+    requires base { HasKind out.old base (kinds.Cap false) }
+    requires typed { IsTyped (frame_of cx.p.now cx.d.now) a }
+    requires room { HasRoom out.old (4 * weight_in cx.p.now a + 1) }
+    ensures lowered { IfOk result (λ _. Lowered cx.entry.p.now cx.entry.d.now cx.entry.types.now cx.entry.homes.now
+        out.old out.new (4 * weight_in cx.entry.p.now a + 1)) }
 {
     let facts = cx.facts(a);
     if facts.record {
@@ -75,6 +99,12 @@ fn initialise(
     out: &mut Emitter,
 ) -> Result<(), NoMemory>
     requires ordered { Ordered cx.p.now }
+    requires scene { Scene cx.p.now cx.d.now cx.types.now cx.homes.now out.old }
+    requires typed { IsTyped (frame_of cx.p.now cx.d.now) a }
+    requires lies { InitFits (frame_of cx.p.now cx.d.now) x offset (type_of (expression cx.p.now a)) }
+    requires room { HasRoom out.old (4 * weight_in cx.p.now a + 1) }
+    ensures lowered { IfOk result (λ _. Lowered cx.entry.p.now cx.entry.d.now cx.entry.types.now cx.entry.homes.now
+        out.old out.new (4 * weight_in cx.entry.p.now a + 1)) }
 {
     match cx.home(x) {
         None => effect(cx, a, out),
@@ -84,19 +114,36 @@ fn initialise(
 }
 
 /// A jump to a place, if there is one.
-fn jump_out(out: &mut Emitter, to: Option<u32>) -> Result<(), NoMemory> {
+fn jump_out(out: &mut Emitter, to: Option<u32>) -> Result<(), NoMemory>
+    requires exit { IsExit out.old to }
+    ensures grown { IfOk result (λ _. Grown out.old out.new) }
+    ensures adds { IfOk result (λ _. Adds out.old out.new 0 0) }
+{
     match to {
         None => Ok(()),
         Some(label) => out.jump(label),
     }
 }
 
-fn leave(cx: Context, a: Option<u32>, out: &mut Emitter) -> Result<(), NoMemory>
+/// What a function gives back. What has no value is only done.
+fn leave(cx: Context, k: u32, a: Option<u32>, out: &mut Emitter) -> Result<(), NoMemory>
     requires ordered { Ordered cx.p.now }
+    requires scene { Scene cx.p.now cx.d.now cx.types.now cx.homes.now out.old }
+    requires fits { FunctionFits cx.p.now cx.d.now }
+    requires part { ReturnPart (frame_of cx.p.now cx.d.now) k a }
+    requires room { HasRoom out.old (4 * heft_in cx.p.now k) }
+    ensures lowered { IfOk result (λ _. Lowered cx.entry.p.now cx.entry.d.now cx.entry.types.now cx.entry.homes.now
+        out.old out.new (4 * heft_in cx.entry.p.now k)) }
 {
-    match a {
-        None => out.leave(None),
-        Some(a) => {
+    let Some(a) = a else {
+        return out.leave(None);
+    };
+    match cx.scalar(a) {
+        None => {
+            effect(cx, a, out)?;
+            out.leave(None)
+        }
+        Some(_) => {
             let v = operand(cx, a, Written::Nothing, out)?;
             out.leave(Some(v))
         }
@@ -112,14 +159,18 @@ struct Circle {
 }
 
 /// A loop begins.
-fn begin_loop(out: &mut Emitter) -> Result<Circle, NoMemory> {
-    let circle = Circle {
-        top: out.label(),
-        next: out.label(),
-        end: out.label(),
-    };
-    out.stand(circle.top)?;
-    Ok(circle)
+fn begin_loop(out: &mut Emitter) -> Result<Circle, NoMemory>
+    requires room { HasRoom out.old 3 }
+    ensures begun { IfOk result (λ c. Begun out.old out.new c) }
+{
+    let top = out.label();
+    out.stand(top)?;
+    let fork = out.fork();
+    Ok(Circle {
+        top,
+        next: fork.other,
+        end: fork.end,
+    })
 }
 
 /// It is left where a test, if there is one, is false.
@@ -130,6 +181,12 @@ fn test_loop(
     out: &mut Emitter,
 ) -> Result<(), NoMemory>
     requires ordered { Ordered cx.p.now }
+    requires scene { Scene cx.p.now cx.d.now cx.types.now cx.homes.now out.old }
+    requires typed { IsTypedIfAny (frame_of cx.p.now cx.d.now) test }
+    requires end { IsOpen out.old circle.end }
+    requires room { HasRoom out.old (4 * or_none (weight_in cx.p.now) test) }
+    ensures lowered { IfOk result (λ _. Lowered cx.entry.p.now cx.entry.d.now cx.entry.types.now cx.entry.homes.now
+        out.old out.new (4 * or_none (weight_in cx.entry.p.now) test)) }
 {
     match test {
         None => Ok(()),
@@ -146,6 +203,11 @@ fn test_loop(
 /// Its step, if there is one.
 fn step_loop(cx: Context, step: Option<u32>, out: &mut Emitter) -> Result<(), NoMemory>
     requires ordered { Ordered cx.p.now }
+    requires scene { Scene cx.p.now cx.d.now cx.types.now cx.homes.now out.old }
+    requires typed { IsTypedIfAny (frame_of cx.p.now cx.d.now) step }
+    requires room { HasRoom out.old (4 * or_none (weight_in cx.p.now) step) }
+    ensures lowered { IfOk result (λ _. Lowered cx.entry.p.now cx.entry.d.now cx.entry.types.now cx.entry.homes.now
+        out.old out.new (4 * or_none (weight_in cx.entry.p.now) step)) }
 {
     match step {
         None => Ok(()),
@@ -154,7 +216,11 @@ fn step_loop(cx: Context, step: Option<u32>, out: &mut Emitter) -> Result<(), No
 }
 
 /// It begins again, and ends here.
-fn end_loop(out: &mut Emitter, circle: Circle) -> Result<(), NoMemory> {
+fn end_loop(out: &mut Emitter, circle: Circle) -> Result<(), NoMemory>
+    requires top { Stands out.old circle.top }
+    ensures turned { IfOk result (λ _. Turned out.old out.new circle.end) }
+    ensures adds { IfOk result (λ _. Adds out.old out.new 0 0) }
+{
     out.turn_back(circle.top)?;
     out.stand(circle.end)
 }
@@ -163,6 +229,14 @@ fn end_loop(out: &mut Emitter, circle: Circle) -> Result<(), NoMemory> {
 #[cycle(statements)]
 fn loop_body(cx: Context, body: u32, circle: Circle, out: &mut Emitter) -> Result<(), NoMemory>
     requires ordered { Ordered cx.p.now }
+    requires scene { Scene cx.p.now cx.d.now cx.types.now cx.homes.now out.old }
+    requires fits { FunctionFits cx.p.now cx.d.now }
+    requires part { IsPart (frame_of cx.p.now cx.d.now) body }
+    requires next { IsOpen out.old circle.next }
+    requires end { IsOpen out.old circle.end }
+    requires room { HasRoom out.old (4 * heft_in cx.p.now body) }
+    ensures behind { IfOk result (λ _. Behind cx.entry.p.now cx.entry.d.now cx.entry.types.now cx.entry.homes.now
+        out.old out.new circle.next (4 * heft_in cx.entry.p.now body)) }
 {
     let exits = Exits {
         break_to: Some(circle.end),
@@ -182,6 +256,16 @@ fn tested_loop(
     out: &mut Emitter,
 ) -> Result<(), NoMemory>
     requires ordered { Ordered cx.p.now }
+    requires scene { Scene cx.p.now cx.d.now cx.types.now cx.homes.now out.old }
+    requires fits { FunctionFits cx.p.now cx.d.now }
+    requires test { IsTypedIfAny (frame_of cx.p.now cx.d.now) test }
+    requires step { IsTypedIfAny (frame_of cx.p.now cx.d.now) step }
+    requires part { IsPart (frame_of cx.p.now cx.d.now) body }
+    requires room { HasRoom out.old (4 * (or_none (weight_in cx.p.now) test + or_none (weight_in cx.p.now) step
+        + heft_in cx.p.now body) + 3) }
+    ensures lowered { IfOk result (λ _. Lowered cx.entry.p.now cx.entry.d.now cx.entry.types.now cx.entry.homes.now
+        out.old out.new (4 * (or_none (weight_in cx.entry.p.now) test + or_none (weight_in cx.entry.p.now) step
+        + heft_in cx.entry.p.now body) + 3)) }
 {
     let circle = begin_loop(out)?;
     test_loop(cx, test, circle, out)?;
@@ -194,10 +278,21 @@ fn tested_loop(
 #[cycle(statements)]
 fn repeated_loop(cx: Context, body: u32, test: u32, out: &mut Emitter) -> Result<(), NoMemory>
     requires ordered { Ordered cx.p.now }
+    requires scene { Scene cx.p.now cx.d.now cx.types.now cx.homes.now out.old }
+    requires fits { FunctionFits cx.p.now cx.d.now }
+    requires typed { IsTyped (frame_of cx.p.now cx.d.now) test }
+    requires part { IsPart (frame_of cx.p.now cx.d.now) body }
+    requires room { HasRoom out.old (4 * (weight_in cx.p.now test + heft_in cx.p.now body) + 3) }
+    ensures lowered { IfOk result (λ _. Lowered cx.entry.p.now cx.entry.d.now cx.entry.types.now cx.entry.homes.now
+        out.old out.new (4 * (weight_in cx.entry.p.now test + heft_in cx.entry.p.now body) + 3)) }
 {
     let circle = begin_loop(out)?;
     loop_body(cx, body, circle, out)?;
-    test_loop(cx, Some(test), circle, out)?;
+    let jump = Jump {
+        when: false,
+        label: circle.end,
+    };
+    condition(cx, test, jump, out)?;
     end_loop(out, circle)
 }
 
@@ -215,6 +310,15 @@ fn choice(
     requires ordered { Ordered cx.p.now }
     requires a_before { a < k }
     requires b_before { b < k }
+    requires scene { Scene cx.p.now cx.d.now cx.types.now cx.homes.now out.old }
+    requires fits { FunctionFits cx.p.now cx.d.now }
+    requires test { IsTyped (frame_of cx.p.now cx.d.now) c }
+    requires first { IsPart (frame_of cx.p.now cx.d.now) a }
+    requires second { IsPart (frame_of cx.p.now cx.d.now) b }
+    requires exits { AreExits out.old exits }
+    requires room { HasRoom out.old (4 * (weight_in cx.p.now c + heft_in cx.p.now a + heft_in cx.p.now b) + 2) }
+    ensures lowered { IfOk result (λ _. Lowered cx.entry.p.now cx.entry.d.now cx.entry.types.now cx.entry.homes.now
+        out.old out.new (4 * (weight_in cx.entry.p.now c + heft_in cx.entry.p.now a + heft_in cx.entry.p.now b) + 2)) }
 {
     let fork = out.fork();
     let jump = Jump {
@@ -232,6 +336,14 @@ fn choice(
 #[cycle(statements)]
 fn guarded(cx: Context, c: u32, a: u32, exits: Exits, out: &mut Emitter) -> Result<(), NoMemory>
     requires ordered { Ordered cx.p.now }
+    requires scene { Scene cx.p.now cx.d.now cx.types.now cx.homes.now out.old }
+    requires fits { FunctionFits cx.p.now cx.d.now }
+    requires test { IsTyped (frame_of cx.p.now cx.d.now) c }
+    requires first { IsPart (frame_of cx.p.now cx.d.now) a }
+    requires exits { AreExits out.old exits }
+    requires room { HasRoom out.old (4 * (weight_in cx.p.now c + heft_in cx.p.now a) + 1) }
+    ensures lowered { IfOk result (λ _. Lowered cx.entry.p.now cx.entry.d.now cx.entry.types.now cx.entry.homes.now
+        out.old out.new (4 * (weight_in cx.entry.p.now c + heft_in cx.entry.p.now a) + 1)) }
 {
     let label = out.label();
     condition(cx, c, Jump { when: false, label }, out)?;
@@ -251,6 +363,13 @@ fn statements(
 ) -> Result<(), NoMemory>
     requires ordered { Ordered cx.p.now }
     requires before { AreBelow k body.now }
+    requires scene { Scene cx.p.now cx.d.now cx.types.now cx.homes.now out.old }
+    requires fits { FunctionFits cx.p.now cx.d.now }
+    requires parts { AreParts (frame_of cx.p.now cx.d.now) body.now }
+    requires exits { AreExits out.old exits }
+    requires room { HasRoom out.old (4 * hefts_in cx.p.now body.now) }
+    ensures lowered { IfOk result (λ _. Lowered cx.entry.p.now cx.entry.d.now cx.entry.types.now cx.entry.homes.now
+        out.old out.new (4 * hefts_in cx.entry.p.now body.now)) }
 {
     for s in body {
         statement(cx, *s, exits, out)?;
@@ -258,31 +377,34 @@ fn statements(
     Ok(())
 }
 
-/// The statements of a `switch`, whose numbers are below `k`, among its labels.
-#[tactic(auto, using(crate::proofs::Below::below))]
+/// Variables, and then statements whose numbers are below `k`.
 #[cycle(statements)]
-fn labelled(
+fn block(
     cx: Context,
     k: u32,
+    vars: &[u32],
     body: &[u32],
-    cases: &Cases,
     exits: Exits,
     out: &mut Emitter,
 ) -> Result<(), NoMemory>
     requires ordered { Ordered cx.p.now }
     requires before { AreBelow k body.now }
+    requires scene { Scene cx.p.now cx.d.now cx.types.now cx.homes.now out.old }
+    requires fits { FunctionFits cx.p.now cx.d.now }
+    requires there { AreVars (frame_of cx.p.now cx.d.now) vars.now }
+    requires parts { AreParts (frame_of cx.p.now cx.d.now) body.now }
+    requires exits { AreExits out.old exits }
+    requires room { HasRoom out.old (4 * hefts_in cx.p.now body.now) }
+    ensures lowered { IfOk result (λ _. Lowered cx.entry.p.now cx.entry.d.now cx.entry.types.now cx.entry.homes.now
+        out.old out.new (4 * hefts_in cx.entry.p.now body.now)) }
 {
-    let mut first: usize = 0;
-    let mut before: u32 = 0;
-    for s in body {
-        first = cases.stand_at(first, before, out)?;
-        statement(cx, *s, exits, out)?;
-        before = before.saturating_add(1);
-    }
-    cases.stand_behind(first, out)
+    enter(cx, vars, out)?;
+    statements(cx, k, body, exits, out)
 }
 
-/// A `switch`, statement `k` (C11 6.8.4.2). Its block is entered once, ahead of the comparisons.
+/// A `switch`, statement `k` (C11 6.8.4.2). Its block is entered once, ahead of the comparisons, and its statements
+/// stand among its labels.
+#[tactic(auto, using(crate::proofs::Below::below))]
 #[cycle(statements)]
 fn switch(
     cx: Context,
@@ -296,16 +418,34 @@ fn switch(
 ) -> Result<(), NoMemory>
     requires ordered { Ordered cx.p.now }
     requires before { AreBelow k body.now }
+    requires scene { Scene cx.p.now cx.d.now cx.types.now cx.homes.now out.old }
+    requires fits { FunctionFits cx.p.now cx.d.now }
+    requires value { IsTyped (frame_of cx.p.now cx.d.now) on }
+    requires there { AreVars (frame_of cx.p.now cx.d.now) vars.now }
+    requires parts { AreParts (frame_of cx.p.now cx.d.now) body.now }
+    requires exits { AreExits out.old exits }
+    requires room { HasRoom out.old (4 * (weight_in cx.p.now on + hefts_in cx.p.now body.now)
+        + length labels.now + 3) }
+    ensures lowered { IfOk result (λ _. Lowered cx.entry.p.now cx.entry.d.now cx.entry.types.now cx.entry.homes.now
+        out.old out.new (4 * (weight_in cx.entry.p.now on + hefts_in cx.entry.p.now body.now)
+        + length labels.now + 3)) }
 {
     let v = operand(cx, on, Written::Nothing, out)?;
     enter(cx, vars, out)?;
     let end = out.label();
-    let cases = compared_cases(cx.alloc, labels, v, cx.kind(on), end, out)?;
+    let cases = compared_cases(cx, labels, v, cx.kind(on), end, out)?;
     let inside = Exits {
         break_to: Some(end),
         continue_to: exits.continue_to,
     };
-    labelled(cx, k, body, &cases, inside, out)?;
+    let mut first: usize = 0;
+    let mut before: u32 = 0;
+    for s in body {
+        first = cases.stand_at(first, before, out)?;
+        statement(cx, *s, inside, out)?;
+        before = before.saturating_add(1);
+    }
+    cases.stand_behind(first, out)?;
     out.stand(end)
 }
 
@@ -314,6 +454,13 @@ fn switch(
 #[cycle(statements)]
 pub fn statement(cx: Context, k: u32, exits: Exits, out: &mut Emitter) -> Result<(), NoMemory>
     requires ordered { Ordered cx.p.now }
+    requires scene { Scene cx.p.now cx.d.now cx.types.now cx.homes.now out.old }
+    requires fits { FunctionFits cx.p.now cx.d.now }
+    requires part { IsPart (frame_of cx.p.now cx.d.now) k }
+    requires exits { AreExits out.old exits }
+    requires room { HasRoom out.old (4 * heft_in cx.p.now k) }
+    ensures lowered { IfOk result (λ _. Lowered cx.entry.p.now cx.entry.d.now cx.entry.types.now cx.entry.homes.now
+        out.old out.new (4 * heft_in cx.entry.p.now k)) }
 {
     let Some(s) = cx.stmt(k) else {
         return Ok(());
@@ -324,8 +471,7 @@ pub fn statement(cx: Context, k: u32, exits: Exits, out: &mut Emitter) -> Result
             initialise(cx, *var, *offset, *value, s.pos, out)
         }
         StmtKind::Block { vars, body } => {
-            enter(cx, vars.as_slice(), out)?;
-            statements(cx, k, body.as_slice(), exits, out)
+            block(cx, k, vars.as_slice(), body.as_slice(), exits, out)
         }
         StmtKind::If(c, a, b) => match b {
             Some(b) => choice(cx, k, *c, *a, *b, exits, out),
@@ -340,8 +486,7 @@ pub fn statement(cx: Context, k: u32, exits: Exits, out: &mut Emitter) -> Result
             step,
             body,
         } => {
-            enter(cx, vars.as_slice(), out)?;
-            statements(cx, k, first.as_slice(), exits, out)?;
+            block(cx, k, vars.as_slice(), first.as_slice(), exits, out)?;
             tested_loop(cx, *test, *step, *body, out)
         }
         StmtKind::Switch {
@@ -361,7 +506,7 @@ pub fn statement(cx: Context, k: u32, exits: Exits, out: &mut Emitter) -> Result
         ),
         StmtKind::Break => jump_out(out, exits.break_to),
         StmtKind::Continue => jump_out(out, exits.continue_to),
-        StmtKind::Return(a) => leave(cx, *a, out),
+        StmtKind::Return(a) => leave(cx, k, *a, out),
         StmtKind::Empty => Ok(()),
     }
 }

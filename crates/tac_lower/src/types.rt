@@ -1,6 +1,8 @@
 //! What lowering asks of the types of a program, in a table by their numbers.
 
-ghost use Rattle.std.specs.Prelude.{◌≡◌, true, List, IfOk, Some, None, MatchOption, slice_get};
+ghost use Rattle.ck_int.specs.declared.kinds.IntKind.{IntKind};
+ghost use Rattle.tac_ir.specs.declared.code.TacKind.TheVariants as kinds;
+ghost use Rattle.std.specs.Prelude.{◌≡◌, true, Bool, List, IfOk, Some, None, MatchOption, slice_get};
 ghost use Rattle.cheri_c_sem.specs.Compatible.{kind_number};
 ghost use Rattle.tac_ir.specs.Effects.{kind_of};
 ghost use Rattle.tac_ir.specs.WellFormed.{same_kind, units_fit};
@@ -249,10 +251,22 @@ pub fn same_kind(a: TacKind, b: TacKind) -> bool
 }
 
 /// The kind of integer that a kind counts as: the address of a capability is an integer of 64 bits.
-pub fn int_kind(kind: TacKind) -> IntKind {
+pub fn int_kind(kind: TacKind) -> IntKind
+    ensures { (k : IntKind) → kind ≡ kinds.Int k → result ≡ k }
+{
     match kind {
         TacKind::Int(k) => k,
         TacKind::Cap(false) => IntKind::U64,
         TacKind::Cap(true) => IntKind::I64,
+    }
+}
+
+/// A kind is that of a signed capability integer.
+pub fn is_signed(kind: TacKind) -> bool
+    ensures { (s : Bool) → kind ≡ kinds.Cap s → result ≡ s }
+{
+    match kind {
+        TacKind::Int(_) => false,
+        TacKind::Cap(s) => s,
     }
 }

@@ -1,6 +1,10 @@
-use Rattle.std.proofs.Common.{◌≡◌, take}
+use Rattle.std.proofs.Common.{◌≡◌, true, take}
+use Rattle.tac_ir.specs.WellFormed.{functions_fit}
 use Rattle.tac_lower.specs.Lowered.{names_of, names_in}
 use Rattle.tac_lower.proofs.lowering.lower.Given as goal
 
 abbrev pub invariant-loop-d : goal.invariant-loop-d
-invariant-loop-d l = names_of l.funs.items ≡ names_in (take l.d-index l.defs)
+invariant-loop-d l = record {
+  named : names_of l.funs.items ≡ names_in (take l.d-index l.defs);
+  formed : functions_fit l.fn.p (take l.d-index l.defs) l.funs.items ≡ true;
+}

@@ -1,4 +1,8 @@
-use Rattle.std.proofs.Common.{◌+◌, ◌*◌}
+use Rattle.std.proofs.Common.{◌+◌, ◌*◌, [], ◌∷◌, ◌++◌, drop, length, take}
+use Rattle.tac_lower.specs.Nodes.{weight_in}
+use Rattle.tac_lower.specs.Parts.{hefts_in}
+use Rattle.tac_lower.specs.Scenes.{Lowered, Opened}
+use Rattle.tac_lower.specs.Statements.{labels_in}
 use Rattle.tac_lower.proofs.statements.+statements.Given as goal
 
 abbrev pub decreases-loop_body : goal.decreases-loop_body
@@ -19,11 +23,22 @@ decreases-guarded l = 8 * l.a + 6
 abbrev pub decreases-statements : goal.decreases-statements
 decreases-statements l = 8 * l.k + 1
 
-abbrev pub decreases-labelled : goal.decreases-labelled
-decreases-labelled l = 8 * l.k + 1
+abbrev pub decreases-block : goal.decreases-block
+decreases-block l = 8 * l.k + 2
 
 abbrev pub decreases-switch : goal.decreases-switch
 decreases-switch l = 8 * l.k + 2
 
 abbrev pub decreases-statement : goal.decreases-statement
 decreases-statement l = 8 * l.k + 4
+
+abbrev pub invariant-statements-loop-s : goal.invariant-statements-loop-s
+invariant-statements-loop-s l =
+    Lowered l.cx.p.now l.cx.d.now l.cx.types.now l.cx.homes.now l.fn.out l.out
+    (4 * hefts_in l.cx.p.now (take l.s-index l.body))
+
+abbrev pub invariant-switch-loop-s : goal.invariant-switch-loop-s
+invariant-switch-loop-s l =
+    Opened l.cx.p.now l.cx.d.now l.cx.types.now l.cx.homes.now l.fn.out l.out
+    (drop l.first (labels_in l.cases) ++ l.end ∷ [])
+    (4 * weight_in l.cx.p.now l.fn.on + (length l.fn.labels + 3) + 4 * hefts_in l.cx.p.now (take l.s-index l.body))

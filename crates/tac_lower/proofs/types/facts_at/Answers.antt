@@ -1,4 +1,4 @@
-use Rattle.std.proofs.Common.{arith, sym, ap, ◌∙◌, refl}
+use Rattle.std.proofs.Common.{arith}
 use Rattle.tac_lower.proofs.Tabled.{past_facts}
 use Rattle.tac_lower.proofs.types.facts_at.Goals as goal
 

@@ -1,4 +1,3 @@
-use Rattle.std.proofs.Common.{◌≡◌, length}
 use Rattle.tac_lower.proofs.Tabled.{TableTo}
 use Rattle.tac_lower.proofs.types.type_table.Given as goal
 

@@ -1,0 +1,26 @@
+use Rattle.std.proofs.Common.{◌≡◌, ◌∙◌, ap, sym}
+use Rattle.c_tree.specs.Terms.{type_of}
+use Rattle.c_tree.specs.Types.{Void, Pointer}
+use Rattle.tac_lower.proofs.Signatures.{pointed}
+use Rattle.tac_lower.proofs.Typings.{expression_past, expression_type, facts_kept, facts_point, none_kept, none_points}
+use Rattle.tac_lower.proofs.context.Context.facts.Goals as goal
+
+pub returns-in-None-clause-kept : goal.returns-in-None-clause-kept
+returns-in-None-clause-kept c = λ r. sym (none_kept _ r.ordered _ c.in-None.ensures)
+
+pub returns-in-None-clause-points : goal.returns-in-None-clause-points
+returns-in-None-clause-points c = λ r. sym (none_points _ r.ordered _ c.in-None.ensures)
+
+pub returns-in-Some-clause-kept : goal.returns-in-Some-clause-kept
+returns-in-Some-clause-kept c = λ r. facts_kept _ r.ordered _ _ _ c.in-Some.ensures (c.facts_at.ensures _ r.table).kept
+
+pub returns-in-Some-clause-points : goal.returns-in-Some-clause-points
+returns-in-Some-clause-points c = λ r. facts_point _ r.ordered _ _ _ c.in-Some.ensures (c.facts_at.ensures _ r.table).points
+
+pub returns-in-None-clause-pointed : goal.returns-in-None-clause-pointed
+returns-in-None-clause-pointed c = λ t r e. absurd (let q : Void ≡ Pointer t = sym (ap type_of (expression_past _ r.ordered _ c.in-None.ensures)) ∙ e in cc)
+
+pub returns-in-Some-clause-pointed : goal.returns-in-Some-clause-pointed
+returns-in-Some-clause-pointed c = λ t r e.
+    let n = pointed _ r.ordered _ t (sym (expression_type _ r.ordered _ _ c.in-Some.ensures) ∙ e) in
+    record { type = n.type; is = (c.facts_at.ensures _ r.table).points ∙ n.is; names = n.names }

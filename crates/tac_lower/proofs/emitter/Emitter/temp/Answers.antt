@@ -1,0 +1,5 @@
+use Rattle.tac_lower.proofs.Wells.{made_grown}
+use Rattle.tac_lower.proofs.emitter.Emitter.temp.Goals as goal
+
+pub returns-clause-grown : goal.returns-clause-grown
+returns-clause-grown c = made_grown _ _ _ c.in_ok-t.ensures.made

@@ -1,0 +1,30 @@
+use Rattle.std.proofs.Common.{arith}
+use Rattle.tac_lower.proofs.Keeping.{maybe_kept, maybe_same}
+use Rattle.tac_lower.proofs.Steps.{start, grew, tail_grew}
+use Rattle.tac_lower.proofs.Wells.{kept}
+use Rattle.tac_lower.proofs.expressions.variable_step.Goals as goal
+
+pub give-requires : goal.give-requires
+give-requires c = record {
+  same =
+      maybe_same _ c.args.to _ c.args.v.kind (maybe_kept c.args.v.kind c.args.to (grew (start c.requires.scene) c.in_ok-stepped.ensures.grown c.in_ok-stepped.ensures.adds) c.requires.to)
+      (kept _ _ _ _ c.requires.v c.in_ok-stepped.ensures.grown);
+}
+
+pub returns-then-front : goal.returns-then-front
+returns-then-front c = record { lowered = tail_grew _ _ c.give.result (grew (start c.requires.scene) c.in_ok-stepped.ensures.grown c.in_ok-stepped.ensures.adds) c.give.ensures.grown c.give.ensures.adds (omega arith) }
+
+pub give-requires-2 : goal.give-requires-2
+give-requires-2 c = record {
+  same =
+      maybe_same _ c.args.to _ c.args.v.kind
+      (maybe_kept c.args.v.kind c.args.to (grew (grew c.in_ok-old.ensures.lowered c.in_ok-copy.ensures.grown c.in_ok-copy.ensures.adds) c.in_ok-stepped-2.ensures.grown c.in_ok-stepped-2.ensures.adds) c.requires.to)
+      (kept _ _ _ _ (kept _ _ _ _ c.in_ok-old.ensures.has c.in_ok-copy.ensures.grown) c.in_ok-stepped-2.ensures.grown);
+}
+
+pub returns : goal.returns
+returns c = record {
+  lowered =
+      tail_grew _ _ c.give-2.result (grew (grew c.in_ok-old.ensures.lowered c.in_ok-copy.ensures.grown c.in_ok-copy.ensures.adds) c.in_ok-stepped-2.ensures.grown c.in_ok-stepped-2.ensures.adds) c.give-2.ensures.grown
+      c.give-2.ensures.adds (omega arith);
+}

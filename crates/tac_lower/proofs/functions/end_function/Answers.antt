@@ -1,0 +1,26 @@
+use Rattle.std.proofs.Common.{subst}
+use Rattle.tac_lower.specs.Signed.{ReturnFits}
+use Rattle.tac_lower.proofs.Homes.{left_before, tail_whole, keeps_returned, closed_grown}
+use Rattle.tac_lower.proofs.functions.end_function.Goals as goal
+
+pub returns-then-has_left-clause-whole : goal.returns-then-has_left-clause-whole
+returns-then-has_left-clause-whole c =
+    let s = c.requires.scene in
+    left_before c.requires.fits s.ready.ordered c.args.out.now s.well c.requires.closed
+    (c.has_left.ensures c.if-has_left.true)
+
+pub returns-clause-whole : goal.returns-clause-whole
+returns-clause-whole c =
+    let s = c.requires.scene in
+    let fits = c.requires.fits in
+    let e = c.in_ok-value.ensures in
+    let same = c.gives.ensures c.args.cx.p.now fits.result fits.takes s.ready fits.type_is in
+    tail_whole fits s.ready.ordered _ c.leave.result c.in_ok-value.value
+    (e.grown.well c.args.cx.p.now c.args.cx.d.now s.well)
+    (closed_grown c.args.out.now c.end_value.new.out e.grown c.requires.closed)
+    (subst (λ z. ReturnFits c.end_value.new.out z c.in_ok-value.value) same e.value) c.leave.ensures.pushed
+
+pub returns-clause-keeps : goal.returns-clause-keeps
+returns-clause-keeps c =
+    keeps_returned c.args.out.now c.end_value.new.out _ c.leave.result c.in_ok-value.value
+    c.in_ok-value.ensures.grown.keeps c.leave.ensures.pushed

@@ -1,0 +1,123 @@
+use Rattle.std.proofs.Common.{length, ap, sym, ◌∙◌, subst, arith}
+use Rattle.tac_lower.specs.Scenes.{Housed}
+use Rattle.tac_lower.proofs.Finished.{begins_well}
+use Rattle.tac_lower.proofs.Homes.{body_part, few_parameters, light_parts, parameters_kept, closed_new, formed}
+use Rattle.tac_lower.proofs.functions.function.Goals as goal
+
+pub parameter_temps-requires-clause-room : goal.parameter_temps-requires-clause-room
+parameter_temps-requires-clause-room c =
+    let none = ap length c.new-out.ensures.kinds in
+    let few = few_parameters c.requires.fits in
+    record {
+      temps = omega (arith, c.requires.light);
+      labels =
+          omega (arith, c.new-out.ensures.labels, c.requires.light);
+    }
+
+pub homes-requires-clause-room : goal.homes-requires-clause-room
+homes-requires-clause-room c =
+    let none = ap length c.new-out.ensures.kinds in
+    let few = few_parameters c.requires.fits in
+    let light = light_parts c.args.program.p.now c.args.d.now c.requires.light in
+    let one = c.in_ok-parameter_temps.ensures.adds in
+    record { temps = omega (arith, one.temps); labels = omega (arith, one.labels, c.new-out.ensures.labels) }
+
+pub temps-requires : goal.temps-requires
+temps-requires c =
+    let none = ap length c.new-out.ensures.kinds in
+    let few = few_parameters c.requires.fits in
+    let light = light_parts c.args.program.p.now c.args.d.now c.requires.light in
+    record { few = omega (arith, c.in_ok-parameter_temps.ensures.adds.temps, c.in_ok-homes.ensures.adds.temps) }
+
+pub take_parameters-requires-clause-scene : goal.take_parameters-requires-clause-scene
+take_parameters-requires-clause-scene c =
+    let p = c.args.program.p.now in
+    let d = c.args.d.now in
+    let begun = c.in_ok-parameter_temps.ensures.grown.well p d
+    (begins_well p d c.new-out.result c.new-out.ensures.code) in
+    record {
+      ready = c.requires.ready;
+      housed = subst (λ z. Housed p d z c.homes.new.out) (sym c.as_slice.ensures.value) c.in_ok-homes.ensures.housed;
+      well = c.in_ok-homes.ensures.grown.well p d begun;
+    }
+
+pub take_parameters-requires-clause-parameters : goal.take_parameters-requires-clause-parameters
+take_parameters-requires-clause-parameters c =
+    parameters_kept c.args.program.p.now c.args.d.now c.parameter_temps.new.out c.homes.new.out
+    c.in_ok-parameter_temps.ensures.parameters c.in_ok-homes.ensures.grown.keeps
+
+pub take_parameters-requires-clause-few : goal.take_parameters-requires-clause-few
+take_parameters-requires-clause-few c =
+    let few = few_parameters c.requires.fits in
+    let light = light_parts c.args.program.p.now c.args.d.now c.requires.light in
+    omega arith
+
+pub statement-requires-clause-part : goal.statement-requires-clause-part
+statement-requires-clause-part c = body_part c.requires.fits
+
+pub statement-requires-clause-room : goal.statement-requires-clause-room
+statement-requires-clause-room c =
+    let none = ap length c.new-out.ensures.kinds in
+    let few = few_parameters c.requires.fits in
+    let light = light_parts c.args.program.p.now c.args.d.now c.requires.light in
+    let one = c.in_ok-parameter_temps.ensures.adds in
+    let two = c.in_ok-homes.ensures.adds in
+    let three = c.in_ok-take_parameters.ensures.lowered.adds in
+    record {
+      temps = omega (arith, one.temps, two.temps, three.temps);
+      labels =
+          omega (arith, c.new-out.ensures.labels, one.labels, two.labels, three.labels);
+    }
+
+pub end_function-requires-clause-closed : goal.end_function-requires-clause-closed
+end_function-requires-clause-closed c = λ l.
+    let taken = c.in_ok-take_parameters.ensures.lowered.built.opens in
+    let opens = c.in_ok-statement.ensures.lowered.built.opens ∙ taken ∙ c.in_ok-homes.ensures.grown.opens
+    ∙ c.in_ok-parameter_temps.ensures.grown.opens in
+    ap (λ z. z l) opens ∙ closed_new c.new-out.result c.new-out.ensures.labels l
+
+pub end_function-requires-clause-room : goal.end_function-requires-clause-room
+end_function-requires-clause-room c =
+    let none = ap length c.new-out.ensures.kinds in
+    let few = few_parameters c.requires.fits in
+    let light = light_parts c.args.program.p.now c.args.d.now c.requires.light in
+    let one = c.in_ok-parameter_temps.ensures.adds in
+    let two = c.in_ok-homes.ensures.adds in
+    let three = c.in_ok-take_parameters.ensures.lowered.adds in
+    let four = c.in_ok-statement.ensures.lowered.adds in
+    record {
+      temps = omega (arith, one.temps, two.temps, three.temps, four.temps);
+      labels =
+          omega (arith, c.new-out.ensures.labels, one.labels, two.labels, three.labels, four.labels);
+    }
+
+pub finished-requires-clause-few : goal.finished-requires-clause-few
+finished-requires-clause-few c =
+    let few = few_parameters c.requires.fits in
+    let light = light_parts c.args.program.p.now c.args.d.now c.requires.light in
+    omega arith
+
+pub finished-requires-clause-temps : goal.finished-requires-clause-temps
+finished-requires-clause-temps c =
+    let none = ap length c.new-out.ensures.kinds in
+    let few = few_parameters c.requires.fits in
+    let light = light_parts c.args.program.p.now c.args.d.now c.requires.light in
+    let one = c.in_ok-parameter_temps.ensures.adds in
+    let two = c.in_ok-homes.ensures.adds in
+    let three = c.in_ok-take_parameters.ensures.lowered.adds in
+    let four = c.in_ok-statement.ensures.lowered.adds in
+    omega (arith, one.temps, two.temps, three.temps, four.temps, c.in_ok-end_function.ensures.adds.temps)
+
+pub returns-clause-formed : goal.returns-clause-formed
+returns-clause-formed c =
+    let p = c.args.program.p.now in
+    let d = c.args.d.now in
+    let end = c.in_ok-end_function.ensures in
+    let first = parameters_kept p d c.parameter_temps.new.out c.homes.new.out
+    c.in_ok-parameter_temps.ensures.parameters c.in_ok-homes.ensures.grown.keeps in
+    let taken = parameters_kept p d c.homes.new.out c.take_parameters.new.out first
+    c.in_ok-take_parameters.ensures.lowered.built.keeps in
+    let body = parameters_kept p d c.take_parameters.new.out c.statement.new.out taken
+    c.in_ok-statement.ensures.lowered.built.keeps in
+    formed p d c.requires.ready.ordered c.end_function.new.out c.finished.result c.finished.ensures.makes
+    (parameters_kept p d c.statement.new.out c.end_function.new.out body end.keeps) end.whole

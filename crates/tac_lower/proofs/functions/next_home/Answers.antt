@@ -1,0 +1,20 @@
+use Rattle.std.proofs.Common.{length, ap, sym, arith}
+use Rattle.std.proofs.lemmas.Result.{IfOk-weaker}
+use Rattle.tac_lower.proofs.Homes.{parameter_temp}
+use Rattle.tac_lower.proofs.functions.next_home.Goals as goal
+
+pub value_temp-requires-clause-parameter : goal.value_temp-requires-clause-parameter
+value_temp-requires-clause-parameter c = λ lt.
+    let same = ap length c.as_slice.ensures in
+    parameter_temp c.args.program.p.now c.args.d.now c.args.out.now c.args.count.variable c.args.v.now _
+    c.requires.fits c.requires.parameters c.requires.there (c.kind_of_type-kind.ensures c.requires.ready)
+    (omega arith)
+
+pub returns-in_ok-t-clause-home : goal.returns-in_ok-t-clause-home
+returns-in_ok-t-clause-home c = (c.in_ok-t.ensures.has, sym (c.kind_of_type-kind.ensures c.requires.ready), c.if-v.true)
+
+pub returns-else-v-clause-home : goal.returns-else-v-clause-home
+returns-else-v-clause-home c =
+    IfOk-weaker c.object_home.result _ _
+    (λ h f. f c.args.program.p.now c.args.d.now c.args.v.now (c.requires.object c.if-v.false))
+    c.object_home.ensures.home

@@ -1,0 +1,35 @@
+use Rattle.std.proofs.Common.{get_or, length, ap, sym, subst, refl, arith}
+use Rattle.tac_lower.specs.Emitted.{HasKind}
+use Rattle.tac_lower.specs.Signed.{kept_parameter}
+use Rattle.tac_lower.proofs.Homes.{number_of}
+use Rattle.tac_lower.proofs.Steps.{start, both, at_most, still}
+use Rattle.tac_lower.proofs.functions.take_parameters.Goals as goal
+
+pub loop-x-init : goal.loop-x-init
+loop-x-init c = record { lowered = start c.requires.scene; number = refl }
+
+pub take_parameter-requires-clause-scene : goal.take_parameter-requires-clause-scene
+take_parameter-requires-clause-scene c = c.loop-x.invariant.lowered.scene
+
+pub take_parameter-requires-clause-value : goal.take_parameter-requires-clause-value
+take_parameter-requires-clause-value c =
+    let d = c.args.d.now in
+    let i = c.loop-x.x-index in
+    let xs = c.as_slice-x-items.result.now in
+    let has = c.requires.parameters.each i (get_or xs i 0)
+    (number_of xs d.params i c.as_slice-x-items.ensures (omega arith)) in
+    subst (λ z. HasKind c.loop-x.out z (kept_parameter c.args.cx.p.now d (get_or xs i 0)))
+    (sym c.loop-x.invariant.number) (still has c.loop-x.invariant.lowered)
+
+pub loop-x-preserved : goal.loop-x-preserved
+loop-x-preserved c =
+    let same = ap length c.as_slice-x-items.ensures in
+    let number = c.loop-x.invariant.number in
+    record {
+      lowered = at_most (both c.loop-x.invariant.lowered c.in_ok-take_parameter.ensures.lowered)
+          (omega arith);
+      number = omega arith;
+    }
+
+pub returns : goal.returns
+returns c = record { lowered = c.loop-x.invariant.lowered }

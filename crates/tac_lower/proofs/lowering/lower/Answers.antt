@@ -1,0 +1,65 @@
+use Rattle.std.proofs.Common.{◌≡◌, ◌+◌, true, [], take, ap, sym, ◌∙◌, subst}
+use Rattle.std.proofs.lemmas.List.{take_all}
+use Rattle.tac_ir.specs.WellFormed.{functions_fit, is_well_formed}
+use Rattle.tac_lower.specs.Lowered.{names_of, names_in}
+use Rattle.tac_lower.specs.Tables.{TableFits}
+use Rattle.tac_lower.proofs.Homes.{function_at, named_next, formed_next, light_next, are_functions}
+use Rattle.tac_lower.proofs.lowering.lower.Goals as goal
+
+pub loop-d-init : goal.loop-d-init
+loop-d-init c = record {
+  named = ap names_of c.new-funs.ensures.items;
+  formed = ap (λ z. functions_fit c.args.p.now [] z) c.new-funs.ensures.items;
+}
+
+pub function-requires-clause-ready : goal.function-requires-clause-ready
+function-requires-clause-ready c = record {
+  order = c.requires.ordered;
+  ordered = c.requires.listed;
+  funs = are_functions c.args.p.now c.requires.typed;
+  table = subst (λ z. TableFits c.args.p.now.types z) (sym c.as_slice.ensures.value) c.in_ok-types.ensures;
+}
+
+pub function-requires-clause-fits : goal.function-requires-clause-fits
+function-requires-clause-fits c =
+    c.requires.typed.each c.loop-d.d-index c.d-item.result
+    (function_at c.args.p.now c.as_slice-defs.result.now c.loop-d.d-index c.d-item.result c.as_slice-defs.ensures
+    c.loop-d-test.true c.d-item.is)
+
+pub function-requires-clause-light : goal.function-requires-clause-light
+function-requires-clause-light c =
+    light_next c.args.p.now c.as_slice-defs.result.now c.loop-d.d-index c.d-item.result c.as_slice-defs.ensures
+    c.loop-d-test.true c.d-item.is
+    c.requires.listed c.requires.light
+
+pub loop-d-preserved : goal.loop-d-preserved
+loop-d-preserved c =
+    let p = c.args.p.now in
+    let xs = c.as_slice-defs.result.now in
+    let i = c.loop-d.d-index in
+    let d = c.d-item.result in
+    let same = c.as_slice-defs.ensures in
+    let fs = c.loop-d.funs.items in
+    let f = c.in_ok-f.f in
+    let items = sym c.in_ok-push.ensures.items in
+    record {
+      named = subst (λ z. names_of z ≡ names_in (take (i + 1) xs)) items
+          (named_next p xs i d same c.loop-d-test.true c.d-item.is fs f c.loop-d.invariant.named
+          c.in_ok-f.ensures.named);
+      formed = subst (λ z. functions_fit p (take (i + 1) xs) z ≡ true) items
+          (formed_next p xs i d same c.loop-d-test.true c.d-item.is fs f c.loop-d.invariant.formed
+          c.in_ok-f.ensures.formed);
+    }
+
+pub returns-clause-named : goal.returns-clause-named
+returns-clause-named c =
+    let all = take_all c.loop-d.d-index c.as_slice-defs.result.now c.loop-d-test.false ∙ c.as_slice-defs.ensures in
+    ap names_of c.from_vec.ensures ∙ c.loop-d.invariant.named ∙ ap names_in all
+
+pub returns-clause-formed : goal.returns-clause-formed
+unfolding is_well_formed
+returns-clause-formed c =
+    let p = c.args.p.now in
+    let all = take_all c.loop-d.d-index c.as_slice-defs.result.now c.loop-d-test.false ∙ c.as_slice-defs.ensures in
+    ap (λ z. functions_fit p p.funs z) c.from_vec.ensures
+    ∙ ap (λ z. functions_fit p z c.loop-d.funs.items) (sym all) ∙ c.loop-d.invariant.formed

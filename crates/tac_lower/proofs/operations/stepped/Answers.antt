@@ -1,0 +1,10 @@
+use Rattle.std.proofs.lemmas.Result.{IfOk-weaker}
+use Rattle.tac_lower.proofs.Wells.{grown_then}
+use Rattle.tac_lower.proofs.Constants.{one_fits}
+use Rattle.tac_lower.proofs.operations.stepped.Goals as goal
+
+pub fresh_constant-requires-clause-value : goal.fresh_constant-requires-clause-value
+fresh_constant-requires-clause-value c = one_fits c.args.x.kind
+
+pub returns-after-pace-clause-grown : goal.returns-after-pace-clause-grown
+returns-after-pace-clause-grown c = IfOk-weaker c.int.result _ _ (λ r g. grown_then _ _ _ c.in_ok-one-in-Int.ensures.grown g) c.int.ensures.grown

@@ -1,0 +1,707 @@
+use Rattle.std.proofs.Common.{◌+◌, ◌*◌, [], ◌∷◌, ◌++◌, length, take, drop, sym, ap, subst, arith}
+use Rattle.c_tree.specs.WellTyped.{AreVars}
+use Rattle.tac_lower.specs.Nodes.{weight_in}
+use Rattle.tac_lower.specs.Parts.{heft_in, hefts_in, or_none}
+use Rattle.tac_lower.specs.Scenes.{Opened, frame_of}
+use Rattle.tac_lower.specs.Statements.{AreParts, labels_in}
+use Rattle.tac_lower.proofs.Below.{below, block_body, if_first, if_second, while_body, do_body, for_first, for_body, switch_body}
+use Rattle.tac_lower.proofs.Loops.{begun, begun_stands, stands_still, stands_behind, behind_second, tail_turned, tail_behind}
+use Rattle.tac_lower.proofs.Placings.{typed_some, typed_none, evaluates, initialises, blocks, chooses, whiles, does, fors, switches, returns_value, are_parts, part_at, exits_lowered, exits_opened, exit_opened, at_most_ok, hefts_next, hefts_within, hefts_taken}
+use Rattle.tac_lower.proofs.Scening.{opened_none}
+use Rattle.tac_lower.proofs.Steps.{start, both, at_most, still, as_kind, room, less_room, tail, tail_grew, tail_stands, fork, label, opened, turned, first_open, second_open, opened_has, opened_room}
+use Rattle.tac_lower.proofs.Switching.{opened_beside, opened_at_most, opened_label, open_last, none_behind}
+use Rattle.tac_lower.proofs.statements.+statements.Goals as goal
+
+-- ---- calls among statements
+
+pub loop_body-statement-requires : goal.loop_body-statement-requires
+loop_body-statement-requires t c = (
+  omega arith,
+  (
+    c.requires.ordered,
+    (
+      c.requires.scene,
+      (
+        c.requires.fits,
+        (c.requires.part, (record { break_to = c.requires.end; continue_to = c.requires.next }, c.requires.room)),
+      ),
+    ),
+  ),
+)
+
+pub tested_loop-loop_body-requires : goal.tested_loop-loop_body-requires
+tested_loop-loop_body-requires t c =
+    let o = opened (begun c.requires.scene c.in_ok-circle.ensures.begun) c.in_ok-test_loop.ensures.lowered in (
+      omega arith,
+      (
+        c.requires.ordered,
+        (
+          o.scene,
+          (
+            c.requires.fits,
+            (c.requires.part, (second_open o, (first_open o, opened_room c.requires.room o (omega arith)))),
+          ),
+        ),
+      ),
+    )
+
+pub repeated_loop-loop_body-requires : goal.repeated_loop-loop_body-requires
+repeated_loop-loop_body-requires t c =
+    let o = begun c.requires.scene c.in_ok-circle.ensures.begun in (
+      omega arith,
+      (
+        c.requires.ordered,
+        (
+          o.scene,
+          (
+            c.requires.fits,
+            (c.requires.part, (second_open o, (first_open o, opened_room c.requires.room o (omega arith)))),
+          ),
+        ),
+      ),
+    )
+
+pub choice-statement-requires : goal.choice-statement-requires
+choice-statement-requires t c =
+    let o = opened (fork c.requires.scene c.fork-fork.ensures.forked) c.in_ok-condition.ensures.lowered in (
+      omega arith,
+      (
+        c.requires.ordered,
+        (
+          o.scene,
+          (
+            c.requires.fits,
+            (c.requires.first, (exits_opened c.requires.exits o, opened_room c.requires.room o (omega arith))),
+          ),
+        ),
+      ),
+    )
+
+pub choice-statement-requires-2 : goal.choice-statement-requires-2
+choice-statement-requires-2 t c =
+    let one = opened (opened (fork c.requires.scene c.fork-fork.ensures.forked) c.in_ok-condition.ensures.lowered)
+    c.in_ok-statement.ensures.lowered in
+    let o = turned one c.in_ok-turn_fork.ensures.turned c.in_ok-turn_fork.ensures.adds in (
+      omega arith,
+      (
+        c.requires.ordered,
+        (
+          o.scene,
+          (
+            c.requires.fits,
+            (c.requires.second, (exits_opened c.requires.exits o, opened_room c.requires.room o (omega arith))),
+          ),
+        ),
+      ),
+    )
+
+pub guarded-statement-requires : goal.guarded-statement-requires
+guarded-statement-requires t c =
+    let o = opened (label c.requires.scene c.label-label.ensures.labelled) c.in_ok-condition.ensures.lowered in (
+      omega arith,
+      (
+        c.requires.ordered,
+        (
+          o.scene,
+          (
+            c.requires.fits,
+            (c.requires.first, (exits_opened c.requires.exits o, opened_room c.requires.room o (omega arith))),
+          ),
+        ),
+      ),
+    )
+
+pub statements-statement-requires : goal.statements-statement-requires
+statements-statement-requires t c =
+    let i = c.loop-s.s-index in
+    let lt = below c.args.k c.args.body.now i 0 c.requires.before (omega arith) in
+    let next = hefts_within c.args.cx.p.now c.args.body.now i (omega arith) in
+    let so_far = c.loop-s.invariant in
+    let part = part_at (frame_of c.args.cx.p.now c.args.cx.d.now) c.args.body.now i c.requires.parts (omega arith) in (
+      omega arith,
+      (
+        c.requires.ordered,
+        (
+          so_far.scene,
+          (
+            c.requires.fits,
+            (part, (exits_lowered c.requires.exits so_far, room c.requires.room so_far (omega (arith, next)))),
+          ),
+        ),
+      ),
+    )
+
+pub block-statements-requires : goal.block-statements-requires
+block-statements-requires t c =
+    let so_far = c.in_ok-enter.ensures.lowered in (
+      omega arith,
+      (
+        c.requires.ordered,
+        (
+          c.requires.before,
+          (
+            so_far.scene,
+            (
+              c.requires.fits,
+              (c.requires.parts, (exits_lowered c.requires.exits so_far, room c.requires.room so_far (omega arith))),
+            ),
+          ),
+        ),
+      ),
+    )
+
+-- ---- loops
+
+pub loop_body-returns : goal.loop_body-returns
+loop_body-returns t c =
+    record { behind = tail_behind _ _ c.stand.result c.in_ok-statement.ensures.lowered c.stand.ensures.stands }
+
+pub tested_loop-test_loop-requires-clause-scene : goal.tested_loop-test_loop-requires-clause-scene
+tested_loop-test_loop-requires-clause-scene t c = (begun c.requires.scene c.in_ok-circle.ensures.begun).scene
+
+pub tested_loop-test_loop-requires-clause-end : goal.tested_loop-test_loop-requires-clause-end
+tested_loop-test_loop-requires-clause-end t c = first_open (begun c.requires.scene c.in_ok-circle.ensures.begun)
+
+pub tested_loop-test_loop-requires-clause-room : goal.tested_loop-test_loop-requires-clause-room
+tested_loop-test_loop-requires-clause-room t c =
+    opened_room c.requires.room (begun c.requires.scene c.in_ok-circle.ensures.begun) (omega arith)
+
+pub tested_loop-step_loop-requires-clause-scene : goal.tested_loop-step_loop-requires-clause-scene
+tested_loop-step_loop-requires-clause-scene t c =
+    (behind_second (opened (begun c.requires.scene c.in_ok-circle.ensures.begun) c.in_ok-test_loop.ensures.lowered)
+    c.in_ok-loop_body.ensures.behind).scene
+
+pub tested_loop-step_loop-requires-clause-room : goal.tested_loop-step_loop-requires-clause-room
+tested_loop-step_loop-requires-clause-room t c =
+    opened_room c.requires.room
+    (behind_second (opened (begun c.requires.scene c.in_ok-circle.ensures.begun) c.in_ok-test_loop.ensures.lowered)
+    c.in_ok-loop_body.ensures.behind) (omega arith)
+
+pub tested_loop-end_loop-requires : goal.tested_loop-end_loop-requires
+tested_loop-end_loop-requires t c = record {
+  top =
+      stands_still
+      (stands_behind (stands_still (begun_stands c.in_ok-circle.ensures.begun) c.in_ok-test_loop.ensures.lowered)
+      c.in_ok-loop_body.ensures.behind)
+      c.in_ok-step_loop.ensures.lowered;
+}
+
+pub tested_loop-returns : goal.tested_loop-returns
+tested_loop-returns t c =
+    let one = opened (begun c.requires.scene c.in_ok-circle.ensures.begun) c.in_ok-test_loop.ensures.lowered in
+    let two = opened (behind_second one c.in_ok-loop_body.ensures.behind) c.in_ok-step_loop.ensures.lowered in
+    record {
+      lowered = tail_turned _ c.end_loop.result two c.end_loop.ensures.turned c.end_loop.ensures.adds
+          (omega arith);
+    }
+
+pub repeated_loop-condition-requires-clause-scene : goal.repeated_loop-condition-requires-clause-scene
+repeated_loop-condition-requires-clause-scene t c =
+    (behind_second (begun c.requires.scene c.in_ok-circle.ensures.begun) c.in_ok-loop_body.ensures.behind).scene
+
+pub repeated_loop-condition-requires-clause-open : goal.repeated_loop-condition-requires-clause-open
+repeated_loop-condition-requires-clause-open t c =
+    first_open (behind_second (begun c.requires.scene c.in_ok-circle.ensures.begun) c.in_ok-loop_body.ensures.behind)
+
+pub repeated_loop-condition-requires-clause-room : goal.repeated_loop-condition-requires-clause-room
+repeated_loop-condition-requires-clause-room t c =
+    opened_room c.requires.room
+    (behind_second (begun c.requires.scene c.in_ok-circle.ensures.begun) c.in_ok-loop_body.ensures.behind)
+    (omega arith)
+
+pub repeated_loop-end_loop-requires : goal.repeated_loop-end_loop-requires
+repeated_loop-end_loop-requires t c =
+    record {
+      top =
+          stands_still (stands_behind (begun_stands c.in_ok-circle.ensures.begun) c.in_ok-loop_body.ensures.behind)
+          c.in_ok-condition.ensures.lowered;
+    }
+
+pub repeated_loop-returns : goal.repeated_loop-returns
+repeated_loop-returns t c =
+    let one = behind_second (begun c.requires.scene c.in_ok-circle.ensures.begun) c.in_ok-loop_body.ensures.behind in
+    record {
+      lowered = tail_turned _ c.end_loop.result (opened one c.in_ok-condition.ensures.lowered)
+          c.end_loop.ensures.turned c.end_loop.ensures.adds (omega arith);
+    }
+
+-- ---- choices
+
+pub choice-condition-requires-clause-scene : goal.choice-condition-requires-clause-scene
+choice-condition-requires-clause-scene t c = (fork c.requires.scene c.fork-fork.ensures.forked).scene
+
+pub choice-condition-requires-clause-open : goal.choice-condition-requires-clause-open
+choice-condition-requires-clause-open t c = second_open (fork c.requires.scene c.fork-fork.ensures.forked)
+
+pub choice-condition-requires-clause-room : goal.choice-condition-requires-clause-room
+choice-condition-requires-clause-room t c =
+    opened_room c.requires.room (fork c.requires.scene c.fork-fork.ensures.forked) (omega arith)
+
+pub choice-turn_fork-requires : goal.choice-turn_fork-requires
+choice-turn_fork-requires t c =
+    record {
+      end =
+          first_open (opened
+          (opened (fork c.requires.scene c.fork-fork.ensures.forked) c.in_ok-condition.ensures.lowered)
+          c.in_ok-statement.ensures.lowered);
+    }
+
+pub choice-returns : goal.choice-returns
+choice-returns t c =
+    let one = opened (opened (fork c.requires.scene c.fork-fork.ensures.forked) c.in_ok-condition.ensures.lowered)
+    c.in_ok-statement.ensures.lowered in
+    let two = opened (turned one c.in_ok-turn_fork.ensures.turned c.in_ok-turn_fork.ensures.adds)
+    c.in_ok-statement-2.ensures.lowered in
+    record { lowered = tail_stands _ c.join_fork.result two c.join_fork.ensures.stands (omega arith) }
+
+pub guarded-condition-requires-clause-scene : goal.guarded-condition-requires-clause-scene
+guarded-condition-requires-clause-scene t c = (label c.requires.scene c.label-label.ensures.labelled).scene
+
+pub guarded-condition-requires-clause-open : goal.guarded-condition-requires-clause-open
+guarded-condition-requires-clause-open t c = first_open (label c.requires.scene c.label-label.ensures.labelled)
+
+pub guarded-condition-requires-clause-room : goal.guarded-condition-requires-clause-room
+guarded-condition-requires-clause-room t c =
+    opened_room c.requires.room (label c.requires.scene c.label-label.ensures.labelled) (omega arith)
+
+pub guarded-returns : goal.guarded-returns
+guarded-returns t c =
+    let one = opened
+    (opened (label c.requires.scene c.label-label.ensures.labelled) c.in_ok-condition.ensures.lowered)
+    c.in_ok-statement.ensures.lowered in
+    record { lowered = tail_stands _ c.stand.result one c.stand.ensures.stands (omega arith) }
+
+-- ---- lists of statements
+
+pub statements-loop-s-init : goal.statements-loop-s-init
+statements-loop-s-init t c = at_most (start c.requires.scene) (omega arith)
+
+pub statements-loop-s-preserved : goal.statements-loop-s-preserved
+statements-loop-s-preserved t c =
+    let next = hefts_next c.args.cx.p.now c.args.body.now c.loop-s.s-index (omega arith) in
+    at_most (both c.loop-s.invariant c.in_ok-statement.ensures.lowered) (omega (arith, next))
+
+pub statements-returns : goal.statements-returns
+statements-returns t c =
+    let all = hefts_taken c.args.cx.p.now c.args.body.now c.loop-s.s-index in
+    record { lowered = at_most c.loop-s.invariant (omega (arith, all)) }
+
+pub block-returns : goal.block-returns
+block-returns t c =
+    record {
+      lowered = tail _ _ c.statements.result c.in_ok-enter.ensures.lowered c.statements.ensures.lowered
+          (omega arith);
+    }
+
+-- ---- a statement by its kind
+
+pub statement-effect-requires-clause-typed : goal.statement-effect-requires-clause-typed
+statement-effect-requires-clause-typed t c =
+    (evaluates (frame_of c.args.cx.p.now c.args.cx.d.now) c.args.k c.in-Some.s.now c.requires.scene.ready.ordered
+    c.in-Some.ensures c.requires.part c.in-Expr.is).value
+
+pub statement-effect-requires-clause-room : goal.statement-effect-requires-clause-room
+statement-effect-requires-clause-room t c =
+    let w = (evaluates (frame_of c.args.cx.p.now c.args.cx.d.now) c.args.k c.in-Some.s.now
+    c.requires.scene.ready.ordered c.in-Some.ensures c.requires.part c.in-Expr.is).weight in
+    less_room c.requires.room (omega arith)
+
+pub statement-returns-in-Expr : goal.statement-returns-in-Expr
+statement-returns-in-Expr t c =
+    let w = (evaluates (frame_of c.args.cx.p.now c.args.cx.d.now) c.args.k c.in-Some.s.now
+    c.requires.scene.ready.ordered c.in-Some.ensures c.requires.part c.in-Expr.is).weight in
+    record { lowered = at_most_ok _ _ _ _ _ _ _ _ c.effect.result c.effect.ensures.lowered (omega arith) }
+
+pub statement-initialise-requires-clause-typed : goal.statement-initialise-requires-clause-typed
+statement-initialise-requires-clause-typed t c =
+    (initialises (frame_of c.args.cx.p.now c.args.cx.d.now) c.args.k c.in-Some.s.now c.requires.scene.ready.ordered
+    c.in-Some.ensures c.requires.part c.in-Init.is).value
+
+pub statement-initialise-requires-clause-lies : goal.statement-initialise-requires-clause-lies
+statement-initialise-requires-clause-lies t c =
+    (initialises (frame_of c.args.cx.p.now c.args.cx.d.now) c.args.k c.in-Some.s.now c.requires.scene.ready.ordered
+    c.in-Some.ensures c.requires.part c.in-Init.is).lies
+
+pub statement-initialise-requires-clause-room : goal.statement-initialise-requires-clause-room
+statement-initialise-requires-clause-room t c =
+    let w = (initialises (frame_of c.args.cx.p.now c.args.cx.d.now) c.args.k c.in-Some.s.now
+    c.requires.scene.ready.ordered c.in-Some.ensures c.requires.part c.in-Init.is).weight in
+    less_room c.requires.room (omega arith)
+
+pub statement-returns-in-Init : goal.statement-returns-in-Init
+statement-returns-in-Init t c =
+    let w = (initialises (frame_of c.args.cx.p.now c.args.cx.d.now) c.args.k c.in-Some.s.now
+    c.requires.scene.ready.ordered c.in-Some.ensures c.requires.part c.in-Init.is).weight in
+    record { lowered = at_most_ok _ _ _ _ _ _ _ _ c.initialise.result c.initialise.ensures.lowered (omega arith) }
+
+pub statement-leave-requires-clause-part : goal.statement-leave-requires-clause-part
+statement-leave-requires-clause-part t c =
+    returns_value (frame_of c.args.cx.p.now c.args.cx.d.now) c.args.k c.in-Some.s.now c.requires.scene.ready.ordered
+    c.in-Some.ensures c.requires.part c.in-Return.is
+
+pub statement-choice-requires : goal.statement-choice-requires
+statement-choice-requires t c =
+    let h = chooses (frame_of c.args.cx.p.now c.args.cx.d.now) c.args.k c.in-Some.s.now
+    c.requires.scene.ready.ordered c.in-Some.ensures c.requires.part c.in-If.is in
+    let w = h.weight in
+    let n = ap (or_none (heft_in c.args.cx.p.now)) c.in-Some-b.is in
+    let a_before = if_first c.args.cx.p.now c.args.k c.in-Some.s.now c.in-If.c c.in-If.a c.in-If.b
+    c.requires.ordered c.in-Some.ensures c.in-If.is in
+    let b_before = if_second c.args.cx.p.now c.args.k c.in-Some.s.now c.in-If.c c.in-If.a c.in-If.b c.in-Some-b.b
+    c.requires.ordered c.in-Some.ensures c.in-If.is c.in-Some-b.is in (
+      omega arith,
+      (
+        c.requires.ordered,
+        (
+          a_before,
+          (
+            b_before,
+            (
+              c.requires.scene,
+              (
+                c.requires.fits,
+                (
+                  h.test.typed,
+                  (
+                    record { inside = c.requires.part.inside; placed = h.first },
+                    (
+                      record { inside = c.requires.part.inside; placed = h.second c.in-Some-b.b c.in-Some-b.is },
+                      (c.requires.exits, less_room c.requires.room (omega arith)),
+                    ),
+                  ),
+                ),
+              ),
+            ),
+          ),
+        ),
+      ),
+    )
+
+pub statement-guarded-requires : goal.statement-guarded-requires
+statement-guarded-requires t c =
+    let h = chooses (frame_of c.args.cx.p.now c.args.cx.d.now) c.args.k c.in-Some.s.now
+    c.requires.scene.ready.ordered c.in-Some.ensures c.requires.part c.in-If.is in
+    let w = h.weight in
+    let a_before = if_first c.args.cx.p.now c.args.k c.in-Some.s.now c.in-If.c c.in-If.a c.in-If.b
+    c.requires.ordered c.in-Some.ensures c.in-If.is in (
+      omega arith,
+      (
+        c.requires.ordered,
+        (
+          c.requires.scene,
+          (
+            c.requires.fits,
+            (
+              h.test.typed,
+              (
+                record { inside = c.requires.part.inside; placed = h.first },
+                (c.requires.exits, less_room c.requires.room (omega arith)),
+              ),
+            ),
+          ),
+        ),
+      ),
+    )
+
+pub statement-returns-in-Some-b : goal.statement-returns-in-Some-b
+statement-returns-in-Some-b t c =
+    let w = (chooses (frame_of c.args.cx.p.now c.args.cx.d.now) c.args.k c.in-Some.s.now
+    c.requires.scene.ready.ordered c.in-Some.ensures c.requires.part c.in-If.is).weight in
+    let n = ap (or_none (heft_in c.args.cx.p.now)) c.in-Some-b.is in
+    record { lowered = at_most_ok _ _ _ _ _ _ _ _ c.choice.result c.choice.ensures.lowered (omega arith) }
+
+pub statement-returns-in-None : goal.statement-returns-in-None
+statement-returns-in-None t c =
+    let w = (chooses (frame_of c.args.cx.p.now c.args.cx.d.now) c.args.k c.in-Some.s.now
+    c.requires.scene.ready.ordered c.in-Some.ensures c.requires.part c.in-If.is).weight in
+    record { lowered = at_most_ok _ _ _ _ _ _ _ _ c.guarded.result c.guarded.ensures.lowered (omega arith) }
+
+pub statement-repeated_loop-requires : goal.statement-repeated_loop-requires
+statement-repeated_loop-requires t c =
+    let h = does (frame_of c.args.cx.p.now c.args.cx.d.now) c.args.k c.in-Some.s.now c.requires.scene.ready.ordered
+    c.in-Some.ensures c.requires.part c.in-Do.is in
+    let w = h.weight in
+    let before = do_body c.args.cx.p.now c.args.k c.in-Some.s.now c.in-Do.a c.in-Do.c c.requires.ordered
+    c.in-Some.ensures c.in-Do.is in (
+      omega arith,
+      (
+        c.requires.ordered,
+        (
+          c.requires.scene,
+          (
+            c.requires.fits,
+            (h.test.typed, (record { inside = _; placed = h.body_fits }, less_room c.requires.room (omega arith))),
+          ),
+        ),
+      ),
+    )
+
+pub statement-returns-in-Do : goal.statement-returns-in-Do
+statement-returns-in-Do t c =
+    let w = (does (frame_of c.args.cx.p.now c.args.cx.d.now) c.args.k c.in-Some.s.now c.requires.scene.ready.ordered
+    c.in-Some.ensures c.requires.part c.in-Do.is).weight in
+    record { lowered = at_most_ok _ _ _ _ _ _ _ _ c.repeated_loop.result c.repeated_loop.ensures.lowered (omega arith) }
+
+pub statement-returns-in-While : goal.statement-returns-in-While
+statement-returns-in-While t c =
+    let w = (whiles (frame_of c.args.cx.p.now c.args.cx.d.now) c.args.k c.in-Some.s.now
+    c.requires.scene.ready.ordered c.in-Some.ensures c.requires.part c.in-While.is).weight in
+    record { lowered = at_most_ok _ _ _ _ _ _ _ _ c.tested_loop.result c.tested_loop.ensures.lowered (omega arith) }
+
+pub statement-returns-in-Break : goal.statement-returns-in-Break
+statement-returns-in-Break t c =
+    record {
+      lowered = tail_grew _ _ c.jump_out.result (start c.requires.scene) c.jump_out.ensures.grown
+          c.jump_out.ensures.adds (omega arith);
+    }
+
+pub statement-returns-in-Continue : goal.statement-returns-in-Continue
+statement-returns-in-Continue t c =
+    record {
+      lowered = tail_grew _ _ c.jump_out-in-Continue.result (start c.requires.scene)
+          c.jump_out-in-Continue.ensures.grown c.jump_out-in-Continue.ensures.adds (omega arith);
+    }
+
+pub statement-tested_loop-requires : goal.statement-tested_loop-requires
+statement-tested_loop-requires t c =
+    let h = whiles (frame_of c.args.cx.p.now c.args.cx.d.now) c.args.k c.in-Some.s.now
+    c.requires.scene.ready.ordered c.in-Some.ensures c.requires.part c.in-While.is in
+    let w = h.weight in
+    let before = while_body c.args.cx.p.now c.args.k c.in-Some.s.now c.in-While.c c.in-While.a c.requires.ordered
+    c.in-Some.ensures c.in-While.is in (
+      omega arith,
+      (
+        c.requires.ordered,
+        (
+          c.requires.scene,
+          (
+            c.requires.fits,
+            (
+              typed_some h.test.typed,
+              (typed_none, (record { inside = _; placed = h.body_fits }, less_room c.requires.room (omega arith))),
+            ),
+          ),
+        ),
+      ),
+    )
+
+pub statement-block-requires : goal.statement-block-requires
+statement-block-requires t c =
+    let h = blocks (frame_of c.args.cx.p.now c.args.cx.d.now) c.args.k c.in-Some.s.now
+    c.requires.scene.ready.ordered c.in-Some.ensures c.requires.part c.in-Block.is in
+    let w = h.weight in
+    let same = ap (hefts_in c.args.cx.p.now) c.as_slice-in-Block.ensures in
+    let before = block_body c.args.cx.p.now c.args.k c.in-Some.s.now c.in-Block.vars c.in-Block.body
+    c.as_slice-in-Block.result.now c.requires.ordered c.in-Some.ensures c.in-Block.is
+    c.as_slice-in-Block.ensures in
+    let there = subst (λ z. AreVars (frame_of c.args.cx.p.now c.args.cx.d.now) z) (sym c.as_slice.ensures)
+    h.vars_there in
+    let parts = subst (λ z. AreParts (frame_of c.args.cx.p.now c.args.cx.d.now) z) (sym c.as_slice-in-Block.ensures)
+    (are_parts h.body_fits) in (
+      omega arith,
+      (
+        c.requires.ordered,
+        (
+          before,
+          (
+            c.requires.scene,
+            (c.requires.fits, (there, (parts, (c.requires.exits, less_room c.requires.room (omega arith))))),
+          ),
+        ),
+      ),
+    )
+
+pub statement-returns-in-Block : goal.statement-returns-in-Block
+statement-returns-in-Block t c =
+    let w = (blocks (frame_of c.args.cx.p.now c.args.cx.d.now) c.args.k c.in-Some.s.now
+    c.requires.scene.ready.ordered c.in-Some.ensures c.requires.part c.in-Block.is).weight in
+    let same = ap (hefts_in c.args.cx.p.now) c.as_slice-in-Block.ensures in
+    record { lowered = at_most_ok _ _ _ _ _ _ _ _ c.block.result c.block.ensures.lowered (omega arith) }
+
+pub statement-block-requires-in-For : goal.statement-block-requires-in-For
+statement-block-requires-in-For t c =
+    let h = fors (frame_of c.args.cx.p.now c.args.cx.d.now) c.args.k c.in-Some.s.now c.requires.scene.ready.ordered
+    c.in-Some.ensures c.requires.part c.in-For.is in
+    let w = h.weight in
+    let same = ap (hefts_in c.args.cx.p.now) c.as_slice-in-For-2.ensures in
+    let before = for_first c.args.cx.p.now c.args.k c.in-Some.s.now c.in-For.vars c.in-For.first c.in-For.test
+    c.in-For.step c.in-For.body c.as_slice-in-For-2.result.now c.requires.ordered c.in-Some.ensures c.in-For.is
+    c.as_slice-in-For-2.ensures in
+    let there = subst (λ z. AreVars (frame_of c.args.cx.p.now c.args.cx.d.now) z) (sym c.as_slice-in-For.ensures)
+    h.vars_there in
+    let parts = subst (λ z. AreParts (frame_of c.args.cx.p.now c.args.cx.d.now) z) (sym c.as_slice-in-For-2.ensures)
+    (are_parts h.first_fits) in (
+      omega arith,
+      (
+        c.requires.ordered,
+        (
+          before,
+          (
+            c.requires.scene,
+            (c.requires.fits, (there, (parts, (c.requires.exits, less_room c.requires.room (omega arith))))),
+          ),
+        ),
+      ),
+    )
+
+pub statement-tested_loop-requires-in-For : goal.statement-tested_loop-requires-in-For
+statement-tested_loop-requires-in-For t c =
+    let h = fors (frame_of c.args.cx.p.now c.args.cx.d.now) c.args.k c.in-Some.s.now c.requires.scene.ready.ordered
+    c.in-Some.ensures c.requires.part c.in-For.is in
+    let w = h.weight in
+    let same = ap (hefts_in c.args.cx.p.now) c.as_slice-in-For-2.ensures in
+    let before = for_body c.args.cx.p.now c.args.k c.in-Some.s.now c.in-For.vars c.in-For.first c.in-For.test
+    c.in-For.step c.in-For.body c.requires.ordered c.in-Some.ensures c.in-For.is in
+    let so_far = c.in_ok-block-in-For.ensures.lowered in (
+      omega arith,
+      (
+        c.requires.ordered,
+        (
+          so_far.scene,
+          (
+            c.requires.fits,
+            (
+              record { each = λ j e. (h.test_fits j e).typed },
+              (
+                record { each = h.step_fits },
+                (record { inside = _; placed = h.body_fits }, room c.requires.room so_far (omega arith)),
+              ),
+            ),
+          ),
+        ),
+      ),
+    )
+
+pub statement-returns-in_ok-block-in-For : goal.statement-returns-in_ok-block-in-For
+statement-returns-in_ok-block-in-For t c =
+    let w = (fors (frame_of c.args.cx.p.now c.args.cx.d.now) c.args.k c.in-Some.s.now c.requires.scene.ready.ordered
+    c.in-Some.ensures c.requires.part c.in-For.is).weight in
+    let same = ap (hefts_in c.args.cx.p.now) c.as_slice-in-For-2.ensures in
+    record {
+      lowered = tail _ _ c.tested_loop-in-For.result c.in_ok-block-in-For.ensures.lowered
+          c.tested_loop-in-For.ensures.lowered (omega arith);
+    }
+
+pub statement-switch-requires : goal.statement-switch-requires
+statement-switch-requires t c =
+    let h = switches (frame_of c.args.cx.p.now c.args.cx.d.now) c.args.k c.in-Some.s.now
+    c.requires.scene.ready.ordered c.in-Some.ensures c.requires.part c.in-Switch.is in
+    let w = h.weight in
+    let same = ap (hefts_in c.args.cx.p.now) c.as_slice-in-Switch-3.ensures in
+    let many = ap length c.as_slice-in-Switch-2.ensures in
+    let before = switch_body c.args.cx.p.now c.args.k c.in-Some.s.now c.in-Switch.on c.in-Switch.vars
+    c.in-Switch.labels c.in-Switch.body c.as_slice-in-Switch-3.result.now c.requires.ordered c.in-Some.ensures
+    c.in-Switch.is c.as_slice-in-Switch-3.ensures in
+    let there = subst (λ z. AreVars (frame_of c.args.cx.p.now c.args.cx.d.now) z) (sym c.as_slice-in-Switch.ensures)
+    h.vars_there in
+    let parts = subst (λ z. AreParts (frame_of c.args.cx.p.now c.args.cx.d.now) z)
+    (sym c.as_slice-in-Switch-3.ensures) (are_parts h.body_fits) in (
+      omega arith,
+      (
+        c.requires.ordered,
+        (
+          before,
+          (
+            c.requires.scene,
+            (
+              c.requires.fits,
+              (h.value, (there, (parts, (c.requires.exits, less_room c.requires.room (omega arith))))),
+            ),
+          ),
+        ),
+      ),
+    )
+
+pub statement-returns-in-Switch : goal.statement-returns-in-Switch
+statement-returns-in-Switch t c =
+    let w = (switches (frame_of c.args.cx.p.now c.args.cx.d.now) c.args.k c.in-Some.s.now
+    c.requires.scene.ready.ordered c.in-Some.ensures c.requires.part c.in-Switch.is).weight in
+    let same = ap (hefts_in c.args.cx.p.now) c.as_slice-in-Switch-3.ensures in
+    let many = ap length c.as_slice-in-Switch-2.ensures in
+    record { lowered = at_most_ok _ _ _ _ _ _ _ _ c.switch.result c.switch.ensures.lowered (omega arith) }
+
+-- ---- switches
+
+pub switch-compared_cases-requires-clause-scene : goal.switch-compared_cases-requires-clause-scene
+switch-compared_cases-requires-clause-scene t c =
+    (label c.in_ok-enter.ensures.lowered.scene c.label-end.ensures.labelled).scene
+
+pub switch-compared_cases-requires-clause-temp : goal.switch-compared_cases-requires-clause-temp
+switch-compared_cases-requires-clause-temp t c =
+    let made = label c.in_ok-enter.ensures.lowered.scene c.label-end.ensures.labelled in
+    as_kind (opened_has (still c.in_ok-v.ensures.has c.in_ok-enter.ensures.lowered) made)
+    (sym (c.kind.ensures c.requires.scene.ready))
+
+pub switch-compared_cases-requires-clause-end : goal.switch-compared_cases-requires-clause-end
+switch-compared_cases-requires-clause-end t c =
+    first_open (label c.in_ok-enter.ensures.lowered.scene c.label-end.ensures.labelled)
+
+pub switch-loop-s-init : goal.switch-loop-s-init
+switch-loop-s-init t c =
+    let none = opened_none c.args.cx.p.now c.args.cx.d.now c.args.cx.types.now c.args.cx.homes.now c.args.out.now
+    c.requires.scene in
+    let one = opened_label (opened none (both c.in_ok-v.ensures.lowered c.in_ok-enter.ensures.lowered))
+    c.label-end.ensures.labelled in
+    opened_at_most
+    (opened_beside (c.label-end.result ∷ []) (labels_in c.in_ok-cases.cases) one c.in_ok-cases.ensures.opened)
+    (omega arith)
+
+pub switch-returns : goal.switch-returns
+switch-returns t c =
+    let p = c.args.cx.p.now in
+    let d = c.args.cx.d.now in
+    let types = c.args.cx.types.now in
+    let homes = c.args.cx.homes.now in
+    let all = hefts_taken p c.args.body.now c.loop-s.s-index in
+    let n = 4 * weight_in p c.args.on + (length c.args.labels.now + 3) + 4 * hefts_in p
+    (take c.loop-s.s-index c.args.body.now) in
+    let o = c.in_ok-stand_behind.ensures.stand.opened p d types homes c.args.out.now (c.label-end.result ∷ []) n
+    c.loop-s.invariant in
+    let last = subst
+    (λ z. Opened p d types homes c.args.out.now c.stand_behind.new.out (z ++ c.label-end.result ∷ []) n)
+    (none_behind c.in_ok-cases.cases.cases.items) o in
+    record { lowered = tail_stands _ c.stand.result last c.stand.ensures.stands (omega (arith, all)) }
+
+pub switch-statement-requires : goal.switch-statement-requires
+switch-statement-requires t c =
+    let p = c.args.cx.p.now in
+    let d = c.args.cx.d.now in
+    let i = c.loop-s.s-index in
+    let n = 4 * weight_in p c.args.on + (length c.args.labels.now + 3) + 4 * hefts_in p (take i c.args.body.now) in
+    let o = c.in_ok-first.ensures.stand.opened p d c.args.cx.types.now c.args.cx.homes.now c.args.out.now
+    (c.label-end.result ∷ []) n c.loop-s.invariant in
+    let lt = below c.args.k c.args.body.now i 0 c.requires.before (omega arith) in
+    let next = hefts_within p c.args.body.now i (omega arith) in
+    let part = part_at (frame_of p d) c.args.body.now i c.requires.parts (omega arith) in
+    let break = open_last (drop c.in_ok-first.first (labels_in c.in_ok-cases.cases)) c.label-end.result o in
+    let continue = exit_opened c.args.exits.continue_to c.requires.exits.continue_to o in (
+      omega arith,
+      (
+        c.requires.ordered,
+        (
+          o.scene,
+          (
+            c.requires.fits,
+            (
+              part,
+              (
+                record { break_to = break; continue_to = continue },
+                opened_room c.requires.room o
+                    (omega (arith, next)),
+              ),
+            ),
+          ),
+        ),
+      ),
+    )
+
+pub switch-loop-s-preserved : goal.switch-loop-s-preserved
+switch-loop-s-preserved t c =
+    let p = c.args.cx.p.now in
+    let d = c.args.cx.d.now in
+    let i = c.loop-s.s-index in
+    let n = 4 * weight_in p c.args.on + (length c.args.labels.now + 3) + 4 * hefts_in p (take i c.args.body.now) in
+    let o = c.in_ok-first.ensures.stand.opened p d c.args.cx.types.now c.args.cx.homes.now c.args.out.now
+    (c.label-end.result ∷ []) n c.loop-s.invariant in
+    let next = hefts_next p c.args.body.now i (omega arith) in
+    opened_at_most (opened o c.in_ok-statement.ensures.lowered) (omega (arith, next))

@@ -1,0 +1,30 @@
+use Rattle.std.proofs.Common.{refl, sym, arith}
+use Rattle.tac_lower.proofs.Steps.{grew, still, as_kind, room, less_room, tail_grew}
+use Rattle.tac_lower.proofs.Wells.{kept, as_capability}
+use Rattle.tac_lower.proofs.statements.initialise_object.Goals as goal
+
+pub struct_copy-requires-clause-destination : goal.struct_copy-requires-clause-destination
+struct_copy-requires-clause-destination c = record { target = c.requires.base; units = c.unit_of.ensures }
+
+pub operand-requires-clause-room : goal.operand-requires-clause-room
+operand-requires-clause-room c = less_room c.requires.room (omega arith)
+
+pub within-requires-clause-base : goal.within-requires-clause-base
+within-requires-clause-base c = still c.requires.base c.in_ok-v.ensures.lowered
+
+pub within-requires-clause-room : goal.within-requires-clause-room
+within-requires-clause-room c = room c.requires.room c.in_ok-v.ensures.lowered (omega arith)
+
+pub store-requires-clause-at : goal.store-requires-clause-at
+store-requires-clause-at c = as_capability _ _ _ c.in_ok-at.ensures.has refl
+
+pub store-requires-clause-value : goal.store-requires-clause-value
+store-requires-clause-value c = as_kind (kept _ _ _ _ c.in_ok-v.ensures.has c.in_ok-at.ensures.grown)
+    (sym (c.kind.ensures c.requires.scene.ready))
+
+pub returns : goal.returns
+returns c = record {
+  lowered =
+      tail_grew _ _ c.store.result (grew c.in_ok-v.ensures.lowered c.in_ok-at.ensures.grown c.in_ok-at.ensures.adds)
+      c.store.ensures.grown c.store.ensures.adds (omega arith);
+}

@@ -1,0 +1,62 @@
+use Rattle.std.proofs.Common.{None, Some, sym, ap, ◌∙◌, subst, arith}
+use Rattle.tac_lower.specs.Nodes.{weight_in}
+use Rattle.tac_lower.specs.Parts.{or_none, ReturnPart}
+use Rattle.tac_lower.specs.Scenes.{frame_of}
+use Rattle.tac_lower.proofs.Bodies.{none_returned, value_returned, return_of_none, return_of, tail_left}
+use Rattle.tac_lower.proofs.Steps.{start, less_room}
+use Rattle.tac_lower.proofs.statements.leave.Goals as goal
+
+pub returns-in_default : goal.returns-in_default
+returns-in_default c =
+    let part = subst (λ z. ReturnPart (frame_of c.args.cx.p.now c.args.cx.d.now) c.args.k z) c.in_default.is
+    c.requires.part in
+    record {
+      lowered = tail_left _ c.leave.result None c.requires.fits (start c.requires.scene)
+          (return_of_none c.requires.fits _ (none_returned c.requires.fits c.args.k part)) c.leave.ensures.pushed
+          (omega arith);
+    }
+
+pub effect-requires-clause-typed : goal.effect-requires-clause-typed
+effect-requires-clause-typed c = c.requires.part.value c.in-Some.a c.in-Some.is
+
+pub effect-requires-clause-room : goal.effect-requires-clause-room
+effect-requires-clause-room c =
+    let w = ap (or_none (weight_in c.args.cx.p.now)) c.in-Some.is in
+    let h = c.requires.part.weight in
+    less_room c.requires.room (omega arith)
+
+pub returns-in_ok-effect-in-None : goal.returns-in_ok-effect-in-None
+returns-in_ok-effect-in-None c =
+    let part = subst (λ z. ReturnPart (frame_of c.args.cx.p.now c.args.cx.d.now) c.args.k z) c.in-Some.is
+    c.requires.part in
+    let h = part.weight in
+    let none = sym (value_returned c.requires.fits c.args.k c.in-Some.a part)
+    ∙ sym (c.scalar.ensures c.requires.scene.ready) ∙ c.in-None.is in
+    record {
+      lowered = tail_left _ c.leave-in-None.result None c.requires.fits c.in_ok-effect-in-None.ensures.lowered
+          (return_of_none c.requires.fits _ none) c.leave-in-None.ensures.pushed (omega arith);
+    }
+
+pub operand-requires-clause-typed : goal.operand-requires-clause-typed
+operand-requires-clause-typed c = c.requires.part.value c.in-Some.a c.in-Some.is
+
+pub operand-requires-clause-room : goal.operand-requires-clause-room
+operand-requires-clause-room c =
+    let w = ap (or_none (weight_in c.args.cx.p.now)) c.in-Some.is in
+    let h = c.requires.part.weight in
+    less_room c.requires.room (omega arith)
+
+pub returns-in_ok-v-in-Some-scalar : goal.returns-in_ok-v-in-Some-scalar
+returns-in_ok-v-in-Some-scalar c =
+    let part = subst (λ z. ReturnPart (frame_of c.args.cx.p.now c.args.cx.d.now) c.args.k z) c.in-Some.is
+    c.requires.part in
+    let h = part.weight in
+    let same = value_returned c.requires.fits c.args.k c.in-Some.a part in
+    let some = sym (c.scalar.ensures c.requires.scene.ready) ∙ c.in-Some-scalar.is in
+    record {
+      lowered =
+          tail_left _ c.leave-in-Some-scalar.result (Some c.in_ok-v-in-Some-scalar.v) c.requires.fits
+          c.in_ok-v-in-Some-scalar.ensures.lowered
+          (return_of c.requires.fits _ c.in_ok-v-in-Some-scalar.v c.in-Some.a _ same some
+          c.in_ok-v-in-Some-scalar.ensures.has) c.leave-in-Some-scalar.ensures.pushed (omega arith);
+    }

@@ -1,0 +1,72 @@
+use Rattle.std.proofs.Common.{◌+◌, [], ◌∷◌, ◌++◌, ap, sym, ◌∙◌, subst, arith}
+use Rattle.std.proofs.lemmas.List.Sorted.{IsPermutation-sym, IsPermutation-to_front, IsPermutation-map}
+use Rattle.tac_lower.specs.declared.switches.Case.{Case}
+use Rattle.tac_lower.specs.Emitted.{IsOpen}
+use Rattle.tac_lower.specs.Scenes.{Opened}
+use Rattle.tac_lower.specs.Statements.{labels_of}
+use Rattle.tac_lower.proofs.Scening.{opened_none, opened_then, grown_lowered}
+use Rattle.tac_lower.proofs.Switching.{opened_permuted, opened_at_most, opened_grown, opened_label, open_beside, open_here, open_grown, labels_pushed, switched_kept}
+use Rattle.tac_lower.proofs.Wells.{keeps_same, keeps_then}
+use Rattle.tac_lower.proofs.switches.compared_cases.Goals as goal
+use Rattle.tac_lower.proofs.switches.compared_cases.Goals.{then-is_none, else-is_none}
+
+pub loop-l-init : goal.loop-l-init
+loop-l-init c =
+    let p = c.args.cx.p.now in
+    let d = c.args.cx.d.now in
+    let types = c.args.cx.types.now in
+    let homes = c.args.cx.homes.now in
+    let a = c.args.out.now in
+    let b = c.comparison_temps.new.out in
+    let made = c.in_ok-switched.ensures in
+    let grew = grown_lowered p d types homes a b 2 0 2 c.requires.scene made.grown made.adds (omega arith)
+    (omega arith) in
+    let begun : Opened p d types homes a b [] 2 =
+    opened_then p d types homes a a b [] 0 2 (opened_none p d types homes a c.requires.scene) grew in
+    record {
+      opened = subst (λ z. Opened p d types homes a b (labels_of z) 2) (sym c.new-cases.ensures.items) begun;
+      switched = made.switched;
+      otherwise = open_grown c.requires.end made.grown;
+    }
+
+pub compare_label-requires-clause-open : goal.compare_label-requires-clause-open
+compare_label-requires-clause-open c = open_here c.loop-l.invariant.opened.scene c.label-label.ensures.labelled
+
+pub loop-l-preserved : goal.loop-l-preserved
+loop-l-preserved c =
+    let p = c.args.cx.p.now in
+    let d = c.args.cx.d.now in
+    let types = c.args.cx.types.now in
+    let homes = c.args.cx.homes.now in
+    let a = c.args.out.now in
+    let b = c.compare_label.new.out in
+    let so_far = c.loop-l.invariant.opened in
+    let made = c.label-label.ensures.labelled in
+    let grown = c.in_ok-compare_label.ensures.grown in
+    let l = c.label-label.result in
+    let ls = labels_of c.loop-l.cases.items in
+    let more = opened_grown (opened_label so_far made) grown c.in_ok-compare_label.ensures.adds in
+    let last = opened_permuted (l ∷ ls) (ls ++ l ∷ []) more
+    (IsPermutation-sym (ls ++ l ∷ []) (l ∷ ls) (IsPermutation-to_front ls l)) in
+    let same = ap labels_of c.in_ok-push.ensures.items ∙ labels_pushed c.loop-l.cases.items _ in
+    record {
+      opened = opened_at_most (subst (λ z. Opened p d types homes a b z (c.loop-l.l-index + 2 + 1)) (sym same) last)
+          (omega arith);
+      switched = switched_kept _ _ _ (keeps_then _ _ _ (keeps_same _ _ made.kinds) grown.keeps)
+          c.loop-l.invariant.switched;
+      otherwise = elim c.if-is_none.branch [
+        | then-is_none w ↦ subst (λ z. IsOpen b z) (sym w.otherwise-is) (open_grown (open_here so_far.scene made) grown)
+        | else-is_none w ↦ subst (λ z. IsOpen b z) (sym w.otherwise-is)
+            (open_grown (open_beside so_far.scene c.loop-l.invariant.otherwise made) grown)
+      ];
+    }
+
+pub returns : goal.returns
+returns c =
+    let at_end = opened_grown c.loop-l.invariant.opened c.in_ok-jump.ensures.grown c.in_ok-jump.ensures.adds in
+    record {
+      opened =
+          opened_at_most
+          (opened_permuted _ _ at_end
+          (IsPermutation-map (λ (k : Case). k.label) _ _ c.in_ok-sort_by_key.ensures.permutation)) (omega arith);
+    }
