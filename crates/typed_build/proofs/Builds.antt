@@ -1,6 +1,7 @@
 -- What is written of a program's contained code is built of it.
 use Rattle.std.proofs.Common.{◌≡◌, ℕ, zero, suc, ◌+◌, true, List, [], ◌∷◌, map, Some, refl, sym, ap, ◌∙◌, subst, arith, inl, inr}
 use Rattle.std.specs.Prelude.{slice_get, Contains}
+use Rattle.std.specs.List.{All}
 use Rattle.std.proofs.lemmas.Bool.{false≢true}
 use Rattle.std.proofs.lemmas.List.Elements.{All-weaker}
 use Rattle.bounds_place.specs.Sizes.{in_range}
@@ -15,11 +16,11 @@ use Rattle.image_load.specs.Loading.{Loaded}
 use Rattle.int_lower.specs.Form.{is_integer_form}
 use Rattle.obj_mem.specs.Counted.{count_of}
 use Rattle.obj_mem.specs.declared.map.Map.{Map}
-use Rattle.typed_build.specs.Built.{IsBuilt, RunsAsMeant}
+use Rattle.typed_build.specs.Built.{EntersFunction, IsBuilt, RunsAsMeant}
 use Rattle.typed_build.specs.Coded.{Selects, HasContainedCode}
 use Rattle.typed_build.specs.Written.{IsWritten, image_in}
 use Rattle.typed_build.specs.declared.written.Selected.{Selected}
-use Rattle.typed_build.proofs.Contained.{relocs_contained, data_does_not}
+use Rattle.typed_build.proofs.Contained.{relocs_contained, relocs_enter, data_does_not}
 use Rattle.typed_build.proofs.ContainedCode.{IsEnteredAt, contained_text, entered_places}
 use Rattle.typed_build.proofs.Writes.{loaded_of, is_image, legal, sized}
 
@@ -88,5 +89,6 @@ module _ (p : Typed) (s : Selected) (given : Selects p s) (code : HasContainedCo
         counted = counted;
         says = ap (λ (l : Loaded). l.image.count) i.1 ∙ sym counted;
         contained = subst (λ (l : Loaded). Contained l.image) (sym i.1) contained;
+        entered = subst (λ (l : Loaded). All (EntersFunction m) l.image.relocs) (sym i.1) (relocs_enter m w.relocs w.begins.pointers);
         runs = λ form. subst (λ l. RunsAsMeant p m l count) (sym i.1) (runs form);
       }

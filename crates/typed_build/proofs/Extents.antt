@@ -8,8 +8,8 @@ use Rattle.cap_concentrate.proofs.Laws.{least_of_encodable}
 use Rattle.cap_ops.specs.declared.capability.TheConstants.{UNSEALED, SENTRY}
 use Rattle.cap_ops.specs.Capability.{base, top}
 use Rattle.cap_ops.proofs.Laws.{bounded_near}
+use Rattle.cap_ops.specs.Permissions.{code_permissions}
 use Rattle.obj_mem.specs.Legal.{AreApart}
-use Rattle.obj_mem.specs.Values.{function_permissions}
 use Rattle.obj_mem.specs.declared.map.Map.{Map}
 use Rattle.cap_reloc.specs.Begins.{IsInside}
 use Rattle.cap_reloc.specs.Stored.{IsStorable, IsSentry, IsDataWord, IsData, IsPointer}
@@ -88,7 +88,7 @@ keeps r s =
     (address_of r) s.exact s.from s.to s.above s.below in
     rw (eq-eqb (base (capability_of r)) r.base bounds.0, eq-eqb (top (capability_of r)) (r.base + r.length) bounds.1) refl
 
-sentry_word : is_permission_word (2 ^ 63 + function_permissions) ≡ true
+sentry_word : is_permission_word (2 ^ 63 + code_permissions) ≡ true
 unfolding is_permission_word
 sentry_word = refl
 

@@ -15,6 +15,7 @@ use Rattle.cap_concentrate.proofs.Least.{rounded_up_multiple}
 use Rattle.cap_concentrate.proofs.Owned.{alignment_pos, owned_multiple, multiple_of_alignment}
 use Rattle.ck_int.specs.declared.kinds.IntKind.{IntKind}
 use Rattle.ck_int.specs.declared.kinds.IntKind.TheVariants as kind
+use Rattle.cap_ops.specs.Permissions.{data_permissions}
 use Rattle.c_tree.specs.declared.typed.CType.{CType}
 use Rattle.c_tree.specs.declared.typed.CType.TheVariants.{Void, Int, Cap, Pointer, Array, Struct, Union, Function, Const, Incomplete}
 use Rattle.c_tree.specs.declared.typed.FunDef.{FunDef}
@@ -24,7 +25,6 @@ use Rattle.c_tree.specs.Layout.{Extent, size_limit, bytes_of, scalar, with_exten
 use Rattle.c_tree.proofs.Aligned.{IsPower, max_power, alignment_is_power, extent_aligned}
 use Rattle.obj_mem.specs.Legal.{ObjectNeed, owned_of, alignment_of, room_of}
 use Rattle.obj_mem.specs.Needs.{nothing_of, need_by, need_of, local_need, local_needs}
-use Rattle.obj_mem.specs.Objects.{data_permissions}
 use Rattle.bounds_place.specs.Placing.{data_room, locals_exceed, exceeds}
 use Rattle.bounds_place.specs.Rows.{owned_need}
 use Rattle.purecap_abi.specs.Frames.{IsLocal, AreLocals, room}

@@ -105,6 +105,7 @@ built_same p r q o u f g s t file m count h =
       counted = h.counted ∙ same_count p r q o u f g s t;
       says = h.says;
       contained = h.contained;
+      entered = h.entered;
       runs = λ form. record {
         does_what = subst (λ x. DoesWhatIsMeant (sides x m i.loaded)) tree runs.does_what;
         keeps = subst (λ x. KeepsToOutside (sides x m i.loaded)) tree runs.keeps;

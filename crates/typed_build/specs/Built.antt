@@ -1,5 +1,6 @@
 -- What it means that an image was built from a typed program.
-use Rattle.std.specs.Prelude.{◌≡◌, ℕ, zero, suc, ◌+◌, ◌*◌, ◌<◌, ◌≤◌, ◌⊎◌, true, false, List, length, take, drop, Option, Some, None, Ok, ⊤}
+use Rattle.std.specs.Prelude.{◌≡◌, ℕ, zero, suc, ◌+◌, ◌*◌, ◌<◌, ◌≤◌, ◌⊎◌, true, false, List, length, take, drop, slice_get, Option, Some, None, Ok, ⊤}
+use Rattle.std.specs.List.{All}
 use Rattle.ck_base.specs.Runs.{outcome, ending_alone}
 use Rattle.ck_base.specs.Agreement.{Sides, DoesWhatIsMeant, KeepsToOutside, DoesAllThatIsMeant}
 use Rattle.ck_base.specs.declared.positions.Pos.{Pos}
@@ -22,10 +23,11 @@ use Rattle.cap_machine.specs.declared.end.End.TheVariants.{Exit, Trap, Break, Il
 use Rattle.cap_machine.specs.Step.{act, limits}
 use Rattle.elf_file.specs.declared.image.Image.{Image}
 use Rattle.elf_file.specs.declared.image.Line.{Line}
+use Rattle.elf_file.specs.declared.image.Reloc.{Reloc}
 use Rattle.elf_file.specs.Image.{position_of}
 use Rattle.elf_file.specs.File.{file_of}
-use Rattle.image_load.specs.Contained.{Contained}
-use Rattle.image_load.specs.Judging.{text_of}
+use Rattle.image_load.specs.Contained.{Contained, executes}
+use Rattle.image_load.specs.Judging.{address_of, text_of}
 use Rattle.image_load.specs.Loading.{Loaded, loading}
 use Rattle.bounds_place.specs.Placing.{exceeds}
 use Rattle.cap_reloc.specs.Begins.{asked_by, beginning, IsRelocation}
@@ -113,6 +115,10 @@ pub record RunsAsMeant (p : Typed) (map : Map) (loaded : Loaded) (count : ℕ) :
   pub keeps : KeepsToOutside (sides_of p map loaded)
   pub does_all : DoesAllThatIsMeant (sides_of p map loaded) count
 
+-- a relocation with Execute is the sentry of a function's entry
+abbrev pub EntersFunction : Map → Reloc → Type 0
+EntersFunction map r = executes r ≡ true → (function : ℕ) × (slice_get map.entries function ≡ Some (address_of r))
+
 -- What is built of a program: its image, which is contained, and its count; and of a program over integers that its runs
 -- are what it means
 pub record IsBuilt (p : Typed) (file : List ℕ) (map : Map) (count : ℕ) : Type 0 where
@@ -122,6 +128,8 @@ pub record IsBuilt (p : Typed) (file : List ℕ) (map : Map) (count : ℕ) : Typ
   pub says : image.loaded.image.count ≡ count
   -- no run, whatever it does, leaves the text or makes code of data
   pub contained : Contained image.loaded.image
+  -- nor is it entered but at the image's entry and at those of functions
+  pub entered : All (EntersFunction map) image.loaded.image.relocs
   -- of a program over integers
   pub runs : is_integer_form p ≡ true → RunsAsMeant p map image.loaded count
 

@@ -23,17 +23,18 @@ use ck_base::{NoMemory, Refusal};
 use reg_alloc::Places;
 use rv_select::{Items, select};
 use std::alloc::Global;
-use tac_ir::{Tac, is_within_costs, well_formed};
+use tac_ir::{Tac, is_within_costs};
 use tac_lower::lower;
 
-/// The three-address code of a program, if it passes the checks.
+/// The three-address code of a program, which is well formed, if it passes the checks of its size.
 fn code_of(alloc: Global, p: &Typed) -> Result<Tac, Refusal>
     requires sound { Sound p.now }
+    requires light { weight p.now ≤ 7780 }
     ensures checked { IfOk result (IsChecked p.now) }
     ensures refused { IfErr result IsGivenUp }
 {
     let code = lower(alloc, p)?;
-    if well_formed(&code, p) && is_within_costs(&code, p) && is_short(&code) {
+    if is_within_costs(&code, p) && is_short(&code) {
         Ok(code)
     } else {
         Err(UNPROVED)
