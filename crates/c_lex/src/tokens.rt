@@ -55,6 +55,16 @@ impl<'a> Tokens<'a> {
         }
     }
 
+    /// Another reader of the same file, at the same place.
+    pub fn again(&self) -> Tokens<'a>
+        ensures { result ≡ self.now }
+    {
+        Tokens {
+            file: self.file,
+            place: self.place,
+        }
+    }
+
     /// The next token; None at the end; or the code and the position of what breaks the rules there:
     /// 100 a byte that begins no token, 101 a literal or comment that is not closed, 102 a literal that has no value, 103 a word or
     /// punctuator that the language leaves out, 104 `#pragma pack`. A refusal and the end leave the reader as it is, so each later

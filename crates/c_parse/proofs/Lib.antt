@@ -6,7 +6,6 @@ pub mod Complete
 pub mod StatementsSound
 pub mod StatementsComplete
 mod Examples
-pub mod Rests
 pub mod Made
 pub mod Words
 pub mod Force
@@ -25,3 +24,5 @@ pub mod Deep
 pub mod OneAnswer
 pub mod Declarators
 pub mod Followed
+pub mod Checking
+pub mod Leaving

@@ -105,7 +105,7 @@ pub record Joined (old new : List Node) (kind : NodeKind) (t : Lexeme) (first : 
 
 -- the tokens that are left
 abbrev pub rest_of : Cursor → List Lexeme
-rest_of cursor = drop cursor.at cursor.items.now
+rest_of cursor = cursor.left
 
 -- what was read
 pub record Got (old new : Cursor) (read : Parsed) (part : Part) : Type 0 where

@@ -1,5 +1,6 @@
 -- How many brackets a token opens, and how many it closes.
-use Rattle.std.specs.Prelude.{ℕ}
+use Rattle.std.specs.Prelude.{ℕ, ℤ, pos, ◌+ℤ◌}
+use Rattle.std.proofs.Common.{neg_ℤ}
 use Rattle.c_tree.specs.declared.syntax.Symbol.{Symbol}
 use Rattle.c_tree.specs.declared.syntax.Symbol.TheVariants.{OpenParenthesis, CloseParenthesis, OpenBracket, CloseBracket, OpenBrace, CloseBrace}
 
@@ -14,3 +15,7 @@ closing CloseParenthesis = 1
 closing CloseBracket = 1
 closing CloseBrace = 1
 closing _ = 0
+
+-- so many more were opened than closed
+abbrev pub gap : ℕ → ℕ → ℤ
+gap o c = pos o +ℤ neg_ℤ (pos c)

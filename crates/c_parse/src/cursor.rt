@@ -9,6 +9,7 @@ ghost use Rattle.c_parse.specs.Reading.{starts as starts_of, past as past_of, ex
 ghost use Rattle.c_parse.specs.Got.{rest_of, is_mark, Joined, IsPlaceOf, Means, Holds, Grows, Made, Fails};
 
 use crate::items::{Item, Place};
+use crate::stream::Stream;
 use c_tree::{Node, NodeKind, Symbol};
 use ck_base::Sequence;
 use std::alloc::{AllocError, AllocFailed, Global};
@@ -119,9 +120,7 @@ impl Parts {
 pub(crate) struct Cursor<'a> {
     alloc: Global,
     pub(crate) nodes: Vec<Node>,
-    pub(crate) items: &'a [Item<'a>],
-    /// How many of them were taken.
-    pub(crate) at: usize,
+    pub(crate) left: Stream<'a>,
 }
 
 /// Whether the symbol is the one that is looked for.
@@ -147,64 +146,62 @@ pub(crate) fn is_marked(mark: Mark, symbol: Symbol) -> bool
     }
 }
 
-/// Whether the items begin with this token.
-pub(crate) fn starts(mark: Mark, items: &[Item]) -> bool
-    ensures { result ≡ starts_of (is_mark mark) items.now }
+/// Whether the tokens begin with this one.
+pub(crate) fn starts(mark: Mark, tokens: &Stream) -> bool
+    ensures { result ≡ starts_of (is_mark mark) tokens.now }
 {
-    match items.split_first() {
-        Some((item, _)) => is_marked(mark, item.symbol()),
+    match tokens.first() {
+        Some(item) => is_marked(mark, item.symbol()),
         None => false,
     }
 }
 
 impl<'a> Cursor<'a> {
-    pub(crate) fn new(alloc: Global, items: &'a [Item<'a>]) -> Cursor<'a>
+    pub(crate) fn new(alloc: Global, left: Stream<'a>) -> Cursor<'a>
         ensures nodes { result.nodes.items ≡ [] }
-        ensures rest { rest_of result ≡ items.now }
+        ensures rest { rest_of result ≡ left.entry }
     {
         Cursor {
             alloc,
             nodes: Vec::new(alloc),
-            items,
-            at: 0,
+            left,
         }
     }
 
     /// The tokens that are left.
-    pub(crate) fn rest(&self) -> &'a [Item<'a>]
+    pub(crate) fn rest(&self) -> &Stream<'a>
         ensures { result.now ≡ rest_of self.now }
     {
-        &self.items[self.at.min(self.items.len())..]
+        &self.left
     }
 
     /// The first of the tokens that are left.
-    pub(crate) fn first(&self) -> Option<&'a Item<'a>>
-        ensures { MatchOption result (rest_of self.now ≡ []) (λ t. rest_of self.now ≡ t.now ∷ past_of (rest_of self.now)) }
+    pub(crate) fn first(&self) -> Option<Item<'a>>
+        ensures { MatchOption result (rest_of self.now ≡ []) (λ t. rest_of self.now ≡ t ∷ past_of (rest_of self.now)) }
     {
-        self.items.get(self.at)
+        match self.left.first() {
+            Some(item) => Some(item.again()),
+            None => None,
+        }
     }
 
     /// Goes on behind the first token.
-    #[tactic(auto, using(crate::proofs::Rests::drop_past, crate::proofs::Rests::drop_end))]
     pub(crate) fn advance(&mut self)
         ensures nodes { self.new.nodes.items ≡ self.old.nodes.items }
         ensures rest { rest_of self.new ≡ past_of (rest_of self.old) }
     {
-        if self.at < self.items.len() {
-            self.at += 1;
-        }
+        self.left.advance();
     }
 
     /// Takes the first token.
-    #[tactic(auto, using(crate::proofs::Rests::drop_past))]
-    pub(crate) fn take(&mut self) -> Option<&'a Item<'a>>
+    pub(crate) fn take(&mut self) -> Option<Item<'a>>
         ensures nodes { self.new.nodes.items ≡ self.old.nodes.items }
         ensures size { IfSome result (λ _. length (rest_of self.old) ≡ length (rest_of self.new) + 1) }
-        ensures rest { MatchOption result (rest_of self.old ≡ []) (λ t. rest_of self.old ≡ t.now ∷ rest_of self.new) }
+        ensures rest { MatchOption result (rest_of self.old ≡ []) (λ t. rest_of self.old ≡ t ∷ rest_of self.new) }
     {
         match self.first() {
             Some(item) => {
-                self.at += 1;
+                self.advance();
                 Some(item)
             }
             None => None,
@@ -212,18 +209,17 @@ impl<'a> Cursor<'a> {
     }
 
     /// Takes the first token and gives it, if it is this one.
-    #[tactic(auto, using(crate::proofs::Rests::drop_past))]
-    pub(crate) fn take_if(&mut self, mark: Mark) -> Option<&'a Item<'a>>
+    pub(crate) fn take_if(&mut self, mark: Mark) -> Option<Item<'a>>
         ensures nodes { self.new.nodes.items ≡ self.old.nodes.items }
         ensures size { IfSome result (λ _. length (rest_of self.old) ≡ length (rest_of self.new) + 1) }
         ensures left { IfNone result (rest_of self.new ≡ rest_of self.old) }
         ensures other { IfNone result (starts_of (is_mark mark) (rest_of self.old) ≡ false) }
-        ensures rest { IfSome result (λ t. rest_of self.old ≡ t.now ∷ rest_of self.new) }
-        ensures found { IfSome result (λ t. is_mark mark (symbol t.now) ≡ true) }
+        ensures rest { IfSome result (λ t. rest_of self.old ≡ t ∷ rest_of self.new) }
+        ensures found { IfSome result (λ t. is_mark mark (symbol t) ≡ true) }
     {
         match self.first() {
             Some(item) if is_marked(mark, item.symbol()) => {
-                self.at += 1;
+                self.advance();
                 Some(item)
             }
             _ => None,
@@ -231,7 +227,6 @@ impl<'a> Cursor<'a> {
     }
 
     /// Takes the first token, if it is this one.
-    #[tactic(auto, using(crate::proofs::Rests::drop_past))]
     pub(crate) fn takes(&mut self, mark: Mark) -> bool
         ensures found { result ≡ starts_of (is_mark mark) (rest_of self.old) }
         ensures nodes { self.new.nodes.items ≡ self.old.nodes.items }
@@ -241,7 +236,7 @@ impl<'a> Cursor<'a> {
     {
         let found = starts(mark, self.rest());
         if found {
-            self.at += 1;
+            self.advance();
         }
         found
     }

@@ -98,7 +98,7 @@ fn external_behind<'a>(
     if !is_plain(types, declarator.root) {
         return Err(Stop::NoTree);
     }
-    definition(cursor, types, specified, declarator, brace)
+    definition(cursor, types, specified, declarator, &brace)
 }
 
 // A function or a declaration.
@@ -148,7 +148,7 @@ fn externals<'a>(cursor: &mut Cursor<'a>, types: &mut TypeNames<'a>) -> Result<P
 {
     let mut parts = cursor.no_parts();
     'list: while let Some(item) = cursor.first() {
-        let part = outer_item(cursor, types, item)?;
+        let part = outer_item(cursor, types, &item)?;
         parts.push(part)?;
     }
     Ok(parts)

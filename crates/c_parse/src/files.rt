@@ -1,21 +1,21 @@
 //! The tree of a file, from the reader of its tokens.
-ghost use Rattle.std.specs.Prelude.{◌≡◌, ℕ, ◌<◌, ◌≤◌, List, [], ◌∷◌, ◌++◌, length, map, reverse, IfOk, MatchResult};
-ghost use Rattle.ck_base.specs.Lexes.{Lexes, Refuses};
+ghost use Rattle.std.specs.Prelude.{◌≡◌, ℕ, ◌+◌, ◌<◌, ◌≤◌, ◌^◌, List, [], ◌∷◌, ◌++◌, map, reverse, length, Some, None, IfOk, MatchResult};
+ghost use Rattle.ck_base.specs.Tokens.{Lexeme};
 ghost use Rattle.c_tree.specs.Grammar.{predeclared as predeclared_names};
-ghost use Rattle.c_tree.specs.Brackets.{excess};
-ghost use Rattle.c_tree.specs.File.{IsCut, IsTokenPlace};
+ghost use Rattle.c_tree.specs.File.{IsTokenPlace};
 ghost use Rattle.c_parse.specs.Got.{in_force};
 ghost use Rattle.c_parse.specs.Turns.{opening as opening_of, closing as closing_of};
-ghost use Rattle.c_lex.specs.Lexemes.{lexeme_of};
-ghost use Rattle.c_parse.specs.Parsed.{OnCode, Answers};
+ghost use Rattle.c_parse.specs.Parsed.{IsRefused, OnCode, Answers};
+ghost use Rattle.c_parse.specs.Checked.{Counts, IsChecked};
 
 use crate::cursor::{Cursor, Stop};
 use crate::externals::file;
-use crate::items::Item;
+use crate::items::{Item, Place};
 use crate::names::TypeNames;
-use c_lex::{Token, Tokens, calls_read};
+use crate::stream::Stream;
+use c_lex::{Tokens, calls_read};
 use c_tree::{Symbol, Tree};
-use ck_base::{NoMemory, Pos, Refusal, Sequence};
+use ck_base::{Pos, Refusal, Sequence};
 use std::alloc::{AllocError, Global};
 
 /// One more than the greatest excess of opening over closing brackets.
@@ -37,33 +37,6 @@ const PREDECLARED: [&[u8]; 13] = [
     b"ptraddr_t",
     b"size_t",
 ];
-
-// One more token.
-fn add<'a>(items: &mut Vec<Item<'a>>, token: Token<'a>) -> Result<(), NoMemory>
-    ensures { IfOk result (λ _. items.new.items ≡ items.old.items ++ lexeme_of token.entry ∷ []) }
-{
-    items.push(Item::new(token))?;
-    Ok(())
-}
-
-// All tokens, or why there are none.
-fn gathered<'a>(alloc: Global, tokens: Tokens<'a>) -> Result<Vec<Item<'a>>, Refusal>
-    requires { tokens.at ≡ 0 }
-    ensures short { length tokens.entry.file ≤ 4_194_304 }
-    ensures few { IfOk result (λ items. length items.items ≤ 4_194_304) }
-    ensures read { MatchResult result (λ items. Lexes tokens.entry.file items.items) (λ e. OnCode e (λ code place. Refuses tokens.entry.file code place)) }
-{
-    calls_read();
-    let mut reader = tokens;
-    let mut items = Vec::new(alloc);
-    while let Some(next) = reader.next() {
-        match next {
-            Ok(token) => add(&mut items, token)?,
-            Err((code, place)) => return Err(Refusal::Code(code, place)),
-        }
-    }
-    Ok(items)
-}
 
 // How many brackets a token opens.
 fn opening(symbol: Symbol) -> u32
@@ -87,29 +60,94 @@ fn closing(symbol: Symbol) -> u32
     }
 }
 
-// The place of the bracket by which one too many stands open.
-fn too_deep(items: &[Item]) -> Option<Pos>
-    requires { length items.now ≤ 4_194_304 }
-    ensures { result ≡ excess items.now }
-{
-    let mut opened = 0;
-    let mut closed = 0;
-    for item in items {
-        opened += opening(item.symbol());
-        closed += closing(item.symbol());
-        if opened == closed + TOO_DEEP {
-            return Some(item.place().pos);
-        }
-    }
-    None
+// The brackets of the tokens so far.
+#[derive(Clone, Copy, Debug)]
+struct Brackets {
+    opened: u32,
+    closed: u32,
+    // The place of the bracket by which one too many stands open.
+    deep: Option<Pos>,
 }
 
-// The place of the token at which no tree goes on, or of the last one.
-fn stopped(items: &[Item], at: usize) -> Pos
-    requires { 0 < length items.now }
-    ensures { (bytes : List ℕ) → IsTokenPlace bytes items.now result }
+// No brackets yet.
+fn no_brackets() -> Brackets
+    ensures { Counts result [] }
 {
-    items[at.min(items.len() - 1)].place().pos
+    Brackets {
+        opened: 0,
+        closed: 0,
+        deep: None,
+    }
+}
+
+// The place of the bracket by which one too many stands open, with one more token, which stands at this place.
+fn deep_with(deep: Option<Pos>, opened: u32, closed: u32, place: Pos) -> Option<Pos>
+    requires { closed ≤ 2 ^ 31 }
+    ensures found { deep ≡ None → opened ≡ closed + 201 → result ≡ Some place }
+    ensures none { deep ≡ None → (opened ≡ closed + 201 → ⊥) → result ≡ None }
+    ensures kept { (q : Pos) → deep ≡ Some q → result ≡ Some q }
+{
+    match deep {
+        Some(_) => deep,
+        None if opened == closed + TOO_DEEP => Some(place),
+        None => None,
+    }
+}
+
+// The brackets with those of one more token.
+fn with_token(brackets: Brackets, token: &Item) -> Brackets
+    requires opened { brackets.opened < 2 ^ 31 }
+    requires closed { brackets.closed < 2 ^ 31 }
+    ensures { (ts : List Lexeme) → Counts brackets ts → Counts result (ts ++ token.now ∷ []) }
+{
+    let opened = brackets.opened + opening(token.symbol());
+    let closed = brackets.closed + closing(token.symbol());
+    Brackets {
+        opened,
+        closed,
+        deep: deep_with(brackets.deep, opened, closed, token.place().pos),
+    }
+}
+
+// Reads all tokens: whether none breaks a rule and no bracket stands too deep, or why not.
+fn check<'a>(tokens: Tokens<'a>) -> Result<(), Refusal>
+    requires { tokens.at ≡ 0 }
+    ensures { MatchResult result (λ _. IsChecked tokens.entry.file) (λ e. OnCode e (IsRefused tokens.entry.file)) }
+{
+    calls_read();
+    let mut reader = tokens;
+    let mut brackets = no_brackets();
+    while let Some(next) = reader.next() {
+        match next {
+            Ok(token) => {
+                let item = Item::new(token);
+                brackets = with_token(brackets, &item);
+            }
+            Err((code, place)) => return Err(Refusal::Code(code, place)),
+        }
+    }
+    match brackets.deep {
+        Some(place) => Err(Refusal::Code(121, place)),
+        None => Ok(()),
+    }
+}
+
+// The position of the first token that begins at this byte or behind it, or of the last one.
+fn stopped(tokens: Stream, at: u32) -> Pos
+    requires { 0 < length tokens }
+    ensures { (bytes : List ℕ) → IsTokenPlace bytes tokens.entry result }
+{
+    let mut left = tokens;
+    let mut place = Pos { line: 1, col: 1 };
+    while let Some(item) = left.first() {
+        let Place { pos, text } = item.place();
+        place = pos;
+        if text.start >= at {
+            return place;
+        }
+        left.advance();
+    }
+    place
 }
 
 // Further names of types, of which the last is the latest.
@@ -131,19 +169,26 @@ fn predeclared<'a>(alloc: Global) -> Result<TypeNames<'a>, AllocError>
     Ok(types)
 }
 
-// The tree of tokens, or the place where there is none.
-fn tree_of<'a>(alloc: Global, items: &'a [Item<'a>]) -> Result<Tree, Refusal>
-    requires { length items.now ≤ 4_194_304 }
-    ensures { (bytes : List ℕ) → IsCut bytes items.now → Answers bytes result }
+// The tree of a file whose tokens break no rule, or the place where there is none.
+fn tree_of<'a>(alloc: Global, tokens: Tokens<'a>) -> Result<Tree, Refusal>
+    requires begin { tokens.at ≡ 0 }
+    requires checked { IsChecked tokens.file }
+    ensures { Answers tokens.entry.file result }
 {
     let mut types = predeclared(alloc)?;
-    let mut cursor = Cursor::new(alloc, items);
+    let reader = tokens.again();
+    let left = Stream::new(reader);
+    let mut cursor = Cursor::new(alloc, left);
     match file(&mut cursor, &mut types) {
         Ok(part) => Ok(Tree {
             nodes: Sequence::from_vec(cursor.nodes),
             root: part.number,
         }),
-        Err(Stop::NoTree) => Err(Refusal::Code(120, stopped(items, cursor.at))),
+        Err(Stop::NoTree) => {
+            let at = cursor.left.at();
+            let again = Stream::new(tokens);
+            Err(Refusal::Code(120, stopped(again, at)))
+        }
         Err(Stop::NoMemory) => Err(Refusal::NoMemory),
     }
 }
@@ -152,14 +197,13 @@ fn tree_of<'a>(alloc: Global, items: &'a [Item<'a>]) -> Result<Tree, Refusal>
 /// these codes that applies: 100 to 104, as its tokens are; 121, at the bracket by which the excess of opening over closing brackets
 /// reaches 201; 120, at the position of a token, where the grammar has no tree of at most 200 levels for the tokens. It may be
 /// refused for want of memory at any time. A tree has at most 67,108,864 nodes.
+///
+/// The tokens are read twice, and no list of them is kept: first up to the end, for the refusals before 120; then for the tree.
 pub fn parse<'a>(alloc: Global, tokens: Tokens<'a>) -> Result<Tree, Refusal>
     requires { tokens.at ≡ 0 }
     ensures { Answers tokens.entry.file result }
 {
-    let gathered = gathered(alloc, tokens)?;
-    let items = gathered.as_slice();
-    match too_deep(items) {
-        Some(place) => Err(Refusal::Code(121, place)),
-        None => tree_of(alloc, items),
-    }
+    let reader = tokens.again();
+    check(reader)?;
+    tree_of(alloc, tokens)
 }

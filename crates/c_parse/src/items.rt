@@ -49,6 +49,16 @@ impl<'a> Item<'a> {
         }
     }
 
+    /// The same token once more.
+    pub(crate) fn again(&self) -> Item<'a>
+        ensures { result ≡ self.now }
+    {
+        Item {
+            token: self.token,
+            symbol: self.symbol,
+        }
+    }
+
     pub(crate) fn symbol(&self) -> Symbol
         ensures { result ≡ symbol_of_lexeme self.now }
     {

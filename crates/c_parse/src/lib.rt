@@ -17,6 +17,7 @@ mod phrases;
 mod runs;
 mod statements;
 mod steps;
+mod stream;
 mod tables;
 
 pub use files::parse;

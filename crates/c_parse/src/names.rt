@@ -4,11 +4,14 @@ ghost use Rattle.std.specs.Prelude.{◌≡◌, ℕ, ◌≤◌, List, [], ◌∷�
 ghost use Rattle.ck_base.specs.Tokens.{is_among};
 ghost use Rattle.c_tree.specs.Grammar.{is_typedef_name, is_word as is_word_of, may_be_nameless as may_be_nameless_of, is_declared_by as is_declared_by_of};
 ghost use Rattle.c_parse.specs.Reading.{begins_type, starts_with, starts, begins_specifier as begins_specifier_of, begins_declarator as begins_declarator_of, opens_type as opens_type_of, opens_parameters as opens_parameters_of, goes_on_listing as goes_on_listing_of};
-ghost use Rattle.c_parse.specs.Got.{in_force, naming_of, encloses};
+ghost use Rattle.ck_base.specs.Tokens.{Lexeme};
+ghost use Rattle.c_parse.specs.Got.{in_force, naming_of, encloses, is_mark};
+ghost use Rattle.c_parse.specs.Begins.{Begins};
 
 use crate::counts::Counts;
-use crate::cursor::{Mark, is_marked, starts as starts_with_mark};
+use crate::cursor::{Mark, is_marked};
 use crate::items::Item;
+use crate::stream::Stream;
 use c_tree::Symbol;
 use std::alloc::{AllocError, Global};
 use std::marker::Model;
@@ -119,14 +122,21 @@ impl<'a> TypeNames<'a> {
         begins_specifier(item.symbol()) || self.has(item)
     }
 
-    /// Whether a type begins with the first item.
-    pub(crate) fn start(&self, items: &[Item]) -> bool
-        ensures { result ≡ starts_with (begins_type (in_force self.now)) items.now }
+    /// Whether a type begins with this token, the first of some.
+    fn start_at(&self, first: Option<&Item>) -> bool
+        ensures { (ts : List Lexeme) → Begins ts first.entry → result ≡ starts_with (begins_type (in_force self.now)) ts }
     {
-        match items.split_first() {
-            Some((item, _)) => self.begin_with(item),
+        match first {
+            Some(item) => self.begin_with(item),
             None => false,
         }
+    }
+
+    /// Whether a type begins with the first token.
+    pub(crate) fn start(&self, tokens: &Stream) -> bool
+        ensures { result ≡ starts_with (begins_type (in_force self.now)) tokens.now }
+    {
+        self.start_at(tokens.first())
     }
 }
 
@@ -148,12 +158,12 @@ fn is_declarator_start(symbol: Symbol) -> bool
     )
 }
 
-/// Whether a declarator that is not empty begins with the first item.
-pub(crate) fn begins_declarator(items: &[Item]) -> bool
-    ensures { result ≡ starts begins_declarator_of items.now }
+/// Whether a declarator that is not empty begins with the first token.
+pub(crate) fn begins_declarator(tokens: &Stream) -> bool
+    ensures { result ≡ starts begins_declarator_of tokens.now }
 {
-    match items.split_first() {
-        Some((item, _)) => is_declarator_start(item.symbol()),
+    match tokens.first() {
+        Some(item) => is_declarator_start(item.symbol()),
         None => false,
     }
 }
@@ -182,44 +192,55 @@ pub(crate) fn is_declared_by(naming: Naming, types: &TypeNames, item: &Item) -> 
 }
 
 /// An opening parenthesis and the start of a type.
-pub(crate) fn opens_type(types: &TypeNames, items: &[Item]) -> bool
-    ensures { result ≡ opens_type_of (in_force types.now) items.now }
+pub(crate) fn opens_type(types: &TypeNames, tokens: &Stream) -> bool
+    ensures { result ≡ opens_type_of (in_force types.now) tokens.now }
 {
-    match items.split_first() {
-        Some((item, rest)) => {
-            is_marked(Mark::OpenParenthesis, item.symbol()) && types.start(rest)
+    match tokens.first() {
+        Some(item) => {
+            is_marked(Mark::OpenParenthesis, item.symbol()) && types.start_at(tokens.second())
         }
         None => false,
     }
 }
 
-/// What follows an opening parenthesis is a list of parameters.
-fn opens_parameters(types: &TypeNames, items: &[Item]) -> bool
-    ensures { result ≡ opens_parameters_of (in_force types.now) items.now }
+/// Whether this token, the first of some, is the one that is looked for.
+fn is_marked_at(mark: Mark, first: Option<&Item>) -> bool
+    ensures { (ts : List Lexeme) → Begins ts first.entry → result ≡ starts (is_mark mark) ts }
 {
-    starts_with_mark(Mark::CloseParenthesis, items) || types.start(items)
+    match first {
+        Some(item) => is_marked(mark, item.symbol()),
+        None => false,
+    }
+}
+
+/// What follows an opening parenthesis is a list of parameters, of which this is the first token.
+fn opens_parameters(types: &TypeNames, first: Option<&Item>) -> bool
+    ensures { (ts : List Lexeme) → Begins ts first.entry → result ≡ opens_parameters_of (in_force types.now) ts }
+{
+    is_marked_at(Mark::CloseParenthesis, first) || types.start_at(first)
 }
 
 /// An opening parenthesis that is no list of parameters' where the declarator may be nameless.
-pub(crate) fn is_enclosed(types: &TypeNames, naming: Naming, items: &[Item]) -> bool
-    ensures { result ≡ encloses (naming_of naming) (in_force types.now) items.now }
+pub(crate) fn is_enclosed(types: &TypeNames, naming: Naming, tokens: &Stream) -> bool
+    ensures { result ≡ encloses (naming_of naming) (in_force types.now) tokens.now }
 {
-    match items.split_first() {
-        Some((item, rest)) => {
+    match tokens.first() {
+        Some(item) => {
             is_marked(Mark::OpenParenthesis, item.symbol())
-                && !(may_be_nameless(naming) && opens_parameters(types, rest))
+                && !(may_be_nameless(naming) && opens_parameters(types, tokens.second()))
         }
         None => false,
     }
 }
 
 /// A comma that does not end a list in braces.
-pub(crate) fn goes_on_listing(items: &[Item]) -> bool
-    ensures { result ≡ goes_on_listing_of items.now }
+pub(crate) fn goes_on_listing(tokens: &Stream) -> bool
+    ensures { result ≡ goes_on_listing_of tokens.now }
 {
-    match items.split_first() {
-        Some((item, rest)) => {
-            is_marked(Mark::Comma, item.symbol()) && !starts_with_mark(Mark::CloseBrace, rest)
+    match tokens.first() {
+        Some(item) => {
+            is_marked(Mark::Comma, item.symbol())
+                && !is_marked_at(Mark::CloseBrace, tokens.second())
         }
         None => false,
     }

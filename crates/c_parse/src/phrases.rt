@@ -238,21 +238,16 @@ fn goes_on_specifying(types: &TypeNames, named: bool, item: &Item) -> bool
 }
 
 // Takes the first token, if it goes on with specifiers.
-#[tactic(auto, using(crate::proofs::Rests::drop_past, crate::proofs::Rests::drop_end))]
-fn take_specifier<'a>(
-    cursor: &mut Cursor<'a>,
-    types: &TypeNames,
-    named: bool,
-) -> Option<&'a Item<'a>>
+fn take_specifier<'a>(cursor: &mut Cursor<'a>, types: &TypeNames, named: bool) -> Option<Item<'a>>
     ensures nodes { cursor.new.nodes.items ≡ cursor.old.nodes.items }
     ensures size { IfSome result (λ _. length (rest_of cursor.old) ≡ length (rest_of cursor.new) + 1) }
     ensures left { IfNone result (rest_of cursor.new ≡ rest_of cursor.old) }
     ensures other { IfNone result (starts_with (goes_on_specifying_of (in_force types.now) named) (rest_of cursor.old) ≡ false) }
-    ensures rest { IfSome result (λ t. rest_of cursor.old ≡ t.now ∷ rest_of cursor.new) }
-    ensures found { IfSome result (λ t. goes_on_specifying_of (in_force types.now) named t.now ≡ true) }
+    ensures rest { IfSome result (λ t. rest_of cursor.old ≡ t ∷ rest_of cursor.new) }
+    ensures found { IfSome result (λ t. goes_on_specifying_of (in_force types.now) named t ≡ true) }
 {
     match cursor.first() {
-        Some(item) if goes_on_specifying(types, named, item) => {
+        Some(item) if goes_on_specifying(types, named, &item) => {
             cursor.advance();
             Some(item)
         }
@@ -280,7 +275,7 @@ fn specifier_list<'a>(
         type_names: 0,
     };
     while let Some(item) = take_specifier(cursor, types, gathered.type_names > 0) {
-        let part = specifier(cursor, types, item, below)?;
+        let part = specifier(cursor, types, &item, below)?;
         gathered = gathered.with(part)?;
     }
     Ok(gathered)
@@ -315,7 +310,7 @@ pub(crate) fn specifiers<'a>(
         type_names,
         ..
     } = gathered;
-    let part = cursor.join(NodeKind::Specifiers, item, item.place(), parts)?;
+    let part = cursor.join(NodeKind::Specifiers, &item, item.place(), parts)?;
     Ok(Specified {
         part,
         defines,
@@ -444,11 +439,11 @@ fn enumerator<'a>(
     let Some(name) = cursor.take() else {
         return Err(Stop::NoTree);
     };
-    if !is_declared_by(Naming::Plain, types, name) {
+    if !is_declared_by(Naming::Plain, types, &name) {
         return Err(Stop::NoTree);
     }
     if !cursor.takes(Mark::Equals) {
-        return cursor.leaf(NodeKind::Enumerator, name);
+        return cursor.leaf(NodeKind::Enumerator, &name);
     }
     let none = cursor.no_parts();
     let steps = [Step::Read(Phrase::Expression(2))];
@@ -456,7 +451,7 @@ fn enumerator<'a>(
         cursor,
         types,
         NodeKind::Enumerator,
-        name,
+        &name,
         name.place(),
         &steps,
         none,
@@ -480,11 +475,11 @@ fn initializer<'a>(
         return expression(cursor, types, 1, below);
     };
     if cursor.takes(Mark::CloseBrace) {
-        return cursor.leaf(NodeKind::BracedInitializer, brace);
+        return cursor.leaf(NodeKind::BracedInitializer, &brace);
     }
     let none = cursor.no_parts();
     let parts = braced(cursor, types, Phrase::Initializer, none, below)?;
-    cursor.join(NodeKind::BracedInitializer, brace, brace.place(), parts)
+    cursor.join(NodeKind::BracedInitializer, &brace, brace.place(), parts)
 }
 
 // A step of a production, as further parts.
@@ -601,14 +596,14 @@ fn operand<'a>(cursor: &mut Cursor<'a>, types: &TypeNames<'a>, below: u32) -> Re
     let own = item.place();
     match head_of(item.symbol()) {
         Head::Name => {
-            if types.has(item) {
+            if types.has(&item) {
                 return Err(Stop::NoTree);
             }
-            cursor.leaf(NodeKind::Name, item)
+            cursor.leaf(NodeKind::Name, &item)
         }
-        Head::Number => cursor.leaf(NodeKind::Number, item),
-        Head::Character => cursor.leaf(NodeKind::Character, item),
-        Head::Text => text(cursor, item, below),
+        Head::Number => cursor.leaf(NodeKind::Number, &item),
+        Head::Character => cursor.leaf(NodeKind::Character, &item),
+        Head::Text => text(cursor, &item, below),
         Head::Opens => {
             let none = cursor.no_parts();
             if types.start(cursor.rest()) {
@@ -621,7 +616,7 @@ fn operand<'a>(cursor: &mut Cursor<'a>, types: &TypeNames<'a>, below: u32) -> Re
                     cursor,
                     types,
                     NodeKind::Cast,
-                    item,
+                    &item,
                     own,
                     &steps,
                     none,
@@ -636,7 +631,7 @@ fn operand<'a>(cursor: &mut Cursor<'a>, types: &TypeNames<'a>, below: u32) -> Re
                     cursor,
                     types,
                     NodeKind::Parenthesized,
-                    item,
+                    &item,
                     own,
                     &steps,
                     none,
@@ -651,14 +646,14 @@ fn operand<'a>(cursor: &mut Cursor<'a>, types: &TypeNames<'a>, below: u32) -> Re
                 cursor,
                 types,
                 NodeKind::Prefix(operator),
-                item,
+                &item,
                 own,
                 &steps,
                 none,
                 below,
             )
         }
-        Head::Measures => measure(cursor, types, item, below),
+        Head::Measures => measure(cursor, types, &item, below),
         Head::NoHead => Err(Stop::NoTree),
     }
 }
@@ -730,7 +725,7 @@ fn select<'a>(
     let Some(name) = cursor.take_if(Mark::Word) else {
         return Err(Stop::NoTree);
     };
-    let member = cursor.leaf(NodeKind::MemberName, name)?;
+    let member = cursor.leaf(NodeKind::MemberName, &name)?;
     let parts = start.with(member)?;
     cursor.join(NodeKind::Select(selection), item, first, parts)
 }
@@ -880,20 +875,19 @@ fn climb<'a>(
 {
     let mut part = start;
     while let Some(item) = take_tail(cursor, level, level_of(part.root.kind)) {
-        part = longer(cursor, types, part, item, below)?;
+        part = longer(cursor, types, part, &item, below)?;
     }
     Ok(part)
 }
 
 // Takes the first token, if it goes on with a tree of the level `at`, where an expression of the level `level` is read.
-#[tactic(auto, using(crate::proofs::Rests::drop_past, crate::proofs::Rests::drop_end))]
-fn take_tail<'a>(cursor: &mut Cursor<'a>, level: u32, at: u32) -> Option<&'a Item<'a>>
+fn take_tail<'a>(cursor: &mut Cursor<'a>, level: u32, at: u32) -> Option<Item<'a>>
     ensures nodes { cursor.new.nodes.items ≡ cursor.old.nodes.items }
     ensures size { IfSome result (λ _. length (rest_of cursor.old) ≡ length (rest_of cursor.new) + 1) }
     ensures left { IfNone result (rest_of cursor.new ≡ rest_of cursor.old) }
     ensures other { IfNone result (starts_of (λ s. goes_on_of (tail_table s) level at) (rest_of cursor.old) ≡ false) }
-    ensures rest { IfSome result (λ t. rest_of cursor.old ≡ t.now ∷ rest_of cursor.new) }
-    ensures found { IfSome result (λ t. goes_on_of (tail_table (symbol t.now)) level at ≡ true) }
+    ensures rest { IfSome result (λ t. rest_of cursor.old ≡ t ∷ rest_of cursor.new) }
+    ensures found { IfSome result (λ t. goes_on_of (tail_table (symbol t)) level at ≡ true) }
 {
     match cursor.first() {
         Some(item) if goes_on(tail_of(item.symbol()), level, at) => {
@@ -925,7 +919,7 @@ fn declarator<'a>(
         let core = core(cursor, types, naming, below)?;
         return suffixes(cursor, types, core, below);
     }
-    let qualifiers = qualifiers(cursor, item)?;
+    let qualifiers = qualifiers(cursor, &item)?;
     let inner = optional_declarator(cursor, types, naming, below)?;
     let parts = with_optional(cursor, qualifiers, inner)?;
     let name = optional_name(inner);
@@ -961,7 +955,7 @@ fn core<'a>(
     };
     let own = item.place();
     if cursor.takes(Mark::Word) {
-        if !is_declared_by(naming, types, item) {
+        if !is_declared_by(naming, types, &item) {
             return Err(Stop::NoTree);
         }
         let parts = cursor.no_parts();
@@ -1043,11 +1037,11 @@ fn next_suffix<'a>(
         return Ok(None);
     };
     if cursor.takes(Mark::OpenBracket) {
-        let part = array(cursor, types, inner, item, below)?;
+        let part = array(cursor, types, inner, &item, below)?;
         return Ok(Some(part));
     }
     if cursor.takes(Mark::OpenParenthesis) {
-        let part = function(cursor, types, inner, item, below)?;
+        let part = function(cursor, types, inner, &item, below)?;
         return Ok(Some(part));
     }
     Ok(None)

@@ -23,7 +23,7 @@ pub(crate) fn tag<'a>(cursor: &mut Cursor<'a>) -> Result<Parts, Stop>
 {
     match cursor.take_if(Mark::Word) {
         Some(name) => {
-            let part = cursor.leaf(NodeKind::Tag, name)?;
+            let part = cursor.leaf(NodeKind::Tag, &name)?;
             Ok(cursor.only(part)?)
         }
         None => Ok(cursor.no_parts()),
@@ -39,7 +39,7 @@ pub(crate) fn pieces<'a>(cursor: &mut Cursor<'a>) -> Result<Parts, Stop>
 {
     let mut parts = cursor.no_parts();
     while let Some(item) = cursor.take_if(Mark::Text) {
-        let part = cursor.leaf(NodeKind::Text, item)?;
+        let part = cursor.leaf(NodeKind::Text, &item)?;
         parts.push(part)?;
     }
     Ok(parts)
@@ -75,12 +75,12 @@ pub(crate) fn text<'a>(
 }
 
 /// Takes the first token, if it is a qualifier.
-fn take_qualifier<'a>(cursor: &mut Cursor<'a>) -> Option<(SpecifierWord, &'a Item<'a>)>
+fn take_qualifier<'a>(cursor: &mut Cursor<'a>) -> Option<(SpecifierWord, Item<'a>)>
     ensures nodes { cursor.new.nodes.items ≡ cursor.old.nodes.items }
     ensures size { IfSome result (λ q. length (rest_of cursor.old) ≡ length (rest_of cursor.new) + 1) }
     ensures left { IfNone result (rest_of cursor.new ≡ rest_of cursor.old) }
     ensures other { IfNone result (qualifiers_from (rest_of cursor.old) ≡ (nil, rest_of cursor.old)) }
-    ensures found { IfSome result (λ q. qualifiers_from (rest_of cursor.old) ≡ (more (node (Specifier q.0) q.1.now nil) (qualifiers_from (rest_of cursor.new)).0, (qualifiers_from (rest_of cursor.new)).1)) }
+    ensures found { IfSome result (λ q. qualifiers_from (rest_of cursor.old) ≡ (more (node (Specifier q.0) q.1 nil) (qualifiers_from (rest_of cursor.new)).0, (qualifiers_from (rest_of cursor.new)).1)) }
 {
     let Some(item) = cursor.first() else {
         return None;
@@ -103,7 +103,7 @@ pub(crate) fn qualifiers<'a>(cursor: &mut Cursor<'a>, star: &Item<'a>) -> Result
 {
     let mut parts = cursor.no_parts();
     while let Some((word, item)) = take_qualifier(cursor) {
-        let part = cursor.leaf(NodeKind::Specifier(word), item)?;
+        let part = cursor.leaf(NodeKind::Specifier(word), &item)?;
         parts.push(part)?;
     }
     cursor.join(NodeKind::Qualifiers, star, star.place(), parts)

@@ -125,7 +125,7 @@ fn optional<'a>(
     };
     if is_marked(closing, item.symbol()) {
         cursor.advance();
-        return cursor.leaf(NodeKind::Absent, item);
+        return cursor.leaf(NodeKind::Absent, &item);
     }
     bracketed(cursor, types, 0, closing, below)
 }
@@ -423,7 +423,7 @@ fn items<'a>(
             types.truncate(outer);
             return Ok(parts);
         }
-        let part = enter(cursor, types, in_switch, item, below)?;
+        let part = enter(cursor, types, in_switch, &item, below)?;
         parts.push(part)?;
     }
     Err(Stop::NoTree)
@@ -525,7 +525,7 @@ fn statement<'a>(
     match opening_of(item.symbol()) {
         Some(opening) => {
             cursor.advance();
-            open(cursor, types, opening, item, below)
+            open(cursor, types, opening, &item, below)
         }
         None => expression_statement(cursor, types, below),
     }

@@ -1,6 +1,6 @@
 //! What tokens are to the grammar, and what they can do in an expression.
 
-ghost use Rattle.std.specs.Prelude.{◌≡◌, ◌≤◌, map};
+ghost use Rattle.std.specs.Prelude.{◌≡◌, ◌≤◌, [], ◌∷◌, map};
 ghost use Rattle.c_tree.specs.Symbols as table;
 ghost use Rattle.c_tree.specs.Symbols.{look_up as look_up_of};
 ghost use Rattle.c_parse.specs.Words.{word_or as word_or_of};
@@ -13,39 +13,66 @@ use c_tree::{
 use ck_base::TokenKind;
 use ck_int::{CmpOp, IntOp};
 
-/// The keywords (C11 6.4.1), and spellings of extensions.
-const KEYWORDS: [(&[u8], Symbol); 36] = [
-    (b"auto", Symbol::Specifier(SpecifierWord::Auto)),
-    (b"break", Symbol::Break),
+// The keywords (C11 6.4.1), and spellings of extensions, by their first byte.
+const A_WORDS: [(&[u8], Symbol); 1] = [(b"auto", Symbol::Specifier(SpecifierWord::Auto))];
+
+const B_WORDS: [(&[u8], Symbol); 1] = [(b"break", Symbol::Break)];
+
+const C_WORDS: [(&[u8], Symbol); 4] = [
     (b"case", Symbol::Case),
     (b"char", Symbol::Specifier(SpecifierWord::Char)),
     (b"const", Symbol::Specifier(SpecifierWord::Const)),
     (b"continue", Symbol::Continue),
-    (b"default", Symbol::Default),
-    (b"do", Symbol::Do),
+];
+
+const D_WORDS: [(&[u8], Symbol); 2] = [(b"default", Symbol::Default), (b"do", Symbol::Do)];
+
+const E_WORDS: [(&[u8], Symbol); 3] = [
     (b"else", Symbol::Else),
     (b"enum", Symbol::Enum),
     (b"extern", Symbol::Specifier(SpecifierWord::Extern)),
-    (b"for", Symbol::For),
+];
+
+const F_WORDS: [(&[u8], Symbol); 1] = [(b"for", Symbol::For)];
+
+const I_WORDS: [(&[u8], Symbol); 3] = [
     (b"if", Symbol::If),
     (b"inline", Symbol::Specifier(SpecifierWord::Inline)),
     (b"int", Symbol::Specifier(SpecifierWord::Int)),
-    (b"long", Symbol::Specifier(SpecifierWord::Long)),
+];
+
+const L_WORDS: [(&[u8], Symbol); 1] = [(b"long", Symbol::Specifier(SpecifierWord::Long))];
+
+const R_WORDS: [(&[u8], Symbol); 3] = [
     (b"register", Symbol::Specifier(SpecifierWord::Register)),
     (b"restrict", Symbol::Specifier(SpecifierWord::Restrict)),
     (b"return", Symbol::Return),
+];
+
+const S_WORDS: [(&[u8], Symbol); 6] = [
     (b"short", Symbol::Specifier(SpecifierWord::Short)),
     (b"signed", Symbol::Specifier(SpecifierWord::Signed)),
     (b"sizeof", Symbol::Sizeof),
     (b"static", Symbol::Specifier(SpecifierWord::Static)),
     (b"struct", Symbol::Record(RecordKind::Struct)),
     (b"switch", Symbol::Switch),
-    (b"typedef", Symbol::Specifier(SpecifierWord::Typedef)),
+];
+
+const T_WORDS: [(&[u8], Symbol); 1] = [(b"typedef", Symbol::Specifier(SpecifierWord::Typedef))];
+
+const U_WORDS: [(&[u8], Symbol); 2] = [
     (b"union", Symbol::Record(RecordKind::Union)),
     (b"unsigned", Symbol::Specifier(SpecifierWord::Unsigned)),
+];
+
+const V_WORDS: [(&[u8], Symbol); 2] = [
     (b"void", Symbol::Specifier(SpecifierWord::Void)),
     (b"volatile", Symbol::Specifier(SpecifierWord::Volatile)),
-    (b"while", Symbol::While),
+];
+
+const W_WORDS: [(&[u8], Symbol); 1] = [(b"while", Symbol::While)];
+
+const UNDERSCORE_WORDS: [(&[u8], Symbol); 5] = [
     (b"_Bool", Symbol::Specifier(SpecifierWord::Bool)),
     (b"__intcap_t", Symbol::Specifier(SpecifierWord::IntCap)),
     (b"__uintcap_t", Symbol::Specifier(SpecifierWord::UintCap)),
@@ -123,12 +150,70 @@ fn word_or(symbol: Symbol) -> Symbol
     }
 }
 
-// What a word is (C11 6.4.1).
+// The keyword that a word is, or none.
 #[tactic(auto, unfolding(c_tree::specs::Symbols::keyword_symbols))]
+fn keyword(text: &[u8]) -> Symbol
+    ensures { result ≡ look_up_of table.keyword_symbols text.now }
+{
+    match text {
+        [b'a', ..] => look_up(&A_WORDS, text),
+        [b'b', ..] => look_up(&B_WORDS, text),
+        [b'c', ..] => look_up(&C_WORDS, text),
+        [b'd', ..] => look_up(&D_WORDS, text),
+        [b'e', ..] => look_up(&E_WORDS, text),
+        [b'f', ..] => look_up(&F_WORDS, text),
+        [b'i', ..] => look_up(&I_WORDS, text),
+        [b'l', ..] => look_up(&L_WORDS, text),
+        [b'r', ..] => look_up(&R_WORDS, text),
+        [b's', ..] => look_up(&S_WORDS, text),
+        [b't', ..] => look_up(&T_WORDS, text),
+        [b'u', ..] => look_up(&U_WORDS, text),
+        [b'v', ..] => look_up(&V_WORDS, text),
+        [b'w', ..] => look_up(&W_WORDS, text),
+        [b'_', ..] => look_up(&UNDERSCORE_WORDS, text),
+        _ => Symbol::Other,
+    }
+}
+
+// What a word is (C11 6.4.1).
 fn word_symbol(text: &[u8]) -> Symbol
     ensures { result ≡ word_or_of (look_up_of table.keyword_symbols text.now) }
 {
-    word_or(look_up(&KEYWORDS, text))
+    word_or(keyword(text))
+}
+
+// The punctuators of one byte (C11 6.4.6).
+#[tactic(auto, unfolding(c_tree::specs::Symbols::punctuator_symbols))]
+fn single_symbol(a: u8) -> Symbol
+    ensures { result ≡ look_up_of table.punctuator_symbols (a ∷ []) }
+{
+    match a {
+        b'[' => Symbol::OpenBracket,
+        b']' => Symbol::CloseBracket,
+        b'(' => Symbol::OpenParenthesis,
+        b')' => Symbol::CloseParenthesis,
+        b'{' => Symbol::OpenBrace,
+        b'}' => Symbol::CloseBrace,
+        b'.' => Symbol::Selection(Selection::Direct),
+        b'&' => Symbol::Ampersand,
+        b'*' => Symbol::Star,
+        b'+' => Symbol::Plus,
+        b'-' => Symbol::Minus,
+        b'~' => Symbol::Tilde,
+        b'!' => Symbol::Exclamation,
+        b'/' => Symbol::Infix(InfixOperator::Int(IntOp::Div)),
+        b'%' => Symbol::Infix(InfixOperator::Int(IntOp::Rem)),
+        b'<' => Symbol::Infix(InfixOperator::Compare(CmpOp::Lt)),
+        b'>' => Symbol::Infix(InfixOperator::Compare(CmpOp::Gt)),
+        b'^' => Symbol::Infix(InfixOperator::Int(IntOp::Xor)),
+        b'|' => Symbol::Infix(InfixOperator::Int(IntOp::Or)),
+        b'?' => Symbol::Question,
+        b':' => Symbol::Colon,
+        b';' => Symbol::Semicolon,
+        b'=' => Symbol::Assignment(None),
+        b',' => Symbol::Comma,
+        _ => Symbol::Other,
+    }
 }
 
 // What a punctuator is (C11 6.4.6).
@@ -136,7 +221,10 @@ fn word_symbol(text: &[u8]) -> Symbol
 fn punctuator_symbol(text: &[u8]) -> Symbol
     ensures { result ≡ look_up_of table.punctuator_symbols text.now }
 {
-    look_up(&PUNCTUATORS, text)
+    match text {
+        [a] => single_symbol(*a),
+        _ => look_up(&PUNCTUATORS, text),
+    }
 }
 
 /// What a token is to the grammar.

@@ -28,7 +28,7 @@ returns-then-not-is_plain-clause-tree c = λ s p.
     let d = c.in_ok-declarator.ensures.tree in
     let named = c.external_naming-naming.ensures s p.defines p.names in
     bind_is _ (ap (λ n. read 199 (Declarator n) (in_force c.args.types.now) (rest_of c.args.cursor.now)) (sym named) ∙ d.reads)
-    ∙ behind_brace s d.tree (in_force c.args.types.now) (rest_of c.read.new.cursor) (rest_of c.take_if.new.self) c.in-Some.brace.now c.in-Some.ensures.rest c.in-Some.ensures.found
+    ∙ behind_brace s d.tree (in_force c.args.types.now) (rest_of c.read.new.cursor) (rest_of c.take_if.new.self) c.in-Some.brace c.in-Some.ensures.rest c.in-Some.ensures.found
     ∙ else_is _ (ap (λ v. not (list_any (λ n. is_among (in_force c.args.types.now) n) v)) (sym d.means.root.names) ∙ sym c.is_plain.ensures ∙ c.if-not-is_plain.true)
 
 pub returns-clause-tree : goal.returns-clause-tree
@@ -36,9 +36,9 @@ returns-clause-tree c = λ s p.
     let d = c.in_ok-declarator.ensures.tree in
     let named = c.external_naming-naming.ensures s p.defines p.names in
     let kept = grows_to grows_same (sym c.in-Some.ensures.nodes) in
-    naming_function _ c.take_if.new.self _ (in_force c.args.types.now) (in_force c.definition.new.types) s d.tree c.in-Some.brace.now (rest_of c.take_if.new.self) c.definition.result
+    naming_function _ c.take_if.new.self _ (in_force c.args.types.now) (in_force c.definition.new.types) s d.tree c.in-Some.brace (rest_of c.take_if.new.self) c.definition.result
     (bind_is _ (ap (λ n. read 199 (Declarator n) (in_force c.args.types.now) (rest_of c.args.cursor.now)) (sym named) ∙ d.reads)
-    ∙ behind_brace s d.tree (in_force c.args.types.now) (rest_of c.read.new.cursor) (rest_of c.take_if.new.self) c.in-Some.brace.now c.in-Some.ensures.rest c.in-Some.ensures.found
+    ∙ behind_brace s d.tree (in_force c.args.types.now) (rest_of c.read.new.cursor) (rest_of c.take_if.new.self) c.in-Some.brace c.in-Some.ensures.rest c.in-Some.ensures.found
     ∙ then_is _ (ap (λ v. not (list_any (λ n. is_among (in_force c.args.types.now) n) v)) (sym d.means.root.names) ∙ sym c.is_plain.ensures ∙ c.if-not-is_plain.false))
     (grows_on d.grows kept) c.definition.ensures.names
     (c.definition.ensures.tree s d.tree (means_on (grows_on d.grows kept) p.means) (means_on kept d.means))

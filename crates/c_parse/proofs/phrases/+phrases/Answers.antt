@@ -81,7 +81,7 @@ climb-loop-item-init t c = record { size = record { room = omega arith; shorter 
 pub climb-returns-in_err-part-clause-tree : goal.climb-returns-in_err-part-clause-tree
 climb-returns-in_err-part-clause-tree t c = let p = err_from_is_err_and c.from_residual.result c.from_residual.ensures.1 in
     let low = c.loop-item.invariant.low in
-    λ x m. rw (p.1, p.2) (let at = c.loop-item.invariant.climbs x m in climbs_fail c.take_tail.new.cursor _ at c.in-Some.ensures.rest (ap (λ v. goes_on (tail_of (symbol c.in-Some.item.now)) c.args.level v) (sym c.level_of.ensures) ∙ c.in-Some.ensures.found) (omega arith) (c.in_err-part.ensures.tree at.tree (means_at c.in-Some.ensures.nodes at.means)))
+    λ x m. rw (p.1, p.2) (let at = c.loop-item.invariant.climbs x m in climbs_fail c.take_tail.new.cursor _ at c.in-Some.ensures.rest (ap (λ v. goes_on (tail_of (symbol c.in-Some.item)) c.args.level v) (sym c.level_of.ensures) ∙ c.in-Some.ensures.found) (omega arith) (c.in_err-part.ensures.tree at.tree (means_at c.in-Some.ensures.nodes at.means)))
 
 pub climb-loop-item-preserved : goal.climb-loop-item-preserved
 climb-loop-item-preserved t c = let s = c.loop-item.invariant.size in
@@ -91,7 +91,7 @@ climb-loop-item-preserved t c = let s = c.loop-item.invariant.size in
     record {
       size = record { room = omega arith; shorter = omega arith; grows = omega arith };
       low = c.in_ok-part.ensures.low;
-      climbs = λ x m. let at = c.loop-item.invariant.climbs x m in climbs_step at c.in-Some.ensures.rest (ap (λ v. goes_on (tail_of (symbol c.in-Some.item.now)) c.args.level v) (sym c.level_of.ensures) ∙ c.in-Some.ensures.found) c.in-Some.ensures.nodes (omega arith) c.in_ok-part.ensures.taller (c.in_ok-part.ensures.tree at.tree (means_at c.in-Some.ensures.nodes at.means));
+      climbs = λ x m. let at = c.loop-item.invariant.climbs x m in climbs_step at c.in-Some.ensures.rest (ap (λ v. goes_on (tail_of (symbol c.in-Some.item)) c.args.level v) (sym c.level_of.ensures) ∙ c.in-Some.ensures.found) c.in-Some.ensures.nodes (omega arith) c.in_ok-part.ensures.taller (c.in_ok-part.ensures.tree at.tree (means_at c.in-Some.ensures.nodes at.means));
     }
 
 pub climb-returns-clause-tree : goal.climb-returns-clause-tree
@@ -106,31 +106,31 @@ core-returns-then-not-is_declared_by-clause-tree t c = core_unnamed (Reading.rea
 
 pub core-returns-then-takes-clause-tree : goal.core-returns-then-takes-clause-tree
 core-returns-then-takes-clause-tree t c = record {
-  tree = Some (node Kinds.DeclaredName c.in-Some.item.now nil);
+  tree = Some (node Kinds.DeclaredName c.in-Some.item nil);
   means = there (made_as c.in_ok-part.ensures.tree (record { kind = refl; own = c.place-own.ensures; first = c.place-own.ensures; names = ap (λ v. v ∷ []) c.text.ensures }) c.no_parts-parts.ensures.none);
   reads = core_name (Reading.read c.args.below) (suc c.args.below) (naming_of c.args.naming) (in_force c.args.types.now) c.in-Some.ensures (sym c.takes.ensures.found ∙ c.if-takes.true) (sym c.is_declared_by.ensures ∙ c.if-not-is_declared_by.false)
-      ∙ ap (λ v. Some (Some (node Kinds.DeclaredName c.in-Some.item.now nil), v)) (sym (c.make.ensures.rest ∙ c.takes.ensures.taken c.if-takes.true));
+      ∙ ap (λ v. Some (Some (node Kinds.DeclaredName c.in-Some.item nil), v)) (sym (c.make.ensures.rest ∙ c.takes.ensures.taken c.if-takes.true));
   grows = grows_from c.takes.ensures.nodes c.in_ok-part.ensures.tree.grows;
 }
 
 pub core-returns-in_err-inner-clause-tree : goal.core-returns-in_err-inner-clause-tree
 core-returns-in_err-inner-clause-tree t c = let p = err_from_is_err_and c.from_residual-in_err-inner.result c.from_residual-in_err-inner.ensures.1 in rw (p.1, p.2) (fails_same _ (core_enclosed (Reading.read c.args.below) (suc c.args.below) (naming_of c.args.naming) (in_force c.args.types.now) c.in-Some.ensures (sym c.takes.ensures.found ∙ c.if-takes.false) (ap (λ v. encloses (naming_of c.args.naming) (in_force c.args.types.now) v) (sym (c.rest.ensures ∙ c.takes.ensures.left c.if-takes.false)) ∙ sym c.is_enclosed.ensures ∙ c.if-is_enclosed.true))
-    (fails_bind _ _ _ (enclosed_fails (Reading.read c.args.below) (suc c.args.below) (naming_of c.args.naming) (in_force c.args.types.now) (past (rest_of c.args.cursor.now)) c.in-Some.item.now _ (fails_bind _ _ _ (fails_same _ (ap (λ v. Reading.read c.args.below (Declarator (naming_of c.args.naming)) (in_force c.args.types.now) v) (sym (c.advance.ensures.rest ∙ ap past (c.takes.ensures.left c.if-takes.false)))) c.in_err-inner.ensures.tree)))))
+    (fails_bind _ _ _ (enclosed_fails (Reading.read c.args.below) (suc c.args.below) (naming_of c.args.naming) (in_force c.args.types.now) (past (rest_of c.args.cursor.now)) c.in-Some.item _ (fails_bind _ _ _ (fails_same _ (ap (λ v. Reading.read c.args.below (Declarator (naming_of c.args.naming)) (in_force c.args.types.now) v) (sym (c.advance.ensures.rest ∙ ap past (c.takes.ensures.left c.if-takes.false)))) c.in_err-inner.ensures.tree)))))
 
 pub core-returns-in_err-expect-clause-tree : goal.core-returns-in_err-expect-clause-tree
 core-returns-in_err-expect-clause-tree t c = let p = err_from_is_err_and c.from_residual-in_err-expect.result c.from_residual-in_err-expect.ensures.1 in rw (p.1, p.2) (fails_same _ (core_enclosed (Reading.read c.args.below) (suc c.args.below) (naming_of c.args.naming) (in_force c.args.types.now) c.in-Some.ensures (sym c.takes.ensures.found ∙ c.if-takes.false) (ap (λ v. encloses (naming_of c.args.naming) (in_force c.args.types.now) v) (sym (c.rest.ensures ∙ c.takes.ensures.left c.if-takes.false)) ∙ sym c.is_enclosed.ensures ∙ c.if-is_enclosed.true))
-    (fails_bind _ _ _ (enclosed_fails (Reading.read c.args.below) (suc c.args.below) (naming_of c.args.naming) (in_force c.args.types.now) (past (rest_of c.args.cursor.now)) c.in-Some.item.now _ (bracketed_fails (Reading.read c.args.below) (Declarator (naming_of c.args.naming)) is_close_parenthesis (in_force c.args.types.now) (past (rest_of c.args.cursor.now)) _ (ap (λ v. Reading.read c.args.below (Declarator (naming_of c.args.naming)) (in_force c.args.types.now) v) (sym (c.advance.ensures.rest ∙ ap past (c.takes.ensures.left c.if-takes.false))) ∙ c.in_ok-inner.ensures.tree.reads) c.in_err-expect.ensures.found))))
+    (fails_bind _ _ _ (enclosed_fails (Reading.read c.args.below) (suc c.args.below) (naming_of c.args.naming) (in_force c.args.types.now) (past (rest_of c.args.cursor.now)) c.in-Some.item _ (bracketed_fails (Reading.read c.args.below) (Declarator (naming_of c.args.naming)) is_close_parenthesis (in_force c.args.types.now) (past (rest_of c.args.cursor.now)) _ (ap (λ v. Reading.read c.args.below (Declarator (naming_of c.args.naming)) (in_force c.args.types.now) v) (sym (c.advance.ensures.rest ∙ ap past (c.takes.ensures.left c.if-takes.false))) ∙ c.in_ok-inner.ensures.tree.reads) c.in_err-expect.ensures.found))))
 
 pub core-returns-then-is_enclosed-clause-tree : goal.core-returns-then-is_enclosed-clause-tree
 core-returns-then-is_enclosed-clause-tree t c = let inner = c.in_ok-inner.ensures.tree in
     let made = c.in_ok-part-2.ensures.tree in
     let nodes = c.expect.ensures.nodes in
     record {
-      tree = Some (node Kinds.ParenthesizedDeclarator c.in-Some.item.now (one inner.tree));
+      tree = Some (node Kinds.ParenthesizedDeclarator c.in-Some.item (one inner.tree));
       means = there (made_as made (record { kind = refl; own = c.place-own.ensures; first = c.place-own.ensures; names = inner.means.root.names }) (c.in_ok-parts.ensures.one inner.tree (means_at nodes inner.means)));
       reads = core_enclosed (Reading.read c.args.below) (suc c.args.below) (naming_of c.args.naming) (in_force c.args.types.now) c.in-Some.ensures (sym c.takes.ensures.found ∙ c.if-takes.false) (ap (λ v. encloses (naming_of c.args.naming) (in_force c.args.types.now) v) (sym (c.rest.ensures ∙ c.takes.ensures.left c.if-takes.false)) ∙ sym c.is_enclosed.ensures ∙ c.if-is_enclosed.true)
           ∙ bind_is (λ a. Some (Some a.0, a.1)) (enclosed_is (Reading.read c.args.below) (suc c.args.below) (naming_of c.args.naming) (in_force c.args.types.now) (past (rest_of c.args.cursor.now)) (bracketed_is (Reading.read c.args.below) (Declarator (naming_of c.args.naming)) is_close_parenthesis (in_force c.args.types.now) (past (rest_of c.args.cursor.now)) (ap (λ v. Reading.read c.args.below (Declarator (naming_of c.args.naming)) (in_force c.args.types.now) v) (sym (c.advance.ensures.rest ∙ ap past (c.takes.ensures.left c.if-takes.false))) ∙ c.in_ok-inner.ensures.tree.reads) c.in_ok-expect.ensures.found))
-          ∙ ap (λ v. Some (Some (node Kinds.ParenthesizedDeclarator c.in-Some.item.now (one inner.tree)), v)) (sym c.make-then-is_enclosed.ensures.rest);
+          ∙ ap (λ v. Some (Some (node Kinds.ParenthesizedDeclarator c.in-Some.item (one inner.tree)), v)) (sym c.make-then-is_enclosed.ensures.rest);
       grows = grows_from (c.advance.ensures.nodes ∙ c.takes.ensures.nodes) (grows_on (grows_to inner.grows (sym nodes)) made.grows);
     }
 
@@ -155,7 +155,7 @@ declarator-returns-then-not-takes-clause-tree t c = let at = c.in_ok-core.ensure
     MatchResult-weaker c.suffixes.result (c.suffixes.ensures.tree at.tree at.means) (λ y g. got_same same (got_on (grows_from c.takes.ensures.nodes at.grows) g)) (λ e f. fails_same e same f)
 
 pub declarator-returns-in_err-inner-clause-tree : goal.declarator-returns-in_err-inner-clause-tree
-declarator-returns-in_err-inner-clause-tree t c = let p = err_from_is_err_and c.from_residual-in_err-inner.result c.from_residual-in_err-inner.ensures.1 in rw (p.1, p.2) (fails_same _ (declarator_pointer (Reading.read c.args.below) (suc c.args.below) (naming_of c.args.naming) (in_force c.args.types.now) c.in-Some.ensures (sym c.takes.ensures.found ∙ c.if-not-takes.false)) (pointer_fails (Reading.read c.args.below) (suc c.args.below) (naming_of c.args.naming) (in_force c.args.types.now) (past (rest_of c.args.cursor.now)) _ (ap (λ v. qualifiers_node c.in-Some.item.now v) (sym (c.takes.ensures.taken c.if-not-takes.false)) ∙ c.in_ok-qualifiers.ensures.tree.reads) c.in_err-inner.ensures.tree))
+declarator-returns-in_err-inner-clause-tree t c = let p = err_from_is_err_and c.from_residual-in_err-inner.result c.from_residual-in_err-inner.ensures.1 in rw (p.1, p.2) (fails_same _ (declarator_pointer (Reading.read c.args.below) (suc c.args.below) (naming_of c.args.naming) (in_force c.args.types.now) c.in-Some.ensures (sym c.takes.ensures.found ∙ c.if-not-takes.false)) (pointer_fails (Reading.read c.args.below) (suc c.args.below) (naming_of c.args.naming) (in_force c.args.types.now) (past (rest_of c.args.cursor.now)) _ (ap (λ v. qualifiers_node c.in-Some.item v) (sym (c.takes.ensures.taken c.if-not-takes.false)) ∙ c.in_ok-qualifiers.ensures.tree.reads) c.in_err-inner.ensures.tree))
 
 pub declarator-returns-in_err-parts-clause-tree : goal.declarator-returns-in_err-parts-clause-tree
 declarator-returns-in_err-parts-clause-tree t c = let p = err_from_is_err_and c.from_residual-in_err-parts.result c.from_residual-in_err-parts.ensures.1 in rw (p.1, p.2) (fails_memory _ _ c.in_err-parts.ensures.tree)
@@ -167,7 +167,7 @@ declarator-returns-clause-tree t c = let star = c.in_ok-qualifiers.ensures.tree 
     (λ y made. made_got c.optional_declarator.new.cursor (grows_from c.takes.ensures.nodes (grows_on star.grows inner.grows)) made
     (record { kind = refl; own = c.place-own.ensures; first = c.place-own.ensures; names = c.optional_name-name.ensures _ inner.tree inner.means })
     (c.in_ok-parts.ensures.tree star.tree inner.tree (means_on inner.grows star.means) inner.means)
-    ((declarator_pointer (Reading.read c.args.below) (suc c.args.below) (naming_of c.args.naming) (in_force c.args.types.now) c.in-Some.ensures (sym c.takes.ensures.found ∙ c.if-not-takes.false)) ∙ pointer_is (Reading.read c.args.below) (suc c.args.below) (naming_of c.args.naming) (in_force c.args.types.now) (past (rest_of c.args.cursor.now)) (ap (λ v. qualifiers_node c.in-Some.item.now v) (sym (c.takes.ensures.taken c.if-not-takes.false)) ∙ c.in_ok-qualifiers.ensures.tree.reads) inner.reads ∙ ap (λ v. Some (node Kinds.Pointer c.in-Some.item.now (more star.tree (parts_of inner.tree)), v)) (sym c.make.ensures.rest)))
+    ((declarator_pointer (Reading.read c.args.below) (suc c.args.below) (naming_of c.args.naming) (in_force c.args.types.now) c.in-Some.ensures (sym c.takes.ensures.found ∙ c.if-not-takes.false)) ∙ pointer_is (Reading.read c.args.below) (suc c.args.below) (naming_of c.args.naming) (in_force c.args.types.now) (past (rest_of c.args.cursor.now)) (ap (λ v. qualifiers_node c.in-Some.item v) (sym (c.takes.ensures.taken c.if-not-takes.false)) ∙ c.in_ok-qualifiers.ensures.tree.reads) inner.reads ∙ ap (λ v. Some (node Kinds.Pointer c.in-Some.item (more star.tree (parts_of inner.tree)), v)) (sym c.make.ensures.rest)))
     (λ e f. fails_memory e _ f)
 
 pub enum_specifier-returns-then-not-takes-clause-tree : goal.enum_specifier-returns-then-not-takes-clause-tree
@@ -197,12 +197,12 @@ enumerator-returns-then-not-is_declared_by-clause-tree t c = enumerator_not (Rea
 pub enumerator-returns-then-not-takes-clause-tree : goal.enumerator-returns-then-not-takes-clause-tree
 enumerator-returns-then-not-takes-clause-tree t c = let same = enumerator_bare (Reading.read c.args.below) (suc c.args.below) (in_force c.args.types.now) c.in-Some.ensures.rest (sym c.is_declared_by.ensures ∙ c.if-not-is_declared_by.false) (sym c.takes.ensures.found ∙ c.if-not-takes.true) in
     MatchResult-weaker c.leaf.result (and_ok c.leaf.result _ _ _ c.leaf.ensures.tree c.leaf.ensures.grows)
-    (λ part m. got_leaf c.takes.new.self (c.takes.ensures.nodes ∙ c.take.ensures.nodes) m.1 c.leaf.ensures.rest (same ∙ ap (λ v. Some (node Kinds.Enumerator c.in-Some.name.now nil, v)) (sym (c.takes.ensures.left c.if-not-takes.true))) (m.0 refl))
+    (λ part m. got_leaf c.takes.new.self (c.takes.ensures.nodes ∙ c.take.ensures.nodes) m.1 c.leaf.ensures.rest (same ∙ ap (λ v. Some (node Kinds.Enumerator c.in-Some.name nil, v)) (sym (c.takes.ensures.left c.if-not-takes.true))) (m.0 refl))
     (λ e same. fails_memory e _ same)
 
 pub enumerator-returns-clause-tree : goal.enumerator-returns-clause-tree
 enumerator-returns-clause-tree t c = let same = enumerator_value (Reading.read c.args.below) (suc c.args.below) (in_force c.args.types.now) c.in-Some.ensures.rest (sym c.is_declared_by.ensures ∙ c.if-not-is_declared_by.false) (sym c.takes.ensures.found ∙ c.if-not-takes.false)
-    ∙ ap (λ v. made_by (Reading.read c.args.below) Kinds.Enumerator c.in-Some.name.now (Steps.Read (Phrases.Expression 2) ∷ []) nil (in_force c.args.types.now) v) (sym (c.takes.ensures.taken c.if-not-takes.false)) in
+    ∙ ap (λ v. made_by (Reading.read c.args.below) Kinds.Enumerator c.in-Some.name (Steps.Read (Phrases.Expression 2) ∷ []) nil (in_force c.args.types.now) v) (sym (c.takes.ensures.taken c.if-not-takes.false)) in
     MatchResult-weaker c.node.result (c.node.ensures.tree nil (λ zs. c.place.ensures) (λ zs. refl) c.no_parts-none.ensures.none)
     (λ y g. got_same same (got_from (c.takes.ensures.nodes ∙ c.take.ensures.nodes) g))
     (λ e f. fails_same e same f)
@@ -286,24 +286,24 @@ initializer-returns-in_default-clause-tree t c = let same = initializer_plain (R
 pub initializer-returns-then-takes-clause-tree : goal.initializer-returns-then-takes-clause-tree
 initializer-returns-then-takes-clause-tree t c = MatchResult-weaker c.leaf.result (and_ok c.leaf.result _ _ _ c.leaf.ensures.tree c.leaf.ensures.grows)
     (λ y g. record {
-      tree = node Kinds.BracedInitializer c.in-Some.brace.now nil;
+      tree = node Kinds.BracedInitializer c.in-Some.brace nil;
       means = g.0 refl;
-      reads = (initializer_braces (Reading.read c.args.below) (suc c.args.below) (in_force c.args.types.now) c.in-Some.ensures.rest c.in-Some.ensures.found) ∙ braces_empty (Reading.read c.args.below) (suc c.args.below) (in_force c.args.types.now) (rest_of c.take_if.new.self) (sym c.takes.ensures.found ∙ c.if-takes.true) ∙ ap (λ v. Some (node Kinds.BracedInitializer c.in-Some.brace.now nil, v)) (sym (c.leaf.ensures.rest ∙ c.takes.ensures.taken c.if-takes.true));
+      reads = (initializer_braces (Reading.read c.args.below) (suc c.args.below) (in_force c.args.types.now) c.in-Some.ensures.rest c.in-Some.ensures.found) ∙ braces_empty (Reading.read c.args.below) (suc c.args.below) (in_force c.args.types.now) (rest_of c.take_if.new.self) (sym c.takes.ensures.found ∙ c.if-takes.true) ∙ ap (λ v. Some (node Kinds.BracedInitializer c.in-Some.brace nil, v)) (sym (c.leaf.ensures.rest ∙ c.takes.ensures.taken c.if-takes.true));
       grows = grows_from (c.takes.ensures.nodes ∙ c.in-Some.ensures.nodes) g.1;
     })
     (λ e f. fails_memory e _ f)
 
 pub initializer-returns-in_err-parts-clause-tree : goal.initializer-returns-in_err-parts-clause-tree
-initializer-returns-in_err-parts-clause-tree t c = let p = err_from_is_err_and c.from_residual.result c.from_residual.ensures.1 in rw (p.1, p.2) (fails_same _ (initializer_braces (Reading.read c.args.below) (suc c.args.below) (in_force c.args.types.now) c.in-Some.ensures.rest c.in-Some.ensures.found) (braces_fail (Reading.read c.args.below) (suc c.args.below) (in_force c.args.types.now) (rest_of c.take_if.new.self) c.in-Some.brace.now _ (sym c.takes.ensures.found ∙ c.if-takes.false)
+initializer-returns-in_err-parts-clause-tree t c = let p = err_from_is_err_and c.from_residual.result c.from_residual.ensures.1 in rw (p.1, p.2) (fails_same _ (initializer_braces (Reading.read c.args.below) (suc c.args.below) (in_force c.args.types.now) c.in-Some.ensures.rest c.in-Some.ensures.found) (braces_fail (Reading.read c.args.below) (suc c.args.below) (in_force c.args.types.now) (rest_of c.take_if.new.self) c.in-Some.brace _ (sym c.takes.ensures.found ∙ c.if-takes.false)
     (fails_same _ (ap (λ v. after nil (Reading.listed_in_braces (Reading.read c.args.below) Initializer (in_force c.args.types.now) v)) (sym (c.takes.ensures.left c.if-takes.false))) (c.in_err-parts.ensures.tree nil c.no_parts-none.ensures.none))))
 
 pub initializer-returns-clause-tree : goal.initializer-returns-clause-tree
 initializer-returns-clause-tree t c = let parts = c.in_ok-parts.ensures.tree nil c.no_parts-none.ensures.none in
     MatchResult-weaker c.join.result c.join.ensures.tree
     (λ y joined. record {
-      tree = node Kinds.BracedInitializer c.in-Some.brace.now parts.trees;
+      tree = node Kinds.BracedInitializer c.in-Some.brace parts.trees;
       means = joined.means parts.trees c.place.ensures refl parts.holds;
-      reads = (initializer_braces (Reading.read c.args.below) (suc c.args.below) (in_force c.args.types.now) c.in-Some.ensures.rest c.in-Some.ensures.found) ∙ braces_is (Reading.read c.args.below) (suc c.args.below) (in_force c.args.types.now) (rest_of c.take_if.new.self) (sym c.takes.ensures.found ∙ c.if-takes.false) (ap (λ v. after nil (Reading.listed_in_braces (Reading.read c.args.below) Initializer (in_force c.args.types.now) v)) (sym (c.takes.ensures.left c.if-takes.false)) ∙ parts.reads) ∙ ap (λ v. Some (node Kinds.BracedInitializer c.in-Some.brace.now parts.trees, v)) (sym c.join.ensures.rest);
+      reads = (initializer_braces (Reading.read c.args.below) (suc c.args.below) (in_force c.args.types.now) c.in-Some.ensures.rest c.in-Some.ensures.found) ∙ braces_is (Reading.read c.args.below) (suc c.args.below) (in_force c.args.types.now) (rest_of c.take_if.new.self) (sym c.takes.ensures.found ∙ c.if-takes.false) (ap (λ v. after nil (Reading.listed_in_braces (Reading.read c.args.below) Initializer (in_force c.args.types.now) v)) (sym (c.takes.ensures.left c.if-takes.false)) ∙ parts.reads) ∙ ap (λ v. Some (node Kinds.BracedInitializer c.in-Some.brace parts.trees, v)) (sym c.join.ensures.rest);
       grows = grows_from (c.takes.ensures.nodes ∙ c.in-Some.ensures.nodes) (grows_on parts.grows joined.grows);
     })
     (λ e f. fails_memory e _ f)
@@ -421,13 +421,13 @@ next_suffix-returns-in_default-clause-tree t c = λ x m. core_none refl refl (ap
 
 pub next_suffix-returns-then-takes-clause-tree : goal.next_suffix-returns-then-takes-clause-tree
 next_suffix-returns-then-takes-clause-tree t c = λ x m. next_got c.takes.ensures.nodes
-    (next_array (Reading.read c.args.below) (suc c.args.below) x (in_force c.args.types.now) c.in-Some.ensures (sym c.takes.ensures.found ∙ c.if-takes.true) ∙ ap (λ v. Reading.array_from (Reading.read c.args.below) (suc c.args.below) x c.in-Some.item.now (in_force c.args.types.now) v >>= λ b. Some (Some b.0, b.1)) (sym (c.takes.ensures.taken c.if-takes.true)))
+    (next_array (Reading.read c.args.below) (suc c.args.below) x (in_force c.args.types.now) c.in-Some.ensures (sym c.takes.ensures.found ∙ c.if-takes.true) ∙ ap (λ v. Reading.array_from (Reading.read c.args.below) (suc c.args.below) x c.in-Some.item (in_force c.args.types.now) v >>= λ b. Some (Some b.0, b.1)) (sym (c.takes.ensures.taken c.if-takes.true)))
     (c.in_ok-part.ensures.tree x (option_at c.takes.ensures.nodes m))
 
 pub next_suffix-returns-then-takes-2-clause-tree : goal.next_suffix-returns-then-takes-2-clause-tree
 next_suffix-returns-then-takes-2-clause-tree t c = λ x m. next_got (c.takes-2.ensures.nodes ∙ c.takes.ensures.nodes)
     (next_function (Reading.read c.args.below) (suc c.args.below) x (in_force c.args.types.now) c.in-Some.ensures (sym c.takes.ensures.found ∙ c.if-takes.false) (ap (λ v. starts is_open_parenthesis v) (sym (c.takes.ensures.left c.if-takes.false)) ∙ sym c.takes-2.ensures.found ∙ c.if-takes-2.true)
-    ∙ ap (λ v. Reading.function_from (Reading.read c.args.below) (suc c.args.below) x c.in-Some.item.now (in_force c.args.types.now) v >>= λ b. Some (Some b.0, b.1)) (sym (c.takes-2.ensures.taken c.if-takes-2.true ∙ ap past (c.takes.ensures.left c.if-takes.false))))
+    ∙ ap (λ v. Reading.function_from (Reading.read c.args.below) (suc c.args.below) x c.in-Some.item (in_force c.args.types.now) v >>= λ b. Some (Some b.0, b.1)) (sym (c.takes-2.ensures.taken c.if-takes-2.true ∙ ap past (c.takes.ensures.left c.if-takes.false))))
     (c.in_ok-part-2.ensures.tree x (option_at (c.takes-2.ensures.nodes ∙ c.takes.ensures.nodes) m))
 
 pub next_suffix-returns-clause-tree : goal.next_suffix-returns-clause-tree
@@ -451,48 +451,48 @@ pub operand-returns-in_default-clause-tree : goal.operand-returns-in_default-cla
 operand-returns-in_default-clause-tree t c = operand_none c.args.below (in_force c.args.types.now) (rest_of c.args.cursor.now) c.in_default.ensures.rest
 
 pub operand-returns-then-has-clause-tree : goal.operand-returns-then-has-clause-tree
-operand-returns-then-has-clause-tree t c = operand_at c.args.below (in_force c.args.types.now) (rest_of c.args.cursor.now) (rest_of c.take.new.self) c.in-Some.item.now _ c.in-Some.ensures.rest (ap head_of (sym c.symbol.ensures) ∙ sym c.head_of.ensures ∙ c.in-Name.is) ∙ then_is _ (sym c.has.ensures ∙ c.if-has.true)
+operand-returns-then-has-clause-tree t c = operand_at c.args.below (in_force c.args.types.now) (rest_of c.args.cursor.now) (rest_of c.take.new.self) c.in-Some.item _ c.in-Some.ensures.rest (ap head_of (sym c.symbol.ensures) ∙ sym c.head_of.ensures ∙ c.in-Name.is) ∙ then_is _ (sym c.has.ensures ∙ c.if-has.true)
 
 pub operand-returns-else-has-clause-tree : goal.operand-returns-else-has-clause-tree
-operand-returns-else-has-clause-tree t c = let same = operand_at c.args.below (in_force c.args.types.now) (rest_of c.args.cursor.now) (rest_of c.take.new.self) c.in-Some.item.now _ c.in-Some.ensures.rest (ap head_of (sym c.symbol.ensures) ∙ sym c.head_of.ensures ∙ c.in-Name.is) ∙ else_is _ (sym c.has.ensures ∙ c.if-has.false) in
+operand-returns-else-has-clause-tree t c = let same = operand_at c.args.below (in_force c.args.types.now) (rest_of c.args.cursor.now) (rest_of c.take.new.self) c.in-Some.item _ c.in-Some.ensures.rest (ap head_of (sym c.symbol.ensures) ∙ sym c.head_of.ensures ∙ c.in-Name.is) ∙ else_is _ (sym c.has.ensures ∙ c.if-has.false) in
     MatchResult-weaker c.leaf.result (and_ok c.leaf.result _ _ _ c.leaf.ensures.tree c.leaf.ensures.grows)
     (λ part m. got_leaf c.take.new.self c.take.ensures.nodes m.1 c.leaf.ensures.rest same (m.0 refl))
     (λ e same. fails_memory e _ same)
 
 pub operand-returns-in-Number-clause-tree : goal.operand-returns-in-Number-clause-tree
-operand-returns-in-Number-clause-tree t c = let same = operand_at c.args.below (in_force c.args.types.now) (rest_of c.args.cursor.now) (rest_of c.take.new.self) c.in-Some.item.now _ c.in-Some.ensures.rest (ap head_of (sym c.symbol.ensures) ∙ sym c.head_of.ensures ∙ c.in-Number.is) in
+operand-returns-in-Number-clause-tree t c = let same = operand_at c.args.below (in_force c.args.types.now) (rest_of c.args.cursor.now) (rest_of c.take.new.self) c.in-Some.item _ c.in-Some.ensures.rest (ap head_of (sym c.symbol.ensures) ∙ sym c.head_of.ensures ∙ c.in-Number.is) in
     MatchResult-weaker c.leaf-in-Number.result (and_ok c.leaf-in-Number.result _ _ _ c.leaf-in-Number.ensures.tree c.leaf-in-Number.ensures.grows)
     (λ part m. got_leaf c.take.new.self c.take.ensures.nodes m.1 c.leaf-in-Number.ensures.rest same (m.0 refl))
     (λ e same. fails_memory e _ same)
 
 pub operand-returns-in-Character-clause-tree : goal.operand-returns-in-Character-clause-tree
-operand-returns-in-Character-clause-tree t c = let same = operand_at c.args.below (in_force c.args.types.now) (rest_of c.args.cursor.now) (rest_of c.take.new.self) c.in-Some.item.now _ c.in-Some.ensures.rest (ap head_of (sym c.symbol.ensures) ∙ sym c.head_of.ensures ∙ c.in-Character.is) in
+operand-returns-in-Character-clause-tree t c = let same = operand_at c.args.below (in_force c.args.types.now) (rest_of c.args.cursor.now) (rest_of c.take.new.self) c.in-Some.item _ c.in-Some.ensures.rest (ap head_of (sym c.symbol.ensures) ∙ sym c.head_of.ensures ∙ c.in-Character.is) in
     MatchResult-weaker c.leaf-in-Character.result (and_ok c.leaf-in-Character.result _ _ _ c.leaf-in-Character.ensures.tree c.leaf-in-Character.ensures.grows)
     (λ part m. got_leaf c.take.new.self c.take.ensures.nodes m.1 c.leaf-in-Character.ensures.rest same (m.0 refl))
     (λ e same. fails_memory e _ same)
 
 pub operand-returns-in-Text-clause-tree : goal.operand-returns-in-Text-clause-tree
-operand-returns-in-Text-clause-tree t c = let same = operand_at c.args.below (in_force c.args.types.now) (rest_of c.args.cursor.now) (rest_of c.take.new.self) c.in-Some.item.now _ c.in-Some.ensures.rest (ap head_of (sym c.symbol.ensures) ∙ sym c.head_of.ensures ∙ c.in-Text.is) in
+operand-returns-in-Text-clause-tree t c = let same = operand_at c.args.below (in_force c.args.types.now) (rest_of c.args.cursor.now) (rest_of c.take.new.self) c.in-Some.item _ c.in-Some.ensures.rest (ap head_of (sym c.symbol.ensures) ∙ sym c.head_of.ensures ∙ c.in-Text.is) in
     MatchResult-weaker c.text.result c.text.ensures.tree (λ y g. got_same same (got_from c.take.ensures.nodes g)) (λ e f. fails_same e same f)
 
 pub operand-returns-then-start-clause-tree : goal.operand-returns-then-start-clause-tree
-operand-returns-then-start-clause-tree t c = let same = operand_at c.args.below (in_force c.args.types.now) (rest_of c.args.cursor.now) (rest_of c.take.new.self) c.in-Some.item.now _ c.in-Some.ensures.rest (ap head_of (sym c.symbol.ensures) ∙ sym c.head_of.ensures ∙ c.in-Opens.is) ∙ then_is _ (ap (starts_with (begins_type (in_force c.args.types.now))) (sym c.rest.ensures) ∙ sym c.start.ensures ∙ c.if-start.true) ∙ cast_is (Reading.read c.args.below) (suc c.args.below) c.in-Some.item.now (in_force c.args.types.now) (rest_of c.take.new.self) in
+operand-returns-then-start-clause-tree t c = let same = operand_at c.args.below (in_force c.args.types.now) (rest_of c.args.cursor.now) (rest_of c.take.new.self) c.in-Some.item _ c.in-Some.ensures.rest (ap head_of (sym c.symbol.ensures) ∙ sym c.head_of.ensures ∙ c.in-Opens.is) ∙ then_is _ (ap (starts_with (begins_type (in_force c.args.types.now))) (sym c.rest.ensures) ∙ sym c.start.ensures ∙ c.if-start.true) ∙ cast_is (Reading.read c.args.below) (suc c.args.below) c.in-Some.item (in_force c.args.types.now) (rest_of c.take.new.self) in
     MatchResult-weaker c.node.result (c.node.ensures.tree nil (λ zs. c.place-own.ensures) (λ zs. refl) c.no_parts-none.ensures.none) (λ y g. got_same same (got_from c.take.ensures.nodes g)) (λ e f. fails_same e same f)
 
 pub operand-returns-else-start-clause-tree : goal.operand-returns-else-start-clause-tree
-operand-returns-else-start-clause-tree t c = let same = operand_at c.args.below (in_force c.args.types.now) (rest_of c.args.cursor.now) (rest_of c.take.new.self) c.in-Some.item.now _ c.in-Some.ensures.rest (ap head_of (sym c.symbol.ensures) ∙ sym c.head_of.ensures ∙ c.in-Opens.is) ∙ else_is _ (ap (starts_with (begins_type (in_force c.args.types.now))) (sym c.rest.ensures) ∙ sym c.start.ensures ∙ c.if-start.false) ∙ parenthesized_is (Reading.read c.args.below) (suc c.args.below) c.in-Some.item.now (in_force c.args.types.now) (rest_of c.take.new.self) in
+operand-returns-else-start-clause-tree t c = let same = operand_at c.args.below (in_force c.args.types.now) (rest_of c.args.cursor.now) (rest_of c.take.new.self) c.in-Some.item _ c.in-Some.ensures.rest (ap head_of (sym c.symbol.ensures) ∙ sym c.head_of.ensures ∙ c.in-Opens.is) ∙ else_is _ (ap (starts_with (begins_type (in_force c.args.types.now))) (sym c.rest.ensures) ∙ sym c.start.ensures ∙ c.if-start.false) ∙ parenthesized_is (Reading.read c.args.below) (suc c.args.below) c.in-Some.item (in_force c.args.types.now) (rest_of c.take.new.self) in
     MatchResult-weaker c.node-else-start.result (c.node-else-start.ensures.tree nil (λ zs. c.place-own.ensures) (λ zs. refl) c.no_parts-none.ensures.none) (λ y g. got_same same (got_from c.take.ensures.nodes g)) (λ e f. fails_same e same f)
 
 pub operand-returns-in-Prefixes-clause-tree : goal.operand-returns-in-Prefixes-clause-tree
-operand-returns-in-Prefixes-clause-tree t c = let same = operand_at c.args.below (in_force c.args.types.now) (rest_of c.args.cursor.now) (rest_of c.take.new.self) c.in-Some.item.now _ c.in-Some.ensures.rest (ap head_of (sym c.symbol.ensures) ∙ sym c.head_of.ensures ∙ c.in-Prefixes.is) ∙ prefix_is (Reading.read c.args.below) (suc c.args.below) c.in-Some.item.now (in_force c.args.types.now) (rest_of c.take.new.self) c.in-Prefixes.operator _ c.operand_level.ensures in
+operand-returns-in-Prefixes-clause-tree t c = let same = operand_at c.args.below (in_force c.args.types.now) (rest_of c.args.cursor.now) (rest_of c.take.new.self) c.in-Some.item _ c.in-Some.ensures.rest (ap head_of (sym c.symbol.ensures) ∙ sym c.head_of.ensures ∙ c.in-Prefixes.is) ∙ prefix_is (Reading.read c.args.below) (suc c.args.below) c.in-Some.item (in_force c.args.types.now) (rest_of c.take.new.self) c.in-Prefixes.operator _ c.operand_level.ensures in
     MatchResult-weaker c.node-in-Prefixes.result (c.node-in-Prefixes.ensures.tree nil (λ zs. c.place-own.ensures) (λ zs. refl) c.no_parts-none-in-Prefixes.ensures.none) (λ y g. got_same same (got_from c.take.ensures.nodes g)) (λ e f. fails_same e same f)
 
 pub operand-returns-in-Measures-clause-tree : goal.operand-returns-in-Measures-clause-tree
-operand-returns-in-Measures-clause-tree t c = let same = operand_at c.args.below (in_force c.args.types.now) (rest_of c.args.cursor.now) (rest_of c.take.new.self) c.in-Some.item.now _ c.in-Some.ensures.rest (ap head_of (sym c.symbol.ensures) ∙ sym c.head_of.ensures ∙ c.in-Measures.is) in
+operand-returns-in-Measures-clause-tree t c = let same = operand_at c.args.below (in_force c.args.types.now) (rest_of c.args.cursor.now) (rest_of c.take.new.self) c.in-Some.item _ c.in-Some.ensures.rest (ap head_of (sym c.symbol.ensures) ∙ sym c.head_of.ensures ∙ c.in-Measures.is) in
     MatchResult-weaker c.measure.result c.measure.ensures.tree (λ y g. got_same same (got_from c.take.ensures.nodes g)) (λ e f. fails_same e same f)
 
 pub operand-returns-in-NoHead-clause-tree : goal.operand-returns-in-NoHead-clause-tree
-operand-returns-in-NoHead-clause-tree t c = operand_at c.args.below (in_force c.args.types.now) (rest_of c.args.cursor.now) (rest_of c.take.new.self) c.in-Some.item.now _ c.in-Some.ensures.rest (ap head_of (sym c.symbol.ensures) ∙ sym c.head_of.ensures ∙ c.in-NoHead.is)
+operand-returns-in-NoHead-clause-tree t c = operand_at c.args.below (in_force c.args.types.now) (rest_of c.args.cursor.now) (rest_of c.take.new.self) c.in-Some.item _ c.in-Some.ensures.rest (ap head_of (sym c.symbol.ensures) ∙ sym c.head_of.ensures ∙ c.in-NoHead.is)
 
 pub optional_declarator-returns-in_err-part-clause-tree : goal.optional_declarator-returns-in_err-part-clause-tree
 optional_declarator-returns-in_err-part-clause-tree t c = let p = err_from_is_err_and c.from_residual.result c.from_residual.ensures.1 in rw (p.1, p.2) (optional_fails (Reading.read c.args.below) (naming_of c.args.naming) (in_force c.args.types.now) (rest_of c.args.cursor.now) _ (ap (λ v. starts begins_declarator v) (sym c.rest.ensures) ∙ sym c.begins_declarator.ensures ∙ c.if-begins_declarator.true) c.in_err-part.ensures.tree)
@@ -631,12 +631,12 @@ specifiers-returns-clause-size t c = let s = c.in_ok-gathered.ensures.size in le
 pub specifiers-returns-clause-tree : goal.specifiers-returns-clause-tree
 specifiers-returns-clause-tree t c = let at = c.in_ok-gathered.ensures.tree in let made = c.in_ok-part.ensures.tree in
     let some = eqb-false c.in_ok-gathered.gathered.parts.kids.len 0 (sym c.is_empty.ensures ∙ c.if-is_empty.false) in let held = c.in_ok-gathered.gathered.parts.kids.ok.0 in
-    let same = specifiers_are (Reading.read c.args.below) (in_force c.args.types.now) (rest_of c.args.cursor.now) _ _ at.parts.reads c.in-Some.item.now _ c.in-Some.ensures (holds_some at.parts.holds (λ e. some (let l = ap length e in omega arith))) (sym (c.is_agreed.ensures at.parts.trees at.gathered) ∙ c.if-not-is_agreed.false) in
+    let same = specifiers_are (Reading.read c.args.below) (in_force c.args.types.now) (rest_of c.args.cursor.now) _ _ at.parts.reads c.in-Some.item _ c.in-Some.ensures (holds_some at.parts.holds (λ e. some (let l = ap length e in omega arith))) (sym (c.is_agreed.ensures at.parts.trees at.gathered) ∙ c.if-not-is_agreed.false) in
     record {
       part = record {
-        tree = node Kinds.Specifiers c.in-Some.item.now at.parts.trees;
+        tree = node Kinds.Specifiers c.in-Some.item at.parts.trees;
         means = made.means at.parts.trees c.place.ensures refl at.parts.holds;
-        reads = same ∙ ap (λ v. Some (node Kinds.Specifiers c.in-Some.item.now at.parts.trees, v)) (sym c.in_ok-part.ensures.rest);
+        reads = same ∙ ap (λ v. Some (node Kinds.Specifiers c.in-Some.item at.parts.trees, v)) (sym c.in_ok-part.ensures.rest);
         grows = grows_on at.parts.grows made.grows;
       };
       defines = at.gathered.defines;

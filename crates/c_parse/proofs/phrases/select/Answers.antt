@@ -21,10 +21,10 @@ returns-clause-tree c = λ x first h. MatchResult-weaker c.join.result c.join.en
     let leaf = c.in_ok-member.ensures in
     let grown = grows_from c.in-Some.ensures.nodes leaf.grows in
     record {
-      tree = node (Select c.args.selection) c.args.item.now (more x (one (node MemberName c.in-Some.name.now nil)));
-      means = made.means (more x (one (node MemberName c.in-Some.name.now nil))) first refl (holds_more (holds_on grown h) (leaf.tree refl) c.in_ok-parts.ensures.kids c.in_ok-parts.ensures.size);
+      tree = node (Select c.args.selection) c.args.item.now (more x (one (node MemberName c.in-Some.name nil)));
+      means = made.means (more x (one (node MemberName c.in-Some.name nil))) first refl (holds_more (holds_on grown h) (leaf.tree refl) c.in_ok-parts.ensures.kids c.in_ok-parts.ensures.size);
       reads = select_is (Reading.read c.args.below) (suc c.args.below) c.args.selection x c.args.item.now c.in-Some.ensures.rest c.in-Some.ensures.found (let t = h.tall in let n = c.if-below-eq0.false in let l = c.requires.start in omega arith)
-          ∙ ap (λ v. Some (node (Select c.args.selection) c.args.item.now (more x (one (node MemberName c.in-Some.name.now nil))), v)) (sym (c.join.ensures.rest ∙ leaf.rest));
+          ∙ ap (λ v. Some (node (Select c.args.selection) c.args.item.now (more x (one (node MemberName c.in-Some.name nil))), v)) (sym (c.join.ensures.rest ∙ leaf.rest));
       grows = grows_on grown made.grows;
     })
     (λ e same. fails_memory e _ same)

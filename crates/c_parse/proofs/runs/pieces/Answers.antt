@@ -18,7 +18,7 @@ loop-item-preserved c =
     record {
       size = record { room = omega arith; shorter = omega arith; grows = omega arith };
       low = let low = c.loop-item.invariant.low in let tall = made.low in let now = c.in_ok-push.ensures.size in omega arith;
-      runs = runs_more c.loop-item.invariant.runs (pieces_more (c.in-Some.ensures.rest ∙ ap (λ v. c.in-Some.item.now ∷ v) (sym made.rest)) c.in-Some.ensures.found)
+      runs = runs_more c.loop-item.invariant.runs (pieces_more (c.in-Some.ensures.rest ∙ ap (λ v. c.in-Some.item ∷ v) (sym made.rest)) c.in-Some.ensures.found)
           c.in-Some.ensures.nodes made.grows (made.tree refl) c.in_ok-push.ensures.kids c.in_ok-push.ensures.size;
     }
 

@@ -20,7 +20,7 @@ loop-word-preserved c =
     record {
       size = record { room = omega arith; shorter = omega arith; grows = omega arith };
       low = let low = c.loop-word.invariant.low in let tall = made.low in let now = c.in_ok-push.ensures.size in omega arith;
-      runs = runs_more c.loop-word.invariant.runs (c.in-Some.ensures.found ∙ ap (λ v. (more (node (Specifier c.in-Some.word) c.in-Some.item.now nil) (qualifiers v).0, (qualifiers v).1)) (sym made.rest))
+      runs = runs_more c.loop-word.invariant.runs (c.in-Some.ensures.found ∙ ap (λ v. (more (node (Specifier c.in-Some.word) c.in-Some.item nil) (qualifiers v).0, (qualifiers v).1)) (sym made.rest))
           c.in-Some.ensures.nodes made.grows (made.tree refl) c.in_ok-push.ensures.kids c.in_ok-push.ensures.size;
     }
 

@@ -301,11 +301,11 @@ statement-returns-in_default-clause-tree t c = state_end c.args.budget (c.args.b
 pub statement-returns-in-Some-opening_of-clause-tree : goal.statement-returns-in-Some-opening_of-clause-tree
 statement-returns-in-Some-opening_of-clause-tree t c =
     reads_after _ c.advance.new.self _ c.open.result
-    (state_opens c.args.budget (c.args.budget - 1) (in_force c.args.types.now) (rest_of c.args.cursor.now) (rest_of c.advance.new.self) c.in-Some.item.now _ (let n = c.if-budget-eq0.false in omega arith) (c.in-Some.ensures ∙ ap (λ v. c.in-Some.item.now ∷ v) (sym c.advance.ensures.rest)) (ap opening_of (sym c.symbol.ensures) ∙ sym c.in-Some-opening_of.ensures))
+    (state_opens c.args.budget (c.args.budget - 1) (in_force c.args.types.now) (rest_of c.args.cursor.now) (rest_of c.advance.new.self) c.in-Some.item _ (let n = c.if-budget-eq0.false in omega arith) (c.in-Some.ensures ∙ ap (λ v. c.in-Some.item ∷ v) (sym c.advance.ensures.rest)) (ap opening_of (sym c.symbol.ensures) ∙ sym c.in-Some-opening_of.ensures))
     (grows_to grows_same (sym c.advance.ensures.nodes)) c.open.ensures.tree
 
 pub statement-returns-in-None-clause-tree : goal.statement-returns-in-None-clause-tree
 statement-returns-in-None-clause-tree t c =
     reads_same _ _ c.expression_statement.result
-    (state_expression c.args.budget (c.args.budget - 1) (in_force c.args.types.now) (rest_of c.args.cursor.now) _ c.in-Some.item.now (let n = c.if-budget-eq0.false in omega arith) c.in-Some.ensures (ap opening_of (sym c.symbol.ensures) ∙ sym c.in-None.ensures))
+    (state_expression c.args.budget (c.args.budget - 1) (in_force c.args.types.now) (rest_of c.args.cursor.now) _ c.in-Some.item (let n = c.if-budget-eq0.false in omega arith) c.in-Some.ensures (ap opening_of (sym c.symbol.ensures) ∙ sym c.in-None.ensures))
     c.expression_statement.ensures.tree
