@@ -12,11 +12,12 @@ use Rattle.cap_ops.specs.declared.capability.TheConstants.{UNSEALED, SENTRY, EXE
 use Rattle.cap_ops.specs.Access.{fails, in_order, answer, checked}
 use Rattle.cap_ops.specs.Capability.{base, top, lacks, with_otype}
 use Rattle.cap_ops.proofs.Laws.{bounded_bounds, bounded_moved}
+use Rattle.cap_ops.specs.Permissions.{code_permissions}
 use Rattle.cap_machine.specs.declared.machine.Machine.{Machine}
 use Rattle.cap_machine.specs.Integers.{extended}
 use Rattle.cap_machine.specs.State.{register}
 use Rattle.cap_machine.specs.Rows.{plus, trap, jump, unsealed, entered, cjalr_checked, cjalr_row}
-use Rattle.obj_mem.specs.Values.{Int, Live, Fun, Raw, Addresses, function_permissions, capability_of}
+use Rattle.obj_mem.specs.Values.{Int, Live, Fun, Raw, Addresses, capability_of}
 use Rattle.obj_mem.specs.Objects.{base_in}
 use Rattle.obj_mem.specs.Access.{misses}
 use Rattle.place_inject.specs.Calling.{code_at, CalleesFit}
@@ -48,7 +49,7 @@ module _ (a : Addresses) (f : ℕ) (enc : Encodable a.text a.text_end) (from : a
   may_execute = refl
 
   code_bounds : (base code ≡ a.text) × (top code ≡ a.text_end)
-  code_bounds = bounded_bounds a.text a.text_end function_permissions UNSEALED (a.entry f) enc
+  code_bounds = bounded_bounds a.text a.text_end code_permissions UNSEALED (a.entry f) enc
       (omega (arith, from, to, high)) from (omega (arith, to))
 
   code_checked : checked code (a.entry f) A.Jump ≡ Ok (a.entry f)
@@ -74,7 +75,7 @@ module _ (a : Addresses) (f : ℕ) (enc : Encodable a.text a.text_end) (from : a
       ∙ ap (λ c. cjalr_checked m link c (checked c (plus c.fields.address (pos 0)) A.Jump)) (entered_is at)
       ∙ ap (λ x. cjalr_checked m link code (checked code x A.Jump)) place
       ∙ ap (cjalr_checked m link code) code_checked
-      ∙ ap (jump m link) (bounded_moved a.text a.text_end function_permissions (a.entry f) (a.entry f) q.0 q.1 q.0 q.1)
+      ∙ ap (jump m link) (bounded_moved a.text a.text_end code_permissions (a.entry f) (a.entry f) q.0 q.1 q.0 q.1)
 
 -- ---- a value without a tag
 

@@ -11,9 +11,10 @@ use Rattle.cap_ops.specs.declared.capability.Cap.{Cap}
 use Rattle.cap_ops.specs.declared.capability.TheConstants.{SENTRY}
 use Rattle.cap_ops.specs.Capability.{base, top}
 use Rattle.cap_ops.proofs.Laws.{bounded_bounds}
+use Rattle.cap_ops.specs.Permissions.{code_permissions}
 use Rattle.tag_mem.specs.Areas.{Area}
 use Rattle.obj_mem.specs.declared.ending.Fault.{Fault}
-use Rattle.obj_mem.specs.Values.{Value, Int, Live, Fun, Raw, Addresses, function_permissions, is_tagged, capability_of, bits, address_of}
+use Rattle.obj_mem.specs.Values.{Value, Int, Live, Fun, Raw, Addresses, is_tagged, capability_of, bits, address_of}
 use Rattle.obj_mem.specs.Objects.{Shape, Memory, base_in}
 use Rattle.obj_mem.specs.Pointers.{raw_base, length_between}
 use Rattle.obj_mem.specs.Comparisons.{same_tag}
@@ -85,7 +86,7 @@ module _ (a : Addresses) (shapes : List Shape) (f : ℕ) (enc : Encodable a.text
   sentry_bounds : (base (capability_of a (base_in shapes) (Fun f)) ≡ a.text)
       × (top (capability_of a (base_in shapes) (Fun f)) ≡ a.text_end)
   unfolding capability_of
-  sentry_bounds = bounded_bounds a.text a.text_end function_permissions SENTRY (a.entry f) enc
+  sentry_bounds = bounded_bounds a.text a.text_end code_permissions SENTRY (a.entry f) enc
       (omega (arith, from, below, to)) from (omega (arith, below))
 
   sentry_address : (capability_of a (base_in shapes) (Fun f)).fields.address ≡ a.entry f
@@ -96,7 +97,7 @@ module _ (a : Addresses) (shapes : List Shape) (f : ℕ) (enc : Encodable a.text
   unfolding capability_of
   sentry_tag = refl
 
-  sentry_perms : (capability_of a (base_in shapes) (Fun f)).fields.perms ≡ function_permissions
+  sentry_perms : (capability_of a (base_in shapes) (Fun f)).fields.perms ≡ code_permissions
   unfolding capability_of with_bounds
   sentry_perms = refl
 

@@ -10,10 +10,11 @@ use Rattle.cap_concentrate.specs.Rounding.{alignment, owned, rounded_up}
 use Rattle.cap_concentrate.proofs.Encoded.{encoded_decodes}
 use Rattle.cap_concentrate.proofs.Least.{rounded_up_ge}
 use Rattle.cap_concentrate.proofs.Owned.{alignment_power, owned_encodable}
+use Rattle.cap_ops.specs.Permissions.{data_permissions}
 use Rattle.tag_mem.specs.Areas.{Area, tag_at}
 use Rattle.tag_mem.proofs.Reading.{tag_at-granule}
 use Rattle.obj_mem.specs.Values.{Addresses}
-use Rattle.obj_mem.specs.Objects.{Life, Active, Inactive, Shape, Content, Memory, Placed, add, blank, rest, data_permissions}
+use Rattle.obj_mem.specs.Objects.{Life, Active, Inactive, Shape, Content, Memory, Placed, add, blank, rest}
 use Rattle.obj_mem.specs.Pointers.{keeps}
 use Rattle.obj_mem.specs.Heap.{allocation_alignment, allocated, refused, placed_allocate}
 use Rattle.obj_mem.specs.Legal.{Apart}

@@ -10,7 +10,7 @@ mod Known
 mod Reached
 mod Storing
 mod Numbered
-mod Loading
+pub mod Loading
 mod Elsewhere
 mod Lying
 mod FramesKept
@@ -19,18 +19,19 @@ pub mod Reaching
 pub mod ReadBack
 pub mod Results
 pub mod Spilling
-mod Returning
-mod Calling
+pub mod Returning
+pub mod Calling
 mod Extents
 mod Starting
 mod Starts
 mod Turned
-mod Pointing
-mod Getting
+pub mod Pointing
+pub mod Getting
 mod Reshaped
 mod Altered
-mod Zeroing
-mod Copying
-mod Growing
-mod Wholes
+pub mod Zeroing
+pub mod Copying
+pub mod Growing
+pub mod Wholes
+pub mod Tables
 mod Rows

@@ -13,9 +13,11 @@ use Rattle.cap_concentrate.proofs.Region.{InRegion}
 use Rattle.cap_ops.specs.declared.capability.TheConstants.{UNSEALED}
 use Rattle.cap_ops.specs.Bounded.{bounded}
 use Rattle.cap_ops.specs.Capability.{base, top}
+use Rattle.obj_mem.specs.Legal.{IsLegal}
 use Rattle.obj_mem.specs.Pointers.{keeps}
-use Rattle.place_inject.specs.Frames.{stack_top}
+use Rattle.place_inject.specs.Frames.{Setting, stack_top}
 use Rattle.place_inject.specs.Slots.{StackReaches}
+use Rattle.place_inject.specs.Tables.{TableReaches, table_top}
 use Rattle.place_inject.proofs.Growing.{keeps_by}
 
 -- ---- what kept bounds say
@@ -80,9 +82,16 @@ stack_exact low long a b c e = record {
   form = inr (13, record { within = omega arith; base_multiple = a; top_multiple = omega arith; short = omega arith });
 }
 
+pub table_reaches_law : TableReaches
+table_reaches_law s legal y from to =
+    reaches s.map.table.0 (table_top s) y legal.table_exact legal.in_range.2.0 legal.in_range.2.1 from to
+
+pub stack_encodable : (s : Setting) → IsLegal s.needs s.map → Encodable s.map.stack.0 (stack_top s)
+stack_encodable s legal =
+    stack_exact s.map.stack.0 s.map.stack.1 legal.stack_base legal.stack_length legal.stack_most legal.in_range.2.2.2.1
+
 pub stack_reaches_law : StackReaches
 stack_reaches_law s legal y from to =
     let start = legal.in_range.2.2.2.0 in
     let end = legal.in_range.2.2.2.1 in
-    let enc = stack_exact s.map.stack.0 s.map.stack.1 legal.stack_base legal.stack_length legal.stack_most end in
-    reaches s.map.stack.0 (stack_top s) y enc start end from to
+    reaches s.map.stack.0 (stack_top s) y (stack_encodable s legal) start end from to

@@ -1,8 +1,8 @@
 -- A value that was spilled is read back.
-use Rattle.std.proofs.Common.{◌≡◌, ℕ, ◌+◌, ◌-◌, ◌*◌, ◌%◌, ◌<◌, ◌≤◌, ◌==◌, ◌&&◌, ◌||◌, Bool, true, false, not, nat_lt, cond, ltb, List, [], ◌∷◌, refl, sym, ap, ◌∙◌, arith, Option, Some, None, inl, inr}
+use Rattle.std.proofs.Common.{◌≡◌, ℕ, ◌+◌, ◌*◌, ◌%◌, ◌<◌, ◌≤◌, ◌==◌, ◌&&◌, ◌||◌, ℤ, Bool, true, false, not, ltb, List, [], ◌∷◌, refl, ap, ◌∙◌, arith, Option, Some, None}
 use Rattle.std.specs.Prelude.{find, slice_get, Ok}
 use Rattle.std.specs.Option.{option_map}
-use Rattle.std.proofs.lemmas.Bool.{cases_Bool, le-ltb, eq-eqb, or_parts, or_from, ltb-false}
+use Rattle.std.proofs.lemmas.Bool.{le-ltb, eq-eqb, or_from}
 use Rattle.std.proofs.lemmas.Option.{same_Some, none-some}
 use Rattle.cap_concentrate.specs.Encoding.{with_bounds}
 use Rattle.cap_ops.specs.declared.capability.Cap.{Cap}
@@ -13,18 +13,20 @@ use Rattle.cap_ops.specs.declared.access.Cause.TheVariants as C
 use Rattle.cap_ops.specs.Access.{fails, in_order, answer, checked}
 use Rattle.cap_ops.specs.Bounded.{bounded}
 use Rattle.cap_ops.specs.Capability.{base, top, permits}
+use Rattle.cap_ops.specs.Permissions.{data_permissions}
 use Rattle.tag_mem.specs.Areas.{Area}
 use Rattle.tag_mem.specs.Memory.{capability_at}
+use Rattle.cap_machine.specs.declared.machine.Machine.{Machine}
 use Rattle.cap_machine.specs.Rows.{plus, set, clc_checked, cap_loaded, clc_row}
-use Rattle.obj_mem.specs.declared.map.Frame.{Frame}
-use Rattle.obj_mem.specs.Objects.{Shape, data_permissions}
+use Rattle.cap_machine.specs.State.{register}
+use Rattle.obj_mem.specs.Objects.{Shape}
 use Rattle.obj_mem.specs.Pointers.{keeps}
 use Rattle.reg_alloc.specs.declared.places.Home.TheVariants.{Slot}
 use Rattle.purecap_abi.specs.Saving.{slot_count, slots_at}
 use Rattle.purecap_abi.proofs.Counts.{slot_count_each}
 use Rattle.tac_ir.specs.Meaning.{Caller}
 use Rattle.place_inject.specs.Parts.{capability_in, kept_at}
-use Rattle.place_inject.specs.Frames.{Setting, Registers, homes_of, slots_from, stack_top, stack_pointer, behind_return, FrameFits, FramesFit}
+use Rattle.place_inject.specs.Frames.{Setting, Registers, homes_of, slots_from, stack_top, behind_return, FrameFits, FramesFit}
 use Rattle.place_inject.specs.Fits.{registers_in}
 use Rattle.place_inject.specs.Slots.{SlotsReadBack}
 use Rattle.place_inject.proofs.FramesKept.{stack_multiple}
@@ -123,8 +125,22 @@ tag_stays : (v : ℕ × Bool) (b : Bool) → b ≡ true → ◌≡◌ {A = Cap}
     (record { tag = v.1 && b; fields = (capability_in v).fields }) (capability_in v)
 tag_stays v b e = ap (λ x. record { tag = x; fields = (capability_in v).fields }) (ap (λ y. v.1 && y) e ∙ and_true v.1)
 
-pub slots_read_back_law : SlotsReadBack
+-- the capability that is kept at an address is loaded from there
+pub loads_kept : (low high y at : ℕ) (n : Machine) (to from : ℕ) (z : ℤ) (d : Cap)
+    → register n from ≡ bounded low high data_permissions UNSEALED y → keeps low high y ≡ true → plus y z ≡ at → low ≤ at
+    → at + 16 ≤ high → at % 16 ≡ 0 → kept_at n.mem at ≡ Some d → clc_row n to from z ≡ set n to d
 unfolding clc_row
+loads_kept low high y at n to from z d holds keep place above below aligned kept =
+    let check = stack_loads low high y at keep above below aligned in
+    let got = found n.mem at d kept in
+    let c : Cap = bounded low high data_permissions UNSEALED y in
+    let address : plus c.fields.address z ≡ at = ap (λ x. plus x z) (address_of low high y) ∙ place in
+    let tags = tag_stays got.pair (permits c.fields.perms LOAD_CAPABILITY) (may_load_tags low high y) in
+    rw holds (ap (λ x. clc_checked n to c (checked c x A.LoadCap)) address ∙ ap (clc_checked n to c) check
+    ∙ ap (cap_loaded n to c) got.there
+    ∙ ap (set n to) (tags ∙ got.is))
+
+pub slots_read_back_law : SlotsReadBack
 slots_read_back_law s legal p t m f temp slot live stands home n memory to from y z holds keep place =
     let homes = homes_of s p.running.fun in
     let calls = f.calls in
@@ -143,15 +159,6 @@ slots_read_back_law s legal p t m f temp slot live stands home n memory to from 
     let slots : slots_from (slice_get s.map.frames p.running.fun) homes t.frame ≡ t.frame + slots_at homes fr.frame =
     ap (λ x. slots_from x homes t.frame) fr.is in
     let at : ℕ = slots_from (slice_get s.map.frames p.running.fun) homes t.frame + 16 * slot in
-    let check = stack_loads s.map.stack.0 (stack_top s) y at keep (omega arith) (omega arith) (omega arith) in
     let kept = calls.1.kept temp (Slot slot) live stands home in
-    let got = found m.mem at _ kept in
-    let c : Cap = stack_pointer s y in
-    let address : plus c.fields.address z ≡ at = ap (λ x. plus x z) (address_of s.map.stack.0 (stack_top s) y)
-    ∙ place in
-    let tags = tag_stays got.pair (permits c.fields.perms LOAD_CAPABILITY)
-    (may_load_tags s.map.stack.0 (stack_top s) y) in
-    rw holds (ap (λ x. clc_checked n to c (checked c x A.LoadCap)) address ∙ ap (clc_checked n to c) check
-    ∙ ap (λ x. cap_loaded n to c (capability_at x at)) memory
-    ∙ ap (cap_loaded n to c) got.there
-    ∙ ap (set n to) (tags ∙ got.is))
+    loads_kept s.map.stack.0 (stack_top s) y at n to from z _ holds keep place (omega arith) (omega arith) (omega arith)
+    (ap (λ x. kept_at x at) memory ∙ kept)

@@ -1,5 +1,5 @@
 -- A value that is spilled to the slot of its temp keeps the injection.
-use Rattle.std.proofs.Common.{◌≡◌, ◌⊎◌, ℕ, ◌+◌, ◌-◌, ◌*◌, ◌/◌, ◌%◌, ◌^◌, ◌<◌, ◌≤◌, ◌==◌, ◌&&◌, ◌||◌, ℤ, Bool, true, false, not, ltb, List, [], ◌∷◌, length, refl, sym, ap, ◌∙◌, subst, arith, ⊎_elim, Option, Some, None, inl, inr}
+use Rattle.std.proofs.Common.{◌≡◌, ◌⊎◌, ℕ, ◌+◌, ◌-◌, ◌*◌, ◌%◌, ◌^◌, ◌<◌, ◌≤◌, ◌==◌, ◌||◌, ℤ, Bool, true, false, not, ltb, List, [], ◌∷◌, length, refl, sym, ap, ◌∙◌, subst, arith, ⊎_elim, Option, Some, None, inl, inr}
 use Rattle.std.specs.Prelude.{slice_get, slice_set, position, Ok}
 use Rattle.std.specs.Option.{option_map}
 use Rattle.std.proofs.lemmas.Bool.{cases_lt, le-ltb, eq-eqb, or_from}
@@ -15,18 +15,18 @@ use Rattle.cap_ops.specs.declared.access.Cause.TheVariants as C
 use Rattle.cap_ops.specs.Access.{fails, answer, checked}
 use Rattle.cap_ops.specs.Bounded.{bounded}
 use Rattle.cap_ops.specs.Capability.{base, top, null_at}
+use Rattle.cap_ops.specs.Permissions.{data_permissions}
 use Rattle.rv_instr.specs.declared.ops.StoreOp.TheVariants.{Csc}
-use Rattle.tag_mem.specs.Areas.{Area, IsMemory, is_inside, byte_at, tag_at}
-use Rattle.tag_mem.specs.Memory.{written, capability_at}
+use Rattle.tag_mem.specs.Areas.{Area, is_inside}
+use Rattle.tag_mem.specs.Memory.{written}
 use Rattle.tag_mem.specs.Numbers.{little_bytes}
 use Rattle.tag_mem.proofs.Laws.{capability_at-written}
 use Rattle.cap_machine.specs.declared.machine.Machine.{Machine}
 use Rattle.cap_machine.specs.declared.end.Step.TheVariants.{Next}
 use Rattle.cap_machine.specs.State.{register, next}
 use Rattle.cap_machine.specs.Rows.{plus, store_row, store_checked, stored, memory_bits}
-use Rattle.obj_mem.specs.Agreement.{IsNotReturned}
 use Rattle.obj_mem.specs.Legal.{Apart, IsLegal}
-use Rattle.obj_mem.specs.Objects.{Shape, Content, Active, base_in, data_permissions}
+use Rattle.obj_mem.specs.Objects.{Shape, base_in}
 use Rattle.obj_mem.specs.Pointers.{keeps}
 use Rattle.obj_mem.specs.Table.{addresses_of, entry_count, heap_entry}
 use Rattle.obj_mem.specs.Values.{Value, Int, Live, Fun, Raw, Addresses, capability_of}
@@ -41,17 +41,17 @@ use Rattle.tac_ir.specs.declared.code.TacInstr.{TacInstr}
 use Rattle.tac_ir.specs.Effects.{held}
 use Rattle.tac_ir.specs.Meaning.{Caller}
 use Rattle.place_inject.specs.Values.{IsKnown}
-use Rattle.place_inject.specs.Objects.{Stands, SameOutside, ObjectsFit}
+use Rattle.place_inject.specs.Objects.{SameOutside, ObjectsFit}
 use Rattle.place_inject.specs.Parts.{Unchanged, capability_in, kept_at, HeapFits, TableFits}
-use Rattle.place_inject.specs.Frames.{Setting, Point, Registers, IsLive, Waits, homes_of, functions_of, slots_from, stack_top, stack_pointer, at_home, HomesFit, kept_place, from_place, behind_return, FrameFits, FramesFit}
+use Rattle.place_inject.specs.Frames.{Setting, Point, IsLive, Waits, homes_of, functions_of, slots_from, stack_top, stack_pointer, at_home, HomesFit, kept_place, from_place, behind_return, FrameFits, FramesFit}
 use Rattle.place_inject.specs.Fits.{Fits, registers_in}
 use Rattle.place_inject.specs.Homes.{onward, ReadsNoMore}
-use Rattle.place_inject.specs.Spills.{SlotIsFree, StackIsThere, Spilled, SpillsFit}
+use Rattle.place_inject.specs.Spills.{SlotIsFree, StackIsThere, SpillsFit}
 use Rattle.place_inject.proofs.Bits.{fields_back, flipped_small}
 use Rattle.place_inject.proofs.Changed.{active_stays}
 use Rattle.place_inject.proofs.Elsewhere.{twice, part_of, elsewhere, kept_same}
 use Rattle.place_inject.proofs.FramesKept.{position_within, stack_multiple, all_use, calls_kept}
-use Rattle.place_inject.proofs.Lying.{Lies, within}
+use Rattle.place_inject.proofs.Lying.{within}
 use Rattle.place_inject.proofs.ReadBack.{none_fails, address_of, under_top}
 use Rattle.place_inject.proofs.Reaching.{kept_bounds}
 use Rattle.place_inject.proofs.Results.{set_same, set_apart, set_length, there_too}

@@ -4,13 +4,14 @@ use Rattle.cap_concentrate.specs.Rounding.{Encodable}
 use Rattle.cap_ops.specs.declared.capability.Cap.{Cap}
 use Rattle.cap_ops.specs.declared.capability.TheConstants.{UNSEALED}
 use Rattle.cap_ops.specs.Bounded.{bounded}
+use Rattle.cap_ops.specs.Permissions.{code_permissions}
 use Rattle.cap_machine.specs.declared.machine.Machine.{Machine}
 use Rattle.cap_machine.specs.declared.end.Step.{Step}
 use Rattle.cap_machine.specs.State.{register}
 use Rattle.cap_machine.specs.Rows.{trap, jump, cjalr_row}
 use Rattle.obj_mem.specs.declared.ending.Fault.{Fault}
 use Rattle.obj_mem.specs.declared.ending.Fault.TheVariants as F
-use Rattle.obj_mem.specs.Values.{Value, Addresses, function_permissions, capability_of}
+use Rattle.obj_mem.specs.Values.{Value, Addresses, capability_of}
 use Rattle.obj_mem.specs.Objects.{Memory, base_in}
 use Rattle.obj_mem.specs.Comparisons.{callee}
 use Rattle.place_inject.specs.Values.{IsKnown}
@@ -24,7 +25,7 @@ pub record EntriesLie (functions : ℕ) (a : Addresses) : Type 0 where
 
 -- the text's capability at an address, which the counter has in a function
 abbrev pub code_at : Addresses → ℕ → Cap
-code_at a at = bounded a.text a.text_end function_permissions UNSEALED at
+code_at a at = bounded a.text a.text_end code_permissions UNSEALED at
 
 -- The counter goes to the function that the value is, or the machine traps by the cause and is left as it was
 abbrev pub CallAnswers : Machine → (link : ℕ) → Addresses → Result ℕ Fault → Step × Machine → Type 0

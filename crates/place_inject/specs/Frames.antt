@@ -5,12 +5,13 @@ use Rattle.cap_ops.specs.declared.capability.Cap.{Cap}
 use Rattle.cap_ops.specs.declared.capability.TheConstants.{UNSEALED, SENTRY}
 use Rattle.cap_ops.specs.Bounded.{bounded}
 use Rattle.cap_ops.specs.Capability.{null_at}
+use Rattle.cap_ops.specs.Permissions.{data_permissions, code_permissions}
 use Rattle.tag_mem.specs.Areas.{Area}
 use Rattle.cap_machine.specs.declared.machine.Machine.{Machine}
 use Rattle.obj_mem.specs.declared.map.Frame.{Frame}
 use Rattle.obj_mem.specs.declared.map.Map.{Map}
-use Rattle.obj_mem.specs.Values.{Value, Addresses, capability_of, function_permissions}
-use Rattle.obj_mem.specs.Objects.{Shape, base_in, data_permissions}
+use Rattle.obj_mem.specs.Values.{Value, Addresses, capability_of}
+use Rattle.obj_mem.specs.Objects.{Shape, base_in}
 use Rattle.obj_mem.specs.Agreement.{IsNotReturned}
 use Rattle.obj_mem.specs.Legal.{Apart, ObjectNeed, FunctionNeed, Needs}
 use Rattle.obj_mem.specs.Table.{addresses_of}
@@ -57,7 +58,7 @@ stack_pointer s at = bounded s.map.stack.0 (stack_top s) data_permissions UNSEAL
 
 -- the sentry of a place in the text, to which a function returns
 abbrev pub return_sentry : Setting → ℕ → Cap
-return_sentry s at = bounded s.map.text.0 (s.map.text.0 + s.map.text.1) function_permissions SENTRY at
+return_sentry s at = bounded s.map.text.0 (s.map.text.0 + s.map.text.1) code_permissions SENTRY at
 
 -- ---- objects of the map
 

@@ -18,3 +18,4 @@ pub mod Getting
 pub mod Zeroing
 pub mod Calling
 pub mod Spills
+pub mod Tables

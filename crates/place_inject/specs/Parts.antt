@@ -4,12 +4,13 @@ use Rattle.std.specs.Option.{option_map}
 use Rattle.cap_ops.specs.declared.capability.Cap.{Cap}
 use Rattle.cap_ops.specs.declared.capability.TheConstants.{UNSEALED}
 use Rattle.cap_ops.specs.Bounded.{bounded}
+use Rattle.cap_ops.specs.Permissions.{data_permissions}
 use Rattle.tag_mem.specs.Areas.{Area, byte_at, tag_at}
 use Rattle.tag_mem.specs.Memory.{capability_at}
 use Rattle.cap_machine.specs.Rows.{from_memory}
 use Rattle.obj_mem.specs.declared.map.Map.{Map}
 use Rattle.obj_mem.specs.Values.{Addresses}
-use Rattle.obj_mem.specs.Objects.{Shape, data_permissions}
+use Rattle.obj_mem.specs.Objects.{Shape}
 use Rattle.obj_mem.specs.Legal.{Needs}
 use Rattle.obj_mem.specs.Table.{addresses_of, entry_count, heap_entry}
 use Rattle.placement.specs.Memories.{IsClear}

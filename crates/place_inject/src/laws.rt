@@ -14,6 +14,7 @@ ghost use Rattle.place_inject.specs.Returns.{ReturnsClear};
 ghost use Rattle.place_inject.specs.Slots.{SlotsReadBack, StackReaches};
 ghost use Rattle.place_inject.specs.Spills.{SpillsFit};
 ghost use Rattle.place_inject.specs.Starts.{StartFits};
+ghost use Rattle.place_inject.specs.Tables.{TableReaches, TableReadsBack};
 ghost use Rattle.place_inject.specs.Whole.{WholePointersFit};
 ghost use Rattle.place_inject.specs.Zeroing.{ZeroKeepsFits};
 ghost use Rattle.place_inject.specs.Steps.{LoadsFitWhereObjectsDo, StoresFit};
@@ -149,6 +150,16 @@ pub fn slots_read_back()
 /// Addresses up to 4096 bytes past the top of the stack keep its bounds, so that far places of frames are reached.
 pub fn stack_reaches()
     ensures { StackReaches }
+{}
+
+/// Addresses up to 4096 bytes past the end of the table keep its bounds.
+pub fn table_reaches()
+    ensures { TableReaches }
+{}
+
+/// An entry of the table is read: the pointer to a global or to a literal, or the sentry of a function.
+pub fn table_reads_back()
+    ensures { TableReadsBack }
 {}
 
 /// In each state that the injection relates no two objects have a byte in common, padding included, and none has one

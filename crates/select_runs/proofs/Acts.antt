@@ -40,6 +40,10 @@ address_is : (low high perms a : ℕ) → (bounded low high perms UNSEALED a).fi
 unfolding with_bounds
 address_is low high perms a = refl
 
+-- the address of the word at the counter
+pub counter_place : (g : Ground) (m : Machine) (at : ℕ) → m.pc ≡ counter_at g at → counter m ≡ place g at
+counter_place g m at e = ap (λ (c : Cap). c.fields.address) e ∙ address_is g.text g.text_end 3 (place g at)
+
 -- a capability with exact bounds, moved inside them
 pub added_is : (low high perms a b by : ℕ) → Encodable low high → low < 2 ^ 64 → low ≤ a → a ≤ high → low ≤ b → b ≤ high
     → (a + by) % 2 ^ 64 ≡ b → added (bounded low high perms UNSEALED a) by ≡ bounded low high perms UNSEALED b

@@ -1,7 +1,7 @@
 -- Temps stay of their kinds.
-use Rattle.std.proofs.Common.{◌≡◌, ◌⊎◌, ℕ, zero, suc, ◌<◌, true, List, [], ◌∷◌, length, Option, Some, refl, sym, ap, ◌∙◌, subst, arith, inl, inr}
+use Rattle.std.proofs.Common.{◌≡◌, ◌⊎◌, ℕ, zero, suc, ◌<◌, true, false, List, [], ◌∷◌, length, Option, Some, refl, sym, ap, ◌∙◌, subst, arith, inl, inr}
 use Rattle.std.specs.Prelude.{slice_get, slice_set}
-use Rattle.std.proofs.lemmas.Bool.{and_parts, eqb-true, ltb-true, cases_eq}
+use Rattle.std.proofs.lemmas.Bool.{and_parts, eqb-true, eq-eqb, ltb-true, cases_eq}
 use Rattle.std.proofs.lemmas.List.{length-set}
 use Rattle.std.proofs.lemmas.Option.{same_Some}
 use Rattle.ck_int.specs.Kinds.{IsKept}
@@ -40,6 +40,15 @@ kind_again int.I32 = refl
 kind_again int.U32 = refl
 kind_again int.I64 = refl
 kind_again int.U64 = refl
+
+pub same_turned : (a b : Kind) → same_kind a b ≡ true → same_kind b a ≡ true
+same_turned (Plain j) (Plain k) h = eq-eqb (kind_number k) (kind_number j) (sym (eqb-true (kind_number j) (kind_number k) h))
+same_turned (Capability true) (Capability true) h = refl
+same_turned (Capability false) (Capability false) h = refl
+same_turned (Capability true) (Capability false) h = cc
+same_turned (Capability false) (Capability true) h = cc
+same_turned (Plain j) (Capability s) h = cc
+same_turned (Capability s) (Plain k) h = cc
 
 -- a value of a kind is one of the same kind
 pub kind_passes : (a b : Kind) (v : Value) → same_kind a b ≡ true → IsOfKind b v → IsOfKind a v

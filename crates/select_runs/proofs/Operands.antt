@@ -7,6 +7,7 @@ use Rattle.cap_ops.specs.declared.capability.TheConstants.{UNSEALED}
 use Rattle.cap_ops.specs.Capability.{moved, added, null_at}
 use Rattle.cap_ops.specs.Bounded.{bounded}
 use Rattle.cap_ops.proofs.Laws.{bounded_moved}
+use Rattle.cap_ops.specs.Permissions.{data_permissions}
 use Rattle.rv_instr.specs.Range.{InRange, FitsBits}
 use Rattle.rv_instr.specs.declared.instr.Instr.{Instr}
 use Rattle.rv_instr.specs.declared.instr.Instr.TheVariants.{Upper, Clc, CapReg}
@@ -17,7 +18,7 @@ use Rattle.cap_machine.specs.Integers.{word}
 use Rattle.cap_machine.specs.State.{register, integer}
 use Rattle.cap_machine.specs.Rows.{row, upper_row, clc_row, cap_reg_row, plus, set}
 use Rattle.obj_mem.specs.declared.map.Frame.{Frame}
-use Rattle.obj_mem.specs.Objects.{base_in, data_permissions}
+use Rattle.obj_mem.specs.Objects.{base_in}
 use Rattle.obj_mem.specs.Pointers.{keeps}
 use Rattle.obj_mem.specs.Table.{addresses_of}
 use Rattle.obj_mem.specs.Values.{capability_of}
@@ -40,51 +41,17 @@ use Rattle.select_runs.specs.Acts.{Ground, Laid, HasAt, IsThere, Holds}
 use Rattle.select_runs.specs.Emitted.{IsNumber, IsIn, IsSpilled, Operand, Nothing, Made, AtHome, Loaded}
 use Rattle.select_runs.specs.Operands.{ground_of, IsText, IsAtPoint, Comes, OperandsCome}
 use Rattle.select_runs.proofs.Acts.{begins, still, one_set, after}
-use Rattle.select_runs.proofs.Numbers.{null_address, word_is, signed_small, plus_extended, numbers_are_made_law}
+use Rattle.select_runs.proofs.Far.{far, far_low, near_low, Reach}
+use Rattle.select_runs.proofs.Far.{near as far_near}
+use Rattle.select_runs.proofs.Numbers.{numbers_are_made_law}
 use Rattle.select_runs.proofs.Points.{laid, there, scratched}
-
--- ---- arithmetic of far places
-
--- what is left of an offset above its low 12 bits
-abbrev pub far : ℕ → ℕ
-far n = high n * 4096
-
-pub far_upper : (n : ℕ) → n < 2 ^ 31 - 2048 → word (high n % 2 ^ 20 * 4096) ≡ far n
-far_upper n small =
-    let e : high n % 2 ^ 20 * 4096 ≡ far n = omega arith in
-    word_is (high n % 2 ^ 20 * 4096) ∙ signed_small (high n % 2 ^ 20 * 4096) (omega arith) ∙ omega (arith, e)
-
-pub far_low : (a n : ℕ) → a + n < 2 ^ 64 → FitsBits 12 (low n) → plus (a + far n) (low n) ≡ a + n
-far_low a n small fits =
-    elim (cases_lt (n % 4096) 2048) as (λ _. plus (a + far n) (low n) ≡ a + n) [
-      | inl less ↦ plus_extended (a + far n) (low n) fits ∙ plus_low (a + far n) n less ∙ omega (arith, less)
-      | inr more ↦ plus_extended (a + far n) (low n) fits ∙ plus_high (a + far n) n more ∙ omega (arith, more)
-    ]
-
-pub near_low : (a n : ℕ) → a + n < 2 ^ 64 → plus a (pos n) ≡ a + n
-unfolding Rattle.ck_int.specs.Kinds.kept_of
-near_low a n small = omega arith
-
--- ---- the stack's capability
-
-pub stack_moved : (s : Setting) (y z by : ℕ) → keeps s.map.stack.0 (stack_top s) y ≡ true
-    → keeps s.map.stack.0 (stack_top s) z ≡ true → (y + by) % 2 ^ 64 ≡ z
-    → added (stack_pointer s y) by ≡ stack_pointer s z
-unfolding Rattle.cap_concentrate.specs.Encoding.with_bounds
-stack_moved s y z by ky kz sum =
-    let low = s.map.stack.0 in
-    let high = stack_top s in
-    let b = kept_bounds low high data_permissions y ky in
-    let c = kept_bounds low high data_permissions z kz in
-    ap (moved (bounded low high data_permissions UNSEALED y)) sum
-    ∙ bounded_moved low high data_permissions y z b.0 b.1 c.0 c.1
 
 -- ---- slots
 
--- where a slot lies
+-- where a place in the frame lies
 pub record Lies (s : Setting) (p : Point) (t : State Store) (offset : ℕ) : Type 0 where
   pub from : s.map.stack.0 ≤ t.frame
-  pub to : t.frame + offset + 16 ≤ stack_top s
+  pub to : t.frame + offset ≤ stack_top s
   pub small : offset < 2 ^ 31 - 2048
   pub top : stack_top s ≤ 2 ^ 40
 
@@ -163,26 +130,10 @@ module _ (s : Setting) (code : List Instr) (x : IsText s code) (p : Point) (t : 
       load_word live n 2 at t.frame (pos offset) h mem has.0 (stack ∙ f.stack.stack) frame_kept
       (near_low t.frame offset (omega arith) ∙ place_is)
 
-  upper_word : (n : Machine) (at : ℕ) → IsThere g n at → slice_get code at ≡ Some (Upper Lui scratch (high offset % 2 ^ 20))
-      → Holds g n 1 (at + 1) scratch scratch (null_at (far offset))
-  unfolding row upper_row
-  upper_word n at h has =
-      one_set g (laid s code x) n at h (Upper Lui scratch (high offset % 2 ^ 20)) scratch
-      (null_at (far offset)) has refl (omega arith) below
-      (ap (λ n'. set n scratch (null_at n')) (far_upper offset lies.small))
-
-  moved_word : (n : Machine) (mid : ℕ) → IsThere g n mid → register n 2 ≡ register m 2 → register n scratch ≡ null_at (far offset)
-      → slice_get code mid ≡ Some (CapReg Cincoffset scratch 2 scratch)
-      → Holds g n 1 (mid + 1) scratch scratch (stack_pointer s (t.frame + far offset))
-  unfolding row cap_reg_row
-  moved_word n mid h stack is has =
-      let l = lies.to in let top_is = lies.top in let from = lies.from in let small = lies.small in
-      one_set g (laid s code x) n mid h (CapReg Cincoffset scratch 2 scratch) scratch
-      (stack_pointer s (t.frame + far offset)) has refl (omega arith) below
-      (ap (λ c. set n scratch (added c (integer n scratch))) (stack ∙ f.stack.stack)
-      ∙ ap (λ (c : Cap). set n scratch (added (stack_pointer s t.frame) c.fields.address)) is
-      ∙ ap (λ k. set n scratch (added (stack_pointer s t.frame) k)) (null_address (far offset))
-      ∙ ap (set n scratch) (stack_moved s t.frame (t.frame + far offset) (far offset) frame_kept far_kept (omega arith)))
+  pub reach : Reach s.map.stack.0 (stack_top s) t.frame offset
+  reach =
+      let l = lies.to in let top_is = lies.top in
+      record { small = lies.small; below = omega arith; here = frame_kept; near = far_kept }
 
   -- the two words that come near the slot
   pub near : (n : Machine) (at : ℕ) → IsThere g n at → register n 2 ≡ register m 2
@@ -190,11 +141,8 @@ module _ (s : Setting) (code : List Instr) (x : IsText s code) (p : Point) (t : 
       → slice_get code (at + 1) ≡ Some (CapReg Cincoffset scratch 2 scratch)
       → Holds g n 2 (at + 1 + 1) scratch scratch (stack_pointer s (t.frame + far offset))
   near n at h stack first second =
-      let a = upper_word n at h first in
-      let b = moved_word a.to (at + 1) (still g (laid s code x) n (at + 1) at scratch scratch 1 (null_at (far offset)) h a)
-      (a.others 2 (λ e. absurd (omega (arith, e, above))) ∙ stack) a.holds second in
-      after g (laid s code x) n at (at + 1) (at + 1 + 1) scratch scratch scratch 1 1 (null_at (far offset))
-      (stack_pointer s (t.frame + far offset)) a b
+      far_near g (laid s code x) s.map.stack.0 (stack_top s) t.frame offset 2 scratch reach (λ e. absurd (omega (arith, e, above)))
+      (omega (arith, above)) below n at h (stack ∙ f.stack.stack) first second
 
   long : (live : IsLive s p temp) (n : Machine) (at : ℕ) → IsThere g n at → n.mem ≡ m.mem → register n 2 ≡ register m 2
       → HasAt code at (Upper Lui scratch (high offset % 2 ^ 20) ∷ CapReg Cincoffset scratch 2 scratch ∷ Clc scratch scratch (low offset) ∷ [])

@@ -41,7 +41,8 @@ use Rattle.select_runs.specs.Operands.{ground_of, IsText, IsAtPoint}
 use Rattle.select_runs.specs.Results.{Computed, MayChange, MayTake, Arrives, ResultsGoHome, before, behind}
 use Rattle.select_runs.proofs.Acts.{one_set, still, join, fetched_here, next_is}
 use Rattle.select_runs.proofs.Points.{laid, there, text_there}
-use Rattle.select_runs.proofs.Operands.{far, near_low, far_low, Lies, slot_lies, frame_kept, far_kept, place_is, near}
+use Rattle.select_runs.proofs.Far.{far, near_low, far_low}
+use Rattle.select_runs.proofs.Operands.{Lies, slot_lies, frame_kept, far_kept, place_is, near}
 
 -- ---- what is read from the next instruction on
 

@@ -30,7 +30,7 @@ use Rattle.purecap_abi.specs.Words.{low, high, load_code, store_code}
 use Rattle.tac_ir.specs.Costs.{cost, number_cost}
 use Rattle.tac_ir.specs.Effects.{held, kind_at, temp_in}
 use Rattle.tac_ir.specs.Meaning.{Running}
-use Rattle.tac_ir.specs.Temps.{IsIn as IsAmong, reads, writes, now}
+use Rattle.tac_ir.specs.Temps.{IsIn as IsAmong, falls, reads, writes, now}
 use Rattle.tac_ir.specs.WellFormed.{has, is_temp, constant_fits}
 use Rattle.tac_ir.specs.declared.code.TacInstr.{TacInstr}
 use Rattle.tac_ir.specs.declared.code.TacInstr.TheVariants as instr
@@ -90,10 +90,10 @@ bring_few s fun t r ws (words.Loaded offset i e) = subst (λ u. length u ≤ 3) 
 
 -- ---- what the selectable instruction says of the temp that it writes
 
-among_one : (t : ℕ) → IsAmong t (t ∷ [])
+pub among_one : (t : ℕ) → IsAmong t (t ∷ [])
 among_one t = (zero, refl)
 
-may_take : (s : Setting) (p : Typed) (running : Running) (i : TacInstr) (rest : List TacInstr) (to : ℕ)
+pub may_take : (s : Setting) (p : Typed) (running : Running) (i : TacInstr) (rest : List TacInstr) (to : ℕ)
     → IsSelectable s p running i rest → IsAmong to (writes i) → ((n : ℕ) → IsConstant i n → ⊥) → MayTake s (behind running rest) to
 may_take s p running i rest to sel among no_constant = by (s.numbers running.fun to) refl
   where
@@ -229,51 +229,32 @@ operand_unway s code x fun t ws a (emitted.Made v n makes few e) = λ z. absurd 
 operand_unway s code x fun t ws a (emitted.AtHome i e) = let l : a < 28 = x.usable fun t a i.home in λ z. absurd (omega (arith, l, z))
 operand_unway s code x fun t ws a (emitted.Loaded offset i e q) = λ z. absurd (omega (arith, q, z))
 
-module _ (s : Setting) (code : List Instr) (x : IsText s code) (stack : StackIsThere s) (w : World) (p : Typed) (running : Running)
-    (to from : ℕ) (rest : List TacInstr) (sel : IsSelectable s p running (instr.Copy to from) rest) (at : ℕ)
-    (t : State modes.Store) (m : Machine) (point : IsAtPoint s code (before running (instr.Copy to from) rest) at t m)
-    (kinded : AreOfKinds (kinds_in s running) t.vars) where
-  abbrev copy : TacInstr
-  copy = instr.Copy to from
-
+-- The temp gets a value that has the capability of another's
+module _ (s : Setting) (code : List Instr) (x : IsText s code) (stack : StackIsThere s) (p : Typed) (running : Running) (i : TacInstr)
+    (to from : ℕ) (rest : List TacInstr) (falls_on : falls i ≡ true) (wrote : writes i ≡ to ∷ []) (read : IsAmong from (reads i))
+    (no_constant : (n : ℕ) → IsConstant i n → ⊥) (sel : IsSelectable s p running i rest) (at : ℕ)
+    (t : State modes.Store) (m : Machine) (point : IsAtPoint s code (before running i rest) at t m) (v : Value)
+    (same_bits : capability_of (addresses_of s.map) (base_in t.mem.memory.shapes) (temp_in t from)
+    ≡ capability_of (addresses_of s.map) (base_in t.mem.memory.shapes) v)
+    (known : IsKnown t.mem.memory.shapes (functions_of s) v)
+    (itself : to ≡ from → slice_get t.vars from ≡ Some (Some v)) where
   abbrev here : Point
-  here = before running copy rest
-
-  abbrev value : Value
-  value = temp_in t from
+  here = before running i rest
 
   abbrev bits : Cap
-  bits = capability_of (addresses_of s.map) (base_in t.mem.memory.shapes) value
+  bits = capability_of (addresses_of s.map) (base_in t.mem.memory.shapes) v
 
   abbrev copied : State modes.Store
-  copied = record t { vars = slice_set t.vars to (Some value) }
+  copied = record t { vars = slice_set t.vars to (Some v) }
 
   abbrev Copy_behind : ℕ → Type 0
-  Copy_behind n = Arrives s code (behind running rest) 0 (cost copy) (at + n) copied m
+  Copy_behind n = Arrives s code (behind running rest) 0 6 (at + n) copied m
 
   live : IsLive s here from
-  live = now (zero, refl)
-
-  known : IsKnown t.mem.memory.shapes (functions_of s) value
-  known = point.fits.calls.1.known from live
+  live = now read
 
   take : MayTake s (behind running rest) to
-  take = may_take s p running copy rest to sel (among_one to) (λ n h. h)
-
-  copy_parts : (to < length (kinds_in s running))
-      × (Rattle.tac_ir.specs.WellFormed.same_kind (kind_at (kinds_in s running) to) (kind_at (kinds_in s running) from) ≡ true)
-      × (from < length (kinds_in s running))
-  copy_parts =
-      let q = and_parts (has p sel.d (kinds_in s running) (code_in s running) to (kind_at (kinds_in s running) from))
-      (is_temp p sel.d (kinds_in s running) (code_in s running) from) sel.fits in
-      let h = has_kind p sel.d (kinds_in s running) (code_in s running) to (kind_at (kinds_in s running) from) q.0 in
-      (h.0, h.1, ltb-true from (length (kinds_in s running)) q.1)
-
-  copy_kinded : AreOfKinds (kinds_in s running) copied.vars
-  copy_kinded =
-      kinded_set (kinds_in s running) t.vars to value kinded copy_parts.0
-      (kind_passes (kind_at (kinds_in s running) to) (kind_at (kinds_in s running) from) value copy_parts.1
-      (kinded.each from copy_parts.2))
+  take = may_take s p running i rest to sel (subst (IsAmong to) (sym wrote) (among_one to)) no_constant
 
   -- the register that was computed goes home
   finish : (count changed r : ℕ) (finds keep ws : List Instr) → length finds ≤ 3 → MayChange s running.fun to changed → r ≢ 31
@@ -281,7 +262,7 @@ module _ (s : Setting) (code : List Instr) (x : IsText s code) (stack : StackIsT
       → Keep s running.fun to r keep → ws ≡ finds ++ keep → HasAt code at ws → Copy_behind (length ws)
   finish count changed r finds keep ws few may unway counted h kept e has =
       let q = subst (HasAt code at) e has in
-      let a = results_go_home_law s code x stack here at t m point rest to take (reads_no_more s running copy rest to refl refl) value known
+      let a = results_go_home_law s code x stack here at t m point rest to take (reads_no_more s running i rest to falls_on wrote) v known
       count (at + length finds) changed r may unway
       (record {
         to = h.to;
@@ -318,10 +299,10 @@ module _ (s : Setting) (code : List Instr) (x : IsText s code) (stack : StackIsT
   brought : (r : ℕ) → emitted.IsIn s running.fun to r → (ws : List Instr) → Bring s running.fun from r ws → HasAt code at ws
       → Copy_behind (length ws)
   unfolding row cap_get_row
-  brought r i ws b has = by b
+  brought r home ws b has = by b
     where
       free : (5 ≤ r) × (r ≤ 27)
-      free = (take.register r i.home).usable
+      free = (take.register r home.home).usable
 
       unway : r ≢ 31
       unway e = let to_is = free.1 in absurd (omega (arith, e, to_is))
@@ -334,39 +315,40 @@ module _ (s : Setting) (code : List Instr) (x : IsText s code) (stack : StackIsT
 
       end : (changed : ℕ) → MayChange s running.fun to changed → Holds (ground_of s code) m (length ws) (at + length ws) changed r bits
           → length ws ≤ 3 → Copy_behind (length ws)
-      end changed may h few = finish (length ws) changed r ws [] ws few may unway refl h (emitted.Stays i refl) (no_keep ws) has
+      end changed may h few = finish (length ws) changed r ws [] ws few may unway refl h (emitted.Stays home refl) (no_keep ws) has
 
       by : Bring s running.fun from r ws → Copy_behind (length ws)
-      by (words.Made v n makes few) =
-          end r (inr i)
+      by (words.Made value n makes few) =
+          end r (inr home)
           (subst (Holds (ground_of s code) m (length ws) (at + length ws) r r)
-          (sym (numbers_read_back_law s here t m point.fits from v live n).0)
-          (numbers_are_made_law (ground_of s code) (laid s code x) m at (there s code x here at t m point) r v positive below ws makes has))
+          (sym (numbers_read_back_law s here t m point.fits from value live n).0 ∙ same_bits)
+          (numbers_are_made_law (ground_of s code) (laid s code x) m at (there s code x here at t m point) r value positive below ws makes has))
           (omega arith)
       by (words.There j e) =
           end 28 (inl (omega arith))
           (subst (λ u. Holds (ground_of s code) m (length u) (at + length u) 28 r bits) (sym e)
-          (in_place r (registers_read_back_law s here t m point.fits from r live j.stands j.home).0))
+          (in_place r ((registers_read_back_law s here t m point.fits from r live j.stands j.home).0 ∙ same_bits)))
           (subst (λ u. length u ≤ 3) (sym e) (omega arith))
       by (words.Moved q j d e) =
           let here_words = subst (HasAt code at) e has in
-          end r (inr i)
+          end r (inr home)
           (subst (λ u. Holds (ground_of s code) m (length u) (at + length u) r r bits) (sym e)
           (one_set (ground_of s code) (laid s code x) m at (there s code x here at t m point) (CapGet Cmove r q) r bits here_words.0 refl
-          positive below (ap (set m r) (registers_read_back_law s here t m point.fits from q live j.stands j.home).0)))
+          positive below (ap (set m r) ((registers_read_back_law s here t m point.fits from q live j.stands j.home).0 ∙ same_bits))))
           (subst (λ u. length u ≤ 3) (sym e) (omega arith))
       by (words.Loaded offset j e) =
           let low_is = free.0 in
-          end r (inr i)
+          end r (inr home)
+          (subst (Holds (ground_of s code) m (length ws) (at + length ws) r r) same_bits
           (load_slot s code x here t m point.fits from r offset (omega (arith, low_is)) below j live m at
-          (there s code x here at t m point) refl refl ws e has)
+          (there s code x here at t m point) refl refl ws e has))
           (bring_few s running.fun from r ws (words.Loaded offset j e))
 
-  copies : (ws : List Instr) → Copied s running.fun to from ws → HasAt code at ws → Copy_behind (length ws)
+  pub copies : (ws : List Instr) → Copied s running.fun to from ws → HasAt code at ws → Copy_behind (length ws)
   copies ws (words.Itself same none) has =
       let e : at ≡ at + 0 = omega arith in
-      let itself : slice_set t.vars to (Some value) ≡ t.vars =
-      ap (λ j. slice_set t.vars j (Some value)) same ∙ set_to_itself t.vars from (Some value) (kinded.given from copy_parts.2) in
+      let again : slice_set t.vars to (Some v) ≡ t.vars =
+      ap (λ j. slice_set t.vars j (Some v)) same ∙ set_to_itself t.vars from (Some v) (itself same) in
       subst (λ u. Copy_behind (length u)) (sym none) (record {
         count = 0;
         to = m;
@@ -374,7 +356,7 @@ module _ (s : Setting) (code : List Instr) (x : IsText s code) (stack : StackIsT
         le = omega arith;
         leads = refl;
         point = record {
-          fits = subst (λ vs. Rattle.place_inject.specs.Fits.Fits s (Some (behind running rest)) (record t { vars = vs }) m) (sym itself)
+          fits = subst (λ vs. Rattle.place_inject.specs.Fits.Fits s (Some (behind running rest)) (record t { vars = vs }) m) (sym again)
               (moves_on_law s here t m point.fits rest (λ temp after. same_reads same temp after));
           counter = point.counter ∙ ap (counter_at (ground_of s code)) e;
         };
@@ -383,21 +365,42 @@ module _ (s : Setting) (code : List Instr) (x : IsText s code) (stack : StackIsT
       same_reads : to ≡ from → (temp : ℕ) → IsLive s (behind running rest) temp → IsLive s here temp
       same_reads same temp after = elim (cases_eq temp to) as (λ _. IsLive s here temp) [
         | inl q ↦ subst (IsLive s here) (sym (q ∙ same)) live
-        | inr ne ↦ reads_no_more s running copy rest to refl refl temp after ne
+        | inr ne ↦ reads_no_more s running i rest to falls_on wrote temp after ne
       ]
-  copies ws (words.Brought r i b) has = brought r i ws b has
-  copies ws (words.Kept offset i a finds keep found kept e) has =
+  copies ws (words.Brought r home b) has = brought r home ws b has
+  copies ws (words.Kept offset spilled a finds keep found kept e) has =
       let q = subst (HasAt code at) e has in
       finish (length finds) 28 a finds keep ws (operand_few s running.fun from 28 finds a found) (inl (omega arith))
       (operand_unway s code x running.fun from finds a found) refl
-      (holds_by s code x here at t m point from 28 a live (omega arith) (omega arith) finds (has_front code at finds keep q) found)
+      (subst (Holds (ground_of s code) m (length finds) (at + length finds) 28 a) same_bits
+      (holds_by s code x here at t m point from 28 a live (omega arith) (omega arith) finds (has_front code at finds keep q) found))
       kept e has
+
+module _ (s : Setting) (code : List Instr) (x : IsText s code) (stack : StackIsThere s) (w : World) (p : Typed) (running : Running)
+    (to from : ℕ) (rest : List TacInstr) (sel : IsSelectable s p running (instr.Copy to from) rest) (t : State modes.Store)
+    (kinded : AreOfKinds (kinds_in s running) t.vars) where
+  copy_parts : (to < length (kinds_in s running))
+      × (Rattle.tac_ir.specs.WellFormed.same_kind (kind_at (kinds_in s running) to) (kind_at (kinds_in s running) from) ≡ true)
+      × (from < length (kinds_in s running))
+  copy_parts =
+      let q = and_parts (has p sel.d (kinds_in s running) (code_in s running) to (kind_at (kinds_in s running) from))
+      (is_temp p sel.d (kinds_in s running) (code_in s running) from) sel.fits in
+      let h = has_kind p sel.d (kinds_in s running) (code_in s running) to (kind_at (kinds_in s running) from) q.0 in
+      (h.0, h.1, ltb-true from (length (kinds_in s running)) q.1)
+
+  copy_kinded : AreOfKinds (kinds_in s running) (slice_set t.vars to (Some (temp_in t from)))
+  copy_kinded =
+      kinded_set (kinds_in s running) t.vars to (temp_in t from) kinded copy_parts.0
+      (kind_passes (kind_at (kinds_in s running) to) (kind_at (kinds_in s running) from) (temp_in t from) copy_parts.1
+      (kinded.each from copy_parts.2))
 
 pub copies_run_law : CopiesRun
 copies_run_law s code x stack w p running (instr.Copy to from) rest is sel at t m point kinded ws form has = record {
   next = record t { vars = slice_set t.vars to (Some (temp_in t from)) };
   means = λ k. refl;
-  kinded = copy_kinded s code x stack w p running to from rest sel at t m point kinded;
-  does = copies s code x stack w p running to from rest sel at t m point kinded ws form has;
+  kinded = copy_kinded s code x stack w p running to from rest sel t kinded;
+  does = copies s code x stack p running (instr.Copy to from) to from rest refl refl (zero, refl) (λ n h. h) sel at t m point (temp_in t from)
+      refl (point.fits.calls.1.known from (now (zero, refl)))
+      (λ e. kinded.given from (copy_parts s code x stack w p running to from rest sel t kinded).2) ws form has;
 }
 copies_run_law s code x stack w p running i rest is sel at t m point kinded ws form has = absurd is

@@ -5,6 +5,7 @@ use Rattle.cap_concentrate.specs.Rounding.{Encodable}
 use Rattle.cap_ops.specs.declared.capability.Cap.{Cap}
 use Rattle.cap_ops.specs.declared.capability.TheConstants.{UNSEALED}
 use Rattle.cap_ops.specs.Bounded.{bounded}
+use Rattle.cap_ops.specs.Permissions.{code_permissions}
 use Rattle.rv_instr.specs.declared.instr.Instr.{Instr}
 use Rattle.rv_instr.specs.Range.{InRange}
 use Rattle.rv_code.specs.Formats.{word_of}
@@ -14,7 +15,6 @@ use Rattle.tag_mem.specs.Memory.{number_at}
 use Rattle.cap_machine.specs.declared.machine.Machine.{Machine}
 use Rattle.cap_machine.specs.State.{register}
 use Rattle.cap_machine.specs.Step.{act}
-use Rattle.obj_mem.specs.Values.{function_permissions}
 
 -- ---- code in its text
 
@@ -36,7 +36,7 @@ abbrev pub place : Ground → ℕ → ℕ
 place g at = g.text + 4 * at
 
 abbrev pub counter_at : Ground → ℕ → Cap
-counter_at g at = bounded g.text g.text_end function_permissions UNSEALED (place g at)
+counter_at g at = bounded g.text g.text_end code_permissions UNSEALED (place g at)
 
 -- the code's words are in memory
 abbrev pub HasText : Ground → List Area → Type 0

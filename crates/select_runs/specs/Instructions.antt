@@ -1,5 +1,16 @@
 -- Laws of instructions that go on to the next.
-use Rattle.select_runs.specs.Results.{EachGoesOn}
+use Rattle.std.specs.Prelude.{◌≡◌, ℕ, List}
+use Rattle.ck_base.specs.World.{World}
+use Rattle.rv_instr.specs.declared.instr.Instr.{Instr}
+use Rattle.c_tree.specs.declared.typed.Typed.{Typed}
+use Rattle.obj_mem.specs.Needs.{needs_of}
+use Rattle.place_inject.specs.Frames.{Setting}
+use Rattle.place_inject.specs.Spills.{StackIsThere}
+use Rattle.place_inject.specs.Tables.{TableIsThere}
+use Rattle.select_runs.specs.Operands.{IsText}
+use Rattle.select_runs.specs.Results.{GoOn, EachGoesOn}
+use Rattle.select_runs.specs.Capabilities.{IsNarrow, NarrowWords, IsOffset, OffsetWords, IsIntrinsic, CapWords, IsPointing, PointingWords}
+use Rattle.select_runs.specs.Operations.{IsOperation, OperationWords, IsComparison, CompareWords, IsConversion, ConversionWords}
 use Rattle.select_runs.specs.Words.{IsIntegerConstant, ConstantWords, IsCopy, CopyWords, IsPassed, NoWords}
 
 abbrev pub ConstantsRun : Type 0
@@ -10,3 +21,32 @@ CopiesRun = EachGoesOn IsCopy CopyWords
 
 abbrev pub LabelsRun : Type 0
 LabelsRun = EachGoesOn IsPassed NoWords
+
+abbrev pub NarrowsRun : Type 0
+NarrowsRun = EachGoesOn IsNarrow NarrowWords
+
+abbrev pub OffsetsRun : Type 0
+OffsetsRun = EachGoesOn IsOffset OffsetWords
+
+abbrev pub IntrinsicsRun : Type 0
+IntrinsicsRun = EachGoesOn IsIntrinsic CapWords
+
+-- the map was made for the program, whose functions have some weights
+pub record IsAskedBy (s : Setting) (p : Typed) : Type 0 where
+  pub weight : ℕ → ℕ
+  pub needs : s.needs ≡ needs_of weight p
+
+-- Pointers to locals, globals, literals and functions, of which the last three are read from the table
+abbrev pub PointersRun : Type 0
+PointersRun = (s : Setting) (code : List Instr) → IsText s code → StackIsThere s → TableIsThere s → (w : World) (p : Typed)
+    → IsAskedBy s p → GoOn s code w p IsPointing PointingWords
+
+-- operations on integers, at the kinds that the integer promotions leave as they are
+abbrev pub OperationsRun : Type 0
+OperationsRun = EachGoesOn IsOperation OperationWords
+
+abbrev pub ComparisonsRun : Type 0
+ComparisonsRun = EachGoesOn IsComparison CompareWords
+
+abbrev pub ConversionsRun : Type 0
+ConversionsRun = EachGoesOn IsConversion ConversionWords

@@ -5,5 +5,9 @@ pub mod Operands
 pub mod Kinds
 pub mod Results
 pub mod Words
+pub mod Forms
+pub mod Capabilities
+pub mod Operations
 pub mod Instructions
 pub mod Jumps
+pub mod Accesses

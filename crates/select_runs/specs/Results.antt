@@ -94,10 +94,11 @@ abbrev pub IsConstant : TacInstr → ℕ → Type 0
 IsConstant (instr.Const to k v) n = v ≡ n
 IsConstant i n = ⊥
 
--- What is asked of an instruction at a point: it is well formed, a temp that is a number is its constant, and the home of any other
+-- What is asked of an instruction at a point: it is well formed in its function, a temp that is a number is its constant, and the home of any other
 -- that it writes is free behind it
 pub record IsSelectable (s : Setting) (p : Typed) (running : Running) (i : TacInstr) (rest : List TacInstr) : Type 0 where
   pub d : FunDef
+  pub is : slice_get p.funs running.fun ≡ Some d
   pub fits : instruction_fits p d (kinds_in s running) (code_in s running) i ≡ true
   pub numbers : (temp n : ℕ) → IsAmong temp (writes i) → s.numbers running.fun temp ≡ Some n → IsConstant i n
   pub free : (temp : ℕ) → IsAmong temp (writes i) → s.numbers running.fun temp ≡ None → MayTake s (behind running rest) temp
@@ -114,11 +115,14 @@ pub record GoesOn (s : Setting) (code : List Instr) (w : World) (p : Typed) (run
 
 -- For each point at which the function goes on with such an instruction, and each machine that stands for a state there and has the
 -- words next
-abbrev pub EachGoesOn : (TacInstr → Type 0) → (Setting → ℕ → TacInstr → List Instr → Type 0) → Type 0
-EachGoesOn Is Words =
-    (s : Setting) (code : List Instr) → IsText s code → StackIsThere s → (w : World) (p : Typed)
-    → (running : Running) (i : TacInstr) (rest : List TacInstr) → Is i → IsSelectable s p running i rest
+abbrev pub GoOn : Setting → List Instr → World → Typed → (TacInstr → Type 0) → (Setting → ℕ → TacInstr → List Instr → Type 0) → Type 0
+GoOn s code w p Is Words =
+    (running : Running) (i : TacInstr) (rest : List TacInstr) → Is i → IsSelectable s p running i rest
     → (at : ℕ) (t : State Store) (m : Machine) → IsAtPoint s code (before running i rest) at t m
     → AreOfKinds (kinds_in s running) t.vars
     → (words : List Instr) → Words s running.fun i words → HasAt code at words
     → GoesOn s code w p running i rest words at t m
+
+abbrev pub EachGoesOn : (TacInstr → Type 0) → (Setting → ℕ → TacInstr → List Instr → Type 0) → Type 0
+EachGoesOn Is Words =
+    (s : Setting) (code : List Instr) → IsText s code → StackIsThere s → (w : World) (p : Typed) → GoOn s code w p Is Words

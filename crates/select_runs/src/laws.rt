@@ -1,10 +1,11 @@
 //! Laws of selected code: what the words that stand for an instruction do on the machine.
 
 ghost use Rattle.select_runs.specs.Numbers.{NumbersAreMade};
-ghost use Rattle.select_runs.specs.Instructions.{ConstantsRun, CopiesRun, LabelsRun};
-ghost use Rattle.select_runs.specs.Jumps.{JumpsRun};
+ghost use Rattle.select_runs.specs.Instructions.{ComparisonsRun, ConstantsRun, ConversionsRun, CopiesRun, IntrinsicsRun, LabelsRun, NarrowsRun, OffsetsRun, OperationsRun, PointersRun};
+ghost use Rattle.select_runs.specs.Jumps.{BranchesRun, JumpsRun};
 ghost use Rattle.select_runs.specs.Operands.{OperandsCome};
 ghost use Rattle.select_runs.specs.Results.{ResultsGoHome};
+ghost use Rattle.select_runs.specs.Accesses.{AccessesRun};
 
 /// Words that make a number of a register do so on the machine, and change nothing else.
 pub fn numbers_are_made()
@@ -40,4 +41,49 @@ pub fn labels_run()
 /// Jumps to a label that is ahead, and behind a Turn to any label.
 pub fn jumps_run()
     ensures { JumpsRun }
+{}
+
+/// Branches to a label that is ahead, and behind a Turn to any label, or past it.
+pub fn branches_run()
+    ensures { BranchesRun }
+{}
+
+/// Capabilities that are narrowed.
+pub fn narrows_run()
+    ensures { NarrowsRun }
+{}
+
+/// Capabilities that are moved.
+pub fn offsets_run()
+    ensures { OffsetsRun }
+{}
+
+/// What is asked of capabilities and lengths, and made of them.
+pub fn intrinsics_run()
+    ensures { IntrinsicsRun }
+{}
+
+/// Pointers to locals, globals, literals and functions.
+pub fn pointers_run()
+    ensures { PointersRun }
+{}
+
+/// Operations on integers.
+pub fn operations_run()
+    ensures { OperationsRun }
+{}
+
+/// Comparisons of integers and of addresses.
+pub fn comparisons_run()
+    ensures { ComparisonsRun }
+{}
+
+/// Conversions between kinds.
+pub fn conversions_run()
+    ensures { ConversionsRun }
+{}
+
+/// Loads and stores: what they do, or the trap by which they end the run.
+pub fn accesses_run()
+    ensures { AccessesRun }
 {}

@@ -11,6 +11,7 @@
 mod laws;
 
 pub use laws::{
-    constants_run, copies_run, jumps_run, labels_run, numbers_are_made, operands_come,
-    results_go_home,
+    accesses_run, branches_run, comparisons_run, constants_run, conversions_run, copies_run,
+    intrinsics_run, jumps_run, labels_run, narrows_run, numbers_are_made, offsets_run,
+    operands_come, operations_run, pointers_run, results_go_home,
 };
