@@ -1,0 +1,15 @@
+pub mod Agreement
+pub mod Labels
+pub mod Steps
+pub mod Operations
+pub mod Operands
+pub mod Conditions
+pub mod Values
+pub mod Effects
+pub mod Places
+pub mod Assignments
+pub mod Gathered
+pub mod Statements
+pub mod Loops
+pub mod GatheredStatements
+pub mod Calls

@@ -1,0 +1,9 @@
+pub mod States
+pub mod Operating
+pub mod Expressions
+pub mod Statements
+pub mod Simulation
+pub mod Following
+pub mod Calling
+pub mod Laws
+pub mod StatementLaws

@@ -1,0 +1,65 @@
+//! Laws of lowered code, one for each group of rules of the relation: where the codes of the parts do what the parts mean, so does the
+//! code that a rule makes of them.
+
+ghost use Rattle.lower_runs.specs.StatementLaws.{InEachFunction, StatementRules, BlockRules, LoopRules};
+ghost use Rattle.lower_runs.specs.Laws.{Everywhere, OperandRules, ValueRules, LoadRules, PlaceRules, ConditionRules, EffectRules, AssignmentRules};
+
+/// Operands: values that stand in a temp already, and those that come into a new one.
+#[tactic(auto, using(crate::proofs::Gathered::operands_law))]
+pub fn operands_run()
+    ensures { Everywhere OperandRules }
+{}
+
+/// Constants, variables, conversions, operations on integers, comparisons, choices and truth values.
+#[tactic(auto, using(crate::proofs::Gathered::values_law))]
+pub fn values_run()
+    ensures { Everywhere ValueRules }
+{}
+
+/// Loads, and pointers to places as values.
+#[tactic(auto, using(crate::proofs::Gathered::loads_law))]
+pub fn loads_run()
+    ensures { Everywhere LoadRules }
+{}
+
+/// Places, and the pointers to them.
+#[tactic(auto, using(crate::proofs::Gathered::places_law))]
+pub fn places_run()
+    ensures { Everywhere PlaceRules }
+{}
+
+/// Conditions as branches.
+#[tactic(auto, using(crate::proofs::Gathered::conditions_law))]
+pub fn conditions_run()
+    ensures { Everywhere ConditionRules }
+{}
+
+/// What expressions do whose value is not asked for.
+#[tactic(auto, using(crate::proofs::Gathered::effects_law))]
+pub fn effects_run()
+    ensures { Everywhere EffectRules }
+{}
+
+/// Assignments to variables, and to objects.
+#[tactic(auto, using(crate::proofs::Gathered::assignments_law))]
+pub fn assignments_run()
+    ensures { Everywhere AssignmentRules }
+{}
+
+/// Statements one behind the other, initialisations, blocks, choices, jumps and returns.
+#[tactic(auto, using(crate::proofs::GatheredStatements::statements_law))]
+pub fn statements_run()
+    ensures { InEachFunction StatementRules }
+{}
+
+/// Blocks are entered: their variables are 0 or null, and their objects zero bytes.
+#[tactic(auto, using(crate::proofs::GatheredStatements::blocks_law))]
+pub fn blocks_are_entered()
+    ensures { InEachFunction BlockRules }
+{}
+
+/// Loops, as many rounds as the turns allow.
+#[tactic(auto, using(crate::proofs::GatheredStatements::loops_law))]
+pub fn loops_run()
+    ensures { InEachFunction LoopRules }
+{}
