@@ -2,9 +2,12 @@
 
 ghost use Rattle.std.specs.Prelude.{◌≡◌, ◌<◌, ◌-◌, ◌^◌, length, IfOk};
 
+use cheric_build::build;
 use cheric_top::cheric;
 use ck_base::{Files, MemFiles, MemSink, MemSource, NoMemory, SureFiles};
 use std::alloc::Global;
+use std::fmt::Write;
+use std::test::Fail;
 
 fn one_name(alloc: Global, name: &str) -> Result<Vec<String>, NoMemory>
     ensures { IfOk result (λ names. length names.items ≡ 1) }
@@ -60,12 +63,12 @@ fn source(alloc: Global, bytes: &[u8], failing: u64) -> Result<MemSource, NoMemo
     Ok(MemSource::new(Vec::from_slice(alloc, bytes)?, fails))
 }
 
-/// An output of 4096 bytes, of which the call with this number fails (0: none).
+/// An output of 65,536 bytes, of which the call with this number fails (0: none).
 fn sink(alloc: Global, failing: u64) -> Result<MemSink, NoMemory>
     ensures { IfOk result (λ sink. sink.faults ≡ 0) }
 {
     let fails = only(alloc, failing)?;
-    MemSink::new(alloc, 4096, fails)
+    MemSink::new(alloc, 65_536, fails)
 }
 
 /// What the command answers: its status, and all that it puts to the output and to the notes.
@@ -114,4 +117,18 @@ pub fn answers_input<F: Files>(
             && out.bytes() == answer.put.as_bytes()
             && notes.bytes() == answer.line.as_bytes(),
     )
+}
+
+/// A file, and what the command builds of it.
+pub fn built_file(alloc: Global, file: &str) -> Result<SureFiles, Fail> {
+    let mut files = sure_file(alloc, "a.c", file.as_bytes())?;
+    let mut line = String::new(alloc);
+    writeln!(line, "built {}", build(alloc, file.as_bytes())?.elf.len())?;
+    let answer = Answer {
+        status: 0,
+        put: "",
+        line: &line,
+    };
+    let is_built = answers(alloc, &mut files, "cheric build a.c", [0; 2], answer)?;
+    Ok(is_built.then_some(files).ok_or("not built")?)
 }

@@ -6,9 +6,26 @@ use std::test::Fail;
 /// A program, its input, and the status, output and line of its run.
 type Example = (&'static str, &'static str, u8, &'static str, &'static str);
 
-const BYE: &str = r#"int main(void){putchar(98);putchar(121);putchar(101);return 300;}"#;
+const BYE: &str =
+    r#"/* The status that a program gives is the low eight bits of what main returns: 300 is 44.
+   Output: bye. Then `exit 44`, status 1. */
+int main(void) {
+    putchar('b');
+    putchar('y');
+    putchar('e');
+    return 300;
+}
+"#;
 
-const BYTES: &str = r#"int main(void){putchar(328);putchar(361);return 0;}"#;
+const BYTES: &str =
+    r#"/* putchar writes the low byte of its argument: of 328 it is 72, of 361 it is 105.
+   Output: Hi. Then `exit 0`, status 0. */
+int main(void) {
+    putchar(328);
+    putchar(361);
+    return 0;
+}
+"#;
 
 const CAPABILITIES: &str =
     r#"/* What a pointer holds, by the intrinsics of CHERI C: tag, length and offset, and bounds that are set narrower.
@@ -32,7 +49,8 @@ int main(void) {
 "#;
 
 const ECHO: &str =
-    r#"/* The input is written again: getchar gives its bytes, and -1 behind the last. */
+    r#"/* The input is written again: getchar gives its bytes, and -1 behind the last.
+   Output: the input. Then `exit 0`, status 0. */
 int main(void) {
     int c = getchar();
     while (c >= 0) {

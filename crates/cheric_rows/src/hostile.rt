@@ -1,10 +1,9 @@
 //! A hostile outside: each read and each put fails in turn, the notes fail in each mode, and brackets nest up to the limits.
 
-use crate::calls::{Answer, answers, answers_input, sure_file};
+use crate::calls::{Answer, answers, answers_input, built_file, sure_file};
 use cheric_build::build;
-use ck_base::{NoMemory, Pos, Refusal, SureFiles};
+use ck_base::{NoMemory, Refusal};
 use std::alloc::Global;
-use std::fmt::Write;
 use std::test::Fail;
 
 /// A file that copies its input.
@@ -23,24 +22,10 @@ const FAILING: [(u64, u64, u8, &str, &str); 9] = [
     (0, 4, 0, "abc", "exit 0\n"),
 ];
 
-/// The file that copies its input, and what is built of it.
-fn copying(alloc: Global) -> Result<SureFiles, Fail> {
-    let mut files = sure_file(alloc, "a.c", COPY.as_bytes())?;
-    let mut line = String::new(alloc);
-    writeln!(line, "built {}", build(alloc, COPY.as_bytes())?.elf.len())?;
-    let answer = Answer {
-        status: 0,
-        put: "",
-        line: &line,
-    };
-    let is_built = answers(alloc, &mut files, "cheric build a.c", [0; 2], answer)?;
-    Ok(is_built.then_some(files).ok_or("not built")?)
-}
-
 #[test]
 fn each_read_and_each_put_fails(rt: HostRuntime) -> Result<(), Fail> {
     let alloc = rt.alloc();
-    let mut files = copying(alloc)?;
+    let mut files = built_file(alloc, COPY)?;
     for &(read, byte, status, put, line) in &FAILING {
         let answer = Answer { status, put, line };
         for words in ["cheric run a.c", "cheric exec a.c.elf"] {
@@ -55,7 +40,7 @@ fn each_read_and_each_put_fails(rt: HostRuntime) -> Result<(), Fail> {
 }
 
 /// Words in each mode, each with its own message, which the notes don't take.
-const MODES: [&str; 9] = [
+const MODES: [&str; 12] = [
     "cheric run a.c",
     "cheric run a.c --steps 1",
     "cheric run b.c",
@@ -64,13 +49,16 @@ const MODES: [&str; 9] = [
     "cheric exec a.c.elf",
     "cheric exec a.c",
     "cheric audit a.c.elf",
+    "cheric map b.c",
+    "cheric list b.c",
+    "cheric gen 0",
     "cheric",
 ];
 
 #[test]
 fn the_notes_fail_in_each_mode(rt: HostRuntime) -> Result<(), Fail> {
     let alloc = rt.alloc();
-    let mut files = copying(alloc)?;
+    let mut files = built_file(alloc, COPY)?;
     let answer = Answer {
         status: 22,
         put: "",
@@ -95,27 +83,25 @@ fn nested(alloc: Global, count: usize) -> Result<String, NoMemory> {
     Ok(file)
 }
 
-/// Why the file of so many brackets is not built.
-fn refusal_of(alloc: Global, count: usize) -> Result<Option<Refusal>, NoMemory> {
+/// Whether the command answers the file of so many brackets by this status and line.
+fn is_answered(alloc: Global, count: usize, status: u8, line: &str) -> Result<bool, NoMemory> {
     let file = nested(alloc, count)?;
-    Ok(build(alloc, file.as_bytes()).err())
+    let mut files = sure_file(alloc, "a.c", file.as_bytes())?;
+    let answer = Answer {
+        status,
+        put: "",
+        line,
+    };
+    answers(alloc, &mut files, "cheric run a.c", [0; 2], answer)
 }
 
 #[test]
 fn brackets_nest_up_to_the_limits(rt: HostRuntime) -> Result<(), Fail> {
     let alloc = rt.alloc();
-    let file = nested(alloc, 100)?;
-    let mut files = sure_file(alloc, "a.c", file.as_bytes())?;
-    let answer = Answer {
-        status: 1,
-        put: "",
-        line: "exit 1\n",
-    };
-    assert!(rt; answers(alloc, &mut files, "cheric run a.c", [0; 2], answer)?);
-    let deep = refusal_of(alloc, 199)?;
+    assert!(rt; is_answered(alloc, 100, 1, "exit 1\n")?);
+    let deep = build(alloc, nested(alloc, 199)?.as_bytes()).err();
     assert!(rt; matches!(deep, Some(Refusal::Code(120, _))));
     // a file of more than 200 open brackets, of which the function's body is the first
-    let deeper = refusal_of(alloc, 200)?;
-    assert_eq!(rt; deeper, Some(Refusal::Code(121, Pos { line: 1, col: 222 })));
+    assert!(rt; is_answered(alloc, 200, 10, "refused 121 1:222\n")?);
     Ok(())
 }

@@ -126,6 +126,27 @@ fn cut_files_are_refused(rt: HostRuntime) -> Result<(), Fail> {
     Ok(())
 }
 
+/// The number of words before the relocations of a file whose text has a multiple of 16 bytes.
+fn words_before_relocs(elf: &[u8]) -> usize {
+    let initial = View::read(elf).map_or(0, |view| view.initial().len());
+    words_in(elf).saturating_add(initial.div_ceil(16).saturating_mul(4))
+}
+
+/// An object whose bounds are told exactly, and its use past them.
+const OBJECT: &str = "char a[4095];int main(void){a[4094]=1;a[4095]=1;return 0;}";
+
+#[test]
+fn a_relocation_without_a_place_is_refused(rt: HostRuntime) -> Result<(), Fail> {
+    let alloc = rt.alloc();
+    let elf = build(alloc, OBJECT.as_bytes())?.elf;
+    let k = words_before_relocs(&elf);
+    let lower = with_word(alloc, &elf, k, 0)?;
+    let bytes = with_word(alloc, &lower, k.saturating_add(1), 0)?;
+    assert!(rt; bytes.as_slice() != elf.as_slice());
+    assert!(rt; is_refused(alloc, &bytes, "image 13\n")?);
+    Ok(())
+}
+
 /// Words, a C file, the failing call of the files and of the notes, with the status and line of an answer that puts no name.
 const UNPUT: [(&str, &str, u64, u64, u8, &str); 7] = [
     (

@@ -1,12 +1,13 @@
 //! Images by hand: written to their files, read, loaded and run.
 
 use crate::calls::{Answer, answers, one_file};
+use crate::version_1::{TAIL, WORDS};
 use cap_machine::End;
 use cheric_build::build;
 use ck_base::{NoMemory, SureSink, SureSource};
 use elf_file::{ElfRefusal, Image, Reloc, Sequence, View, write};
 use image_load::{LoadRefusal, load};
-use std::alloc::Global;
+use std::alloc::{AllocError, Global};
 use std::test::Fail;
 
 const TEXT: u64 = 65_536;
@@ -223,6 +224,40 @@ fn the_command_runs_or_refuses_images(rt: HostRuntime) -> Result<(), Fail> {
     Ok(())
 }
 
+/// The file of version 1.
+fn first_version(alloc: Global) -> Result<Vec<u8>, AllocError> {
+    let mut file = Vec::new(alloc);
+    for word in &WORDS {
+        file.extend_from_slice(&word.to_le_bytes())?;
+    }
+    file.extend_from_slice(&TAIL)?;
+    Ok(file)
+}
+
+/// The version word of the file stands here.
+const VERSION_AT: usize = 960;
+
+/// The version word of the file, with the status, output and line of the command's mode `exec`.
+const VERSIONS: [(u8, u8, &str, &str); 2] = [(1, 0, "Hi", "exit 0\n"), (2, 12, "", "image 6\n")];
+
+#[test]
+fn the_command_runs_a_file_of_version_1(rt: HostRuntime) -> Result<(), Fail> {
+    let alloc = rt.alloc();
+    let mut elf = first_version(alloc)?;
+    for &(version, status, put, line) in &VERSIONS {
+        if VERSION_AT < elf.len() {
+            elf[VERSION_AT] = version;
+        }
+        let mut files = one_file(alloc, "a.elf", &elf, 0)?;
+        let answer = Answer { status, put, line };
+        assert!(rt;
+            answers(alloc, &mut files, "cheric exec a.elf", [0; 2], answer)?,
+            "{line}"
+        );
+    }
+    Ok(())
+}
+
 /// A sentry's permissions on the table, and all permissions but Execute on the text.
 const EXECUTE: Reloc = Reloc {
     perms: 0x8000_0000_0000_0003,
@@ -305,7 +340,7 @@ fn first_wrong_byte(alloc: Global, elf: &mut [u8]) -> Option<usize> {
 #[test]
 fn built_files_are_refused_at_each_cut_and_header_byte(rt: HostRuntime) -> Result<(), Fail> {
     let alloc = rt.alloc();
-    let mut elf = build(alloc, b"int main(void){putchar(72);return 0;}")?.elf;
+    let mut elf = build(alloc, b"int main(void){putchar(72);putchar(105);return 0;}")?.elf;
     assert_eq!(rt; first_wrong_cut(alloc, &elf), None);
     assert_eq!(rt; first_wrong_byte(alloc, &mut elf), None);
     Ok(())

@@ -38,6 +38,8 @@ mod text_commands;
 #[cfg(test)]
 mod typed_files;
 #[cfg(test)]
+mod version_1;
+#[cfg(test)]
 mod whole_files;
 #[cfg(test)]
 mod whole_language;

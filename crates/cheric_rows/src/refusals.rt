@@ -6,7 +6,7 @@ use std::alloc::Global;
 use std::test::Fail;
 
 /// Files, and what the command says of them: mostly the whole line.
-const REFUSED: [(&str, &str); 16] = [
+const REFUSED: [(&str, &str); 17] = [
     ("", "refused 135 1:1\n"),
     ("int main(void){return 0;}@", "refused 100 1:26\n"),
     ("int main(void){return 0;}/*", "refused 101 1:26\n"),
@@ -24,6 +24,10 @@ const REFUSED: [(&str, &str); 16] = [
         "refused 131 1:12\n",
     ),
     ("struct S s;int main(void){return 0;}", "refused 132 1:10\n"),
+    (
+        "struct S;struct S f(void);int main(void){f();return 0;}",
+        "refused 132 1:42\n",
+    ),
     ("int main(void){int *p=5;return 0;}", "refused 133 1:23\n"),
     (
         "int n;int a[n];int main(void){return 0;}",

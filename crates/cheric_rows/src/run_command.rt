@@ -12,7 +12,7 @@ use std::test::Fail;
 const HI: &str = "int main(void){putchar(72);putchar(105);return 0;}";
 
 /// Files, with their status, output and line.
-const FILES: [(&str, u8, &str, &str); 17] = [
+const FILES: [(&str, u8, &str, &str); 18] = [
     (HI, 0, "Hi", "exit 0\n"),
     (
         "int main(void){putchar(328);putchar(361);return 0;}",
@@ -22,6 +22,7 @@ const FILES: [(&str, u8, &str, &str); 17] = [
     ),
     ("int main(void){return 300;}", 1, "", "exit 44\n"),
     ("int main(void){return 2047;}", 1, "", "exit 255\n"),
+    ("int main(void){return 2048;}", 0, "", "exit 0\n"),
     ("int main(void){return 256;}", 0, "", "exit 0\n"),
     ("int main(void){return -1;}", 1, "", "exit 255\n"),
     (
@@ -210,26 +211,27 @@ fn lines_are_answered(rt: HostRuntime) -> Result<(), Fail> {
 fn many_puts(alloc: Global, count: usize) -> Result<String, NoMemory> {
     let mut file = String::from_str(alloc, "int main(void){")?;
     file.push_str(&"putchar(65);".repeat(alloc, count)?)?;
-    file.push_str("return 7;}")?;
+    file.push_str("return 0;}")?;
     Ok(file)
 }
 
+/// How many bytes are put, with the status and line. Each put weighs 6, and the rest 11.
+const PUTS: [(usize, u8, &str); 4] = [
+    (14, 0, "exit 0\n"),
+    (15, 0, "exit 0\n"),
+    (1_294, 0, "exit 0\n"),
+    (1_295, 10, "refused 142 1:1\n"),
+];
+
 #[test]
-fn a_weight_of_a_hundred_is_built_and_more_is_too(rt: HostRuntime) -> Result<(), Fail> {
+fn a_weight_up_to_the_limit_is_built(rt: HostRuntime) -> Result<(), Fail> {
     let alloc = rt.alloc();
-    let most = Answer {
-        status: 1,
-        put: "AAAAAAAAAAAAAA",
-        line: "exit 7\n",
-    };
-    let more = Answer {
-        status: 1,
-        put: "AAAAAAAAAAAAAAA",
-        line: "exit 7\n",
-    };
-    for &(count, answer) in &[(14, most), (15, more)] {
+    for &(count, status, line) in &PUTS {
         let file = many_puts(alloc, count)?;
-        assert_eq!(rt; runs(alloc, &file, [0; 3], answer), Ok(true), "{count}");
+        let bytes = "A".repeat(alloc, count)?;
+        let put = if status == 0 { bytes.as_str() } else { "" };
+        let answer = Answer { status, put, line };
+        assert!(rt; runs(alloc, &file, [0; 3], answer)?, "{count}");
     }
     Ok(())
 }

@@ -1,21 +1,27 @@
 //! Programs of the whole language by the command: what they put, and how they end.
 
-use crate::calls::{Answer, answers, answers_input, one_file, sure_file};
+use crate::calls::{Answer, answers, answers_input, built_file, one_file};
 use crate::whole_files::WORDS;
-use bounds_place::Sizes;
+use bounds_place::{Sizes, USUAL};
 use cheric_build::build_sized;
 use ck_base::{NoMemory, Refusal};
 use std::alloc::Global;
 use std::test::Fail;
 
 /// Files, with the status, output and line of a run.
-const PROGRAMS: [(&str, u8, &str, &str); 24] = [
+const PROGRAMS: [(&str, u8, &str, &str); 32] = [
     // parameters past eight, a pointer among them, by a pointer to the function and by its name
     (
         "int f(int a,int b,int c,int d,int e,int g,int h,int i,char*p,int j){putchar(p[j]);return a<b?f(a+1,b,c,d,e,g,h,i,p,j+1):c+i;}int main(void){int(*q)(int,int,int,int,int,int,int,int,char*,int)=f;return q(1,3,5,0,0,0,0,7,\"abc\",0);}",
         1,
         "abc",
         "exit 12\n",
+    ),
+    (
+        "int f(int a,int b,int c,int d,int e,int g,int h,int i,int j){return a-j;}int main(void){return f(9,0,0,0,0,0,0,0,2);}",
+        1,
+        "",
+        "exit 7\n",
     ),
     // an array has exact bounds
     (
@@ -57,6 +63,13 @@ const PROGRAMS: [(&str, u8, &str, &str); 24] = [
         "7",
         "trap tag 1:139\n",
     ),
+    // a copy by granules keeps the pointer, and one by bytes loses it
+    (
+        "int main(void){\nint x=6;int *a=&x;int *b;\nuintptr_t *s=(uintptr_t*)&a,*d=(uintptr_t*)&b;\n*d=*s;putchar(48+*b);\nunsigned char *t=(unsigned char*)&a,*e=(unsigned char*)&b;\nfor(int i=0;i<16;i=i+1)e[i]=t[i];\nputchar(48+*b);return 0;}",
+        2,
+        "6",
+        "trap tag 7:12\n",
+    ),
     // a byte that is stored over a pointer takes its tag
     (
         "int main(void){int x=5;int *p=&x;unsigned char *c=(unsigned char*)&p;c[0]=c[0];putchar(48+*p);return 0;}",
@@ -90,6 +103,20 @@ const PROGRAMS: [(&str, u8, &str, &str); 24] = [
         "A",
         "trap execute 5:9\n",
     ),
+    // nor a null pointer
+    (
+        "int main(void){int (*f)(int)=0;return f(1);}",
+        2,
+        "",
+        "trap tag 1:40\n",
+    ),
+    // each call comes back to its caller
+    (
+        "int f(int n){return n?f(n-1)+1:0;}int main(void){return f(100);}",
+        1,
+        "",
+        "exit 100\n",
+    ),
     // the heap has room for one allocation of its size
     (
         "int main(void){char *p=malloc(16777216);char *q=malloc(1);putchar(p?89:78);putchar(q?89:78);return 0;}",
@@ -97,26 +124,12 @@ const PROGRAMS: [(&str, u8, &str, &str); 24] = [
         "YN",
         "exit 0\n",
     ),
-    // a struct goes to a function by value, and comes back
+    // an allocation without bytes takes no room
     (
-        "struct P{int a[3];char c;};struct P f(struct P p,int k){p.a[0]=p.a[0]+k;return p;}int main(void){struct P q;q.a[0]=60;struct P r=f(q,5);putchar(r.a[0]);putchar(q.a[0]);return 0;}",
-        0,
-        "A<",
-        "exit 0\n",
-    ),
-    // calls stand in one another's arguments, and each has its own hidden locals
-    (
-        "struct P{int a;int b;};struct P s(struct P p,struct P q){p.a=p.a-q.b;return p;}struct P n(int a,int b){struct P p={a,b};return p;}int main(void){putchar(s(s(n(70,1),n(0,2)),s(n(9,3),n(0,3))).a);return 0;}",
-        0,
-        "A",
-        "exit 0\n",
-    ),
-    // through a pointer to the function, and of a union
-    (
-        "union U{char c;int i;};union U f(const union U u){union U v;v.i=u.c;return v;}int main(void){union U(*p)(union U)=f;union U u;u.c=75;putchar(p(u).i);return 0;}",
-        0,
-        "K",
-        "exit 0\n",
+        "int main(void){char *p=malloc(0);char *q=malloc(0);putchar(p==q?69:78);p[0]=1;return 0;}",
+        2,
+        "E",
+        "trap bounds 1:73\n",
     ),
     // a struct's pointer is copied with it
     (
@@ -129,6 +142,20 @@ const PROGRAMS: [(&str, u8, &str, &str); 24] = [
         "int main(void){char a[40];putchar(48+cheri_tag_get(a));putchar(cheri_length_get(a));putchar(48+cheri_tag_get(cheri_tag_clear(a)));return 0;}",
         0,
         "1(0",
+        "exit 0\n",
+    ),
+    // a sum derives from its left operand, where neither was a plain integer
+    (
+        "int main(void){int x=1;uintptr_t u=(uintptr_t)&x;uintptr_t v=5;return cheri_tag_get(v+u-v)+2*cheri_tag_get(u+v);}",
+        1,
+        "",
+        "exit 2\n",
+    ),
+    // bounds are not set wider
+    (
+        "int main(void){char a[8];char *p=cheri_bounds_set(a,9);putchar(48+cheri_tag_get(p));return 0;}",
+        0,
+        "0",
         "exit 0\n",
     ),
     // operands from left to right; an assignment takes its place first
@@ -170,6 +197,82 @@ const PROGRAMS: [(&str, u8, &str, &str); 24] = [
         "y",
         "exit 7\n",
     ),
+    // a size with a member's padding, a union, and an array in a value that is no place
+    (
+        "struct S{char a[4097];char b;};int main(void){return sizeof(struct S)/8%256;}",
+        1,
+        "",
+        "exit 2\n",
+    ),
+    (
+        "union U{int i;char c[4];};int main(void){union U u;u.i=66;putchar(u.c[0]);return 0;}",
+        0,
+        "B",
+        "exit 0\n",
+    ),
+    (
+        "struct S{char a[3];};int main(void){struct S s,t;s.a[2]=67;putchar((t=s).a[2]);return 0;}",
+        0,
+        "C",
+        "exit 0\n",
+    ),
+    // members of 4,096 bytes and more stand where their bounds are exact, and the others behind their padding
+    (
+        "struct W{char c;short m[4095];unsigned char a;};struct W g={1,{2,3},4};int main(void){struct W w;w=g;putchar(64+g.m[1]);putchar(64+g.a);putchar(64+w.m[1]);putchar(64+w.a);w.m[4094]=72;w.a=73;putchar(w.m[4094]);putchar(w.a);return w.m[0]+w.c;}",
+        1,
+        "CDCDHI",
+        "exit 3\n",
+    ),
+];
+
+/// Files in which structs and unions go to functions by value, with the status, output and line of a run.
+const BY_VALUE: [(&str, u8, &str, &str); 7] = [
+    // a struct goes to a function by value, and comes back
+    (
+        "struct P{int a[3];char c;};struct P f(struct P p,int k){p.a[0]=p.a[0]+k;return p;}int main(void){struct P q;q.a[0]=60;struct P r=f(q,5);putchar(r.a[0]);putchar(q.a[0]);return 0;}",
+        0,
+        "A<",
+        "exit 0\n",
+    ),
+    // calls stand in one another's arguments, and each has its own hidden locals
+    (
+        "struct P{int a;int b;};struct P s(struct P p,struct P q){p.a=p.a-q.b;return p;}struct P n(int a,int b){struct P p={a,b};return p;}int main(void){putchar(s(s(n(70,1),n(0,2)),s(n(9,3),n(0,3))).a);return 0;}",
+        0,
+        "A",
+        "exit 0\n",
+    ),
+    // through a pointer to the function, and of a union
+    (
+        "union U{char c;int i;};union U f(const union U u){union U v;v.i=u.c;return v;}int main(void){union U(*p)(union U)=f;union U u;u.c=75;putchar(p(u).i);return 0;}",
+        0,
+        "K",
+        "exit 0\n",
+    ),
+    // calls in the test of a loop
+    (
+        "struct S{int a[40];}s;struct S f(struct S x,struct S y){x.a[0]+=y.a[0];return x;}int main(void){s.a[0]=1;do putchar(48+f(s,f(s,s)).a[0]);while(f(s,s).a[0]>9);return 0;}",
+        0,
+        "3",
+        "exit 0\n",
+    ),
+    (
+        "struct S{int a[40];}s;struct S f(struct S x,int k){x.a[39]+=k;return x;}int main(void){int i=0;do putchar(48+i);while(f(s,++i).a[39]<3);return s.a[39]+i;}",
+        1,
+        "012",
+        "exit 3\n",
+    ),
+    (
+        "struct S{int a;char b[20];};struct S f(struct S x){x.a++;return x;}int main(void){int n=0;for(struct S t={0};f(t).a<4;t=f(t))putchar(65+n++);struct S u={0};while(f(f(u)).a<4){u=f(u);putchar(97+u.a);}return f(f(u)).a;}",
+        1,
+        "ABCbc",
+        "exit 4\n",
+    ),
+    (
+        "struct S{int a[40];}s;struct S f(struct S x,struct S y){x.a[0]+=y.a[0];return x;}int main(void){int n=0;s.a[0]=1;do{do{n++;if(n%2)continue;putchar(48+n);}while(f(s,s).a[0]>n);n++;}while(f(s,f(s,f(s,s))).a[0]>n);return n;}",
+        1,
+        "24",
+        "exit 5\n",
+    ),
 ];
 
 /// Whether running the file is answered so.
@@ -188,17 +291,28 @@ fn programs_of_the_whole_language_run(rt: HostRuntime) -> Result<(), Fail> {
 }
 
 #[test]
+fn structs_and_unions_go_by_value(rt: HostRuntime) -> Result<(), Fail> {
+    for &(file, status, put, line) in &BY_VALUE {
+        let answer = Answer { status, put, line };
+        assert!(rt; runs(rt.alloc(), file, answer)?, "{file}");
+    }
+    Ok(())
+}
+
+#[test]
 fn words_are_counted(rt: HostRuntime) -> Result<(), Fail> {
     let alloc = rt.alloc();
-    let mut files = sure_file(alloc, "a.c", WORDS.as_bytes())?;
+    let mut files = built_file(alloc, WORDS)?;
     let answer = Answer {
         status: 0,
         put: "be 2\nnot 1\nor 1\nto 2\n",
         line: "exit 0\n",
     };
-    let input = (b"to be or not to be\n".as_slice(), 0);
-    let counts = answers_input(alloc, &mut files, "cheric run a.c", input, [0; 2], answer)?;
-    assert!(rt; counts);
+    for words in ["cheric run a.c", "cheric exec a.c.elf"] {
+        let input = (b"to be or not to be\n".as_slice(), 0);
+        let counts = answers_input(alloc, &mut files, words, input, [0; 2], answer)?;
+        assert!(rt; counts, "{words}");
+    }
     Ok(())
 }
 
@@ -234,42 +348,52 @@ const DEEP: &str = "int f(int n){putchar(46);return f(n+1);}int main(void){retur
 
 /// The smallest stack that there is.
 const SMALL: Sizes = Sizes {
-    heap: 16_777_216,
     stack: 65_536,
+    ..USUAL
 };
 
-/// How many calls of the first function stand on the smallest stack beside one of the second.
-fn depth(alloc: Global) -> Result<u64, Refusal> {
-    let map = build_sized(alloc, DEEP.as_bytes(), SMALL)?.map;
-    match map.frames.as_slice() {
-        [f, main] if f.size > 0 && main.size <= 65_536 => Ok((65_536 - main.size) / f.size),
-        _ => Ok(0),
+/// How many calls of the first function stand on the stack beside one of the second.
+fn depth(alloc: Global, sizes: Sizes) -> Result<u64, Refusal> {
+    if !sizes.in_range() {
+        return Ok(0);
+    }
+    let map = build_sized(alloc, DEEP.as_bytes(), sizes)?.map;
+    let [f, main] = map.frames.as_slice() else {
+        return Ok(0);
+    };
+    if f.align == 16 && main.align == 16 && f.size > 0 && main.size <= sizes.stack {
+        Ok((sizes.stack - main.size) / f.size)
+    } else {
+        Ok(0)
     }
 }
+
+/// Words that choose a stack, and the sizes.
+const STACKS: [(&str, Sizes); 2] = [
+    ("cheric run a.c", USUAL),
+    ("cheric run a.c --stack 65536", SMALL),
+];
 
 #[test]
 fn the_stack_has_the_chosen_length(rt: HostRuntime) -> Result<(), Fail> {
     let alloc = rt.alloc();
-    let mut dots = String::new(alloc);
-    for _ in 0..depth(alloc)? {
-        dots.push_str(".")?;
+    for &(words, sizes) in &STACKS {
+        let mut dots = String::new(alloc);
+        for _ in 0..depth(alloc, sizes)? {
+            dots.push_str(".")?;
+        }
+        assert!(rt; dots.len() > 0, "{words}");
+        let mut files = one_file(alloc, "a.c", DEEP.as_bytes(), 0)?;
+        let answer = Answer {
+            status: 3,
+            put: &dots,
+            line: "stack 1:5\n",
+        };
+        assert!(rt;
+            answers(alloc, &mut files, words, [0; 2], answer)?,
+            "{words}"
+        );
     }
-    assert!(rt; dots.len() > 0);
-    let mut files = one_file(alloc, "a.c", DEEP.as_bytes(), 0)?;
-    let answer = Answer {
-        status: 3,
-        put: &dots,
-        line: "stack 1:5\n",
-    };
-    assert!(rt;
-        answers(
-            alloc,
-            &mut files,
-            "cheric run a.c --stack 65536",
-            [0; 2],
-            answer
-        )?
-    );
     Ok(())
 }
 

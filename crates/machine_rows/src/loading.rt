@@ -1,18 +1,13 @@
 //! Images as their files, and the machine or the refusal that they load to.
 
-mod version_1;
-
 use cap_concentrate::{bounds_of, flip_null, unpack};
-use cap_machine::{End, Machine};
+use cap_machine::Machine;
 use cap_ops::{Cap, SENTRY, UNSEALED, null};
-use ck_base::{MemSink, NoMemory, SureSource};
-use elf_file::{ElfRefusal, Image, Reloc, Sequence, View, write};
+use elf_file::{Image, Reloc, Sequence, View, write};
 use image_load::{LoadRefusal, load};
 use std::alloc::{AllocError, Global};
 use std::process::Abort;
-use std::test::Fail;
 use tag_mem::Mem;
-use version_1::{TAIL, WORDS};
 
 /// The base of 64 bytes of initial data.
 const INITIAL: u64 = 65_536;
@@ -312,47 +307,4 @@ fn refusals_have_numbers(rt: HostRuntime) {
     ] {
         assert!(rt; refusal.number() == number, "{refusal:?}");
     }
-}
-
-/// The file of version 1.
-fn first_version(alloc: Global) -> Result<Vec<u8>, AllocError> {
-    let mut file = Vec::new(alloc);
-    for word in &WORDS {
-        file.extend_from_slice(&word.to_le_bytes())?;
-    }
-    file.extend_from_slice(&TAIL)?;
-    Ok(file)
-}
-
-/// How the run of a file ends, and what it puts.
-fn ran(alloc: Global, file: &[u8]) -> Result<Option<(End, Vec<u8>)>, NoMemory> {
-    let Some(Ok(mut machine)) = loaded(alloc, file) else {
-        return Ok(None);
-    };
-    let mut input = SureSource::new(Vec::new(alloc));
-    let mut out = MemSink::new(alloc, 8, Vec::new(alloc))?;
-    let end = machine.run(1000, &mut input, &mut out);
-    Ok(Some((end, Vec::from_slice(alloc, out.bytes())?)))
-}
-
-#[test]
-fn a_file_of_version_1_loads_and_runs(rt: HostRuntime) -> Result<(), Fail> {
-    let file = first_version(rt.alloc())?;
-    let (end, put) = ran(rt.alloc(), &file)?.ok_or("no image that loads")?;
-    assert!(rt; end == End::Exit(0));
-    assert!(rt; put.as_slice() == b"Hi".as_slice());
-    Ok(())
-}
-
-/// The version word of the file stands here.
-const VERSION_AT: usize = 960;
-
-#[test]
-fn its_version_word_can_not_be_2(rt: HostRuntime) -> Result<(), Fail> {
-    let mut file = first_version(rt.alloc())?;
-    if VERSION_AT < file.len() {
-        file[VERSION_AT] = 2;
-    }
-    assert!(rt; View::read(&file).err() == Some(ElfRefusal::Version));
-    Ok(())
 }

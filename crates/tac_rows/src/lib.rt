@@ -9,6 +9,8 @@
 #[cfg(test)]
 mod costs;
 #[cfg(test)]
+mod homes;
+#[cfg(test)]
 mod selection;
 #[cfg(test)]
 mod three_address_code;
