@@ -86,6 +86,10 @@ def promise_faults(page, text, known):
 def told(page, text):
     """The programs that stand in a row beside the line by which they end."""
     for cells in rows_of(text):
+        alone = [re.fullmatch(r"`([^`]*)`", it.replace("\\|", "|")) for it in cells[:2]]
+        if all(alone) and alone[0][1].startswith(("trap ", "refused ")):
+            yield alone[1][1], alone[0][1]
+            continue
         lines = re.findall(r"`((?:trap|stack|exit|refused) [^`]*)`", " ".join(cells))
         files = re.findall(r"`([^`]*main *\([^`]*)`", " ".join(cells).replace("\\|", "|"))
         if len(files) == 1 and len(lines) >= 1:

@@ -1,11 +1,12 @@
 #!/usr/bin/env python3
 """bench/refused_memory.py [--only NAME]: the proved command with one allocation refused at a time.
 
-For three files (one that puts two bytes, one that calls itself, one that counts words) the command runs once for each
-number from 1 on, in each of the modes `run`, `build`, `map` and `list`, with the allocation of that number refused,
-until a run makes fewer. The answer must be the file's own, or that of `memory` with nothing put and no file. A library before
-the C library's counts the allocations; gcc builds it. Each line has a file, a mode, and how many allocations were
-refused. It needs what ./cheric needs, and gcc. It proves nothing and is no part of the gate."""
+Three files (one that puts two bytes, one that calls itself, one that counts the words of its input) in each of the modes
+`run`, `build`, `exec`, `map` and `list`, and `gen 3`. A line of words runs once for each number from 1 on, with the
+allocation of that number refused, until a run makes fewer. The answer must be the line's own, or that of `memory` with
+nothing put and no file. A library before the C library's counts the allocations; gcc builds it. Each line printed has a
+file, a mode, and how many allocations were refused. It needs what ./cheric needs, and gcc. It proves nothing and is no
+part of the gate."""
 import argparse
 import os
 import subprocess
@@ -15,12 +16,12 @@ import tempfile
 from calls import ROOT, timed
 
 MEMORY = 30
-MODES = ("run", "build", "map", "list")
+MODES = ("run", "build", "exec", "map", "list")
 MOST = 100_000
 FILES = {
-    "hi": "int main(void){putchar(72);putchar(105);return 0;}",
-    "calls": "int f(int n){return n<2?1:n*f(n-1);}int main(void){putchar(65);return f(5);}",
-    "words": None,
+    "hi": ("int main(void){putchar(72);putchar(105);return 0;}", b""),
+    "calls": ("int f(int n){return n<2?1:n*f(n-1);}int main(void){putchar(65);return f(5);}", b""),
+    "words": (None, b"to be or not to be\n"),
 }
 COUNTS = r"""
 #define _GNU_SOURCE
@@ -58,48 +59,61 @@ class Command:
 
     def __init__(self, program, folder):
         self.program, self.folder, self.library = program, folder, f"{folder}/counts.so"
+        self.file, self.elf = f"{folder}/a.c", f"{folder}/a.c.elf"
         with open(f"{folder}/counts.c", "w", encoding="utf-8") as file:
             file.write(COUNTS)
         subprocess.run(["gcc", "-shared", "-fPIC", "-O1", "-o", self.library, f"{folder}/counts.c", "-ldl"], check=True)
 
-    def answer(self, mode, number):
-        """What a run puts, its line, its status, and whether it left an ELF file; an allocation is refused, or none."""
-        elf = f"{self.folder}/a.c.elf"
-        if os.path.exists(elf):
-            os.remove(elf)
-        around = {**os.environ, "LD_PRELOAD": self.library, **({"REFUSED": str(number)} if number else {})}
-        run = subprocess.run([self.program, mode, f"{self.folder}/a.c"], env=around, stdin=subprocess.DEVNULL,
-                             capture_output=True, check=False)
-        return run.stdout, run.stderr, run.returncode, os.path.exists(elf)
+    def holds(self, name):
+        """The file of that name is the folder's, and its input is given."""
+        text, given = FILES[name]
+        if text is None:
+            with open(f"{ROOT}/examples/{name}.c", encoding="utf-8") as file:
+                text = file.read()
+        with open(self.file, "w", encoding="utf-8") as file:
+            file.write(text)
+        return given
 
-    def refused(self, name, mode):
-        """The numbers of allocations that were refused, and of answers that are none of the two."""
-        own, otherwise = self.answer(mode, 0), 0
+    def answer(self, words, given, number):
+        """What a run puts, its line, its status, and whether `build` left a file; an allocation is refused, or none."""
+        if words[0] == "build" and os.path.exists(self.elf):
+            os.remove(self.elf)
+        around = {**os.environ, "LD_PRELOAD": self.library, **({"REFUSED": str(number)} if number else {})}
+        run = subprocess.run([self.program, *words], env=around, input=given, capture_output=True, check=False)
+        return run.stdout, run.stderr, run.returncode, words[0] == "build" and os.path.exists(self.elf)
+
+    def refused(self, name, words, given):
+        """How many answers are neither the line's own nor that of `memory`, one for each number of allocation."""
+        own, otherwise = self.answer(words, given, 0), 0
         for number in range(1, MOST):
-            got = self.answer(mode, number)
+            got = self.answer(words, given, number)
             if got[2] == FEWER:
-                print(f"{name} {mode}: {number - 1} allocations refused, {otherwise} answered otherwise", flush=True)
+                print(f"{name} {words[0]}: {number - 1} allocations refused, {otherwise} answered otherwise", flush=True)
                 return otherwise
             if got not in (own, (b"", b"memory\n", MEMORY, False)):
                 otherwise += 1
-                print(f"{name} {mode} {number}: {got}", flush=True)
-        raise SystemExit(f"{name} {mode}: more than {MOST} allocations")
+                print(f"{name} {words[0]} {number}: {got}", flush=True)
+        raise SystemExit(f"{name} {words[0]}: more than {MOST} allocations")
+
+    def in_each_mode(self, name):
+        """The answers that are otherwise in all modes. `exec` takes the file that `build` leaves."""
+        given, otherwise = self.holds(name), 0
+        for mode in MODES:
+            if mode == "exec":
+                self.answer(["build", self.file], given, 0)
+            otherwise += self.refused(name, [mode, self.elf if mode == "exec" else self.file], given)
+        return otherwise
 
 
 def main():
     words = argparse.ArgumentParser(description=__doc__, formatter_class=argparse.RawDescriptionHelpFormatter)
-    words.add_argument("--only", choices=FILES)
+    words.add_argument("--only", choices=[*FILES, "gen"])
     only, otherwise = words.parse_args().only, 0
     with tempfile.TemporaryDirectory() as folder:
         command = Command(timed(), folder)
-        for name, text in FILES.items():
-            if only in (None, name):
-                if text is None:
-                    with open(f"{ROOT}/examples/{name}.c", encoding="utf-8") as file:
-                        text = file.read()
-                with open(f"{folder}/a.c", "w", encoding="utf-8") as file:
-                    file.write(text)
-                otherwise += sum(command.refused(name, mode) for mode in MODES)
+        otherwise += sum(command.in_each_mode(name) for name in FILES if only in (None, name))
+        if only in (None, "gen"):
+            otherwise += command.refused("gen", ["gen", "3"], b"")
     print(f"{otherwise} answered otherwise")
     return 1 if otherwise else 0
 
