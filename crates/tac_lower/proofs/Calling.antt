@@ -1,5 +1,5 @@
 -- Calls: the function that is named, the arguments so far, and intrinsics.
-use Rattle.std.proofs.Common.{◌≡◌, ℕ, zero, suc, ◌+◌, ◌*◌, ◌<◌, ◌≤◌, ◌⊎◌, ⊎_elim, Bool, true, false, List, [], ◌∷◌, ◌++◌, map, length, take, get_or, Option, Some, None, IfSome, refl, sym, ap, ◌∙◌, subst, arith, unwrap_or}
+use Rattle.std.proofs.Common.{◌≡◌, ℕ, zero, suc, ◌+◌, ◌-◌, ◌*◌, ◌<◌, ◌≤◌, ◌⊎◌, ⊎_elim, Bool, true, false, List, [], ◌∷◌, ◌++◌, map, length, take, get_or, Option, Some, None, IfSome, refl, sym, ap, ◌∙◌, subst, arith, unwrap_or, length-append}
 use Rattle.std.specs.Prelude.{slice_get, sum_by, ◌==◌, ◌||◌}
 use Rattle.std.proofs.lemmas.List.{map-append, take_more}
 use Rattle.std.proofs.lemmas.List.Sums.{sum_by-append, sum_by-cons, sum_by-take-le}
@@ -14,6 +14,9 @@ use Rattle.c_tree.specs.Terms.{terms, type_of}
 use Rattle.c_tree.specs.Types as ty
 use Rattle.c_tree.specs.Types.{Ty, Tys, Function, Pointer}
 use Rattle.c_tree.specs.WellTyped.{type_in, AllAskedFit, list_of, Decays, holds}
+use Rattle.tac_ir.specs.Costs.{places_cost, service_cost}
+use Rattle.tac_ir.specs.declared.code.LibOp.{LibOp}
+use Rattle.tac_ir.specs.declared.code.LibOp.TheVariants as lib
 use Rattle.tac_ir.specs.WellFormed.{signature_of, signature_of_function}
 use Rattle.tac_ir.specs.declared.code.TacKind.{TacKind}
 use Rattle.tac_ir.specs.declared.code.TacKind.TheVariants as kinds
@@ -27,10 +30,13 @@ use Rattle.tac_lower.specs.Emitted.{HasKind, HasInt, HasCapability, HasRoom}
 use Rattle.tac_lower.specs.Nodes.{expression, kind_in, scalar_in, kept_as, or_int, weight_in, weights_in, IsTyped}
 use Rattle.tac_lower.specs.Scenes.{Ready, Scene, Lowered, frame_of}
 use Rattle.tac_lower.specs.Services.{ServiceAsks, IntrinsicFits}
+use Rattle.tac_lower.specs.Spent.{Spends, SpendsOperand}
 use Rattle.tac_lower.specs.Signed.{HaveKinds, ResultFits, NamesType, signature_as}
 use Rattle.tac_lower.proofs.Nodes.{decays, decay_node, fun_node}
 use Rattle.tac_lower.proofs.Scening.{kept_lowered, lowered_none, lowered_then}
 use Rattle.tac_lower.proofs.Services.{work_fits, address_fits, bounds_fit}
+use Rattle.tac_lower.proofs.Spending.{nothing, after, within}
+use Rattle.tac_lower.proofs.Steps.{heavy}
 use Rattle.tac_lower.proofs.Signatures.{named_signature, signature_is}
 use Rattle.tac_lower.proofs.Wells.{as_int}
 
@@ -125,27 +131,58 @@ have_more e (u ∷ ts) [] t k h g = absurd h
 have_more e (u ∷ ts) (j ∷ ks) t k h g = (h.0, have_more e ts ks t k h.1 g)
 
 -- so many arguments have their values in temps
-pub record ArgumentsTo (p : Typed) (d : FunDef) (types : List TypeFacts) (homes : List Home) (old new : Emitter) (args ts : List ℕ) : Type 0 where
+pub record ArgumentsTo (fixed : ℕ) (p : Typed) (d : FunDef) (types : List TypeFacts) (homes : List Home) (old new : Emitter) (args ts : List ℕ) : Type 0 where
   pub kinds : HaveKinds new ts (map (kind_in p) args)
   pub lowered : Lowered p d types homes old new (4 * weights_in p args)
+  pub spends : Spends fixed old new (2 * weights_in p args - length args) (32 * weights_in p args - 21 * length args)
 
-module _ {p : Typed} {d : FunDef} {types : List TypeFacts} {homes : List Home} where
-  pub arguments_none : {a : Emitter} → Scene p d types homes a → ArgumentsTo p d types homes a a [] []
-  arguments_none {a = a} s = record { kinds = tt; lowered = lowered_none p d types homes a (4 * weights_in p []) s }
+-- each weighs 1 at least
+pub weights_heavy : (p : Typed) (args : List ℕ) → length args ≤ weights_in p args
+weights_heavy p [] = omega arith
+weights_heavy p (x ∷ args) = omega (arith, heavy (expression p x), weights_heavy p args, sum_by-cons (λ j. weight_in p j) x args)
 
-  pub arguments_more : {a b c : Emitter} {args ts : List ℕ} (x t : ℕ) → ArgumentsTo p d types homes a b args ts → HasKind c t (kind_in p x) → Lowered p d types homes b c (4 * weight_in p x)
-      → ArgumentsTo p d types homes a c (args ++ x ∷ []) (ts ++ t ∷ [])
-  arguments_more {a = a} {b = b} {c = c} {args = args} {ts = ts} x t h k l = record {
+pub kinds_count : (p : Typed) (e : Emitter) (ts args : List ℕ) → HaveKinds e ts (map (kind_in p) args) → length ts ≡ length args
+kinds_count p e [] [] h = refl
+kinds_count p e [] (x ∷ args) h = absurd h
+kinds_count p e (t ∷ ts) [] h = absurd h
+kinds_count p e (t ∷ ts) (x ∷ args) h = ap suc (kinds_count p e ts args h.1)
+
+pub places_small : (n : ℕ) → places_cost n ≤ 6 * n
+places_small n = omega arith
+
+pub service_small : (op : LibOp) → service_cost op ≤ 34
+service_small lib.PutChar = omega arith
+service_small lib.GetChar = omega arith
+service_small lib.Malloc = omega arith
+service_small lib.Exit = omega arith
+
+module _ {fixed : ℕ} {p : Typed} {d : FunDef} {types : List TypeFacts} {homes : List Home} where
+  pub arguments_none : {a : Emitter} → Scene p d types homes a → ArgumentsTo fixed p d types homes a a [] []
+  arguments_none {a = a} s = record { kinds = tt; lowered = lowered_none p d types homes a (4 * weights_in p []) s; spends = within nothing (omega arith) (omega arith) }
+
+  pub arguments_more : {a b c : Emitter} {args ts : List ℕ} (x t : ℕ) → ArgumentsTo fixed p d types homes a b args ts → HasKind c t (kind_in p x) → Lowered p d types homes b c (4 * weight_in p x) → SpendsOperand fixed (weight_in p x) b c
+      → ArgumentsTo fixed p d types homes a c (args ++ x ∷ []) (ts ++ t ∷ [])
+  arguments_more {a = a} {b = b} {c = c} {args = args} {ts = ts} x t h k l s = record {
     kinds =
         subst (λ z. HaveKinds c (ts ++ t ∷ []) z) (sym (map-append (kind_in p) args (x ∷ [])))
         (have_more c ts (map (kind_in p) args) t (kind_in p x) (have_kept b c ts (map (kind_in p) args) (λ u j g. kept_lowered p d types homes b c u j (4 * weight_in p x) g l) h.kinds) k);
     lowered = lowered_then p d types homes a b c (4 * weights_in p args) (4 * weight_in p x) (4 * weights_in p (args ++ x ∷ [])) h.lowered l weight;
+    spends = within (after h.spends s) (omega (arith, more, count, many, heavy (expression p x))) (omega (arith, more, count, many, heavy (expression p x)));
   }
     where
+      many : length args ≤ weights_in p args
+      many = weights_heavy p args
+
+      count : length (args ++ x ∷ []) ≡ length args + 1
+      count = length-append args (x ∷ [])
+
+      more : weights_in p (args ++ x ∷ []) ≡ weights_in p args + weight_in p x
+      more = let e = sum_by-append (λ j. weight_in p j) args (x ∷ []) in let f = sum_by-cons (λ j. weight_in p j) x [] in omega (arith, e, f)
+
       weight : 4 * weights_in p args + 4 * weight_in p x ≤ 4 * weights_in p (args ++ x ∷ [])
       weight = let e = sum_by-append (λ j. weight_in p j) args (x ∷ []) in let f = sum_by-cons (λ j. weight_in p j) x [] in omega (arith, e, f)
 
-  pub argument_room : {a b : Emitter} {ts : List ℕ} (args : List ℕ) (i x : ℕ) → HasRoom a (4 * weights_in p args) → ArgumentsTo p d types homes a b (take i args) ts → i < length args → HasRoom b (4 * weight_in p (get_or args i x))
+  pub argument_room : {a b : Emitter} {ts : List ℕ} (args : List ℕ) (i x : ℕ) → HasRoom a (4 * weights_in p args) → ArgumentsTo fixed p d types homes a b (take i args) ts → i < length args → HasRoom b (4 * weight_in p (get_or args i x))
   argument_room args i x h f lt =
       let e : take (i + 1) args ≡ take i args ++ get_or args i x ∷ [] = take_more args i x lt in
       let le = sum_by-take-le (λ j. weight_in p j) args (i + 1) in

@@ -1,11 +1,12 @@
 -- Which constants are kept.
-use Rattle.std.proofs.Common.{◌≡◌, ℕ, ◌^◌, ◌<◌, Bool, true, false, refl, ap, arith}
+use Rattle.std.proofs.Common.{◌≡◌, ℕ, ◌-◌, ◌^◌, ◌<◌, Bool, true, false, refl, ap, ◌∙◌, arith}
 use Rattle.std.specs.Prelude.{◌==◌, pos}
 use Rattle.std.proofs.lemmas.Bool.Decides.{nat_tests}
 use Rattle.ck_int.specs.declared.kinds.IntKind.{IntKind}
 use Rattle.ck_int.specs.declared.kinds.IntKind.TheVariants as int
 use Rattle.ck_int.specs.Kinds.{IsKept, wrapped, reduced, kept_of}
 use Rattle.cheri_c_sem.specs.Compatible.{kind_number, same_bool}
+use Rattle.tac_ir.specs.Costs.{number_cost}
 use Rattle.tac_ir.specs.Effects.{kind_of}
 use Rattle.tac_ir.specs.WellFormed.{constant_fits, same_kind}
 use Rattle.tac_ir.specs.declared.code.TacKind.{TacKind}
@@ -104,3 +105,8 @@ pub kinds_agree : (j k : TacKind) → same_kind (kind_of j) (kind_of k) ≡ true
 kinds_agree (kind.Int j) (kind.Int k) h = ap kind.Int (number_same j k h)
 kinds_agree (kind.Cap s) (kind.Cap t) h = ap kind.Cap (bool_same s t h)
 kinds_agree j k h = absurd cc
+
+-- all bits of 64 are a number that is written in one word
+pub ones_short : {k : IntKind} {v : ℕ} → k ≡ int.U64 → v ≡ wrapped k (pos (2 ^ 64 - 1)) → number_cost v ≡ 1
+unfolding wrapped reduced kept_of
+ones_short e h = ap number_cost (h ∙ ap (λ z. wrapped z (pos (2 ^ 64 - 1))) e)

@@ -42,6 +42,8 @@ use Rattle.tac_lower.proofs.Leaving.{left_whole}
 use Rattle.tac_lower.proofs.Scening as scening
 use Rattle.tac_lower.proofs.Signatures.{signature_is, given, begins}
 use Rattle.tac_lower.proofs.Typings.{kept_is}
+use Rattle.tac_lower.specs.Spent.{Spent}
+use Rattle.tac_lower.proofs.Spending.{spent_same, spent_then}
 use Rattle.tac_lower.proofs.Wells.{and_true, keeps_same, keeps_then, grown_same, grown_then}
 
 -- ---- the items of a list
@@ -56,14 +58,15 @@ pub record ParametersTo (p : Typed) (d : FunDef) (a e : Emitter) (i : ℕ) : Typ
   pub each : (j x : ℕ) → j < i → slice_get d.params j ≡ Some x → HasKind e j (kept_parameter p d x)
   pub grown : Grown a e
   pub labels : e.labels ≤ a.labels
+  pub spent : Spent a e i 0
 
 pub parameters_none : (p : Typed) (d : FunDef) (a : Emitter) → a.kinds.items ≡ [] → ParametersTo p d a a 0
 parameters_none p d a e = record {
   many = ap (λ z. length z) e;
   each = λ j x lt there. absurd (omega arith);
-  grown =
-      grown_same a;
+  grown = grown_same a;
   labels = omega arith;
+  spent = spent_same a 0;
 }
 
 same_some : {A : Type 0} (x y : A) → Some x ≡ Some y → x ≡ y
@@ -71,8 +74,8 @@ same_some x y e = cc
 
 pub parameters_more : (p : Typed) (d : FunDef) (a b e : Emitter) (i t y : ℕ) (k : TacKind) → ParametersTo p d a b i
     → Grown b e → Adds b e 1 0 → t ≡ length b.kinds.items → HasKind e t k
-    → k ≡ kept_parameter p d y → slice_get d.params i ≡ Some y → ParametersTo p d a e (i + 1)
-parameters_more p d a b e i t y k h g q at has kind there =
+    → k ≡ kept_parameter p d y → slice_get d.params i ≡ Some y → Spent b e 1 0 → ParametersTo p d a e (i + 1)
+parameters_more p d a b e i t y k h g q at has kind there one =
     let lt = slice_get_within e.kinds.items t k has.there in
     let m = h.many in
     record {
@@ -89,6 +92,7 @@ parameters_more p d a b e i t y k h g q at has kind there =
           (cases_lt j i);
       grown = grown_then a b e h.grown g;
       labels = let n = q.labels in let o = h.labels in omega arith;
+      spent = spent_then h.spent one;
     }
 
 pub parameters_all : (p : Typed) (d : FunDef) (a e : Emitter) (i : ℕ) → ParametersTo p d a e i → length d.params ≤ i
@@ -208,6 +212,7 @@ pub record HomesTo (p : Typed) (d : FunDef) (a e : Emitter) (homes : List Home) 
   pub grown : Grown a e
   pub temps : length e.kinds.items ≤ length a.kinds.items + i
   pub labels : e.labels ≤ a.labels
+  pub spent : Spent a e i 0
 
 pub homes_none : (p : Typed) (d : FunDef) (a : Emitter) → HomesTo p d a a [] 0
 homes_none p d a =
@@ -216,8 +221,8 @@ homes_none p d a =
       stand = λ x h is. absurd cc;
       grown = grown_same a;
       temps = omega arith;
-      labels =
-          omega arith;
+      labels = omega arith;
+      spent = spent_same a 0;
     }
 
 get_pushed : (xs : List Home) (y : Home) (P : ℕ → Home → Type 0)
@@ -229,9 +234,9 @@ get_pushed (x ∷ xs) y P h q zero f e = h zero f e
 get_pushed (x ∷ xs) y P h q (suc t) f e = get_pushed xs y (λ n. P (suc n)) (λ n. h (suc n)) q t f e
 
 pub homes_more : (p : Typed) (d : FunDef) (a b e : Emitter) (hs : List Home) (i : ℕ) (v : VarDef) (h : Home)
-    → HomesTo p d a b hs i → Grown b e → Adds b e 1 0 → slice_get d.vars i ≡ Some v → HomeFits p d e v h
+    → HomesTo p d a b hs i → Grown b e → Adds b e 1 0 → slice_get d.vars i ≡ Some v → HomeFits p d e v h → Spent b e 1 0
     → HomesTo p d a e (hs ++ h ∷ []) (i + 1)
-homes_more p d a b e hs i v h so_far g q there fits =
+homes_more p d a b e hs i v h so_far g q there fits one =
     let m = so_far.many in
     record {
       many = omega (arith, length-append hs (h ∷ []));
@@ -244,6 +249,7 @@ homes_more p d a b e hs i v h so_far g q there fits =
       grown = grown_then a b e so_far.grown g;
       temps = let s = q.temps in let t = so_far.temps in omega arith;
       labels = let s = q.labels in let t = so_far.labels in omega arith;
+      spent = spent_then so_far.spent one;
     }
 
 pub homes_all : (p : Typed) (d : FunDef) (a e : Emitter) (hs : List Home) (i : ℕ) → HomesTo p d a e hs i
@@ -273,11 +279,11 @@ module _ (p : Typed) (xs vs : List VarDef) (i : ℕ) (u : VarDef) (e : xs ≡ vs
   objects_at m n same next h = objects_step p vs i (get_or xs i u) m n (variable_at i refl) same next h
 
   pub homes_at : (d : FunDef) (a b c : Emitter) (hs : List Home) (h : Home) → vs ≡ d.vars → HomesTo p d a b hs i
-      → Grown b c → Adds b c 1 0 → HomeFits p d c (get_or xs i u) h
+      → Grown b c → Adds b c 1 0 → HomeFits p d c (get_or xs i u) h → Spent b c 1 0
       → HomesTo p d a c (hs ++ h ∷ []) (i + 1)
-  homes_at d a b c hs h is so_far g q fits =
+  homes_at d a b c hs h is so_far g q fits one =
       homes_more p d a b c hs i (get_or xs i u) h so_far g q
-      (subst (λ z. slice_get z i ≡ Some (get_or xs i u)) is (variable_at i refl)) fits
+      (subst (λ z. slice_get z i ≡ Some (get_or xs i u)) is (variable_at i refl)) fits one
 
 -- ---- the end of the code
 

@@ -8,6 +8,7 @@ pub mod Constants
 pub mod Labels
 pub mod Instructions
 pub mod Scening
+pub mod Spending
 pub mod Parts
 pub mod Signatures
 pub mod Called
@@ -23,3 +24,5 @@ pub mod Homes
 pub mod Nothing
 pub mod Keeping
 pub mod Calling
+pub mod Entering
+pub mod Costing

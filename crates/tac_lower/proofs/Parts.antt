@@ -2,8 +2,9 @@
 use Rattle.std.proofs.Common.{◌≡◌, ℕ, zero, suc, ◌+◌, true, List, [], ◌∷◌, ◌++◌, map, length, get_or, Option, Some, None, refl, ap, ◌∙◌, subst, arith}
 use Rattle.std.specs.Prelude.{slice_get}
 use Rattle.std.proofs.lemmas.List.{length-map}
-use Rattle.std.proofs.lemmas.List.Sums.{sum_by-cons}
+use Rattle.std.proofs.lemmas.List.Sums.{sum_by-append, sum_by-cons}
 use Rattle.ck_base.specs.declared.positions.Pos.{Pos}
+use Rattle.c_tree.specs.declared.typed.FunDef.{FunDef}
 use Rattle.c_tree.specs.declared.typed.Stmt.{Stmt}
 use Rattle.c_tree.specs.declared.typed.StmtKind.{StmtKind}
 use Rattle.c_tree.specs.declared.typed.StmtKind.TheVariants as stmts
@@ -13,11 +14,11 @@ use Rattle.c_tree.specs.Terms as tree
 use Rattle.c_tree.specs.Terms.{Term, Terms, terms, with_term, no_terms, type_of, Action, Actions, Form, action, actions}
 use Rattle.c_tree.specs.TreeWeight.{terms_weight, action_weight, actions_weight}
 use Rattle.c_tree.specs.Views.{kind_action, stmt_from, no_action, terms_of, term_at, parts, listed, is_some, label_of, IsOrdered}
-use Rattle.c_tree.specs.WellTyped.{Frame, Inside, TermFits, TermsFit, FormFits, ActionFits, ActionsFit, TestsFit, inside_of, in_loop, in_switch, count_of}
+use Rattle.c_tree.specs.WellTyped.{Frame, Inside, TermFits, TermsFit, FormFits, ActionFits, ActionsFit, TestsFit, inside_of, in_loop, in_switch, count_of, declared, all_declared}
 use Rattle.c_tree.specs.Types as ty
 use Rattle.c_tree.proofs.Forest.{forest_reads}
 use Rattle.tac_lower.specs.Nodes.{expression, weight_in, IsTyped}
-use Rattle.tac_lower.specs.Parts.{statement, heft_in, hefts_in, or_none, IsPlaced, TestFits, EvaluatePart, InitPart, BlockPart, IfPart, LoopPart, ForPart, SwitchPart, ReturnPart, PartFits}
+use Rattle.tac_lower.specs.Parts.{statement, heft_in, hefts_in, is_entered, entered, entered_in, all_entered_in, or_none, IsPlaced, TestFits, EvaluatePart, InitPart, BlockPart, IfPart, LoopPart, ForPart, SwitchPart, ReturnPart, PartFits}
 
 -- ---- one statement is made of its parts
 
@@ -52,6 +53,9 @@ module _ (p : Typed) (o : IsOrdered p) where
   statement_is k s h =
       let r = forest_reads (stmt_from (terms_of p)) no_action p.stmts k s h in
       r.is ∙ parts_same (terms_of p) s.kind s.pos (λ j. get_or r.seen j no_action) (statement p) (λ j a e. r.before a (o.parts_before k j a s h e))
+
+both_entered : (d : FunDef) (xs ys : List ℕ) → entered d (xs ++ ys) ≡ entered d xs + entered d ys
+both_entered d xs ys = sum_by-append (is_entered (length d.params) (length d.vars)) xs ys
 
 module _ (f : Frame) (o : IsOrdered f.program) where
   abbrev x : ℕ → Term
@@ -95,6 +99,14 @@ module _ (f : Frame) (o : IsOrdered f.program) where
   hefts_last [] y = omega arith
   hefts_last (k ∷ ks) y = omega (arith, sum_by-cons (λ j. heft_in f.program j) k ks, hefts_last ks y)
 
+  all_entered : (d : FunDef) (ks : List ℕ) → entered d (all_declared (actions (map st ks))) ≡ all_entered_in f.program d ks
+  all_entered d [] = refl
+  all_entered d (k ∷ ks) = omega (arith, both_entered d (declared (st k)) (all_declared (actions (map st ks))), sum_by-cons (λ j. entered_in f.program d j) k ks, all_entered d ks)
+
+  entered_last : (d : FunDef) (ks : List ℕ) (y : ℕ) → entered d (all_declared (actions (map st ks ++ st y ∷ []))) ≡ all_entered_in f.program d ks + entered_in f.program d y
+  entered_last d [] y = omega (arith, both_entered d (declared (st y)) [])
+  entered_last d (k ∷ ks) y = omega (arith, both_entered d (declared (st k)) (all_declared (actions (map st ks ++ st y ∷ []))), sum_by-cons (λ j. entered_in f.program d j) k ks, entered_last d ks y)
+
   module _ (i : Inside) (k : ℕ) (s : Stmt) (there : slice_get f.program.stmts k ≡ Some s) (w : IsPlaced f i k) where
     abbrev Is : StmtKind → Type 0
     Is kd = s.kind ≡ kd
@@ -104,6 +116,9 @@ module _ (f : Frame) (o : IsOrdered f.program) where
 
     weighs : (kd : StmtKind) → Is kd → heft_in f.program k ≡ action_weight (kind_action (terms_of f.program) kd s.pos st)
     weighs kd is = ap action_weight (same kd is)
+
+    enters : (d : FunDef) (kd : StmtKind) → Is kd → entered_in f.program d k ≡ entered d (declared (kind_action (terms_of f.program) kd s.pos st))
+    enters d kd is = ap (λ z. entered d (declared z)) (same kd is)
 
     fits : (n : Form) (xs : Terms) (ys : Actions) → st k ≡ action n xs ys s.pos → TermsFit f xs × FormFits f i n xs (count_of ys) × ActionsFit f (inside_of n i) ys
     fits n xs ys e = of_action i n xs ys s.pos (subst (λ z. ActionFits f i z) e w.fits)
@@ -127,7 +142,12 @@ module _ (f : Frame) (o : IsOrdered f.program) where
     block_part : (vars body : List ℕ) → Is (stmts.Block vars body) → BlockPart f i k vars body
     block_part vars body is =
         let h = fits (tree.Block vars) no_terms (actions (map st body)) (same (stmts.Block vars body) is) in
-        record { vars_there = h.1; body_fits = record { each = each_placed i body h.2 }; weight = omega (arith, weighs (stmts.Block vars body) is, hefts body) }
+        record {
+          vars_there = h.1;
+          body_fits = record { each = each_placed i body h.2 };
+          weight = omega (arith, weighs (stmts.Block vars body) is, hefts body);
+          enters = λ d. omega (arith, enters d (stmts.Block vars body) is, both_entered d vars (all_declared (actions (map st body))), all_entered d body);
+        }
 
     some_same : (a b : ℕ) → Some a ≡ Some b → a ≡ b
     some_same a b e = cc
@@ -140,6 +160,7 @@ module _ (f : Frame) (o : IsOrdered f.program) where
           first = record { fits = (of_first i (st a) (actions []) h.2).0 };
           second = λ j e. absurd cc;
           weight = omega (arith, weighs (stmts.If c a None) is);
+          enters = λ d. omega (arith, enters d (stmts.If c a None) is, both_entered d (declared (st a)) []);
         }
     if_part c a (Some b) is =
         let h = fits tree.If (one c) (actions (st a ∷ st b ∷ [])) (same (stmts.If c a (Some b)) is) in
@@ -149,6 +170,7 @@ module _ (f : Frame) (o : IsOrdered f.program) where
           first = record { fits = r.0 };
           second = λ j e. subst (λ z. IsPlaced f i z) (some_same b j e) (record { fits = (of_first i (st b) (actions []) r.1).0 });
           weight = omega (arith, weighs (stmts.If c a (Some b)) is);
+          enters = λ d. omega (arith, enters d (stmts.If c a (Some b)) is, both_entered d (declared (st a)) (declared (st b) ++ []), both_entered d (declared (st b)) []);
         }
 
     while_part : (c a : ℕ) → Is (stmts.While c a) → LoopPart f k c a
@@ -158,6 +180,7 @@ module _ (f : Frame) (o : IsOrdered f.program) where
           test = record { typed = typed c h.0; scalar = h.1.0 };
           body_fits = record { fits = (of_first in_loop (st a) (actions []) h.2).0 };
           weight = omega (arith, weighs (stmts.While c a) is);
+          enters = λ d. omega (arith, enters d (stmts.While c a) is, both_entered d (declared (st a)) []);
         }
 
     do_part : (a c : ℕ) → Is (stmts.Do a c) → LoopPart f k c a
@@ -167,6 +190,7 @@ module _ (f : Frame) (o : IsOrdered f.program) where
           test = record { typed = typed c h.0; scalar = h.1.0 };
           body_fits = record { fits = (of_first in_loop (st a) (actions []) h.2).0 };
           weight = omega (arith, weighs (stmts.Do a c) is);
+          enters = λ d. omega (arith, enters d (stmts.Do a c) is, both_entered d (declared (st a)) []);
         }
 
     tests_typed : (a b : Option ℕ) → TermsFit f (terms (listed x a ++ listed x b)) → TestsFit (is_some a) (is_some b) (terms (listed x a ++ listed x b)) → (j : ℕ) → a ≡ Some j → TestFits f j
@@ -195,6 +219,7 @@ module _ (f : Frame) (o : IsOrdered f.program) where
           step_fits = steps_typed a b h.0;
           body_fits = last_placed in_loop first y h.2;
           weight = omega (arith, weighs (stmts.For vars first a b y) is, tests_weigh a b, hefts_last first y);
+          enters = λ d. omega (arith, enters d (stmts.For vars first a b y) is, both_entered d vars (all_declared (actions (map st first ++ st y ∷ []))), entered_last d first y);
         }
 
     switch_part : (on : ℕ) (vars : List ℕ) (labels : List SwitchLabel) (body : List ℕ) → Is (stmts.Switch on vars labels body) → SwitchPart f i k on vars labels body
@@ -206,6 +231,7 @@ module _ (f : Frame) (o : IsOrdered f.program) where
           vars_there = h.1.0;
           body_fits = record { each = each_placed (in_switch i) body h.2 };
           weight = omega (arith, weighs (stmts.Switch on vars labels body) is, length-map labels label_of, hefts body);
+          enters = λ d. omega (arith, enters d (stmts.Switch on vars labels body) is, both_entered d vars (all_declared (actions (map st body))), all_entered d body);
         }
 
     return_part : (a : Option ℕ) → Is (stmts.Return a) → ReturnPart f k a

@@ -8,5 +8,6 @@ pub mod Parts
 pub mod Scenes
 pub mod Services
 pub mod Signed
+pub mod Spent
 pub mod Statements
 pub mod Tables

@@ -1,5 +1,6 @@
 -- The statements of a function of a typed program: what is known of each, its expressions and the statements in it.
-use Rattle.std.specs.Prelude.{◌≡◌, ℕ, ◌+◌, true, Option, Some, None, List, length, sum_by, slice_get}
+use Rattle.std.specs.Prelude.{◌≡◌, ℕ, ◌+◌, nat_lt, if◌then◌else◌, true, Option, Some, None, List, length, sum_by, slice_get}
+use Rattle.c_tree.specs.declared.typed.FunDef.{FunDef}
 use Rattle.c_tree.specs.declared.typed.StmtKind.{StmtKind}
 use Rattle.c_tree.specs.declared.typed.StmtKind.TheVariants as stmts
 use Rattle.c_tree.specs.declared.typed.SwitchLabel.{SwitchLabel}
@@ -8,7 +9,7 @@ use Rattle.c_tree.specs.Terms.{Action, type_of}
 use Rattle.c_tree.specs.TreeWeight.{action_weight}
 use Rattle.c_tree.specs.Types.{is_integer, is_scalar, is_void, compatible}
 use Rattle.c_tree.specs.Views.{actions_of, action_at}
-use Rattle.c_tree.specs.WellTyped.{Frame, Inside, in_loop, in_switch, ActionFits, InitFits, AreVars}
+use Rattle.c_tree.specs.WellTyped.{Frame, Inside, in_loop, in_switch, ActionFits, InitFits, AreVars, declared}
 use Rattle.tac_lower.specs.Nodes.{expression, weight_in, IsTyped}
 
 -- statement k
@@ -20,6 +21,20 @@ heft_in p k = action_weight (statement p k)
 
 abbrev pub hefts_in : Typed → List ℕ → ℕ
 hefts_in p ks = sum_by (λ k. heft_in p k) ks
+
+-- how many variables that are no parameters some numbers name, each time
+abbrev pub is_entered : (params vars x : ℕ) → ℕ
+is_entered n m x = if nat_lt x n then 0 else (if nat_lt x m then 1 else 0)
+
+abbrev pub entered : FunDef → List ℕ → ℕ
+entered d xs = sum_by (is_entered (length d.params) (length d.vars)) xs
+
+-- those that blocks in a statement declare
+abbrev pub entered_in : Typed → FunDef → ℕ → ℕ
+entered_in p d k = entered d (declared (statement p k))
+
+abbrev pub all_entered_in : Typed → FunDef → List ℕ → ℕ
+all_entered_in p d ks = sum_by (λ k. entered_in p d k) ks
 
 -- the weight of what may be absent
 abbrev pub or_none : (ℕ → ℕ) → Option ℕ → ℕ
@@ -53,17 +68,20 @@ pub record BlockPart (f : Frame) (i : Inside) (k : ℕ) (vars body : List ℕ) :
   pub vars_there : AreVars f vars
   pub body_fits : ArePlaced f i body
   pub weight : heft_in f.program k ≡ 1 + hefts_in f.program body
+  pub enters : (d : FunDef) → entered d vars + all_entered_in f.program d body ≡ entered_in f.program d k
 
 pub record IfPart (f : Frame) (i : Inside) (k c a : ℕ) (b : Option ℕ) : Type 0 where
   pub test : TestFits f c
   pub first : IsPlaced f i a
   pub second : (j : ℕ) → b ≡ Some j → IsPlaced f i j
   pub weight : heft_in f.program k ≡ 1 + weight_in f.program c + heft_in f.program a + or_none (heft_in f.program) b
+  pub enters : (d : FunDef) → entered_in f.program d a + or_none (entered_in f.program d) b ≡ entered_in f.program d k
 
 pub record LoopPart (f : Frame) (k c a : ℕ) : Type 0 where
   pub test : TestFits f c
   pub body_fits : IsPlaced f in_loop a
   pub weight : heft_in f.program k ≡ 1 + weight_in f.program c + heft_in f.program a
+  pub enters : (d : FunDef) → entered_in f.program d a ≡ entered_in f.program d k
 
 pub record ForPart (f : Frame) (k : ℕ) (vars first : List ℕ) (test step : Option ℕ) (a : ℕ) : Type 0 where
   pub vars_there : AreVars f vars
@@ -72,6 +90,7 @@ pub record ForPart (f : Frame) (k : ℕ) (vars first : List ℕ) (test step : Op
   pub step_fits : (j : ℕ) → step ≡ Some j → IsTyped f j
   pub body_fits : IsPlaced f in_loop a
   pub weight : heft_in f.program k ≡ 1 + or_none (weight_in f.program) test + or_none (weight_in f.program) step + hefts_in f.program first + heft_in f.program a
+  pub enters : (d : FunDef) → entered d vars + all_entered_in f.program d first + entered_in f.program d a ≡ entered_in f.program d k
 
 pub record SwitchPart (f : Frame) (i : Inside) (k on : ℕ) (vars : List ℕ) (labels : List SwitchLabel) (body : List ℕ) : Type 0 where
   pub value : IsTyped f on
@@ -79,6 +98,7 @@ pub record SwitchPart (f : Frame) (i : Inside) (k on : ℕ) (vars : List ℕ) (l
   pub vars_there : AreVars f vars
   pub body_fits : ArePlaced f (in_switch i) body
   pub weight : heft_in f.program k ≡ 1 + length labels + weight_in f.program on + hefts_in f.program body
+  pub enters : (d : FunDef) → entered d vars + all_entered_in f.program d body ≡ entered_in f.program d k
 
 -- a Return gives what the function gives
 pub record ReturnPart (f : Frame) (k : ℕ) (a : Option ℕ) : Type 0 where

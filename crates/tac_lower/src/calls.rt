@@ -1,6 +1,6 @@
 //! Calls of functions, library functions and intrinsics.
 
-ghost use Rattle.std.specs.Prelude.{◌≡◌, ℕ, ◌+◌, ◌-◌, ◌*◌, ◌<◌, map, IfOk, IfSome, Some, slice_get, unwrap_or};
+ghost use Rattle.std.specs.Prelude.{◌≡◌, ℕ, ◌+◌, ◌-◌, ◌*◌, ◌<◌, map, IfOk, IfSome, Some, slice_get, unwrap_or, length};
 ghost use Rattle.c_tree.specs.Libraries as libraries;
 ghost use Rattle.c_tree.specs.Libraries.{services};
 ghost use Rattle.c_tree.specs.Terms.{type_of};
@@ -11,6 +11,7 @@ ghost use Rattle.tac_lower.specs.declared.emitter.Emitter.{Emitter};
 ghost use Rattle.tac_lower.specs.Emitted.{HasKind, HasRoom, Grown, Adds};
 ghost use Rattle.tac_lower.specs.Known.{AreBelow};
 ghost use Rattle.tac_lower.specs.Nodes.{scalar_in, kind_in, expression, weight_in, weights_in, IsTyped, AreTyped, CallNode, LibraryNode};
+ghost use Rattle.tac_lower.specs.Spent.{Spent, Spends, SpendsValue};
 ghost use Rattle.tac_lower.specs.Scenes.{Ready, Scene, Lowered, frame_of};
 ghost use Rattle.tac_lower.specs.Services.{ServiceAsks, IntrinsicFits};
 ghost use Rattle.tac_lower.specs.Signed.{HaveKinds, ResultFits, signature_as};
@@ -53,6 +54,8 @@ fn arguments(cx: Context, k: u32, args: &[u32], out: &mut Emitter) -> Result<Vec
     ensures kinds { IfOk result (λ ts. HaveKinds out.new ts.items (map (kind_in cx.entry.p.now) args.now)) }
     ensures lowered { IfOk result (λ _. Lowered cx.entry.p.now cx.entry.d.now cx.entry.types.now cx.entry.homes.now
         out.old out.new (4 * weights_in cx.entry.p.now args.now)) }
+    ensures spends { IfOk result (λ _. Spends cx.entry.fixed out.old out.new (2 * weights_in cx.entry.p.now args.now - length args.now)
+        (32 * weights_in cx.entry.p.now args.now - 21 * length args.now)) }
 {
     let mut behind = written_behind(cx.alloc, cx.writes, args)?;
     let mut temps = Vec::new(cx.alloc);
@@ -83,6 +86,8 @@ pub fn call(
     requires room { HasRoom out.old (4 * weight_in cx.p.now k - 1) }
     ensures lowered { IfOk result (λ _. Lowered cx.entry.p.now cx.entry.d.now cx.entry.types.now cx.entry.homes.now
         out.old out.new (4 * weight_in cx.entry.p.now k - 1)) }
+    ensures spends { IfOk result (λ _. SpendsValue cx.entry.fixed (weight_in cx.entry.p.now k) 0
+        out.old out.new) }
 {
     match named_function(cx, f) {
         Some(n) => {
@@ -116,6 +121,8 @@ pub fn library(
     requires room { HasRoom out.old (4 * weight_in cx.p.now k - 1) }
     ensures lowered { IfOk result (λ _. Lowered cx.entry.p.now cx.entry.d.now cx.entry.types.now cx.entry.homes.now
         out.old out.new (4 * weight_in cx.entry.p.now k - 1)) }
+    ensures spends { IfOk result (λ _. SpendsValue cx.entry.fixed (weight_in cx.entry.p.now k) 0
+        out.old out.new) }
 {
     let temps = arguments(cx, k, args, out)?;
     match service_of(number) {
@@ -211,6 +218,7 @@ fn intrinsic_value(
     requires fits { IfSome to (λ t. IntrinsicFits out.old i kind t a b) }
     ensures grown { IfOk result (λ _. Grown out.old out.new) }
     ensures adds { IfOk result (λ _. Adds out.old out.new 0 0) }
+    ensures spent { IfOk result (λ _. Spent out.old out.new 0 15) }
 {
     let Some(to) = to else {
         return Ok(());

@@ -4,6 +4,7 @@ ghost use Rattle.std.specs.Prelude.{◌≡◌, ◌+◌, ◌-◌, ◌*◌, ◌<�
 ghost use Rattle.cheri_c_sem.specs.Order.{Ordered};
 ghost use Rattle.tac_lower.specs.Emitted.{IsOpen, Grown, Adds, HasRoom};
 ghost use Rattle.tac_lower.specs.Nodes.{weight_in, IsTyped, HasOne, HasTwo};
+ghost use Rattle.tac_lower.specs.Spent.{Spent, SpendsCondition, SpendsJunction};
 ghost use Rattle.tac_lower.specs.Scenes.{Scene, Lowered, frame_of};
 
 use crate::context::Context;
@@ -47,6 +48,7 @@ fn jump_if(out: &mut Emitter, truth: bool, jump: Jump) -> Result<(), NoMemory>
     requires open { IsOpen out.old jump.label }
     ensures grown { IfOk result (λ _. Grown out.old out.new) }
     ensures adds { IfOk result (λ _. Adds out.old out.new 0 0) }
+    ensures spent { IfOk result (λ _. Spent out.old out.new 0 1) }
 {
     if truth == jump.when {
         out.jump(jump.label)
@@ -65,6 +67,8 @@ pub fn condition(cx: Context, k: u32, jump: Jump, out: &mut Emitter) -> Result<(
     requires room { HasRoom out.old (4 * weight_in cx.p.now k) }
     ensures lowered { IfOk result (λ _. Lowered cx.entry.p.now cx.entry.d.now cx.entry.types.now cx.entry.homes.now
         out.old out.new (4 * weight_in cx.entry.p.now k)) }
+    ensures spends { IfOk result (λ _. SpendsCondition cx.entry.fixed (weight_in cx.entry.p.now k)
+        out.old out.new) }
 {
     let Some(e) = cx.node(k) else {
         return jump_if(out, false, jump);
@@ -101,6 +105,8 @@ fn opposite_condition(
     requires room { HasRoom out.old (4 * weight_in cx.p.now k) }
     ensures lowered { IfOk result (λ _. Lowered cx.entry.p.now cx.entry.d.now cx.entry.types.now cx.entry.homes.now
         out.old out.new (4 * weight_in cx.entry.p.now k)) }
+    ensures spends { IfOk result (λ _. SpendsCondition cx.entry.fixed (weight_in cx.entry.p.now k)
+        out.old out.new) }
 {
     let jump = Jump {
         when: !jump.when,
@@ -127,6 +133,8 @@ pub fn joined_condition(
     requires room { HasRoom out.old (4 * weight_in cx.p.now k - 3) }
     ensures lowered { IfOk result (λ _. Lowered cx.entry.p.now cx.entry.d.now cx.entry.types.now cx.entry.homes.now
         out.old out.new (4 * weight_in cx.entry.p.now k - 3)) }
+    ensures spends { IfOk result (λ _. SpendsJunction cx.entry.fixed (weight_in cx.entry.p.now k)
+        out.old out.new) }
 {
     if j.both == jump.when {
         return joined_around(cx, k, j, jump, out);
@@ -153,6 +161,8 @@ fn joined_around(
     requires room { HasRoom out.old (4 * weight_in cx.p.now k - 3) }
     ensures lowered { IfOk result (λ _. Lowered cx.entry.p.now cx.entry.d.now cx.entry.types.now cx.entry.homes.now
         out.old out.new (4 * weight_in cx.entry.p.now k - 3)) }
+    ensures spends { IfOk result (λ _. SpendsJunction cx.entry.fixed (weight_in cx.entry.p.now k)
+        out.old out.new) }
 {
     let around = Jump {
         when: !jump.when,

@@ -1,6 +1,6 @@
 //! What the lowering of a function reads: the program, what is known of its types and expressions, and where variables stand.
 
-ghost use Rattle.std.specs.Prelude.{◌≡◌, false, MatchOption, IfSome, Some, None, slice_get};
+ghost use Rattle.std.specs.Prelude.{◌≡◌, ◌≤◌, ◌<◌, true, false, length, MatchOption, IfSome, Some, None, slice_get};
 ghost use Rattle.c_tree.specs.Types.{Ty, Pointer};
 ghost use Rattle.c_tree.specs.WellTyped.{type_in};
 ghost use Rattle.c_tree.specs.declared.typed.FunDef.{FunDef};
@@ -219,8 +219,19 @@ impl<'a> Context<'a> {
         }
     }
 
+    /// A variable is a parameter: these come first.
+    pub fn is_parameter(self, x: u32) -> bool
+        ensures parameter { result ≡ true → x < length self.entry.d.now.params }
+        ensures other { result ≡ false → length self.entry.d.now.params ≤ x }
+    {
+        (x as usize) < self.d.params.as_slice().len()
+    }
+
     /// A temp belongs to an expression.
-    pub fn is_own(self, t: u32) -> bool {
+    pub fn is_own(self, t: u32) -> bool
+        ensures own { result ≡ true → self.entry.fixed ≤ t }
+        ensures other { result ≡ false → t < self.entry.fixed }
+    {
         t >= self.fixed
     }
 }

@@ -6,6 +6,8 @@ ghost use Rattle.tac_ir.specs.declared.code.TacInstr.TheVariants as instr;
 ghost use Rattle.tac_ir.specs.WellFormed.{constant_fits, units_fit, is_unit};
 ghost use Rattle.cheri_c_sem.specs.Types.{is_shift};
 ghost use Rattle.ck_int.specs.declared.kinds.IntKind.TheVariants as int;
+ghost use Rattle.tac_ir.specs.Costs.{cost, outgoing_by, number_cost};
+ghost use Rattle.tac_lower.specs.Spent.{Spent, is_number};
 ghost use Rattle.tac_lower.specs.Emitted.{HasKind, HasInt, HasCapability, IsTemp, SameKind, AmountFits, CountFits, SameCapability, WorkFits, IsOpen, Stands, Grown, Made, Labelled, Forked, Turned, Pushed, Entered, HasLeft, Adds, HasRoom};
 
 use ck_base::{NoMemory, Pos, Sequence};
@@ -56,6 +58,7 @@ impl Emitter {
     fn push(&mut self, i: TacInstr) -> Result<(), NoMemory>
         ensures pushed { IfOk result (λ _. Pushed self.old self.new i) }
         ensures adds { IfOk result (λ _. Adds self.old self.new 0 0) }
+        ensures spent { IfOk result (λ _. Spent self.old self.new (outgoing_by i) (cost i)) }
     {
         self.code.push(i)?;
         Ok(())
@@ -87,6 +90,7 @@ impl Emitter {
         ensures has { IfOk result (λ t. HasKind self.new t kind) }
         ensures grown { IfOk result (λ _. Grown self.old self.new) }
         ensures adds { IfOk result (λ _. Adds self.old self.new 1 0) }
+        ensures spent { IfOk result (λ _. Spent self.old self.new 1 0) }
     {
         let t = self.add_temp(kind)?;
         Ok(t)
@@ -117,6 +121,7 @@ impl Emitter {
         requires end { IsOpen self.old fork.end }
         ensures turned { IfOk result (λ _. Turned self.old self.new fork.other) }
         ensures adds { IfOk result (λ _. Adds self.old self.new 0 0) }
+        ensures spent { IfOk result (λ _. Spent self.old self.new 0 1) }
     {
         self.jump(fork.end)?;
         self.stand(fork.other)
@@ -137,6 +142,8 @@ impl Emitter {
         requires value { constant_fits kind value ≡ true }
         ensures grown { IfOk result (λ _. Grown self.old self.new) }
         ensures adds { IfOk result (λ _. Adds self.old self.new 0 0) }
+        ensures spent { IfOk result (λ _. Spent self.old self.new 0 11) }
+        ensures short { number_cost value ≡ 1 → IfOk result (λ _. Spent self.old self.new 0 4) }
     {
         self.push(TacInstr::Const { to, kind, value })
     }
@@ -149,6 +156,8 @@ impl Emitter {
         ensures has { IfOk result (λ t. HasKind self.new t kind) }
         ensures grown { IfOk result (λ _. Grown self.old self.new) }
         ensures adds { IfOk result (λ _. Adds self.old self.new 1 0) }
+        ensures spent { IfOk result (λ _. Spent self.old self.new 1 11) }
+        ensures short { number_cost value ≡ 1 → IfOk result (λ _. Spent self.old self.new 1 4) }
     {
         let t = self.temp(kind)?;
         self.constant(t, kind, value)?;
@@ -160,6 +169,7 @@ impl Emitter {
         requires same { SameKind self.old to from }
         ensures grown { IfOk result (λ _. Grown self.old self.new) }
         ensures adds { IfOk result (λ _. Adds self.old self.new 0 0) }
+        ensures spent { IfOk result (λ _. Spent self.old self.new 0 6) }
     {
         self.push(TacInstr::Copy { to, from })
     }
@@ -170,6 +180,8 @@ impl Emitter {
         requires same { SameKind self.old to from }
         ensures grown { IfOk result (λ _. Grown self.old self.new) }
         ensures adds { IfOk result (λ _. Adds self.old self.new 0 0) }
+        ensures spent { IfOk result (λ _. Spent self.old self.new 0 6) }
+        ensures there { to ≡ from → IfOk result (λ _. Spent self.old self.new 0 0) }
     {
         if to == from {
             Ok(())
@@ -184,6 +196,8 @@ impl Emitter {
         requires same { IfSome to (λ t. SameKind self.old t from) }
         ensures grown { IfOk result (λ _. Grown self.old self.new) }
         ensures adds { IfOk result (λ _. Adds self.old self.new 0 0) }
+        ensures spent { IfOk result (λ _. Spent self.old self.new 0 6) }
+        ensures there { IfSome to (λ t. t ≡ from) → IfOk result (λ _. Spent self.old self.new 0 0) }
     {
         match to {
             None => Ok(()),
@@ -198,6 +212,8 @@ impl Emitter {
         requires right { CountFits self.old (is_shift op) kind b }
         ensures grown { IfOk result (λ _. Grown self.old self.new) }
         ensures adds { IfOk result (λ _. Adds self.old self.new 0 0) }
+        ensures spent { IfOk result (λ _. Spent self.old self.new 0 13) }
+        ensures wide { kind ≡ int.U64 → IfOk result (λ _. Spent self.old self.new 0 10) }
     {
         self.push(TacInstr::Int { op, kind, to, a, b })
     }
@@ -216,6 +232,7 @@ impl Emitter {
         requires right { HasKind self.old b kind }
         ensures grown { IfOk result (λ _. Grown self.old self.new) }
         ensures adds { IfOk result (λ _. Adds self.old self.new 0 0) }
+        ensures spent { IfOk result (λ _. Spent self.old self.new 0 11) }
     {
         self.push(TacInstr::Cmp { op, kind, to, a, b })
     }
@@ -232,6 +249,7 @@ impl Emitter {
         requires from { HasKind self.old from old }
         ensures grown { IfOk result (λ _. Grown self.old self.new) }
         ensures adds { IfOk result (λ _. Adds self.old self.new 0 0) }
+        ensures spent { IfOk result (λ _. Spent self.old self.new 0 8) }
     {
         self.push(TacInstr::Convert { to, from, old, new })
     }
@@ -249,6 +267,7 @@ impl Emitter {
         ensures has { IfOk result (λ t. HasKind self.new t new) }
         ensures grown { IfOk result (λ _. Grown self.old self.new) }
         ensures adds { IfOk result (λ _. Adds self.old self.new 1 0) }
+        ensures spent { IfOk result (λ _. Spent self.old self.new 1 8) }
     {
         let t = self.temp(new)?;
         self.convert(t, from, old, new)?;
@@ -260,6 +279,7 @@ impl Emitter {
         requires fits { WorkFits self.old op to a b }
         ensures grown { IfOk result (λ _. Grown self.old self.new) }
         ensures adds { IfOk result (λ _. Adds self.old self.new 0 0) }
+        ensures spent { IfOk result (λ _. Spent self.old self.new 0 10) }
     {
         self.push(TacInstr::Cap { op, to, a, b })
     }
@@ -270,6 +290,8 @@ impl Emitter {
         requires by { AmountFits self.old by }
         ensures grown { IfOk result (λ _. Grown self.old self.new) }
         ensures adds { IfOk result (λ _. Adds self.old self.new 0 0) }
+        ensures spent { IfOk result (λ _. Spent self.old self.new 0 15) }
+        ensures temp { is_number by ≡ false → IfOk result (λ _. Spent self.old self.new 0 10) }
     {
         self.push(TacInstr::Offset { to, base, by })
     }
@@ -286,6 +308,7 @@ impl Emitter {
         requires by { AmountFits self.old length }
         ensures grown { IfOk result (λ _. Grown self.old self.new) }
         ensures adds { IfOk result (λ _. Adds self.old self.new 0 0) }
+        ensures spent { IfOk result (λ _. Spent self.old self.new 0 15) }
     {
         self.push(TacInstr::Narrow {
             to,
@@ -301,6 +324,7 @@ impl Emitter {
         requires from { HasCapability self.old from }
         ensures grown { IfOk result (λ _. Grown self.old self.new) }
         ensures adds { IfOk result (λ _. Adds self.old self.new 0 0) }
+        ensures spent { IfOk result (λ _. Spent self.old self.new 0 8) }
     {
         self.push(TacInstr::Load {
             to,
@@ -316,6 +340,7 @@ impl Emitter {
         requires value { HasKind self.old value kind }
         ensures grown { IfOk result (λ _. Grown self.old self.new) }
         ensures adds { IfOk result (λ _. Adds self.old self.new 0 0) }
+        ensures spent { IfOk result (λ _. Spent self.old self.new 0 7) }
     {
         self.push(TacInstr::Store {
             at,
@@ -328,6 +353,7 @@ impl Emitter {
     /// The block of an object is entered: its bytes become zero, and the pointer to it is made.
     pub fn enter_object(&mut self, to: u32, var: u32) -> Result<(), NoMemory>
         ensures entered { IfOk result (λ _. Entered self.old self.new to var) }
+        ensures spent { IfOk result (λ _. Spent self.old self.new 0 19) }
         ensures adds { IfOk result (λ _. Adds self.old self.new 0 0) }
     {
         self.push(TacInstr::Zero { var })?;
@@ -359,6 +385,7 @@ impl Emitter {
         requires units { units_fit c.bytes c.unit ≡ true }
         ensures grown { IfOk result (λ _. Grown self.old self.new) }
         ensures adds { IfOk result (λ _. Adds self.old self.new 0 0) }
+        ensures spent { IfOk result (λ _. Spent self.old self.new 0 14) }
     {
         self.push(TacInstr::CopyUnits {
             from: c.from,
@@ -373,6 +400,7 @@ impl Emitter {
     /// A label stands here.
     pub fn stand(&mut self, label: u32) -> Result<(), NoMemory>
         ensures stands { IfOk result (λ _. Pushed self.old self.new (instr.Label label)) }
+        ensures spent { IfOk result (λ _. Spent self.old self.new 0 0) }
         ensures adds { IfOk result (λ _. Adds self.old self.new 0 0) }
     {
         self.push(TacInstr::Label(label))
@@ -383,6 +411,7 @@ impl Emitter {
         requires open { IsOpen self.old label }
         ensures grown { IfOk result (λ _. Grown self.old self.new) }
         ensures adds { IfOk result (λ _. Adds self.old self.new 0 0) }
+        ensures spent { IfOk result (λ _. Spent self.old self.new 0 1) }
     {
         self.push(TacInstr::Jump(label))
     }
@@ -393,6 +422,7 @@ impl Emitter {
         requires temp { IsTemp self.old on }
         ensures grown { IfOk result (λ _. Grown self.old self.new) }
         ensures adds { IfOk result (λ _. Adds self.old self.new 0 0) }
+        ensures spent { IfOk result (λ _. Spent self.old self.new 0 5) }
     {
         self.push(TacInstr::Branch { on, when, label })
     }
@@ -440,6 +470,7 @@ impl Emitter {
         requires stands { Stands self.old top }
         ensures grown { IfOk result (λ _. Grown self.old self.new) }
         ensures adds { IfOk result (λ _. Adds self.old self.new 0 0) }
+        ensures spent { IfOk result (λ _. Spent self.old self.new 0 1) }
     {
         self.push(TacInstr::Turn)?;
         self.push(TacInstr::Jump(top))
@@ -447,6 +478,7 @@ impl Emitter {
 
     pub fn leave(&mut self, value: Option<u32>) -> Result<(), NoMemory>
         ensures pushed { IfOk result (λ _. Pushed self.old self.new (instr.Return value)) }
+        ensures spent { IfOk result (λ _. Spent self.old self.new 0 24) }
         ensures adds { IfOk result (λ _. Adds self.old self.new 0 0) }
     {
         self.push(TacInstr::Return(value))

@@ -1,13 +1,14 @@
 //! Expressions. A value is computed into a temp that is given, which may be a variable's: it is written when all that the
 //! expression reads of variables was read.
 
-ghost use Rattle.std.specs.Prelude.{◌≡◌, ℕ, ◌+◌, ◌-◌, ◌*◌, ◌<◌, true, false, IfOk, IfSome};
+ghost use Rattle.std.specs.Prelude.{◌≡◌, ℕ, ◌+◌, ◌-◌, ◌*◌, ◌<◌, true, false, IfOk, IfSome, Some};
 ghost use Rattle.ck_int.specs.declared.kinds.IntKind.TheVariants as int;
 ghost use Rattle.tac_ir.specs.declared.code.TacKind.TheVariants as kinds;
 ghost use Rattle.tac_lower.specs.declared.emitter.Emitter.{Emitter};
 ghost use Rattle.cheri_c_sem.specs.Order.{Ordered};
 ghost use Rattle.tac_lower.specs.Emitted.{HasKind, Holds, ChangeFits, HasRoom, Grown, Adds};
 ghost use Rattle.tac_lower.specs.Signed.{ResultFits};
+ghost use Rattle.tac_lower.specs.Spent.{Spent, Spends, SpendsValue, SpendsOperand, Owns, extra};
 ghost use Rattle.tac_lower.specs.Tables.{is_some};
 ghost use Rattle.c_tree.specs.WellTyped.{type_in};
 ghost use Rattle.tac_lower.specs.Nodes.{scalar_in, kind_in, kept_as, or_int, points, weight_in, IsTyped, IsScalar, HasOne, HasTwo, HasThree, UnaryNode, SameNode, IntNode, CapabilityNode, DifferenceNode, CompareNode, TruthNode, SumNode, CommaNode, AssignNode, CompoundNode, StepNode, ConditionalNode};
@@ -19,7 +20,7 @@ use crate::context::Context;
 use crate::emitter::Emitter;
 use crate::operations::{
     Change, Held, Pace, Sign, changed, derived, difference, moved, negated, signed, stepped,
-    stride, whole,
+    stepped_apart, stride, whole,
 };
 use crate::places::{address, pointer, struct_assignment};
 use crate::types::{INT, int_kind, is_signed, same_kind};
@@ -129,11 +130,15 @@ fn own(cx: Context, to: Option<u32>, kind: TacKind, out: &mut Emitter) -> Result
     ensures has { IfOk result (λ t. HasKind out.new t kind) }
     ensures lowered { IfOk result (λ _. Lowered cx.entry.p.now cx.entry.d.now cx.entry.types.now cx.entry.homes.now
         out.old out.new (1)) }
+    ensures owns { IfOk result (λ t. Owns cx.entry.fixed to out.old out.new t) }
 {
-    match to {
-        Some(t) if cx.is_own(t) => Ok(t),
-        _ => out.temp(kind),
+    let Some(t) = to else {
+        return out.temp(kind);
+    };
+    if cx.is_own(t) {
+        return Ok(t);
     }
+    out.temp(kind)
 }
 
 /// A temp with the value of expression `k`: one that has it already, if `later` does not write it, or a new one.
@@ -146,6 +151,8 @@ pub fn operand(cx: Context, k: u32, later: Written, out: &mut Emitter) -> Result
     ensures has { IfOk result (λ t. HasKind out.new t (kind_in cx.entry.p.now k)) }
     ensures lowered { IfOk result (λ _. Lowered cx.entry.p.now cx.entry.d.now cx.entry.types.now cx.entry.homes.now
         out.old out.new (4 * weight_in cx.entry.p.now k)) }
+    ensures spends { IfOk result (λ _. SpendsOperand cx.entry.fixed (weight_in cx.entry.p.now k)
+        out.old out.new) }
 {
     match in_place(cx, k, later) {
         Some(t) => Ok(t),
@@ -169,6 +176,8 @@ fn operand_in(cx: Context, k: u32, to: u32, out: &mut Emitter) -> Result<Held, N
     ensures kind { IfOk result (λ x. x.kind ≡ kind_in cx.entry.p.now k) }
     ensures lowered { IfOk result (λ _. Lowered cx.entry.p.now cx.entry.d.now cx.entry.types.now cx.entry.homes.now
         out.old out.new (4 * weight_in cx.entry.p.now k - 1)) }
+    ensures spends { IfOk result (λ _. SpendsValue cx.entry.fixed (weight_in cx.entry.p.now k) (extra cx.entry.fixed (Some to))
+        out.old out.new) }
 {
     let kind = cx.kind(k);
     match in_place(cx, k, Written::Nothing) {
@@ -191,6 +200,8 @@ fn held(cx: Context, k: u32, later: Written, out: &mut Emitter) -> Result<Held, 
     ensures kind { IfOk result (λ x. x.kind ≡ kind_in cx.entry.p.now k) }
     ensures lowered { IfOk result (λ _. Lowered cx.entry.p.now cx.entry.d.now cx.entry.types.now cx.entry.homes.now
         out.old out.new (4 * weight_in cx.entry.p.now k)) }
+    ensures spends { IfOk result (λ _. SpendsOperand cx.entry.fixed (weight_in cx.entry.p.now k)
+        out.old out.new) }
 {
     let temp = operand(cx, k, later, out)?;
     Ok(Held {
@@ -214,6 +225,7 @@ fn pair(cx: Context, k: u32, a: u32, b: u32, out: &mut Emitter) -> Result<(Held,
     ensures right_kind { IfOk result (λ x. x.1.kind ≡ kind_in cx.entry.p.now b) }
     ensures lowered { IfOk result (λ _. Lowered cx.entry.p.now cx.entry.d.now cx.entry.types.now cx.entry.homes.now
         out.old out.new (4 * weight_in cx.entry.p.now k - 4)) }
+    ensures spends { IfOk result (λ _. Spends cx.entry.fixed out.old out.new (2 * weight_in cx.entry.p.now k - 4) (32 * weight_in cx.entry.p.now k - 74)) }
 {
     let x = held(cx, a, cx.written(b), out)?;
     let y = held(cx, b, Written::Nothing, out)?;
@@ -242,6 +254,8 @@ pub fn value(cx: Context, k: u32, to: u32, out: &mut Emitter) -> Result<(), NoMe
     requires room { HasRoom out.old (4 * weight_in cx.p.now k - 1) }
     ensures lowered { IfOk result (λ _. Lowered cx.entry.p.now cx.entry.d.now cx.entry.types.now cx.entry.homes.now
         out.old out.new (4 * weight_in cx.entry.p.now k - 1)) }
+    ensures spends { IfOk result (λ _. SpendsValue cx.entry.fixed (weight_in cx.entry.p.now k) (extra cx.entry.fixed (Some to))
+        out.old out.new) }
 {
     let kind = cx.kind(k);
     let Some(e) = cx.node(k) else {
@@ -326,6 +340,8 @@ fn choice(
     requires room { HasRoom out.old (4 * weight_in cx.p.now k - 1) }
     ensures lowered { IfOk result (λ _. Lowered cx.entry.p.now cx.entry.d.now cx.entry.types.now cx.entry.homes.now
         out.old out.new (4 * weight_in cx.entry.p.now k - 1)) }
+    ensures spends { IfOk result (λ _. SpendsValue cx.entry.fixed (weight_in cx.entry.p.now k) (extra cx.entry.fixed (Some to))
+        out.old out.new) }
 {
     let fork = out.fork();
     let jump = Jump {
@@ -351,6 +367,8 @@ fn comma(cx: Context, k: u32, a: u32, b: u32, to: u32, out: &mut Emitter) -> Res
     requires room { HasRoom out.old (4 * weight_in cx.p.now k - 1) }
     ensures lowered { IfOk result (λ _. Lowered cx.entry.p.now cx.entry.d.now cx.entry.types.now cx.entry.homes.now
         out.old out.new (4 * weight_in cx.entry.p.now k - 1)) }
+    ensures spends { IfOk result (λ _. SpendsValue cx.entry.fixed (weight_in cx.entry.p.now k) (extra cx.entry.fixed (Some to))
+        out.old out.new) }
 {
     effect(cx, a, out)?;
     value(cx, b, to, out)
@@ -376,6 +394,8 @@ fn integer(
     requires room { HasRoom out.old (4 * weight_in cx.p.now k - 1) }
     ensures lowered { IfOk result (λ _. Lowered cx.entry.p.now cx.entry.d.now cx.entry.types.now cx.entry.homes.now
         out.old out.new (4 * weight_in cx.entry.p.now k - 1)) }
+    ensures spends { IfOk result (λ _. SpendsValue cx.entry.fixed (weight_in cx.entry.p.now k) (extra cx.entry.fixed (Some to))
+        out.old out.new) }
 {
     let (x, y) = pair(cx, k, a, b, out)?;
     whole(out, op, int_kind(cx.kind(k)), to, x.temp, y)
@@ -408,6 +428,8 @@ fn capability(
     requires room { HasRoom out.old (4 * weight_in cx.p.now k - 1) }
     ensures lowered { IfOk result (λ _. Lowered cx.entry.p.now cx.entry.d.now cx.entry.types.now cx.entry.homes.now
         out.old out.new (4 * weight_in cx.entry.p.now k - 1)) }
+    ensures spends { IfOk result (λ _. SpendsValue cx.entry.fixed (weight_in cx.entry.p.now k) (extra cx.entry.fixed (Some to))
+        out.old out.new) }
 {
     let (x, y) = pair(cx, k, a, b, out)?;
     let signed = is_signed(cx.kind(k));
@@ -426,6 +448,8 @@ fn distance(cx: Context, k: u32, a: u32, b: u32, to: u32, out: &mut Emitter) -> 
     requires room { HasRoom out.old (4 * weight_in cx.p.now k - 1) }
     ensures lowered { IfOk result (λ _. Lowered cx.entry.p.now cx.entry.d.now cx.entry.types.now cx.entry.homes.now
         out.old out.new (4 * weight_in cx.entry.p.now k - 1)) }
+    ensures spends { IfOk result (λ _. SpendsValue cx.entry.fixed (weight_in cx.entry.p.now k) (extra cx.entry.fixed (Some to))
+        out.old out.new) }
 {
     let (x, y) = pair(cx, k, a, b, out)?;
     let size = cx.pointed_size(a).unwrap_or(0);
@@ -441,6 +465,8 @@ pub fn effect(cx: Context, k: u32, out: &mut Emitter) -> Result<(), NoMemory>
     requires room { HasRoom out.old (4 * weight_in cx.p.now k) }
     ensures lowered { IfOk result (λ _. Lowered cx.entry.p.now cx.entry.d.now cx.entry.types.now cx.entry.homes.now
         out.old out.new (4 * weight_in cx.entry.p.now k)) }
+    ensures spends { IfOk result (λ _. SpendsValue cx.entry.fixed (weight_in cx.entry.p.now k) 1
+        out.old out.new) }
 {
     let Some(e) = cx.node(k) else {
         return Ok(());
@@ -516,6 +542,8 @@ fn chosen_effect(
     requires room { HasRoom out.old (4 * weight_in cx.p.now k) }
     ensures lowered { IfOk result (λ _. Lowered cx.entry.p.now cx.entry.d.now cx.entry.types.now cx.entry.homes.now
         out.old out.new (4 * weight_in cx.entry.p.now k)) }
+    ensures spends { IfOk result (λ _. SpendsValue cx.entry.fixed (weight_in cx.entry.p.now k) 1
+        out.old out.new) }
 {
     let fork = out.fork();
     let jump = Jump {
@@ -547,6 +575,8 @@ fn guarded_effect(
     requires room { HasRoom out.old (4 * weight_in cx.p.now k) }
     ensures lowered { IfOk result (λ _. Lowered cx.entry.p.now cx.entry.d.now cx.entry.types.now cx.entry.homes.now
         out.old out.new (4 * weight_in cx.entry.p.now k)) }
+    ensures spends { IfOk result (λ _. SpendsValue cx.entry.fixed (weight_in cx.entry.p.now k) 1
+        out.old out.new) }
 {
     let label = out.label();
     condition(cx, a, Jump { when, label }, out)?;
@@ -564,6 +594,8 @@ fn read_effect(cx: Context, k: u32, a: u32, out: &mut Emitter) -> Result<(), NoM
     requires room { HasRoom out.old (4 * weight_in cx.p.now k) }
     ensures lowered { IfOk result (λ _. Lowered cx.entry.p.now cx.entry.d.now cx.entry.types.now cx.entry.homes.now
         out.old out.new (4 * weight_in cx.entry.p.now k)) }
+    ensures spends { IfOk result (λ _. SpendsValue cx.entry.fixed (weight_in cx.entry.p.now k) 1
+        out.old out.new) }
 {
     match cx.scalar(k) {
         None => effect(cx, a, out),
@@ -588,6 +620,8 @@ fn load(cx: Context, k: u32, a: u32, to: u32, out: &mut Emitter) -> Result<(), N
     requires room { HasRoom out.old (4 * weight_in cx.p.now k - 1) }
     ensures lowered { IfOk result (λ _. Lowered cx.entry.p.now cx.entry.d.now cx.entry.types.now cx.entry.homes.now
         out.old out.new (4 * weight_in cx.entry.p.now k - 1)) }
+    ensures spends { IfOk result (λ _. SpendsValue cx.entry.fixed (weight_in cx.entry.p.now k) (extra cx.entry.fixed (Some to))
+        out.old out.new) }
 {
     match cx.variable(a) {
         Some(t) => out.transfer(to, t),
@@ -609,6 +643,8 @@ fn conversion(cx: Context, k: u32, a: u32, to: u32, out: &mut Emitter) -> Result
     requires room { HasRoom out.old (4 * weight_in cx.p.now k - 1) }
     ensures lowered { IfOk result (λ _. Lowered cx.entry.p.now cx.entry.d.now cx.entry.types.now cx.entry.homes.now
         out.old out.new (4 * weight_in cx.entry.p.now k - 1)) }
+    ensures spends { IfOk result (λ _. SpendsValue cx.entry.fixed (weight_in cx.entry.p.now k) (extra cx.entry.fixed (Some to))
+        out.old out.new) }
 {
     let new = cx.kind(k);
     if cx.scalar(k).is_none() {
@@ -641,6 +677,8 @@ fn unary(
     requires room { HasRoom out.old (4 * weight_in cx.p.now k - 1) }
     ensures lowered { IfOk result (λ _. Lowered cx.entry.p.now cx.entry.d.now cx.entry.types.now cx.entry.homes.now
         out.old out.new (4 * weight_in cx.entry.p.now k - 1)) }
+    ensures spends { IfOk result (λ _. SpendsValue cx.entry.fixed (weight_in cx.entry.p.now k) (extra cx.entry.fixed (Some to))
+        out.old out.new) }
 {
     match op {
         UnaryOp::LogicalNot => {
@@ -671,6 +709,8 @@ fn signed_value(
     requires room { HasRoom out.old (4 * weight_in cx.p.now k - 1) }
     ensures lowered { IfOk result (λ _. Lowered cx.entry.p.now cx.entry.d.now cx.entry.types.now cx.entry.homes.now
         out.old out.new (4 * weight_in cx.entry.p.now k - 1)) }
+    ensures spends { IfOk result (λ _. SpendsValue cx.entry.fixed (weight_in cx.entry.p.now k) (extra cx.entry.fixed (Some to))
+        out.old out.new) }
 {
     let x = operand_in(cx, a, to, out)?;
     signed(out, sign, to, x)
@@ -696,6 +736,8 @@ fn comparison(
     requires room { HasRoom out.old (4 * weight_in cx.p.now k - 1) }
     ensures lowered { IfOk result (λ _. Lowered cx.entry.p.now cx.entry.d.now cx.entry.types.now cx.entry.homes.now
         out.old out.new (4 * weight_in cx.entry.p.now k - 1)) }
+    ensures spends { IfOk result (λ _. SpendsValue cx.entry.fixed (weight_in cx.entry.p.now k) (extra cx.entry.fixed (Some to))
+        out.old out.new) }
 {
     let (x, y) = pair(cx, k, a, b, out)?;
     out.compare(op, x.kind, to, x.temp, y.temp)
@@ -713,6 +755,8 @@ fn truth(cx: Context, k: u32, j: Junction, to: u32, out: &mut Emitter) -> Result
     requires room { HasRoom out.old (4 * weight_in cx.p.now k - 1) }
     ensures lowered { IfOk result (λ _. Lowered cx.entry.p.now cx.entry.d.now cx.entry.types.now cx.entry.homes.now
         out.old out.new (4 * weight_in cx.entry.p.now k - 1)) }
+    ensures spends { IfOk result (λ _. SpendsValue cx.entry.fixed (weight_in cx.entry.p.now k) (extra cx.entry.fixed (Some to))
+        out.old out.new) }
 {
     let fork = out.fork();
     let jump = Jump {
@@ -746,6 +790,8 @@ fn sum(
     requires room { HasRoom out.old (4 * weight_in cx.p.now k - 1) }
     ensures lowered { IfOk result (λ _. Lowered cx.entry.p.now cx.entry.d.now cx.entry.types.now cx.entry.homes.now
         out.old out.new (4 * weight_in cx.entry.p.now k - 1)) }
+    ensures spends { IfOk result (λ _. SpendsValue cx.entry.fixed (weight_in cx.entry.p.now k) (extra cx.entry.fixed (Some to))
+        out.old out.new) }
 {
     match cx.pointed_size(a) {
         Some(size) => pointer_first(cx, k, a, b, stride(size, minus), to, out),
@@ -777,6 +823,8 @@ fn pointer_first(
     requires room { HasRoom out.old (4 * weight_in cx.p.now k - 1) }
     ensures lowered { IfOk result (λ _. Lowered cx.entry.p.now cx.entry.d.now cx.entry.types.now cx.entry.homes.now
         out.old out.new (4 * weight_in cx.entry.p.now k - 1)) }
+    ensures spends { IfOk result (λ _. SpendsValue cx.entry.fixed (weight_in cx.entry.p.now k) (extra cx.entry.fixed (Some to))
+        out.old out.new) }
 {
     match constant_index(cx, b) {
         Some(n) => displaced(cx, a, by.wrapping_mul(n), to, out),
@@ -808,6 +856,8 @@ fn pointer_second(
     requires room { HasRoom out.old (4 * weight_in cx.p.now k - 1) }
     ensures lowered { IfOk result (λ _. Lowered cx.entry.p.now cx.entry.d.now cx.entry.types.now cx.entry.homes.now
         out.old out.new (4 * weight_in cx.entry.p.now k - 1)) }
+    ensures spends { IfOk result (λ _. SpendsValue cx.entry.fixed (weight_in cx.entry.p.now k) (extra cx.entry.fixed (Some to))
+        out.old out.new) }
 {
     match constant_index(cx, a) {
         Some(n) => displaced(cx, b, by.wrapping_mul(n), to, out),
@@ -829,6 +879,8 @@ fn displaced(cx: Context, k: u32, by: u64, to: u32, out: &mut Emitter) -> Result
     requires room { HasRoom out.old (4 * weight_in cx.p.now k - 1) }
     ensures lowered { IfOk result (λ _. Lowered cx.entry.p.now cx.entry.d.now cx.entry.types.now cx.entry.homes.now
         out.old out.new (4 * weight_in cx.entry.p.now k - 1)) }
+    ensures spends { IfOk result (λ _. Spends cx.entry.fixed out.old out.new (2 * weight_in cx.entry.p.now k - 2 + extra cx.entry.fixed (Some to))
+        (32 * weight_in cx.entry.p.now k - 6 + 6 * extra cx.entry.fixed (Some to))) }
 {
     let base = operand_in(cx, k, to, out)?;
     out.offset(to, base.temp, Amount::Number(by))
@@ -853,6 +905,8 @@ fn assignment(
     requires room { HasRoom out.old (4 * weight_in cx.p.now k - 1) }
     ensures lowered { IfOk result (λ _. Lowered cx.entry.p.now cx.entry.d.now cx.entry.types.now cx.entry.homes.now
         out.old out.new (4 * weight_in cx.entry.p.now k - 1)) }
+    ensures spends { IfOk result (λ _. SpendsValue cx.entry.fixed (weight_in cx.entry.p.now k) (extra cx.entry.fixed to)
+        out.old out.new) }
 {
     if cx.facts(k).record {
         struct_assignment(cx, k, a, b, out)?;
@@ -886,6 +940,8 @@ fn object_assignment(
     requires room { HasRoom out.old (4 * weight_in cx.p.now k - 1) }
     ensures lowered { IfOk result (λ _. Lowered cx.entry.p.now cx.entry.d.now cx.entry.types.now cx.entry.homes.now
         out.old out.new (4 * weight_in cx.entry.p.now k - 1)) }
+    ensures spends { IfOk result (λ _. SpendsValue cx.entry.fixed (weight_in cx.entry.p.now k) (extra cx.entry.fixed to)
+        out.old out.new) }
 {
     let kind = cx.kind(a);
     let at = pointer(cx, a, cx.written(b), out)?;
@@ -912,6 +968,8 @@ fn assigned(
     ensures has { IfOk result (λ t. HasKind out.new t kind) }
     ensures lowered { IfOk result (λ _. Lowered cx.entry.p.now cx.entry.d.now cx.entry.types.now cx.entry.homes.now
         out.old out.new (4 * weight_in cx.entry.p.now k)) }
+    ensures spends { IfOk result (λ _. SpendsOperand cx.entry.fixed (weight_in cx.entry.p.now k)
+        out.old out.new) }
 {
     match to {
         None => operand(cx, k, Written::Nothing, out),
@@ -959,6 +1017,8 @@ fn compound(
     requires room { HasRoom out.old (4 * weight_in cx.p.now k - 1) }
     ensures lowered { IfOk result (λ _. Lowered cx.entry.p.now cx.entry.d.now cx.entry.types.now cx.entry.homes.now
         out.old out.new (4 * weight_in cx.entry.p.now k - 1)) }
+    ensures spends { IfOk result (λ _. SpendsValue cx.entry.fixed (weight_in cx.entry.p.now k) (extra cx.entry.fixed to)
+        out.old out.new) }
 {
     let kind = cx.kind(a);
     match cx.variable(a) {
@@ -998,6 +1058,8 @@ fn step(
     requires room { HasRoom out.old (4 * weight_in cx.p.now k - 1) }
     ensures lowered { IfOk result (λ _. Lowered cx.entry.p.now cx.entry.d.now cx.entry.types.now cx.entry.homes.now
         out.old out.new (4 * weight_in cx.entry.p.now k - 1)) }
+    ensures spends { IfOk result (λ _. SpendsValue cx.entry.fixed (weight_in cx.entry.p.now k) (extra cx.entry.fixed to)
+        out.old out.new) }
 {
     let kind = cx.kind(a);
     let size = cx.pointed_size(a).unwrap_or(1);
@@ -1008,23 +1070,27 @@ fn step(
             let at = pointer(cx, a, Written::Nothing, out)?;
             let old = own(cx, to, kind, out)?;
             out.load(old, at, kind, cx.pos(a))?;
-            let new = renewed(out, front || to.is_none(), old, kind)?;
-            stepped(out, pace, new, Held { temp: old, kind })?;
+            let new = renewed(out, pace, front || to.is_none(), Held { temp: old, kind })?;
             out.store(at, new, kind, cx.pos(a))?;
             out.give(to, old)
         }
     }
 }
 
-/// The temp of the new value of a place that is moved: that of the old one, where this is not asked for.
-fn renewed(out: &mut Emitter, same: bool, old: u32, kind: TacKind) -> Result<u32, NoMemory>
-    requires old { HasKind out.old old kind }
+/// The new value of a place that is moved: in the temp of the old one, where this is not asked for.
+fn renewed(out: &mut Emitter, pace: Pace, same: bool, old: Held) -> Result<u32, NoMemory>
+    requires old { Holds out.old old }
     requires room { HasRoom out.old 1 }
-    ensures has { IfOk result (λ t. HasKind out.new t kind) }
+    ensures has { IfOk result (λ t. HasKind out.new t old.kind) }
     ensures grown { IfOk result (λ _. Grown out.old out.new) }
     ensures adds { IfOk result (λ _. Adds out.old out.new 1 0) }
+    ensures spent { IfOk result (λ _. Spent out.old out.new 1 17) }
 {
-    if same { Ok(old) } else { out.temp(kind) }
+    if !same {
+        return stepped_apart(out, pace, old);
+    }
+    stepped(out, pace, old.temp, old)?;
+    Ok(old.temp)
 }
 
 /// A variable is moved by one.
@@ -1042,6 +1108,7 @@ fn variable_step(
     requires room { HasRoom out.old (2) }
     ensures lowered { IfOk result (λ _. Lowered cx.entry.p.now cx.entry.d.now cx.entry.types.now cx.entry.homes.now
         out.old out.new (2)) }
+    ensures spends { IfOk result (λ _. Spends cx.entry.fixed out.old out.new (2) (35)) }
 {
     if front || to.is_none() {
         stepped(out, pace, v.temp, v)?;

@@ -1,6 +1,6 @@
 //! The code of a function.
 
-ghost use Rattle.std.specs.Prelude.{◌≡◌, ℕ, ◌+◌, ◌^◌, ◌<◌, ◌≤◌, [], true, false, length, IfOk, Some, slice_get};
+ghost use Rattle.std.specs.Prelude.{◌≡◌, ℕ, ◌+◌, ◌*◌, ◌^◌, ◌<◌, ◌≤◌, [], true, false, length, IfOk, Some, slice_get};
 ghost use Rattle.c_tree.specs.TreeWeight.{function_weight};
 ghost use Rattle.c_tree.specs.Types.{Ty, Tys, Function};
 ghost use Rattle.c_tree.specs.WellTyped.{FunctionFits, type_in};
@@ -14,6 +14,8 @@ ghost use Rattle.tac_lower.specs.Emitted.{HasKind, WellListed, Keeps, Grown, Add
 ghost use Rattle.tac_lower.specs.Functions.{AreParameters, Makes};
 ghost use Rattle.tac_lower.specs.Nodes.{kept_as, or_int};
 ghost use Rattle.tac_lower.specs.Scenes.{Ready, HomeFits, Housed, Scene, Lowered};
+ghost use Rattle.tac_ir.specs.Within.{FunctionCosts};
+ghost use Rattle.tac_lower.specs.Spent.{Spent};
 ghost use Rattle.tac_lower.specs.Signed.{kept_parameter, ReturnFits};
 
 use crate::context::{Context, Home};
@@ -61,6 +63,7 @@ fn parameter_temps(program: Program, d: &FunDef, out: &mut Emitter) -> Result<()
     ensures parameters { IfOk result (λ _. AreParameters program.entry.p.now d.now out.new) }
     ensures grown { IfOk result (λ _. Grown out.old out.new) }
     ensures adds { IfOk result (λ _. Adds out.old out.new (length d.now.params) 0) }
+    ensures spent { IfOk result (λ _. Spent out.old out.new (length d.now.params) 0) }
 {
     for x in d.params.as_slice() {
         out.temp(program.kind_of_type(type_of_variable(d, *x)))?;
@@ -108,6 +111,7 @@ fn object_home(n: u32, out: &mut Emitter) -> Result<Home, NoMemory>
         → HomeFits p d out.new v h) }
     ensures grown { IfOk result (λ _. Grown out.old out.new) }
     ensures adds { IfOk result (λ _. Adds out.old out.new 1 0) }
+    ensures spent { IfOk result (λ _. Spent out.old out.new 1 0) }
 {
     let t = out.temp(POINTER)?;
     Ok(Home::Object(n, t))
@@ -121,6 +125,7 @@ fn value_temp(x: u32, params: usize, kind: TacKind, out: &mut Emitter) -> Result
     ensures has { IfOk result (λ t. HasKind out.new t kind) }
     ensures grown { IfOk result (λ _. Grown out.old out.new) }
     ensures adds { IfOk result (λ _. Adds out.old out.new 1 0) }
+    ensures spent { IfOk result (λ _. Spent out.old out.new 1 0) }
 {
     if (x as usize) < params {
         Ok(x)
@@ -146,6 +151,7 @@ fn next_home(
     ensures home { IfOk result (λ h. HomeFits program.entry.p.now d.now out.new v.now h) }
     ensures grown { IfOk result (λ _. Grown out.old out.new) }
     ensures adds { IfOk result (λ _. Adds out.old out.new 1 0) }
+    ensures spent { IfOk result (λ _. Spent out.old out.new 1 0) }
 {
     if v.simple {
         let kind = program.kind_of_type(v.of);
@@ -166,6 +172,7 @@ fn homes(program: Program, d: &FunDef, out: &mut Emitter) -> Result<Vec<Home>, N
     ensures housed { IfOk result (λ hs. Housed program.entry.p.now d.now hs.items out.new) }
     ensures grown { IfOk result (λ _. Grown out.old out.new) }
     ensures adds { IfOk result (λ _. Adds out.old out.new (length d.now.vars) 0) }
+    ensures spent { IfOk result (λ _. Spent out.old out.new (length d.now.vars) 0) }
 {
     let mut found = Vec::new(program.alloc);
     let mut count = Count {
@@ -196,6 +203,7 @@ fn take_object(
     requires value { HasKind out.old t (kept_parameter cx.p.now d.now x) }
     ensures lowered { IfOk result (λ _. Lowered cx.entry.p.now d.now cx.entry.types.now cx.entry.homes.now
         out.old out.new 0) }
+    ensures spent { IfOk result (λ _. Spent out.old out.new 0 26) }
 {
     out.enter_object(at, n)?;
     let kind = cx.kind_of_type(type_of_variable(d, x));
@@ -214,6 +222,7 @@ fn take_parameter(
     requires value { HasKind out.old t (kept_parameter cx.p.now d.now x) }
     ensures lowered { IfOk result (λ _. Lowered cx.entry.p.now d.now cx.entry.types.now cx.entry.homes.now
         out.old out.new 0) }
+    ensures spent { IfOk result (λ _. Spent out.old out.new 0 26) }
 {
     match cx.home(x) {
         Some(Home::Object(n, at)) => take_object(cx, d, x, n, at, t, out),
@@ -227,6 +236,7 @@ fn take_parameters(cx: Context, d: &FunDef, out: &mut Emitter) -> Result<(), NoM
     requires few { length d.now.params < 2 ^ 32 }
     ensures lowered { IfOk result (λ _. Lowered cx.entry.p.now d.now cx.entry.types.now cx.entry.homes.now
         out.old out.new 0) }
+    ensures spent { IfOk result (λ _. Spent out.old out.new 0 (26 * length d.now.params)) }
 {
     let mut t: u32 = 0;
     for x in d.params.as_slice() {
@@ -253,6 +263,7 @@ fn end_value(kind: Option<TacKind>, out: &mut Emitter) -> Result<Option<u32>, No
     ensures value { IfOk result (λ v. ReturnFits out.new kind v) }
     ensures grown { IfOk result (λ _. Grown out.old out.new) }
     ensures adds { IfOk result (λ _. Adds out.old out.new 1 0) }
+    ensures spent { IfOk result (λ _. Spent out.old out.new 1 11) }
 {
     match kind {
         None => Ok(None),
@@ -274,6 +285,7 @@ fn end_function(cx: Context, out: &mut Emitter) -> Result<(), NoMemory>
         out.new.code.items out.new.code.items) }
     ensures keeps { IfOk result (λ _. Keeps out.old.kinds.items out.new.kinds.items) }
     ensures adds { IfOk result (λ _. Adds out.old out.new 1 0) }
+    ensures spent { IfOk result (λ _. Spent out.old out.new 1 35) }
 {
     if out.has_left() {
         return Ok(());
@@ -306,6 +318,7 @@ pub fn function(program: Program, d: &FunDef) -> Result<TacFun, NoMemory>
     requires light { function_weight program.p.now d.now ≤ 7780 }
     ensures named { IfOk result (λ f. f.name ≡ d.now.pos) }
     ensures formed { IfOk result (λ f. function_fits program.entry.p.now d.now f ≡ true) }
+    ensures costs { IfOk result (λ f. FunctionCosts (function_weight program.entry.p.now d.now) f) }
 {
     let mut out = Emitter::new(program.alloc);
     parameter_temps(program, d, &mut out)?;

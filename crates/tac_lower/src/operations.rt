@@ -7,6 +7,8 @@ ghost use Rattle.tac_ir.specs.declared.code.TacKind.TheVariants as kinds;
 ghost use Rattle.cheri_c_sem.specs.Types.{is_shift};
 ghost use Rattle.tac_ir.specs.WellFormed.{constant_fits};
 ghost use Rattle.tac_lower.specs.declared.emitter.Emitter.{Emitter};
+ghost use Rattle.tac_ir.specs.Costs.{number_cost};
+ghost use Rattle.tac_lower.specs.Spent.{Spent, is_number};
 ghost use Rattle.tac_lower.specs.Emitted.{HasKind, HasInt, HasAddress, IsWide, AmountFits, CountFits, RightFits, SameKind, SameCapability, Holds, is_capability, wide_of, Grown, Adds, HasRoom, ChangeFits};
 
 use crate::emitter::Emitter;
@@ -30,9 +32,10 @@ fn is_shift(op: IntOp) -> bool
 
 /// The number all of whose bits are set, as a kind keeps it.
 fn all_ones(kind: IntKind) -> u64
-    ensures { constant_fits (kinds.Int kind) result ≡ true }
+    ensures fits { constant_fits (kinds.Int kind) result ≡ true }
+    ensures short { kind ≡ int.U64 → number_cost result ≡ 1 }
 {
-    wrap(kind, i128::from(u64::MAX))
+    wrap(kind, 0xffff_ffff_ffff_ffff)
 }
 
 /// Whether a value is 0 or null.
@@ -42,6 +45,7 @@ pub fn negated(out: &mut Emitter, to: u32, x: Held) -> Result<(), NoMemory>
     requires x { Holds out.old x }
     ensures grown { IfOk result (λ _. Grown out.old out.new) }
     ensures adds { IfOk result (λ _. Adds out.old out.new 1 0) }
+    ensures spent { IfOk result (λ _. Spent out.old out.new 1 22) }
 {
     let zero = out.fresh_constant(x.kind, 0)?;
     out.compare(CmpOp::Eq, x.kind, to, x.temp, zero)
@@ -54,6 +58,8 @@ fn negative(out: &mut Emitter, kind: IntKind, to: u32, a: u32) -> Result<(), NoM
     requires a { HasKind out.old a (kinds.Int kind) }
     ensures grown { IfOk result (λ _. Grown out.old out.new) }
     ensures adds { IfOk result (λ _. Adds out.old out.new 1 0) }
+    ensures spent { IfOk result (λ _. Spent out.old out.new 1 17) }
+    ensures wide { kind ≡ int.U64 → IfOk result (λ _. Spent out.old out.new 1 14) }
 {
     let zero = out.fresh_constant(TacKind::Int(kind), 0)?;
     out.int(IntOp::Sub, kind, to, zero, a)
@@ -66,6 +72,8 @@ fn complement(out: &mut Emitter, kind: IntKind, to: u32, a: u32) -> Result<(), N
     requires a { HasKind out.old a (kinds.Int kind) }
     ensures grown { IfOk result (λ _. Grown out.old out.new) }
     ensures adds { IfOk result (λ _. Adds out.old out.new 1 0) }
+    ensures spent { IfOk result (λ _. Spent out.old out.new 1 24) }
+    ensures wide { kind ≡ int.U64 → IfOk result (λ _. Spent out.old out.new 1 14) }
 {
     let ones = out.fresh_constant(TacKind::Int(kind), all_ones(kind))?;
     out.int(IntOp::Xor, kind, to, a, ones)
@@ -91,6 +99,8 @@ fn signed_integer(
     requires a { HasKind out.old a (kinds.Int kind) }
     ensures grown { IfOk result (λ _. Grown out.old out.new) }
     ensures adds { IfOk result (λ _. Adds out.old out.new 1 0) }
+    ensures spent { IfOk result (λ _. Spent out.old out.new 1 24) }
+    ensures wide { kind ≡ int.U64 → IfOk result (λ _. Spent out.old out.new 1 14) }
 {
     match sign {
         Sign::Positive => out.transfer(to, a),
@@ -107,6 +117,7 @@ fn signed_capability(out: &mut Emitter, sign: Sign, to: u32, x: Held) -> Result<
     requires capability { is_capability x.kind ≡ true }
     ensures grown { IfOk result (λ _. Grown out.old out.new) }
     ensures adds { IfOk result (λ _. Adds out.old out.new 2 0) }
+    ensures spent { IfOk result (λ _. Spent out.old out.new 2 32) }
 {
     let n = out.fresh_conversion(x.temp, x.kind, WORD)?;
     signed_integer(out, sign, IntKind::U64, n, n)?;
@@ -120,6 +131,7 @@ pub fn signed(out: &mut Emitter, sign: Sign, to: u32, x: Held) -> Result<(), NoM
     requires x { Holds out.old x }
     ensures grown { IfOk result (λ _. Grown out.old out.new) }
     ensures adds { IfOk result (λ _. Adds out.old out.new 2 0) }
+    ensures spent { IfOk result (λ _. Spent out.old out.new 2 32) }
 {
     match x.kind {
         TacKind::Int(kind) => signed_integer(out, sign, kind, to, x.temp),
@@ -134,6 +146,7 @@ fn as_count(out: &mut Emitter, x: Held) -> Result<u32, NoMemory>
     ensures count { IfOk result (λ t. HasInt out.new t) }
     ensures grown { IfOk result (λ _. Grown out.old out.new) }
     ensures adds { IfOk result (λ _. Adds out.old out.new 1 0) }
+    ensures spent { IfOk result (λ _. Spent out.old out.new 1 8) }
 {
     if is_capability(x.kind) {
         out.fresh_conversion(x.temp, x.kind, WORD)
@@ -149,6 +162,7 @@ fn right_operand(out: &mut Emitter, op: IntOp, y: Held) -> Result<u32, NoMemory>
     ensures count { IfOk result (λ t. (kind : IntKind) → RightFits (is_shift op) kind y.kind → CountFits out.new (is_shift op) kind t) }
     ensures grown { IfOk result (λ _. Grown out.old out.new) }
     ensures adds { IfOk result (λ _. Adds out.old out.new 1 0) }
+    ensures spent { IfOk result (λ _. Spent out.old out.new 1 8) }
 {
     if is_shift(op) {
         as_count(out, y)
@@ -173,6 +187,7 @@ pub fn whole(
     requires right { RightFits (is_shift op) kind y.kind }
     ensures grown { IfOk result (λ _. Grown out.old out.new) }
     ensures adds { IfOk result (λ _. Adds out.old out.new 1 0) }
+    ensures spent { IfOk result (λ _. Spent out.old out.new 1 21) }
 {
     let b = right_operand(out, op, y)?;
     out.int(op, kind, to, a, b)
@@ -197,6 +212,7 @@ fn address_operand(out: &mut Emitter, op: IntOp, kind: IntKind, y: Held) -> Resu
     ensures count { IfOk result (λ t. CountFits out.new (is_shift op) kind t) }
     ensures grown { IfOk result (λ _. Grown out.old out.new) }
     ensures adds { IfOk result (λ _. Adds out.old out.new 1 0) }
+    ensures spent { IfOk result (λ _. Spent out.old out.new 1 8) }
 {
     if is_shift(op) && !is_capability(y.kind) {
         Ok(y.temp)
@@ -220,6 +236,7 @@ fn computed_address(
     ensures wide { IfOk result (λ n. IsWide n.kind) }
     ensures grown { IfOk result (λ _. Grown out.old out.new) }
     ensures adds { IfOk result (λ _. Adds out.old out.new 2 0) }
+    ensures spent { IfOk result (λ _. Spent out.old out.new 2 29) }
 {
     let kind = address_kind(op, signed);
     let n = out.fresh_conversion(x.temp, x.kind, TacKind::Int(kind))?;
@@ -262,6 +279,7 @@ pub fn derived(
     requires y { Holds out.old y }
     ensures grown { IfOk result (λ _. Grown out.old out.new) }
     ensures adds { IfOk result (λ _. Adds out.old out.new 2 0) }
+    ensures spent { IfOk result (λ _. Spent out.old out.new 2 39) }
 {
     let n = computed_address(out, op, signed, x, y)?;
     let from = origin(right, x, y);
@@ -296,6 +314,7 @@ fn scaled(out: &mut Emitter, i: Held, by: u64) -> Result<u32, NoMemory>
     ensures bytes { IfOk result (λ t. HasInt out.new t) }
     ensures grown { IfOk result (λ _. Grown out.old out.new) }
     ensures adds { IfOk result (λ _. Adds out.old out.new 2 0) }
+    ensures spent { IfOk result (λ _. Spent out.old out.new 2 32) }
 {
     let kind = wide_kind(i.kind);
     if is_wide(i.kind) {
@@ -316,8 +335,10 @@ fn bytes_of(out: &mut Emitter, i: Held, by: u64) -> Result<Amount, NoMemory>
     requires room { HasRoom out.old 2 }
     requires i { Holds out.old i }
     ensures bytes { IfOk result (λ a. AmountFits out.new a) }
+    ensures temp { IfOk result (λ a. is_number a ≡ false) }
     ensures grown { IfOk result (λ _. Grown out.old out.new) }
     ensures adds { IfOk result (λ _. Adds out.old out.new 2 0) }
+    ensures spent { IfOk result (λ _. Spent out.old out.new 2 32) }
 {
     if by == 1 {
         Ok(Amount::Temp(as_count(out, i)?))
@@ -333,6 +354,7 @@ pub fn moved(out: &mut Emitter, by: u64, to: u32, base: u32, i: Held) -> Result<
     requires i { Holds out.old i }
     ensures grown { IfOk result (λ _. Grown out.old out.new) }
     ensures adds { IfOk result (λ _. Adds out.old out.new 2 0) }
+    ensures spent { IfOk result (λ _. Spent out.old out.new 2 42) }
 {
     let by = bytes_of(out, i, by)?;
     out.offset(to, base, by)
@@ -350,6 +372,7 @@ pub fn moved_by(
     requires base { SameCapability out.old to base }
     ensures grown { IfOk result (λ _. Grown out.old out.new) }
     ensures adds { IfOk result (λ _. Adds out.old out.new 0 0) }
+    ensures spent { IfOk result (λ _. Spent out.old out.new 0 15) }
 {
     let by = stride(size, minus).wrapping_mul(n);
     out.offset(to, base, Amount::Number(by))
@@ -363,6 +386,7 @@ pub fn difference(out: &mut Emitter, size: u64, to: u32, a: u32, b: u32) -> Resu
     requires b { HasKind out.old b (kinds.Cap false) }
     ensures grown { IfOk result (λ _. Grown out.old out.new) }
     ensures adds { IfOk result (λ _. Adds out.old out.new 2 0) }
+    ensures spent { IfOk result (λ _. Spent out.old out.new 2 53) }
 {
     let n = out.fresh_conversion(a, POINTER, LONG)?;
     let m = out.fresh_conversion(b, POINTER, LONG)?;
@@ -400,6 +424,7 @@ fn changed_whole(
     requires right { RightFits (is_shift op) kind y.kind }
     ensures grown { IfOk result (λ _. Grown out.old out.new) }
     ensures adds { IfOk result (λ _. Adds out.old out.new 2 0) }
+    ensures spent { IfOk result (λ _. Spent out.old out.new 2 37) }
 {
     let b = right_operand(out, op, y)?;
     let computed = TacKind::Int(kind);
@@ -426,6 +451,7 @@ fn changed_capability(
     requires y { Holds out.old y }
     ensures grown { IfOk result (λ _. Grown out.old out.new) }
     ensures adds { IfOk result (λ _. Adds out.old out.new 2 0) }
+    ensures spent { IfOk result (λ _. Spent out.old out.new 2 39) }
 {
     let n = computed_address(out, op, signed, x, y)?;
     if is_capability(x.kind) {
@@ -444,6 +470,7 @@ pub fn changed(out: &mut Emitter, change: Change, to: u32, x: Held, y: Held) -> 
     requires change { ChangeFits change x.kind y.kind }
     ensures grown { IfOk result (λ _. Grown out.old out.new) }
     ensures adds { IfOk result (λ _. Adds out.old out.new 2 0) }
+    ensures spent { IfOk result (λ _. Spent out.old out.new 2 42) }
 {
     match change.element {
         Some(size) => moved(out, stride(size, change.op == IntOp::Sub), to, x.temp, y),
@@ -461,6 +488,12 @@ pub struct Pace {
     pub size: u64,
 }
 
+fn step_of(pace: Pace) -> IntOp
+    ensures { is_shift result ≡ false }
+{
+    if pace.up { IntOp::Add } else { IntOp::Sub }
+}
+
 /// A value moved by one.
 pub fn stepped(out: &mut Emitter, pace: Pace, to: u32, x: Held) -> Result<(), NoMemory>
     requires room { HasRoom out.old 1 }
@@ -468,13 +501,33 @@ pub fn stepped(out: &mut Emitter, pace: Pace, to: u32, x: Held) -> Result<(), No
     requires x { Holds out.old x }
     ensures grown { IfOk result (λ _. Grown out.old out.new) }
     ensures adds { IfOk result (λ _. Adds out.old out.new 1 0) }
+    ensures spent { IfOk result (λ _. Spent out.old out.new 1 17) }
 {
     match x.kind {
         TacKind::Int(kind) => {
             let one = out.fresh_constant(x.kind, 1)?;
-            let op = if pace.up { IntOp::Add } else { IntOp::Sub };
-            out.int(op, kind, to, x.temp, one)
+            out.int(step_of(pace), kind, to, x.temp, one)
         }
         TacKind::Cap(_) => moved_by(out, pace.size, !pace.up, to, x.temp, 1),
     }
+}
+
+/// A value moved by one, in a new temp.
+pub fn stepped_apart(out: &mut Emitter, pace: Pace, x: Held) -> Result<u32, NoMemory>
+    requires room { HasRoom out.old 1 }
+    requires x { Holds out.old x }
+    ensures has { IfOk result (λ t. HasKind out.new t x.kind) }
+    ensures grown { IfOk result (λ _. Grown out.old out.new) }
+    ensures adds { IfOk result (λ _. Adds out.old out.new 1 0) }
+    ensures spent { IfOk result (λ _. Spent out.old out.new 1 17) }
+{
+    let to = out.temp(x.kind)?;
+    match x.kind {
+        TacKind::Int(kind) => {
+            out.constant(to, x.kind, 1)?;
+            out.int(step_of(pace), kind, to, x.temp, to)?;
+        }
+        TacKind::Cap(_) => moved_by(out, pace.size, !pace.up, to, x.temp, 1)?,
+    }
+    Ok(to)
 }

@@ -1,11 +1,12 @@
 //! Places, and struct and union values: their pointers.
 
-ghost use Rattle.std.specs.Prelude.{◌≡◌, ◌+◌, ◌-◌, ◌*◌, ◌<◌, false, IfOk, IfSome};
+ghost use Rattle.std.specs.Prelude.{◌≡◌, ◌+◌, ◌-◌, ◌*◌, ◌<◌, false, IfOk, IfSome, Some};
 ghost use Rattle.tac_ir.specs.declared.code.TacKind.TheVariants as kinds;
 ghost use Rattle.tac_lower.specs.declared.emitter.Emitter.{Emitter};
 ghost use Rattle.tac_lower.specs.Destinations.{TargetFits, DestinationFits};
 ghost use Rattle.tac_lower.specs.Emitted.{HasKind, Grown, Adds, HasRoom};
 ghost use Rattle.tac_lower.specs.Nodes.{weight_in, kind_in, IsTyped, AddressNode, HasOne, HasTwo, HasThree};
+ghost use Rattle.tac_lower.specs.Spent.{Spent, Spends, SpendsValue, SpendsPlace, SpendsPointer, SpendsCopy, extra};
 ghost use Rattle.tac_lower.specs.Scenes.{Ready, Housed, Scene, Lowered, frame_of};
 ghost use Rattle.cheri_c_sem.specs.Order.{Ordered};
 
@@ -44,6 +45,7 @@ impl Target {
         ensures has { IfOk result (λ t. HasKind out.new t (kinds.Cap false)) }
         ensures grown { IfOk result (λ _. Grown out.old out.new) }
         ensures adds { IfOk result (λ _. Adds out.old out.new 1 0) }
+        ensures spent { IfOk result (λ _. Spent out.old out.new 1 15) }
     {
         match self {
             Target::At(t) => Ok(t),
@@ -59,6 +61,7 @@ pub fn within(out: &mut Emitter, base: u32, offset: u64) -> Result<u32, NoMemory
     ensures has { IfOk result (λ t. HasKind out.new t (kinds.Cap false)) }
     ensures grown { IfOk result (λ _. Grown out.old out.new) }
     ensures adds { IfOk result (λ _. Adds out.old out.new 1 0) }
+    ensures spent { IfOk result (λ _. Spent out.old out.new 1 15) }
 {
     if offset == 0 {
         return Ok(base);
@@ -74,6 +77,7 @@ fn variable_pointer(cx: Context, x: u32, to: u32, out: &mut Emitter) -> Result<(
     requires to { HasKind out.old to (kinds.Cap false) }
     ensures lowered { IfOk result (λ _. Lowered cx.entry.p.now cx.entry.d.now cx.entry.types.now cx.entry.homes.now
         out.old out.new (0)) }
+    ensures spent { IfOk result (λ _. Spent out.old out.new 0 6) }
 {
     match cx.pointer_to_variable(x) {
         Some(t) => out.transfer(to, t),
@@ -111,6 +115,8 @@ pub fn pointer(cx: Context, k: u32, later: Written, out: &mut Emitter) -> Result
     ensures has { IfOk result (λ t. HasKind out.new t (kinds.Cap false)) }
     ensures lowered { IfOk result (λ _. Lowered cx.entry.p.now cx.entry.d.now cx.entry.types.now cx.entry.homes.now
         out.old out.new (4 * weight_in cx.entry.p.now k)) }
+    ensures spends { IfOk result (λ _. SpendsPointer cx.entry.fixed (weight_in cx.entry.p.now k)
+        out.old out.new) }
 {
     let Some(e) = cx.node(k) else {
         return fresh_place(cx, k, out);
@@ -138,6 +144,8 @@ fn fresh_place(cx: Context, k: u32, out: &mut Emitter) -> Result<u32, NoMemory>
     ensures has { IfOk result (λ t. HasKind out.new t (kinds.Cap false)) }
     ensures lowered { IfOk result (λ _. Lowered cx.entry.p.now cx.entry.d.now cx.entry.types.now cx.entry.homes.now
         out.old out.new (4 * weight_in cx.entry.p.now k)) }
+    ensures spends { IfOk result (λ _. SpendsPointer cx.entry.fixed (weight_in cx.entry.p.now k)
+        out.old out.new) }
 {
     let t = out.temp(POINTER)?;
     place(cx, k, t, out)?;
@@ -154,6 +162,8 @@ pub fn place(cx: Context, k: u32, to: u32, out: &mut Emitter) -> Result<(), NoMe
     requires room { HasRoom out.old (4 * weight_in cx.p.now k - 1) }
     ensures lowered { IfOk result (λ _. Lowered cx.entry.p.now cx.entry.d.now cx.entry.types.now cx.entry.homes.now
         out.old out.new (4 * weight_in cx.entry.p.now k - 1)) }
+    ensures spends { IfOk result (λ _. SpendsPlace cx.entry.fixed (weight_in cx.entry.p.now k)
+        out.old out.new) }
 {
     let Some(e) = cx.node(k) else {
         return out.constant(to, POINTER, 0);
@@ -201,6 +211,8 @@ fn place_behind(
     requires room { HasRoom out.old (4 * weight_in cx.p.now k - 1) }
     ensures lowered { IfOk result (λ _. Lowered cx.entry.p.now cx.entry.d.now cx.entry.types.now cx.entry.homes.now
         out.old out.new (4 * weight_in cx.entry.p.now k - 1)) }
+    ensures spends { IfOk result (λ _. SpendsPlace cx.entry.fixed (weight_in cx.entry.p.now k)
+        out.old out.new) }
 {
     effect(cx, a, out)?;
     place(cx, b, to, out)
@@ -227,6 +239,8 @@ fn place_choice(
     requires room { HasRoom out.old (4 * weight_in cx.p.now k - 1) }
     ensures lowered { IfOk result (λ _. Lowered cx.entry.p.now cx.entry.d.now cx.entry.types.now cx.entry.homes.now
         out.old out.new (4 * weight_in cx.entry.p.now k - 1)) }
+    ensures spends { IfOk result (λ _. SpendsPlace cx.entry.fixed (weight_in cx.entry.p.now k)
+        out.old out.new) }
 {
     let fork = out.fork();
     let jump = Jump {
@@ -251,6 +265,8 @@ fn member(cx: Context, k: u32, a: u32, m: u32, to: u32, out: &mut Emitter) -> Re
     requires room { HasRoom out.old (4 * weight_in cx.p.now k - 1) }
     ensures lowered { IfOk result (λ _. Lowered cx.entry.p.now cx.entry.d.now cx.entry.types.now cx.entry.homes.now
         out.old out.new (4 * weight_in cx.entry.p.now k - 1)) }
+    ensures spends { IfOk result (λ _. SpendsPlace cx.entry.fixed (weight_in cx.entry.p.now k)
+        out.old out.new) }
 {
     let offset = Amount::Number(cx.member_offset(a, m));
     match base_in_place(cx, a) {
@@ -273,6 +289,8 @@ pub fn address(cx: Context, k: u32, a: u32, to: u32, out: &mut Emitter) -> Resul
     requires room { HasRoom out.old (4 * weight_in cx.p.now k - 1) }
     ensures lowered { IfOk result (λ _. Lowered cx.entry.p.now cx.entry.d.now cx.entry.types.now cx.entry.homes.now
         out.old out.new (4 * weight_in cx.entry.p.now k - 1)) }
+    ensures spends { IfOk result (λ _. SpendsValue cx.entry.fixed (weight_in cx.entry.p.now k) (extra cx.entry.fixed (Some to))
+        out.old out.new) }
 {
     place(cx, a, to, out)?;
     match cx.member_size(a) {
@@ -299,6 +317,7 @@ pub fn struct_assignment(
     ensures has { IfOk result (λ t. HasKind out.new t (kinds.Cap false)) }
     ensures lowered { IfOk result (λ _. Lowered cx.entry.p.now cx.entry.d.now cx.entry.types.now cx.entry.homes.now
         out.old out.new (4 * weight_in cx.entry.p.now k - 1)) }
+    ensures spends { IfOk result (λ _. Spends cx.entry.fixed out.old out.new (2 * weight_in cx.entry.p.now k - 2) (32 * weight_in cx.entry.p.now k - 32)) }
 {
     let facts = cx.facts(k);
     let t = pointer(cx, a, cx.written(b), out)?;
@@ -327,6 +346,8 @@ pub fn struct_copy(
     requires room { HasRoom out.old (4 * weight_in cx.p.now k + 1) }
     ensures lowered { IfOk result (λ _. Lowered cx.entry.p.now cx.entry.d.now cx.entry.types.now cx.entry.homes.now
         out.old out.new (4 * weight_in cx.entry.p.now k + 1)) }
+    ensures spends { IfOk result (λ _. SpendsCopy cx.entry.fixed (weight_in cx.entry.p.now k)
+        out.old out.new) }
 {
     let Some(e) = cx.node(k) else {
         return plain_copy(cx, k, destination, out);
@@ -366,6 +387,8 @@ fn chosen_copy(
     requires room { HasRoom out.old (4 * weight_in cx.p.now k + 1) }
     ensures lowered { IfOk result (λ _. Lowered cx.entry.p.now cx.entry.d.now cx.entry.types.now cx.entry.homes.now
         out.old out.new (4 * weight_in cx.entry.p.now k + 1)) }
+    ensures spends { IfOk result (λ _. SpendsCopy cx.entry.fixed (weight_in cx.entry.p.now k)
+        out.old out.new) }
 {
     let fork = out.fork();
     let jump = Jump {
@@ -394,6 +417,8 @@ fn plain_copy(
     requires room { HasRoom out.old (4 * weight_in cx.p.now k + 1) }
     ensures lowered { IfOk result (λ _. Lowered cx.entry.p.now cx.entry.d.now cx.entry.types.now cx.entry.homes.now
         out.old out.new (4 * weight_in cx.entry.p.now k + 1)) }
+    ensures spends { IfOk result (λ _. SpendsCopy cx.entry.fixed (weight_in cx.entry.p.now k)
+        out.old out.new) }
 {
     let from = pointer(cx, k, Written::Nothing, out)?;
     let to = destination.to.pointer(out)?;

@@ -1,6 +1,6 @@
 //! Statements.
 
-ghost use Rattle.std.specs.Prelude.{◌+◌, ◌*◌, ◌<◌, false, length, IfOk};
+ghost use Rattle.std.specs.Prelude.{◌+◌, ◌*◌, ◌<◌, false, [], ◌∷◌, length, IfOk};
 ghost use Rattle.c_tree.specs.Terms.{type_of};
 ghost use Rattle.c_tree.specs.WellTyped.{AreVars, FunctionFits, InitFits};
 ghost use Rattle.cheri_c_sem.specs.Order.{Ordered};
@@ -8,8 +8,9 @@ ghost use Rattle.tac_ir.specs.declared.code.TacKind.TheVariants as kinds;
 ghost use Rattle.tac_lower.specs.Emitted.{HasKind, IsOpen, Stands, Grown, Turned, Adds, HasRoom};
 ghost use Rattle.tac_lower.specs.Known.{AreBelow};
 ghost use Rattle.tac_lower.specs.Nodes.{expression, weight_in, IsTyped};
-ghost use Rattle.tac_lower.specs.Parts.{heft_in, hefts_in, or_none, ReturnPart};
+ghost use Rattle.tac_lower.specs.Parts.{heft_in, hefts_in, entered, entered_in, all_entered_in, or_none, ReturnPart};
 ghost use Rattle.tac_lower.specs.Scenes.{Scene, Lowered, frame_of};
+ghost use Rattle.tac_lower.specs.Spent.{Spent, Spends, SpendsCopy, SpendsPart};
 ghost use Rattle.tac_lower.specs.Statements.{IsPart, AreParts, IsTypedIfAny, IsExit, AreExits, Begun, Behind};
 
 use crate::conditions::{Jump, condition};
@@ -30,13 +31,17 @@ pub struct Exits {
     pub continue_to: Option<u32>,
 }
 
-/// A variable's block is entered.
+/// A variable's block is entered. That of a parameter is the function.
 fn enter_variable(cx: Context, x: u32, out: &mut Emitter) -> Result<(), NoMemory>
     requires scene { Scene cx.p.now cx.d.now cx.types.now cx.homes.now out.old }
     requires there { x < length cx.d.now.vars }
     ensures lowered { IfOk result (λ _. Lowered cx.entry.p.now cx.entry.d.now cx.entry.types.now cx.entry.homes.now
         out.old out.new 0) }
+    ensures spent { IfOk result (λ _. Spent out.old out.new 0 (19 * entered cx.entry.d.now (x ∷ []))) }
 {
+    if cx.is_parameter(x) {
+        return Ok(());
+    }
     match cx.home(x) {
         None => Ok(()),
         Some(Home::Temp(t, kind)) => out.constant(t, kind, 0),
@@ -50,6 +55,7 @@ fn enter(cx: Context, vars: &[u32], out: &mut Emitter) -> Result<(), NoMemory>
     requires there { AreVars (frame_of cx.p.now cx.d.now) vars.now }
     ensures lowered { IfOk result (λ _. Lowered cx.entry.p.now cx.entry.d.now cx.entry.types.now cx.entry.homes.now
         out.old out.new 0) }
+    ensures spent { IfOk result (λ _. Spent out.old out.new 0 (19 * entered cx.entry.d.now vars.now)) }
 {
     for x in vars {
         enter_variable(cx, *x, out)?;
@@ -73,6 +79,7 @@ fn initialise_object(
     requires room { HasRoom out.old (4 * weight_in cx.p.now a + 1) }
     ensures lowered { IfOk result (λ _. Lowered cx.entry.p.now cx.entry.d.now cx.entry.types.now cx.entry.homes.now
         out.old out.new (4 * weight_in cx.entry.p.now a + 1)) }
+    ensures spends { IfOk result (λ _. SpendsCopy cx.entry.fixed (weight_in cx.entry.p.now a) out.old out.new) }
 {
     let facts = cx.facts(a);
     if facts.record {
@@ -105,6 +112,7 @@ fn initialise(
     requires room { HasRoom out.old (4 * weight_in cx.p.now a + 1) }
     ensures lowered { IfOk result (λ _. Lowered cx.entry.p.now cx.entry.d.now cx.entry.types.now cx.entry.homes.now
         out.old out.new (4 * weight_in cx.entry.p.now a + 1)) }
+    ensures spends { IfOk result (λ _. SpendsCopy cx.entry.fixed (weight_in cx.entry.p.now a) out.old out.new) }
 {
     match cx.home(x) {
         None => effect(cx, a, out),
@@ -118,6 +126,7 @@ fn jump_out(out: &mut Emitter, to: Option<u32>) -> Result<(), NoMemory>
     requires exit { IsExit out.old to }
     ensures grown { IfOk result (λ _. Grown out.old out.new) }
     ensures adds { IfOk result (λ _. Adds out.old out.new 0 0) }
+    ensures spent { IfOk result (λ _. Spent out.old out.new 0 1) }
 {
     match to {
         None => Ok(()),
@@ -134,6 +143,7 @@ fn leave(cx: Context, k: u32, a: Option<u32>, out: &mut Emitter) -> Result<(), N
     requires room { HasRoom out.old (4 * heft_in cx.p.now k) }
     ensures lowered { IfOk result (λ _. Lowered cx.entry.p.now cx.entry.d.now cx.entry.types.now cx.entry.homes.now
         out.old out.new (4 * heft_in cx.entry.p.now k)) }
+    ensures spends { IfOk result (λ _. SpendsPart cx.entry.fixed (heft_in cx.entry.p.now k) 0 out.old out.new) }
 {
     let Some(a) = a else {
         return out.leave(None);
@@ -187,6 +197,7 @@ fn test_loop(
     requires room { HasRoom out.old (4 * or_none (weight_in cx.p.now) test) }
     ensures lowered { IfOk result (λ _. Lowered cx.entry.p.now cx.entry.d.now cx.entry.types.now cx.entry.homes.now
         out.old out.new (4 * or_none (weight_in cx.entry.p.now) test)) }
+    ensures spends { IfOk result (λ _. SpendsPart cx.entry.fixed (or_none (weight_in cx.entry.p.now) test) 0 out.old out.new) }
 {
     match test {
         None => Ok(()),
@@ -208,6 +219,7 @@ fn step_loop(cx: Context, step: Option<u32>, out: &mut Emitter) -> Result<(), No
     requires room { HasRoom out.old (4 * or_none (weight_in cx.p.now) step) }
     ensures lowered { IfOk result (λ _. Lowered cx.entry.p.now cx.entry.d.now cx.entry.types.now cx.entry.homes.now
         out.old out.new (4 * or_none (weight_in cx.entry.p.now) step)) }
+    ensures spends { IfOk result (λ _. SpendsPart cx.entry.fixed (or_none (weight_in cx.entry.p.now) step) 0 out.old out.new) }
 {
     match step {
         None => Ok(()),
@@ -220,6 +232,7 @@ fn end_loop(out: &mut Emitter, circle: Circle) -> Result<(), NoMemory>
     requires top { Stands out.old circle.top }
     ensures turned { IfOk result (λ _. Turned out.old out.new circle.end) }
     ensures adds { IfOk result (λ _. Adds out.old out.new 0 0) }
+    ensures spent { IfOk result (λ _. Spent out.old out.new 0 1) }
 {
     out.turn_back(circle.top)?;
     out.stand(circle.end)
@@ -237,6 +250,8 @@ fn loop_body(cx: Context, body: u32, circle: Circle, out: &mut Emitter) -> Resul
     requires room { HasRoom out.old (4 * heft_in cx.p.now body) }
     ensures behind { IfOk result (λ _. Behind cx.entry.p.now cx.entry.d.now cx.entry.types.now cx.entry.homes.now
         out.old out.new circle.next (4 * heft_in cx.entry.p.now body)) }
+    ensures spends { IfOk result (λ _. SpendsPart cx.entry.fixed (heft_in cx.entry.p.now body) (entered_in cx.entry.p.now cx.entry.d.now body)
+        out.old out.new) }
 {
     let exits = Exits {
         break_to: Some(circle.end),
@@ -266,6 +281,9 @@ fn tested_loop(
     ensures lowered { IfOk result (λ _. Lowered cx.entry.p.now cx.entry.d.now cx.entry.types.now cx.entry.homes.now
         out.old out.new (4 * (or_none (weight_in cx.entry.p.now) test + or_none (weight_in cx.entry.p.now) step
         + heft_in cx.entry.p.now body) + 3)) }
+    ensures spends { IfOk result (λ _. Spends cx.entry.fixed out.old out.new (2 * (or_none (weight_in cx.entry.p.now) test + or_none (weight_in cx.entry.p.now) step + heft_in cx.entry.p.now body))
+        (32 * (or_none (weight_in cx.entry.p.now) test + or_none (weight_in cx.entry.p.now) step + heft_in cx.entry.p.now body)
+        + 19 * entered_in cx.entry.p.now cx.entry.d.now body + 1)) }
 {
     let circle = begin_loop(out)?;
     test_loop(cx, test, circle, out)?;
@@ -285,6 +303,8 @@ fn repeated_loop(cx: Context, body: u32, test: u32, out: &mut Emitter) -> Result
     requires room { HasRoom out.old (4 * (weight_in cx.p.now test + heft_in cx.p.now body) + 3) }
     ensures lowered { IfOk result (λ _. Lowered cx.entry.p.now cx.entry.d.now cx.entry.types.now cx.entry.homes.now
         out.old out.new (4 * (weight_in cx.entry.p.now test + heft_in cx.entry.p.now body) + 3)) }
+    ensures spends { IfOk result (λ _. Spends cx.entry.fixed out.old out.new (2 * (weight_in cx.entry.p.now test + heft_in cx.entry.p.now body))
+        (32 * (weight_in cx.entry.p.now test + heft_in cx.entry.p.now body) + 19 * entered_in cx.entry.p.now cx.entry.d.now body + 1)) }
 {
     let circle = begin_loop(out)?;
     loop_body(cx, body, circle, out)?;
@@ -319,6 +339,9 @@ fn choice(
     requires room { HasRoom out.old (4 * (weight_in cx.p.now c + heft_in cx.p.now a + heft_in cx.p.now b) + 2) }
     ensures lowered { IfOk result (λ _. Lowered cx.entry.p.now cx.entry.d.now cx.entry.types.now cx.entry.homes.now
         out.old out.new (4 * (weight_in cx.entry.p.now c + heft_in cx.entry.p.now a + heft_in cx.entry.p.now b) + 2)) }
+    ensures spends { IfOk result (λ _. Spends cx.entry.fixed out.old out.new (2 * (weight_in cx.entry.p.now c + heft_in cx.entry.p.now a + heft_in cx.entry.p.now b))
+        (32 * (weight_in cx.entry.p.now c + heft_in cx.entry.p.now a + heft_in cx.entry.p.now b)
+        + 19 * (entered_in cx.entry.p.now cx.entry.d.now a + entered_in cx.entry.p.now cx.entry.d.now b) + 1)) }
 {
     let fork = out.fork();
     let jump = Jump {
@@ -344,6 +367,8 @@ fn guarded(cx: Context, c: u32, a: u32, exits: Exits, out: &mut Emitter) -> Resu
     requires room { HasRoom out.old (4 * (weight_in cx.p.now c + heft_in cx.p.now a) + 1) }
     ensures lowered { IfOk result (λ _. Lowered cx.entry.p.now cx.entry.d.now cx.entry.types.now cx.entry.homes.now
         out.old out.new (4 * (weight_in cx.entry.p.now c + heft_in cx.entry.p.now a) + 1)) }
+    ensures spends { IfOk result (λ _. Spends cx.entry.fixed out.old out.new (2 * (weight_in cx.entry.p.now c + heft_in cx.entry.p.now a))
+        (32 * (weight_in cx.entry.p.now c + heft_in cx.entry.p.now a) + 19 * entered_in cx.entry.p.now cx.entry.d.now a)) }
 {
     let label = out.label();
     condition(cx, c, Jump { when: false, label }, out)?;
@@ -370,6 +395,8 @@ fn statements(
     requires room { HasRoom out.old (4 * hefts_in cx.p.now body.now) }
     ensures lowered { IfOk result (λ _. Lowered cx.entry.p.now cx.entry.d.now cx.entry.types.now cx.entry.homes.now
         out.old out.new (4 * hefts_in cx.entry.p.now body.now)) }
+    ensures spends { IfOk result (λ _. SpendsPart cx.entry.fixed (hefts_in cx.entry.p.now body.now)
+        (all_entered_in cx.entry.p.now cx.entry.d.now body.now) out.old out.new) }
 {
     for s in body {
         statement(cx, *s, exits, out)?;
@@ -397,6 +424,8 @@ fn block(
     requires room { HasRoom out.old (4 * hefts_in cx.p.now body.now) }
     ensures lowered { IfOk result (λ _. Lowered cx.entry.p.now cx.entry.d.now cx.entry.types.now cx.entry.homes.now
         out.old out.new (4 * hefts_in cx.entry.p.now body.now)) }
+    ensures spends { IfOk result (λ _. SpendsPart cx.entry.fixed (hefts_in cx.entry.p.now body.now)
+        (entered cx.entry.d.now vars.now + all_entered_in cx.entry.p.now cx.entry.d.now body.now) out.old out.new) }
 {
     enter(cx, vars, out)?;
     statements(cx, k, body, exits, out)
@@ -429,6 +458,9 @@ fn switch(
     ensures lowered { IfOk result (λ _. Lowered cx.entry.p.now cx.entry.d.now cx.entry.types.now cx.entry.homes.now
         out.old out.new (4 * (weight_in cx.entry.p.now on + hefts_in cx.entry.p.now body.now)
         + length labels.now + 3)) }
+    ensures spends { IfOk result (λ _. Spends cx.entry.fixed out.old out.new (2 * (weight_in cx.entry.p.now on + hefts_in cx.entry.p.now body.now) + 1)
+        (32 * (weight_in cx.entry.p.now on + hefts_in cx.entry.p.now body.now + length labels.now)
+        + 19 * (entered cx.entry.d.now vars.now + all_entered_in cx.entry.p.now cx.entry.d.now body.now))) }
 {
     let v = operand(cx, on, Written::Nothing, out)?;
     enter(cx, vars, out)?;
@@ -461,6 +493,8 @@ pub fn statement(cx: Context, k: u32, exits: Exits, out: &mut Emitter) -> Result
     requires room { HasRoom out.old (4 * heft_in cx.p.now k) }
     ensures lowered { IfOk result (λ _. Lowered cx.entry.p.now cx.entry.d.now cx.entry.types.now cx.entry.homes.now
         out.old out.new (4 * heft_in cx.entry.p.now k)) }
+    ensures spends { IfOk result (λ _. SpendsPart cx.entry.fixed (heft_in cx.entry.p.now k) (entered_in cx.entry.p.now cx.entry.d.now k)
+        out.old out.new) }
 {
     let Some(s) = cx.stmt(k) else {
         return Ok(());

@@ -1,9 +1,10 @@
 //! The labels of a `switch` (C11 6.8.4.2).
 
-ghost use Rattle.std.specs.Prelude.{◌≡◌, ◌+◌, true, length, slice_get, IfOk};
+ghost use Rattle.std.specs.Prelude.{◌≡◌, ◌+◌, ◌*◌, true, length, slice_get, IfOk};
 ghost use Rattle.tac_ir.specs.WellFormed.{constant_fits};
 ghost use Rattle.tac_lower.specs.Emitted.{HasKind, IsOpen, Grown, Adds, HasRoom};
 ghost use Rattle.tac_lower.specs.Scenes.{Scene, Opened};
+ghost use Rattle.tac_lower.specs.Spent.{Spent};
 ghost use Rattle.tac_lower.specs.Statements.{labels_in, IsSwitched, StandUpTo};
 
 use crate::context::Context;
@@ -37,6 +38,7 @@ impl Cases {
     /// The labels from number `first` on that stand before statement `before` stand here: the number of the next one.
     pub fn stand_at(&self, first: usize, before: u32, out: &mut Emitter) -> Result<usize, NoMemory>
         ensures stand { IfOk result (λ at. StandUpTo (labels_in self.now) first at out.old out.new) }
+        ensures spent { IfOk result (λ _. Spent out.old out.new 0 0) }
     {
         let mut at = first;
         while let Some(c) = self.case(at) {
@@ -53,6 +55,7 @@ impl Cases {
     pub fn stand_behind(&self, first: usize, out: &mut Emitter) -> Result<(), NoMemory>
         ensures stand { IfOk result (λ _. StandUpTo (labels_in self.now) first (length self.now.cases.items)
             out.old out.new) }
+        ensures spent { IfOk result (λ _. Spent out.old out.new 0 0) }
     {
         let mut at = first;
         while let Some(c) = self.case(at) {
@@ -89,6 +92,7 @@ fn comparison_temps(temp: u32, kind: TacKind, out: &mut Emitter) -> Result<Switc
     ensures switched { IfOk result (λ s. IsSwitched out.new s) }
     ensures grown { IfOk result (λ _. Grown out.old out.new) }
     ensures adds { IfOk result (λ _. Adds out.old out.new 2 0) }
+    ensures spent { IfOk result (λ _. Spent out.old out.new 2 0) }
 {
     let value = out.temp(kind)?;
     let answer = out.temp(INT)?;
@@ -106,6 +110,7 @@ fn compare(s: Switched, n: u64, label: u32, out: &mut Emitter) -> Result<(), NoM
     requires open { IsOpen out.old label }
     ensures grown { IfOk result (λ _. Grown out.old out.new) }
     ensures adds { IfOk result (λ _. Adds out.old out.new 0 0) }
+    ensures spent { IfOk result (λ _. Spent out.old out.new 0 27) }
 {
     out.constant(s.value, s.kind, kept(s.kind, n))?;
     out.compare(CmpOp::Eq, s.kind, s.answer, s.temp, s.value)?;
@@ -123,6 +128,7 @@ fn compare_label(
     requires open { IsOpen out.old label }
     ensures grown { IfOk result (λ _. Grown out.old out.new) }
     ensures adds { IfOk result (λ _. Adds out.old out.new 0 0) }
+    ensures spent { IfOk result (λ _. Spent out.old out.new 0 27) }
 {
     match value {
         None => Ok(()),
@@ -146,6 +152,7 @@ pub fn compared_cases(
     requires room { HasRoom out.old (length labels.now + 2) }
     ensures opened { IfOk result (λ c. Opened cx.entry.p.now cx.entry.d.now cx.entry.types.now cx.entry.homes.now
         out.old out.new (labels_in c) (length labels.now + 2)) }
+    ensures spent { IfOk result (λ _. Spent out.old out.new 2 (27 * length labels.now + 1)) }
 {
     let switched = comparison_temps(temp, kind, out)?;
     let mut cases = Vec::new(cx.alloc);

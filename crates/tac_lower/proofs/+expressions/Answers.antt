@@ -1,4 +1,4 @@
-use Rattle.std.proofs.Common.{◌≡◌, ℕ, ◌+◌, ◌-◌, ◌*◌, ◌<◌, ◌≤◌, Some, None, [], ◌∷◌, ◌++◌, map, take, get_or, true, false, refl, sym, ap, subst, ◌∙◌, arith, rules}
+use Rattle.std.proofs.Common.{◌≡◌, ℕ, ◌+◌, ◌-◌, ◌*◌, ◌<◌, ◌≤◌, Some, None, [], ◌∷◌, ◌++◌, map, length, take, get_or, true, false, refl, sym, ap, subst, ◌∙◌, arith, rules}
 use Rattle.std.proofs.lemmas.List.{take_more}
 use Rattle.std.proofs.lemmas.Option.{slice_get_within, slice_get-get_or}
 use Rattle.std.proofs.lemmas.Result.{IfOk-weaker}
@@ -16,19 +16,26 @@ use Rattle.tac_lower.specs.Services.{ServiceAsks}
 use Rattle.tac_lower.specs.Tables.{is_some}
 use Rattle.tac_lower.proofs.Below as below
 use Rattle.tac_lower.proofs.Called.{taken, call_lowered, call_value_lowered, service_lowered}
-use Rattle.tac_lower.proofs.Calling.{ArgumentsTo, arguments_none, arguments_more, argument_room, called_value, named_type, intrinsic_fits}
+use Rattle.tac_lower.proofs.Calling.{ArgumentsTo, kinds_count, weights_heavy, places_small, service_small, arguments_none, arguments_more, argument_room, called_value, named_type, intrinsic_fits}
 use Rattle.tac_lower.proofs.Constants.{zero_fits, one_fits, kinds_agree}
 use Rattle.tac_lower.proofs.Keeping.{node_at, scalar_kind, first_pointer, second_pointer, change_fits, right_as, change_as, not_node, unary_operand, pointer, two_pointers, two_values, some_temp, maybe_kept, maybe_kind, maybe_same, result_as, destination_kept, destination_opened, tail_pushed, tail_part}
 use Rattle.tac_lower.proofs.Services.{library_fits, exit_fits}
+use Rattle.tac_lower.proofs.Spending.{forked_spent, labelled_spent, spent_within, nothing, plainly, after, and, within, extra_small, extra_none, in_fresh, in_own, owned, last, last_and, last_pushed, last_fresh, last_given}
 use Rattle.tac_lower.proofs.Steps.{start, both, grew, at_most, still, as_kind, room, less_room, still_open, heavy, tail, tail_grew, tail_stands, fork, label, opened, turned, first_open, second_open, others_open, opened_has, opened_room}
 use Rattle.tac_lower.proofs.Wells.{grown_then, kept}
 use Rattle.tac_lower.proofs.+expressions.Goals as goal
 
-pub conditions::condition-returns-in_default : goal.conditions::condition-returns-in_default
-conditions::condition-returns-in_default t c = record { lowered = tail_grew _ _ c.jump_if.result (start c.requires.scene) c.jump_if.ensures.grown c.jump_if.ensures.adds (omega arith) }
+pub conditions::condition-returns-in_default-clause-lowered : goal.conditions::condition-returns-in_default-clause-lowered
+conditions::condition-returns-in_default-clause-lowered t c = tail_grew _ _ c.jump_if.result (start c.requires.scene) c.jump_if.ensures.grown c.jump_if.ensures.adds (omega arith)
 
-pub conditions::condition-returns-in-Constant : goal.conditions::condition-returns-in-Constant
-conditions::condition-returns-in-Constant t c = record { lowered = tail_grew _ _ c.jump_if-in-Constant.result (start c.requires.scene) c.jump_if-in-Constant.ensures.grown c.jump_if-in-Constant.ensures.adds (omega arith) }
+pub conditions::condition-returns-in_default-clause-spends : goal.conditions::condition-returns-in_default-clause-spends
+conditions::condition-returns-in_default-clause-spends t c = last_and _ _ _ c.jump_if.result nothing c.jump_if.ensures.spent (omega (arith, heavy (expression c.args.cx.p.now c.args.k))) (omega (arith, heavy (expression c.args.cx.p.now c.args.k)))
+
+pub conditions::condition-returns-in-Constant-clause-lowered : goal.conditions::condition-returns-in-Constant-clause-lowered
+conditions::condition-returns-in-Constant-clause-lowered t c = tail_grew _ _ c.jump_if-in-Constant.result (start c.requires.scene) c.jump_if-in-Constant.ensures.grown c.jump_if-in-Constant.ensures.adds (omega arith)
+
+pub conditions::condition-returns-in-Constant-clause-spends : goal.conditions::condition-returns-in-Constant-clause-spends
+conditions::condition-returns-in-Constant-clause-spends t c = last_and _ _ _ c.jump_if-in-Constant.result nothing c.jump_if-in-Constant.ensures.spent (omega (arith, heavy (expression c.args.cx.p.now c.args.k))) (omega (arith, heavy (expression c.args.cx.p.now c.args.k)))
 
 pub conditions::condition-opposite_condition-requires : goal.conditions::condition-opposite_condition-requires
 conditions::condition-opposite_condition-requires t c =
@@ -47,11 +54,17 @@ conditions::condition-joined_condition-requires-in-Or t c =
     let below-1 : c.in-Or.b < c.args.k = below.or_right c.args.cx.p.now c.args.k _ _ _ c.requires.ordered c.in-Some.ensures c.in-Or.is in
     (search rules, (c.requires.ordered, ((search rules), ((search rules), (c.requires.scene, (subst (λ (z : Junction). HasTwo (frame_of c.args.cx.p.now c.args.cx.d.now) c.args.k z.a z.b) (sym c.or.ensures) (node_at c.args.cx.d.now c.requires.scene.ready c.requires.typed c.in-Some.ensures c.in-Or.is).operands, (c.requires.open, less_room c.requires.room (omega arith))))))))
 
-pub conditions::condition-returns-in-And : goal.conditions::condition-returns-in-And
-conditions::condition-returns-in-And t c = record { lowered = tail _ _ c.joined_condition.result (start c.requires.scene) c.joined_condition.ensures.lowered (omega arith) }
+pub conditions::condition-returns-in-And-clause-lowered : goal.conditions::condition-returns-in-And-clause-lowered
+conditions::condition-returns-in-And-clause-lowered t c = tail _ _ c.joined_condition.result (start c.requires.scene) c.joined_condition.ensures.lowered (omega arith)
 
-pub conditions::condition-returns-in-Or : goal.conditions::condition-returns-in-Or
-conditions::condition-returns-in-Or t c = record { lowered = tail _ _ c.joined_condition-in-Or.result (start c.requires.scene) c.joined_condition-in-Or.ensures.lowered (omega arith) }
+pub conditions::condition-returns-in-And-clause-spends : goal.conditions::condition-returns-in-And-clause-spends
+conditions::condition-returns-in-And-clause-spends t c = last _ _ _ c.joined_condition.result nothing c.joined_condition.ensures.spends (omega (arith, heavy (expression c.args.cx.p.now c.args.k))) (omega (arith, heavy (expression c.args.cx.p.now c.args.k)))
+
+pub conditions::condition-returns-in-Or-clause-lowered : goal.conditions::condition-returns-in-Or-clause-lowered
+conditions::condition-returns-in-Or-clause-lowered t c = tail _ _ c.joined_condition-in-Or.result (start c.requires.scene) c.joined_condition-in-Or.ensures.lowered (omega arith)
+
+pub conditions::condition-returns-in-Or-clause-spends : goal.conditions::condition-returns-in-Or-clause-spends
+conditions::condition-returns-in-Or-clause-spends t c = last _ _ _ c.joined_condition-in-Or.result nothing c.joined_condition-in-Or.ensures.spends (omega (arith, heavy (expression c.args.cx.p.now c.args.k))) (omega (arith, heavy (expression c.args.cx.p.now c.args.k)))
 
 pub conditions::condition-branch-out-requires-clause-open : goal.conditions::condition-branch-out-requires-clause-open
 conditions::condition-branch-out-requires-clause-open t c = still_open c.requires.open c.in_ok-on-in_default-kind.ensures.lowered
@@ -59,15 +72,21 @@ conditions::condition-branch-out-requires-clause-open t c = still_open c.require
 pub conditions::condition-branch-out-requires-clause-temp : goal.conditions::condition-branch-out-requires-clause-temp
 conditions::condition-branch-out-requires-clause-temp t c = some_temp c.in_ok-on-in_default-kind.ensures.has
 
-pub conditions::condition-returns-in_ok-on-in_default-kind : goal.conditions::condition-returns-in_ok-on-in_default-kind
-conditions::condition-returns-in_ok-on-in_default-kind t c = record { lowered = tail_grew _ _ c.branch-out.result c.in_ok-on-in_default-kind.ensures.lowered c.branch-out.ensures.grown c.branch-out.ensures.adds (omega arith) }
+pub conditions::condition-returns-in_ok-on-in_default-kind-clause-lowered : goal.conditions::condition-returns-in_ok-on-in_default-kind-clause-lowered
+conditions::condition-returns-in_ok-on-in_default-kind-clause-lowered t c = tail_grew _ _ c.branch-out.result c.in_ok-on-in_default-kind.ensures.lowered c.branch-out.ensures.grown c.branch-out.ensures.adds (omega arith)
+
+pub conditions::condition-returns-in_ok-on-in_default-kind-clause-spends : goal.conditions::condition-returns-in_ok-on-in_default-kind-clause-spends
+conditions::condition-returns-in_ok-on-in_default-kind-clause-spends t c = last_and _ _ _ c.branch-out.result c.in_ok-on-in_default-kind.ensures.spends c.branch-out.ensures.spent (omega (arith, heavy (expression c.args.cx.p.now c.args.k))) (omega (arith, heavy (expression c.args.cx.p.now c.args.k)))
 
 pub conditions::opposite_condition-condition-requires : goal.conditions::opposite_condition-condition-requires
 conditions::opposite_condition-condition-requires t c =
     (search rules, (c.requires.ordered, (c.requires.scene, (c.requires.node.operand, (c.requires.open, less_room c.requires.room (omega (arith, c.requires.node.weight)))))))
 
-pub conditions::opposite_condition-returns : goal.conditions::opposite_condition-returns
-conditions::opposite_condition-returns t c = record { lowered = tail _ _ c.condition.result (start c.requires.scene) c.condition.ensures.lowered (omega (arith, c.requires.node.weight)) }
+pub conditions::opposite_condition-returns-clause-lowered : goal.conditions::opposite_condition-returns-clause-lowered
+conditions::opposite_condition-returns-clause-lowered t c = tail _ _ c.condition.result (start c.requires.scene) c.condition.ensures.lowered (omega (arith, c.requires.node.weight))
+
+pub conditions::opposite_condition-returns-clause-spends : goal.conditions::opposite_condition-returns-clause-spends
+conditions::opposite_condition-returns-clause-spends t c = last _ _ _ c.condition.result nothing c.condition.ensures.spends (omega (arith, c.requires.node.weight, heavy (expression c.args.cx.p.now c.args.k), heavy (expression c.args.cx.p.now c.args.a))) (omega (arith, c.requires.node.weight, heavy (expression c.args.cx.p.now c.args.k), heavy (expression c.args.cx.p.now c.args.a)))
 
 pub conditions::joined_condition-condition-requires : goal.conditions::joined_condition-condition-requires
 conditions::joined_condition-condition-requires t c =
@@ -77,8 +96,11 @@ pub conditions::joined_condition-condition-requires-2 : goal.conditions::joined_
 conditions::joined_condition-condition-requires-2 t c =
     (search rules, (c.requires.ordered, (c.in_ok-condition.ensures.lowered.scene, (c.requires.node.right, (still_open c.requires.open c.in_ok-condition.ensures.lowered, room c.requires.room c.in_ok-condition.ensures.lowered (omega (arith, c.requires.node.weight)))))))
 
-pub conditions::joined_condition-returns : goal.conditions::joined_condition-returns
-conditions::joined_condition-returns t c = record { lowered = tail _ _ c.condition-2.result c.in_ok-condition.ensures.lowered c.condition-2.ensures.lowered (omega (arith, c.requires.node.weight)) }
+pub conditions::joined_condition-returns-clause-lowered : goal.conditions::joined_condition-returns-clause-lowered
+conditions::joined_condition-returns-clause-lowered t c = tail _ _ c.condition-2.result c.in_ok-condition.ensures.lowered c.condition-2.ensures.lowered (omega (arith, c.requires.node.weight))
+
+pub conditions::joined_condition-returns-clause-spends : goal.conditions::joined_condition-returns-clause-spends
+conditions::joined_condition-returns-clause-spends t c = last _ _ _ c.condition-2.result c.in_ok-condition.ensures.spends c.condition-2.ensures.spends (omega (arith, c.requires.node.weight, heavy (expression c.args.cx.p.now c.args.k), heavy (expression c.args.cx.p.now c.args.j.a), heavy (expression c.args.cx.p.now c.args.j.b))) (omega (arith, c.requires.node.weight, heavy (expression c.args.cx.p.now c.args.k), heavy (expression c.args.cx.p.now c.args.j.a), heavy (expression c.args.cx.p.now c.args.j.b)))
 
 pub conditions::joined_around-label-requires : goal.conditions::joined_around-label-requires
 conditions::joined_around-label-requires t c = record { few = (omega (arith, c.requires.node.weight, c.requires.room.labels)) }
@@ -91,8 +113,11 @@ pub conditions::joined_around-condition-requires-2 : goal.conditions::joined_aro
 conditions::joined_around-condition-requires-2 t c =
     (search rules, (c.requires.ordered, (c.in_ok-condition.ensures.lowered.scene, (c.requires.node.right, (others_open c.requires.open (opened (label c.requires.scene c.label.ensures.labelled) c.in_ok-condition.ensures.lowered), opened_room c.requires.room (opened (label c.requires.scene c.label.ensures.labelled) c.in_ok-condition.ensures.lowered) (omega (arith, c.requires.node.weight)))))))
 
-pub conditions::joined_around-returns : goal.conditions::joined_around-returns
-conditions::joined_around-returns t c = record { lowered = tail_stands _ c.stand.result (opened (opened (label c.requires.scene c.label.ensures.labelled) c.in_ok-condition.ensures.lowered) c.in_ok-condition-2.ensures.lowered) c.stand.ensures.stands (omega (arith, c.requires.node.weight)) }
+pub conditions::joined_around-returns-clause-lowered : goal.conditions::joined_around-returns-clause-lowered
+conditions::joined_around-returns-clause-lowered t c = tail_stands _ c.stand.result (opened (opened (label c.requires.scene c.label.ensures.labelled) c.in_ok-condition.ensures.lowered) c.in_ok-condition-2.ensures.lowered) c.stand.ensures.stands (omega (arith, c.requires.node.weight))
+
+pub conditions::joined_around-returns-clause-spends : goal.conditions::joined_around-returns-clause-spends
+conditions::joined_around-returns-clause-spends t c = last_pushed _ _ c.stand.result (after (after (plainly (labelled_spent c.label.ensures.labelled)) c.in_ok-condition.ensures.spends) c.in_ok-condition-2.ensures.spends) c.stand.ensures.stands (omega (arith, c.requires.node.weight, heavy (expression c.args.cx.p.now c.args.k), heavy (expression c.args.cx.p.now c.args.j.a), heavy (expression c.args.cx.p.now c.args.j.b))) (omega (arith, c.requires.node.weight, heavy (expression c.args.cx.p.now c.args.k), heavy (expression c.args.cx.p.now c.args.j.a), heavy (expression c.args.cx.p.now c.args.j.b)))
 
 pub places::pointer-operand-requires : goal.places::pointer-operand-requires
 places::pointer-operand-requires t c =
@@ -105,6 +130,9 @@ places::pointer-returns-in-Deref-clause-has t c = IfOk-weaker c.operand.result _
 pub places::pointer-returns-in-Deref-clause-lowered : goal.places::pointer-returns-in-Deref-clause-lowered
 places::pointer-returns-in-Deref-clause-lowered t c = tail _ _ c.operand.result (start c.requires.scene) c.operand.ensures.lowered (omega (arith, (node_at c.args.cx.d.now c.requires.scene.ready c.requires.typed c.in-Some.ensures c.in-Deref.is).operands.weight))
 
+pub places::pointer-returns-in-Deref-clause-spends : goal.places::pointer-returns-in-Deref-clause-spends
+places::pointer-returns-in-Deref-clause-spends t c = last _ _ _ c.operand.result nothing c.operand.ensures.spends (omega (arith, (node_at c.args.cx.d.now c.requires.scene.ready c.requires.typed c.in-Some.ensures c.in-Deref.is).operands.weight, heavy (expression c.args.cx.p.now c.args.k), heavy (expression c.args.cx.p.now c.in-Deref.a))) (omega (arith, (node_at c.args.cx.d.now c.requires.scene.ready c.requires.typed c.in-Some.ensures c.in-Deref.is).operands.weight, heavy (expression c.args.cx.p.now c.args.k), heavy (expression c.args.cx.p.now c.in-Deref.a)))
+
 pub places::pointer-pointer-requires : goal.places::pointer-pointer-requires
 places::pointer-pointer-requires t c =
     let below-0 : c.in-Load.a < c.args.k = below.load c.args.cx.p.now c.args.k _ _ c.requires.ordered c.in-Some.ensures c.in-Load.is in
@@ -113,11 +141,17 @@ places::pointer-pointer-requires t c =
 pub places::pointer-returns-in-Load-clause-lowered : goal.places::pointer-returns-in-Load-clause-lowered
 places::pointer-returns-in-Load-clause-lowered t c = tail _ _ c.pointer.result (start c.requires.scene) c.pointer.ensures.lowered (omega (arith, (node_at c.args.cx.d.now c.requires.scene.ready c.requires.typed c.in-Some.ensures c.in-Load.is).operands.weight))
 
+pub places::pointer-returns-in-Load-clause-spends : goal.places::pointer-returns-in-Load-clause-spends
+places::pointer-returns-in-Load-clause-spends t c = last _ _ _ c.pointer.result nothing c.pointer.ensures.spends (omega (arith, (node_at c.args.cx.d.now c.requires.scene.ready c.requires.typed c.in-Some.ensures c.in-Load.is).operands.weight, heavy (expression c.args.cx.p.now c.args.k), heavy (expression c.args.cx.p.now c.in-Load.a))) (omega (arith, (node_at c.args.cx.d.now c.requires.scene.ready c.requires.typed c.in-Some.ensures c.in-Load.is).operands.weight, heavy (expression c.args.cx.p.now c.args.k), heavy (expression c.args.cx.p.now c.in-Load.a)))
+
 pub places::pointer-returns-in-Some-pointer_to_variable-clause-has : goal.places::pointer-returns-in-Some-pointer_to_variable-clause-has
 places::pointer-returns-in-Some-pointer_to_variable-clause-has t c = c.in-Some-pointer_to_variable.ensures _ _ c.requires.scene.housed
 
 pub places::pointer-returns-in-Some-pointer_to_variable-clause-lowered : goal.places::pointer-returns-in-Some-pointer_to_variable-clause-lowered
 places::pointer-returns-in-Some-pointer_to_variable-clause-lowered t c = at_most (start c.requires.scene) (omega arith)
+
+pub places::pointer-returns-in-Some-pointer_to_variable-clause-spends : goal.places::pointer-returns-in-Some-pointer_to_variable-clause-spends
+places::pointer-returns-in-Some-pointer_to_variable-clause-spends t c = within nothing (omega (arith, heavy (expression c.args.cx.p.now c.args.k))) (omega (arith, heavy (expression c.args.cx.p.now c.args.k)))
 
 pub places::fresh_place-temp-requires : goal.places::fresh_place-temp-requires
 places::fresh_place-temp-requires t c = record { room = less_room c.requires.room (omega (arith, heavy (expression c.args.cx.p.now c.args.k))) }
@@ -132,28 +166,49 @@ places::fresh_place-returns-clause-has t c = still c.in_ok-t.ensures.has c.in_ok
 pub places::fresh_place-returns-clause-lowered : goal.places::fresh_place-returns-clause-lowered
 places::fresh_place-returns-clause-lowered t c = at_most (both (grew (start c.requires.scene) c.in_ok-t.ensures.grown c.in_ok-t.ensures.adds) c.in_ok-place.ensures.lowered) (omega (arith, heavy (expression c.args.cx.p.now c.args.k)))
 
-pub places::place-returns-in_default : goal.places::place-returns-in_default
-places::place-returns-in_default t c = record { lowered = tail_grew _ _ c.constant.result (start c.requires.scene) c.constant.ensures.grown c.constant.ensures.adds (omega arith) }
+pub places::fresh_place-returns-clause-spends : goal.places::fresh_place-returns-clause-spends
+places::fresh_place-returns-clause-spends t c = within (after (and nothing c.in_ok-t.ensures.spent) c.in_ok-place.ensures.spends) (omega (arith, heavy (expression c.args.cx.p.now c.args.k), heavy (expression c.args.cx.p.now c.args.k))) (omega (arith, heavy (expression c.args.cx.p.now c.args.k), heavy (expression c.args.cx.p.now c.args.k)))
 
-pub places::place-returns-in-Var : goal.places::place-returns-in-Var
-places::place-returns-in-Var t c = record { lowered = tail _ _ c.variable_pointer.result (start c.requires.scene) c.variable_pointer.ensures.lowered (omega arith) }
+pub places::place-returns-in_default-clause-lowered : goal.places::place-returns-in_default-clause-lowered
+places::place-returns-in_default-clause-lowered t c = tail_grew _ _ c.constant.result (start c.requires.scene) c.constant.ensures.grown c.constant.ensures.adds (omega arith)
 
-pub places::place-returns-in-Global : goal.places::place-returns-in-Global
-places::place-returns-in-Global t c = record { lowered = tail_part _ c.global.result (instr.Global c.args.to c.in-Global.g false) (start c.requires.scene) (c.requires.to, (node_at c.args.cx.d.now c.requires.scene.ready c.requires.typed c.in-Some.ensures c.in-Global.is).there) c.global.ensures.pushed (omega arith) }
+pub places::place-returns-in_default-clause-spends : goal.places::place-returns-in_default-clause-spends
+places::place-returns-in_default-clause-spends t c = last_and _ _ _ c.constant.result nothing (c.constant.ensures.short refl) (omega (arith, heavy (expression c.args.cx.p.now c.args.k))) (omega (arith, heavy (expression c.args.cx.p.now c.args.k)))
 
-pub places::place-returns-in-Literal : goal.places::place-returns-in-Literal
-places::place-returns-in-Literal t c = record { lowered = tail_part _ c.global-in-Literal.result (instr.Global c.args.to c.in-Literal.n true) (start c.requires.scene) (c.requires.to, (node_at c.args.cx.d.now c.requires.scene.ready c.requires.typed c.in-Some.ensures c.in-Literal.is).there) c.global-in-Literal.ensures.pushed (omega arith) }
+pub places::place-returns-in-Var-clause-lowered : goal.places::place-returns-in-Var-clause-lowered
+places::place-returns-in-Var-clause-lowered t c = tail _ _ c.variable_pointer.result (start c.requires.scene) c.variable_pointer.ensures.lowered (omega arith)
 
-pub places::place-returns-in-Fun : goal.places::place-returns-in-Fun
-places::place-returns-in-Fun t c = record { lowered = tail_part _ c.function.result (instr.Function c.args.to c.in-Fun.f) (start c.requires.scene) (c.requires.to, slice_get_within _ _ _ (node_at c.args.cx.d.now c.requires.scene.ready c.requires.typed c.in-Some.ensures c.in-Fun.is).there) c.function.ensures.pushed (omega arith) }
+pub places::place-returns-in-Var-clause-spends : goal.places::place-returns-in-Var-clause-spends
+places::place-returns-in-Var-clause-spends t c = last_and _ _ _ c.variable_pointer.result nothing c.variable_pointer.ensures.spent (omega (arith, heavy (expression c.args.cx.p.now c.args.k))) (omega (arith, heavy (expression c.args.cx.p.now c.args.k)))
+
+pub places::place-returns-in-Global-clause-lowered : goal.places::place-returns-in-Global-clause-lowered
+places::place-returns-in-Global-clause-lowered t c = tail_part _ c.global.result (instr.Global c.args.to c.in-Global.g false) (start c.requires.scene) (c.requires.to, (node_at c.args.cx.d.now c.requires.scene.ready c.requires.typed c.in-Some.ensures c.in-Global.is).there) c.global.ensures.pushed (omega arith)
+
+pub places::place-returns-in-Global-clause-spends : goal.places::place-returns-in-Global-clause-spends
+places::place-returns-in-Global-clause-spends t c = last_pushed _ (instr.Global c.args.to c.in-Global.g false) c.global.result nothing c.global.ensures.pushed (omega (arith, heavy (expression c.args.cx.p.now c.args.k), extra_small c.args.cx.fixed (Some c.args.to))) (omega (arith, heavy (expression c.args.cx.p.now c.args.k), extra_small c.args.cx.fixed (Some c.args.to)))
+
+pub places::place-returns-in-Literal-clause-lowered : goal.places::place-returns-in-Literal-clause-lowered
+places::place-returns-in-Literal-clause-lowered t c = tail_part _ c.global-in-Literal.result (instr.Global c.args.to c.in-Literal.n true) (start c.requires.scene) (c.requires.to, (node_at c.args.cx.d.now c.requires.scene.ready c.requires.typed c.in-Some.ensures c.in-Literal.is).there) c.global-in-Literal.ensures.pushed (omega arith)
+
+pub places::place-returns-in-Literal-clause-spends : goal.places::place-returns-in-Literal-clause-spends
+places::place-returns-in-Literal-clause-spends t c = last_pushed _ (instr.Global c.args.to c.in-Literal.n true) c.global-in-Literal.result nothing c.global-in-Literal.ensures.pushed (omega (arith, heavy (expression c.args.cx.p.now c.args.k), extra_small c.args.cx.fixed (Some c.args.to))) (omega (arith, heavy (expression c.args.cx.p.now c.args.k), extra_small c.args.cx.fixed (Some c.args.to)))
+
+pub places::place-returns-in-Fun-clause-lowered : goal.places::place-returns-in-Fun-clause-lowered
+places::place-returns-in-Fun-clause-lowered t c = tail_part _ c.function.result (instr.Function c.args.to c.in-Fun.f) (start c.requires.scene) (c.requires.to, slice_get_within _ _ _ (node_at c.args.cx.d.now c.requires.scene.ready c.requires.typed c.in-Some.ensures c.in-Fun.is).there) c.function.ensures.pushed (omega arith)
+
+pub places::place-returns-in-Fun-clause-spends : goal.places::place-returns-in-Fun-clause-spends
+places::place-returns-in-Fun-clause-spends t c = last_pushed _ (instr.Function c.args.to c.in-Fun.f) c.function.result nothing c.function.ensures.pushed (omega (arith, heavy (expression c.args.cx.p.now c.args.k), extra_small c.args.cx.fixed (Some c.args.to))) (omega (arith, heavy (expression c.args.cx.p.now c.args.k), extra_small c.args.cx.fixed (Some c.args.to)))
 
 pub places::place-value-requires : goal.places::place-value-requires
 places::place-value-requires t c =
     let below-0 : c.in-Deref.a < c.args.k = below.deref c.args.cx.p.now c.args.k _ _ c.requires.ordered c.in-Some.ensures c.in-Deref.is in
     (search rules, (c.requires.ordered, (c.requires.scene, ((node_at c.args.cx.d.now c.requires.scene.ready c.requires.typed c.in-Some.ensures c.in-Deref.is).operands.operand, (as_kind c.requires.to (sym (scalar_kind (node_at c.args.cx.d.now c.requires.scene.ready c.requires.typed c.in-Some.ensures c.in-Deref.is).operand)), less_room c.requires.room (omega (arith, (node_at c.args.cx.d.now c.requires.scene.ready c.requires.typed c.in-Some.ensures c.in-Deref.is).operands.weight)))))))
 
-pub places::place-returns-in-Deref : goal.places::place-returns-in-Deref
-places::place-returns-in-Deref t c = record { lowered = tail _ _ c.value.result (start c.requires.scene) c.value.ensures.lowered (omega (arith, (node_at c.args.cx.d.now c.requires.scene.ready c.requires.typed c.in-Some.ensures c.in-Deref.is).operands.weight)) }
+pub places::place-returns-in-Deref-clause-lowered : goal.places::place-returns-in-Deref-clause-lowered
+places::place-returns-in-Deref-clause-lowered t c = tail _ _ c.value.result (start c.requires.scene) c.value.ensures.lowered (omega (arith, (node_at c.args.cx.d.now c.requires.scene.ready c.requires.typed c.in-Some.ensures c.in-Deref.is).operands.weight))
+
+pub places::place-returns-in-Deref-clause-spends : goal.places::place-returns-in-Deref-clause-spends
+places::place-returns-in-Deref-clause-spends t c = last _ _ _ c.value.result nothing c.value.ensures.spends (omega (arith, (node_at c.args.cx.d.now c.requires.scene.ready c.requires.typed c.in-Some.ensures c.in-Deref.is).operands.weight, heavy (expression c.args.cx.p.now c.args.k), heavy (expression c.args.cx.p.now c.in-Deref.a), extra_small c.args.cx.fixed (Some c.args.to))) (omega (arith, (node_at c.args.cx.d.now c.requires.scene.ready c.requires.typed c.in-Some.ensures c.in-Deref.is).operands.weight, heavy (expression c.args.cx.p.now c.args.k), heavy (expression c.args.cx.p.now c.in-Deref.a), extra_small c.args.cx.fixed (Some c.args.to)))
 
 pub places::place-member-requires : goal.places::place-member-requires
 places::place-member-requires t c =
@@ -165,8 +220,11 @@ places::place-place-requires t c =
     let below-0 : c.in-Load.a < c.args.k = below.load c.args.cx.p.now c.args.k _ _ c.requires.ordered c.in-Some.ensures c.in-Load.is in
     (search rules, (c.requires.ordered, (c.requires.scene, ((node_at c.args.cx.d.now c.requires.scene.ready c.requires.typed c.in-Some.ensures c.in-Load.is).operands.operand, (c.requires.to, less_room c.requires.room (omega (arith, (node_at c.args.cx.d.now c.requires.scene.ready c.requires.typed c.in-Some.ensures c.in-Load.is).operands.weight)))))))
 
-pub places::place-returns-in-Load : goal.places::place-returns-in-Load
-places::place-returns-in-Load t c = record { lowered = tail _ _ c.place.result (start c.requires.scene) c.place.ensures.lowered (omega (arith, (node_at c.args.cx.d.now c.requires.scene.ready c.requires.typed c.in-Some.ensures c.in-Load.is).operands.weight)) }
+pub places::place-returns-in-Load-clause-lowered : goal.places::place-returns-in-Load-clause-lowered
+places::place-returns-in-Load-clause-lowered t c = tail _ _ c.place.result (start c.requires.scene) c.place.ensures.lowered (omega (arith, (node_at c.args.cx.d.now c.requires.scene.ready c.requires.typed c.in-Some.ensures c.in-Load.is).operands.weight))
+
+pub places::place-returns-in-Load-clause-spends : goal.places::place-returns-in-Load-clause-spends
+places::place-returns-in-Load-clause-spends t c = last _ _ _ c.place.result nothing c.place.ensures.spends (omega (arith, (node_at c.args.cx.d.now c.requires.scene.ready c.requires.typed c.in-Some.ensures c.in-Load.is).operands.weight, heavy (expression c.args.cx.p.now c.args.k), heavy (expression c.args.cx.p.now c.in-Load.a), extra_small c.args.cx.fixed (Some c.args.to))) (omega (arith, (node_at c.args.cx.d.now c.requires.scene.ready c.requires.typed c.in-Some.ensures c.in-Load.is).operands.weight, heavy (expression c.args.cx.p.now c.args.k), heavy (expression c.args.cx.p.now c.in-Load.a), extra_small c.args.cx.fixed (Some c.args.to)))
 
 pub places::place-place_behind-requires : goal.places::place-place_behind-requires
 places::place-place_behind-requires t c =
@@ -190,11 +248,17 @@ places::place-struct_assignment-requires t c =
 pub places::place-transfer-requires : goal.places::place-transfer-requires
 places::place-transfer-requires t c = record { same = two_values (still c.requires.to c.in_ok-t-in-Assign.ensures.lowered) c.in_ok-t-in-Assign.ensures.has }
 
-pub places::place-returns-in_ok-t-in-Assign : goal.places::place-returns-in_ok-t-in-Assign
-places::place-returns-in_ok-t-in-Assign t c = record { lowered = tail_grew _ _ c.transfer.result c.in_ok-t-in-Assign.ensures.lowered c.transfer.ensures.grown c.transfer.ensures.adds (omega arith) }
+pub places::place-returns-in_ok-t-in-Assign-clause-lowered : goal.places::place-returns-in_ok-t-in-Assign-clause-lowered
+places::place-returns-in_ok-t-in-Assign-clause-lowered t c = tail_grew _ _ c.transfer.result c.in_ok-t-in-Assign.ensures.lowered c.transfer.ensures.grown c.transfer.ensures.adds (omega arith)
 
-pub places::place-returns-in_default-kind : goal.places::place-returns-in_default-kind
-places::place-returns-in_default-kind t c = record { lowered = tail_grew _ _ c.constant-in_default-kind.result (start c.requires.scene) c.constant-in_default-kind.ensures.grown c.constant-in_default-kind.ensures.adds (omega arith) }
+pub places::place-returns-in_ok-t-in-Assign-clause-spends : goal.places::place-returns-in_ok-t-in-Assign-clause-spends
+places::place-returns-in_ok-t-in-Assign-clause-spends t c = last_and _ _ _ c.transfer.result c.in_ok-t-in-Assign.ensures.spends c.transfer.ensures.spent (omega (arith, heavy (expression c.args.cx.p.now c.args.k), heavy (expression c.args.cx.p.now c.in-Assign.a), heavy (expression c.args.cx.p.now c.in-Assign.b), extra_small c.args.cx.fixed (Some c.args.to))) (omega (arith, heavy (expression c.args.cx.p.now c.args.k), heavy (expression c.args.cx.p.now c.in-Assign.a), heavy (expression c.args.cx.p.now c.in-Assign.b), extra_small c.args.cx.fixed (Some c.args.to)))
+
+pub places::place-returns-in_default-kind-clause-lowered : goal.places::place-returns-in_default-kind-clause-lowered
+places::place-returns-in_default-kind-clause-lowered t c = tail_grew _ _ c.constant-in_default-kind.result (start c.requires.scene) c.constant-in_default-kind.ensures.grown c.constant-in_default-kind.ensures.adds (omega arith)
+
+pub places::place-returns-in_default-kind-clause-spends : goal.places::place-returns-in_default-kind-clause-spends
+places::place-returns-in_default-kind-clause-spends t c = last_and _ _ _ c.constant-in_default-kind.result nothing (c.constant-in_default-kind.ensures.short refl) (omega (arith, heavy (expression c.args.cx.p.now c.args.k))) (omega (arith, heavy (expression c.args.cx.p.now c.args.k)))
 
 pub places::place_behind-effect-requires : goal.places::place_behind-effect-requires
 places::place_behind-effect-requires t c =
@@ -204,8 +268,11 @@ pub places::place_behind-place-requires : goal.places::place_behind-place-requir
 places::place_behind-place-requires t c =
     (search rules, (c.requires.ordered, (c.in_ok-effect.ensures.lowered.scene, (c.requires.node.right, (still c.requires.to c.in_ok-effect.ensures.lowered, room c.requires.room c.in_ok-effect.ensures.lowered (omega (arith, c.requires.node.weight)))))))
 
-pub places::place_behind-returns : goal.places::place_behind-returns
-places::place_behind-returns t c = record { lowered = tail _ _ c.place.result c.in_ok-effect.ensures.lowered c.place.ensures.lowered (omega (arith, c.requires.node.weight)) }
+pub places::place_behind-returns-clause-lowered : goal.places::place_behind-returns-clause-lowered
+places::place_behind-returns-clause-lowered t c = tail _ _ c.place.result c.in_ok-effect.ensures.lowered c.place.ensures.lowered (omega (arith, c.requires.node.weight))
+
+pub places::place_behind-returns-clause-spends : goal.places::place_behind-returns-clause-spends
+places::place_behind-returns-clause-spends t c = last _ _ _ c.place.result c.in_ok-effect.ensures.spends c.place.ensures.spends (omega (arith, c.requires.node.weight, heavy (expression c.args.cx.p.now c.args.k), heavy (expression c.args.cx.p.now c.args.a), heavy (expression c.args.cx.p.now c.args.b), extra_small c.args.cx.fixed (Some c.args.to))) (omega (arith, c.requires.node.weight, heavy (expression c.args.cx.p.now c.args.k), heavy (expression c.args.cx.p.now c.args.a), heavy (expression c.args.cx.p.now c.args.b), extra_small c.args.cx.fixed (Some c.args.to)))
 
 pub places::place_choice-fork-fork-requires : goal.places::place_choice-fork-fork-requires
 places::place_choice-fork-fork-requires t c = record { few = (omega (arith, c.requires.node.weight, c.requires.room.labels)) }
@@ -225,14 +292,20 @@ pub places::place_choice-place-requires-2 : goal.places::place_choice-place-requ
 places::place_choice-place-requires-2 t c =
     (search rules, (c.requires.ordered, ((turned (opened (opened (fork c.requires.scene c.fork-fork.ensures.forked) c.in_ok-condition.ensures.lowered) c.in_ok-place.ensures.lowered) c.in_ok-turn_fork.ensures.turned c.in_ok-turn_fork.ensures.adds).scene, (c.requires.node.third, (opened_has c.requires.to (turned (opened (opened (fork c.requires.scene c.fork-fork.ensures.forked) c.in_ok-condition.ensures.lowered) c.in_ok-place.ensures.lowered) c.in_ok-turn_fork.ensures.turned c.in_ok-turn_fork.ensures.adds), opened_room c.requires.room (turned (opened (opened (fork c.requires.scene c.fork-fork.ensures.forked) c.in_ok-condition.ensures.lowered) c.in_ok-place.ensures.lowered) c.in_ok-turn_fork.ensures.turned c.in_ok-turn_fork.ensures.adds) (omega (arith, c.requires.node.weight)))))))
 
-pub places::place_choice-returns : goal.places::place_choice-returns
-places::place_choice-returns t c = record { lowered = tail_stands _ c.join_fork.result (opened (turned (opened (opened (fork c.requires.scene c.fork-fork.ensures.forked) c.in_ok-condition.ensures.lowered) c.in_ok-place.ensures.lowered) c.in_ok-turn_fork.ensures.turned c.in_ok-turn_fork.ensures.adds) c.in_ok-place-2.ensures.lowered) c.join_fork.ensures.stands (omega (arith, c.requires.node.weight)) }
+pub places::place_choice-returns-clause-lowered : goal.places::place_choice-returns-clause-lowered
+places::place_choice-returns-clause-lowered t c = tail_stands _ c.join_fork.result (opened (turned (opened (opened (fork c.requires.scene c.fork-fork.ensures.forked) c.in_ok-condition.ensures.lowered) c.in_ok-place.ensures.lowered) c.in_ok-turn_fork.ensures.turned c.in_ok-turn_fork.ensures.adds) c.in_ok-place-2.ensures.lowered) c.join_fork.ensures.stands (omega (arith, c.requires.node.weight))
+
+pub places::place_choice-returns-clause-spends : goal.places::place_choice-returns-clause-spends
+places::place_choice-returns-clause-spends t c = last_pushed _ _ c.join_fork.result (after (and (after (after (plainly (forked_spent c.fork-fork.ensures.forked)) c.in_ok-condition.ensures.spends) c.in_ok-place.ensures.spends) c.in_ok-turn_fork.ensures.spent) c.in_ok-place-2.ensures.spends) c.join_fork.ensures.stands (omega (arith, c.requires.node.weight, heavy (expression c.args.cx.p.now c.args.k), heavy (expression c.args.cx.p.now c.args.c), heavy (expression c.args.cx.p.now c.args.a), heavy (expression c.args.cx.p.now c.args.b), extra_small c.args.cx.fixed (Some c.args.to))) (omega (arith, c.requires.node.weight, heavy (expression c.args.cx.p.now c.args.k), heavy (expression c.args.cx.p.now c.args.c), heavy (expression c.args.cx.p.now c.args.a), heavy (expression c.args.cx.p.now c.args.b), extra_small c.args.cx.fixed (Some c.args.to)))
 
 pub places::member-offset-requires-clause-same : goal.places::member-offset-requires-clause-same
 places::member-offset-requires-clause-same t c = two_pointers c.requires.to (c.in-Some.ensures _ c.requires.scene.housed)
 
-pub places::member-returns-in-Some : goal.places::member-returns-in-Some
-places::member-returns-in-Some t c = record { lowered = tail_grew _ _ c.offset.result (start c.requires.scene) c.offset.ensures.grown c.offset.ensures.adds (omega arith) }
+pub places::member-returns-in-Some-clause-lowered : goal.places::member-returns-in-Some-clause-lowered
+places::member-returns-in-Some-clause-lowered t c = tail_grew _ _ c.offset.result (start c.requires.scene) c.offset.ensures.grown c.offset.ensures.adds (omega arith)
+
+pub places::member-returns-in-Some-clause-spends : goal.places::member-returns-in-Some-clause-spends
+places::member-returns-in-Some-clause-spends t c = last_and _ _ _ c.offset.result nothing c.offset.ensures.spent (omega (arith, c.requires.node.weight, heavy (expression c.args.cx.p.now c.args.a))) (omega (arith, c.requires.node.weight, heavy (expression c.args.cx.p.now c.args.a)))
 
 pub places::member-place-requires : goal.places::member-place-requires
 places::member-place-requires t c =
@@ -241,21 +314,30 @@ places::member-place-requires t c =
 pub places::member-offset-requires-in-None-clause-same : goal.places::member-offset-requires-in-None-clause-same
 places::member-offset-requires-in-None-clause-same t c = two_pointers (still c.requires.to c.in_ok-place-in-None.ensures.lowered) (still c.requires.to c.in_ok-place-in-None.ensures.lowered)
 
-pub places::member-returns-in_ok-place-in-None : goal.places::member-returns-in_ok-place-in-None
-places::member-returns-in_ok-place-in-None t c = record { lowered = tail_grew _ _ c.offset-in-None.result c.in_ok-place-in-None.ensures.lowered c.offset-in-None.ensures.grown c.offset-in-None.ensures.adds (omega (arith, c.requires.node.weight)) }
+pub places::member-returns-in_ok-place-in-None-clause-lowered : goal.places::member-returns-in_ok-place-in-None-clause-lowered
+places::member-returns-in_ok-place-in-None-clause-lowered t c = tail_grew _ _ c.offset-in-None.result c.in_ok-place-in-None.ensures.lowered c.offset-in-None.ensures.grown c.offset-in-None.ensures.adds (omega (arith, c.requires.node.weight))
+
+pub places::member-returns-in_ok-place-in-None-clause-spends : goal.places::member-returns-in_ok-place-in-None-clause-spends
+places::member-returns-in_ok-place-in-None-clause-spends t c = last_and _ _ _ c.offset-in-None.result c.in_ok-place-in-None.ensures.spends c.offset-in-None.ensures.spent (omega (arith, c.requires.node.weight, heavy (expression c.args.cx.p.now c.args.k), heavy (expression c.args.cx.p.now c.args.a), extra_small c.args.cx.fixed (Some c.args.to))) (omega (arith, c.requires.node.weight, heavy (expression c.args.cx.p.now c.args.k), heavy (expression c.args.cx.p.now c.args.a), extra_small c.args.cx.fixed (Some c.args.to)))
 
 pub places::address-place-requires : goal.places::address-place-requires
 places::address-place-requires t c =
     (search rules, (c.requires.ordered, (c.requires.scene, (c.requires.node.operands.operand, ((as_kind c.requires.to (scalar_kind c.requires.node.is)), less_room c.requires.room (omega (arith, c.requires.node.operands.weight)))))))
 
-pub places::address-returns-in-None : goal.places::address-returns-in-None
-places::address-returns-in-None t c = record { lowered = at_most c.in_ok-place.ensures.lowered (omega (arith, c.requires.node.operands.weight)) }
+pub places::address-returns-in-None-clause-lowered : goal.places::address-returns-in-None-clause-lowered
+places::address-returns-in-None-clause-lowered t c = at_most c.in_ok-place.ensures.lowered (omega (arith, c.requires.node.operands.weight))
+
+pub places::address-returns-in-None-clause-spends : goal.places::address-returns-in-None-clause-spends
+places::address-returns-in-None-clause-spends t c = within c.in_ok-place.ensures.spends (omega (arith, c.requires.node.operands.weight, heavy (expression c.args.cx.p.now c.args.k), heavy (expression c.args.cx.p.now c.args.a), extra_small c.args.cx.fixed (Some c.args.to))) (omega (arith, c.requires.node.operands.weight, heavy (expression c.args.cx.p.now c.args.k), heavy (expression c.args.cx.p.now c.args.a), extra_small c.args.cx.fixed (Some c.args.to)))
 
 pub places::address-narrow-requires-clause-same : goal.places::address-narrow-requires-clause-same
 places::address-narrow-requires-clause-same t c = two_pointers (still (as_kind c.requires.to (scalar_kind c.requires.node.is)) c.in_ok-place.ensures.lowered) (still (as_kind c.requires.to (scalar_kind c.requires.node.is)) c.in_ok-place.ensures.lowered)
 
-pub places::address-returns-in-Some : goal.places::address-returns-in-Some
-places::address-returns-in-Some t c = record { lowered = tail_grew _ _ c.narrow.result c.in_ok-place.ensures.lowered c.narrow.ensures.grown c.narrow.ensures.adds (omega (arith, c.requires.node.operands.weight)) }
+pub places::address-returns-in-Some-clause-lowered : goal.places::address-returns-in-Some-clause-lowered
+places::address-returns-in-Some-clause-lowered t c = tail_grew _ _ c.narrow.result c.in_ok-place.ensures.lowered c.narrow.ensures.grown c.narrow.ensures.adds (omega (arith, c.requires.node.operands.weight))
+
+pub places::address-returns-in-Some-clause-spends : goal.places::address-returns-in-Some-clause-spends
+places::address-returns-in-Some-clause-spends t c = last_and _ _ _ c.narrow.result c.in_ok-place.ensures.spends c.narrow.ensures.spent (omega (arith, c.requires.node.operands.weight, heavy (expression c.args.cx.p.now c.args.k), heavy (expression c.args.cx.p.now c.args.a), extra_small c.args.cx.fixed (Some c.args.to))) (omega (arith, c.requires.node.operands.weight, heavy (expression c.args.cx.p.now c.args.k), heavy (expression c.args.cx.p.now c.args.a), extra_small c.args.cx.fixed (Some c.args.to)))
 
 pub places::struct_assignment-pointer-requires : goal.places::struct_assignment-pointer-requires
 places::struct_assignment-pointer-requires t c =
@@ -270,6 +352,9 @@ places::struct_assignment-returns-clause-has t c = still c.in_ok-t.ensures.has c
 
 pub places::struct_assignment-returns-clause-lowered : goal.places::struct_assignment-returns-clause-lowered
 places::struct_assignment-returns-clause-lowered t c = at_most (both c.in_ok-t.ensures.lowered c.in_ok-struct_copy.ensures.lowered) (omega (arith, c.requires.node.weight))
+
+pub places::struct_assignment-returns-clause-spends : goal.places::struct_assignment-returns-clause-spends
+places::struct_assignment-returns-clause-spends t c = within (after c.in_ok-t.ensures.spends c.in_ok-struct_copy.ensures.spends) (omega (arith, c.requires.node.weight, heavy (expression c.args.cx.p.now c.args.k), heavy (expression c.args.cx.p.now c.args.a), heavy (expression c.args.cx.p.now c.args.b))) (omega (arith, c.requires.node.weight, heavy (expression c.args.cx.p.now c.args.k), heavy (expression c.args.cx.p.now c.args.a), heavy (expression c.args.cx.p.now c.args.b)))
 
 pub places::struct_copy-chosen_copy-requires : goal.places::struct_copy-chosen_copy-requires
 places::struct_copy-chosen_copy-requires t c =
@@ -290,16 +375,22 @@ places::struct_copy-struct_copy-requires t c =
     let below-1 : c.in-Comma.b < c.args.k = below.comma_right c.args.cx.p.now c.args.k _ _ _ c.requires.ordered c.in-Some.ensures c.in-Comma.is in
     (search rules, (c.requires.ordered, (c.in_ok-effect-in-Comma.ensures.lowered.scene, ((node_at c.args.cx.d.now c.requires.scene.ready c.requires.typed c.in-Some.ensures c.in-Comma.is).operands.right, (destination_kept c.in_ok-effect-in-Comma.ensures.lowered c.requires.destination, room c.requires.room c.in_ok-effect-in-Comma.ensures.lowered (omega (arith, (node_at c.args.cx.d.now c.requires.scene.ready c.requires.typed c.in-Some.ensures c.in-Comma.is).operands.weight)))))))
 
-pub places::struct_copy-returns-in_ok-effect-in-Comma : goal.places::struct_copy-returns-in_ok-effect-in-Comma
-places::struct_copy-returns-in_ok-effect-in-Comma t c = record { lowered = tail _ _ c.struct_copy.result c.in_ok-effect-in-Comma.ensures.lowered c.struct_copy.ensures.lowered (omega (arith, (node_at c.args.cx.d.now c.requires.scene.ready c.requires.typed c.in-Some.ensures c.in-Comma.is).operands.weight)) }
+pub places::struct_copy-returns-in_ok-effect-in-Comma-clause-lowered : goal.places::struct_copy-returns-in_ok-effect-in-Comma-clause-lowered
+places::struct_copy-returns-in_ok-effect-in-Comma-clause-lowered t c = tail _ _ c.struct_copy.result c.in_ok-effect-in-Comma.ensures.lowered c.struct_copy.ensures.lowered (omega (arith, (node_at c.args.cx.d.now c.requires.scene.ready c.requires.typed c.in-Some.ensures c.in-Comma.is).operands.weight))
+
+pub places::struct_copy-returns-in_ok-effect-in-Comma-clause-spends : goal.places::struct_copy-returns-in_ok-effect-in-Comma-clause-spends
+places::struct_copy-returns-in_ok-effect-in-Comma-clause-spends t c = last _ _ _ c.struct_copy.result c.in_ok-effect-in-Comma.ensures.spends c.struct_copy.ensures.spends (omega (arith, (node_at c.args.cx.d.now c.requires.scene.ready c.requires.typed c.in-Some.ensures c.in-Comma.is).operands.weight, heavy (expression c.args.cx.p.now c.args.k), heavy (expression c.args.cx.p.now c.in-Comma.a), heavy (expression c.args.cx.p.now c.in-Comma.b))) (omega (arith, (node_at c.args.cx.d.now c.requires.scene.ready c.requires.typed c.in-Some.ensures c.in-Comma.is).operands.weight, heavy (expression c.args.cx.p.now c.args.k), heavy (expression c.args.cx.p.now c.in-Comma.a), heavy (expression c.args.cx.p.now c.in-Comma.b)))
 
 pub places::struct_copy-struct_copy-requires-in-Load : goal.places::struct_copy-struct_copy-requires-in-Load
 places::struct_copy-struct_copy-requires-in-Load t c =
     let below-0 : c.in-Load.a < c.args.k = below.load c.args.cx.p.now c.args.k _ _ c.requires.ordered c.in-Some.ensures c.in-Load.is in
     (search rules, (c.requires.ordered, (c.requires.scene, ((node_at c.args.cx.d.now c.requires.scene.ready c.requires.typed c.in-Some.ensures c.in-Load.is).operands.operand, (c.requires.destination, less_room c.requires.room (omega (arith, (node_at c.args.cx.d.now c.requires.scene.ready c.requires.typed c.in-Some.ensures c.in-Load.is).operands.weight)))))))
 
-pub places::struct_copy-returns-in-Load : goal.places::struct_copy-returns-in-Load
-places::struct_copy-returns-in-Load t c = record { lowered = tail _ _ c.struct_copy-in-Load.result (start c.requires.scene) c.struct_copy-in-Load.ensures.lowered (omega (arith, (node_at c.args.cx.d.now c.requires.scene.ready c.requires.typed c.in-Some.ensures c.in-Load.is).operands.weight)) }
+pub places::struct_copy-returns-in-Load-clause-lowered : goal.places::struct_copy-returns-in-Load-clause-lowered
+places::struct_copy-returns-in-Load-clause-lowered t c = tail _ _ c.struct_copy-in-Load.result (start c.requires.scene) c.struct_copy-in-Load.ensures.lowered (omega (arith, (node_at c.args.cx.d.now c.requires.scene.ready c.requires.typed c.in-Some.ensures c.in-Load.is).operands.weight))
+
+pub places::struct_copy-returns-in-Load-clause-spends : goal.places::struct_copy-returns-in-Load-clause-spends
+places::struct_copy-returns-in-Load-clause-spends t c = last _ _ _ c.struct_copy-in-Load.result nothing c.struct_copy-in-Load.ensures.spends (omega (arith, (node_at c.args.cx.d.now c.requires.scene.ready c.requires.typed c.in-Some.ensures c.in-Load.is).operands.weight, heavy (expression c.args.cx.p.now c.args.k), heavy (expression c.args.cx.p.now c.in-Load.a))) (omega (arith, (node_at c.args.cx.d.now c.requires.scene.ready c.requires.typed c.in-Some.ensures c.in-Load.is).operands.weight, heavy (expression c.args.cx.p.now c.args.k), heavy (expression c.args.cx.p.now c.in-Load.a)))
 
 pub places::chosen_copy-fork-fork-requires : goal.places::chosen_copy-fork-fork-requires
 places::chosen_copy-fork-fork-requires t c = record { few = (omega (arith, c.requires.node.weight, c.requires.room.labels)) }
@@ -319,8 +410,11 @@ pub places::chosen_copy-struct_copy-requires-2 : goal.places::chosen_copy-struct
 places::chosen_copy-struct_copy-requires-2 t c =
     (search rules, (c.requires.ordered, ((turned (opened (opened (fork c.requires.scene c.fork-fork.ensures.forked) c.in_ok-condition.ensures.lowered) c.in_ok-struct_copy.ensures.lowered) c.in_ok-turn_fork.ensures.turned c.in_ok-turn_fork.ensures.adds).scene, (c.requires.node.third, (destination_opened (turned (opened (opened (fork c.requires.scene c.fork-fork.ensures.forked) c.in_ok-condition.ensures.lowered) c.in_ok-struct_copy.ensures.lowered) c.in_ok-turn_fork.ensures.turned c.in_ok-turn_fork.ensures.adds) c.requires.destination, opened_room c.requires.room (turned (opened (opened (fork c.requires.scene c.fork-fork.ensures.forked) c.in_ok-condition.ensures.lowered) c.in_ok-struct_copy.ensures.lowered) c.in_ok-turn_fork.ensures.turned c.in_ok-turn_fork.ensures.adds) (omega (arith, c.requires.node.weight)))))))
 
-pub places::chosen_copy-returns : goal.places::chosen_copy-returns
-places::chosen_copy-returns t c = record { lowered = tail_stands _ c.join_fork.result (opened (turned (opened (opened (fork c.requires.scene c.fork-fork.ensures.forked) c.in_ok-condition.ensures.lowered) c.in_ok-struct_copy.ensures.lowered) c.in_ok-turn_fork.ensures.turned c.in_ok-turn_fork.ensures.adds) c.in_ok-struct_copy-2.ensures.lowered) c.join_fork.ensures.stands (omega (arith, c.requires.node.weight)) }
+pub places::chosen_copy-returns-clause-lowered : goal.places::chosen_copy-returns-clause-lowered
+places::chosen_copy-returns-clause-lowered t c = tail_stands _ c.join_fork.result (opened (turned (opened (opened (fork c.requires.scene c.fork-fork.ensures.forked) c.in_ok-condition.ensures.lowered) c.in_ok-struct_copy.ensures.lowered) c.in_ok-turn_fork.ensures.turned c.in_ok-turn_fork.ensures.adds) c.in_ok-struct_copy-2.ensures.lowered) c.join_fork.ensures.stands (omega (arith, c.requires.node.weight))
+
+pub places::chosen_copy-returns-clause-spends : goal.places::chosen_copy-returns-clause-spends
+places::chosen_copy-returns-clause-spends t c = last_pushed _ _ c.join_fork.result (after (and (after (after (plainly (forked_spent c.fork-fork.ensures.forked)) c.in_ok-condition.ensures.spends) c.in_ok-struct_copy.ensures.spends) c.in_ok-turn_fork.ensures.spent) c.in_ok-struct_copy-2.ensures.spends) c.join_fork.ensures.stands (omega (arith, c.requires.node.weight, heavy (expression c.args.cx.p.now c.args.k), heavy (expression c.args.cx.p.now c.args.c), heavy (expression c.args.cx.p.now c.args.a), heavy (expression c.args.cx.p.now c.args.b))) (omega (arith, c.requires.node.weight, heavy (expression c.args.cx.p.now c.args.k), heavy (expression c.args.cx.p.now c.args.c), heavy (expression c.args.cx.p.now c.args.a), heavy (expression c.args.cx.p.now c.args.b)))
 
 pub places::plain_copy-pointer-requires : goal.places::plain_copy-pointer-requires
 places::plain_copy-pointer-requires t c =
@@ -341,8 +435,11 @@ places::plain_copy-copy_units-requires-clause-to t c = pointer c.in_ok-to.ensure
 pub places::plain_copy-copy_units-requires-clause-units : goal.places::plain_copy-copy_units-requires-clause-units
 places::plain_copy-copy_units-requires-clause-units t c = c.requires.destination.units
 
-pub places::plain_copy-returns : goal.places::plain_copy-returns
-places::plain_copy-returns t c = record { lowered = tail_grew _ _ c.copy_units.result (grew c.in_ok-from.ensures.lowered c.in_ok-to.ensures.grown c.in_ok-to.ensures.adds) c.copy_units.ensures.grown c.copy_units.ensures.adds (omega arith) }
+pub places::plain_copy-returns-clause-lowered : goal.places::plain_copy-returns-clause-lowered
+places::plain_copy-returns-clause-lowered t c = tail_grew _ _ c.copy_units.result (grew c.in_ok-from.ensures.lowered c.in_ok-to.ensures.grown c.in_ok-to.ensures.adds) c.copy_units.ensures.grown c.copy_units.ensures.adds (omega arith)
+
+pub places::plain_copy-returns-clause-spends : goal.places::plain_copy-returns-clause-spends
+places::plain_copy-returns-clause-spends t c = last_and _ _ _ c.copy_units.result (and c.in_ok-from.ensures.spends c.in_ok-to.ensures.spent) c.copy_units.ensures.spent (omega (arith, heavy (expression c.args.cx.p.now c.args.k))) (omega (arith, heavy (expression c.args.cx.p.now c.args.k)))
 
 pub calls::call-named_function-requires-clause-typed : goal.calls::call-named_function-requires-clause-typed
 calls::call-named_function-requires-clause-typed t c = c.requires.node.called
@@ -351,8 +448,11 @@ pub calls::call-arguments-requires : goal.calls::call-arguments-requires
 calls::call-arguments-requires t c =
     (search rules, (c.requires.ordered, (c.requires.before, (c.requires.scene, (c.requires.node.arguments, less_room c.requires.room (omega (arith, c.requires.node.weight)))))))
 
-pub calls::call-returns-in_ok-temps-in-Some : goal.calls::call-returns-in_ok-temps-in-Some
-calls::call-returns-in_ok-temps-in-Some t c = record { lowered = tail_pushed _ c.call.result _ c.in_ok-temps-in-Some.ensures.lowered c.call.ensures.pushed (λ g. call_lowered _ _ _ _ _ _ c.in_ok-temps-in-Some.ensures.lowered.scene c.args.to c.in-Some.n c.in_ok-temps-in-Some.temps.items (map (kind_in c.args.cx.p.now) c.args.args.now) c.requires.node.result c.requires.node.takes (c.in-Some.ensures _ _ c.requires.node.of) c.in_ok-temps-in-Some.ensures.kinds (taken c.args.cx.p.now c.requires.node.takes c.args.args.now c.requires.node.fit) (result_as c.args.to _ _ c.in_ok-temps-in-Some.ensures.lowered c.requires.node.gives c.requires.to) g) (omega (arith, c.requires.node.weight)) }
+pub calls::call-returns-in_ok-temps-in-Some-clause-lowered : goal.calls::call-returns-in_ok-temps-in-Some-clause-lowered
+calls::call-returns-in_ok-temps-in-Some-clause-lowered t c = tail_pushed _ c.call.result _ c.in_ok-temps-in-Some.ensures.lowered c.call.ensures.pushed (λ g. call_lowered _ _ _ _ _ _ c.in_ok-temps-in-Some.ensures.lowered.scene c.args.to c.in-Some.n c.in_ok-temps-in-Some.temps.items (map (kind_in c.args.cx.p.now) c.args.args.now) c.requires.node.result c.requires.node.takes (c.in-Some.ensures _ _ c.requires.node.of) c.in_ok-temps-in-Some.ensures.kinds (taken c.args.cx.p.now c.requires.node.takes c.args.args.now c.requires.node.fit) (result_as c.args.to _ _ c.in_ok-temps-in-Some.ensures.lowered c.requires.node.gives c.requires.to) g) (omega (arith, c.requires.node.weight))
+
+pub calls::call-returns-in_ok-temps-in-Some-clause-spends : goal.calls::call-returns-in_ok-temps-in-Some-clause-spends
+calls::call-returns-in_ok-temps-in-Some-clause-spends t c = last_pushed _ _ c.call.result c.in_ok-temps-in-Some.ensures.spends c.call.ensures.pushed (omega (arith, c.requires.node.weight, weights_heavy c.args.cx.p.now c.args.args.now, kinds_count c.args.cx.p.now _ c.in_ok-temps-in-Some.temps.items c.args.args.now c.in_ok-temps-in-Some.ensures.kinds, places_small (length c.in_ok-temps-in-Some.temps.items))) (omega (arith, c.requires.node.weight, weights_heavy c.args.cx.p.now c.args.args.now, kinds_count c.args.cx.p.now _ c.in_ok-temps-in-Some.temps.items c.args.args.now c.in_ok-temps-in-Some.ensures.kinds, places_small (length c.in_ok-temps-in-Some.temps.items)))
 
 pub calls::call-operand-requires : goal.calls::call-operand-requires
 calls::call-operand-requires t c =
@@ -362,27 +462,39 @@ pub calls::call-arguments-requires-in-None : goal.calls::call-arguments-requires
 calls::call-arguments-requires-in-None t c =
     (search rules, (c.requires.ordered, (c.requires.before, (c.in_ok-v-in-None.ensures.lowered.scene, (c.requires.node.arguments, room c.requires.room c.in_ok-v-in-None.ensures.lowered (omega (arith, c.requires.node.weight)))))))
 
-pub calls::call-returns-in_ok-temps-in-None : goal.calls::call-returns-in_ok-temps-in-None
-calls::call-returns-in_ok-temps-in-None t c = record { lowered = tail_pushed _ c.call_value.result _ (both c.in_ok-v-in-None.ensures.lowered c.in_ok-temps-in-None.ensures.lowered) c.call_value.ensures.pushed (λ g. call_value_lowered _ _ _ _ _ _ c.in_ok-temps-in-None.ensures.lowered.scene c.args.to _ _ c.in_ok-temps-in-None.temps.items _ (map (kind_in c.args.cx.p.now) c.args.args.now) c.requires.node.result c.requires.node.takes (called_value c.args.cx.p.now c.args.f c.requires.node.of (still c.in_ok-v-in-None.ensures.has c.in_ok-temps-in-None.ensures.lowered)) (named_type c.requires.scene.ready (c.facts.ensures.pointed (Function c.requires.node.result c.requires.node.takes) c.requires.scene.ready c.requires.node.of) c.unwrap_or-of.ensures) c.in_ok-temps-in-None.ensures.kinds (taken c.args.cx.p.now c.requires.node.takes c.args.args.now c.requires.node.fit) (result_as c.args.to _ _ (both c.in_ok-v-in-None.ensures.lowered c.in_ok-temps-in-None.ensures.lowered) c.requires.node.gives c.requires.to) g) (omega (arith, c.requires.node.weight)) }
+pub calls::call-returns-in_ok-temps-in-None-clause-lowered : goal.calls::call-returns-in_ok-temps-in-None-clause-lowered
+calls::call-returns-in_ok-temps-in-None-clause-lowered t c = tail_pushed _ c.call_value.result _ (both c.in_ok-v-in-None.ensures.lowered c.in_ok-temps-in-None.ensures.lowered) c.call_value.ensures.pushed (λ g. call_value_lowered _ _ _ _ _ _ c.in_ok-temps-in-None.ensures.lowered.scene c.args.to _ _ c.in_ok-temps-in-None.temps.items _ (map (kind_in c.args.cx.p.now) c.args.args.now) c.requires.node.result c.requires.node.takes (called_value c.args.cx.p.now c.args.f c.requires.node.of (still c.in_ok-v-in-None.ensures.has c.in_ok-temps-in-None.ensures.lowered)) (named_type c.requires.scene.ready (c.facts.ensures.pointed (Function c.requires.node.result c.requires.node.takes) c.requires.scene.ready c.requires.node.of) c.unwrap_or-of.ensures) c.in_ok-temps-in-None.ensures.kinds (taken c.args.cx.p.now c.requires.node.takes c.args.args.now c.requires.node.fit) (result_as c.args.to _ _ (both c.in_ok-v-in-None.ensures.lowered c.in_ok-temps-in-None.ensures.lowered) c.requires.node.gives c.requires.to) g) (omega (arith, c.requires.node.weight))
+
+pub calls::call-returns-in_ok-temps-in-None-clause-spends : goal.calls::call-returns-in_ok-temps-in-None-clause-spends
+calls::call-returns-in_ok-temps-in-None-clause-spends t c = last_pushed _ _ c.call_value.result (after c.in_ok-v-in-None.ensures.spends c.in_ok-temps-in-None.ensures.spends) c.call_value.ensures.pushed (omega (arith, c.requires.node.weight, weights_heavy c.args.cx.p.now c.args.args.now, kinds_count c.args.cx.p.now _ c.in_ok-temps-in-None.temps.items c.args.args.now c.in_ok-temps-in-None.ensures.kinds, places_small (length c.in_ok-temps-in-None.temps.items), heavy (expression c.args.cx.p.now c.args.f))) (omega (arith, c.requires.node.weight, weights_heavy c.args.cx.p.now c.args.args.now, kinds_count c.args.cx.p.now _ c.in_ok-temps-in-None.temps.items c.args.args.now c.in_ok-temps-in-None.ensures.kinds, places_small (length c.in_ok-temps-in-None.temps.items), heavy (expression c.args.cx.p.now c.args.f)))
 
 pub calls::library-arguments-requires : goal.calls::library-arguments-requires
 calls::library-arguments-requires t c =
     (search rules, (c.requires.ordered, (c.requires.before, (c.requires.scene, (c.requires.node.arguments, less_room c.requires.room (omega (arith, c.requires.node.weight)))))))
 
-pub calls::library-returns-in-Library : goal.calls::library-returns-in-Library
-calls::library-returns-in-Library t c = record { lowered = tail_pushed _ c.service.result _ c.in_ok-temps.ensures.lowered c.service.ensures.pushed (λ g. service_lowered _ _ _ _ _ _ c.in_ok-temps.ensures.lowered.scene c.in-Library.op c.args.to _ (library_fits c.args.cx.p.now _ c.in-Library.op c.requires.node.service.takes c.requires.node.service.gives c.args.args.now _ c.args.to c.args.k (subst (λ z. ServiceAsks z c.requires.node.service.takes c.requires.node.service.gives) c.in-Library.is (c.service_of.ensures c.requires.node.service c.requires.node.there)) c.requires.node.fit c.requires.node.gives c.in_ok-temps.ensures.kinds (result_as c.args.to _ _ c.in_ok-temps.ensures.lowered refl c.requires.to)) g) (omega (arith, c.requires.node.weight)) }
+pub calls::library-returns-in-Library-clause-lowered : goal.calls::library-returns-in-Library-clause-lowered
+calls::library-returns-in-Library-clause-lowered t c = tail_pushed _ c.service.result _ c.in_ok-temps.ensures.lowered c.service.ensures.pushed (λ g. service_lowered _ _ _ _ _ _ c.in_ok-temps.ensures.lowered.scene c.in-Library.op c.args.to _ (library_fits c.args.cx.p.now _ c.in-Library.op c.requires.node.service.takes c.requires.node.service.gives c.args.args.now _ c.args.to c.args.k (subst (λ z. ServiceAsks z c.requires.node.service.takes c.requires.node.service.gives) c.in-Library.is (c.service_of.ensures c.requires.node.service c.requires.node.there)) c.requires.node.fit c.requires.node.gives c.in_ok-temps.ensures.kinds (result_as c.args.to _ _ c.in_ok-temps.ensures.lowered refl c.requires.to)) g) (omega (arith, c.requires.node.weight))
 
-pub calls::library-returns-in-Exit : goal.calls::library-returns-in-Exit
-calls::library-returns-in-Exit t c = record { lowered = tail_pushed _ c.service-in-Exit.result _ c.in_ok-temps.ensures.lowered c.service-in-Exit.ensures.pushed (λ g. service_lowered _ _ _ _ _ _ c.in_ok-temps.ensures.lowered.scene lib.Exit None _ (exit_fits c.args.cx.p.now _ c.requires.node.service.takes c.requires.node.service.gives c.args.args.now _ (subst (λ z. ServiceAsks z c.requires.node.service.takes c.requires.node.service.gives) c.in-Exit.is (c.service_of.ensures c.requires.node.service c.requires.node.there)) c.requires.node.fit c.in_ok-temps.ensures.kinds) g) (omega (arith, c.requires.node.weight)) }
+pub calls::library-returns-in-Library-clause-spends : goal.calls::library-returns-in-Library-clause-spends
+calls::library-returns-in-Library-clause-spends t c = last_pushed _ _ c.service.result c.in_ok-temps.ensures.spends c.service.ensures.pushed (omega (arith, c.requires.node.weight, weights_heavy c.args.cx.p.now c.args.args.now, service_small c.in-Library.op)) (omega (arith, c.requires.node.weight, weights_heavy c.args.cx.p.now c.args.args.now, service_small c.in-Library.op))
+
+pub calls::library-returns-in-Exit-clause-lowered : goal.calls::library-returns-in-Exit-clause-lowered
+calls::library-returns-in-Exit-clause-lowered t c = tail_pushed _ c.service-in-Exit.result _ c.in_ok-temps.ensures.lowered c.service-in-Exit.ensures.pushed (λ g. service_lowered _ _ _ _ _ _ c.in_ok-temps.ensures.lowered.scene lib.Exit None _ (exit_fits c.args.cx.p.now _ c.requires.node.service.takes c.requires.node.service.gives c.args.args.now _ (subst (λ z. ServiceAsks z c.requires.node.service.takes c.requires.node.service.gives) c.in-Exit.is (c.service_of.ensures c.requires.node.service c.requires.node.there)) c.requires.node.fit c.in_ok-temps.ensures.kinds) g) (omega (arith, c.requires.node.weight))
+
+pub calls::library-returns-in-Exit-clause-spends : goal.calls::library-returns-in-Exit-clause-spends
+calls::library-returns-in-Exit-clause-spends t c = last_pushed _ _ c.service-in-Exit.result c.in_ok-temps.ensures.spends c.service-in-Exit.ensures.pushed (omega (arith, c.requires.node.weight, weights_heavy c.args.cx.p.now c.args.args.now)) (omega (arith, c.requires.node.weight, weights_heavy c.args.cx.p.now c.args.args.now))
 
 pub calls::library-intrinsic_value-requires : goal.calls::library-intrinsic_value-requires
 calls::library-intrinsic_value-requires t c = record { fits = intrinsic_fits c.args.cx.p.now _ c.requires.node.service.takes c.requires.node.service.gives c.args.args.now c.in_ok-temps.temps.items c.args.k c.first_temp-a.result c.second_temp-b.result c.first_kind-kind.result c.requires.node.fit c.requires.node.gives c.in_ok-temps.ensures.kinds (cc) (cc) c.first_kind-kind.ensures c.in-Intrinsic.i c.args.to (subst (λ z. ServiceAsks z c.requires.node.service.takes c.requires.node.service.gives) c.in-Intrinsic.is (c.service_of.ensures c.requires.node.service c.requires.node.there)) (result_as c.args.to _ _ c.in_ok-temps.ensures.lowered refl c.requires.to) }
 
-pub calls::library-returns-in-Intrinsic : goal.calls::library-returns-in-Intrinsic
-calls::library-returns-in-Intrinsic t c = record { lowered = tail_grew _ _ c.intrinsic_value.result c.in_ok-temps.ensures.lowered c.intrinsic_value.ensures.grown c.intrinsic_value.ensures.adds (omega (arith, c.requires.node.weight)) }
+pub calls::library-returns-in-Intrinsic-clause-lowered : goal.calls::library-returns-in-Intrinsic-clause-lowered
+calls::library-returns-in-Intrinsic-clause-lowered t c = tail_grew _ _ c.intrinsic_value.result c.in_ok-temps.ensures.lowered c.intrinsic_value.ensures.grown c.intrinsic_value.ensures.adds (omega (arith, c.requires.node.weight))
+
+pub calls::library-returns-in-Intrinsic-clause-spends : goal.calls::library-returns-in-Intrinsic-clause-spends
+calls::library-returns-in-Intrinsic-clause-spends t c = last_and _ _ _ c.intrinsic_value.result c.in_ok-temps.ensures.spends c.intrinsic_value.ensures.spent (omega (arith, c.requires.node.weight, weights_heavy c.args.cx.p.now c.args.args.now)) (omega (arith, c.requires.node.weight, weights_heavy c.args.cx.p.now c.args.args.now))
 
 pub calls::arguments-loop-a-init : goal.calls::arguments-loop-a-init
-calls::arguments-loop-a-init t c = subst (λ z. ArgumentsTo c.args.cx.p.now c.args.cx.d.now c.args.cx.types.now c.args.cx.homes.now c.args.out.now c.args.out.now [] z) (sym c.new-temps.ensures.items) (arguments_none c.requires.scene)
+calls::arguments-loop-a-init t c = subst (λ z. ArgumentsTo c.args.cx.fixed c.args.cx.p.now c.args.cx.d.now c.args.cx.types.now c.args.cx.homes.now c.args.out.now c.args.out.now [] z) (sym c.new-temps.ensures.items) (arguments_none c.requires.scene)
 
 pub calls::arguments-operand-requires : goal.calls::arguments-operand-requires
 calls::arguments-operand-requires t c =
@@ -390,13 +502,16 @@ calls::arguments-operand-requires t c =
     (search rules, (c.requires.ordered, (c.loop-a.invariant.lowered.scene, (c.requires.typed.each c.loop-a.a-index (get_or c.args.args.now c.loop-a.a-index 0) (slice_get-get_or c.args.args.now c.loop-a.a-index 0 (omega arith)), argument_room c.args.args.now c.loop-a.a-index 0 c.requires.room c.loop-a.invariant (omega arith)))))
 
 pub calls::arguments-loop-a-preserved : goal.calls::arguments-loop-a-preserved
-calls::arguments-loop-a-preserved t c = subst (λ z. ArgumentsTo c.args.cx.p.now c.args.cx.d.now c.args.cx.types.now c.args.cx.homes.now c.args.out.now c.operand.new.out z c.push.new.self.items) (sym (take_more c.args.args.now c.loop-a.a-index 0 (omega arith))) (subst (λ z. ArgumentsTo c.args.cx.p.now c.args.cx.d.now c.args.cx.types.now c.args.cx.homes.now c.args.out.now c.operand.new.out (take c.loop-a.a-index c.args.args.now ++ get_or c.args.args.now c.loop-a.a-index 0 ∷ []) z) (sym c.in_ok-push.ensures.items) (arguments_more (get_or c.args.args.now c.loop-a.a-index 0) _ c.loop-a.invariant c.in_ok-t.ensures.has c.in_ok-t.ensures.lowered))
+calls::arguments-loop-a-preserved t c = subst (λ z. ArgumentsTo c.args.cx.fixed c.args.cx.p.now c.args.cx.d.now c.args.cx.types.now c.args.cx.homes.now c.args.out.now c.operand.new.out z c.push.new.self.items) (sym (take_more c.args.args.now c.loop-a.a-index 0 (omega arith))) (subst (λ z. ArgumentsTo c.args.cx.fixed c.args.cx.p.now c.args.cx.d.now c.args.cx.types.now c.args.cx.homes.now c.args.out.now c.operand.new.out (take c.loop-a.a-index c.args.args.now ++ get_or c.args.args.now c.loop-a.a-index 0 ∷ []) z) (sym c.in_ok-push.ensures.items) (arguments_more (get_or c.args.args.now c.loop-a.a-index 0) _ c.loop-a.invariant c.in_ok-t.ensures.has c.in_ok-t.ensures.lowered c.in_ok-t.ensures.spends))
 
 pub expressions::operand-returns-in-Some-clause-has : goal.expressions::operand-returns-in-Some-clause-has
 expressions::operand-returns-in-Some-clause-has t c = c.in-Some.ensures _ c.requires.scene.housed
 
 pub expressions::operand-returns-in-Some-clause-lowered : goal.expressions::operand-returns-in-Some-clause-lowered
 expressions::operand-returns-in-Some-clause-lowered t c = at_most (start c.requires.scene) (omega arith)
+
+pub expressions::operand-returns-in-Some-clause-spends : goal.expressions::operand-returns-in-Some-clause-spends
+expressions::operand-returns-in-Some-clause-spends t c = within nothing (omega (arith, heavy (expression c.args.cx.p.now c.args.k))) (omega (arith, heavy (expression c.args.cx.p.now c.args.k)))
 
 pub expressions::operand-temp-requires : goal.expressions::operand-temp-requires
 expressions::operand-temp-requires t c = record { room = less_room c.requires.room (omega (arith, heavy (expression c.args.cx.p.now c.args.k))) }
@@ -411,6 +526,9 @@ expressions::operand-returns-in_ok-value-in-None-clause-has t c = as_kind (still
 pub expressions::operand-returns-in_ok-value-in-None-clause-lowered : goal.expressions::operand-returns-in_ok-value-in-None-clause-lowered
 expressions::operand-returns-in_ok-value-in-None-clause-lowered t c = at_most (both (grew (start c.requires.scene) c.in_ok-t-in-None.ensures.grown c.in_ok-t-in-None.ensures.adds) c.in_ok-value-in-None.ensures.lowered) (omega (arith, heavy (expression c.args.cx.p.now c.args.k)))
 
+pub expressions::operand-returns-in_ok-value-in-None-clause-spends : goal.expressions::operand-returns-in_ok-value-in-None-clause-spends
+expressions::operand-returns-in_ok-value-in-None-clause-spends t c = within (in_fresh _ c.in_ok-t-in-None.ensures.next c.in_ok-t-in-None.ensures.spent c.in_ok-value-in-None.ensures.spends) (omega (arith, heavy (expression c.args.cx.p.now c.args.k))) (omega (arith, heavy (expression c.args.cx.p.now c.args.k)))
+
 pub expressions::operand_in-returns-in-Some-clause-holds : goal.expressions::operand_in-returns-in-Some-clause-holds
 expressions::operand_in-returns-in-Some-clause-holds t c = as_kind (c.in-Some.ensures _ c.requires.scene.housed) (sym (c.kind-kind.ensures c.requires.scene.ready))
 
@@ -420,6 +538,9 @@ expressions::operand_in-returns-in-Some-clause-kind t c = c.kind-kind.ensures c.
 pub expressions::operand_in-returns-in-Some-clause-lowered : goal.expressions::operand_in-returns-in-Some-clause-lowered
 expressions::operand_in-returns-in-Some-clause-lowered t c = at_most (start c.requires.scene) (omega arith)
 
+pub expressions::operand_in-returns-in-Some-clause-spends : goal.expressions::operand_in-returns-in-Some-clause-spends
+expressions::operand_in-returns-in-Some-clause-spends t c = within nothing (omega (arith, heavy (expression c.args.cx.p.now c.args.k), extra_small c.args.cx.fixed (Some c.args.to))) (omega (arith, heavy (expression c.args.cx.p.now c.args.k), extra_small c.args.cx.fixed (Some c.args.to)))
+
 pub expressions::operand_in-returns-in_ok-value-in-None-clause-holds : goal.expressions::operand_in-returns-in_ok-value-in-None-clause-holds
 expressions::operand_in-returns-in_ok-value-in-None-clause-holds t c = as_kind (still c.requires.to c.in_ok-value-in-None.ensures.lowered) (sym (c.kind-kind.ensures c.requires.scene.ready))
 
@@ -428,6 +549,9 @@ expressions::operand_in-returns-in_ok-value-in-None-clause-kind t c = c.kind-kin
 
 pub expressions::operand_in-returns-in_ok-value-in-None-clause-lowered : goal.expressions::operand_in-returns-in_ok-value-in-None-clause-lowered
 expressions::operand_in-returns-in_ok-value-in-None-clause-lowered t c = c.in_ok-value-in-None.ensures.lowered
+
+pub expressions::operand_in-returns-in_ok-value-in-None-clause-spends : goal.expressions::operand_in-returns-in_ok-value-in-None-clause-spends
+expressions::operand_in-returns-in_ok-value-in-None-clause-spends t c = c.in_ok-value-in-None.ensures.spends
 
 pub expressions::held-returns-clause-holds : goal.expressions::held-returns-clause-holds
 expressions::held-returns-clause-holds t c = as_kind c.in_ok-temp.ensures.has (sym (c.kind.ensures c.requires.scene.ready))
@@ -458,14 +582,20 @@ expressions::pair-returns-clause-right_kind t c = c.in_ok-y.ensures.kind
 pub expressions::pair-returns-clause-lowered : goal.expressions::pair-returns-clause-lowered
 expressions::pair-returns-clause-lowered t c = at_most (both c.in_ok-x.ensures.lowered c.in_ok-y.ensures.lowered) (omega (arith, c.requires.node.weight))
 
+pub expressions::pair-returns-clause-spends : goal.expressions::pair-returns-clause-spends
+expressions::pair-returns-clause-spends t c = within (after c.in_ok-x.ensures.spends c.in_ok-y.ensures.spends) (omega (arith, c.requires.node.weight, heavy (expression c.args.cx.p.now c.args.k), heavy (expression c.args.cx.p.now c.args.a), heavy (expression c.args.cx.p.now c.args.b))) (omega (arith, c.requires.node.weight, heavy (expression c.args.cx.p.now c.args.k), heavy (expression c.args.cx.p.now c.args.a), heavy (expression c.args.cx.p.now c.args.b)))
+
 pub expressions::value-constant-requires-clause-to : goal.expressions::value-constant-requires-clause-to
 expressions::value-constant-requires-clause-to t c = as_kind c.requires.to (sym (c.kind-kind.ensures c.requires.scene.ready))
 
 pub expressions::value-constant-requires-clause-value : goal.expressions::value-constant-requires-clause-value
 expressions::value-constant-requires-clause-value t c = zero_fits _
 
-pub expressions::value-returns-in_default : goal.expressions::value-returns-in_default
-expressions::value-returns-in_default t c = record { lowered = tail_grew _ _ c.constant.result (start c.requires.scene) c.constant.ensures.grown c.constant.ensures.adds (omega arith) }
+pub expressions::value-returns-in_default-clause-lowered : goal.expressions::value-returns-in_default-clause-lowered
+expressions::value-returns-in_default-clause-lowered t c = tail_grew _ _ c.constant.result (start c.requires.scene) c.constant.ensures.grown c.constant.ensures.adds (omega arith)
+
+pub expressions::value-returns-in_default-clause-spends : goal.expressions::value-returns-in_default-clause-spends
+expressions::value-returns-in_default-clause-spends t c = last_and _ _ _ c.constant.result nothing c.constant.ensures.spent (omega (arith, heavy (expression c.args.cx.p.now c.args.k), extra_small c.args.cx.fixed (Some c.args.to))) (omega (arith, heavy (expression c.args.cx.p.now c.args.k), extra_small c.args.cx.fixed (Some c.args.to)))
 
 pub expressions::value-constant-requires-in-Constant-clause-to : goal.expressions::value-constant-requires-in-Constant-clause-to
 expressions::value-constant-requires-in-Constant-clause-to t c = as_kind c.requires.to (sym (c.kind-kind.ensures c.requires.scene.ready))
@@ -473,8 +603,11 @@ expressions::value-constant-requires-in-Constant-clause-to t c = as_kind c.requi
 pub expressions::value-constant-requires-in-Constant-clause-value : goal.expressions::value-constant-requires-in-Constant-clause-value
 expressions::value-constant-requires-in-Constant-clause-value t c = subst (λ z. constant_fits z c.in-Constant.n ≡ true) (sym ((c.kind-kind.ensures c.requires.scene.ready) ∙ scalar_kind (node_at c.args.cx.d.now c.requires.scene.ready c.requires.typed c.in-Some.ensures c.in-Constant.is).is)) (node_at c.args.cx.d.now c.requires.scene.ready c.requires.typed c.in-Some.ensures c.in-Constant.is).fits
 
-pub expressions::value-returns-in-Constant : goal.expressions::value-returns-in-Constant
-expressions::value-returns-in-Constant t c = record { lowered = tail_grew _ _ c.constant-in-Constant.result (start c.requires.scene) c.constant-in-Constant.ensures.grown c.constant-in-Constant.ensures.adds (omega arith) }
+pub expressions::value-returns-in-Constant-clause-lowered : goal.expressions::value-returns-in-Constant-clause-lowered
+expressions::value-returns-in-Constant-clause-lowered t c = tail_grew _ _ c.constant-in-Constant.result (start c.requires.scene) c.constant-in-Constant.ensures.grown c.constant-in-Constant.ensures.adds (omega arith)
+
+pub expressions::value-returns-in-Constant-clause-spends : goal.expressions::value-returns-in-Constant-clause-spends
+expressions::value-returns-in-Constant-clause-spends t c = last_and _ _ _ c.constant-in-Constant.result nothing c.constant-in-Constant.ensures.spent (omega (arith, heavy (expression c.args.cx.p.now c.args.k), extra_small c.args.cx.fixed (Some c.args.to))) (omega (arith, heavy (expression c.args.cx.p.now c.args.k), extra_small c.args.cx.fixed (Some c.args.to)))
 
 pub expressions::value-load-requires : goal.expressions::value-load-requires
 expressions::value-load-requires t c =
@@ -588,8 +721,11 @@ expressions::value-constant-requires-in-Literal-clause-to t c = as_kind c.requir
 pub expressions::value-constant-requires-in-Literal-clause-value : goal.expressions::value-constant-requires-in-Literal-clause-value
 expressions::value-constant-requires-in-Literal-clause-value t c = zero_fits _
 
-pub expressions::value-returns-in-Literal : goal.expressions::value-returns-in-Literal
-expressions::value-returns-in-Literal t c = record { lowered = tail_grew _ _ c.constant-in-Literal.result (start c.requires.scene) c.constant-in-Literal.ensures.grown c.constant-in-Literal.ensures.adds (omega arith) }
+pub expressions::value-returns-in-Literal-clause-lowered : goal.expressions::value-returns-in-Literal-clause-lowered
+expressions::value-returns-in-Literal-clause-lowered t c = tail_grew _ _ c.constant-in-Literal.result (start c.requires.scene) c.constant-in-Literal.ensures.grown c.constant-in-Literal.ensures.adds (omega arith)
+
+pub expressions::value-returns-in-Literal-clause-spends : goal.expressions::value-returns-in-Literal-clause-spends
+expressions::value-returns-in-Literal-clause-spends t c = last_and _ _ _ c.constant-in-Literal.result nothing c.constant-in-Literal.ensures.spent (omega (arith, heavy (expression c.args.cx.p.now c.args.k), extra_small c.args.cx.fixed (Some c.args.to))) (omega (arith, heavy (expression c.args.cx.p.now c.args.k), extra_small c.args.cx.fixed (Some c.args.to)))
 
 pub expressions::choice-fork-fork-requires : goal.expressions::choice-fork-fork-requires
 expressions::choice-fork-fork-requires t c = record { few = (omega (arith, c.requires.node.operands.weight, c.requires.room.labels)) }
@@ -609,8 +745,11 @@ pub expressions::choice-value-requires-2 : goal.expressions::choice-value-requir
 expressions::choice-value-requires-2 t c =
     (search rules, (c.requires.ordered, ((turned (opened (opened (fork c.requires.scene c.fork-fork.ensures.forked) c.in_ok-condition.ensures.lowered) c.in_ok-value.ensures.lowered) c.in_ok-turn_fork.ensures.turned c.in_ok-turn_fork.ensures.adds).scene, (c.requires.node.operands.third, (as_kind (opened_has c.requires.to (turned (opened (opened (fork c.requires.scene c.fork-fork.ensures.forked) c.in_ok-condition.ensures.lowered) c.in_ok-value.ensures.lowered) c.in_ok-turn_fork.ensures.turned c.in_ok-turn_fork.ensures.adds)) (sym (ap or_int c.requires.node.right)), opened_room c.requires.room (turned (opened (opened (fork c.requires.scene c.fork-fork.ensures.forked) c.in_ok-condition.ensures.lowered) c.in_ok-value.ensures.lowered) c.in_ok-turn_fork.ensures.turned c.in_ok-turn_fork.ensures.adds) (omega (arith, c.requires.node.operands.weight)))))))
 
-pub expressions::choice-returns : goal.expressions::choice-returns
-expressions::choice-returns t c = record { lowered = tail_stands _ c.join_fork.result (opened (turned (opened (opened (fork c.requires.scene c.fork-fork.ensures.forked) c.in_ok-condition.ensures.lowered) c.in_ok-value.ensures.lowered) c.in_ok-turn_fork.ensures.turned c.in_ok-turn_fork.ensures.adds) c.in_ok-value-2.ensures.lowered) c.join_fork.ensures.stands (omega (arith, c.requires.node.operands.weight)) }
+pub expressions::choice-returns-clause-lowered : goal.expressions::choice-returns-clause-lowered
+expressions::choice-returns-clause-lowered t c = tail_stands _ c.join_fork.result (opened (turned (opened (opened (fork c.requires.scene c.fork-fork.ensures.forked) c.in_ok-condition.ensures.lowered) c.in_ok-value.ensures.lowered) c.in_ok-turn_fork.ensures.turned c.in_ok-turn_fork.ensures.adds) c.in_ok-value-2.ensures.lowered) c.join_fork.ensures.stands (omega (arith, c.requires.node.operands.weight))
+
+pub expressions::choice-returns-clause-spends : goal.expressions::choice-returns-clause-spends
+expressions::choice-returns-clause-spends t c = last_pushed _ _ c.join_fork.result (after (and (after (after (plainly (forked_spent c.fork-fork.ensures.forked)) c.in_ok-condition.ensures.spends) c.in_ok-value.ensures.spends) c.in_ok-turn_fork.ensures.spent) c.in_ok-value-2.ensures.spends) c.join_fork.ensures.stands (omega (arith, c.requires.node.operands.weight, heavy (expression c.args.cx.p.now c.args.k), heavy (expression c.args.cx.p.now c.args.c), heavy (expression c.args.cx.p.now c.args.a), heavy (expression c.args.cx.p.now c.args.b), extra_small c.args.cx.fixed (Some c.args.to))) (omega (arith, c.requires.node.operands.weight, heavy (expression c.args.cx.p.now c.args.k), heavy (expression c.args.cx.p.now c.args.c), heavy (expression c.args.cx.p.now c.args.a), heavy (expression c.args.cx.p.now c.args.b), extra_small c.args.cx.fixed (Some c.args.to)))
 
 pub expressions::comma-effect-requires : goal.expressions::comma-effect-requires
 expressions::comma-effect-requires t c =
@@ -620,8 +759,11 @@ pub expressions::comma-value-requires : goal.expressions::comma-value-requires
 expressions::comma-value-requires t c =
     (search rules, (c.requires.ordered, (c.in_ok-effect.ensures.lowered.scene, (c.requires.node.operands.right, (as_kind (still c.requires.to c.in_ok-effect.ensures.lowered) (sym (ap or_int c.requires.node.right)), room c.requires.room c.in_ok-effect.ensures.lowered (omega (arith, c.requires.node.operands.weight)))))))
 
-pub expressions::comma-returns : goal.expressions::comma-returns
-expressions::comma-returns t c = record { lowered = tail _ _ c.value.result c.in_ok-effect.ensures.lowered c.value.ensures.lowered (omega (arith, c.requires.node.operands.weight)) }
+pub expressions::comma-returns-clause-lowered : goal.expressions::comma-returns-clause-lowered
+expressions::comma-returns-clause-lowered t c = tail _ _ c.value.result c.in_ok-effect.ensures.lowered c.value.ensures.lowered (omega (arith, c.requires.node.operands.weight))
+
+pub expressions::comma-returns-clause-spends : goal.expressions::comma-returns-clause-spends
+expressions::comma-returns-clause-spends t c = last _ _ _ c.value.result c.in_ok-effect.ensures.spends c.value.ensures.spends (omega (arith, c.requires.node.operands.weight, heavy (expression c.args.cx.p.now c.args.k), heavy (expression c.args.cx.p.now c.args.a), heavy (expression c.args.cx.p.now c.args.b), extra_small c.args.cx.fixed (Some c.args.to))) (omega (arith, c.requires.node.operands.weight, heavy (expression c.args.cx.p.now c.args.k), heavy (expression c.args.cx.p.now c.args.a), heavy (expression c.args.cx.p.now c.args.b), extra_small c.args.cx.fixed (Some c.args.to)))
 
 pub expressions::integer-pair-requires : goal.expressions::integer-pair-requires
 expressions::integer-pair-requires t c =
@@ -642,8 +784,11 @@ expressions::integer-whole-requires-clause-y t c = c.in_ok-x.ensures.right
 pub expressions::integer-whole-requires-clause-right : goal.expressions::integer-whole-requires-clause-right
 expressions::integer-whole-requires-clause-right t c = right_as (is_shift c.args.op) _ _ _ _ (sym (c.int_kind.ensures _ (c.kind.ensures c.requires.scene.ready ∙ scalar_kind c.requires.node.is))) (sym (c.in_ok-x.ensures.right_kind ∙ scalar_kind c.requires.node.right)) c.requires.node.right_fits
 
-pub expressions::integer-returns : goal.expressions::integer-returns
-expressions::integer-returns t c = record { lowered = tail_grew _ _ c.whole.result c.in_ok-x.ensures.lowered c.whole.ensures.grown c.whole.ensures.adds (omega (arith, c.requires.node.operands.weight)) }
+pub expressions::integer-returns-clause-lowered : goal.expressions::integer-returns-clause-lowered
+expressions::integer-returns-clause-lowered t c = tail_grew _ _ c.whole.result c.in_ok-x.ensures.lowered c.whole.ensures.grown c.whole.ensures.adds (omega (arith, c.requires.node.operands.weight))
+
+pub expressions::integer-returns-clause-spends : goal.expressions::integer-returns-clause-spends
+expressions::integer-returns-clause-spends t c = last_and _ _ _ c.whole.result c.in_ok-x.ensures.spends c.whole.ensures.spent (omega (arith, c.requires.node.operands.weight, heavy (expression c.args.cx.p.now c.args.k), heavy (expression c.args.cx.p.now c.args.a), heavy (expression c.args.cx.p.now c.args.b), extra_small c.args.cx.fixed (Some c.args.to))) (omega (arith, c.requires.node.operands.weight, heavy (expression c.args.cx.p.now c.args.k), heavy (expression c.args.cx.p.now c.args.a), heavy (expression c.args.cx.p.now c.args.b), extra_small c.args.cx.fixed (Some c.args.to)))
 
 pub expressions::capability-pair-requires : goal.expressions::capability-pair-requires
 expressions::capability-pair-requires t c =
@@ -664,8 +809,11 @@ expressions::capability-derived-requires-clause-x_kind t c = c.in_ok-x.ensures.l
 pub expressions::capability-derived-requires-clause-y : goal.expressions::capability-derived-requires-clause-y
 expressions::capability-derived-requires-clause-y t c = c.in_ok-x.ensures.right
 
-pub expressions::capability-returns : goal.expressions::capability-returns
-expressions::capability-returns t c = record { lowered = tail_grew _ _ c.derived.result c.in_ok-x.ensures.lowered c.derived.ensures.grown c.derived.ensures.adds (omega (arith, c.requires.node.operands.weight)) }
+pub expressions::capability-returns-clause-lowered : goal.expressions::capability-returns-clause-lowered
+expressions::capability-returns-clause-lowered t c = tail_grew _ _ c.derived.result c.in_ok-x.ensures.lowered c.derived.ensures.grown c.derived.ensures.adds (omega (arith, c.requires.node.operands.weight))
+
+pub expressions::capability-returns-clause-spends : goal.expressions::capability-returns-clause-spends
+expressions::capability-returns-clause-spends t c = last_and _ _ _ c.derived.result c.in_ok-x.ensures.spends c.derived.ensures.spent (omega (arith, c.requires.node.operands.weight, heavy (expression c.args.cx.p.now c.args.k), heavy (expression c.args.cx.p.now c.args.a), heavy (expression c.args.cx.p.now c.args.b), extra_small c.args.cx.fixed (Some c.args.to))) (omega (arith, c.requires.node.operands.weight, heavy (expression c.args.cx.p.now c.args.k), heavy (expression c.args.cx.p.now c.args.a), heavy (expression c.args.cx.p.now c.args.b), extra_small c.args.cx.fixed (Some c.args.to)))
 
 pub expressions::distance-pair-requires : goal.expressions::distance-pair-requires
 expressions::distance-pair-requires t c =
@@ -683,35 +831,50 @@ expressions::distance-difference-requires-clause-a t c = as_kind c.in_ok-x.ensur
 pub expressions::distance-difference-requires-clause-b : goal.expressions::distance-difference-requires-clause-b
 expressions::distance-difference-requires-clause-b t c = as_kind c.in_ok-x.ensures.right (c.in_ok-x.ensures.right_kind ∙ scalar_kind c.requires.node.right)
 
-pub expressions::distance-returns : goal.expressions::distance-returns
-expressions::distance-returns t c = record { lowered = tail_grew _ _ c.difference.result c.in_ok-x.ensures.lowered c.difference.ensures.grown c.difference.ensures.adds (omega (arith, c.requires.node.operands.weight)) }
+pub expressions::distance-returns-clause-lowered : goal.expressions::distance-returns-clause-lowered
+expressions::distance-returns-clause-lowered t c = tail_grew _ _ c.difference.result c.in_ok-x.ensures.lowered c.difference.ensures.grown c.difference.ensures.adds (omega (arith, c.requires.node.operands.weight))
 
-pub expressions::effect-returns-in_default : goal.expressions::effect-returns-in_default
-expressions::effect-returns-in_default t c = record { lowered = at_most (start c.requires.scene) (omega arith) }
+pub expressions::distance-returns-clause-spends : goal.expressions::distance-returns-clause-spends
+expressions::distance-returns-clause-spends t c = last_and _ _ _ c.difference.result c.in_ok-x.ensures.spends c.difference.ensures.spent (omega (arith, c.requires.node.operands.weight, heavy (expression c.args.cx.p.now c.args.k), heavy (expression c.args.cx.p.now c.args.a), heavy (expression c.args.cx.p.now c.args.b), extra_small c.args.cx.fixed (Some c.args.to))) (omega (arith, c.requires.node.operands.weight, heavy (expression c.args.cx.p.now c.args.k), heavy (expression c.args.cx.p.now c.args.a), heavy (expression c.args.cx.p.now c.args.b), extra_small c.args.cx.fixed (Some c.args.to)))
+
+pub expressions::effect-returns-in_default-clause-lowered : goal.expressions::effect-returns-in_default-clause-lowered
+expressions::effect-returns-in_default-clause-lowered t c = at_most (start c.requires.scene) (omega arith)
+
+pub expressions::effect-returns-in_default-clause-spends : goal.expressions::effect-returns-in_default-clause-spends
+expressions::effect-returns-in_default-clause-spends t c = within nothing (omega (arith, heavy (expression c.args.cx.p.now c.args.k))) (omega (arith, heavy (expression c.args.cx.p.now c.args.k)))
 
 pub expressions::effect-effect-requires : goal.expressions::effect-effect-requires
 expressions::effect-effect-requires t c =
     let below-0 : c.in-Convert.a < c.args.k = below.convert c.args.cx.p.now c.args.k _ _ c.requires.ordered c.in-Some.ensures c.in-Convert.is in
     (search rules, (c.requires.ordered, (c.requires.scene, ((node_at c.args.cx.d.now c.requires.scene.ready c.requires.typed c.in-Some.ensures c.in-Convert.is).operand, less_room c.requires.room (omega (arith, (node_at c.args.cx.d.now c.requires.scene.ready c.requires.typed c.in-Some.ensures c.in-Convert.is).weight))))))
 
-pub expressions::effect-returns-in-Convert : goal.expressions::effect-returns-in-Convert
-expressions::effect-returns-in-Convert t c = record { lowered = tail _ _ c.effect.result (start c.requires.scene) c.effect.ensures.lowered (omega (arith, (node_at c.args.cx.d.now c.requires.scene.ready c.requires.typed c.in-Some.ensures c.in-Convert.is).weight)) }
+pub expressions::effect-returns-in-Convert-clause-lowered : goal.expressions::effect-returns-in-Convert-clause-lowered
+expressions::effect-returns-in-Convert-clause-lowered t c = tail _ _ c.effect.result (start c.requires.scene) c.effect.ensures.lowered (omega (arith, (node_at c.args.cx.d.now c.requires.scene.ready c.requires.typed c.in-Some.ensures c.in-Convert.is).weight))
+
+pub expressions::effect-returns-in-Convert-clause-spends : goal.expressions::effect-returns-in-Convert-clause-spends
+expressions::effect-returns-in-Convert-clause-spends t c = last _ _ _ c.effect.result nothing c.effect.ensures.spends (omega (arith, (node_at c.args.cx.d.now c.requires.scene.ready c.requires.typed c.in-Some.ensures c.in-Convert.is).weight, heavy (expression c.args.cx.p.now c.args.k), heavy (expression c.args.cx.p.now c.in-Convert.a))) (omega (arith, (node_at c.args.cx.d.now c.requires.scene.ready c.requires.typed c.in-Some.ensures c.in-Convert.is).weight, heavy (expression c.args.cx.p.now c.args.k), heavy (expression c.args.cx.p.now c.in-Convert.a)))
 
 pub expressions::effect-effect-requires-in-Deref : goal.expressions::effect-effect-requires-in-Deref
 expressions::effect-effect-requires-in-Deref t c =
     let below-0 : c.in-Deref.a < c.args.k = below.deref c.args.cx.p.now c.args.k _ _ c.requires.ordered c.in-Some.ensures c.in-Deref.is in
     (search rules, (c.requires.ordered, (c.requires.scene, ((node_at c.args.cx.d.now c.requires.scene.ready c.requires.typed c.in-Some.ensures c.in-Deref.is).operands.operand, less_room c.requires.room (omega (arith, (node_at c.args.cx.d.now c.requires.scene.ready c.requires.typed c.in-Some.ensures c.in-Deref.is).operands.weight))))))
 
-pub expressions::effect-returns-in-Deref : goal.expressions::effect-returns-in-Deref
-expressions::effect-returns-in-Deref t c = record { lowered = tail _ _ c.effect-in-Deref.result (start c.requires.scene) c.effect-in-Deref.ensures.lowered (omega (arith, (node_at c.args.cx.d.now c.requires.scene.ready c.requires.typed c.in-Some.ensures c.in-Deref.is).operands.weight)) }
+pub expressions::effect-returns-in-Deref-clause-lowered : goal.expressions::effect-returns-in-Deref-clause-lowered
+expressions::effect-returns-in-Deref-clause-lowered t c = tail _ _ c.effect-in-Deref.result (start c.requires.scene) c.effect-in-Deref.ensures.lowered (omega (arith, (node_at c.args.cx.d.now c.requires.scene.ready c.requires.typed c.in-Some.ensures c.in-Deref.is).operands.weight))
+
+pub expressions::effect-returns-in-Deref-clause-spends : goal.expressions::effect-returns-in-Deref-clause-spends
+expressions::effect-returns-in-Deref-clause-spends t c = last _ _ _ c.effect-in-Deref.result nothing c.effect-in-Deref.ensures.spends (omega (arith, (node_at c.args.cx.d.now c.requires.scene.ready c.requires.typed c.in-Some.ensures c.in-Deref.is).operands.weight, heavy (expression c.args.cx.p.now c.args.k), heavy (expression c.args.cx.p.now c.in-Deref.a))) (omega (arith, (node_at c.args.cx.d.now c.requires.scene.ready c.requires.typed c.in-Some.ensures c.in-Deref.is).operands.weight, heavy (expression c.args.cx.p.now c.args.k), heavy (expression c.args.cx.p.now c.in-Deref.a)))
 
 pub expressions::effect-effect-requires-in-Member : goal.expressions::effect-effect-requires-in-Member
 expressions::effect-effect-requires-in-Member t c =
     let below-0 : c.in-Member.a < c.args.k = below.member c.args.cx.p.now c.args.k _ _ _ c.requires.ordered c.in-Some.ensures c.in-Member.is in
     (search rules, (c.requires.ordered, (c.requires.scene, ((node_at c.args.cx.d.now c.requires.scene.ready c.requires.typed c.in-Some.ensures c.in-Member.is).operand, less_room c.requires.room (omega (arith, (node_at c.args.cx.d.now c.requires.scene.ready c.requires.typed c.in-Some.ensures c.in-Member.is).weight))))))
 
-pub expressions::effect-returns-in-Member : goal.expressions::effect-returns-in-Member
-expressions::effect-returns-in-Member t c = record { lowered = tail _ _ c.effect-in-Member.result (start c.requires.scene) c.effect-in-Member.ensures.lowered (omega (arith, (node_at c.args.cx.d.now c.requires.scene.ready c.requires.typed c.in-Some.ensures c.in-Member.is).weight)) }
+pub expressions::effect-returns-in-Member-clause-lowered : goal.expressions::effect-returns-in-Member-clause-lowered
+expressions::effect-returns-in-Member-clause-lowered t c = tail _ _ c.effect-in-Member.result (start c.requires.scene) c.effect-in-Member.ensures.lowered (omega (arith, (node_at c.args.cx.d.now c.requires.scene.ready c.requires.typed c.in-Some.ensures c.in-Member.is).weight))
+
+pub expressions::effect-returns-in-Member-clause-spends : goal.expressions::effect-returns-in-Member-clause-spends
+expressions::effect-returns-in-Member-clause-spends t c = last _ _ _ c.effect-in-Member.result nothing c.effect-in-Member.ensures.spends (omega (arith, (node_at c.args.cx.d.now c.requires.scene.ready c.requires.typed c.in-Some.ensures c.in-Member.is).weight, heavy (expression c.args.cx.p.now c.args.k), heavy (expression c.args.cx.p.now c.in-Member.a))) (omega (arith, (node_at c.args.cx.d.now c.requires.scene.ready c.requires.typed c.in-Some.ensures c.in-Member.is).weight, heavy (expression c.args.cx.p.now c.args.k), heavy (expression c.args.cx.p.now c.in-Member.a)))
 
 pub expressions::effect-assignment-requires : goal.expressions::effect-assignment-requires
 expressions::effect-assignment-requires t c =
@@ -757,8 +920,11 @@ expressions::effect-read_effect-requires t c =
     let below-0 : c.in-Load.a < c.args.k = below.load c.args.cx.p.now c.args.k _ _ c.requires.ordered c.in-Some.ensures c.in-Load.is in
     (search rules, (c.requires.ordered, (below-0, (c.requires.scene, ((node_at c.args.cx.d.now c.requires.scene.ready c.requires.typed c.in-Some.ensures c.in-Load.is), c.requires.room)))))
 
-pub expressions::effect-returns-in-Assign : goal.expressions::effect-returns-in-Assign
-expressions::effect-returns-in-Assign t c = record { lowered = tail _ _ c.assignment.result (start c.requires.scene) c.assignment.ensures.lowered (omega arith) }
+pub expressions::effect-returns-in-Assign-clause-lowered : goal.expressions::effect-returns-in-Assign-clause-lowered
+expressions::effect-returns-in-Assign-clause-lowered t c = tail _ _ c.assignment.result (start c.requires.scene) c.assignment.ensures.lowered (omega arith)
+
+pub expressions::effect-returns-in-Assign-clause-spends : goal.expressions::effect-returns-in-Assign-clause-spends
+expressions::effect-returns-in-Assign-clause-spends t c = last _ _ _ c.assignment.result nothing c.assignment.ensures.spends (omega (arith, extra_none c.args.cx.fixed)) (omega (arith, extra_none c.args.cx.fixed))
 
 pub expressions::effect-compound-requires : goal.expressions::effect-compound-requires
 expressions::effect-compound-requires t c =
@@ -766,17 +932,29 @@ expressions::effect-compound-requires t c =
     let below-1 : c.in-Compound.b < c.args.k = below.compound_right c.args.cx.p.now c.args.k _ _ _ _ _ c.requires.ordered c.in-Some.ensures c.in-Compound.is in
     (search rules, (c.requires.ordered, (below-0, (below-1, (c.requires.scene, ((node_at c.args.cx.d.now c.requires.scene.ready c.requires.typed c.in-Some.ensures c.in-Compound.is).operands, ((node_at c.args.cx.d.now c.requires.scene.ready c.requires.typed c.in-Some.ensures c.in-Compound.is).left, (change_fits c.args.cx.p.now c.in-Compound.op c.in-Compound.a c.in-Compound.b c.in-Compound.of c.change_of-change.result c.change_of-change.ensures.op (c.change_of-change.ensures.computed) (c.change_of-change.ensures.element) (node_at c.args.cx.d.now c.requires.scene.ready c.requires.typed c.in-Some.ensures c.in-Compound.is).fits, ((search rules), less_room c.requires.room (omega arith))))))))))
 
-pub expressions::effect-returns-in-Compound : goal.expressions::effect-returns-in-Compound
-expressions::effect-returns-in-Compound t c = record { lowered = tail _ _ c.compound.result (start c.requires.scene) c.compound.ensures.lowered (omega arith) }
+pub expressions::effect-returns-in-Compound-clause-lowered : goal.expressions::effect-returns-in-Compound-clause-lowered
+expressions::effect-returns-in-Compound-clause-lowered t c = tail _ _ c.compound.result (start c.requires.scene) c.compound.ensures.lowered (omega arith)
 
-pub expressions::effect-returns-in-Step : goal.expressions::effect-returns-in-Step
-expressions::effect-returns-in-Step t c = record { lowered = tail _ _ c.step.result (start c.requires.scene) c.step.ensures.lowered (omega arith) }
+pub expressions::effect-returns-in-Compound-clause-spends : goal.expressions::effect-returns-in-Compound-clause-spends
+expressions::effect-returns-in-Compound-clause-spends t c = last _ _ _ c.compound.result nothing c.compound.ensures.spends (omega (arith, extra_none c.args.cx.fixed)) (omega (arith, extra_none c.args.cx.fixed))
 
-pub expressions::effect-returns-in-Call : goal.expressions::effect-returns-in-Call
-expressions::effect-returns-in-Call t c = record { lowered = tail _ _ c.call.result (start c.requires.scene) c.call.ensures.lowered (omega arith) }
+pub expressions::effect-returns-in-Step-clause-lowered : goal.expressions::effect-returns-in-Step-clause-lowered
+expressions::effect-returns-in-Step-clause-lowered t c = tail _ _ c.step.result (start c.requires.scene) c.step.ensures.lowered (omega arith)
 
-pub expressions::effect-returns-in-Library : goal.expressions::effect-returns-in-Library
-expressions::effect-returns-in-Library t c = record { lowered = tail _ _ c.library.result (start c.requires.scene) c.library.ensures.lowered (omega arith) }
+pub expressions::effect-returns-in-Step-clause-spends : goal.expressions::effect-returns-in-Step-clause-spends
+expressions::effect-returns-in-Step-clause-spends t c = last _ _ _ c.step.result nothing c.step.ensures.spends (omega (arith, extra_none c.args.cx.fixed)) (omega (arith, extra_none c.args.cx.fixed))
+
+pub expressions::effect-returns-in-Call-clause-lowered : goal.expressions::effect-returns-in-Call-clause-lowered
+expressions::effect-returns-in-Call-clause-lowered t c = tail _ _ c.call.result (start c.requires.scene) c.call.ensures.lowered (omega arith)
+
+pub expressions::effect-returns-in-Call-clause-spends : goal.expressions::effect-returns-in-Call-clause-spends
+expressions::effect-returns-in-Call-clause-spends t c = last _ _ _ c.call.result nothing c.call.ensures.spends (omega (arith, heavy (expression c.args.cx.p.now c.args.k))) (omega (arith, heavy (expression c.args.cx.p.now c.args.k)))
+
+pub expressions::effect-returns-in-Library-clause-lowered : goal.expressions::effect-returns-in-Library-clause-lowered
+expressions::effect-returns-in-Library-clause-lowered t c = tail _ _ c.library.result (start c.requires.scene) c.library.ensures.lowered (omega arith)
+
+pub expressions::effect-returns-in-Library-clause-spends : goal.expressions::effect-returns-in-Library-clause-spends
+expressions::effect-returns-in-Library-clause-spends t c = last _ _ _ c.library.result nothing c.library.ensures.spends (omega (arith, heavy (expression c.args.cx.p.now c.args.k))) (omega (arith, heavy (expression c.args.cx.p.now c.args.k)))
 
 pub expressions::effect-effect-requires-in-Comma : goal.expressions::effect-effect-requires-in-Comma
 expressions::effect-effect-requires-in-Comma t c =
@@ -790,11 +968,17 @@ expressions::effect-effect-requires-in-Comma-2 t c =
     let below-1 : c.in-Comma.b < c.args.k = below.comma_right c.args.cx.p.now c.args.k _ _ _ c.requires.ordered c.in-Some.ensures c.in-Comma.is in
     (search rules, (c.requires.ordered, (c.in_ok-effect-in-Comma.ensures.lowered.scene, ((node_at c.args.cx.d.now c.requires.scene.ready c.requires.typed c.in-Some.ensures c.in-Comma.is).operands.right, room c.requires.room c.in_ok-effect-in-Comma.ensures.lowered (omega (arith, (node_at c.args.cx.d.now c.requires.scene.ready c.requires.typed c.in-Some.ensures c.in-Comma.is).operands.weight))))))
 
-pub expressions::effect-returns-in_ok-effect-in-Comma : goal.expressions::effect-returns-in_ok-effect-in-Comma
-expressions::effect-returns-in_ok-effect-in-Comma t c = record { lowered = tail _ _ c.effect-in-Comma-2.result c.in_ok-effect-in-Comma.ensures.lowered c.effect-in-Comma-2.ensures.lowered (omega (arith, (node_at c.args.cx.d.now c.requires.scene.ready c.requires.typed c.in-Some.ensures c.in-Comma.is).operands.weight)) }
+pub expressions::effect-returns-in_ok-effect-in-Comma-clause-lowered : goal.expressions::effect-returns-in_ok-effect-in-Comma-clause-lowered
+expressions::effect-returns-in_ok-effect-in-Comma-clause-lowered t c = tail _ _ c.effect-in-Comma-2.result c.in_ok-effect-in-Comma.ensures.lowered c.effect-in-Comma-2.ensures.lowered (omega (arith, (node_at c.args.cx.d.now c.requires.scene.ready c.requires.typed c.in-Some.ensures c.in-Comma.is).operands.weight))
 
-pub expressions::effect-returns-in-Constant : goal.expressions::effect-returns-in-Constant
-expressions::effect-returns-in-Constant t c = record { lowered = at_most (start c.requires.scene) (omega arith) }
+pub expressions::effect-returns-in_ok-effect-in-Comma-clause-spends : goal.expressions::effect-returns-in_ok-effect-in-Comma-clause-spends
+expressions::effect-returns-in_ok-effect-in-Comma-clause-spends t c = last _ _ _ c.effect-in-Comma-2.result c.in_ok-effect-in-Comma.ensures.spends c.effect-in-Comma-2.ensures.spends (omega (arith, (node_at c.args.cx.d.now c.requires.scene.ready c.requires.typed c.in-Some.ensures c.in-Comma.is).operands.weight, heavy (expression c.args.cx.p.now c.args.k), heavy (expression c.args.cx.p.now c.in-Comma.a), heavy (expression c.args.cx.p.now c.in-Comma.b))) (omega (arith, (node_at c.args.cx.d.now c.requires.scene.ready c.requires.typed c.in-Some.ensures c.in-Comma.is).operands.weight, heavy (expression c.args.cx.p.now c.args.k), heavy (expression c.args.cx.p.now c.in-Comma.a), heavy (expression c.args.cx.p.now c.in-Comma.b)))
+
+pub expressions::effect-returns-in-Constant-clause-lowered : goal.expressions::effect-returns-in-Constant-clause-lowered
+expressions::effect-returns-in-Constant-clause-lowered t c = at_most (start c.requires.scene) (omega arith)
+
+pub expressions::effect-returns-in-Constant-clause-spends : goal.expressions::effect-returns-in-Constant-clause-spends
+expressions::effect-returns-in-Constant-clause-spends t c = within nothing (omega (arith, heavy (expression c.args.cx.p.now c.args.k))) (omega (arith, heavy (expression c.args.cx.p.now c.args.k)))
 
 pub expressions::effect-temp-requires : goal.expressions::effect-temp-requires
 expressions::effect-temp-requires t c = record { room = less_room c.requires.room (omega (arith, heavy (expression c.args.cx.p.now c.args.k))) }
@@ -803,8 +987,11 @@ pub expressions::effect-value-requires : goal.expressions::effect-value-requires
 expressions::effect-value-requires t c =
     (search rules, (c.requires.ordered, ((grew (start c.requires.scene) c.in_ok-t-in-Decay.ensures.grown c.in_ok-t-in-Decay.ensures.adds).scene, (c.requires.typed, (as_kind c.in_ok-t-in-Decay.ensures.has (c.kind.ensures c.requires.scene.ready), room c.requires.room (grew (start c.requires.scene) c.in_ok-t-in-Decay.ensures.grown c.in_ok-t-in-Decay.ensures.adds) (omega (arith, heavy (expression c.args.cx.p.now c.args.k))))))))
 
-pub expressions::effect-returns-in_ok-t-in-Decay : goal.expressions::effect-returns-in_ok-t-in-Decay
-expressions::effect-returns-in_ok-t-in-Decay t c = record { lowered = tail _ _ c.value.result (grew (start c.requires.scene) c.in_ok-t-in-Decay.ensures.grown c.in_ok-t-in-Decay.ensures.adds) c.value.ensures.lowered (omega (arith, heavy (expression c.args.cx.p.now c.args.k))) }
+pub expressions::effect-returns-in_ok-t-in-Decay-clause-lowered : goal.expressions::effect-returns-in_ok-t-in-Decay-clause-lowered
+expressions::effect-returns-in_ok-t-in-Decay-clause-lowered t c = tail _ _ c.value.result (grew (start c.requires.scene) c.in_ok-t-in-Decay.ensures.grown c.in_ok-t-in-Decay.ensures.adds) c.value.ensures.lowered (omega (arith, heavy (expression c.args.cx.p.now c.args.k)))
+
+pub expressions::effect-returns-in_ok-t-in-Decay-clause-spends : goal.expressions::effect-returns-in_ok-t-in-Decay-clause-spends
+expressions::effect-returns-in_ok-t-in-Decay-clause-spends t c = last_fresh _ _ _ c.value.result c.in_ok-t-in-Decay.ensures.next c.in_ok-t-in-Decay.ensures.spent c.value.ensures.spends (omega (arith, heavy (expression c.args.cx.p.now c.args.k))) (omega (arith, heavy (expression c.args.cx.p.now c.args.k)))
 
 pub expressions::chosen_effect-fork-fork-requires : goal.expressions::chosen_effect-fork-fork-requires
 expressions::chosen_effect-fork-fork-requires t c = record { few = (omega (arith, c.requires.node.weight, c.requires.room.labels)) }
@@ -824,8 +1011,11 @@ pub expressions::chosen_effect-effect-requires-2 : goal.expressions::chosen_effe
 expressions::chosen_effect-effect-requires-2 t c =
     (search rules, (c.requires.ordered, ((turned (opened (opened (fork c.requires.scene c.fork-fork.ensures.forked) c.in_ok-condition.ensures.lowered) c.in_ok-effect.ensures.lowered) c.in_ok-turn_fork.ensures.turned c.in_ok-turn_fork.ensures.adds).scene, (c.requires.node.third, opened_room c.requires.room (turned (opened (opened (fork c.requires.scene c.fork-fork.ensures.forked) c.in_ok-condition.ensures.lowered) c.in_ok-effect.ensures.lowered) c.in_ok-turn_fork.ensures.turned c.in_ok-turn_fork.ensures.adds) (omega (arith, c.requires.node.weight))))))
 
-pub expressions::chosen_effect-returns : goal.expressions::chosen_effect-returns
-expressions::chosen_effect-returns t c = record { lowered = tail_stands _ c.join_fork.result (opened (turned (opened (opened (fork c.requires.scene c.fork-fork.ensures.forked) c.in_ok-condition.ensures.lowered) c.in_ok-effect.ensures.lowered) c.in_ok-turn_fork.ensures.turned c.in_ok-turn_fork.ensures.adds) c.in_ok-effect-2.ensures.lowered) c.join_fork.ensures.stands (omega (arith, c.requires.node.weight)) }
+pub expressions::chosen_effect-returns-clause-lowered : goal.expressions::chosen_effect-returns-clause-lowered
+expressions::chosen_effect-returns-clause-lowered t c = tail_stands _ c.join_fork.result (opened (turned (opened (opened (fork c.requires.scene c.fork-fork.ensures.forked) c.in_ok-condition.ensures.lowered) c.in_ok-effect.ensures.lowered) c.in_ok-turn_fork.ensures.turned c.in_ok-turn_fork.ensures.adds) c.in_ok-effect-2.ensures.lowered) c.join_fork.ensures.stands (omega (arith, c.requires.node.weight))
+
+pub expressions::chosen_effect-returns-clause-spends : goal.expressions::chosen_effect-returns-clause-spends
+expressions::chosen_effect-returns-clause-spends t c = last_pushed _ _ c.join_fork.result (after (and (after (after (plainly (forked_spent c.fork-fork.ensures.forked)) c.in_ok-condition.ensures.spends) c.in_ok-effect.ensures.spends) c.in_ok-turn_fork.ensures.spent) c.in_ok-effect-2.ensures.spends) c.join_fork.ensures.stands (omega (arith, c.requires.node.weight, heavy (expression c.args.cx.p.now c.args.k), heavy (expression c.args.cx.p.now c.args.c), heavy (expression c.args.cx.p.now c.args.a), heavy (expression c.args.cx.p.now c.args.b))) (omega (arith, c.requires.node.weight, heavy (expression c.args.cx.p.now c.args.k), heavy (expression c.args.cx.p.now c.args.c), heavy (expression c.args.cx.p.now c.args.a), heavy (expression c.args.cx.p.now c.args.b)))
 
 pub expressions::guarded_effect-label-label-requires : goal.expressions::guarded_effect-label-label-requires
 expressions::guarded_effect-label-label-requires t c = record { few = (omega (arith, c.requires.node.weight, c.requires.room.labels)) }
@@ -838,18 +1028,27 @@ pub expressions::guarded_effect-effect-requires : goal.expressions::guarded_effe
 expressions::guarded_effect-effect-requires t c =
     (search rules, (c.requires.ordered, (c.in_ok-condition.ensures.lowered.scene, (c.requires.node.right, opened_room c.requires.room (opened (label c.requires.scene c.label-label.ensures.labelled) c.in_ok-condition.ensures.lowered) (omega (arith, c.requires.node.weight))))))
 
-pub expressions::guarded_effect-returns : goal.expressions::guarded_effect-returns
-expressions::guarded_effect-returns t c = record { lowered = tail_stands _ c.stand.result (opened (opened (label c.requires.scene c.label-label.ensures.labelled) c.in_ok-condition.ensures.lowered) c.in_ok-effect.ensures.lowered) c.stand.ensures.stands (omega (arith, c.requires.node.weight)) }
+pub expressions::guarded_effect-returns-clause-lowered : goal.expressions::guarded_effect-returns-clause-lowered
+expressions::guarded_effect-returns-clause-lowered t c = tail_stands _ c.stand.result (opened (opened (label c.requires.scene c.label-label.ensures.labelled) c.in_ok-condition.ensures.lowered) c.in_ok-effect.ensures.lowered) c.stand.ensures.stands (omega (arith, c.requires.node.weight))
+
+pub expressions::guarded_effect-returns-clause-spends : goal.expressions::guarded_effect-returns-clause-spends
+expressions::guarded_effect-returns-clause-spends t c = last_pushed _ _ c.stand.result (after (after (plainly (labelled_spent c.label-label.ensures.labelled)) c.in_ok-condition.ensures.spends) c.in_ok-effect.ensures.spends) c.stand.ensures.stands (omega (arith, c.requires.node.weight, heavy (expression c.args.cx.p.now c.args.k), heavy (expression c.args.cx.p.now c.args.a), heavy (expression c.args.cx.p.now c.args.b))) (omega (arith, c.requires.node.weight, heavy (expression c.args.cx.p.now c.args.k), heavy (expression c.args.cx.p.now c.args.a), heavy (expression c.args.cx.p.now c.args.b)))
 
 pub expressions::read_effect-effect-requires : goal.expressions::read_effect-effect-requires
 expressions::read_effect-effect-requires t c =
     (search rules, (c.requires.ordered, (c.requires.scene, (c.requires.node.operands.operand, less_room c.requires.room (omega (arith, c.requires.node.operands.weight))))))
 
-pub expressions::read_effect-returns-in-None : goal.expressions::read_effect-returns-in-None
-expressions::read_effect-returns-in-None t c = record { lowered = tail _ _ c.effect.result (start c.requires.scene) c.effect.ensures.lowered (omega (arith, c.requires.node.operands.weight)) }
+pub expressions::read_effect-returns-in-None-clause-lowered : goal.expressions::read_effect-returns-in-None-clause-lowered
+expressions::read_effect-returns-in-None-clause-lowered t c = tail _ _ c.effect.result (start c.requires.scene) c.effect.ensures.lowered (omega (arith, c.requires.node.operands.weight))
 
-pub expressions::read_effect-returns-in-Some-variable : goal.expressions::read_effect-returns-in-Some-variable
-expressions::read_effect-returns-in-Some-variable t c = record { lowered = at_most (start c.requires.scene) (omega arith) }
+pub expressions::read_effect-returns-in-None-clause-spends : goal.expressions::read_effect-returns-in-None-clause-spends
+expressions::read_effect-returns-in-None-clause-spends t c = last _ _ _ c.effect.result nothing c.effect.ensures.spends (omega (arith, c.requires.node.operands.weight, heavy (expression c.args.cx.p.now c.args.k), heavy (expression c.args.cx.p.now c.args.a))) (omega (arith, c.requires.node.operands.weight, heavy (expression c.args.cx.p.now c.args.k), heavy (expression c.args.cx.p.now c.args.a)))
+
+pub expressions::read_effect-returns-in-Some-variable-clause-lowered : goal.expressions::read_effect-returns-in-Some-variable-clause-lowered
+expressions::read_effect-returns-in-Some-variable-clause-lowered t c = at_most (start c.requires.scene) (omega arith)
+
+pub expressions::read_effect-returns-in-Some-variable-clause-spends : goal.expressions::read_effect-returns-in-Some-variable-clause-spends
+expressions::read_effect-returns-in-Some-variable-clause-spends t c = within nothing (omega (arith, heavy (expression c.args.cx.p.now c.args.k), heavy (expression c.args.cx.p.now c.args.a))) (omega (arith, heavy (expression c.args.cx.p.now c.args.k), heavy (expression c.args.cx.p.now c.args.a)))
 
 pub expressions::read_effect-temp-requires : goal.expressions::read_effect-temp-requires
 expressions::read_effect-temp-requires t c = record { room = less_room c.requires.room (omega (arith, c.requires.node.operands.weight)) }
@@ -858,14 +1057,20 @@ pub expressions::read_effect-load-requires : goal.expressions::read_effect-load-
 expressions::read_effect-load-requires t c =
     (search rules, (c.requires.ordered, (c.requires.a_before, ((grew (start c.requires.scene) c.in_ok-t-in-None-variable.ensures.grown c.in_ok-t-in-None-variable.ensures.adds).scene, (c.requires.node, (as_kind c.in_ok-t-in-None-variable.ensures.has (ap or_int (sym c.in-Some.is ∙ c.scalar.ensures c.requires.scene.ready)), room c.requires.room (grew (start c.requires.scene) c.in_ok-t-in-None-variable.ensures.grown c.in_ok-t-in-None-variable.ensures.adds) (omega (arith, c.requires.node.operands.weight))))))))
 
-pub expressions::read_effect-returns-in_ok-t-in-None-variable : goal.expressions::read_effect-returns-in_ok-t-in-None-variable
-expressions::read_effect-returns-in_ok-t-in-None-variable t c = record { lowered = tail _ _ c.load.result (grew (start c.requires.scene) c.in_ok-t-in-None-variable.ensures.grown c.in_ok-t-in-None-variable.ensures.adds) c.load.ensures.lowered (omega (arith, c.requires.node.operands.weight)) }
+pub expressions::read_effect-returns-in_ok-t-in-None-variable-clause-lowered : goal.expressions::read_effect-returns-in_ok-t-in-None-variable-clause-lowered
+expressions::read_effect-returns-in_ok-t-in-None-variable-clause-lowered t c = tail _ _ c.load.result (grew (start c.requires.scene) c.in_ok-t-in-None-variable.ensures.grown c.in_ok-t-in-None-variable.ensures.adds) c.load.ensures.lowered (omega (arith, c.requires.node.operands.weight))
+
+pub expressions::read_effect-returns-in_ok-t-in-None-variable-clause-spends : goal.expressions::read_effect-returns-in_ok-t-in-None-variable-clause-spends
+expressions::read_effect-returns-in_ok-t-in-None-variable-clause-spends t c = last_fresh _ _ _ c.load.result c.in_ok-t-in-None-variable.ensures.next c.in_ok-t-in-None-variable.ensures.spent c.load.ensures.spends (omega (arith, heavy (expression c.args.cx.p.now c.args.k))) (omega (arith, heavy (expression c.args.cx.p.now c.args.k)))
 
 pub expressions::load-transfer-requires : goal.expressions::load-transfer-requires
 expressions::load-transfer-requires t c = record { same = two_values c.requires.to (as_kind (c.in-Some.ensures _ c.requires.scene.ready c.requires.node.operands.operand c.requires.scene.housed) (ap or_int c.requires.node.same)) }
 
-pub expressions::load-returns-in-Some : goal.expressions::load-returns-in-Some
-expressions::load-returns-in-Some t c = record { lowered = tail_grew _ _ c.transfer.result (start c.requires.scene) c.transfer.ensures.grown c.transfer.ensures.adds (omega arith) }
+pub expressions::load-returns-in-Some-clause-lowered : goal.expressions::load-returns-in-Some-clause-lowered
+expressions::load-returns-in-Some-clause-lowered t c = tail_grew _ _ c.transfer.result (start c.requires.scene) c.transfer.ensures.grown c.transfer.ensures.adds (omega arith)
+
+pub expressions::load-returns-in-Some-clause-spends : goal.expressions::load-returns-in-Some-clause-spends
+expressions::load-returns-in-Some-clause-spends t c = last_and _ _ _ c.transfer.result nothing c.transfer.ensures.spent (omega (arith, heavy (expression c.args.cx.p.now c.args.k), heavy (expression c.args.cx.p.now c.args.a), extra_small c.args.cx.fixed (Some c.args.to))) (omega (arith, heavy (expression c.args.cx.p.now c.args.k), heavy (expression c.args.cx.p.now c.args.a), extra_small c.args.cx.fixed (Some c.args.to)))
 
 pub expressions::load-pointer-requires : goal.expressions::load-pointer-requires
 expressions::load-pointer-requires t c =
@@ -877,8 +1082,11 @@ expressions::load-load-requires-clause-to t c = as_kind (still c.requires.to c.i
 pub expressions::load-load-requires-clause-from : goal.expressions::load-load-requires-clause-from
 expressions::load-load-requires-clause-from t c = pointer c.in_ok-from-in-None.ensures.has
 
-pub expressions::load-returns-in_ok-from-in-None : goal.expressions::load-returns-in_ok-from-in-None
-expressions::load-returns-in_ok-from-in-None t c = record { lowered = tail_grew _ _ c.load.result c.in_ok-from-in-None.ensures.lowered c.load.ensures.grown c.load.ensures.adds (omega (arith, c.requires.node.operands.weight)) }
+pub expressions::load-returns-in_ok-from-in-None-clause-lowered : goal.expressions::load-returns-in_ok-from-in-None-clause-lowered
+expressions::load-returns-in_ok-from-in-None-clause-lowered t c = tail_grew _ _ c.load.result c.in_ok-from-in-None.ensures.lowered c.load.ensures.grown c.load.ensures.adds (omega (arith, c.requires.node.operands.weight))
+
+pub expressions::load-returns-in_ok-from-in-None-clause-spends : goal.expressions::load-returns-in_ok-from-in-None-clause-spends
+expressions::load-returns-in_ok-from-in-None-clause-spends t c = last_and _ _ _ c.load.result c.in_ok-from-in-None.ensures.spends c.load.ensures.spent (omega (arith, c.requires.node.operands.weight, heavy (expression c.args.cx.p.now c.args.k), heavy (expression c.args.cx.p.now c.args.a), extra_small c.args.cx.fixed (Some c.args.to))) (omega (arith, c.requires.node.operands.weight, heavy (expression c.args.cx.p.now c.args.k), heavy (expression c.args.cx.p.now c.args.a), extra_small c.args.cx.fixed (Some c.args.to)))
 
 pub expressions::conversion-effect-requires : goal.expressions::conversion-effect-requires
 expressions::conversion-effect-requires t c =
@@ -890,15 +1098,21 @@ expressions::conversion-constant-requires-clause-to t c = as_kind (still c.requi
 pub expressions::conversion-constant-requires-clause-value : goal.expressions::conversion-constant-requires-clause-value
 expressions::conversion-constant-requires-clause-value t c = zero_fits _
 
-pub expressions::conversion-returns-then-is_none : goal.expressions::conversion-returns-then-is_none
-expressions::conversion-returns-then-is_none t c = record { lowered = tail_grew _ _ c.constant.result c.in_ok-effect.ensures.lowered c.constant.ensures.grown c.constant.ensures.adds (omega (arith, c.requires.node.weight)) }
+pub expressions::conversion-returns-then-is_none-clause-lowered : goal.expressions::conversion-returns-then-is_none-clause-lowered
+expressions::conversion-returns-then-is_none-clause-lowered t c = tail_grew _ _ c.constant.result c.in_ok-effect.ensures.lowered c.constant.ensures.grown c.constant.ensures.adds (omega (arith, c.requires.node.weight))
+
+pub expressions::conversion-returns-then-is_none-clause-spends : goal.expressions::conversion-returns-then-is_none-clause-spends
+expressions::conversion-returns-then-is_none-clause-spends t c = last_and _ _ _ c.constant.result c.in_ok-effect.ensures.spends c.constant.ensures.spent (omega (arith, c.requires.node.weight, heavy (expression c.args.cx.p.now c.args.k), heavy (expression c.args.cx.p.now c.args.a), extra_small c.args.cx.fixed (Some c.args.to))) (omega (arith, c.requires.node.weight, heavy (expression c.args.cx.p.now c.args.k), heavy (expression c.args.cx.p.now c.args.a), extra_small c.args.cx.fixed (Some c.args.to)))
 
 pub expressions::conversion-value-requires : goal.expressions::conversion-value-requires
 expressions::conversion-value-requires t c =
     (search rules, (c.requires.ordered, (c.requires.scene, (c.requires.node.operand, (as_kind c.requires.to (sym (c.kind-new.ensures c.requires.scene.ready) ∙ sym (kinds_agree _ _ (sym c.same_kind.ensures ∙ c.if-same_kind.true)) ∙ (c.kind-old.ensures c.requires.scene.ready)), less_room c.requires.room (omega (arith, c.requires.node.weight)))))))
 
-pub expressions::conversion-returns-then-same_kind : goal.expressions::conversion-returns-then-same_kind
-expressions::conversion-returns-then-same_kind t c = record { lowered = tail _ _ c.value.result (start c.requires.scene) c.value.ensures.lowered (omega (arith, c.requires.node.weight)) }
+pub expressions::conversion-returns-then-same_kind-clause-lowered : goal.expressions::conversion-returns-then-same_kind-clause-lowered
+expressions::conversion-returns-then-same_kind-clause-lowered t c = tail _ _ c.value.result (start c.requires.scene) c.value.ensures.lowered (omega (arith, c.requires.node.weight))
+
+pub expressions::conversion-returns-then-same_kind-clause-spends : goal.expressions::conversion-returns-then-same_kind-clause-spends
+expressions::conversion-returns-then-same_kind-clause-spends t c = last _ _ _ c.value.result nothing c.value.ensures.spends (omega (arith, c.requires.node.weight, heavy (expression c.args.cx.p.now c.args.k), heavy (expression c.args.cx.p.now c.args.a), extra_small c.args.cx.fixed (Some c.args.to))) (omega (arith, c.requires.node.weight, heavy (expression c.args.cx.p.now c.args.k), heavy (expression c.args.cx.p.now c.args.a), extra_small c.args.cx.fixed (Some c.args.to)))
 
 pub expressions::conversion-operand-requires : goal.expressions::conversion-operand-requires
 expressions::conversion-operand-requires t c =
@@ -910,8 +1124,11 @@ expressions::conversion-convert-requires-clause-to t c = as_kind (still c.requir
 pub expressions::conversion-convert-requires-clause-from : goal.expressions::conversion-convert-requires-clause-from
 expressions::conversion-convert-requires-clause-from t c = as_kind c.in_ok-x.ensures.has (sym (c.kind-old.ensures c.requires.scene.ready))
 
-pub expressions::conversion-returns : goal.expressions::conversion-returns
-expressions::conversion-returns t c = record { lowered = tail_grew _ _ c.convert.result c.in_ok-x.ensures.lowered c.convert.ensures.grown c.convert.ensures.adds (omega (arith, c.requires.node.weight)) }
+pub expressions::conversion-returns-clause-lowered : goal.expressions::conversion-returns-clause-lowered
+expressions::conversion-returns-clause-lowered t c = tail_grew _ _ c.convert.result c.in_ok-x.ensures.lowered c.convert.ensures.grown c.convert.ensures.adds (omega (arith, c.requires.node.weight))
+
+pub expressions::conversion-returns-clause-spends : goal.expressions::conversion-returns-clause-spends
+expressions::conversion-returns-clause-spends t c = last_and _ _ _ c.convert.result c.in_ok-x.ensures.spends c.convert.ensures.spent (omega (arith, c.requires.node.weight, heavy (expression c.args.cx.p.now c.args.k), heavy (expression c.args.cx.p.now c.args.a), extra_small c.args.cx.fixed (Some c.args.to))) (omega (arith, c.requires.node.weight, heavy (expression c.args.cx.p.now c.args.k), heavy (expression c.args.cx.p.now c.args.a), extra_small c.args.cx.fixed (Some c.args.to)))
 
 pub expressions::unary-held-requires : goal.expressions::unary-held-requires
 expressions::unary-held-requires t c =
@@ -923,8 +1140,11 @@ expressions::unary-negated-requires-clause-room t c = room c.requires.room c.in_
 pub expressions::unary-negated-requires-clause-to : goal.expressions::unary-negated-requires-clause-to
 expressions::unary-negated-requires-clause-to t c = as_kind (still c.requires.to c.in_ok-x-in-LogicalNot.ensures.lowered) (scalar_kind (not_node (frame_of c.args.cx.p.now c.args.cx.d.now) c.args.k c.args.a c.args.op c.in-LogicalNot.is c.requires.node).is)
 
-pub expressions::unary-returns-in_ok-x-in-LogicalNot : goal.expressions::unary-returns-in_ok-x-in-LogicalNot
-expressions::unary-returns-in_ok-x-in-LogicalNot t c = record { lowered = tail_grew _ _ c.negated.result c.in_ok-x-in-LogicalNot.ensures.lowered c.negated.ensures.grown c.negated.ensures.adds (omega (arith, (not_node (frame_of c.args.cx.p.now c.args.cx.d.now) c.args.k c.args.a c.args.op c.in-LogicalNot.is c.requires.node).operands.weight)) }
+pub expressions::unary-returns-in_ok-x-in-LogicalNot-clause-lowered : goal.expressions::unary-returns-in_ok-x-in-LogicalNot-clause-lowered
+expressions::unary-returns-in_ok-x-in-LogicalNot-clause-lowered t c = tail_grew _ _ c.negated.result c.in_ok-x-in-LogicalNot.ensures.lowered c.negated.ensures.grown c.negated.ensures.adds (omega (arith, (not_node (frame_of c.args.cx.p.now c.args.cx.d.now) c.args.k c.args.a c.args.op c.in-LogicalNot.is c.requires.node).operands.weight))
+
+pub expressions::unary-returns-in_ok-x-in-LogicalNot-clause-spends : goal.expressions::unary-returns-in_ok-x-in-LogicalNot-clause-spends
+expressions::unary-returns-in_ok-x-in-LogicalNot-clause-spends t c = last_and _ _ _ c.negated.result c.in_ok-x-in-LogicalNot.ensures.spends c.negated.ensures.spent (omega (arith, (not_node (frame_of c.args.cx.p.now c.args.cx.d.now) c.args.k c.args.a c.args.op c.in-LogicalNot.is c.requires.node).operands.weight, heavy (expression c.args.cx.p.now c.args.k), heavy (expression c.args.cx.p.now c.args.a), extra_small c.args.cx.fixed (Some c.args.to))) (omega (arith, (not_node (frame_of c.args.cx.p.now c.args.cx.d.now) c.args.k c.args.a c.args.op c.in-LogicalNot.is c.requires.node).operands.weight, heavy (expression c.args.cx.p.now c.args.k), heavy (expression c.args.cx.p.now c.args.a), extra_small c.args.cx.fixed (Some c.args.to)))
 
 pub expressions::unary-signed_value-requires : goal.expressions::unary-signed_value-requires
 expressions::unary-signed_value-requires t c =
@@ -948,8 +1168,11 @@ expressions::signed_value-signed-requires-clause-room t c = room c.requires.room
 pub expressions::signed_value-signed-requires-clause-to : goal.expressions::signed_value-signed-requires-clause-to
 expressions::signed_value-signed-requires-clause-to t c = as_kind (still c.requires.to c.in_ok-x.ensures.lowered) (sym (c.in_ok-x.ensures.kind ∙ (ap or_int c.requires.node.same)))
 
-pub expressions::signed_value-returns : goal.expressions::signed_value-returns
-expressions::signed_value-returns t c = record { lowered = tail_grew _ _ c.signed.result c.in_ok-x.ensures.lowered c.signed.ensures.grown c.signed.ensures.adds (omega (arith, c.requires.node.operands.weight)) }
+pub expressions::signed_value-returns-clause-lowered : goal.expressions::signed_value-returns-clause-lowered
+expressions::signed_value-returns-clause-lowered t c = tail_grew _ _ c.signed.result c.in_ok-x.ensures.lowered c.signed.ensures.grown c.signed.ensures.adds (omega (arith, c.requires.node.operands.weight))
+
+pub expressions::signed_value-returns-clause-spends : goal.expressions::signed_value-returns-clause-spends
+expressions::signed_value-returns-clause-spends t c = last_and _ _ _ c.signed.result c.in_ok-x.ensures.spends c.signed.ensures.spent (omega (arith, c.requires.node.operands.weight, heavy (expression c.args.cx.p.now c.args.k), heavy (expression c.args.cx.p.now c.args.a), extra_small c.args.cx.fixed (Some c.args.to))) (omega (arith, c.requires.node.operands.weight, heavy (expression c.args.cx.p.now c.args.k), heavy (expression c.args.cx.p.now c.args.a), extra_small c.args.cx.fixed (Some c.args.to)))
 
 pub expressions::comparison-pair-requires : goal.expressions::comparison-pair-requires
 expressions::comparison-pair-requires t c =
@@ -964,8 +1187,11 @@ expressions::comparison-compare-requires-clause-left t c = c.in_ok-x.ensures.lef
 pub expressions::comparison-compare-requires-clause-right : goal.expressions::comparison-compare-requires-clause-right
 expressions::comparison-compare-requires-clause-right t c = as_kind c.in_ok-x.ensures.right (c.in_ok-x.ensures.right_kind ∙ sym (ap or_int c.requires.node.same) ∙ sym c.in_ok-x.ensures.left_kind)
 
-pub expressions::comparison-returns : goal.expressions::comparison-returns
-expressions::comparison-returns t c = record { lowered = tail_grew _ _ c.compare.result c.in_ok-x.ensures.lowered c.compare.ensures.grown c.compare.ensures.adds (omega (arith, c.requires.node.operands.weight)) }
+pub expressions::comparison-returns-clause-lowered : goal.expressions::comparison-returns-clause-lowered
+expressions::comparison-returns-clause-lowered t c = tail_grew _ _ c.compare.result c.in_ok-x.ensures.lowered c.compare.ensures.grown c.compare.ensures.adds (omega (arith, c.requires.node.operands.weight))
+
+pub expressions::comparison-returns-clause-spends : goal.expressions::comparison-returns-clause-spends
+expressions::comparison-returns-clause-spends t c = last_and _ _ _ c.compare.result c.in_ok-x.ensures.spends c.compare.ensures.spent (omega (arith, c.requires.node.operands.weight, heavy (expression c.args.cx.p.now c.args.k), heavy (expression c.args.cx.p.now c.args.a), heavy (expression c.args.cx.p.now c.args.b), extra_small c.args.cx.fixed (Some c.args.to))) (omega (arith, c.requires.node.operands.weight, heavy (expression c.args.cx.p.now c.args.k), heavy (expression c.args.cx.p.now c.args.a), heavy (expression c.args.cx.p.now c.args.b), extra_small c.args.cx.fixed (Some c.args.to)))
 
 pub expressions::truth-fork-fork-requires : goal.expressions::truth-fork-fork-requires
 expressions::truth-fork-fork-requires t c = record { few = (omega (arith, c.requires.node.operands.weight, c.requires.room.labels)) }
@@ -989,8 +1215,11 @@ expressions::truth-constant-requires-2-clause-to t c = as_kind (opened_has c.req
 pub expressions::truth-constant-requires-2-clause-value : goal.expressions::truth-constant-requires-2-clause-value
 expressions::truth-constant-requires-2-clause-value t c = zero_fits (kinds.Int int.I32)
 
-pub expressions::truth-returns : goal.expressions::truth-returns
-expressions::truth-returns t c = record { lowered = tail_stands _ c.join_fork.result (opened (turned (opened (opened (fork c.requires.scene c.fork-fork.ensures.forked) c.in_ok-joined_condition.ensures.lowered) (grew (start c.in_ok-joined_condition.ensures.lowered.scene) c.in_ok-constant.ensures.grown c.in_ok-constant.ensures.adds)) c.in_ok-turn_fork.ensures.turned c.in_ok-turn_fork.ensures.adds) (grew (start (turned (opened (opened (fork c.requires.scene c.fork-fork.ensures.forked) c.in_ok-joined_condition.ensures.lowered) (grew (start c.in_ok-joined_condition.ensures.lowered.scene) c.in_ok-constant.ensures.grown c.in_ok-constant.ensures.adds)) c.in_ok-turn_fork.ensures.turned c.in_ok-turn_fork.ensures.adds).scene) c.in_ok-constant-2.ensures.grown c.in_ok-constant-2.ensures.adds)) c.join_fork.ensures.stands (omega (arith, c.requires.node.operands.weight)) }
+pub expressions::truth-returns-clause-lowered : goal.expressions::truth-returns-clause-lowered
+expressions::truth-returns-clause-lowered t c = tail_stands _ c.join_fork.result (opened (turned (opened (opened (fork c.requires.scene c.fork-fork.ensures.forked) c.in_ok-joined_condition.ensures.lowered) (grew (start c.in_ok-joined_condition.ensures.lowered.scene) c.in_ok-constant.ensures.grown c.in_ok-constant.ensures.adds)) c.in_ok-turn_fork.ensures.turned c.in_ok-turn_fork.ensures.adds) (grew (start (turned (opened (opened (fork c.requires.scene c.fork-fork.ensures.forked) c.in_ok-joined_condition.ensures.lowered) (grew (start c.in_ok-joined_condition.ensures.lowered.scene) c.in_ok-constant.ensures.grown c.in_ok-constant.ensures.adds)) c.in_ok-turn_fork.ensures.turned c.in_ok-turn_fork.ensures.adds).scene) c.in_ok-constant-2.ensures.grown c.in_ok-constant-2.ensures.adds)) c.join_fork.ensures.stands (omega (arith, c.requires.node.operands.weight))
+
+pub expressions::truth-returns-clause-spends : goal.expressions::truth-returns-clause-spends
+expressions::truth-returns-clause-spends t c = last_pushed _ _ c.join_fork.result (after (and (after (after (plainly (forked_spent c.fork-fork.ensures.forked)) c.in_ok-joined_condition.ensures.spends) (and nothing c.in_ok-constant.ensures.spent)) c.in_ok-turn_fork.ensures.spent) (and nothing c.in_ok-constant-2.ensures.spent)) c.join_fork.ensures.stands (omega (arith, c.requires.node.operands.weight, heavy (expression c.args.cx.p.now c.args.k), heavy (expression c.args.cx.p.now c.args.j.a), heavy (expression c.args.cx.p.now c.args.j.b), extra_small c.args.cx.fixed (Some c.args.to))) (omega (arith, c.requires.node.operands.weight, heavy (expression c.args.cx.p.now c.args.k), heavy (expression c.args.cx.p.now c.args.j.a), heavy (expression c.args.cx.p.now c.args.j.b), extra_small c.args.cx.fixed (Some c.args.to)))
 
 pub expressions::sum-pointer_first-requires : goal.expressions::sum-pointer_first-requires
 expressions::sum-pointer_first-requires t c =
@@ -1007,8 +1236,11 @@ pub expressions::pointer_first-displaced-requires : goal.expressions::pointer_fi
 expressions::pointer_first-displaced-requires t c =
     (search rules, (c.requires.ordered, (c.requires.scene, (c.requires.node.left, (c.requires.pointer, (c.requires.to, less_room c.requires.room (omega (arith, c.requires.node.weight))))))))
 
-pub expressions::pointer_first-returns-in-Some : goal.expressions::pointer_first-returns-in-Some
-expressions::pointer_first-returns-in-Some t c = record { lowered = tail _ _ c.displaced.result (start c.requires.scene) c.displaced.ensures.lowered (omega (arith, c.requires.node.weight)) }
+pub expressions::pointer_first-returns-in-Some-clause-lowered : goal.expressions::pointer_first-returns-in-Some-clause-lowered
+expressions::pointer_first-returns-in-Some-clause-lowered t c = tail _ _ c.displaced.result (start c.requires.scene) c.displaced.ensures.lowered (omega (arith, c.requires.node.weight))
+
+pub expressions::pointer_first-returns-in-Some-clause-spends : goal.expressions::pointer_first-returns-in-Some-clause-spends
+expressions::pointer_first-returns-in-Some-clause-spends t c = last _ _ _ c.displaced.result nothing c.displaced.ensures.spends (omega (arith, c.requires.node.weight, heavy (expression c.args.cx.p.now c.args.k), heavy (expression c.args.cx.p.now c.args.a), heavy (expression c.args.cx.p.now c.args.b), extra_small c.args.cx.fixed (Some c.args.to))) (omega (arith, c.requires.node.weight, heavy (expression c.args.cx.p.now c.args.k), heavy (expression c.args.cx.p.now c.args.a), heavy (expression c.args.cx.p.now c.args.b), extra_small c.args.cx.fixed (Some c.args.to)))
 
 pub expressions::pointer_first-pair-requires : goal.expressions::pointer_first-pair-requires
 expressions::pointer_first-pair-requires t c =
@@ -1023,8 +1255,11 @@ expressions::pointer_first-moved-requires-clause-base t c = two_pointers (still 
 pub expressions::pointer_first-moved-requires-clause-i : goal.expressions::pointer_first-moved-requires-clause-i
 expressions::pointer_first-moved-requires-clause-i t c = c.in_ok-base-in-None.ensures.right
 
-pub expressions::pointer_first-returns-in_ok-base-in-None : goal.expressions::pointer_first-returns-in_ok-base-in-None
-expressions::pointer_first-returns-in_ok-base-in-None t c = record { lowered = tail_grew _ _ c.moved.result c.in_ok-base-in-None.ensures.lowered c.moved.ensures.grown c.moved.ensures.adds (omega (arith, c.requires.node.weight)) }
+pub expressions::pointer_first-returns-in_ok-base-in-None-clause-lowered : goal.expressions::pointer_first-returns-in_ok-base-in-None-clause-lowered
+expressions::pointer_first-returns-in_ok-base-in-None-clause-lowered t c = tail_grew _ _ c.moved.result c.in_ok-base-in-None.ensures.lowered c.moved.ensures.grown c.moved.ensures.adds (omega (arith, c.requires.node.weight))
+
+pub expressions::pointer_first-returns-in_ok-base-in-None-clause-spends : goal.expressions::pointer_first-returns-in_ok-base-in-None-clause-spends
+expressions::pointer_first-returns-in_ok-base-in-None-clause-spends t c = last_and _ _ _ c.moved.result c.in_ok-base-in-None.ensures.spends c.moved.ensures.spent (omega (arith, c.requires.node.weight, heavy (expression c.args.cx.p.now c.args.k), heavy (expression c.args.cx.p.now c.args.a), heavy (expression c.args.cx.p.now c.args.b), extra_small c.args.cx.fixed (Some c.args.to))) (omega (arith, c.requires.node.weight, heavy (expression c.args.cx.p.now c.args.k), heavy (expression c.args.cx.p.now c.args.a), heavy (expression c.args.cx.p.now c.args.b), extra_small c.args.cx.fixed (Some c.args.to)))
 
 pub expressions::pointer_second-constant_index-requires-clause-typed : goal.expressions::pointer_second-constant_index-requires-clause-typed
 expressions::pointer_second-constant_index-requires-clause-typed t c = c.requires.node.left
@@ -1033,8 +1268,11 @@ pub expressions::pointer_second-displaced-requires : goal.expressions::pointer_s
 expressions::pointer_second-displaced-requires t c =
     (search rules, (c.requires.ordered, (c.requires.scene, (c.requires.node.right, (c.requires.pointer, (c.requires.to, less_room c.requires.room (omega (arith, c.requires.node.weight))))))))
 
-pub expressions::pointer_second-returns-in-Some : goal.expressions::pointer_second-returns-in-Some
-expressions::pointer_second-returns-in-Some t c = record { lowered = tail _ _ c.displaced.result (start c.requires.scene) c.displaced.ensures.lowered (omega (arith, c.requires.node.weight)) }
+pub expressions::pointer_second-returns-in-Some-clause-lowered : goal.expressions::pointer_second-returns-in-Some-clause-lowered
+expressions::pointer_second-returns-in-Some-clause-lowered t c = tail _ _ c.displaced.result (start c.requires.scene) c.displaced.ensures.lowered (omega (arith, c.requires.node.weight))
+
+pub expressions::pointer_second-returns-in-Some-clause-spends : goal.expressions::pointer_second-returns-in-Some-clause-spends
+expressions::pointer_second-returns-in-Some-clause-spends t c = last _ _ _ c.displaced.result nothing c.displaced.ensures.spends (omega (arith, c.requires.node.weight, heavy (expression c.args.cx.p.now c.args.k), heavy (expression c.args.cx.p.now c.args.a), heavy (expression c.args.cx.p.now c.args.b), extra_small c.args.cx.fixed (Some c.args.to))) (omega (arith, c.requires.node.weight, heavy (expression c.args.cx.p.now c.args.k), heavy (expression c.args.cx.p.now c.args.a), heavy (expression c.args.cx.p.now c.args.b), extra_small c.args.cx.fixed (Some c.args.to)))
 
 pub expressions::pointer_second-pair-requires : goal.expressions::pointer_second-pair-requires
 expressions::pointer_second-pair-requires t c =
@@ -1049,8 +1287,11 @@ expressions::pointer_second-moved-requires-clause-base t c = two_pointers (still
 pub expressions::pointer_second-moved-requires-clause-i : goal.expressions::pointer_second-moved-requires-clause-i
 expressions::pointer_second-moved-requires-clause-i t c = c.in_ok-i-in-None.ensures.left
 
-pub expressions::pointer_second-returns-in_ok-i-in-None : goal.expressions::pointer_second-returns-in_ok-i-in-None
-expressions::pointer_second-returns-in_ok-i-in-None t c = record { lowered = tail_grew _ _ c.moved.result c.in_ok-i-in-None.ensures.lowered c.moved.ensures.grown c.moved.ensures.adds (omega (arith, c.requires.node.weight)) }
+pub expressions::pointer_second-returns-in_ok-i-in-None-clause-lowered : goal.expressions::pointer_second-returns-in_ok-i-in-None-clause-lowered
+expressions::pointer_second-returns-in_ok-i-in-None-clause-lowered t c = tail_grew _ _ c.moved.result c.in_ok-i-in-None.ensures.lowered c.moved.ensures.grown c.moved.ensures.adds (omega (arith, c.requires.node.weight))
+
+pub expressions::pointer_second-returns-in_ok-i-in-None-clause-spends : goal.expressions::pointer_second-returns-in_ok-i-in-None-clause-spends
+expressions::pointer_second-returns-in_ok-i-in-None-clause-spends t c = last_and _ _ _ c.moved.result c.in_ok-i-in-None.ensures.spends c.moved.ensures.spent (omega (arith, c.requires.node.weight, heavy (expression c.args.cx.p.now c.args.k), heavy (expression c.args.cx.p.now c.args.a), heavy (expression c.args.cx.p.now c.args.b), extra_small c.args.cx.fixed (Some c.args.to))) (omega (arith, c.requires.node.weight, heavy (expression c.args.cx.p.now c.args.k), heavy (expression c.args.cx.p.now c.args.a), heavy (expression c.args.cx.p.now c.args.b), extra_small c.args.cx.fixed (Some c.args.to)))
 
 pub expressions::displaced-operand_in-requires : goal.expressions::displaced-operand_in-requires
 expressions::displaced-operand_in-requires t c =
@@ -1059,15 +1300,21 @@ expressions::displaced-operand_in-requires t c =
 pub expressions::displaced-offset-requires-clause-same : goal.expressions::displaced-offset-requires-clause-same
 expressions::displaced-offset-requires-clause-same t c = two_pointers (still c.requires.to c.in_ok-base.ensures.lowered) (as_kind c.in_ok-base.ensures.holds (c.in_ok-base.ensures.kind ∙ scalar_kind c.requires.pointer))
 
-pub expressions::displaced-returns : goal.expressions::displaced-returns
-expressions::displaced-returns t c = record { lowered = tail_grew _ _ c.offset.result c.in_ok-base.ensures.lowered c.offset.ensures.grown c.offset.ensures.adds (omega arith) }
+pub expressions::displaced-returns-clause-lowered : goal.expressions::displaced-returns-clause-lowered
+expressions::displaced-returns-clause-lowered t c = tail_grew _ _ c.offset.result c.in_ok-base.ensures.lowered c.offset.ensures.grown c.offset.ensures.adds (omega arith)
+
+pub expressions::displaced-returns-clause-spends : goal.expressions::displaced-returns-clause-spends
+expressions::displaced-returns-clause-spends t c = last_and _ _ _ c.offset.result c.in_ok-base.ensures.spends c.offset.ensures.spent (omega (arith, heavy (expression c.args.cx.p.now c.args.k), extra_small c.args.cx.fixed (Some c.args.to))) (omega (arith, heavy (expression c.args.cx.p.now c.args.k), extra_small c.args.cx.fixed (Some c.args.to)))
 
 pub expressions::assignment-struct_assignment-requires : goal.expressions::assignment-struct_assignment-requires
 expressions::assignment-struct_assignment-requires t c =
     (search rules, (c.requires.ordered, (c.requires.a_before, (c.requires.b_before, (c.requires.scene, (c.requires.node.operands, c.requires.room))))))
 
-pub expressions::assignment-returns-then-facts : goal.expressions::assignment-returns-then-facts
-expressions::assignment-returns-then-facts t c = record { lowered = at_most c.in_ok-struct_assignment.ensures.lowered (omega arith) }
+pub expressions::assignment-returns-then-facts-clause-lowered : goal.expressions::assignment-returns-then-facts-clause-lowered
+expressions::assignment-returns-then-facts-clause-lowered t c = at_most c.in_ok-struct_assignment.ensures.lowered (omega arith)
+
+pub expressions::assignment-returns-then-facts-clause-spends : goal.expressions::assignment-returns-then-facts-clause-spends
+expressions::assignment-returns-then-facts-clause-spends t c = within c.in_ok-struct_assignment.ensures.spends (omega (arith, heavy (expression c.args.cx.p.now c.args.k), heavy (expression c.args.cx.p.now c.args.a), heavy (expression c.args.cx.p.now c.args.b), extra_small c.args.cx.fixed c.args.to)) (omega (arith, heavy (expression c.args.cx.p.now c.args.k), heavy (expression c.args.cx.p.now c.args.a), heavy (expression c.args.cx.p.now c.args.b), extra_small c.args.cx.fixed c.args.to))
 
 pub expressions::assignment-value-requires : goal.expressions::assignment-value-requires
 expressions::assignment-value-requires t c =
@@ -1076,8 +1323,11 @@ expressions::assignment-value-requires t c =
 pub expressions::assignment-give-requires : goal.expressions::assignment-give-requires
 expressions::assignment-give-requires t c = record { same = maybe_same _ c.args.to _ _ (maybe_kept _ c.args.to c.in_ok-value-in-Some.ensures.lowered c.requires.to) (as_kind (still (c.in-Some.ensures _ c.requires.scene.ready c.requires.node.operands.left c.requires.scene.housed) c.in_ok-value-in-Some.ensures.lowered) (ap or_int c.requires.node.left)) }
 
-pub expressions::assignment-returns-in_ok-value-in-Some : goal.expressions::assignment-returns-in_ok-value-in-Some
-expressions::assignment-returns-in_ok-value-in-Some t c = record { lowered = tail_grew _ _ c.give.result c.in_ok-value-in-Some.ensures.lowered c.give.ensures.grown c.give.ensures.adds (omega (arith, c.requires.node.operands.weight)) }
+pub expressions::assignment-returns-in_ok-value-in-Some-clause-lowered : goal.expressions::assignment-returns-in_ok-value-in-Some-clause-lowered
+expressions::assignment-returns-in_ok-value-in-Some-clause-lowered t c = tail_grew _ _ c.give.result c.in_ok-value-in-Some.ensures.lowered c.give.ensures.grown c.give.ensures.adds (omega (arith, c.requires.node.operands.weight))
+
+pub expressions::assignment-returns-in_ok-value-in-Some-clause-spends : goal.expressions::assignment-returns-in_ok-value-in-Some-clause-spends
+expressions::assignment-returns-in_ok-value-in-Some-clause-spends t c = last_and _ _ _ c.give.result c.in_ok-value-in-Some.ensures.spends c.give.ensures.spent (omega (arith, c.requires.node.operands.weight, heavy (expression c.args.cx.p.now c.args.a), heavy (expression c.args.cx.p.now c.args.b), extra_small c.args.cx.fixed (Some c.in-Some.v))) (omega (arith, c.requires.node.operands.weight, heavy (expression c.args.cx.p.now c.args.a), heavy (expression c.args.cx.p.now c.args.b), extra_small c.args.cx.fixed (Some c.in-Some.v)))
 
 pub expressions::object_assignment-pointer-requires : goal.expressions::object_assignment-pointer-requires
 expressions::object_assignment-pointer-requires t c =
@@ -1096,8 +1346,11 @@ expressions::object_assignment-store-requires-clause-value t c = c.in_ok-v.ensur
 pub expressions::object_assignment-give-requires : goal.expressions::object_assignment-give-requires
 expressions::object_assignment-give-requires t c = record { same = maybe_same _ c.args.to _ _ (maybe_kept _ c.args.to (grew (both c.in_ok-at.ensures.lowered c.in_ok-v.ensures.lowered) c.in_ok-store.ensures.grown c.in_ok-store.ensures.adds) c.requires.to) (as_kind (kept _ _ _ _ c.in_ok-v.ensures.has c.in_ok-store.ensures.grown) (c.kind-kind.ensures c.requires.scene.ready ∙ (ap or_int c.requires.node.left))) }
 
-pub expressions::object_assignment-returns : goal.expressions::object_assignment-returns
-expressions::object_assignment-returns t c = record { lowered = tail_grew _ _ c.give.result (grew (both c.in_ok-at.ensures.lowered c.in_ok-v.ensures.lowered) c.in_ok-store.ensures.grown c.in_ok-store.ensures.adds) c.give.ensures.grown c.give.ensures.adds (omega (arith, c.requires.node.operands.weight)) }
+pub expressions::object_assignment-returns-clause-lowered : goal.expressions::object_assignment-returns-clause-lowered
+expressions::object_assignment-returns-clause-lowered t c = tail_grew _ _ c.give.result (grew (both c.in_ok-at.ensures.lowered c.in_ok-v.ensures.lowered) c.in_ok-store.ensures.grown c.in_ok-store.ensures.adds) c.give.ensures.grown c.give.ensures.adds (omega (arith, c.requires.node.operands.weight))
+
+pub expressions::object_assignment-returns-clause-spends : goal.expressions::object_assignment-returns-clause-spends
+expressions::object_assignment-returns-clause-spends t c = last_and _ _ _ c.give.result (and (after c.in_ok-at.ensures.spends c.in_ok-v.ensures.spends) c.in_ok-store.ensures.spent) c.give.ensures.spent (omega (arith, c.requires.node.operands.weight, heavy (expression c.args.cx.p.now c.args.k), heavy (expression c.args.cx.p.now c.args.a), heavy (expression c.args.cx.p.now c.args.b), extra_small c.args.cx.fixed c.args.to)) (omega (arith, c.requires.node.operands.weight, heavy (expression c.args.cx.p.now c.args.k), heavy (expression c.args.cx.p.now c.args.a), heavy (expression c.args.cx.p.now c.args.b), extra_small c.args.cx.fixed c.args.to))
 
 pub expressions::assigned-returns-in-None-clause-has : goal.expressions::assigned-returns-in-None-clause-has
 expressions::assigned-returns-in-None-clause-has t c = IfOk-weaker c.operand.result _ _ (λ t h. as_kind h c.requires.kind) c.operand.ensures.has
@@ -1114,6 +1367,9 @@ expressions::assigned-returns-in_ok-value-in-Some-clause-has t c = still c.in_ok
 
 pub expressions::assigned-returns-in_ok-value-in-Some-clause-lowered : goal.expressions::assigned-returns-in_ok-value-in-Some-clause-lowered
 expressions::assigned-returns-in_ok-value-in-Some-clause-lowered t c = at_most (both c.in_ok-v-in-Some.ensures.lowered c.in_ok-value-in-Some.ensures.lowered) (omega (arith, heavy (expression c.args.cx.p.now c.args.k)))
+
+pub expressions::assigned-returns-in_ok-value-in-Some-clause-spends : goal.expressions::assigned-returns-in_ok-value-in-Some-clause-spends
+expressions::assigned-returns-in_ok-value-in-Some-clause-spends t c = within (in_own _ c.in_ok-v-in-Some.ensures.owns c.in_ok-value-in-Some.ensures.spends) (omega (arith, heavy (expression c.args.cx.p.now c.args.k), extra_small c.args.cx.fixed c.args.to)) (omega (arith, heavy (expression c.args.cx.p.now c.args.k), extra_small c.args.cx.fixed c.args.to))
 
 pub expressions::compound-held-requires : goal.expressions::compound-held-requires
 expressions::compound-held-requires t c =
@@ -1134,8 +1390,11 @@ expressions::compound-changed-requires-clause-change t c = change_as c.args.chan
 pub expressions::compound-give-requires : goal.expressions::compound-give-requires
 expressions::compound-give-requires t c = record { same = maybe_same _ c.args.to _ _ (maybe_kept _ c.args.to (grew c.in_ok-y-in-Some.ensures.lowered c.in_ok-changed-in-Some.ensures.grown c.in_ok-changed-in-Some.ensures.adds) c.requires.to) (as_kind (still (c.in-Some.ensures _ c.requires.scene.ready c.requires.node.left c.requires.scene.housed) (grew c.in_ok-y-in-Some.ensures.lowered c.in_ok-changed-in-Some.ensures.grown c.in_ok-changed-in-Some.ensures.adds)) (ap or_int c.requires.left)) }
 
-pub expressions::compound-returns-in_ok-changed-in-Some : goal.expressions::compound-returns-in_ok-changed-in-Some
-expressions::compound-returns-in_ok-changed-in-Some t c = record { lowered = tail_grew _ _ c.give.result (grew c.in_ok-y-in-Some.ensures.lowered c.in_ok-changed-in-Some.ensures.grown c.in_ok-changed-in-Some.ensures.adds) c.give.ensures.grown c.give.ensures.adds (omega (arith, c.requires.node.weight)) }
+pub expressions::compound-returns-in_ok-changed-in-Some-clause-lowered : goal.expressions::compound-returns-in_ok-changed-in-Some-clause-lowered
+expressions::compound-returns-in_ok-changed-in-Some-clause-lowered t c = tail_grew _ _ c.give.result (grew c.in_ok-y-in-Some.ensures.lowered c.in_ok-changed-in-Some.ensures.grown c.in_ok-changed-in-Some.ensures.adds) c.give.ensures.grown c.give.ensures.adds (omega (arith, c.requires.node.weight))
+
+pub expressions::compound-returns-in_ok-changed-in-Some-clause-spends : goal.expressions::compound-returns-in_ok-changed-in-Some-clause-spends
+expressions::compound-returns-in_ok-changed-in-Some-clause-spends t c = last_and _ _ _ c.give.result (and c.in_ok-y-in-Some.ensures.spends c.in_ok-changed-in-Some.ensures.spent) c.give.ensures.spent (omega (arith, c.requires.node.weight, heavy (expression c.args.cx.p.now c.args.k), heavy (expression c.args.cx.p.now c.args.a), heavy (expression c.args.cx.p.now c.args.b), extra_small c.args.cx.fixed c.args.to)) (omega (arith, c.requires.node.weight, heavy (expression c.args.cx.p.now c.args.k), heavy (expression c.args.cx.p.now c.args.a), heavy (expression c.args.cx.p.now c.args.b), extra_small c.args.cx.fixed c.args.to))
 
 pub expressions::compound-pointer-requires : goal.expressions::compound-pointer-requires
 expressions::compound-pointer-requires t c =
@@ -1181,8 +1440,11 @@ expressions::compound-store-requires-clause-value t c = kept _ _ _ _ c.in_ok-tem
 pub expressions::compound-give-requires-in-None : goal.expressions::compound-give-requires-in-None
 expressions::compound-give-requires-in-None t c = record { same = maybe_same _ c.args.to _ _ (maybe_kind _ c.args.to _ _ (sym ((c.kind-kind.ensures c.requires.scene.ready) ∙ (ap or_int c.requires.left))) (maybe_kept _ c.args.to (grew (grew (grew (both (both c.in_ok-at-in-None.ensures.lowered c.in_ok-y-in-None.ensures.lowered) c.in_ok-temp-in-None.ensures.lowered) c.in_ok-load-in-None.ensures.grown c.in_ok-load-in-None.ensures.adds) c.in_ok-changed-in-None.ensures.grown c.in_ok-changed-in-None.ensures.adds) c.in_ok-store-in-None.ensures.grown c.in_ok-store-in-None.ensures.adds) c.requires.to)) (kept _ _ _ _ c.in_ok-temp-in-None.ensures.has (grown_then _ _ _ (grown_then _ _ _ c.in_ok-load-in-None.ensures.grown c.in_ok-changed-in-None.ensures.grown) c.in_ok-store-in-None.ensures.grown)) }
 
-pub expressions::compound-returns-in_ok-store-in-None : goal.expressions::compound-returns-in_ok-store-in-None
-expressions::compound-returns-in_ok-store-in-None t c = record { lowered = tail_grew _ _ c.give-in-None.result (grew (grew (grew (both (both c.in_ok-at-in-None.ensures.lowered c.in_ok-y-in-None.ensures.lowered) c.in_ok-temp-in-None.ensures.lowered) c.in_ok-load-in-None.ensures.grown c.in_ok-load-in-None.ensures.adds) c.in_ok-changed-in-None.ensures.grown c.in_ok-changed-in-None.ensures.adds) c.in_ok-store-in-None.ensures.grown c.in_ok-store-in-None.ensures.adds) c.give-in-None.ensures.grown c.give-in-None.ensures.adds (omega (arith, c.requires.node.weight)) }
+pub expressions::compound-returns-in_ok-store-in-None-clause-lowered : goal.expressions::compound-returns-in_ok-store-in-None-clause-lowered
+expressions::compound-returns-in_ok-store-in-None-clause-lowered t c = tail_grew _ _ c.give-in-None.result (grew (grew (grew (both (both c.in_ok-at-in-None.ensures.lowered c.in_ok-y-in-None.ensures.lowered) c.in_ok-temp-in-None.ensures.lowered) c.in_ok-load-in-None.ensures.grown c.in_ok-load-in-None.ensures.adds) c.in_ok-changed-in-None.ensures.grown c.in_ok-changed-in-None.ensures.adds) c.in_ok-store-in-None.ensures.grown c.in_ok-store-in-None.ensures.adds) c.give-in-None.ensures.grown c.give-in-None.ensures.adds (omega (arith, c.requires.node.weight))
+
+pub expressions::compound-returns-in_ok-store-in-None-clause-spends : goal.expressions::compound-returns-in_ok-store-in-None-clause-spends
+expressions::compound-returns-in_ok-store-in-None-clause-spends t c = last_given _ c.give-in-None.result c.in_ok-temp-in-None.ensures.owns (and (and (and (owned (after c.in_ok-at-in-None.ensures.spends c.in_ok-y-in-None.ensures.spends) c.in_ok-temp-in-None.ensures.owns) c.in_ok-load-in-None.ensures.spent) c.in_ok-changed-in-None.ensures.spent) c.in_ok-store-in-None.ensures.spent) c.give-in-None.ensures.spent c.give-in-None.ensures.there (omega (arith, c.requires.node.weight, heavy (expression c.args.cx.p.now c.args.a), heavy (expression c.args.cx.p.now c.args.b))) (omega (arith, c.requires.node.weight, heavy (expression c.args.cx.p.now c.args.a), heavy (expression c.args.cx.p.now c.args.b)))
 
 pub expressions::step-variable_step-requires-clause-v : goal.expressions::step-variable_step-requires-clause-v
 expressions::step-variable_step-requires-clause-v t c = as_kind (c.in-Some.ensures _ c.requires.scene.ready c.requires.node.operands.operand c.requires.scene.housed) (sym (c.kind-kind.ensures c.requires.scene.ready))
@@ -1193,8 +1455,11 @@ expressions::step-variable_step-requires-clause-to t c = maybe_kind _ c.args.to 
 pub expressions::step-variable_step-requires-clause-room : goal.expressions::step-variable_step-requires-clause-room
 expressions::step-variable_step-requires-clause-room t c = less_room c.requires.room (omega (arith, c.requires.node.operands.weight))
 
-pub expressions::step-returns-in-Some : goal.expressions::step-returns-in-Some
-expressions::step-returns-in-Some t c = record { lowered = tail _ _ c.variable_step.result (start c.requires.scene) c.variable_step.ensures.lowered (omega (arith, c.requires.node.operands.weight)) }
+pub expressions::step-returns-in-Some-clause-lowered : goal.expressions::step-returns-in-Some-clause-lowered
+expressions::step-returns-in-Some-clause-lowered t c = tail _ _ c.variable_step.result (start c.requires.scene) c.variable_step.ensures.lowered (omega (arith, c.requires.node.operands.weight))
+
+pub expressions::step-returns-in-Some-clause-spends : goal.expressions::step-returns-in-Some-clause-spends
+expressions::step-returns-in-Some-clause-spends t c = last _ _ _ c.variable_step.result nothing c.variable_step.ensures.spends (omega (arith, c.requires.node.operands.weight, heavy (expression c.args.cx.p.now c.args.k), heavy (expression c.args.cx.p.now c.args.a), extra_small c.args.cx.fixed c.args.to)) (omega (arith, c.requires.node.operands.weight, heavy (expression c.args.cx.p.now c.args.k), heavy (expression c.args.cx.p.now c.args.a), extra_small c.args.cx.fixed c.args.to))
 
 pub expressions::step-pointer-requires : goal.expressions::step-pointer-requires
 expressions::step-pointer-requires t c =
@@ -1218,20 +1483,23 @@ expressions::step-renewed-requires-clause-old t c = kept _ _ _ _ c.in_ok-old-in-
 pub expressions::step-renewed-requires-clause-room : goal.expressions::step-renewed-requires-clause-room
 expressions::step-renewed-requires-clause-room t c = room c.requires.room (grew (both c.in_ok-at-in-None.ensures.lowered c.in_ok-old-in-None.ensures.lowered) c.in_ok-load-in-None.ensures.grown c.in_ok-load-in-None.ensures.adds) (omega (arith, c.requires.node.operands.weight))
 
-pub expressions::step-stepped-requires-clause-room : goal.expressions::step-stepped-requires-clause-room
-expressions::step-stepped-requires-clause-room t c = room c.requires.room (grew (grew (both c.in_ok-at-in-None.ensures.lowered c.in_ok-old-in-None.ensures.lowered) c.in_ok-load-in-None.ensures.grown c.in_ok-load-in-None.ensures.adds) c.in_ok-new-in-None.ensures.grown c.in_ok-new-in-None.ensures.adds) (omega (arith, c.requires.node.operands.weight))
-
-pub expressions::step-stepped-requires-clause-x : goal.expressions::step-stepped-requires-clause-x
-expressions::step-stepped-requires-clause-x t c = kept _ _ _ _ c.in_ok-old-in-None.ensures.has (grown_then _ _ _ c.in_ok-load-in-None.ensures.grown c.in_ok-new-in-None.ensures.grown)
-
 pub expressions::step-store-requires-clause-at : goal.expressions::step-store-requires-clause-at
-expressions::step-store-requires-clause-at t c = pointer (kept _ _ _ _ (still c.in_ok-at-in-None.ensures.has c.in_ok-old-in-None.ensures.lowered) (grown_then _ _ _ (grown_then _ _ _ c.in_ok-load-in-None.ensures.grown c.in_ok-new-in-None.ensures.grown) c.in_ok-stepped-in-None.ensures.grown))
+expressions::step-store-requires-clause-at t c = pointer (kept _ _ _ _ (still c.in_ok-at-in-None.ensures.has c.in_ok-old-in-None.ensures.lowered) (grown_then _ _ _ c.in_ok-load-in-None.ensures.grown c.in_ok-new-in-None.ensures.grown))
 
 pub expressions::step-store-requires-clause-value : goal.expressions::step-store-requires-clause-value
-expressions::step-store-requires-clause-value t c = kept _ _ _ _ c.in_ok-new-in-None.ensures.has c.in_ok-stepped-in-None.ensures.grown
+expressions::step-store-requires-clause-value t c = c.in_ok-new-in-None.ensures.has
 
 pub expressions::step-give-requires : goal.expressions::step-give-requires
-expressions::step-give-requires t c = record { same = maybe_same _ c.args.to _ _ (maybe_kind _ c.args.to _ _ (sym ((c.kind-kind.ensures c.requires.scene.ready) ∙ (ap or_int c.requires.node.left))) (maybe_kept _ c.args.to (grew (grew (grew (grew (both c.in_ok-at-in-None.ensures.lowered c.in_ok-old-in-None.ensures.lowered) c.in_ok-load-in-None.ensures.grown c.in_ok-load-in-None.ensures.adds) c.in_ok-new-in-None.ensures.grown c.in_ok-new-in-None.ensures.adds) c.in_ok-stepped-in-None.ensures.grown c.in_ok-stepped-in-None.ensures.adds) c.in_ok-store-in-None.ensures.grown c.in_ok-store-in-None.ensures.adds) c.requires.to)) (kept _ _ _ _ c.in_ok-old-in-None.ensures.has (grown_then _ _ _ (grown_then _ _ _ (grown_then _ _ _ c.in_ok-load-in-None.ensures.grown c.in_ok-new-in-None.ensures.grown) c.in_ok-stepped-in-None.ensures.grown) c.in_ok-store-in-None.ensures.grown)) }
+expressions::step-give-requires t c = record { same = maybe_same _ c.args.to _ _ (maybe_kind _ c.args.to _ _ (sym ((c.kind-kind.ensures c.requires.scene.ready) ∙ (ap or_int c.requires.node.left))) (maybe_kept _ c.args.to (grew (grew (grew (both c.in_ok-at-in-None.ensures.lowered c.in_ok-old-in-None.ensures.lowered) c.in_ok-load-in-None.ensures.grown c.in_ok-load-in-None.ensures.adds) c.in_ok-new-in-None.ensures.grown c.in_ok-new-in-None.ensures.adds) c.in_ok-store-in-None.ensures.grown c.in_ok-store-in-None.ensures.adds) c.requires.to)) (kept _ _ _ _ c.in_ok-old-in-None.ensures.has (grown_then _ _ _ (grown_then _ _ _ c.in_ok-load-in-None.ensures.grown c.in_ok-new-in-None.ensures.grown) c.in_ok-store-in-None.ensures.grown)) }
 
-pub expressions::step-returns-in_ok-store-in-None : goal.expressions::step-returns-in_ok-store-in-None
-expressions::step-returns-in_ok-store-in-None t c = record { lowered = tail_grew _ _ c.give.result (grew (grew (grew (grew (both c.in_ok-at-in-None.ensures.lowered c.in_ok-old-in-None.ensures.lowered) c.in_ok-load-in-None.ensures.grown c.in_ok-load-in-None.ensures.adds) c.in_ok-new-in-None.ensures.grown c.in_ok-new-in-None.ensures.adds) c.in_ok-stepped-in-None.ensures.grown c.in_ok-stepped-in-None.ensures.adds) c.in_ok-store-in-None.ensures.grown c.in_ok-store-in-None.ensures.adds) c.give.ensures.grown c.give.ensures.adds (omega (arith, c.requires.node.operands.weight)) }
+pub expressions::step-returns-in_ok-store-in-None-clause-lowered : goal.expressions::step-returns-in_ok-store-in-None-clause-lowered
+expressions::step-returns-in_ok-store-in-None-clause-lowered t c = tail_grew _ _ c.give.result (grew (grew (grew (both c.in_ok-at-in-None.ensures.lowered c.in_ok-old-in-None.ensures.lowered) c.in_ok-load-in-None.ensures.grown c.in_ok-load-in-None.ensures.adds) c.in_ok-new-in-None.ensures.grown c.in_ok-new-in-None.ensures.adds) c.in_ok-store-in-None.ensures.grown c.in_ok-store-in-None.ensures.adds) c.give.ensures.grown c.give.ensures.adds (omega (arith, c.requires.node.operands.weight))
+
+pub expressions::step-returns-in_ok-store-in-None-clause-spends : goal.expressions::step-returns-in_ok-store-in-None-clause-spends
+expressions::step-returns-in_ok-store-in-None-clause-spends t c = last_given _ c.give.result c.in_ok-old-in-None.ensures.owns (and (and (and (owned c.in_ok-at-in-None.ensures.spends c.in_ok-old-in-None.ensures.owns) c.in_ok-load-in-None.ensures.spent) c.in_ok-new-in-None.ensures.spent) c.in_ok-store-in-None.ensures.spent) c.give.ensures.spent c.give.ensures.there (omega (arith, c.requires.node.operands.weight, heavy (expression c.args.cx.p.now c.args.a))) (omega (arith, c.requires.node.operands.weight, heavy (expression c.args.cx.p.now c.args.a)))
+
+pub expressions::value-returns-in-Call-clause-spends : goal.expressions::value-returns-in-Call-clause-spends
+expressions::value-returns-in-Call-clause-spends t c = last _ _ _ c.call.result nothing c.call.ensures.spends (omega arith) (omega arith)
+
+pub expressions::value-returns-in-Library-clause-spends : goal.expressions::value-returns-in-Library-clause-spends
+expressions::value-returns-in-Library-clause-spends t c = last _ _ _ c.library.result nothing c.library.ensures.spends (omega arith) (omega arith)

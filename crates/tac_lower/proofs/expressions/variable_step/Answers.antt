@@ -1,5 +1,6 @@
 use Rattle.std.proofs.Common.{arith}
 use Rattle.tac_lower.proofs.Keeping.{maybe_kept, maybe_same}
+use Rattle.tac_lower.proofs.Spending.{nothing, plainly, and, extra_small, owned, last_and}
 use Rattle.tac_lower.proofs.Steps.{start, grew, tail_grew}
 use Rattle.tac_lower.proofs.Wells.{kept}
 use Rattle.tac_lower.proofs.expressions.variable_step.Goals as goal
@@ -11,8 +12,11 @@ give-requires c = record {
       (kept _ _ _ _ c.requires.v c.in_ok-stepped.ensures.grown);
 }
 
-pub returns-then-front : goal.returns-then-front
-returns-then-front c = record { lowered = tail_grew _ _ c.give.result (grew (start c.requires.scene) c.in_ok-stepped.ensures.grown c.in_ok-stepped.ensures.adds) c.give.ensures.grown c.give.ensures.adds (omega arith) }
+pub returns-then-front-clause-lowered : goal.returns-then-front-clause-lowered
+returns-then-front-clause-lowered c = tail_grew _ _ c.give.result (grew (start c.requires.scene) c.in_ok-stepped.ensures.grown c.in_ok-stepped.ensures.adds) c.give.ensures.grown c.give.ensures.adds (omega arith)
+
+pub returns-then-front-clause-spends : goal.returns-then-front-clause-spends
+returns-then-front-clause-spends c = last_and _ _ _ c.give.result (plainly c.in_ok-stepped.ensures.spent) c.give.ensures.spent (omega arith) (omega arith)
 
 pub give-requires-2 : goal.give-requires-2
 give-requires-2 c = record {
@@ -22,9 +26,12 @@ give-requires-2 c = record {
       (kept _ _ _ _ (kept _ _ _ _ c.in_ok-old.ensures.has c.in_ok-copy.ensures.grown) c.in_ok-stepped-2.ensures.grown);
 }
 
-pub returns : goal.returns
-returns c = record {
-  lowered =
-      tail_grew _ _ c.give-2.result (grew (grew c.in_ok-old.ensures.lowered c.in_ok-copy.ensures.grown c.in_ok-copy.ensures.adds) c.in_ok-stepped-2.ensures.grown c.in_ok-stepped-2.ensures.adds) c.give-2.ensures.grown
-      c.give-2.ensures.adds (omega arith);
-}
+pub returns-clause-lowered : goal.returns-clause-lowered
+returns-clause-lowered c =
+    tail_grew _ _ c.give-2.result (grew (grew c.in_ok-old.ensures.lowered c.in_ok-copy.ensures.grown c.in_ok-copy.ensures.adds) c.in_ok-stepped-2.ensures.grown c.in_ok-stepped-2.ensures.adds) c.give-2.ensures.grown c.give-2.ensures.adds (omega arith)
+
+pub returns-clause-spends : goal.returns-clause-spends
+returns-clause-spends c =
+    let small = extra_small c.args.cx.fixed c.args.to in
+    last_and _ _ _ c.give-2.result (and (and (owned nothing c.in_ok-old.ensures.owns) c.in_ok-copy.ensures.spent) c.in_ok-stepped-2.ensures.spent)
+    c.give-2.ensures.spent (omega (arith, small)) (omega arith)

@@ -1,5 +1,7 @@
 use Rattle.std.proofs.Common.{length, ap, sym, ◌∙◌, subst, arith}
 use Rattle.tac_lower.specs.Scenes.{Housed}
+use Rattle.c_tree.specs.TreeWeight.{function_weight}
+use Rattle.tac_lower.proofs.Entering.{entered_few, empty_places, empty_words, finished_costs}
 use Rattle.tac_lower.proofs.Finished.{begins_well}
 use Rattle.tac_lower.proofs.Homes.{body_part, few_parameters, light_parts, parameters_kept, closed_new, formed}
 use Rattle.tac_lower.proofs.functions.function.Goals as goal
@@ -121,3 +123,20 @@ returns-clause-formed c =
     c.in_ok-statement.ensures.lowered.built.keeps in
     formed p d c.requires.ready.ordered c.end_function.new.out c.finished.result c.finished.ensures.makes
     (parameters_kept p d c.statement.new.out c.end_function.new.out body end.keeps) end.whole
+
+pub returns-clause-costs : goal.returns-clause-costs
+returns-clause-costs c =
+    let p = c.args.program.p.now in
+    let d = c.args.d.now in
+    let few = few_parameters c.requires.fits in
+    let once = entered_few c.requires.fits few in
+    let none = empty_places c.new-out.result c.new-out.ensures.code c.new-out.ensures.kinds in
+    let no_words = empty_words c.new-out.result c.new-out.ensures.code in
+    let one = c.in_ok-parameter_temps.ensures.spent in
+    let two = c.in_ok-homes.ensures.spent in
+    let three = c.in_ok-take_parameters.ensures.spent in
+    let four = c.in_ok-statement.ensures.spends.spent (omega (arith, three.grows, c.temps.ensures)) in
+    let five = c.in_ok-end_function.ensures.spent in
+    finished_costs (function_weight p d) c.finished.ensures.makes
+    (omega (arith, few, none, one.places, two.places, three.places, four.places, five.places))
+    (omega (arith, few, once, no_words, one.words, two.words, three.words, four.words, five.words))

@@ -1,5 +1,6 @@
 use Rattle.std.proofs.Common.{◌+◌, length, refl, ap, sym, subst, arith}
 use Rattle.tac_lower.proofs.Homes.{HomesTo, variable_at, object_among, objects_at, homes_none, homes_at, homes_all, homes_add, parameters_kept, taken_few}
+use Rattle.tac_lower.proofs.Spending.{spent_within}
 use Rattle.tac_lower.proofs.functions.homes.Goals as goal
 
 pub loop-v-init : goal.loop-v-init
@@ -60,7 +61,7 @@ loop-v-preserved c =
       homes =
           subst (λ z. HomesTo p d c.args.out.now e z (i + 1)) (sym c.in_ok-push.ensures.items)
           (homes_at p _ d.vars i _ same c.loop-v-test.true d c.args.out.now c.loop-v.out e c.loop-v.found.items
-          c.in_ok-home.home refl so_far.homes given.grown given.adds given.home);
+          c.in_ok-home.home refl so_far.homes given.grown given.adds given.home given.spent);
       parameters = parameters_kept p d c.loop-v.out e so_far.parameters given.grown.keeps;
       variable = omega (arith, one.variable, so_far.variable);
       objects = objects_at p _ d.vars i _ same c.loop-v-test.true c.loop-v.count.objects c.with-count.result.objects
@@ -81,3 +82,8 @@ returns-clause-adds c =
     let same = ap length c.as_slice-v-items.ensures in
     homes_add c.args.program.p.now c.args.d.now c.args.out.now c.loop-v.out c.loop-v.found.items c.loop-v.v-index _
     c.loop-v.invariant.homes (omega arith)
+
+pub returns-clause-spent : goal.returns-clause-spent
+returns-clause-spent c =
+    let same = ap length c.as_slice-v-items.ensures in
+    spent_within c.loop-v.invariant.homes.spent (omega arith) (omega arith)

@@ -2,6 +2,7 @@ use Rattle.std.proofs.Common.{length, get_or, ap, ◌∙◌, arith}
 use Rattle.c_tree.specs.WellTyped.{type_in}
 use Rattle.tac_lower.specs.Nodes.{kept_as, or_int}
 use Rattle.tac_lower.proofs.Homes.{number_of, parameters_none, parameters_more, parameters_all, parameters_add}
+use Rattle.tac_lower.proofs.Spending.{spent_within}
 use Rattle.tac_lower.proofs.functions.parameter_temps.Goals as goal
 
 pub loop-x-init : goal.loop-x-init
@@ -26,6 +27,7 @@ loop-x-preserved c =
     c.in_ok-temp.ensures.adds
     c.in_ok-temp.ensures.next c.in_ok-temp.ensures.has kind
     (number_of c.as_slice-x-items.result.now d.params c.loop-x.x-index c.as_slice-x-items.ensures (omega arith))
+    c.in_ok-temp.ensures.spent
 
 pub returns-clause-parameters : goal.returns-clause-parameters
 returns-clause-parameters c =
@@ -41,3 +43,8 @@ returns-clause-adds c =
     let same = ap length c.as_slice-x-items.ensures in
     parameters_add c.args.program.p.now c.args.d.now c.args.out.now c.loop-x.out c.loop-x.x-index _
     c.loop-x.invariant (omega arith)
+
+pub returns-clause-spent : goal.returns-clause-spent
+returns-clause-spent c =
+    let same = ap length c.as_slice-x-items.ensures in
+    spent_within c.loop-x.invariant.spent (omega arith) (omega arith)

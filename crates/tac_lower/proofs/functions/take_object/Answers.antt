@@ -20,8 +20,8 @@ store-requires-clause-value c =
     ∙ ap (λ t. or_int (kept_as (type_in c.args.cx.p.now t))) c.type_of_variable.ensures in
     as_kind (still c.requires.value here) (sym kind)
 
-pub returns : goal.returns
-returns c =
+pub returns-clause-lowered : goal.returns-clause-lowered
+returns-clause-lowered c =
     let here = entered c.args.x c.args.n c.args.at c.requires.scene c.requires.home
     c.in_ok-enter_object.ensures.entered in
-    record { lowered = tail_grew _ _ c.store.result here c.store.ensures.grown c.store.ensures.adds (omega arith) }
+    tail_grew _ _ c.store.result here c.store.ensures.grown c.store.ensures.adds (omega arith)

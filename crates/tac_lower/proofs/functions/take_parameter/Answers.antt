@@ -1,8 +1,15 @@
+use Rattle.std.proofs.Common.{arith}
+use Rattle.tac_lower.proofs.Spending.{spent_same, spent_within}
 use Rattle.tac_lower.proofs.Steps.{start}
 use Rattle.tac_lower.proofs.functions.take_parameter.Goals as goal
 
 pub take_object-requires-clause-home : goal.take_object-requires-clause-home
 take_object-requires-clause-home c = (cc)
 
-pub returns-in_default : goal.returns-in_default
-returns-in_default c = record { lowered = start c.requires.scene }
+pub returns-in_default-clause-lowered : goal.returns-in_default-clause-lowered
+returns-in_default-clause-lowered c =
+    start c.requires.scene
+
+pub returns-in_default-clause-spent : goal.returns-in_default-clause-spent
+returns-in_default-clause-spent c =
+    spent_within (spent_same _ 0) (omega arith) (omega arith)

@@ -2,11 +2,12 @@ use Rattle.std.proofs.Common.{get_or, length, ap, sym, subst, refl, arith}
 use Rattle.tac_lower.specs.Emitted.{HasKind}
 use Rattle.tac_lower.specs.Signed.{kept_parameter}
 use Rattle.tac_lower.proofs.Homes.{number_of}
+use Rattle.tac_lower.proofs.Spending.{spent_same, spent_then, spent_within}
 use Rattle.tac_lower.proofs.Steps.{start, both, at_most, still}
 use Rattle.tac_lower.proofs.functions.take_parameters.Goals as goal
 
 pub loop-x-init : goal.loop-x-init
-loop-x-init c = record { lowered = start c.requires.scene; number = refl }
+loop-x-init c = record { lowered = start c.requires.scene; spent = spent_same _ _; number = refl }
 
 pub take_parameter-requires-clause-scene : goal.take_parameter-requires-clause-scene
 take_parameter-requires-clause-scene c = c.loop-x.invariant.lowered.scene
@@ -28,8 +29,14 @@ loop-x-preserved c =
     record {
       lowered = at_most (both c.loop-x.invariant.lowered c.in_ok-take_parameter.ensures.lowered)
           (omega arith);
+      spent = spent_within (spent_then c.loop-x.invariant.spent c.in_ok-take_parameter.ensures.spent) (omega arith) (omega arith);
       number = omega arith;
     }
 
-pub returns : goal.returns
-returns c = record { lowered = c.loop-x.invariant.lowered }
+pub returns-clause-lowered : goal.returns-clause-lowered
+returns-clause-lowered c = c.loop-x.invariant.lowered
+
+pub returns-clause-spent : goal.returns-clause-spent
+returns-clause-spent c =
+    let same = ap length c.as_slice-x-items.ensures in
+    spent_within c.loop-x.invariant.spent (omega arith) (omega arith)

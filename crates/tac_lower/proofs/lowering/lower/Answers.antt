@@ -3,12 +3,14 @@ use Rattle.std.proofs.lemmas.List.{take_all}
 use Rattle.tac_ir.specs.WellFormed.{functions_fit, is_well_formed}
 use Rattle.tac_lower.specs.Lowered.{names_of, names_in}
 use Rattle.tac_lower.specs.Tables.{TableFits}
+use Rattle.tac_lower.proofs.Costing.{CostsTo, costs_none, costs_more}
 use Rattle.tac_lower.proofs.Homes.{function_at, named_next, formed_next, light_next, are_functions}
 use Rattle.tac_lower.proofs.lowering.lower.Goals as goal
 
 pub loop-d-init : goal.loop-d-init
 loop-d-init c = record {
   named = ap names_of c.new-funs.ensures.items;
+  costs = subst (λ z. CostsTo c.args.p.now z 0) (sym c.new-funs.ensures.items) (costs_none c.args.p.now);
   formed = ap (λ z. functions_fit c.args.p.now [] z) c.new-funs.ensures.items;
 }
 
@@ -46,6 +48,9 @@ loop-d-preserved c =
       named = subst (λ z. names_of z ≡ names_in (take (i + 1) xs)) items
           (named_next p xs i d same c.loop-d-test.true c.d-item.is fs f c.loop-d.invariant.named
           c.in_ok-f.ensures.named);
+      costs = subst (λ z. CostsTo p z (i + 1)) items
+          (costs_more p d fs f i c.loop-d.invariant.costs (function_at p xs i d same c.loop-d-test.true c.d-item.is)
+          c.in_ok-f.ensures.costs);
       formed = subst (λ z. functions_fit p (take (i + 1) xs) z ≡ true) items
           (formed_next p xs i d same c.loop-d-test.true c.d-item.is fs f c.loop-d.invariant.formed
           c.in_ok-f.ensures.formed);
@@ -63,3 +68,7 @@ returns-clause-formed c =
     let all = take_all c.loop-d.d-index c.as_slice-defs.result.now c.loop-d-test.false ∙ c.as_slice-defs.ensures in
     ap (λ z. functions_fit p p.funs z) c.from_vec.ensures
     ∙ ap (λ z. functions_fit p z c.loop-d.funs.items) (sym all) ∙ c.loop-d.invariant.formed
+
+pub returns-clause-costs : goal.returns-clause-costs
+returns-clause-costs c =
+    record { functions = (subst (λ z. CostsTo c.args.p.now z c.loop-d.d-index) (sym c.from_vec.ensures) c.loop-d.invariant.costs).each }

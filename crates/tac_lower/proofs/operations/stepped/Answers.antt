@@ -6,5 +6,5 @@ use Rattle.tac_lower.proofs.operations.stepped.Goals as goal
 pub fresh_constant-requires-clause-value : goal.fresh_constant-requires-clause-value
 fresh_constant-requires-clause-value c = one_fits c.args.x.kind
 
-pub returns-after-pace-clause-grown : goal.returns-after-pace-clause-grown
-returns-after-pace-clause-grown c = IfOk-weaker c.int.result _ _ (λ r g. grown_then _ _ _ c.in_ok-one-in-Int.ensures.grown g) c.int.ensures.grown
+pub returns-in_ok-one-in-Int-clause-grown : goal.returns-in_ok-one-in-Int-clause-grown
+returns-in_ok-one-in-Int-clause-grown c = IfOk-weaker c.int.result _ _ (λ r g. grown_then _ _ _ c.in_ok-one-in-Int.ensures.grown g) c.int.ensures.grown

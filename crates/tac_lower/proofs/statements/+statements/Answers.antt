@@ -1,14 +1,16 @@
 use Rattle.std.proofs.Common.{◌+◌, ◌*◌, [], ◌∷◌, ◌++◌, length, take, drop, sym, ap, subst, arith}
 use Rattle.c_tree.specs.WellTyped.{AreVars}
-use Rattle.tac_lower.specs.Nodes.{weight_in}
-use Rattle.tac_lower.specs.Parts.{heft_in, hefts_in, or_none}
+use Rattle.tac_lower.specs.Nodes.{weight_in, expression}
+use Rattle.tac_lower.specs.Parts.{statement, heft_in, hefts_in, entered, entered_in, all_entered_in, or_none}
 use Rattle.tac_lower.specs.Scenes.{Opened, frame_of}
 use Rattle.tac_lower.specs.Statements.{AreParts, labels_in}
 use Rattle.tac_lower.proofs.Below.{below, block_body, if_first, if_second, while_body, do_body, for_first, for_body, switch_body}
 use Rattle.tac_lower.proofs.Loops.{begun, begun_stands, stands_still, stands_behind, behind_second, tail_turned, tail_behind}
 use Rattle.tac_lower.proofs.Placings.{typed_some, typed_none, evaluates, initialises, blocks, chooses, whiles, does, fors, switches, returns_value, are_parts, part_at, exits_lowered, exits_opened, exit_opened, at_most_ok, hefts_next, hefts_within, hefts_taken}
+use Rattle.tac_lower.proofs.Entering.{all_entered_next, all_entered_taken, hefty}
 use Rattle.tac_lower.proofs.Scening.{opened_none}
-use Rattle.tac_lower.proofs.Steps.{start, both, at_most, still, as_kind, room, less_room, tail, tail_grew, tail_stands, fork, label, opened, turned, first_open, second_open, opened_has, opened_room}
+use Rattle.tac_lower.proofs.Spending.{nothing, plainly, after, and, within, last, last_and, last_pushed, begun_spent, forked_spent, labelled_spent}
+use Rattle.tac_lower.proofs.Steps.{heavy, start, both, at_most, still, as_kind, room, less_room, tail, tail_grew, tail_stands, fork, label, opened, turned, first_open, second_open, opened_has, opened_room}
 use Rattle.tac_lower.proofs.Switching.{opened_beside, opened_at_most, opened_label, open_last, none_behind}
 use Rattle.tac_lower.proofs.statements.+statements.Goals as goal
 
@@ -116,7 +118,7 @@ statements-statement-requires t c =
     let i = c.loop-s.s-index in
     let lt = below c.args.k c.args.body.now i 0 c.requires.before (omega arith) in
     let next = hefts_within c.args.cx.p.now c.args.body.now i (omega arith) in
-    let so_far = c.loop-s.invariant in
+    let so_far = c.loop-s.invariant.lowered in
     let part = part_at (frame_of c.args.cx.p.now c.args.cx.d.now) c.args.body.now i c.requires.parts (omega arith) in (
       omega arith,
       (
@@ -152,9 +154,13 @@ block-statements-requires t c =
 
 -- ---- loops
 
-pub loop_body-returns : goal.loop_body-returns
-loop_body-returns t c =
-    record { behind = tail_behind _ _ c.stand.result c.in_ok-statement.ensures.lowered c.stand.ensures.stands }
+pub loop_body-returns-clause-behind : goal.loop_body-returns-clause-behind
+loop_body-returns-clause-behind t c =
+    tail_behind _ _ c.stand.result c.in_ok-statement.ensures.lowered c.stand.ensures.stands
+
+pub loop_body-returns-clause-spends : goal.loop_body-returns-clause-spends
+loop_body-returns-clause-spends t c =
+    last_and _ _ _ c.stand.result c.in_ok-statement.ensures.spends c.stand.ensures.spent (omega arith) (omega arith)
 
 pub tested_loop-test_loop-requires-clause-scene : goal.tested_loop-test_loop-requires-clause-scene
 tested_loop-test_loop-requires-clause-scene t c = (begun c.requires.scene c.in_ok-circle.ensures.begun).scene
@@ -186,14 +192,18 @@ tested_loop-end_loop-requires t c = record {
       c.in_ok-step_loop.ensures.lowered;
 }
 
-pub tested_loop-returns : goal.tested_loop-returns
-tested_loop-returns t c =
+pub tested_loop-returns-clause-lowered : goal.tested_loop-returns-clause-lowered
+tested_loop-returns-clause-lowered t c =
     let one = opened (begun c.requires.scene c.in_ok-circle.ensures.begun) c.in_ok-test_loop.ensures.lowered in
     let two = opened (behind_second one c.in_ok-loop_body.ensures.behind) c.in_ok-step_loop.ensures.lowered in
-    record {
-      lowered = tail_turned _ c.end_loop.result two c.end_loop.ensures.turned c.end_loop.ensures.adds
-          (omega arith);
-    }
+    tail_turned _ c.end_loop.result two c.end_loop.ensures.turned c.end_loop.ensures.adds
+    (omega arith)
+
+pub tested_loop-returns-clause-spends : goal.tested_loop-returns-clause-spends
+tested_loop-returns-clause-spends t c =
+    last_and _ _ _ c.end_loop.result
+    (after (after (after (plainly (begun_spent c.in_ok-circle.ensures.begun)) c.in_ok-test_loop.ensures.spends) c.in_ok-loop_body.ensures.spends)
+    c.in_ok-step_loop.ensures.spends) c.end_loop.ensures.spent (omega arith) (omega arith)
 
 pub repeated_loop-condition-requires-clause-scene : goal.repeated_loop-condition-requires-clause-scene
 repeated_loop-condition-requires-clause-scene t c =
@@ -217,13 +227,17 @@ repeated_loop-end_loop-requires t c =
           c.in_ok-condition.ensures.lowered;
     }
 
-pub repeated_loop-returns : goal.repeated_loop-returns
-repeated_loop-returns t c =
+pub repeated_loop-returns-clause-lowered : goal.repeated_loop-returns-clause-lowered
+repeated_loop-returns-clause-lowered t c =
     let one = behind_second (begun c.requires.scene c.in_ok-circle.ensures.begun) c.in_ok-loop_body.ensures.behind in
-    record {
-      lowered = tail_turned _ c.end_loop.result (opened one c.in_ok-condition.ensures.lowered)
-          c.end_loop.ensures.turned c.end_loop.ensures.adds (omega arith);
-    }
+    tail_turned _ c.end_loop.result (opened one c.in_ok-condition.ensures.lowered)
+    c.end_loop.ensures.turned c.end_loop.ensures.adds (omega arith)
+
+pub repeated_loop-returns-clause-spends : goal.repeated_loop-returns-clause-spends
+repeated_loop-returns-clause-spends t c =
+    last_and _ _ _ c.end_loop.result
+    (after (after (plainly (begun_spent c.in_ok-circle.ensures.begun)) c.in_ok-loop_body.ensures.spends) c.in_ok-condition.ensures.spends)
+    c.end_loop.ensures.spent (omega arith) (omega arith)
 
 -- ---- choices
 
@@ -246,13 +260,19 @@ choice-turn_fork-requires t c =
           c.in_ok-statement.ensures.lowered);
     }
 
-pub choice-returns : goal.choice-returns
-choice-returns t c =
+pub choice-returns-clause-lowered : goal.choice-returns-clause-lowered
+choice-returns-clause-lowered t c =
     let one = opened (opened (fork c.requires.scene c.fork-fork.ensures.forked) c.in_ok-condition.ensures.lowered)
     c.in_ok-statement.ensures.lowered in
     let two = opened (turned one c.in_ok-turn_fork.ensures.turned c.in_ok-turn_fork.ensures.adds)
     c.in_ok-statement-2.ensures.lowered in
-    record { lowered = tail_stands _ c.join_fork.result two c.join_fork.ensures.stands (omega arith) }
+    tail_stands _ c.join_fork.result two c.join_fork.ensures.stands (omega arith)
+
+pub choice-returns-clause-spends : goal.choice-returns-clause-spends
+choice-returns-clause-spends t c =
+    last_pushed _ _ c.join_fork.result
+    (after (and (after (after (plainly (forked_spent c.fork-fork.ensures.forked)) c.in_ok-condition.ensures.spends) c.in_ok-statement.ensures.spends)
+    c.in_ok-turn_fork.ensures.spent) c.in_ok-statement-2.ensures.spends) c.join_fork.ensures.stands (omega arith) (omega arith)
 
 pub guarded-condition-requires-clause-scene : goal.guarded-condition-requires-clause-scene
 guarded-condition-requires-clause-scene t c = (label c.requires.scene c.label-label.ensures.labelled).scene
@@ -264,34 +284,54 @@ pub guarded-condition-requires-clause-room : goal.guarded-condition-requires-cla
 guarded-condition-requires-clause-room t c =
     opened_room c.requires.room (label c.requires.scene c.label-label.ensures.labelled) (omega arith)
 
-pub guarded-returns : goal.guarded-returns
-guarded-returns t c =
+pub guarded-returns-clause-lowered : goal.guarded-returns-clause-lowered
+guarded-returns-clause-lowered t c =
     let one = opened
     (opened (label c.requires.scene c.label-label.ensures.labelled) c.in_ok-condition.ensures.lowered)
     c.in_ok-statement.ensures.lowered in
-    record { lowered = tail_stands _ c.stand.result one c.stand.ensures.stands (omega arith) }
+    tail_stands _ c.stand.result one c.stand.ensures.stands (omega arith)
+
+pub guarded-returns-clause-spends : goal.guarded-returns-clause-spends
+guarded-returns-clause-spends t c =
+    last_and _ _ _ c.stand.result
+    (after (after (plainly (labelled_spent c.label-label.ensures.labelled)) c.in_ok-condition.ensures.spends) c.in_ok-statement.ensures.spends)
+    c.stand.ensures.spent (omega arith) (omega arith)
 
 -- ---- lists of statements
 
 pub statements-loop-s-init : goal.statements-loop-s-init
-statements-loop-s-init t c = at_most (start c.requires.scene) (omega arith)
+statements-loop-s-init t c =
+    record { lowered = at_most (start c.requires.scene) (omega arith); spends = within nothing (omega arith) (omega arith) }
 
 pub statements-loop-s-preserved : goal.statements-loop-s-preserved
 statements-loop-s-preserved t c =
     let next = hefts_next c.args.cx.p.now c.args.body.now c.loop-s.s-index (omega arith) in
-    at_most (both c.loop-s.invariant c.in_ok-statement.ensures.lowered) (omega (arith, next))
-
-pub statements-returns : goal.statements-returns
-statements-returns t c =
-    let all = hefts_taken c.args.cx.p.now c.args.body.now c.loop-s.s-index in
-    record { lowered = at_most c.loop-s.invariant (omega (arith, all)) }
-
-pub block-returns : goal.block-returns
-block-returns t c =
+    let enters = all_entered_next c.args.cx.p.now c.args.cx.d.now c.args.body.now c.loop-s.s-index (omega arith) in
     record {
-      lowered = tail _ _ c.statements.result c.in_ok-enter.ensures.lowered c.statements.ensures.lowered
-          (omega arith);
+      lowered = at_most (both c.loop-s.invariant.lowered c.in_ok-statement.ensures.lowered) (omega (arith, next));
+      spends = within (after c.loop-s.invariant.spends c.in_ok-statement.ensures.spends) (omega (arith, next))
+          (omega (arith, next, enters));
     }
+
+pub statements-returns-clause-lowered : goal.statements-returns-clause-lowered
+statements-returns-clause-lowered t c =
+    let all = hefts_taken c.args.cx.p.now c.args.body.now c.loop-s.s-index in
+    at_most c.loop-s.invariant.lowered (omega (arith, all))
+
+pub statements-returns-clause-spends : goal.statements-returns-clause-spends
+statements-returns-clause-spends t c =
+    let all = hefts_taken c.args.cx.p.now c.args.body.now c.loop-s.s-index in
+    let entered = all_entered_taken c.args.cx.p.now c.args.cx.d.now c.args.body.now c.loop-s.s-index in
+    within c.loop-s.invariant.spends (omega (arith, all)) (omega (arith, all, entered))
+
+pub block-returns-clause-lowered : goal.block-returns-clause-lowered
+block-returns-clause-lowered t c =
+    tail _ _ c.statements.result c.in_ok-enter.ensures.lowered c.statements.ensures.lowered
+    (omega arith)
+
+pub block-returns-clause-spends : goal.block-returns-clause-spends
+block-returns-clause-spends t c =
+    last _ _ _ c.statements.result (plainly c.in_ok-enter.ensures.spent) c.statements.ensures.spends (omega arith) (omega arith)
 
 -- ---- a statement by its kind
 
@@ -306,11 +346,19 @@ statement-effect-requires-clause-room t c =
     c.requires.scene.ready.ordered c.in-Some.ensures c.requires.part c.in-Expr.is).weight in
     less_room c.requires.room (omega arith)
 
-pub statement-returns-in-Expr : goal.statement-returns-in-Expr
-statement-returns-in-Expr t c =
+pub statement-returns-in-Expr-clause-lowered : goal.statement-returns-in-Expr-clause-lowered
+statement-returns-in-Expr-clause-lowered t c =
     let w = (evaluates (frame_of c.args.cx.p.now c.args.cx.d.now) c.args.k c.in-Some.s.now
     c.requires.scene.ready.ordered c.in-Some.ensures c.requires.part c.in-Expr.is).weight in
-    record { lowered = at_most_ok _ _ _ _ _ _ _ _ c.effect.result c.effect.ensures.lowered (omega arith) }
+    at_most_ok _ _ _ _ _ _ _ _ c.effect.result c.effect.ensures.lowered (omega arith)
+
+pub statement-returns-in-Expr-clause-spends : goal.statement-returns-in-Expr-clause-spends
+statement-returns-in-Expr-clause-spends t c =
+    let h = evaluates (frame_of c.args.cx.p.now c.args.cx.d.now) c.args.k c.in-Some.s.now
+    c.requires.scene.ready.ordered c.in-Some.ensures c.requires.part c.in-Expr.is in
+    let w = h.weight in
+    let one = heavy (expression c.args.cx.p.now c.in-Expr.a) in
+    last _ _ _ c.effect.result nothing c.effect.ensures.spends (omega arith) (omega arith)
 
 pub statement-initialise-requires-clause-typed : goal.statement-initialise-requires-clause-typed
 statement-initialise-requires-clause-typed t c =
@@ -328,11 +376,18 @@ statement-initialise-requires-clause-room t c =
     c.requires.scene.ready.ordered c.in-Some.ensures c.requires.part c.in-Init.is).weight in
     less_room c.requires.room (omega arith)
 
-pub statement-returns-in-Init : goal.statement-returns-in-Init
-statement-returns-in-Init t c =
+pub statement-returns-in-Init-clause-lowered : goal.statement-returns-in-Init-clause-lowered
+statement-returns-in-Init-clause-lowered t c =
     let w = (initialises (frame_of c.args.cx.p.now c.args.cx.d.now) c.args.k c.in-Some.s.now
     c.requires.scene.ready.ordered c.in-Some.ensures c.requires.part c.in-Init.is).weight in
-    record { lowered = at_most_ok _ _ _ _ _ _ _ _ c.initialise.result c.initialise.ensures.lowered (omega arith) }
+    at_most_ok _ _ _ _ _ _ _ _ c.initialise.result c.initialise.ensures.lowered (omega arith)
+
+pub statement-returns-in-Init-clause-spends : goal.statement-returns-in-Init-clause-spends
+statement-returns-in-Init-clause-spends t c =
+    let h = initialises (frame_of c.args.cx.p.now c.args.cx.d.now) c.args.k c.in-Some.s.now
+    c.requires.scene.ready.ordered c.in-Some.ensures c.requires.part c.in-Init.is in
+    let w = h.weight in
+    last _ _ _ c.initialise.result nothing c.initialise.ensures.spends (omega arith) (omega arith)
 
 pub statement-leave-requires-clause-part : goal.statement-leave-requires-clause-part
 statement-leave-requires-clause-part t c =
@@ -403,18 +458,36 @@ statement-guarded-requires t c =
       ),
     )
 
-pub statement-returns-in-Some-b : goal.statement-returns-in-Some-b
-statement-returns-in-Some-b t c =
+pub statement-returns-in-Some-b-clause-lowered : goal.statement-returns-in-Some-b-clause-lowered
+statement-returns-in-Some-b-clause-lowered t c =
     let w = (chooses (frame_of c.args.cx.p.now c.args.cx.d.now) c.args.k c.in-Some.s.now
     c.requires.scene.ready.ordered c.in-Some.ensures c.requires.part c.in-If.is).weight in
     let n = ap (or_none (heft_in c.args.cx.p.now)) c.in-Some-b.is in
-    record { lowered = at_most_ok _ _ _ _ _ _ _ _ c.choice.result c.choice.ensures.lowered (omega arith) }
+    at_most_ok _ _ _ _ _ _ _ _ c.choice.result c.choice.ensures.lowered (omega arith)
 
-pub statement-returns-in-None : goal.statement-returns-in-None
-statement-returns-in-None t c =
+pub statement-returns-in-Some-b-clause-spends : goal.statement-returns-in-Some-b-clause-spends
+statement-returns-in-Some-b-clause-spends t c =
+    let h = chooses (frame_of c.args.cx.p.now c.args.cx.d.now) c.args.k c.in-Some.s.now
+    c.requires.scene.ready.ordered c.in-Some.ensures c.requires.part c.in-If.is in
+    let w = h.weight in
+    let enters = h.enters c.args.cx.d.now in
+    let n = ap (or_none (heft_in c.args.cx.p.now)) c.in-Some-b.is in
+    let m = ap (or_none (entered_in c.args.cx.p.now c.args.cx.d.now)) c.in-Some-b.is in
+    last _ _ _ c.choice.result nothing c.choice.ensures.spends (omega arith) (omega arith)
+
+pub statement-returns-in-None-clause-lowered : goal.statement-returns-in-None-clause-lowered
+statement-returns-in-None-clause-lowered t c =
     let w = (chooses (frame_of c.args.cx.p.now c.args.cx.d.now) c.args.k c.in-Some.s.now
     c.requires.scene.ready.ordered c.in-Some.ensures c.requires.part c.in-If.is).weight in
-    record { lowered = at_most_ok _ _ _ _ _ _ _ _ c.guarded.result c.guarded.ensures.lowered (omega arith) }
+    at_most_ok _ _ _ _ _ _ _ _ c.guarded.result c.guarded.ensures.lowered (omega arith)
+
+pub statement-returns-in-None-clause-spends : goal.statement-returns-in-None-clause-spends
+statement-returns-in-None-clause-spends t c =
+    let h = chooses (frame_of c.args.cx.p.now c.args.cx.d.now) c.args.k c.in-Some.s.now
+    c.requires.scene.ready.ordered c.in-Some.ensures c.requires.part c.in-If.is in
+    let w = h.weight in
+    let enters = h.enters c.args.cx.d.now in
+    last _ _ _ c.guarded.result nothing c.guarded.ensures.spends (omega arith) (omega arith)
 
 pub statement-repeated_loop-requires : goal.statement-repeated_loop-requires
 statement-repeated_loop-requires t c =
@@ -436,31 +509,53 @@ statement-repeated_loop-requires t c =
       ),
     )
 
-pub statement-returns-in-Do : goal.statement-returns-in-Do
-statement-returns-in-Do t c =
+pub statement-returns-in-Do-clause-lowered : goal.statement-returns-in-Do-clause-lowered
+statement-returns-in-Do-clause-lowered t c =
     let w = (does (frame_of c.args.cx.p.now c.args.cx.d.now) c.args.k c.in-Some.s.now c.requires.scene.ready.ordered
     c.in-Some.ensures c.requires.part c.in-Do.is).weight in
-    record { lowered = at_most_ok _ _ _ _ _ _ _ _ c.repeated_loop.result c.repeated_loop.ensures.lowered (omega arith) }
+    at_most_ok _ _ _ _ _ _ _ _ c.repeated_loop.result c.repeated_loop.ensures.lowered (omega arith)
 
-pub statement-returns-in-While : goal.statement-returns-in-While
-statement-returns-in-While t c =
+pub statement-returns-in-Do-clause-spends : goal.statement-returns-in-Do-clause-spends
+statement-returns-in-Do-clause-spends t c =
+    let h = does (frame_of c.args.cx.p.now c.args.cx.d.now) c.args.k c.in-Some.s.now
+    c.requires.scene.ready.ordered c.in-Some.ensures c.requires.part c.in-Do.is in
+    let w = h.weight in
+    let enters = h.enters c.args.cx.d.now in
+    last _ _ _ c.repeated_loop.result nothing c.repeated_loop.ensures.spends (omega arith) (omega arith)
+
+pub statement-returns-in-While-clause-lowered : goal.statement-returns-in-While-clause-lowered
+statement-returns-in-While-clause-lowered t c =
     let w = (whiles (frame_of c.args.cx.p.now c.args.cx.d.now) c.args.k c.in-Some.s.now
     c.requires.scene.ready.ordered c.in-Some.ensures c.requires.part c.in-While.is).weight in
-    record { lowered = at_most_ok _ _ _ _ _ _ _ _ c.tested_loop.result c.tested_loop.ensures.lowered (omega arith) }
+    at_most_ok _ _ _ _ _ _ _ _ c.tested_loop.result c.tested_loop.ensures.lowered (omega arith)
 
-pub statement-returns-in-Break : goal.statement-returns-in-Break
-statement-returns-in-Break t c =
-    record {
-      lowered = tail_grew _ _ c.jump_out.result (start c.requires.scene) c.jump_out.ensures.grown
-          c.jump_out.ensures.adds (omega arith);
-    }
+pub statement-returns-in-While-clause-spends : goal.statement-returns-in-While-clause-spends
+statement-returns-in-While-clause-spends t c =
+    let h = whiles (frame_of c.args.cx.p.now c.args.cx.d.now) c.args.k c.in-Some.s.now
+    c.requires.scene.ready.ordered c.in-Some.ensures c.requires.part c.in-While.is in
+    let w = h.weight in
+    let enters = h.enters c.args.cx.d.now in
+    last _ _ _ c.tested_loop.result nothing c.tested_loop.ensures.spends (omega arith) (omega arith)
 
-pub statement-returns-in-Continue : goal.statement-returns-in-Continue
-statement-returns-in-Continue t c =
-    record {
-      lowered = tail_grew _ _ c.jump_out-in-Continue.result (start c.requires.scene)
-          c.jump_out-in-Continue.ensures.grown c.jump_out-in-Continue.ensures.adds (omega arith);
-    }
+pub statement-returns-in-Break-clause-lowered : goal.statement-returns-in-Break-clause-lowered
+statement-returns-in-Break-clause-lowered t c =
+    tail_grew _ _ c.jump_out.result (start c.requires.scene) c.jump_out.ensures.grown
+    c.jump_out.ensures.adds (omega arith)
+
+pub statement-returns-in-Break-clause-spends : goal.statement-returns-in-Break-clause-spends
+statement-returns-in-Break-clause-spends t c =
+    last_and _ _ _ c.jump_out.result nothing c.jump_out.ensures.spent
+    (omega arith) (omega (arith, hefty (statement c.args.cx.p.now c.args.k)))
+
+pub statement-returns-in-Continue-clause-lowered : goal.statement-returns-in-Continue-clause-lowered
+statement-returns-in-Continue-clause-lowered t c =
+    tail_grew _ _ c.jump_out-in-Continue.result (start c.requires.scene)
+    c.jump_out-in-Continue.ensures.grown c.jump_out-in-Continue.ensures.adds (omega arith)
+
+pub statement-returns-in-Continue-clause-spends : goal.statement-returns-in-Continue-clause-spends
+statement-returns-in-Continue-clause-spends t c =
+    last_and _ _ _ c.jump_out-in-Continue.result nothing c.jump_out-in-Continue.ensures.spent
+    (omega arith) (omega (arith, hefty (statement c.args.cx.p.now c.args.k)))
 
 pub statement-tested_loop-requires : goal.statement-tested_loop-requires
 statement-tested_loop-requires t c =
@@ -511,12 +606,23 @@ statement-block-requires t c =
       ),
     )
 
-pub statement-returns-in-Block : goal.statement-returns-in-Block
-statement-returns-in-Block t c =
+pub statement-returns-in-Block-clause-lowered : goal.statement-returns-in-Block-clause-lowered
+statement-returns-in-Block-clause-lowered t c =
     let w = (blocks (frame_of c.args.cx.p.now c.args.cx.d.now) c.args.k c.in-Some.s.now
     c.requires.scene.ready.ordered c.in-Some.ensures c.requires.part c.in-Block.is).weight in
     let same = ap (hefts_in c.args.cx.p.now) c.as_slice-in-Block.ensures in
-    record { lowered = at_most_ok _ _ _ _ _ _ _ _ c.block.result c.block.ensures.lowered (omega arith) }
+    at_most_ok _ _ _ _ _ _ _ _ c.block.result c.block.ensures.lowered (omega arith)
+
+pub statement-returns-in-Block-clause-spends : goal.statement-returns-in-Block-clause-spends
+statement-returns-in-Block-clause-spends t c =
+    let h = blocks (frame_of c.args.cx.p.now c.args.cx.d.now) c.args.k c.in-Some.s.now
+    c.requires.scene.ready.ordered c.in-Some.ensures c.requires.part c.in-Block.is in
+    let w = h.weight in
+    let enters = h.enters c.args.cx.d.now in
+    let same = ap (hefts_in c.args.cx.p.now) c.as_slice-in-Block.ensures in
+    let vars = ap (entered c.args.cx.d.now) c.as_slice.ensures in
+    let body = ap (all_entered_in c.args.cx.p.now c.args.cx.d.now) c.as_slice-in-Block.ensures in
+    last _ _ _ c.block.result nothing c.block.ensures.spends (omega arith) (omega arith)
 
 pub statement-block-requires-in-For : goal.statement-block-requires-in-For
 statement-block-requires-in-For t c =
@@ -572,15 +678,25 @@ statement-tested_loop-requires-in-For t c =
       ),
     )
 
-pub statement-returns-in_ok-block-in-For : goal.statement-returns-in_ok-block-in-For
-statement-returns-in_ok-block-in-For t c =
+pub statement-returns-in_ok-block-in-For-clause-lowered : goal.statement-returns-in_ok-block-in-For-clause-lowered
+statement-returns-in_ok-block-in-For-clause-lowered t c =
     let w = (fors (frame_of c.args.cx.p.now c.args.cx.d.now) c.args.k c.in-Some.s.now c.requires.scene.ready.ordered
     c.in-Some.ensures c.requires.part c.in-For.is).weight in
     let same = ap (hefts_in c.args.cx.p.now) c.as_slice-in-For-2.ensures in
-    record {
-      lowered = tail _ _ c.tested_loop-in-For.result c.in_ok-block-in-For.ensures.lowered
-          c.tested_loop-in-For.ensures.lowered (omega arith);
-    }
+    tail _ _ c.tested_loop-in-For.result c.in_ok-block-in-For.ensures.lowered
+    c.tested_loop-in-For.ensures.lowered (omega arith)
+
+pub statement-returns-in_ok-block-in-For-clause-spends : goal.statement-returns-in_ok-block-in-For-clause-spends
+statement-returns-in_ok-block-in-For-clause-spends t c =
+    let h = fors (frame_of c.args.cx.p.now c.args.cx.d.now) c.args.k c.in-Some.s.now
+    c.requires.scene.ready.ordered c.in-Some.ensures c.requires.part c.in-For.is in
+    let w = h.weight in
+    let enters = h.enters c.args.cx.d.now in
+    let same = ap (hefts_in c.args.cx.p.now) c.as_slice-in-For-2.ensures in
+    let vars = ap (entered c.args.cx.d.now) c.as_slice-in-For.ensures in
+    let body = ap (all_entered_in c.args.cx.p.now c.args.cx.d.now) c.as_slice-in-For-2.ensures in
+    last _ _ _ c.tested_loop-in-For.result c.in_ok-block-in-For.ensures.spends
+    c.tested_loop-in-For.ensures.spends (omega arith) (omega arith)
 
 pub statement-switch-requires : goal.statement-switch-requires
 statement-switch-requires t c =
@@ -612,13 +728,25 @@ statement-switch-requires t c =
       ),
     )
 
-pub statement-returns-in-Switch : goal.statement-returns-in-Switch
-statement-returns-in-Switch t c =
+pub statement-returns-in-Switch-clause-lowered : goal.statement-returns-in-Switch-clause-lowered
+statement-returns-in-Switch-clause-lowered t c =
     let w = (switches (frame_of c.args.cx.p.now c.args.cx.d.now) c.args.k c.in-Some.s.now
     c.requires.scene.ready.ordered c.in-Some.ensures c.requires.part c.in-Switch.is).weight in
     let same = ap (hefts_in c.args.cx.p.now) c.as_slice-in-Switch-3.ensures in
     let many = ap length c.as_slice-in-Switch-2.ensures in
-    record { lowered = at_most_ok _ _ _ _ _ _ _ _ c.switch.result c.switch.ensures.lowered (omega arith) }
+    at_most_ok _ _ _ _ _ _ _ _ c.switch.result c.switch.ensures.lowered (omega arith)
+
+pub statement-returns-in-Switch-clause-spends : goal.statement-returns-in-Switch-clause-spends
+statement-returns-in-Switch-clause-spends t c =
+    let h = switches (frame_of c.args.cx.p.now c.args.cx.d.now) c.args.k c.in-Some.s.now
+    c.requires.scene.ready.ordered c.in-Some.ensures c.requires.part c.in-Switch.is in
+    let w = h.weight in
+    let enters = h.enters c.args.cx.d.now in
+    let same = ap (hefts_in c.args.cx.p.now) c.as_slice-in-Switch-3.ensures in
+    let vars = ap (entered c.args.cx.d.now) c.as_slice-in-Switch.ensures in
+    let body = ap (all_entered_in c.args.cx.p.now c.args.cx.d.now) c.as_slice-in-Switch-3.ensures in
+    let many = ap length c.as_slice-in-Switch-2.ensures in
+    last _ _ _ c.switch.result nothing c.switch.ensures.spends (omega arith) (omega arith)
 
 -- ---- switches
 
@@ -642,12 +770,19 @@ switch-loop-s-init t c =
     c.requires.scene in
     let one = opened_label (opened none (both c.in_ok-v.ensures.lowered c.in_ok-enter.ensures.lowered))
     c.label-end.ensures.labelled in
-    opened_at_most
-    (opened_beside (c.label-end.result ∷ []) (labels_in c.in_ok-cases.cases) one c.in_ok-cases.ensures.opened)
-    (omega arith)
+    let some = heavy (expression c.args.cx.p.now c.args.on) in
+    record {
+      opened =
+          opened_at_most
+          (opened_beside (c.label-end.result ∷ []) (labels_in c.in_ok-cases.cases) one c.in_ok-cases.ensures.opened)
+          (omega arith);
+      spends = within
+          (and (and (and c.in_ok-v.ensures.spends c.in_ok-enter.ensures.spent) (labelled_spent c.label-end.ensures.labelled))
+          c.in_ok-cases.ensures.spent) (omega (arith, some)) (omega (arith, some));
+    }
 
-pub switch-returns : goal.switch-returns
-switch-returns t c =
+pub switch-returns-clause-lowered : goal.switch-returns-clause-lowered
+switch-returns-clause-lowered t c =
     let p = c.args.cx.p.now in
     let d = c.args.cx.d.now in
     let types = c.args.cx.types.now in
@@ -656,11 +791,18 @@ switch-returns t c =
     let n = 4 * weight_in p c.args.on + (length c.args.labels.now + 3) + 4 * hefts_in p
     (take c.loop-s.s-index c.args.body.now) in
     let o = c.in_ok-stand_behind.ensures.stand.opened p d types homes c.args.out.now (c.label-end.result ∷ []) n
-    c.loop-s.invariant in
+    c.loop-s.invariant.opened in
     let last = subst
     (λ z. Opened p d types homes c.args.out.now c.stand_behind.new.out (z ++ c.label-end.result ∷ []) n)
     (none_behind c.in_ok-cases.cases.cases.items) o in
-    record { lowered = tail_stands _ c.stand.result last c.stand.ensures.stands (omega (arith, all)) }
+    tail_stands _ c.stand.result last c.stand.ensures.stands (omega (arith, all))
+
+pub switch-returns-clause-spends : goal.switch-returns-clause-spends
+switch-returns-clause-spends t c =
+    let all = hefts_taken c.args.cx.p.now c.args.body.now c.loop-s.s-index in
+    let entered = all_entered_taken c.args.cx.p.now c.args.cx.d.now c.args.body.now c.loop-s.s-index in
+    last_and _ _ _ c.stand.result (and c.loop-s.invariant.spends c.in_ok-stand_behind.ensures.spent)
+    c.stand.ensures.spent (omega (arith, all)) (omega (arith, all, entered))
 
 pub switch-statement-requires : goal.switch-statement-requires
 switch-statement-requires t c =
@@ -669,7 +811,7 @@ switch-statement-requires t c =
     let i = c.loop-s.s-index in
     let n = 4 * weight_in p c.args.on + (length c.args.labels.now + 3) + 4 * hefts_in p (take i c.args.body.now) in
     let o = c.in_ok-first.ensures.stand.opened p d c.args.cx.types.now c.args.cx.homes.now c.args.out.now
-    (c.label-end.result ∷ []) n c.loop-s.invariant in
+    (c.label-end.result ∷ []) n c.loop-s.invariant.opened in
     let lt = below c.args.k c.args.body.now i 0 c.requires.before (omega arith) in
     let next = hefts_within p c.args.body.now i (omega arith) in
     let part = part_at (frame_of p d) c.args.body.now i c.requires.parts (omega arith) in
@@ -702,6 +844,21 @@ switch-loop-s-preserved t c =
     let i = c.loop-s.s-index in
     let n = 4 * weight_in p c.args.on + (length c.args.labels.now + 3) + 4 * hefts_in p (take i c.args.body.now) in
     let o = c.in_ok-first.ensures.stand.opened p d c.args.cx.types.now c.args.cx.homes.now c.args.out.now
-    (c.label-end.result ∷ []) n c.loop-s.invariant in
+    (c.label-end.result ∷ []) n c.loop-s.invariant.opened in
     let next = hefts_next p c.args.body.now i (omega arith) in
-    opened_at_most (opened o c.in_ok-statement.ensures.lowered) (omega (arith, next))
+    let enters = all_entered_next p c.args.cx.d.now c.args.body.now i (omega arith) in
+    record {
+      opened = opened_at_most (opened o c.in_ok-statement.ensures.lowered) (omega (arith, next));
+      spends = within (after (and c.loop-s.invariant.spends c.in_ok-first.ensures.spent) c.in_ok-statement.ensures.spends)
+          (omega (arith, next)) (omega (arith, next, enters));
+    }
+
+pub statement-returns-in-Return-clause-spends : goal.statement-returns-in-Return-clause-spends
+statement-returns-in-Return-clause-spends t c =
+    last _ _ _ c.leave.result nothing c.leave.ensures.spends (omega arith) (omega arith)
+
+pub statement-returns-in_default-clause-spends : goal.statement-returns-in_default-clause-spends
+statement-returns-in_default-clause-spends t c = within nothing (omega arith) (omega arith)
+
+pub statement-returns-in-Empty-clause-spends : goal.statement-returns-in-Empty-clause-spends
+statement-returns-in-Empty-clause-spends t c = within nothing (omega arith) (omega arith)

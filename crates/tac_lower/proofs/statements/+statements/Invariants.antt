@@ -1,7 +1,8 @@
 use Rattle.std.proofs.Common.{◌+◌, ◌*◌, [], ◌∷◌, ◌++◌, drop, length, take}
 use Rattle.tac_lower.specs.Nodes.{weight_in}
-use Rattle.tac_lower.specs.Parts.{hefts_in}
+use Rattle.tac_lower.specs.Parts.{hefts_in, entered, all_entered_in}
 use Rattle.tac_lower.specs.Scenes.{Lowered, Opened}
+use Rattle.tac_lower.specs.Spent.{Spends, SpendsPart}
 use Rattle.tac_lower.specs.Statements.{labels_in}
 use Rattle.tac_lower.proofs.statements.+statements.Given as goal
 
@@ -33,12 +34,20 @@ abbrev pub decreases-statement : goal.decreases-statement
 decreases-statement l = 8 * l.k + 4
 
 abbrev pub invariant-statements-loop-s : goal.invariant-statements-loop-s
-invariant-statements-loop-s l =
-    Lowered l.cx.p.now l.cx.d.now l.cx.types.now l.cx.homes.now l.fn.out l.out
-    (4 * hefts_in l.cx.p.now (take l.s-index l.body))
+invariant-statements-loop-s l = record {
+  lowered : Lowered l.cx.p.now l.cx.d.now l.cx.types.now l.cx.homes.now l.fn.out l.out
+      (4 * hefts_in l.cx.p.now (take l.s-index l.body));
+  spends : SpendsPart l.cx.fixed (hefts_in l.cx.p.now (take l.s-index l.body))
+      (all_entered_in l.cx.p.now l.cx.d.now (take l.s-index l.body)) l.fn.out l.out;
+}
 
 abbrev pub invariant-switch-loop-s : goal.invariant-switch-loop-s
-invariant-switch-loop-s l =
-    Opened l.cx.p.now l.cx.d.now l.cx.types.now l.cx.homes.now l.fn.out l.out
-    (drop l.first (labels_in l.cases) ++ l.end ∷ [])
-    (4 * weight_in l.cx.p.now l.fn.on + (length l.fn.labels + 3) + 4 * hefts_in l.cx.p.now (take l.s-index l.body))
+invariant-switch-loop-s l = record {
+  opened : Opened l.cx.p.now l.cx.d.now l.cx.types.now l.cx.homes.now l.fn.out l.out
+      (drop l.first (labels_in l.cases) ++ l.end ∷ [])
+      (4 * weight_in l.cx.p.now l.fn.on + (length l.fn.labels + 3) + 4 * hefts_in l.cx.p.now (take l.s-index l.body));
+  spends : Spends l.cx.fixed l.fn.out l.out
+      (2 * (weight_in l.cx.p.now l.fn.on + hefts_in l.cx.p.now (take l.s-index l.body)) + 1)
+      (32 * (weight_in l.cx.p.now l.fn.on + hefts_in l.cx.p.now (take l.s-index l.body) + length l.fn.labels)
+      + 19 * (entered l.cx.d.now l.fn.vars + all_entered_in l.cx.p.now l.cx.d.now (take l.s-index l.body)));
+}

@@ -1,11 +1,19 @@
 use Rattle.std.proofs.Common.{arith}
+use Rattle.std.proofs.lemmas.Result.{IfOk-weaker}
 use Rattle.tac_lower.proofs.Bodies.{temp_at, tail_entered}
 use Rattle.tac_lower.proofs.Constants.{zero_fits}
 use Rattle.tac_lower.proofs.Steps.{start, tail_grew}
+use Rattle.tac_lower.proofs.Entering.{entered_one}
+use Rattle.tac_lower.proofs.Spending.{spent_same, spent_within}
 use Rattle.tac_lower.proofs.statements.enter_variable.Goals as goal
 
-pub returns-in-None : goal.returns-in-None
-returns-in-None c = record { lowered = start c.requires.scene }
+pub returns-in-None-clause-lowered : goal.returns-in-None-clause-lowered
+returns-in-None-clause-lowered c =
+    start c.requires.scene
+
+pub returns-in-None-clause-spent : goal.returns-in-None-clause-spent
+returns-in-None-clause-spent c =
+    spent_same _ _
 
 pub constant-requires-clause-to : goal.constant-requires-clause-to
 constant-requires-clause-to c = temp_at c.args.x c.in-Some-Temp.t c.in-Some-Temp.kind c.requires.scene.housed (cc)
@@ -13,16 +21,28 @@ constant-requires-clause-to c = temp_at c.args.x c.in-Some-Temp.t c.in-Some-Temp
 pub constant-requires-clause-value : goal.constant-requires-clause-value
 constant-requires-clause-value c = zero_fits c.in-Some-Temp.kind
 
-pub returns-in-Some-Temp : goal.returns-in-Some-Temp
-returns-in-Some-Temp c =
-    record {
-      lowered = tail_grew _ _ c.constant.result (start c.requires.scene) c.constant.ensures.grown
-          c.constant.ensures.adds (omega arith);
-    }
+pub returns-in-Some-Temp-clause-lowered : goal.returns-in-Some-Temp-clause-lowered
+returns-in-Some-Temp-clause-lowered c =
+    tail_grew _ _ c.constant.result (start c.requires.scene) c.constant.ensures.grown
+    c.constant.ensures.adds (omega arith)
 
-pub returns-in-Some-Object : goal.returns-in-Some-Object
-returns-in-Some-Object c =
-    record {
-      lowered = tail_entered _ c.enter_object.result c.args.x c.in-Some-Object.n c.in-Some-Object.t
-          c.requires.scene (cc) c.enter_object.ensures.entered;
-    }
+pub returns-in-Some-Temp-clause-spent : goal.returns-in-Some-Temp-clause-spent
+returns-in-Some-Temp-clause-spent c =
+    let one = entered_one c.args.cx.d.now c.args.x (c.is_parameter.ensures.other c.if-is_parameter.false) c.requires.there in
+    IfOk-weaker c.constant.result _ _ (λ r h. spent_within h (omega arith) (omega (arith, one))) c.constant.ensures.spent
+
+pub returns-in-Some-Object-clause-lowered : goal.returns-in-Some-Object-clause-lowered
+returns-in-Some-Object-clause-lowered c =
+    tail_entered _ c.enter_object.result c.args.x c.in-Some-Object.n c.in-Some-Object.t
+    c.requires.scene (cc) c.enter_object.ensures.entered
+
+pub returns-in-Some-Object-clause-spent : goal.returns-in-Some-Object-clause-spent
+returns-in-Some-Object-clause-spent c =
+    let one = entered_one c.args.cx.d.now c.args.x (c.is_parameter.ensures.other c.if-is_parameter.false) c.requires.there in
+    IfOk-weaker c.enter_object.result _ _ (λ r h. spent_within h (omega arith) (omega (arith, one))) c.enter_object.ensures.spent
+
+pub returns-then-is_parameter-clause-lowered : goal.returns-then-is_parameter-clause-lowered
+returns-then-is_parameter-clause-lowered c = start c.requires.scene
+
+pub returns-then-is_parameter-clause-spent : goal.returns-then-is_parameter-clause-spent
+returns-then-is_parameter-clause-spent c = spent_same _ _

@@ -1,5 +1,7 @@
 use Rattle.std.proofs.Common.{refl, sym, arith}
-use Rattle.tac_lower.proofs.Steps.{grew, still, as_kind, room, less_room, tail_grew}
+use Rattle.tac_lower.specs.Nodes.{expression}
+use Rattle.tac_lower.proofs.Spending.{and, last_and}
+use Rattle.tac_lower.proofs.Steps.{heavy, grew, still, as_kind, room, less_room, tail_grew}
 use Rattle.tac_lower.proofs.Wells.{kept, as_capability}
 use Rattle.tac_lower.proofs.statements.initialise_object.Goals as goal
 
@@ -22,9 +24,12 @@ pub store-requires-clause-value : goal.store-requires-clause-value
 store-requires-clause-value c = as_kind (kept _ _ _ _ c.in_ok-v.ensures.has c.in_ok-at.ensures.grown)
     (sym (c.kind.ensures c.requires.scene.ready))
 
-pub returns : goal.returns
-returns c = record {
-  lowered =
-      tail_grew _ _ c.store.result (grew c.in_ok-v.ensures.lowered c.in_ok-at.ensures.grown c.in_ok-at.ensures.adds)
-      c.store.ensures.grown c.store.ensures.adds (omega arith);
-}
+pub returns-clause-lowered : goal.returns-clause-lowered
+returns-clause-lowered c =
+    tail_grew _ _ c.store.result (grew c.in_ok-v.ensures.lowered c.in_ok-at.ensures.grown c.in_ok-at.ensures.adds)
+    c.store.ensures.grown c.store.ensures.adds (omega arith)
+
+pub returns-clause-spends : goal.returns-clause-spends
+returns-clause-spends c =
+    last_and _ _ _ c.store.result (and c.in_ok-v.ensures.spends c.in_ok-at.ensures.spent) c.store.ensures.spent
+    (omega (arith, heavy (expression c.args.cx.p.now c.args.a))) (omega (arith, heavy (expression c.args.cx.p.now c.args.a)))

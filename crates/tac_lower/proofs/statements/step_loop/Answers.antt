@@ -1,12 +1,18 @@
 use Rattle.std.proofs.Common.{ap, arith}
-use Rattle.tac_lower.specs.Nodes.{weight_in}
+use Rattle.tac_lower.specs.Nodes.{weight_in, expression}
 use Rattle.tac_lower.specs.Parts.{or_none}
 use Rattle.tac_lower.proofs.Placings.{at_most_ok}
-use Rattle.tac_lower.proofs.Steps.{start, at_most, less_room}
+use Rattle.tac_lower.proofs.Spending.{nothing, within, last}
+use Rattle.tac_lower.proofs.Steps.{heavy, start, at_most, less_room}
 use Rattle.tac_lower.proofs.statements.step_loop.Goals as goal
 
-pub returns-in-None : goal.returns-in-None
-returns-in-None c = record { lowered = at_most (start c.requires.scene) (omega arith) }
+pub returns-in-None-clause-lowered : goal.returns-in-None-clause-lowered
+returns-in-None-clause-lowered c =
+    at_most (start c.requires.scene) (omega arith)
+
+pub returns-in-None-clause-spends : goal.returns-in-None-clause-spends
+returns-in-None-clause-spends c =
+    within nothing (omega arith) (omega arith)
 
 pub effect-requires-clause-typed : goal.effect-requires-clause-typed
 effect-requires-clause-typed c = c.requires.typed.each c.in-Some.e c.in-Some.is
@@ -16,7 +22,13 @@ effect-requires-clause-room c =
     let w = ap (or_none (weight_in c.args.cx.p.now)) c.in-Some.is in
     less_room c.requires.room (omega arith)
 
-pub returns-in-Some : goal.returns-in-Some
-returns-in-Some c =
+pub returns-in-Some-clause-lowered : goal.returns-in-Some-clause-lowered
+returns-in-Some-clause-lowered c =
     let w = ap (or_none (weight_in c.args.cx.p.now)) c.in-Some.is in
-    record { lowered = at_most_ok _ _ _ _ _ _ _ _ c.effect.result c.effect.ensures.lowered (omega arith) }
+    at_most_ok _ _ _ _ _ _ _ _ c.effect.result c.effect.ensures.lowered (omega arith)
+
+pub returns-in-Some-clause-spends : goal.returns-in-Some-clause-spends
+returns-in-Some-clause-spends c =
+    let w = ap (or_none (weight_in c.args.cx.p.now)) c.in-Some.is in
+    let one = heavy (expression c.args.cx.p.now c.in-Some.e) in
+    last _ _ _ c.effect.result nothing c.effect.ensures.spends (omega arith) (omega arith)

@@ -5,6 +5,7 @@ use Rattle.tac_lower.specs.Emitted.{IsOpen}
 use Rattle.tac_lower.specs.Scenes.{Opened}
 use Rattle.tac_lower.specs.Statements.{labels_of}
 use Rattle.tac_lower.proofs.Scening.{opened_none, opened_then, grown_lowered}
+use Rattle.tac_lower.proofs.Spending.{spent_then, spent_within, labelled_spent}
 use Rattle.tac_lower.proofs.Switching.{opened_permuted, opened_at_most, opened_grown, opened_label, open_beside, open_here, open_grown, labels_pushed, switched_kept}
 use Rattle.tac_lower.proofs.Wells.{keeps_same, keeps_then}
 use Rattle.tac_lower.proofs.switches.compared_cases.Goals as goal
@@ -25,6 +26,7 @@ loop-l-init c =
     opened_then p d types homes a a b [] 0 2 (opened_none p d types homes a c.requires.scene) grew in
     record {
       opened = subst (λ z. Opened p d types homes a b (labels_of z) 2) (sym c.new-cases.ensures.items) begun;
+      spent = spent_within made.spent (omega arith) (omega arith);
       switched = made.switched;
       otherwise = open_grown c.requires.end made.grown;
     }
@@ -52,6 +54,7 @@ loop-l-preserved c =
     record {
       opened = opened_at_most (subst (λ z. Opened p d types homes a b z (c.loop-l.l-index + 2 + 1)) (sym same) last)
           (omega arith);
+      spent = spent_within (spent_then (spent_then c.loop-l.invariant.spent (labelled_spent made)) c.in_ok-compare_label.ensures.spent) (omega arith) (omega arith);
       switched = switched_kept _ _ _ (keeps_then _ _ _ (keeps_same _ _ made.kinds) grown.keeps)
           c.loop-l.invariant.switched;
       otherwise = elim c.if-is_none.branch [
@@ -61,12 +64,11 @@ loop-l-preserved c =
       ];
     }
 
-pub returns : goal.returns
-returns c =
+pub returns-clause-opened : goal.returns-clause-opened
+returns-clause-opened c =
     let at_end = opened_grown c.loop-l.invariant.opened c.in_ok-jump.ensures.grown c.in_ok-jump.ensures.adds in
-    record {
-      opened =
-          opened_at_most
-          (opened_permuted _ _ at_end
-          (IsPermutation-map (λ (k : Case). k.label) _ _ c.in_ok-sort_by_key.ensures.permutation)) (omega arith);
-    }
+    opened_at_most
+    (opened_permuted _ _ at_end (IsPermutation-map (λ (k : Case). k.label) _ _ c.in_ok-sort_by_key.ensures.permutation)) (omega arith)
+
+pub returns-clause-spent : goal.returns-clause-spent
+returns-clause-spent c = spent_within (spent_then c.loop-l.invariant.spent c.in_ok-jump.ensures.spent) (omega arith) (omega arith)

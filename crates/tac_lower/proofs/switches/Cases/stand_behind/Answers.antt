@@ -1,14 +1,19 @@
+use Rattle.tac_lower.proofs.Spending.{spent_then}
 use Rattle.tac_lower.proofs.Switching.{stand_more, stand_all, items_end}
 use Rattle.tac_lower.proofs.switches.Cases.stand_behind.Goals as goal
 
 pub loop-c-preserved : goal.loop-c-preserved
 loop-c-preserved c =
-    stand_more c.args.self.now.cases.items c.args.first c.loop-c.at c.args.out.now c.loop-c.out c.stand.new.self
-    c.in-Some.c c.loop-c.invariant (cc) c.in_ok-stand.ensures.stands
+    record {
+      stand = stand_more c.args.self.now.cases.items c.args.first c.loop-c.at c.args.out.now c.loop-c.out c.stand.new.self
+          c.in-Some.c c.loop-c.invariant.stand (cc) c.in_ok-stand.ensures.stands;
+      spent = spent_then c.loop-c.invariant.spent c.in_ok-stand.ensures.spent;
+    }
 
-pub returns : goal.returns
-returns c = record {
-  stand =
-      stand_all c.args.self.now.cases.items c.args.first c.loop-c.at c.args.out.now c.loop-c.out c.loop-c.invariant
-      (items_end c.args.self.now.cases.items c.loop-c.at c.in_default.ensures);
-}
+pub returns-clause-stand : goal.returns-clause-stand
+returns-clause-stand c =
+    stand_all c.args.self.now.cases.items c.args.first c.loop-c.at c.args.out.now c.loop-c.out c.loop-c.invariant.stand
+    (items_end c.args.self.now.cases.items c.loop-c.at c.in_default.ensures)
+
+pub returns-clause-spent : goal.returns-clause-spent
+returns-clause-spent c = c.loop-c.invariant.spent

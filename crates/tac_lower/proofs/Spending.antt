@@ -1,0 +1,197 @@
+-- What code that is added takes, added up.
+use Rattle.std.proofs.Common.{◌≡◌, ℕ, zero, suc, ◌+◌, ◌-◌, ◌*◌, ◌<◌, ◌≤◌, Bool, true, false, List, [], ◌∷◌, ◌++◌, length, max, Option, Some, None, IfSome, Result, Ok, Err, IfOk, ◌⊎◌, ⊎_elim, inl, inr, refl, sym, ap, ◌∙◌, subst, arith, length-append}
+use Rattle.std.specs.Prelude.{nat_lt, if◌then◌else◌}
+use Rattle.std.proofs.lemmas.Bool.Decides.{nat_tests}
+use Rattle.std.specs.List.{sum_by}
+use Rattle.std.proofs.lemmas.List.Sums.{sum_by_push}
+use Rattle.tac_ir.specs.Costs.{cost, outgoing, outgoing_by}
+use Rattle.tac_ir.specs.declared.code.TacInstr.{TacInstr}
+use Rattle.tac_ir.specs.declared.code.TacInstr.TheVariants as instr
+use Rattle.tac_ir.specs.declared.code.TacKind.{TacKind}
+use Rattle.tac_lower.specs.declared.emitter.Emitter.{Emitter}
+use Rattle.tac_lower.specs.Emitted.{Made, Pushed, Labelled, Forked}
+use Rattle.tac_lower.specs.declared.statements.Circle.{Circle}
+use Rattle.tac_lower.specs.Statements.{Begun}
+use Rattle.tac_lower.specs.Spent.{places, words, Spent, extra, Spends, Owns}
+
+-- ---- one instruction, temp or label
+
+max_more : (a b c d : ℕ) → b ≤ c + d → max a b ≤ max a c + d
+max_more a b c d h = omega (arith, h)
+
+outgoing_push : (is : List TacInstr) (i : TacInstr) → outgoing (is ++ i ∷ []) ≤ outgoing is + outgoing_by i
+outgoing_push [] i = omega arith
+outgoing_push (j ∷ js) i = max_more (outgoing_by j) (outgoing (js ++ i ∷ [])) (outgoing js) (outgoing_by i) (outgoing_push js i)
+
+pub pushed_spent : (a b : Emitter) (i : TacInstr) → Pushed a b i → Spent a b (outgoing_by i) (cost i)
+unfolding places words
+pushed_spent a b i h = record {
+  grows = omega (arith, ap length h.kinds);
+  places = omega (arith, ap length h.kinds, ap outgoing h.code, outgoing_push a.code.items i);
+  words = omega (arith, ap (sum_by cost) h.code, sum_by_push cost a.code.items i);
+}
+
+pub made_spent : (a b : Emitter) (k : TacKind) → Made a b k → Spent a b 1 0
+unfolding places words
+made_spent a b k h = record {
+  grows = omega (arith, ap length h.kinds, length-append a.kinds.items (k ∷ []));
+  places = omega (arith, ap length h.kinds, length-append a.kinds.items (k ∷ []), ap outgoing h.code);
+  words = omega (arith, ap (sum_by cost) h.code);
+}
+
+pub labelled_spent : {a b : Emitter} {l : ℕ} → Labelled a b l → Spent a b 0 0
+unfolding places words
+labelled_spent h = record {
+  grows = omega (arith, ap length h.kinds);
+  places = omega (arith, ap length h.kinds, ap outgoing h.code);
+  words = omega (arith, ap (sum_by cost) h.code);
+}
+
+-- ---- in steps
+
+pub spent_same : (a : Emitter) (n : ℕ) → Spent a a 0 n
+spent_same a n = record { grows = omega arith; places = omega arith; words = omega arith }
+
+pub spent_then : {a b c : Emitter} {m n k l : ℕ} → Spent a b m n → Spent b c k l → Spent a c (m + k) (n + l)
+spent_then f g = record {
+  grows = omega (arith, f.grows, g.grows);
+  places = omega (arith, f.places, g.places);
+  words = omega (arith, f.words, g.words);
+}
+
+pub spent_within : {a b : Emitter} {m n k l : ℕ} → Spent a b m n → m ≤ k → n ≤ l → Spent a b k l
+spent_within f i j = record { grows = f.grows; places = omega (arith, f.places, i); words = omega (arith, f.words, j) }
+
+pub forked_spent : {a b : Emitter} {l m : ℕ} → Forked a b l m → Spent a b 0 0
+forked_spent h = spent_then (labelled_spent h.first) (labelled_spent h.second)
+
+-- a loop begins
+pub begun_spent : {a b : Emitter} {c : Circle} → Begun a b c → Spent a b 0 0
+begun_spent h =
+    spent_within (spent_then (spent_then (labelled_spent h.top) (pushed_spent _ _ _ h.stands)) (forked_spent h.others)) (omega arith) (omega arith)
+
+-- ---- in a function whose first temps belong to its variables
+
+pub extra_small : (f : ℕ) (to : Option ℕ) → extra f to ≤ 1
+unfolding extra
+extra_small f None = omega arith
+extra_small f (Some t) = by (nat_lt t f)
+  where
+    by : (b : Bool) → (if b then 1 else 0) ≤ 1
+    by true = omega arith
+    by false = omega arith
+
+pub extra_none : (f : ℕ) → extra f None ≡ 1
+unfolding extra
+extra_none f = refl
+
+module _ {f : ℕ} where
+  pub nothing : {a : Emitter} → Spends f a a 0 0
+  nothing {a = a} = record { spent = λ s. spent_same a 0 }
+
+  pub plainly : {a b : Emitter} {m n : ℕ} → Spent a b m n → Spends f a b m n
+  plainly h = record { spent = λ s. h }
+
+  pub after : {a b c : Emitter} {m n k l : ℕ} → Spends f a b m n → Spends f b c k l → Spends f a c (m + k) (n + l)
+  after g h = record { spent = λ s. spent_then (g.spent s) (h.spent (omega (arith, s, (g.spent s).grows))) }
+
+  pub and : {a b c : Emitter} {m n k l : ℕ} → Spends f a b m n → Spent b c k l → Spends f a c (m + k) (n + l)
+  and g h = after g (plainly h)
+
+  pub within : {a b : Emitter} {m n k l : ℕ} → Spends f a b m n → m ≤ k → n ≤ l → Spends f a b k l
+  within h i j = record { spent = λ s. spent_within (h.spent s) i j }
+
+  -- a new temp belongs to an expression
+  pub fresh : (t : ℕ) → f ≤ t → extra f (Some t) ≡ 0
+  unfolding extra
+  fresh t h = let no : nat_lt t f ≡ false = grind (arith, nat_tests) in ap (λ b. if b then 1 else 0) no
+
+  pub in_fresh : {a b c : Emitter} {t n : ℕ} (m : ℕ) → t ≡ length a.kinds.items → Spent a b 1 0
+      → Spends f b c (m + extra f (Some t)) (n + 6 * extra f (Some t)) → Spends f a c (m + 1) n
+  in_fresh {t = t} m e g h = record {
+    spent = λ s.
+        let none : extra f (Some t) ≡ 0 = fresh t (omega (arith, e, s)) in
+        let rest = h.spent (omega (arith, s, g.grows)) in
+        let both = spent_then g rest in
+        spent_within both (omega (arith, none)) (omega (arith, none));
+  }
+
+  -- ---- where the last call's result is handed on
+
+  pub last : {T E : Type 0} {a b : Emitter} {m n k l : ℕ} (c : Emitter) (u v : ℕ) (r : Result T E)
+      → Spends f a b m n → IfOk r (λ _. Spends f b c u v) → m + u ≤ k → n + v ≤ l → IfOk r (λ _. Spends f a c k l)
+  last c u v (Ok x) g h i j = within (after g h) i j
+  last c u v (Err e) g h i j = tt
+
+  pub last_and : {T E : Type 0} {a b : Emitter} {m n k l : ℕ} (c : Emitter) (u v : ℕ) (r : Result T E)
+      → Spends f a b m n → IfOk r (λ _. Spent b c u v) → m + u ≤ k → n + v ≤ l → IfOk r (λ _. Spends f a c k l)
+  last_and c u v (Ok x) g h i j = within (and g h) i j
+  last_and c u v (Err e) g h i j = tt
+
+  pub last_pushed : {T E : Type 0} {a b : Emitter} {m n k l : ℕ} (c : Emitter) (i : TacInstr) (r : Result T E)
+      → Spends f a b m n → IfOk r (λ _. Pushed b c i) → m + outgoing_by i ≤ k → n + cost i ≤ l
+      → IfOk r (λ _. Spends f a c k l)
+  last_pushed {b = b} c i (Ok x) g h p q = within (and g (pushed_spent b c i h)) p q
+  last_pushed c i (Err e) g h p q = tt
+
+  -- ---- a temp for a value that is changed in steps
+
+  pub owned : {a b c : Emitter} {to : Option ℕ} {t m n : ℕ} → Spends f a b m n → Owns f to b c t → Spends f a c (m + extra f to) n
+  owned g h = record {
+    spent = λ s.
+        spent_within (spent_then (g.spent s) (h.spent (omega (arith, s, (g.spent s).grows)))) (omega arith) (omega arith);
+  }
+
+  pub in_own : {a b c : Emitter} {to : Option ℕ} {t n : ℕ} (m : ℕ) → Owns f to a b t
+      → Spends f b c (m + extra f (Some t)) (n + 6 * extra f (Some t)) → Spends f a c (m + extra f to) n
+  in_own {to = to} {t = t} m g h = record {
+    spent = λ s.
+        let none : extra f (Some t) ≡ 0 = g.own s in
+        let mine = g.spent s in
+        spent_within (spent_then mine (h.spent (omega (arith, s, mine.grows)))) (omega (arith, none)) (omega (arith, none));
+  }
+
+  pub other : (t : ℕ) → t < f → extra f (Some t) ≡ 1
+  unfolding extra
+  other t h = let yes : nat_lt t f ≡ true = grind (arith, nat_tests) in ap (λ b. if b then 1 else 0) yes
+
+  pub own_given : {a : Emitter} {to : Option ℕ} {t : ℕ} → to ≡ Some t → f ≤ t → Owns f to a a t
+  own_given {a = a} {to = to} {t = t} e h = record {
+    spent = λ s. spent_within (spent_same a 0) (omega arith) (omega arith);
+    own = λ s. fresh t h;
+    given = inr e;
+  }
+
+  pub own_new : {a b : Emitter} {to : Option ℕ} {t : ℕ} → extra f to ≡ 1 → t ≡ length a.kinds.items → Spent a b 1 0 → Owns f to a b t
+  own_new {t = t} e next h = record {
+    spent = λ s. spent_within h (omega (arith, e)) (omega arith);
+    own = λ s. fresh t (omega (arith, s, next));
+    given = inl e;
+  }
+
+  -- the value is handed on to where it is asked for
+  pub last_given : {T E : Type 0} {a b d g : Emitter} {to : Option ℕ} {t m n k l : ℕ} (c : Emitter) (r : Result T E)
+      → Owns f to d g t → Spends f a b m n → IfOk r (λ _. Spent b c 0 6)
+      → (IfSome to (λ u. u ≡ t) → IfOk r (λ _. Spent b c 0 0)) → m ≤ k → n + 6 * extra f to ≤ l → IfOk r (λ _. Spends f a c k l)
+  last_given {to = to} {t = t} c (Ok x) o g h there i j =
+      ⊎_elim (λ (e : extra f to ≡ 1). within (and g h) (omega (arith, i)) (omega (arith, e, j)))
+      (λ (e : to ≡ Some t). within (and g (there (subst (λ z. IfSome z (λ u. u ≡ t)) (sym e) refl))) (omega (arith, i)) (omega (arith, j))) o.given
+  last_given c (Err x) o g h there i j = tt
+
+module _ (f : ℕ) {T : Type 0} (a b : Emitter) {to : Option ℕ} where
+  pub own_none : (r : Result ℕ T) → to ≡ None → IfOk r (λ t. t ≡ length a.kinds.items) → IfOk r (λ _. Spent a b 1 0)
+      → IfOk r (λ t. Owns f to a b t)
+  own_none (Ok t) e next h = own_new (ap (extra f) e ∙ extra_none f) next h
+  own_none (Err x) e next h = tt
+
+  pub own_other : (r : Result ℕ T) (u : ℕ) → to ≡ Some u → u < f → IfOk r (λ t. t ≡ length a.kinds.items)
+      → IfOk r (λ _. Spent a b 1 0) → IfOk r (λ t. Owns f to a b t)
+  own_other (Ok t) u e lt next h = own_new (ap (extra f) e ∙ other u lt) next h
+  own_other (Err x) u e lt next h = tt
+
+-- the last call has its value in a new temp
+pub last_fresh : {T E : Type 0} {a b : Emitter} {t n k l : ℕ} (f m : ℕ) (c : Emitter) (r : Result T E) → t ≡ length a.kinds.items
+    → Spent a b 1 0 → IfOk r (λ _. Spends f b c (m + extra f (Some t)) (n + 6 * extra f (Some t))) → m + 1 ≤ k → n ≤ l
+    → IfOk r (λ _. Spends f a c k l)
+last_fresh f m c (Ok x) e g h i j = within (in_fresh m e g h) i j
+last_fresh f m c (Err x) e g h i j = tt

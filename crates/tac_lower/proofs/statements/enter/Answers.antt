@@ -1,0 +1,28 @@
+use Rattle.std.proofs.Common.{arith}
+use Rattle.tac_lower.proofs.Entering.{entered_next, entered_taken}
+use Rattle.tac_lower.proofs.Spending.{spent_same, spent_then, spent_within}
+use Rattle.tac_lower.proofs.Steps.{start, both, at_most}
+use Rattle.tac_lower.proofs.statements.enter.Goals as goal
+
+pub loop-x-init : goal.loop-x-init
+loop-x-init c = record { lowered = start c.requires.scene; spent = spent_same _ _ }
+
+pub enter_variable-requires-clause-scene : goal.enter_variable-requires-clause-scene
+enter_variable-requires-clause-scene c = c.loop-x.invariant.lowered.scene
+
+pub loop-x-preserved : goal.loop-x-preserved
+loop-x-preserved c =
+    let next = entered_next c.args.cx.d.now c.args.vars.now c.loop-x.x-index (omega arith) in
+    record {
+      lowered = at_most (both c.loop-x.invariant.lowered c.in_ok-enter_variable.ensures.lowered) (omega arith);
+      spent = spent_within (spent_then c.loop-x.invariant.spent c.in_ok-enter_variable.ensures.spent) (omega arith)
+          (omega (arith, next));
+    }
+
+pub returns-clause-lowered : goal.returns-clause-lowered
+returns-clause-lowered c = c.loop-x.invariant.lowered
+
+pub returns-clause-spent : goal.returns-clause-spent
+returns-clause-spent c =
+    let all = entered_taken c.args.cx.d.now c.args.vars.now c.loop-x.x-index in
+    spent_within c.loop-x.invariant.spent (omega arith) (omega (arith, all))
