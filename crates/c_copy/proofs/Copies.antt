@@ -253,6 +253,9 @@ action_copies_push t oe os ne me ns ms ks js ls k j x y c d e =
 
 -- ---- answers
 
+pub copies_count : (js ls : List ℕ) (j i : ℕ) → ls ≡ js ++ j ∷ [] → length js ≡ i → length ls ≡ i + 1
+copies_count js ls j i e h = ap length e ∙ length-append js (j ∷ []) ∙ ap (λ n. n + 1) h
+
 -- a number at the end of a list
 pub pushed : (r : Result ℕ NoMemory) (P : ℕ → Type 0) (E : Type 0) (n : ℕ) → OnOk r E → IfOk r (λ k. k ≡ n) → (E → P n) → IfOk r P
 pushed (Ok k) P E n e f g = rw f (g e)

@@ -1,2 +1,4 @@
 pub mod Copies
+pub mod Items
 pub mod Marking
+pub mod Standing

@@ -1,5 +1,5 @@
 -- What a copy of expressions and statements is.
-use Rattle.std.specs.Prelude.{◌≡◌, ℕ, ◌<◌, List, ◌∷◌, ◌++◌, length, map, Option, Some, slice_get}
+use Rattle.std.specs.Prelude.{◌≡◌, ℕ, ◌<◌, Bool, true, false, List, ◌∷◌, ◌++◌, length, map, Option, Some, slice_get}
 use Rattle.c_tree.specs.declared.typed.Expr.{Expr}
 use Rattle.c_tree.specs.declared.typed.ExprKind.{ExprKind}
 use Rattle.c_tree.specs.declared.typed.ExprKind.TheVariants as exprs
@@ -71,6 +71,40 @@ stmt_form stmts.Break = tree.Break
 stmt_form stmts.Continue = tree.Continue
 stmt_form (stmts.Return a) = tree.Return
 stmt_form stmts.Empty = tree.Empty
+
+-- it has one operand, and two, and is no call
+abbrev pub is_step : ExprKind → Bool
+is_step (exprs.Load a) = true
+is_step (exprs.Decay a) = true
+is_step (exprs.Deref a) = true
+is_step (exprs.Member a k) = true
+is_step (exprs.Address a) = true
+is_step (exprs.Convert a) = true
+is_step (exprs.Unary o a) = true
+is_step (exprs.Step a adds in_front) = true
+is_step k = false
+
+abbrev pub is_join : ExprKind → Bool
+is_join (exprs.Int o a b) = true
+is_join (exprs.Capability o a b r) = true
+is_join (exprs.Plus a b m) = true
+is_join (exprs.Difference a b) = true
+is_join (exprs.Compare o a b) = true
+is_join (exprs.And a b) = true
+is_join (exprs.Or a b) = true
+is_join (exprs.Comma a b) = true
+is_join (exprs.Assign a b) = true
+is_join (exprs.Compound o a b of) = true
+is_join k = false
+
+-- it is none of those that never have operands
+abbrev pub is_inner : ExprKind → Bool
+is_inner (exprs.Constant n) = false
+is_inner (exprs.Literal k) = false
+is_inner (exprs.Var k) = false
+is_inner (exprs.Global k) = false
+is_inner (exprs.Fun k) = false
+is_inner k = true
 
 -- the same node with these operands, where objects and functions have new numbers
 pub record IsKindWith (t : Numbers) (old : ExprKind) (xs : List ℕ) (new : ExprKind) : Type 0 where

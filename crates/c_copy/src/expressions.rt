@@ -1,10 +1,10 @@
 //! Copies of expressions.
 
-ghost use Rattle.std.specs.Prelude.{◌≡◌, ◌++◌, ◌∷◌, [], Some, IfOk, OnOk, length, slice_get};
-ghost use Rattle.c_copy.specs.Copying.{Extends, IsCopy, AreCopies};
+ghost use Rattle.std.specs.Prelude.{◌≡◌, ℕ, ◌<◌, ◌≤◌, ◌++◌, ◌∷◌, [], Some, IfOk, OnOk, length, slice_get};
+ghost use Rattle.c_copy.specs.Copying.{AllBelow, Extends, IsCopy, AreCopies};
+ghost use Rattle.c_copy.specs.Standing.{StandsIn, NamesThere};
 
 use crate::kinds::{kind_with, operands};
-use crate::lists::all_below;
 use crate::numbers::Numbers;
 use c_tree::{Expr, Stmt};
 use ck_base::NoMemory;
@@ -17,16 +17,15 @@ pub struct Source<'a> {
     pub exprs: &'a [Expr],
     pub stmts: &'a [Stmt],
     pub numbers: &'a Numbers,
-    /// How many levels an expression, and a statement, may have.
-    pub levels: u32,
 }
 
-fn expr_at(exprs: &[Expr], k: u32) -> Result<&Expr, NoMemory>
-    ensures { IfOk result (λ e. slice_get exprs.now k ≡ Some e.now) }
+fn expr_at(exprs: &[Expr], k: u32) -> &Expr
+    requires { k < length exprs.now }
+    ensures { slice_get exprs.now k ≡ Some result.now }
 {
     match exprs.get(k as usize) {
-        Some(e) => Ok(e),
-        None => Err(NoMemory),
+        Some(e) => e,
+        None => unreachable!(),
     }
 }
 
@@ -43,22 +42,14 @@ fn push_expr(into: &mut Vec<Expr>, e: Expr) -> Result<u32, NoMemory>
 
 /// The number of a new copy of expression `k`, which stands with copies of its operands at the end of the list.
 #[cycle(expressions)]
-pub(crate) fn expression(
-    source: &Source<'_>,
-    k: u32,
-    depth: u32,
-    into: &mut Vec<Expr>,
-) -> Result<u32, NoMemory>
+pub(crate) fn expression(source: &Source<'_>, k: u32, into: &mut Vec<Expr>) -> Result<u32, NoMemory>
+    requires { StandsIn (NamesThere source.now.numbers.now) source.now.exprs.now k }
     ensures extends { OnOk result (Extends into.old.items into.new.items) }
     ensures is { IfOk result (IsCopy source.now.numbers.now source.now.exprs.now into.new.items k) }
 {
-    if depth == 0 {
-        return Err(NoMemory);
-    }
-    let e = expr_at(source.exprs, k)?;
+    let e = expr_at(source.exprs, k);
     let ks = operands(source.alloc, &e.kind)?;
-    all_below(ks.as_slice(), k)?;
-    let js = expressions(source, ks.as_slice(), depth - 1, into)?;
+    let js = expressions(source, ks.as_slice(), k as usize, into)?;
     let kind = kind_with(source.alloc, source.numbers, &e.kind, js.as_slice())?;
     push_expr(
         into,
@@ -70,20 +61,23 @@ pub(crate) fn expression(
     )
 }
 
-/// The numbers of new copies of some expressions.
+/// The numbers of new copies of some expressions, each of which stands before number `limit`.
 #[cycle(expressions)]
 pub(crate) fn expressions(
     source: &Source<'_>,
     ks: &[u32],
-    depth: u32,
+    limit: usize,
     into: &mut Vec<Expr>,
 ) -> Result<Vec<u32>, NoMemory>
+    requires below { AllBelow limit ks.now }
+    requires stand { (j a : ℕ) → slice_get ks.now j ≡ Some a → StandsIn (NamesThere source.now.numbers.now) source.now.exprs.now a }
     ensures extends { OnOk result (Extends into.old.items into.new.items) }
+    ensures count { IfOk result (λ js. length js.items ≡ length ks.now) }
     ensures are { IfOk result (λ js. AreCopies source.now.numbers.now source.now.exprs.now into.new.items ks.now js.items) }
 {
     let mut js = Vec::new(source.alloc);
     for k in ks {
-        let j = expression(source, *k, depth, into)?;
+        let j = expression(source, *k, into)?;
         js.push(j)?;
     }
     Ok(js)

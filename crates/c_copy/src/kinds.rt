@@ -1,12 +1,11 @@
 //! Expressions with other operands.
 
-ghost use Rattle.std.specs.Prelude.{◌≡◌, ◌∷◌, [], IfOk};
+ghost use Rattle.std.specs.Prelude.{◌≡◌, ◌<◌, ◌∷◌, [], true, IfOk, length};
 ghost use Rattle.c_tree.specs.Views.{operands};
-ghost use Rattle.c_copy.specs.Copying.{IsKindWith, IsPlainWith, IsCallOf};
+ghost use Rattle.c_copy.specs.Copying.{is_step, is_join, is_inner, IsKindWith, IsPlainWith, IsCallOf};
+ghost use Rattle.c_copy.specs.Standing.{KindNamesThere};
 
-use crate::lists::{
-    list_from, list_of_one, list_of_three, list_of_two, listed, none, one, three, two,
-};
+use crate::lists::{list_from, list_of_one, list_of_three, list_of_two, listed, one, three, two};
 use crate::numbers::Numbers;
 use c_tree::ExprKind;
 use ck_base::{NoMemory, Sequence};
@@ -46,60 +45,44 @@ pub fn operands(alloc: Global, kind: &ExprKind) -> Result<Vec<u32>, NoMemory>
     }
 }
 
-fn leaf_with(numbers: &Numbers, kind: &ExprKind) -> Result<ExprKind, NoMemory>
-    ensures { IfOk result (IsKindWith numbers.now kind.now []) }
+fn step_with(kind: &ExprKind, a: u32) -> ExprKind
+    requires { is_step kind.now ≡ true }
+    ensures { IsPlainWith kind.now (a ∷ []) result }
 {
     match kind {
-        ExprKind::Constant(n) => Ok(ExprKind::Constant(*n)),
-        ExprKind::Literal(k) => Ok(ExprKind::Literal(*k)),
-        ExprKind::Var(k) => Ok(ExprKind::Var(*k)),
-        ExprKind::Global(k) => {
-            let v = numbers.object(*k)?;
-            Ok(ExprKind::Global(v))
-        }
-        ExprKind::Fun(k) => {
-            let v = numbers.function(*k)?;
-            Ok(ExprKind::Fun(v))
-        }
-        _ => Err(NoMemory),
+        ExprKind::Load(_) => ExprKind::Load(a),
+        ExprKind::Decay(_) => ExprKind::Decay(a),
+        ExprKind::Deref(_) => ExprKind::Deref(a),
+        ExprKind::Member(_, k) => ExprKind::Member(a, *k),
+        ExprKind::Address(_) => ExprKind::Address(a),
+        ExprKind::Convert(_) => ExprKind::Convert(a),
+        ExprKind::Unary(o, _) => ExprKind::Unary(*o, a),
+        ExprKind::Step(_, adds, in_front) => ExprKind::Step(a, *adds, *in_front),
+        _ => unreachable!(),
     }
 }
 
-fn step_with(kind: &ExprKind, a: u32) -> Result<ExprKind, NoMemory>
-    ensures { IfOk result (IsPlainWith kind.now (a ∷ [])) }
+fn join_with(kind: &ExprKind, a: u32, b: u32) -> ExprKind
+    requires { is_join kind.now ≡ true }
+    ensures { IsPlainWith kind.now (a ∷ b ∷ []) result }
 {
     match kind {
-        ExprKind::Load(_) => Ok(ExprKind::Load(a)),
-        ExprKind::Decay(_) => Ok(ExprKind::Decay(a)),
-        ExprKind::Deref(_) => Ok(ExprKind::Deref(a)),
-        ExprKind::Member(_, k) => Ok(ExprKind::Member(a, *k)),
-        ExprKind::Address(_) => Ok(ExprKind::Address(a)),
-        ExprKind::Convert(_) => Ok(ExprKind::Convert(a)),
-        ExprKind::Unary(o, _) => Ok(ExprKind::Unary(*o, a)),
-        ExprKind::Step(_, adds, in_front) => Ok(ExprKind::Step(a, *adds, *in_front)),
-        _ => Err(NoMemory),
-    }
-}
-
-fn join_with(kind: &ExprKind, a: u32, b: u32) -> Result<ExprKind, NoMemory>
-    ensures { IfOk result (IsPlainWith kind.now (a ∷ b ∷ [])) }
-{
-    match kind {
-        ExprKind::Int(o, _, _) => Ok(ExprKind::Int(*o, a, b)),
-        ExprKind::Capability(o, _, _, r) => Ok(ExprKind::Capability(*o, a, b, *r)),
-        ExprKind::Plus(_, _, minus) => Ok(ExprKind::Plus(a, b, *minus)),
-        ExprKind::Difference(_, _) => Ok(ExprKind::Difference(a, b)),
-        ExprKind::Compare(o, _, _) => Ok(ExprKind::Compare(*o, a, b)),
-        ExprKind::And(_, _) => Ok(ExprKind::And(a, b)),
-        ExprKind::Or(_, _) => Ok(ExprKind::Or(a, b)),
-        ExprKind::Comma(_, _) => Ok(ExprKind::Comma(a, b)),
-        ExprKind::Assign(_, _) => Ok(ExprKind::Assign(a, b)),
-        ExprKind::Compound(o, _, _, of) => Ok(ExprKind::Compound(*o, a, b, *of)),
-        _ => Err(NoMemory),
+        ExprKind::Int(o, _, _) => ExprKind::Int(*o, a, b),
+        ExprKind::Capability(o, _, _, r) => ExprKind::Capability(*o, a, b, *r),
+        ExprKind::Plus(_, _, minus) => ExprKind::Plus(a, b, *minus),
+        ExprKind::Difference(_, _) => ExprKind::Difference(a, b),
+        ExprKind::Compare(o, _, _) => ExprKind::Compare(*o, a, b),
+        ExprKind::And(_, _) => ExprKind::And(a, b),
+        ExprKind::Or(_, _) => ExprKind::Or(a, b),
+        ExprKind::Comma(_, _) => ExprKind::Comma(a, b),
+        ExprKind::Assign(_, _) => ExprKind::Assign(a, b),
+        ExprKind::Compound(o, _, _, of) => ExprKind::Compound(*o, a, b, *of),
+        _ => unreachable!(),
     }
 }
 
 fn call_with(alloc: Global, xs: &[u32]) -> Result<ExprKind, NoMemory>
+    requires { 0 < length xs.now }
     ensures { IfOk result (IsCallOf xs.now) }
 {
     match xs {
@@ -107,17 +90,19 @@ fn call_with(alloc: Global, xs: &[u32]) -> Result<ExprKind, NoMemory>
             let rest = listed(alloc, ys)?;
             Ok(ExprKind::Call(*f, Sequence::from_vec(rest)))
         }
-        [] => Err(NoMemory),
+        [] => unreachable!(),
     }
 }
 
-/// The expression with these operands, where it has some.
+/// The expression with these operands, of one that names no object or function: as many as it has.
 pub fn inner_with(alloc: Global, kind: &ExprKind, xs: &[u32]) -> Result<ExprKind, NoMemory>
+    requires inner { is_inner kind.now ≡ true }
+    requires count { length xs.now ≡ length (operands kind.now) }
     ensures { IfOk result (IsPlainWith kind.now xs.now) }
 {
     match kind {
         ExprKind::Conditional(_, _, _) => {
-            let (a, b, c) = three(xs)?;
+            let (a, b, c) = three(xs);
             Ok(ExprKind::Conditional(a, b, c))
         }
         ExprKind::Call(_, _) => call_with(alloc, xs),
@@ -133,34 +118,33 @@ pub fn inner_with(alloc: Global, kind: &ExprKind, xs: &[u32]) -> Result<ExprKind
         | ExprKind::Convert(_)
         | ExprKind::Unary(_, _)
         | ExprKind::Step(_, _, _) => {
-            let a = one(xs)?;
-            step_with(kind, a)
+            let a = one(xs);
+            Ok(step_with(kind, a))
         }
         _ => {
-            let (a, b) = two(xs)?;
-            join_with(kind, a, b)
+            let (a, b) = two(xs);
+            Ok(join_with(kind, a, b))
         }
     }
 }
 
-/// The expression with these operands, and with the new numbers of objects and functions.
+/// The expression with as many operands, these, and with the new numbers of objects and functions.
 pub(crate) fn kind_with(
     alloc: Global,
     numbers: &Numbers,
     kind: &ExprKind,
     xs: &[u32],
 ) -> Result<ExprKind, NoMemory>
+    requires count { length xs.now ≡ length (operands kind.now) }
+    requires names { KindNamesThere numbers.now kind.now }
     ensures { IfOk result (IsKindWith numbers.now kind.now xs.now) }
 {
     match kind {
-        ExprKind::Constant(_)
-        | ExprKind::Literal(_)
-        | ExprKind::Var(_)
-        | ExprKind::Global(_)
-        | ExprKind::Fun(_) => {
-            none(xs)?;
-            leaf_with(numbers, kind)
-        }
+        ExprKind::Constant(n) => Ok(ExprKind::Constant(*n)),
+        ExprKind::Literal(k) => Ok(ExprKind::Literal(*k)),
+        ExprKind::Var(k) => Ok(ExprKind::Var(*k)),
+        ExprKind::Global(k) => Ok(ExprKind::Global(numbers.object(*k))),
+        ExprKind::Fun(k) => Ok(ExprKind::Fun(numbers.function(*k))),
         _ => inner_with(alloc, kind, xs),
     }
 }

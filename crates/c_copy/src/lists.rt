@@ -1,6 +1,6 @@
 //! Short lists of numbers.
 
-ghost use Rattle.std.specs.Prelude.{◌≡◌, ◌<◌, ◌++◌, ◌∷◌, [], IfOk, OnOk};
+ghost use Rattle.std.specs.Prelude.{◌≡◌, ◌<◌, ◌++◌, ◌∷◌, [], IfOk, OnOk, length};
 ghost use Rattle.c_copy.specs.Copying.{AllBelow};
 
 use ck_base::NoMemory;
@@ -56,58 +56,39 @@ pub(crate) fn list_to(alloc: Global, xs: &[u32], a: u32) -> Result<Vec<u32>, NoM
     Ok(v)
 }
 
-/// The list is empty. Else NoMemory.
-pub fn none(xs: &[u32]) -> Result<(), NoMemory>
-    ensures { OnOk result (xs.now ≡ []) }
-{
-    match xs {
-        [] => Ok(()),
-        _ => Err(NoMemory),
-    }
-}
-
 // The number of a list of one.
-pub(crate) fn one(xs: &[u32]) -> Result<u32, NoMemory>
-    ensures { IfOk result (λ a. xs.now ≡ a ∷ []) }
+pub(crate) fn one(xs: &[u32]) -> u32
+    requires { length xs.now ≡ 1 }
+    ensures { xs.now ≡ result ∷ [] }
 {
     match xs {
-        [a] => Ok(*a),
-        _ => Err(NoMemory),
+        [a] => *a,
+        _ => unreachable!(),
     }
 }
 
-/// The numbers of a list of two. Else NoMemory.
-pub fn two(xs: &[u32]) -> Result<(u32, u32), NoMemory>
-    ensures { IfOk result (λ x. xs.now ≡ x.0 ∷ x.1 ∷ []) }
+/// The numbers of a list of two.
+pub fn two(xs: &[u32]) -> (u32, u32)
+    requires { length xs.now ≡ 2 }
+    ensures { xs.now ≡ result.0 ∷ result.1 ∷ [] }
 {
     match xs {
-        [a, b] => Ok((*a, *b)),
-        _ => Err(NoMemory),
+        [a, b] => (*a, *b),
+        _ => unreachable!(),
     }
 }
 
-pub(crate) fn three(xs: &[u32]) -> Result<(u32, u32, u32), NoMemory>
-    ensures { IfOk result (λ x. xs.now ≡ x.0 ∷ x.1 ∷ x.2 ∷ []) }
+pub(crate) fn three(xs: &[u32]) -> (u32, u32, u32)
+    requires { length xs.now ≡ 3 }
+    ensures { xs.now ≡ result.0 ∷ result.1 ∷ result.2 ∷ [] }
 {
     match xs {
-        [a, b, c] => Ok((*a, *b, *c)),
-        _ => Err(NoMemory),
+        [a, b, c] => (*a, *b, *c),
+        _ => unreachable!(),
     }
 }
 
-/// Each number is below another. Else NoMemory.
-pub fn all_below(xs: &[u32], k: u32) -> Result<(), NoMemory>
-    ensures { OnOk result (AllBelow k xs.now) }
-{
-    for x in xs {
-        if *x >= k {
-            return Err(NoMemory);
-        }
-    }
-    Ok(())
-}
-
-// A number is below another.
+// A number is below another. Else NoMemory.
 pub(crate) fn below(a: u32, n: usize) -> Result<(), NoMemory>
     ensures { OnOk result (a < n) }
 {
@@ -118,7 +99,8 @@ pub(crate) fn below(a: u32, n: usize) -> Result<(), NoMemory>
     }
 }
 
-pub(crate) fn all_under(xs: &[u32], n: usize) -> Result<(), NoMemory>
+/// Each number is below another. Else NoMemory.
+pub fn all_below(xs: &[u32], n: usize) -> Result<(), NoMemory>
     ensures { OnOk result (AllBelow n xs.now) }
 {
     for x in xs {

@@ -1,10 +1,10 @@
 //! The new numbers of objects and functions.
 
-ghost use Rattle.std.specs.Prelude.{◌≡◌, Some, IfOk, slice_get};
+ghost use Rattle.std.specs.Prelude.{◌≡◌, ◌<◌, Some, length, slice_get};
 ghost use Rattle.c_copy.specs.Copying.{IsTargetWith};
+ghost use Rattle.c_copy.specs.Standing.{TargetThere};
 
 use c_tree::Target;
-use ck_base::NoMemory;
 
 /// The new numbers of objects and of functions, by the old ones.
 #[derive(Debug, Drop)]
@@ -14,38 +14,35 @@ pub struct Numbers {
 }
 
 impl Numbers {
-    pub(crate) fn object(&self, k: u32) -> Result<u32, NoMemory>
-        ensures { IfOk result (λ v. slice_get self.now.objects.items k ≡ Some v) }
+    pub(crate) fn object(&self, k: u32) -> u32
+        requires { k < length self.now.objects.items }
+        ensures { slice_get self.now.objects.items k ≡ Some result }
     {
         match self.objects.get(k as usize).copied() {
-            Some(v) => Ok(v),
-            None => Err(NoMemory),
+            Some(v) => v,
+            None => unreachable!(),
         }
     }
 
-    pub(crate) fn function(&self, k: u32) -> Result<u32, NoMemory>
-        ensures { IfOk result (λ v. slice_get self.now.functions.items k ≡ Some v) }
+    pub(crate) fn function(&self, k: u32) -> u32
+        requires { k < length self.now.functions.items }
+        ensures { slice_get self.now.functions.items k ≡ Some result }
     {
         match self.functions.get(k as usize).copied() {
-            Some(v) => Ok(v),
-            None => Err(NoMemory),
+            Some(v) => v,
+            None => unreachable!(),
         }
     }
 
     /// What an initial pointer points to, by its new number.
-    pub fn target(&self, target: Target) -> Result<Target, NoMemory>
-        ensures { IfOk result (IsTargetWith self.now target) }
+    pub fn target(&self, target: Target) -> Target
+        requires { TargetThere self.now target }
+        ensures { IsTargetWith self.now target result }
     {
         match target {
-            Target::Global(k) => {
-                let v = self.object(k)?;
-                Ok(Target::Global(v))
-            }
-            Target::Fun(k) => {
-                let v = self.function(k)?;
-                Ok(Target::Fun(v))
-            }
-            Target::Literal(k) => Ok(Target::Literal(k)),
+            Target::Global(k) => Target::Global(self.object(k)),
+            Target::Fun(k) => Target::Fun(self.function(k)),
+            Target::Literal(k) => Target::Literal(k),
         }
     }
 }

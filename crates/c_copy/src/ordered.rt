@@ -6,7 +6,7 @@ ghost use Rattle.c_copy.specs.Copying.{AllBelow};
 ghost use Rattle.c_copy.specs.Ordered.{HasMarks, Marks, AreTyped, AreVars};
 
 use crate::kinds::operands;
-use crate::lists::{all_under, below};
+use crate::lists::{all_below, below};
 use crate::marks::{check_marks, mark, mark_one, no_marks};
 use crate::stmt_kinds::{parts, values};
 use c_tree::{CType, Expr, FunDef, GlobalDef, Member, Stmt, Typed, VarDef};
@@ -34,7 +34,7 @@ fn check_type(n: usize, k: usize, c: &CType) -> Result<(), NoMemory>
         }
         CType::Function(t, params) => {
             below(*t, k)?;
-            all_under(params.as_slice(), k)
+            all_below(params.as_slice(), k)
         }
         CType::Void | CType::Int(_, _) | CType::Cap(_) | CType::Incomplete(_) => Ok(()),
     }
@@ -66,7 +66,7 @@ fn check_expr(
 {
     below(e.of, types)?;
     let xs = operands(alloc, &e.kind)?;
-    all_under(xs.as_slice(), k)?;
+    all_below(xs.as_slice(), k)?;
     mark(table, xs.as_slice())
 }
 
@@ -107,7 +107,7 @@ fn check_stmt(
     let xs = values(alloc, &s.kind)?;
     mark(exprs, xs.as_slice())?;
     let ys = parts(alloc, &s.kind)?;
-    all_under(ys.as_slice(), k)?;
+    all_below(ys.as_slice(), k)?;
     mark(stmts, ys.as_slice())
 }
 

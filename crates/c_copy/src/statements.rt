@@ -1,7 +1,8 @@
 //! Copies of statements.
 
-ghost use Rattle.std.specs.Prelude.{◌≡◌, ◌++◌, ◌∷◌, [], Some, IfOk, OnOk, length, slice_get};
-ghost use Rattle.c_copy.specs.Copying.{Extends, IsActionCopy, AreActionCopies};
+ghost use Rattle.std.specs.Prelude.{◌≡◌, ℕ, ◌<◌, ◌≤◌, ◌++◌, ◌∷◌, [], Some, IfOk, OnOk, length, slice_get};
+ghost use Rattle.c_copy.specs.Copying.{AllBelow, Extends, IsActionCopy, AreActionCopies};
+ghost use Rattle.c_copy.specs.Standing.{ActionStandsIn, NamesThere};
 
 use crate::expressions::{Source, expressions};
 use crate::lists::all_below;
@@ -16,12 +17,13 @@ pub struct Copied {
     pub stmts: Vec<Stmt>,
 }
 
-fn stmt_at(stmts: &[Stmt], k: u32) -> Result<&Stmt, NoMemory>
-    ensures { IfOk result (λ s. slice_get stmts.now k ≡ Some s.now) }
+fn stmt_at(stmts: &[Stmt], k: u32) -> &Stmt
+    requires { k < length stmts.now }
+    ensures { slice_get stmts.now k ≡ Some result.now }
 {
     match stmts.get(k as usize) {
-        Some(s) => Ok(s),
-        None => Err(NoMemory),
+        Some(s) => s,
+        None => unreachable!(),
     }
 }
 
@@ -38,43 +40,43 @@ fn push_stmt(into: &mut Vec<Stmt>, s: Stmt) -> Result<u32, NoMemory>
 
 /// The number of a new copy of statement `k`, which stands with copies of its expressions and of its statements at the ends of the lists.
 #[cycle(statements)]
-pub fn statement(
-    source: &Source<'_>,
-    k: u32,
-    depth: u32,
-    into: &mut Copied,
-) -> Result<u32, NoMemory>
+pub fn statement(source: &Source<'_>, k: u32, into: &mut Copied) -> Result<u32, NoMemory>
+    requires there { k < length source.now.stmts.now }
+    requires stands { ActionStandsIn (NamesThere source.now.numbers.now) source.now.exprs.now source.now.stmts.now k }
     ensures exprs { OnOk result (Extends into.old.exprs.items into.new.exprs.items) }
     ensures stmts { OnOk result (Extends into.old.stmts.items into.new.stmts.items) }
     ensures is { IfOk result (IsActionCopy source.now.numbers.now source.now.exprs.now source.now.stmts.now into.new.exprs.items into.new.stmts.items k) }
 {
-    if depth == 0 {
-        return Err(NoMemory);
-    }
-    let s = stmt_at(source.stmts, k)?;
+    let s = stmt_at(source.stmts, k);
     let xs = values(source.alloc, &s.kind)?;
     let ks = parts(source.alloc, &s.kind)?;
-    all_below(ks.as_slice(), k)?;
-    let vs = expressions(source, xs.as_slice(), source.levels, &mut into.exprs)?;
-    let js = statements(source, ks.as_slice(), depth - 1, into)?;
+    let count = source.exprs.len();
+    all_below(ks.as_slice(), k as usize)?;
+    let vs = expressions(source, xs.as_slice(), count, &mut into.exprs)?;
+    let js = statements(source, ks.as_slice(), k as usize, into)?;
     let kind = stmt_with(source.alloc, &s.kind, vs.as_slice(), js.as_slice())?;
     push_stmt(&mut into.stmts, Stmt { kind, pos: s.pos })
 }
 
+// The numbers of new copies of some statements, each of which stands before number `limit`.
 #[cycle(statements)]
 fn statements(
     source: &Source<'_>,
     ks: &[u32],
-    depth: u32,
+    limit: usize,
     into: &mut Copied,
 ) -> Result<Vec<u32>, NoMemory>
+    requires below { AllBelow limit ks.now }
+    requires there { limit ≤ length source.now.stmts.now }
+    requires stand { (j a : ℕ) → slice_get ks.now j ≡ Some a → ActionStandsIn (NamesThere source.now.numbers.now) source.now.exprs.now source.now.stmts.now a }
     ensures exprs { OnOk result (Extends into.old.exprs.items into.new.exprs.items) }
     ensures stmts { OnOk result (Extends into.old.stmts.items into.new.stmts.items) }
+    ensures count { IfOk result (λ js. length js.items ≡ length ks.now) }
     ensures are { IfOk result (λ js. AreActionCopies source.now.numbers.now source.now.exprs.now source.now.stmts.now into.new.exprs.items into.new.stmts.items ks.now js.items) }
 {
     let mut js = Vec::new(source.alloc);
     for k in ks {
-        let j = statement(source, *k, depth, into)?;
+        let j = statement(source, *k, into)?;
         js.push(j)?;
     }
     Ok(js)

@@ -1,10 +1,11 @@
 //! Statements with other expressions and statements.
 
-ghost use Rattle.std.specs.Prelude.{◌≡◌, ◌++◌, ◌∷◌, [], IfOk, length, map};
+ghost use Rattle.std.specs.Prelude.{◌≡◌, ℕ, ◌+◌, ◌<◌, List, ◌++◌, ◌∷◌, [], IfOk, length};
+ghost use Rattle.c_tree.specs.declared.typed.StmtKind.TheVariants as StmtKinds;
 ghost use Rattle.c_tree.specs.Views.{values, parts, listed, same_number};
 ghost use Rattle.c_copy.specs.Copying.{IsStmtWith, AreMaybes};
 
-use crate::lists::{list_of_one, list_of_two, list_to, listed, none, one, two};
+use crate::lists::{list_of_one, list_of_two, list_to, listed, one, two};
 use c_tree::{StmtKind, SwitchLabel};
 use ck_base::{NoMemory, Sequence};
 use std::alloc::Global;
@@ -61,125 +62,94 @@ pub fn parts(alloc: Global, kind: &StmtKind) -> Result<Vec<u32>, NoMemory>
 }
 
 // One number where there was one, and else none.
-fn maybe(old: Option<u32>, xs: &[u32]) -> Result<Option<u32>, NoMemory>
-    ensures { IfOk result (λ o. xs.now ≡ listed same_number o) }
+#[tactic(auto, using(crate::proofs::Items::no_items))]
+fn maybe(old: Option<u32>, xs: &[u32]) -> Option<u32>
+    requires { length xs.now ≡ length (listed same_number old) }
+    ensures { xs.now ≡ listed same_number result }
 {
     match old {
-        None => {
-            none(xs)?;
-            Ok(None)
-        }
-        Some(_) => {
-            let a = one(xs)?;
-            Ok(Some(a))
-        }
+        None => None,
+        Some(_) => Some(one(xs)),
     }
 }
 
 // The same of two.
-fn maybes(
-    a: Option<u32>,
-    b: Option<u32>,
-    xs: &[u32],
-) -> Result<(Option<u32>, Option<u32>), NoMemory>
-    ensures { IfOk result (AreMaybes a b xs.now) }
+#[tactic(auto, using(crate::proofs::Items::no_items))]
+fn maybes(a: Option<u32>, b: Option<u32>, xs: &[u32]) -> (Option<u32>, Option<u32>)
+    requires { length xs.now ≡ length (listed same_number a ++ listed same_number b) }
+    ensures { AreMaybes a b xs.now result }
 {
     match (a, b) {
-        (None, None) => {
-            none(xs)?;
-            Ok((None, None))
-        }
-        (Some(_), None) => {
-            let x = one(xs)?;
-            Ok((Some(x), None))
-        }
-        (None, Some(_)) => {
-            let x = one(xs)?;
-            Ok((None, Some(x)))
-        }
+        (None, None) => (None, None),
+        (Some(_), None) => (Some(one(xs)), None),
+        (None, Some(_)) => (None, Some(one(xs))),
         (Some(_), Some(_)) => {
-            let (x, y) = two(xs)?;
-            Ok((Some(x), Some(y)))
+            let (x, y) = two(xs);
+            (Some(x), Some(y))
         }
     }
 }
 
 // All numbers but the last, and the last.
 fn split_last(alloc: Global, xs: &[u32]) -> Result<(Vec<u32>, u32), NoMemory>
+    requires { 0 < length xs.now }
     ensures { IfOk result (λ x. xs.now ≡ x.0.items ++ x.1 ∷ []) }
 {
     let mut front = listed(alloc, xs)?;
     match front.pop() {
         Some(last) => Ok((front, last)),
-        None => Err(NoMemory),
+        None => unreachable!(),
     }
 }
 
-fn block_with(alloc: Global, kind: &StmtKind, ys: &[u32]) -> Result<StmtKind, NoMemory>
-    ensures { IfOk result (IsStmtWith kind.now [] ys.now) }
+fn block_with(alloc: Global, vars: &[u32], ys: &[u32]) -> Result<StmtKind, NoMemory>
+    ensures { IfOk result (λ k. k ≡ StmtKinds.Block vars.now ys.now) }
 {
-    match kind {
-        StmtKind::Block { vars, .. } => {
-            let vars = listed(alloc, vars.as_slice())?;
-            let body = listed(alloc, ys)?;
-            Ok(StmtKind::Block {
-                vars: Sequence::from_vec(vars),
-                body: Sequence::from_vec(body),
-            })
+    let vars = listed(alloc, vars)?;
+    let body = listed(alloc, ys)?;
+    Ok(StmtKind::Block {
+        vars: Sequence::from_vec(vars),
+        body: Sequence::from_vec(body),
+    })
+}
+
+// An `if` with as many branches as one that has this second branch.
+fn if_with(a: u32, other: Option<u32>, ys: &[u32]) -> StmtKind
+    requires { length ys.now ≡ length (listed same_number other) + 1 }
+    ensures { (b x : ℕ) → IsStmtWith (StmtKinds.If b x other) (a ∷ []) ys.now result }
+{
+    match other {
+        None => StmtKind::If(a, one(ys), None),
+        Some(_) => {
+            let (x, y) = two(ys);
+            StmtKind::If(a, x, Some(y))
         }
-        _ => Err(NoMemory),
     }
 }
 
-fn if_with(kind: &StmtKind, a: u32, ys: &[u32]) -> Result<StmtKind, NoMemory>
-    ensures { IfOk result (IsStmtWith kind.now (a ∷ []) ys.now) }
+// A `for` with a test and a step where these are, and the last statement as its body.
+fn for_with(
+    alloc: Global,
+    vars: &[u32],
+    test: Option<u32>,
+    step: Option<u32>,
+    xs: &[u32],
+    ys: &[u32],
+) -> Result<StmtKind, NoMemory>
+    requires values { length xs.now ≡ length (listed same_number test ++ listed same_number step) }
+    requires parts { 0 < length ys.now }
+    ensures { IfOk result (λ k. (first : List ℕ) (body : ℕ) → length ys.now ≡ length first + 1 → IsStmtWith (StmtKinds.For vars.now first test step body) xs.now ys.now k) }
 {
-    match kind {
-        StmtKind::If(_, x, y) => match maybes(Some(*x), *y, ys)? {
-            (Some(x), y) => Ok(StmtKind::If(a, x, y)),
-            (None, _) => Err(NoMemory),
-        },
-        _ => Err(NoMemory),
-    }
-}
-
-fn loop_with(kind: &StmtKind, a: u32, x: u32) -> Result<StmtKind, NoMemory>
-    ensures { IfOk result (IsStmtWith kind.now (a ∷ []) (x ∷ [])) }
-{
-    match kind {
-        StmtKind::While(_, _) => Ok(StmtKind::While(a, x)),
-        StmtKind::Do(_, _) => Ok(StmtKind::Do(x, a)),
-        _ => Err(NoMemory),
-    }
-}
-
-fn for_with(alloc: Global, kind: &StmtKind, xs: &[u32], ys: &[u32]) -> Result<StmtKind, NoMemory>
-    ensures { IfOk result (IsStmtWith kind.now xs.now ys.now) }
-{
-    match kind {
-        StmtKind::For {
-            vars,
-            first,
-            test,
-            step,
-            ..
-        } => {
-            let vars = listed(alloc, vars.as_slice())?;
-            let (test, step) = maybes(*test, *step, xs)?;
-            let (front, body) = split_last(alloc, ys)?;
-            if front.len() != first.as_slice().len() {
-                return Err(NoMemory);
-            }
-            Ok(StmtKind::For {
-                vars: Sequence::from_vec(vars),
-                first: Sequence::from_vec(front),
-                test,
-                step,
-                body,
-            })
-        }
-        _ => Err(NoMemory),
-    }
+    let vars = listed(alloc, vars)?;
+    let (test, step) = maybes(test, step, xs);
+    let (first, body) = split_last(alloc, ys)?;
+    Ok(StmtKind::For {
+        vars: Sequence::from_vec(vars),
+        first: Sequence::from_vec(first),
+        test,
+        step,
+        body,
+    })
 }
 
 fn labels_of(alloc: Global, labels: &[SwitchLabel]) -> Result<Vec<SwitchLabel>, NoMemory>
@@ -189,96 +159,61 @@ fn labels_of(alloc: Global, labels: &[SwitchLabel]) -> Result<Vec<SwitchLabel>, 
     Ok(v)
 }
 
-fn switch_with(alloc: Global, kind: &StmtKind, a: u32, ys: &[u32]) -> Result<StmtKind, NoMemory>
-    ensures { IfOk result (IsStmtWith kind.now (a ∷ []) ys.now) }
+fn switch_with(
+    alloc: Global,
+    on: u32,
+    vars: &[u32],
+    labels: &[SwitchLabel],
+    ys: &[u32],
+) -> Result<StmtKind, NoMemory>
+    ensures { IfOk result (λ k. k ≡ StmtKinds.Switch on vars.now labels.now ys.now) }
 {
-    match kind {
-        StmtKind::Switch { vars, labels, .. } => {
-            let vars = listed(alloc, vars.as_slice())?;
-            let labels = labels_of(alloc, labels.as_slice())?;
-            let body = listed(alloc, ys)?;
-            Ok(StmtKind::Switch {
-                on: a,
-                vars: Sequence::from_vec(vars),
-                labels: Sequence::from_vec(labels),
-                body: Sequence::from_vec(body),
-            })
-        }
-        _ => Err(NoMemory),
-    }
+    let vars = listed(alloc, vars)?;
+    let labels = labels_of(alloc, labels)?;
+    let body = listed(alloc, ys)?;
+    Ok(StmtKind::Switch {
+        on,
+        vars: Sequence::from_vec(vars),
+        labels: Sequence::from_vec(labels),
+        body: Sequence::from_vec(body),
+    })
 }
 
-fn value_with(kind: &StmtKind, xs: &[u32]) -> Result<StmtKind, NoMemory>
-    ensures { IfOk result (IsStmtWith kind.now xs.now []) }
-{
-    match kind {
-        StmtKind::Expr(_) => {
-            let a = one(xs)?;
-            Ok(StmtKind::Expr(a))
-        }
-        StmtKind::Init { var, offset, .. } => {
-            let value = one(xs)?;
-            Ok(StmtKind::Init {
-                var: *var,
-                offset: *offset,
-                value,
-            })
-        }
-        StmtKind::Return(a) => {
-            let value = maybe(*a, xs)?;
-            Ok(StmtKind::Return(value))
-        }
-        _ => Err(NoMemory),
-    }
-}
-
-fn plain_with(kind: &StmtKind) -> Result<StmtKind, NoMemory>
-    ensures { IfOk result (IsStmtWith kind.now [] []) }
-{
-    match kind {
-        StmtKind::Break => Ok(StmtKind::Break),
-        StmtKind::Continue => Ok(StmtKind::Continue),
-        StmtKind::Empty => Ok(StmtKind::Empty),
-        _ => Err(NoMemory),
-    }
-}
-
-/// The statement with these expressions and statements.
+/// The statement with as many expressions and statements, these.
+#[tactic(auto, using(crate::proofs::Items::no_items))]
 pub fn stmt_with(
     alloc: Global,
     kind: &StmtKind,
     xs: &[u32],
     ys: &[u32],
 ) -> Result<StmtKind, NoMemory>
+    requires values { length xs.now ≡ length (values kind.now) }
+    requires parts { length ys.now ≡ length (parts kind.now) }
     ensures { IfOk result (IsStmtWith kind.now xs.now ys.now) }
 {
     match kind {
-        StmtKind::Block { .. } => {
-            none(xs)?;
-            block_with(alloc, kind, ys)
+        StmtKind::Block { vars, .. } => block_with(alloc, vars.as_slice(), ys),
+        StmtKind::If(_, _, other) => Ok(if_with(one(xs), *other, ys)),
+        StmtKind::While(_, _) => Ok(StmtKind::While(one(xs), one(ys))),
+        StmtKind::Do(_, _) => Ok(StmtKind::Do(one(ys), one(xs))),
+        StmtKind::For {
+            vars,
+            test,
+            step,
+            ..
+        } => for_with(alloc, vars.as_slice(), *test, *step, xs, ys),
+        StmtKind::Switch { vars, labels, .. } => {
+            switch_with(alloc, one(xs), vars.as_slice(), labels.as_slice(), ys)
         }
-        StmtKind::If(_, _, _) => {
-            let a = one(xs)?;
-            if_with(kind, a, ys)
-        }
-        StmtKind::While(_, _) | StmtKind::Do(_, _) => {
-            let a = one(xs)?;
-            let x = one(ys)?;
-            loop_with(kind, a, x)
-        }
-        StmtKind::For { .. } => for_with(alloc, kind, xs, ys),
-        StmtKind::Switch { .. } => {
-            let a = one(xs)?;
-            switch_with(alloc, kind, a, ys)
-        }
-        StmtKind::Expr(_) | StmtKind::Init { .. } | StmtKind::Return(_) => {
-            none(ys)?;
-            value_with(kind, xs)
-        }
-        StmtKind::Break | StmtKind::Continue | StmtKind::Empty => {
-            none(xs)?;
-            none(ys)?;
-            plain_with(kind)
-        }
+        StmtKind::Expr(_) => Ok(StmtKind::Expr(one(xs))),
+        StmtKind::Init { var, offset, .. } => Ok(StmtKind::Init {
+            var: *var,
+            offset: *offset,
+            value: one(xs),
+        }),
+        StmtKind::Return(value) => Ok(StmtKind::Return(maybe(*value, xs))),
+        StmtKind::Break => Ok(StmtKind::Break),
+        StmtKind::Continue => Ok(StmtKind::Continue),
+        StmtKind::Empty => Ok(StmtKind::Empty),
     }
 }

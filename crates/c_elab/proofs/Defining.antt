@@ -1,6 +1,7 @@
 -- A function is defined: it is declared, its parameters are opened, and its body is typed.
-use Rattle.std.proofs.Common.{◌≡◌, ℕ, Bool, true, List, length, map, Option, Some, None, Result, Ok, Err, refl, sym, ap, subst, ◌∙◌, arith}
+use Rattle.std.proofs.Common.{◌≡◌, ℕ, Bool, true, false, List, length, map, Option, Some, None, Result, Ok, Err, refl, sym, ap, subst, ◌∙◌, arith}
 use Rattle.std.specs.Prelude.{not, ◌||◌, reverse, slice_get, All}
+use Rattle.std.proofs.lemmas.Bool.{false≢true}
 use Rattle.std.proofs.lemmas.List.{length-map}
 use Rattle.std.specs.Option.{is_some}
 use Rattle.ck_base.specs.declared.positions.Pos.{Pos}
@@ -8,14 +9,17 @@ use Rattle.ck_base.specs.declared.refusal.Refusal.{Refusal}
 use Rattle.ck_base.specs.declared.refusal.Refusal.TheVariants.{Code, NoMemory}
 use Rattle.ck_base.specs.Tokens.{Lexeme}
 use Rattle.c_tree.specs.Syntax.{Syn, first_token}
-use Rattle.c_tree.specs.Types.{Ty}
+use Rattle.c_tree.specs.Types.{Ty, is_function}
 use Rattle.c_tree.specs.Readings as meant
 use Rattle.c_tree.specs.Readings.{Reading, Storage}
-use Rattle.c_tree.specs.Scopes.{State, Fault, Doing, continued, look, ◌>>=◌, ◌>>◌}
+use Rattle.c_tree.specs.Scopes.{State, Fault, Doing, continued, look, need, find_in, innermost, ◌>>=◌, ◌>>◌}
 use Rattle.c_tree.specs.Declarators as meant_types
-use Rattle.c_tree.specs.Declarators.{formed}
+use Rattle.c_tree.specs.Declarators.{formed, judge}
+use Rattle.c_tree.specs.Declarations.{definition_agrees, linked_routine}
 use Rattle.c_tree.specs.Expressions.{routine_type}
-use Rattle.c_tree.specs.Programs.{reading, body_context, own_prototype, define_named, is_there, gives_complete, first_incomplete, refused_at}
+use Rattle.c_tree.specs.Programs.{reading, body_context, own_prototype, define_named, is_there, is_typedef, gives_complete, first_incomplete, refused_at}
+use Rattle.c_facts.proofs.Declared.{checked}
+use Rattle.c_facts.proofs.Steps.{first_then}
 use Rattle.c_types.specs.Declares.{declares_definition, storage_of, name_of, formed_of}
 use Rattle.c_types.specs.declared.entries.Decl.{Decl}
 use Rattle.c_types.specs.declared.entries.DeclKind.TheVariants as kinds
@@ -24,7 +28,7 @@ use Rattle.c_nodes.specs.Nodes.{type_in}
 use Rattle.c_work.specs.declared.work.Name.{Name}
 use Rattle.c_work.specs.declared.work.Work.{Work}
 use Rattle.c_work.specs.Work.{Shows}
-use Rattle.c_work.specs.Answers.{Keeps, freely, quietly, Done, Answers, NothingThere, IsNothing}
+use Rattle.c_work.specs.Answers.{Keeps, freely, quietly, Given, Done, Answers, NothingThere, IsNothing}
 use Rattle.c_work.specs.Parts.{token_of}
 use Rattle.c_work.proofs.Sequencing.{keeps_then}
 use Rattle.c_declarators.specs.declared.parts.Specified.{Specified}
@@ -141,7 +145,7 @@ begun_is u v s y e name f complete own z r R st k h n g gc o =
     ∙ ap (λ (file : List ℕ). d (storage_of s.storage) (record m { lacks = m.lacks || not complete; misfits = m.misfits || not (is_some own) }) (name_of file (defined_decl s name f complete (is_some own)))) (sym k.file)
 
 -- the type is formed in the same state
-formed_here : (u v : Work) (of : Ty) (ws : List meant.Wrap) (f : Formed) (s : State) → Shows u s → Done quietly u v (forms of ws) (FormedThere v f) (in_any IsFormed v f) → (formed s of ws ≡ formed_in v.nodes f) × Shows v s
+pub formed_here : (u v : Work) (of : Ty) (ws : List meant.Wrap) (f : Formed) (s : State) → Shows u s → Done quietly u v (forms of ws) (FormedThere v f) (in_any IsFormed v f) → (formed s of ws ≡ formed_in v.nodes f) × Shows v s
 formed_here u v of ws f s h a =
     let m = a.gives s h in
     let value : formed s of ws ≡ m.value = ap (value_of (formed s of ws)) m.is in
@@ -155,6 +159,17 @@ formed_here u v of ws f s h a =
     value_of : meant_types.Formed → Result (meant_types.Formed × State) Fault → meant_types.Formed
     value_of x (Ok y) = y.0
     value_of x (Err e) = x
+
+-- a definition whose type breaks a rule is never begun
+pub not_begun : (v : Work) (d : Decl) (s : State) {w : Work} {Is : State → ℕ → Type 0} → d.faults.misfits ≡ true → Given freely w s (begins v d s) Is → ⊥
+not_begun v d s e m =
+    let f = formed_of v.nodes.p d in
+    let t = name_of v.file.now d in
+    let o = find_in (innermost s.scopes).names t.text in
+    let misfits : Bool = is_typedef (storage_of d.storage) || not (is_function f.of) in
+    let a = first_then ((need (definition_agrees s o t.text f.of) 131 t.pos >> judge f false misfits t.pos >> linked_routine t f.of o) s) _ (m.value, m.state) m.is in
+    let j = checked (definition_agrees s o t.text f.of) t.pos f false misfits (linked_routine t f.of o) s a.0 a.1 in
+    false≢true (sym j.1.passes.misfits ∙ e)
 
 -- no type is refused where it is formed
 pub never_unformed : {B : Type 0} (u v w : Work) (of : Ty) (Fits : State → meant.Derived → Type 0) (g : meant.Derived → Doing B) (There : Work → Unit {0} → Type 0) (Is : Work → Unit {0} → State → B → Type 0) (q : Refusal) →

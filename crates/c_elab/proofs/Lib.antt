@@ -5,6 +5,7 @@ pub mod Marks
 pub mod Opening
 pub mod Own
 pub mod Reading
+pub mod Settled
 pub mod Shapes
 pub mod Weaker
 pub mod Written

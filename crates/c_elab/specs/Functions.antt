@@ -27,6 +27,11 @@ use Rattle.c_declarators.specs.declared.parts.Wrap.TheVariants.{Gives}
 use Rattle.c_declarators.specs.Forming.{ParamIsThere}
 use Rattle.c_declarators.specs.Parts.{param_in, IsPrototype, AreWraps, shown_in}
 
+-- the work stands for some state
+pub record HasState (w : Work) : Type 0 where
+  pub state : State
+  pub shows : Shows w state
+
 -- the parameters, where the declarator itself is that of a function: what is made last stands first
 abbrev pub first_prototype : List Wrap → Option Prototype
 first_prototype (Gives p ∷ ws) = Some p

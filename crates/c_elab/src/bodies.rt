@@ -65,7 +65,8 @@ fn context_of(work: &Work<'_>, k: u32) -> Result<Context, NoMemory>
 // ---- the variables
 
 fn no_marks(alloc: Global, n: usize) -> Result<Vec<bool>, NoMemory>
-    ensures { IfOk result (λ t. AreMarked [] t.items) }
+    ensures marks { IfOk result (λ t. AreMarked [] t.items) }
+    ensures count { IfOk result (λ t. length t.items ≡ n) }
 {
     let mut marks = Vec::new(alloc);
     for made in 0..n {
@@ -75,7 +76,8 @@ fn no_marks(alloc: Global, n: usize) -> Result<Vec<bool>, NoMemory>
 }
 
 fn mark(marks: &mut Vec<bool>, k: u32)
-    ensures { marks.new.items ≡ slice_set marks.old.items k true }
+    ensures marks { marks.new.items ≡ slice_set marks.old.items k true }
+    ensures count { length marks.new.items ≡ length marks.old.items }
 {
     let at = k as usize;
     if at < marks.len() {
@@ -85,7 +87,8 @@ fn mark(marks: &mut Vec<bool>, k: u32)
 
 // For each of the first locals, as many as are wanted, whether its address is taken.
 fn marks_of(work: &Work<'_>, n: usize) -> Result<Vec<bool>, NoMemory>
-    ensures { IfOk result (λ t. AreMarked work.now.addressed.items t.items) }
+    ensures marks { IfOk result (λ t. AreMarked work.now.addressed.items t.items) }
+    ensures count { IfOk result (λ t. length t.items ≡ n) }
 {
     let mut marks = no_marks(work.nodes.alloc, n)?;
     for k in work.addressed.as_slice() {
@@ -94,12 +97,13 @@ fn marks_of(work: &Work<'_>, n: usize) -> Result<Vec<bool>, NoMemory>
     Ok(marks)
 }
 
-fn is_taken(marks: &[bool], k: u32) -> Result<bool, NoMemory>
-    ensures { IfOk result (λ b. slice_get marks.now k ≡ Some b) }
+fn is_taken(marks: &[bool], k: u32) -> bool
+    requires { k < length marks.now }
+    ensures { slice_get marks.now k ≡ Some result }
 {
     match marks.get(k as usize).copied() {
-        Some(b) => Ok(b),
-        None => Err(NoMemory),
+        Some(b) => b,
+        None => unreachable!(),
     }
 }
 
@@ -107,12 +111,13 @@ fn is_taken(marks: &[bool], k: u32) -> Result<bool, NoMemory>
 fn variable(work: &Work<'_>, marks: &[bool], k: u32, v: VarDef) -> Result<VarDef, NoMemory>
     requires whole { IsWhole work.now.nodes }
     requires marks { AreMarked work.now.addressed.items marks.now }
+    requires marked { k < length marks.now }
     ensures there { IfOk result (λ x. VariableThere work.now x) }
     ensures is { IfOk result (λ x. x ≡ variable_in work.now k v) }
 {
     let of = work.there(v.of)?;
     let scalar = work.nodes.is_scalar(work.nodes.bare(of));
-    let taken = is_taken(marks, k)?;
+    let taken = is_taken(marks, k);
     Ok(VarDef {
         name: v.name,
         pos: v.pos,

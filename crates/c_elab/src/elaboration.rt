@@ -9,6 +9,7 @@ ghost use Rattle.c_nodes.specs.Nodes.{IsWhole};
 ghost use Rattle.c_work.specs.Answers.{Answers, freely, NothingThere, IsNothing};
 ghost use Rattle.c_work.specs.Parts.{IsPart, HasPart, AreParts, HaveParts};
 ghost use Rattle.c_elab.specs.Elaborated.{HasReading, Elaborated};
+ghost use Rattle.c_elab.specs.Functions.{HasState};
 
 use crate::functions::function_definition;
 use c_finish::finish;
@@ -36,6 +37,7 @@ fn declare(work: &mut Work<'_>, kids: &[u32], pos: Pos, depth: u32) -> Result<()
 fn external(work: &mut Work<'_>, k: u32, depth: u32) -> Result<(), Refusal>
     requires whole { IsWhole work.old.nodes }
     requires part { HasPart work.old k }
+    requires shown { HasState work.old }
     ensures { (x : Syn) → IsPart work.old k x → Answers freely work.old work.new (reading x).external NothingThere IsNothing result }
 {
     let node = node_at(work, k)?;
@@ -52,6 +54,7 @@ fn external(work: &mut Work<'_>, k: u32, depth: u32) -> Result<(), Refusal>
 fn all_externals(work: &mut Work<'_>, kids: &[u32], depth: u32) -> Result<(), Refusal>
     requires whole { IsWhole work.old.nodes }
     requires parts { HaveParts work.old kids.now }
+    requires shown { HasState work.old }
     ensures { (xs : Syns) → AreParts work.old kids.now xs → Answers freely work.old work.new (all_externals (readings xs)) NothingThere IsNothing result }
 {
     let mut left = kids;

@@ -13,7 +13,7 @@ ghost use Rattle.c_work.specs.Parts.{IsPart, HasPart, AreParts, HaveParts};
 ghost use Rattle.c_declarators.specs.Parts.{SpecifiedThere, IsSpecified, DerivedThere, ShowsDerived};
 ghost use Rattle.c_items.specs.Shown.{AnswersFor};
 ghost use Rattle.c_statements.specs.Declaring.{WrapsThere};
-ghost use Rattle.c_elab.specs.Functions.{IsDeclarator, first_prototype, defines_from};
+ghost use Rattle.c_elab.specs.Functions.{HasState, IsDeclarator, first_prototype, defines_from};
 
 use crate::bodies::define_body;
 use c_declarators::{Derived, Formed, Prototype, Specified, Wrap, formed};
@@ -93,6 +93,7 @@ fn define_so<'a>(
     requires specified { SpecifiedThere work.old s }
     requires parts { WrapsThere work.old wraps.items }
     requires part { HasPart work.old block }
+    requires shown { HasState work.old }
     ensures { (y : meant.Specified) (z : Syn) → IsSpecified work.old s y → IsPart work.old block z → AnswersFor freely work.old work.new (IsDeclarator work.old name wraps.entry.items) (λ e. define_named y e e.name z (reading z)) NothingThere IsNothing result }
 {
     let f = formed(work, s.of, wraps.as_slice())?;
@@ -100,7 +101,7 @@ fn define_so<'a>(
     let complete = gives_complete(work, f.of);
     let k = declare_definition(work, defined_as(s, name, f, complete, own.is_some()))?;
     match own {
-        None => Err(Refusal::NoMemory),
+        None => unreachable!(),
         Some(p) => define_body(work, k, p, block, depth),
     }
 }
@@ -117,6 +118,7 @@ fn define_named<'a>(
     requires specified { SpecifiedThere work.old s }
     requires derived { DerivedThere work.old d }
     requires part { HasPart work.old block }
+    requires shown { HasState work.old }
     ensures { (y : meant.Specified) (z : Syn) → IsSpecified work.old s y → IsPart work.old block z → AnswersFor freely work.old work.new (ShowsDerived work.old d.entry) (λ e. define_named y e e.name z (reading z)) NothingThere IsNothing result }
 {
     match d.name {
@@ -137,6 +139,7 @@ fn define(
     requires first { HasPart work.old specifiers }
     requires second { HasPart work.old declarator }
     requires third { HasPart work.old block }
+    requires shown { HasState work.old }
     ensures { (x y z : Syn) → IsPart work.old specifiers x → IsPart work.old declarator y → IsPart work.old block z → Answers freely work.old work.new (defines_from x y z) NothingThere IsNothing result }
 {
     let s = specified(work, specifiers, false, depth)?;
@@ -153,6 +156,7 @@ pub(crate) fn function_definition(
 ) -> Result<(), Refusal>
     requires whole { IsWhole work.old.nodes }
     requires parts { HaveParts work.old kids.now }
+    requires shown { HasState work.old }
     ensures { (t : Lexeme) (xs : Syns) → t.pos ≡ pos → AreParts work.old kids.now xs → Answers freely work.old work.new (function_definition t xs (readings xs)) NothingThere IsNothing result }
 {
     match three(kids) {

@@ -1,5 +1,5 @@
 -- Numbers that count what passes a test.
-use Rattle.std.proofs.Common.{◌≡◌, ℕ, zero, suc, ◌+◌, Bool, true, false, List, [], ◌∷◌, ◌++◌, length, Option, Some, None, refl, sym, ap, ◌∙◌, ◌⊎◌, inl, inr, ⊎_elim, arith, add-one, length-append}
+use Rattle.std.proofs.Common.{◌≡◌, ℕ, zero, suc, ◌+◌, ◌≤◌, Bool, true, false, List, [], ◌∷◌, ◌++◌, length, Option, Some, None, refl, sym, ap, ◌∙◌, ◌⊎◌, inl, inr, ⊎_elim, arith, add-one, length-append}
 use Rattle.std.specs.Prelude.{slice_get, if◌then◌else◌}
 use Rattle.c_tree.specs.Scopes.{Body, RoutineState, State}
 use Rattle.c_tree.specs.Programs.{count_before, is_there}
@@ -42,6 +42,10 @@ filled_push f xs ys n k e l h q j v g =
 
 pub nothing_filled : (xs : List ℕ) (j v : ℕ) (f : ℕ → ℕ) → xs ≡ [] → slice_get xs j ≡ Some v → f j ≡ v
 nothing_filled xs j v f e g = let z : slice_get [] j ≡ Some v = ap (λ ys. slice_get ys j) (sym e) ∙ g in absurd cc
+
+pub low_step : (b : Bool) (n m k : ℕ) → m ≡ (if b then n + 1 else n) → n ≤ k → m ≤ k + 1
+low_step true n m k e h = omega arith
+low_step false n m k e h = omega arith
 
 pub pushed_count : (xs ys : List ℕ) (n k : ℕ) → ys ≡ xs ++ n ∷ [] → length xs ≡ k → length ys ≡ k + 1
 pushed_count xs ys n k e l = ap length e ∙ omega (arith, length-append xs (n ∷ []))

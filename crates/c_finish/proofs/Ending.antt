@@ -20,12 +20,12 @@ use Rattle.c_work.specs.Work.{Shows}
 use Rattle.c_copy.specs.declared.numbers.Numbers.{Numbers}
 use Rattle.c_copy.specs.Copying.{actions_in}
 use Rattle.c_passing.specs.Routines.{IsPassedProgram}
-use Rattle.c_finish.specs.Finished.{IsFinished, IsWritten, IsSyntax, IsProgram, IsMain, NumbersFit, TagsFit, AreObjects, AreRoutines}
+use Rattle.c_finish.specs.Finished.{IsFinished, IsWritten, IsSyntax, IsProgram, IsMain, HaveNumbers, TagsFit, AreObjects, AreRoutines}
 
 abbrev made : Work → List GlobalDef → List FunDef → List Expr → List Stmt → ℕ → Typed
 made w gs fs es ss v = record { types = w.nodes.p.types; globals = gs; literals = w.nodes.p.literals; funs = fs; exprs = es; stmts = ss; main = v }
 
-shows_made : (w : Work) (t : Numbers) (gs : List GlobalDef) (fs : List FunDef) (es : List Expr) (ss : List Stmt) (k v : ℕ) (s : State) → TagsFit w → NumbersFit w t → slice_get t.functions.items k ≡ Some v → IsMain w (Some k) → AreObjects w gs → AreRoutines w es ss s (length s.routines) fs →
+shows_made : (w : Work) (t : Numbers) (gs : List GlobalDef) (fs : List FunDef) (es : List Expr) (ss : List Stmt) (k v : ℕ) (s : State) → TagsFit w → HaveNumbers w t → slice_get t.functions.items k ≡ Some v → IsMain w (Some k) → AreObjects w gs → AreRoutines w es ss s (length s.routines) fs →
     Shows w s → views.Shows (made w gs fs es ss v) (program_of s)
 unfolding program_of
 shows_made w t gs fs es ss k v s a n e m o r h =
@@ -35,10 +35,10 @@ shows_made w t gs fs es ss k v s a n e m o r h =
       objects = o s h;
       texts = h.texts;
       routines = ap (λ (xs : List Expr). map (routine_of ts (actions_in ts xs ss)) fs) (sym (append-nil es)) ∙ ap (λ (ys : List Stmt). map (routine_of ts (actions_in ts (es ++ []) ys)) fs) (sym (append-nil ss)) ∙ r.are [] [] ∙ ap (flat_map (programs.routine_of s)) (take_all (length s.routines) s.routines (omega arith));
-      main = sym ((n s h).functions k v e) ∙ ap (numbers_of s).1 (sym (m s h).1);
+      main = sym ((n.fit s h).functions k v e) ∙ ap (numbers_of s).1 (sym (m s h).1);
     }
 
-pub written_is : (w : Work) (p : Typed) (t : Numbers) (gs : List GlobalDef) (fs : List FunDef) (es : List Expr) (ss : List Stmt) (k v : ℕ) → p ≡ made w gs fs es ss v → TagsFit w → NumbersFit w t → slice_get t.functions.items k ≡ Some v → IsMain w (Some k) → AreObjects w gs →
+pub written_is : (w : Work) (p : Typed) (t : Numbers) (gs : List GlobalDef) (fs : List FunDef) (es : List Expr) (ss : List Stmt) (k v : ℕ) → p ≡ made w gs fs es ss v → TagsFit w → HaveNumbers w t → slice_get t.functions.items k ≡ Some v → IsMain w (Some k) → AreObjects w gs →
     ((s : State) → Shows w s → AreRoutines w es ss s (length s.routines) fs) → IsWritten w p
 written_is w p t gs fs es ss k v q a n e m o r = λ s h. subst (λ (x : Typed). views.Shows x (program_of s)) (sym q) (shows_made w t gs fs es ss k v s a n e m o (r s h) h)
 

@@ -1,5 +1,5 @@
 -- The functions of the finished program.
-use Rattle.std.proofs.Common.{◌≡◌, ℕ, ◌+◌, ◌<◌, ◌≤◌, List, [], ◌∷◌, ◌++◌, length, take, map, Option, Some, None, refl, sym, ap, ◌∙◌, arith, append_assoc}
+use Rattle.std.proofs.Common.{◌≡◌, ℕ, ◌+◌, ◌<◌, ◌≤◌, List, [], ◌∷◌, ◌++◌, length, take, map, Option, Some, None, refl, sym, ap, subst, ◌∙◌, arith, append_assoc}
 use Rattle.std.specs.Prelude.{slice_get, flat_map}
 use Rattle.std.proofs.lemmas.List.{take_all, map-append, append-nil}
 use Rattle.std.proofs.lemmas.Option.{same_Some}
@@ -20,8 +20,10 @@ use Rattle.c_work.specs.declared.work.Work.{Work}
 use Rattle.c_work.specs.declared.work.Definition.{Definition}
 use Rattle.c_work.specs.Work.{Shows, Seen, option_seen, body_seen, seen_of, definition_of}
 use Rattle.c_copy.specs.Copying.{Extends, actions_in}
-use Rattle.c_finish.specs.Finished.{AreRoutines, IsRoutine}
-use Rattle.c_finish.proofs.Faulting.{at_some, IsFunction}
+use Rattle.c_copy.specs.declared.numbers.Numbers.{Numbers}
+use Rattle.c_copy.specs.Standing.{ActionStands, ActionStandsIn, NamesWithin, NamesThere}
+use Rattle.c_finish.specs.Finished.{IsShown, HaveNumbers, AreRoutines, IsRoutine}
+use Rattle.c_finish.proofs.Faulting.{at_some, statics_count, routines_count, IsFunction}
 use Rattle.c_finish.proofs.Globals.{flat_taken}
 
 abbrev routine_with : Span → Pos → Ty → List ℕ → List Variable → Action → Routine
@@ -49,6 +51,32 @@ routine_is w s k x r d params vars es ss body more h f e g p v i j a =
     let acts = actions_of w.nodes.p in
     let same : actions_in ts es ss ≡ acts = ap (λ zs. actions_in ts zs ss) i ∙ ap (actions_in ts w.nodes.p.exprs) j in
     body_is w s x r r.body d acts more params vars body f (h.definitions k r e ∙ ap (option_seen (seen_of ts acts)) g) p v (a ∙ ap (λ zs. action_with (numbers_of s) (action_at zs d.body)) same)
+
+-- what a definition names has new numbers
+pub body_stands : (w : Work) (t : Numbers) (k : ℕ) (d : Definition) → IsShown w → HaveNumbers w t → k < length w.nodes.p.funs → definition_of k w.definitions.items ≡ Some d → ActionStandsIn (NamesThere t) w.nodes.p.exprs w.nodes.p.stmts d.body
+body_stands w t k d h n lt e =
+    let s = h.state in
+    let statics = statics_count w s h.shows in
+    let routines = routines_count w s h.shows in
+    let objects = n.objects in
+    let functions = n.functions in
+    let x = at_some s.routines k (omega arith) in
+    let ts = types_of w.nodes.p.types in
+    let acts = actions_of w.nodes.p in
+    let b = seen_body x.0.body (seen_of ts acts d) (h.shows.definitions k x.0 x.1 ∙ ap (option_seen (seen_of ts acts)) e) in
+    let names = (h.typed.bodies k x.0 b.0 x.1 b.1).names in
+    let m : length s.statics ≡ length t.objects.items = omega arith in
+    let l : length s.routines ≡ length t.functions.items = omega arith in
+    record {
+      types = ts;
+      stands =
+          subst (λ i. ActionStands (NamesWithin i (length t.functions.items)) (action_at acts d.body)) m
+          (subst (λ j. ActionStands (NamesWithin (length s.statics) j) (action_at acts d.body)) l (subst (ActionStands (NamesWithin (length s.statics) (length s.routines))) (ap (λ (z : Seen). z.body) b.2) names));
+    }
+  where
+    seen_body : (o : Option Body) (z : Seen) → option_seen body_seen o ≡ Some z → (b : Body) × (o ≡ Some b) × (body_seen b ≡ z)
+    seen_body None z e = absurd cc
+    seen_body (Some b) z e = (b, refl, same_Some (body_seen b) z e)
 
 pub no_routines : (w : Work) (es : List Expr) (ss : List Stmt) (s : State) (fs : List FunDef) → fs ≡ [] → AreRoutines w es ss s 0 fs
 no_routines w es ss s fs e = record { are = λ xs ys. ap (map (routine_of (types_of w.nodes.p.types) (actions_in (types_of w.nodes.p.types) (es ++ xs) (ss ++ ys)))) e }

@@ -1,12 +1,14 @@
 -- The objects of the finished program.
-use Rattle.std.proofs.Common.{◌≡◌, ℕ, ◌+◌, ◌≤◌, Bool, true, false, List, [], ◌∷◌, ◌++◌, length, take, map, Option, Some, None, refl, sym, ap, ◌∙◌}
+use Rattle.std.proofs.Common.{◌≡◌, ℕ, ◌+◌, ◌<◌, ◌≤◌, Bool, true, false, List, [], ◌∷◌, ◌++◌, length, take, map, Option, Some, None, refl, sym, ap, subst, ◌∙◌, arith}
 use Rattle.std.specs.Prelude.{slice_get, fold, flat_map, option_map, ◌==◌, if◌then◌else◌, ℤ}
 use Rattle.std.proofs.lemmas.List.{take_more, take_all, map-append, append-nil}
 use Rattle.std.proofs.lemmas.Grind.{flat_map-append}
-use Rattle.std.proofs.lemmas.Option.{slice_get_within, get_or_from_slice_get}
+use Rattle.std.proofs.lemmas.Option.{slice_get_within, get_or_from_slice_get, slice_get-map}
 use Rattle.c_tree.specs.declared.typed.Target.{Target}
+use Rattle.c_tree.specs.declared.typed.Target.TheVariants as targets
 use Rattle.c_tree.specs.declared.typed.Link.{Link}
 use Rattle.c_tree.specs.declared.typed.GlobalDef.{GlobalDef}
+use Rattle.c_tree.specs.declared.typed.Literal.{Literal}
 use Rattle.c_tree.specs.Terms.{Aim, Pointing, Object}
 use Rattle.c_tree.specs.Scopes.{StaticState, State}
 use Rattle.c_tree.specs.Statics.{aim_length}
@@ -18,9 +20,11 @@ use Rattle.c_work.specs.declared.work.Filling.{Filling}
 use Rattle.c_work.specs.declared.work.Work.{Work}
 use Rattle.c_work.specs.Work.{Shows, aiming_of, filling_of}
 use Rattle.c_work.specs.Work as works
-use Rattle.c_finish.specs.Finished.{filled}
+use Rattle.c_copy.specs.declared.numbers.Numbers.{Numbers}
+use Rattle.c_copy.specs.Standing.{TargetThere}
+use Rattle.c_finish.specs.Finished.{filled, AimFits, IsShown, TargetFits, StartsFit, HaveNumbers}
 use Rattle.c_finish.specs.Tables.{last_filling}
-use Rattle.c_finish.proofs.Faulting.{static_is}
+use Rattle.c_finish.proofs.Faulting.{at_some, static_is, statics_count, routines_count}
 
 -- ---- pointers
 
@@ -69,6 +73,28 @@ filling_from k (f ∷ fs) o = rw (chosen f o (f.object == k)) (filling_from k fs
 
 pub filling_is : (k : ℕ) (fs : List Filling) → filling_of k fs ≡ option_map filled (last_filling k fs)
 filling_is k fs = filling_from k fs None
+
+target_fits : (w : Work) (s : State) (t : Target) → Shows w s → AimFits s (aim_of t) → TargetFits w t
+target_fits w s (targets.Literal k) h a = λ x e.
+    a (views.text_of x) (ap (λ xs. slice_get xs k) (sym h.texts) ∙ slice_get-map views.text_of w.nodes.p.literals k ∙ ap (option_map views.text_of) e)
+target_fits w s (targets.Global k) h a = let n = statics_count w s h in let l : k < length s.statics = a in omega arith
+target_fits w s (targets.Fun k) h a = let n = routines_count w s h in let l : k < length s.routines = a in omega arith
+
+-- what is pointed to has a new number
+pub target_there : (w : Work) (n : Numbers) (t : Target) → HaveNumbers w n → TargetFits w t → TargetThere n t
+target_there w n (targets.Global k) h f = let c = h.objects in let l : k < length w.nodes.p.globals = f in omega arith
+target_there w n (targets.Fun k) h f = let c = h.functions in let l : k < length w.nodes.p.funs = f in omega arith
+target_there w n (targets.Literal k) h f = tt
+
+-- the literals that an object's initial value points to are within the limit
+pub starts_fit : (w : Work) (k : ℕ) (f : Filling) → IsShown w → k < length w.nodes.p.globals → last_filling k w.fillings.items ≡ Some f → StartsFit w f.starts.items
+starts_fit w k f h lt e = λ j x g.
+    let s = h.state in
+    let n = statics_count w s h.shows in
+    let z = at_some s.statics k (omega arith) in
+    let initial = h.shows.fillings k z.0 z.1 ∙ filling_is k w.fillings.items ∙ ap (option_map filled) e in
+    let at = slice_get-map aiming_of f.starts.items j ∙ ap (option_map aiming_of) g in
+    target_fits w s x.target h.shows (h.typed.aims k j z.0 (filled f) (aiming_of x) z.1 initial at)
 
 -- ---- objects
 

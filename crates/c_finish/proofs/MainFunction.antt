@@ -12,8 +12,9 @@ use Rattle.c_tree.specs.Programs.{is_there, is_main, has_main}
 use Rattle.c_interner.proofs.Growing.{type_at-level, type_at-past, sees_before}
 use Rattle.c_work.specs.declared.work.Work.{Work}
 use Rattle.c_work.specs.Work.{Shows}
-use Rattle.c_finish.specs.Finished.{IsMain}
-use Rattle.c_finish.proofs.Faulting.{drop_step, drop_past}
+use Rattle.c_copy.specs.declared.numbers.Numbers.{Numbers}
+use Rattle.c_finish.specs.Finished.{IsShown, HaveNumbers, IsMain}
+use Rattle.c_finish.proofs.Faulting.{drop_step, drop_past, routines_count}
 
 pub same_past : (cs : List CType) (k : ℕ) (u : Ty) → length cs ≤ k → same (type_at (types_of cs) k) u ≡ same Void u
 same_past cs k u le = ap (λ t. same t u) (type_at-past cs k le)
@@ -114,3 +115,24 @@ main_says w (Some k) f = λ s h. let g = f s h in (g.0, let a : position_or_len 
 
 pub main_is : (w : Work) (o : Option ℕ) (n i : ℕ) → n ≤ i → ((s : State) → Shows w s → MainFrom (drop (n - i) s.routines) (n - i) o) → IsMain w o
 main_is w o n i le f = main_says w o (λ s h. let z : n - i ≡ 0 = omega arith in subst (λ j. MainFrom (drop j s.routines) j o) z (f s h))
+
+place_there : (xs : List RoutineState) → has_main xs ≡ true → position_or_len is_main xs < length xs
+place_there [] e = absurd cc
+place_there (x ∷ xs) e = here (is_main x) refl (place_there xs)
+  where
+    here : (b : Bool) → is_main x ≡ b → (has_main xs ≡ true → position_or_len is_main xs < length xs) → position_or_len is_main (x ∷ xs) < length (x ∷ xs)
+    here true h f = let p : position_or_len is_main (x ∷ xs) ≡ 0 = first_place x xs h in omega arith
+    here false h f =
+        let q : position_or_len is_main xs < length xs = f (sym (one_first x xs false h) ∙ e) in
+        let p : position_or_len is_main (x ∷ xs) + 0 ≡ position_or_len is_main xs + (0 + 1) = later_place x xs 0 _ h refl in
+        omega arith
+
+-- the number of `main` is that of a function, and there is a new one
+pub main_there : (w : Work) (t : Numbers) (k : ℕ) → IsShown w → IsMain w (Some k) → HaveNumbers w t → k < length t.functions.items
+main_there w t k h m n =
+    let e = m h.state h.shows in
+    let a : position_or_len is_main h.state.routines < length h.state.routines = place_there h.state.routines e.0 in
+    let b : position_or_len is_main h.state.routines ≡ k = e.1 in
+    let c : length w.nodes.p.funs ≡ length h.state.routines = routines_count w h.state h.shows in
+    let d : length t.functions.items ≡ length w.nodes.p.funs = n.functions in
+    omega arith

@@ -1,13 +1,13 @@
 -- The bytes that objects and string literals own.
-use Rattle.std.proofs.Common.{◌≡◌, ℕ, List, length, get_or, ltb, Option, Some, None, true, sym, ap, ◌∙◌}
+use Rattle.std.proofs.Common.{◌≡◌, ℕ, ◌<◌, ◌≤◌, List, length, get_or, ltb, Option, Some, None, true, sym, ap, ◌∙◌, arith}
 use Rattle.std.specs.Prelude.{slice_get, if◌then◌else◌}
 use Rattle.std.proofs.lemmas.Option.{get_or_from_slice_get, slice_get-get_or}
 use Rattle.std.proofs.lemmas.Bool.{ltb-true}
 use Rattle.cap_concentrate.specs.Rounding.{owned}
 use Rattle.cap_layout.specs.declared.answers.Layout.{Layout}
-use Rattle.cap_layout.specs.Answers.{Fits}
+use Rattle.cap_layout.specs.Answers.{Fits, Exceeds}
 use Rattle.c_tree.specs.declared.typed.GlobalDef.{GlobalDef}
-use Rattle.c_tree.specs.Layout.{Extent}
+use Rattle.c_tree.specs.Layout.{Extent, size_limit}
 use Rattle.c_tree.specs.Types.{Void}
 use Rattle.c_tree.specs.Scopes.{State, StaticState, type_extent, has_extent, extent_size}
 use Rattle.c_tree.specs.Statics.{static_length}
@@ -17,6 +17,7 @@ use Rattle.c_types.proofs.Looking.{seen_at}
 use Rattle.c_nodes.specs.Nodes.{type_in}
 use Rattle.c_work.specs.declared.work.Work.{Work}
 use Rattle.c_work.specs.Work.{Shows}
+use Rattle.c_finish.specs.Finished.{IsTyped}
 
 -- ---- the lengths of objects and literals
 
@@ -44,3 +45,10 @@ unfolding owned_of
 object-complete w s k g l h e f =
     let t = object-type w s k g h e in
     ap (static_length s) t.1 ∙ ap (λ u. owned_of (type_extent s.tags u)) t.2 ∙ ap owned_of f.is
+
+pub object-over : (w : Work) (s : State) (k : ℕ) (g : GlobalDef) → Shows w s → IsTyped s → slice_get w.nodes.p.globals k ≡ Some g → Exceeds (type_extent s.tags (type_in w.nodes g.of)) → ⊥
+object-over w s k g h y e f =
+    let t = object-type w s k g h e in
+    let few : f.extent.size ≤ size_limit = y.sizes k t.0 f.extent t.1 (ap (type_extent s.tags) t.2 ∙ f.is) in
+    let over : size_limit < f.extent.size = f.over in
+    omega arith

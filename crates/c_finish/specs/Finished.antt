@@ -1,6 +1,7 @@
 -- What the end of a file gives.
-use Rattle.std.specs.Prelude.{◌≡◌, ℕ, ◌+◌, ◌<◌, true, false, List, [], ◌∷◌, ◌++◌, length, map, flat_map, take, Option, Some, None, Result, Ok, Err, option_map, slice_get}
+use Rattle.std.specs.Prelude.{◌≡◌, ℕ, ◌+◌, ◌<◌, ◌≤◌, true, false, List, [], ◌∷◌, ◌++◌, length, map, flat_map, take, Option, Some, None, Result, Ok, Err, option_map, slice_get}
 use Rattle.std.specs.List.{position_or_len}
+use Rattle.ck_base.specs.declared.positions.Pos.{Pos}
 use Rattle.ck_base.specs.declared.refusal.Refusal.{Refusal}
 use Rattle.ck_base.specs.declared.refusal.Refusal.TheVariants.{Code, NoMemory}
 use Rattle.c_tree.specs.declared.syntax.RecordKind.{RecordKind}
@@ -10,21 +11,27 @@ use Rattle.c_tree.specs.declared.typed.Expr.{Expr}
 use Rattle.c_tree.specs.declared.typed.Stmt.{Stmt}
 use Rattle.c_tree.specs.declared.typed.FunDef.{FunDef}
 use Rattle.c_tree.specs.declared.typed.GlobalDef.{GlobalDef}
+use Rattle.c_tree.specs.declared.typed.Literal.{Literal}
+use Rattle.c_tree.specs.declared.typed.Target.{Target}
+use Rattle.c_tree.specs.declared.typed.Target.TheVariants as targets
 use Rattle.c_tree.specs.declared.typed.Typed.{Typed}
 use Rattle.c_tree.specs.Syntax.{Syn, StandsAt}
-use Rattle.c_tree.specs.Terms.{Program, Tag}
+use Rattle.c_tree.specs.Layout.{Extent, size_limit}
+use Rattle.c_tree.specs.Terms.{Aim, To_global, To_function, To_literal, Text, Block, Action, action, Actions, no_terms, Program, Tag}
 use Rattle.c_tree.specs.Passed.{passed_program, call_name, calls_in}
-use Rattle.c_tree.specs.Scopes.{Aiming, Fault, State, RoutineState}
+use Rattle.c_tree.specs.Scopes.{Aiming, Body, Fault, State, StaticState, RoutineState, type_extent}
 use Rattle.c_tree.specs.Views.{Shows, IsOrdered, TagAgrees, types_of, routine_of, member_of}
 use Rattle.c_tree.specs.Views as views
 use Rattle.c_tree.specs.Programs as programs
 use Rattle.c_types.specs.Stands.{member_kept, part_seen}
 use Rattle.c_types.specs.Members.{parts_of}
 use Rattle.c_work.specs.declared.work.Filling.{Filling}
+use Rattle.c_work.specs.declared.work.Start.{Start}
 use Rattle.c_work.specs.declared.work.Work.{Work}
 use Rattle.c_work.specs.Work as works
 use Rattle.c_copy.specs.declared.numbers.Numbers.{Numbers}
 use Rattle.c_copy.specs.Copying.{AreNumbers, actions_in}
+use Rattle.c_copy.specs.Standing.{ActionStands, NamesWithin}
 
 -- the lists stand for the program that the file is
 pub record IsFinished (r : Result Program Fault) (p : Typed) : Type 0 where
@@ -39,9 +46,48 @@ Finished r (Ok p) = IsFinished r p
 Finished r (Err (Code code place)) = r ≡ Err (record { code = code; place = place })
 Finished r (Err NoMemory) = Unit {0}
 
--- the new numbers are those of the program
-abbrev pub NumbersFit : Work → Numbers → Type 0
-NumbersFit w t = (s : State) → works.Shows w s → AreNumbers t (programs.numbers_of s)
+-- the body of a function is a block, its parameters are among its variables, and it names objects and functions of the state
+pub record BodyFits (s : State) (b : Body) : Type 0 where
+  pub vars : List ℕ
+  pub parts : Actions
+  pub place : Pos
+  pub is : b.action ≡ action (Block vars) no_terms parts place
+  pub params : length b.params ≤ length b.vars
+  pub names : ActionStands (NamesWithin (length s.statics) (length s.routines)) b.action
+
+-- a pointer names what is there, and a string literal has no more bytes than an object may have
+abbrev pub AimFits : State → Aim → Type 0
+AimFits s (To_global k) = k < length s.statics
+AimFits s (To_function k) = k < length s.routines
+AimFits s (To_literal k) = (x : Text) → slice_get s.texts k ≡ Some x → length x.bytes ≤ size_limit
+
+-- what typing sees to: no object is over the limit, and initial pointers and bodies fit
+pub record IsTyped (s : State) : Type 0 where
+  pub sizes : (k : ℕ) (g : StaticState) (x : Extent) → slice_get s.statics k ≡ Some g → type_extent s.tags g.of ≡ Some x → x.size ≤ size_limit
+  pub aims : (k j : ℕ) (g : StaticState) (i : List ℕ × List Aiming) (a : Aiming) → slice_get s.statics k ≡ Some g → g.initial ≡ Some i → slice_get i.1 j ≡ Some a → AimFits s a.aim
+  pub bodies : (k : ℕ) (f : RoutineState) (b : Body) → slice_get s.routines k ≡ Some f → f.body ≡ Some b → BodyFits s b
+
+-- the work stands for some state that typing gives
+pub record IsShown (w : Work) : Type 0 where
+  pub state : State
+  pub shows : works.Shows w state
+  pub typed : IsTyped state
+
+-- the same of a pointer that was written
+abbrev pub TargetFits : Work → Target → Type 0
+TargetFits w (targets.Global k) = k < length w.nodes.p.globals
+TargetFits w (targets.Fun k) = k < length w.nodes.p.funs
+TargetFits w (targets.Literal k) = (x : Literal) → slice_get w.nodes.p.literals k ≡ Some x → length x.bytes ≤ size_limit
+
+-- and of all of an initial value
+abbrev pub StartsFit : Work → List Start → Type 0
+StartsFit w xs = (j : ℕ) (x : Start) → slice_get xs j ≡ Some x → TargetFits w x.target
+
+-- each object and each function has a new number, which is that of the program
+pub record HaveNumbers (w : Work) (t : Numbers) : Type 0 where
+  pub objects : length t.objects.items ≡ length w.nodes.p.globals
+  pub functions : length t.functions.items ≡ length w.nodes.p.funs
+  pub fit : (s : State) → works.Shows w s → AreNumbers t (programs.numbers_of s)
 
 -- what a type says of a tag
 abbrev pub TagFits : Work → CType → Type 0

@@ -1,11 +1,12 @@
 //! The rules that wait for the end of the file (C11 6.9p5, 6.9.2).
 
-ghost use Rattle.std.specs.Prelude.{◌≡◌, IfOk, Some, slice_get, flat_map};
+ghost use Rattle.std.specs.Prelude.{◌≡◌, ◌<◌, IfOk, Some, length, slice_get, flat_map};
 ghost use Rattle.c_tree.specs.Scopes.{State, StaticState, RoutineState};
 ghost use Rattle.c_tree.specs.Programs.{static_faults, routine_faults, pending_faults, last_faults, earliest, reaches};
 ghost use Rattle.c_work.specs.Work.{Shows, pending_of};
 ghost use Rattle.c_finish.specs.Faults.{found, onto};
-ghost use Rattle.c_finish.specs.Tables.{HasUses, HasDefinitions};
+ghost use Rattle.c_finish.specs.Finished.{IsShown};
+ghost use Rattle.c_finish.specs.Tables.{AreUses, HasDefinitions};
 
 use crate::found::{Found, earlier, undefined};
 use crate::lengths::object_length;
@@ -14,22 +15,18 @@ use c_work::{Waiting, Work};
 use ck_base::NoMemory;
 
 // What fails of an object: it is not complete (132), or it is used and not defined (130).
-fn object_fault(
-    work: &Work<'_>,
-    uses: &Uses,
-    k: u32,
-    rest: Option<Found>,
-) -> Result<Option<Found>, NoMemory>
-    requires { HasUses work.now.uses.items uses.now }
-    ensures { IfOk result (λ best. (s : State) (g : StaticState) → Shows work.now s → slice_get s.statics k ≡ Some g → found best ≡ onto (static_faults s g) (found rest)) }
+fn object_fault(work: &Work<'_>, uses: &Uses, k: u32, rest: Option<Found>) -> Option<Found>
+    requires uses { AreUses work.now uses.now }
+    requires there { k < length work.now.nodes.p.globals }
+    ensures { (s : State) (g : StaticState) → Shows work.now s → slice_get s.statics k ≡ Some g → found result ≡ onto (static_faults s g) (found rest) }
 {
-    let used = uses.object(k)?;
+    let used = uses.object(k);
     let best = undefined(work.nodes.scopes.is_defined(k), used, rest);
-    let g = global_at(work, k)?;
+    let g = global_at(work, k);
     if work.nodes.scopes.is_complete(&work.nodes.p, g.of) {
-        Ok(best)
+        best
     } else {
-        Ok(earlier(132, g.pos, best))
+        earlier(132, g.pos, best)
     }
 }
 
@@ -38,13 +35,13 @@ fn object_faults(
     uses: &Uses,
     rest: Option<Found>,
 ) -> Result<Option<Found>, NoMemory>
-    requires { HasUses work.now.uses.items uses.now }
+    requires { AreUses work.now uses.now }
     ensures { IfOk result (λ best. (s : State) → Shows work.now s → found best ≡ onto (flat_map (static_faults s) s.statics) (found rest)) }
 {
     let n = count(work.nodes.p.globals.as_slice().len())?;
     let mut best = rest;
     for i in 0..n {
-        best = object_fault(work, uses, n - 1 - i, best)?;
+        best = object_fault(work, uses, n - 1 - i, best);
     }
     Ok(best)
 }
@@ -56,16 +53,17 @@ fn function_fault(
     definitions: &[Option<u32>],
     k: u32,
     rest: Option<Found>,
-) -> Result<Option<Found>, NoMemory>
-    requires uses { HasUses work.now.uses.items uses.now }
-    requires definitions { HasDefinitions work.now.definitions.items definitions.now }
-    ensures { IfOk result (λ best. (s : State) (f : RoutineState) → Shows work.now s → slice_get s.routines k ≡ Some f → found best ≡ onto (routine_faults f) (found rest)) }
+) -> Option<Found>
+    requires uses { AreUses work.now uses.now }
+    requires definitions { HasDefinitions work.now definitions.now }
+    requires there { k < length work.now.nodes.p.funs }
+    ensures { (s : State) (f : RoutineState) → Shows work.now s → slice_get s.routines k ≡ Some f → found result ≡ onto (routine_faults f) (found rest) }
 {
-    let used = uses.function(k)?;
-    let found = definition(work, definitions, k)?;
+    let used = uses.function(k);
+    let found = definition(work, definitions, k);
     match found {
-        None => Ok(undefined(false, used, rest)),
-        Some(_) => Ok(undefined(true, used, rest)),
+        None => undefined(false, used, rest),
+        Some(_) => undefined(true, used, rest),
     }
 }
 
@@ -75,14 +73,14 @@ fn function_faults(
     definitions: &[Option<u32>],
     rest: Option<Found>,
 ) -> Result<Option<Found>, NoMemory>
-    requires uses { HasUses work.now.uses.items uses.now }
-    requires definitions { HasDefinitions work.now.definitions.items definitions.now }
+    requires uses { AreUses work.now uses.now }
+    requires definitions { HasDefinitions work.now definitions.now }
     ensures { IfOk result (λ best. (s : State) → Shows work.now s → found best ≡ onto (flat_map routine_faults s.routines) (found rest)) }
 {
     let n = count(work.nodes.p.funs.as_slice().len())?;
     let mut best = rest;
     for i in 0..n {
-        best = function_fault(work, uses, definitions, n - 1 - i, best)?;
+        best = function_fault(work, uses, definitions, n - 1 - i, best);
     }
     Ok(best)
 }
@@ -97,41 +95,40 @@ fn reaches(length: Option<u64>, least: i64) -> bool
 }
 
 // An initial pointer was outside an array whose length was not known then (134).
-fn waiting_fault(
-    work: &Work<'_>,
-    x: Waiting,
-    rest: Option<Found>,
-) -> Result<Option<Found>, NoMemory>
-    ensures { IfOk result (λ best. (s : State) → Shows work.now s → found best ≡ onto (pending_faults s (pending_of x)) (found rest)) }
+fn waiting_fault(work: &Work<'_>, x: Waiting, rest: Option<Found>) -> Option<Found>
+    requires { IsShown work.now }
+    ensures { (s : State) → Shows work.now s → found result ≡ onto (pending_faults s (pending_of x)) (found rest) }
 {
-    let length = object_length(work, x.object)?;
+    let length = object_length(work, x.object);
     if reaches(length, x.least) {
-        Ok(rest)
+        rest
     } else {
-        Ok(earlier(134, x.pos, rest))
+        earlier(134, x.pos, rest)
     }
 }
 
-fn waiting_at(list: &[Waiting], i: usize) -> Result<Waiting, NoMemory>
-    ensures { IfOk result (λ x. slice_get list.now i ≡ Some x) }
+fn waiting_at(list: &[Waiting], i: usize) -> Waiting
+    requires { i < length list.now }
+    ensures { slice_get list.now i ≡ Some result }
 {
     match list.get(i).copied() {
-        Some(x) => Ok(x),
-        None => Err(NoMemory),
+        Some(x) => x,
+        None => unreachable!(),
     }
 }
 
-fn waiting_faults(work: &Work<'_>, rest: Option<Found>) -> Result<Option<Found>, NoMemory>
-    ensures { IfOk result (λ best. (s : State) → Shows work.now s → found best ≡ onto (flat_map (pending_faults s) s.pending) (found rest)) }
+fn waiting_faults(work: &Work<'_>, rest: Option<Found>) -> Option<Found>
+    requires { IsShown work.now }
+    ensures { (s : State) → Shows work.now s → found result ≡ onto (flat_map (pending_faults s) s.pending) (found rest) }
 {
     let waiting = work.waiting.as_slice();
     let n = waiting.len();
     let mut best = rest;
     for i in 0..n {
-        let x = waiting_at(waiting, n - 1 - i)?;
-        best = waiting_fault(work, x, best)?;
+        let x = waiting_at(waiting, n - 1 - i);
+        best = waiting_fault(work, x, best);
     }
-    Ok(best)
+    best
 }
 
 /// The first rule in the file that fails at its end.
@@ -140,11 +137,12 @@ pub(crate) fn last_fault(
     uses: &Uses,
     definitions: &[Option<u32>],
 ) -> Result<Option<Found>, NoMemory>
-    requires uses { HasUses work.now.uses.items uses.now }
-    requires definitions { HasDefinitions work.now.definitions.items definitions.now }
+    requires uses { AreUses work.now uses.now }
+    requires definitions { HasDefinitions work.now definitions.now }
+    requires shown { IsShown work.now }
     ensures { IfOk result (λ best. (s : State) → Shows work.now s → found best ≡ earliest (last_faults s)) }
 {
-    let of_pointers = waiting_faults(work, None)?;
+    let of_pointers = waiting_faults(work, None);
     let of_functions = function_faults(work, uses, definitions, of_pointers)?;
     object_faults(work, uses, of_functions)
 }

@@ -1,13 +1,14 @@
 //! The end of a file (C11 6.9).
 
-ghost use Rattle.std.specs.Prelude.{◌≡◌, Some, None, IfOk, slice_get};
+ghost use Rattle.std.specs.Prelude.{◌≡◌, ◌<◌, Some, None, IfOk, length, slice_get};
 ghost use Rattle.c_tree.specs.Syntax.{Syn};
 ghost use Rattle.c_tree.specs.Scopes.{State};
 ghost use Rattle.c_tree.specs.Passed.{call_name, calls_in};
 ghost use Rattle.c_tree.specs.Programs.{last_faults, earliest, ended};
 ghost use Rattle.c_nodes.specs.Nodes.{IsWhole};
 ghost use Rattle.c_work.specs.Work.{Shows};
-ghost use Rattle.c_finish.specs.Finished.{Finished, IsMain, IsSyntax, IsWritten, IsProgram};
+ghost use Rattle.c_passing.specs.Named.{HasSyntax};
+ghost use Rattle.c_finish.specs.Finished.{Finished, IsShown, IsMain, IsSyntax, IsWritten, IsProgram};
 ghost use Rattle.c_finish.specs.Tables.{HasDefinitions};
 
 use crate::faults::last_fault;
@@ -23,12 +24,13 @@ use c_tree::{FunDef, GlobalDef, Typed};
 use c_work::Work;
 use ck_base::{NoMemory, Pos, Refusal, Sequence};
 
-fn number_of_main(numbers: &Numbers, k: u32) -> Result<u32, NoMemory>
-    ensures { IfOk result (λ v. slice_get numbers.now.functions.items k ≡ Some v) }
+fn number_of_main(numbers: &Numbers, k: u32) -> u32
+    requires { k < length numbers.now.functions.items }
+    ensures { slice_get numbers.now.functions.items k ≡ Some result }
 {
     match numbers.functions.get(k as usize).copied() {
-        Some(v) => Ok(v),
-        None => Err(NoMemory),
+        Some(v) => v,
+        None => unreachable!(),
     }
 }
 
@@ -57,14 +59,15 @@ fn assembled(
 
 // The program as it is written, where no rule fails.
 fn written(work: Work<'_>, definitions: &[Option<u32>], main: u32) -> Result<Typed, NoMemory>
-    requires definitions { HasDefinitions work.definitions.items definitions.now }
+    requires definitions { HasDefinitions work definitions.now }
     requires main { IsMain work (Some main) }
+    requires shown { IsShown work }
     ensures { IfOk result (IsWritten work.entry) }
 {
     let alloc = work.nodes.alloc;
     check_tags(&work)?;
     let numbers = new_numbers(&work, definitions)?;
-    let main = number_of_main(&numbers, main)?;
+    let main = number_of_main(&numbers, main);
     let fillings = last_fillings(&work)?;
     let globals = objects(&work, &numbers, fillings.as_slice())?;
     let mut copied = Copied {
@@ -77,8 +80,10 @@ fn written(work: Work<'_>, definitions: &[Option<u32>], main: u32) -> Result<Typ
 
 // The program that is run, where no rule fails.
 fn program(work: Work<'_>, definitions: &[Option<u32>], main: u32) -> Result<Typed, NoMemory>
-    requires definitions { HasDefinitions work.definitions.items definitions.now }
+    requires definitions { HasDefinitions work definitions.now }
     requires main { IsMain work (Some main) }
+    requires shown { IsShown work }
+    requires syntax { HasSyntax work.tree.now }
     ensures { IfOk result (IsProgram work.entry) }
 {
     let alloc = work.nodes.alloc;
@@ -91,7 +96,9 @@ fn program(work: Work<'_>, definitions: &[Option<u32>], main: u32) -> Result<Typ
 
 // The program, where no rule waits that fails: 135 where no `main` is defined.
 fn ending(work: Work<'_>, definitions: &[Option<u32>]) -> Result<Typed, Refusal>
-    requires { HasDefinitions work.definitions.items definitions.now }
+    requires definitions { HasDefinitions work definitions.now }
+    requires shown { IsShown work }
+    requires syntax { HasSyntax work.tree.now }
     ensures { (s : State) (x : Syn) → Shows work.entry s → IsSyntax work.entry x → Finished (ended (call_name (calls_in x)) None s) result }
 {
     let found = main_of(&work, definitions)?;
@@ -108,6 +115,8 @@ fn ending(work: Work<'_>, definitions: &[Option<u32>]) -> Result<Typed, Refusal>
 /// is defined.
 pub fn finish(work: Work<'_>) -> Result<Typed, Refusal>
     requires whole { IsWhole work.nodes }
+    requires shown { IsShown work }
+    requires syntax { HasSyntax work.tree.now }
     ensures { (s : State) (x : Syn) → Shows work.entry s → IsSyntax work.entry x → Finished (ended (call_name (calls_in x)) (earliest (last_faults s)) s) result }
 {
     let uses = first_uses(&work)?;

@@ -1,6 +1,6 @@
 //! The function `main` (C11 5.1.2.2.1).
 
-ghost use Rattle.std.specs.Prelude.{◌≡◌, ◌≤◌, ℕ, Some, IfOk, MatchOption, length, slice_get, codes, bytes_eq, ◌&&◌, if◌then◌else◌};
+ghost use Rattle.std.specs.Prelude.{◌≡◌, ◌<◌, ◌≤◌, ℕ, Some, IfOk, MatchOption, length, slice_get, codes, bytes_eq, ◌&&◌, if◌then◌else◌};
 ghost use Rattle.ck_int.specs.declared.kinds.IntKind.TheVariants as int_kinds;
 ghost use Rattle.c_tree.specs.Types.{Ty, Function, no_types, int, same, same_kind};
 ghost use Rattle.c_tree.specs.Scopes.{State, RoutineState};
@@ -99,18 +99,19 @@ fn is_named_main(text: &[u8]) -> bool
     text == b"main".as_slice()
 }
 
-fn is_main(work: &Work<'_>, definitions: &[Option<u32>], k: u32) -> Result<bool, NoMemory>
-    requires { HasDefinitions work.now.definitions.items definitions.now }
-    ensures { IfOk result (λ b. (s : State) (r : RoutineState) → Shows work.now s → slice_get s.routines k ≡ Some r → is_main r ≡ b) }
+fn is_main(work: &Work<'_>, definitions: &[Option<u32>], k: u32) -> bool
+    requires definitions { HasDefinitions work.now definitions.now }
+    requires there { k < length work.now.nodes.p.funs }
+    ensures { (s : State) (r : RoutineState) → Shows work.now s → slice_get s.routines k ≡ Some r → is_main r ≡ result }
 {
-    let f = function_at(work, k)?;
+    let f = function_at(work, k);
     let text = work.nodes.scopes.text(f.name);
     let is_named = is_named_main(text);
     let is_typed = is_main_type(work.nodes.p.types.as_slice(), f.of);
-    let found = definition(work, definitions, k)?;
+    let found = definition(work, definitions, k);
     match found {
-        None => Ok(false),
-        Some(_) => Ok(both(is_named, is_typed)),
+        None => false,
+        Some(_) => both(is_named, is_typed),
     }
 }
 
@@ -128,14 +129,14 @@ fn main_or(test: bool, k: u32, found: Option<u32>) -> Option<u32>
 
 /// The number of the first function that is `main`.
 pub(crate) fn main_of(work: &Work<'_>, definitions: &[Option<u32>]) -> Result<Option<u32>, NoMemory>
-    requires { HasDefinitions work.now.definitions.items definitions.now }
+    requires { HasDefinitions work.now definitions.now }
     ensures { IfOk result (IsMain work.now) }
 {
     let n = count(work.nodes.p.funs.as_slice().len())?;
     let mut found = None;
     for i in 0..n {
         let k = n - 1 - i;
-        let test = is_main(work, definitions, k)?;
+        let test = is_main(work, definitions, k);
         found = main_or(test, k, found);
     }
     Ok(found)

@@ -1,10 +1,10 @@
 //! The numbers of the objects and functions that are defined.
 
-ghost use Rattle.std.specs.Prelude.{IfOk, ◌≡◌, ◌+◌, ℕ, Some, slice_get, if◌then◌else◌};
+ghost use Rattle.std.specs.Prelude.{IfOk, ◌≡◌, ◌+◌, ◌<◌, ℕ, Some, length, slice_get, if◌then◌else◌};
 ghost use Rattle.c_tree.specs.Scopes.{State};
 ghost use Rattle.c_tree.specs.Programs.{numbers_of, is_there};
 ghost use Rattle.c_work.specs.Work.{Shows, definition_of};
-ghost use Rattle.c_finish.specs.Finished.{NumbersFit};
+ghost use Rattle.c_finish.specs.Finished.{HaveNumbers};
 ghost use Rattle.c_finish.specs.Tables.{HasDefinitions};
 
 use crate::tables::{count, definition};
@@ -12,64 +12,60 @@ use c_copy::Numbers;
 use c_work::Work;
 use ck_base::NoMemory;
 
-fn one_more(test: bool, n: u32) -> Result<u32, NoMemory>
-    ensures { IfOk result (λ m. m ≡ (if test then n + 1 else n)) }
+fn one_more(test: bool, n: u32) -> u32
+    requires { n < u32.MAX }
+    ensures { result ≡ (if test then n + 1 else n) }
 {
-    if !test {
-        return Ok(n);
-    }
-    match n.checked_add(1) {
-        Some(m) => Ok(m),
-        None => Err(NoMemory),
-    }
+    if test { n + 1 } else { n }
 }
 
 fn numbers_of_objects(work: &Work<'_>) -> Result<Vec<u32>, NoMemory>
-    ensures { IfOk result (λ t. (s : State) → Shows work.now s → (k v : ℕ) → slice_get t.items k ≡ Some v → (numbers_of s).0 k ≡ v) }
+    ensures count { IfOk result (λ t. length t.items ≡ length work.now.nodes.p.globals) }
+    ensures are { IfOk result (λ t. (s : State) → Shows work.now s → (k v : ℕ) → slice_get t.items k ≡ Some v → (numbers_of s).0 k ≡ v) }
 {
     let n = count(work.nodes.p.globals.as_slice().len())?;
     let mut table = Vec::new(work.nodes.alloc);
     let mut next: u32 = 0;
     for k in 0..n {
         table.push(next)?;
-        let more = one_more(work.nodes.scopes.is_defined(k), next)?;
-        next = more;
+        next = one_more(work.nodes.scopes.is_defined(k), next);
     }
     Ok(table)
 }
 
 fn numbers_of_functions(work: &Work<'_>, definitions: &[Option<u32>]) -> Result<Vec<u32>, NoMemory>
-    requires { HasDefinitions work.now.definitions.items definitions.now }
-    ensures { IfOk result (λ t. (s : State) → Shows work.now s → (k v : ℕ) → slice_get t.items k ≡ Some v → (numbers_of s).1 k ≡ v) }
+    requires { HasDefinitions work.now definitions.now }
+    ensures count { IfOk result (λ t. length t.items ≡ length work.now.nodes.p.funs) }
+    ensures are { IfOk result (λ t. (s : State) → Shows work.now s → (k v : ℕ) → slice_get t.items k ≡ Some v → (numbers_of s).1 k ≡ v) }
 {
     let n = count(work.nodes.p.funs.as_slice().len())?;
     let mut table = Vec::new(work.nodes.alloc);
     let mut next: u32 = 0;
     for k in 0..n {
         table.push(next)?;
-        let is_there = is_defined(work, definitions, k)?;
-        let more = one_more(is_there, next)?;
-        next = more;
+        let is_there = is_defined(work, definitions, k);
+        next = one_more(is_there, next);
     }
     Ok(table)
 }
 
 // Whether a function has a body.
-fn is_defined(work: &Work<'_>, definitions: &[Option<u32>], k: u32) -> Result<bool, NoMemory>
-    requires { HasDefinitions work.now.definitions.items definitions.now }
-    ensures { IfOk result (λ b. is_there (definition_of k work.now.definitions.items) ≡ b) }
+fn is_defined(work: &Work<'_>, definitions: &[Option<u32>], k: u32) -> bool
+    requires definitions { HasDefinitions work.now definitions.now }
+    requires there { k < length work.now.nodes.p.funs }
+    ensures { is_there (definition_of k work.now.definitions.items) ≡ result }
 {
-    let found = definition(work, definitions, k)?;
+    let found = definition(work, definitions, k);
     match found {
-        None => Ok(false),
-        Some(_) => Ok(true),
+        None => false,
+        Some(_) => true,
     }
 }
 
 /// The new numbers of objects and functions.
 pub(crate) fn new_numbers(work: &Work<'_>, definitions: &[Option<u32>]) -> Result<Numbers, NoMemory>
-    requires { HasDefinitions work.now.definitions.items definitions.now }
-    ensures { IfOk result (NumbersFit work.now) }
+    requires { HasDefinitions work.now definitions.now }
+    ensures { IfOk result (HaveNumbers work.now) }
 {
     let objects = numbers_of_objects(work)?;
     let functions = numbers_of_functions(work, definitions)?;

@@ -1,14 +1,15 @@
 //! The objects of the finished program (C11 6.9.2).
 
-ghost use Rattle.std.specs.Prelude.{◌≡◌, ◌∷◌, [], true, Some, IfOk, OnOk, map, option_map, slice_get};
+ghost use Rattle.std.specs.Prelude.{◌≡◌, ◌<◌, ◌∷◌, [], true, Some, IfOk, OnOk, length, map, option_map, slice_get};
 ghost use Rattle.std.specs.Borrow.{Bor};
 ghost use Rattle.c_tree.specs.Scopes.{State, StaticState};
 ghost use Rattle.c_tree.specs.Programs.{reach_of, pointing_of, initial_of, object_of};
 ghost use Rattle.c_tree.specs.Views.{types_of};
 ghost use Rattle.c_tree.specs.Views as views;
+ghost use Rattle.c_work.specs.declared.work.Filling.{Filling as Given};
 ghost use Rattle.c_work.specs.Work.{Shows, aiming_of};
 ghost use Rattle.c_work.specs.Work as works;
-ghost use Rattle.c_finish.specs.Finished.{NumbersFit, AreObjects, AddsObject, filled};
+ghost use Rattle.c_finish.specs.Finished.{IsShown, TargetFits, StartsFit, HaveNumbers, AreObjects, AddsObject, filled};
 ghost use Rattle.c_finish.specs.Tables.{HasFillings};
 
 use crate::lengths::aim_length;
@@ -31,39 +32,44 @@ fn reach(length: Option<u64>, bounds: Bounds) -> (u64, u64)
     }
 }
 
-fn link_of(work: &Work<'_>, numbers: &Numbers, start: Start) -> Result<Link, NoMemory>
-    requires { NumbersFit work.now numbers.now }
-    ensures { IfOk result (λ l. (s : State) → Shows work.now s → views.pointing_of l ≡ pointing_of s (aiming_of start)) }
+fn link_of(work: &Work<'_>, numbers: &Numbers, start: Start) -> Link
+    requires numbers { HaveNumbers work.now numbers.now }
+    requires shown { IsShown work.now }
+    requires fits { TargetFits work.now start.target }
+    ensures { (s : State) → Shows work.now s → views.pointing_of result ≡ pointing_of s (aiming_of start) }
 {
-    let length = aim_length(work, start.target)?;
-    let target = numbers.target(start.target)?;
+    let length = aim_length(work, start.target);
+    let target = numbers.target(start.target);
     let (low, length) = reach(length, start.bounds);
-    Ok(Link {
+    Link {
         at: start.at,
         target,
         low,
         length,
         offset: start.offset,
-    })
+    }
 }
 
-fn start_at(starts: &[Start], i: usize) -> Result<Start, NoMemory>
-    ensures { IfOk result (λ x. slice_get starts.now i ≡ Some x) }
+fn start_at(starts: &[Start], i: usize) -> Start
+    requires { i < length starts.now }
+    ensures { slice_get starts.now i ≡ Some result }
 {
     match starts.get(i).copied() {
-        Some(x) => Ok(x),
-        None => Err(NoMemory),
+        Some(x) => x,
+        None => unreachable!(),
     }
 }
 
 fn links_of(work: &Work<'_>, numbers: &Numbers, starts: &[Start]) -> Result<Vec<Link>, NoMemory>
-    requires { NumbersFit work.now numbers.now }
+    requires numbers { HaveNumbers work.now numbers.now }
+    requires shown { IsShown work.now }
+    requires fit { StartsFit work.now starts.now }
     ensures { IfOk result (λ ls. (s : State) → Shows work.now s → map views.pointing_of ls.items ≡ map (pointing_of s) (map aiming_of starts.now)) }
 {
     let mut links = Vec::new(work.nodes.alloc);
     for i in 0..starts.len() {
-        let start = start_at(starts, i)?;
-        let link = link_of(work, numbers, start)?;
+        let start = start_at(starts, i);
+        let link = link_of(work, numbers, start);
         links.push(link)?;
     }
     Ok(links)
@@ -75,7 +81,9 @@ fn initial(
     numbers: &Numbers,
     given: Option<&Filling>,
 ) -> Result<(Vec<u8>, Vec<Link>), NoMemory>
-    requires { NumbersFit work.now numbers.now }
+    requires numbers { HaveNumbers work.now numbers.now }
+    requires shown { IsShown work.now }
+    requires fit { (f : Given) → option_map (λ (f : Bor Given). f.now) given ≡ Some f → StartsFit work.now f.starts.items }
     ensures { IfOk result (λ x. (s : State) → Shows work.now s → initial_of s (option_map filled (option_map (λ (f : Bor Filling). f.now) given.entry)) ≡ (x.0.items, map views.pointing_of x.1.items)) }
 {
     let alloc = work.nodes.alloc;
@@ -96,13 +104,15 @@ fn object(
     fillings: &[Option<u32>],
     k: u32,
 ) -> Result<GlobalDef, NoMemory>
-    requires numbers { NumbersFit work.now numbers.now }
-    requires fillings { HasFillings work.now.fillings.items fillings.now }
+    requires numbers { HaveNumbers work.now numbers.now }
+    requires fillings { HasFillings work.now fillings.now }
+    requires there { k < length work.now.nodes.p.globals }
+    requires shown { IsShown work.now }
     ensures { IfOk result (λ o. (s : State) (g : StaticState) → Shows work.now s → slice_get s.statics k ≡ Some g → g.defined ≡ true → views.object_of (types_of work.now.nodes.p.types) o ∷ [] ≡ object_of s g) }
 {
-    let given = filling(work, fillings, k)?;
+    let given = filling(work, fillings, k);
     let (bytes, links) = initial(work, numbers, given)?;
-    let g = global_at(work, k)?;
+    let g = global_at(work, k);
     Ok(GlobalDef {
         name: g.name,
         pos: g.pos,
@@ -120,8 +130,10 @@ fn add_object(
     k: u32,
     list: &mut Vec<GlobalDef>,
 ) -> Result<(), NoMemory>
-    requires numbers { NumbersFit work.now numbers.now }
-    requires fillings { HasFillings work.now.fillings.items fillings.now }
+    requires numbers { HaveNumbers work.now numbers.now }
+    requires fillings { HasFillings work.now fillings.now }
+    requires there { k < length work.now.nodes.p.globals }
+    requires shown { IsShown work.now }
     ensures { OnOk result (AddsObject work.now k list.old.items list.new.items) }
 {
     let is_there = work.nodes.scopes.is_defined(k);
@@ -139,8 +151,9 @@ pub(crate) fn objects(
     numbers: &Numbers,
     fillings: &[Option<u32>],
 ) -> Result<Vec<GlobalDef>, NoMemory>
-    requires numbers { NumbersFit work.now numbers.now }
-    requires fillings { HasFillings work.now.fillings.items fillings.now }
+    requires numbers { HaveNumbers work.now numbers.now }
+    requires fillings { HasFillings work.now fillings.now }
+    requires shown { IsShown work.now }
     ensures { IfOk result (λ os. AreObjects work.now os.items) }
 {
     let n = count(work.nodes.p.globals.as_slice().len())?;

@@ -1,10 +1,10 @@
 //! The functions of the finished program (C11 6.9.1).
 
-ghost use Rattle.std.specs.Prelude.{◌≡◌, Some, IfOk, OnOk, length, slice_get};
+ghost use Rattle.std.specs.Prelude.{◌≡◌, ◌<◌, Some, IfOk, OnOk, length, slice_get};
 ghost use Rattle.c_tree.specs.Scopes.{State};
 ghost use Rattle.c_work.specs.Work.{Shows};
 ghost use Rattle.c_copy.specs.Copying.{Extends};
-ghost use Rattle.c_finish.specs.Finished.{NumbersFit, AreRoutines, IsRoutine, AddsRoutine};
+ghost use Rattle.c_finish.specs.Finished.{IsShown, HaveNumbers, AreRoutines, IsRoutine, AddsRoutine};
 ghost use Rattle.c_finish.specs.Tables.{HasDefinitions};
 ghost use Rattle.c_work.specs.Work.{definition_of};
 
@@ -14,9 +14,6 @@ use c_tree::{FunDef, VarDef};
 use c_work::{Definition, Work};
 use ck_base::{NoMemory, Sequence};
 use std::alloc::Global;
-
-/// How many levels an expression, and a statement, may have.
-const LEVELS: u32 = 4000;
 
 fn numbers(alloc: Global, xs: &[u32]) -> Result<Vec<u32>, NoMemory>
     ensures { IfOk result (λ v. v.items ≡ xs.now) }
@@ -40,8 +37,10 @@ fn routine(
     d: &Definition,
     into: &mut Copied,
 ) -> Result<FunDef, NoMemory>
-    requires numbers { NumbersFit work.now new.now }
+    requires numbers { HaveNumbers work.now new.now }
     requires definition { definition_of k work.now.definitions.items ≡ Some d.now }
+    requires there { k < length work.now.nodes.p.funs }
+    requires shown { IsShown work.now }
     ensures exprs { OnOk result (Extends into.old.exprs.items into.new.exprs.items) }
     ensures stmts { OnOk result (Extends into.old.stmts.items into.new.stmts.items) }
     ensures is { IfOk result (IsRoutine work.now into.new.exprs.items into.new.stmts.items k) }
@@ -54,12 +53,11 @@ fn routine(
         exprs,
         stmts,
         numbers: new,
-        levels: LEVELS,
     };
     let params = numbers(alloc, d.params.as_slice())?;
     let vars = variables(alloc, d.vars.as_slice())?;
-    let body = statement(&source, d.body, LEVELS, into)?;
-    let f = function_at(work, k)?;
+    let body = statement(&source, d.body, into)?;
+    let f = function_at(work, k);
     Ok(FunDef {
         name: f.name,
         pos: f.pos,
@@ -79,11 +77,13 @@ fn add_routine(
     into: &mut Copied,
     list: &mut Vec<FunDef>,
 ) -> Result<(), NoMemory>
-    requires numbers { NumbersFit work.now new.now }
-    requires definitions { HasDefinitions work.now.definitions.items definitions.now }
+    requires numbers { HaveNumbers work.now new.now }
+    requires definitions { HasDefinitions work.now definitions.now }
+    requires there { k < length work.now.nodes.p.funs }
+    requires shown { IsShown work.now }
     ensures { OnOk result (AddsRoutine work.now k into.old.exprs.items into.old.stmts.items list.old.items into.new.exprs.items into.new.stmts.items list.new.items) }
 {
-    let found = definition(work, definitions, k)?;
+    let found = definition(work, definitions, k);
     match found {
         None => Ok(()),
         Some(d) => {
@@ -101,8 +101,9 @@ pub(crate) fn routines(
     definitions: &[Option<u32>],
     into: &mut Copied,
 ) -> Result<Vec<FunDef>, NoMemory>
-    requires numbers { NumbersFit work.now new.now }
-    requires definitions { HasDefinitions work.now.definitions.items definitions.now }
+    requires numbers { HaveNumbers work.now new.now }
+    requires definitions { HasDefinitions work.now definitions.now }
+    requires shown { IsShown work.now }
     ensures { IfOk result (λ fs. (s : State) → Shows work.now s → AreRoutines work.now into.new.exprs.items into.new.stmts.items s (length s.routines) fs.items) }
 {
     let n = count(work.nodes.p.funs.as_slice().len())?;

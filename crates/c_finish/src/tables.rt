@@ -1,9 +1,10 @@
 //! What counts of all that was said of each object and function, by their numbers: the first use, the last definition and the last
 //! initial value.
 
-ghost use Rattle.std.specs.Prelude.{◌≡◌, Some, IfOk, OnOk, None, option_map, slice_set, slice_get};
-ghost use Rattle.c_work.specs.Work.{definition_of};
-ghost use Rattle.c_finish.specs.Tables.{HasUses, HasDefinitions, HasFillings, last_filling, IsBlank, AddsUse};
+ghost use Rattle.std.specs.Prelude.{◌≡◌, ◌<◌, Some, IfOk, None, length, option_map, slice_set, slice_get};
+ghost use Rattle.c_work.specs.Work.{definition_of, UseIsThere};
+ghost use Rattle.c_finish.specs.Finished.{IsShown};
+ghost use Rattle.c_finish.specs.Tables.{AreUses, HasDefinitions, HasFillings, last_filling, IsBlank, AddsUse};
 
 use c_tree::{FunDef, GlobalDef};
 use c_work::{Definition, Filling, Use, Used, Work};
@@ -28,7 +29,8 @@ pub(crate) fn count(n: usize) -> Result<u32, NoMemory>
 }
 
 fn no_places(alloc: Global, n: usize) -> Result<Vec<Option<Pos>>, NoMemory>
-    ensures { IfOk result (λ v. IsBlank v.items) }
+    ensures blank { IfOk result (λ v. IsBlank v.items) }
+    ensures count { IfOk result (λ v. length v.items ≡ n) }
 {
     let mut v = Vec::new(alloc);
     for made in 0..n {
@@ -38,7 +40,8 @@ fn no_places(alloc: Global, n: usize) -> Result<Vec<Option<Pos>>, NoMemory>
 }
 
 fn no_numbers(alloc: Global, n: usize) -> Result<Vec<Option<u32>>, NoMemory>
-    ensures { IfOk result (λ v. IsBlank v.items) }
+    ensures blank { IfOk result (λ v. IsBlank v.items) }
+    ensures count { IfOk result (λ v. length v.items ≡ n) }
 {
     let mut v = Vec::new(alloc);
     for made in 0..n {
@@ -47,40 +50,36 @@ fn no_numbers(alloc: Global, n: usize) -> Result<Vec<Option<u32>>, NoMemory>
     Ok(v)
 }
 
-fn set_place(table: &mut Vec<Option<Pos>>, k: u32, pos: Pos) -> Result<(), NoMemory>
-    ensures { OnOk result (table.new.items ≡ slice_set table.old.items k (Some pos)) }
+fn set_place(table: &mut Vec<Option<Pos>>, k: u32, pos: Pos)
+    requires { k < length table.old.items }
+    ensures { table.new.items ≡ slice_set table.old.items k (Some pos) }
 {
-    let at = k as usize;
-    if at >= table.len() {
-        return Err(NoMemory);
-    }
-    table[at] = Some(pos);
-    Ok(())
+    table[k as usize] = Some(pos);
 }
 
-fn set_number(table: &mut Vec<Option<u32>>, k: u32, i: u32) -> Result<(), NoMemory>
-    ensures { OnOk result (table.new.items ≡ slice_set table.old.items k (Some i)) }
+fn set_number(table: &mut Vec<Option<u32>>, k: u32, i: u32)
+    requires { k < length table.old.items }
+    ensures { table.new.items ≡ slice_set table.old.items k (Some i) }
 {
-    let at = k as usize;
-    if at >= table.len() {
-        return Err(NoMemory);
-    }
-    table[at] = Some(i);
-    Ok(())
+    table[k as usize] = Some(i);
 }
 
-fn use_at(uses: &[Use], i: usize) -> Result<Use, NoMemory>
-    ensures { IfOk result (λ u. slice_get uses.now i ≡ Some u) }
+fn use_at(uses: &[Use], i: usize) -> Use
+    requires { i < length uses.now }
+    ensures { slice_get uses.now i ≡ Some result }
 {
     match uses.get(i).copied() {
-        Some(u) => Ok(u),
-        None => Err(NoMemory),
+        Some(u) => u,
+        None => unreachable!(),
     }
 }
 
 // A use that stands before the others.
-fn set_use(table: &mut Uses, u: Use) -> Result<(), NoMemory>
-    ensures { OnOk result (AddsUse table.old u table.new) }
+fn set_use(table: &mut Uses, u: Use)
+    requires { UseIsThere (length table.old.objects.items) (length table.old.functions.items) u.what }
+    ensures adds { AddsUse table.old u table.new }
+    ensures objects { length table.new.objects.items ≡ length table.old.objects.items }
+    ensures functions { length table.new.functions.items ≡ length table.old.functions.items }
 {
     match u.what {
         Used::Object(k) => set_place(&mut table.objects, k, u.pos),
@@ -90,7 +89,8 @@ fn set_use(table: &mut Uses, u: Use) -> Result<(), NoMemory>
 
 /// The places of the first uses.
 pub(crate) fn first_uses(work: &Work<'_>) -> Result<Uses, NoMemory>
-    ensures { IfOk result (HasUses work.now.uses.items) }
+    requires { IsShown work.now }
+    ensures { IfOk result (AreUses work.now) }
 {
     let alloc = work.nodes.alloc;
     let objects = no_places(alloc, work.nodes.p.globals.as_slice().len())?;
@@ -99,105 +99,114 @@ pub(crate) fn first_uses(work: &Work<'_>) -> Result<Uses, NoMemory>
     let uses = work.uses.as_slice();
     let n = uses.len();
     for i in 0..n {
-        let u = use_at(uses, n - 1 - i)?;
-        set_use(&mut table, u)?;
+        let u = use_at(uses, n - 1 - i);
+        set_use(&mut table, u);
     }
     Ok(table)
 }
 
 impl Uses {
-    pub(crate) fn object(&self, k: u32) -> Result<Option<Pos>, NoMemory>
-        ensures { IfOk result (λ o. slice_get self.now.objects.items k ≡ Some o) }
+    pub(crate) fn object(&self, k: u32) -> Option<Pos>
+        requires { k < length self.now.objects.items }
+        ensures { slice_get self.now.objects.items k ≡ Some result }
     {
         match self.objects.get(k as usize).copied() {
-            Some(o) => Ok(o),
-            None => Err(NoMemory),
+            Some(o) => o,
+            None => unreachable!(),
         }
     }
 
-    pub(crate) fn function(&self, k: u32) -> Result<Option<Pos>, NoMemory>
-        ensures { IfOk result (λ o. slice_get self.now.functions.items k ≡ Some o) }
+    pub(crate) fn function(&self, k: u32) -> Option<Pos>
+        requires { k < length self.now.functions.items }
+        ensures { slice_get self.now.functions.items k ≡ Some result }
     {
         match self.functions.get(k as usize).copied() {
-            Some(o) => Ok(o),
-            None => Err(NoMemory),
+            Some(o) => o,
+            None => unreachable!(),
         }
     }
 }
 
-fn definition_at(definitions: &[Definition], i: u32) -> Result<&Definition, NoMemory>
-    ensures { IfOk result (λ d. slice_get definitions.now i ≡ Some d.now) }
+fn definition_at(definitions: &[Definition], i: u32) -> &Definition
+    requires { i < length definitions.now }
+    ensures { slice_get definitions.now i ≡ Some result.now }
 {
     match definitions.get(i as usize) {
-        Some(d) => Ok(d),
-        None => Err(NoMemory),
+        Some(d) => d,
+        None => unreachable!(),
     }
 }
 
-fn filling_at(fillings: &[Filling], i: u32) -> Result<&Filling, NoMemory>
-    ensures { IfOk result (λ f. slice_get fillings.now i ≡ Some f.now) }
+fn filling_at(fillings: &[Filling], i: u32) -> &Filling
+    requires { i < length fillings.now }
+    ensures { slice_get fillings.now i ≡ Some result.now }
 {
     match fillings.get(i as usize) {
-        Some(f) => Ok(f),
-        None => Err(NoMemory),
+        Some(f) => f,
+        None => unreachable!(),
     }
 }
 
 /// For each function the number of its last definition.
 pub(crate) fn last_definitions(work: &Work<'_>) -> Result<Vec<Option<u32>>, NoMemory>
-    ensures { IfOk result (λ v. HasDefinitions work.now.definitions.items v.items) }
+    requires { IsShown work.now }
+    ensures { IfOk result (λ v. HasDefinitions work.now v.items) }
 {
     let mut table = no_numbers(work.nodes.alloc, work.nodes.p.funs.as_slice().len())?;
     let definitions = work.definitions.as_slice();
     let n = count(definitions.len())?;
     for i in 0..n {
-        let d = definition_at(definitions, i)?;
-        set_number(&mut table, d.function, i)?;
+        let d = definition_at(definitions, i);
+        set_number(&mut table, d.function, i);
     }
     Ok(table)
 }
 
 /// For each object the number of its last initial value.
 pub(crate) fn last_fillings(work: &Work<'_>) -> Result<Vec<Option<u32>>, NoMemory>
-    ensures { IfOk result (λ v. HasFillings work.now.fillings.items v.items) }
+    requires { IsShown work.now }
+    ensures { IfOk result (λ v. HasFillings work.now v.items) }
 {
     let mut table = no_numbers(work.nodes.alloc, work.nodes.p.globals.as_slice().len())?;
     let fillings = work.fillings.as_slice();
     let n = count(fillings.len())?;
     for i in 0..n {
-        let f = filling_at(fillings, i)?;
-        set_number(&mut table, f.object, i)?;
+        let f = filling_at(fillings, i);
+        set_number(&mut table, f.object, i);
     }
     Ok(table)
 }
 
 /// An object by its number.
-pub(crate) fn global_at<'a>(work: &'a Work<'_>, k: u32) -> Result<&'a GlobalDef, NoMemory>
-    ensures { IfOk result (λ g. slice_get work.now.nodes.p.globals k ≡ Some g.now) }
+pub(crate) fn global_at<'a>(work: &'a Work<'_>, k: u32) -> &'a GlobalDef
+    requires { k < length work.now.nodes.p.globals }
+    ensures { slice_get work.now.nodes.p.globals k ≡ Some result.now }
 {
     match work.nodes.p.globals.as_slice().get(k as usize) {
-        Some(g) => Ok(g),
-        None => Err(NoMemory),
+        Some(g) => g,
+        None => unreachable!(),
     }
 }
 
 /// A function by its number.
-pub(crate) fn function_at<'a>(work: &'a Work<'_>, k: u32) -> Result<&'a FunDef, NoMemory>
-    ensures { IfOk result (λ f. slice_get work.now.nodes.p.funs k ≡ Some f.now) }
+pub(crate) fn function_at<'a>(work: &'a Work<'_>, k: u32) -> &'a FunDef
+    requires { k < length work.now.nodes.p.funs }
+    ensures { slice_get work.now.nodes.p.funs k ≡ Some result.now }
 {
     match work.nodes.p.funs.as_slice().get(k as usize) {
-        Some(f) => Ok(f),
-        None => Err(NoMemory),
+        Some(f) => f,
+        None => unreachable!(),
     }
 }
 
 /// An entry of a table.
-pub(crate) fn entry(table: &[Option<u32>], k: u32) -> Result<Option<u32>, NoMemory>
-    ensures { IfOk result (λ o. slice_get table.now k ≡ Some o) }
+fn entry(table: &[Option<u32>], k: u32) -> Option<u32>
+    requires { k < length table.now }
+    ensures { slice_get table.now k ≡ Some result }
 {
     match table.get(k as usize).copied() {
-        Some(o) => Ok(o),
-        None => Err(NoMemory),
+        Some(o) => o,
+        None => unreachable!(),
     }
 }
 
@@ -206,35 +215,25 @@ pub(crate) fn definition<'a>(
     work: &'a Work<'_>,
     table: &[Option<u32>],
     k: u32,
-) -> Result<Option<&'a Definition>, NoMemory>
-    requires { HasDefinitions work.now.definitions.items table.now }
-    ensures { IfOk result (λ o. option_map (λ d. d.now) o ≡ definition_of k work.now.definitions.items) }
+) -> Option<&'a Definition>
+    requires definitions { HasDefinitions work.now table.now }
+    requires there { k < length work.now.nodes.p.funs }
+    ensures { option_map (λ d. d.now) result ≡ definition_of k work.now.definitions.items }
 {
-    let found = entry(table, k)?;
-    match found {
-        None => Ok(None),
-        Some(at) => {
-            let d = definition_at(work.definitions.as_slice(), at)?;
-            Ok(Some(d))
-        }
+    match entry(table, k) {
+        None => None,
+        Some(at) => Some(definition_at(work.definitions.as_slice(), at)),
     }
 }
 
 /// The initial value of an object, if it has one.
-pub(crate) fn filling<'a>(
-    work: &'a Work<'_>,
-    table: &[Option<u32>],
-    k: u32,
-) -> Result<Option<&'a Filling>, NoMemory>
-    requires { HasFillings work.now.fillings.items table.now }
-    ensures { IfOk result (λ o. option_map (λ f. f.now) o ≡ last_filling k work.now.fillings.items) }
+pub(crate) fn filling<'a>(work: &'a Work<'_>, table: &[Option<u32>], k: u32) -> Option<&'a Filling>
+    requires fillings { HasFillings work.now table.now }
+    requires there { k < length work.now.nodes.p.globals }
+    ensures { option_map (λ f. f.now) result ≡ last_filling k work.now.fillings.items }
 {
-    let found = entry(table, k)?;
-    match found {
-        None => Ok(None),
-        Some(at) => {
-            let f = filling_at(work.fillings.as_slice(), at)?;
-            Ok(Some(f))
-        }
+    match entry(table, k) {
+        None => None,
+        Some(at) => Some(filling_at(work.fillings.as_slice(), at)),
     }
 }

@@ -3,6 +3,8 @@ pub mod Building
 pub mod Calling
 pub mod Each
 pub mod Hiding
+pub mod Least
+pub mod Levels
 pub mod Naming
 pub mod Numbering
 pub mod Passing

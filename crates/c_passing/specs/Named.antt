@@ -1,5 +1,5 @@
 -- The names of calls that are known.
-use Rattle.std.specs.Prelude.{◌≡◌, ℕ, Bool, ◌&&◌, ◌==◌, if◌then◌else◌, List, [], ◌∷◌, ◌++◌, Option, Some, None}
+use Rattle.std.specs.Prelude.{◌≡◌, ℕ, ◌+◌, ◌≤◌, max, Bool, ◌&&◌, ◌==◌, if◌then◌else◌, List, [], ◌∷◌, ◌++◌, Option, Some, None}
 use Rattle.std.specs.Map.{lookup}
 use Rattle.ck_base.specs.declared.positions.Pos.{Pos}
 use Rattle.ck_base.specs.declared.positions.Span.{Span}
@@ -8,7 +8,7 @@ use Rattle.c_tree.specs.declared.syntax.Node.{Node}
 use Rattle.c_tree.specs.declared.syntax.NodeKind.{NodeKind}
 use Rattle.c_tree.specs.declared.syntax.NodeKind.TheVariants as Kinds
 use Rattle.c_tree.specs.declared.syntax.Tree.{Tree}
-use Rattle.c_tree.specs.Syntax.{Syn, StandsAt}
+use Rattle.c_tree.specs.Syntax.{Syn, Syns, node, nil, more, StandsAt}
 use Rattle.c_tree.specs.Passed.{same_place, calls_in}
 use Rattle.c_passing.specs.declared.names.Names.{Names}
 
@@ -46,6 +46,28 @@ own_calls k t = []
 
 abbrev pub AddsCall : Names → Names → Node → Type 0
 AddsCall old new n = (ts : List Lexeme) (t : Lexeme) → t.pos ≡ n.pos → t.span ≡ n.text → Knows old ts → Knows new (ts ++ own_calls n.kind t)
+
+-- ---- the parts of a tree
+
+-- the levels of a tree
+abbrev mutual
+  pub levels : Syn → ℕ
+  levels (node k t xs) = deepest xs + 1
+
+  pub deepest : Syns → ℕ
+  deepest nil = 0
+  deepest (more x xs) = max (levels x) (deepest xs)
+
+-- a part of at most so many levels stands there
+pub record IsWithin (tree : Tree) (k n : ℕ) : Type 0 where
+  pub syntax : Syn
+  pub stands : StandsAt tree.nodes k syntax
+  pub within : levels syntax ≤ n
+
+-- the tree is that of some syntax
+pub record HasSyntax (tree : Tree) : Type 0 where
+  pub syntax : Syn
+  pub stands : StandsAt tree.nodes tree.root syntax
 
 -- the calls in a part of a tree are known too
 abbrev pub Gathers : Tree → Names → Names → ℕ → Type 0

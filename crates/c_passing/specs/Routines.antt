@@ -3,6 +3,9 @@ use Rattle.std.specs.Prelude.{◌≡◌, ℕ, ◌+◌, ◌-◌, ◌<◌, ◌≤�
 use Rattle.ck_base.specs.declared.positions.Pos.{Pos}
 use Rattle.c_tree.specs.declared.syntax.Tree.{Tree}
 use Rattle.c_tree.specs.declared.typed.Expr.{Expr}
+use Rattle.c_tree.specs.declared.typed.Stmt.{Stmt}
+use Rattle.c_tree.specs.declared.typed.StmtKind.{StmtKind}
+use Rattle.c_tree.specs.declared.typed.StmtKind.TheVariants as stmts
 use Rattle.c_tree.specs.declared.typed.VarDef.{VarDef}
 use Rattle.c_tree.specs.declared.typed.FunDef.{FunDef}
 use Rattle.c_tree.specs.declared.typed.GlobalDef.{GlobalDef}
@@ -37,6 +40,20 @@ source_routine s f = routine_of (types_of s.program.now.types) (actions_of s.pro
 
 abbrev pub source_variable : Source → VarDef → Variable
 source_variable s v = variable_of (types_of s.program.now.types) v
+
+-- ---- what is asked of a function
+
+abbrev pub IsBlock : StmtKind → Type 0
+IsBlock (stmts.Block vars body) = Unit {0}
+IsBlock k = ⊥
+
+-- its parameters are among its variables, and its body is a block
+pub record HasBody (p : Typed) (f : FunDef) : Type 0 where
+  pub params : length f.params ≤ length f.vars
+  pub block : (x : Stmt) → slice_get p.stmts f.body ≡ Some x → IsBlock x.kind
+
+abbrev pub HaveBodies : Typed → Type 0
+HaveBodies p = (k : ℕ) (f : FunDef) → slice_get p.funs k ≡ Some f → HasBody p f
 
 -- ---- the variables of a function that have names
 

@@ -1,7 +1,8 @@
 //! Expressions as they are run.
 
-ghost use Rattle.std.specs.Prelude.{◌≡◌, [], true, IfOk, OnOk, map};
+ghost use Rattle.std.specs.Prelude.{◌≡◌, true, IfOk, OnOk, length, map};
 ghost use Rattle.c_tree.specs.Types.{is_tagged};
+ghost use Rattle.c_tree.specs.Views.{operands};
 ghost use Rattle.c_tree.specs.Passed.{hidden_in};
 ghost use Rattle.c_copy.specs.Copying.{Extends};
 ghost use Rattle.c_passing.specs.Lists.{hidden_in_each};
@@ -10,13 +11,14 @@ ghost use Rattle.c_passing.specs.Passes.{written_type, written_term, written_cal
 use crate::calls::{by_address, by_result, hidden_type, hide, hide_arguments};
 use crate::counts::after;
 use crate::nodes::{Made, Source};
-use c_copy::{all_below, inner_with, none, operands, two};
+use c_copy::{all_below, inner_with, operands, two};
 use c_tree::{Expr, ExprKind};
 use ck_base::{NoMemory, Pos, Sequence};
 
-// An expression that has no operands.
-fn leaf_with(source: &Source<'_>, kind: &ExprKind) -> Result<ExprKind, NoMemory>
-    ensures { IfOk result (IsKindPassed source.now kind.now []) }
+// The same kind of expression with as many operands, these. A compound assignment is computed in the type that stands for its type.
+fn kind_with(source: &Source<'_>, kind: &ExprKind, xs: &[u32]) -> Result<ExprKind, NoMemory>
+    requires { length xs.now ≡ length (operands kind.now) }
+    ensures { IfOk result (IsKindPassed source.now kind.now xs.now) }
 {
     match kind {
         ExprKind::Constant(n) => Ok(ExprKind::Constant(*n)),
@@ -27,25 +29,8 @@ fn leaf_with(source: &Source<'_>, kind: &ExprKind) -> Result<ExprKind, NoMemory>
             let v = source.variable(*k)?;
             Ok(ExprKind::Var(v))
         }
-        _ => Err(NoMemory),
-    }
-}
-
-// The same kind of expression with these operands. A compound assignment is computed in the type that stands for its type.
-fn kind_with(source: &Source<'_>, kind: &ExprKind, xs: &[u32]) -> Result<ExprKind, NoMemory>
-    ensures { IfOk result (IsKindPassed source.now kind.now xs.now) }
-{
-    match kind {
-        ExprKind::Constant(_)
-        | ExprKind::Literal(_)
-        | ExprKind::Var(_)
-        | ExprKind::Global(_)
-        | ExprKind::Fun(_) => {
-            none(xs)?;
-            leaf_with(source, kind)
-        }
         ExprKind::Compound(o, _, _, of) => {
-            let (a, b) = two(xs)?;
+            let (a, b) = two(xs);
             let of = source.types.number(*of)?;
             Ok(ExprKind::Compound(*o, a, b, of))
         }
@@ -60,7 +45,6 @@ fn arguments(
     first: u32,
     xs: &[u32],
     pos: Pos,
-    depth: u32,
     out: &mut Made,
     list: &mut Vec<u32>,
 ) -> Result<(), NoMemory>
@@ -71,7 +55,7 @@ fn arguments(
 {
     let mut h = first;
     for x in xs {
-        let value = expression(source, *x, depth, out)?;
+        let value = expression(source, *x, out)?;
         let e = source.expr(*x)?;
         match hidden_type(source, e.of) {
             None => list.push(value)?,
@@ -93,7 +77,6 @@ fn call_plainly(
     called: u32,
     own: u32,
     xs: &[u32],
-    depth: u32,
     out: &mut Made,
 ) -> Result<u32, NoMemory>
     ensures extends { OnOk result (Extends out.old.exprs.items out.new.exprs.items) }
@@ -102,7 +85,7 @@ fn call_plainly(
     ensures is { IfOk result (IsPlainCall source.now out.old out.new e.now called own xs.now) }
 {
     let mut list = Vec::new(source.alloc);
-    arguments(source, own, xs, e.pos, depth, out, &mut list)?;
+    arguments(source, own, xs, e.pos, out, &mut list)?;
     let of = source.types.number(e.of)?;
     let kind = ExprKind::Call(called, Sequence::from_vec(list));
     out.push_expr(kind, of, e.pos)
@@ -118,7 +101,6 @@ fn call_by_result(
     hidden: u32,
     t: u32,
     xs: &[u32],
-    depth: u32,
     out: &mut Made,
 ) -> Result<u32, NoMemory>
     requires { is_tagged (written_type source.now t) ≡ true }
@@ -132,59 +114,44 @@ fn call_by_result(
     let address = out.address(hidden, pointer, of, e.pos)?;
     let mut list = Vec::new(source.alloc);
     list.push(address)?;
-    arguments(source, own, xs, e.pos, depth, out, &mut list)?;
+    arguments(source, own, xs, e.pos, out, &mut list)?;
     by_result(source, hidden, called, list, t, e.pos, out)
 }
 
 // A call of `f` as it is run.
 #[cycle(expressions)]
-fn call(
-    source: &Source<'_>,
-    e: &Expr,
-    f: u32,
-    xs: &[u32],
-    depth: u32,
-    out: &mut Made,
-) -> Result<u32, NoMemory>
+fn call(source: &Source<'_>, e: &Expr, f: u32, xs: &[u32], out: &mut Made) -> Result<u32, NoMemory>
     ensures extends { OnOk result (Extends out.old.exprs.items out.new.exprs.items) }
     ensures stmts { OnOk result (out.new.stmts ≡ out.old.stmts) }
     ensures hides { OnOk result (Hides source.now out.old out.new (λ names. hidden_in names (written_call source.now e.now f xs.now))) }
     ensures is { IfOk result (IsPassed source.now out.old out.new (written_call source.now e.now f xs.now)) }
 {
-    let called = expression(source, f, depth, out)?;
+    let called = expression(source, f, out)?;
     let own = out.next_var()?;
     hide_arguments(source, xs, e.pos, out)?;
     let hidden = out.next_var()?;
     hide(source, e.of, e.pos, out)?;
     match hidden_type(source, e.of) {
-        None => call_plainly(source, e, called, own, xs, depth, out),
-        Some(t) => call_by_result(source, e, called, own, hidden, t, xs, depth, out),
+        None => call_plainly(source, e, called, own, xs, out),
+        Some(t) => call_by_result(source, e, called, own, hidden, t, xs, out),
     }
 }
 
 /// The number of expression `k` as it is run, which stands behind its operands at the end of the list.
 #[cycle(expressions)]
-pub(crate) fn expression(
-    source: &Source<'_>,
-    k: u32,
-    depth: u32,
-    out: &mut Made,
-) -> Result<u32, NoMemory>
+pub(crate) fn expression(source: &Source<'_>, k: u32, out: &mut Made) -> Result<u32, NoMemory>
     ensures extends { OnOk result (Extends out.old.exprs.items out.new.exprs.items) }
     ensures stmts { OnOk result (out.new.stmts ≡ out.old.stmts) }
     ensures hides { OnOk result (Hides source.now out.old out.new (λ names. hidden_in names (written_term source.now k))) }
     ensures is { IfOk result (IsPassed source.now out.old out.new (written_term source.now k)) }
 {
-    if depth == 0 {
-        return Err(NoMemory);
-    }
     let e = source.expr(k)?;
     let ks = operands(source.alloc, &e.kind)?;
-    all_below(ks.as_slice(), k)?;
+    all_below(ks.as_slice(), k as usize)?;
     match &e.kind {
-        ExprKind::Call(f, xs) => call(source, e, *f, xs.as_slice(), depth - 1, out),
+        ExprKind::Call(f, xs) => call(source, e, *f, xs.as_slice(), out),
         _ => {
-            let js = expressions(source, ks.as_slice(), depth - 1, out)?;
+            let js = expressions(source, ks.as_slice(), out)?;
             let kind = kind_with(source, &e.kind, js.as_slice())?;
             let of = source.types.number(e.of)?;
             out.push_expr(kind, of, e.pos)
@@ -197,17 +164,17 @@ pub(crate) fn expression(
 pub(crate) fn expressions(
     source: &Source<'_>,
     ks: &[u32],
-    depth: u32,
     out: &mut Made,
 ) -> Result<Vec<u32>, NoMemory>
     ensures extends { OnOk result (Extends out.old.exprs.items out.new.exprs.items) }
     ensures stmts { OnOk result (out.new.stmts ≡ out.old.stmts) }
     ensures hides { OnOk result (Hides source.now out.old out.new (λ names. hidden_in_each names (map (written_term source.now) ks.now))) }
+    ensures count { IfOk result (λ js. length js.items ≡ length ks.now) }
     ensures are { IfOk result (λ js. ArePassed source.now out.old out.new (map (written_term source.now) ks.now) js.items) }
 {
     let mut js = Vec::new(source.alloc);
     for k in ks {
-        let j = expression(source, *k, depth, out)?;
+        let j = expression(source, *k, out)?;
         js.push(j)?;
     }
     Ok(js)

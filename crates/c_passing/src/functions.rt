@@ -6,12 +6,12 @@ ghost use Rattle.c_tree.specs.Terms.{numbers_from, Variable};
 ghost use Rattle.c_tree.specs.Passed.{by_pointer, named_variables, passed_param, passed_variable, result_pointer, copied_params, hidden_of};
 ghost use Rattle.c_copy.specs.Copying.{Extends};
 ghost use Rattle.c_passing.specs.Passes.{written_type, written_action, Hides};
-ghost use Rattle.c_passing.specs.Routines.{written_routine, written_variable, source_routine, source_variable, AreRun, IsRun, IsNamed, named_so_far, AddsParam, HasParams, HasLocals, IsParamCopy, AreParamCopies, AreBlockVars, IsBody, IsFunction};
+ghost use Rattle.c_passing.specs.Routines.{written_routine, written_variable, source_routine, source_variable, HasBody, AreRun, IsRun, IsNamed, named_so_far, AddsParam, HasParams, HasLocals, IsParamCopy, AreParamCopies, AreBlockVars, IsBody, IsFunction};
 
 use crate::counts::{after, count, sum};
 use crate::names::Names;
 use crate::nodes::{Made, Source};
-use crate::statements::{LEVELS, statements, variables};
+use crate::statements::{statements, variables};
 use crate::types::{Types, bare, by_pointer, given_by_pointer};
 use c_copy::all_below;
 use c_tree::{ExprKind, FunDef, StmtKind, Typed, VarDef};
@@ -147,23 +147,20 @@ fn other_locals(whole: &Whole<'_>, locals: &[VarDef], into: &mut Standing) -> Re
 }
 
 // The parameters as they are written, and the other locals.
-fn written_vars(f: &FunDef) -> Result<(&[VarDef], &[VarDef]), NoMemory>
-    ensures { IfOk result (λ x. (x.0.now ≡ take (length f.now.params) f.now.vars) × (x.1.now ≡ drop (length f.now.params) f.now.vars) × (length f.now.params ≤ length f.now.vars)) }
+fn written_vars(f: &FunDef) -> (&[VarDef], &[VarDef])
+    requires { length f.now.params ≤ length f.now.vars }
+    ensures params { result.0.now ≡ take (length f.now.params) f.now.vars }
+    ensures locals { result.1.now ≡ drop (length f.now.params) f.now.vars }
 {
-    let written = f.params.as_slice().len();
-    let all = f.vars.as_slice();
-    if written <= all.len() {
-        Ok(all.split_at(written))
-    } else {
-        Err(NoMemory)
-    }
+    f.vars.as_slice().split_at(f.params.as_slice().len())
 }
 
 fn named(whole: &Whole<'_>, f: &FunDef) -> Result<Standing, NoMemory>
+    requires { length f.now.params ≤ length f.now.vars }
     ensures { IfOk result (λ n. IsNamed whole.now f.now (length f.now.vars) n (named_variables (written_routine whole.now f.now))) }
 {
     let alloc = whole.alloc;
-    let (params, locals) = written_vars(f)?;
+    let (params, locals) = written_vars(f);
     let mut vars = Vec::new(alloc);
     let before = result_pointer(whole, f, &mut vars)?;
     params_as_run(whole, params, &mut vars)?;
@@ -267,6 +264,7 @@ fn body(
     copied: u32,
     out: &mut Made,
 ) -> Result<u32, NoMemory>
+    requires fits { HasBody source.now.program.now f.now }
     requires before { before ≡ length (result_pointer (source_routine source.now f.now)) }
     requires copied { copied ≡ length (copied_params (source_routine source.now f.now)) }
     ensures exprs { OnOk result (Extends out.old.exprs.items out.new.exprs.items) }
@@ -278,15 +276,15 @@ fn body(
     let s = source.stmt(f.body)?;
     match &s.kind {
         StmtKind::Block { vars, body } => {
-            all_below(body.as_slice(), f.body)?;
-            let (params, _) = written_vars(f)?;
+            all_below(body.as_slice(), f.body as usize)?;
+            let (params, _) = written_vars(f);
             let written = count(params.len())?;
             let local = sum(written, before)?;
             let other = sum(local, copied)?;
             let hidden = out.next_var()?;
             let mut list = Vec::new(source.alloc);
             param_copies(source, params, before, local, out, &mut list)?;
-            statements(source, body.as_slice(), LEVELS, out, &mut list)?;
+            statements(source, body.as_slice(), out, &mut list)?;
             let end = out.next_var()?;
             let vars = block_vars(source, (local, other), vars.as_slice(), (hidden, end))?;
             let kind = StmtKind::Block {
@@ -295,7 +293,7 @@ fn body(
             };
             out.push_stmt(kind, s.pos)
         }
-        _ => Err(NoMemory),
+        _ => unreachable!(),
     }
 }
 
@@ -309,6 +307,7 @@ fn numbers_below(alloc: Global, n: u32) -> Result<Vec<u32>, NoMemory>
 
 /// A function as it is run. Its variables are taken out of what was made.
 pub(crate) fn function(whole: &Whole<'_>, f: &FunDef, out: &mut Made) -> Result<FunDef, NoMemory>
+    requires { HasBody whole.now.program.now f.now }
     ensures exprs { OnOk result (Extends out.old.exprs.items out.new.exprs.items) }
     ensures stmts { OnOk result (Extends out.old.stmts.items out.new.stmts.items) }
     ensures is { IfOk result (IsFunction whole.now (written_routine whole.now f.now) out.new) }

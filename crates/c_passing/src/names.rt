@@ -1,10 +1,10 @@
 //! The names of calls: where the `(` of each stands.
 
-ghost use Rattle.std.specs.Prelude.{◌≡◌, ◌∷◌, [], if◌then◌else◌, Some, IfOk, OnOk, slice_get};
+ghost use Rattle.std.specs.Prelude.{◌≡◌, ◌<◌, ◌∷◌, [], if◌then◌else◌, Some, IfOk, OnOk, length, slice_get};
 ghost use Rattle.ck_base.specs.Tokens.{Lexeme};
 ghost use Rattle.c_tree.specs.Syntax.{Syn, StandsAt};
 ghost use Rattle.c_tree.specs.Passed.{calls_in};
-ghost use Rattle.c_passing.specs.Named.{name_in, own_calls, Knows, AddsName, AddsCall, Gathers};
+ghost use Rattle.c_passing.specs.Named.{name_in, own_calls, Knows, AddsName, AddsCall, Gathers, HasSyntax, IsWithin};
 
 use c_tree::{Node, NodeKind, Tree};
 use ck_base::{NoMemory, Pos, Span};
@@ -17,15 +17,13 @@ pub(crate) struct Names {
     known: IndexMap<(u32, u32), Span>,
 }
 
-// How many calls of a function may lie in one another. A tree is at most 200 nodes high.
-const DEPTH: u32 = 2000;
-
-fn node_at(tree: &Tree, k: u32) -> Result<&Node, NoMemory>
-    ensures { IfOk result (λ n. slice_get tree.now.nodes k ≡ Some n.now) }
+fn node_at(tree: &Tree, k: u32) -> &Node
+    requires { k < length tree.now.nodes }
+    ensures { slice_get tree.now.nodes k ≡ Some result.now }
 {
     match tree.nodes.as_slice().get(k as usize) {
-        Some(node) => Ok(node),
-        None => Err(NoMemory),
+        Some(node) => node,
+        None => unreachable!(),
     }
 }
 
@@ -60,29 +58,28 @@ impl Names {
         Ok(())
     }
 
-    // The names of the calls in a part of a tree.
-    fn gather(&mut self, tree: &Tree, k: u32, depth: u32) -> Result<(), NoMemory>
+    // The names of the calls in a part of a tree, which has so many levels at most.
+    fn gather(&mut self, tree: &Tree, k: u32, levels: usize) -> Result<(), NoMemory>
+        requires { IsWithin tree.now k levels }
         ensures { OnOk result (Gathers tree.now self.old self.new k) }
     {
-        if depth == 0 {
-            return Err(NoMemory);
-        }
-        let node = node_at(tree, k)?;
+        let node = node_at(tree, k);
         self.add_call(node)?;
         for kid in node.kids.as_slice() {
-            self.gather(tree, *kid, depth - 1)?;
+            self.gather(tree, *kid, levels - 1)?;
         }
         Ok(())
     }
 
     /// The names of the calls in a file.
     pub(crate) fn new(alloc: Global, tree: &Tree) -> Result<Self, NoMemory>
+        requires { HasSyntax tree.now }
         ensures { IfOk result (λ m. (x : Syn) → StandsAt tree.now.nodes tree.now.root x → Knows m (calls_in x)) }
     {
         let mut names = Names {
             known: IndexMap::new(alloc),
         };
-        names.gather(tree, tree.root, DEPTH)?;
+        names.gather(tree, tree.root, tree.nodes.as_slice().len())?;
         Ok(names)
     }
 

@@ -2,7 +2,8 @@
 
 ghost use Rattle.std.specs.Prelude.{◌≡◌, IfOk, OnOk, map};
 ghost use Rattle.c_copy.specs.Copying.{Extends};
-ghost use Rattle.c_passing.specs.Routines.{written_routine, AreFunctions, IsObject, AreObjects, IsPassedProgram};
+ghost use Rattle.c_passing.specs.Named.{HasSyntax};
+ghost use Rattle.c_passing.specs.Routines.{written_routine, HaveBodies, AreFunctions, IsObject, AreObjects, IsPassedProgram};
 
 use crate::functions::{Whole, function};
 use crate::names::Names;
@@ -13,6 +14,7 @@ use ck_base::{NoMemory, Sequence};
 use std::alloc::Global;
 
 fn functions(whole: &Whole<'_>, out: &mut Made) -> Result<Vec<FunDef>, NoMemory>
+    requires { HaveBodies whole.now.program.now }
     ensures { IfOk result (λ fs. AreFunctions whole.now (map (written_routine whole.now) whole.now.program.now.funs) out.new fs.items) }
 {
     let mut list = Vec::new(whole.alloc);
@@ -57,6 +59,8 @@ fn objects(
 /// The program that is run in the place of one that is typed as it is written. Structs and unions go to functions and come back by pointers,
 /// through hidden locals, which have the names of the calls in the file's tree.
 pub fn pass(alloc: Global, p: Typed, tree: &Tree) -> Result<Typed, NoMemory>
+    requires syntax { HasSyntax tree.now }
+    requires bodies { HaveBodies p }
     ensures { IfOk result (IsPassedProgram tree.now p) }
 {
     let names = Names::new(alloc, tree)?;

@@ -1,6 +1,6 @@
 //! Statements as they are run.
 
-ghost use Rattle.std.specs.Prelude.{◌≡◌, ◌≤◌, true, IfOk, OnOk, length, map};
+ghost use Rattle.std.specs.Prelude.{◌≡◌, ◌+◌, ◌≤◌, true, IfOk, OnOk, length, map};
 ghost use Rattle.c_tree.specs.declared.typed.StmtKind.TheVariants as StmtKinds;
 ghost use Rattle.c_tree.specs.Types.{is_tagged};
 ghost use Rattle.c_tree.specs.Views.{parts};
@@ -15,9 +15,6 @@ use crate::types::{bare, by_pointer};
 use c_copy::{all_below, parts, stmt_with, values};
 use c_tree::{ExprKind, StmtKind};
 use ck_base::{NoMemory, Pos, Sequence};
-
-/// How many levels an expression, and a statement, may have.
-pub(crate) const LEVELS: u32 = 4000;
 
 // How many parts of a statement stand before its expressions.
 fn ahead(kind: &StmtKind) -> usize
@@ -158,35 +155,27 @@ fn returned(source: &Source<'_>, kind: &StmtKind) -> Result<Option<(u32, u32)>, 
 
 /// The number of statement `k` as it is run, which stands behind its parts at the end of the list.
 #[cycle(statements)]
-pub(crate) fn statement(
-    source: &Source<'_>,
-    k: u32,
-    depth: u32,
-    out: &mut Made,
-) -> Result<u32, NoMemory>
+pub(crate) fn statement(source: &Source<'_>, k: u32, out: &mut Made) -> Result<u32, NoMemory>
     ensures exprs { OnOk result (Extends out.old.exprs.items out.new.exprs.items) }
     ensures stmts { OnOk result (Extends out.old.stmts.items out.new.stmts.items) }
     ensures hides { OnOk result (Hides source.now out.old out.new (λ names. hidden_of names (written_action source.now k))) }
     ensures is { IfOk result (IsPassedAction source.now out.old out.new (written_action source.now k)) }
 {
-    if depth == 0 {
-        return Err(NoMemory);
-    }
     let s = source.stmt(k)?;
     match returned(source, &s.kind)? {
         Some((a, t)) => {
-            let value = expression(source, a, LEVELS, out)?;
+            let value = expression(source, a, out)?;
             give_back(source, value, t, s.pos, out)
         }
         None => {
             let ks = parts(source.alloc, &s.kind)?;
-            all_below(ks.as_slice(), k)?;
+            all_below(ks.as_slice(), k as usize)?;
             let (first, last) = ks.as_slice().split_at(ahead(&s.kind));
             let mut js = Vec::new(source.alloc);
-            statements(source, first, depth - 1, out, &mut js)?;
+            statements(source, first, out, &mut js)?;
             let xs = values(source.alloc, &s.kind)?;
-            let vs = expressions(source, xs.as_slice(), LEVELS, out)?;
-            statements(source, last, depth - 1, out, &mut js)?;
+            let vs = expressions(source, xs.as_slice(), out)?;
+            statements(source, last, out, &mut js)?;
             let kind = stmt_with(source.alloc, &s.kind, vs.as_slice(), js.as_slice())?;
             let kind = renumbered(source, kind)?;
             out.push_stmt(kind, s.pos)
@@ -199,17 +188,17 @@ pub(crate) fn statement(
 pub(crate) fn statements(
     source: &Source<'_>,
     ks: &[u32],
-    depth: u32,
     out: &mut Made,
     js: &mut Vec<u32>,
 ) -> Result<(), NoMemory>
     ensures exprs { OnOk result (Extends out.old.exprs.items out.new.exprs.items) }
     ensures stmts { OnOk result (Extends out.old.stmts.items out.new.stmts.items) }
     ensures hides { OnOk result (Hides source.now out.old out.new (λ names. hidden_of_each names (map (written_action source.now) ks.now))) }
+    ensures count { OnOk result (length js.new.items ≡ length js.old.items + length ks.now) }
     ensures are { OnOk result (ArePassedActions source.now out.old out.new (map (written_action source.now) ks.now) js.old.items js.new.items) }
 {
     for k in ks {
-        let j = statement(source, *k, depth, out)?;
+        let j = statement(source, *k, out)?;
         js.push(j)?;
     }
     Ok(())

@@ -318,8 +318,8 @@ impl Types {
         self.add_tagged(CType::Union(tag, Sequence::from_vec(members)))
     }
 
-    // A type that names no other.
-    fn leaf(&mut self, types: &[CType], c: &CType) -> Result<(), NoMemory>
+    // The next type. The members of a struct or union have their old types yet.
+    fn add(&mut self, alloc: Global, types: &[CType], c: &CType) -> Result<(), NoMemory>
         ensures { OnOk result (AddsType types.now self.old self.new c.now) }
     {
         match c {
@@ -327,18 +327,6 @@ impl Types {
             CType::Int(kind, other) => self.plainly(CType::Int(*kind, *other)),
             CType::Cap(signed) => self.plainly(CType::Cap(*signed)),
             CType::Incomplete(tag) => self.add_tagged(CType::Incomplete(*tag)),
-            _ => Err(NoMemory),
-        }
-    }
-
-    // The next type. The members of a struct or union have their old types yet.
-    fn add(&mut self, alloc: Global, types: &[CType], c: &CType) -> Result<(), NoMemory>
-        ensures { OnOk result (AddsType types.now self.old self.new c.now) }
-    {
-        match c {
-            CType::Void | CType::Int(_, _) | CType::Cap(_) | CType::Incomplete(_) => {
-                self.leaf(types, c)
-            }
             CType::Pointer(t) => self.pointer_to(types, *t),
             CType::Array(t, n) => self.array_of(types, *t, *n),
             CType::Struct(tag, members) => self.struct_of(alloc, types, *tag, members.as_slice()),

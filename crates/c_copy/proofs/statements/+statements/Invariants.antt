@@ -1,15 +1,16 @@
-use Rattle.std.proofs.Common.{◌+◌, ◌*◌, take}
+use Rattle.std.proofs.Common.{◌≡◌, ◌+◌, ◌*◌, length, take}
 use Rattle.c_copy.specs.Copying.{Extends, AreActionCopies}
 use Rattle.c_copy.proofs.statements.+statements.Given as goal
 
 abbrev pub decreases-statement : goal.decreases-statement
-decreases-statement l = 2 * l.depth
+decreases-statement l = 2 * l.k + 1
 
 abbrev pub decreases-statements : goal.decreases-statements
-decreases-statements l = 2 * l.depth + 1
+decreases-statements l = 2 * l.limit
 
 abbrev pub invariant-statements-loop-k : goal.invariant-statements-loop-k
 invariant-statements-loop-k l = record {
+  count : length l.js.items ≡ l.k-index;
   exprs : Extends l.initial.into.exprs.items l.into.exprs.items;
   stmts : Extends l.initial.into.stmts.items l.into.stmts.items;
   copies : AreActionCopies l.source.numbers.now l.source.exprs.now l.source.stmts.now l.into.exprs.items l.into.stmts.items (take l.k-index l.ks) l.js.items;

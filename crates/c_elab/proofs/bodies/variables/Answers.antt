@@ -1,4 +1,4 @@
-use Rattle.std.proofs.Common.{List, false, take, get_or, sym, ap, subst, ◌∙◌, ◌+◌, arith}
+use Rattle.std.proofs.Common.{◌≡◌, List, false, length, take, get_or, sym, ap, subst, ◌∙◌, ◌+◌, arith}
 use Rattle.std.specs.Prelude.{All}
 use Rattle.std.proofs.lemmas.List.{take_more, take_all}
 use Rattle.std.proofs.lemmas.List.Elements.{All-push}
@@ -24,3 +24,10 @@ loop-v-preserved c =
 
 pub returns-clause-are : goal.returns-clause-are
 returns-clause-are c = c.loop-v.invariant.are ∙ ap (variables_from c.args.work.now 0) (take_all c.loop-v.v-index c.args.locals.now c.loop-v-test.false)
+
+pub variable-requires-clause-marked : goal.variable-requires-clause-marked
+variable-requires-clause-marked c =
+    let a : c.loop-v.k ≡ c.loop-v.v-index = c.loop-v.invariant.count in
+    let b : length c.in_ok-marks.marks.items ≡ length c.args.locals.now = c.in_ok-marks.ensures.count in
+    let d : c.as_slice.result.now ≡ c.in_ok-marks.marks.items = c.as_slice.ensures.value in
+    omega (arith, ap length d)

@@ -13,7 +13,10 @@ loop-part-init c = let u : Work = c.args.work.now in record { whole = c.requires
 pub external-requires : goal.external-requires
 external-requires c =
     let v : Work = c.loop-part.work in
-    record { whole = c.loop-part.invariant.whole; part = have_first v c.in-Some.part.first c.in-Some.part.others.now (subst (λ (z : List ℕ). HaveParts v z) c.in-Some.ensures c.loop-part.invariant.parts) }
+    let h = c.requires.shown in
+    let p = c.requires.parts in
+    let m = (c.loop-part.invariant.found p.syntax p.are).done.gives h.state h.shows in
+    record { shown = record { state = m.state; shows = m.shows }; whole = c.loop-part.invariant.whole; part = have_first v c.in-Some.part.first c.in-Some.part.others.now (subst (λ (z : List ℕ). HaveParts v z) c.in-Some.ensures c.loop-part.invariant.parts) }
 
 pub loop-part-preserved : goal.loop-part-preserved
 loop-part-preserved c =

@@ -3,6 +3,7 @@ use Rattle.c_tree.specs.Programs.{parts, beginning}
 use Rattle.c_work.specs.declared.work.Work.{Work}
 use Rattle.c_parts.proofs.Kids.{have_kids}
 use Rattle.c_elab.proofs.Externals.{elaborated, elaboration_fails, root_is, root_parts, syntax_is}
+use Rattle.c_elab.proofs.Settled.{typed_end}
 use Rattle.c_elab.proofs.elaboration.elab.Goals as goal
 
 pub all_externals-requires : goal.all_externals-requires
@@ -10,15 +11,20 @@ all_externals-requires c =
     let w : Work = c.in_ok-work.work in
     let h = c.requires.readable in
     let p = root_is w c.args.tree.now c.args.file.now h.syntax c.in_ok-work.ensures.tree c.in_ok-work.ensures.file h.reads in
-    record { whole = c.in_ok-work.ensures.whole; parts = rw c.as_slice.ensures (have_kids w c.args.tree.now.root c.in_ok-root.root.now (record { syntax = h.syntax; is = p }) c.in_ok-root.ensures) }
+    record { shown = record { state = beginning; shows = c.in_ok-work.ensures.shows }; whole = c.in_ok-work.ensures.whole; parts = rw c.as_slice.ensures (have_kids w c.args.tree.now.root c.in_ok-root.root.now (record { syntax = h.syntax; is = p }) c.in_ok-root.ensures) }
 
 pub finish-requires : goal.finish-requires
 finish-requires c =
     let w : Work = c.in_ok-work.work in
     let h = c.requires.readable in
     let p = root_is w c.args.tree.now c.args.file.now h.syntax c.in_ok-work.ensures.tree c.in_ok-work.ensures.file h.reads in
-    let k = have_kids w c.args.tree.now.root c.in_ok-root.root.now (record { syntax = h.syntax; is = p }) c.in_ok-root.ensures in
-    record { whole = (c.in_ok-all_externals.ensures k.syntax (rw c.as_slice.ensures k.are)).whole }
+    let a = c.in_ok-all_externals.ensures (parts h.syntax) (rw c.as_slice.ensures (root_parts w c.args.tree.now.root h.syntax c.in_ok-root.root.now p c.in_ok-root.ensures)) in
+    let m = a.gives beginning c.in_ok-work.ensures.shows in
+    record {
+      whole = a.whole;
+      shown = record { state = m.state; shows = m.shows; typed = typed_end c.args.tree.now c.args.file.now h.syntax m.value m.state h.reads m.is };
+      syntax = record { syntax = h.syntax; stands = syntax_is w c.all_externals.new.work c.args.tree.now h.syntax c.in_ok-work.ensures.tree a.grows.tree h.reads.stands };
+    }
 
 pub returns-in_err-root : goal.returns-in_err-root
 returns-in_err-root c = let q = err_from_is_err_and c.from_residual-in_err-root.result c.from_residual-in_err-root.ensures.1 in λ x r. rw (q.1, q.2) (tt {0})

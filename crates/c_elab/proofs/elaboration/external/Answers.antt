@@ -12,7 +12,7 @@ use Rattle.c_elab.proofs.elaboration.external.Goals as goal
 pub function_definition-requires : goal.function_definition-requires
 function_definition-requires c =
     let u : Work = c.args.work.now in
-    record { whole = c.requires.whole; parts = rw c.as_slice.ensures (have_kids u c.args.k c.in_ok-node.node.now c.requires.part c.in_ok-node.ensures) }
+    record { shown = c.requires.shown; whole = c.requires.whole; parts = rw c.as_slice.ensures (have_kids u c.args.k c.in_ok-node.node.now c.requires.part c.in_ok-node.ensures) }
 
 pub declare-requires : goal.declare-requires
 declare-requires c =

@@ -29,7 +29,10 @@ define_named-requires c =
     let a = c.in_ok-s.ensures c.requires.first.syntax c.requires.first.is in
     let p = has_kept u v c.args.declarator a.grows.keeps c.requires.second in
     let b = c.in_ok-d.ensures p.syntax p.is in
-    record { whole = b.whole; specified = type_there v w c.in_ok-s.s.of b.grows.keeps a.there; derived = b.there; part = has_kept u w c.args.block (keeps_then u v w a.grows.keeps b.grows.keeps) c.requires.third }
+    let h = c.requires.shown in
+    let m = a.gives h.state h.shows in
+    let n = b.gives m.state m.shows in
+    record { shown = record { state = n.state; shows = n.shows }; whole = b.whole; specified = type_there v w c.in_ok-s.s.of b.grows.keeps a.there; derived = b.there; part = has_kept u w c.args.block (keeps_then u v w a.grows.keeps b.grows.keeps) c.requires.third }
 
 pub returns-in_err-s : goal.returns-in_err-s
 returns-in_err-s c = let q = err_from_is_err_and c.from_residual.result c.from_residual.ensures.1 in λ x y z hx hy hz.

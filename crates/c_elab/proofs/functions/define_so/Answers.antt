@@ -1,5 +1,6 @@
 use Rattle.std.proofs.lemmas.Result.{err_from_is_err_and}
-use Rattle.std.proofs.Common.{◌≡◌, Some, sym, ap, ◌∙◌}
+use Rattle.std.proofs.Common.{◌≡◌, true, false, Some, sym, ap, ◌∙◌}
+use Rattle.std.proofs.Math.Bool.{or-true}
 use Rattle.c_tree.specs.Readings as meant
 use Rattle.c_tree.specs.Scopes.{State}
 use Rattle.c_tree.specs.Programs.{reading, define_named}
@@ -8,7 +9,7 @@ use Rattle.c_nodes.specs.Nodes.{type_in}
 use Rattle.c_work.specs.declared.work.Work.{Work}
 use Rattle.c_work.specs.Answers.{NothingThere, IsNothing}
 use Rattle.c_work.proofs.Sequencing.{keeps_then}
-use Rattle.std.specs.Prelude.{reverse}
+use Rattle.std.specs.Prelude.{reverse, not, ◌||◌}
 use Rattle.std.specs.Option.{is_some}
 use Rattle.c_declarators.specs.Parts.{any_scope, shown_in}
 use Rattle.c_elab.proofs.Weaker.{wraps_weaker}
@@ -16,7 +17,7 @@ use Rattle.c_parts.proofs.Kids.{has_kept, part_kept}
 use Rattle.c_statements.proofs.Standing.{some_wraps, are_some_wraps}
 use Rattle.c_elab.specs.Functions.{IsDeclarator, first_prototype}
 use Rattle.c_elab.proofs.Own.{own_there, params_there}
-use Rattle.c_elab.proofs.Defining.{defined_decl, never_unformed, never_begun, definition_begun}
+use Rattle.c_elab.proofs.Defining.{defined_decl, formed_here, not_begun, never_unformed, never_begun, definition_begun}
 use Rattle.c_elab.proofs.functions.define_so.Goals as goal
 
 pub declare_definition-requires : goal.declare_definition-requires
@@ -30,6 +31,16 @@ gives_complete-complete-requires c =
     let u : Work = c.args.work.now in
     let a = c.in_ok-f.ensures (some_wraps u c.args.wraps.items) (rw c.as_slice.ensures.value (are_some_wraps u c.args.wraps.items)) in
     record { whole = a.whole; there = a.there }
+
+pub unreachable-requires : goal.unreachable-requires
+unreachable-requires c =
+    let u : Work = c.args.work.now in
+    let v : Work = c.formed.new.work in
+    let ws = c.args.wraps.items in
+    let h = c.requires.shown in
+    let g = formed_here u v (type_in u.nodes c.args.s.of) (some_wraps u ws) c.in_ok-f.f h.state h.shows (c.in_ok-f.ensures (some_wraps u ws) (rw c.as_slice.ensures.value (are_some_wraps u ws))) in
+    let none : is_some c.own_prototype-own.result ≡ false = ap is_some c.in-None.is in
+    not_begun v c.defined_as.result h.state (ap (λ (x : Decl). x.faults.misfits) c.defined_as.ensures ∙ ap (λ b. c.in_ok-f.f.faults.misfits || not b) (c.is_some.ensures ∙ none) ∙ or-true c.in_ok-f.f.faults.misfits) (c.in_ok-k.ensures.gives h.state g.1)
 
 pub define_body-requires : goal.define_body-requires
 define_body-requires c =
@@ -63,8 +74,8 @@ returns-in_err-k c = let q = err_from_is_err_and c.from_residual-in_err-k.result
     rw (q.1, q.2) (never_begun u v c.args.s y z name f ws c.gives_complete-complete.result c.gives_complete-complete.ensures w w (IsDeclarator u name ws) c.defined_as.result _ hy (c.in_ok-f.ensures (some_wraps u ws) (rw c.as_slice.ensures.value (are_some_wraps u ws))).grows.keeps
     (λ st e i. i) form same c.in_err-k.ensures)
 
-pub returns-in-Some : goal.returns-in-Some
-returns-in-Some c = λ y z hy hz.
+pub returns : goal.returns
+returns c = λ y z hy hz.
     let u : Work = c.args.work.now in
     let v : Work = c.formed.new.work in
     let w : Work = c.declare_definition.new.work in

@@ -14,7 +14,7 @@ define-requires c =
     let d = c.in-Some.x.third in
     let h = subst (λ (ks : List ℕ). HaveParts u ks) c.in-Some.ensures c.requires.parts in
     let i = have_others u a (b ∷ d ∷ []) h in
-    record { whole = c.requires.whole; first = have_first u a (b ∷ d ∷ []) h; second = have_first u b (d ∷ []) i; third = have_first u d [] (have_others u b (d ∷ []) i) }
+    record { shown = c.requires.shown; whole = c.requires.whole; first = have_first u a (b ∷ d ∷ []) h; second = have_first u b (d ∷ []) i; third = have_first u d [] (have_others u b (d ∷ []) i) }
 
 pub returns-in-None : goal.returns-in-None
 returns-in-None c = λ t xs e a s h. ap (λ (d : Doing Unit). d s) (not_three c.args.work.now c.args.kids.now t xs c.in-None.ensures a) ∙ ap (λ p. (let d : Doing Unit = refuse 120 p in d) s) e

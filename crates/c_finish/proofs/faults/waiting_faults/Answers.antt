@@ -18,10 +18,10 @@ loop-i-preserved c = λ s h.
     let n = length xs in
     let i = c.loop-i.i in
     let lt : i < n = c.loop-i-test.true in
-    let x = c.in_ok-x.x in
-    let g : slice_get xs (n - 1 - i) ≡ Some x = c.in_ok-x.ensures in
+    let x = c.waiting_at-x.result in
+    let g : slice_get xs (n - 1 - i) ≡ Some x = c.waiting_at-x.ensures in
     let e : slice_get s.pending (n - 1 - i) ≡ Some (pending_of x) = ap (λ ys. slice_get ys (n - 1 - i)) (sym h.waiting) ∙ slice_get-map pending_of c.args.work.now.waiting.items (n - 1 - i) ∙ ap (λ ys. option_map pending_of (slice_get ys (n - 1 - i))) (sym c.as_slice-waiting.ensures.value) ∙ ap (option_map pending_of) g in
-    turn_back (pending_faults s) s.pending n i (pending_of x) _ _ _ lt e (c.loop-i.invariant s h) (c.in_ok-best.ensures s h)
+    turn_back (pending_faults s) s.pending n i (pending_of x) _ _ _ lt e (c.loop-i.invariant s h) (c.waiting_fault-best.ensures s h)
 
 pub returns : goal.returns
 returns c = λ s h. over (pending_faults s) s.pending (length c.as_slice-waiting.result.now) c.loop-i.i _ _ c.loop-i-test.false (c.loop-i.invariant s h)

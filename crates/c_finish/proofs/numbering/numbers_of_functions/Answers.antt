@@ -2,7 +2,7 @@ use Rattle.std.proofs.Common.{◌≡◌, ◌<◌, length, sym, ap, ◌∙◌, ar
 use Rattle.c_tree.specs.Scopes.{RoutineState}
 use Rattle.c_tree.specs.Programs.{numbers_of, is_there}
 use Rattle.c_finish.proofs.Faulting.{at_some, routines_count}
-use Rattle.c_finish.proofs.Counting.{count_zero, count_step, filled_push, pushed_count, body_there, nothing_filled}
+use Rattle.c_finish.proofs.Counting.{low_step, count_zero, count_step, filled_push, pushed_count, body_there, nothing_filled}
 use Rattle.c_finish.proofs.numbering.numbers_of_functions.Goals as goal
 
 pub loop-k-init : goal.loop-k-init
@@ -10,6 +10,7 @@ loop-k-init c = record {
   filled = λ s h j v e. nothing_filled c.new-table.result.items j v (numbers_of s).1 c.new-table.ensures.items e;
   next = λ s h. count_zero (λ (f : RoutineState). is_there f.body) s.routines;
   count = ap length c.new-table.ensures.items;
+  low = omega arith;
 }
 
 pub loop-k-preserved : goal.loop-k-preserved
@@ -22,6 +23,19 @@ loop-k-preserved c =
       next = λ s h.
           let lt : k < length s.routines = let a : k < c.in_ok-n.n = c.loop-k-test.true in let b : c.in_ok-n.n ≡ length s.routines = c.in_ok-n.ensures ∙ ap length c.as_slice.ensures ∙ routines_count w s h in omega arith in
           let x = at_some s.routines k lt in
-          count_step (λ (f : RoutineState). is_there f.body) s.routines k x.0 c.in_ok-is_there.is_there c.loop-k.next c.in_ok-more.more x.1 (sym c.in_ok-is_there.ensures ∙ sym (body_there w s k x.0 h x.1)) (inv.next s h) c.in_ok-more.ensures;
+          count_step (λ (f : RoutineState). is_there f.body) s.routines k x.0 c.is_defined-is_there.result c.loop-k.next c.one_more-next.result x.1 (sym c.is_defined-is_there.ensures ∙ sym (body_there w s k x.0 h x.1)) (inv.next s h) c.one_more-next.ensures;
       count = pushed_count c.loop-k.table.items c.push.new.self.items c.loop-k.next k c.in_ok-push.ensures.items inv.count;
+      low = low_step _ c.loop-k.next c.one_more-next.result k c.one_more-next.ensures inv.low;
     }
+
+pub is_defined-is_there-requires-clause-there : goal.is_defined-is_there-requires-clause-there
+is_defined-is_there-requires-clause-there c =
+    let a : c.loop-k.k < c.in_ok-n.n = c.loop-k-test.true in
+    let b : c.in_ok-n.n ≡ length c.args.work.now.nodes.p.funs = c.in_ok-n.ensures ∙ ap length c.as_slice.ensures in
+    omega arith
+
+pub returns-clause-count : goal.returns-clause-count
+returns-clause-count c =
+    let e : length c.loop-k.table.items ≡ c.loop-k.k = c.loop-k.invariant.count in
+    let b : c.in_ok-n.n ≡ length c.args.work.now.nodes.p.funs = c.in_ok-n.ensures ∙ ap length c.as_slice.ensures in
+    omega arith

@@ -1,4 +1,4 @@
-use Rattle.std.proofs.Common.{◌<◌, length, ap, ◌∙◌, arith}
+use Rattle.std.proofs.Common.{◌≡◌, ◌<◌, length, ap, ◌∙◌, arith}
 use Rattle.c_finish.proofs.Faulting.{routines_count}
 use Rattle.c_finish.proofs.Functions.{no_routines, routines_all}
 use Rattle.c_finish.proofs.routines.routines.Goals as goal
@@ -15,3 +15,9 @@ pub returns : goal.returns
 returns c = λ s h.
     let z = c.in_ok-n.ensures ∙ ap length c.as_slice.ensures ∙ routines_count c.args.work.now s h in
     routines_all c.args.work.now _ _ s c.loop-k.k c.loop-k.list.items (omega arith) (c.loop-k.invariant s h)
+
+pub add_routine-requires-clause-there : goal.add_routine-requires-clause-there
+add_routine-requires-clause-there c =
+    let a : c.loop-k.k < c.in_ok-n.n = c.loop-k-test.true in
+    let b : c.in_ok-n.n ≡ length c.args.work.now.nodes.p.funs = c.in_ok-n.ensures ∙ ap length c.as_slice.ensures in
+    omega arith

@@ -1,23 +1,45 @@
-use Rattle.std.proofs.Common.{◌≤◌, length, take, subst, arith}
+use Rattle.std.proofs.Common.{◌≡◌, ◌<◌, ◌≤◌, Some, length, take, sym, ap, subst, ◌∙◌, arith}
+use Rattle.std.specs.Prelude.{slice_get}
 use Rattle.std.proofs.lemmas.List.{take_all}
 use Rattle.c_finish.specs.Tables.{LastDefinitions}
-use Rattle.c_finish.proofs.Firsts.{definition_set, no_definitions}
+use Rattle.c_finish.proofs.Faulting.{routines_count}
+use Rattle.c_finish.proofs.Firsts.{definition_set, no_definitions, length-set}
 use Rattle.c_finish.proofs.Globals.{taken}
 use Rattle.c_finish.proofs.tables.last_definitions.Goals as goal
 
 pub loop-i-init : goal.loop-i-init
-loop-i-init c = no_definitions c.as_slice-definitions.result.now c.in_ok-table.table.items c.in_ok-table.ensures
+loop-i-init c = record {
+  are = no_definitions c.as_slice-definitions.result.now c.in_ok-table.table.items c.in_ok-table.ensures.blank;
+  count = c.in_ok-table.ensures.count ∙ ap length c.as_slice.ensures;
+}
+
+pub set_number-requires : goal.set_number-requires
+set_number-requires c =
+    let w = c.args.work.now in
+    let i = c.loop-i.i in
+    let h = c.requires in
+    let e : slice_get w.definitions.items i ≡ Some c.definition_at-d.result.now = ap (λ xs. slice_get xs i) (sym c.as_slice-definitions.ensures.value) ∙ c.definition_at-d.ensures in
+    let a : c.definition_at-d.result.now.function < length h.state.routines = (h.shows.closed.definitions i c.definition_at-d.result.now e).function in
+    let b : length w.nodes.p.funs ≡ length h.state.routines = routines_count w h.state h.shows in
+    let d : length c.loop-i.table.items ≡ length w.nodes.p.funs = c.loop-i.invariant.count in
+    omega arith
 
 pub loop-i-preserved : goal.loop-i-preserved
 loop-i-preserved c =
-    let ds = c.as_slice-definitions.result.now in
+    let xs = c.as_slice-definitions.result.now in
     let i = c.loop-i.i in
-    let d = c.in_ok-d.d.now in
-    rw (taken ds i d c.in_ok-d.ensures, c.in_ok-set_number.ensures) (definition_set ds (take i ds) c.loop-i.table.items i d c.in_ok-d.ensures c.loop-i.invariant)
+    let x = c.definition_at-d.result.now in
+    record {
+      are = rw (taken xs i x c.definition_at-d.ensures, c.set_number.ensures) (definition_set xs (take i xs) c.loop-i.table.items i x c.definition_at-d.ensures c.loop-i.invariant.are);
+      count = ap length c.set_number.ensures ∙ length-set c.loop-i.table.items x.function _ ∙ c.loop-i.invariant.count;
+    }
 
 pub returns : goal.returns
 returns c =
-    let ds = c.as_slice-definitions.result.now in
+    let xs = c.as_slice-definitions.result.now in
     let t = c.loop-i.table.items in
-    let past : length ds ≤ c.loop-i.i = omega (arith, c.in_ok-n.ensures) in
-    subst (λ xs. LastDefinitions xs xs t) c.as_slice-definitions.ensures.value (rw (take_all c.loop-i.i ds past) at c.loop-i.invariant)
+    let past : length xs ≤ c.loop-i.i = omega (arith, c.in_ok-n.ensures) in
+    record {
+      are = subst (λ ys. LastDefinitions ys ys t) c.as_slice-definitions.ensures.value (rw (take_all c.loop-i.i xs past) at c.loop-i.invariant.are);
+      count = c.loop-i.invariant.count;
+    }

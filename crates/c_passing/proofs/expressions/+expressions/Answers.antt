@@ -1,4 +1,4 @@
-use Rattle.std.proofs.Common.{◌≡◌, ◌+◌, ◌∷◌, [], ◌++◌, length, map, refl, sym, ap, subst, ◌∙◌}
+use Rattle.std.proofs.Common.{◌≡◌, ◌+◌, ◌<◌, ◌≤◌, ◌∷◌, [], ◌++◌, length, get_or, map, refl, sym, ap, subst, ◌∙◌, arith}
 use Rattle.c_tree.specs.declared.typed.Expr.{Expr}
 use Rattle.c_tree.specs.Views.{types_of, operands}
 use Rattle.c_tree.specs.Passed.{hidden_in}
@@ -8,6 +8,7 @@ use Rattle.c_passing.specs.declared.nodes.Made.{Made}
 use Rattle.c_passing.specs.Lists.{hidden_in_each}
 use Rattle.c_passing.specs.Passes.{written_term, IsKindPassed, IsPassed, ArePassed, Hides, ArePassedArguments, IsPlainCall, IsCallByResult}
 use Rattle.c_passing.proofs.Each.{Arguments, arguments_at, hides_turn, passed_turn, arguments_plainly, arguments_by_address}
+use Rattle.c_passing.proofs.Least.{least_above, least_is, item_below, count_more}
 use Rattle.c_passing.proofs.Numbering.{on_ok, if_ok}
 use Rattle.c_passing.proofs.Passing.{both_ok, shape_calls, expression_passed, expression_hides, call_hides, plain_call_passed, result_call_passed, written_call_is, plain_call_made, result_call_made}
 use Rattle.c_passing.proofs.expressions.+expressions.Goals as goal
@@ -186,5 +187,34 @@ expressions-loop-k-preserved t c =
       extends = extends_then old.exprs.items l.out.exprs.items c.expression.new.out.exprs.items l.invariant.extends v.extends;
       stmts = v.stmts ∙ l.invariant.stmts;
       hides = hides_turn s old l.out c.expression.new.out c.args.ks.now l.k-index _ c.loop-k-test.true refl l.invariant.hides v.hides;
+      count = count_more l.js.items c.push.new.self.items c.in_ok-j.j l.k-index c.in_ok-push.ensures.items l.invariant.count;
       are = passed_turn s old l.out c.expression.new.out c.args.ks.now l.k-index _ l.js.items c.push.new.self.items c.in_ok-j.j c.loop-k-test.true refl l.invariant.hides v.extends l.invariant.are v.is c.in_ok-push.ensures.items;
     }
+
+pub expression-kind_with-requires : goal.expression-kind_with-requires
+expression-kind_with-requires t c =
+    ap length c.as_slice-in_default-2.ensures.value ∙ c.in_ok-js-in_default.ensures.count ∙ ap length (c.as_slice-in_default.ensures.value ∙ c.in_ok-ks.ensures)
+
+pub arguments-expression-requires : goal.arguments-expression-requires
+arguments-expression-requires t c =
+    let h : get_or c.args.xs.now c.loop-x.x-index 0 < least_above c.args.xs.now = item_below c.args.xs.now c.loop-x.x-index c.loop-x-test.true in
+    omega arith
+
+pub expressions-expression-requires : goal.expressions-expression-requires
+expressions-expression-requires t c =
+    let h : get_or c.args.ks.now c.loop-k.k-index 0 < least_above c.args.ks.now = item_below c.args.ks.now c.loop-k.k-index c.loop-k-test.true in
+    omega arith
+
+pub expression-expressions-requires : goal.expression-expressions-requires
+expression-expressions-requires t c =
+    let are : c.as_slice.result.now ≡ c.as_slice-in_default.result.now = c.as_slice.ensures.value ∙ sym c.as_slice-in_default.ensures.value in
+    let h : least_above c.as_slice-in_default.result.now ≤ c.args.k = least_is c.args.k _ (subst (AllBelow c.args.k) are c.in_ok-all_below.ensures) in
+    omega arith
+
+pub expression-call-requires : goal.expression-call-requires
+expression-call-requires t c =
+    let k = c.args.k in
+    let below : AllBelow k (operands c.in_ok-e.e.now.kind) = subst (AllBelow k) (c.as_slice.ensures.value ∙ c.in_ok-ks.ensures) c.in_ok-all_below.ensures in
+    let is : AllBelow k (c.in-Call.f ∷ c.as_slice-in-Call.result.now) = rw c.as_slice-in-Call.ensures (rw c.in-Call.is at below) in
+    let h : least_above (c.in-Call.f ∷ c.as_slice-in-Call.result.now) ≤ k = least_is k (c.in-Call.f ∷ c.as_slice-in-Call.result.now) is in
+    omega arith

@@ -1,26 +1,27 @@
-use Rattle.std.proofs.Common.{◌≡◌, ◌+◌, ◌*◌, take, map}
+use Rattle.std.proofs.Common.{◌≡◌, ◌+◌, ◌*◌, ◌∷◌, length, take, map}
 use Rattle.c_copy.specs.Copying.{Extends}
 use Rattle.c_passing.specs.Lists.{hidden_in_each}
 use Rattle.c_passing.specs.Passes.{written_term, Hides, ArePassed, ArePassedArguments, AreCounted}
+use Rattle.c_passing.proofs.Least.{least_above}
 use Rattle.c_passing.proofs.expressions.+expressions.Given as goal
 
 abbrev pub decreases-arguments : goal.decreases-arguments
-decreases-arguments l = 4 * l.depth + 1
+decreases-arguments l = 4 * least_above l.xs.now + 1
 
 abbrev pub decreases-call_plainly : goal.decreases-call_plainly
-decreases-call_plainly l = 4 * l.depth + 2
+decreases-call_plainly l = 4 * least_above l.xs.now + 2
 
 abbrev pub decreases-call_by_result : goal.decreases-call_by_result
-decreases-call_by_result l = 4 * l.depth + 2
+decreases-call_by_result l = 4 * least_above l.xs.now + 2
 
 abbrev pub decreases-call : goal.decreases-call
-decreases-call l = 4 * l.depth + 3
+decreases-call l = 4 * least_above (l.f ∷ l.xs.now) + 3
 
 abbrev pub decreases-expression : goal.decreases-expression
-decreases-expression l = 4 * l.depth
+decreases-expression l = 4 * l.k + 4
 
 abbrev pub decreases-expressions : goal.decreases-expressions
-decreases-expressions l = 4 * l.depth + 1
+decreases-expressions l = 4 * least_above l.ks.now + 1
 
 abbrev pub invariant-arguments-loop-x : goal.invariant-arguments-loop-x
 invariant-arguments-loop-x l =
@@ -42,5 +43,6 @@ invariant-expressions-loop-k l =
       extends : Extends l.initial.out.exprs.items l.out.exprs.items;
       stmts : l.out.stmts ≡ l.initial.out.stmts;
       hides : Hides s l.initial.out l.out (λ names. hidden_in_each names xs);
+      count : length l.js.items ≡ l.k-index;
       are : ArePassed s l.initial.out l.out xs l.js.items;
     }

@@ -1,4 +1,5 @@
-use Rattle.std.proofs.Common.{◌≡◌, ◌+◌, ◌<◌, ◌≤◌, [], ◌∷◌, ◌++◌, length, get_or, take, map, sym, ap, subst, ◌∙◌}
+use Rattle.std.proofs.Common.{◌≡◌, ◌+◌, ◌<◌, ◌≤◌, [], ◌∷◌, ◌++◌, Some, length, get_or, take, map, sym, ap, subst, ◌∙◌}
+use Rattle.std.proofs.lemmas.Option.{slice_get-get_or}
 use Rattle.std.proofs.lemmas.List.{take_more, take_all, map-append}
 use Rattle.c_passing.specs.Routines.{written_routine, AreFunctions}
 use Rattle.c_passing.proofs.Bodies.{no_functions, functions_push}
@@ -29,3 +30,13 @@ returns c =
     let i = c.loop-f.f-index in
     let past : length fs ≤ i = subst (λ zs. length zs ≤ i) c.as_slice-f-items.ensures c.loop-f-test.false in
     subst (λ zs. AreFunctions w (map (written_routine w) zs) c.loop-f.out c.loop-f.list.items) (take_all i fs past) c.loop-f.invariant
+
+pub function-requires : goal.function-requires
+function-requires c =
+    let fs = c.args.whole.now.program.now.funs in
+    let i = c.loop-f.f-index in
+    let f = c.f-item.result in
+    let slice = c.as_slice-f-items.ensures in
+    let lt : i < length fs = subst (λ zs. i < length zs) slice c.loop-f-test.true in
+    let read : get_or fs i f ≡ f = sym (c.f-item.is ∙ ap (λ zs. get_or zs i f) slice) in
+    c.requires i f (slice_get-get_or fs i f lt ∙ ap (λ z. Some z) read)

@@ -1,4 +1,4 @@
-use Rattle.std.proofs.Common.{◌≡◌, ℕ, [], ◌∷◌, ◌++◌, Some, length, take, drop, map, refl, ap, subst, ◌∙◌}
+use Rattle.std.proofs.Common.{◌≡◌, ℕ, ◌<◌, ◌≤◌, [], ◌∷◌, ◌++◌, Some, length, get_or, take, drop, map, refl, ap, subst, ◌∙◌, arith}
 use Rattle.c_tree.specs.Views.{values, parts}
 use Rattle.c_tree.specs.Passed.{ahead, passed_form}
 use Rattle.c_copy.specs.Copying.{AllBelow, stmt_form}
@@ -8,6 +8,7 @@ use Rattle.c_passing.specs.Lists.{hidden_in_each, hidden_of_each}
 use Rattle.c_passing.specs.Passes.{written_term, written_action, Hides, IsReturned, ArePassed, ArePassedActions}
 use Rattle.c_passing.proofs.Building.{Built, statement_hides, statement_passed, returned_hides, returned_passed}
 use Rattle.c_passing.proofs.Each.{actions_turn, hides_action_turn}
+use Rattle.c_passing.proofs.Least.{least_above, item_below, front_least, back_least, count_more, count_both}
 use Rattle.c_passing.proofs.Numbering.{on_ok, if_ok}
 use Rattle.c_passing.proofs.Passing.{on_both}
 use Rattle.c_passing.proofs.statements.+statements.Goals as goal
@@ -98,6 +99,35 @@ statements-loop-k-preserved t c =
       exprs = extends_then old.exprs.items l.out.exprs.items c.statement.new.out.exprs.items l.invariant.exprs v.exprs;
       stmts = extends_then old.stmts.items l.out.stmts.items c.statement.new.out.stmts.items l.invariant.stmts v.stmts;
       hides = hides_action_turn s old l.out c.statement.new.out c.args.ks.now l.k-index _ c.loop-k-test.true refl l.invariant.hides v.hides;
+      count = count_more l.js.items c.push.new.self.items c.in_ok-j.j _ c.in_ok-push.ensures.items l.invariant.count ∙ omega arith;
       are =
           actions_turn s old l.out c.statement.new.out c.args.ks.now l.k-index _ c.args.js.now.items l.js.items c.push.new.self.items c.in_ok-j.j c.loop-k-test.true refl l.invariant.hides v.exprs v.stmts l.invariant.are v.is c.in_ok-push.ensures.items;
     }
+
+pub statement-statements-requires : goal.statement-statements-requires
+statement-statements-requires t c =
+    let below : AllBelow c.args.k c.in_ok-ks-in-None.ks.items = subst (AllBelow c.args.k) c.as_slice.ensures.value c.in_ok-all_below-in-None.ensures in
+    let h : least_above c.split_at.result.0.now ≤ c.args.k = front_least c.ahead.result c.args.k c.in_ok-ks-in-None.ks.items c.split_at.result.0.now (c.split_at.ensures.front ∙ ap (λ zs. take c.ahead.result zs) c.as_slice-in-None.ensures.value) below in
+    omega arith
+
+pub statement-statements-requires-in-None : goal.statement-statements-requires-in-None
+statement-statements-requires-in-None t c =
+    let below : AllBelow c.args.k c.in_ok-ks-in-None.ks.items = subst (AllBelow c.args.k) c.as_slice.ensures.value c.in_ok-all_below-in-None.ensures in
+    let h : least_above c.split_at.result.1.now ≤ c.args.k = back_least c.ahead.result c.args.k c.in_ok-ks-in-None.ks.items c.split_at.result.1.now (c.split_at.ensures.back ∙ ap (λ zs. drop c.ahead.result zs) c.as_slice-in-None.ensures.value) below in
+    omega arith
+
+pub statement-stmt_with-requires-clause-values : goal.statement-stmt_with-requires-clause-values
+statement-stmt_with-requires-clause-values t c =
+    ap length c.as_slice-in-None-3.ensures.value ∙ c.in_ok-vs-in-None.ensures.count ∙ ap length (c.as_slice-in-None-2.ensures.value ∙ c.in_ok-xs-in-None.ensures)
+
+pub statement-stmt_with-requires-clause-parts : goal.statement-stmt_with-requires-clause-parts
+statement-stmt_with-requires-clause-parts t c =
+    ap length c.as_slice-in-None-4.ensures.value
+    ∙ count_both c.ahead.result c.in_ok-ks-in-None.ks.items c.split_at.result.0.now c.split_at.result.1.now c.new-js.result.items c.statements.new.js.items c.statements-in-None.new.js.items c.new-js.ensures.items
+    (c.split_at.ensures.front ∙ ap (λ zs. take c.ahead.result zs) c.as_slice-in-None.ensures.value) (c.split_at.ensures.back ∙ ap (λ zs. drop c.ahead.result zs) c.as_slice-in-None.ensures.value) c.in_ok-statements-in-None.ensures.count c.in_ok-statements-in-None-2.ensures.count
+    ∙ ap length c.in_ok-ks-in-None.ensures
+
+pub statements-statement-requires : goal.statements-statement-requires
+statements-statement-requires t c =
+    let h : get_or c.args.ks.now c.loop-k.k-index 0 < least_above c.args.ks.now = item_below c.args.ks.now c.loop-k.k-index c.loop-k-test.true in
+    omega arith

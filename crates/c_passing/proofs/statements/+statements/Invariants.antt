@@ -1,14 +1,15 @@
-use Rattle.std.proofs.Common.{◌+◌, ◌*◌, take, map}
+use Rattle.std.proofs.Common.{◌≡◌, ◌+◌, ◌*◌, length, take, map}
 use Rattle.c_copy.specs.Copying.{Extends}
 use Rattle.c_passing.specs.Lists.{hidden_of_each}
 use Rattle.c_passing.specs.Passes.{written_action, Hides, ArePassedActions}
+use Rattle.c_passing.proofs.Least.{least_above}
 use Rattle.c_passing.proofs.statements.+statements.Given as goal
 
 abbrev pub decreases-statement : goal.decreases-statement
-decreases-statement l = 2 * l.depth
+decreases-statement l = 2 * l.k + 2
 
 abbrev pub decreases-statements : goal.decreases-statements
-decreases-statements l = 2 * l.depth + 1
+decreases-statements l = 2 * least_above l.ks.now + 1
 
 abbrev pub invariant-statements-loop-k : goal.invariant-statements-loop-k
 invariant-statements-loop-k l =
@@ -18,5 +19,6 @@ invariant-statements-loop-k l =
       exprs : Extends l.initial.out.exprs.items l.out.exprs.items;
       stmts : Extends l.initial.out.stmts.items l.out.stmts.items;
       hides : Hides s l.initial.out l.out (λ names. hidden_of_each names xs);
+      count : length l.js.items ≡ length l.initial.js.items + l.k-index;
       are : ArePassedActions s l.initial.out l.out xs l.initial.js.items l.js.items;
     }

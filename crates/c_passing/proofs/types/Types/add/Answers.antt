@@ -1,7 +1,7 @@
 use Rattle.std.proofs.Common.{sym, subst}
 use Rattle.c_passing.specs.Numbered.{AddsType}
 use Rattle.c_passing.proofs.Numbering.{on_ok, adds_void, adds_int, adds_cap, adds_incomplete}
-use Rattle.c_passing.proofs.types.Types.leaf.Goals as goal
+use Rattle.c_passing.proofs.types.Types.add.Goals as goal
 
 pub returns-in-Void : goal.returns-in-Void
 returns-in-Void c =
