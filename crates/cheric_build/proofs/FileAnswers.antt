@@ -1,5 +1,5 @@
 -- What is built of a file's program is built of the file, and why its program is refused is why the file is.
-use Rattle.std.proofs.Common.{◌≡◌, ℕ, ◌≤◌, true, false, List, Result, Ok, Err, subst, sym, ◌∙◌, inl, inr}
+use Rattle.std.proofs.Common.{◌≡◌, ℕ, ◌<◌, ◌≤◌, true, false, List, Result, Ok, Err, subst, sym, ◌∙◌, inl, inr}
 use Rattle.std.specs.Prelude.{IfOk, IfErr, OnOk}
 use Rattle.ck_base.specs.declared.positions.Pos.{Pos}
 use Rattle.ck_base.specs.declared.refusal.Refusal.{Refusal}
@@ -14,7 +14,7 @@ use Rattle.bounds_place.specs.Placing.{exceeds}
 use Rattle.int_lower.specs.Form.{is_integer_form}
 use Rattle.int_lower.proofs.SameForm.{same_form}
 use Rattle.cheric_build.specs.Front.{IsTyped, IsBroken}
-use Rattle.typed_build.specs.Built.{start, IsBuilt, IsRefusal, IsCode}
+use Rattle.typed_build.specs.Built.{start, IsBuilt, IsRefusal, ExceedsBy}
 use Rattle.typed_build.specs.declared.building.Built.{Built}
 use Rattle.cheric_build.specs.FromFile.{IsBuiltFrom, IsFileRefusal}
 use Rattle.cheric_build.proofs.Rooms.{has_room, has_no_room}
@@ -23,13 +23,13 @@ use Rattle.typed_build.proofs.SameBuilt.{built_same}
 -- ---- what the front end refuses
 
 pub broken_file : (file : List ℕ) (e : Refusal) → IsBroken file e → IsFileRefusal file e
-broken_file file (Code code place) r = inl r.0
+broken_file file (Code code place) r = r.0
 broken_file file NoMemory r = r
 
 -- ---- a file that has this program, and one answer
 
 module _ (file : List ℕ) (once : OneFile file) (p : Typed) (t : IsTyped file p) (s : Sound p) where
-  accepted : exceeds p ≡ false → weight p ≤ weight_limit → Accepts file p
+  pub accepted : exceeds p ≡ false → weight p ≤ weight_limit → Accepts file p
   accepted w light = record {
     tokens = t.tokens;
     syntax = t.syntax;
@@ -38,6 +38,12 @@ module _ (file : List ℕ) (once : OneFile file) (p : Typed) (t : IsTyped file p
     room = has_room p t.syntax t.types s w;
     light = light;
   }
+
+  pub no_room : exceeds p ≡ true → Refused file 141 start
+  no_room h = files.room t.tokens t.syntax p t.reads t.types (has_no_room p t.syntax t.types s h)
+
+  pub heavy : exceeds p ≡ false → weight_limit < weight p → Refused file 142 start
+  heavy w h = files.too_heavy t.tokens t.syntax p t.reads t.types (has_room p t.syntax t.types s w) h
 
   each : (elf : List ℕ) (m : Map) (count : ℕ) → IsBuilt p elf m count → Accepts file p → (q : Typed) → Accepts file q → is_integer_form q ≡ true → IsBuilt q elf m count
   each elf m count h a q b g =
@@ -54,14 +60,9 @@ module _ (file : List ℕ) (once : OneFile file) (p : Typed) (t : IsTyped file p
   at : (code : ℕ) (place : Pos) → place ≡ start → Refused file code start → Refused file code place
   at code place e rule = subst (λ (q : Pos). Refused file code q) (sym e) rule
 
-  refused_by : (code : ℕ) (place : Pos) → place ≡ start → IsCode p code → IsFileRefusal file (Code code place)
-  refused_by code place e (inl h) =
-      let none = has_no_room p t.syntax t.types s h.1 in
-      inl (at code place e (subst (λ (c : ℕ). Refused file c start) (sym h.0) (files.room t.tokens t.syntax p t.reads t.types none)))
-  refused_by code place e (inr (inl h)) =
-      let room = has_room p t.syntax t.types s h.1 in
-      inl (at code place e (subst (λ (c : ℕ). Refused file c start) (sym h.0) (files.too_heavy t.tokens t.syntax p t.reads t.types room h.2)))
-  refused_by code place e (inr (inr h)) = inr (h.0, e, record { program = p; accepted = accepted h.1 h.2; other = h.3 })
+  refused_by : (code : ℕ) (place : Pos) → place ≡ start → ExceedsBy p code → IsFileRefusal file (Code code place)
+  refused_by code place e (inl h) = at code place e (subst (λ (c : ℕ). Refused file c start) (sym h.0) (no_room h.1))
+  refused_by code place e (inr h) = at code place e (subst (λ (c : ℕ). Refused file c start) (sym h.0) (heavy h.1 h.2))
 
   pub refused_of : (r : Result Built Refusal) → IfErr r (IsRefusal p) → IfErr r (IsFileRefusal file)
   refused_of (Ok b) h = tt

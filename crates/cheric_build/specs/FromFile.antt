@@ -1,12 +1,12 @@
 -- What it means that an image was built from a C file, and why none is.
-use Rattle.std.specs.Prelude.{◌≡◌, ◌⊎◌, ℕ, ◌≤◌, true, false, List, length}
+use Rattle.std.specs.Prelude.{◌≡◌, ℕ, ◌≤◌, true, List, length}
 use Rattle.ck_base.specs.declared.refusal.Refusal.{Refusal}
 use Rattle.ck_base.specs.declared.refusal.Refusal.TheVariants.{Code, NoMemory}
 use Rattle.c_tree.specs.File.{file_limit, Accepts, Refused}
 use Rattle.c_tree.specs.declared.typed.Typed.{Typed}
 use Rattle.obj_mem.specs.declared.map.Map.{Map}
 use Rattle.int_lower.specs.Form.{is_integer_form}
-use Rattle.typed_build.specs.Built.{start, IsBuilt}
+use Rattle.typed_build.specs.Built.{IsBuilt}
 
 -- ---- built
 
@@ -20,14 +20,7 @@ pub record IsBuiltFrom (source : List ℕ) (file : List ℕ) (map : Map) (count 
 
 -- ---- refused files
 
--- the file is accepted, as a program that is not over integers alone
-pub record IsUnproved (file : List ℕ) : Type 0 where
-  pub program : Typed
-  pub accepted : Accepts file program
-  pub other : is_integer_form program ≡ false
-
--- Why nothing is built of a file: the first rule that it breaks; or 150 at its start, where it breaks none. Want of memory is free, but for
--- a file that is too long.
+-- The first rule that a file breaks. Want of memory is free, but for a file that is too long.
 abbrev pub IsFileRefusal : List ℕ → Refusal → Type 0
-IsFileRefusal file (Code code place) = Refused file code place ⊎ ((code ≡ 150) × (place ≡ start) × IsUnproved file)
+IsFileRefusal file (Code code place) = Refused file code place
 IsFileRefusal file NoMemory = length file ≤ file_limit

@@ -6,9 +6,11 @@
 //! Main lemmas (`proofs/`): `FileAnswers`, `Once`.
 #![tactic(auto)]
 
+mod accepting;
 mod building;
 mod front_end;
 
+pub use accepting::accepted;
 pub use bounds_place::Sizes;
 pub use building::{build, build_sized};
 pub use front_end::front;

@@ -138,15 +138,12 @@ pub record IsBuilt (p : Typed) (file : List ℕ) (map : Map) (count : ℕ) : Typ
 abbrev pub start : Pos
 start = record { line = 1; col = 1 }
 
--- At the start of the file: 141 where the objects of a program exceed their limit; else 142 where it is too heavy. 150
--- comes of no program over integers; it would come where a program's three-address code fails a check that isn't proved to
--- pass. Want of memory is free.
-abbrev pub IsCode : Typed → ℕ → Type 0
-IsCode p code =
-    ((code ≡ 141) × (exceeds p ≡ true))
-    ⊎ ((code ≡ 142) × (exceeds p ≡ false) × (weight_limit < weight p))
-    ⊎ ((code ≡ 150) × (exceeds p ≡ false) × (weight p ≤ weight_limit) × (is_integer_form p ≡ false))
+-- At the start of the file: 141 where the objects of a program exceed their limit; else 142 where it is too heavy. Want of
+-- memory is free.
+abbrev pub ExceedsBy : Typed → ℕ → Type 0
+ExceedsBy p code =
+    ((code ≡ 141) × (exceeds p ≡ true)) ⊎ ((code ≡ 142) × (exceeds p ≡ false) × (weight_limit < weight p))
 
 abbrev pub IsRefusal : Typed → Refusal → Type 0
-IsRefusal p (Code code pos) = (pos ≡ start) × IsCode p code
+IsRefusal p (Code code pos) = (pos ≡ start) × ExceedsBy p code
 IsRefusal p NoMemory = ⊤

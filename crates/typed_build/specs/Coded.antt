@@ -1,9 +1,7 @@
 -- The code of a program, on its way to the text of its image.
-use Rattle.std.specs.Prelude.{◌≡◌, ℕ, ◌+◌, ◌*◌, ◌%◌, ◌^◌, ◌<◌, ◌≤◌, true, List, length, map, slice_get, Some, ⊤}
+use Rattle.std.specs.Prelude.{◌≡◌, ℕ, ◌+◌, ◌*◌, ◌%◌, ◌^◌, ◌<◌, ◌≤◌, true, List, length, map, slice_get, Some}
 use Rattle.std.specs.List.{All}
 use Rattle.std.specs.List.Sorted.{IsStrictlyIncreasing}
-use Rattle.ck_base.specs.declared.refusal.Refusal.{Refusal}
-use Rattle.ck_base.specs.declared.refusal.Refusal.TheVariants.{Code, NoMemory}
 use Rattle.c_tree.specs.Weight.{weight}
 use Rattle.c_tree.specs.declared.typed.Typed.{Typed}
 use Rattle.elf_file.specs.declared.image.Line.{Line}
@@ -17,16 +15,10 @@ use Rattle.tac_ir.specs.WellFormed.{is_well_formed}
 use Rattle.tac_ir.specs.Within.{WithinCosts}
 use Rattle.tac_ir.specs.declared.code.Tac.{Tac}
 use Rattle.tac_ir.specs.declared.code.TacFun.{TacFun}
-use Rattle.typed_build.specs.Built.{start}
 use Rattle.typed_build.specs.declared.written.Selected.{Selected}
 
--- a check failed that isn't proved to pass; want of memory is free
-abbrev pub IsGivenUp : Refusal → Type 0
-IsGivenUp (Code code pos) = (pos ≡ start) × (code ≡ 150)
-IsGivenUp NoMemory = ⊤
-
--- three-address code that passed the checks
-pub record IsChecked (p : Typed) (t : Tac) : Type 0 where
+-- three-address code for a program, as selection asks for it
+pub record IsCode (p : Typed) (t : Tac) : Type 0 where
   pub formed : is_well_formed t p ≡ true
   pub within : WithinCosts t p
   pub short : (k : ℕ) (f : TacFun) → slice_get t.funs k ≡ Some f → length f.code < 2 ^ 32

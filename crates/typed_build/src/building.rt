@@ -23,9 +23,6 @@ use tac_ir::Tac;
 /// The start of a file.
 pub const START: Pos = Pos { line: 1, col: 1 };
 
-/// What comes where a check fails that isn't proved to pass.
-pub const UNPROVED: Refusal = Refusal::Code(150, START);
-
 /// The most weight of a program.
 const MOST_WEIGHT: u64 = 7_780;
 

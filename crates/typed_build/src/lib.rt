@@ -1,7 +1,6 @@
 //! From a typed program to the ELF file of machine code.
 //!
-//! Promise: `build_typed` gives the program's image (`IsBuilt`), or the first of 141 and 142 that applies; 150 of no
-//! program over integers.
+//! Promise: `build_typed` gives the program's image (`IsBuilt`), or the first of 141 and 142 that applies.
 //! Definitions (`specs/`): `Built`, `Written`, `Text`, `Coded`, `Frames`.
 //! Main lemmas (`proofs/`): `Writes`, `Builds`, `SameBuilt`.
 #![tactic(auto)]

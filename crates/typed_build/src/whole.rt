@@ -8,10 +8,10 @@ ghost use Rattle.bounds_place.specs.Placing.{exceeds};
 ghost use Rattle.bounds_place.specs.Sizes.{in_range, HasSizes};
 ghost use Rattle.int_lower.specs.Form.{is_integer_form};
 ghost use Rattle.typed_build.specs.Built.{IsBuilt, IsRefusal};
-ghost use Rattle.typed_build.specs.Coded.{IsGivenUp, IsChecked, Selects, HasContainedCode};
+ghost use Rattle.typed_build.specs.Coded.{IsCode, Selects, HasContainedCode};
 ghost use Rattle.typed_build.specs.Frames.{HaveHomes};
 
-use crate::building::{Built, UNPROVED};
+use crate::building::Built;
 use crate::counts::count_of;
 use crate::frames::frames_of;
 use crate::homes::{is_short, places_of};
@@ -23,22 +23,20 @@ use ck_base::{NoMemory, Refusal};
 use reg_alloc::Places;
 use rv_select::{Items, select};
 use std::alloc::Global;
-use tac_ir::{Tac, is_within_costs};
+use tac_ir::Tac;
 use tac_lower::lower;
 
-/// The three-address code of a program, which is well formed, if it passes the checks of its size.
-fn code_of(alloc: Global, p: &Typed) -> Result<Tac, Refusal>
+/// The three-address code of a program. Its instructions are counted in 32 bits.
+fn code_of(alloc: Global, p: &Typed) -> Result<Tac, NoMemory>
     requires sound { Sound p.now }
     requires light { weight p.now ≤ 7780 }
-    ensures checked { IfOk result (IsChecked p.now) }
-    ensures refused { IfErr result IsGivenUp }
+    ensures { IfOk result (IsCode p.now) }
 {
     let code = lower(alloc, p)?;
-    if is_within_costs(&code, p) && is_short(&code) {
-        Ok(code)
-    } else {
-        Err(UNPROVED)
+    if !is_short(&code) {
+        return Err(NoMemory);
     }
+    Ok(code)
 }
 
 /// The frames and the machine code for three-address code and homes.
@@ -53,7 +51,7 @@ fn select_all(
     requires sound { Sound p.now }
     requires within { exceeds p.now ≡ false }
     requires light { weight p.now ≤ 7780 }
-    requires checked { IsChecked p.now code.now }
+    requires code { IsCode p.now code.now }
     requires places { vec_len places.now ≡ length code.now.funs }
     requires homes { HaveHomes code.now.funs places.now.items }
     ensures selects { IfOk result (Selects p.now) }
@@ -75,7 +73,7 @@ fn select_all(
     })
 }
 
-/// Any program, of which it is not yet proved that its runs are what it means. Its three-address code is checked.
+/// Any program, of which it is not yet proved that its runs are what it means.
 pub fn build_whole(
     alloc: Global,
     layouts: &Layouts,

@@ -6,8 +6,8 @@ use Rattle.typed_build.proofs.whole.build_whole.Goals as goal
 
 pub places_of-requires : goal.places_of-requires
 places_of-requires c k f e = record {
-  numbered = numbered c.in_ok-code.code c.args.p.now k f c.in_ok-code.ensures.checked.formed e;
-  short = c.in_ok-code.ensures.checked.short k f e;
+  numbered = numbered c.in_ok-code.code c.args.p.now k f c.in_ok-code.ensures.formed e;
+  short = c.in_ok-code.ensures.short k f e;
 }
 
 pub returns-clause-built : goal.returns-clause-built

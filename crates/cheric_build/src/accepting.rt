@@ -1,0 +1,34 @@
+//! The typed program as which a C file is accepted.
+ghost use Rattle.std.specs.Prelude.{IfOk, IfErr};
+ghost use Rattle.c_tree.specs.File.{Accepts};
+ghost use Rattle.c_tree.specs.Typing.{Sound};
+ghost use Rattle.cheric_build.specs.FromFile.{IsFileRefusal};
+
+use crate::front_end::front;
+use bounds_place::exceeds_limit;
+use c_tree::{Typed, weight};
+use cap_layout::Layouts;
+use ck_base::Refusal;
+use std::alloc::Global;
+use typed_build::START;
+
+/// The most weight of a program.
+const MOST_WEIGHT: u64 = 7_780;
+
+/// The typed program as which a C file is accepted, or the first rule that the file breaks: as `front` says; then, at the
+/// start of the file, 141 where its objects exceed their limit, and 142 where its weight does.
+pub fn accepted(alloc: Global, file: &[u8]) -> Result<Typed, Refusal>
+    ensures accepted { IfOk result (Accepts file.now) }
+    ensures sound { IfOk result Sound }
+    ensures refused { IfErr result (IsFileRefusal file.now) }
+{
+    let p = front(alloc, file)?;
+    let layouts = Layouts::new(alloc, &p)?;
+    if exceeds_limit(alloc, &layouts, &p)? {
+        return Err(Refusal::Code(141, START));
+    }
+    if weight(&p) > MOST_WEIGHT {
+        return Err(Refusal::Code(142, START));
+    }
+    Ok(p)
+}
