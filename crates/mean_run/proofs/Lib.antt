@@ -1,0 +1,5 @@
+pub mod Reversed
+pub mod Tops
+pub mod Kept
+pub mod Turns
+pub mod Casts

@@ -1,0 +1,10 @@
+pub mod Stacks
+pub mod Views
+pub mod Steps
+pub mod Sources
+pub mod Parts
+pub mod Allocated
+pub mod Jumps
+pub mod Choices
+pub mod Locals
+pub mod Variables

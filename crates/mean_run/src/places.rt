@@ -1,0 +1,363 @@
+//! Places that expressions designate (C11 6.3.2.1, 6.5.3.2), and what is read and written there.
+
+ghost use Rattle.std.specs.Prelude.{◌≡◌, ◌<◌, ◌≤◌, ◌^◌, OnOk, option_map, slice_get, if◌then◌else◌};
+ghost use Rattle.c_tree.specs.declared.typed.Typed.{Typed};
+ghost use Rattle.c_tree.specs.declared.typed.VarDef.{VarDef};
+ghost use Rattle.obj_mem.specs.Values.{value_of};
+ghost use Rattle.cheri_c_sem.specs.Expressions.{type_of, permissions_of, expr_tree, variable};
+ghost use Rattle.std.specs.Prelude.{◌*◌};
+ghost use Rattle.cheri_c_sem.specs.Meaning.{capability_of, position_of, further};
+ghost use Rattle.cheri_c_sem.specs.Modes.{Store};
+ghost use Rattle.cheri_c_sem.specs.Tree.{Deref, Member, Ex, Fun};
+ghost use Rattle.cheri_c_sem.specs.Types.{unit_of};
+ghost use Rattle.std.specs.Prelude.{List, map};
+ghost use Rattle.ck_base.specs.Runs.{Goes};
+ghost use Rattle.cheri_c_sem.specs.Operations.{Operations};
+ghost use Rattle.mean_types.specs.Facts.{AreTypesOf};
+ghost use Rattle.mean_run.specs.Variables.{variable_at};
+ghost use Rattle.mean_types.specs.Views.{kind_of};
+ghost use Rattle.mean_steps.specs.Machine.{finish_place, designate};
+ghost use Rattle.mean_steps.specs.Parts.{Now, load, store, copy, copy_units, part_of_local};
+ghost use Rattle.mean_operations.specs.Answers.{seen, IsAccess};
+ghost use Rattle.mean_run.specs.Views.{place_of, now_of, moment_of, vars_at};
+ghost use Rattle.mean_run.specs.Parts.{Gives, Did, Does, LeavesIt, UnitCopied};
+ghost use Rattle.mean_run.specs.Sources.{IsFit, IsSource, IsNode};
+ghost use Rattle.mean_run.specs.Steps.{IsPeeled};
+
+use crate::locals::is_object;
+use crate::state::{Source, State};
+use crate::words::{live, word};
+use crate::work::{NOWHERE, Place, Stop, Work, fault_end, unit_end};
+use c_tree::{Expr, ExprKind, Typed};
+use ck_base::{NoMemory, Pos};
+use mean_operations::Operations;
+use mean_types::{Kind, TypeFacts, Types, bytes_of, read_as};
+use obj_mem::{Fault, Value};
+
+/// The permissions of pointers to objects, and of those to objects that are not written.
+pub const DATA: u16 = 125;
+
+pub const CONST: u16 = 21;
+
+/// The pointer so many bytes further on in what it points to.
+pub fn further(v: Value, n: u64) -> Value
+    ensures { value_of result ≡ further (value_of v) n }
+{
+    match v {
+        Value::Live(object, low, high, offset, permissions) => {
+            live(object, low, high, word(offset).wrapping_add(n), permissions)
+        }
+        Value::Int(_) | Value::Fun(_) | Value::Raw(_, _) => v,
+    }
+}
+
+/// The permissions of pointers to a global.
+pub fn global_permissions(p: &Typed, types: &Types, g: u32) -> u16
+    requires { AreTypesOf p.now.types types.now }
+    ensures { (vars : List VarDef) → result ≡ permissions_of p.now vars (slice_get p.now.globals g) }
+{
+    match p.globals.as_slice().get(g as usize) {
+        None => DATA,
+        Some(d) => if types.facts(p, d.of).constant {
+            CONST
+        } else {
+            DATA
+        },
+    }
+}
+
+impl State {
+    fn load_variable<B: Operations>(&self, m: &B, kind: Kind, x: u32) -> Result<Value, Fault>
+        ensures { seen result ≡ variable_at (B.meaning m.now) (kind_of kind) (slice_get (map (option_map value_of) self.now.call.variables.items) x) }
+    {
+        match self.call.variables.get(x as usize) {
+            None => m.unset(kind),
+            Some(None) => m.unset(kind),
+            Some(Some(v)) => Ok(*v),
+        }
+    }
+
+    /// The value at a place.
+    pub fn load<B: Operations>(&self, m: &B, kind: Kind, place: Place) -> Result<Value, Stop>
+        ensures { Gives (load (B.meaning m.now) (kind_of kind) (place_of place) (now_of self.now (B.held m.now))) value_of (now_of self.now (B.held m.now)) result }
+    {
+        match place {
+            Place::In(pos, x) => match self.load_variable(m, kind, x) {
+                Err(f) => Err(Stop::Ended(fault_end(f, pos))),
+                Ok(v) => Ok(v),
+            },
+            Place::At(pos, from) => match m.load(from, bytes_of(kind)) {
+                Err(f) => Err(Stop::Ended(fault_end(f, pos))),
+                Ok(v) => Ok(read_as(kind, v)),
+            },
+        }
+    }
+
+    /// A value goes to a place.
+    pub fn store<B: Operations>(
+        &mut self,
+        m: &mut B,
+        kind: Kind,
+        place: Place,
+        v: Value,
+    ) -> Result<(), Stop>
+        ensures { B.meaning m.new ≡ B.meaning m.old }
+    {
+        match place {
+            Place::In(_, x) => {
+                self.set_variable(x, Some(v));
+                Ok(())
+            }
+            Place::At(pos, to) => match m.store(to, bytes_of(kind), v) {
+                Err(f) => Err(Stop::Ended(fault_end(f, pos))),
+                Ok(()) => Ok(()),
+            },
+        }
+    }
+
+    /// The place at an offset in an object of the current call.
+    pub fn part_of_local<B: Operations>(
+        &self,
+        m: &B,
+        pos: Pos,
+        n: u64,
+        offset: u64,
+    ) -> Result<Place, Stop> {
+        match m.offset(m.whole(self.object(n), DATA), offset) {
+            Err(f) => Err(Stop::Ended(fault_end(f, pos))),
+            Ok(v) => Ok(Place::At(pos, v)),
+        }
+    }
+
+    /// The place that expression k designates goes on the places.
+    pub fn place<B: Operations>(
+        &mut self,
+        m: &B,
+        s: &Source<'_>,
+        f: u32,
+        k: u32,
+    ) -> Result<(), NoMemory>
+        requires { IsSource s.now }
+    {
+        match s.p.exprs.as_slice().get(k as usize) {
+            None => self.designate(NOWHERE),
+            Some(e) => self.place_of(m, s, f, k, e),
+        }
+    }
+
+    fn place_of<B: Operations>(
+        &mut self,
+        m: &B,
+        s: &Source<'_>,
+        f: u32,
+        k: u32,
+        e: &Expr,
+    ) -> Result<(), NoMemory>
+        requires { IsSource s.now }
+    {
+        match &e.kind {
+            ExprKind::Var(x) => self.variable_place(m, s, f, *x, e.pos),
+            ExprKind::Global(g) => {
+                let permissions = global_permissions(s.p, s.types, *g);
+                self.designate(Place::At(e.pos, m.whole(u64::from(*g), permissions)))
+            }
+            ExprKind::Literal(n) => {
+                let globals = s.p.globals.as_slice().len() as u64;
+                self.designate(Place::At(
+                    e.pos,
+                    m.whole(globals.wrapping_add(u64::from(*n)), CONST),
+                ))
+            }
+            ExprKind::Fun(g) => self.designate(Place::At(e.pos, Value::Fun(*g))),
+            ExprKind::Deref(a) => self.then(Work::Value(f, *a), Work::FinishPlace(f, k)),
+            ExprKind::Member(a, _) => self.then(Work::Place(f, *a), Work::FinishPlace(f, k)),
+            ExprKind::Conditional(c, _, _) => self.then(
+                Work::Value(f, *c),
+                Work::ChoosePlace(f, k),
+            ),
+            ExprKind::Comma(a, b) => self.both(Work::Value(f, *a), Work::Drop, Work::Place(f, *b)),
+            ExprKind::Load(a) if s.types.facts(s.p, e.of).record => self.push(Work::Place(f, *a)),
+            ExprKind::Assign(a, b) if s.types.facts(s.p, e.of).record => {
+                self.both(
+                    Work::Place(f, *a),
+                    Work::Place(f, *b),
+                    Work::FinishPlace(f, k),
+                )
+            }
+            _ => self.designate(NOWHERE),
+        }
+    }
+
+    fn variable_place<B: Operations>(
+        &mut self,
+        m: &B,
+        s: &Source<'_>,
+        f: u32,
+        x: u32,
+        pos: Pos,
+    ) -> Result<(), NoMemory>
+        requires { IsSource s.now }
+    {
+        if is_object(s.p, f, x) {
+            let object = self.object(s.locals.before(f, x));
+            self.designate(Place::At(pos, m.whole(object, DATA)))
+        } else {
+            self.designate(Place::In(pos, x))
+        }
+    }
+
+    /// The operation of expression k gives a place.
+    pub fn finish_place<B: Operations>(
+        &mut self,
+        m: &mut B,
+        s: &Source<'_>,
+        k: u32,
+    ) -> Result<(), Stop>
+        requires { IsSource s.now }
+        ensures { B.meaning m.new ≡ B.meaning m.old }
+    {
+        match s.p.exprs.as_slice().get(k as usize) {
+            None => Ok(self.designate(NOWHERE)?),
+            Some(e) => self.finish_place_of(m, s, e),
+        }
+    }
+
+    fn deref_place(&mut self, pos: Pos) -> Result<(), NoMemory> {
+        let v = self.take();
+        self.designate(Place::At(pos, v))
+    }
+
+    fn finish_place_of<B: Operations>(
+        &mut self,
+        m: &mut B,
+        s: &Source<'_>,
+        e: &Expr,
+    ) -> Result<(), Stop>
+        requires { IsSource s.now }
+        ensures { B.meaning m.new ≡ B.meaning m.old }
+    {
+        match &e.kind {
+            ExprKind::Deref(_) => Ok(self.deref_place(e.pos)?),
+            ExprKind::Member(a, member) => {
+                let offset = s.offsets.offset(s.p, type_of(s.p, *a), *member);
+                self.member_place(m, e.pos, offset)
+            }
+            ExprKind::Assign(_, _) if s.types.facts(s.p, e.of).record => self.copy_place(m, s, e),
+            _ => Ok(self.designate(NOWHERE)?),
+        }
+    }
+
+    fn member_place<B: Operations>(&mut self, m: &B, pos: Pos, offset: u64) -> Result<(), Stop> {
+        let from = self.take_place();
+        match m.offset(from.capability(), offset) {
+            Err(f) => Err(Stop::Ended(fault_end(f, pos))),
+            Ok(v) => Ok(self.designate(Place::At(pos, v))?),
+        }
+    }
+
+    fn copy_place<B: Operations>(&mut self, m: &mut B, s: &Source<'_>, e: &Expr) -> Result<(), Stop>
+        requires { IsSource s.now }
+        ensures { B.meaning m.new ≡ B.meaning m.old }
+    {
+        let from = self.take_place();
+        let to = self.take_place();
+        let facts = s.types.facts(s.p, e.of);
+        copy(m, e.pos, facts.size, unit(&facts), from, to)?;
+        Ok(self.designate(to)?)
+    }
+}
+
+/// The bytes of a unit of a struct copy (C11 6.5.16.1): 1, 2, 4, 8 or 16, and at most the alignment.
+pub fn unit(facts: &TypeFacts) -> u64
+    ensures access { IsAccess result }
+    ensures is { IsAccess (unit_of facts.now.align) → result ≡ unit_of facts.now.align }
+{
+    match facts.unit() {
+        16 => 16,
+        8..=15 => 8,
+        4..=7 => 4,
+        2 | 3 => 2,
+        _ => 1,
+    }
+}
+
+/// A size, where it is that of an object.
+pub fn within_limit(size: u64) -> u64
+    ensures few { result ≤ 67108864 }
+    ensures is { size ≤ 67108864 → result ≡ size }
+{
+    size.min(67_108_864)
+}
+
+/// The number of an expression's type.
+pub fn type_of(p: &Typed, k: u32) -> u32
+    ensures { result ≡ type_of (slice_get p.now.exprs k) }
+{
+    match p.exprs.as_slice().get(k as usize) {
+        None => 0,
+        Some(e) => e.of,
+    }
+}
+
+/// A struct or union is copied unit by unit, from the lowest address on.
+pub fn copy<B: Operations>(
+    m: &mut B,
+    pos: Pos,
+    bytes: u64,
+    unit: u64,
+    from: Place,
+    to: Place,
+) -> Result<(), Stop>
+    requires { IsAccess unit }
+    ensures { B.meaning m.new ≡ B.meaning m.old }
+{
+    match m.overlap(from.capability(), to.capability(), bytes) {
+        Err(f) => Err(Stop::Ended(fault_end(f, pos))),
+        Ok(()) => copy_units(m, count_of(bytes, unit), unit, from, to),
+    }
+}
+
+/// How many units so many bytes are.
+fn count_of(bytes: u64, unit: u64) -> u64 {
+    if unit == 0 {
+        return 0;
+    }
+    bytes / unit
+}
+
+/// So many units are copied, the first one first.
+fn copy_units<B: Operations>(
+    m: &mut B,
+    units: u64,
+    unit: u64,
+    from: Place,
+    to: Place,
+) -> Result<(), Stop>
+    requires { IsAccess unit }
+    ensures { B.meaning m.new ≡ B.meaning m.old }
+{
+    let mut at: u64 = 0;
+    'units: for _ in 0..units {
+        copy_unit(m, at, unit, from, to)?;
+        at = at.wrapping_add(unit);
+    }
+    Ok(())
+}
+
+fn copy_unit<B: Operations>(
+    m: &mut B,
+    at: u64,
+    unit: u64,
+    from: Place,
+    to: Place,
+) -> Result<(), Stop>
+    requires { IsAccess unit }
+    ensures { B.meaning m.new ≡ B.meaning m.old }
+{
+    let read = further(from.capability(), at);
+    let written = further(to.capability(), at);
+    match m.copy_unit(read, written, unit as u8) {
+        Ok(()) => Ok(()),
+        Err(f) => Err(Stop::Ended(unit_end(f, from.position(), to.position()))),
+    }
+}

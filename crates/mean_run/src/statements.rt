@@ -1,0 +1,423 @@
+//! Statements (C11 6.8).
+ghost use Rattle.std.specs.Prelude.{◌≡◌, ◌∷◌, ◌+◌, ◌<◌, ◌^◌, List, OnOk, option_map, slice_get};
+ghost use Rattle.c_tree.specs.declared.typed.Typed.{Typed};
+ghost use Rattle.cheri_c_sem.specs.Modes.{Store};
+ghost use Rattle.cheri_c_sem.specs.Operations.{Operations};
+ghost use Rattle.cheri_c_sem.specs.Tree.{Fun};
+ghost use Rattle.cheri_c_sem.specs.Programs.{stmt_tree, statements};
+ghost use Rattle.mean_steps.specs.Machine.{execute, initialize, branch, tested, again, choose_label, turned_to, execs_behind, Test};
+ghost use Rattle.mean_steps.specs.Parts.{leave, On};
+ghost use Rattle.cheri_c_sem.specs.Order.{Ordered};
+ghost use Rattle.mean_run.specs.Views.{now_of, moment_of, vars_at, loop_of, parts_of, declared_of, funs_of};
+ghost use Rattle.mean_run.specs.Steps.{Proceeds, ComesToTest};
+ghost use Rattle.mean_run.specs.Parts.{Does};
+ghost use Rattle.mean_run.specs.Sources.{IsFit, IsSource, IsStatement};
+
+use crate::blocks::{enter_block, leave_block};
+use crate::choices::kind_at;
+use crate::locals::is_object;
+use crate::places::{copy, type_of, unit};
+use crate::state::{Source, State};
+use crate::storage::Storage;
+use crate::work::{Stop, Work, fault_end};
+use c_tree::{Stmt, StmtKind, SwitchLabel, Typed};
+use ck_base::{NoMemory, Pos};
+use ck_int::CmpOp;
+use mean_operations::{Operations, compared};
+use mean_types::{Kind, NOTHING, constant_of};
+use obj_mem::Value;
+
+/// Where the statements of a number stand in a program.
+pub fn statement_at(p: &Typed, k: u32) -> Option<&Stmt>
+    ensures { option_map (λ a. a.now) result ≡ slice_get p.now.stmts k }
+{
+    p.stmts.as_slice().get(k as usize)
+}
+
+/// Where a `switch` goes on: at the first label with the value, and else at `default`.
+fn find_label<B: Operations>(
+    m: &B,
+    pos: Pos,
+    kind: Kind,
+    v: Value,
+    labels: &[SwitchLabel],
+) -> Result<Option<u32>, Stop> {
+    for l in labels {
+        if let Some(c) = l.value {
+            match compared(m, CmpOp::Eq, kind, v, constant_of(kind, c)) {
+                Err(f) => return Err(Stop::Ended(fault_end(f, pos))),
+                Ok(true) => return Ok(Some(l.before)),
+                Ok(false) => {}
+            }
+        }
+    }
+    Ok(default_of(labels))
+}
+
+/// Where the `default` label stands, if there is one.
+fn default_of(labels: &[SwitchLabel]) -> Option<u32> {
+    for l in labels {
+        if l.value.is_none() {
+            return Some(l.before);
+        }
+    }
+    None
+}
+
+impl State {
+    /// A statement that neither enters a block nor jumps.
+    fn plain_statement(&mut self, s: &Source<'_>, f: u32, k: u32, a: &Stmt) -> Result<(), NoMemory>
+        requires { IsSource s.now }
+    {
+        match &a.kind {
+            StmtKind::Empty => Ok(()),
+            StmtKind::Expr(e) => self.then(Work::Value(f, *e), Work::Drop),
+            StmtKind::Init { var, value, .. } => self.initialization(s, f, k, *var, *value),
+            StmtKind::If(c, _, _) => self.then(Work::Value(f, *c), Work::Branch(f, k)),
+            StmtKind::While(_, _) => self.push(Work::Test(f, k)),
+            StmtKind::Do(b, _) => self.then(Work::Statement(f, *b), Work::Again(f, k)),
+            StmtKind::Switch { on, .. } => self.then(Work::Value(f, *on), Work::Switch(f, k)),
+            StmtKind::Return(Some(e)) => self.then(Work::Value(f, *e), Work::Give),
+            _ => Ok(()),
+        }
+    }
+
+    /// A statement.
+    pub fn statement<B: Storage>(
+        &mut self,
+        m: &mut B,
+        s: &Source<'_>,
+        f: u32,
+        k: u32,
+    ) -> Result<(), Stop>
+        requires { IsSource s.now }
+        ensures { B.meaning m.new ≡ B.meaning m.old }
+    {
+        let a = match statement_at(s.p, k) {
+            None => return Ok(()),
+            Some(a) => a,
+        };
+        match &a.kind {
+            StmtKind::Block { vars, .. } => {
+                enter_block(self, m, s, f, vars.as_slice());
+                Ok(self.then(Work::Rest(f, k, 0), Work::Leave(f, k))?)
+            }
+            StmtKind::For { vars, .. } => {
+                enter_block(self, m, s, f, vars.as_slice());
+                Ok(self.both(Work::Rest(f, k, 0), Work::Test(f, k), Work::Leave(f, k))?)
+            }
+            StmtKind::Break => Ok(self.break_out(m, s)?),
+            StmtKind::Continue => Ok(self.go_on(m, s)?),
+            StmtKind::Return(None) => self.give_back(m, s, NOTHING),
+            _ => Ok(self.plain_statement(s, f, k, a)?),
+        }
+    }
+
+    /// The statements of a block or `switch`, or those before the first test of a `for`, from number n on.
+    pub fn rest(&mut self, p: &Typed, f: u32, k: u32, n: usize) -> Result<(), NoMemory> {
+        match statement_at(p, k) {
+            None => Ok(()),
+            Some(a) => match &a.kind {
+                StmtKind::Block { body, .. } | StmtKind::Switch { body, .. } => {
+                    self.one_of(f, k, n, body.as_slice())
+                }
+                StmtKind::For { first, .. } => self.one_of(f, k, n, first.as_slice()),
+                _ => Ok(()),
+            },
+        }
+    }
+
+    fn one_of(&mut self, f: u32, k: u32, n: usize, parts: &[u32]) -> Result<(), NoMemory> {
+        match parts.get(n) {
+            None => Ok(()),
+            Some(a) => self.then(Work::Statement(f, *a), Work::Rest(f, k, n + 1)),
+        }
+    }
+
+    // ---- initialisation (C11 6.7.9)
+
+    fn initialization(
+        &mut self,
+        s: &Source<'_>,
+        f: u32,
+        k: u32,
+        var: u32,
+        value: u32,
+    ) -> Result<(), NoMemory>
+        requires { IsSource s.now }
+    {
+        if is_object(s.p, f, var) && s.types.facts(s.p, type_of(s.p, value)).record {
+            self.then(Work::Place(f, value), Work::Initialize(f, k))
+        } else {
+            self.then(Work::Value(f, value), Work::Initialize(f, k))
+        }
+    }
+
+    /// The value of an initialisation stands on top; of a struct or union, its place.
+    pub fn initialize<B: Operations>(
+        &mut self,
+        m: &mut B,
+        s: &Source<'_>,
+        f: u32,
+        k: u32,
+    ) -> Result<(), Stop>
+        requires { IsSource s.now }
+        ensures { B.meaning m.new ≡ B.meaning m.old }
+    {
+        match statement_at(s.p, k) {
+            None => Ok(()),
+            Some(a) => match &a.kind {
+                StmtKind::Init { var, offset, value } => {
+                    if is_object(s.p, f, *var) {
+                        self.initialize_object(
+                            m,
+                            s,
+                            a.pos,
+                            s.locals.before(f, *var),
+                            *offset,
+                            *value,
+                        )
+                    } else {
+                        let v = self.take();
+                        self.set_variable(*var, Some(v));
+                        Ok(())
+                    }
+                }
+                _ => Ok(()),
+            },
+        }
+    }
+
+    fn initialize_object<B: Operations>(
+        &mut self,
+        m: &mut B,
+        s: &Source<'_>,
+        pos: Pos,
+        n: u64,
+        offset: u64,
+        value: u32,
+    ) -> Result<(), Stop>
+        requires { IsSource s.now }
+        ensures { B.meaning m.new ≡ B.meaning m.old }
+    {
+        let facts = s.types.facts(s.p, type_of(s.p, value));
+        if facts.record {
+            let from = self.take_place();
+            let to = self.part_of_local(m, pos, n, offset)?;
+            return copy(m, pos, facts.size, unit(&facts), from, to);
+        }
+        let v = self.take();
+        let to = self.part_of_local(m, pos, n, offset)?;
+        self.store(m, facts.kind_or_int(), to, v)
+    }
+
+    // ---- choices and loops (C11 6.8.4, 6.8.5)
+
+    /// The condition of an `if` stands on top.
+    pub fn branch<B: Operations>(
+        &mut self,
+        m: &B,
+        s: &Source<'_>,
+        f: u32,
+        k: u32,
+    ) -> Result<(), Stop>
+        requires { IsSource s.now }
+    {
+        match statement_at(s.p, k) {
+            None => {
+                self.take();
+                Ok(())
+            }
+            Some(a) => self.branch_of(m, s, f, k, a),
+        }
+    }
+
+    fn branch_of<B: Operations>(
+        &mut self,
+        m: &B,
+        s: &Source<'_>,
+        f: u32,
+        k: u32,
+        a: &Stmt,
+    ) -> Result<(), Stop>
+        requires { IsSource s.now }
+    {
+        match &a.kind {
+            StmtKind::If(c, yes, no) => {
+                if self.take_truth(m, kind_at(s, *c), a.pos)? {
+                    Ok(self.push(Work::Statement(f, *yes))?)
+                } else {
+                    match no {
+                        None => Ok(self.push(Work::Nothing)?),
+                        Some(b) => Ok(self.push(Work::Statement(f, *b))?),
+                    }
+                }
+            }
+            _ => {
+                self.take();
+                Ok(())
+            }
+        }
+    }
+
+    /// A loop is at its test.
+    pub fn test(&mut self, p: &Typed, f: u32, k: u32) -> Result<(), NoMemory> {
+        match statement_at(p, k) {
+            None => self.then(Work::Nothing, Work::Again(f, k)),
+            Some(a) => match &a.kind {
+                StmtKind::While(c, _) | StmtKind::Do(_, c) => self.then(
+                    Work::Value(f, *c),
+                    Work::Tested(f, k),
+                ),
+                StmtKind::For { test, body, .. } => match test {
+                    Some(c) => self.then(Work::Value(f, *c), Work::Tested(f, k)),
+                    None => self.then(Work::Statement(f, *body), Work::Again(f, k)),
+                },
+                _ => self.then(Work::Nothing, Work::Again(f, k)),
+            },
+        }
+    }
+
+    /// The test of a loop stands on top. The turn of a `do` comes after a true test.
+    pub fn tested<B: Operations>(
+        &mut self,
+        m: &B,
+        s: &Source<'_>,
+        f: u32,
+        k: u32,
+    ) -> Result<(), Stop>
+        requires { IsSource s.now }
+    {
+        let a = match statement_at(s.p, k) {
+            None => return self.untested(f, k),
+            Some(a) => a,
+        };
+        match &a.kind {
+            StmtKind::While(c, body) => self.tested_before(m, s, f, k, *c, a.pos, *body),
+            StmtKind::For { test, body, .. } => match test {
+                Some(c) => self.tested_before(m, s, f, k, *c, a.pos, *body),
+                None => {
+                    self.take();
+                    Ok(self.then(Work::Statement(f, *body), Work::Again(f, k))?)
+                }
+            },
+            StmtKind::Do(body, c) => {
+                if self.take_truth(m, kind_at(s, *c), a.pos)? {
+                    self.turn()?;
+                    Ok(self.then(Work::Statement(f, *body), Work::Again(f, k))?)
+                } else {
+                    Ok(())
+                }
+            }
+            _ => self.untested(f, k),
+        }
+    }
+
+    fn untested(&mut self, f: u32, k: u32) -> Result<(), Stop> {
+        self.take();
+        Ok(self.then(Work::Nothing, Work::Again(f, k))?)
+    }
+
+    fn tested_before<B: Operations>(
+        &mut self,
+        m: &B,
+        s: &Source<'_>,
+        f: u32,
+        k: u32,
+        test: u32,
+        pos: Pos,
+        body: u32,
+    ) -> Result<(), Stop>
+        requires { IsSource s.now }
+    {
+        if self.take_truth(m, kind_at(s, test), pos)? {
+            Ok(self.then(Work::Statement(f, body), Work::Again(f, k))?)
+        } else {
+            Ok(())
+        }
+    }
+
+    /// The body of a loop was left. In a `while` and a `for` the turn comes after the step.
+    pub fn again(&mut self, p: &Typed, f: u32, k: u32) -> Result<(), Stop> {
+        match statement_at(p, k) {
+            None => self.turned(f, k),
+            Some(a) => match &a.kind {
+                StmtKind::For { step, .. } => match step {
+                    Some(e) => Ok(self.both(Work::Value(f, *e), Work::Drop, Work::Turn(f, k))?),
+                    None => self.turned(f, k),
+                },
+                StmtKind::Do(_, _) => Ok(self.push(Work::Test(f, k))?),
+                _ => self.turned(f, k),
+            },
+        }
+    }
+
+    /// The step of a loop was done.
+    pub fn turned(&mut self, f: u32, k: u32) -> Result<(), Stop> {
+        self.turn()?;
+        Ok(self.push(Work::Test(f, k))?)
+    }
+
+    // ---- `switch` (C11 6.8.4.2)
+
+    /// What a `switch` is on stands on top. Its block is entered before the labels are compared, and left whether or not one
+    /// matches.
+    pub fn switch<B: Operations>(
+        &mut self,
+        m: &mut B,
+        s: &Source<'_>,
+        f: u32,
+        k: u32,
+    ) -> Result<(), Stop>
+        requires { IsSource s.now }
+        ensures { B.meaning m.new ≡ B.meaning m.old }
+    {
+        let a = match statement_at(s.p, k) {
+            None => {
+                self.take();
+                return Ok(());
+            }
+            Some(a) => a,
+        };
+        match &a.kind {
+            StmtKind::Switch {
+                on,
+                vars,
+                labels,
+                ..
+            } => {
+                let v = self.take();
+                enter_block(self, m, s, f, vars.as_slice());
+                match find_label(m, a.pos, kind_at(s, *on), v, labels.as_slice())? {
+                    None => Ok(self.push(Work::Leave(f, k))?),
+                    Some(n) => Ok(self.both(
+                        Work::Rest(f, k, n as usize),
+                        Work::SwitchEnd,
+                        Work::Leave(f, k),
+                    )?),
+                }
+            }
+            _ => {
+                self.take();
+                Ok(())
+            }
+        }
+    }
+
+    /// A block, a `for` or a `switch` is left.
+    pub fn leave<B: Operations>(&self, m: &mut B, s: &Source<'_>, f: u32, k: u32)
+        requires { IsSource s.now }
+        ensures { B.meaning m.new ≡ B.meaning m.old }
+    {
+        if let Some(a) = statement_at(s.p, k) {
+            match &a.kind {
+                StmtKind::Block { vars, .. }
+                | StmtKind::For { vars, .. }
+                | StmtKind::Switch { vars, .. } => {
+                    leave_block(self, m, s, f, vars.as_slice());
+                }
+                _ => {}
+            }
+        }
+    }
+}
