@@ -40,7 +40,7 @@ fn each_read_and_each_put_fails(rt: HostRuntime) -> Result<(), Fail> {
 }
 
 /// Words in each mode, each with its own message, which the notes don't take.
-const MODES: [&str; 12] = [
+const MODES: [&str; 14] = [
     "cheric run a.c",
     "cheric run a.c --steps 1",
     "cheric run b.c",
@@ -49,6 +49,8 @@ const MODES: [&str; 12] = [
     "cheric exec a.c.elf",
     "cheric exec a.c",
     "cheric audit a.c.elf",
+    "cheric mean a.c --turns 0",
+    "cheric mean b.c",
     "cheric map b.c",
     "cheric list b.c",
     "cheric gen 0",

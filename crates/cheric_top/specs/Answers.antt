@@ -19,7 +19,11 @@ use Rattle.image_load.specs.Loading.{load_number}
 use Rattle.cheric_top.specs.declared.answer.Answer.{Answer}
 use Rattle.elf_audit.specs.declared.verdict.Verdict.{Verdict}
 use Rattle.elf_audit.specs.declared.verdict.Verdict.TheVariants as verdict
-use Rattle.cheric_top.specs.declared.answer.Answer.TheVariants.{Exit, Built, Shown, Trap, TrapAt, Stack, Steps, Break, Illegal, Audited, Refused, Words, NotLoaded, File, Input, Output, Memory}
+use Rattle.obj_mem.specs.declared.ending.Ending.{Ending}
+use Rattle.obj_mem.specs.declared.ending.Ending.TheVariants as ending
+use Rattle.obj_mem.specs.declared.ending.Reason.{Reason}
+use Rattle.obj_mem.specs.declared.ending.Reason.TheVariants as reason
+use Rattle.cheric_top.specs.declared.answer.Answer.TheVariants.{Exit, Built, Shown, Trap, TrapAt, Stack, Steps, Turns, Unspecified, Outside, Break, Illegal, Audited, Refused, Words, NotLoaded, File, Input, Output, Memory}
 
 -- ---- the answer of a run
 
@@ -39,6 +43,18 @@ answer_of image (end.Illegal pc) = Illegal pc
 answer_of image end.Steps = Steps
 answer_of image end.ReadFault = Input
 answer_of image end.WriteFault = Output
+
+-- ---- the answer of a run of the meaning
+
+abbrev pub meant : Ending → Answer
+meant (ending.Exit n) = Exit n
+meant (ending.Trap c pos) = Trap c pos
+meant (ending.Stack pos) = Stack pos
+meant ending.Turns = Turns
+meant (ending.Outside pos) = Outside pos
+meant (ending.Unspecified reason pos) = Unspecified reason pos
+meant ending.ReadFault = Input
+meant ending.WriteFault = Output
 
 -- ---- the answer where a file is not built
 
@@ -67,6 +83,9 @@ status_of (Trap c pos) = 2
 status_of (TrapAt c pc) = 2
 status_of (Stack pos) = 3
 status_of Steps = 4
+status_of Turns = 4
+status_of (Unspecified reason pos) = 5
+status_of (Outside pos) = 5
 status_of (Break pc) = 6
 status_of (Illegal pc) = 6
 status_of (Audited verdict) = audit_status verdict
@@ -88,6 +107,16 @@ cause_text cause.Bounds = codes "bounds"
 cause_text cause.Align = codes "align"
 cause_text cause.Execute = codes "execute"
 
+abbrev pub reason_text : Reason → List ℕ
+reason_text reason.Address = codes "address"
+reason_text reason.Undefined = codes "undefined"
+reason_text reason.Unwritten = codes "unwritten"
+reason_text reason.Padding = codes "padding"
+reason_text reason.Rounding = codes "rounding"
+reason_text reason.Excursion = codes "excursion"
+reason_text reason.Heap = codes "heap"
+reason_text reason.Overlap = codes "overlap"
+
 abbrev pub pos_text : Pos → List ℕ
 pos_text pos = decimal pos.line ++ codes ":" ++ decimal pos.col
 
@@ -105,6 +134,9 @@ text_of (Trap c pos) = codes "trap " ++ cause_text c ++ codes " " ++ pos_text po
 text_of (TrapAt c pc) = codes "trap " ++ cause_text c ++ codes " at " ++ decimal pc
 text_of (Stack pos) = codes "stack " ++ pos_text pos
 text_of Steps = codes "steps"
+text_of Turns = codes "turns"
+text_of (Unspecified reason pos) = codes "unspecified " ++ reason_text reason ++ codes " " ++ pos_text pos
+text_of (Outside pos) = codes "outside " ++ pos_text pos
 text_of (Break pc) = codes "break " ++ decimal pc
 text_of (Illegal pc) = codes "illegal " ++ decimal pc
 text_of (Audited verdict) = audit_text verdict

@@ -4,7 +4,9 @@ use Rattle.ck_base.specs.Files.{FileMap, HasFile, SameOthers}
 use Rattle.ck_base.specs.Calls.{Seen, seen, IsRun, Counted}
 use Rattle.ck_base.specs.Runs.{outcome, ending_alone}
 use Rattle.ck_base.specs.declared.refusal.Refusal.TheVariants.{Code}
+use Rattle.c_tree.specs.File.{Accepts}
 use Rattle.c_tree.specs.declared.typed.Typed.{Typed}
+use Rattle.obj_mem.specs.declared.ending.Ending.{Ending}
 use Rattle.obj_mem.specs.declared.map.Map.{Map}
 use Rattle.cap_machine.specs.declared.end.End.{End}
 use Rattle.cap_machine.specs.Containment.{IsProper}
@@ -17,8 +19,8 @@ use Rattle.cheric_build.specs.FromFile.{IsBuiltFrom, IsFileRefusal}
 use Rattle.build_text.specs.Listing.{listing_text}
 use Rattle.build_text.specs.Map.{map_text}
 use Rattle.generator.specs.Generated.{generated}
-use Rattle.command_line.specs.Lines.{Mode, Run, Build, Exec, Audit, ShowMap, ShowListing, Line, OfFile, Generate, IsLine}
-use Rattle.cheric_top.specs.Answers.{answer_of, IsSaid}
+use Rattle.command_line.specs.Lines.{Mode, Run, Build, Exec, Audit, Mean, ShowMap, ShowListing, Line, OfFile, Generate, IsLine}
+use Rattle.cheric_top.specs.Answers.{answer_of, meant, IsSaid}
 use Rattle.cheric_top.specs.Audit.{AuditSays}
 use Rattle.cheric_top.specs.Shown.{IsProgramOf, PutSays, summary}
 use Rattle.cheric_top.specs.declared.answer.Answer.{Answer}
@@ -123,6 +125,25 @@ ExecStopped before after file answer = ⊥
 abbrev pub ExecSays : Seen → Seen → List ℕ → ℕ → Answer → Type 0
 ExecSays before after file steps answer = ExecStopped before after file answer ⊎ ((loaded : Loaded) × (loading file ≡ Ok loaded) × RanLoaded before after loaded steps answer)
 
+-- ---- mode `mean`
+
+-- the file is accepted, and an ending is answered of a run of its strict meaning: which one that is, and what the run puts
+-- and takes, is not said here
+pub record RanStrict (file : List ℕ) (answer : Answer) : Type 0 where
+  pub program : Typed
+  pub accepted : Accepts file program
+  pub ending : Ending
+  pub answered : answer ≡ meant ending
+
+-- the file was refused, or there was no memory
+abbrev pub MeanStopped : Seen → Seen → List ℕ → Answer → Type 0
+MeanStopped before after file (Refused code pos) = (after ≡ before) × IsFileRefusal file (Code code pos)
+MeanStopped before after file Memory = ⊤
+MeanStopped before after file answer = ⊥
+
+abbrev pub MeanSays : Seen → Seen → List ℕ → Answer → Type 0
+MeanSays before after file answer = MeanStopped before after file answer ⊎ RanStrict file answer
+
 -- ---- mode `build`
 
 -- the bytes stand under the name, no other name changed, and no call of the files failed
@@ -188,6 +209,7 @@ ModeSays a file (Run steps sizes) answer = FilesKept a × RunSays a.before a.aft
 ModeSays a file (Exec steps) answer = FilesKept a × ExecSays a.before a.after file steps answer
 ModeSays a file (Build elf sizes) answer = Untouched a × BuildSays a.files_before a.files_after file elf sizes answer
 ModeSays a file Audit answer = FilesKept a × Untouched a × AuditSays file answer
+ModeSays a file (Mean turns) answer = FilesKept a × MeanSays a.before a.after file answer
 ModeSays a file (ShowMap sizes) answer = FilesKept a × MapSays a.before a.after file sizes answer
 ModeSays a file (ShowListing sizes) answer = FilesKept a × ListingSays a.before a.after file sizes answer
 

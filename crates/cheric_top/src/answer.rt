@@ -3,6 +3,7 @@
 use cap_ops::Cause;
 use ck_base::Pos;
 use elf_audit::Verdict;
+use obj_mem::Reason;
 
 /// What the command answers: how a run ended, what was built, why a file was refused, or what went wrong.
 #[derive(Clone, Copy, Debug, PartialEq, Eq)]
@@ -21,6 +22,12 @@ pub enum Answer {
     Stack(Pos),
     /// The limit of instructions was done.
     Steps,
+    /// The limit of turns was done.
+    Turns,
+    /// The strict meaning is not defined from this place of the file on, for this reason.
+    Unspecified(Reason, Pos),
+    /// What the meanings speak of was left at this place of the file.
+    Outside(Pos),
     /// `ebreak` at this address.
     Break(u64),
     /// A word at this address is no instruction, or an environment call has another number.

@@ -11,6 +11,7 @@ ghost use Rattle.cheric_top.specs.Command.{files_seen, around, HasRead, NotRead,
 use crate::answer::Answer;
 use crate::auditing::audit_file;
 use crate::generating::show_generated;
+use crate::meaning::mean_file;
 use crate::message::say;
 use crate::running::{exec_file, not_built, run_file};
 use crate::showing::{show_listing, show_map};
@@ -94,6 +95,7 @@ fn work_on<F: Files, I: Source, O: Sink>(
             Err(NoMemory) => Answer::Memory,
         },
         Mode::Audit => audit_file(alloc, file),
+        Mode::Mean(turns) => mean_file(alloc, file, turns, input, out),
         Mode::ShowMap(sizes) => show_map(alloc, file, sizes, out),
         Mode::ShowListing(sizes) => show_listing(alloc, file, sizes, out),
     }
@@ -145,8 +147,8 @@ fn work<F: Files, I: Source, O: Sink>(
 
 /// Does all that the program does, and gives the status with which it ends.
 ///
-/// `words` begins with the program's name. The lines are `run FILE`, `build FILE`, `exec FILE`, `audit FILE`, `map FILE`,
-/// `list FILE` and `gen N`, with the options `--steps N`, `--turns N`, `--out NAME`, `--heap N` and `--stack N`, in any
+/// `words` begins with the program's name. The lines are `run FILE`, `build FILE`, `exec FILE`, `audit FILE`, `mean FILE`,
+/// `map FILE`, `list FILE` and `gen N`, with the options `--steps N`, `--turns N`, `--out NAME`, `--heap N` and `--stack N`, in any
 /// order and each at most once; an option that a mode does not use has no effect. `run` builds a C file, loads the bytes
 /// and runs them over `input` and `out`; `build` puts them under NAME, or under FILE followed by `.elf`; `exec` loads and
 /// runs such a file, and `audit` says whether a run of it can leave its text, or which word or relocation first breaks a

@@ -10,6 +10,7 @@ mod answer;
 mod auditing;
 mod command;
 mod generating;
+mod meaning;
 mod message;
 mod running;
 mod showing;

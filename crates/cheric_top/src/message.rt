@@ -1,7 +1,7 @@
 //! The line and the status of an answer.
 ghost use Rattle.std.specs.Prelude.{◌≡◌, ◌++◌, ◌≤◌, ◌<◌, ◌+◌, ◌-◌, ◌^◌, ℕ, [], length, decimal, codes};
 ghost use Rattle.arrayvec.specs.ArrayString.{array_string_len};
-ghost use Rattle.cheric_top.specs.Answers.{audit_status, status_of, is_silent, line_of, cause_text, pos_text, audit_text, text_of, IsSaid};
+ghost use Rattle.cheric_top.specs.Answers.{audit_status, status_of, is_silent, line_of, cause_text, reason_text, pos_text, audit_text, text_of, IsSaid};
 ghost use Rattle.cheric_top.specs.declared.answer.Answer.TheVariants as answers;
 
 use crate::answer::Answer;
@@ -10,6 +10,7 @@ use cap_ops::Cause;
 use ck_base::{Pos, Sink};
 use elf_audit::Verdict;
 use itoa::Buffer;
+use obj_mem::Reason;
 
 /// The most bytes of a line.
 const ROOM: usize = 64;
@@ -28,9 +29,9 @@ fn push_number(line: &mut Line, n: u64)
 
 /// Appends a line and a column.
 fn push_pos(line: &mut Line, pos: Pos)
-    requires { array_string_len line.old ≤ 20 }
+    requires { array_string_len line.old ≤ 22 }
     ensures bytes { line.new.bytes ≡ line.old.bytes ++ pos_text pos }
-    ensures len { array_string_len line.new ≤ 61 }
+    ensures len { array_string_len line.new ≤ 63 }
 {
     push_number(line, u64::from(pos.line));
     line.push_str(":");
@@ -50,6 +51,22 @@ fn cause_text(cause: Cause) -> &'static str
         Cause::Bounds => "bounds",
         Cause::Align => "align",
         Cause::Execute => "execute",
+    }
+}
+
+fn reason_text(reason: Reason) -> &'static str
+    ensures text { result.now ≡ reason_text reason }
+    ensures short { length result.now ≤ 9 }
+{
+    match reason {
+        Reason::Address => "address",
+        Reason::Undefined => "undefined",
+        Reason::Unwritten => "unwritten",
+        Reason::Padding => "padding",
+        Reason::Rounding => "rounding",
+        Reason::Excursion => "excursion",
+        Reason::Heap => "heap",
+        Reason::Overlap => "overlap",
     }
 }
 
@@ -112,6 +129,18 @@ fn trap_at_text(cause: Cause, pc: u64) -> Line
     line
 }
 
+fn unspecified_text(reason: Reason, pos: Pos) -> Line
+    ensures bytes { result.bytes ≡ text_of (answers.Unspecified reason pos) }
+    ensures len { array_string_len result ≤ 63 }
+{
+    let mut line = Line::new();
+    line.push_str("unspecified ");
+    line.push_str(reason_text(reason));
+    line.push_str(" ");
+    push_pos(&mut line, pos);
+    line
+}
+
 fn refused_text(code: u16, pos: Pos) -> Line
     ensures bytes { result.bytes ≡ text_of (answers.Refused code pos) }
     ensures len { array_string_len result ≤ 63 }
@@ -163,6 +192,9 @@ fn text_of(answer: Answer) -> Line
         Answer::TrapAt(cause, pc) => trap_at_text(cause, pc),
         Answer::Stack(pos) => placed("stack ", pos),
         Answer::Steps => alone("steps"),
+        Answer::Turns => alone("turns"),
+        Answer::Unspecified(reason, pos) => unspecified_text(reason, pos),
+        Answer::Outside(pos) => placed("outside ", pos),
         Answer::Break(pc) => numbered("break ", pc),
         Answer::Illegal(pc) => numbered("illegal ", pc),
         Answer::Audited(verdict) => audit_text(verdict),
@@ -194,7 +226,8 @@ pub fn status_of(answer: Answer) -> u8
         Answer::Exit(_) => 1,
         Answer::Trap(..) | Answer::TrapAt(..) => 2,
         Answer::Stack(_) => 3,
-        Answer::Steps => 4,
+        Answer::Steps | Answer::Turns => 4,
+        Answer::Unspecified(..) | Answer::Outside(_) => 5,
         Answer::Break(_) | Answer::Illegal(_) => 6,
         Answer::Audited(verdict) => audit_status(verdict),
         Answer::Refused(..) => 10,

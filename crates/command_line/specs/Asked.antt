@@ -7,7 +7,7 @@ use Rattle.command_line.specs.Lines as lines
 use Rattle.command_line.specs.declared.line.Line.{Line}
 use Rattle.command_line.specs.declared.line.Line.TheVariants.{OfFile, Generate}
 use Rattle.command_line.specs.declared.line.Mode.{Mode}
-use Rattle.command_line.specs.declared.line.Mode.TheVariants.{Run, Build, Exec, Audit, ShowMap, ShowListing}
+use Rattle.command_line.specs.declared.line.Mode.TheVariants.{Run, Build, Exec, Audit, Mean, ShowMap, ShowListing}
 use Rattle.command_line.specs.declared.options.Options.{Options}
 
 abbrev pub mode_of : List ℕ → Mode → lines.Mode
@@ -16,6 +16,7 @@ mode_of name (Build None sizes) = lines.Build (name ++ codes ".elf") sizes
 mode_of name (Build (Some elf) sizes) = lines.Build elf.now sizes
 mode_of name (Exec steps) = lines.Exec steps
 mode_of name Audit = lines.Audit
+mode_of name (Mean turns) = lines.Mean turns
 mode_of name (ShowMap sizes) = lines.ShowMap sizes
 mode_of name (ShowListing sizes) = lines.ShowListing sizes
 
@@ -36,6 +37,7 @@ IsInRange (Run steps sizes) = in_range sizes ≡ true
 IsInRange (Build elf sizes) = in_range sizes ≡ true
 IsInRange (Exec steps) = ⊤
 IsInRange Audit = ⊤
+IsInRange (Mean turns) = ⊤
 IsInRange (ShowMap sizes) = in_range sizes ≡ true
 IsInRange (ShowListing sizes) = in_range sizes ≡ true
 

@@ -8,12 +8,13 @@ use Rattle.clap.specs.Faults.{fault_of}
 use Rattle.clap.specs.Words.{App, Rule, Text, first_of, matches_of, new_app, new_rule, with_rule}
 
 -- What is done with a file: its C program is built and run, or is built and put under a name; its image is run, or is
--- audited; its C program is built, and the map or the listing shown.
+-- audited; its C program is run by its strict meaning; or it is built, and the map or the listing shown.
 pub data Mode : Type 0 where
   Run : (steps : ℕ) → (sizes : Sizes) → Mode
   Build : (elf : List ℕ) → (sizes : Sizes) → Mode
   Exec : (steps : ℕ) → Mode
   Audit : Mode
+  Mean : (turns : ℕ) → Mode
   ShowMap : (sizes : Sizes) → Mode
   ShowListing : (sizes : Sizes) → Mode
 
@@ -98,9 +99,16 @@ pub record HasNumbers (given : Text → Option Text) : Type 0 where
 abbrev pub default_steps : ℕ
 default_steps = 100000000
 
+-- and that of turns
+abbrev pub default_turns : ℕ
+default_turns = 10000000
+
 -- what an option sets, or what stands where it is not there
 abbrev pub steps_of : Options → ℕ
 steps_of o = unwrap_or o.steps default_steps
+
+abbrev pub turns_of : Options → ℕ
+turns_of o = unwrap_or o.turns default_turns
 
 abbrev pub sizes_of : Options → Sizes
 sizes_of o = record { heap = unwrap_or o.heap usual.heap; stack = unwrap_or o.stack usual.stack }
@@ -122,6 +130,7 @@ AsksMode word name o (Run steps sizes) = (word ≡ codes "run") × (steps ≡ st
 AsksMode word name o (Build elf sizes) = (word ≡ codes "build") × (elf ≡ elf_of name o) × (sizes ≡ sizes_of o)
 AsksMode word name o (Exec steps) = (word ≡ codes "exec") × (steps ≡ steps_of o)
 AsksMode word name o Audit = word ≡ codes "audit"
+AsksMode word name o (Mean turns) = (word ≡ codes "mean") × (turns ≡ turns_of o)
 AsksMode word name o (ShowMap sizes) = (word ≡ codes "map") × (sizes ≡ sizes_of o)
 AsksMode word name o (ShowListing sizes) = (word ≡ codes "list") × (sizes ≡ sizes_of o)
 

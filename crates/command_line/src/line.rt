@@ -14,6 +14,9 @@ use itoa::Buffer;
 /// The limit of instructions where the words name none.
 const STEPS: u64 = 100_000_000;
 
+/// The limit of turns where the words name none.
+const TURNS: u64 = 10_000_000;
+
 /// What is done with a file.
 #[derive(Clone, Copy)]
 pub enum Mode<'a> {
@@ -25,6 +28,8 @@ pub enum Mode<'a> {
     Exec(u64),
     /// Its image is audited.
     Audit,
+    /// Its C program is run by its strict meaning, for at most so many turns.
+    Mean(u64),
     /// Its C program is built for these sizes, and its map shown.
     ShowMap(Sizes),
     /// Its C program is built for these sizes, and its listing shown.
@@ -64,6 +69,7 @@ fn mode_of<'a>(word: &str, name: &str, options: Options<'a>) -> Option<Mode<'a>>
         "build" => Some(Mode::Build(options.out, sizes)),
         "exec" => Some(Mode::Exec(steps)),
         "audit" => Some(Mode::Audit),
+        "mean" => Some(Mode::Mean(options.turns.unwrap_or(TURNS))),
         "map" => Some(Mode::ShowMap(sizes)),
         "list" => Some(Mode::ShowListing(sizes)),
         _ => None,
