@@ -181,8 +181,8 @@ module _ {M : Type 0} (ops : Operations M) where
     -- ---- a temp that stays
 
     pub stays : (later : Exs) (f : ℕ → Bool) (from n at : ℕ) (b : Option ℕ) (u v : State M) (us vs : List (Option Value)) (x : Value) → g.fixed ≤ from → Stays g later from n at → ((i : ℕ) → spare i later ≡ true → f i ≡ true)
-        → ((i : ℕ) → from ≤ i → IsApart b i) → Agrees ops g None u us → Agrees ops g None v vs → Went ops g f n b u us v vs → slice_get us at ≡ Some (Some x) → slice_get vs at ≡ Some (Some x)
-    stays later f from n at b u v us vs x le (own ge lt) sp away au av went e = went.kept at (omega arith) lt (away at ge) ∙ e
+        → ((i : ℕ) → from ≤ i → i < n → IsApart b i) → Agrees ops g None u us → Agrees ops g None v vs → Went ops g f n b u us v vs → slice_get us at ≡ Some (Some x) → slice_get vs at ≡ Some (Some x)
+    stays later f from n at b u v us vs x le (own ge lt) sp away au av went e = went.kept at (omega arith) lt (away at ge lt) ∙ e
     stays later f from n at b u v us vs x le (variable {x = i} {h = h} home z) sp away au av went e =
         let o = get_or u.vars i None in
         let there : slice_get u.vars i ≡ Some o = slice_get-get_or u.vars i None (let below = scene.home_counted i h home in let is = au.count in omega arith) in

@@ -150,7 +150,7 @@ module _ {M : Type 0} (ops : Operations M) (placed : IsPlaced ops) (w : World) (
         let done = done_then ops g scene (λ i. spares i a) (λ i. spares i b) (λ i. spares i (Assign (kind_of k) a b)) l m s u z ts us zs
         (λ i e. and_left (spares i a) (spares i b) (and_right (not (is_variable i a)) (spares i a && spares i b) e)) (λ i e. and_right (spares i a) (spares i b) (and_right (not (is_variable i a)) (spares i a && spares i b) e)) lm one.done two.done in
         stored k at from o q to v z zs rest (next v) (one.position q position)
-        (stays ops g scene (Cons b Nil) (λ i. spares i b) l.temps m.temps at None u z us zs to low one.stays (λ i e. and_left (spares i b) true e) (λ i e. tt) one.done.agrees two.done.agrees two.done.went one.value) two.value
+        (stays ops g scene (Cons b Nil) (λ i. spares i b) l.temps m.temps at None u z us zs to low one.stays (λ i e. and_left (spares i b) true e) (λ i e k. tt) one.done.agrees two.done.agrees two.done.went one.value) two.value
         (λ mem on. go v (record z { mem = mem }) zs (done_memory (λ i. spares i (Assign (kind_of k) a b)) l s z ts zs mem on done))));
   }
 
@@ -159,3 +159,44 @@ module _ {M : Type 0} (ops : Operations M) (placed : IsPlaced ops) (w : World) (
   pub own_temp : (to : Option ℕ) (at : ℕ) (m n : Mark) → IsOwn g to at m n → (l : Mark) → l.temps ≤ m.temps → g.fixed ≤ l.temps → IsTargetIfAny g l to → (g.fixed ≤ at) × (at < n.temps) × (m.temps ≤ n.temps) × (m.labels ≡ n.labels) × ((i : ℕ) → l.temps ≤ i → i < m.temps → i ≢ at)
   own_temp to at m n (code.given {t = at2} ge) l le low target = (ge, (let lt = target.there in omega arith), omega arith, refl, λ i a b e. let lt = target.there in absurd (omega arith))
   own_temp to at m n (code.fresh {m = m2}) l le low target = (omega arith, omega arith, omega arith, refl, λ i a b e. absurd (omega arith))
+
+  own_apart : (to at : ℕ) (m n : Mark) → IsOwn g (Some to) at m n → (l : Mark) → l.temps ≤ m.temps → (i : ℕ) → i < l.temps → i ≢ to → i ≢ at
+  own_apart to at m n (code.given {t = at2} ge) l le i lt ne = ne
+  own_apart to at m n (code.fresh {m = m2}) l le i lt ne = λ e. absurd (omega arith)
+
+  -- the value of an assignment to an object, where it is asked for
+  pub object_value_assignment : (k : TacKind) (a b : Ex) (at from to : ℕ) (q : Pos) (l m n o : Mark) (c d : Code) → position_in a ≡ Some q → Pointer_runs (Cons b Nil) a at l m c → IsOwn g (Some to) from m n → Value_runs k b from n o d
+      → Assignment_runs k (Assign (kind_of k) a b) (Some to) l o (λ rest. c (d (instr.Store at from k q ∷ transfer to from rest)))
+  object_value_assignment k a b at from to q l m n o c d position f own h = record {
+    piece = both_own l m o c (λ rest. d (instr.Store at from k q ∷ transfer to from rest)) f.piece
+        (both_own m n o (λ rest. rest) (λ rest. d (instr.Store at from k q ∷ transfer to from rest)) (own_piece own)
+        (then_own n o o d (λ rest. instr.Store at from k q ∷ transfer to from rest) (omega arith) refl (λ i rest. transfer_plain to from i rest) h.piece));
+    runs = λ s ts next rest room target ag go.
+        let low = room.low in let high = room.high in let lm = f.piece.temps in let no = h.piece.temps in
+        let mine = own_temp (Some to) from m n own l lm low target in
+        let ge = mine.0 in let lt = mine.1 in let mn = mine.2 in
+        f.runs s ts (λ pl u. value_of ops w call b u (λ v z. store ops w (kind_of k) pl v z (λ i y. next v y))) (d (instr.Store at from k q ∷ transfer to from rest)) (record { low = low; high = omega arith }) ag
+        (λ pos to2 u us one. h.runs u us (λ v z. store ops w (kind_of k) (At pos to2) v z (λ i y. next v y)) (instr.Store at from k q ∷ transfer to from rest) (record { low = omega arith; high = high }) (record { there = lt; free = free_own ops g scene from ge }) one.done.agrees
+        (λ v z zs two.
+        let agrees = agrees_own ops g scene from z zs ge two.agrees in
+        let went = went_then ops g scene (λ i. spares i a) (λ i. spares i b) (λ i. spares i (Assign (kind_of k) a b)) l.temps n.temps (Some from) s u z ts us zs
+        (λ i e. and_left (spares i a) (spares i b) (and_right (not (is_variable i a)) (spares i a && spares i b) e)) (λ i e. and_right (spares i a) (spares i b) (and_right (not (is_variable i a)) (spares i a && spares i b) e)) (omega arith) one.done.went two.went in
+        let here = stays ops g scene (Cons b Nil) (λ i. spares i b) l.temps m.temps at (Some from) u z us zs to2 low one.stays (λ i e. and_left (spares i b) true e) mine.4 one.done.agrees agrees
+        (went_less ops g scene (λ i. spares i b) (λ i. spares i b) m.temps n.temps (Some from) (Some from) u z us zs (λ i e. e) mn (λ i e j. j) two.went) one.value in
+        stored k at from pos q to2 v z zs (transfer to from rest) (next v) (one.position q position) here two.value
+        (λ mem on. let y = record z { mem = mem } in
+        go v y (slice_set zs to (Some v)) (record {
+          agrees = Rattle.lower_runs.proofs.Agreement.agrees_set ops g scene None (Some to) y zs to (Some v) target.free (λ x i e j. (tt, j)) (agrees_memory ops g scene None z zs mem on agrees);
+          went = Rattle.lower_runs.proofs.Agreement.went_set ops g scene (λ i. spares i (Assign (kind_of k) a b)) (λ i. spares i (Assign (kind_of k) a b)) l.temps l.temps (Some from) (Some to) s y ts zs to (Some v) (λ i e. e) (omega arith)
+              (λ i lt2 j. (own_apart to from m n own l lm i lt2 j, j)) (went_memory ops g scene (λ i. spares i (Assign (kind_of k) a b)) l.temps (Some from) s z ts zs mem on went);
+          value = get_set_same zs to (Some v) (let is = agrees.room in let there = target.there in omega arith);
+          typed = two.typed;
+        }) ∙ sym (transfer_runs ops w t p objects r call g scene to from rest y zs v two.value))));
+  }
+    where
+      own_piece : {to at : ℕ} {m n : Mark} → IsOwn g (Some to) at m n → IsPiece m n (λ rest. rest)
+      own_piece {to} {at} {m} {n} own2 = by own2
+        where
+          by : {o2 : Option ℕ} {at2 : ℕ} {m2 n2 : Mark} → IsOwn g o2 at2 m2 n2 → IsPiece m2 n2 (λ rest. rest)
+          by (code.given ge) = nothing_own _
+          by (code.fresh {m = m3}) = record { temps = omega arith; labels = omega arith; own = λ i rest j. refl }

@@ -54,7 +54,7 @@ module _ {M : Type 0} (ops : Operations M) (placed : IsPlaced ops) (w : World) (
         (λ v u us one. h.runs u us (λ vs. next (v ∷ vs)) rest (record { low = omega arith; high = high }) one.done.agrees
         (λ vs z zs two. go (v ∷ vs) z zs (record {
           done = done_then ops g scene (λ x. spares x e) (λ x. spare x es) (λ x. spares x e && spare x es) l m s u z temps us zs (λ x i. and_left (spares x e) (spare x es) i) (λ x i. and_right (spares x e) (spare x es) i) lm one.done two.done;
-          values = (stays ops g scene es (λ x. spare x es) l.temps m.temps at None u z us zs v low one.stays (λ x i. i) (λ i j. tt) one.done.agrees two.done.agrees two.done.went one.value, two.values);
+          values = (stays ops g scene es (λ x. spare x es) l.temps m.temps at None u z us zs v low one.stays (λ x i. i) (λ i j k2. tt) one.done.agrees two.done.agrees two.done.went one.value, two.values);
           typed = (one.typed, two.typed);
         })));
   }
@@ -154,7 +154,7 @@ module _ {M : Type 0} (ops : Operations M) (placed : IsPlaced ops) (w : World) (
           (λ v u us one. h.runs u us (λ vs y. called ops w q (fits p [] of) v y (λ o y2. turn y2 (λ b x. call o vs x (λ i y3. turn y3 (λ b2. next i))))) (instr.CallValue to at of ts q ∷ rest) (record { low = omega arith; high = high }) one.done.agrees
           (λ vs z zs two.
           let done = done_then ops g scene (λ x. spares x e) (λ x. spare x es) (λ x. spares x e && spare x es) l m s u z temps us zs (λ x i. and_left (spares x e) (spare x es) i) (λ x i. and_right (spares x e) (spare x es) i) lm one.done two.done in
-          let there = stays ops g scene es (λ x. spare x es) l.temps m.temps at None u z us zs v low one.stays (λ x i. i) (λ i j. tt) one.done.agrees two.done.agrees two.done.went one.value in
+          let there = stays ops g scene es (λ x. spare x es) l.temps m.temps at None u z us zs v low one.stays (λ x i. i) (λ i j k2. tt) one.done.agrees two.done.agrees two.done.went one.value in
           let after_called : Value → List Value → Fate = λ x ys. called ops w q (fits p [] of) x (record z { vars = zs }) (λ o y. into ops w t p objects (behind_turn ops w t p objects z.left) rest o ys to r y) in
           by v s z temps zs vs next rest room target (omega arith) two.typed done go
           ∙ ap (λ x. after_called x vs) (sym (ap Rattle.tac_ir.specs.Effects.held there)) ∙ ap (after_called (Rattle.tac_ir.specs.Effects.held (slice_get zs at))) (sym (arguments_are ts vs (record z { vars = zs }) two.values))));

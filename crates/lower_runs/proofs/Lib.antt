@@ -8,8 +8,11 @@ pub mod Values
 pub mod Effects
 pub mod Places
 pub mod Assignments
+pub mod Calls
 pub mod Gathered
 pub mod Statements
 pub mod Loops
 pub mod GatheredStatements
-pub mod Calls
+pub mod Induction
+pub mod Results
+pub mod Structs

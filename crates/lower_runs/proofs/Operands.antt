@@ -115,7 +115,7 @@ module _ {M : Type 0} (ops : Operations M) (placed : IsPlaced ops) (w : World) (
                 (λ i q. and_left (spares i a) (spares i b) q) (λ i q. and_right (spares i a) (spares i b) q) lm one.done.went two.done.went;
           };
           left = record {
-            value = stays ops g scene (Cons b Nil) (λ i. spares i b) l.temps m.temps x None u u2 us us2 v low one.stays (λ i q. and_left (spares i b) true q) (λ i q. tt) one.done.agrees two.done.agrees two.done.went one.value;
+            value = stays ops g scene (Cons b Nil) (λ i. spares i b) l.temps m.temps x None u u2 us us2 v low one.stays (λ i q. and_left (spares i b) true q) (λ i q k. tt) one.done.agrees two.done.agrees two.done.went one.value;
             typed = one.typed;
             below = let lt = stays_below ops g scene (Cons b Nil) l.temps m.temps x (omega arith) one.stays in omega arith;
           };

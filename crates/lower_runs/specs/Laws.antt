@@ -27,7 +27,7 @@ use Rattle.tac_ir.specs.declared.code.TacKind.TheVariants as kind
 use Rattle.lower_runs.specs.States.{Scene, IsScene, IsPlaced}
 use Rattle.lower_runs.specs.Operating as operating
 use Rattle.lower_runs.specs.Operating.{Code, AreInts, transfer, give, negated, signed_integer, sign_temps, whole, right_temps}
-use Rattle.lower_runs.specs.Expressions.{Mark, more, labelled, position_in, int_kind, pointer_kind, IsRight, is_still, is_still_place, is_junction, choice_code, guarded_code, IsInPlace, IsBase}
+use Rattle.lower_runs.specs.Expressions.{Mark, more, labelled, position_in, int_kind, pointer_kind, IsRight, is_still, is_still_place, is_junction, choice_code, guarded_code, IsInPlace, IsBase, IsOwn}
 use Rattle.lower_runs.specs.Simulation.{ValueRuns, OperandRuns, OperandInRuns, PairRuns, EffectRuns, PlaceEffectRuns, ConditionRuns, PlaceRuns, PointerRuns, AssignmentRuns, kinds}
 
 -- A law holds over all operations that answer as those under a map do, in every world, in each function of any code, whatever calls do
@@ -159,3 +159,5 @@ module _ (ops : Operations Store) (w : World) (t : Tac) (p : Typed) (objects : �
         → Assignment_runs k (Assign (kind_of k) (Variable q x) b) to m n (λ rest. c (give to at rest))
     pub object : (k : TacKind) (a b : Ex) (at from : ℕ) (q : Pos) (l m n : Mark) (c d : Code) → position_in a ≡ Some q → Pointer_runs (Cons b Nil) a at l m c → Operand_runs Nil k b from m n d
         → Assignment_runs k (Assign (kind_of k) a b) None l n (λ rest. c (d (instr.Store at from k q ∷ rest)))
+    pub object_value : (k : TacKind) (a b : Ex) (at from to : ℕ) (q : Pos) (l m n o : Mark) (c d : Code) → position_in a ≡ Some q → Pointer_runs (Cons b Nil) a at l m c → IsOwn g (Some to) from m n → Value_runs k b from n o d
+        → Assignment_runs k (Assign (kind_of k) a b) (Some to) l o (λ rest. c (d (instr.Store at from k q ∷ transfer to from rest)))

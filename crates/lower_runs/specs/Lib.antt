@@ -7,3 +7,5 @@ pub mod Following
 pub mod Calling
 pub mod Laws
 pub mod StatementLaws
+pub mod Left
+pub mod Result

@@ -1,6 +1,6 @@
 -- The simulation: from states that agree, the code of a part of a function, in front of any instructions, comes to what the part means, in
 -- front of anything that those instructions come to.
-use Rattle.std.specs.Prelude.{◌≡◌, ℕ, ◌+◌, ◌≤◌, ◌<◌, ◌&&◌, Bool, true, false, List, length, Option, Some, None, slice_get, slice_set, if◌then◌else◌}
+use Rattle.std.specs.Prelude.{◌≡◌, ◌∷◌, ℕ, ◌+◌, ◌≤◌, ◌<◌, ◌&&◌, Bool, true, false, List, length, Option, Some, None, slice_get, slice_set, if◌then◌else◌}
 use Rattle.ck_base.specs.World.{World}
 use Rattle.ck_base.specs.declared.positions.Pos.{Pos}
 use Rattle.c_tree.specs.declared.typed.Typed.{Typed}
@@ -14,10 +14,11 @@ use Rattle.tac_ir.specs.Meaning.{Running, Runs, turns, kinds_of}
 use Rattle.tac_ir.specs.Temps.{behind}
 use Rattle.tac_ir.specs.declared.code.Tac.{Tac}
 use Rattle.tac_ir.specs.declared.code.TacInstr.{TacInstr}
+use Rattle.tac_ir.specs.declared.code.TacInstr.TheVariants as instr
 use Rattle.tac_ir.specs.declared.code.TacKind.{TacKind}
 use Rattle.lower_runs.specs.States.{Scene, Home, IsFree, IsOf, Agrees, Went}
 use Rattle.lower_runs.specs.Operating.{Code}
-use Rattle.lower_runs.specs.Expressions.{Mark, spares, spare, position_in, same}
+use Rattle.lower_runs.specs.Expressions.{Mark, Target, target_mark, target_code, target_temp, spares, spare, position_in, same}
 
 -- code between two numbers of temps and labels: a label that is not its own is not found in it
 pub record IsPiece (m n : Mark) (c : Code) : Type 0 where
@@ -195,3 +196,17 @@ module _ {M : Type 0} (ops : Operations M) (w : World) (t : Tac) (p : Typed) (ob
   pub record BinaryRuns (i j k : TacKind) (to x y from more : ℕ) (part : Value → Value → Then M Value) (d : Code) : Type 0 where
     pub plain : (o : ℕ) (rest : List TacInstr) → behind o (d rest) ≡ behind o rest
     pub runs : (v z : Value) (u : State M) (us : List (Option Value)) → Holds from i x v us → Holds from j y z us → from + more ≤ length us → Operated k to from (part v z) d u us
+
+  -- ---- copies of structs and unions
+
+  -- the last step of a copy, from a place whose pointer is in a temp, goes on alike
+  abbrev pub Finishes : (to : Target) (q : Pos) (bytes unit : ℕ) (keeps : ℕ → Bool) (m : Mark) (s : State M) (ts : List (Option Value)) (last : Place → Then M (Unit {0})) (l : Unit {0} → State M → Fate) → Type 0
+  Finishes to q bytes unit keeps m s ts last l =
+      (o : Pos) (v : Value) (at : ℕ) (k : Mark) (u : State M) (us : List (Option Value)) (rest : List TacInstr) → Done ops g keeps m s ts u us → m.temps ≤ k.temps → (target_mark to k).temps ≤ g.size → at < k.temps → slice_get us at ≡ Some (Some v)
+      → ((z : State M) (zs : List (Option Value)) → Done ops g (λ x. true) k u us z zs → l tt z ≡ goes rest z zs) → last (At o v) u l ≡ goes (target_code to k (instr.CopyUnits at (target_temp to k) bytes unit o q ∷ rest)) u us
+
+  -- the copy from the place that an expression designates, whatever its last step means
+  pub record CopyRuns (to : Target) (q : Pos) (bytes unit : ℕ) (e : Ex) (m n : Mark) (c : Code) : Type 0 where
+    pub piece : IsPiece m n c
+    pub runs : (last : Place → Then M (Unit {0})) (s : State M) (ts : List (Option Value)) (l : Unit {0} → State M → Fate) (rest : List TacInstr) → HasRoom g m n → Agrees ops g None s ts → Finishes to q bytes unit (λ x. spares x e) m s ts last l
+        → ((u : State M) (us : List (Option Value)) → Done ops g (λ x. spares x e) m s ts u us → l tt u ≡ goes rest u us) → place_of ops w call e s (λ from u. last from u l) ≡ goes (c rest) s ts

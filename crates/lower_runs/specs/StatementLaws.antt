@@ -1,14 +1,15 @@
 -- The laws of statements, for each rule of the relation.
-use Rattle.std.specs.Prelude.{◌≡◌, ℕ, ◌+◌, Bool, true, false, List, [], ◌∷◌, Option, Some, None}
+use Rattle.std.specs.Prelude.{◌≡◌, ℕ, ◌+◌, slice_index_or, Bool, true, false, List, [], ◌∷◌, Option, Some, None}
 use Rattle.ck_base.specs.World.{World}
 use Rattle.ck_base.specs.declared.positions.Pos.{Pos}
 use Rattle.c_tree.specs.declared.typed.Typed.{Typed}
 use Rattle.obj_mem.specs.Values.{Value}
+use Rattle.cheri_c_sem.specs.Expressions.{fits}
 use Rattle.cheri_c_sem.specs.Kinds.{Kind}
 use Rattle.cheri_c_sem.specs.Modes.{Store}
 use Rattle.cheri_c_sem.specs.Operations.{Operations}
 use Rattle.cheri_c_sem.specs.Steps.{Then}
-use Rattle.cheri_c_sem.specs.Tree.{Ex, Nil, Declared, Simple, Objects, St, Do, Give, Init, Block, If, While, Do_while, For, Break, Continue, Return, Empty, Sts, End, Seq}
+use Rattle.cheri_c_sem.specs.Tree.{Ex, Exs, Nil, Cons, Pointer_to, Function, Call, Declared, Simple, Objects, St, Do, Give, Init, Block, If, While, Do_while, For, Break, Continue, Return, Empty, Sts, End, Seq}
 use Rattle.tac_ir.specs.Effects.{kind_of}
 use Rattle.tac_ir.specs.Meaning.{Running}
 use Rattle.tac_ir.specs.declared.code.Tac.{Tac}
@@ -16,9 +17,10 @@ use Rattle.tac_ir.specs.declared.code.TacInstr.TheVariants as instr
 use Rattle.tac_ir.specs.declared.code.TacKind.{TacKind}
 use Rattle.lower_runs.specs.States.{Scene, IsScene, IsPlaced}
 use Rattle.lower_runs.specs.Operating.{Code}
-use Rattle.lower_runs.specs.Expressions.{Mark, labelled, choice_code, guarded_code, within, within_temp, within_mark}
+use Rattle.lower_runs.specs.Expressions.{Mark, Signature, pointer_kind, labelled, choice_code, guarded_code, within, within_temp, within_mark}
 use Rattle.lower_runs.specs.Statements.{Exits, in_loop, with_spot, loop_code, repeat_code}
 use Rattle.lower_runs.specs.Simulation.{ValueRuns, OperandRuns, EffectRuns, ConditionRuns}
+use Rattle.lower_runs.specs.Calling.{CallsRun, ArgumentsRun, CallRuns, IsAsked}
 use Rattle.lower_runs.specs.Following.{StatementRuns, StatementsRun, TestRuns, StepRuns, EnterRuns}
 
 -- A law of statements holds over all operations that answer as those under a map do, in every world, in each function of any code, whatever
@@ -91,3 +93,16 @@ module _ (ops : Operations Store) (w : World) (t : Tac) (p : Typed) (objects : �
     pub counted : (g h : Scene) (x : Exits) (ds : List Declared) (first : Sts) (test : Option (Pos × Kind × Ex)) (step : Option Ex) (b : St) (k l m n o : Mark) (a c d f i : Code) → Enter_runs g ds h a → Statements_run h x first k l i
         → Test_runs h test (l.labels + 2) (labelled 3 l) m c → Statement_runs h (in_loop (l.labels + 2) (l.labels + 1)) b m n d → Step_runs h step n o f
         → Statement_runs g x (For ds first test step b) k o (λ rest. a (i (loop_code l.labels c d f rest)))
+
+-- calls, in a function at a place in its text, where further calls do what the code of their functions does
+module _ (ops : Operations Store) (w : World) (t : Tac) (p : Typed) (objects : ℕ → List ℕ) (r : Running) (call : ℕ → List Value → Then Store Value) (g : Scene) (signs : ℕ → Signature) where
+  pub record CallRules : Type 0 where
+    pub no_arguments : (m : Mark) → ArgumentsRun ops w t p objects call signs r g Nil [] [] m m (λ rest. rest)
+    pub one_argument : (e : Ex) (es : Exs) (k : TacKind) (ks : List TacKind) (at : ℕ) (ts : List ℕ) (l m n : Mark) (c d : Code) → OperandRuns ops w t p objects r call g es k e at l m c → ArgumentsRun ops w t p objects call signs r g es ks ts m n d
+        → ArgumentsRun ops w t p objects call signs r g (Cons e es) (k ∷ ks) (at ∷ ts) l n (λ rest. c (d rest))
+    pub named : CallsRun ops w t p objects call signs g.limit → (k : Option TacKind) (to : Option ℕ) (f : ℕ) (fitting : List Bool) (es : Exs) (ks : List TacKind) (ts : List ℕ) (q i j : Pos) (m n : Mark) (c : Code) → IsAsked to k
+        → slice_index_or fitting f false ≡ true → signs f ≡ record { gives = k; takes = ks } → ArgumentsRun ops w t p objects call signs r g es ks ts m n c
+        → CallRuns ops w t p objects call signs r g k (Call q fitting (Pointer_to i None (Function j f)) es) to m n (λ rest. c (instr.Call to f ts ∷ rest))
+    pub by_value : CallsRun ops w t p objects call signs g.limit → (k : Option TacKind) (to : Option ℕ) (at of : ℕ) (e : Ex) (es : Exs) (ks : List TacKind) (ts : List ℕ) (q : Pos) (l m n : Mark) (c d : Code) → IsAsked to k
+        → ((f : ℕ) → slice_index_or (fits p [] of) f false ≡ true → signs f ≡ record { gives = k; takes = ks }) → OperandRuns ops w t p objects r call g es pointer_kind e at l m c → ArgumentsRun ops w t p objects call signs r g es ks ts m n d
+        → CallRuns ops w t p objects call signs r g k (Call q (fits p [] of) e es) to l n (λ rest. c (d (instr.CallValue to at of ts q ∷ rest)))

@@ -1,7 +1,10 @@
 //! Laws of lowered code, one for each group of rules of the relation: where the codes of the parts do what the parts mean, so does the
 //! code that a rule makes of them.
 
-ghost use Rattle.lower_runs.specs.StatementLaws.{InEachFunction, StatementRules, BlockRules, LoopRules};
+ghost use Rattle.std.specs.Prelude.{ℕ};
+ghost use Rattle.lower_runs.specs.Expressions.{Signature};
+ghost use Rattle.lower_runs.specs.StatementLaws.{CallRules, InEachFunction, StatementRules, BlockRules, LoopRules};
+ghost use Rattle.lower_runs.specs.Result.{ExpressionsRun};
 ghost use Rattle.lower_runs.specs.Laws.{Everywhere, OperandRules, ValueRules, LoadRules, PlaceRules, ConditionRules, EffectRules, AssignmentRules};
 
 /// Operands: values that stand in a temp already, and those that come into a new one.
@@ -62,4 +65,16 @@ pub fn blocks_are_entered()
 #[tactic(auto, using(crate::proofs::GatheredStatements::loops_law))]
 pub fn loops_run()
     ensures { InEachFunction LoopRules }
+{}
+
+/// Arguments and calls, where further calls do what the code of their functions does, with fewer turns.
+#[tactic(auto, using(crate::proofs::Gathered::calls_law))]
+pub fn calls_run()
+    ensures { (signs : ℕ → Signature) → Everywhere (λ ops w t p objects r call g. CallRules ops w t p objects r call g signs) }
+{}
+
+/// Code that the relation makes of expressions does what they mean, given calls and the rules that are left.
+#[tactic(auto, using(crate::proofs::Results::expressions_law))]
+pub fn expressions_run()
+    ensures { ExpressionsRun }
 {}

@@ -59,8 +59,11 @@ decoded internal t b e v d low high a i end from to =
     let it = i.top_is in
     let short : d < 8192 = omega arith in
     let span : IsSpan e v d = record { short = short; base_within = omega arith; top_within = omega arith } in
-    let near : InRegion v (a / 2 ^ e) = region_past e v d a short (omega (arith, is, from)) (omega (arith, it, to)) in
-    (decoded_base internal t b e v d a i.spell span near ∙ sym is, decoded_top internal t b e v d a i.spell span near ∙ sym it)
+    let near : InRegion v (a / 2 ^ e) = region_past e v d a short (omega (arith, is, from)) (omega (arith, it, to)) in (
+      decoded_base internal t b e v d a i.spell span near ∙ sym is,
+      decoded_top internal t b e v d a i.spell span near
+          ∙ sym it,
+    )
 
 reaches : (low high a : ℕ) → Encodable low high → 65536 ≤ low → high ≤ 2 ^ 40 → low ≤ a → a < high + 4096
     → keeps low high a ≡ true

@@ -42,7 +42,8 @@ module _ (s : Setting) (shapes : List Shape) (memory : List Area) where
 
   pub under_top : (registers : Registers) (fun first at : ℕ) (cs : List Caller)
       → FramesFit s shapes memory registers fun first at cs → at ≤ stack_top s
-  under_top registers fun first at [] f = let l = under fun first at (stack_top s) s.stub f in let to = l.to in omega arith
+  under_top registers fun first at [] f = let l = under fun first at
+      (stack_top s) s.stub f in let to = l.to in omega arith
   under_top registers fun first at (c ∷ cs) f =
       let l = under fun first at c.frame (s.back c.fun c.rest) f.0 in
       let to = l.to in
@@ -127,7 +128,8 @@ tag_stays v b e = ap (λ x. record { tag = x; fields = (capability_in v).fields 
 
 -- the capability that is kept at an address is loaded from there
 pub loads_kept : (low high y at : ℕ) (n : Machine) (to from : ℕ) (z : ℤ) (d : Cap)
-    → register n from ≡ bounded low high data_permissions UNSEALED y → keeps low high y ≡ true → plus y z ≡ at → low ≤ at
+    → register n from ≡ bounded low high data_permissions UNSEALED y → keeps low high y ≡ true → plus y z ≡ at
+    → low ≤ at
     → at + 16 ≤ high → at % 16 ≡ 0 → kept_at n.mem at ≡ Some d → clc_row n to from z ≡ set n to d
 unfolding clc_row
 loads_kept low high y at n to from z d holds keep place above below aligned kept =

@@ -34,7 +34,8 @@ as_many (n ∷ ns) (b ∷ bs) h = let r = as_many ns bs h.1 in omega (arith, r)
 
 -- a pointer by the bases of its object in two ways
 live_alike : (a : Addresses) (b c : ℕ → ℕ) (object low high offset permissions : ℕ) → b object ≡ c object
-    → capability_of a b (Live object low high offset permissions) ≡ capability_of a c (Live object low high offset permissions)
+    → capability_of a b (Live object low high offset permissions) ≡ capability_of a c
+    (Live object low high offset permissions)
 unfolding capability_of
 live_alike a b c object low high offset permissions e =
     ap (λ x. bounded (x + low) (x + high) permissions UNSEALED ((x + offset) % 2 ^ 64)) e
@@ -43,25 +44,30 @@ fun_alike : (a : Addresses) (b c : ℕ → ℕ) (f : ℕ) → capability_of a b 
 unfolding capability_of
 fun_alike a b c f = refl
 
-module _ (s : Setting) (legal : IsLegal s.needs s.map) (loaded : TableIsThere s) (p : Option Point) (t : State Store) (m : Machine)
+module _ (s : Setting) (legal : IsLegal s.needs s.map) (loaded : TableIsThere s) (p : Option Point) (t : State Store)
+    (m : Machine)
     (f : Fits s p t m) where
   abbrev shapes : List Shape
   shapes = t.mem.memory.shapes
 
   -- the entries before that of the heap are as loaded
-  as_loaded : (k : ℕ) → k < heap_entry s.needs → kept_at m.mem (s.map.table.0 + 16 * k) ≡ kept_at s.loaded.mem (s.map.table.0 + 16 * k)
+  as_loaded : (k : ℕ) → k < heap_entry s.needs → kept_at m.mem (s.map.table.0 + 16 * k) ≡ kept_at s.loaded.mem
+      (s.map.table.0 + 16 * k)
   as_loaded k l =
       let aligned = legal.table_aligned in
-      kept_same s.map.table.0 (16 * heap_entry s.needs) (s.map.table.0 + 16 * k) s.loaded.mem m.mem loaded.areas f.objects.areas
+      kept_same s.map.table.0 (16 * heap_entry s.needs) (s.map.table.0 + 16 * k) s.loaded.mem m.mem loaded.areas
+      f.objects.areas
       f.table.before (omega arith) (omega arith) (omega arith)
 
   bases_as_many : length (s.needs.globals ++ s.needs.literals) ≡ length (s.map.globals ++ s.map.literals)
   bases_as_many =
       let g = as_many s.needs.globals s.map.globals legal.globals in
       let l = as_many s.needs.literals s.map.literals legal.literals in
-      length-append s.needs.globals s.needs.literals ∙ omega (arith, g, l) ∙ sym (length-append s.map.globals s.map.literals)
+      length-append s.needs.globals s.needs.literals ∙ omega (arith, g, l) ∙ sym
+      (length-append s.map.globals s.map.literals)
 
-  object_below : (k : ℕ) (need : ObjectNeed) → slice_get (s.needs.globals ++ s.needs.literals) k ≡ Some need → k < heap_entry s.needs
+  object_below : (k : ℕ) (need : ObjectNeed) → slice_get (s.needs.globals ++ s.needs.literals) k ≡ Some need
+      → k < heap_entry s.needs
   object_below k need has =
       let l = slice_get_within (s.needs.globals ++ s.needs.literals) k need has in
       omega (arith, l, length-append s.needs.globals s.needs.literals)

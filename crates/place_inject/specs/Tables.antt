@@ -26,7 +26,8 @@ table_top s = s.map.table.0 + s.map.table.1
 abbrev pub table_pointer : Setting → ℕ → Cap
 table_pointer s at = bounded s.map.table.0 (table_top s) data_permissions UNSEALED at
 
--- The machine was loaded with its table, which c3 has: an entry for each global and then for each literal, by the object's
+-- The machine was loaded with its table, which c3 has: an entry for each global and then for each literal, by the
+-- object's
 -- number, and behind them one for each function
 pub record TableIsThere (s : Setting) : Type 0 where
   pub areas : IsMemory s.loaded.mem
@@ -52,9 +53,11 @@ pub record EntriesAreRead (s : Setting) (t : State Store) (n : Machine) (to from
   pub functions : (f : ℕ) → f < functions_of s → at ≡ s.map.table.0 + 16 * function_entry s.needs f
       → clc_row n to from z ≡ set n to (capability_of (addresses_of s.map) (base_in t.mem.memory.shapes) (Fun f))
 
--- `clc` of an entry, through the table's capability at any address that keeps the table's bounds, whatever the registers are
+-- `clc` of an entry, through the table's capability at any address that keeps the table's bounds, whatever the
+-- registers are
 abbrev pub TableReadsBack : Type 0
-TableReadsBack = (s : Setting) → IsLegal s.needs s.map → TableIsThere s → (p : Option Point) (t : State Store) (m : Machine)
+TableReadsBack = (s : Setting) → IsLegal s.needs s.map → TableIsThere s → (p : Option Point) (t : State Store)
+    (m : Machine)
     → Fits s p t m → (n : Machine) → n.mem ≡ m.mem
     → (to from y : ℕ) (z : ℤ) → register n from ≡ table_pointer s y → keeps s.map.table.0 (table_top s) y ≡ true
     → EntriesAreRead s t n to from z (plus y z)

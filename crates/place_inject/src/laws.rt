@@ -93,7 +93,8 @@ pub fn locals_fit()
     ensures { LocalsFitIn }
 {}
 
-/// A return: where the locals of the function that runs have ended, no object has a byte of the stack below the frame of
+/// A return: where the locals of the function that runs have ended, no object has a byte of the stack below the
+/// frame of
 /// its caller.
 pub fn returns_clear()
     ensures { ReturnsClear }

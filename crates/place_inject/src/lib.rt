@@ -5,7 +5,8 @@
 //! and the objects stand there still; a program begins in the whole injection, and a store, a result in a register and
 //! the entry of a block keep it, while the table's entries are as they were loaded.
 //! Definitions (`specs/`): `Fits` over `Objects`, `Parts` and `Frames`; `Values`, `Steps`, `Pointers`, `Getting`,
-//! `Calling`, `Changes`, `Copies`, `Growing`, `Whole`, `Slots`, `Spills`, `Tables`, `Disjoint`, `Starts`, `Homes`, `Zeroing`,
+//! `Calling`, `Changes`, `Copies`, `Growing`, `Whole`, `Slots`, `Spills`, `Tables`, `Disjoint`, `Starts`, `Homes`,
+//! `Zeroing`,
 //! `Returns`.
 //! Main lemmas (`proofs/`): `Reached`, `Storing`, `Loading`, `FramesKept`, `Altered`, `Pointing`, `Reshaped`,
 //! `Growing`.

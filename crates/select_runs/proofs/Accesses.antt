@@ -1,7 +1,7 @@
 -- Loads and stores: what they mean, the machine does.
-use Rattle.std.proofs.Common.{◌≡◌, ◌≢◌, ℕ, zero, suc, ◌+◌, ◌*◌, ◌%◌, ◌^◌, ◌<◌, ◌≤◌, ℤ, pos, Bool, true, false, ◌&&◌, List, [], ◌∷◌, ◌++◌, length, Option, Some, None, refl, sym, ap, ◌∙◌, subst, arith}
+use Rattle.std.proofs.Common.{◌≡◌, ℕ, zero, suc, ◌+◌, ◌^◌, ◌<◌, ◌≤◌, pos, Bool, true, false, List, [], ◌∷◌, ◌++◌, length, Some, refl, sym, ap, ◌∙◌, subst, arith}
 use Rattle.std.specs.Prelude.{slice_get, slice_set, Result, Ok, Err}
-use Rattle.std.proofs.lemmas.Bool.{and_parts, ltb-true}
+use Rattle.std.proofs.lemmas.Bool.{and_parts}
 use Rattle.std.proofs.lemmas.List.{length-append}
 use Rattle.std.proofs.lemmas.Option.{slice_get_within}
 use Rattle.ck_base.specs.Runs.{Goes as Acted, Ends}
@@ -9,7 +9,7 @@ use Rattle.ck_base.specs.World.{World}
 use Rattle.ck_base.specs.declared.positions.Pos.{Pos}
 use Rattle.ck_int.specs.declared.kinds.IntKind.{IntKind}
 use Rattle.ck_int.specs.declared.kinds.IntKind.TheVariants as int
-use Rattle.ck_int.specs.Kinds.{IsKept, wrapped}
+use Rattle.ck_int.specs.Kinds.{wrapped}
 use Rattle.ck_int.proofs.Laws.{IsKept-wrapped, wrapped-below, IsKept-unsigned}
 use Rattle.ck_int.proofs.OperationLaws.{IsKept-64}
 use Rattle.cap_ops.specs.declared.access.Cause.{Cause}
@@ -17,7 +17,6 @@ use Rattle.cap_ops.specs.declared.capability.Cap.{Cap}
 use Rattle.cap_ops.specs.Capability.{added, null_at}
 use Rattle.rv_instr.specs.declared.instr.Instr.{Instr}
 use Rattle.rv_instr.specs.declared.instr.Instr.TheVariants.{Load, Store, Clc, Op}
-use Rattle.rv_instr.specs.declared.ops.LoadOp.{LoadOp}
 use Rattle.rv_instr.specs.declared.ops.StoreOp.{StoreOp}
 use Rattle.rv_instr.specs.declared.ops.StoreOp.TheVariants.{Sb, Sh, Sw, Sd, Csc}
 use Rattle.rv_instr.specs.declared.ops.RegOp.TheVariants as regs
@@ -27,26 +26,25 @@ use Rattle.cap_machine.specs.declared.end.End.TheVariants.{Trap}
 use Rattle.cap_machine.specs.declared.end.Step.{Step}
 use Rattle.cap_machine.specs.declared.end.Step.TheVariants.{Next, Ended}
 use Rattle.cap_machine.specs.Integers.{loaded_kind, loaded_bytes, stored_bytes, result_of}
-use Rattle.cap_machine.specs.State.{register, integer, next, counter}
-use Rattle.cap_machine.specs.Rows.{row, load_row, store_row, clc_row, op_row, set, set_integer, trap, stored, store_checked}
+use Rattle.cap_machine.specs.State.{register, integer}
+use Rattle.cap_machine.specs.Rows.{row, load_row, store_row, clc_row, op_row, set_integer, trap, stored, store_checked}
 use Rattle.cap_machine.specs.Step.{act, act_of, is_call}
 use Rattle.c_tree.specs.declared.typed.Typed.{Typed}
-use Rattle.obj_mem.specs.declared.ending.Ending.TheVariants as ending
 use Rattle.obj_mem.specs.declared.ending.Fault.{Fault}
 use Rattle.obj_mem.specs.declared.ending.Fault.TheVariants as fault
 use Rattle.obj_mem.specs.Access.{load, store}
 use Rattle.obj_mem.specs.Objects.{Memory, Placed, base_in}
 use Rattle.obj_mem.specs.Table.{addresses_of}
-use Rattle.obj_mem.specs.Values.{Value, Int, Live, Fun, Raw, Addresses, capability_of}
-use Rattle.cheri_c_sem.specs.Kinds.{Kind, Plain, Capability, bytes_of, int_bytes, number_of, read_as}
+use Rattle.obj_mem.specs.Values.{Value, Int, Live, Fun, Raw, capability_of}
+use Rattle.cheri_c_sem.specs.Kinds.{bytes_of, int_bytes, number_of, read_as}
 use Rattle.cheri_c_sem.specs.Modes as modes
 use Rattle.cheri_c_sem.specs.Modes.{operations, placed_plan, with_memory}
-use Rattle.cheri_c_sem.specs.Steps.{State, Fate, answer, over, fault_end}
+use Rattle.cheri_c_sem.specs.Steps.{State, Fate, answer}
 use Rattle.int_select.proofs.Numbers.{reduce_truth}
-use Rattle.tac_ir.specs.Costs.{cost, load_cost}
+use Rattle.tac_ir.specs.Costs.{load_cost}
 use Rattle.tac_ir.specs.Effects.{Next as Way, On, kind_of, kind_at, temp_in, effect, set as set_temp}
 use Rattle.tac_ir.specs.Meaning.{Running}
-use Rattle.tac_ir.specs.Temps.{IsIn as IsAmong, now}
+use Rattle.tac_ir.specs.Temps.{now}
 use Rattle.tac_ir.specs.WellFormed.{has, has_capability}
 use Rattle.tac_ir.specs.declared.code.TacInstr.{TacInstr}
 use Rattle.tac_ir.specs.declared.code.TacInstr.TheVariants as instr
@@ -55,17 +53,17 @@ use Rattle.tac_ir.specs.declared.code.TacKind.TheVariants as kind
 use Rattle.place_inject.specs.Values.{IsKnown}
 use Rattle.place_inject.specs.Steps.{is_integer, stores_integer, LoadAnswers, CapabilityLoadAnswers}
 use Rattle.place_inject.specs.Frames.{Setting, Point, functions_of}
-use Rattle.place_inject.specs.Fits.{Fits, StoreKeeps}
+use Rattle.place_inject.specs.Fits.{StoreKeeps}
 use Rattle.place_inject.specs.Spills.{StackIsThere}
 use Rattle.place_inject.proofs.Loading.{loads_fit_law}
 use Rattle.place_inject.proofs.Results.{moves_on_law}
 use Rattle.place_inject.proofs.StoresKeep.{stores_keep_law}
-use Rattle.select_runs.specs.Acts.{Ground, HasAt, Leads, counter_at, place}
-use Rattle.select_runs.specs.Accesses.{load_op, store_op, load_words, Loads, StoreWords, AccessesRun, Accesses, Goes, Stops, Leaves, Traps}
+use Rattle.select_runs.specs.Acts.{HasAt, Leads, counter_at, place}
+use Rattle.select_runs.specs.Accesses.{load_op, store_op, load_words, Loads, StoreWords, AccessesRun, Accesses, Goes, Stops, Leaves}
 use Rattle.select_runs.specs.Forms.{OfOne}
 use Rattle.select_runs.specs.Kinds.{IsOfKind, AreOfKinds}
 use Rattle.select_runs.specs.Operands.{ground_of, IsText, IsAtPoint}
-use Rattle.select_runs.specs.Results.{Computed, Arrives, GoesOn, before, behind, kinds_in, code_in, IsSelectable}
+use Rattle.select_runs.specs.Results.{Computed, before, behind, kinds_in, code_in, IsSelectable}
 use Rattle.select_runs.proofs.Acts.{fetched_here, act_on_row, counter_place, next_is, has_front, has_back, join}
 use Rattle.select_runs.proofs.Integers.{number_at}
 use Rattle.select_runs.proofs.Kinded.{kind_passes, same_turned, kinded_set, has_kind}
@@ -73,12 +71,14 @@ use Rattle.select_runs.proofs.Numbers.{null_address}
 use Rattle.select_runs.proofs.Points.{laid, there}
 use Rattle.select_runs.proofs.Results.{reads_as_before}
 use Rattle.select_runs.proofs.Simple.{operand_few}
-use Rattle.select_runs.proofs.Working.{Got, operand_got, integer_bits, unsecond, one_only, two_words, within, of_one}
+use Rattle.select_runs.proofs.Working.{operand_got, integer_bits, unsecond, one_only, two_words, within, of_one}
 
 -- ---- a word that traps
 
-traps_at : (s : Setting) (code : List Instr) (x : IsText s code) (p : Point) (at : ℕ) (t : State modes.Store) (m : Machine)
-    → IsAtPoint s code p at t m → (i : Instr) → slice_get code at ≡ Some i → is_call i ≡ false → (c : Cause) → row m i ≡ trap m c
+traps_at : (s : Setting) (code : List Instr) (x : IsText s code) (p : Point) (at : ℕ) (t : State modes.Store)
+    (m : Machine)
+    → IsAtPoint s code p at t m → (i : Instr) → slice_get code at ≡ Some i → is_call i ≡ false → (c : Cause)
+    → row m i ≡ trap m c
     → act m ≡ Ends (Trap c (place (ground_of s code) at))
 traps_at s code x p at t m point i has plain c does =
     let h = there s code x p at t m point in
@@ -102,7 +102,8 @@ bytes_alike int.I64 = refl
 bytes_alike int.U64 = refl
 
 -- what is loaded, but for a truth value, is kept in its kind
-kinds_alike : (k : IntKind) (n : ℕ) → (k ≡ int.Bool → ⊥) → n < 256 ^ int_bytes k → wrapped (loaded_kind (load_op k)) (pos n) ≡ wrapped k (pos n)
+kinds_alike : (k : IntKind) (n : ℕ) → (k ≡ int.Bool → ⊥) → n < 256 ^ int_bytes k → wrapped (loaded_kind (load_op k))
+    (pos n) ≡ wrapped k (pos n)
 kinds_alike int.Bool n ne h = absurd (ne refl)
 kinds_alike int.I8 n ne h = refl
 kinds_alike int.U8 n ne h = refl
@@ -116,7 +117,8 @@ kinds_alike int.U64 n ne h = (IsKept-64 int.I64 n refl h).kept ∙ sym (IsKept-6
 byte_loaded : (n : ℕ) → n < 256 → wrapped int.U8 (pos n) ≡ n
 byte_loaded n h = (IsKept-unsigned int.U8 n refl h).kept
 
-load_row_is : (k : IntKind) (r a : ℕ) (n : Machine) → row n (Load (load_op k) r a (pos 0)) ≡ load_row n (load_op k) r a (pos 0)
+load_row_is : (k : IntKind) (r a : ℕ) (n : Machine) → row n (Load (load_op k) r a (pos 0)) ≡ load_row n
+    (load_op k) r a (pos 0)
 unfolding row
 load_row_is k r a n = refl
 
@@ -137,7 +139,8 @@ words_few (kind.Int int.U64) r a = omega arith
 words_few (kind.Cap signed) r a = omega arith
 
 -- the words of an integer but a truth value
-plain_words : (k : IntKind) (r a : ℕ) → (k ≡ int.Bool → ⊥) → load_words (kind.Int k) r a ≡ Load (load_op k) r a (pos 0) ∷ []
+plain_words : (k : IntKind) (r a : ℕ) → (k ≡ int.Bool → ⊥) → load_words (kind.Int k) r a ≡ Load (load_op k) r a
+    (pos 0) ∷ []
 plain_words int.Bool r a ne = absurd (ne refl)
 plain_words int.I8 r a ne = refl
 plain_words int.U8 r a ne = refl
@@ -160,21 +163,27 @@ other_kind e f = true_is_not (sym (ap is_truth e) ∙ f)
     true_is_not g = absurd cc
 
 -- an integer comes into its register
-module _ (s : Setting) (code : List Instr) (x : IsText s code) (p : Point) (t : State modes.Store) (n : Machine) (mid : ℕ)
-    (point : IsAtPoint s code p mid t n) (r : ℕ) (range : (4 < r) × (r < 29)) (words : List Instr) (has_words : HasAt code mid words) where
+module _ (s : Setting) (code : List Instr) (x : IsText s code) (p : Point) (t : State modes.Store) (n : Machine)
+    (mid : ℕ)
+    (point : IsAtPoint s code p mid t n) (r : ℕ) (range : (4 < r) × (r < 29)) (words : List Instr)
+    (has_words : HasAt code mid words) where
   loaded_plain : (k : IntKind) → (k ≡ int.Bool → ⊥) → (a v : ℕ) → v < 256 ^ int_bytes k
-      → load_row n (load_op k) r a (pos 0) ≡ set_integer n r (wrapped (loaded_kind (load_op k)) (pos v)) → words ≡ load_words (kind.Int k) r a
+      → load_row n (load_op k) r a (pos 0) ≡ set_integer n r (wrapped (loaded_kind (load_op k)) (pos v))
+      → words ≡ load_words (kind.Int k) r a
       → Computed s code n (length words) (mid + length words) r r (null_at (wrapped k (pos v)))
   loaded_plain k ne a v small does e =
-      one_only s code x p t n mid point (Load (load_op k) r a (pos 0)) r (null_at (wrapped k (pos v))) words (e ∙ plain_words k r a ne) has_words
+      one_only s code x p t n mid point (Load (load_op k) r a (pos 0)) r (null_at (wrapped k (pos v))) words (e
+      ∙ plain_words k r a ne) has_words
       refl range (load_row_is k r a n ∙ does ∙ ap (set_integer n r) (kinds_alike k v ne small))
 
   loaded : (k : IntKind) (a v : ℕ) → v < 256 ^ int_bytes k
-      → load_row n (load_op k) r a (pos 0) ≡ set_integer n r (wrapped (loaded_kind (load_op k)) (pos v)) → words ≡ load_words (kind.Int k) r a
+      → load_row n (load_op k) r a (pos 0) ≡ set_integer n r (wrapped (loaded_kind (load_op k)) (pos v))
+      → words ≡ load_words (kind.Int k) r a
       → Computed s code n (length words) (mid + length words) r r (null_at (wrapped k (pos v)))
   unfolding row op_row is_truth
   loaded int.Bool a v small does e =
-      two_words s code x p t n mid point (Load (load_op int.Bool) r a (pos 0)) (Op regs.Sltu r 0 r) r (null_at v) (null_at (wrapped int.Bool (pos v)))
+      two_words s code x p t n mid point (Load (load_op int.Bool) r a (pos 0)) (Op regs.Sltu r 0 r) r (null_at v)
+      (null_at (wrapped int.Bool (pos v)))
       words e has_words refl refl range
       (load_row_is int.Bool r a n ∙ does ∙ ap (set_integer n r) (byte_loaded v small))
       (λ u holds. ap (λ q. set_integer u r (result_of regs.Sltu q (integer u r))) (null_address 0)
@@ -223,7 +232,8 @@ same_length (kind.Int int.I64) r a = omega arith
 same_length (kind.Int int.U64) r a = omega arith
 same_length (kind.Cap signed) r a = omega arith
 
-module _ (s : Setting) (code : List Instr) (x : IsText s code) (stack : StackIsThere s) (w : World) (p : Typed) (running : Running)
+module _ (s : Setting) (code : List Instr) (x : IsText s code) (stack : StackIsThere s) (w : World) (p : Typed)
+    (running : Running)
     (to from : ℕ) (k : TacKind) (source : Pos) (rest : List TacInstr)
     (sel : IsSelectable s p running (instr.Load to from k source) rest) (at : ℕ) (t : State modes.Store) (m : Machine)
     (point : IsAtPoint s code (before running (instr.Load to from k source) rest) at t m)
@@ -251,7 +261,8 @@ module _ (s : Setting) (code : List Instr) (x : IsText s code) (stack : StackIsT
   known : IsKnown t.mem.memory.shapes (functions_of s) through
   known = point.fits.calls.1.known from (now (zero, refl))
 
-  parts : (to < length (kinds_in s running)) × (Rattle.tac_ir.specs.WellFormed.same_kind (kind_at (kinds_in s running) to) (kind_of k) ≡ true)
+  parts : (to < length (kinds_in s running)) × (Rattle.tac_ir.specs.WellFormed.same_kind (kind_at
+      (kinds_in s running) to) (kind_of k) ≡ true)
   parts =
       has_kind p sel.d (kinds_in s running) (code_in s running) to (kind_of k)
       (and_parts (has p sel.d (kinds_in s running) (code_in s running) to (kind_of k))
@@ -269,7 +280,8 @@ module _ (s : Setting) (code : List Instr) (x : IsText s code) (stack : StackIsT
 
   goes_home : (v : Value) → found ≡ Ok v → IsKnown t.mem.memory.shapes (functions_of s) (read_as (kind_of k) v)
       → IsOfKind (kind_of k) (read_as (kind_of k) v)
-      → ((n : Machine) (mid a : ℕ) → IsAtPoint s code here mid t n → register n a ≡ bits through → (r : ℕ) (us : List Instr)
+      → ((n : Machine) (mid a : ℕ) → IsAtPoint s code here mid t n → register n a ≡ bits through → (r : ℕ)
+      (us : List Instr)
       → Loads k r a us → (4 < r) × (r < 29) → HasAt code mid us
       → Computed s code n (length us) (mid + length us) r r (bits (read_as (kind_of k) v))) → Done
   goes_home v e v_known v_kind does =
@@ -280,17 +292,20 @@ module _ (s : Setting) (code : List Instr) (x : IsText s code) (stack : StackIsT
         kinded = kinded_set (kinds_in s running) t.vars to (read_as (kind_of k) v) kinded parts.0
             (kind_passes (kind_at (kinds_in s running) to) (kind_of k) (read_as (kind_of k) v) parts.1 v_kind);
         does = within s code (behind running rest) 0 (few + 6) (load_cost k) (at + length words) _ m (words_few k 0 0)
-            (of_one s code x stack p running load_i rest to refl refl (λ n h. h) sel t m at point from (zero, refl) (read_as (kind_of k) v) v_known
+            (of_one s code x stack p running load_i rest to refl refl (λ n h. h) sel t m at point from (zero, refl)
+            (read_as (kind_of k) v) v_known
             (Loads k) does few
             (λ r a us is. subst (λ y. length y ≤ few) (sym is) (same_length k r a)) words form has_words);
       })
 
   stops : (c : Cause) → found ≡ Err (fault.Cause c)
-      → ((n : Machine) (mid r a : ℕ) → IsAtPoint s code here mid t n → register n a ≡ bits through → row n (load_word k r a) ≡ trap n c) → Done
+      → ((n : Machine) (mid r a : ℕ) → IsAtPoint s code here mid t n → register n a ≡ bits through → row n
+      (load_word k r a) ≡ trap n c) → Done
   stops c e does =
       let q = subst (HasAt code at) form.are has_words in
       let zero_count : 0 + length form.finds ≡ length form.finds = omega arith in
-      let f = operand_got s code x here t m m 0 at refl point from 28 form.a (now (zero, refl)) (omega arith) (omega arith) form.finds form.found
+      let f = operand_got s code x here t m m 0 at refl point from 28 form.a (now (zero, refl)) (omega arith)
+      (omega arith) form.finds form.found
       (has_front code at form.finds form.then_on q) in
       let mid : ℕ = at + length form.finds in
       let back = subst (HasAt code mid) form.makes.are (has_back code at form.finds form.then_on q) in
@@ -305,100 +320,128 @@ module _ (s : Setting) (code : List Instr) (x : IsText s code) (stack : StackIsT
         to = f.to;
         lt = omega (arith, few, dear);
         leads = f.leads;
-        ends = traps_at s code x here mid t f.to f.point (load_word k form.makes.r form.a) word (no_call k form.makes.r form.a) c
+        ends = traps_at s code x here mid t f.to f.point (load_word k form.makes.r form.a) word
+            (no_call k form.makes.r form.a) c
             (does f.to mid form.makes.r form.a f.point f.holds);
       })
 
   -- the machine behind the operand
-  behind_operand : (n : Machine) × IsAtPoint s code here (at + length form.finds) t n × (register n form.a ≡ bits through)
+  behind_operand : (n : Machine) × IsAtPoint s code here (at + length form.finds) t n ×
+      (register n form.a ≡ bits through)
   behind_operand =
       let q = subst (HasAt code at) form.are has_words in
-      let f = operand_got s code x here t m m 0 at refl point from 28 form.a (now (zero, refl)) (omega arith) (omega arith) form.finds form.found
+      let f = operand_got s code x here t m m 0 at refl point from 28 form.a (now (zero, refl)) (omega arith)
+      (omega arith) form.finds form.found
       (has_front code at form.finds form.then_on q) in
       (f.to, f.point, f.holds)
 
 -- a capability
-load_capability : (s : Setting) (code : List Instr) (x : IsText s code) (stack : StackIsThere s) (w : World) (p : Typed) (running : Running)
+load_capability : (s : Setting) (code : List Instr) (x : IsText s code) (stack : StackIsThere s) (w : World)
+    (p : Typed) (running : Running)
     (to from : ℕ) (signed : Bool) (source : Pos) (rest : List TacInstr)
-    (sel : IsSelectable s p running (instr.Load to from (kind.Cap signed) source) rest) (at : ℕ) (t : State modes.Store) (m : Machine)
+    (sel : IsSelectable s p running (instr.Load to from (kind.Cap signed) source) rest) (at : ℕ)
+    (t : State modes.Store) (m : Machine)
     (point : IsAtPoint s code (before running (instr.Load to from (kind.Cap signed) source) rest) at t m)
     (kinded : AreOfKinds (kinds_in s running) t.vars) (words : List Instr)
     (form : OfOne s running.fun to from (Loads (kind.Cap signed)) words) (has_words : HasAt code at words)
-    → Accesses s code w p running (instr.Load to from (kind.Cap signed) source) rest words source (at + length form.finds) at t m
+    → Accesses s code w p running (instr.Load to from (kind.Cap signed) source) rest words source
+    (at + length form.finds) at t m
 load_capability s code x stack w p running to from signed source rest sel at t m point kinded words form has_words =
     by (load (Placed (addresses_of s.map)) t.mem.memory (temp_in t from) 16) refl
   where
-    answers : (n : Machine) (mid a r : ℕ) → IsAtPoint s code (before running (instr.Load to from (kind.Cap signed) source) rest) mid t n
+    answers : (n : Machine) (mid a r : ℕ) → IsAtPoint s code (before running (instr.Load to from
+        (kind.Cap signed) source) rest) mid t n
         → register n a ≡ capability_of (addresses_of s.map) (base_in t.mem.memory.shapes) (temp_in t from)
         → (y : Result Value Fault) → load (Placed (addresses_of s.map)) t.mem.memory (temp_in t from) 16 ≡ y
         → CapabilityLoadAnswers (functions_of s) (addresses_of s.map) t.mem.memory.shapes n r y (clc_row n r a (pos 0))
     answers n mid a r here holds y e =
-        subst (λ z. CapabilityLoadAnswers (functions_of s) (addresses_of s.map) t.mem.memory.shapes n r z (clc_row n r a (pos 0))) e
-        ((loads_fit_law (functions_of s) (addresses_of s.map) t.mem.memory n here.fits.objects).capabilities r a (temp_in t from)
+        subst (λ z. CapabilityLoadAnswers (functions_of s) (addresses_of s.map) t.mem.memory.shapes n r z
+        (clc_row n r a (pos 0))) e
+        ((loads_fit_law (functions_of s) (addresses_of s.map) t.mem.memory n here.fits.objects).capabilities r a
+        (temp_in t from)
         (point.fits.calls.1.known from (now (zero, refl))) holds)
 
     by : (y : Result Value Fault) → load (Placed (addresses_of s.map)) t.mem.memory (temp_in t from) 16 ≡ y
-        → Accesses s code w p running (instr.Load to from (kind.Cap signed) source) rest words source (at + length form.finds) at t m
+        → Accesses s code w p running (instr.Load to from (kind.Cap signed) source) rest words source
+        (at + length form.finds) at t m
     by (Ok v) e =
-        let b = behind_operand s code x stack w p running to from (kind.Cap signed) source rest sel at t m point kinded words form has_words in
+        let b = behind_operand s code x stack w p running to from
+        (kind.Cap signed) source rest sel at t m point kinded words form has_words in
         let o = answers b.0 (at + length form.finds) form.a 0 b.1 b.2 (Ok v) e in
-        goes_home s code x stack w p running to from (kind.Cap signed) source rest sel at t m point kinded words form has_words v e o.1 o.0
+        goes_home s code x stack w p running to from (kind.Cap signed) source rest sel at t m point kinded words form
+        has_words v e o.1 o.0
         (λ n mid a here holds r us is range hs.
-        one_only s code x (before running (instr.Load to from (kind.Cap signed) source) rest) t n mid here (Clc r a (pos 0)) r
+        one_only s code x (before running (instr.Load to from (kind.Cap signed) source) rest) t n mid here (Clc r a
+        (pos 0)) r
         (capability_of (addresses_of s.map) (base_in t.mem.memory.shapes) v) us is hs refl range
         (clc_row_is r a n ∙ (answers n mid a r here holds (Ok v) e).2))
     by (Err (fault.Cause c)) e =
-        stops s code x stack w p running to from (kind.Cap signed) source rest sel at t m point kinded words form has_words c e
+        stops s code x stack w p running to from (kind.Cap signed) source rest sel at t m point kinded words form
+        has_words c e
         (λ n mid r a here holds. clc_row_is r a n ∙ answers n mid a r here holds (Err (fault.Cause c)) e)
     by (Err fault.Outside) e =
-        Leaves (meant s code x stack w p running to from (kind.Cap signed) source rest sel at t m point kinded words form has_words (Err fault.Outside) e)
+        Leaves (meant s code x stack w p running to from (kind.Cap signed) source rest sel at t m point kinded words
+        form has_words (Err fault.Outside) e)
     by (Err (fault.Unspecified u)) e =
-        let b = behind_operand s code x stack w p running to from (kind.Cap signed) source rest sel at t m point kinded words form has_words in
+        let b = behind_operand s code x stack w p running to from
+        (kind.Cap signed) source rest sel at t m point kinded words form has_words in
         absurd (answers b.0 (at + length form.finds) form.a 0 b.1 b.2 (Err (fault.Unspecified u)) e)
 
 -- an integer
-load_integer : (s : Setting) (code : List Instr) (x : IsText s code) (stack : StackIsThere s) (w : World) (p : Typed) (running : Running)
+load_integer : (s : Setting) (code : List Instr) (x : IsText s code) (stack : StackIsThere s) (w : World) (p : Typed)
+    (running : Running)
     (to from : ℕ) (k : IntKind) (source : Pos) (rest : List TacInstr)
-    (sel : IsSelectable s p running (instr.Load to from (kind.Int k) source) rest) (at : ℕ) (t : State modes.Store) (m : Machine)
+    (sel : IsSelectable s p running (instr.Load to from (kind.Int k) source) rest) (at : ℕ) (t : State modes.Store)
+    (m : Machine)
     (point : IsAtPoint s code (before running (instr.Load to from (kind.Int k) source) rest) at t m)
     (kinded : AreOfKinds (kinds_in s running) t.vars) (words : List Instr)
     (form : OfOne s running.fun to from (Loads (kind.Int k)) words) (has_words : HasAt code at words)
-    → Accesses s code w p running (instr.Load to from (kind.Int k) source) rest words source (at + length form.finds) at t m
+    → Accesses s code w p running (instr.Load to from (kind.Int k) source) rest words source
+    (at + length form.finds) at t m
 load_integer s code x stack w p running to from k source rest sel at t m point kinded words form has_words =
     by (load (Placed (addresses_of s.map)) t.mem.memory (temp_in t from) (int_bytes k)) refl
   where
-    answers : (n : Machine) (mid a r : ℕ) → IsAtPoint s code (before running (instr.Load to from (kind.Int k) source) rest) mid t n
+    answers : (n : Machine) (mid a r : ℕ) → IsAtPoint s code (before running (instr.Load to from
+        (kind.Int k) source) rest) mid t n
         → register n a ≡ capability_of (addresses_of s.map) (base_in t.mem.memory.shapes) (temp_in t from)
         → (y : Result Value Fault) → load (Placed (addresses_of s.map)) t.mem.memory (temp_in t from) (int_bytes k) ≡ y
         → LoadAnswers n (load_op k) r y (load_row n (load_op k) r a (pos 0))
     answers n mid a r here holds y e =
         subst (λ z. LoadAnswers n (load_op k) r z (load_row n (load_op k) r a (pos 0)))
         (ap (load (Placed (addresses_of s.map)) t.mem.memory (temp_in t from)) (bytes_alike k) ∙ e)
-        ((loads_fit_law (functions_of s) (addresses_of s.map) t.mem.memory n here.fits.objects).integers (load_op k) r a (temp_in t from)
+        ((loads_fit_law (functions_of s) (addresses_of s.map) t.mem.memory n here.fits.objects).integers
+        (load_op k) r a (temp_in t from)
         (point.fits.calls.1.known from (now (zero, refl))) holds)
 
     by : (y : Result Value Fault) → load (Placed (addresses_of s.map)) t.mem.memory (temp_in t from) (int_bytes k) ≡ y
-        → Accesses s code w p running (instr.Load to from (kind.Int k) source) rest words source (at + length form.finds) at t m
+        → Accesses s code w p running (instr.Load to from (kind.Int k) source) rest words source
+        (at + length form.finds) at t m
     by (Ok v) e =
-        let b = behind_operand s code x stack w p running to from (kind.Int k) source rest sel at t m point kinded words form has_words in
+        let b = behind_operand s code x stack w p running to from
+        (kind.Int k) source rest sel at t m point kinded words form has_words in
         let o = answers b.0 (at + length form.finds) form.a 0 b.1 b.2 (Ok v) e in
         let is_n : number_of v ≡ o.0 = ap number_of o.1 in
-        goes_home s code x stack w p running to from (kind.Int k) source rest sel at t m point kinded words form has_words v e
+        goes_home s code x stack w p running to from (kind.Int k) source rest sel at t m point kinded words form
+        has_words v e
         (wrapped-below k (pos (number_of v))) (IsKept-wrapped k (pos (number_of v)))
         (λ n mid a here holds r us is range hs.
         let q = answers n mid a r here holds (Ok v) e in
         subst (Computed s code n (length us) (mid + length us) r r)
         (ap (λ y. null_at (wrapped k (pos y))) (sym (ap number_of q.1))
         ∙ sym (integer_bits (addresses_of s.map) (base_in t.mem.memory.shapes) (wrapped k (pos (number_of v)))))
-        (loaded s code x (before running (instr.Load to from (kind.Int k) source) rest) t n mid here r range us hs k a q.0
+        (loaded s code x (before running (instr.Load to from
+        (kind.Int k) source) rest) t n mid here r range us hs k a q.0
         (subst (λ y. q.0 < 256 ^ y) (bytes_alike k) q.2) q.3 is))
     by (Err (fault.Cause c)) e =
-        stops s code x stack w p running to from (kind.Int k) source rest sel at t m point kinded words form has_words c e
+        stops s code x stack w p running to from (kind.Int k) source rest sel at t m point kinded words form has_words
+        c e
         (λ n mid r a here holds. load_row_is k r a n ∙ answers n mid a r here holds (Err (fault.Cause c)) e)
     by (Err fault.Outside) e =
-        Leaves (meant s code x stack w p running to from (kind.Int k) source rest sel at t m point kinded words form has_words (Err fault.Outside) e)
+        Leaves (meant s code x stack w p running to from (kind.Int k) source rest sel at t m point kinded words form
+        has_words (Err fault.Outside) e)
     by (Err (fault.Unspecified u)) e =
-        let b = behind_operand s code x stack w p running to from (kind.Int k) source rest sel at t m point kinded words form has_words in
+        let b = behind_operand s code x stack w p running to from
+        (kind.Int k) source rest sel at t m point kinded words form has_words in
         absurd (answers b.0 (at + length form.finds) form.a 0 b.1 b.2 (Err (fault.Unspecified u)) e)
 
 -- ---- stores
@@ -430,7 +473,8 @@ stored_alike (kind.Int int.I64) = refl
 stored_alike (kind.Int int.U64) = refl
 stored_alike (kind.Cap signed) = refl
 
-store_row_is : (k : TacKind) (b a : ℕ) (n : Machine) → row n (Store (store_op k) b a (pos 0)) ≡ store_row n (store_op k) b a (pos 0)
+store_row_is : (k : TacKind) (b a : ℕ) (n : Machine) → row n (Store (store_op k) b a (pos 0)) ≡ store_row n
+    (store_op k) b a (pos 0)
 unfolding row
 store_row_is k b a n = refl
 
@@ -447,7 +491,8 @@ checked_on n size v tag (Ok place) after e = by (is_inside n.mem place) e
     by true f = sym (ap (λ (z : Step × Machine). z.1.pc) f)
     by false f = absurd (next_or_end (ap (λ (z : Step × Machine). z.0) f))
 
-store_on : (n : Machine) (o : StoreOp) (b a : ℕ) (after : Machine) → store_row n o b a (pos 0) ≡ (Next, after) → after.pc ≡ added n.pc 4
+store_on : (n : Machine) (o : StoreOp) (b a : ℕ) (after : Machine) → store_row n o b a (pos 0) ≡ (Next, after)
+    → after.pc ≡ added n.pc 4
 unfolding store_row
 store_on n Csc b a after e = checked_on n _ _ _ _ after e
 store_on n Sb b a after e = checked_on n _ _ _ _ after e
@@ -455,7 +500,8 @@ store_on n Sh b a after e = checked_on n _ _ _ _ after e
 store_on n Sw b a after e = checked_on n _ _ _ _ after e
 store_on n Sd b a after e = checked_on n _ _ _ _ after e
 
-module _ (s : Setting) (code : List Instr) (x : IsText s code) (stack : StackIsThere s) (w : World) (p : Typed) (running : Running)
+module _ (s : Setting) (code : List Instr) (x : IsText s code) (stack : StackIsThere s) (w : World) (p : Typed)
+    (running : Running)
     (to value : ℕ) (k : TacKind) (source : Pos) (rest : List TacInstr)
     (sel : IsSelectable s p running (instr.Store to value k source) rest) (at : ℕ) (t : State modes.Store) (m : Machine)
     (point : IsAtPoint s code (before running (instr.Store to value k source) rest) at t m)
@@ -501,10 +547,12 @@ module _ (s : Setting) (code : List Instr) (x : IsText s code) (stack : StackIsT
       let end = Store (store_op k) form.b form.a (pos 0) ∷ [] in
       let q = subst (HasAt code at) form.are has_words in
       let mid : ℕ = at + length form.finds in
-      let f = operand_got s code x store_here t m m 0 at refl point to 28 form.a (now (zero, refl)) (omega arith) (omega arith) form.finds form.found
+      let f = operand_got s code x store_here t m m 0 at refl point to 28 form.a (now (zero, refl)) (omega arith)
+      (omega arith) form.finds form.found
       (has_front code at form.finds (form.others ++ end) q) in
       let r = has_back code at form.finds (form.others ++ end) q in
-      let e = operand_got s code x store_here t m f.to (0 + length form.finds) mid f.leads f.point value 29 form.b (now (suc zero, refl)) (omega arith)
+      let e = operand_got s code x store_here t m f.to (0 + length form.finds) mid f.leads f.point value 29 form.b
+      (now (suc zero, refl)) (omega arith)
       (omega arith) form.others form.other (has_front code mid form.others end r) in
       let count : 0 + length form.finds + length form.others ≡ length form.finds + length form.others = omega arith in
       let place : mid + length form.others ≡ word = omega arith in
@@ -525,12 +573,15 @@ module _ (s : Setting) (code : List Instr) (x : IsText s code) (stack : StackIsT
       omega (arith, a, b)
 
   answers : (y : Result Memory Fault) → stored_by ≡ y
-      → StoreKeeps s (Some store_here) t both_there.at_word y (store_row both_there.at_word (store_op k) form.b form.a (pos 0))
+      → StoreKeeps s (Some store_here) t both_there.at_word y (store_row both_there.at_word (store_op k) form.b form.a
+      (pos 0))
   answers y e =
       let b = both_there in
       subst (λ z. StoreKeeps s (Some store_here) t b.at_word z (store_row b.at_word (store_op k) form.b form.a (pos 0)))
-      (ap (λ n. store (Placed (addresses_of s.map)) t.mem.memory (temp_in t to) n (temp_in t value)) (stored_alike k) ∙ e)
-      (stores_keep_law s x.legal (Some store_here) t b.at_word b.still.fits (store_op k) form.b form.a (temp_in t to) (temp_in t value)
+      (ap (λ n. store (Placed (addresses_of s.map)) t.mem.memory (temp_in t to) n (temp_in t value)) (stored_alike k)
+      ∙ e)
+      (stores_keep_law s x.legal (Some store_here) t b.at_word b.still.fits (store_op k) form.b form.a (temp_in t to)
+      (temp_in t value)
       (store_kinds k (temp_in t value) value_kind) (point.fits.calls.1.known to (now (zero, refl)))
       (point.fits.calls.1.known value (now (suc zero, refl))) b.pointer b.stored_value)
 
@@ -550,9 +601,11 @@ module _ (s : Setting) (code : List Instr) (x : IsText s code) (stack : StackIsT
       let within_it = slice_get_within code word (Store (store_op k) form.b form.a (pos 0)) b.is_word in
       let counter_is : o.0.pc ≡ counter_at (ground_of s code) (word + 1) =
       store_on b.at_word (store_op k) form.b form.a o.0 o.1
-      ∙ ap (λ (n : Machine). n.pc) (next_is (ground_of s code) (laid s code x) b.at_word word b.still.counter within_it) in
+      ∙ ap (λ (n : Machine). n.pc) (next_is (ground_of s code)
+      (laid s code x) b.at_word word b.still.counter within_it) in
       let goes : act b.at_word ≡ Acted o.0 =
-      fetched_here (ground_of s code) (laid s code x) b.at_word word (Store (store_op k) form.b form.a (pos 0)) h.counter h.text b.is_word
+      fetched_here (ground_of s code) (laid s code x) b.at_word word (Store (store_op k) form.b form.a
+      (pos 0)) h.counter h.text b.is_word
       ∙ ap act_of (store_row_is k form.b form.a b.at_word ∙ o.1) in
       let size : word + 1 ≡ at + length words =
       sym (ap (λ y. at + length y) form.are
@@ -589,7 +642,8 @@ module _ (s : Setting) (code : List Instr) (x : IsText s code) (stack : StackIsT
         to = b.at_word;
         lt = omega (arith, few);
         leads = b.leads;
-        ends = traps_at s code x store_here word t b.at_word b.still (Store (store_op k) form.b form.a (pos 0)) b.is_word refl c
+        ends = traps_at s code x store_here word t b.at_word b.still (Store (store_op k) form.b form.a
+            (pos 0)) b.is_word refl c
             (store_row_is k form.b form.a b.at_word ∙ answers (Err (fault.Cause c)) e);
       })
 
@@ -603,13 +657,18 @@ module _ (s : Setting) (code : List Instr) (x : IsText s code) (stack : StackIsT
       by (Err (fault.Unspecified u)) e = absurd (answers (Err (fault.Unspecified u)) e)
 
 pub accesses_run_law : AccessesRun
-accesses_run_law s code x stack w p running (instr.Load to from (kind.Cap signed) source) rest is sel at t m point kinded skip ws form held_words =
-    subst (λ y. Accesses s code w p running (instr.Load to from (kind.Cap signed) source) rest ws source (at + y) at t m) (sym form.1)
+accesses_run_law s code x stack w p running (instr.Load to from
+    (kind.Cap signed) source) rest is sel at t m point kinded skip ws form held_words =
+    subst (λ y. Accesses s code w p running (instr.Load to from (kind.Cap signed) source) rest ws source
+    (at + y) at t m) (sym form.1)
     (load_capability s code x stack w p running to from signed source rest sel at t m point kinded ws form.0 held_words)
-accesses_run_law s code x stack w p running (instr.Load to from (kind.Int k) source) rest is sel at t m point kinded skip ws form held_words =
-    subst (λ y. Accesses s code w p running (instr.Load to from (kind.Int k) source) rest ws source (at + y) at t m) (sym form.1)
+accesses_run_law s code x stack w p running (instr.Load to from
+    (kind.Int k) source) rest is sel at t m point kinded skip ws form held_words =
+    subst (λ y. Accesses s code w p running (instr.Load to from (kind.Int k) source) rest ws source (at + y) at t m)
+    (sym form.1)
     (load_integer s code x stack w p running to from k source rest sel at t m point kinded ws form.0 held_words)
-accesses_run_law s code x stack w p running (instr.Store to value k source) rest is sel at t m point kinded skip ws form held_words =
+accesses_run_law s code x stack w p running (instr.Store to value k source) rest is sel at t m point kinded skip ws
+    form held_words =
     subst (λ y. Accesses s code w p running (instr.Store to value k source) rest ws source (at + y) at t m) (sym form.1)
     (stores s code x stack w p running to value k source rest sel at t m point kinded ws form.0 held_words)
 accesses_run_law s code x stack w p running i rest is sel at t m point kinded skip ws form held_words = absurd is

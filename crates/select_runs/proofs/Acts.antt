@@ -1,10 +1,10 @@
 -- Acts at the words of code in its text: a word is fetched, and its row is done.
-use Rattle.std.proofs.Common.{◌≡◌, ◌≢◌, ℕ, zero, suc, ◌+◌, ◌*◌, ◌%◌, ◌^◌, ◌<◌, ◌≤◌, Bool, true, false, eqb, List, [], ◌∷◌, length, Some, Ok, refl, sym, ap, ◌∙◌, subst, arith, ⊎_elim, eq-eqb, if◌then◌else◌}
+use Rattle.std.proofs.Common.{◌≡◌, ◌≢◌, ℕ, zero, suc, ◌+◌, ◌%◌, ◌^◌, ◌<◌, ◌≤◌, Bool, true, false, eqb, List, [], ◌∷◌, length, Some, Ok, refl, sym, ap, ◌∙◌, subst, arith, eq-eqb, if◌then◌else◌}
 use Rattle.std.specs.Prelude.{nat_lt, nat_eq, slice_get, slice_set, slice_index_or, ◌++◌}
 use Rattle.std.proofs.lemmas.Bool.{le-ltb, ne_eqb}
 use Rattle.std.proofs.lemmas.List.{get_or-set_same, get_or-set_other, length-set}
 use Rattle.std.proofs.lemmas.Option.{slice_get_within}
-use Rattle.ck_base.specs.Runs.{Act, Goes}
+use Rattle.ck_base.specs.Runs.{Goes}
 use Rattle.cap_concentrate.specs.Encoding.{with_bounds}
 use Rattle.cap_concentrate.specs.Rounding.{Encodable}
 use Rattle.cap_ops.specs.declared.capability.Cap.{Cap}
@@ -21,8 +21,6 @@ use Rattle.rv_code.specs.Encoding.{fields_of, Encodes}
 use Rattle.rv_code.proofs.Laws.{decode_of-encoded}
 use Rattle.tag_mem.specs.Areas.{Area}
 use Rattle.cap_machine.specs.declared.machine.Machine.{Machine}
-use Rattle.cap_machine.specs.declared.end.End.{End}
-use Rattle.cap_machine.specs.declared.end.Step.TheVariants.{Next}
 use Rattle.cap_machine.specs.State.{register, with_register, next, counter}
 use Rattle.cap_machine.specs.Rows.{row, set}
 use Rattle.cap_machine.specs.Step.{act, fetched, fetch_checked, read, decoded, act_of, act_on, act_fetched, is_call}
@@ -126,7 +124,8 @@ module _ (g : Ground) (laid : Laid g) where
   fetch_here : (at : ℕ) → at < length g.code → checked (counter_at g at) (place g at) access.Jump ≡ Ok (place g at)
   fetch_here at h =
       let room = laid.room in let aligned = laid.aligned in
-      let b = bounded_bounds g.text g.text_end 3 UNSEALED (place g at) laid.exact text_small (omega arith) (omega arith) in
+      let b = bounded_bounds g.text g.text_end 3 UNSEALED (place g at) laid.exact text_small (omega arith)
+      (omega arith) in
       checked_jump g.text g.text_end (place g at)
       (ap (λ n. nat_lt (place g at) n) b.0 ∙ le-ltb (place g at) g.text (omega arith))
       (ap (λ n. nat_lt n (place g at + 4)) b.1 ∙ le-ltb g.text_end (place g at + 4) (omega arith))
@@ -175,7 +174,8 @@ module _ (g : Ground) (laid : Laid g) where
   }
 
   -- one word that sets the register
-  pub one_set : (m : Machine) (at : ℕ) (there : IsThere g m at) (i : Instr) (r : ℕ) (c : Cap) → slice_get g.code at ≡ Some i
+  pub one_set : (m : Machine) (at : ℕ) (there : IsThere g m at) (i : Instr) (r : ℕ) (c : Cap)
+      → slice_get g.code at ≡ Some i
       → is_call i ≡ false → 0 < r → r < 32 → row m i ≡ set m r c → Holds g m 1 (at + 1) r r c
   one_set m at there i r c has plain some below does =
       let within = slice_get_within g.code at i has in

@@ -1,9 +1,7 @@
 -- What single instructions compute, in words of the arithmetic of kinds.
-use Rattle.std.proofs.Common.{◌≡◌, ◌≢◌, ℕ, ◌+◌, ◌-◌, ◌*◌, ◌/◌, ◌%◌, ◌^◌, ◌<◌, ◌≤◌, ◌⊎◌, inl, inr, ℤ, pos, negsuc, neg_ℤ, ◌-ℤ◌, ◌+ℤ◌, Bool, true, false, not, Option, Some, None, refl, sym, ap, ◌∙◌, subst, arith, ⊎_elim, if◌then◌else◌}
-use Rattle.std.specs.Prelude.{bit_and, bit_or, bit_xor, nat_lt, ◌==◌}
+use Rattle.std.proofs.Common.{◌≡◌, ℕ, ◌+◌, ◌-◌, ◌*◌, ◌/◌, ◌%◌, ◌^◌, ◌<◌, ◌≤◌, ◌⊎◌, inl, inr, pos, Bool, true, false, Option, Some, None, refl, sym, ap, ◌∙◌, subst, arith, ⊎_elim}
+use Rattle.std.specs.Prelude.{bit_and, bit_or, bit_xor}
 use Rattle.std.proofs.lemmas.Bool.{cases_lt, cases_eq}
-use Rattle.std.proofs.lemmas.Bool.Decides.{nat_tests}
-use Rattle.std.proofs.lemmas.Int.{ints}
 use Rattle.std.proofs.lemmas.Nat.{and_shr, or_shr, xor_shr, and_le_l, and_comm, or_comm, xor_comm, and_mask, or_lt, xor_lt}
 use Rattle.std.proofs.Math.Nat.{mod-lt, mod-le, div-le_self, mul_comm}
 use Rattle.std.proofs.Math.Pow.{pow-lt}
@@ -12,10 +10,8 @@ use Rattle.ck_int.specs.declared.kinds.IntKind.{IntKind}
 use Rattle.ck_int.specs.declared.kinds.IntKind.TheVariants as int
 use Rattle.ck_int.specs.declared.kinds.IntOp.{IntOp}
 use Rattle.ck_int.specs.declared.kinds.IntOp.TheVariants as op
-use Rattle.ck_int.specs.declared.kinds.CmpOp.{CmpOp}
-use Rattle.ck_int.specs.declared.kinds.CmpOp.TheVariants as test
-use Rattle.ck_int.specs.Arithmetic.{binary_of, compare_of, promoted_width_of}
-use Rattle.ck_int.specs.Kinds.{form_of, width_of, is_signed, unsigned, modulo, twos_complement, IsKept, reduced, kept_of, wrapped, value_of, converted}
+use Rattle.ck_int.specs.Arithmetic.{binary_of, promoted_width_of}
+use Rattle.ck_int.specs.Kinds.{form_of, width_of, unsigned, IsKept, reduced, kept_of, wrapped, converted}
 use Rattle.ck_int.specs.Words.{word_of, word_result_of}
 use Rattle.ck_int.proofs.Laws.{IsKept-below, IsKept-unsigned, IsKept-unsigned_below, wrapped-below}
 use Rattle.ck_int.proofs.OperationLaws.{binary_of-narrower, binary_of-Add, binary_of-Sub, binary_of-Mul, binary_of-Shl, IsKept-64}
@@ -103,20 +99,26 @@ bits_alike o k a b r x y small kept e f =
     exactly o int.I64 a b r (wide a (IsKept-below k a x)) (wide b (IsKept-below k b y)) e (wide r small)
     ∙ sym (exactly o k a b r x y f kept)
 
-and_exact : (k : IntKind) (a b : ℕ) → IsKept k a → IsKept k b → IsKept k (bit_and a b) → binary_of op.And int.I64 a b ≡ binary_of op.And k a b
+and_exact : (k : IntKind) (a b : ℕ) → IsKept k a → IsKept k b → IsKept k (bit_and a b)
+    → binary_of op.And int.I64 a b ≡ binary_of op.And k a b
 and_exact k a b x y kept =
     let h = IsKept-below k a x in let j = IsKept-below k b y in
-    bits_alike op.And k a b (bit_and a b) x y (and_small a b h) kept (word_result_of-And int.I64 a b h j) (word_result_of-And k a b h j)
+    bits_alike op.And k a b (bit_and a b) x y (and_small a b h) kept (word_result_of-And int.I64 a b h j)
+    (word_result_of-And k a b h j)
 
-or_exact : (k : IntKind) (a b : ℕ) → IsKept k a → IsKept k b → IsKept k (bit_or a b) → binary_of op.Or int.I64 a b ≡ binary_of op.Or k a b
+or_exact : (k : IntKind) (a b : ℕ) → IsKept k a → IsKept k b → IsKept k (bit_or a b)
+    → binary_of op.Or int.I64 a b ≡ binary_of op.Or k a b
 or_exact k a b x y kept =
     let h = IsKept-below k a x in let j = IsKept-below k b y in
-    bits_alike op.Or k a b (bit_or a b) x y (or_lt 64 a b h j) kept (word_result_of-Or int.I64 a b h j) (word_result_of-Or k a b h j)
+    bits_alike op.Or k a b (bit_or a b) x y (or_lt 64 a b h j) kept (word_result_of-Or int.I64 a b h j)
+    (word_result_of-Or k a b h j)
 
-xor_exact : (k : IntKind) (a b : ℕ) → IsKept k a → IsKept k b → IsKept k (bit_xor a b) → binary_of op.Xor int.I64 a b ≡ binary_of op.Xor k a b
+xor_exact : (k : IntKind) (a b : ℕ) → IsKept k a → IsKept k b → IsKept k (bit_xor a b)
+    → binary_of op.Xor int.I64 a b ≡ binary_of op.Xor k a b
 xor_exact k a b x y kept =
     let h = IsKept-below k a x in let j = IsKept-below k b y in
-    bits_alike op.Xor k a b (bit_xor a b) x y (xor_lt 64 a b h j) kept (word_result_of-Xor int.I64 a b h j) (word_result_of-Xor k a b h j)
+    bits_alike op.Xor k a b (bit_xor a b) x y (xor_lt 64 a b h j) kept (word_result_of-Xor int.I64 a b h j)
+    (word_result_of-Xor k a b h j)
 
 word_and : (a b : ℕ) → IsKept int.I32 a → IsKept int.I32 b → IsKept int.I32 (bit_and a b)
 word_and a b x y =
@@ -141,24 +143,28 @@ half_below v k = IsKept-unsigned_below int.U32 v refl k
 
 -- ---- the remainder of 32 bits without a sign
 
-remainder_alike : (a b : ℕ) → IsKept int.U32 a → IsKept int.U32 b → binary_of op.Rem int.U64 a b ≡ binary_of op.Rem int.U32 a b
+remainder_alike : (a b : ℕ) → IsKept int.U32 a → IsKept int.U32 b
+    → binary_of op.Rem int.U64 a b ≡ binary_of op.Rem int.U32 a b
 unfolding word_result_of
 remainder_alike a b x y =
     let h = half_below a x in let j = half_below b y in
     let r = word_result_of op.Rem int.U32 a b in
     let l : r < 2 ^ 32 = ⊎_elim (λ z. zero h z) (λ ne. some h j ne) (cases_eq b 0) in
-    exactly op.Rem int.U64 a b r (IsKept-64 int.U64 a refl (omega (arith, h))) (IsKept-64 int.U64 b refl (omega (arith, j))) refl
+    exactly op.Rem int.U64 a b r (IsKept-64 int.U64 a refl (omega (arith, h))) (IsKept-64 int.U64 b refl (omega
+    (arith, j))) refl
     (IsKept-64 int.U64 r refl (omega (arith, l)))
     ∙ sym (exactly op.Rem int.U32 a b r x y refl (half r l))
   where
     zero : a < 2 ^ 32 → b ≡ 0 → word_result_of op.Rem int.U32 a b < 2 ^ 32
     zero h e =
-        let f = word_result_of-Rem int.U32 a b ∙ ap kept_of (remainder-zero (unsigned 32) (pos a) b e) ∙ kept_of-pos a (omega (arith, h)) in
+        let f = word_result_of-Rem int.U32 a b ∙ ap kept_of (remainder-zero (unsigned 32) (pos a) b e) ∙ kept_of-pos a
+        (omega (arith, h)) in
         omega (arith, h, f)
 
     some : a < 2 ^ 32 → b < 2 ^ 32 → (b ≡ 0 → ⊥) → word_result_of op.Rem int.U32 a b < 2 ^ 32
     some h j ne =
-        let f = word_result_of-Rem int.U32 a b ∙ sym (unsigned_remainder (unsigned 32) a b refl (omega (arith, h)) (omega (arith, j)) ne) in
+        let f = word_result_of-Rem int.U32 a b ∙ sym (unsigned_remainder (unsigned 32) a b refl (omega (arith, h))
+        (omega (arith, j)) ne) in
         omega (arith, h, f)
 
 -- ---- operations of two registers
@@ -171,12 +177,14 @@ pub record Gives (k : IntKind) (o : IntOp) (by_number : Bool) (r v : ℕ) : Type
 
 -- without a sign, at 64 bits
 long_is : (o : IntOp) (a b : ℕ) → result_of (reg_op int.U64 o) a b ≡ binary_of o int.U64 a b
-long_is o a b = sym (wide_kept (result_of (reg_op int.U64 o) a b) (result_below (reg_op int.U64 o) a b)) ∙ op_is o int.U64 a b (omega arith)
+long_is o a b = sym (wide_kept (result_of (reg_op int.U64 o) a b) (result_below (reg_op int.U64 o) a b))
+    ∙ op_is o int.U64 a b (omega arith)
   where
     wide_kept : (v : ℕ) → v < 2 ^ 64 → wrapped int.U64 (pos v) ≡ v
     wide_kept v h = (IsKept-64 int.U64 v refl h).kept
 
-registers_exact : (o : IntOp) (k : IntKind) (a b : ℕ) → IsPromoted k → IsKept k a → (is_shift o ≡ false → IsKept k b) → is_exact k o false ≡ true
+registers_exact : (o : IntOp) (k : IntKind) (a b : ℕ) → IsPromoted k → IsKept k a → (is_shift o ≡ false → IsKept k b)
+    → is_exact k o false ≡ true
     → result_of (selected_op k o) a b ≡ binary_of o k a b
 unfolding result_of
 registers_exact op.And int.I32 a b p x y e = let z = y refl in and_exact int.I32 a b x z (word_and a b x z)
@@ -248,14 +256,16 @@ registers_give o k a b p x y = record {
 -- ---- with a number
 
 -- the word is that of two registers
-pub immediate_is : (o : IntOp) (k : IntKind) (i : ImmOp) → IsPromoted k → immediate_by k o ≡ Some i → immediate_op i ≡ selected_op k o
+pub immediate_is : (o : IntOp) (k : IntKind) (i : ImmOp) → IsPromoted k → immediate_by k o ≡ Some i
+    → immediate_op i ≡ selected_op k o
 immediate_is o k i p e = by o k p i e
   where
     op_in : Option ImmOp → RegOp
     op_in None = regs.Add
     op_in (Some j) = immediate_op j
 
-    by : (o : IntOp) (k : IntKind) → IsPromoted k → (i : ImmOp) → immediate_by k o ≡ Some i → immediate_op i ≡ selected_op k o
+    by : (o : IntOp) (k : IntKind) → IsPromoted k → (i : ImmOp) → immediate_by k o ≡ Some i
+        → immediate_op i ≡ selected_op k o
     by op.Add int.I32 p i e = sym (ap op_in e)
     by op.Add int.U32 p i e = sym (ap op_in e)
     by op.Add int.I64 p i e = sym (ap op_in e)
@@ -293,7 +303,8 @@ no_shift op.Or k i e = refl
 no_shift op.Xor k i e = refl
 
 -- the operands change places
-by_words : (o : IntOp) (k : IntKind) (a b : ℕ) → IsKept k a → IsKept k b → word_result_of o k a b ≡ word_result_of o k b a
+by_words : (o : IntOp) (k : IntKind) (a b : ℕ) → IsKept k a → IsKept k b
+    → word_result_of o k a b ≡ word_result_of o k b a
     → binary_of o k a b ≡ binary_of o k b a
 by_words o k a b x y e = of_words o k a b x y ∙ ap (λ n. wrapped k (pos n)) e ∙ sym (of_words o k b a y x)
 
@@ -320,11 +331,13 @@ commutes op.Shl k i a b e x y = cc
 commutes op.Shr k i a b e x y = cc
 
 -- to add the negative is to subtract
-less_wide : (a n m : ℕ) → a < 2 ^ 64 → n < 2 ^ 64 → m < 2 ^ 64 → (m + n) % 2 ^ 64 ≡ 0 → binary_of op.Add int.I64 a m ≡ binary_of op.Sub int.I64 a n
+less_wide : (a n m : ℕ) → a < 2 ^ 64 → n < 2 ^ 64 → m < 2 ^ 64 → (m + n) % 2 ^ 64 ≡ 0
+    → binary_of op.Add int.I64 a m ≡ binary_of op.Sub int.I64 a n
 less_wide a n m h j l e =
     binary_of-Add int.I64 a m refl h l ∙ omega (arith, e, j, l) ∙ sym (binary_of-Sub int.I64 a n refl h j)
 
-less_word : (a n m : ℕ) → a < 2 ^ 64 → n < 2 ^ 64 → m < 2 ^ 64 → (m + n) % 2 ^ 64 ≡ 0 → binary_of op.Add int.I32 a m ≡ binary_of op.Sub int.I32 a n
+less_word : (a n m : ℕ) → a < 2 ^ 64 → n < 2 ^ 64 → m < 2 ^ 64 → (m + n) % 2 ^ 64 ≡ 0
+    → binary_of op.Add int.I32 a m ≡ binary_of op.Sub int.I32 a n
 less_word a n m h j l e =
     sym (binary_of-narrower op.Add int.I64 int.I32 a m tt (omega arith) (omega arith) refl)
     ∙ ap (converted int.I64 int.I32) (less_wide a n m h j l e)
@@ -342,7 +355,8 @@ less_is k a n m p h j l e = absurd (omega arith)
 -- ---- shifts by a number
 
 -- the bits of a promoted kind, of which so many of a count matter
-promoted_bits : (k : IntKind) → IsPromoted k → (w : ℕ) × (promoted_width_of k ≡ 2 ^ w) × (w ≤ 6) × (width_of (form_of k) ≡ 2 ^ w)
+promoted_bits : (k : IntKind) → IsPromoted k → (w : ℕ) × (promoted_width_of k ≡ 2 ^ w) × (w ≤ 6) × (width_of
+    (form_of k) ≡ 2 ^ w)
 promoted_bits int.I32 p = (5, refl, omega arith, refl)
 promoted_bits int.U32 p = (5, refl, omega arith, refl)
 promoted_bits int.I64 p = (6, refl, omega arith, refl)
@@ -354,7 +368,8 @@ count_kept k n p =
     let q = promoted_bits k p in
     ap (λ w. wrapped k (pos n) % w) q.1 ∙ kept_low k n q.0 (omega (arith, q.2)) p ∙ sym (ap (λ w. n % w) q.1)
 
-count_again : (k : IntKind) (n : ℕ) → IsPromoted k → n % width_of (form_of k) % promoted_width_of k ≡ n % promoted_width_of k
+count_again : (k : IntKind) (n : ℕ) → IsPromoted k → n % width_of
+    (form_of k) % promoted_width_of k ≡ n % promoted_width_of k
 count_again int.I32 n p = omega arith
 count_again int.U32 n p = omega arith
 count_again int.I64 n p = omega arith
@@ -366,15 +381,18 @@ shl_is : (k : IntKind) (a n : ℕ) → IsPromoted k → IsKept k a → n < 2 ^ 6
 shl_is k a n p x h =
     binary_of-word op.Shl k a n
     ∙ ap (λ m. wrapped k (pos (word_result_of op.Shl k m (wrapped k (pos n))))) x.kept
-    ∙ ap (λ m. wrapped k (pos m)) (word_result_of-Shl k a (wrapped k (pos n)) (IsKept-below k a x) (wrapped-below k (pos n)))
+    ∙ ap (λ m. wrapped k (pos m)) (word_result_of-Shl k a (wrapped k (pos n)) (IsKept-below k a x) (wrapped-below k
+    (pos n)))
     ∙ ap (λ c. wrapped k (pos ((a * 2 ^ c) % 2 ^ 64))) (count_kept k n p)
 
 shr_is : (k : IntKind) (a n : ℕ) → IsPromoted k → IsKept k a → n < 2 ^ 64
-    → binary_of op.Shr k a n ≡ wrapped k (pos (kept_of (int_div_euclid (word_of (form_of k) a) (pos (2 ^ (n % promoted_width_of k))))))
+    → binary_of op.Shr k a n ≡ wrapped k (pos (kept_of (int_div_euclid (word_of (form_of k) a) (pos (2 ^
+    (n % promoted_width_of k))))))
 shr_is k a n p x h =
     binary_of-word op.Shr k a n
     ∙ ap (λ m. wrapped k (pos (word_result_of op.Shr k m (wrapped k (pos n))))) x.kept
-    ∙ ap (λ m. wrapped k (pos m)) (word_result_of-Shr k a (wrapped k (pos n)) (IsKept-below k a x) (wrapped-below k (pos n)))
+    ∙ ap (λ m. wrapped k (pos m)) (word_result_of-Shr k a (wrapped k (pos n)) (IsKept-below k a x) (wrapped-below k
+    (pos n)))
     ∙ ap (λ c. wrapped k (pos (kept_of (int_div_euclid (word_of (form_of k) a) (pos (2 ^ c)))))) (count_kept k n p)
 
 shift_again : (o : IntOp) (k : IntKind) (a n : ℕ) → is_shift o ≡ true → IsPromoted k → IsKept k a → n < 2 ^ 64
@@ -418,10 +436,12 @@ half_shifted a c x l =
     sym (unsigned_shift (unsigned 32) a (2 ^ (c % 32)) refl (omega (arith, h))) ∙ ap (λ n. a / 2 ^ n) two in
     shr_is int.U64 a c (omega arith) wide_a (omega (arith, l)) ∙ ap (λ n. wrapped int.U64 (pos n)) up
     ∙ (IsKept-64 int.U64 r refl (omega (arith, small))).kept
-    ∙ sym (shr_is int.U32 a c (omega arith) x (omega (arith, l)) ∙ ap (λ n. wrapped int.U32 (pos n)) down ∙ (half r small).kept)
+    ∙ sym (shr_is int.U32 a c (omega arith) x (omega (arith, l)) ∙ ap (λ n. wrapped int.U32 (pos n)) down ∙
+    (half r small).kept)
 
 -- a shift by a count below the kind's width
-counted_exact : (o : IntOp) (k : IntKind) (a c : ℕ) → is_shift o ≡ true → IsPromoted k → IsKept k a → c < width_of (form_of k)
+counted_exact : (o : IntOp) (k : IntKind) (a c : ℕ) → is_shift o ≡ true → IsPromoted k → IsKept k a → c < width_of
+    (form_of k)
     → is_exact k o true ≡ true → result_of (shift_op (shift_by k o)) a c ≡ binary_of o k a c
 unfolding result_of
 counted_exact op.Shl int.I32 a c s p x l e = refl
@@ -496,16 +516,19 @@ unfolding result_of
 mask_is v h =
     let e : bit_and v 255 ≡ v % 2 ^ 8 = and_mask v 8 in
     let small : v % 2 ^ 8 < 2 ^ 64 = omega arith in
-    exactly op.And int.I64 v 255 (v % 2 ^ 8) (wide v h) (wide 255 (omega arith)) (word_result_of-And int.I64 v 255 h (omega arith) ∙ e)
+    exactly op.And int.I64 v 255 (v % 2 ^ 8) (wide v h) (wide 255 (omega arith)) (word_result_of-And int.I64 v 255 h
+    (omega arith) ∙ e)
     (wide (v % 2 ^ 8) small)
     ∙ byte_kept v
 
 pub xor_is : (a b : ℕ) → a < 2 ^ 64 → b < 2 ^ 64 → result_of regs.Xor a b ≡ bit_xor a b
 unfolding result_of
 xor_is a b h j =
-    exactly op.Xor int.I64 a b (bit_xor a b) (wide a h) (wide b j) (word_result_of-Xor int.I64 a b h j) (wide (bit_xor a b) (xor_lt 64 a b h j))
+    exactly op.Xor int.I64 a b (bit_xor a b) (wide a h) (wide b j) (word_result_of-Xor int.I64 a b h j) (wide
+    (bit_xor a b) (xor_lt 64 a b h j))
 
 pub sum_with_zero : (a : ℕ) → a < 2 ^ 64 → result_of regs.Add a (extended (pos 0)) ≡ a
 unfolding result_of
 sum_with_zero a h =
-    ap (binary_of op.Add int.I64 a) (small_extended 0 (omega arith)) ∙ binary_of-Add int.I64 a 0 refl h (omega arith) ∙ omega arith
+    ap (binary_of op.Add int.I64 a) (small_extended 0 (omega arith)) ∙ binary_of-Add int.I64 a 0 refl h (omega arith)
+    ∙ omega arith

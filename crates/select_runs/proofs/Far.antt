@@ -1,7 +1,7 @@
 -- Places that may be far from a capability with exact bounds: the words that move it there.
-use Rattle.std.proofs.Common.{◌≡◌, ◌≢◌, ℕ, ◌+◌, ◌-◌, ◌*◌, ◌/◌, ◌%◌, ◌^◌, ◌<◌, ◌≤◌, ◌⊎◌, inl, inr, ℤ, pos, Bool, true, false, List, [], ◌∷◌, ◌++◌, length, Some, refl, sym, ap, ◌∙◌, subst, arith, if◌then◌else◌}
+use Rattle.std.proofs.Common.{◌≡◌, ◌≢◌, ℕ, ◌+◌, ◌-◌, ◌*◌, ◌%◌, ◌^◌, ◌<◌, inl, inr, ℤ, pos, Bool, true, false, List, [], ◌∷◌, ◌++◌, length, Some, refl, ap, ◌∙◌, subst, arith, if◌then◌else◌}
 use Rattle.std.specs.Prelude.{nat_lt, slice_get}
-use Rattle.std.proofs.lemmas.Bool.{cases_lt, cases_Bool, ltb-true, ltb-false}
+use Rattle.std.proofs.lemmas.Bool.{cases_lt, ltb-false}
 use Rattle.cap_ops.specs.declared.capability.Cap.{Cap}
 use Rattle.cap_ops.specs.declared.capability.TheConstants.{UNSEALED}
 use Rattle.cap_ops.specs.Capability.{moved, added, null_at}
@@ -19,11 +19,11 @@ use Rattle.cap_machine.specs.Integers.{word, extended}
 use Rattle.cap_machine.specs.State.{register, integer}
 use Rattle.cap_machine.specs.Rows.{row, upper_row, cap_reg_row, cap_imm_row, plus, set}
 use Rattle.obj_mem.specs.Pointers.{keeps}
-use Rattle.purecap_abi.specs.Words.{low, high, low_move, near_code, moved_code}
+use Rattle.purecap_abi.specs.Words.{low, high, near_code, moved_code}
 use Rattle.purecap_abi.proofs.Numbers.{plus_low, plus_high}
 use Rattle.place_inject.proofs.Reaching.{kept_bounds}
 use Rattle.select_runs.specs.Acts.{Ground, Laid, HasAt, IsThere, Holds}
-use Rattle.select_runs.proofs.Acts.{still, one_set, after, has_front, has_back}
+use Rattle.select_runs.proofs.Acts.{still, one_set, after}
 use Rattle.select_runs.proofs.Numbers.{null_address, word_is, signed_small, plus_extended}
 
 -- ---- arithmetic of far places
@@ -60,7 +60,8 @@ pub record Reach (bottom top y offset : ℕ) : Type 0 where
 abbrev pub pointer : (bottom top y : ℕ) → Cap
 pointer bottom top y = bounded bottom top data_permissions UNSEALED y
 
-pub pointer_moved : (bottom top y z by : ℕ) → keeps bottom top y ≡ true → keeps bottom top z ≡ true → (y + by) % 2 ^ 64 ≡ z
+pub pointer_moved : (bottom top y z by : ℕ) → keeps bottom top y ≡ true → keeps bottom top z ≡ true →
+    (y + by) % 2 ^ 64 ≡ z
     → added (pointer bottom top y) by ≡ pointer bottom top z
 unfolding Rattle.cap_concentrate.specs.Encoding.with_bounds
 pointer_moved bottom top y z by ky kz sum =
@@ -69,16 +70,19 @@ pointer_moved bottom top y z by ky kz sum =
     ap (moved (pointer bottom top y)) sum ∙ bounded_moved bottom top data_permissions y z b.0 b.1 c.0 c.1
 
 -- Words that move a register by an offset, in a machine where it has such a capability
-module _ (g : Ground) (laid : Laid g) (bottom top y offset base to : ℕ) (reach : Reach bottom top y offset) (other : base ≢ to)
+module _ (g : Ground) (laid : Laid g) (bottom top y offset base to : ℕ) (reach : Reach bottom top y offset)
+    (other : base ≢ to)
     (some : 0 < to) (below : to < 32) where
-  upper_word : (n : Machine) (at : ℕ) → IsThere g n at → slice_get g.code at ≡ Some (Upper Lui to (high offset % 2 ^ 20))
+  upper_word : (n : Machine) (at : ℕ) → IsThere g n at → slice_get g.code at ≡ Some (Upper Lui to
+      (high offset % 2 ^ 20))
       → Holds g n 1 (at + 1) to to (null_at (far offset))
   unfolding row upper_row
   upper_word n at h has =
       one_set g laid n at h (Upper Lui to (high offset % 2 ^ 20)) to (null_at (far offset)) has refl some below
       (ap (λ k. set n to (null_at k)) (far_upper offset reach.small))
 
-  moved_word : (n : Machine) (mid : ℕ) → IsThere g n mid → register n base ≡ pointer bottom top y → register n to ≡ null_at (far offset)
+  moved_word : (n : Machine) (mid : ℕ) → IsThere g n mid → register n base ≡ pointer bottom top y
+      → register n to ≡ null_at (far offset)
       → slice_get g.code mid ≡ Some (CapReg Cincoffset to base to)
       → Holds g n 1 (mid + 1) to to (pointer bottom top (y + far offset))
   unfolding row cap_reg_row
@@ -99,16 +103,19 @@ module _ (g : Ground) (laid : Laid g) (bottom top y offset base to : ℕ) (reach
       let a = upper_word n at h first in
       let b = moved_word a.to (at + 1) (still g laid n (at + 1) at to to 1 (null_at (far offset)) h a)
       (a.others base other ∙ holds) a.holds second in
-      after g laid n at (at + 1) (at + 1 + 1) to to to 1 1 (null_at (far offset)) (pointer bottom top (y + far offset)) a b
+      after g laid n at (at + 1) (at + 1 + 1) to to to 1 1 (null_at (far offset)) (pointer bottom top
+      (y + far offset)) a b
 
   -- a word that moves it by a small number
   small_move : (n : Machine) (at from a b : ℕ) (z : ℤ) → IsThere g n at → register n from ≡ pointer bottom top a
-      → slice_get g.code at ≡ Some (CapImm Cincoffsetimm to from z) → keeps bottom top a ≡ true → keeps bottom top b ≡ true
+      → slice_get g.code at ≡ Some (CapImm Cincoffsetimm to from z) → keeps bottom top a ≡ true
+      → keeps bottom top b ≡ true
       → plus a z ≡ b → Holds g n 1 (at + 1) to to (pointer bottom top b)
   unfolding row cap_imm_row
   small_move n at from a b z h holds has ka kb sum =
       one_set g laid n at h (CapImm Cincoffsetimm to from z) to (pointer bottom top b) has refl some below
-      (ap (λ c. set n to (added c (extended z))) holds ∙ ap (set n to) (pointer_moved bottom top a b (extended z) ka kb sum))
+      (ap (λ c. set n to (added c (extended z))) holds ∙ ap (set n to) (pointer_moved bottom top a b
+      (extended z) ka kb sum))
 
   abbrev all_words : (b l : Bool) → List Instr
   all_words b l =
@@ -117,7 +124,8 @@ module _ (g : Ground) (laid : Laid g) (bottom top y offset base to : ℕ) (reach
 
   pub moves : (n : Machine) (at : ℕ) → IsThere g n at → register n base ≡ pointer bottom top y
       → keeps bottom top (y + offset) ≡ true → HasAt g.code at (moved_code to base offset)
-      → Holds g n (length (moved_code to base offset)) (at + length (moved_code to base offset)) to to (pointer bottom top (y + offset))
+      → Holds g n (length (moved_code to base offset)) (at + length (moved_code to base offset)) to to
+      (pointer bottom top (y + offset))
   unfolding InRange
   moves n at h holds keep has = by (nat_lt offset 2048) (nat_lt 0 (offset % 4096)) refl has
     where
@@ -131,11 +139,13 @@ module _ (g : Ground) (laid : Laid g) (bottom top y offset base to : ℕ) (reach
           let a = near n at h holds q.0 q.1.0 in
           let range = laid.in_range (at + 1 + 1) (CapImm Cincoffsetimm to to (low offset)) q.1.1.0 in
           let here = still g laid n (at + 1 + 1) at to to 2 (pointer bottom top (y + far offset)) h a in
-          let b = small_move a.to (at + 1 + 1) to (y + far offset) (y + offset) (low offset) here a.holds q.1.1.0 reach.near keep
+          let b = small_move a.to (at + 1 + 1) to (y + far offset) (y + offset)
+          (low offset) here a.holds q.1.1.0 reach.near keep
           (far_low y offset (omega arith) range.2) in
           let size : at + 1 + 1 + 1 ≡ at + 3 = omega arith in
           subst (λ k. Holds g n 3 k to to (pointer bottom top (y + offset))) size
-          (after g laid n at (at + 1 + 1) (at + 1 + 1 + 1) to to to 2 1 (pointer bottom top (y + far offset)) (pointer bottom top (y + offset)) a b)
+          (after g laid n at (at + 1 + 1) (at + 1 + 1 + 1) to to to 2 1 (pointer bottom top (y + far offset))
+          (pointer bottom top (y + offset)) a b)
       by false false e q =
           let a = near n at h holds q.0 q.1.0 in
           let none = ltb-false 0 (offset % 4096) e in

@@ -1,6 +1,6 @@
 -- Operations on integers: what they mean, the machine computes.
-use Rattle.std.proofs.Common.{◌≡◌, ◌≢◌, ℕ, zero, suc, ◌+◌, ◌*◌, ◌%◌, ◌^◌, ◌<◌, ◌≤◌, ◌⊎◌, inl, inr, ℤ, pos, Bool, true, false, ◌&&◌, List, [], ◌∷◌, ◌++◌, length, Option, Some, None, refl, sym, ap, ◌∙◌, subst, arith, if◌then◌else◌}
-use Rattle.std.specs.Prelude.{slice_get, slice_set, Result, Ok}
+use Rattle.std.proofs.Common.{◌≡◌, ℕ, zero, suc, ◌+◌, ◌%◌, ◌^◌, ◌<◌, ◌≤◌, Bool, true, false, ◌&&◌, List, [], ◌∷◌, length, Some, refl, sym, ap, ◌∙◌, subst, arith, if◌then◌else◌}
+use Rattle.std.specs.Prelude.{slice_set, Ok}
 use Rattle.std.proofs.lemmas.Bool.{and_parts, ltb-true}
 use Rattle.ck_base.specs.World.{World}
 use Rattle.ck_int.specs.declared.kinds.IntKind.{IntKind}
@@ -8,36 +8,32 @@ use Rattle.ck_int.specs.declared.kinds.IntKind.TheVariants as int
 use Rattle.ck_int.specs.declared.kinds.IntOp.{IntOp}
 use Rattle.ck_int.specs.declared.kinds.IntOp.TheVariants as op
 use Rattle.ck_int.specs.Arithmetic.{binary_of}
-use Rattle.ck_int.specs.Kinds.{form_of, width_of, IsKept, kept_of, wrapped}
+use Rattle.ck_int.specs.Kinds.{form_of, width_of, IsKept}
 use Rattle.ck_int.proofs.Laws.{IsKept-below, IsKept-binary_of, kept_of-below}
 use Rattle.cap_ops.specs.declared.capability.Cap.{Cap}
 use Rattle.cap_ops.specs.Capability.{null_at}
 use Rattle.rv_instr.specs.declared.instr.Instr.{Instr}
 use Rattle.rv_instr.specs.declared.instr.Instr.TheVariants.{Imm, Shift, Op}
-use Rattle.rv_instr.specs.declared.ops.ImmOp.{ImmOp}
-use Rattle.rv_instr.specs.declared.ops.ShiftOp.{ShiftOp}
 use Rattle.rv_instr.specs.declared.ops.ShiftOp.TheVariants.{Slli, Srli}
-use Rattle.rv_instr.specs.declared.ops.RegOp.{RegOp}
 use Rattle.rv_instr.specs.declared.ops.RegOp.TheVariants as regs
 use Rattle.cap_machine.specs.declared.machine.Machine.{Machine}
 use Rattle.cap_machine.specs.Integers.{extended, result_of, immediate_op, shift_op}
 use Rattle.cap_machine.specs.State.{register, integer}
-use Rattle.cap_machine.specs.Rows.{row, op_row, imm_row, shift_row, set, set_integer}
+use Rattle.cap_machine.specs.Rows.{row, op_row, imm_row, shift_row, set_integer}
 use Rattle.cap_machine.specs.Step.{is_call}
 use Rattle.c_tree.specs.declared.typed.Typed.{Typed}
-use Rattle.obj_mem.specs.declared.ending.Fault.{Fault}
 use Rattle.obj_mem.specs.Objects.{base_in}
 use Rattle.obj_mem.specs.Table.{addresses_of}
-use Rattle.obj_mem.specs.Values.{Value, Int, Addresses, capability_of}
+use Rattle.obj_mem.specs.Values.{Value, Int, capability_of}
 use Rattle.cheri_c_sem.specs.Kinds.{Kind, Plain, Capability, int_kind, number_of}
 use Rattle.cheri_c_sem.specs.Modes as modes
 use Rattle.cheri_c_sem.specs.Modes.{operations, placed_plan}
 use Rattle.cheri_c_sem.specs.Operations.{on_ok, number_by}
-use Rattle.cheri_c_sem.specs.Steps.{State, Fate, answer}
+use Rattle.cheri_c_sem.specs.Steps.{State, answer}
 use Rattle.cheri_c_sem.specs.Types.{is_shift}
 use Rattle.int_select.specs.Form.{IsPromoted}
 use Rattle.int_select.proofs.Numbers.{result_below, reduce_unsigned}
-use Rattle.tac_ir.specs.Costs.{cost, operation_cost, is_wide}
+use Rattle.tac_ir.specs.Costs.{operation_cost, is_wide}
 use Rattle.tac_ir.specs.Effects.{kind_at, temp_in, no_position, set as set_temp}
 use Rattle.tac_ir.specs.Meaning.{Running}
 use Rattle.tac_ir.specs.Temps.{IsIn as IsAmong, now}
@@ -50,10 +46,10 @@ use Rattle.place_inject.specs.Spills.{StackIsThere}
 use Rattle.place_inject.proofs.Results.{numbers_read_back_law}
 use Rattle.select_runs.specs.Acts.{HasAt}
 use Rattle.select_runs.specs.Emitted.{IsNumber}
-use Rattle.select_runs.specs.Forms.{OfOne, OfTwo, Other}
+use Rattle.select_runs.specs.Forms.{OfOne, Other}
 use Rattle.select_runs.specs.Instructions.{OperationsRun}
 use Rattle.select_runs.specs.Kinds.{IsOfKind, AreOfKinds}
-use Rattle.select_runs.specs.Operations.{is_exact, finish_code, selected_op, add_op, immediate_by, shift_by, OneThen, TwoThen, IntegerWords, Registers, WithNumber, NumberWith, LessNumber, Shifted, Times, TimesFirst}
+use Rattle.select_runs.specs.Operations.{is_exact, finish_code, selected_op, add_op, shift_by, OneThen, TwoThen, IntegerWords, Registers, WithNumber, NumberWith, LessNumber, Shifted, Times, TimesFirst}
 use Rattle.select_runs.specs.Operands.{IsText, IsAtPoint}
 use Rattle.select_runs.specs.Results.{Computed, Arrives, before, behind, kinds_in, code_in, IsSelectable}
 use Rattle.select_runs.proofs.Arithmetic.{Gives, registers_give, immediate_is, no_shift, commutes, less_is, shift_gives, times_is, product_turns}
@@ -127,8 +123,10 @@ module _ (s : Setting) (code : List Instr) (x : IsText s code) (p : Point) (t : 
   finish_more int.U32 = 2
   finish_more k = 0
 
-  half_exact : (o : IntOp) (by_number : Bool) (r v : ℕ) → Gives int.U32 o by_number r v → (n : Machine) (mid count at : ℕ)
-      → IsAtPoint s code p at t n → (q : ℕ) → (4 < q) × (q < 29) → (h : Computed s code n count mid q q (null_at r)) → (b : Bool)
+  half_exact : (o : IntOp) (by_number : Bool) (r v : ℕ) → Gives int.U32 o by_number r v → (n : Machine)
+      (mid count at : ℕ)
+      → IsAtPoint s code p at t n → (q : ℕ) → (4 < q) × (q < 29) → (h : Computed s code n count mid q q (null_at r)) →
+      (b : Bool)
       → is_exact int.U32 o by_number ≡ b → (ws : List Instr)
       → ws ≡ (if b then [] else Shift Slli q q 32 ∷ Shift Srli q q 32 ∷ []) → HasAt code mid ws
       → Computed s code n (count + length ws) (mid + length ws) q q (null_at v)
@@ -144,9 +142,11 @@ module _ (s : Setting) (code : List Instr) (x : IsText s code) (p : Point) (t : 
       let w = subst (HasAt code mid) is has in
       let up = result_of regs.Sll r 32 in
       let down = result_of regs.Srl up 32 in
-      let a = next_word s code x p t n at count mid q (null_at r) (null_at up) point h (Shift Slli q q 32) w.0 refl range
+      let a = next_word s code x p t n at count mid q (null_at r) (null_at up) point h
+      (Shift Slli q q 32) w.0 refl range
       (λ u holds. ap (λ y. set_integer u q (result_of regs.Sll y 32)) (number_at u q r holds)) in
-      let b = next_word s code x p t n at (count + 1) (mid + 1) q (null_at up) (null_at down) point a (Shift Srli q q 32) w.1.0 refl range
+      let b = next_word s code x p t n at (count + 1) (mid + 1) q (null_at up) (null_at down) point a
+      (Shift Srli q q 32) w.1.0 refl range
       (λ u holds. ap (λ y. set_integer u q (result_of regs.Srl y 32)) (number_at u q up holds)) in
       let is_v : down ≡ v = (reduce_unsigned r gives.below).2 ∙ gives.else_reduced e in
       let one : count + 1 + 1 ≡ count + 2 = omega arith in
@@ -169,16 +169,22 @@ module _ (s : Setting) (code : List Instr) (x : IsText s code) (p : Point) (t : 
   pub finished : (k : IntKind) → IsPromoted k → (o : IntOp) (by_number : Bool) (r v : ℕ) → Gives k o by_number r v
       → (n : Machine) (mid count at : ℕ) → IsAtPoint s code p at t n → (q : ℕ) → (4 < q) × (q < 29)
       → Computed s code n count mid q q (null_at r) → HasAt code mid (finish_code k o by_number q)
-      → Computed s code n (count + length (finish_code k o by_number q)) (mid + length (finish_code k o by_number q)) q q (null_at v)
+      → Computed s code n (count + length (finish_code k o by_number q)) (mid + length
+      (finish_code k o by_number q)) q q (null_at v)
   finished int.U32 promoted o by_number r v gives n mid count at point q range h has =
-      half_exact o by_number r v gives n mid count at point q range h (is_exact int.U32 o by_number) refl (finish_code int.U32 o by_number q)
+      half_exact o by_number r v gives n mid count at point q range h (is_exact int.U32 o by_number) refl
+      (finish_code int.U32 o by_number q)
       refl has
-  finished int.I32 promoted o by_number r v gives n mid count at point q range h has = none_more r v (gives.exact refl) n mid count q h
-  finished int.I64 promoted o by_number r v gives n mid count at point q range h has = none_more r v (gives.exact refl) n mid count q h
-  finished int.U64 promoted o by_number r v gives n mid count at point q range h has = none_more r v (gives.exact refl) n mid count q h
+  finished int.I32 promoted o by_number r v gives n mid count at point q range h has = none_more r v
+      (gives.exact refl) n mid count q h
+  finished int.I64 promoted o by_number r v gives n mid count at point q range h has = none_more r v
+      (gives.exact refl) n mid count q h
+  finished int.U64 promoted o by_number r v gives n mid count at point q range h has = none_more r v
+      (gives.exact refl) n mid count q h
   finished k promoted o by_number r v gives n mid count at point q range h has = absurd (omega arith)
 
-  finish_few : (k : IntKind) → IsPromoted k → (o : IntOp) (by_number : Bool) (q : ℕ) → length (finish_code k o by_number q) ≤ finish_more k
+  finish_few : (k : IntKind) → IsPromoted k → (o : IntOp) (by_number : Bool) (q : ℕ) → length
+      (finish_code k o by_number q) ≤ finish_more k
   unfolding finish_more
   finish_few int.U32 promoted o by_number q = by (is_exact int.U32 o by_number)
     where
@@ -204,7 +210,8 @@ module _ (s : Setting) (code : List Instr) (x : IsText s code) (p : Point) (t : 
 
   -- one word and what finishes it
   pub word_then : (k : IntKind) → IsPromoted k → (o : IntOp) (by_number : Bool) (r v : ℕ) → Gives k o by_number r v
-      → (n : Machine) (mid : ℕ) → IsAtPoint s code p mid t n → (q : ℕ) → (4 < q) × (q < 29) → (i : Instr) (ws : List Instr)
+      → (n : Machine) (mid : ℕ) → IsAtPoint s code p mid t n → (q : ℕ) → (4 < q) × (q < 29) → (i : Instr)
+      (ws : List Instr)
       → ws ≡ i ∷ finish_code k o by_number q → HasAt code mid ws → is_call i ≡ false → row n i ≡ set_integer n q r
       → Computed s code n (length ws) (mid + length ws) q q (null_at v)
   word_then k promoted o by_number r v gives n mid point q range i ws is has plain does =
@@ -212,12 +219,14 @@ module _ (s : Setting) (code : List Instr) (x : IsText s code) (p : Point) (t : 
       let f = first_word s code x p t n mid point i q (null_at r) w.0 plain range does in
       let e = finished k promoted o by_number r v gives n (mid + 1) 1 mid point q range f w.1 in
       let count : 1 + length (finish_code k o by_number q) ≡ suc (length (finish_code k o by_number q)) = omega arith in
-      let place : mid + 1 + length (finish_code k o by_number q) ≡ mid + suc (length (finish_code k o by_number q)) = omega arith in
+      let place : mid + 1 + length (finish_code k o by_number q) ≡ mid + suc (length
+      (finish_code k o by_number q)) = omega arith in
       subst (λ y. Computed s code n (length y) (mid + length y) q q (null_at v)) (sym is)
       (subst (λ y. Computed s code n y (mid + suc (length (finish_code k o by_number q))) q q (null_at v)) count
       (subst (λ y. Computed s code n (1 + length (finish_code k o by_number q)) y q q (null_at v)) place e))
 
-module _ (s : Setting) (code : List Instr) (x : IsText s code) (stack : StackIsThere s) (w : World) (p : Typed) (running : Running)
+module _ (s : Setting) (code : List Instr) (x : IsText s code) (stack : StackIsThere s) (w : World) (p : Typed)
+    (running : Running)
     (o : IntOp) (k : IntKind) (promoted : IsPromoted k) (to a b : ℕ) (rest : List TacInstr)
     (sel : IsSelectable s p running (instr.Int o k to a b) rest) (at : ℕ) (t : State modes.Store) (m : Machine)
     (point : IsAtPoint s code (before running (instr.Int o k to a b) rest) at t m)
@@ -245,7 +254,8 @@ module _ (s : Setting) (code : List Instr) (x : IsText s code) (stack : StackIsT
       × ((if is_shift o then has_int p sel.d (kinds_in s running) (code_in s running) b
       else has p sel.d (kinds_in s running) (code_in s running) b (Plain k)) ≡ true)
   int_parts =
-      let q = and_parts (has p sel.d (kinds_in s running) (code_in s running) to (Plain k) && has p sel.d (kinds_in s running) (code_in s running) a (Plain k)) _ sel.fits in
+      let q = and_parts (has p sel.d (kinds_in s running) (code_in s running) to (Plain k) && has p sel.d
+      (kinds_in s running) (code_in s running) a (Plain k)) _ sel.fits in
       let r = and_parts (has p sel.d (kinds_in s running) (code_in s running) to (Plain k)) _ q.0 in
       (r.0, r.1, q.1)
 
@@ -267,7 +277,8 @@ module _ (s : Setting) (code : List Instr) (x : IsText s code) (stack : StackIsT
           → (if c then has_int p sel.d (kinds_in s running) (code_in s running) b
           else has p sel.d (kinds_in s running) (code_in s running) b (Plain k)) ≡ true → Right
       by true e h =
-          let q = and_parts (is_temp p sel.d (kinds_in s running) (code_in s running) b) (is_int (kind_at (kinds_in s running) b)) h in
+          let q = and_parts (is_temp p sel.d (kinds_in s running) (code_in s running) b) (is_int (kind_at
+          (kinds_in s running) b)) h in
           record {
             is = integer_of (kind_at (kinds_in s running) b) (temp_in t b) q.1
                 (kinded.each b (ltb-true b (length (kinds_in s running)) q.0));
@@ -280,7 +291,8 @@ module _ (s : Setting) (code : List Instr) (x : IsText s code) (stack : StackIsT
           record { is = v.0; kept = λ f. v.1; integer_kind = same_int (kind_at (kinds_in s running) b) k q.1 }
 
   right_below : right < 2 ^ 64
-  right_below = subst (IsKnown t.mem.memory.shapes (functions_of s)) right_is.is (point.fits.calls.1.known b (now (suc zero, refl)))
+  right_below = subst (IsKnown t.mem.memory.shapes (functions_of s)) right_is.is (point.fits.calls.1.known b (now
+      (suc zero, refl)))
 
   left_there : (u : Machine) (q : ℕ) → register u q ≡ bits (temp_in t a) → integer u q ≡ left
   left_there u q e =
@@ -288,7 +300,8 @@ module _ (s : Setting) (code : List Instr) (x : IsText s code) (stack : StackIsT
 
   right_there : (u : Machine) (q : ℕ) → register u q ≡ bits (temp_in t b) → integer u q ≡ right
   right_there u q e =
-      number_at u q right (e ∙ ap bits right_is.is ∙ integer_bits (addresses_of s.map) (base_in t.mem.memory.shapes) right)
+      number_at u q right (e ∙ ap bits right_is.is ∙ integer_bits (addresses_of s.map)
+      (base_in t.mem.memory.shapes) right)
 
   result_bits : bits (Int result) ≡ null_at result
   result_bits = integer_bits (addresses_of s.map) (base_in t.mem.memory.shapes) result
@@ -298,13 +311,15 @@ module _ (s : Setting) (code : List Instr) (x : IsText s code) (stack : StackIsT
 
   abbrev Result_home : List Instr → Type 0
   Result_home ws =
-      Arrives s code (behind running rest) 0 (operation_cost k) (at + length ws) (record t { vars = slice_set t.vars to (Some (Int result)) }) m
+      Arrives s code (behind running rest) 0 (operation_cost k) (at + length ws)
+      (record t { vars = slice_set t.vars to (Some (Int result)) }) m
 
   few : ℕ
   few = 1 + finish_more s code x here t k
 
   -- of one operand, and what a word reads beside it
-  by_one : (from : ℕ) → IsAmong from (a ∷ b ∷ []) → (by_number : Bool) (word : (r y : ℕ) → Instr) (ends : ℕ → List Instr)
+  by_one : (from : ℕ) → IsAmong from (a ∷ b ∷ []) → (by_number : Bool) (word : (r y : ℕ) → Instr) (ends : ℕ
+      → List Instr)
       → ((r : ℕ) → ends r ≡ finish_code k o by_number r)
       → ((r y : ℕ) → is_call (word r y) ≡ false)
       → (made : ℕ) → Gives k o by_number made result
@@ -314,13 +329,15 @@ module _ (s : Setting) (code : List Instr) (x : IsText s code) (stack : StackIsT
   by_one from read by_number word ends same plain made gives does ws form has =
       let costs = finish_costs s code x here t k in
       within s code (behind running rest) 0 (few + 6) (operation_cost k) (at + length ws) _ m (omega arith)
-      (of_one s code x stack p running i rest to refl refl (λ n h. h) sel t m at point from read (Int result) result_known (OneThen word ends)
+      (of_one s code x stack p running i rest to refl refl (λ n h. h) sel t m at point from read
+      (Int result) result_known (OneThen word ends)
       (λ u mid y now_here e r us is range hs.
       subst (Computed s code u (length us) (mid + length us) r r) (sym result_bits)
       (word_then s code x here t k promoted o by_number made result gives u mid now_here r range (word r y) us
       (is ∙ ap (λ f. word r y ∷ f) (same r)) hs (plain r y) (does u r y e)))
       few (λ r y us is. subst (λ z. length z ≤ few) (sym (is ∙ ap (λ f. word r y ∷ f) (same r)))
-      (one_more (length (finish_code k o by_number r)) (finish_more s code x here t k) (finish_few s code x here t k promoted o by_number r)))
+      (one_more (length (finish_code k o by_number r)) (finish_more s code x here t k)
+      (finish_few s code x here t k promoted o by_number r)))
       ws form has)
     where
       one_more : (n m : ℕ) → n ≤ m → suc n ≤ 1 + m
@@ -332,18 +349,22 @@ module _ (s : Setting) (code : List Instr) (x : IsText s code) (stack : StackIsT
       let costs = finish_costs s code x here t k in
       let made = result_of (selected_op k o) left right in
       within s code (behind running rest) 0 (3 + few + 6) (operation_cost k) (at + length ws) _ m (omega arith)
-      (of_two s code x stack p running i rest to refl refl (λ n h. h) sel t m at point a (zero, refl) (Int result) result_known
+      (of_two s code x stack p running i rest to refl refl (λ n h. h) sel t m at point a (zero, refl)
+      (Int result) result_known
       (Other s running.fun b) (bits (temp_in t b)) 3
-      (other_comes s code x stack p running i rest to refl refl (λ n h. h) sel t m at point a (zero, refl) b (suc zero, refl))
+      (other_comes s code x stack p running i rest to refl refl (λ n h. h) sel t m at point a (zero, refl) b
+      (suc zero, refl))
       (TwoThen (Op (selected_op k o)) (finish_code k o false))
       (λ u mid y z now_here e f r us is range hs.
       subst (Computed s code u (length us) (mid + length us) r r) (sym result_bits)
-      (word_then s code x here t k promoted o false made result (registers_give o k left right promoted left_is.1 right_is.kept) u mid now_here
+      (word_then s code x here t k promoted o false made result
+      (registers_give o k left right promoted left_is.1 right_is.kept) u mid now_here
       r range (Op (selected_op k o) r y z) us is hs refl
       (ap (λ n. set_integer u r (result_of (selected_op k o) n (integer u z))) (left_there u y e)
       ∙ ap (λ n. set_integer u r (result_of (selected_op k o) left n)) (right_there u z f))))
       few (λ r y z us is. subst (λ q. length q ≤ few) (sym is)
-      (one_more (length (finish_code k o false r)) (finish_more s code x here t k) (finish_few s code x here t k promoted o false r)))
+      (one_more (length (finish_code k o false r)) (finish_more s code x here t k)
+      (finish_few s code x here t k promoted o false r)))
       ws form has)
     where
       one_more : (n m : ℕ) → n ≤ m → suc n ≤ 1 + m
@@ -361,7 +382,8 @@ module _ (s : Setting) (code : List Instr) (x : IsText s code) (stack : StackIsT
       let kept = right_is.kept (no_shift o k j by) in
       let turned = registers_give o k right left promoted kept (λ f. left_is.1) in
       by_one b (suc zero, refl) false (λ r y. Imm j r y z) (finish_code k o false) (λ r. refl) (λ r y. refl)
-      (result_of (selected_op k o) right left) (subst (Gives k o false (result_of (selected_op k o) right left)) (sym (commutes o k j left right by left_is.1 kept)) turned)
+      (result_of (selected_op k o) right left) (subst (Gives k o false (result_of (selected_op k o) right left)) (sym
+      (commutes o k j left right by left_is.1 kept)) turned)
       (λ u r y f. ap (λ q. set_integer u r (result_of (immediate_op j) q (extended z))) (right_there u y f)
       ∙ ap (λ q. set_integer u r (result_of (immediate_op j) right q)) (e ∙ sym same)
       ∙ ap (λ g. set_integer u r (result_of g right left)) (immediate_is o k j promoted by)) ws form has
@@ -372,22 +394,30 @@ module _ (s : Setting) (code : List Instr) (x : IsText s code) (stack : StackIsT
       let word = less_is k left right (extended z) promoted l right_below (kept_of-below z)
       (ap (λ q. (extended z + q) % 2 ^ 64) same ∙ e) in
       let gives : Gives k o false made result =
-      subst (λ q. Gives k o false q result) (sym (word ∙ ap (λ g. result_of (selected_op k g) left right) (sym subtracts)))
+      subst (λ q. Gives k o false q result) (sym (word ∙ ap (λ g. result_of (selected_op k g) left right)
+      (sym subtracts)))
       (registers_give o k left right promoted left_is.1 right_is.kept) in
-      by_one a (zero, refl) false (λ r y. Imm (add_op k) r y z) (finish_code k o false) (λ r. refl) (λ r y. refl) made gives
-      (λ u r y f. ap (λ q. set_integer u r (result_of (immediate_op (add_op k)) q (extended z))) (left_there u y f)) ws form has
+      by_one a (zero, refl) false (λ r y. Imm (add_op k) r y z) (finish_code k o false) (λ r. refl)
+      (λ r y. refl) made gives
+      (λ u r y f. ap (λ q. set_integer u r (result_of (immediate_op (add_op k)) q (extended z)))
+      (left_there u y f)) ws form has
   integers ws (Shifted n shift is form) has =
       let same : right ≡ n = number_is s code x here t at m point b n right (now (suc zero, refl)) is right_is.is in
       let made = result_of (shift_op (shift_by k o)) left (right % width_of (form_of k)) in
-      by_one a (zero, refl) true (λ r y. Shift (shift_by k o) r y (n % width_of (form_of k))) (finish_code k o true) (λ r. refl) (λ r y. refl)
+      by_one a (zero, refl) true (λ r y. Shift (shift_by k o) r y (n % width_of (form_of k))) (finish_code k o true)
+      (λ r. refl) (λ r y. refl)
       made (shift_gives o k left right shift promoted left_is.1 right_below)
-      (λ u r y f. ap (λ q. set_integer u r (result_of (shift_op (shift_by k o)) q (n % width_of (form_of k)))) (left_there u y f)
-      ∙ ap (λ q. set_integer u r (result_of (shift_op (shift_by k o)) left (q % width_of (form_of k)))) (sym same)) ws form has
+      (λ u r y f. ap (λ q. set_integer u r (result_of (shift_op (shift_by k o)) q (n % width_of (form_of k))))
+      (left_there u y f)
+      ∙ ap (λ q. set_integer u r (result_of (shift_op (shift_by k o)) left (q % width_of (form_of k))))
+      (sym same)) ws form has
   integers ws (Times q times wide small is form) has =
-      let same : right ≡ 2 ^ q = number_is s code x here t at m point b (2 ^ q) right (now (suc zero, refl)) is right_is.is in
+      let same : right ≡ 2 ^ q = number_is s code x here t at m point b (2 ^ q) right (now
+      (suc zero, refl)) is right_is.is in
       let made = result_of regs.Sll left q in
       let is_result : made ≡ result =
-      times_is k left q wide left_is.1 small ∙ ap (λ n. binary_of op.Mul k left n) (sym same) ∙ ap (λ g. binary_of g k left right) (sym times) in
+      times_is k left q wide left_is.1 small ∙ ap (λ n. binary_of op.Mul k left n) (sym same) ∙ ap
+      (λ g. binary_of g k left right) (sym times) in
       by_one a (zero, refl) false (λ r y. Shift Slli r y q) (λ r. []) (λ r. wide_ends o k wide r) (λ r y. refl)
       made (whole o k wide made result (result_below regs.Sll left q) is_result)
       (λ u r y f. ap (λ n. set_integer u r (result_of regs.Sll n q)) (left_there u y f)) ws form has
@@ -396,7 +426,8 @@ module _ (s : Setting) (code : List Instr) (x : IsText s code) (stack : StackIsT
       let made = result_of regs.Sll right q in
       let kept = right_is.kept (ap is_shift times) in
       let is_result : made ≡ result =
-      times_is k right q wide kept small ∙ ap (λ n. binary_of op.Mul k right n) (sym same) ∙ product_turns k right left kept left_is.1
+      times_is k right q wide kept small ∙ ap (λ n. binary_of op.Mul k right n) (sym same)
+      ∙ product_turns k right left kept left_is.1
       ∙ ap (λ g. binary_of g k left right) (sym times) in
       by_one b (suc zero, refl) false (λ r y. Shift Slli r y q) (λ r. []) (λ r. wide_ends o k wide r) (λ r y. refl)
       made (whole o k wide made result (result_below regs.Sll right q) is_result)
@@ -404,7 +435,8 @@ module _ (s : Setting) (code : List Instr) (x : IsText s code) (stack : StackIsT
 
 pub operations_run_law : OperationsRun
 unfolding operations
-operations_run_law s code x stack w p running (instr.Int o k to a b) rest promoted sel at t m point kinded ws form held_words =
+operations_run_law s code x stack w p running (instr.Int o k to a b) rest promoted sel at t m point kinded ws form
+    held_words =
     let r = result s code x stack w p running o k promoted to a b rest sel at t m point kinded in
     let parts = int_parts s code x stack w p running o k promoted to a b rest sel at t m point kinded in
     let right = right_is s code x stack w p running o k promoted to a b rest sel at t m point kinded in
@@ -413,7 +445,8 @@ operations_run_law s code x stack w p running (instr.Int o k to a b) rest promot
       next = record t { vars = slice_set t.vars to (Some (Int r)) };
       means = λ go. ap (λ y. answer no_position (on_ok (operations (placed_plan s.map))
           (λ n. on_ok (operations (placed_plan s.map)) (λ q. Ok (Int q))
-          ((operations (placed_plan s.map)).int o k (int_kind (kind_at (kinds_in s running) b)) (number_of (temp_in t a)) n)) y) t
+          ((operations (placed_plan s.map)).int o k (int_kind (kind_at (kinds_in s running) b)) (number_of
+          (temp_in t a)) n)) y) t
           (λ v u. set_temp to v u go))
           (number_by_int s t (kind_at (kinds_in s running) b) (temp_in t b) right.integer_kind);
       kinded = kinded_set (kinds_in s running) t.vars to (Int r) kinded h.0

@@ -1,5 +1,5 @@
 -- What is asked of capabilities and lengths, and made of them: the machine does it.
-use Rattle.std.proofs.Common.{◌≡◌, ℕ, zero, suc, ◌+◌, ◌-◌, ◌%◌, ◌^◌, ◌<◌, ◌≤◌, Bool, true, false, ◌&&◌, ◌||◌, List, [], ◌∷◌, length, Option, Some, None, refl, sym, ap, ◌∙◌, subst, arith, inl, inr, ◌⊎◌, ⊎_elim}
+use Rattle.std.proofs.Common.{◌≡◌, ℕ, zero, suc, ◌+◌, ◌-◌, ◌%◌, ◌^◌, ◌<◌, ◌≤◌, Bool, true, false, ◌||◌, List, ◌∷◌, length, Option, Some, None, refl, sym, ap, ◌∙◌, subst, arith, inl, inr, ◌⊎◌, ⊎_elim}
 use Rattle.std.specs.Prelude.{slice_set, Result, Ok, Err}
 use Rattle.std.proofs.lemmas.Bool.{and_parts, ltb-true}
 use Rattle.ck_base.specs.World.{World}
@@ -24,8 +24,7 @@ use Rattle.cap_machine.specs.State.{register, integer}
 use Rattle.cap_machine.specs.Rows.{row, cap_reg_row, cap_get_row, set, set_integer, length_of, same}
 use Rattle.c_tree.specs.declared.typed.Typed.{Typed}
 use Rattle.obj_mem.specs.declared.ending.Fault.{Fault}
-use Rattle.obj_mem.specs.Objects.{Placed, Shape, base_in}
-use Rattle.obj_mem.specs.Pointers.{clear, mask, set_address}
+use Rattle.obj_mem.specs.Objects.{Shape, base_in}
 use Rattle.obj_mem.specs.Table.{addresses_of}
 use Rattle.obj_mem.specs.Values.{Value, Int, Addresses, capability_of}
 use Rattle.cheri_c_sem.specs.Kinds.{Kind, Plain, Capability, nothing, number_of, truth}
@@ -34,8 +33,8 @@ use Rattle.cheri_c_sem.specs.Modes.{operations, placed_plan, number_answer, trut
 use Rattle.cheri_c_sem.specs.Steps.{State, Fate, answer}
 use Rattle.tac_ir.specs.Effects.{kind_at, temp_in, optional, no_position, set as set_temp, work_of}
 use Rattle.tac_ir.specs.Meaning.{Running}
-use Rattle.tac_ir.specs.Temps.{IsIn as IsAmong, in_option, reads, now}
-use Rattle.tac_ir.specs.WellFormed.{has, has_capability, is_temp, is_int, is_capability, same_kind, work_fits, word, second_is, second_is_address, second_is_capability, no_second}
+use Rattle.tac_ir.specs.Temps.{IsIn as IsAmong, in_option, now}
+use Rattle.tac_ir.specs.WellFormed.{has, has_capability, is_temp, is_int, is_capability, same_kind, word}
 use Rattle.tac_ir.specs.declared.code.CapWork.{CapWork}
 use Rattle.tac_ir.specs.declared.code.CapWork.TheVariants as cap
 use Rattle.tac_ir.specs.declared.code.TacInstr.{TacInstr}
@@ -43,7 +42,7 @@ use Rattle.tac_ir.specs.declared.code.TacInstr.TheVariants as instr
 use Rattle.place_inject.specs.Values.{IsKnown}
 use Rattle.place_inject.specs.Steps.{is_integer}
 use Rattle.place_inject.specs.Pointers.{IsCapabilityOf, PointersFit}
-use Rattle.place_inject.specs.Getting.{GettersFit, ComparisonsFit, GettingFits}
+use Rattle.place_inject.specs.Getting.{GettersFit, GettingFits}
 use Rattle.place_inject.specs.Frames.{Setting, functions_of}
 use Rattle.place_inject.specs.Spills.{StackIsThere}
 use Rattle.place_inject.proofs.Getting.{getting_fits_law}
@@ -57,7 +56,7 @@ use Rattle.select_runs.specs.Instructions.{IntrinsicsRun}
 use Rattle.select_runs.proofs.Numbers.{null_address}
 use Rattle.select_runs.proofs.Kinded.{kind_passes, kinded_set, has_kind}
 use Rattle.select_runs.proofs.Working.{integer_of, integer_bits, one_only, within, of_one, of_two, other_comes}
-use Rattle.select_runs.proofs.Pointing.{pointer_of, pointer_kind, same_capability, fitting, base_pointer, pointer_kinded, three_parts}
+use Rattle.select_runs.proofs.Pointing.{pointer_of, fitting, base_pointer, pointer_kinded, three_parts}
 
 -- ---- numbers
 
@@ -123,9 +122,12 @@ optional_gives : (b : Option ℕ) (t : State modes.Store) (k : Value → State m
 optional_gives None t k = refl
 optional_gives (Some u) t k = refl
 
-module _ (s : Setting) (code : List Instr) (x : IsText s code) (stack : StackIsThere s) (w : World) (p : Typed) (running : Running)
-    (op : CapWork) (to a : ℕ) (b : Option ℕ) (rest : List TacInstr) (sel : IsSelectable s p running (instr.Cap op to a b) rest)
-    (at : ℕ) (t : State modes.Store) (m : Machine) (point : IsAtPoint s code (before running (instr.Cap op to a b) rest) at t m)
+module _ (s : Setting) (code : List Instr) (x : IsText s code) (stack : StackIsThere s) (w : World) (p : Typed)
+    (running : Running)
+    (op : CapWork) (to a : ℕ) (b : Option ℕ) (rest : List TacInstr) (sel : IsSelectable s p running
+    (instr.Cap op to a b) rest)
+    (at : ℕ) (t : State modes.Store) (m : Machine) (point : IsAtPoint s code (before running
+    (instr.Cap op to a b) rest) at t m)
     (kinded : AreOfKinds (kinds_in s running) t.vars) where
   abbrev here_i : TacInstr
   here_i = instr.Cap op to a b
@@ -134,39 +136,48 @@ module _ (s : Setting) (code : List Instr) (x : IsText s code) (stack : StackIsT
   bits = capability_of (addresses_of s.map) (base_in t.mem.memory.shapes)
 
   abbrev Goes_home : List Instr → Value → Type 0
-  Goes_home ws v = Arrives s code (behind running rest) 0 10 (at + length ws) (record t { vars = slice_set t.vars to (Some v) }) m
+  Goes_home ws v = Arrives s code (behind running rest) 0 10 (at + length ws) (record t {
+    vars = slice_set t.vars to
+        (Some v);
+  }) m
 
   -- what the instruction makes
   record Made : Type 0 where
     value : Value
     means : (operations (placed_plan s.map)).work t.mem (work_of op) (temp_in t a) (second_in t b) ≡ Ok value
     kind_is : AreOfKinds (kinds_in s running) (slice_set t.vars to (Some value))
-    does : (ws : List Instr) → IntrinsicWords s running.fun to a b (intrinsic_of op) ws → HasAt code at ws → Goes_home ws value
+    does : (ws : List Instr) → IntrinsicWords s running.fun to a b (intrinsic_of op) ws → HasAt code at ws
+        → Goes_home ws value
 
   one_does : (get : CapGetOp) (v : Value) → IsKnown t.mem.memory.shapes (functions_of s) v
       → ((u : Machine) (r q : ℕ) → register u q ≡ bits (temp_in t a) → row u (CapGet get r q) ≡ set u r (bits v))
       → (ws : List Instr) → OfOne s running.fun to a (OneOfOne get) ws → HasAt code at ws → Goes_home ws v
   one_does get v known makes ws o has =
       within s code (behind running rest) 0 (1 + 6) 10 (at + length ws) _ m (omega arith)
-      (of_one s code x stack p running here_i rest to refl refl (λ n h. h) sel t m at point a (zero, refl) v known (OneOfOne get)
+      (of_one s code x stack p running here_i rest to refl refl (λ n h. h) sel t m at point a (zero, refl) v known
+      (OneOfOne get)
       (λ u mid q here e r us is range hs.
-      one_only s code x (before running here_i rest) t u mid here (CapGet get r q) r _ us is hs refl range (makes u r q e))
+      one_only s code x (before running here_i rest) t u mid here (CapGet get r q) r _ us is hs refl range
+      (makes u r q e))
       1 (λ r q us is. subst (λ y. length y ≤ 1) (sym is) (omega arith)) ws o has)
 
   two_does : (get : CapRegOp) (y : ℕ) → b ≡ Some y → (v : Value) → IsKnown t.mem.memory.shapes (functions_of s) v
       → ((u : Machine) (r q z : ℕ) → register u q ≡ bits (temp_in t a) → register u z ≡ bits (temp_in t y)
       → row u (CapReg get r q z) ≡ set u r (bits v))
-      → (ws : List Instr) → OfTwo s running.fun to a (Seconds s running.fun b) (OneOfTwo get) ws → HasAt code at ws → Goes_home ws v
+      → (ws : List Instr) → OfTwo s running.fun to a (Seconds s running.fun b) (OneOfTwo get) ws → HasAt code at ws
+      → Goes_home ws v
   two_does get y is_some v known makes ws o has =
       within s code (behind running rest) 0 (3 + 1 + 6) 10 (at + length ws) _ m (omega arith)
       (of_two s code x stack p running here_i rest to refl refl (λ n h. h) sel t m at point a (zero, refl) v known
       (Seconds s running.fun b) (bits (temp_in t y)) 3
       (λ n count mid leads here us z o' hs.
-      other_comes s code x stack p running here_i rest to refl refl (λ n' h. h) sel t m at point a (zero, refl) y read_y n count mid leads here us z
+      other_comes s code x stack p running here_i rest to refl refl (λ n' h. h) sel t m at point a
+      (zero, refl) y read_y n count mid leads here us z
       (subst (λ o. Seconds s running.fun o us z) is_some o') hs)
       (OneOfTwo get)
       (λ u mid q z here e f r us is range hs.
-      one_only s code x (before running here_i rest) t u mid here (CapReg get r q z) r _ us is hs refl range (makes u r q z e f))
+      one_only s code x (before running here_i rest) t u mid here (CapReg get r q z) r _ us is hs refl range
+      (makes u r q z e f))
       1 (λ r q z us is. subst (λ y'. length y' ≤ 1) (sym is) (omega arith)) ws o has)
     where
       read_y : IsAmong y (a ∷ in_option b)
@@ -174,22 +185,26 @@ module _ (s : Setting) (code : List Instr) (x : IsText s code) (stack : StackIsT
 
   -- ---- a number of a capability
 
-  number_kinded : (k : IntKind) → has p sel.d (kinds_in s running) (code_in s running) to (Plain k) ≡ true → (v : Value) → IsOfKind (Plain k) v
+  number_kinded : (k : IntKind) → has p sel.d (kinds_in s running) (code_in s running) to (Plain k) ≡ true →
+      (v : Value) → IsOfKind (Plain k) v
       → AreOfKinds (kinds_in s running) (slice_set t.vars to (Some v))
   number_kinded k fits v kept =
       let h = has_kind p sel.d (kinds_in s running) (code_in s running) to (Plain k) fits in
-      kinded_set (kinds_in s running) t.vars to v kinded h.0 (kind_passes (kind_at (kinds_in s running) to) (Plain k) v h.1 kept)
+      kinded_set (kinds_in s running) t.vars to v kinded h.0 (kind_passes (kind_at (kinds_in s running) to)
+      (Plain k) v h.1 kept)
 
   word_kinded : has p sel.d (kinds_in s running) (code_in s running) to word ≡ true → (n : ℕ) → n < 2 ^ 64
       → AreOfKinds (kinds_in s running) (slice_set t.vars to (Some (Int n)))
   word_kinded fits n small = number_kinded int.U64 fits (Int n) (IsKept-64 int.U64 n refl small)
 
   gives_number : (u : Machine) (r n k : ℕ) → n ≡ k → set_integer u r n ≡ set u r (bits (Int k))
-  gives_number u r n k e = ap (λ y. set u r (null_at y)) e ∙ ap (set u r) (sym (integer_bits (addresses_of s.map) (base_in t.mem.memory.shapes) k))
+  gives_number u r n k e = ap (λ y. set u r (null_at y)) e ∙ ap (set u r) (sym (integer_bits (addresses_of s.map)
+      (base_in t.mem.memory.shapes) k))
 
   module _ (is_pointer : has_capability p sel.d (kinds_in s running) (code_in s running) a ≡ true) where
     pointer_here : (is_integer (temp_in t a) ≡ false) × IsKnown t.mem.memory.shapes (functions_of s) (temp_in t a)
-    pointer_here = base_pointer s code x stack p running here_i rest to a (zero, refl) sel at t m point kinded is_pointer
+    pointer_here = base_pointer s code x stack p running here_i rest to a
+        (zero, refl) sel at t m point kinded is_pointer
 
     gettings : GettingFits (functions_of s) (addresses_of s.map) t.mem.memory.shapes
     gettings =
@@ -204,31 +219,40 @@ module _ (s : Setting) (code : List Instr) (x : IsText s code) (stack : StackIsT
     same_kinded : has p sel.d (kinds_in s running) (code_in s running) to (kind_at (kinds_in s running) a) ≡ true
         → (v : Value) → is_integer v ≡ false → AreOfKinds (kinds_in s running) (slice_set t.vars to (Some v))
     same_kinded fits v not_int =
-        pointer_kinded s code x stack p running here_i rest to a (zero, refl) sel at t m point kinded is_pointer fits v not_int
+        pointer_kinded s code x stack p running here_i rest to a
+        (zero, refl) sel at t m point kinded is_pointer fits v not_int
 
   -- ---- a second operand that is an integer
 
-  other_int : (y : ℕ) → b ≡ Some y → (k : IntKind) → has p sel.d (kinds_in s running) (code_in s running) y (Plain k) ≡ true
+  other_int : (y : ℕ) → b ≡ Some y → (k : IntKind) → has p sel.d (kinds_in s running) (code_in s running) y
+      (Plain k) ≡ true
       → (temp_in t y ≡ Int (number_of (temp_in t y))) × (number_of (temp_in t y) < 2 ^ 64)
   other_int y is_some k fits =
       let h = has_kind p sel.d (kinds_in s running) (code_in s running) y (Plain k) fits in
-      let e = integer_of (kind_at (kinds_in s running) y) (temp_in t y) (same_int (kind_at (kinds_in s running) y) k h.1) (kinded.each y h.0) in
-      let read_y : IsAmong y (a ∷ in_option b) = subst (λ o. IsAmong y (a ∷ in_option o)) (sym is_some) (suc zero, refl) in
+      let e = integer_of (kind_at (kinds_in s running) y) (temp_in t y) (same_int (kind_at
+      (kinds_in s running) y) k h.1) (kinded.each y h.0) in
+      let read_y : IsAmong y (a ∷ in_option b) = subst (λ o. IsAmong y (a ∷ in_option o)) (sym is_some)
+      (suc zero, refl) in
       (e, subst (IsKnown t.mem.memory.shapes (functions_of s)) e (point.fits.calls.1.known y (now read_y)))
 
-  number_there : (u : Machine) (z : ℕ) (v : Value) → v ≡ Int (number_of v) → register u z ≡ bits v → integer u z ≡ number_of v
+  number_there : (u : Machine) (z : ℕ) (v : Value) → v ≡ Int (number_of v) → register u z ≡ bits v
+      → integer u z ≡ number_of v
   number_there u z v e holds =
-      ap (λ (c : Cap). c.fields.address) (holds ∙ ap bits e ∙ integer_bits (addresses_of s.map) (base_in t.mem.memory.shapes) (number_of v))
+      ap (λ (c : Cap). c.fields.address) (holds ∙ ap bits e ∙ integer_bits (addresses_of s.map)
+      (base_in t.mem.memory.shapes) (number_of v))
       ∙ null_address (number_of v)
 
-  own_int : has p sel.d (kinds_in s running) (code_in s running) a word ≡ true → temp_in t a ≡ Int (number_of (temp_in t a))
+  own_int : has p sel.d (kinds_in s running) (code_in s running) a word ≡ true → temp_in t a ≡ Int (number_of
+      (temp_in t a))
   own_int fits =
       let h = has_kind p sel.d (kinds_in s running) (code_in s running) a word fits in
-      integer_of (kind_at (kinds_in s running) a) (temp_in t a) (same_int (kind_at (kinds_in s running) a) int.U64 h.1) (kinded.each a h.0)
+      integer_of (kind_at (kinds_in s running) a) (temp_in t a) (same_int (kind_at
+      (kinds_in s running) a) int.U64 h.1) (kinded.each a h.0)
 
   -- an address has either 64-bit kind
   address_there : (y : ℕ) → b ≡ Some y
-      → (has p sel.d (kinds_in s running) (code_in s running) y word || has p sel.d (kinds_in s running) (code_in s running) y (Plain int.I64)) ≡ true
+      → (has p sel.d (kinds_in s running) (code_in s running) y word || has p sel.d (kinds_in s running)
+      (code_in s running) y (Plain int.I64)) ≡ true
       → (temp_in t y ≡ Int (number_of (temp_in t y))) × (number_of (temp_in t y) < 2 ^ 64)
   address_there y is_some fits = ⊎_elim (λ e. other_int y is_some int.U64 e) (λ e. other_int y is_some int.I64 e)
       (either _ _ fits)
@@ -236,18 +260,25 @@ module _ (s : Setting) (code : List Instr) (x : IsText s code) (stack : StackIsT
   other_pointer : (y : ℕ) → b ≡ Some y → has_capability p sel.d (kinds_in s running) (code_in s running) y ≡ true
       → (is_integer (temp_in t y) ≡ false) × IsKnown t.mem.memory.shapes (functions_of s) (temp_in t y)
   other_pointer y is_some fits =
-      let q = and_parts (is_temp p sel.d (kinds_in s running) (code_in s running) y) (is_capability (kind_at (kinds_in s running) y)) fits in
-      let read_y : IsAmong y (a ∷ in_option b) = subst (λ o. IsAmong y (a ∷ in_option o)) (sym is_some) (suc zero, refl) in (
-        pointer_of (kind_at (kinds_in s running) y) (temp_in t y) q.1 (kinded.each y (ltb-true y (length (kinds_in s running)) q.0)),
+      let q = and_parts (is_temp p sel.d (kinds_in s running) (code_in s running) y) (is_capability (kind_at
+      (kinds_in s running) y)) fits in
+      let read_y : IsAmong y (a ∷ in_option b) = subst (λ o. IsAmong y (a ∷ in_option o)) (sym is_some)
+      (suc zero, refl) in (
+        pointer_of (kind_at (kinds_in s running) y) (temp_in t y) q.1 (kinded.each y (ltb-true y (length
+            (kinds_in s running)) q.0)),
         point.fits.calls.1.known y (now read_y),
       )
 
 -- ---- all of them
 
-made : (s : Setting) (code : List Instr) (x : IsText s code) (stack : StackIsThere s) (w : World) (p : Typed) (running : Running)
-    (op : CapWork) (to a : ℕ) (b : Option ℕ) (rest : List TacInstr) (sel : IsSelectable s p running (instr.Cap op to a b) rest)
-    (at : ℕ) (t : State modes.Store) (m : Machine) (point : IsAtPoint s code (before running (instr.Cap op to a b) rest) at t m)
-    (kinded : AreOfKinds (kinds_in s running) t.vars) → Made s code x stack w p running op to a b rest sel at t m point kinded
+made : (s : Setting) (code : List Instr) (x : IsText s code) (stack : StackIsThere s) (w : World) (p : Typed)
+    (running : Running)
+    (op : CapWork) (to a : ℕ) (b : Option ℕ) (rest : List TacInstr) (sel : IsSelectable s p running
+    (instr.Cap op to a b) rest)
+    (at : ℕ) (t : State modes.Store) (m : Machine) (point : IsAtPoint s code (before running
+    (instr.Cap op to a b) rest) at t m)
+    (kinded : AreOfKinds (kinds_in s running) t.vars) → Made s code x stack w p running op to a b rest sel at t m point
+    kinded
 unfolding operations row cap_get_row cap_reg_row
 made s code x stack w p running cap.Base to a b rest sel at t m point kinded =
     let q = three_parts _ _ _ sel.fits in
@@ -256,9 +287,12 @@ made s code x stack w p running cap.Base to a b rest sel at t m point kinded =
     record {
       value = Int (base c);
       means = ap number_answer g.bases;
-      kind_is = word_kinded s code x stack w p running cap.Base to a b rest sel at t m point kinded q.0 (base c) (base_below c.fields.internal c.fields.t c.fields.b c.fields.address);
-      does = one_does s code x stack w p running cap.Base to a b rest sel at t m point kinded Cgetbase (Int (base c)) (base_below c.fields.internal c.fields.t c.fields.b c.fields.address)
-          (λ u r y e. gives_number s code x stack w p running cap.Base to a b rest sel at t m point kinded u r _ (base c) (ap (λ (d : Cap). base d) e));
+      kind_is = word_kinded s code x stack w p running cap.Base to a b rest sel at t m point kinded q.0 (base c)
+          (base_below c.fields.internal c.fields.t c.fields.b c.fields.address);
+      does = one_does s code x stack w p running cap.Base to a b rest sel at t m point kinded Cgetbase (Int (base c))
+          (base_below c.fields.internal c.fields.t c.fields.b c.fields.address)
+          (λ u r y e. gives_number s code x stack w p running cap.Base to a b rest sel at t m point kinded u r _
+          (base c) (ap (λ (d : Cap). base d) e));
     }
 made s code x stack w p running cap.Offset to a b rest sel at t m point kinded =
     let q = three_parts _ _ _ sel.fits in
@@ -267,9 +301,13 @@ made s code x stack w p running cap.Offset to a b rest sel at t m point kinded =
     record {
       value = Int ((c.fields.address + (2 ^ 64 - base c)) % 2 ^ 64);
       means = ap number_answer g.offsets;
-      kind_is = word_kinded s code x stack w p running cap.Offset to a b rest sel at t m point kinded q.0 ((c.fields.address + (2 ^ 64 - base c)) % 2 ^ 64) (omega arith);
-      does = one_does s code x stack w p running cap.Offset to a b rest sel at t m point kinded Cgetoffset (Int ((c.fields.address + (2 ^ 64 - base c)) % 2 ^ 64)) (omega arith)
-          (λ u r y e. gives_number s code x stack w p running cap.Offset to a b rest sel at t m point kinded u r _ ((c.fields.address + (2 ^ 64 - base c)) % 2 ^ 64) (ap (λ (d : Cap). (d.fields.address + (2 ^ 64 - base d)) % 2 ^ 64) e));
+      kind_is = word_kinded s code x stack w p running cap.Offset to a b rest sel at t m point kinded q.0
+          ((c.fields.address + (2 ^ 64 - base c)) % 2 ^ 64) (omega arith);
+      does = one_does s code x stack w p running cap.Offset to a b rest sel at t m point kinded Cgetoffset (Int
+          ((c.fields.address + (2 ^ 64 - base c)) % 2 ^ 64)) (omega arith)
+          (λ u r y e. gives_number s code x stack w p running cap.Offset to a b rest sel at t m point kinded u r _
+          ((c.fields.address + (2 ^ 64 - base c)) % 2 ^ 64) (ap (λ (d : Cap). (d.fields.address +
+          (2 ^ 64 - base d)) % 2 ^ 64) e));
     }
 made s code x stack w p running cap.Length to a b rest sel at t m point kinded =
     let q = three_parts _ _ _ sel.fits in
@@ -278,9 +316,12 @@ made s code x stack w p running cap.Length to a b rest sel at t m point kinded =
     record {
       value = Int (length_of c);
       means = ap number_answer g.lengths;
-      kind_is = word_kinded s code x stack w p running cap.Length to a b rest sel at t m point kinded q.0 (length_of c) (length_below c);
-      does = one_does s code x stack w p running cap.Length to a b rest sel at t m point kinded Cgetlen (Int (length_of c)) (length_below c)
-          (λ u r y e. gives_number s code x stack w p running cap.Length to a b rest sel at t m point kinded u r _ (length_of c) (ap (λ (d : Cap). length_of d) e));
+      kind_is = word_kinded s code x stack w p running cap.Length to a b rest sel at t m point kinded q.0
+          (length_of c) (length_below c);
+      does = one_does s code x stack w p running cap.Length to a b rest sel at t m point kinded Cgetlen (Int
+          (length_of c)) (length_below c)
+          (λ u r y e. gives_number s code x stack w p running cap.Length to a b rest sel at t m point kinded u r _
+          (length_of c) (ap (λ (d : Cap). length_of d) e));
     }
 made s code x stack w p running cap.Perms to a b rest sel at t m point kinded =
     let q = three_parts _ _ _ sel.fits in
@@ -289,9 +330,12 @@ made s code x stack w p running cap.Perms to a b rest sel at t m point kinded =
     record {
       value = Int (c.fields.perms);
       means = ap (λ n. Ok (Int n)) g.permissions;
-      kind_is = word_kinded s code x stack w p running cap.Perms to a b rest sel at t m point kinded q.0 (c.fields.perms) (let h = c.fields.perms_in_range in omega arith);
-      does = one_does s code x stack w p running cap.Perms to a b rest sel at t m point kinded Cgetperm (Int (c.fields.perms)) (let h = c.fields.perms_in_range in omega arith)
-          (λ u r y e. gives_number s code x stack w p running cap.Perms to a b rest sel at t m point kinded u r _ (c.fields.perms) (ap (λ (d : Cap). d.fields.perms) e));
+      kind_is = word_kinded s code x stack w p running cap.Perms to a b rest sel at t m point kinded q.0
+          (c.fields.perms) (let h = c.fields.perms_in_range in omega arith);
+      does = one_does s code x stack w p running cap.Perms to a b rest sel at t m point kinded Cgetperm (Int
+          (c.fields.perms)) (let h = c.fields.perms_in_range in omega arith)
+          (λ u r y e. gives_number s code x stack w p running cap.Perms to a b rest sel at t m point kinded u r _
+          (c.fields.perms) (ap (λ (d : Cap). d.fields.perms) e));
     }
 made s code x stack w p running cap.Tag to a b rest sel at t m point kinded =
     let q = three_parts _ _ _ sel.fits in
@@ -300,66 +344,96 @@ made s code x stack w p running cap.Tag to a b rest sel at t m point kinded =
     record {
       value = truth c.tag;
       means = ap (λ y. Ok (truth y)) g.tags;
-      kind_is = number_kinded s code x stack w p running cap.Tag to a b rest sel at t m point kinded int.Bool q.0 (truth c.tag) (truth_kept int.Bool bit_kept c.tag);
-      does = one_does s code x stack w p running cap.Tag to a b rest sel at t m point kinded Cgettag (truth c.tag) (truth_known t.mem.memory.shapes (functions_of s) c.tag)
+      kind_is = number_kinded s code x stack w p running cap.Tag to a b rest sel at t m point kinded int.Bool q.0
+          (truth c.tag) (truth_kept int.Bool bit_kept c.tag);
+      does = one_does s code x stack w p running cap.Tag to a b rest sel at t m point kinded Cgettag (truth c.tag)
+          (truth_known t.mem.memory.shapes (functions_of s) c.tag)
           (λ u r y e. ap (λ (d : Cap). set_integer u r (one_where d.tag)) e
           ∙ ap (set u r) (sym (truth_bits (addresses_of s.map) (base_in t.mem.memory.shapes) c.tag)));
     }
 made s code x stack w p running cap.Clear to a b rest sel at t m point kinded =
     let q = three_parts _ _ _ sel.fits in
-    let g = answered _ _ _ _ _ (pointers s code x stack w p running cap.Clear to a b rest sel at t m point kinded q.1).clears in
+    let g = answered _ _ _ _ _ (pointers s code x stack w p running cap.Clear to a b rest sel at t m point kinded
+    q.1).clears in
     record {
       value = g.value;
       means = g.is;
-      kind_is = same_kinded s code x stack w p running cap.Clear to a b rest sel at t m point kinded q.1 q.0 g.value g.pointer;
-      does = one_does s code x stack w p running cap.Clear to a b rest sel at t m point kinded Ccleartag g.value g.known (λ u r y e. ap (λ c. set u r (cleared c)) e ∙ ap (set u r) g.bits);
+      kind_is = same_kinded s code x stack w p running cap.Clear to a b rest sel at t m point kinded q.1 q.0 g.value
+          g.pointer;
+      does = one_does s code x stack w p running cap.Clear to a b rest sel at t m point kinded Ccleartag g.value
+          g.known (λ u r y e. ap (λ c. set u r (cleared c)) e ∙ ap (set u r) g.bits);
     }
 made s code x stack w p running cap.SetAddress to a None rest sel at t m point kinded =
-    absurd (let e : false ≡ true = (three_parts (has p sel.d (kinds_in s running) (code_in s running) to (kind_at (kinds_in s running) a))
+    absurd (let e : false ≡ true = (three_parts (has p sel.d (kinds_in s running) (code_in s running) to (kind_at
+    (kinds_in s running) a))
     (has_capability p sel.d (kinds_in s running) (code_in s running) a) false sel.fits).2 in cc)
 made s code x stack w p running cap.SetAddress to a (Some y) rest sel at t m point kinded =
     let q = three_parts _ _ _ sel.fits in
-    let o = address_there s code x stack w p running cap.SetAddress to a (Some y) rest sel at t m point kinded y refl q.2 in
+    let o = address_there s code x stack w p running cap.SetAddress to a
+    (Some y) rest sel at t m point kinded y refl q.2 in
     let n = number_of (temp_in t y) in
-    let g = answered _ _ _ _ _ ((pointers s code x stack w p running cap.SetAddress to a (Some y) rest sel at t m point kinded q.1).sets n o.1) in
+    let g = answered _ _ _ _ _ ((pointers s code x stack w p running cap.SetAddress to a
+    (Some y) rest sel at t m point kinded q.1).sets n o.1) in
     record {
       value = g.value;
       means = g.is;
-      kind_is = same_kinded s code x stack w p running cap.SetAddress to a (Some y) rest sel at t m point kinded q.1 q.0 g.value g.pointer;
-      does = two_does s code x stack w p running cap.SetAddress to a (Some y) rest sel at t m point kinded Csetaddr y refl g.value g.known
+      kind_is = same_kinded s code x stack w p running cap.SetAddress to a
+          (Some y) rest sel at t m point kinded q.1 q.0 g.value g.pointer;
+      does = two_does s code x stack w p running cap.SetAddress to a
+          (Some y) rest sel at t m point kinded Csetaddr y refl g.value g.known
           (λ u r j z e f. ap (λ c. set u r (moved c (integer u z))) e
-          ∙ ap (λ k. set u r (moved (bits s code x stack w p running cap.SetAddress to a (Some y) rest sel at t m point kinded (temp_in t a)) k)) (number_there s code x stack w p running cap.SetAddress to a (Some y) rest sel at t m point kinded u z (temp_in t y) o.0 f) ∙ ap (set u r) g.bits);
+          ∙ ap (λ k. set u r (moved (bits s code x stack w p running cap.SetAddress to a
+          (Some y) rest sel at t m point kinded (temp_in t a)) k))
+          (number_there s code x stack w p running cap.SetAddress to a
+          (Some y) rest sel at t m point kinded u z (temp_in t y) o.0 f) ∙ ap (set u r) g.bits);
     }
 made s code x stack w p running cap.AndPerms to a None rest sel at t m point kinded =
-    absurd (let e : false ≡ true = (three_parts (has p sel.d (kinds_in s running) (code_in s running) to (kind_at (kinds_in s running) a))
+    absurd (let e : false ≡ true = (three_parts (has p sel.d (kinds_in s running) (code_in s running) to (kind_at
+    (kinds_in s running) a))
     (has_capability p sel.d (kinds_in s running) (code_in s running) a) false sel.fits).2 in cc)
 made s code x stack w p running cap.AndPerms to a (Some y) rest sel at t m point kinded =
     let q = three_parts _ _ _ sel.fits in
-    let o = other_int s code x stack w p running cap.AndPerms to a (Some y) rest sel at t m point kinded y refl int.U64 q.2 in
+    let o = other_int s code x stack w p running cap.AndPerms to a
+    (Some y) rest sel at t m point kinded y refl int.U64 q.2 in
     let n = number_of (temp_in t y) in
-    let g = answered _ _ _ _ _ ((pointers s code x stack w p running cap.AndPerms to a (Some y) rest sel at t m point kinded q.1).masks n) in
+    let g = answered _ _ _ _ _ ((pointers s code x stack w p running cap.AndPerms to a
+    (Some y) rest sel at t m point kinded q.1).masks n) in
     record {
       value = g.value;
       means = g.is;
-      kind_is = same_kinded s code x stack w p running cap.AndPerms to a (Some y) rest sel at t m point kinded q.1 q.0 g.value g.pointer;
-      does = two_does s code x stack w p running cap.AndPerms to a (Some y) rest sel at t m point kinded Candperm y refl g.value g.known
+      kind_is = same_kinded s code x stack w p running cap.AndPerms to a
+          (Some y) rest sel at t m point kinded q.1 q.0 g.value g.pointer;
+      does = two_does s code x stack w p running cap.AndPerms to a
+          (Some y) rest sel at t m point kinded Candperm y refl g.value g.known
           (λ u r j z e f. ap (λ c. set u r (masked c (integer u z % 2 ^ 12))) e
-          ∙ ap (λ k. set u r (masked (bits s code x stack w p running cap.AndPerms to a (Some y) rest sel at t m point kinded (temp_in t a)) (k % 2 ^ 12))) (number_there s code x stack w p running cap.AndPerms to a (Some y) rest sel at t m point kinded u z (temp_in t y) o.0 f)
+          ∙ ap (λ k. set u r (masked (bits s code x stack w p running cap.AndPerms to a
+          (Some y) rest sel at t m point kinded (temp_in t a)) (k % 2 ^ 12)))
+          (number_there s code x stack w p running cap.AndPerms to a (Some y) rest sel at t m point kinded u z
+          (temp_in t y) o.0 f)
           ∙ ap (set u r) g.bits);
     }
 made s code x stack w p running cap.EqualExact to a None rest sel at t m point kinded =
-    absurd (let e : false ≡ true = (three_parts (has p sel.d (kinds_in s running) (code_in s running) to (Plain int.Bool))
+    absurd (let e : false ≡ true = (three_parts (has p sel.d (kinds_in s running) (code_in s running) to
+    (Plain int.Bool))
     (has_capability p sel.d (kinds_in s running) (code_in s running) a) false sel.fits).2 in cc)
 made s code x stack w p running cap.EqualExact to a (Some y) rest sel at t m point kinded =
     let q = three_parts _ _ _ sel.fits in
     let c = bits s code x stack w p running cap.EqualExact to a (Some y) rest sel at t m point kinded (temp_in t a) in
     let d = bits s code x stack w p running cap.EqualExact to a (Some y) rest sel at t m point kinded (temp_in t y) in
-    let g = (gettings s code x stack w p running cap.EqualExact to a (Some y) rest sel at t m point kinded q.1).comparisons (temp_in t a) (temp_in t y) (pointer_here s code x stack w p running cap.EqualExact to a (Some y) rest sel at t m point kinded q.1) (other_pointer s code x stack w p running cap.EqualExact to a (Some y) rest sel at t m point kinded y refl q.2) in
+    let g = (gettings s code x stack w p running cap.EqualExact to a
+    (Some y) rest sel at t m point kinded q.1).comparisons (temp_in t a) (temp_in t y)
+    (pointer_here s code x stack w p running cap.EqualExact to a (Some y) rest sel at t m point kinded q.1)
+    (other_pointer s code x stack w p running cap.EqualExact to a
+    (Some y) rest sel at t m point kinded y refl q.2) in
     record {
       value = truth (same c d);
       means = ap truth_answer g.identities;
-      kind_is = number_kinded s code x stack w p running cap.EqualExact to a (Some y) rest sel at t m point kinded int.Bool q.0 (truth (same c d)) (truth_kept int.Bool bit_kept (same c d));
-      does = two_does s code x stack w p running cap.EqualExact to a (Some y) rest sel at t m point kinded Csetequalexact y refl (truth (same c d)) (truth_known t.mem.memory.shapes (functions_of s) (same c d))
+      kind_is = number_kinded s code x stack w p running cap.EqualExact to a
+          (Some y) rest sel at t m point kinded int.Bool q.0 (truth (same c d)) (truth_kept int.Bool bit_kept
+          (same c d));
+      does = two_does s code x stack w p running cap.EqualExact to a
+          (Some y) rest sel at t m point kinded Csetequalexact y refl (truth (same c d))
+          (truth_known t.mem.memory.shapes (functions_of s) (same c d))
           (λ u r j z e f. ap (λ k. set_integer u r (one_where (same k (register u z)))) e
           ∙ ap (λ k. set_integer u r (one_where (same c k))) f
           ∙ ap (set u r) (sym (truth_bits (addresses_of s.map) (base_in t.mem.memory.shapes) (same c d))));
@@ -372,9 +446,13 @@ made s code x stack w p running cap.Rounded to a b rest sel at t m point kinded 
     record {
       value = Int (owned n % 2 ^ 64);
       means = refl;
-      kind_is = word_kinded s code x stack w p running cap.Rounded to a b rest sel at t m point kinded q.0 (owned n % 2 ^ 64) (omega (arith, pos));
-      does = one_does s code x stack w p running cap.Rounded to a b rest sel at t m point kinded Crrl (Int (owned n % 2 ^ 64)) (omega (arith, pos))
-          (λ u r y e. gives_number s code x stack w p running cap.Rounded to a b rest sel at t m point kinded u r _ (owned n % 2 ^ 64) (ap (λ n. owned n % 2 ^ 64) (number_there s code x stack w p running cap.Rounded to a b rest sel at t m point kinded u y (temp_in t a) o e)));
+      kind_is = word_kinded s code x stack w p running cap.Rounded to a b rest sel at t m point kinded q.0
+          (owned n % 2 ^ 64) (omega (arith, pos));
+      does = one_does s code x stack w p running cap.Rounded to a b rest sel at t m point kinded Crrl (Int
+          (owned n % 2 ^ 64)) (omega (arith, pos))
+          (λ u r y e. gives_number s code x stack w p running cap.Rounded to a b rest sel at t m point kinded u r _
+          (owned n % 2 ^ 64) (ap (λ n. owned n % 2 ^ 64) (number_there s code x stack w p running cap.Rounded to a
+          b rest sel at t m point kinded u y (temp_in t a) o e)));
     }
 made s code x stack w p running cap.Mask to a b rest sel at t m point kinded =
     let q = three_parts _ _ _ sel.fits in
@@ -384,9 +462,14 @@ made s code x stack w p running cap.Mask to a b rest sel at t m point kinded =
     record {
       value = Int (2 ^ 64 - alignment n);
       means = refl;
-      kind_is = word_kinded s code x stack w p running cap.Mask to a b rest sel at t m point kinded q.0 (2 ^ 64 - alignment n) (omega (arith, pos));
-      does = one_does s code x stack w p running cap.Mask to a b rest sel at t m point kinded Cram (Int (2 ^ 64 - alignment n)) (omega (arith, pos))
-          (λ u r y e. gives_number s code x stack w p running cap.Mask to a b rest sel at t m point kinded u r _ (2 ^ 64 - alignment n) (ap (λ n. 2 ^ 64 - alignment n) (number_there s code x stack w p running cap.Mask to a b rest sel at t m point kinded u y (temp_in t a) o e)));
+      kind_is = word_kinded s code x stack w p running cap.Mask to a b rest sel at t m point kinded q.0
+          (2 ^ 64 - alignment n) (omega (arith, pos));
+      does = one_does s code x stack w p running cap.Mask to a b rest sel at t m point kinded Cram (Int
+          (2 ^ 64 - alignment n)) (omega (arith, pos))
+          (λ u r y e. gives_number s code x stack w p running cap.Mask to a b rest sel at t m point kinded u r _
+          (2 ^ 64 - alignment n) (ap (λ n. 2 ^ 64 - alignment n)
+          (number_there s code x stack w p running cap.Mask to a b rest sel at t m point kinded u y
+          (temp_in t a) o e)));
     }
 
 pub intrinsics_run_law : IntrinsicsRun

@@ -1,13 +1,11 @@
 -- Jumps and branches to a label of the function.
-use Rattle.std.proofs.Common.{◌≡◌, ℕ, zero, suc, ◌+◌, ◌%◌, ◌^◌, ◌<◌, ◌≤◌, ℤ, pos, Bool, true, false, not, List, [], ◌∷◌, ◌++◌, length, Option, Some, refl, sym, ap, ◌∙◌, subst, arith, if◌then◌else◌}
+use Rattle.std.proofs.Common.{◌≡◌, ℕ, zero, ◌+◌, ◌%◌, ◌^◌, ◌<◌, ◌≤◌, ℤ, pos, Bool, true, false, not, List, [], ◌∷◌, length, Some, refl, sym, ap, ◌∙◌, subst, arith, if◌then◌else◌}
 use Rattle.std.specs.Prelude.{slice_get, ◌==◌, Result, Ok}
 use Rattle.std.proofs.lemmas.List.{length-append}
 use Rattle.std.proofs.lemmas.Option.{slice_get_within}
 use Rattle.ck_base.specs.Runs.{Goes}
 use Rattle.ck_base.specs.World.{World}
 use Rattle.ck_int.specs.declared.kinds.IntKind.TheVariants as int
-use Rattle.ck_int.specs.declared.kinds.CmpOp.TheVariants as test
-use Rattle.ck_int.specs.Arithmetic.{compare_of}
 use Rattle.ck_int.specs.Kinds.{IsKept, kept_of}
 use Rattle.ck_int.proofs.OperationLaws.{IsKept-64, compare_of-Eq_kept, compare_of-Ne}
 use Rattle.cap_ops.specs.declared.capability.Cap.{Cap}
@@ -18,18 +16,17 @@ use Rattle.cap_machine.specs.Integers.{extended, is_taken}
 use Rattle.cap_machine.specs.declared.machine.Machine.{Machine}
 use Rattle.cap_machine.specs.declared.end.Step.TheVariants.{Next}
 use Rattle.cap_machine.specs.Rows.{row, cjal_row, branch_row}
-use Rattle.cap_machine.specs.State.{register, integer}
+use Rattle.cap_machine.specs.State.{integer}
 use Rattle.cap_machine.specs.Step.{act, act_of, is_call}
 use Rattle.c_tree.specs.declared.typed.Typed.{Typed}
 use Rattle.obj_mem.specs.declared.ending.Fault.{Fault}
 use Rattle.obj_mem.specs.Objects.{base_in}
 use Rattle.obj_mem.specs.Table.{addresses_of}
 use Rattle.obj_mem.specs.Values.{Value, Int, Live, Fun, Raw, address_of, capability_of}
-use Rattle.cheri_c_sem.specs.Kinds.{Kind, Plain, Capability, number_of}
+use Rattle.cheri_c_sem.specs.Kinds.{Kind, Plain, Capability}
 use Rattle.cheri_c_sem.specs.Modes.{Store, operations, placed_plan}
 use Rattle.cheri_c_sem.specs.Operations.{is_true}
 use Rattle.cheri_c_sem.specs.Steps.{State, Fate, answer}
-use Rattle.tac_ir.specs.Costs.{cost}
 use Rattle.tac_ir.specs.Effects.{Next as Way, effect, way, same, kind_at, temp_in, no_position}
 use Rattle.tac_ir.specs.Meaning.{Running}
 use Rattle.tac_ir.specs.Temps.{now, ahead, back, onward as further, IsIn as IsAmong}
@@ -44,11 +41,10 @@ use Rattle.place_inject.proofs.Getting.{getting_fits_law}
 use Rattle.place_inject.proofs.Results.{moves_on_law}
 use Rattle.place_inject.proofs.StoresKeep.{scratch_keeps_law}
 use Rattle.select_runs.specs.Acts.{Ground, HasAt, IsThere, Leads, counter_at, place}
-use Rattle.select_runs.specs.Emitted.{Operand}
 use Rattle.select_runs.specs.Kinds.{IsOfKind, AreOfKinds}
 use Rattle.select_runs.specs.Operands.{ground_of, IsText, IsAtPoint}
 use Rattle.select_runs.specs.Results.{Arrives, before, behind, code_in, kinds_in}
-use Rattle.select_runs.specs.Jumps.{LeadsTo, JumpsRun, inverted, BranchWords, Branches, Taken, Passed, BranchesTo, BranchesRun}
+use Rattle.select_runs.specs.Jumps.{LeadsTo, JumpsRun, inverted, BranchWords, Branches, Taken, Passed, BranchesRun}
 use Rattle.select_runs.proofs.Acts.{counter_moved, fetched_here, act_on_row, has_front, has_back, join}
 use Rattle.select_runs.proofs.Numbers.{null_address}
 use Rattle.select_runs.proofs.Points.{laid, there}
@@ -73,22 +69,27 @@ module _ (s : Setting) (code : List Instr) (x : IsText s code) where
       ∙ ap (λ (c : Cap). Goes (record m { pc = c }))
       (ap (λ c. added c by) h.counter ∙ counter_moved g (laid s code x) at to by (omega arith) inside sum)
 
-  jumps : (m : Machine) (at to : ℕ) (z : ℤ) → IsThere g m at → LeadsTo s code at to z → slice_get code at ≡ Some (Cjal 0 z)
+  jumps : (m : Machine) (at to : ℕ) (z : ℤ) → IsThere g m at → LeadsTo s code at to z → slice_get code at ≡ Some
+      (Cjal 0 z)
       → act m ≡ Goes (landed m to)
   unfolding row cjal_row
   jumps m at to z h leads has = hops m at to (extended z) (Cjal 0 z) h has refl refl leads.inside leads.there
 
   -- the machine still stands for the state, at what is read no more than before
-  lands : (p : Point) (rest : List TacInstr) → ((temp : ℕ) → IsLive s (onward p rest) temp → IsLive s p temp) → (at to : ℕ)
-      → (t : State Store) (m : Machine) → IsAtPoint s code p at t m → IsAtPoint s code (onward p rest) to t (landed m to)
+  lands : (p : Point) (rest : List TacInstr) → ((temp : ℕ) → IsLive s (onward p rest) temp → IsLive s p temp) →
+      (at to : ℕ)
+      → (t : State Store) (m : Machine) → IsAtPoint s code p at t m → IsAtPoint s code (onward p rest) to t
+      (landed m to)
   lands p rest reads at to t m point = record {
-    fits = scratch_keeps_law s x.usable (Some (onward p rest)) t m (moves_on_law s p t m point.fits rest reads) (landed m to)
+    fits = scratch_keeps_law s x.usable (Some (onward p rest)) t m (moves_on_law s p t m point.fits rest reads)
+        (landed m to)
         point.fits.registers refl (λ r l. refl);
     counter = refl;
   }
 
   arrives : (p : Point) (rest : List TacInstr) → ((temp : ℕ) → IsLive s (onward p rest) temp → IsLive s p temp)
-      → (count least most at to : ℕ) (z : ℤ) (t : State Store) (m n : Machine) → Leads count m n → IsAtPoint s code p at t n
+      → (count least most at to : ℕ) (z : ℤ) (t : State Store) (m n : Machine) → Leads count m n
+      → IsAtPoint s code p at t n
       → LeadsTo s code at to z → slice_get code at ≡ Some (Cjal 0 z) → least ≤ count + 1 → count + 1 ≤ most
       → Arrives s code (onward p rest) least most to t m
   arrives p rest reads count least most at to z t m n leads point leads_to has ge le = record {
@@ -96,7 +97,12 @@ module _ (s : Setting) (code : List Instr) (x : IsText s code) where
     to = landed n to;
     ge = ge;
     le = le;
-    leads = join count 1 m n (landed n to) leads (landed n to, jumps n at to z (there s code x p at t n point) leads_to has, refl);
+    leads = join count 1 m n (landed n to) leads (
+      landed n to,
+      jumps n at to z
+          (there s code x p at t n point) leads_to has,
+      refl,
+    );
     point = lands p rest reads at to t n point;
   }
 
@@ -104,7 +110,8 @@ pub jumps_run_law : JumpsRun
 jumps_run_law s code x w p running l rest at to z leads has t m = record {
   ahead = λ point. record {
     means = λ k. refl;
-    does = arrives s code x (before running (instr.Jump l) rest) (temps.behind l rest) (λ temp live. ahead l (zero, refl) live)
+    does = arrives s code x (before running (instr.Jump l) rest) (temps.behind l rest) (λ temp live. ahead l
+        (zero, refl) live)
         0 1 1 at to z t m m refl point leads has.0 (omega arith) (omega arith);
   };
   back = λ point. record {
@@ -117,7 +124,8 @@ jumps_run_law s code x w p running l rest at to z leads has t m = record {
 -- ---- truth
 
 -- the address that a value's capability has
-pub address_there : (s : Setting) (code : List Instr) (x : IsText s code) (p : Point) (at : ℕ) (t : State Store) (m : Machine)
+pub address_there : (s : Setting) (code : List Instr) (x : IsText s code) (p : Point) (at : ℕ) (t : State Store)
+    (m : Machine)
     → IsAtPoint s code p at t m → (v : Value) → IsKnown t.mem.memory.shapes (functions_of s) v
     → (capability_of (addresses_of s.map) (base_in t.mem.memory.shapes) v).fields.address
     ≡ address_of (addresses_of s.map) (base_in t.mem.memory.shapes) v
@@ -130,19 +138,22 @@ address_there s code x p at t m point v known = by v known
     pointer : (u : Value) → is_integer u ≡ false → IsKnown t.mem.memory.shapes (functions_of s) u
         → (capability_of (addresses_of s.map) (base_in t.mem.memory.shapes) u).fields.address
         ≡ address_of (addresses_of s.map) (base_in t.mem.memory.shapes) u
-    pointer u i k = ap number_in (sym ((getting_fits_law (functions_of s) (addresses_of s.map) t.mem.memory m.mem point.fits.objects
+    pointer u i k = ap number_in (sym ((getting_fits_law (functions_of s)
+        (addresses_of s.map) t.mem.memory m.mem point.fits.objects
         x.legal.text_exact).getters u (i, k)).addresses)
 
     by : (u : Value) → IsKnown t.mem.memory.shapes (functions_of s) u
         → (capability_of (addresses_of s.map) (base_in t.mem.memory.shapes) u).fields.address
         ≡ address_of (addresses_of s.map) (base_in t.mem.memory.shapes) u
-    by (Int n) k = ap (λ (c : Cap). c.fields.address) (integer_bits (addresses_of s.map) (base_in t.mem.memory.shapes) n) ∙ null_address n
+    by (Int n) k = ap (λ (c : Cap). c.fields.address) (integer_bits (addresses_of s.map)
+        (base_in t.mem.memory.shapes) n) ∙ null_address n
     by (Live object low high offset permissions) k = pointer (Live object low high offset permissions) refl k
     by (Fun f) k = pointer (Fun f) refl k
     by (Raw address upper) k = pointer (Raw address upper) refl k
 
 -- a value has an address of 64 bits
-pub address_below : (s : Setting) (code : List Instr) (x : IsText s code) (p : Point) (at : ℕ) (t : State Store) (m : Machine)
+pub address_below : (s : Setting) (code : List Instr) (x : IsText s code) (p : Point) (at : ℕ) (t : State Store)
+    (m : Machine)
     → IsAtPoint s code p at t m → (v : Value) → IsKnown t.mem.memory.shapes (functions_of s) v
     → address_of (addresses_of s.map) (base_in t.mem.memory.shapes) v < 2 ^ 64
 address_below s code x p at t m point (Int n) k = k
@@ -185,8 +196,10 @@ not_not false = refl
 
 -- ---- branches
 
-module _ (s : Setting) (code : List Instr) (x : IsText s code) (w : World) (p : Typed) (running : Running) (on : ℕ) (when : Bool)
-    (l : ℕ) (rest : List TacInstr) (below : on < length (kinds_in s running)) (at to : ℕ) (z : ℤ) (finds words : List Instr)
+module _ (s : Setting) (code : List Instr) (x : IsText s code) (w : World) (p : Typed) (running : Running) (on : ℕ)
+    (when : Bool)
+    (l : ℕ) (rest : List TacInstr) (below : on < length (kinds_in s running)) (at to : ℕ) (z : ℤ)
+    (finds words : List Instr)
     (form : BranchWords s running.fun on when z finds words) (has : HasAt code at words)
     (leads : LeadsTo s code (at + length finds + 1) to z) (t : State Store) (m : Machine)
     (kinded : AreOfKinds (kinds_in s running) t.vars) where
@@ -203,7 +216,8 @@ module _ (s : Setting) (code : List Instr) (x : IsText s code) (w : World) (p : 
   taken_is : number < 2 ^ 64 → (b : Bool) → when ≡ b → is_taken (inverted when) number 0 ≡ not goes
   unfolding is_taken
   taken_is small true e =
-      rw e (compare_of-Eq_kept int.I64 number 0 (IsKept-64 int.I64 number refl small) (zero_kept int.I64) ∙ sym (not_not (number == 0)))
+      rw e (compare_of-Eq_kept int.I64 number 0 (IsKept-64 int.I64 number refl small) (zero_kept int.I64) ∙ sym
+      (not_not (number == 0)))
   taken_is small false e =
       rw e (compare_of-Ne int.I64 number 0
       ∙ ap not (compare_of-Eq_kept int.I64 number 0 (IsKept-64 int.I64 number refl small) (zero_kept int.I64))
@@ -211,9 +225,11 @@ module _ (s : Setting) (code : List Instr) (x : IsText s code) (w : World) (p : 
 
   -- what the instruction leads to, by the test
   by_test : (c : Bool) → goes ≡ c → (k : Way → State Store → Fate)
-      → effect (operations (placed_plan s.map)) w p (kinds_in s running) branch t k ≡ k (way (operations (placed_plan s.map)) w p c l) t
+      → effect (operations (placed_plan s.map)) w p (kinds_in s running) branch t k ≡ k (way (operations
+      (placed_plan s.map)) w p c l) t
   by_test c e k =
-      ap (λ r. answer no_position r t (λ b u. k (way (operations (placed_plan s.map)) w p (same (operations (placed_plan s.map)) w p when b) l) u))
+      ap (λ r. answer no_position r t (λ b u. k (way (operations (placed_plan s.map)) w p (same (operations
+      (placed_plan s.map)) w p when b) l) u))
       (truth_is s t (kind_at (kinds_in s running) on) (temp_in t on) (kinded.each on below))
       ∙ ap (λ b. k (way (operations (placed_plan s.map)) w p b l) t) e
 
@@ -235,7 +251,8 @@ module _ (s : Setting) (code : List Instr) (x : IsText s code) (w : World) (p : 
         (capability_of (addresses_of s.map) (base_in t.mem.memory.shapes) (temp_in t on))
     found =
         let e : 0 + length finds ≡ length finds = omega arith in
-        subst (λ k. Got s code here t m m k mid 28 form.a (capability_of (addresses_of s.map) (base_in t.mem.memory.shapes) (temp_in t on))) e
+        subst (λ k. Got s code here t m m k mid 28 form.a (capability_of (addresses_of s.map)
+        (base_in t.mem.memory.shapes) (temp_in t on))) e
         (operand_got s code x here t m m 0 at refl point on 28 form.a live (omega arith) (omega arith) finds form.found
         (has_front code at finds _ (subst (HasAt code at) form.are has)))
 
@@ -243,15 +260,28 @@ module _ (s : Setting) (code : List Instr) (x : IsText s code) (w : World) (p : 
     known = point.fits.calls.1.known on live
 
     number_there : integer found.to form.a ≡ number
-    number_there = ap (λ (c : Cap). c.fields.address) found.holds ∙ address_there s code x here at t m point (temp_in t on) known
+    number_there = ap (λ (c : Cap). c.fields.address) found.holds ∙ address_there s code x here at t m point
+        (temp_in t on) known
 
     tested : (c : Bool) → goes ≡ c → row found.to (Branch (inverted when) form.a 0 (pos 8))
         ≡ (Next, record found.to { pc = added found.to.pc (if not c then extended (pos 8) else 4) })
     unfolding row branch_row
     tested c e =
-        ap (λ n. (Next, record found.to { pc = added found.to.pc (if is_taken (inverted when) n (integer found.to 0) then extended (pos 8) else 4) }))
+        ap (λ n. (
+          Next,
+          record found.to {
+            pc = added found.to.pc (if is_taken (inverted when) n
+                (integer found.to 0) then extended (pos 8) else 4);
+          },
+        ))
         number_there
-        ∙ ap (λ n. (Next, record found.to { pc = added found.to.pc (if is_taken (inverted when) number n then extended (pos 8) else 4) }))
+        ∙ ap (λ n. (
+          Next,
+          record found.to {
+            pc = added found.to.pc (if is_taken (inverted when) number n then extended
+                (pos 8) else 4);
+          },
+        ))
         (null_address 0)
         ∙ ap (λ b. (Next, record found.to { pc = added found.to.pc (if b then extended (pos 8) else 4) }))
         (taken_is (address_below s code x here at t m point (temp_in t on) known) when refl ∙ ap not e)
@@ -273,11 +303,13 @@ module _ (s : Setting) (code : List Instr) (x : IsText s code) (w : World) (p : 
     goes_there e =
         let room = x.room in let top = x.legal.in_range.1 in
         let n : Machine = landed s code x found.to (mid + 1) in
-        let hop = hops s code x found.to mid (mid + 1) 4 (Branch (inverted when) form.a 0 (pos 8)) here_now ends.0 refl (tested true e)
+        let hop = hops s code x found.to mid (mid + 1) 4 (Branch (inverted when) form.a 0
+        (pos 8)) here_now ends.0 refl (tested true e)
         (omega (arith, inside)) (omega (arith, inside, room, top)) in
         arrives s code x here then_on to_label (length finds + 1) 1 5 (mid + 1) to z t m n
         (join (length finds) 1 m found.to n found.leads (n, hop, refl))
-        (lands s code x here front (λ temp h. h) mid (mid + 1) t found.to found.point) leads ends.1.0 (omega arith) (omega (arith, few))
+        (lands s code x here front (λ temp h. h) mid (mid + 1) t found.to found.point) leads ends.1.0 (omega arith)
+        (omega (arith, few))
 
     passes : goes ≡ false → Arrives s code (behind running rest) 0 5 (at + length words) t m
     passes e =

@@ -1,21 +1,24 @@
 -- Temps stay of their kinds.
-use Rattle.std.proofs.Common.{◌≡◌, ◌⊎◌, ℕ, zero, suc, ◌<◌, true, false, List, [], ◌∷◌, length, Option, Some, refl, sym, ap, ◌∙◌, subst, arith, inl, inr}
+use Rattle.std.proofs.Common.{◌≡◌, ℕ, zero, suc, ◌^◌, ◌<◌, true, false, List, [], ◌∷◌, length, Option, Some, refl, sym, ap, ◌∙◌, subst, arith, inl, inr}
 use Rattle.std.specs.Prelude.{slice_get, slice_set}
 use Rattle.std.proofs.lemmas.Bool.{and_parts, eqb-true, eq-eqb, ltb-true, cases_eq}
 use Rattle.std.proofs.lemmas.List.{length-set}
 use Rattle.std.proofs.lemmas.Option.{same_Some}
-use Rattle.ck_int.specs.Kinds.{IsKept}
 use Rattle.ck_int.specs.declared.kinds.IntKind.{IntKind}
 use Rattle.ck_int.specs.declared.kinds.IntKind.TheVariants as int
+use Rattle.cap_ops.specs.Capability.{moved, null_at}
 use Rattle.c_tree.specs.declared.typed.FunDef.{FunDef}
 use Rattle.c_tree.specs.declared.typed.Typed.{Typed}
-use Rattle.obj_mem.specs.Values.{Value, Int, Live, Fun, Raw}
+use Rattle.obj_mem.specs.Objects.{Shape, base_in}
+use Rattle.obj_mem.specs.Standing.{IsSpread}
+use Rattle.obj_mem.specs.Values.{Value, Raw, Addresses, capability_of}
 use Rattle.cheri_c_sem.specs.Compatible.{kind_number}
 use Rattle.cheri_c_sem.specs.Kinds.{Kind, Plain, Capability}
 use Rattle.tac_ir.specs.Effects.{held, kind_at}
 use Rattle.tac_ir.specs.WellFormed.{same_kind, has, is_temp}
 use Rattle.tac_ir.specs.declared.code.TacInstr.{TacInstr}
 use Rattle.tac_ir.specs.declared.code.TacKind.{TacKind}
+use Rattle.place_inject.proofs.Pointing.{pointers_fit_law}
 use Rattle.select_runs.specs.Kinds.{IsOfKind, AreOfKinds}
 
 kind_by : ℕ → IntKind
@@ -42,7 +45,8 @@ kind_again int.I64 = refl
 kind_again int.U64 = refl
 
 pub same_turned : (a b : Kind) → same_kind a b ≡ true → same_kind b a ≡ true
-same_turned (Plain j) (Plain k) h = eq-eqb (kind_number k) (kind_number j) (sym (eqb-true (kind_number j) (kind_number k) h))
+same_turned (Plain j) (Plain k) h = eq-eqb (kind_number k) (kind_number j) (sym (eqb-true (kind_number j)
+    (kind_number k) h))
 same_turned (Capability true) (Capability true) h = refl
 same_turned (Capability false) (Capability false) h = refl
 same_turned (Capability true) (Capability false) h = cc
@@ -87,17 +91,19 @@ kinded_set kinds vars to v h below own =
     let long = h.one_each in
     record {
       one_each = length-set vars to (Some v) ∙ long;
-      given = λ t l. elim (cases_eq t to) as (λ _. slice_get (slice_set vars to (Some v)) t ≡ Some (Some (held (slice_get (slice_set vars to (Some v)) t)))) [
-        | inl e ↦ given_by (slice_get (slice_set vars to (Some v)) t) v
-            (ap (slice_get (slice_set vars to (Some v))) e ∙ got_same vars to (Some v) (omega arith))
-        | inr ne ↦ given_by (slice_get (slice_set vars to (Some v)) t) (held (slice_get vars t))
-            (got_other vars to t (Some v) ne ∙ h.given t l)
-      ];
-      each = λ t l. elim (cases_eq t to) as (λ _. IsOfKind (kind_at kinds t) (held (slice_get (slice_set vars to (Some v)) t))) [
-        | inl e ↦ subst (λ i. IsOfKind (kind_at kinds i) (held (slice_get (slice_set vars to (Some v)) i))) (sym e)
-            (subst (λ o. IsOfKind (kind_at kinds to) (held o)) (sym (got_same vars to (Some v) (omega arith))) own)
-        | inr ne ↦ subst (λ o. IsOfKind (kind_at kinds t) (held o)) (sym (got_other vars to t (Some v) ne)) (h.each t l)
-      ];
+      given = λ t l. elim (cases_eq t to) as (λ _. slice_get (slice_set vars to (Some v)) t ≡ Some (Some (held
+          (slice_get (slice_set vars to (Some v)) t)))) [
+            | inl e ↦ given_by (slice_get (slice_set vars to (Some v)) t) v
+                (ap (slice_get (slice_set vars to (Some v))) e ∙ got_same vars to (Some v) (omega arith))
+            | inr ne ↦ given_by (slice_get (slice_set vars to (Some v)) t) (held (slice_get vars t))
+                (got_other vars to t (Some v) ne ∙ h.given t l)
+          ];
+      each = λ t l. elim (cases_eq t to) as (λ _. IsOfKind (kind_at kinds t) (held (slice_get (slice_set vars to
+          (Some v)) t))) [
+            | inl e ↦ subst (λ i. IsOfKind (kind_at kinds i) (held (slice_get (slice_set vars to (Some v)) i))) (sym e)
+                (subst (λ o. IsOfKind (kind_at kinds to) (held o)) (sym (got_same vars to (Some v) (omega arith))) own)
+            | inr ne ↦ subst (λ o. IsOfKind (kind_at kinds t) (held o)) (sym (got_other vars to t (Some v) ne)) (h.each t l)
+          ];
     }
 
 -- what the test of a temp says
@@ -106,3 +112,11 @@ pub has_kind : (p : Typed) (d : FunDef) (kinds : List TacKind) (code : List TacI
 has_kind p d kinds code t k h =
     let parts = and_parts (is_temp p d kinds code t) (same_kind (kind_at kinds t) k) h in
     (ltb-true t (length kinds) parts.0, parts.1)
+
+-- null with an address, as a value and as a capability
+pub raw_null : (functions : ℕ) (a : Addresses) (shapes : List Shape) → IsSpread shapes functions a → (n : ℕ)
+    → n < 2 ^ 64
+    → capability_of a (base_in shapes) (Raw n 0) ≡ null_at n
+unfolding moved null_at capability_of
+raw_null functions a shapes spread n small =
+    sym ((pointers_fit_law functions a shapes spread (Raw 0 0) refl (omega arith, omega arith)).sets n small).2

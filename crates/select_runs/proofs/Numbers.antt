@@ -1,6 +1,6 @@
 -- Words that make a number do so on the machine.
-use Rattle.std.proofs.Common.{◌≡◌, ℕ, zero, suc, ◌+◌, ◌-◌, ◌*◌, ◌%◌, ◌^◌, ◌<◌, ◌≤◌, ◌⊎◌, inl, inr, ℤ, pos, negsuc, Bool, true, false, List, [], ◌∷◌, length, Some, refl, sym, ap, ◌∙◌, subst, arith, ⊎_elim, if◌then◌else◌}
-use Rattle.std.specs.Prelude.{nat_lt, slice_get, ◌==◌}
+use Rattle.std.proofs.Common.{◌≡◌, ℕ, suc, ◌+◌, ◌-◌, ◌*◌, ◌%◌, ◌^◌, ◌<◌, ◌≤◌, inl, inr, ℤ, pos, negsuc, false, List, [], ◌∷◌, length, Some, refl, sym, ap, ◌∙◌, subst, arith, ⊎_elim, if◌then◌else◌}
+use Rattle.std.specs.Prelude.{slice_get, ◌==◌}
 use Rattle.std.proofs.Math.Nat.{mod-eq_of_lt}
 use Rattle.std.proofs.lemmas.Bool.{cases_lt, eq-eqb, ne_eqb}
 use Rattle.std.proofs.lemmas.Bool.Decides.{nat_tests}
@@ -23,12 +23,12 @@ use Rattle.rv_instr.specs.declared.ops.ShiftOp.TheVariants.{Slli}
 use Rattle.rv_instr.specs.declared.ops.RegOp.TheVariants.{Add, Addw, Sll}
 use Rattle.cap_machine.specs.declared.machine.Machine.{Machine}
 use Rattle.cap_machine.specs.Integers.{result_of, word, upper, extended}
-use Rattle.cap_machine.specs.State.{register, integer}
+use Rattle.cap_machine.specs.State.{integer}
 use Rattle.cap_machine.specs.Rows.{row, upper_row, imm_row, shift_row, set_integer}
 use Rattle.purecap_abi.specs.Numbers.{signed_word, plus, set_by, number_after}
 use Rattle.select_runs.specs.Acts.{Ground, Laid, HasAt, Holds, IsThere}
 use Rattle.select_runs.specs.Numbers.{ReadsOwn, IsNumberWord, AreNumberWords, MakesNumber, NumbersAreMade}
-use Rattle.select_runs.proofs.Acts.{begins, still, one_set, after}
+use Rattle.select_runs.proofs.Acts.{still, one_set, after}
 
 -- ---- arithmetic of the words
 

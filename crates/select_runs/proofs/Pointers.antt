@@ -1,24 +1,22 @@
--- Pointers to objects and functions: what they are in the meaning, the machine makes of the stack's capability or reads from the table.
-use Rattle.std.proofs.Common.{◌≡◌, ◌≢◌, ℕ, zero, suc, ◌+◌, ◌-◌, ◌*◌, ◌%◌, ◌^◌, ◌<◌, ◌≤◌, ℤ, pos, Bool, true, false, ◌&&◌, List, [], ◌∷◌, ◌++◌, length, map, Option, Some, None, refl, sym, ap, ◌∙◌, subst, arith, inl, inr, if◌then◌else◌}
+-- Pointers to objects and functions: what they are in the meaning, the machine makes of the stack's capability or
+-- reads from the table.
+use Rattle.std.proofs.Common.{◌≡◌, ℕ, zero, suc, ◌+◌, ◌-◌, ◌*◌, ◌%◌, ◌^◌, ◌<◌, ◌≤◌, ℤ, pos, Bool, true, false, List, [], ◌∷◌, ◌++◌, length, map, Option, Some, None, refl, sym, ap, ◌∙◌, subst, arith, inl, if◌then◌else◌}
 use Rattle.std.specs.Prelude.{slice_get, slice_set, nat_lt, get_or}
 use Rattle.std.specs.List.{filter}
 use Rattle.std.specs.Option.{option_map}
 use Rattle.std.proofs.lemmas.Bool.{and_parts, ltb-true}
 use Rattle.std.proofs.lemmas.List.{length-append, length-map}
 use Rattle.std.proofs.lemmas.Option.{same_Some, slice_get_within, slice_get-map}
-use Rattle.ck_base.specs.World.{World}
 use Rattle.cap_concentrate.specs.Rounding.{owned}
 use Rattle.cap_ops.specs.declared.capability.Cap.{Cap}
-use Rattle.cap_ops.specs.declared.capability.TheConstants.{UNSEALED, EXECUTE}
-use Rattle.cap_ops.specs.Bounded.{bounded}
+use Rattle.cap_ops.specs.declared.capability.TheConstants.{EXECUTE}
 use Rattle.cap_ops.specs.Capability.{narrowed_exactly, moved, lacks, null_at}
 use Rattle.cap_ops.specs.Permissions.{data_permissions, const_permissions}
 use Rattle.cap_ops.proofs.Laws.{bounded_moved}
 use Rattle.rv_instr.specs.Range.{InRange}
 use Rattle.rv_instr.specs.declared.instr.Instr.{Instr}
-use Rattle.rv_instr.specs.declared.instr.Instr.TheVariants.{Clc, CapReg, Upper}
-use Rattle.rv_instr.specs.declared.ops.UpperOp.TheVariants.{Lui}
-use Rattle.rv_instr.specs.declared.ops.CapRegOp.TheVariants.{Csetboundsexact, Cincoffset}
+use Rattle.rv_instr.specs.declared.instr.Instr.TheVariants.{Clc, CapReg}
+use Rattle.rv_instr.specs.declared.ops.CapRegOp.TheVariants.{Csetboundsexact}
 use Rattle.cap_machine.specs.declared.machine.Machine.{Machine}
 use Rattle.cap_machine.specs.State.{register, integer}
 use Rattle.cap_machine.specs.Rows.{row, cap_reg_row, clc_row, plus, set}
@@ -30,30 +28,28 @@ use Rattle.c_tree.specs.declared.typed.VarDef.{VarDef}
 use Rattle.c_tree.specs.declared.typed.CType.{CType}
 use Rattle.c_tree.specs.Layout.{Extent, extent}
 use Rattle.obj_mem.specs.declared.map.Frame.{Frame}
-use Rattle.obj_mem.specs.declared.map.Slot.{Slot}
 use Rattle.obj_mem.specs.Legal.{ObjectNeed, FunctionNeed, IsFrame, IsSlot, AreFrames, slot_of, owned_of}
 use Rattle.obj_mem.specs.Needs.{is_const, need_by, need_of, global_need, literal_need, local_need, local_needs, is_object, function_needs, needs_of}
 use Rattle.obj_mem.specs.Objects.{base_in, whole_pointer}
 use Rattle.obj_mem.specs.Pointers.{keeps}
 use Rattle.obj_mem.specs.Table.{addresses_of, object_base, literal_entry, function_entry}
-use Rattle.obj_mem.specs.Values.{Value, Live, Fun, capability_of}
+use Rattle.obj_mem.specs.Values.{Value, Fun, capability_of}
 use Rattle.cheri_c_sem.specs.Expressions.{permissions_of}
-use Rattle.cheri_c_sem.specs.Kinds.{Kind, Capability}
 use Rattle.cheri_c_sem.specs.Modes as modes
 use Rattle.cheri_c_sem.specs.Modes.{operations, local_offset, slot_offset}
 use Rattle.cheri_c_sem.specs.Programs.{lengths_of}
 use Rattle.cheri_c_sem.specs.Steps.{State}
-use Rattle.purecap_abi.specs.Words.{low, high, load_code, near_code, moved_code}
+use Rattle.purecap_abi.specs.Words.{low, near_code, moved_code}
 use Rattle.tac_ir.specs.Effects.{kind_at}
 use Rattle.tac_ir.specs.Meaning.{Running}
 use Rattle.tac_ir.specs.Temps.{falls, writes}
-use Rattle.tac_ir.specs.WellFormed.{has, pointer, is_local, same_kind}
+use Rattle.tac_ir.specs.WellFormed.{has, pointer, is_local}
 use Rattle.tac_ir.specs.declared.code.TacInstr.{TacInstr}
 use Rattle.tac_ir.specs.declared.code.TacInstr.TheVariants as instr
 use Rattle.place_inject.specs.Values.{IsKnown}
 use Rattle.place_inject.specs.Steps.{is_integer}
 use Rattle.place_inject.specs.Frames.{Setting, Point, IsAt, functions_of, locals_by, stack_top, stack_pointer}
-use Rattle.place_inject.specs.Fits.{Fits, registers_in}
+use Rattle.place_inject.specs.Fits.{registers_in}
 use Rattle.place_inject.specs.Spills.{StackIsThere}
 use Rattle.place_inject.specs.Tables.{TableIsThere, EntriesAreRead, table_top, table_pointer}
 use Rattle.place_inject.specs.Whole.{WholeFits}
@@ -61,10 +57,10 @@ use Rattle.place_inject.proofs.ReadBack.{newest, under}
 use Rattle.place_inject.proofs.Reaching.{kept_bounds, stack_encodable, stack_reaches_law, table_reaches_law}
 use Rattle.place_inject.proofs.Tables.{object_stands, table_reads_back_law}
 use Rattle.place_inject.proofs.Wholes.{whole_pointers_fit_law}
-use Rattle.select_runs.specs.Acts.{Ground, HasAt, IsThere, Holds}
+use Rattle.select_runs.specs.Acts.{HasAt, IsThere, Holds}
 use Rattle.select_runs.specs.Capabilities.{Local, LocalWords, Entry, EntryWords}
 use Rattle.select_runs.specs.Instructions.{IsAskedBy, PointersRun}
-use Rattle.select_runs.specs.Kinds.{IsOfKind, AreOfKinds}
+use Rattle.select_runs.specs.Kinds.{AreOfKinds}
 use Rattle.select_runs.specs.Operands.{ground_of, IsText, IsAtPoint}
 use Rattle.select_runs.specs.Results.{Computed, Arrives, before, behind, kinds_in, code_in, IsConstant, IsSelectable}
 use Rattle.select_runs.proofs.Acts.{has_front, has_back, one_set}
@@ -73,7 +69,7 @@ use Rattle.select_runs.proofs.Kinded.{kinded_set, has_kind}
 use Rattle.select_runs.proofs.Numbers.{null_address, numbers_are_made_law}
 use Rattle.select_runs.proofs.Points.{laid, there}
 use Rattle.select_runs.proofs.Pointing.{pointer_kind, same_capability}
-use Rattle.select_runs.proofs.Working.{within, stretch, computed_there, and_then, and_scratch, of_none}
+use Rattle.select_runs.proofs.Working.{stretch, computed_there, and_then, and_scratch, of_none}
 
 -- ---- what the program asks for
 
@@ -95,14 +91,16 @@ get_back (y ∷ xs) ys k =
 
 need_permissions : (o : Option Extent) (permissions : ℕ) → (need_by o permissions).permissions ≡ permissions
 need_permissions None permissions = refl
-need_permissions (Some x) permissions = by (Rattle.std.specs.Prelude.nat_le x.size Rattle.c_tree.specs.Layout.size_limit)
+need_permissions (Some x) permissions = by (Rattle.std.specs.Prelude.nat_le x.size
+    Rattle.c_tree.specs.Layout.size_limit)
   where
     by : (b : Bool) → (if b then record { length = x.size; align = x.align; permissions = permissions }
         else Rattle.obj_mem.specs.Needs.nothing_of permissions).permissions ≡ permissions
     by true = refl
     by false = refl
 
-function_needed : (types : List CType) (weight : ℕ → ℕ) (fs : List FunDef) (k j : ℕ) (d : FunDef) → slice_get fs j ≡ Some d
+function_needed : (types : List CType) (weight : ℕ → ℕ) (fs : List FunDef) (k j : ℕ) (d : FunDef)
+    → slice_get fs j ≡ Some d
     → locals_by (slice_get (function_needs types weight k fs) j) ≡ local_needs types d
 function_needed types weight [] k j d h = cc
 function_needed types weight (e ∷ fs) k zero d h = ap (local_needs types) (same_Some e d h)
@@ -113,7 +111,8 @@ functions_many : (types : List CType) (weight : ℕ → ℕ) (fs : List FunDef) 
 functions_many types weight [] k = refl
 functions_many types weight (f ∷ fs) k = ap suc (functions_many types weight fs (suc k))
 
-locals_many : (p : Typed) (vs : List VarDef) → length (map (local_need p.types) (filter is_object vs)) ≡ length (lengths_of p vs)
+locals_many : (p : Typed) (vs : List VarDef) → length (map (local_need p.types) (filter is_object vs)) ≡ length
+    (lengths_of p vs)
 locals_many p [] = refl
 locals_many p (v ∷ vs) = by v.simple refl (locals_many p vs)
   where
@@ -148,14 +147,18 @@ module _ (s : Setting) (code : List Instr) (x : IsText s code) (stack : StackIsT
   pointing_kinded v not_int =
       let h = has_kind p sel.d (kinds_in s running) (code_in s running) to pointer fits in
       kinded_set (kinds_in s running) t.vars to v kinded h.0
-      (pointer_kind (kind_at (kinds_in s running) to) v (same_capability (kind_at (kinds_in s running) to) pointer h.1 refl) not_int)
+      (pointer_kind (kind_at (kinds_in s running) to) v (same_capability (kind_at
+      (kinds_in s running) to) pointer h.1 refl) not_int)
 
-whole_fits : (s : Setting) (code : List Instr) (x : IsText s code) (p : Point) (at : ℕ) (t : State modes.Store) (m : Machine)
-    → IsAtPoint s code p at t m → (object : ℕ) (need : ObjectNeed) (base perms : ℕ) → perms < 4096 → lacks perms EXECUTE ≡ true
+whole_fits : (s : Setting) (code : List Instr) (x : IsText s code) (p : Point) (at : ℕ) (t : State modes.Store)
+    (m : Machine)
+    → IsAtPoint s code p at t m → (object : ℕ) (need : ObjectNeed) (base perms : ℕ) → perms < 4096
+    → lacks perms EXECUTE ≡ true
     → (is : IsAt t.mem.memory.shapes object need base)
     → WholeFits (functions_of s) (addresses_of s.map) t.mem.memory.shapes object is.shape perms
 whole_fits s code x p at t m point object need base perms small lack is =
-    whole_pointers_fit_law (functions_of s) (addresses_of s.map) t.mem.memory.shapes point.fits.objects.spread object is.shape is.there
+    whole_pointers_fit_law (functions_of s) (addresses_of s.map) t.mem.memory.shapes point.fits.objects.spread object
+    is.shape is.there
     perms small lack
 
 -- ---- an entry of the table
@@ -166,9 +169,12 @@ two k = omega arith
 three_on : (k : ℕ) → k + 2 + 1 ≡ k + 3
 three_on k = omega arith
 
-module _ (s : Setting) (code : List Instr) (x : IsText s code) (stack : StackIsThere s) (loaded : TableIsThere s) (p : Typed)
-    (running : Running) (i : TacInstr) (rest : List TacInstr) (to : ℕ) (falls_on : falls i ≡ true) (wrote : writes i ≡ to ∷ [])
-    (no_constant : (n : ℕ) → IsConstant i n → ⊥) (sel : IsSelectable s p running i rest) (at : ℕ) (t : State modes.Store) (m : Machine)
+module _ (s : Setting) (code : List Instr) (x : IsText s code) (stack : StackIsThere s) (loaded : TableIsThere s)
+    (p : Typed)
+    (running : Running) (i : TacInstr) (rest : List TacInstr) (to : ℕ) (falls_on : falls i ≡ true)
+    (wrote : writes i ≡ to ∷ [])
+    (no_constant : (n : ℕ) → IsConstant i n → ⊥) (sel : IsSelectable s p running i rest) (at : ℕ)
+    (t : State modes.Store) (m : Machine)
     (point : IsAtPoint s code (before running i rest) at t m) where
   abbrev bits : Value → Cap
   bits = capability_of (addresses_of s.map) (base_in t.mem.memory.shapes)
@@ -178,10 +184,12 @@ module _ (s : Setting) (code : List Instr) (x : IsText s code) (stack : StackIsT
 
   -- the value is read at its entry
   abbrev Reads : (offset : ℕ) → Value → Type 0
-  Reads offset v = (u : Machine) (r from : ℕ) (z : ℤ) (place : ℕ) → EntriesAreRead s t u r from z place → place ≡ start + offset
+  Reads offset v = (u : Machine) (r from : ℕ) (z : ℤ) (place : ℕ) → EntriesAreRead s t u r from z place
+      → place ≡ start + offset
       → clc_row u r from z ≡ set u r (bits v)
 
-  module _ (offset : ℕ) (v : Value) (small : offset < 2 ^ 31 - 2048) (inside : offset < s.map.table.1) (reads : Reads offset v)
+  module _ (offset : ℕ) (v : Value) (small : offset < 2 ^ 31 - 2048) (inside : offset < s.map.table.1)
+      (reads : Reads offset v)
       (n : Machine) (mid : ℕ) (here : IsAtPoint s code (before running i rest) mid t n) where
     table_keeps : (y : ℕ) → start ≤ y → y < table_top s + 4096 → keeps start (table_top s) y ≡ true
     table_keeps y from below = table_reaches_law s x.legal y from below
@@ -201,14 +209,17 @@ module _ (s : Setting) (code : List Instr) (x : IsText s code) (stack : StackIsT
 
     -- the word that reads it
     read_word : (u : Machine) (place r from y : ℕ) (z : ℤ) → IsThere (ground_of s code) u place → u.mem ≡ n.mem
-        → slice_get code place ≡ Some (Clc r from z) → register u from ≡ table_pointer s y → keeps start (table_top s) y ≡ true
+        → slice_get code place ≡ Some (Clc r from z) → register u from ≡ table_pointer s y → keeps start
+        (table_top s) y ≡ true
         → plus y z ≡ start + offset → (4 < r) × (r < 29) → Holds (ground_of s code) u 1 (place + 1) r r (bits v)
     unfolding row
     read_word u place r from y z h same has holds keep sum range =
         let above = range.0 in let below = range.1 in
-        one_set (ground_of s code) (laid s code x) u place h (Clc r from z) r (bits v) has refl (omega arith) (omega arith)
+        one_set (ground_of s code) (laid s code x) u place h (Clc r from z) r (bits v) has refl (omega arith)
+        (omega arith)
         (reads u r from z (plus y z)
-        (table_reads_back_law s x.legal loaded (Some (before running i rest)) t n here.fits u same r from y z holds keep) sum)
+        (table_reads_back_law s x.legal loaded (Some (before running i rest)) t n here.fits u same r from y z holds
+        keep) sum)
 
     entry_does : (r : ℕ) (words : List Instr) → Entry offset r words → (4 < r) × (r < 29) → HasAt code mid words
         → Computed s code n (length words) (mid + length words) r r (bits v)
@@ -223,7 +234,8 @@ module _ (s : Setting) (code : List Instr) (x : IsText s code) (stack : StackIsT
             → HasAt code mid ws → Computed s code n (length ws) (mid + length ws) r r (bits v)
         by true ws e' q =
             let h = subst (HasAt code mid) e' q in
-            let k = read_word n mid r 3 start (pos offset) (there s code x (before running i rest) mid t n here) refl h.0 three reach.here
+            let k = read_word n mid r 3 start (pos offset) (there s code x
+            (before running i rest) mid t n here) refl h.0 three reach.here
             (near_low start offset (omega (arith, end, inside))) range in
             subst (λ y. Computed s code n (length y) (mid + length y) r r (bits v)) (sym e')
             (stretch s code x (before running i rest) t n mid r 1 r r (bits v) (inl refl) k)
@@ -231,39 +243,51 @@ module _ (s : Setting) (code : List Instr) (x : IsText s code) (stack : StackIsT
             let h = subst (HasAt code mid) e' q in
             let above = range.0 in
             let below = range.1 in
-            let a = near (ground_of s code) (laid s code x) start (table_top s) start offset 3 r reach (λ z. absurd (omega (arith, z, above)))
+            let a = near (ground_of s code) (laid s code x) start (table_top s) start offset 3 r reach (λ z. absurd
+            (omega (arith, z, above)))
             (omega arith) (omega arith) n mid (there s code x (before running i rest) mid t n here) three h.0 h.1.0 in
-            let first = stretch s code x (before running i rest) t n mid r 2 r r (table_pointer s (start + far offset)) (inl refl)
+            let first = stretch s code x (before running i rest) t n mid r 2 r r (table_pointer s
+            (start + far offset)) (inl refl)
             (subst (λ k. Holds (ground_of s code) n 2 k r r (table_pointer s (start + far offset))) (two mid) a) in
             let word_range = x.in_range (mid + 1 + 1) (Clc r r (low offset)) h.1.1.0 in
             let k = read_word first.to (mid + 2) r r (start + far offset) (low offset)
-            (computed_there s code x (before running i rest) t n mid 2 (mid + 2) r r (table_pointer s (start + far offset)) here first)
-            first.memory (subst (λ k. slice_get code k ≡ Some (Clc r r (low offset))) (two mid) h.1.1.0) first.holds reach.near
+            (computed_there s code x (before running i rest) t n mid 2 (mid + 2) r r (table_pointer s
+            (start + far offset)) here first)
+            first.memory (subst (λ k. slice_get code k ≡ Some (Clc r r (low offset)))
+            (two mid) h.1.1.0) first.holds reach.near
             (far_low start offset (omega (arith, end, inside)) word_range.2) range in
             subst (λ y. Computed s code n (length y) (mid + length y) r r (bits v)) (sym e')
             (subst (λ y. Computed s code n 3 y r r (bits v)) (three_on mid)
-            (and_then s code x (before running i rest) t n 2 (mid + 2) r r 1 r r (table_pointer s (start + far offset)) (bits v) first
+            (and_then s code x (before running i rest) t n 2 (mid + 2) r r 1 r r (table_pointer s
+            (start + far offset)) (bits v) first
             (inl refl) k))
 
   entry_few : (offset r : ℕ) (words : List Instr) → Entry offset r words → length words ≤ 3
   entry_few offset r words e = subst (λ y. length y ≤ 3) (sym e) (by (nat_lt offset 2048))
     where
-      by : (b : Bool) → length (if b then Clc r 3 (pos offset) ∷ [] else near_code r 3 offset ++ Clc r r (low offset) ∷ []) ≤ 3
+      by : (b : Bool) → length (if b then Clc r 3 (pos offset) ∷ [] else near_code r 3 offset ++ Clc r r
+          (low offset) ∷ []) ≤ 3
       by true = omega arith
       by false = omega arith
 
   entry_comes : (entry : ℕ) (v : Value) → IsKnown t.mem.memory.shapes (functions_of s) v → 16 * entry < s.map.table.1
       → Reads (16 * entry) v → (words : List Instr) → EntryWords s running.fun to entry words → HasAt code at words
-      → Arrives s code (behind running rest) 0 6 (at + length words) (record t { vars = slice_set t.vars to (Some v) }) m
+      → Arrives s code (behind running rest) 0 6 (at + length words) (record t {
+        vars = slice_set t.vars to
+            (Some v);
+      }) m
   entry_comes entry v known inside reads words form has =
-      of_none s code x stack p running i rest to falls_on wrote no_constant sel t m at point v known (Entry (16 * entry))
+      of_none s code x stack p running i rest to falls_on wrote no_constant sel t m at point v known (Entry
+      (16 * entry))
       (λ r us e range hs. entry_does (16 * entry) v form.0 inside reads m at point r us e range hs) 3
       (λ r us e. entry_few (16 * entry) r us e) words form.1 has
 
 -- ---- a local
 
-module _ (s : Setting) (code : List Instr) (x : IsText s code) (stack : StackIsThere s) (p : Typed) (asked : IsAskedBy s p)
-    (running : Running) (to var : ℕ) (rest : List TacInstr) (sel : IsSelectable s p running (instr.Local to var) rest) (at : ℕ)
+module _ (s : Setting) (code : List Instr) (x : IsText s code) (stack : StackIsThere s) (p : Typed)
+    (asked : IsAskedBy s p)
+    (running : Running) (to var : ℕ) (rest : List TacInstr) (sel : IsSelectable s p running (instr.Local to var) rest)
+    (at : ℕ)
     (t : State modes.Store) (m : Machine) (point : IsAtPoint s code (before running (instr.Local to var) rest) at t m)
     (words : List Instr) (form : LocalWords s running.fun to var words) (hs : HasAt code at words) where
   abbrev local_i : TacInstr
@@ -275,9 +299,11 @@ module _ (s : Setting) (code : List Instr) (x : IsText s code) (stack : StackIsT
   abbrev the_local : Value
   the_local = whole_pointer t.mem.memory.shapes (t.first + var) data_permissions
 
-  local_parts : (has p sel.d (kinds_in s running) (code_in s running) to pointer ≡ true) × (var < length (lengths_of p sel.d.vars))
+  local_parts : (has p sel.d (kinds_in s running) (code_in s running) to pointer ≡ true) × (var < length
+      (lengths_of p sel.d.vars))
   local_parts =
-      let q = and_parts (has p sel.d (kinds_in s running) (code_in s running) to pointer) (is_local p sel.d (kinds_in s running) (code_in s running) var) sel.fits in
+      let q = and_parts (has p sel.d (kinds_in s running) (code_in s running) to pointer) (is_local p sel.d
+      (kinds_in s running) (code_in s running) var) sel.fits in
       (q.0, ltb-true var (length (lengths_of p sel.d.vars)) q.1)
 
   needs_are : locals_by (slice_get s.needs.functions running.fun) ≡ local_needs p.types sel.d
@@ -297,7 +323,8 @@ module _ (s : Setting) (code : List Instr) (x : IsText s code) (stack : StackIsT
 
   slot_is : IsSlot needed.0 form.frame form.slot
   slot_is =
-      let h = frame_is.2.has_slot var needed.0 (subst (λ ns. slice_get ns var ≡ Some needed.0) (ap locals_by frame_is.1) needed.1) in
+      let h = frame_is.2.has_slot var needed.0 (subst (λ ns. slice_get ns var ≡ Some needed.0)
+      (ap locals_by frame_is.1) needed.1) in
       subst (IsSlot needed.0 form.frame) (same_Some h.0 form.slot (sym h.1 ∙ form.has)) h.2
 
   abbrev base : ℕ
@@ -307,7 +334,8 @@ module _ (s : Setting) (code : List Instr) (x : IsText s code) (stack : StackIsT
   stands =
       let e : local_offset (slice_get s.map.frames running.fun) var ≡ form.slot.at =
       ap (λ o. local_offset o var) form.is ∙ ap slot_offset form.has in
-      subst (λ k. IsAt t.mem.memory.shapes (t.first + var) needed.0 (t.frame + k)) e (point.fits.calls.0.each var needed.0 needed.1)
+      subst (λ k. IsAt t.mem.memory.shapes (t.first + var) needed.0 (t.frame + k)) e
+      (point.fits.calls.0.each var needed.0 needed.1)
 
   -- where it lies in the stack
   record Inside : Type 0 where
@@ -318,7 +346,8 @@ module _ (s : Setting) (code : List Instr) (x : IsText s code) (stack : StackIsT
 
   inside : Inside
   inside =
-      let own = newest s t.mem.memory.shapes m.mem (registers_in m) running.fun t.first t.frame running.callers point.fits.calls.2 in
+      let own = newest s t.mem.memory.shapes m.mem (registers_in m) running.fun t.first t.frame running.callers
+      point.fits.calls.2 in
       let fr = own.frame in
       let lies = under s t.mem.memory.shapes m.mem running.fun t.first t.frame own.above own.link fr in
       let same : fr.frame ≡ form.frame = same_Some fr.frame form.frame (sym fr.is ∙ form.is) in
@@ -346,12 +375,14 @@ module _ (s : Setting) (code : List Instr) (x : IsText s code) (stack : StackIsT
   base_keeps : keeps s.map.stack.0 (stack_top s) base ≡ true
   base_keeps = let low_is = inside.low in let high_is = inside.end in stack_keeps base (omega arith) (omega arith)
 
-  whole : WholeFits (functions_of s) (addresses_of s.map) t.mem.memory.shapes (t.first + var) stands.shape data_permissions
+  whole : WholeFits (functions_of s) (addresses_of s.map) t.mem.memory.shapes
+      (t.first + var) stands.shape data_permissions
   whole = whole_fits s code x here at t m point (t.first + var) needed.0 base data_permissions (omega arith) refl stands
 
   owned_is : stands.shape.owned ≡ form.slot.length
   owned_is =
-      (point.fits.objects.spread.placed (t.first + var) stands.shape stands.there).owned_is ∙ ap owned stands.length ∙ sym slot_is.length
+      (point.fits.objects.spread.placed (t.first + var) stands.shape stands.there).owned_is ∙ ap owned stands.length
+      ∙ sym slot_is.length
 
   -- the stack's capability at the object, narrowed to it
   narrowed_is : narrowed_exactly (stack_pointer s base) form.slot.length
@@ -364,11 +395,13 @@ module _ (s : Setting) (code : List Instr) (x : IsText s code) (stack : StackIsT
       sym (ap (λ c. narrowed_exactly c form.slot.length) (ap (moved (stack_pointer s base)) at_base
       ∙ bounded_moved s.map.stack.0 (stack_top s) data_permissions base base b.0 b.1 b.0 b.1))
       ∙ ap (narrowed_exactly (moved (stack_pointer s base) stands.shape.base)) (sym own)
-      ∙ whole.made s.map.stack.0 (stack_top s) base (stack_encodable s x.legal) (omega arith) base_keeps (omega arith) (omega arith)
+      ∙ whole.made s.map.stack.0 (stack_top s) base (stack_encodable s x.legal) (omega arith) base_keeps (omega arith)
+      (omega arith)
 
   local_does : (n : Machine) (mid : ℕ) → IsAtPoint s code here mid t n → (r : ℕ) (ws : List Instr)
       → Local form.slot.at form.slot.length r ws → (4 < r) × (r < 29) → HasAt code mid ws
-      → Computed s code n (length ws) (mid + length ws) r r (capability_of (addresses_of s.map) (base_in t.mem.memory.shapes) the_local)
+      → Computed s code n (length ws) (mid + length ws) r r (capability_of (addresses_of s.map)
+      (base_in t.mem.memory.shapes) the_local)
   unfolding row cap_reg_row
   local_does n mid now_here r ws o range hw =
       let above = range.0 in
@@ -385,18 +418,21 @@ module _ (s : Setting) (code : List Instr) (x : IsText s code) (stack : StackIsT
       now_here.fits.stack.stack base_keeps (has_front code mid front (o.number ++ end) q) in
       let first = stretch s code x here t n mid r (length front) r r (stack_pointer s base) (inl refl) a in
       let b = numbers_are_made_law (ground_of s code) (laid s code x) first.to late
-      (computed_there s code x here t n mid (length front) late r r (stack_pointer s base) now_here first) 29 form.slot.length
+      (computed_there s code x here t n mid (length front) late r r
+      (stack_pointer s base) now_here first) 29 form.slot.length
       (omega arith) (omega arith) o.number o.makes (has_front code late o.number end back) in
       let second = and_scratch s code x here t n (length front) late r (length o.number) 29 (stack_pointer s base)
       (null_at form.slot.length) first (omega arith) (λ z. absurd (omega (arith, z, below))) b in
       let word = one_set (ground_of s code) (laid s code x) second.0.to last
-      (computed_there s code x here t n mid (length front + length o.number) last r r (stack_pointer s base) now_here second.0)
+      (computed_there s code x here t n mid (length front + length o.number) last r r
+      (stack_pointer s base) now_here second.0)
       (CapReg Csetboundsexact r r 29) r value (has_back code late o.number end back).0 refl (omega arith) (omega arith)
       (ap (λ c. set second.0.to r (narrowed_exactly c (integer second.0.to 29))) second.0.holds
       ∙ ap (λ (c : Cap). set second.0.to r (narrowed_exactly (stack_pointer s base) c.fields.address)) second.1
       ∙ ap (λ k. set second.0.to r (narrowed_exactly (stack_pointer s base) k)) (null_address form.slot.length)
       ∙ ap (set second.0.to r) narrowed_is) in
-      let third = and_then s code x here t n (length front + length o.number) last r r 1 r r (stack_pointer s base) value second.0
+      let third = and_then s code x here t n (length front + length o.number) last r r 1 r r
+      (stack_pointer s base) value second.0
       (inl refl) word in
       let long = length-append front (o.number ++ end) in
       let long' = length-append o.number end in
@@ -416,32 +452,40 @@ module _ (s : Setting) (code : List Instr) (x : IsText s code) (stack : StackIsT
       let long' = length-append o.number end in
       subst (λ y. length y ≤ 6) (sym o.are) (omega arith)
 
-  local_comes : Arrives s code (behind running rest) 0 9 (at + length words) (record t { vars = slice_set t.vars to (Some the_local) }) m
+  local_comes : Arrives s code (behind running rest) 0 9 (at + length words) (record t {
+    vars = slice_set t.vars to
+        (Some the_local);
+  }) m
   local_comes =
       of_none s code x stack p running local_i rest to refl refl (λ n h. h) sel t m at point the_local whole.known
-      (Local form.slot.at form.slot.length) (λ r us o range hw. local_does m at point r us o range hw) 6 local_few words form.makes hs
+      (Local form.slot.at form.slot.length) (λ r us o range hw. local_does m at point r us o range hw) 6 local_few
+      words form.makes hs
 
 -- ---- all of them
 
-module _ (s : Setting) (code : List Instr) (x : IsText s code) (stack : StackIsThere s) (loaded : TableIsThere s) (p : Typed)
+module _ (s : Setting) (code : List Instr) (x : IsText s code) (stack : StackIsThere s) (loaded : TableIsThere s)
+    (p : Typed)
     (asked : IsAskedBy s p) (t : State modes.Store) where
   global_parts : (k : ℕ) (g : GlobalDef) → slice_get p.globals k ≡ Some g
       → slice_get (s.needs.globals ++ s.needs.literals) k ≡ Some (global_need p.types g)
   global_parts k g h =
       get_front s.needs.globals s.needs.literals k (global_need p.types g)
-      (ap (λ (n : Rattle.obj_mem.specs.Legal.Needs). slice_get n.globals k) asked.needs ∙ slice_get-map (global_need p.types) p.globals k
+      (ap (λ (n : Rattle.obj_mem.specs.Legal.Needs). slice_get n.globals k) asked.needs ∙ slice_get-map
+      (global_need p.types) p.globals k
       ∙ ap (option_map (global_need p.types)) h)
 
   literal_parts : (k : ℕ) (l : Literal) → slice_get p.literals k ≡ Some l
       → slice_get (s.needs.globals ++ s.needs.literals) (literal_entry s.needs k) ≡ Some (literal_need l)
   literal_parts k l h =
       get_back s.needs.globals s.needs.literals k
-      ∙ ap (λ (n : Rattle.obj_mem.specs.Legal.Needs). slice_get n.literals k) asked.needs ∙ slice_get-map literal_need p.literals k
+      ∙ ap (λ (n : Rattle.obj_mem.specs.Legal.Needs). slice_get n.literals k) asked.needs
+      ∙ slice_get-map literal_need p.literals k
       ∙ ap (option_map literal_need) h
 
   globals_many : length s.needs.globals ≡ length p.globals
   globals_many =
-      ap (λ (n : Rattle.obj_mem.specs.Legal.Needs). length n.globals) asked.needs ∙ length-map p.globals (global_need p.types)
+      ap (λ (n : Rattle.obj_mem.specs.Legal.Needs). length n.globals) asked.needs ∙ length-map p.globals
+      (global_need p.types)
 
 -- the permissions of a global's pointer
 global_permissions : (p : Typed) (k : ℕ) (g : GlobalDef) → slice_get p.globals k ≡ Some g
@@ -450,7 +494,8 @@ global_permissions p k g h =
     need_permissions (extent p.types g.of) (if is_const p.types g.of then const_permissions else data_permissions)
     ∙ sym (ap (permissions_of p []) h)
 
-permissions_small : (p : Typed) (g : GlobalDef) → (permissions_of p [] (Some g) < 4096) × (lacks (permissions_of p [] (Some g)) EXECUTE ≡ true)
+permissions_small : (p : Typed) (g : GlobalDef) → (permissions_of p [] (Some g) < 4096) × (lacks (permissions_of p []
+    (Some g)) EXECUTE ≡ true)
 permissions_small p g = by (is_const p.types g.of)
   where
     by : (b : Bool) → ((if b then const_permissions else data_permissions) < 4096)
@@ -460,24 +505,32 @@ permissions_small p g = by (is_const p.types g.of)
 
 pub pointers_run_law : PointersRun
 unfolding operations
-pointers_run_law s code x stack loaded w p asked running (instr.Local to var) rest is sel at t m point kinded ws form held_words = record {
-  next = record t { vars = slice_set t.vars to (Some (the_local s code x stack p asked running to var rest sel at t m point ws form held_words)) };
-  means = λ k. refl;
-  kinded = pointing_kinded s code x stack p running (instr.Local to var) rest to sel t kinded
-      (local_parts s code x stack p asked running to var rest sel at t m point ws form held_words).0
-      (the_local s code x stack p asked running to var rest sel at t m point ws form held_words) refl;
-  does = local_comes s code x stack p asked running to var rest sel at t m point ws form held_words;
-}
-pointers_run_law s code x stack loaded w p asked running (instr.Global to number false) rest is sel at t m point kinded ws form held_words =
+pointers_run_law s code x stack loaded w p asked running
+    (instr.Local to var) rest is sel at t m point kinded ws form held_words = record {
+      next = record t {
+        vars = slice_set t.vars to (Some (the_local s code x stack p asked running to var rest sel at t m
+            point ws form held_words));
+      };
+      means = λ k. refl;
+      kinded = pointing_kinded s code x stack p running (instr.Local to var) rest to sel t kinded
+          (local_parts s code x stack p asked running to var rest sel at t m point ws form held_words).0
+          (the_local s code x stack p asked running to var rest sel at t m point ws form held_words) refl;
+      does = local_comes s code x stack p asked running to var rest sel at t m point ws form held_words;
+    }
+pointers_run_law s code x stack loaded w p asked running
+    (instr.Global to number false) rest is sel at t m point kinded ws form held_words =
     let i = instr.Global to number false in
-    let q = and_parts (has p sel.d (kinds_in s running) (code_in s running) to pointer) (nat_lt number (length p.globals)) sel.fits in
+    let q = and_parts (has p sel.d (kinds_in s running) (code_in s running) to pointer) (nat_lt number
+    (length p.globals)) sel.fits in
     let g = some_at p.globals number (ltb-true number (length p.globals) q.1) in
     let need = global_need p.types g.0 in
     let there_is = global_parts s code x stack loaded p asked t number g.0 g.1 in
     let perms = permissions_of p [] (slice_get p.globals number) in
     let v = whole_pointer t.mem.memory.shapes number perms in
-    let small = subst (λ o. (permissions_of p [] o < 4096) × (lacks (permissions_of p [] o) EXECUTE ≡ true)) (sym g.1) (permissions_small p g.0) in
-    let known = (whole_fits s code x (before running i rest) at t m point number need (object_base s.map number) perms small.0 small.1
+    let small = subst (λ o. (permissions_of p [] o < 4096) × (lacks (permissions_of p [] o) EXECUTE ≡ true)) (sym g.1)
+    (permissions_small p g.0) in
+    let known = (whole_fits s code x (before running i rest) at t m point number need
+    (object_base s.map number) perms small.0 small.1
     (object_stands s x.legal loaded (Some (before running i rest)) t m point.fits number need there_is)).known in
     let room = point.fits.table.room in
     let below = slice_get_within (s.needs.globals ++ s.needs.literals) number need there_is in
@@ -488,22 +541,28 @@ pointers_run_law s code x stack loaded w p asked running (instr.Global to number
       does = entry_comes s code x stack loaded p running i rest to refl refl (λ n h. h) sel at t m point number v known
           (omega (arith, room, below, length-append s.needs.globals s.needs.literals))
           (λ u r from z place read is_at. read.objects number need there_is is_at
-          ∙ ap (λ y. set u r (capability_of (addresses_of s.map) (base_in t.mem.memory.shapes) (whole_pointer t.mem.memory.shapes number y)))
+          ∙ ap (λ y. set u r (capability_of (addresses_of s.map) (base_in t.mem.memory.shapes)
+          (whole_pointer t.mem.memory.shapes number y)))
           (global_permissions p number g.0 g.1))
           ws form held_words;
     }
-pointers_run_law s code x stack loaded w p asked running (instr.Global to number true) rest is sel at t m point kinded ws form held_words =
+pointers_run_law s code x stack loaded w p asked running
+    (instr.Global to number true) rest is sel at t m point kinded ws form held_words =
     let i = instr.Global to number true in
-    let q = and_parts (has p sel.d (kinds_in s running) (code_in s running) to pointer) (nat_lt number (length p.literals)) sel.fits in
+    let q = and_parts (has p sel.d (kinds_in s running) (code_in s running) to pointer) (nat_lt number
+    (length p.literals)) sel.fits in
     let l = some_at p.literals number (ltb-true number (length p.literals) q.1) in
     let entry = literal_entry s.needs number in
     let there_is = literal_parts s code x stack loaded p asked t number l.0 l.1 in
     let v = whole_pointer t.mem.memory.shapes (length p.globals + number) const_permissions in
     let same : whole_pointer t.mem.memory.shapes entry const_permissions ≡ v =
-    ap (λ y. whole_pointer t.mem.memory.shapes (y + number) const_permissions) (globals_many s code x stack loaded p asked t) in
+    ap (λ y. whole_pointer t.mem.memory.shapes (y + number) const_permissions)
+    (globals_many s code x stack loaded p asked t) in
     let known = subst (IsKnown t.mem.memory.shapes (functions_of s)) same
-    (whole_fits s code x (before running i rest) at t m point entry (literal_need l.0) (object_base s.map entry) const_permissions (omega arith) refl
-    (object_stands s x.legal loaded (Some (before running i rest)) t m point.fits entry (literal_need l.0) there_is)).known in
+    (whole_fits s code x (before running i rest) at t m point entry (literal_need l.0)
+    (object_base s.map entry) const_permissions (omega arith) refl
+    (object_stands s x.legal loaded (Some (before running i rest)) t m point.fits entry
+    (literal_need l.0) there_is)).known in
     let room = point.fits.table.room in
     let below = slice_get_within (s.needs.globals ++ s.needs.literals) entry (literal_need l.0) there_is in
     record {
@@ -516,20 +575,25 @@ pointers_run_law s code x stack loaded w p asked running (instr.Global to number
           ∙ ap (λ y. set u r (capability_of (addresses_of s.map) (base_in t.mem.memory.shapes) y)) same)
           ws form held_words;
     }
-pointers_run_law s code x stack loaded w p asked running (instr.Function to f) rest is sel at t m point kinded ws form held_words =
+pointers_run_law s code x stack loaded w p asked running
+    (instr.Function to f) rest is sel at t m point kinded ws form held_words =
     let i = instr.Function to f in
-    let q = and_parts (has p sel.d (kinds_in s running) (code_in s running) to pointer) (nat_lt f (length p.funs)) sel.fits in
+    let q = and_parts (has p sel.d (kinds_in s running) (code_in s running) to pointer) (nat_lt f
+    (length p.funs)) sel.fits in
     let l = ltb-true f (length p.funs) q.1 in
     let many : functions_of s ≡ length p.funs =
-    ap (λ (n : Rattle.obj_mem.specs.Legal.Needs). length n.functions) asked.needs ∙ functions_many p.types asked.weight p.funs 0 in
+    ap (λ (n : Rattle.obj_mem.specs.Legal.Needs). length n.functions) asked.needs
+    ∙ functions_many p.types asked.weight p.funs 0 in
     let known : f < functions_of s = omega (arith, l, many) in
     let room = point.fits.table.room in
     record {
       next = record t { vars = slice_set t.vars to (Some (Fun f)) };
       means = λ k. refl;
       kinded = pointing_kinded s code x stack p running i rest to sel t kinded q.0 (Fun f) refl;
-      does = entry_comes s code x stack loaded p running i rest to refl refl (λ n h. h) sel at t m point (function_entry s.needs f) (Fun f) known
+      does = entry_comes s code x stack loaded p running i rest to refl refl (λ n h. h) sel at t m point
+          (function_entry s.needs f) (Fun f) known
           (omega (arith, room, known))
           (λ u r from z place read is_at. read.functions f known is_at) ws form held_words;
     }
-pointers_run_law s code x stack loaded w p asked running i rest is sel at t m point kinded ws form held_words = absurd is
+pointers_run_law s code x stack loaded w p asked running i rest is sel at t m point kinded ws form held_words = absurd
+    is

@@ -1,32 +1,30 @@
 -- Capabilities that are moved and narrowed: what they become in the meaning, the machine makes of them.
-use Rattle.std.proofs.Common.{◌≡◌, ℕ, zero, suc, ◌+◌, ◌^◌, ◌<◌, ◌≤◌, ℤ, Bool, true, false, ◌&&◌, List, [], ◌∷◌, length, Some, refl, sym, ap, ◌∙◌, subst, arith}
+use Rattle.std.proofs.Common.{◌≡◌, ℕ, zero, suc, ◌+◌, ◌<◌, ◌≤◌, Bool, true, false, ◌&&◌, List, ◌∷◌, length, Some, refl, sym, ap, ◌∙◌, subst, arith}
 use Rattle.std.specs.Prelude.{slice_set}
 use Rattle.std.proofs.lemmas.Bool.{and_parts, ltb-true}
-use Rattle.ck_base.specs.World.{World}
 use Rattle.cap_ops.specs.declared.capability.Cap.{Cap}
 use Rattle.cap_ops.specs.Capability.{added, narrowed, narrowed_exactly, null_at}
 use Rattle.rv_instr.specs.declared.instr.Instr.{Instr}
 use Rattle.rv_instr.specs.declared.instr.Instr.TheVariants.{CapReg, CapImm}
 use Rattle.rv_instr.specs.declared.ops.CapImmOp.TheVariants.{Cincoffsetimm}
-use Rattle.rv_instr.specs.declared.ops.CapRegOp.{CapRegOp}
-use Rattle.rv_instr.specs.declared.ops.CapRegOp.TheVariants.{Csetbounds, Csetboundsexact, Cincoffset}
+use Rattle.rv_instr.specs.declared.ops.CapRegOp.TheVariants.{Cincoffset}
 use Rattle.cap_machine.specs.declared.machine.Machine.{Machine}
 use Rattle.cap_machine.specs.Integers.{extended}
 use Rattle.cap_machine.specs.State.{register, integer}
 use Rattle.cap_machine.specs.Rows.{row, cap_reg_row, cap_imm_row, set}
 use Rattle.c_tree.specs.declared.typed.Typed.{Typed}
-use Rattle.obj_mem.specs.Objects.{Placed, base_in}
+use Rattle.obj_mem.specs.Objects.{base_in}
 use Rattle.obj_mem.specs.Pointers.{placed_move, placed_narrow}
 use Rattle.obj_mem.specs.Table.{addresses_of}
-use Rattle.obj_mem.specs.Values.{Value, Int, Addresses, capability_of}
+use Rattle.obj_mem.specs.Values.{Value, capability_of}
 use Rattle.cheri_c_sem.specs.Kinds.{Kind, Plain, Capability, number_of}
 use Rattle.cheri_c_sem.specs.Modes as modes
 use Rattle.cheri_c_sem.specs.Modes.{operations}
 use Rattle.cheri_c_sem.specs.Steps.{State, Fate}
-use Rattle.tac_ir.specs.Costs.{cost, amount_cost, number_cost}
+use Rattle.tac_ir.specs.Costs.{cost, amount_cost}
 use Rattle.tac_ir.specs.Effects.{amount_of, kind_at, temp_in}
 use Rattle.tac_ir.specs.Meaning.{Running}
-use Rattle.tac_ir.specs.Temps.{IsIn as IsAmong, in_amount, falls, reads, writes, now}
+use Rattle.tac_ir.specs.Temps.{IsIn as IsAmong, in_amount, reads, now}
 use Rattle.tac_ir.specs.WellFormed.{has, has_capability, is_temp, is_capability, amount_fits, same_kind}
 use Rattle.tac_ir.specs.declared.code.Amount.{Amount}
 use Rattle.tac_ir.specs.declared.code.Amount.TheVariants as amount
@@ -45,7 +43,7 @@ use Rattle.select_runs.specs.Forms.{OfOne, OfTwo, Amounts}
 use Rattle.select_runs.specs.Capabilities.{exact_op, OneOfTwo, Advance, Offsets, Far, Near, NearTemp}
 use Rattle.select_runs.specs.Kinds.{IsOfKind, AreOfKinds}
 use Rattle.select_runs.specs.Operands.{IsText, IsAtPoint}
-use Rattle.select_runs.specs.Results.{Computed, Arrives, before, behind, kinds_in, code_in, IsConstant, IsSelectable}
+use Rattle.select_runs.specs.Results.{Arrives, before, behind, kinds_in, code_in, IsSelectable}
 use Rattle.select_runs.specs.Instructions.{NarrowsRun, OffsetsRun}
 use Rattle.select_runs.proofs.Numbers.{null_address}
 use Rattle.select_runs.proofs.Kinded.{kinded_set, has_kind}
@@ -72,7 +70,8 @@ same_capability (Capability s) (Plain k) h i = cc
 among_amount : (base : ℕ) (by : Amount) (k : ℕ) → by ≡ amount.Temp k → IsAmong k (base ∷ in_amount by)
 among_amount base by k e = subst (λ y. IsAmong k (base ∷ in_amount y)) (sym e) (suc zero, refl)
 
-amount_gives : (by : Amount) (t : State modes.Store) (k : ℕ → State modes.Store → Fate) → amount_of by t k ≡ k (amount_in t by) t
+amount_gives : (by : Amount) (t : State modes.Store) (k : ℕ → State modes.Store → Fate) → amount_of by t k ≡ k
+    (amount_in t by) t
 amount_gives (amount.Temp y) t k = refl
 amount_gives (amount.Number n) t k = refl
 
@@ -87,7 +86,8 @@ amount_some (amount.Number n) = omega arith
 -- ---- an instruction that makes a capability of a capability
 
 module _ (s : Setting) (code : List Instr) (x : IsText s code) (stack : StackIsThere s) (p : Typed) (running : Running)
-    (i : TacInstr) (rest : List TacInstr) (to base : ℕ) (read : IsAmong base (reads i)) (sel : IsSelectable s p running i rest) (at : ℕ)
+    (i : TacInstr) (rest : List TacInstr) (to base : ℕ) (read : IsAmong base (reads i))
+    (sel : IsSelectable s p running i rest) (at : ℕ)
     (t : State modes.Store) (m : Machine) (point : IsAtPoint s code (before running i rest) at t m)
     (kinded : AreOfKinds (kinds_in s running) t.vars)
     (is_pointer : has_capability p sel.d (kinds_in s running) (code_in s running) base ≡ true) where
@@ -97,7 +97,8 @@ module _ (s : Setting) (code : List Instr) (x : IsText s code) (stack : StackIsT
       (is_capability (kind_at (kinds_in s running) base)) is_pointer in
       (ltb-true base (length (kinds_in s running)) q.0, q.1)
 
-  pub base_pointer : (is_integer (temp_in t base) ≡ false) × IsKnown t.mem.memory.shapes (functions_of s) (temp_in t base)
+  pub base_pointer : (is_integer (temp_in t base) ≡ false) × IsKnown t.mem.memory.shapes (functions_of s)
+      (temp_in t base)
   base_pointer = (
     pointer_of (kind_at (kinds_in s running) base) (temp_in t base) base_parts.1 (kinded.each base base_parts.0),
     point.fits.calls.1.known base (now read),
@@ -105,13 +106,16 @@ module _ (s : Setting) (code : List Instr) (x : IsText s code) (stack : StackIsT
 
   pub fitting : PointersFit (functions_of s) (addresses_of s.map) t.mem.memory.shapes (temp_in t base)
   fitting =
-      pointers_fit_law (functions_of s) (addresses_of s.map) t.mem.memory.shapes point.fits.objects.spread (temp_in t base)
+      pointers_fit_law (functions_of s) (addresses_of s.map) t.mem.memory.shapes point.fits.objects.spread
+      (temp_in t base)
       base_pointer.0 base_pointer.1
 
-  pub pointer_kinded : has p sel.d (kinds_in s running) (code_in s running) to (kind_at (kinds_in s running) base) ≡ true
+  pub pointer_kinded : has p sel.d (kinds_in s running) (code_in s running) to (kind_at
+      (kinds_in s running) base) ≡ true
       → (v : Value) → is_integer v ≡ false → AreOfKinds (kinds_in s running) (slice_set t.vars to (Some v))
   pointer_kinded to_fits v not_int =
-      let h = has_kind p sel.d (kinds_in s running) (code_in s running) to (kind_at (kinds_in s running) base) to_fits in
+      let h = has_kind p sel.d (kinds_in s running) (code_in s running) to (kind_at
+      (kinds_in s running) base) to_fits in
       kinded_set (kinds_in s running) t.vars to v kinded h.0
       (pointer_kind (kind_at (kinds_in s running) to) v
       (same_capability (kind_at (kinds_in s running) to) (kind_at (kinds_in s running) base) h.1 base_parts.1) not_int)
@@ -142,11 +146,14 @@ module _ (s : Setting) (code : List Instr) (x : IsText s code) (stack : StackIsT
   narrower = placed_narrow (addresses_of s.map) (base_in t.mem.memory.shapes) (temp_in t base) (amount_in t by) exact
 
   narrow_fits : PointersFit (functions_of s) (addresses_of s.map) t.mem.memory.shapes (temp_in t base)
-  narrow_fits = fitting s code x stack p running narrow_i rest to base (zero, refl) sel at t m point kinded narrow_parts.1
+  narrow_fits = fitting s code x stack p running narrow_i rest to base
+      (zero, refl) sel at t m point kinded narrow_parts.1
 
-  narrows : (e : Bool) → exact ≡ e → (is_integer narrower ≡ false) × IsKnown t.mem.memory.shapes (functions_of s) narrower
+  narrows : (e : Bool) → exact ≡ e → (is_integer narrower ≡ false) × IsKnown t.mem.memory.shapes
+      (functions_of s) narrower
       × ((n : Machine) (r a b : ℕ) → register n a ≡ wide → register n b ≡ null_at (amount_in t by)
-      → row n (CapReg (exact_op exact) r a b) ≡ set n r (capability_of (addresses_of s.map) (base_in t.mem.memory.shapes) narrower))
+      → row n (CapReg (exact_op exact) r a b) ≡ set n r (capability_of (addresses_of s.map)
+      (base_in t.mem.memory.shapes) narrower))
   unfolding row cap_reg_row
   narrows true e =
       let f = narrow_fits.narrows_exactly (amount_in t by) in
@@ -167,41 +174,56 @@ module _ (s : Setting) (code : List Instr) (x : IsText s code) (stack : StackIsT
             ∙ ap (λ k. set n r (narrowed wide k)) (null_address (amount_in t by)) ∙ ap (set n r) f.2,
       )
 
-  narrow_does : (ws : List Instr) → OfTwo s running.fun to base (Amounts s running.fun by) (OneOfTwo (exact_op exact)) ws
+  narrow_does : (ws : List Instr) → OfTwo s running.fun to base (Amounts s running.fun by) (OneOfTwo
+      (exact_op exact)) ws
       → HasAt code at ws
-      → Arrives s code (behind running rest) 0 (cost narrow_i) (at + length ws) (record t { vars = slice_set t.vars to (Some narrower) }) m
+      → Arrives s code (behind running rest) 0 (cost narrow_i) (at + length ws) (record t {
+        vars = slice_set t.vars to
+            (Some narrower);
+      }) m
   narrow_does ws o has =
       let f = narrows exact refl in
-      within s code (behind running rest) 0 (amount_words by + 1 + 6) (cost narrow_i) (at + length ws) _ m (amount_dear by)
-      (of_two s code x stack p running narrow_i rest to refl refl (λ n h. h) sel t m at point base (zero, refl) narrower f.1
+      within s code (behind running rest) 0 (amount_words by + 1 + 6) (cost narrow_i) (at + length ws) _ m
+      (amount_dear by)
+      (of_two s code x stack p running narrow_i rest to refl refl (λ n h. h) sel t m at point base
+      (zero, refl) narrower f.1
       (Amounts s running.fun by) (null_at (amount_in t by)) (amount_words by)
-      (amount_comes s code x stack p running narrow_i rest to refl refl (λ n h. h) sel t m at point base (zero, refl) kinded by narrow_parts.2
+      (amount_comes s code x stack p running narrow_i rest to refl refl (λ n h. h) sel t m at point base
+      (zero, refl) kinded by narrow_parts.2
       (among_amount base by))
       (OneOfTwo (exact_op exact))
       (λ n mid a b here ea eb r us e range hs.
-      one_only s code x (before running narrow_i rest) t n mid here (CapReg (exact_op exact) r a b) r _ us e hs refl range (f.2 n r a b ea eb))
+      one_only s code x (before running narrow_i rest) t n mid here (CapReg
+      (exact_op exact) r a b) r _ us e hs refl range (f.2 n r a b ea eb))
       1 (λ r a b us e. subst (λ y. length y ≤ 1) (sym e) (omega arith)) ws o has)
 
   narrow_kinded : AreOfKinds (kinds_in s running) (slice_set t.vars to (Some narrower))
   narrow_kinded =
-      pointer_kinded s code x stack p running narrow_i rest to base (zero, refl) sel at t m point kinded narrow_parts.1 narrow_parts.0 narrower
+      pointer_kinded s code x stack p running narrow_i rest to base
+      (zero, refl) sel at t m point kinded narrow_parts.1 narrow_parts.0 narrower
       (narrows exact refl).0
 
 pub narrows_run_law : NarrowsRun
 unfolding operations
-narrows_run_law s code x stack w p running (instr.Narrow to base by exact) rest is sel at t m point kinded ws form has = record {
-  next = record t { vars = slice_set t.vars to (Some (narrower s code x stack p running to base by exact rest sel at t m point kinded)) };
-  means = λ c. amount_gives by t _;
-  kinded = narrow_kinded s code x stack p running to base by exact rest sel at t m point kinded;
-  does = narrow_does s code x stack p running to base by exact rest sel at t m point kinded ws form has;
-}
+narrows_run_law s code x stack w p running (instr.Narrow to base by exact) rest is sel at t m point kinded ws form has
+    = record {
+      next = record t {
+        vars = slice_set t.vars to (Some (narrower s code x stack p running to base by exact rest sel at t
+            m point kinded));
+      };
+      means = λ c. amount_gives by t _;
+      kinded = narrow_kinded s code x stack p running to base by exact rest sel at t m point kinded;
+      does = narrow_does s code x stack p running to base by exact rest sel at t m point kinded ws form has;
+    }
 narrows_run_law s code x stack w p running i rest is sel at t m point kinded ws form has = absurd is
 
 -- ---- moves
 
 module _ (s : Setting) (code : List Instr) (x : IsText s code) (stack : StackIsThere s) (p : Typed) (running : Running)
-    (to base : ℕ) (by : Amount) (rest : List TacInstr) (sel : IsSelectable s p running (instr.Offset to base by) rest) (at : ℕ)
-    (t : State modes.Store) (m : Machine) (point : IsAtPoint s code (before running (instr.Offset to base by) rest) at t m)
+    (to base : ℕ) (by : Amount) (rest : List TacInstr) (sel : IsSelectable s p running (instr.Offset to base by) rest)
+    (at : ℕ)
+    (t : State modes.Store) (m : Machine) (point : IsAtPoint s code (before running
+    (instr.Offset to base by) rest) at t m)
     (kinded : AreOfKinds (kinds_in s running) t.vars) where
   abbrev offset_i : TacInstr
   offset_i = instr.Offset to base by
@@ -220,19 +242,25 @@ module _ (s : Setting) (code : List Instr) (x : IsText s code) (stack : StackIsT
   offset_fits : (is_integer further ≡ false) × IsKnown t.mem.memory.shapes (functions_of s) further
       × (added unmoved (amount_in t by) ≡ capability_of (addresses_of s.map) (base_in t.mem.memory.shapes) further)
   offset_fits =
-      (fitting s code x stack p running offset_i rest to base (zero, refl) sel at t m point kinded offset_parts.1).moves (amount_in t by)
+      (fitting s code x stack p running offset_i rest to base
+      (zero, refl) sel at t m point kinded offset_parts.1).moves (amount_in t by)
 
   abbrev Offset_behind : List Instr → Type 0
-  Offset_behind ws = Arrives s code (behind running rest) 0 (cost offset_i) (at + length ws) (record t { vars = slice_set t.vars to (Some further) }) m
+  Offset_behind ws = Arrives s code (behind running rest) 0 (cost offset_i) (at + length ws)
+      (record t { vars = slice_set t.vars to (Some further) }) m
 
-  far_does : (ws : List Instr) → OfTwo s running.fun to base (Amounts s running.fun by) (OneOfTwo Cincoffset) ws → HasAt code at ws
+  far_does : (ws : List Instr) → OfTwo s running.fun to base (Amounts s running.fun by) (OneOfTwo Cincoffset) ws
+      → HasAt code at ws
       → Offset_behind ws
   unfolding row cap_reg_row
   far_does ws o has =
-      within s code (behind running rest) 0 (amount_words by + 1 + 6) (cost offset_i) (at + length ws) _ m (amount_dear by)
-      (of_two s code x stack p running offset_i rest to refl refl (λ n h. h) sel t m at point base (zero, refl) further offset_fits.1
+      within s code (behind running rest) 0 (amount_words by + 1 + 6) (cost offset_i) (at + length ws) _ m
+      (amount_dear by)
+      (of_two s code x stack p running offset_i rest to refl refl (λ n h. h) sel t m at point base
+      (zero, refl) further offset_fits.1
       (Amounts s running.fun by) (null_at (amount_in t by)) (amount_words by)
-      (amount_comes s code x stack p running offset_i rest to refl refl (λ n h. h) sel t m at point base (zero, refl) kinded by offset_parts.2
+      (amount_comes s code x stack p running offset_i rest to refl refl (λ n h. h) sel t m at point base
+      (zero, refl) kinded by offset_parts.2
       (among_amount base by))
       (OneOfTwo Cincoffset)
       (λ n mid a b here ea eb r us e range hs.
@@ -242,15 +270,18 @@ module _ (s : Setting) (code : List Instr) (x : IsText s code) (stack : StackIsT
       ∙ ap (λ k. set n r (added unmoved k)) (null_address (amount_in t by)) ∙ ap (set n r) offset_fits.2))
       1 (λ r a b us e. subst (λ y. length y ≤ 1) (sym e) (omega arith)) ws o has)
 
-  near_does : (n : ℕ) → n ≡ amount_in t by → (ws : List Instr) → OfOne s running.fun to base (Advance n) ws → HasAt code at ws
+  near_does : (n : ℕ) → n ≡ amount_in t by → (ws : List Instr) → OfOne s running.fun to base (Advance n) ws
+      → HasAt code at ws
       → Offset_behind ws
   unfolding row cap_imm_row
   near_does n same ws o has =
       within s code (behind running rest) 0 (1 + 6) (cost offset_i) (at + length ws) _ m (amount_some by)
-      (of_one s code x stack p running offset_i rest to refl refl (λ n h. h) sel t m at point base (zero, refl) further offset_fits.1
+      (of_one s code x stack p running offset_i rest to refl refl (λ n h. h) sel t m at point base
+      (zero, refl) further offset_fits.1
       (Advance n)
       (λ u mid a here ea r us e range hs.
-      one_only s code x (before running offset_i rest) t u mid here (CapImm Cincoffsetimm r a e.0) r _ us e.2 hs refl range
+      one_only s code x (before running offset_i rest) t u mid here
+      (CapImm Cincoffsetimm r a e.0) r _ us e.2 hs refl range
       (ap (λ c. set u r (added c (extended e.0))) ea
       ∙ ap (λ k. set u r (added unmoved k)) (e.1 ∙ same) ∙ ap (set u r) offset_fits.2))
       1 (λ r a us e. subst (λ y. length y ≤ 1) (sym e.2) (omega arith)) ws o has)
@@ -266,7 +297,8 @@ module _ (s : Setting) (code : List Instr) (x : IsText s code) (stack : StackIsT
       (kinded.each k (ltb-true k (length (kinds_in s running)) parts.0)) in
       sym (null_address n) ∙ sym (ap (λ (d : Cap). d.fields.address) c)
       ∙ ap (λ v. (capability_of (addresses_of s.map) (base_in t.mem.memory.shapes) v).fields.address) v_is
-      ∙ ap (λ (d : Cap). d.fields.address) (integer_bits (addresses_of s.map) (base_in t.mem.memory.shapes) (number_of (temp_in t k)))
+      ∙ ap (λ (d : Cap). d.fields.address) (integer_bits (addresses_of s.map) (base_in t.mem.memory.shapes) (number_of
+      (temp_in t k)))
       ∙ null_address (number_of (temp_in t k)) ∙ sym (ap (amount_in t) e)
 
   offset_does : (ws : List Instr) → Offsets s running.fun to base by ws → HasAt code at ws → Offset_behind ws
@@ -276,15 +308,20 @@ module _ (s : Setting) (code : List Instr) (x : IsText s code) (stack : StackIsT
 
   offset_kinded : AreOfKinds (kinds_in s running) (slice_set t.vars to (Some further))
   offset_kinded =
-      pointer_kinded s code x stack p running offset_i rest to base (zero, refl) sel at t m point kinded offset_parts.1 offset_parts.0 further
+      pointer_kinded s code x stack p running offset_i rest to base
+      (zero, refl) sel at t m point kinded offset_parts.1 offset_parts.0 further
       offset_fits.0
 
 pub offsets_run_law : OffsetsRun
 unfolding operations
-offsets_run_law s code x stack w p running (instr.Offset to base by) rest is sel at t m point kinded ws form has = record {
-  next = record t { vars = slice_set t.vars to (Some (further s code x stack p running to base by rest sel at t m point kinded)) };
-  means = λ c. amount_gives by t _;
-  kinded = offset_kinded s code x stack p running to base by rest sel at t m point kinded;
-  does = offset_does s code x stack p running to base by rest sel at t m point kinded ws form has;
-}
+offsets_run_law s code x stack w p running (instr.Offset to base by) rest is sel at t m point kinded ws form has =
+    record {
+      next = record t {
+        vars = slice_set t.vars to (Some (further s code x stack p running to base by rest sel at t m point
+            kinded));
+      };
+      means = λ c. amount_gives by t _;
+      kinded = offset_kinded s code x stack p running to base by rest sel at t m point kinded;
+      does = offset_does s code x stack p running to base by rest sel at t m point kinded ws form has;
+    }
 offsets_run_law s code x stack w p running i rest is sel at t m point kinded ws form has = absurd is

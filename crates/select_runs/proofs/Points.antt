@@ -1,9 +1,7 @@
 -- Code that was loaded as the text stands there at each point of the run.
-use Rattle.std.proofs.Common.{◌≡◌, ℕ, ◌+◌, ◌*◌, ◌%◌, ◌<◌, ◌≤◌, List, length, Some, refl, sym, ap, ◌∙◌, arith}
-use Rattle.std.specs.Prelude.{slice_get}
+use Rattle.std.proofs.Common.{ℕ, ◌+◌, ◌*◌, ◌≤◌, List, Some, ◌∙◌, arith}
 use Rattle.std.proofs.lemmas.Option.{slice_get_within}
 use Rattle.rv_instr.specs.declared.instr.Instr.{Instr}
-use Rattle.tag_mem.specs.Areas.{IsMemory}
 use Rattle.tag_mem.proofs.Laws.{number_at-same_bytes}
 use Rattle.cap_machine.specs.declared.machine.Machine.{Machine}
 use Rattle.cheri_c_sem.specs.Modes.{Store}
@@ -11,7 +9,7 @@ use Rattle.cheri_c_sem.specs.Steps.{State}
 use Rattle.place_inject.specs.Frames.{Setting, Point}
 use Rattle.place_inject.specs.Fits.{Fits}
 use Rattle.place_inject.proofs.StoresKeep.{scratch_keeps_law}
-use Rattle.select_runs.specs.Acts.{Ground, Laid, HasText, IsThere, Holds, counter_at}
+use Rattle.select_runs.specs.Acts.{Laid, HasText, IsThere, Holds}
 use Rattle.select_runs.specs.Operands.{ground_of, IsText, IsAtPoint}
 
 module _ (s : Setting) (code : List Instr) (x : IsText s code) where
@@ -31,7 +29,8 @@ module _ (s : Setting) (code : List Instr) (x : IsText s code) where
       let within = slice_get_within code k i has in
       let room = x.room in
       let aligned = x.legal.text_aligned in
-      number_at-same_bytes s.loaded.mem m.mem (s.map.text.0 + 4 * k) 4 x.areas f.objects.areas (omega arith) (omega arith)
+      number_at-same_bytes s.loaded.mem m.mem (s.map.text.0 + 4 * k) 4 x.areas f.objects.areas (omega arith)
+      (omega arith)
       (λ j lt. f.text.bytes (s.map.text.0 + 4 * k + j) (omega arith) (omega arith))
       ∙ x.words k i has
 
@@ -44,7 +43,8 @@ module _ (s : Setting) (code : List Instr) (x : IsText s code) where
   }
 
   -- a stretch that changed a scratch register alone keeps the point
-  pub scratched : (p : Point) (at n end scratch r : ℕ) (c : _) (t : State Store) (m : Machine) → IsAtPoint s code p at t m
+  pub scratched : (p : Point) (at n end scratch r : ℕ) (c : _) (t : State Store) (m : Machine)
+      → IsAtPoint s code p at t m
       → 28 ≤ scratch → (h : Holds (ground_of s code) m n end scratch r c) → IsAtPoint s code p end t h.to
   scratched p at n end scratch r c t m point above h = record {
     fits = scratch_keeps_law s x.usable (Some p) t m point.fits h.to h.registers h.memory

@@ -1,6 +1,5 @@
 -- Worked rows: words that selection appends, by hand.
 use Rattle.std.proofs.Common.{◌≡◌, ℕ, inr, pos, List, [], ◌∷◌, refl, arith}
-use Rattle.rv_instr.specs.declared.instr.Instr.{Instr}
 use Rattle.rv_instr.specs.declared.instr.Instr.TheVariants.{Upper, Store, Clc, Imm, CapReg}
 use Rattle.rv_instr.specs.declared.ops.UpperOp.TheVariants.{Lui}
 use Rattle.rv_instr.specs.declared.ops.ImmOp.TheVariants.{Addi, Addiw}

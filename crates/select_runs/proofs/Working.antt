@@ -1,5 +1,5 @@
 -- Operands come to registers, words compute of them, and the result goes home.
-use Rattle.std.proofs.Common.{◌≡◌, ◌≢◌, ℕ, zero, suc, ◌+◌, ◌^◌, ◌<◌, ◌≤◌, ◌⊎◌, Bool, true, false, List, [], ◌∷◌, ◌++◌, length, Some, None, refl, sym, ap, ◌∙◌, subst, arith, inl, inr}
+use Rattle.std.proofs.Common.{◌≡◌, ◌≢◌, ℕ, ◌+◌, ◌<◌, ◌≤◌, ◌⊎◌, true, false, List, [], ◌∷◌, ◌++◌, length, Some, refl, sym, ap, ◌∙◌, subst, arith, inl, inr}
 use Rattle.std.specs.Prelude.{slice_get, slice_set}
 use Rattle.std.proofs.lemmas.Bool.{and_parts, ltb-true}
 use Rattle.std.proofs.lemmas.List.{length-append}
@@ -7,7 +7,7 @@ use Rattle.cap_ops.specs.declared.capability.Cap.{Cap}
 use Rattle.cap_ops.specs.Capability.{null_at}
 use Rattle.rv_instr.specs.declared.instr.Instr.{Instr}
 use Rattle.cap_machine.specs.declared.machine.Machine.{Machine}
-use Rattle.cap_machine.specs.State.{register, integer}
+use Rattle.cap_machine.specs.State.{register}
 use Rattle.cap_machine.specs.Rows.{row, set}
 use Rattle.cap_machine.specs.Step.{is_call}
 use Rattle.c_tree.specs.declared.typed.Typed.{Typed}
@@ -27,7 +27,6 @@ use Rattle.tac_ir.specs.declared.code.Amount.TheVariants as amount
 use Rattle.tac_ir.specs.declared.code.TacInstr.{TacInstr}
 use Rattle.place_inject.specs.Values.{IsKnown}
 use Rattle.place_inject.specs.Frames.{Setting, Point, IsLive, functions_of}
-use Rattle.place_inject.specs.Homes.{onward}
 use Rattle.place_inject.specs.Spills.{StackIsThere}
 use Rattle.select_runs.specs.Acts.{Ground, HasAt, HasText, IsThere, Holds, Leads, counter_at}
 use Rattle.select_runs.specs.Numbers.{MakesNumber}
@@ -38,7 +37,7 @@ use Rattle.select_runs.specs.Kinds.{IsOfKind, AreOfKinds}
 use Rattle.select_runs.specs.Operands.{ground_of, IsText, IsAtPoint}
 use Rattle.select_runs.specs.Results.{Computed, MayTake, Arrives, before, behind, kinds_in, code_in, IsConstant, IsSelectable}
 use Rattle.select_runs.proofs.Acts.{has_front, has_back, one_set, join}
-use Rattle.select_runs.proofs.Numbers.{null_address, numbers_are_made_law}
+use Rattle.select_runs.proofs.Numbers.{numbers_are_made_law}
 use Rattle.select_runs.proofs.Points.{laid, there, text_there, scratched}
 use Rattle.select_runs.proofs.Operands.{holds_by}
 use Rattle.select_runs.proofs.Results.{reads_no_more, results_go_home_law, target_may}
@@ -70,9 +69,11 @@ amount_words (amount.Number n) = number_cost n
 
 -- ---- words behind a point
 
--- A machine that still stands for the state at the point, so many acts on, where a register has a capability. No register but one
+-- A machine that still stands for the state at the point, so many acts on, where a register has a capability. No
+-- register but one
 -- changed since
-pub record Got (s : Setting) (code : List Instr) (p : Point) (t : State modes.Store) (m from : Machine) (count mid changed r : ℕ)
+pub record Got (s : Setting) (code : List Instr) (p : Point) (t : State modes.Store) (m from : Machine)
+    (count mid changed r : ℕ)
     (c : Cap) : Type 0 where
   pub to : Machine
   pub leads : Leads count m to
@@ -87,7 +88,8 @@ module _ (s : Setting) (code : List Instr) (x : IsText s code) (p : Point) (t : 
   abbrev pub bits : Value → Cap
   bits = capability_of (addresses_of s.map) (base_in t.mem.memory.shapes)
 
-  got : (m n : Machine) (count at : ℕ) → Leads count m n → IsAtPoint s code p at t n → (scratch r size : ℕ) (c : Cap) → 28 ≤ scratch
+  got : (m n : Machine) (count at : ℕ) → Leads count m n → IsAtPoint s code p at t n → (scratch r size : ℕ) (c : Cap)
+      → 28 ≤ scratch
       → Holds g n size (at + size) scratch r c → Got s code p t m n (count + size) (at + size) scratch r c
   got m n count at leads point scratch r size c above h = record {
     to = h.to;
@@ -98,7 +100,8 @@ module _ (s : Setting) (code : List Instr) (x : IsText s code) (p : Point) (t : 
   }
 
   pub operand_got : (m n : Machine) (count at : ℕ) → Leads count m n → IsAtPoint s code p at t n → (temp scratch r : ℕ)
-      → IsLive s p temp → 28 ≤ scratch → scratch < 32 → (words : List Instr) → Operand s p.running.fun temp scratch words r
+      → IsLive s p temp → 28 ≤ scratch → scratch < 32 → (words : List Instr)
+      → Operand s p.running.fun temp scratch words r
       → HasAt code at words
       → Got s code p t m n (count + length words) (at + length words) scratch r (bits (temp_in t temp))
   operand_got m n count at leads point temp scratch r live above below words o has =
@@ -110,7 +113,8 @@ module _ (s : Setting) (code : List Instr) (x : IsText s code) (p : Point) (t : 
       → Got s code p t m n (count + length words) (at + length words) scratch scratch (null_at value)
   number_got m n count at leads point scratch value above below words makes has =
       got m n count at leads point scratch scratch (length words) (null_at value) above
-      (numbers_are_made_law g (laid s code x) n at (there s code x p at t n point) scratch value (omega arith) below words makes has)
+      (numbers_are_made_law g (laid s code x) n at (there s code x p at t n point) scratch value
+      (omega arith) below words makes has)
 
   -- ---- words that compute
 
@@ -147,7 +151,8 @@ module _ (s : Setting) (code : List Instr) (x : IsText s code) (p : Point) (t : 
   }
 
   -- one more stretch, which changes the same register or a scratch register
-  pub and_then : (n : Machine) (count mid changed r size also q : ℕ) (c d : Cap) (h : Computed s code n count mid changed r c)
+  pub and_then : (n : Machine) (count mid changed r size also q : ℕ) (c d : Cap)
+      (h : Computed s code n count mid changed r c)
       → ((also ≡ changed) ⊎ (28 ≤ also)) → Holds g h.to size (mid + size) also q d
       → Computed s code n (count + size) (mid + size) changed q d
   and_then n count mid changed r size also q c d h may k = record {
@@ -161,7 +166,8 @@ module _ (s : Setting) (code : List Instr) (x : IsText s code) (p : Point) (t : 
   }
 
   -- a stretch that changes a scratch register alone keeps what was computed
-  pub and_scratch : (n : Machine) (count mid r size also : ℕ) (c d : Cap) (h : Computed s code n count mid r r c) → 28 ≤ also
+  pub and_scratch : (n : Machine) (count mid r size also : ℕ) (c d : Cap) (h : Computed s code n count mid r r c)
+      → 28 ≤ also
       → (also ≡ r → ⊥) → Holds g h.to size (mid + size) also also d
       → (e : Computed s code n (count + size) (mid + size) r r c) × (register e.to also ≡ d)
   and_scratch n count mid r size also c d h above other k = (
@@ -178,7 +184,8 @@ module _ (s : Setting) (code : List Instr) (x : IsText s code) (p : Point) (t : 
   )
 
   -- the first word, and a word that reads what the words before it computed
-  pub first_word : (n : Machine) (at : ℕ) → IsAtPoint s code p at t n → (i : Instr) (r : ℕ) (c : Cap) → slice_get code at ≡ Some i
+  pub first_word : (n : Machine) (at : ℕ) → IsAtPoint s code p at t n → (i : Instr) (r : ℕ) (c : Cap)
+      → slice_get code at ≡ Some i
       → is_call i ≡ false → (4 < r) × (r < 29) → row n i ≡ set n r c → Computed s code n 1 (at + 1) r r c
   first_word n at point i r c has plain range does =
       stretch n at r 1 r r c (inl refl) (one_word n at (there s code x p at t n point) i r c has plain range does)
@@ -201,8 +208,10 @@ module _ (s : Setting) (code : List Instr) (x : IsText s code) (p : Point) (t : 
       (first_word n at point i r c q.0 plain range does)
 
   -- two, the second of which reads what the first computed
-  pub two_words : (n : Machine) (at : ℕ) → IsAtPoint s code p at t n → (i j : Instr) (r : ℕ) (c d : Cap) (words : List Instr)
-      → words ≡ i ∷ j ∷ [] → HasAt code at words → is_call i ≡ false → is_call j ≡ false → (4 < r) × (r < 29) → row n i ≡ set n r c
+  pub two_words : (n : Machine) (at : ℕ) → IsAtPoint s code p at t n → (i j : Instr) (r : ℕ) (c d : Cap)
+      (words : List Instr)
+      → words ≡ i ∷ j ∷ [] → HasAt code at words → is_call i ≡ false → is_call j ≡ false → (4 < r) × (r < 29)
+      → row n i ≡ set n r c
       → ((u : Machine) → register u r ≡ c → row u j ≡ set u r d)
       → Computed s code n (length words) (at + length words) r r d
   two_words n at point i j r c d words e has plain plain' range first second =
@@ -216,7 +225,8 @@ module _ (s : Setting) (code : List Instr) (x : IsText s code) (p : Point) (t : 
 -- ---- an instruction that writes one temp
 
 -- at most so many acts are at most more
-pub within : (s : Setting) (code : List Instr) (p : Point) (least most more at : ℕ) (t : State modes.Store) (m : Machine) → most ≤ more
+pub within : (s : Setting) (code : List Instr) (p : Point) (least most more at : ℕ) (t : State modes.Store)
+    (m : Machine) → most ≤ more
     → Arrives s code p least most at t m → Arrives s code p least more at t m
 within s code p least most more at t m le a = let al = a.le in record {
   count = a.count;
@@ -227,7 +237,8 @@ within s code p least most more at t m le a = let al = a.le in record {
   point = a.point;
 }
 
-pub target_range : (s : Setting) (fun to r : ℕ) → ((q : ℕ) → emitted.IsIn s fun to q → (5 ≤ q) × (q ≤ 27)) → Target s fun to r
+pub target_range : (s : Setting) (fun to r : ℕ) → ((q : ℕ) → emitted.IsIn s fun to q → (5 ≤ q) × (q ≤ 27))
+    → Target s fun to r
     → (4 < r) × (r < 29)
 target_range s fun to r usable (emitted.Own i) =
     let u = usable r i in let low_is = u.0 in let high_is = u.1 in (omega arith, omega arith)
@@ -239,12 +250,14 @@ pub unsecond : (s : Setting) (code : List Instr) → IsText s code → (fun t : 
     → Operand s fun t 28 words a → a ≢ 29
 unsecond s code x fun t words a (emitted.Nothing n e q) = λ z. absurd (omega (arith, q, z))
 unsecond s code x fun t words a (emitted.Made v n makes few e) = λ z. absurd (omega (arith, e, z))
-unsecond s code x fun t words a (emitted.AtHome i e) = let l : a < 28 = x.usable fun t a i.home in λ z. absurd (omega (arith, l, z))
+unsecond s code x fun t words a (emitted.AtHome i e) = let l : a < 28 = x.usable fun t a i.home in λ z. absurd (omega
+    (arith, l, z))
 unsecond s code x fun t words a (emitted.Loaded offset i e q) = λ z. absurd (omega (arith, q, z))
 
 module _ (s : Setting) (code : List Instr) (x : IsText s code) (stack : StackIsThere s) (p : Typed) (running : Running)
     (i : TacInstr) (rest : List TacInstr) (to : ℕ) (falls_on : falls i ≡ true) (wrote : writes i ≡ to ∷ [])
-    (no_constant : (n : ℕ) → IsConstant i n → ⊥) (sel : IsSelectable s p running i rest) (t : State modes.Store) (m : Machine) where
+    (no_constant : (n : ℕ) → IsConstant i n → ⊥) (sel : IsSelectable s p running i rest) (t : State modes.Store)
+    (m : Machine) where
   abbrev here : Point
   here = before running i rest
 
@@ -253,7 +266,10 @@ module _ (s : Setting) (code : List Instr) (x : IsText s code) (stack : StackIsT
 
   -- so many acts at most lead to the words behind, where the temp has the value
   abbrev pub After : (most end : ℕ) → Value → Type 0
-  After most end v = Arrives s code (behind running rest) 0 most end (record t { vars = slice_set t.vars to (Some v) }) m
+  After most end v = Arrives s code (behind running rest) 0 most end (record t {
+    vars = slice_set t.vars to
+        (Some v);
+  }) m
 
   -- what words compute, from a machine that stands for the state
   abbrev pub Does : Machine → ℕ → Value → (ℕ → List Instr → Type 0) → Type 0
@@ -262,7 +278,8 @@ module _ (s : Setting) (code : List Instr) (x : IsText s code) (stack : StackIsT
 
   -- They make the value, and it goes home
   pub makes_home : (n : Machine) (count mid : ℕ) → Leads count m n → IsAtPoint s code here mid t n
-      → (v : Value) → IsKnown t.mem.memory.shapes (functions_of s) v → (Work : ℕ → List Instr → Type 0) → Does n mid v Work
+      → (v : Value) → IsKnown t.mem.memory.shapes (functions_of s) v → (Work : ℕ → List Instr → Type 0)
+      → Does n mid v Work
       → (few : ℕ) → ((r : ℕ) (words : List Instr) → Work r words → length words ≤ few)
       → (words : List Instr) → Makes s running.fun to Work words → HasAt code mid words
       → After (count + few + 3) (mid + length words) v
@@ -272,7 +289,8 @@ module _ (s : Setting) (code : List Instr) (x : IsText s code) (stack : StackIsT
       let range = target_range s running.fun to o.r (λ r j. (take.register r j.home).usable) o.target in
       let c = does o.r o.work o.works range (has_front code mid o.work o.keep q) in
       let a = results_go_home_law s code x stack here mid t n point rest to take
-      (reads_no_more s running i rest to falls_on wrote) v known (length o.work) (mid + length o.work) o.r o.r may.0 may.1 c
+      (reads_no_more s running i rest to falls_on wrote) v known (length o.work)
+      (mid + length o.work) o.r o.r may.0 may.1 c
       o.keep o.kept (has_back code mid o.work o.keep q) in
       let al = a.le in
       let wl = short o.r o.work o.works in
@@ -293,10 +311,12 @@ module _ (s : Setting) (code : List Instr) (x : IsText s code) (stack : StackIsT
   module _ (at : ℕ) (point : IsAtPoint s code here at t m) where
     pub of_none : (v : Value) → IsKnown t.mem.memory.shapes (functions_of s) v → (Work : ℕ → List Instr → Type 0)
         → Does m at v Work → (few : ℕ) → ((r : ℕ) (words : List Instr) → Work r words → length words ≤ few)
-        → (words : List Instr) → Makes s running.fun to Work words → HasAt code at words → After (few + 3) (at + length words) v
+        → (words : List Instr) → Makes s running.fun to Work words → HasAt code at words → After (few + 3)
+        (at + length words) v
     of_none v known Work does few short words o has =
         let e : 0 + few + 3 ≡ few + 3 = omega arith in
-        subst (λ k. After k (at + length words) v) e (makes_home m 0 at refl point v known Work does few short words o has)
+        subst (λ k. After k (at + length words) v) e (makes_home m 0 at refl point v known Work does few short words o
+        has)
 
     -- the first operand
     module _ (from : ℕ) (read : IsAmong from (reads i)) where
@@ -305,10 +325,13 @@ module _ (s : Setting) (code : List Instr) (x : IsText s code) (stack : StackIsT
       first words a found has =
           let e : 0 + length words ≡ length words = omega arith in
           subst (λ k. Got s code here t m m k (at + length words) 28 a (bits s code x here t (temp_in t from))) e
-          (operand_got s code x here t m m 0 at refl point from 28 a (now read) (omega arith) (omega arith) words found has)
+          (operand_got s code x here t m m 0 at refl point from 28 a (now read) (omega arith)
+          (omega arith) words found has)
 
-      pub of_one : (v : Value) → IsKnown t.mem.memory.shapes (functions_of s) v → (Work : (r a : ℕ) → List Instr → Type 0)
-          → ((n : Machine) (mid a : ℕ) → IsAtPoint s code here mid t n → register n a ≡ bits s code x here t (temp_in t from)
+      pub of_one : (v : Value) → IsKnown t.mem.memory.shapes (functions_of s) v → (Work : (r a : ℕ) → List Instr
+          → Type 0)
+          → ((n : Machine) (mid a : ℕ) → IsAtPoint s code here mid t n → register n a ≡ bits s code x here t
+          (temp_in t from)
           → Does n mid v (λ r. Work r a))
           → (few : ℕ) → ((r a : ℕ) (words : List Instr) → Work r a words → length words ≤ few)
           → (words : List Instr) → OfOne s running.fun to from Work words → HasAt code at words
@@ -334,13 +357,16 @@ module _ (s : Setting) (code : List Instr) (x : IsText s code) (stack : StackIsT
 
       -- what the second words bring
       abbrev pub Brings : (Second : List Instr → ℕ → Type 0) → Cap → ℕ → Type 0
-      Brings Second d most = (n : Machine) (count mid : ℕ) → Leads count m n → IsAtPoint s code here mid t n → (words : List Instr) (b : ℕ)
+      Brings Second d most = (n : Machine) (count mid : ℕ) → Leads count m n → IsAtPoint s code here mid t n →
+          (words : List Instr) (b : ℕ)
           → Second words b → HasAt code mid words
           → Got s code here t m n (count + length words) (mid + length words) 29 b d × (length words ≤ most)
 
-      pub of_two : (v : Value) → IsKnown t.mem.memory.shapes (functions_of s) v → (Second : List Instr → ℕ → Type 0) (d : Cap)
+      pub of_two : (v : Value) → IsKnown t.mem.memory.shapes (functions_of s) v → (Second : List Instr → ℕ → Type 0)
+          (d : Cap)
           (most : ℕ) → Brings Second d most → (Work : (r a b : ℕ) → List Instr → Type 0)
-          → ((n : Machine) (mid a b : ℕ) → IsAtPoint s code here mid t n → register n a ≡ bits s code x here t (temp_in t from)
+          → ((n : Machine) (mid a b : ℕ) → IsAtPoint s code here mid t n → register n a ≡ bits s code x here t
+          (temp_in t from)
           → register n b ≡ d → Does n mid v (λ r. Work r a b))
           → (few : ℕ) → ((r a b : ℕ) (words : List Instr) → Work r a b words → length words ≤ few)
           → (words : List Instr) → OfTwo s running.fun to from Second Work words → HasAt code at words
@@ -350,9 +376,11 @@ module _ (s : Setting) (code : List Instr) (x : IsText s code) (stack : StackIsT
           let f = first o.finds o.a o.found (has_front code at o.finds (o.others ++ o.then_on) q) in
           let mid : ℕ = at + length o.finds in
           let r = has_back code at o.finds (o.others ++ o.then_on) q in
-          let e = brings f.to (length o.finds) mid f.leads f.point o.others o.b o.second (has_front code mid o.others o.then_on r) in
+          let e = brings f.to (length o.finds) mid f.leads f.point o.others o.b o.second
+          (has_front code mid o.others o.then_on r) in
           let late : ℕ = mid + length o.others in
-          let k = makes_home e.0.to (length o.finds + length o.others) late e.0.leads e.0.point v known (λ y. Work y o.a o.b)
+          let k = makes_home e.0.to (length o.finds + length o.others) late e.0.leads e.0.point v known
+          (λ y. Work y o.a o.b)
           (does e.0.to late o.a o.b e.0.point
           (e.0.others o.a (unsecond s code x running.fun from o.finds o.a o.found) ∙ f.holds) e.0.holds)
           few (λ y. short y o.a o.b) o.then_on o.makes (has_back code mid o.others o.then_on r) in
@@ -371,9 +399,11 @@ module _ (s : Setting) (code : List Instr) (x : IsText s code) (stack : StackIsT
           })
 
       -- a second operand, and an amount
-      pub other_comes : (temp : ℕ) → IsAmong temp (reads i) → Brings (Other s running.fun temp) (bits s code x here t (temp_in t temp)) 3
+      pub other_comes : (temp : ℕ) → IsAmong temp (reads i) → Brings (Other s running.fun temp) (bits s code x here t
+          (temp_in t temp)) 3
       other_comes temp also n count mid leads here_now words b o has = (
-        operand_got s code x here t m n count mid leads here_now temp 29 b (now also) (omega arith) (omega arith) words o has,
+        operand_got s code x here t m n count mid leads here_now temp 29 b (now also) (omega arith)
+            (omega arith) words o has,
         operand_few s running.fun temp 29 words b o,
       )
 
@@ -384,11 +414,13 @@ module _ (s : Setting) (code : List Instr) (x : IsText s code) (stack : StackIsT
       amount_comes kinded by fits read_too n count mid leads here_now words b (Temps k e o) has =
           let f : has_int p sel.d (kinds_in s running) (code_in s running) k ≡ true =
           subst (λ y. amount_fits p sel.d (kinds_in s running) (code_in s running) y ≡ true) e fits in
-          let parts = and_parts (is_temp p sel.d (kinds_in s running) (code_in s running) k) (is_int (kind_at (kinds_in s running) k)) f in
+          let parts = and_parts (is_temp p sel.d (kinds_in s running) (code_in s running) k) (is_int (kind_at
+          (kinds_in s running) k)) f in
           let v_is = integer_of (kind_at (kinds_in s running) k) (temp_in t k) parts.1
           (kinded.each k (ltb-true k (length (kinds_in s running)) parts.0)) in
           let is : bits s code x here t (temp_in t k) ≡ null_at (amount_in t by) =
-          ap (bits s code x here t) v_is ∙ integer_bits (addresses_of s.map) (base_in t.mem.memory.shapes) (number_of (temp_in t k))
+          ap (bits s code x here t) v_is ∙ integer_bits (addresses_of s.map) (base_in t.mem.memory.shapes) (number_of
+          (temp_in t k))
           ∙ sym (ap (λ y. null_at (amount_in t y)) e) in
           let w = other_comes k (read_too k e) n count mid leads here_now words b o has in
           let wl = w.1 in (
@@ -396,8 +428,10 @@ module _ (s : Setting) (code : List Instr) (x : IsText s code) (stack : StackIsT
             subst (λ y. length words ≤ amount_words y) (sym e) (omega arith),
           )
       amount_comes kinded by fits read_too n count mid leads here_now words b (Numbers k e small makes few q) has = (
-        subst (λ y. Got s code here t m n (count + length words) (mid + length words) 29 y (null_at (amount_in t by))) (sym q)
-            (subst (λ y. Got s code here t m n (count + length words) (mid + length words) 29 29 (null_at (amount_in t y))) (sym e)
+        subst (λ y. Got s code here t m n (count + length words) (mid + length words) 29 y (null_at (amount_in t by)))
+            (sym q)
+            (subst (λ y. Got s code here t m n (count + length words) (mid + length words) 29 29 (null_at
+            (amount_in t y))) (sym e)
             (number_got s code x here t m n count mid leads here_now 29 k (omega arith) (omega arith) words makes has)),
         subst (λ y. length words ≤ amount_words y) (sym e) (omega (arith, few)),
       )

@@ -83,7 +83,8 @@ pub record StoreWords (s : Setting) (fun to value : ℕ) (k : TacKind) (words : 
 
 -- the words, so many of which stand before the one that accesses memory
 abbrev pub AccessWords : Setting → ℕ → TacInstr → (skip : ℕ) → List Instr → Type 0
-AccessWords s fun (instr.Load to from k place) skip words = (f : OfOne s fun to from (Loads k) words) × (skip ≡ length f.finds)
+AccessWords s fun (instr.Load to from k place) skip words = (f : OfOne s fun to from (Loads k) words) ×
+    (skip ≡ length f.finds)
 AccessWords s fun (instr.Store to value k place) skip words =
     (f : StoreWords s fun to value k words) × (skip ≡ length f.finds + length f.others)
 AccessWords s fun i skip words = ⊥
@@ -102,7 +103,8 @@ IsAccess i = ⊥
 -- ---- what they do
 
 -- A trap ends the run: in the meaning at a place in the source, and on the machine at a word, by the same cause
-pub record Traps (s : Setting) (code : List Instr) (w : World) (p : Typed) (running : Running) (i : TacInstr) (source : Pos)
+pub record Traps (s : Setting) (code : List Instr) (w : World) (p : Typed) (running : Running) (i : TacInstr)
+    (source : Pos)
     (word : ℕ) (t : State modes.Store) (m : Machine) : Type 0 where
   pub cause : Cause
   pub means : (k : Next → State modes.Store → Fate)
@@ -115,7 +117,8 @@ pub record Traps (s : Setting) (code : List Instr) (w : World) (p : Typed) (runn
 
 -- The function goes on; a trap ends the run; or the meaning leaves what it speaks of
 pub data Accesses (s : Setting) (code : List Instr) (w : World) (p : Typed) (running : Running) (i : TacInstr)
-    (rest : List TacInstr) (words : List Instr) (source : Pos) (word at : ℕ) (t : State modes.Store) (m : Machine) : Type 0 where
+    (rest : List TacInstr) (words : List Instr) (source : Pos) (word at : ℕ) (t : State modes.Store)
+    (m : Machine) : Type 0 where
   Goes : GoesOn s code w p running i rest words at t m → Accesses s code w p running i rest words source word at t m
   Stops : Traps s code w p running i source word t m → Accesses s code w p running i rest words source word at t m
   Leaves : ((k : Next → State modes.Store → Fate)

@@ -1,4 +1,5 @@
--- The words that selection appends for temps: those that bring an operand to a register, and those that keep a register as a temp.
+-- The words that selection appends for temps: those that bring an operand to a register, and those that keep a
+-- register as a temp.
 use Rattle.std.specs.Prelude.{◌≡◌, ◌≢◌, ℕ, ◌+◌, ◌*◌, ◌≤◌, List, [], ◌∷◌, length, Some, None, slice_get}
 use Rattle.obj_mem.specs.declared.map.Frame.{Frame}
 use Rattle.purecap_abi.specs.Saving.{slots_at}

@@ -1,4 +1,5 @@
--- The form that the words of most instructions have: operands come to registers, words compute of them, and the result goes home.
+-- The form that the words of most instructions have: operands come to registers, words compute of them, and the result
+-- goes home.
 use Rattle.std.specs.Prelude.{◌≡◌, ℕ, ◌^◌, ◌<◌, ◌≤◌, List, ◌++◌, length}
 use Rattle.rv_instr.specs.declared.instr.Instr.{Instr}
 use Rattle.tac_ir.specs.Costs.{number_cost}
@@ -19,7 +20,8 @@ pub record Makes (s : Setting) (fun to : ℕ) (Work : (r : ℕ) → List Instr �
   pub are : words ≡ work ++ keep
 
 -- They compute of an operand
-pub record OfOne (s : Setting) (fun to from : ℕ) (Work : (r a : ℕ) → List Instr → Type 0) (words : List Instr) : Type 0 where
+pub record OfOne (s : Setting) (fun to from : ℕ) (Work : (r a : ℕ) → List Instr → Type 0)
+    (words : List Instr) : Type 0 where
   pub a : ℕ
   pub finds : List Instr
   pub found : Operand s fun from 28 finds a
@@ -28,7 +30,8 @@ pub record OfOne (s : Setting) (fun to from : ℕ) (Work : (r a : ℕ) → List 
   pub are : words ≡ finds ++ then_on
 
 -- They compute of an operand and of what other words bring to a second register
-pub record OfTwo (s : Setting) (fun to from : ℕ) (Second : List Instr → ℕ → Type 0) (Work : (r a b : ℕ) → List Instr → Type 0)
+pub record OfTwo (s : Setting) (fun to from : ℕ) (Second : List Instr → ℕ → Type 0) (Work : (r a b : ℕ) → List Instr
+    → Type 0)
     (words : List Instr) : Type 0 where
   pub a : ℕ
   pub b : ℕ

@@ -11,10 +11,10 @@ use Rattle.select_runs.specs.Operands.{IsText}
 use Rattle.select_runs.specs.Results.{GoOn, EachGoesOn}
 use Rattle.select_runs.specs.Capabilities.{IsNarrow, NarrowWords, IsOffset, OffsetWords, IsIntrinsic, CapWords, IsPointing, PointingWords}
 use Rattle.select_runs.specs.Operations.{IsOperation, OperationWords, IsComparison, CompareWords, IsConversion, ConversionWords}
-use Rattle.select_runs.specs.Words.{IsIntegerConstant, ConstantWords, IsCopy, CopyWords, IsPassed, NoWords}
+use Rattle.select_runs.specs.Words.{IsConst, ConstantWords, IsCopy, CopyWords, IsPassed, NoWords}
 
 abbrev pub ConstantsRun : Type 0
-ConstantsRun = EachGoesOn IsIntegerConstant ConstantWords
+ConstantsRun = EachGoesOn IsConst ConstantWords
 
 abbrev pub CopiesRun : Type 0
 CopiesRun = EachGoesOn IsCopy CopyWords
@@ -38,7 +38,8 @@ pub record IsAskedBy (s : Setting) (p : Typed) : Type 0 where
 
 -- Pointers to locals, globals, literals and functions, of which the last three are read from the table
 abbrev pub PointersRun : Type 0
-PointersRun = (s : Setting) (code : List Instr) → IsText s code → StackIsThere s → TableIsThere s → (w : World) (p : Typed)
+PointersRun = (s : Setting) (code : List Instr) → IsText s code → StackIsThere s → TableIsThere s → (w : World)
+    (p : Typed)
     → IsAskedBy s p → GoOn s code w p IsPointing PointingWords
 
 -- operations on integers, at the kinds that the integer promotions leave as they are

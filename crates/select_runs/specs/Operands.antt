@@ -1,5 +1,5 @@
 -- An operand comes to a register.
-use Rattle.std.specs.Prelude.{◌≡◌, ℕ, ◌+◌, ◌*◌, ◌^◌, ◌<◌, ◌≤◌, List, length, Some, slice_get}
+use Rattle.std.specs.Prelude.{◌≡◌, ℕ, ◌+◌, ◌*◌, ◌<◌, ◌≤◌, List, length, Some, slice_get}
 use Rattle.rv_instr.specs.declared.instr.Instr.{Instr}
 use Rattle.rv_instr.specs.Range.{InRange}
 use Rattle.rv_code.specs.Formats.{word_of}
@@ -36,13 +36,15 @@ pub record IsText (s : Setting) (code : List Instr) : Type 0 where
       → number_at s.loaded.mem (s.map.text.0 + 4 * k) 4 ≡ Some (word_of (fields_of i))
 
 -- The machine stands for a state of three-address code at a point of it, and its counter is at a word of the code
-pub record IsAtPoint (s : Setting) (code : List Instr) (p : Point) (at : ℕ) (t : State Store) (m : Machine) : Type 0 where
+pub record IsAtPoint (s : Setting) (code : List Instr) (p : Point) (at : ℕ) (t : State Store)
+    (m : Machine) : Type 0 where
   pub fits : Fits s (Some p) t m
   pub counter : m.pc ≡ counter_at (ground_of s code) at
 
 -- ---- operands
 
--- Where the words of an operand stand, the machine goes past them, and the register has the capability of the temp's value. No
+-- Where the words of an operand stand, the machine goes past them, and the register has the capability of the temp's
+-- value. No
 -- register but the scratch register is another than it was
 pub record Comes (s : Setting) (code : List Instr) (t : State Store) (m : Machine) (temp : ℕ) (words : List Instr)
     (at scratch r : ℕ) : Type 0 where

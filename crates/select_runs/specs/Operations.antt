@@ -96,19 +96,23 @@ OneThen word ends r x words = words ≡ word r x ∷ ends r
 abbrev pub TwoThen : (word : (r x y : ℕ) → Instr) → (ends : ℕ → List Instr) → (r x y : ℕ) → List Instr → Type 0
 TwoThen word ends r x y words = words ≡ word r x y ∷ ends r
 
--- Two registers; a register and a number of 12 bits, or the negative of one that is subtracted; or a shift by a number, which a product with a power of two is at 64 bits
+-- Two registers; a register and a number of 12 bits, or the negative of one that is subtracted; or a shift by a
+-- number, which a product with a power of two is at 64 bits
 pub data IntegerWords (s : Setting) (fun : ℕ) (o : IntOp) (k : IntKind) (to a b : ℕ) (words : List Instr) : Type 0 where
   Registers : OfTwo s fun to a (Other s fun b) (TwoThen (Op (selected_op k o)) (finish_code k o false)) words
       → IntegerWords s fun o k to a b words
   WithNumber : (i : ImmOp) (n : ℕ) (z : ℤ) → immediate_by k o ≡ Some i → IsNumber s fun b n → extended z ≡ n
-      → OfOne s fun to a (OneThen (λ r x. Imm i r x z) (finish_code k o false)) words → IntegerWords s fun o k to a b words
+      → OfOne s fun to a (OneThen (λ r x. Imm i r x z) (finish_code k o false)) words
+      → IntegerWords s fun o k to a b words
   NumberWith : (i : ImmOp) (n : ℕ) (z : ℤ) → immediate_by k o ≡ Some i → IsNumber s fun a n → extended z ≡ n
-      → OfOne s fun to b (OneThen (λ r x. Imm i r x z) (finish_code k o false)) words → IntegerWords s fun o k to a b words
+      → OfOne s fun to b (OneThen (λ r x. Imm i r x z) (finish_code k o false)) words
+      → IntegerWords s fun o k to a b words
   LessNumber : (n : ℕ) (z : ℤ) → o ≡ op.Sub → IsNumber s fun b n → (extended z + n) % 2 ^ 64 ≡ 0
       → OfOne s fun to a (OneThen (λ r x. Imm (add_op k) r x z) (finish_code k o false)) words
       → IntegerWords s fun o k to a b words
   Shifted : (n : ℕ) → is_shift o ≡ true → IsNumber s fun b n
-      → OfOne s fun to a (OneThen (λ r x. Shift (shift_by k o) r x (n % width_of (form_of k))) (finish_code k o true)) words
+      → OfOne s fun to a (OneThen (λ r x. Shift (shift_by k o) r x (n % width_of (form_of k)))
+      (finish_code k o true)) words
       → IntegerWords s fun o k to a b words
   Times : (q : ℕ) → o ≡ op.Mul → is_wide k ≡ true → q < 31 → IsNumber s fun b (2 ^ q)
       → OfOne s fun to a (OneThen (λ r x. Shift Slli r x q) (λ r. [])) words → IntegerWords s fun o k to a b words
@@ -165,12 +169,15 @@ compare_zero test.Eq r x = Some (is_zero r x ∷ [])
 compare_zero test.Ne r x = Some (is_some r x ∷ [])
 compare_zero o r x = None
 
-pub data ComparisonWords (s : Setting) (fun : ℕ) (o : CmpOp) (k : TacKind) (to a b : ℕ) (words : List Instr) : Type 0 where
+pub data ComparisonWords (s : Setting) (fun : ℕ) (o : CmpOp) (k : TacKind) (to a b : ℕ)
+    (words : List Instr) : Type 0 where
   Both : OfTwo s fun to a (Other s fun b) (λ r x y ws. ws ≡ compare_code o (compares_signed k) r x y) words
       → ComparisonWords s fun o k to a b words
   Number : (n : ℕ) (z : ℤ) → IsNumber s fun b n → extended z ≡ n
-      → OfOne s fun to a (λ r x ws. Some ws ≡ compare_number o (compares_signed k) z r x) words → ComparisonWords s fun o k to a b words
-  Zero : IsNumber s fun b 0 → OfOne s fun to a (λ r x ws. Some ws ≡ compare_zero o r x) words → ComparisonWords s fun o k to a b words
+      → OfOne s fun to a (λ r x ws. Some ws ≡ compare_number o (compares_signed k) z r x) words
+      → ComparisonWords s fun o k to a b words
+  Zero : IsNumber s fun b 0 → OfOne s fun to a (λ r x ws. Some ws ≡ compare_zero o r x) words
+      → ComparisonWords s fun o k to a b words
 
 abbrev pub IsComparison : TacInstr → Type 0
 IsComparison (instr.Cmp o k to a b) = Unit {0}
@@ -186,14 +193,16 @@ CompareWords s fun i words = ⊥
 abbrev pub is_narrower : (from to : ℕ) (from_signed to_signed : Bool) → Bool
 is_narrower from to from_signed to_signed =
     if Rattle.std.specs.Prelude.nat_lt from to then (if from_signed then to_signed else true)
-    else (Rattle.std.specs.Prelude.◌==◌ from to) && (if from_signed then to_signed else Rattle.std.specs.Prelude.not to_signed)
+    else (Rattle.std.specs.Prelude.◌==◌ from to) && (if from_signed then to_signed else Rattle.std.specs.Prelude.not
+    to_signed)
 
 abbrev pub is_widening : (j k : IntKind) → Bool
 is_widening j int.I64 = true
 is_widening j int.U64 = true
 is_widening int.Bool k = true
 is_widening j int.Bool = false
-is_widening j k = is_narrower (width_of (form_of j)) (width_of (form_of k)) (is_signed (form_of j)) (is_signed (form_of k))
+is_widening j k = is_narrower (width_of (form_of j)) (width_of (form_of k)) (is_signed (form_of j)) (is_signed
+    (form_of k))
 
 abbrev pub kept_code : IntKind → (r x : ℕ) → List Instr
 kept_code int.I64 r x = Imm Addi r x (pos 0) ∷ []

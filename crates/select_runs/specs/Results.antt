@@ -1,5 +1,5 @@
 -- A result goes home, and an instruction of three-address code that goes on to the next.
-use Rattle.std.specs.Prelude.{◌≡◌, ◌≢◌, ◌⊎◌, ℕ, ◌+◌, ◌<◌, ◌≤◌, true, List, [], ◌∷◌, length, Some, None, slice_get, slice_set}
+use Rattle.std.specs.Prelude.{◌≡◌, ◌≢◌, ◌⊎◌, ℕ, ◌+◌, ◌<◌, ◌≤◌, true, List, ◌∷◌, length, Some, None, slice_get, slice_set}
 use Rattle.ck_base.specs.World.{World}
 use Rattle.cap_ops.specs.declared.capability.Cap.{Cap}
 use Rattle.rv_instr.specs.declared.instr.Instr.{Instr}
@@ -32,7 +32,8 @@ use Rattle.select_runs.specs.Operands.{ground_of, IsText, IsAtPoint}
 
 -- ---- results
 
--- So many acts lead to a word, where a register has a capability. No register up to c27 but `changed` is another than it was, and
+-- So many acts lead to a word, where a register has a capability. No register up to c27 but `changed` is another than
+-- it was, and
 -- memory is as it was
 pub record Computed (s : Setting) (code : List Instr) (m : Machine) (count at changed r : ℕ) (c : Cap) : Type 0 where
   pub to : Machine
@@ -54,7 +55,8 @@ pub record MayTake (s : Setting) (p : Point) (temp : ℕ) : Type 0 where
   pub slot : (k : ℕ) → slice_get (homes_of s p.running.fun) temp ≡ Some (Slot k) → SlotIsFree s p temp k
 
 -- At least and at most so many acts lead to a machine that stands for a state at a point, at a word
-pub record Arrives (s : Setting) (code : List Instr) (p : Point) (least most at : ℕ) (t : State Store) (m : Machine) : Type 0 where
+pub record Arrives (s : Setting) (code : List Instr) (p : Point) (least most at : ℕ) (t : State Store)
+    (m : Machine) : Type 0 where
   pub count : ℕ
   pub to : Machine
   pub ge : least ≤ count
@@ -94,16 +96,20 @@ abbrev pub IsConstant : TacInstr → ℕ → Type 0
 IsConstant (instr.Const to k v) n = v ≡ n
 IsConstant i n = ⊥
 
--- What is asked of an instruction at a point: it is well formed in its function, a temp that is a number is its constant, and the home of any other
+-- What is asked of an instruction at a point: it is well formed in its function, a temp that is a number is its
+-- constant, and the home of any other
 -- that it writes is free behind it
-pub record IsSelectable (s : Setting) (p : Typed) (running : Running) (i : TacInstr) (rest : List TacInstr) : Type 0 where
+pub record IsSelectable (s : Setting) (p : Typed) (running : Running) (i : TacInstr)
+    (rest : List TacInstr) : Type 0 where
   pub d : FunDef
   pub is : slice_get p.funs running.fun ≡ Some d
   pub fits : instruction_fits p d (kinds_in s running) (code_in s running) i ≡ true
   pub numbers : (temp n : ℕ) → IsAmong temp (writes i) → s.numbers running.fun temp ≡ Some n → IsConstant i n
-  pub free : (temp : ℕ) → IsAmong temp (writes i) → s.numbers running.fun temp ≡ None → MayTake s (behind running rest) temp
+  pub free : (temp : ℕ) → IsAmong temp (writes i) → s.numbers running.fun temp ≡ None → MayTake s
+      (behind running rest) temp
 
--- What the instruction means, and the machine does it at these words: both go on to the next instruction, the machine in at most as
+-- What the instruction means, and the machine does it at these words: both go on to the next instruction, the machine
+-- in at most as
 -- many acts as the instruction costs, and each temp is of its kind still
 pub record GoesOn (s : Setting) (code : List Instr) (w : World) (p : Typed) (running : Running) (i : TacInstr)
     (rest : List TacInstr) (words : List Instr) (at : ℕ) (t : State Store) (m : Machine) : Type 0 where
@@ -113,9 +119,11 @@ pub record GoesOn (s : Setting) (code : List Instr) (w : World) (p : Typed) (run
   pub kinded : AreOfKinds (kinds_in s running) next.vars
   pub does : Arrives s code (behind running rest) 0 (cost i) (at + length words) next m
 
--- For each point at which the function goes on with such an instruction, and each machine that stands for a state there and has the
+-- For each point at which the function goes on with such an instruction, and each machine that stands for a state
+-- there and has the
 -- words next
-abbrev pub GoOn : Setting → List Instr → World → Typed → (TacInstr → Type 0) → (Setting → ℕ → TacInstr → List Instr → Type 0) → Type 0
+abbrev pub GoOn : Setting → List Instr → World → Typed → (TacInstr → Type 0) → (Setting → ℕ → TacInstr → List Instr
+    → Type 0) → Type 0
 GoOn s code w p Is Words =
     (running : Running) (i : TacInstr) (rest : List TacInstr) → Is i → IsSelectable s p running i rest
     → (at : ℕ) (t : State Store) (m : Machine) → IsAtPoint s code (before running i rest) at t m
@@ -125,4 +133,5 @@ GoOn s code w p Is Words =
 
 abbrev pub EachGoesOn : (TacInstr → Type 0) → (Setting → ℕ → TacInstr → List Instr → Type 0) → Type 0
 EachGoesOn Is Words =
-    (s : Setting) (code : List Instr) → IsText s code → StackIsThere s → (w : World) (p : Typed) → GoOn s code w p Is Words
+    (s : Setting) (code : List Instr) → IsText s code → StackIsThere s → (w : World) (p : Typed)
+    → GoOn s code w p Is Words

@@ -7,7 +7,6 @@ use Rattle.rv_instr.specs.declared.ops.CapGetOp.TheVariants.{Cmove}
 use Rattle.tac_ir.specs.Costs.{number_cost}
 use Rattle.tac_ir.specs.declared.code.TacInstr.{TacInstr}
 use Rattle.tac_ir.specs.declared.code.TacInstr.TheVariants as instr
-use Rattle.tac_ir.specs.declared.code.TacKind.TheVariants as kind
 use Rattle.place_inject.specs.Frames.{Setting}
 use Rattle.select_runs.specs.Numbers.{MakesNumber}
 use Rattle.select_runs.specs.Emitted.{IsNumber, IsIn, IsSpilled, Operand, Target, Keep}
@@ -20,10 +19,10 @@ pub data Constant (s : Setting) (fun to value : ℕ) (words : List Instr) : Type
   Built : s.numbers fun to ≡ None → (r : ℕ) → Target s fun to r → (makes keep : List Instr) → MakesNumber r value makes
       → length makes ≤ number_cost value → Keep s fun to r keep → words ≡ makes ++ keep → Constant s fun to value words
 
--- an integer
-abbrev pub IsIntegerConstant : TacInstr → Type 0
-IsIntegerConstant (instr.Const to (kind.Int k) v) = Unit {0}
-IsIntegerConstant i = ⊥
+-- an integer, or null with an address
+abbrev pub IsConst : TacInstr → Type 0
+IsConst (instr.Const to k v) = Unit {0}
+IsConst i = ⊥
 
 abbrev pub ConstantWords : Setting → ℕ → TacInstr → List Instr → Type 0
 ConstantWords s fun (instr.Const to k v) words = (v < 2 ^ 64) × Constant s fun to v words

@@ -12,18 +12,20 @@ pub fn numbers_are_made()
     ensures { NumbersAreMade }
 {}
 
-/// Where the words of an operand stand, its register has the capability of the temp's value, and no register but the scratch
+/// Where the words of an operand stand, its register has the capability of the temp's value, and no register but the
+/// scratch
 /// register is another than it was.
 pub fn operands_come()
     ensures { OperandsCome }
 {}
 
-/// A value that was computed in the register for it comes into its temp: to a register that is its home, or to its slot.
+/// A value that was computed in the register for it comes into its temp: to a register that is its home, or to its
+/// slot.
 pub fn results_go_home()
     ensures { ResultsGoHome }
 {}
 
-/// Constants of integer kinds.
+/// Constants.
 pub fn constants_run()
     ensures { ConstantsRun }
 {}

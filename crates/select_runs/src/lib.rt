@@ -1,11 +1,13 @@
 //! What selected code does on the machine: what three-address code means over separate objects.
 //!
-//! Promise: laws: where the words that selection appends for an instruction stand in the text, a machine that stands for a
-//! state of three-address code goes on to one that stands for the state behind the instruction; so far of integer
-//! constants, copies, labels and jumps.
-//! Definitions (`specs/`): `Acts`, `Numbers`, `Emitted`, `Operands`, `Kinds`, `Results`, `Words`, `Instructions`,
-//! `Jumps`.
-//! Main lemmas (`proofs/`): `Acts`, `Operands`, `Results`, `Simple`.
+//! Promise: laws: where the words that selection appends for an instruction stand in the text, a machine that stands
+//! for a
+//! state of three-address code goes on to one that stands for the state behind the instruction, or traps as the meaning
+//! does; so far of all instructions but calls, library functions, entered blocks and struct copies.
+//! Definitions (`specs/`): `Acts`, `Numbers`, `Emitted`, `Operands`, `Kinds`, `Results`, `Words`, `Forms`,
+//! `Capabilities`,
+//! `Operations`, `Instructions`, `Jumps`, `Accesses`.
+//! Main lemmas (`proofs/`): `Acts`, `Operands`, `Results`, `Far`, `Working`, `Arithmetic`.
 #![tactic(auto)]
 
 mod laws;

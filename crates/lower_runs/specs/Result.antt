@@ -1,0 +1,36 @@
+-- The result for expressions: code that the relation makes of an expression does what the expression means.
+use Rattle.std.specs.Prelude.{◌≡◌, ℕ, Bool, List, Option}
+use Rattle.ck_base.specs.World.{World}
+use Rattle.c_tree.specs.declared.typed.Typed.{Typed}
+use Rattle.obj_mem.specs.Values.{Value}
+use Rattle.cheri_c_sem.specs.Modes.{Store}
+use Rattle.cheri_c_sem.specs.Operations.{Operations}
+use Rattle.cheri_c_sem.specs.Steps.{Then}
+use Rattle.cheri_c_sem.specs.Tree.{Ex, Exs}
+use Rattle.tac_ir.specs.Meaning.{Running}
+use Rattle.tac_ir.specs.declared.code.Tac.{Tac}
+use Rattle.tac_ir.specs.declared.code.TacKind.{TacKind}
+use Rattle.lower_runs.specs.States.{Scene, IsScene, IsPlaced}
+use Rattle.lower_runs.specs.Operating.{Code}
+use Rattle.lower_runs.specs.Expressions.{Mark, Signature, IsValue, IsOperand, IsEffect, IsCondition, IsPlace}
+use Rattle.lower_runs.specs.Simulation.{ValueRuns, OperandRuns, EffectRuns, ConditionRuns, PlaceRuns, kinds}
+use Rattle.lower_runs.specs.Calling.{CallsRun}
+use Rattle.lower_runs.specs.Left.{RulesLeft}
+
+module _ (ops : Operations Store) (w : World) (t : Tac) (p : Typed) (objects : ℕ → List ℕ) (r : Running) (call : ℕ → List Value → Then Store Value) (signs : ℕ → Signature) (g : Scene) where
+  abbrev temps : List TacKind
+  temps = kinds ops w t p objects r call g
+
+  -- values, operands, effects, conditions and places
+  pub record Runs : Type 0 where
+    pub value : (k : TacKind) (e : Ex) (to : ℕ) (m n : Mark) (c : Code) → IsValue p signs temps g k e to m n c → ValueRuns ops w t p objects r call g k e to m n c
+    pub operand : (later : Exs) (k : TacKind) (e : Ex) (at : ℕ) (m n : Mark) (c : Code) → IsOperand p signs temps g later k e at m n c → OperandRuns ops w t p objects r call g later k e at m n c
+    pub effect : (e : Ex) (m n : Mark) (c : Code) → IsEffect p signs temps g e m n c → EffectRuns ops w t p objects r call g e m n c
+    pub condition : (k : TacKind) (e : Ex) (when : Bool) (label : ℕ) (m n : Mark) (c : Code) → IsCondition p signs temps g k e when label m n c → ConditionRuns ops w t p objects r call g k e when label m n c
+    pub place : (e : Ex) (to : ℕ) (m n : Mark) (c : Code) → IsPlace p signs temps g e to m n c → PlaceRuns ops w t p objects r call g e to m n c
+
+-- given calls, and the rules that are left
+abbrev pub ExpressionsRun : Type 0
+ExpressionsRun =
+    (ops : Operations Store) → IsPlaced ops → (w : World) (t : Tac) (p : Typed) (objects : ℕ → List ℕ) (r : Running) (call : ℕ → List Value → Then Store Value) (signs : ℕ → Signature) (g : Scene) → IsScene g
+    → CallsRun ops w t p objects call signs g.limit → RulesLeft ops w t p objects r call signs g → Runs ops w t p objects r call signs g
