@@ -13,10 +13,13 @@ use Rattle.bounds_place.specs.Rows.{need, room}
 abbrev pub var_room : List CType → VarDef → ℕ
 var_room types v = (if v.simple then 0 else room (need (local_need types v)))
 
-pub sum_locals : (types : List CType) (vs : List VarDef) → sum_by (var_room types) vs ≡ room_of (map (local_need types) (filter is_object vs))
+pub sum_locals : (types : List CType) (vs : List VarDef) →
+    sum_by (var_room types) vs ≡ room_of (map (local_need types) (filter is_object vs))
 sum_locals types [] = refl
 sum_locals types (v ∷ vs) = sum_by-cons (var_room types) v vs ∙ go v.simple refl (sum_locals types vs)
   where
-    go : (b : Bool) → v.simple ≡ b → sum_by (var_room types) vs ≡ room_of (map (local_need types) (filter is_object vs)) → var_room types v + sum_by (var_room types) vs ≡ room_of (map (local_need types) (filter is_object (v ∷ vs)))
+    go : (b : Bool) → v.simple ≡ b →
+        sum_by (var_room types) vs ≡ room_of (map (local_need types) (filter is_object vs)) →
+        var_room types v + sum_by (var_room types) vs ≡ room_of (map (local_need types) (filter is_object (v ∷ vs)))
     go true e r = rw e (omega arith)
     go false e r = rw e (omega arith)

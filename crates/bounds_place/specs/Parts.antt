@@ -22,7 +22,8 @@ pub record AreData (globals literals : List Need) : Type 0 where
   pub count : length globals + length literals ≤ size_limit
 
 -- text and table at their places, and the heap with the stack behind it
-pub record HasParts (table : ℕ) (globals literals : List ℕ) (frames : List Frame) (entries : List ℕ) (text : ℕ) (sizes : Sizes) (m : Map) : Type 0 where
+pub record HasParts (table : ℕ) (globals literals : List ℕ) (frames : List Frame) (entries : List ℕ) (text : ℕ)
+    (sizes : Sizes) (m : Map) : Type 0 where
   pub text_base : m.text.0 ≡ 1073741824
   pub text_length : m.text.1 ≡ text
   pub entries_are : m.entries ≡ map (λ at. 1073741824 + at) entries

@@ -1,5 +1,6 @@
 -- What a placing answers.
-use Rattle.std.specs.Prelude.{ℕ, zero, ◌≡◌, ◌+◌, ◌%◌, ◌<◌, ◌≤◌, Bool, true, ◌||◌, nat_lt, List, [], ◌∷◌, map, slice_get, Some}
+use Rattle.std.specs.Prelude.{ℕ, zero, ◌≡◌, ◌+◌, ◌%◌, ◌<◌, ◌≤◌, Bool, true, ◌||◌, nat_lt, List, [], ◌∷◌, map, slice_get}
+use Rattle.std.specs.Prelude.{Some}
 use Rattle.std.specs.List.{list_any}
 use Rattle.ck_base.specs.declared.positions.Pos.{Pos}
 use Rattle.ck_base.specs.declared.refusal.Refusal.{Refusal}
@@ -51,8 +52,8 @@ abbrev pub AllWithin : (from to : ℕ) → List (ℕ × ℕ) → Type 0
 AllWithin from to [] = Unit {0}
 AllWithin from to (a ∷ rest) = (from ≤ a.0) × (a.0 + a.1 ≤ to) × AllWithin from to rest
 
--- table, globals and literals lie in the bytes from the table's base on, a multiple of 16 of them, which are not many more than
--- the table's, and none of which is the text's, the heap's or the stack's
+-- table, globals and literals lie in the bytes from the table's base on, a multiple of 16 of them, which are not many
+-- more than the table's, and none of which is the text's, the heap's or the stack's
 pub record IsStretch (n : Needs) (m : Map) (size : ℕ) : Type 0 where
   pub multiple : size % 16 ≡ 0
   pub most : size ≤ m.table.1 + 67108880
@@ -68,9 +69,11 @@ pub record IsStretch (n : Needs) (m : Map) (size : ℕ) : Type 0 where
 abbrev pub weightless : Typed → Needs
 weightless p = needs_of (λ f. zero) p
 
-pub record IsPlacing (p : Typed) (frames : List Frame) (entries : List ℕ) (text : ℕ) (sizes : Sizes) (m : Map) : Type 0 where
+pub record IsPlacing (p : Typed) (frames : List Frame) (entries : List ℕ) (text : ℕ) (sizes : Sizes) (m : Map) :
+    Type 0 where
   -- legal for all weights of functions for which the frames keep their rules
-  pub legal : (weight : ℕ → ℕ) → AreFrames (function_needs p.types weight 0 p.funs) frames → IsLegal (needs_of weight p) m
+  pub legal : (weight : ℕ → ℕ) → AreFrames (function_needs p.types weight 0 p.funs) frames →
+      IsLegal (needs_of weight p) m
   pub frames_are : m.frames ≡ frames
   pub text_is : m.text.1 ≡ text
   pub entries_are : m.entries ≡ map (λ at. m.text.0 + at) entries

@@ -23,8 +23,8 @@ pub struct Need {
     pub align: u64,
 }
 
-/// The greatest number of bytes of all globals and literals, and of the locals of one function that are objects, each counted as
-/// its owned length and its alignment.
+/// The greatest number of bytes of all globals and literals, and of the locals of one function that are objects, each
+/// counted as its owned length and its alignment.
 pub const LIMIT: u64 = 67_108_864;
 
 // The alignment of a length.
@@ -152,8 +152,8 @@ fn owned_need(n: Need) -> Owned
     }
 }
 
-/// What the locals of a function that are objects ask for, in the order of their declarations: their owned lengths and their
-/// objects' alignments.
+/// What the locals of a function that are objects ask for, in the order of their declarations: their owned lengths and
+/// their objects' alignments.
 pub fn local_needs(
     alloc: Global,
     layouts: &Layouts,

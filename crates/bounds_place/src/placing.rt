@@ -1,5 +1,6 @@
 //! Where the parts of a program stand.
-ghost use Rattle.std.specs.Prelude.{◌≡◌, ℕ, ◌+◌, ◌*◌, ◌%◌, ◌^◌, ◌<◌, ◌≤◌, true, false, map, length, IfOk, IfErr, sum_by, nat_lt};
+ghost use Rattle.std.specs.Prelude.{◌≡◌, ℕ, ◌+◌, ◌*◌, ◌%◌, ◌^◌, ◌<◌, ◌≤◌, true, false, map, length, IfOk, IfErr};
+ghost use Rattle.std.specs.Prelude.{sum_by, nat_lt};
 ghost use Rattle.cap_concentrate.specs.Rounding.{owned};
 ghost use Rattle.c_tree.specs.Layout.{size_limit};
 ghost use Rattle.cap_layout.specs.Kept.{AreLayoutsOf};
@@ -60,7 +61,8 @@ fn data_of(
     requires few { functions ≤ 268435456 }
     ensures table { IfOk result (λ d. IsTable (length globals.now + length literals.now + functions + 2) d.table) }
     ensures globals { IfOk result (λ d. d.globals.items ≡ bases_from (4294967296 + d.table) globals.now) }
-    ensures literals { IfOk result (λ d. d.literals.items ≡ bases_from (end_from (4294967296 + d.table) globals.now) literals.now) }
+    ensures literals { IfOk result (λ d. d.literals.items
+        ≡ bases_from (end_from (4294967296 + d.table) globals.now) literals.now) }
 {
     let table = table_length(globals.len() as u64 + literals.len() as u64 + functions as u64 + 2);
     let first = row(alloc, globals, TABLE + table)?;
@@ -90,8 +92,8 @@ fn exceeds(layouts: &Layouts, p: &Typed, globals: &[Need], literals: &[Need]) ->
     data_exceeds(globals, literals) | some_locals_exceed(layouts, p)
 }
 
-/// Whether the objects of a program exceed their limit of 67,108,864 bytes: its globals and literals together, or the locals of one
-/// function.
+/// Whether the objects of a program exceed their limit of 67,108,864 bytes: its globals and literals together, or the
+/// locals of one function.
 pub fn exceeds_limit(alloc: Global, layouts: &Layouts, p: &Typed) -> Result<bool, AllocError>
     requires { AreLayoutsOf p.now.types layouts.now }
     ensures { IfOk result (λ answer. answer ≡ exceeds p.now) }
@@ -163,11 +165,11 @@ fn map_of(
 }
 
 /// A legal map of a program, with these frames and a text of `text` bytes, in which the functions begin at the offsets
-/// `entries`. Its heap and its stack have the lengths of `sizes`. The table, the globals and the literals lie in one stretch from the
-/// table's base on.
+/// `entries`. Its heap and its stack have the lengths of `sizes`. The table, the globals and the literals lie in one
+/// stretch from the table's base on.
 ///
-/// It is refused by 141 at 1:1 exactly where the globals and literals together, or the locals of one function that are objects,
-/// exceed 67,108,864 bytes, each counted as its owned length and its object's alignment.
+/// It is refused by 141 at 1:1 exactly where the globals and literals together, or the locals of one function that are
+/// objects, exceed 67,108,864 bytes, each counted as its owned length and its object's alignment.
 pub fn place(
     alloc: Global,
     p: &Typed,

@@ -1,5 +1,6 @@
 -- The listing of a text: one line for each of its words.
-use Rattle.std.specs.Prelude.{ℕ, zero, suc, ◌+◌, ◌*◌, ◌/◌, ◌%◌, List, [], ◌∷◌, ◌++◌, length, take, drop, Option, Some, None, false, codes, decimal}
+use Rattle.std.specs.Prelude.{ℕ, zero, suc, ◌+◌, ◌*◌, ◌/◌, ◌%◌, List, [], ◌∷◌, ◌++◌, length, take, drop, Option, Some}
+use Rattle.std.specs.Prelude.{None, false, codes, decimal}
 use Rattle.std.specs.Fmt.{digit_glyph}
 use Rattle.rv_instr.specs.declared.instr.Instr.{Instr}
 use Rattle.rv_code.specs.Decoding.{decode_of}

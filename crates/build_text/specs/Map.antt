@@ -1,5 +1,6 @@
 -- The text of a map: one line for each part of a program, with its place in memory.
-use Rattle.std.specs.Prelude.{ℕ, List, [], ◌++◌, length, min, slice_range, slice_get, Option, Some, None, codes, decimal}
+use Rattle.std.specs.Prelude.{ℕ, List, [], ◌++◌, length, min, slice_range, slice_get, Option, Some, None, codes}
+use Rattle.std.specs.Prelude.{decimal}
 use Rattle.std.specs.List.{filter}
 use Rattle.ck_base.specs.declared.positions.Pos.{Pos}
 use Rattle.ck_base.specs.declared.positions.Span.{Span}
@@ -37,12 +38,14 @@ abbrev pub part_line : List ℕ → ℕ × ℕ → List ℕ
 part_line word part = word ++ pair_end part.0 part.1
 
 abbrev pub function_line : List ℕ → Option FunDef → Option ℕ → List ℕ
-function_line file (Some f) (Some entry) = codes "function " ++ name_at file f.name ++ codes " " ++ decimal entry ++ codes "\n"
+function_line file (Some f) (Some entry) =
+    codes "function " ++ name_at file f.name ++ codes " " ++ decimal entry ++ codes "\n"
 function_line file f entry = []
 
 -- a global and a literal, with their owned lengths
 abbrev pub global_line : List ℕ → List CType → Option GlobalDef → Option ℕ → List ℕ
-global_line file types (Some g) (Some base) = codes "global " ++ name_at file g.name ++ pair_end base (owned_of (global_need types g))
+global_line file types (Some g) (Some base) =
+    codes "global " ++ name_at file g.name ++ pair_end base (owned_of (global_need types g))
 global_line file types g base = []
 
 abbrev pub literal_line : Option Literal → Option ℕ → List ℕ
@@ -51,7 +54,8 @@ literal_line l base = []
 
 -- a local that is an object, where it is declared, and its offset and length in the frame
 abbrev pub slot_line : List ℕ → Slot → Option VarDef → List ℕ
-slot_line file s (Some v) = codes "slot " ++ pos_text v.pos ++ codes " " ++ name_at file v.name ++ pair_end s.at s.length
+slot_line file s (Some v) =
+    codes "slot " ++ pos_text v.pos ++ codes " " ++ name_at file v.name ++ pair_end s.at s.length
 slot_line file s None = []
 
 abbrev pub slot_line_of : List ℕ → List VarDef → Option Slot → List ℕ

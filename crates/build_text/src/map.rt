@@ -1,6 +1,7 @@
 //! The text of a map.
 
-ghost use Rattle.std.specs.Prelude.{◌≡◌, List, ◌++◌, ◌<◌, ◌≤◌, ◌^◌, length, slice_get, Some, OnOk, IfOk, codes, decimal};
+ghost use Rattle.std.specs.Prelude.{◌≡◌, List, ◌++◌, ◌<◌, ◌≤◌, ◌^◌, length, slice_get, Some, OnOk, IfOk, codes};
+ghost use Rattle.std.specs.Prelude.{decimal};
 ghost use Rattle.std.specs.List.{filter};
 ghost use Rattle.cap_concentrate.specs.Rounding.{owned};
 ghost use Rattle.c_tree.specs.declared.typed.CType.{CType};
@@ -8,7 +9,8 @@ ghost use Rattle.cap_layout.specs.Kept.{AreLayoutsOf};
 ghost use Rattle.obj_mem.specs.Legal.{owned_of};
 ghost use Rattle.obj_mem.specs.Needs.{global_need, literal_need, is_object};
 ghost use Rattle.build_text.specs.Lines.{lines};
-ghost use Rattle.build_text.specs.Map.{name_at, pos_text, pair_end, part_line, function_line, global_line, literal_line, slot_line, slot_line_of, frame_lines, map_text};
+ghost use Rattle.build_text.specs.Map.{name_at, pos_text, pair_end, part_line, function_line, global_line};
+ghost use Rattle.build_text.specs.Map.{literal_line, slot_line, slot_line_of, frame_lines, map_text};
 
 use c_tree::{FunDef, GlobalDef, Literal, Typed, VarDef};
 use cap_concentrate::rounded_length;
@@ -102,7 +104,8 @@ fn push_function_at(
     entries: &[u64],
     k: usize,
 ) -> Result<(), NoMemory>
-    ensures { OnOk result (into.new.items ≡ into.old.items ++ function_line file.now (slice_get functions.now k) (slice_get entries.now k)) }
+    ensures { OnOk result (into.new.items ≡ into.old.items
+        ++ function_line file.now (slice_get functions.now k) (slice_get entries.now k)) }
 {
     match (functions.get(k), entries.get(k)) {
         (Some(function), Some(entry)) => push_function(into, file, function, *entry),
@@ -117,7 +120,9 @@ fn push_functions(
     functions: &[FunDef],
     entries: &[u64],
 ) -> Result<(), NoMemory>
-    ensures { OnOk result (into.new.items ≡ into.old.items ++ lines (λ k. function_line file.now (slice_get functions.now k) (slice_get entries.now k)) (length functions.now)) }
+    ensures { OnOk result (into.new.items ≡ into.old.items
+        ++ lines (λ k. function_line file.now (slice_get functions.now k) (slice_get entries.now k))
+        (length functions.now)) }
 {
     for k in 0..functions.len() {
         push_function_at(into, file, functions, entries, k)?;
@@ -152,7 +157,8 @@ fn push_global(
     base: u64,
     length: u64,
 ) -> Result<(), NoMemory>
-    ensures { (types : List CType) → length ≡ owned_of (global_need types global.now) → OnOk result (into.new.items ≡ into.old.items ++ global_line file.now types (Some global.now) (Some base)) }
+    ensures { (types : List CType) → length ≡ owned_of (global_need types global.now) →
+        OnOk result (into.new.items ≡ into.old.items ++ global_line file.now types (Some global.now) (Some base)) }
 {
     push(into, "global ")?;
     push_name(into, file, global.name)?;
@@ -169,7 +175,8 @@ fn push_global_at(
     k: usize,
 ) -> Result<(), NoMemory>
     requires { AreLayoutsOf p.now.types layouts.now }
-    ensures { OnOk result (into.new.items ≡ into.old.items ++ global_line file.now p.now.types (slice_get p.now.globals k) (slice_get bases.now k)) }
+    ensures { OnOk result (into.new.items ≡ into.old.items
+        ++ global_line file.now p.now.types (slice_get p.now.globals k) (slice_get bases.now k)) }
 {
     match (p.globals.as_slice().get(k), bases.get(k)) {
         (Some(global), Some(base)) => {
@@ -188,7 +195,9 @@ fn push_globals(
     bases: &[u64],
 ) -> Result<(), NoMemory>
     requires { AreLayoutsOf p.now.types layouts.now }
-    ensures { OnOk result (into.new.items ≡ into.old.items ++ lines (λ k. global_line file.now p.now.types (slice_get p.now.globals k) (slice_get bases.now k)) (length p.now.globals)) }
+    ensures { OnOk result (into.new.items ≡ into.old.items
+        ++ lines (λ k. global_line file.now p.now.types (slice_get p.now.globals k) (slice_get bases.now k))
+        (length p.now.globals)) }
 {
     for k in 0..p.globals.as_slice().len() {
         push_global_at(into, file, layouts, p, bases, k)?;
@@ -216,7 +225,8 @@ fn push_literal_at(
     bases: &[u64],
     k: usize,
 ) -> Result<(), NoMemory>
-    ensures { OnOk result (into.new.items ≡ into.old.items ++ literal_line (slice_get literals.now k) (slice_get bases.now k)) }
+    ensures { OnOk result (into.new.items ≡ into.old.items
+        ++ literal_line (slice_get literals.now k) (slice_get bases.now k)) }
 {
     match (literals.get(k), bases.get(k)) {
         (Some(literal), Some(base)) => push_literal(into, literal, *base),
@@ -226,7 +236,8 @@ fn push_literal_at(
 
 /// Appends the lines of the literals, in their order.
 fn push_literals(into: &mut Vec<u8>, literals: &[Literal], bases: &[u64]) -> Result<(), NoMemory>
-    ensures { OnOk result (into.new.items ≡ into.old.items ++ lines (λ k. literal_line (slice_get literals.now k) (slice_get bases.now k)) (length literals.now)) }
+    ensures { OnOk result (into.new.items ≡ into.old.items
+        ++ lines (λ k. literal_line (slice_get literals.now k) (slice_get bases.now k)) (length literals.now)) }
 {
     for k in 0..literals.len() {
         push_literal_at(into, literals, bases, k)?;
@@ -296,7 +307,8 @@ fn push_slots(
     objects: &[VarDef],
     slots: &[Slot],
 ) -> Result<(), NoMemory>
-    ensures { OnOk result (into.new.items ≡ into.old.items ++ lines (λ k. slot_line_of file.now objects.now (slice_get slots.now k)) (length slots.now)) }
+    ensures { OnOk result (into.new.items ≡ into.old.items
+        ++ lines (λ k. slot_line_of file.now objects.now (slice_get slots.now k)) (length slots.now)) }
 {
     for k in 0..slots.len() {
         push_slot_at(into, file, objects, slots, k)?;
@@ -330,7 +342,8 @@ fn push_frame_at(
     frames: &[Frame],
     k: usize,
 ) -> Result<(), NoMemory>
-    ensures { OnOk result (into.new.items ≡ into.old.items ++ frame_lines file.now (slice_get functions.now k) (slice_get frames.now k)) }
+    ensures { OnOk result (into.new.items ≡ into.old.items
+        ++ frame_lines file.now (slice_get functions.now k) (slice_get frames.now k)) }
 {
     match (functions.get(k), frames.get(k)) {
         (Some(function), Some(frame)) => push_frame(alloc, into, file, function, frame),
@@ -346,7 +359,9 @@ fn push_frames(
     functions: &[FunDef],
     frames: &[Frame],
 ) -> Result<(), NoMemory>
-    ensures { OnOk result (into.new.items ≡ into.old.items ++ lines (λ k. frame_lines file.now (slice_get functions.now k) (slice_get frames.now k)) (length functions.now)) }
+    ensures { OnOk result (into.new.items ≡ into.old.items
+        ++ lines (λ k. frame_lines file.now (slice_get functions.now k) (slice_get frames.now k))
+        (length functions.now)) }
 {
     for k in 0..functions.len() {
         push_frame_at(alloc, into, file, functions, frames, k)?;
@@ -355,8 +370,8 @@ fn push_frames(
 }
 
 /// The text of a map of a program: one line for each part, with its place in memory, in the order text, functions,
-/// globals, literals, table, heap and stack; and then for each function its frame and the slots of its locals. Names are
-/// those of the file that the program is.
+/// globals, literals, table, heap and stack; and then for each function its frame and the slots of its locals. Names
+/// are those of the file that the program is.
 pub fn map_of(alloc: Global, file: &[u8], p: &Typed, map: &Map) -> Result<Vec<u8>, NoMemory>
     ensures { IfOk result (λ text. text.items ≡ map_text file.now p.now map.now) }
 {

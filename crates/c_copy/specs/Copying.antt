@@ -10,7 +10,8 @@ use Rattle.c_tree.specs.declared.typed.Target.{Target}
 use Rattle.c_tree.specs.Types.{Ty}
 use Rattle.c_tree.specs.Terms as tree
 use Rattle.c_tree.specs.Terms.{Shape, Form, Term, Action}
-use Rattle.c_tree.specs.Views.{forest, type_at, expr_from, no_term, term_at, stmt_from, no_action, action_at, operands, values, parts, is_some, listed, same_number, label_of, aim_of}
+use Rattle.c_tree.specs.Views.{forest, type_at, expr_from, no_term, term_at, stmt_from, no_action, action_at, operands}
+use Rattle.c_tree.specs.Views.{values, parts, is_some, listed, same_number, label_of, aim_of}
 use Rattle.c_tree.specs.Programs.{shape_with, term_with, action_with, aim_with}
 use Rattle.c_tree.specs.Programs as programs
 use Rattle.c_copy.specs.declared.numbers.Numbers.{Numbers}
@@ -109,7 +110,8 @@ is_inner k = true
 -- the same node with these operands, where objects and functions have new numbers
 pub record IsKindWith (t : Numbers) (old : ExprKind) (xs : List ℕ) (new : ExprKind) : Type 0 where
   pub operands : operands new ≡ xs
-  pub shape : (n : programs.Numbers) (ts : List Ty) → AreNumbers t n → expr_shape ts new ≡ shape_with n (expr_shape ts old)
+  pub shape : (n : programs.Numbers) (ts : List Ty) → AreNumbers t n →
+      expr_shape ts new ≡ shape_with n (expr_shape ts old)
 
 -- one that names no object or function
 pub record IsPlainWith (old : ExprKind) (xs : List ℕ) (new : ExprKind) : Type 0 where
@@ -145,16 +147,22 @@ Extends xs ys = (more : List _) × (ys ≡ xs ++ more)
 
 -- expression `j` of the new list, and of each list that goes on from it, is expression `k` of the old one, renumbered
 pub record IsCopy (t : Numbers) (old new : List Expr) (k j : ℕ) : Type 0 where
-  pub is : (ts : List Ty) (n : programs.Numbers) (more : List Expr) → AreNumbers t n → term_at (terms_in ts (new ++ more)) j ≡ term_with n (term_at (terms_in ts old) k)
+  pub is : (ts : List Ty) (n : programs.Numbers) (more : List Expr) → AreNumbers t n →
+      term_at (terms_in ts (new ++ more)) j ≡ term_with n (term_at (terms_in ts old) k)
 
 pub record AreCopies (t : Numbers) (old new : List Expr) (ks js : List ℕ) : Type 0 where
-  pub are : (ts : List Ty) (n : programs.Numbers) (more : List Expr) → AreNumbers t n → map (term_at (terms_in ts (new ++ more))) js ≡ map (λ k. term_with n (term_at (terms_in ts old) k)) ks
+  pub are : (ts : List Ty) (n : programs.Numbers) (more : List Expr) → AreNumbers t n →
+      map (term_at (terms_in ts (new ++ more))) js ≡ map (λ k. term_with n (term_at (terms_in ts old) k)) ks
 
 -- the same of statements
-pub record IsActionCopy (t : Numbers) (old_exprs : List Expr) (old : List Stmt) (exprs : List Expr) (new : List Stmt) (k j : ℕ) : Type 0 where
+pub record IsActionCopy (t : Numbers) (old_exprs : List Expr) (old : List Stmt) (exprs : List Expr) (new : List Stmt)
+    (k j : ℕ) : Type 0 where
   pub is : (ts : List Ty) (n : programs.Numbers) (xs : List Expr) (more : List Stmt) → AreNumbers t n →
-      action_at (actions_in ts (exprs ++ xs) (new ++ more)) j ≡ action_with n (action_at (actions_in ts old_exprs old) k)
+      action_at (actions_in ts (exprs ++ xs) (new ++ more)) j
+      ≡ action_with n (action_at (actions_in ts old_exprs old) k)
 
-pub record AreActionCopies (t : Numbers) (old_exprs : List Expr) (old : List Stmt) (exprs : List Expr) (new : List Stmt) (ks js : List ℕ) : Type 0 where
+pub record AreActionCopies (t : Numbers) (old_exprs : List Expr) (old : List Stmt) (exprs : List Expr) (new : List Stmt)
+    (ks js : List ℕ) : Type 0 where
   pub are : (ts : List Ty) (n : programs.Numbers) (xs : List Expr) (more : List Stmt) → AreNumbers t n →
-      map (action_at (actions_in ts (exprs ++ xs) (new ++ more))) js ≡ map (λ k. action_with n (action_at (actions_in ts old_exprs old) k)) ks
+      map (action_at (actions_in ts (exprs ++ xs) (new ++ more))) js
+      ≡ map (λ k. action_with n (action_at (actions_in ts old_exprs old) k)) ks

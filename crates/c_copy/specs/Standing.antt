@@ -8,7 +8,8 @@ use Rattle.c_tree.specs.declared.typed.Target.{Target}
 use Rattle.c_tree.specs.declared.typed.Target.TheVariants as targets
 use Rattle.c_tree.specs.Types.{Ty}
 use Rattle.c_tree.specs.Terms as tree
-use Rattle.c_tree.specs.Terms.{Shape, Term, Terms, term, no_terms, with_term, Action, Actions, action, no_actions, with_action}
+use Rattle.c_tree.specs.Terms.{Shape, Term, Terms, term, no_terms, with_term, Action, Actions, action, no_actions}
+use Rattle.c_tree.specs.Terms.{with_action}
 use Rattle.c_tree.specs.Views.{no_term, term_at, action_at}
 use Rattle.c_copy.specs.declared.numbers.Numbers.{Numbers}
 use Rattle.c_copy.specs.Copying.{terms_in, actions_in}

@@ -70,10 +70,12 @@ pub(crate) fn expressions(
     into: &mut Vec<Expr>,
 ) -> Result<Vec<u32>, NoMemory>
     requires below { AllBelow limit ks.now }
-    requires stand { (j a : ℕ) → slice_get ks.now j ≡ Some a → StandsIn (NamesThere source.now.numbers.now) source.now.exprs.now a }
+    requires stand { (j a : ℕ) → slice_get ks.now j ≡ Some a →
+        StandsIn (NamesThere source.now.numbers.now) source.now.exprs.now a }
     ensures extends { OnOk result (Extends into.old.items into.new.items) }
     ensures count { IfOk result (λ js. length js.items ≡ length ks.now) }
-    ensures are { IfOk result (λ js. AreCopies source.now.numbers.now source.now.exprs.now into.new.items ks.now js.items) }
+    ensures are { IfOk result (λ js. AreCopies source.now.numbers.now source.now.exprs.now into.new.items ks.now
+        js.items) }
 {
     let mut js = Vec::new(source.alloc);
     for k in ks {

@@ -78,7 +78,8 @@ fn check_exprs(
 ) -> Result<(), NoMemory>
     requires { HasMarks table.old.items [] }
     ensures typed { OnOk result (AreTyped types exprs.now) }
-    ensures before { OnOk result ((k j a : ℕ) (e : Expr) → slice_get exprs.now k ≡ Some e → slice_get (operands e.kind) j ≡ Some a → a < k) }
+    ensures before { OnOk result ((k j a : ℕ) (e : Expr) → slice_get exprs.now k ≡ Some e →
+        slice_get (operands e.kind) j ≡ Some a → a < k) }
     ensures marks { OnOk result (HasMarks table.new.items (flat_map (λ (e : Expr). operands e.kind) exprs.now)) }
     ensures count { length table.new.items ≡ length table.old.items }
 {
@@ -118,9 +119,12 @@ fn check_stmts(
     stmts: &mut Vec<bool>,
 ) -> Result<(), NoMemory>
     requires { HasMarks stmts.old.items [] }
-    ensures there { OnOk result ((k j a : ℕ) (s : Stmt) → slice_get list.now k ≡ Some s → slice_get (values s.kind) j ≡ Some a → a < length exprs.old.items) }
-    ensures before { OnOk result ((k j a : ℕ) (s : Stmt) → slice_get list.now k ≡ Some s → slice_get (parts s.kind) j ≡ Some a → a < k) }
-    ensures exprs { OnOk result (Marks exprs.old.items exprs.new.items (flat_map (λ (s : Stmt). values s.kind) list.now)) }
+    ensures there { OnOk result ((k j a : ℕ) (s : Stmt) → slice_get list.now k ≡ Some s →
+        slice_get (values s.kind) j ≡ Some a → a < length exprs.old.items) }
+    ensures before { OnOk result ((k j a : ℕ) (s : Stmt) → slice_get list.now k ≡ Some s →
+        slice_get (parts s.kind) j ≡ Some a → a < k) }
+    ensures exprs { OnOk result (Marks exprs.old.items exprs.new.items
+        (flat_map (λ (s : Stmt). values s.kind) list.now)) }
     ensures stmts { OnOk result (HasMarks stmts.new.items (flat_map (λ (s : Stmt). parts s.kind) list.now)) }
     ensures expr_count { length exprs.new.items ≡ length exprs.old.items }
     ensures stmt_count { length stmts.new.items ≡ length stmts.old.items }
@@ -164,7 +168,8 @@ fn check_fun(f: &FunDef, types: usize, stmts: &mut Vec<bool>) -> Result<(), NoMe
 }
 
 fn check_funs(funs: &[FunDef], types: usize, stmts: &mut Vec<bool>) -> Result<(), NoMemory>
-    ensures of { OnOk result ((k : ℕ) (f : FunDef) → slice_get funs.now k ≡ Some f → (f.of < types) × (f.body < length stmts.old.items)) }
+    ensures of { OnOk result ((k : ℕ) (f : FunDef) → slice_get funs.now k ≡ Some f →
+        (f.of < types) × (f.body < length stmts.old.items)) }
     ensures vars { OnOk result ((k : ℕ) (f : FunDef) → slice_get funs.now k ≡ Some f → AreVars types f.vars) }
     ensures marks { OnOk result (Marks stmts.old.items stmts.new.items (map (λ (f : FunDef). f.body) funs.now)) }
     ensures count { length stmts.new.items ≡ length stmts.old.items }
@@ -175,8 +180,8 @@ fn check_funs(funs: &[FunDef], types: usize, stmts: &mut Vec<bool>) -> Result<()
     Ok(())
 }
 
-/// Each number names what is there, types, operands and parts stand before what names them, and each expression and statement is used
-/// once. Else NoMemory.
+/// Each number names what is there, types, operands and parts stand before what names them, and each expression and
+/// statement is used once. Else NoMemory.
 pub fn check_order(alloc: Global, p: &Typed) -> Result<(), NoMemory>
     ensures { OnOk result (IsOrdered p.now) }
 {

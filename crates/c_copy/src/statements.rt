@@ -38,14 +38,16 @@ fn push_stmt(into: &mut Vec<Stmt>, s: Stmt) -> Result<u32, NoMemory>
     Ok(k)
 }
 
-/// The number of a new copy of statement `k`, which stands with copies of its expressions and of its statements at the ends of the lists.
+/// The number of a new copy of statement `k`, which stands with copies of its expressions and of its statements at the
+/// ends of the lists.
 #[cycle(statements)]
 pub fn statement(source: &Source<'_>, k: u32, into: &mut Copied) -> Result<u32, NoMemory>
     requires there { k < length source.now.stmts.now }
     requires stands { ActionStandsIn (NamesThere source.now.numbers.now) source.now.exprs.now source.now.stmts.now k }
     ensures exprs { OnOk result (Extends into.old.exprs.items into.new.exprs.items) }
     ensures stmts { OnOk result (Extends into.old.stmts.items into.new.stmts.items) }
-    ensures is { IfOk result (IsActionCopy source.now.numbers.now source.now.exprs.now source.now.stmts.now into.new.exprs.items into.new.stmts.items k) }
+    ensures is { IfOk result (IsActionCopy source.now.numbers.now source.now.exprs.now source.now.stmts.now
+        into.new.exprs.items into.new.stmts.items k) }
 {
     let s = stmt_at(source.stmts, k);
     let xs = values(source.alloc, &s.kind)?;
@@ -68,11 +70,13 @@ fn statements(
 ) -> Result<Vec<u32>, NoMemory>
     requires below { AllBelow limit ks.now }
     requires there { limit ≤ length source.now.stmts.now }
-    requires stand { (j a : ℕ) → slice_get ks.now j ≡ Some a → ActionStandsIn (NamesThere source.now.numbers.now) source.now.exprs.now source.now.stmts.now a }
+    requires stand { (j a : ℕ) → slice_get ks.now j ≡ Some a →
+        ActionStandsIn (NamesThere source.now.numbers.now) source.now.exprs.now source.now.stmts.now a }
     ensures exprs { OnOk result (Extends into.old.exprs.items into.new.exprs.items) }
     ensures stmts { OnOk result (Extends into.old.stmts.items into.new.stmts.items) }
     ensures count { IfOk result (λ js. length js.items ≡ length ks.now) }
-    ensures are { IfOk result (λ js. AreActionCopies source.now.numbers.now source.now.exprs.now source.now.stmts.now into.new.exprs.items into.new.stmts.items ks.now js.items) }
+    ensures are { IfOk result (λ js. AreActionCopies source.now.numbers.now source.now.exprs.now source.now.stmts.now
+        into.new.exprs.items into.new.stmts.items ks.now js.items) }
 {
     let mut js = Vec::new(source.alloc);
     for k in ks {

@@ -138,7 +138,8 @@ fn for_with(
 ) -> Result<StmtKind, NoMemory>
     requires values { length xs.now ≡ length (listed same_number test ++ listed same_number step) }
     requires parts { 0 < length ys.now }
-    ensures { IfOk result (λ k. (first : List ℕ) (body : ℕ) → length ys.now ≡ length first + 1 → IsStmtWith (StmtKinds.For vars.now first test step body) xs.now ys.now k) }
+    ensures { IfOk result (λ k. (first : List ℕ) (body : ℕ) → length ys.now ≡ length first + 1 →
+        IsStmtWith (StmtKinds.For vars.now first test step body) xs.now ys.now k) }
 {
     let vars = listed(alloc, vars)?;
     let (test, step) = maybes(test, step, xs);

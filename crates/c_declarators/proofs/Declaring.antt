@@ -1,10 +1,12 @@
 -- Steps that change the names and tags in force and what is known of tags, and nothing else.
-use Rattle.std.proofs.Common.{◌≡◌, ℕ, ◌≤◌, Bool, true, false, List, [], ◌∷◌, ◌++◌, length, map, Some, None, Result, Ok, Err, refl, sym, ap, subst, ◌∙◌, ⊎_elim, arith, length-append}
+use Rattle.std.proofs.Common.{◌≡◌, ℕ, ◌≤◌, Bool, true, false, List, [], ◌∷◌, ◌++◌, length, map, Some, None, Result, Ok}
+use Rattle.std.proofs.Common.{Err, refl, sym, ap, subst, ◌∙◌, ⊎_elim, arith, length-append}
 use Rattle.std.specs.Prelude.{slice_get}
 use Rattle.std.proofs.lemmas.Option.{none-some}
 use Rattle.ck_base.specs.declared.positions.Pos.{Pos}
 use Rattle.c_tree.specs.Scopes as meant
-use Rattle.c_tree.specs.Scopes.{State, TagState, Part, Doing, Fault, give, refuse, need, look, change, continued, changed_at, ◌>>=◌, ◌>>◌}
+use Rattle.c_tree.specs.Scopes.{State, TagState, Part, Doing, Fault, give, refuse, need, look, change, continued}
+use Rattle.c_tree.specs.Scopes.{changed_at, ◌>>=◌, ◌>>◌}
 use Rattle.c_types.proofs.Records.{push_cases}
 use Rattle.c_types.proofs.Steps.{same_result}
 use Rattle.c_types.specs.Stands.{text_at}
@@ -48,10 +50,13 @@ declares_still file s t d = record {
 
 -- a tag's members are named as the file has them
 abbrev pub IsSpelled : List ℕ → TagState → Type 0
-IsSpelled file t = (ms : List Part) → t.members ≡ Some ms → (k : ℕ) (m : Part) → slice_get ms k ≡ Some m → m.name.text ≡ text_at file m.name.span
+IsSpelled file t = (ms : List Part) → t.members ≡ Some ms → (k : ℕ) (m : Part) → slice_get ms k ≡ Some m →
+    m.name.text ≡ text_at file m.name.span
 
 -- one tag is changed
-pub declares_changed : (file : List ℕ) (s : State) (f : TagState → TagState) (n : ℕ) → ((t : TagState) → IsSpelled file t → IsSpelled file (f t)) → Declares file s (record s { tags = changed_at f s.tags n })
+pub declares_changed : (file : List ℕ) (s : State) (f : TagState → TagState) (n : ℕ) →
+    ((t : TagState) → IsSpelled file t → IsSpelled file (f t)) →
+    Declares file s (record s { tags = changed_at f s.tags n })
 declares_changed file s f n g = record {
   is = refl;
   tags = let e = changed_length f s.tags n in omega arith;
@@ -59,11 +64,13 @@ declares_changed file s f n g = record {
 }
 
 -- one more tag, which has no members yet
-pub declares_added : (file : List ℕ) (s : State) (x : TagState) → x.members ≡ None → Declares file s (record s { tags = s.tags ++ x ∷ [] })
+pub declares_added : (file : List ℕ) (s : State) (x : TagState) → x.members ≡ None →
+    Declares file s (record s { tags = s.tags ++ x ∷ [] })
 declares_added file s x n = record {
   is = refl;
   tags = omega (arith, length-append s.tags (x ∷ []));
-  members = λ h. λ j t ms e q. ⊎_elim (λ o. h j t ms o q) (λ o. absurd (none-some ms (sym n ∙ ap (λ (y : TagState). y.members) o.1 ∙ q))) (push_cases s.tags x t j e);
+  members = λ h. λ j t ms e q. ⊎_elim (λ o. h j t ms o q)
+      (λ o. absurd (none-some ms (sym n ∙ ap (λ (y : TagState). y.members) o.1 ∙ q))) (push_cases s.tags x t j e);
 }
 
 -- ---- steps
@@ -73,28 +80,36 @@ abbrev pub IsDeclaring : {A : Type 0} → List ℕ → Doing A → Type 0
 IsDeclaring {A} file d = (s t : State) (a : A) → d s ≡ Ok (a, t) → Declares file s t
 
 -- to a state that is known
-declares_to : {A : Type 0} (file : List ℕ) (s t u : State) (a b : A) (r : Result (A × State) Fault) → Declares file s u → r ≡ Ok (b, u) → r ≡ Ok (a, t) → Declares file s t
-declares_to {A} file s t u a b r d e f = subst (λ x. Declares file s x) (ap (λ (p : A × State). p.1) (same_result (b, u) (a, t) r e f)) d
+declares_to : {A : Type 0} (file : List ℕ) (s t u : State) (a b : A) (r : Result (A × State) Fault) →
+    Declares file s u → r ≡ Ok (b, u) → r ≡ Ok (a, t) → Declares file s t
+declares_to {A} file s t u a b r d e f =
+    subst (λ x. Declares file s x) (ap (λ (p : A × State). p.1) (same_result (b, u) (a, t) r e f)) d
 
 pub giving_declares : {A : Type 0} (file : List ℕ) (a : A) → IsDeclaring file (give a)
 giving_declares file a s t b e = declares_to file s t s b a (give a s) (declares_same file s) refl e
 
-pub refusing_declares : {A : Type 0} (file : List ℕ) (code : ℕ) (place : Pos) → IsDeclaring {A = A} file (refuse code place)
+pub refusing_declares : {A : Type 0} (file : List ℕ) (code : ℕ) (place : Pos) →
+    IsDeclaring {A = A} file (refuse code place)
 refusing_declares file code place s t b e = absurd cc
 
 pub needing_declares : (file : List ℕ) (b : Bool) (code : ℕ) (place : Pos) → IsDeclaring file (need b code place)
 needing_declares file true code place = giving_declares file tt
 needing_declares file false code place = refusing_declares file code place
 
-pub changing_declares : (file : List ℕ) (f : State → State) → ((s : State) → Declares file s (f s)) → IsDeclaring file (change f)
+pub changing_declares : (file : List ℕ) (f : State → State) → ((s : State) → Declares file s (f s)) →
+    IsDeclaring file (change f)
 changing_declares file f h s t b e = declares_to file s t (f s) b tt (change f s) (h s) refl e
 
-after : {A B : Type 0} (file : List ℕ) (s t : State) (r : Result (A × State) Fault) (f : A → Doing B) (b : B) → ((u : State) (a : A) → r ≡ Ok (a, u) → Declares file s u) → ((a : A) → IsDeclaring file (f a)) → continued r f ≡ Ok (b, t) → Declares file s t
+after : {A B : Type 0} (file : List ℕ) (s t : State) (r : Result (A × State) Fault) (f : A → Doing B) (b : B) →
+    ((u : State) (a : A) → r ≡ Ok (a, u) → Declares file s u) → ((a : A) → IsDeclaring file (f a)) →
+    continued r f ≡ Ok (b, t) → Declares file s t
 after file s t (Ok x) f b h k e = declares_then file s x.1 t (h x.1 x.0 refl) (k x.0 x.1 t b e)
 after file s t (Err z) f b h k e = absurd cc
 
-pub then_declares : {A B : Type 0} (file : List ℕ) (d : Doing A) (f : A → Doing B) → IsDeclaring file d → ((a : A) → IsDeclaring file (f a)) → IsDeclaring file (d >>= f)
+pub then_declares : {A B : Type 0} (file : List ℕ) (d : Doing A) (f : A → Doing B) → IsDeclaring file d →
+    ((a : A) → IsDeclaring file (f a)) → IsDeclaring file (d >>= f)
 then_declares file d f h k s t b e = after file s t (d s) f b (h s) k e
 
-pub looking_declares : {B : Type 0} (file : List ℕ) (f : State → Doing B) → ((s : State) → IsDeclaring file (f s)) → IsDeclaring file (look >>= f)
+pub looking_declares : {B : Type 0} (file : List ℕ) (f : State → Doing B) → ((s : State) → IsDeclaring file (f s)) →
+    IsDeclaring file (look >>= f)
 looking_declares file f k s t b e = k s s t b e

@@ -49,12 +49,15 @@ alias-seen (meant.Library k of) = refl
 some_is : {A : Type 0} (a b : A) → Some a ≡ Some b → a ≡ b
 some_is a b e = cc
 
-found : (ts : List Ty) (o : Option Entity) (e : Option meant.Entity) (r : Option ℕ) → option_map (entity_kept ts) o ≡ option_map entity_seen e → IsAlias o r → option_map (named ts) r ≡ option_map (λ t. Some t) (alias_meant e)
+found : (ts : List Ty) (o : Option Entity) (e : Option meant.Entity) (r : Option ℕ) →
+    option_map (entity_kept ts) o ≡ option_map entity_seen e → IsAlias o r →
+    option_map (named ts) r ≡ option_map (λ t. Some t) (alias_meant e)
 found ts None None r h i = ap (option_map (named ts)) i
 found ts None (Some y) r h i = absurd cc
 found ts (Some x) None r h i = absurd cc
 found ts (Some x) (Some y) r h i =
-    ap (option_map (named ts)) i ∙ sym (alias-kept ts x) ∙ ap alias_seen (some_is (entity_kept ts x) (entity_seen y) h) ∙ alias-seen y
+    ap (option_map (named ts)) i ∙ sym (alias-kept ts x) ∙ ap alias_seen (some_is (entity_kept ts x) (entity_seen y) h)
+    ∙ alias-seen y
 
 alias_type_is : (e : Option meant.Entity) (p : Pos) (s : State) → alias_type e p s ≡ some_or (alias_meant e) 133 p s
 alias_type_is None p s = refl
@@ -69,15 +72,22 @@ none_meant : (ts : List Ty) (o : Option Ty) → option_map (named ts) None ≡ o
 none_meant ts None e = refl
 none_meant ts (Some t) e = absurd cc
 
-some_meant : (ts : List Ty) (k : ℕ) (o : Option Ty) (t : Ty) → named ts k ≡ Some t → option_map (named ts) (Some k) ≡ option_map (λ t. Some t) o → o ≡ Some t
+some_meant : (ts : List Ty) (k : ℕ) (o : Option Ty) (t : Ty) → named ts k ≡ Some t →
+    option_map (named ts) (Some k) ≡ option_map (λ t. Some t) o → o ≡ Some t
 some_meant ts k None t g e = absurd cc
 some_meant ts k (Some u) t g e = cc
 
-pub no_alias : (ts : List Ty) (o : Option Entity) (e : Option meant.Entity) (p : Pos) (s : State) → option_map (entity_kept ts) o ≡ option_map entity_seen e → IsAlias o None → alias_type e p s ≡ Err (record { code = 133; place = p })
-no_alias ts o e p s h i = alias_type_is e p s ∙ ap (λ t. some_or t 133 p s) (none_meant ts (alias_meant e) (found ts o e None h i))
+pub no_alias : (ts : List Ty) (o : Option Entity) (e : Option meant.Entity) (p : Pos) (s : State) →
+    option_map (entity_kept ts) o ≡ option_map entity_seen e → IsAlias o None →
+    alias_type e p s ≡ Err (record { code = 133; place = p })
+no_alias ts o e p s h i =
+    alias_type_is e p s ∙ ap (λ t. some_or t 133 p s) (none_meant ts (alias_meant e) (found ts o e None h i))
 
-pub an_alias : (ts : List Ty) (o : Option Entity) (e : Option meant.Entity) (k : ℕ) (t : Ty) (p : Pos) (s : State) → option_map (entity_kept ts) o ≡ option_map entity_seen e → IsAlias o (Some k) → named ts k ≡ Some t → alias_type e p s ≡ Ok (t, s)
-an_alias ts o e k t p s h i g = alias_type_is e p s ∙ ap (λ u. some_or u 133 p s) (some_meant ts k (alias_meant e) t g (found ts o e (Some k) h i))
+pub an_alias : (ts : List Ty) (o : Option Entity) (e : Option meant.Entity) (k : ℕ) (t : Ty) (p : Pos) (s : State) →
+    option_map (entity_kept ts) o ≡ option_map entity_seen e → IsAlias o (Some k) → named ts k ≡ Some t →
+    alias_type e p s ≡ Ok (t, s)
+an_alias ts o e k t p s h i g =
+    alias_type_is e p s ∙ ap (λ u. some_or u 133 p s) (some_meant ts k (alias_meant e) t g (found ts o e (Some k) h i))
 
 -- ---- enumeration constants
 
@@ -85,22 +95,30 @@ state_in : {A : Type 0} → Result (A × State) meant.Fault → State → State
 state_in (Ok x) d = x.1
 state_in (Err e) d = d
 
-pair_state : {A : Type 0} (a b : A) (v w : State) (x : Result (A × State) meant.Fault) → x ≡ Ok (a, v) → x ≡ Ok (b, w) → v ≡ w
+pair_state : {A : Type 0} (a b : A) (v w : State) (x : Result (A × State) meant.Fault) → x ≡ Ok (a, v) → x ≡ Ok (b, w) →
+    v ≡ w
 unfolding state_in
 pair_state a b v w x e f = ap (λ r. state_in r v) (sym e ∙ f)
 
 -- what the scopes stand for once the constant is declared
-pub constant_stands : (sc : Scopes) (p : Typed) (t : Lexeme) (z : ℤ) (s : State) (F : State → Option meant.Entity → Type 0) → is_new s t.text ≡ true → Given sc p (denoted t (declares_constant t z) s) F → Stands sc p (bind_name t.text (meant.Enumerator z) s)
+pub constant_stands : (sc : Scopes) (p : Typed) (t : Lexeme) (z : ℤ) (s : State)
+    (F : State → Option meant.Entity → Type 0) → is_new s t.text ≡ true →
+    Given sc p (denoted t (declares_constant t z) s) F → Stands sc p (bind_name t.text (meant.Enumerator z) s)
 constant_stands sc p t z s F b g =
     let u : State = bind_name t.text (meant.Enumerator z) s in
     let e : denoted t (declares_constant t z) s ≡ Ok (find_in (innermost u.scopes).names t.text, u) = rw b refl in
-    subst (λ (v : State). Stands sc p v) (sym (pair_state (find_in (innermost u.scopes).names t.text) g.value u g.state (denoted t (declares_constant t z) s) e g.is)) g.stands
+    subst (λ (v : State). Stands sc p v) (sym
+    (pair_state (find_in (innermost u.scopes).names t.text) g.value u g.state
+    (denoted t (declares_constant t z) s) e g.is)) g.stands
 
-pub enumerated : (t : Lexeme) (z : ℤ) (p : Pos) (s : State) → is_new s t.text ≡ true → in_int z ≡ true → enumerate t z p s ≡ Ok (z +ℤ pos 1, bind_name t.text (meant.Enumerator z) s)
+pub enumerated : (t : Lexeme) (z : ℤ) (p : Pos) (s : State) → is_new s t.text ≡ true → in_int z ≡ true →
+    enumerate t z p s ≡ Ok (z +ℤ pos 1, bind_name t.text (meant.Enumerator z) s)
 enumerated t z p s b i = rw (b, i) refl
 
-pub named_again : (t : Lexeme) (z : ℤ) (p : Pos) (s : State) → is_new s t.text ≡ false → enumerate t z p s ≡ Err (record { code = 131; place = t.pos })
+pub named_again : (t : Lexeme) (z : ℤ) (p : Pos) (s : State) → is_new s t.text ≡ false →
+    enumerate t z p s ≡ Err (record { code = 131; place = t.pos })
 named_again t z p s b = rw b refl
 
-pub out_of_int : (t : Lexeme) (z : ℤ) (p : Pos) (s : State) → is_new s t.text ≡ true → in_int z ≡ false → enumerate t z p s ≡ Err (record { code = 134; place = p })
+pub out_of_int : (t : Lexeme) (z : ℤ) (p : Pos) (s : State) → is_new s t.text ≡ true → in_int z ≡ false →
+    enumerate t z p s ≡ Err (record { code = 134; place = p })
 out_of_int t z p s b i = rw (b, i) refl

@@ -15,7 +15,8 @@ use Rattle.c_nodes.specs.Nodes.{IsWhole}
 use Rattle.c_work.specs.declared.work.Work.{Work}
 use Rattle.c_work.specs.Work.{Shows, MembersAreSpelled}
 use Rattle.c_work.specs.Answers.{Quiet, quietly, Done, Answers}
-use Rattle.c_work.proofs.Extending.{AreExtended, extends_goes_on, extended_whole, extended_keeps, extended_values, extended_definition, extended_there}
+use Rattle.c_work.proofs.Extending.{AreExtended, extends_goes_on, extended_whole, extended_keeps, extended_values}
+use Rattle.c_work.proofs.Extending.{extended_definition, extended_there}
 use Rattle.c_work.proofs.Growing.{begins_same}
 use Rattle.c_declarators.specs.Calling.{IsDeclared}
 use Rattle.c_declarators.proofs.Declaring.{Declares, declares_still, IsDeclaring}
@@ -24,7 +25,8 @@ extended : (n m : Nodes) → IsDeclared n m → AreExtended n m
 extended n m d = record { program = extends_goes_on n.p m.p d.program; facts = d.facts; void = d.void; file = d.file }
 
 -- where the program stays
-pub scopes_declared : (n : Nodes) (sc : Scopes) → sc.file.now ≡ n.scopes.file.now → IsDeclared n (record n { scopes = sc })
+pub scopes_declared : (n : Nodes) (sc : Scopes) → sc.file.now ≡ n.scopes.file.now →
+    IsDeclared n (record n { scopes = sc })
 scopes_declared n sc f = record { program = extends_same n.p n.p refl; facts = refl; void = refl; file = f }
 
 quiet_declared : (w : Work) (m : Nodes) → IsWhole w.nodes → IsDeclared w.nodes m → Quiet w (record w { nodes = m })
@@ -38,7 +40,9 @@ quiet_declared w m n d = record {
   waiting = refl;
 }
 
-shows_at : (w : Work) (m : Nodes) (s : State) (cs : List meant.Scope) (gs : List TagState) → IsWhole w.nodes → IsDeclared w.nodes m → MembersAreSpelled w.file.now (record s { scopes = cs; tags = gs }) → Shows w s → Stands m.scopes m.p (record s { scopes = cs; tags = gs }) →
+shows_at : (w : Work) (m : Nodes) (s : State) (cs : List meant.Scope) (gs : List TagState) → IsWhole w.nodes →
+    IsDeclared w.nodes m → MembersAreSpelled w.file.now (record s { scopes = cs; tags = gs }) → Shows w s →
+    Stands m.scopes m.p (record s { scopes = cs; tags = gs }) →
     Shows (record w { nodes = m }) (record s { scopes = cs; tags = gs })
 shows_at w m s cs gs n d sp h st =
     let t : State = record s { scopes = cs; tags = gs } in
@@ -63,16 +67,20 @@ shows_at w m s cs gs n d sp h st =
       };
     }
 
-pub shows_declared : (w : Work) (m : Nodes) (s t : State) → IsWhole w.nodes → IsDeclared w.nodes m → Declares w.file.now s t → Shows w s → Stands m.scopes m.p t → Shows (record w { nodes = m }) t
+pub shows_declared : (w : Work) (m : Nodes) (s t : State) → IsWhole w.nodes → IsDeclared w.nodes m →
+    Declares w.file.now s t → Shows w s → Stands m.scopes m.p t → Shows (record w { nodes = m }) t
 shows_declared w m s t n d e h st =
     subst (λ (x : State). Shows (record w { nodes = m }) x) (sym e.is)
-    (shows_at w m s t.scopes t.tags n d (e.members h.closed.members) h (subst (λ (x : State). Stands m.scopes m.p x) e.is st))
+    (shows_at w m s t.scopes t.tags n d (e.members h.closed.members) h
+    (subst (λ (x : State). Stands m.scopes m.p x) e.is st))
 
 -- ---- answers
 
 -- a step that only declares is done
-pub declared : {A : Type 0} (w : Work) (m : Nodes) (d : Doing A) (T : Type 0) (I K : State → A → Type 0) → IsWhole w.nodes → IsDeclared w.nodes m → IsDeclaring w.file.now d → T →
-    ((s : State) → Shows w s → types.Given m.scopes m.p (d s) I) → ((s : State) (a : A) → I s a → K s a) → Done quietly w (record w { nodes = m }) d T K
+pub declared : {A : Type 0} (w : Work) (m : Nodes) (d : Doing A) (T : Type 0) (I K : State → A → Type 0) →
+    IsWhole w.nodes → IsDeclared w.nodes m → IsDeclaring w.file.now d → T →
+    ((s : State) → Shows w s → types.Given m.scopes m.p (d s) I) → ((s : State) (a : A) → I s a → K s a) →
+    Done quietly w (record w { nodes = m }) d T K
 declared w m d T I K n e f t g k = record {
   whole = extended_whole w.nodes m n (extended w.nodes m e);
   grows = quiet_declared w m n e;
@@ -91,14 +99,23 @@ declared w m d T I K n e f t g k = record {
 }
 
 -- it is refused
-pub refused : {A B X Y : Type 0} (w v : Work) (m : Nodes) (d : Doing A) (f : Doing B) (Fits : X → State → A → Type 0) (There : Work → Y → Type 0) (Is : Work → Y → State → B → Type 0) (r : Refusal) →
-    ((s : State) (z : Fault) → Shows w s → d s ≡ Err z → f s ≡ Err z) → types.Answers w.nodes.scopes w.nodes.p m.scopes m.p d Fits (Err r) → Answers quietly w v f There Is (Err r)
-refused w v m d f Fits There Is (Code code place) h a = λ s k. h s (record { code = code; place = place }) k (a.refused s k.stands)
+pub refused : {A B X Y : Type 0} (w v : Work) (m : Nodes) (d : Doing A) (f : Doing B) (Fits : X → State → A → Type 0)
+    (There : Work → Y → Type 0) (Is : Work → Y → State → B → Type 0) (r : Refusal) →
+    ((s : State) (z : Fault) → Shows w s → d s ≡ Err z → f s ≡ Err z) →
+    types.Answers w.nodes.scopes w.nodes.p m.scopes m.p d Fits (Err r) → Answers quietly w v f There Is (Err r)
+refused w v m d f Fits There Is (Code code place) h a =
+    λ s k. h s (record { code = code; place = place }) k (a.refused s k.stands)
 refused w v m d f Fits There Is NoMemory h a = tt
 
 -- a call's answer is the step's
-pub lifted : {A X : Type 0} (w : Work) (m : Nodes) (d : Doing A) (Fits : X → State → A → Type 0) (There : Work → X → Type 0) (Is : Work → X → State → A → Type 0) (r : Result X Refusal) →
-    IsWhole w.nodes → IsDeclared w.nodes m → IsDeclaring w.file.now d → ((x : X) → There (record w { nodes = m }) x) → ((x : X) (s : State) (a : A) → Fits x s a → Is (record w { nodes = m }) x s a) →
-    types.Answers w.nodes.scopes w.nodes.p m.scopes m.p d Fits r → Answers quietly w (record w { nodes = m }) d There Is r
-lifted w m d Fits There Is (Ok x) n e f t k a = declared w m d (There (record w { nodes = m }) x) (Fits x) (Is (record w { nodes = m }) x) n e f (t x) (λ s h. a s h.stands) (k x)
-lifted w m d Fits There Is (Err r) n e f t k a = refused w (record w { nodes = m }) m d d Fits There Is r (λ s z h g. g) a
+pub lifted : {A X : Type 0} (w : Work) (m : Nodes) (d : Doing A) (Fits : X → State → A → Type 0)
+    (There : Work → X → Type 0) (Is : Work → X → State → A → Type 0) (r : Result X Refusal) →
+    IsWhole w.nodes → IsDeclared w.nodes m → IsDeclaring w.file.now d → ((x : X) → There (record w { nodes = m }) x) →
+    ((x : X) (s : State) (a : A) → Fits x s a → Is (record w { nodes = m }) x s a) →
+    types.Answers w.nodes.scopes w.nodes.p m.scopes m.p d Fits r →
+    Answers quietly w (record w { nodes = m }) d There Is r
+lifted w m d Fits There Is (Ok x) n e f t k a =
+    declared w m d (There (record w { nodes = m }) x) (Fits x) (Is (record w { nodes = m }) x) n e f (t x)
+    (λ s h. a s h.stands) (k x)
+lifted w m d Fits There Is (Err r) n e f t k a =
+    refused w (record w { nodes = m }) m d d Fits There Is r (λ s z h g. g) a

@@ -1,5 +1,6 @@
 -- Specifiers.
-use Rattle.std.proofs.Common.{◌≡◌, ℕ, ◌<◌, ◌≤◌, true, false, List, [], ◌∷◌, length, map, get_or, Option, Some, None, Ok, Err, refl, ap, ◌∙◌, arith}
+use Rattle.std.proofs.Common.{◌≡◌, ℕ, ◌<◌, ◌≤◌, true, false, List, [], ◌∷◌, length, map, get_or, Option, Some, None, Ok}
+use Rattle.std.proofs.Common.{Err, refl, ap, ◌∙◌, arith}
 use Rattle.std.specs.Prelude.{nat_le, nat_lt, if◌then◌else◌, ◌==◌}
 use Rattle.ck_base.specs.declared.positions.Pos.{Pos}
 use Rattle.ck_base.specs.Tokens.{Lexeme}
@@ -17,7 +18,8 @@ use Rattle.c_declarators.specs.Steps.{specified_type, specified_by, with_const, 
 pub no_type : (n : Nodes) (t : Option Ty) → IsWhole n → t ≡ None → HasMaybe n n None t
 no_type n t w e = record { keeps = keeps_same n w; is = rw e tt }
 
-pub some_type : (n : Nodes) (k : ℕ) (t : Option Ty) → IsWhole n → k < type_count n → t ≡ Some (type_in n k) → HasMaybe n n (Some k) t
+pub some_type : (n : Nodes) (k : ℕ) (t : Option Ty) → IsWhole n → k < type_count n → t ≡ Some (type_in n k) →
+    HasMaybe n n (Some k) t
 some_type n k t w lt e = record { keeps = keeps_same n w; is = rw e (record { there = lt; is = refl }) }
 
 pub is_none : (n : Nodes) (t : Option Ty) → IsMaybeType n None t → t ≡ None
@@ -36,15 +38,18 @@ is_some n k (Some t) h = record { of = t; is = refl; type = h }
 
 -- ---- the types among the specifiers
 
-one_named : (x : Words) (n : Nodes) (ks : List ℕ) → 1 ≤ length ks → length ks < 2 → specified_type x (map (type_in n) ks) ≡ (if type_words x == 0 then Some (type_in n (get_or ks 0 0)) else None)
+one_named : (x : Words) (n : Nodes) (ks : List ℕ) → 1 ≤ length ks → length ks < 2 →
+    specified_type x (map (type_in n) ks) ≡ (if type_words x == 0 then Some (type_in n (get_or ks 0 0)) else None)
 one_named x n [] a b = absurd (omega arith)
 one_named x n (k ∷ []) a b = refl
 one_named x n (k ∷ j ∷ ks) a b = absurd (omega arith)
 
-pub one_alone : (x : Words) (n : Nodes) (ks : List ℕ) → 1 ≤ length ks → length ks < 2 → (type_words x == 0) ≡ true → specified_type x (map (type_in n) ks) ≡ Some (type_in n (get_or ks 0 0))
+pub one_alone : (x : Words) (n : Nodes) (ks : List ℕ) → 1 ≤ length ks → length ks < 2 → (type_words x == 0) ≡ true →
+    specified_type x (map (type_in n) ks) ≡ Some (type_in n (get_or ks 0 0))
 one_alone x n ks a b e = one_named x n ks a b ∙ ap (λ q. if q then Some (type_in n (get_or ks 0 0)) else None) e
 
-pub one_and_words : (x : Words) (n : Nodes) (ks : List ℕ) → 1 ≤ length ks → length ks < 2 → (type_words x == 0) ≡ false → specified_type x (map (type_in n) ks) ≡ None
+pub one_and_words : (x : Words) (n : Nodes) (ks : List ℕ) → 1 ≤ length ks → length ks < 2 →
+    (type_words x == 0) ≡ false → specified_type x (map (type_in n) ks) ≡ None
 one_and_words x n ks a b e = one_named x n ks a b ∙ ap (λ q. if q then Some (type_in n (get_or ks 0 0)) else None) e
 
 pub many_named : (x : Words) (n : Nodes) (ks : List ℕ) → 2 ≤ length ks → specified_type x (map (type_in n) ks) ≡ None
@@ -54,12 +59,24 @@ many_named x n (k ∷ j ∷ ks) a = refl
 
 -- ---- the step
 
-pub stored_twice : (x : Words) (t : Lexeme) (ts : List Ty) (p : Pos) (s : State) → t.pos ≡ p → nat_le (storage_words x) 1 ≡ false → specified_by x t ts s ≡ Err (record { code = 133; place = p })
+pub stored_twice : (x : Words) (t : Lexeme) (ts : List Ty) (p : Pos) (s : State) → t.pos ≡ p →
+    nat_le (storage_words x) 1 ≡ false → specified_by x t ts s ≡ Err (record { code = 133; place = p })
 stored_twice x t ts p s e b = rw (b, e) refl
 
-pub of_no_type : (x : Words) (t : Lexeme) (ts : List Ty) (p : Pos) (s : State) → t.pos ≡ p → nat_le (storage_words x) 1 ≡ true → specified_type x ts ≡ None → specified_by x t ts s ≡ Err (record { code = 133; place = p })
+pub of_no_type : (x : Words) (t : Lexeme) (ts : List Ty) (p : Pos) (s : State) → t.pos ≡ p →
+    nat_le (storage_words x) 1 ≡ true → specified_type x ts ≡ None →
+    specified_by x t ts s ≡ Err (record { code = 133; place = p })
 of_no_type x t ts p s e b o = rw (b, o, e) refl
 
-pub of_type : (x : Words) (t : Lexeme) (ts : List Ty) (of : Ty) (s : State) → nat_le (storage_words x) 1 ≡ true → specified_type x ts ≡ Some of →
-    specified_by x t ts s ≡ Ok (record { first = t; stored = nat_lt x.registers (storage_words x); storage = storage_of x; of = with_const x of }, s)
+pub of_type : (x : Words) (t : Lexeme) (ts : List Ty) (of : Ty) (s : State) → nat_le (storage_words x) 1 ≡ true →
+    specified_type x ts ≡ Some of →
+    specified_by x t ts s ≡ Ok (
+      record {
+        first = t;
+        stored = nat_lt x.registers (storage_words x);
+        storage = storage_of x;
+        of = with_const x of;
+      },
+      s,
+    )
 of_type x t ts of s b o = rw (b, o) refl

@@ -15,7 +15,12 @@ use Rattle.c_declarators.specs.declared.parts.Wrap.TheVariants.{Point, Row, Give
 use Rattle.c_declarators.specs.declared.parts.Formed.{Formed}
 
 abbrev pub formed_in : Nodes → Formed → meant_types.Formed
-formed_in n f = record { of = type_in n f.of; lacks = f.faults.lacks; misfits = f.faults.misfits; too_large = f.faults.too_large }
+formed_in n f = record {
+  of = type_in n f.of;
+  lacks = f.faults.lacks;
+  misfits = f.faults.misfits;
+  too_large = f.faults.too_large;
+}
 
 -- the types of parameters in the type of their function
 abbrev pub signature_types : Nodes → List Param → List Ty

@@ -1,5 +1,6 @@
 -- What specifiers, parameters and declarators stand for.
-use Rattle.std.specs.Prelude.{◌≡◌, ℕ, ◌<◌, List, [], ◌∷◌, length, map, reverse, Option, option_map, All, Result, Ok, Err, Bool, bytes_eq, is_some, ℤ}
+use Rattle.std.specs.Prelude.{◌≡◌, ℕ, ◌<◌, List, [], ◌∷◌, length, map, reverse, Option, option_map, All, Result, Ok}
+use Rattle.std.specs.Prelude.{Err, Bool, bytes_eq, is_some, ℤ}
 use Rattle.std.specs.List.{list_any}
 use Rattle.std.specs.Map.{lookup}
 use Rattle.ck_base.specs.declared.refusal.Refusal.{Refusal}
@@ -52,7 +53,12 @@ abbrev pub name_token : Work → Option Name → Option Lexeme
 name_token w n = option_map (token_of w) n
 
 abbrev pub param_in : Work → Param → meant_parts.Param
-param_in w p = record { name = name_token w p.name; at = token_of w p.at; of = type_in w.nodes p.of; nothing = p.nothing }
+param_in w p = record {
+  name = name_token w p.name;
+  at = token_of w p.at;
+  of = type_in w.nodes p.of;
+  nothing = p.nothing;
+}
 
 abbrev pub ParamThere : Work → Param → Type 0
 ParamThere w p = p.of < type_count w.nodes
@@ -62,7 +68,8 @@ IsParam w p x = x ≡ param_in w p
 
 -- ---- declarators. `Scoped` says what is asked of a scope of parameters
 
-pub record IsPrototype (Scoped : Scope → meant.Scope → Type 0) (w : Work) (p : Prototype) (x : meant_parts.Prototype) : Type 0 where
+pub record IsPrototype (Scoped : Scope → meant.Scope → Type 0) (w : Work) (p : Prototype) (x : meant_parts.Prototype) :
+    Type 0 where
   pub params : x.params ≡ map (param_in w) p.params.items
   pub scope : Scoped p.scope x.scope
 
@@ -78,7 +85,8 @@ AreWraps Scoped w (a ∷ rest) (b ∷ bs) = IsWrap Scoped w a b × AreWraps Scop
 AreWraps Scoped w xs bs = ⊥
 
 -- what is made first stands last in the list
-pub record IsDerived (Scoped : Scope → meant.Scope → Type 0) (w : Work) (d : Derived) (x : meant_parts.Derived) : Type 0 where
+pub record IsDerived (Scoped : Scope → meant.Scope → Type 0) (w : Work) (d : Derived) (x : meant_parts.Derived) :
+    Type 0 where
   pub name : x.name ≡ name_token w d.name
   pub wraps : AreWraps Scoped w (reverse d.wraps.items) x.wraps
 
@@ -138,7 +146,8 @@ has_name v text = is_some (lookup (λ k. bytes_eq text k.now) v.names.entries)
 -- the same of the members so far: their names are those that stand in the file
 pub record AllMembersThere (w : Work) (v : Members) : Type 0 where
   pub there : MembersThere w v.all.items
-  pub names : (text : List ℕ) → has_name v text ≡ list_any (λ (m : Member). bytes_eq (text_at w.file.now m.name) text) v.all.items
+  pub names : (text : List ℕ) →
+      has_name v text ≡ list_any (λ (m : Member). bytes_eq (text_at w.file.now m.name) text) v.all.items
 
 abbrev pub AreAllMembers : Work → Members → State → List meant.Part → Type 0
 AreAllMembers w v s xs = AreMembers w v.all.items xs

@@ -1,5 +1,6 @@
 -- The steps of typing that stand for what comes once the parts of a construct are typed.
-use Rattle.std.specs.Prelude.{ℕ, ℤ, Bool, false, not, ◌||◌, ◌&&◌, ◌++◌, length, is_none, ◌==◌, nat_lt, nat_le, if◌then◌else◌, List, [], ◌∷◌, Option, Some, None}
+use Rattle.std.specs.Prelude.{ℕ, ℤ, Bool, false, not, ◌||◌, ◌&&◌, ◌++◌, length, is_none, ◌==◌, nat_lt, nat_le}
+use Rattle.std.specs.Prelude.{if◌then◌else◌, List, [], ◌∷◌, Option, Some, None}
 use Rattle.ck_base.specs.declared.positions.Pos.{Pos}
 use Rattle.ck_base.specs.Tokens.{Lexeme}
 use Rattle.c_tree.specs.declared.syntax.SpecifierWord.TheVariants as words
@@ -7,7 +8,8 @@ use Rattle.c_tree.specs.Syntax.{Syns}
 use Rattle.c_tree.specs.Types.{Ty, Tagged, qualified, bare, is_function}
 use Rattle.c_tree.specs.Constants.{constant_of}
 use Rattle.c_tree.specs.Conversions.{Operand, operand_type}
-use Rattle.c_tree.specs.Scopes.{Part, Scope, State, Tagging, find_in, find_tag, innermost, leave, is_complete, Doing, give, need, look, some_or, ◌>>=◌, ◌>>◌}
+use Rattle.c_tree.specs.Scopes.{Part, Scope, State, Tagging, find_in, find_tag, innermost, leave, is_complete, Doing}
+use Rattle.c_tree.specs.Scopes.{give, need, look, some_or, ◌>>=◌, ◌>>◌}
 use Rattle.c_tree.specs.Readings.{Storage, Plain, Internal, External, Defining_type, Specified, Wrap}
 use Rattle.c_tree.specs.Declarators as meant
 use Rattle.c_tree.specs.Declarators.{formed, judge, Formed}
@@ -34,14 +36,24 @@ abbrev pub specified_by : Words → Lexeme → List Ty → Doing Specified
 specified_by x t ts =
     need (nat_le (storage_words x) 1) 133 t.pos >>
     some_or (specified_type x ts) 133 t.pos >>= λ of.
-    give (record { first = t; stored = nat_lt x.registers (storage_words x); storage = storage_of x; of = with_const x of })
+    give (record {
+      first = t;
+      stored = nat_lt x.registers (storage_words x);
+      storage = storage_of x;
+      of = with_const x of;
+    })
 
 -- the end of specifiers
 abbrev pub specified : Lexeme → Syns → List Ty → Doing Specified
 specified t xs ts =
     need (nat_le (meant.storage_words xs) 1) 133 t.pos >>
     some_or (meant.specified_type xs ts) 133 t.pos >>= λ of.
-    give (record { first = t; stored = nat_lt (meant.times_there words.Register xs) (meant.storage_words xs); storage = meant.storage_of xs; of = meant.with_const xs of })
+    give (record {
+      first = t;
+      stored = nat_lt (meant.times_there words.Register xs) (meant.storage_words xs);
+      storage = meant.storage_of xs;
+      of = meant.with_const xs of;
+    })
 
 -- ---- type names
 
@@ -57,7 +69,8 @@ named_type t ws p = look >>= λ s. let f = formed s t ws in judge f false false 
 
 -- an integer constant expression that was read as a value
 abbrev pub constant : Operand → Doing meant.Constant
-constant x = some_or (constant_of x.is) 134 x.first >>= λ v. give (record { number = meant.number_of (bare (operand_type x)) v; first = x.first })
+constant x = some_or (constant_of x.is) 134 x.first
+    >>= λ v. give (record { number = meant.number_of (bare (operand_type x)) v; first = x.first })
 
 abbrev pub array_length : ℤ → Pos → Doing ℕ
 array_length z p = some_or (meant.positive z) 134 p

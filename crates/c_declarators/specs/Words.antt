@@ -1,5 +1,6 @@
 -- The words among specifiers, counted (C11 6.7.1 to 6.7.3).
-use Rattle.std.specs.Prelude.{◌≡◌, ℕ, ◌+◌, Bool, true, false, ◌&&◌, ◌==◌, nat_lt, nat_le, if◌then◌else◌, List, [], ◌∷◌, Option, Some, None, slice_get}
+use Rattle.std.specs.Prelude.{◌≡◌, ℕ, ◌+◌, Bool, true, false, ◌&&◌, ◌==◌, nat_lt, nat_le, if◌then◌else◌, List, [], ◌∷◌}
+use Rattle.std.specs.Prelude.{Option, Some, None, slice_get}
 use Rattle.ck_int.specs.declared.kinds.IntKind.TheVariants as kind
 use Rattle.c_tree.specs.declared.syntax.Node.{Node}
 use Rattle.c_tree.specs.declared.syntax.NodeKind.{NodeKind}
@@ -34,7 +35,8 @@ first_has w (more (node k t ys) xs) = nat_lt 0 (times_there w ys)
 -- what is asked of the first of these nodes
 pub record FirstHas (w : SpecifierWord) (nodes : List Node) (ks : List ℕ) (r : Bool) : Type 0 where
   pub none : ks ≡ [] → r ≡ false
-  pub some : (k : ℕ) (js : List ℕ) (n : Node) → ks ≡ k ∷ js → slice_get nodes k ≡ Some n → r ≡ nat_lt 0 (times_at w nodes n.kids)
+  pub some : (k : ℕ) (js : List ℕ) (n : Node) → ks ≡ k ∷ js → slice_get nodes k ≡ Some n →
+      r ≡ nat_lt 0 (times_at w nodes n.kids)
 
 -- ---- their numbers
 
@@ -59,7 +61,8 @@ words_of xs = record {
 }
 
 abbrev pub type_words : Words → ℕ
-type_words x = x.voids + x.chars + x.shorts + x.ints + x.longs + x.signed + x.unsigned + x.bools + x.int_caps + x.uint_caps
+type_words x = x.voids + x.chars + x.shorts + x.ints + x.longs + x.signed + x.unsigned + x.bools + x.int_caps
+    + x.uint_caps
 
 abbrev pub storage_words : Words → ℕ
 storage_words x = x.typedefs + x.statics + x.externs + x.autos + x.registers

@@ -54,7 +54,8 @@ fn number_of(kind: IntKind, value: u64) -> i128
 pub fn constant_value(work: &Work<'_>, x: Operand) -> Result<Constant, Refusal>
     requires whole { IsWhole work.now.nodes }
     requires there { OperandThere work.now x }
-    ensures { Answers quietly work.now work.now (constant (operand_in work.now x)) ConstantThere (in_any IsConstant) result }
+    ensures { Answers quietly work.now work.now (constant (operand_in work.now x)) ConstantThere
+        (in_any IsConstant) result }
 {
     match work.nodes.constant_of(x.node) {
         None => Err(Refusal::Code(134, x.first)),

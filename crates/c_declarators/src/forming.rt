@@ -9,7 +9,8 @@ ghost use Rattle.c_tree.specs.Declarators.{plainly, pointer_to, over_limit, is_g
 ghost use Rattle.c_types.specs.Stands.{Stands};
 ghost use Rattle.c_nodes.specs.declared.nodes.Nodes.{Nodes as NodeList};
 ghost use Rattle.c_nodes.specs.Nodes.{IsWhole, HasType, type_in, type_count};
-ghost use Rattle.c_declarators.specs.Forming.{Makes, MakesOf, formed_in, HasTypes, ParamIsThere, WrapIsThere, signature_types, gives_on, made_on, all_on};
+ghost use Rattle.c_declarators.specs.Forming.{Makes, MakesOf, formed_in, HasTypes, ParamIsThere, WrapIsThere};
+ghost use Rattle.c_declarators.specs.Forming.{signature_types, gives_on, made_on, all_on};
 
 use crate::parts::{Formed, Param, Wrap};
 use c_nodes::{Class, Nodes};
@@ -28,7 +29,8 @@ pub(crate) fn either(a: bool, b: bool) -> bool
 fn pointed(nodes: &Nodes<'_>, t: u32) -> Option<u32>
     requires whole { IsWhole nodes.now }
     requires there { t < type_count nodes.now }
-    ensures { MatchOption result (adjusted (type_in nodes.now t) ≡ type_in nodes.now t) (λ of. adjusted (type_in nodes.now t) ≡ Pointer (type_in nodes.now of)) }
+    ensures { MatchOption result (adjusted (type_in nodes.now t) ≡ type_in nodes.now t)
+        (λ of. adjusted (type_in nodes.now t) ≡ Pointer (type_in nodes.now of)) }
 {
     match nodes.class(t) {
         Class::Array(of, _) => Some(of),
@@ -149,7 +151,8 @@ fn gives(nodes: &mut Nodes<'_>, params: &[Param], f: Formed) -> Result<Formed, N
     requires whole { IsWhole nodes.old }
     requires there { f.of < type_count nodes.old }
     requires params { All (ParamIsThere nodes.old) params.now }
-    ensures { IfOk result (λ g. Makes nodes.old nodes.new f g (λ s x. gives_on (tys (signature_types nodes.old params.now)) x)) }
+    ensures { IfOk result (λ g. Makes nodes.old nodes.new f g
+        (λ s x. gives_on (tys (signature_types nodes.old params.now)) x)) }
 {
     let given = is_given(nodes, f.of);
     let plain = nodes.bare(f.of);
@@ -199,7 +202,8 @@ pub fn form(nodes: &mut Nodes<'_>, of: u32, wraps: &[Wrap<'_>]) -> Result<Formed
     requires whole { IsWhole nodes.old }
     requires there { of < type_count nodes.old }
     requires parts { All (WrapIsThere nodes.old) wraps.now }
-    ensures { IfOk result (λ g. MakesOf nodes.old nodes.new g (λ s. all_on s nodes.old wraps.now (plainly (type_in nodes.old of)))) }
+    ensures { IfOk result (λ g. MakesOf nodes.old nodes.new g
+        (λ s. all_on s nodes.old wraps.now (plainly (type_in nodes.old of)))) }
 {
     let mut formed = plainly(of);
     let mut left = wraps.len();

@@ -10,7 +10,8 @@ ghost use Rattle.c_nodes.specs.Nodes.{IsWhole, type_in, type_count};
 ghost use Rattle.c_work.specs.Answers.{Answers, quietly};
 ghost use Rattle.c_work.specs.Parts.{token_of};
 ghost use Rattle.c_declarators.specs.Forming.{WrapIsThere};
-ghost use Rattle.c_declarators.specs.Parts.{SpecifiedThere, IsSpecified, DerivedThere, IsDerived, AreWraps, any_scope, AreMembers, AllMembersThere, AreAllMembers, has_name};
+ghost use Rattle.c_declarators.specs.Parts.{SpecifiedThere, IsSpecified, DerivedThere, IsDerived, AreWraps, any_scope};
+ghost use Rattle.c_declarators.specs.Parts.{AreMembers, AllMembersThere, AreAllMembers, has_name};
 ghost use Rattle.c_declarators.specs.Steps.{named_member};
 
 use crate::forming::{either, form, is_complete};
@@ -53,7 +54,8 @@ impl<'a> Members<'a> {
     // These members and one more behind them, with its name.
     fn with(self, member: Member, text: &'a [u8]) -> Result<Members<'a>, NoMemory>
         ensures all { IfOk result (λ v. v.all.items ≡ self.entry.all.items ++ member ∷ []) }
-        ensures names { IfOk result (λ v. (other : List ℕ) → has_name v other ≡ (bytes_eq text.entry.now other || has_name self.entry other)) }
+        ensures names { IfOk result (λ v. (other : List ℕ) →
+            has_name v other ≡ (bytes_eq text.entry.now other || has_name self.entry other)) }
     {
         let mut longer = self;
         longer.names.insert(text, ())?;
@@ -75,7 +77,8 @@ pub(crate) fn text_of<'a>(file: &'a [u8], span: Span) -> &'a [u8]
 fn lacks(nodes: &Nodes<'_>, t: u32) -> bool
     requires whole { IsWhole nodes.now }
     requires there { t < type_count nodes.now }
-    ensures { (s : State) → Stands nodes.now.scopes nodes.now.p s → result ≡ not (is_function (type_in nodes.now t) || is_complete s (type_in nodes.now t)) }
+    ensures { (s : State) → Stands nodes.now.scopes nodes.now.p s →
+        result ≡ not (is_function (type_in nodes.now t) || is_complete s (type_in nodes.now t)) }
 {
     !either(nodes.is_function(t), is_complete(nodes, t))
 }
@@ -92,7 +95,10 @@ fn named_member<'a>(
     requires there { of < type_count work.old.nodes }
     requires parts { All (WrapIsThere work.old.nodes) wraps.now }
     requires members { AllMembersThere work.old members }
-    ensures { (ws : List MeantWrap) (ms : List Part) → AreWraps any_scope work.old (reverse wraps.now) ws → AreMembers work.old members.entry.all.items ms → Answers quietly work.old work.new (named_member (type_in work.old.nodes of) ws (token_of work.old name) ms) AllMembersThere AreAllMembers result }
+    ensures { (ws : List MeantWrap) (ms : List Part) → AreWraps any_scope work.old (reverse wraps.now) ws →
+        AreMembers work.old members.entry.all.items ms →
+        Answers quietly work.old work.new (named_member (type_in work.old.nodes of) ws (token_of work.old name) ms)
+        AllMembersThere AreAllMembers result }
 {
     let text = text_of(work.file, name.span);
     if members.has(text) {
@@ -114,8 +120,8 @@ fn named_member<'a>(
     }
 }
 
-/// A member behind those that stand before it: 131 for a second one of its name, and then the rules on its type, which is complete and no
-/// function's (132, 133, 140).
+/// A member behind those that stand before it: 131 for a second one of its name, and then the rules on its type, which
+/// is complete and no function's (132, 133, 140).
 pub fn add_member<'a>(
     work: &mut Work<'a>,
     s: Specified,
@@ -126,7 +132,10 @@ pub fn add_member<'a>(
     requires specified { SpecifiedThere work.old s }
     requires parts { DerivedThere work.old d.now }
     requires members { AllMembersThere work.old members }
-    ensures { (x : MeantSpecified) (y : MeantDerived) (ms : List Part) → IsSpecified work.old s x → IsDerived any_scope work.old d.now y → AreMembers work.old members.entry.all.items ms → Answers quietly work.old work.new (add_member x x.stored y.name y.wraps ms) AllMembersThere AreAllMembers result }
+    ensures { (x : MeantSpecified) (y : MeantDerived) (ms : List Part) → IsSpecified work.old s x →
+        IsDerived any_scope work.old d.now y → AreMembers work.old members.entry.all.items ms →
+        Answers quietly work.old work.new (add_member x x.stored y.name y.wraps ms) AllMembersThere AreAllMembers
+        result }
 {
     match d.name {
         None => Err(Refusal::Code(120, s.first)),

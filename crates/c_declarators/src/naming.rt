@@ -52,7 +52,8 @@ pub fn typedef_name(work: &Work<'_>, name: Name) -> Result<u32, Refusal>
 
 // Whether a number is one of `int`.
 fn in_int(number: i128) -> Option<i32>
-    ensures { MatchOption result (in_int number ≡ false) (λ n. (in_int number ≡ true) × (n ≡ number) × FitsSigned w32 n) }
+    ensures { MatchOption result (in_int number ≡ false)
+        (λ n. (in_int number ≡ true) × (n ≡ number) × FitsSigned w32 n) }
 {
     if number < -2147483648 {
         return None;
@@ -89,11 +90,12 @@ fn next_after(value: i32) -> i128
     i128::from(value) + 1
 }
 
-/// An enumeration constant has its value from here on: 131 for a second one of its name in the scope, and 134 at the place for a value that
-/// is none of `int`. The answer is the value that the next one has without an expression.
+/// An enumeration constant has its value from here on: 131 for a second one of its name in the scope, and 134 at the
+/// place for a value that is none of `int`. The answer is the value that the next one has without an expression.
 pub fn enumerate(work: &mut Work<'_>, name: Name, number: i128, at: Pos) -> Result<i128, Refusal>
     requires { IsWhole work.old.nodes }
-    ensures { Answers quietly work.old work.new (enumerate (token_of work.old name) number at) NumberThere (in_any IsNumber) result }
+    ensures { Answers quietly work.old work.new (enumerate (token_of work.old name) number at) NumberThere
+        (in_any IsNumber) result }
 {
     if !is_new(work, name) {
         return Err(Refusal::Code(131, name.pos));

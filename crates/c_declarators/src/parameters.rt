@@ -10,7 +10,8 @@ ghost use Rattle.c_work.specs.declared.work.Work.{Work as Built};
 ghost use Rattle.c_work.specs.Work.{Shows};
 ghost use Rattle.c_work.specs.Answers.{Answers, quietly};
 ghost use Rattle.c_work.specs.Parts.{token_of};
-ghost use Rattle.c_declarators.specs.Parts.{SpecifiedThere, IsSpecified, DerivedThere, IsDerived, any_scope, name_token, ParamThere, IsParam, in_any};
+ghost use Rattle.c_declarators.specs.Parts.{SpecifiedThere, IsSpecified, DerivedThere, IsDerived, any_scope};
+ghost use Rattle.c_declarators.specs.Parts.{name_token, ParamThere, IsParam, in_any};
 ghost use Rattle.c_declarators.specs.Steps.{has_no_parts};
 
 use crate::forming::{adjusted, form};
@@ -66,8 +67,8 @@ fn place_of(name: Option<Name>, first: Name) -> Name
     }
 }
 
-/// A parameter, which begins at this token: 131 for a second one of its name, and then the rules on its type (132, 133, 140), which is
-/// adjusted. `only` says that it is the only one.
+/// A parameter, which begins at this token: 131 for a second one of its name, and then the rules on its type (132, 133,
+/// 140), which is adjusted. `only` says that it is the only one.
 pub fn parameter_from(
     work: &mut Work<'_>,
     only: bool,
@@ -78,7 +79,10 @@ pub fn parameter_from(
     requires whole { IsWhole work.old.nodes }
     requires specified { SpecifiedThere work.old s }
     requires parts { DerivedThere work.old d.now }
-    ensures { (x : MeantSpecified) (y : MeantDerived) → IsSpecified work.old s x → IsDerived any_scope work.old d.now y → Answers quietly work.old work.new (parameter_from only x (token_of work.old first) y) ParamThere (in_any IsParam) result }
+    ensures { (x : MeantSpecified) (y : MeantDerived) → IsSpecified work.old s x →
+        IsDerived any_scope work.old d.now y →
+        Answers quietly work.old work.new (parameter_from only x (token_of work.old first) y) ParamThere
+        (in_any IsParam) result }
 {
     let at = place_of(d.name, first);
     if !is_free(work, d.name) {

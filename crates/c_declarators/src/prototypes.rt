@@ -25,7 +25,8 @@ pub fn enter(work: &mut Work<'_>) -> Result<(), Refusal>
 pub fn bind_parameter(work: &mut Work<'_>, k: u32, p: Param) -> Result<(), Refusal>
     requires whole { IsWhole work.old.nodes }
     requires there { ParamThere work.old p }
-    ensures { Answers quietly work.old work.new (change (bind_parameter k (param_in work.old p))) NothingThere IsNothing result }
+    ensures { Answers quietly work.old work.new
+        (change (bind_parameter k (param_in work.old p))) NothingThere IsNothing result }
 {
     match p.name {
         None => Ok(()),

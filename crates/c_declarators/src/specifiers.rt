@@ -51,7 +51,8 @@ fn word_number(nodes: &mut Nodes<'_>, words: Words) -> Result<Option<u32>, NoMem
 fn type_of(nodes: &mut Nodes<'_>, words: Words, named: &[u32]) -> Result<Option<u32>, NoMemory>
     requires whole { IsWhole nodes.old }
     requires there { All (λ k. k < type_count nodes.old) named.now }
-    ensures { IfOk result (λ k. HasMaybe nodes.old nodes.new k (specified_type words (map (type_in nodes.old) named.now))) }
+    ensures { IfOk result (λ k. HasMaybe nodes.old nodes.new k
+        (specified_type words (map (type_in nodes.old) named.now))) }
 {
     match named {
         [] => word_number(nodes, words),
@@ -87,7 +88,9 @@ fn specified_by(
 ) -> Result<Specified, Refusal>
     requires whole { IsWhole work.old.nodes }
     requires there { All (λ k. k < type_count work.old.nodes) named.now }
-    ensures { (t : Lexeme) → t.pos ≡ first → Answers quietly work.old work.new (specified_by words t (map (type_in work.old.nodes) named.now)) SpecifiedThere (in_any IsSpecified) result }
+    ensures { (t : Lexeme) → t.pos ≡ first →
+        Answers quietly work.old work.new (specified_by words t (map (type_in work.old.nodes) named.now))
+        SpecifiedThere (in_any IsSpecified) result }
 {
     if words.storage_words() > 1 {
         return Err(Refusal::Code(133, first));
@@ -106,8 +109,9 @@ fn specified_by(
     }
 }
 
-/// Specifiers, whose first byte stands at the place, and the types of the typedef names, structs, unions and enumerations among them in
-/// their order. 133 for two words for storage, and where they are no type (C11 6.7.1p2, 6.7.2p2).
+/// Specifiers, whose first byte stands at the place, and the types of the typedef names, structs, unions and
+/// enumerations among them in their order. 133 for two words for storage, and where they are no type (C11 6.7.1p2,
+/// 6.7.2p2).
 pub fn specified(
     work: &mut Work<'_>,
     first: Pos,
@@ -116,7 +120,9 @@ pub fn specified(
 ) -> Result<Specified, Refusal>
     requires whole { IsWhole work.old.nodes }
     requires there { All (λ k. k < type_count work.old.nodes) named.now }
-    ensures { (t : Lexeme) (xs : Syns) → t.pos ≡ first → StandAt work.old.tree.now.nodes parts.now xs → Answers quietly work.old work.new (specified t xs (map (type_in work.old.nodes) named.now)) SpecifiedThere (in_any IsSpecified) result }
+    ensures { (t : Lexeme) (xs : Syns) → t.pos ≡ first → StandAt work.old.tree.now.nodes parts.now xs →
+        Answers quietly work.old work.new (specified t xs (map (type_in work.old.nodes) named.now)) SpecifiedThere
+        (in_any IsSpecified) result }
 {
     let words = Words::of(work.tree, parts)?;
     specified_by(work, first, words, named)

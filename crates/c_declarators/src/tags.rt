@@ -26,7 +26,8 @@ use ck_base::{NoMemory, Pos, Refusal};
 // A new struct or union, in what is declared.
 fn add_tag(nodes: &mut Nodes<'_>, kind: RecordKind) -> Result<u32, NoMemory>
     ensures declared { IsDeclared nodes.old nodes.new }
-    ensures is { IfOk result (λ n. Does nodes.old.scopes nodes.old.p nodes.new.scopes nodes.new.p (new_tag kind) (λ s m. m ≡ n)) }
+    ensures is { IfOk result (λ n. Does nodes.old.scopes nodes.old.p nodes.new.scopes nodes.new.p (new_tag kind)
+        (λ s m. m ≡ n)) }
 {
     nodes.scopes.new_tag(&mut nodes.p, kind)
 }
@@ -34,7 +35,8 @@ fn add_tag(nodes: &mut Nodes<'_>, kind: RecordKind) -> Result<u32, NoMemory>
 // A tag is declared in the innermost scope.
 fn bind_tag(nodes: &mut Nodes<'_>, kind: TagKind, d: Decl) -> Result<Entry, Refusal>
     ensures declared { IsDeclared nodes.old nodes.new }
-    ensures is { Declared nodes.old.scopes nodes.old.p nodes.new.scopes nodes.new.p (declares_tag kind (name_of nodes.old.scopes.file.now d) d.defines) (IsTag nodes.new.p) result }
+    ensures is { Declared nodes.old.scopes nodes.old.p nodes.new.scopes nodes.new.p
+        (declares_tag kind (name_of nodes.old.scopes.file.now d) d.defines) (IsTag nodes.new.p) result }
 {
     nodes.scopes.declare_tag(&mut nodes.p, kind, d)
 }
@@ -42,7 +44,8 @@ fn bind_tag(nodes: &mut Nodes<'_>, kind: TagKind, d: Decl) -> Result<Entry, Refu
 // A struct or union gets its members, in what is declared.
 fn fill_tag(nodes: &mut Nodes<'_>, tag: u32, members: Vec<Member>, pos: Pos) -> Result<(), Refusal>
     ensures declared { IsDeclared nodes.old nodes.new }
-    ensures is { (kind : RecordKind) (parts : List Part) → HasParts (types_of nodes.old.p.types) parts members.items → Completes nodes.old.scopes nodes.old.p nodes.new.scopes nodes.new.p kind tag parts pos result }
+    ensures is { (kind : RecordKind) (parts : List Part) → HasParts (types_of nodes.old.p.types) parts members.items →
+        Completes nodes.old.scopes nodes.old.p nodes.new.scopes nodes.new.p kind tag parts pos result }
 {
     nodes.scopes.complete_tag(&mut nodes.p, tag, members, pos)
 }
@@ -58,7 +61,8 @@ pub fn new_tag(work: &mut Work<'_>, kind: RecordKind) -> Result<u32, Refusal>
 
 // What a tag denotes, in this scope or in force.
 fn found_tag(work: &Work<'_>, here: bool, name: Name) -> Option<Tagging>
-    ensures { (s : State) → Shows work.now s → option_map tagging_of result ≡ tag_there here (token_of work.now name) s }
+    ensures { (s : State) → Shows work.now s →
+        option_map tagging_of result ≡ tag_there here (token_of work.now name) s }
 {
     let text = work.text(name.span);
     if here {
@@ -101,8 +105,10 @@ fn tag_of(name: Name, kind: TagKind, defines: bool) -> Decl
 // A new struct or union with a tag that this scope does not have yet.
 fn declare_tag(work: &mut Work<'_>, kind: RecordKind, name: Name) -> Result<u32, Refusal>
     requires whole { IsWhole work.old.nodes }
-    requires new { (s : State) → Shows work.old s → find_in (innermost s.scopes).tags (token_of work.old name).text ≡ None }
-    ensures { Answers quietly work.old work.new (declare_tag kind (token_of work.old name)) CountThere (in_any IsCount) result }
+    requires new { (s : State) → Shows work.old s →
+        find_in (innermost s.scopes).tags (token_of work.old name).text ≡ None }
+    ensures { Answers quietly work.old work.new (declare_tag kind (token_of work.old name)) CountThere
+        (in_any IsCount) result }
 {
     let Ok(tag) = u32::try_from(work.nodes.scopes.tag_count()) else {
         return Err(Refusal::NoMemory);
@@ -123,7 +129,8 @@ pub fn named_tag(
     name: Name,
 ) -> Result<u32, Refusal>
     requires { IsWhole work.old.nodes }
-    ensures { Answers quietly work.old work.new (named_tag here kind (token_of work.old name)) CountThere (in_any IsCount) result }
+    ensures { Answers quietly work.old work.new (named_tag here kind (token_of work.old name)) CountThere
+        (in_any IsCount) result }
 {
     match found_tag(work, here, name) {
         None => declare_tag(work, kind, name),
@@ -156,7 +163,8 @@ pub fn complete_tag(
 ) -> Result<(), Refusal>
     requires whole { IsWhole work.old.nodes }
     requires members { MembersThere work.old members.items }
-    ensures { (ms : List Part) → AreMembers work.old members.items ms → Answers quietly work.old work.new (complete_tag kind tag ms pos) NothingThere IsNothing result }
+    ensures { (ms : List Part) → AreMembers work.old members.items ms →
+        Answers quietly work.old work.new (complete_tag kind tag ms pos) NothingThere IsNothing result }
 {
     if !work.nodes.scopes.is_of_kind(tag, kind) {
         return Err(Refusal::NoMemory);
@@ -198,10 +206,12 @@ pub fn tagged(work: &Work<'_>, tag: u32) -> Result<u32, Refusal>
     }
 }
 
-/// The tag of an enumeration with a list, which is new in its scope: otherwise 131, and 133 for the tag of a struct or union.
+/// The tag of an enumeration with a list, which is new in its scope: otherwise 131, and 133 for the tag of a struct or
+/// union.
 pub fn new_enumeration(work: &mut Work<'_>, name: Name) -> Result<(), Refusal>
     requires { IsWhole work.old.nodes }
-    ensures { Answers quietly work.old work.new (new_enumeration_of (token_of work.old name)) NothingThere IsNothing result }
+    ensures { Answers quietly work.old work.new
+        (new_enumeration_of (token_of work.old name)) NothingThere IsNothing result }
 {
     let d = tag_of(name, TagKind::Enum, true);
     match bind_tag(&mut work.nodes, TagKind::Enum, d) {
@@ -210,10 +220,12 @@ pub fn new_enumeration(work: &mut Work<'_>, name: Name) -> Result<(), Refusal>
     }
 }
 
-/// The tag of an enumeration without a list, which is in force: otherwise 132, and 133 for the tag of a struct or union.
+/// The tag of an enumeration without a list, which is in force: otherwise 132, and 133 for the tag of a struct or
+/// union.
 pub fn named_enumeration(work: &Work<'_>, name: Name) -> Result<(), Refusal>
     requires { IsWhole work.now.nodes }
-    ensures { Answers quietly work.now work.now (named_enumeration_of (token_of work.now name)) NothingThere IsNothing result }
+    ensures { Answers quietly work.now work.now
+        (named_enumeration_of (token_of work.now name)) NothingThere IsNothing result }
 {
     match found_tag(work, false, name) {
         None => Err(Refusal::Code(132, name.pos)),

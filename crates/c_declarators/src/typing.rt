@@ -19,7 +19,9 @@ pub fn formed(work: &mut Work<'_>, of: u32, wraps: &[Wrap<'_>]) -> Result<Formed
     requires whole { IsWhole work.old.nodes }
     requires there { of < type_count work.old.nodes }
     requires parts { All (WrapIsThere work.old.nodes) wraps.now }
-    ensures { (ws : List Meant) → AreWraps any_scope work.old (reverse wraps.now) ws → Answers quietly work.old work.new (forms (type_in work.old.nodes of) ws) FormedThere (in_any IsFormed) result }
+    ensures { (ws : List Meant) → AreWraps any_scope work.old (reverse wraps.now) ws →
+        Answers quietly work.old work.new (forms (type_in work.old.nodes of) ws) FormedThere
+        (in_any IsFormed) result }
 {
     Ok(form(&mut work.nodes, of, wraps)?)
 }
@@ -34,7 +36,8 @@ pub fn named_type(
     requires whole { IsWhole work.old.nodes }
     requires there { of < type_count work.old.nodes }
     requires parts { All (WrapIsThere work.old.nodes) wraps.now }
-    ensures { (ws : List Meant) → AreWraps any_scope work.old (reverse wraps.now) ws → Answers quietly work.old work.new (named_type (type_in work.old.nodes of) ws pos) TypeThere IsType result }
+    ensures { (ws : List Meant) → AreWraps any_scope work.old (reverse wraps.now) ws →
+        Answers quietly work.old work.new (named_type (type_in work.old.nodes of) ws pos) TypeThere IsType result }
 {
     let formed = form(&mut work.nodes, of, wraps)?;
     match judge(formed.faults, false, false, pos) {

@@ -6,7 +6,8 @@ ghost use Rattle.c_tree.specs.Declarators.{has_register, parts_const};
 ghost use Rattle.c_tree.specs.Syntax.{Syns, StandAt};
 ghost use Rattle.c_tree.specs.Types.{Ty};
 ghost use Rattle.c_tree.specs.Views.{type_from};
-ghost use Rattle.c_declarators.specs.Words.{FirstHas, is_of, times_at, words_of, type_words, storage_words, sign_words, is_alone, is_made_of, signs, sized_type, word_type};
+ghost use Rattle.c_declarators.specs.Words.{FirstHas, is_of, times_at, words_of, type_words, storage_words, sign_words};
+ghost use Rattle.c_declarators.specs.Words.{is_alone, is_made_of, signs, sized_type, word_type};
 
 use c_tree::{CType, NodeKind, SpecifierWord, Tree};
 use ck_base::NoMemory;
@@ -211,7 +212,8 @@ impl Words {
 
     // The type with a sign or the one without.
     fn signs(self, signed: CType, unsigned: CType) -> Option<CType>
-        ensures { (go : ℕ → Ty) → option_map (λ c. type_from c go) result ≡ signs self (type_from signed go) (type_from unsigned go) }
+        ensures { (go : ℕ → Ty) →
+            option_map (λ c. type_from c go) result ≡ signs self (type_from signed go) (type_from unsigned go) }
     {
         if self.sign_words() > 1 {
             return None;

@@ -13,7 +13,8 @@ use Rattle.c_tree.specs.Typing.{AreBytes, bytes_at, IsSpelled, AreSpelled, Reads
 use Rattle.c_elab.proofs.Written.{IsFrom, AreFrom, file_read, all_known}
 
 -- each token that was read is a token of the file
-token_of : (file : List ℕ) (i : ℕ) (tokens : List Lexeme) (k : ℕ) → lexing.Reads file i tokens k → (j : ℕ) (t : Lexeme) → slice_get tokens j ≡ Some t → IsTokenOf file t
+token_of : (file : List ℕ) (i : ℕ) (tokens : List Lexeme) (k : ℕ) → lexing.Reads file i tokens k →
+    (j : ℕ) (t : Lexeme) → slice_get tokens j ≡ Some t → IsTokenOf file t
 token_of file i [] k r j t e = absurd cc
 token_of file i (u ∷ us) k r zero t e = subst (IsTokenOf file) (same_Some u t e) r.0.1
 token_of file i (u ∷ us) k r (suc j) t e = token_of file u.span.end us k r.1 j t e
@@ -32,15 +33,18 @@ module _ (bytes : List ℕ) where
     all_spelled nil h = tt
     all_spelled (more x xs) h = (spelled x h.0, all_spelled xs h.1)
 
-pub reads_of : (bytes : List ℕ) (tree : Tree) (tokens : List Lexeme) (x : Syn) → AreBytes bytes → IsCut bytes tokens → DerivesFile tokens x → StandsAt tree.nodes tree.root x → Reads tree bytes x
+pub reads_of : (bytes : List ℕ) (tree : Tree) (tokens : List Lexeme) (x : Syn) → AreBytes bytes → IsCut bytes tokens →
+    DerivesFile tokens x → StandsAt tree.nodes tree.root x → Reads tree bytes x
 reads_of bytes tree tokens x b c d s =
-    let is : (j : ℕ) (t : Lexeme) → slice_get tokens j ≡ Some t → IsTokenOf bytes t = token_of bytes 0 tokens c.lexes.0 c.lexes.1 in
+    let is : (j : ℕ) (t : Lexeme) → slice_get tokens j ≡ Some t → IsTokenOf bytes t =
+    token_of bytes 0 tokens c.lexes.0 c.lexes.1 in
     let accepted : (j : ℕ) (t : Lexeme) → slice_get tokens j ≡ Some t → IsAccepted t.kind t.text = λ j t e.
     let o = is j t e in subst (IsAccepted t.kind) (sym o.text) o.begins.accepted in
     record {
       small = b;
       stands = s;
-      spelled = spelled bytes x (file_read (Stands bytes) d (all_known (Stands bytes) tokens (λ j t e. (accepted j t e, (is j t e).text))) refl);
+      spelled = spelled bytes x (file_read (Stands bytes) d
+          (all_known (Stands bytes) tokens (λ j t e. (accepted j t e, (is j t e).text))) refl);
       tokens = tokens;
       derives = d;
       accepted = accepted;

@@ -8,7 +8,8 @@ use Rattle.c_declarators.specs.declared.parts.Wrap.{Wrap}
 use Rattle.c_declarators.specs.declared.parts.Wrap.TheVariants.{Point, Row, Gives}
 use Rattle.c_declarators.specs.Parts.{IsWrap, AreWraps}
 
-wrap_weaker : (R S : Scope → meant_scopes.Scope → Type 0) (w : Work) (a : Wrap) (b : meant.Wrap) → ((c : Scope) (m : meant_scopes.Scope) → R c m → S c m) → IsWrap R w a b → IsWrap S w a b
+wrap_weaker : (R S : Scope → meant_scopes.Scope → Type 0) (w : Work) (a : Wrap) (b : meant.Wrap) →
+    ((c : Scope) (m : meant_scopes.Scope) → R c m → S c m) → IsWrap R w a b → IsWrap S w a b
 wrap_weaker R S w (Point q) (meant.Point r) f h = h
 wrap_weaker R S w (Row n) (meant.Row m) f h = h
 wrap_weaker R S w (Gives p) (meant.Gives x) f h = record { params = h.params; scope = f p.scope x.scope h.scope }
@@ -19,7 +20,8 @@ wrap_weaker R S w (Row n) (meant.Gives x) f h = absurd h
 wrap_weaker R S w (Gives p) (meant.Point r) f h = absurd h
 wrap_weaker R S w (Gives p) (meant.Row m) f h = absurd h
 
-pub wraps_weaker : (R S : Scope → meant_scopes.Scope → Type 0) (w : Work) (xs : List Wrap) (ys : List meant.Wrap) → ((c : Scope) (m : meant_scopes.Scope) → R c m → S c m) → AreWraps R w xs ys → AreWraps S w xs ys
+pub wraps_weaker : (R S : Scope → meant_scopes.Scope → Type 0) (w : Work) (xs : List Wrap) (ys : List meant.Wrap) →
+    ((c : Scope) (m : meant_scopes.Scope) → R c m → S c m) → AreWraps R w xs ys → AreWraps S w xs ys
 wraps_weaker R S w [] [] f h = tt
 wraps_weaker R S w [] (y ∷ ys) f h = absurd h
 wraps_weaker R S w (x ∷ xs) [] f h = absurd h

@@ -1,5 +1,5 @@
--- The tokens of a tree that is read from accepted tokens: names are words, literals are written as such, and each token is one of those
--- that were read (C11 6.4, 6.5 to 6.9).
+-- The tokens of a tree that is read from accepted tokens: names are words, literals are written as such, and each token
+-- is one of those that were read (C11 6.4, 6.5 to 6.9).
 use Rattle.std.proofs.Common.{◌≡◌, ℕ, suc, Bool, true, false, not, List, [], ◌∷◌, ◌++◌, Some, refl, sym, ap, subst, ◌∙◌}
 use Rattle.std.specs.Prelude.{if◌then◌else◌, slice_get, bytes_eq}
 use Rattle.std.specs.List.{list_all}
@@ -13,10 +13,13 @@ use Rattle.c_tree.specs.declared.syntax.Symbol.{Symbol}
 use Rattle.c_tree.specs.declared.syntax.Symbol.TheVariants as Symbols
 use Rattle.c_tree.specs.declared.syntax.Head.{Head}
 use Rattle.c_tree.specs.declared.syntax.Head.TheVariants as Heads
-use Rattle.c_tree.specs.Syntax.{Syn, Syns, node, nil, more, one, joined, own_token, first_token, first_of_parts, first_unless_last}
+use Rattle.c_tree.specs.Syntax.{Syn, Syns, node, nil, more, one, joined, own_token, first_token, first_of_parts}
+use Rattle.c_tree.specs.Syntax.{first_unless_last}
 use Rattle.c_tree.specs.Symbols.{look_up, keyword_symbols, punctuator_symbols, symbol_of, symbol, head_of}
 use Rattle.c_tree.specs.Grammar
-use Rattle.c_tree.specs.Grammar.{Naming, Tags, Goal, Derives, Declares, Repeated, Separated, Listed, Initializes, Initialized, Declaration, Optional, States, Items, Externals, is_word, is_typedef_name, is_declared_by}
+use Rattle.c_tree.specs.Grammar.{Naming, Tags, Goal, Derives, Declares, Repeated, Separated, Listed, Initializes}
+use Rattle.c_tree.specs.Grammar.{Initialized, Declaration, Optional, States, Items, Externals, is_word, is_typedef_name}
+use Rattle.c_tree.specs.Grammar.{is_declared_by}
 use Rattle.c_tree.specs.Parses
 use Rattle.c_tree.specs.Parses.{DerivesFile, file_start}
 use Rattle.c_work.specs.Parts.{TokenFits, IsWritten, AreWritten}
@@ -27,11 +30,14 @@ chosen : {X : Type 0} (P : X → Type 0) (b : Bool) (x y : X) → P x → P y �
 chosen P true x y f g = f
 chosen P false x y f g = g
 
-looked_up : (test : Symbol → Bool) → test Symbols.Other ≡ false → (table : List (List ℕ × Symbol)) → list_all (λ (e : List ℕ × Symbol). not (test e.1)) table ≡ true → (text : List ℕ) → test (look_up table text) ≡ false
+looked_up : (test : Symbol → Bool) → test Symbols.Other ≡ false → (table : List (List ℕ × Symbol)) →
+    list_all (λ (e : List ℕ × Symbol). not (test e.1)) table ≡ true → (text : List ℕ) →
+    test (look_up table text) ≡ false
 looked_up test other [] all text = other
 looked_up test other (e ∷ table) all text =
     let p = and_parts (not (test e.1)) (list_all (λ (e : List ℕ × Symbol). not (test e.1)) table) all in
-    chosen (λ s. test s ≡ false) (bytes_eq e.0 text) e.1 (look_up table text) (negated (test e.1) p.0) (looked_up test other table p.1 text)
+    chosen (λ s. test s ≡ false) (bytes_eq e.0 text) e.1 (look_up table text) (negated (test e.1) p.0)
+    (looked_up test other table p.1 text)
   where
     negated : (b : Bool) → not b ≡ true → b ≡ false
     negated true h = absurd (false≢true h)
@@ -46,9 +52,12 @@ pub record NoWord (test : Symbol → Bool) : Type 0 where
 
 wordless : (test : Symbol → Bool) → NoWord test → (text : List ℕ) → test (symbol_of Tokens.Word text) ≡ false
 unfolding symbol_of
-wordless test n text = chosen (λ s. test s ≡ false) (is_among keywords text) (look_up keyword_symbols text) Symbols.Word (looked_up test n.other keyword_symbols n.words text) n.word
+wordless test n text = chosen (λ s. test s ≡ false) (is_among keywords text) (look_up keyword_symbols text) Symbols.Word
+    (looked_up test n.other keyword_symbols n.words text) n.word
 
-pointless : (test : Symbol → Bool) → test Symbols.Other ≡ false → list_all (λ (e : List ℕ × Symbol). not (test e.1)) punctuator_symbols ≡ true → (text : List ℕ) → test (symbol_of Tokens.Punct text) ≡ false
+pointless : (test : Symbol → Bool) → test Symbols.Other ≡ false →
+    list_all (λ (e : List ℕ × Symbol). not (test e.1)) punctuator_symbols ≡ true → (text : List ℕ) →
+    test (symbol_of Tokens.Punct text) ≡ false
 unfolding symbol_of
 pointless test other all text = looked_up test other punctuator_symbols all text
 
@@ -88,29 +97,35 @@ no_wordy_punctuator : list_all (λ (e : List ℕ × Symbol). not (is_wordy e.1))
 unfolding punctuator_symbols is_wordy
 no_wordy_punctuator = refl
 
-number_token : (k : TokenKind) (text : List ℕ) → is_number (symbol_of k text) ≡ true → IsAccepted k text → IsAccepted Tokens.Number text
+number_token : (k : TokenKind) (text : List ℕ) → is_number (symbol_of k text) ≡ true → IsAccepted k text →
+    IsAccepted Tokens.Number text
 unfolding symbol_of is_number
 number_token Tokens.Word text e h = absurd (false≢true (sym (wordless is_number no_number text) ∙ e))
 number_token Tokens.Number text e h = h
 number_token Tokens.Char text e h = absurd (false≢true e)
 number_token Tokens.Text text e h = absurd (false≢true e)
-number_token Tokens.Punct text e h = absurd (false≢true (sym (pointless is_number no_number.other no_number.punctuators text) ∙ e))
+number_token Tokens.Punct text e h =
+    absurd (false≢true (sym (pointless is_number no_number.other no_number.punctuators text) ∙ e))
 
-character_token : (k : TokenKind) (text : List ℕ) → is_character (symbol_of k text) ≡ true → IsAccepted k text → IsAccepted Tokens.Char text
+character_token : (k : TokenKind) (text : List ℕ) → is_character (symbol_of k text) ≡ true → IsAccepted k text →
+    IsAccepted Tokens.Char text
 unfolding symbol_of is_character
 character_token Tokens.Word text e h = absurd (false≢true (sym (wordless is_character no_character text) ∙ e))
 character_token Tokens.Number text e h = absurd (false≢true e)
 character_token Tokens.Char text e h = h
 character_token Tokens.Text text e h = absurd (false≢true e)
-character_token Tokens.Punct text e h = absurd (false≢true (sym (pointless is_character no_character.other no_character.punctuators text) ∙ e))
+character_token Tokens.Punct text e h =
+    absurd (false≢true (sym (pointless is_character no_character.other no_character.punctuators text) ∙ e))
 
-text_token : (k : TokenKind) (text : List ℕ) → is_text (symbol_of k text) ≡ true → IsAccepted k text → IsAccepted Tokens.Text text
+text_token : (k : TokenKind) (text : List ℕ) → is_text (symbol_of k text) ≡ true → IsAccepted k text →
+    IsAccepted Tokens.Text text
 unfolding symbol_of is_text
 text_token Tokens.Word text e h = absurd (false≢true (sym (wordless is_text no_text text) ∙ e))
 text_token Tokens.Number text e h = absurd (false≢true e)
 text_token Tokens.Char text e h = absurd (false≢true e)
 text_token Tokens.Text text e h = h
-text_token Tokens.Punct text e h = absurd (false≢true (sym (pointless is_text no_text.other no_text.punctuators text) ∙ e))
+text_token Tokens.Punct text e h =
+    absurd (false≢true (sym (pointless is_text no_text.other no_text.punctuators text) ∙ e))
 
 word_token : (k : TokenKind) (text : List ℕ) → is_wordy (symbol_of k text) ≡ true → k ≡ Tokens.Word
 unfolding symbol_of is_wordy
@@ -180,13 +195,17 @@ is_a_word Symbols.Word e = refl
 is_a_word s e = absurd (false≢true e)
 
 typedef_wordy : (types : List (List ℕ)) (t : Lexeme) → is_typedef_name types t ≡ true → t.kind ≡ Tokens.Word
-typedef_wordy types t e = word_token t.kind t.text (is_a_word (symbol t) (and_parts (is_word (symbol t)) (is_among types t.text) e).0)
+typedef_wordy types t e =
+    word_token t.kind t.text (is_a_word (symbol t) (and_parts (is_word (symbol t)) (is_among types t.text) e).0)
 
-declared_wordy : (m : Naming) (types : List (List ℕ)) (t : Lexeme) → is_declared_by m types t ≡ true → t.kind ≡ Tokens.Word
-declared_wordy Grammar.Plain types t e = word_token t.kind t.text (is_a_word (symbol t) (and_parts (is_word (symbol t)) (not (is_typedef_name types t)) e).0)
+declared_wordy : (m : Naming) (types : List (List ℕ)) (t : Lexeme) → is_declared_by m types t ≡ true →
+    t.kind ≡ Tokens.Word
+declared_wordy Grammar.Plain types t e =
+    word_token t.kind t.text (is_a_word (symbol t) (and_parts (is_word (symbol t)) (not (is_typedef_name types t)) e).0)
 declared_wordy Grammar.Any types t e = word_token t.kind t.text (is_a_word (symbol t) e)
 declared_wordy Grammar.Nameless types t e = absurd (false≢true e)
-declared_wordy Grammar.Either types t e = word_token t.kind t.text (is_a_word (symbol t) (and_parts (is_word (symbol t)) (not (is_typedef_name types t)) e).0)
+declared_wordy Grammar.Either types t e =
+    word_token t.kind t.text (is_a_word (symbol t) (and_parts (is_word (symbol t)) (not (is_typedef_name types t)) e).0)
 
 wordy : (t : Lexeme) (s : Symbol) → is_wordy s ≡ true → symbol t ≡ s → t.kind ≡ Tokens.Word
 wordy t s w e = word_token t.kind t.text (ap is_wordy e ∙ w)
@@ -298,7 +317,8 @@ module _ (Is : Lexeme → Type 0) where
   tags_from (Grammar.tagged n e) h = (((wordy n Symbols.Word refl e, h.0.1), tt), tt)
 
   -- a specifier begins with a word
-  specifier_wordy : {types : List (List ℕ)} {a : List Lexeme} {x : Syn} → Derives types Grammar.Specifier a x → (own_token x).kind ≡ Tokens.Word
+  specifier_wordy : {types : List (List ℕ)} {a : List Lexeme} {x : Syn} → Derives types Grammar.Specifier a x →
+      (own_token x).kind ≡ Tokens.Word
   unfolding is_wordy
   specifier_wordy (Grammar.specifier_word {w = w} t e) = wordy t (Symbols.Specifier w) refl e
   specifier_wordy (Grammar.typedef_name t e) = typedef_wordy _ t e
@@ -307,10 +327,12 @@ module _ (Is : Lexeme → Type 0) where
   specifier_wordy (Grammar.enum_tag t n e f) = wordy t Symbols.Enum refl e
   specifier_wordy (Grammar.enum_list t o c n a z e tags f k ds w) = wordy t Symbols.Enum refl e
 
-  first_specifier_wordy : {types : List (List ℕ)} {a : List Lexeme} {x : Syn} {xs : Syns} → Repeated types Grammar.Specifier a (more x xs) → (own_token x).kind ≡ Tokens.Word
+  first_specifier_wordy : {types : List (List ℕ)} {a : List Lexeme} {x : Syn} {xs : Syns} →
+      Repeated types Grammar.Specifier a (more x xs) → (own_token x).kind ≡ Tokens.Word
   first_specifier_wordy (Grammar.repeated a b d ds) = specifier_wordy d
 
-  specifiers_wordy : {types : List (List ℕ)} {a : List Lexeme} {x : Syn} → Derives types Grammar.Specifiers a x → (own_token x).kind ≡ Tokens.Word
+  specifiers_wordy : {types : List (List ℕ)} {a : List Lexeme} {x : Syn} → Derives types Grammar.Specifiers a x →
+      (own_token x).kind ≡ Tokens.Word
   specifiers_wordy (Grammar.specifiers a ds e) = first_specifier_wordy ds
 
   mutual
@@ -318,10 +340,14 @@ module _ (Is : Lexeme → Type 0) where
 
     read : {types : List (List ℕ)} {g : Goal} {a : List Lexeme} {x : Syn} → Derives types g a x → AllKnown a → IsFrom x
     read (Grammar.name t l e f) h = ((word_token t.kind t.text (from_head Heads.Name (symbol t) e), h.0.1), tt)
-    read (Grammar.number t l e) h = ((number_token t.kind t.text (from_head Heads.Number (symbol t) e) h.0.0, h.0.1), tt)
-    read (Grammar.character t l e) h = ((character_token t.kind t.text (from_head Heads.Character (symbol t) e) h.0.0, h.0.1), tt)
-    read (Grammar.text t a l e ds) h = ((text_token t.kind t.text (from_head Heads.Text (symbol t) e) h.0.0, h.0.1), repeated_read ds h.1)
-    read (Grammar.piece t e) h = ((text_token t.kind t.text (from_head Heads.Text (symbol t) (ap head_of e)) h.0.0, h.0.1), tt)
+    read (Grammar.number t l e) h =
+        ((number_token t.kind t.text (from_head Heads.Number (symbol t) e) h.0.0, h.0.1), tt)
+    read (Grammar.character t l e) h =
+        ((character_token t.kind t.text (from_head Heads.Character (symbol t) e) h.0.0, h.0.1), tt)
+    read (Grammar.text t a l e ds) h =
+        ((text_token t.kind t.text (from_head Heads.Text (symbol t) e) h.0.0, h.0.1), repeated_read ds h.1)
+    read (Grammar.piece t e) h =
+        ((text_token t.kind t.text (from_head Heads.Text (symbol t) (ap head_of e)) h.0.0, h.0.1), tt)
     read (Grammar.parenthesized o c a l e f d) h = ((tt, h.0.1), (read d (split a (c ∷ []) h.1).0, tt))
     read (Grammar.index o c a b l e f d q) h =
         let p = split a (o ∷ (b ++ (c ∷ []))) h in
@@ -380,54 +406,72 @@ module _ (Is : Lexeme → Type 0) where
     read (Grammar.empty_braces o c e f) h = ((tt, h.0.1), tt)
     read (Grammar.braces o c a z e f ds w) h = ((tt, h.0.1), separated_read ds (split a (z ++ (c ∷ [])) h.1).0)
 
-    declares_read : {types : List (List ℕ)} {m : Naming} {starred : Bool} {a : List Lexeme} {xs : Syns} → Declares types m starred a xs → AllKnown a → AreFrom xs
+    declares_read : {types : List (List ℕ)} {m : Naming} {starred : Bool} {a : List Lexeme} {xs : Syns} →
+        Declares types m starred a xs → AllKnown a → AreFrom xs
     declares_read (Grammar.empty e) h = tt
     declares_read (Grammar.declared {m = m} n e) h = (((declared_wordy m _ n e, h.0.1), tt), tt)
     declares_read (Grammar.enclosed o c a e f d) h = (((tt, h.0.1), declares_read d (split a (c ∷ []) h.1).0), tt)
-    declares_read (Grammar.open_array o c a e f d) h = let p = split a (o ∷ (c ∷ [])) h in (((tt, p.1.0.1), declares_read d p.0), tt)
+    declares_read (Grammar.open_array o c a e f d) h =
+        let p = split a (o ∷ (c ∷ [])) h in (((tt, p.1.0.1), declares_read d p.0), tt)
     declares_read (Grammar.array o c a b {xs = xs} {y = y} e f d q) h =
         let p = split a (o ∷ (b ++ (c ∷ []))) h in
         (((tt, p.1.0.1), joined_from xs (one y) (declares_read d p.0) (read q (split b (c ∷ []) p.1.1).0, tt)), tt)
     declares_read (Grammar.function o c a b {xs = xs} {ys = ys} e f d ds) h =
-        let p = split a (o ∷ (b ++ (c ∷ []))) h in
-        (((tt, p.1.0.1), joined_from xs (one (node Kinds.Parameters o ys)) (declares_read d p.0) (((tt, p.1.0.1), listed_read ds (split b (c ∷ []) p.1.1).0), tt)), tt)
+        let p = split a (o ∷ (b ++ (c ∷ []))) h in (
+          (
+            (tt, p.1.0.1),
+            joined_from xs (one (node Kinds.Parameters o ys)) (declares_read d p.0)
+                (((tt, p.1.0.1), listed_read ds (split b (c ∷ []) p.1.1).0), tt),
+          ),
+          tt,
+        )
     declares_read (Grammar.pointer o a b e ds d) h =
         let p = split a b h.1 in
         (((tt, h.0.1), (((tt, h.0.1), repeated_read ds p.0), declares_read d p.1)), tt)
 
-    repeated_read : {types : List (List ℕ)} {g : Goal} {a : List Lexeme} {xs : Syns} → Repeated types g a xs → AllKnown a → AreFrom xs
+    repeated_read : {types : List (List ℕ)} {g : Goal} {a : List Lexeme} {xs : Syns} → Repeated types g a xs →
+        AllKnown a → AreFrom xs
     repeated_read Grammar.finished h = tt
     repeated_read (Grammar.repeated a b d ds) h = let p = split a b h in (read d p.0, repeated_read ds p.1)
 
-    separated_read : {types : List (List ℕ)} {g : Goal} {a : List Lexeme} {xs : Syns} → Separated types g a xs → AllKnown a → AreFrom xs
+    separated_read : {types : List (List ℕ)} {g : Goal} {a : List Lexeme} {xs : Syns} → Separated types g a xs →
+        AllKnown a → AreFrom xs
     separated_read (Grammar.last a d) h = (read d h, tt)
-    separated_read (Grammar.separated c a b e d ds) h = let p = split a (c ∷ b) h in (read d p.0, separated_read ds p.1.1)
+    separated_read (Grammar.separated c a b e d ds) h =
+        let p = split a (c ∷ b) h in (read d p.0, separated_read ds p.1.1)
 
-    listed_read : {types : List (List ℕ)} {g : Goal} {a : List Lexeme} {xs : Syns} → Listed types g a xs → AllKnown a → AreFrom xs
+    listed_read : {types : List (List ℕ)} {g : Goal} {a : List Lexeme} {xs : Syns} → Listed types g a xs → AllKnown a →
+        AreFrom xs
     listed_read Grammar.nothing h = tt
     listed_read (Grammar.listed a ds) h = separated_read ds h
 
   -- ---- declarations
 
-  initializes_read : {types : List (List ℕ)} {m : Naming} {defines : Bool} {a : List Lexeme} {x : Syn} → Initializes types m defines a x → AllKnown a → IsFrom x
+  initializes_read : {types : List (List ℕ)} {m : Naming} {defines : Bool} {a : List Lexeme} {x : Syn} →
+      Initializes types m defines a x → AllKnown a → IsFrom x
   initializes_read (Grammar.uninitialized a {x = x} d) h = let r = read d h in ((tt, first_is x r), (r, tt))
   initializes_read (Grammar.initialized o a b {x = x} e d q) h =
       let p = split a (o ∷ b) h in
       let r = read d p.0 in
       ((tt, first_is x r), (r, (read q p.1.1, tt)))
 
-  initialized_read : {m : Naming} {defines : Bool} {types : List (List ℕ)} {a : List Lexeme} {xs : Syns} → Initialized m defines types a xs → AllKnown a → AreFrom xs
+  initialized_read : {m : Naming} {defines : Bool} {types : List (List ℕ)} {a : List Lexeme} {xs : Syns} →
+      Initialized m defines types a xs → AllKnown a → AreFrom xs
   initialized_read (Grammar.last_one a d) h = (initializes_read d h, tt)
-  initialized_read (Grammar.one_more c a b e d ds) h = let p = split a (c ∷ b) h in (initializes_read d p.0, initialized_read ds p.1.1)
+  initialized_read (Grammar.one_more c a b e d ds) h =
+      let p = split a (c ∷ b) h in (initializes_read d p.0, initialized_read ds p.1.1)
 
-  declaration_read : {types : List (List ℕ)} {at_file_scope : Bool} {a : List Lexeme} {x : Syn} → Declaration types at_file_scope a x → AllKnown a → IsFrom x
-  declaration_read (Grammar.specifiers_only c a {s = s} e d) h = let r = read d (split a (c ∷ []) h).0 in ((tt, own_is s r), (r, tt))
+  declaration_read : {types : List (List ℕ)} {at_file_scope : Bool} {a : List Lexeme} {x : Syn} →
+      Declaration types at_file_scope a x → AllKnown a → IsFrom x
+  declaration_read (Grammar.specifiers_only c a {s = s} e d) h =
+      let r = read d (split a (c ∷ []) h).0 in ((tt, own_is s r), (r, tt))
   declaration_read (Grammar.declaration c a b {s = s} e d ds) h =
       let p = split a (b ++ (c ∷ [])) h in
       let r = read d p.0 in
       ((tt, own_is s r), (r, initialized_read ds (split b (c ∷ []) p.1).0))
 
-  optional_read : {types : List (List ℕ)} {before : Lexeme} {a : List Lexeme} {x : Syn} → Optional types before a x → AllKnown a → Is before → IsFrom x
+  optional_read : {types : List (List ℕ)} {before : Lexeme} {a : List Lexeme} {x : Syn} → Optional types before a x →
+      AllKnown a → Is before → IsFrom x
   optional_read Grammar.absent h i = ((tt, i), tt)
   optional_read (Grammar.present a d) h i = read d h
 
@@ -437,7 +481,8 @@ module _ (Is : Lexeme → Type 0) where
     states_read : {types : List (List ℕ)} {a : List Lexeme} {x : Syn} → States types a x → AllKnown a → IsFrom x
     states_read (Grammar.block o c a e f is) h = ((tt, h.0.1), items_read is (split a (c ∷ []) h.1).0)
     states_read (Grammar.empty_statement c e) h = ((tt, h.0.1), tt)
-    states_read (Grammar.expression_statement c a {x = x} e d) h = let r = read d (split a (c ∷ []) h).0 in ((tt, first_is x r), (r, tt))
+    states_read (Grammar.expression_statement c a {x = x} e d) h =
+        let r = read d (split a (c ∷ []) h).0 in ((tt, first_is x r), (r, tt))
     states_read (Grammar.if_statement t o c a b e f g d s) h =
         let p = split a (c ∷ b) h.1.1 in
         ((tt, h.0.1), (read d p.0, (states_read s p.1.1, tt)))
@@ -457,31 +502,46 @@ module _ (Is : Lexeme → Type 0) where
     states_read (Grammar.for_statement t o p q c a b d z e f g k l x y w s) h =
         let u = split a (p ∷ (b ++ (q ∷ (d ++ (c ∷ z))))) h.1.1 in
         let v = split b (q ∷ (d ++ (c ∷ z))) u.1.1 in
-        let r = split d (c ∷ z) v.1.1 in
-        ((tt, h.0.1), (optional_read x u.0 u.1.0.1, (optional_read y v.0 v.1.0.1, (optional_read w r.0 r.1.0.1, (states_read s r.1.1, tt)))))
+        let r = split d (c ∷ z) v.1.1 in (
+          (tt, h.0.1),
+          (
+            optional_read x u.0 u.1.0.1,
+            (optional_read y v.0 v.1.0.1, (optional_read w r.0 r.1.0.1, (states_read s r.1.1, tt))),
+          ),
+        )
     states_read (Grammar.for_declaration t o q c a b d z e f g k x y w s) h =
         let u = split a (b ++ (q ∷ (d ++ (c ∷ z)))) h.1.1 in
         let v = split b (q ∷ (d ++ (c ∷ z))) u.1 in
-        let r = split d (c ∷ z) v.1.1 in
-        ((tt, h.0.1), (declaration_read x u.0, (optional_read y v.0 v.1.0.1, (optional_read w r.0 r.1.0.1, (states_read s r.1.1, tt)))))
+        let r = split d (c ∷ z) v.1.1 in (
+          (tt, h.0.1),
+          (
+            declaration_read x u.0,
+            (optional_read y v.0 v.1.0.1, (optional_read w r.0 r.1.0.1, (states_read s r.1.1, tt))),
+          ),
+        )
     states_read (Grammar.break_statement t c e f) h = ((tt, h.0.1), tt)
     states_read (Grammar.continue_statement t c e f) h = ((tt, h.0.1), tt)
     states_read (Grammar.return_statement t c e f) h = ((tt, h.0.1), tt)
     states_read (Grammar.return_value t c a e f d) h = ((tt, h.0.1), (read d (split a (c ∷ []) h.1).0, tt))
 
-    items_read : {in_switch : Bool} {types : List (List ℕ)} {a : List Lexeme} {xs : Syns} → Items in_switch types a xs → AllKnown a → AreFrom xs
+    items_read : {in_switch : Bool} {types : List (List ℕ)} {a : List Lexeme} {xs : Syns} → Items in_switch types a xs →
+        AllKnown a → AreFrom xs
     items_read Grammar.no_item h = tt
-    items_read (Grammar.declaration_item a b d is) h = let p = split a b h in (declaration_read d p.0, items_read is p.1)
+    items_read (Grammar.declaration_item a b d is) h =
+        let p = split a b h in (declaration_read d p.0, items_read is p.1)
     items_read (Grammar.statement_item a b s is) h = let p = split a b h in (states_read s p.0, items_read is p.1)
-    items_read (Grammar.case_item t c a b e f d is) h = let p = split a (c ∷ b) h.1 in (((tt, h.0.1), (read d p.0, tt)), items_read is p.1.1)
+    items_read (Grammar.case_item t c a b e f d is) h =
+        let p = split a (c ∷ b) h.1 in (((tt, h.0.1), (read d p.0, tt)), items_read is p.1.1)
     items_read (Grammar.default_item t c b e f is) h = (((tt, h.0.1), tt), items_read is h.1.1)
 
   -- ---- files
 
-  externals_read : {types : List (List ℕ)} {a : List Lexeme} {xs : Syns} → Externals types a xs → AllKnown a → AreFrom xs
+  externals_read : {types : List (List ℕ)} {a : List Lexeme} {xs : Syns} → Externals types a xs → AllKnown a →
+      AreFrom xs
   externals_read Grammar.no_external h = tt
   externals_read (Grammar.empty_external c b e es) h = (((tt, h.0.1), tt), externals_read es h.1)
-  externals_read (Grammar.external_declaration a b d es) h = let p = split a b h in (declaration_read d p.0, externals_read es p.1)
+  externals_read (Grammar.external_declaration a b d es) h =
+      let p = split a b h in (declaration_read d p.0, externals_read es p.1)
   externals_read (Grammar.function_definition o c a b d z {s = s} e f k x is es) h =
       let u = split a (b ++ (o ∷ (d ++ (c ∷ z)))) h in
       let v = split b (o ∷ (d ++ (c ∷ z))) u.1 in
@@ -504,5 +564,7 @@ module _ (Is : Lexeme → Type 0) where
     all_written_from (more x xs) h = (written_from x h.0, all_written_from xs h.1)
 
 -- names are words, and literals are written as such
-pub written : (tokens : List Lexeme) (x : Syn) → DerivesFile tokens x → ((k : ℕ) (t : Lexeme) → slice_get tokens k ≡ Some t → IsAccepted t.kind t.text) → IsWritten x
-written tokens x d h = written_from (λ t. Unit {0}) x (file_read (λ t. Unit {0}) d (all_known (λ t. Unit {0}) tokens (λ k t e. (h k t e, tt))) tt)
+pub written : (tokens : List Lexeme) (x : Syn) → DerivesFile tokens x →
+    ((k : ℕ) (t : Lexeme) → slice_get tokens k ≡ Some t → IsAccepted t.kind t.text) → IsWritten x
+written tokens x d h = written_from (λ t. Unit {0}) x
+    (file_read (λ t. Unit {0}) d (all_known (λ t. Unit {0}) tokens (λ k t e. (h k t e, tt))) tt)

@@ -1,5 +1,6 @@
 -- The parameters of functions, and their bodies.
-use Rattle.std.specs.Prelude.{◌≡◌, ℕ, ◌<◌, ◌+◌, ◌++◌, ◌&&◌, not, Bool, false, List, [], ◌∷◌, length, map, Option, Some, None, All, reverse, slice_get}
+use Rattle.std.specs.Prelude.{◌≡◌, ℕ, ◌<◌, ◌+◌, ◌++◌, ◌&&◌, not, Bool, false, List, [], ◌∷◌, length, map, Option, Some}
+use Rattle.std.specs.Prelude.{None, All, reverse, slice_get}
 use Rattle.ck_base.specs.declared.positions.Pos.{Pos}
 use Rattle.ck_base.specs.Tokens.{Lexeme}
 use Rattle.c_tree.specs.declared.typed.VarDef.{VarDef}
@@ -10,7 +11,8 @@ use Rattle.c_tree.specs.Readings as meant
 use Rattle.c_tree.specs.Scopes.{State, Body, Doing, look, leave, change, change_routine, ◌>>=◌, ◌>>◌}
 use Rattle.c_tree.specs.Statements.{block_action}
 use Rattle.c_tree.specs.Expressions.{routine_type}
-use Rattle.c_tree.specs.Programs.{reading, body_context, define_named, parameter_name, parameter_local, first_incomplete, refused_at}
+use Rattle.c_tree.specs.Programs.{reading, body_context, define_named, parameter_name, parameter_local}
+use Rattle.c_tree.specs.Programs.{first_incomplete, refused_at}
 use Rattle.c_tree.specs.Views.{types_of}
 use Rattle.c_types.specs.declared.scopes.Scopes.{Scopes}
 use Rattle.c_types.specs.Stands.{Stands, text_at, var_kept, local_seen}
@@ -58,7 +60,8 @@ IsParameter w p v = var_kept w.file.now (types_of w.nodes.p.types) v ≡ local_s
 -- parameters stand behind the locals
 pub record AddsParameters (sc sd : Scopes) (ps : List Param) : Type 0 where
   pub file : sd.file.now ≡ sc.file.now
-  pub stands : (w : Work) (s : State) → All (ParamIsThere w.nodes) ps → w.file.now ≡ sc.file.now → Stands sc w.nodes.p s →
+  pub stands : (w : Work) (s : State) → All (ParamIsThere w.nodes) ps → w.file.now ≡ sc.file.now →
+      Stands sc w.nodes.p s →
       Stands sd w.nodes.p (record s { locals = s.locals ++ map (λ (p : Param). parameter_local (param_in w p)) ps })
 
 -- the parameters are the locals, and their scope is the innermost
@@ -68,7 +71,8 @@ opened q s = record s { locals = map parameter_local q.params; scopes = q.scope 
 pub record Opens (u v : Work) (p : Prototype) : Type 0 where
   pub whole : IsWhole v.nodes
   pub keeps : Keeps u v
-  pub shows : (s : State) (q : meant.Prototype) → All (ParamIsThere u.nodes) p.params.items → Shows u s → IsPrototype (shown_in u s) u p q → Shows v (opened q s)
+  pub shows : (s : State) (q : meant.Prototype) → All (ParamIsThere u.nodes) p.params.items → Shows u s →
+      IsPrototype (shown_in u s) u p q → Shows v (opened q s)
 
 -- ---- the variables of a function
 
@@ -104,8 +108,10 @@ types_body k count c z = (reading z).body c >>= λ i. finishes k count i (first_
 
 -- the parameters and the body of a function whose definition was begun
 abbrev pub defines : ℕ → meant.Prototype → Syn → Doing Unit
-defines k q z = look >>= λ now. change (opened q) >> look >>= λ s. refused_at 132 (first_incomplete s.tags q.params) >> types_body k (length q.params) (body_context (routine_type (slice_get now.routines k))) z
+defines k q z = look >>= λ now. change (opened q) >> look >>= λ s. refused_at 132 (first_incomplete s.tags q.params)
+    >> types_body k (length q.params) (body_context (routine_type (slice_get now.routines k))) z
 
 -- specifiers, a declarator and a block
 abbrev pub defines_from : Syn → Syn → Syn → Doing Unit
-defines_from x y z = (reading x).specified false >>= λ s. (reading y).derived >>= λ d. define_named s d d.name z (reading z)
+defines_from x y z = (reading x).specified false >>= λ s. (reading y).derived
+    >>= λ d. define_named s d d.name z (reading z)

@@ -1,6 +1,7 @@
 //! The bodies of functions (C11 6.9.1).
 
-ghost use Rattle.std.specs.Prelude.{◌≡◌, true, Some, ◌+◌, ◌<◌, ◌∷◌, ◌++◌, [], All, IfOk, OnOk, length, map, slice_get, slice_set};
+ghost use Rattle.std.specs.Prelude.{◌≡◌, true, Some, ◌+◌, ◌<◌, ◌∷◌, ◌++◌, [], All, IfOk, OnOk, length, map, slice_get};
+ghost use Rattle.std.specs.Prelude.{slice_set};
 ghost use Rattle.c_tree.specs.Syntax.{Syn};
 ghost use Rattle.c_tree.specs.Expressions.{routine_type};
 ghost use Rattle.c_tree.specs.Programs.{body_context, first_incomplete};
@@ -15,7 +16,8 @@ ghost use Rattle.c_declarators.specs.Forming.{ParamIsThere};
 ghost use Rattle.c_declarators.specs.Parts.{IsPrototype, param_in, shown_in};
 ghost use Rattle.c_items.specs.Items.{ContextThere, context_in, ItemsThere, items_in};
 ghost use Rattle.c_items.specs.Shown.{AnswersFor};
-ghost use Rattle.c_elab.specs.Functions.{AreMarked, VariableThere, variable_in, variables_from, ends, finishes, types_body, defines};
+ghost use Rattle.c_elab.specs.Functions.{AreMarked, VariableThere, variable_in, variables_from, ends, finishes};
+ghost use Rattle.c_elab.specs.Functions.{types_body, defines};
 
 use crate::parameters::open_body;
 use c_declarators::{Param, Prototype};
@@ -52,7 +54,8 @@ fn given_by(nodes: &Nodes<'_>, of: u32) -> u32
 fn context_of(work: &Work<'_>, k: u32) -> Result<Context, NoMemory>
     requires { IsWhole work.now.nodes }
     ensures there { IfOk result (λ c. ContextThere work.now c) }
-    ensures is { IfOk result (λ c. (s : State) → Shows work.now s → context_in work.now c ≡ body_context (routine_type (slice_get s.routines k))) }
+    ensures is { IfOk result (λ c. (s : State) → Shows work.now s →
+        context_in work.now c ≡ body_context (routine_type (slice_get s.routines k))) }
 {
     let of = work.function_type(k)?;
     Ok(Context {
@@ -210,7 +213,8 @@ fn finish_body(
 ) -> Result<(), Refusal>
     requires whole { IsWhole work.old.nodes }
     requires items { ItemsThere work.old items }
-    ensures { Answers freely work.old work.new (finishes k count (items_in work.old items) first) NothingThere IsNothing result }
+    ensures { Answers freely work.old work.new
+        (finishes k count (items_in work.old items) first) NothingThere IsNothing result }
 {
     let kind = StmtKind::Block {
         vars: Sequence::from_vec(items.vars),
@@ -234,7 +238,9 @@ fn type_body(
     requires whole { IsWhole work.old.nodes }
     requires context { ContextThere work.old context }
     requires part { HasPart work.old block }
-    ensures { (z : Syn) → IsPart work.old block z → Answers freely work.old work.new (types_body k count (context_in work.old context) z) NothingThere IsNothing result }
+    ensures { (z : Syn) → IsPart work.old block z →
+        Answers freely work.old work.new (types_body k count (context_in work.old context) z) NothingThere IsNothing
+        result }
 {
     let node = node_at(work, block)?;
     let items = all_items(work, context, node.kids.as_slice(), depth)?;
@@ -270,7 +276,9 @@ pub(crate) fn define_body<'a>(
     requires whole { IsWhole work.old.nodes }
     requires there { All (ParamIsThere work.old.nodes) p.params.items }
     requires part { HasPart work.old block }
-    ensures { (z : Syn) → IsPart work.old block z → AnswersFor freely work.old work.new (λ s q. IsPrototype (shown_in work.old s) work.old p.entry q) (λ q. defines k q z) NothingThere IsNothing result }
+    ensures { (z : Syn) → IsPart work.old block z →
+        AnswersFor freely work.old work.new (λ s q. IsPrototype (shown_in work.old s) work.old p.entry q)
+        (λ q. defines k q z) NothingThere IsNothing result }
 {
     let count = count_of(p.params.as_slice())?;
     let context = context_of(work, k)?;

@@ -27,7 +27,9 @@ const DEPTH: u32 = 2000;
 fn declare(work: &mut Work<'_>, kids: &[u32], pos: Pos, depth: u32) -> Result<(), Refusal>
     requires whole { IsWhole work.old.nodes }
     requires parts { HaveParts work.old kids.now }
-    ensures { (t : Lexeme) (xs : Syns) → t.pos ≡ pos → AreParts work.old kids.now xs → Answers freely work.old work.new (external_of NodeKind.Declaration t xs (readings xs)) NothingThere IsNothing result }
+    ensures { (t : Lexeme) (xs : Syns) → t.pos ≡ pos → AreParts work.old kids.now xs →
+        Answers freely work.old work.new (external_of NodeKind.Declaration t xs (readings xs)) NothingThere IsNothing
+        result }
 {
     let _ = declaration(work, kids, pos, depth)?;
     Ok(())
@@ -38,7 +40,8 @@ fn external(work: &mut Work<'_>, k: u32, depth: u32) -> Result<(), Refusal>
     requires whole { IsWhole work.old.nodes }
     requires part { HasPart work.old k }
     requires shown { HasState work.old }
-    ensures { (x : Syn) → IsPart work.old k x → Answers freely work.old work.new (reading x).external NothingThere IsNothing result }
+    ensures { (x : Syn) → IsPart work.old k x →
+        Answers freely work.old work.new (reading x).external NothingThere IsNothing result }
 {
     let node = node_at(work, k)?;
     match node.kind {
@@ -55,7 +58,8 @@ fn all_externals(work: &mut Work<'_>, kids: &[u32], depth: u32) -> Result<(), Re
     requires whole { IsWhole work.old.nodes }
     requires parts { HaveParts work.old kids.now }
     requires shown { HasState work.old }
-    ensures { (xs : Syns) → AreParts work.old kids.now xs → Answers freely work.old work.new (all_externals (readings xs)) NothingThere IsNothing result }
+    ensures { (xs : Syns) → AreParts work.old kids.now xs →
+        Answers freely work.old work.new (all_externals (readings xs)) NothingThere IsNothing result }
 {
     let mut left = kids;
     while let Some(part) = first_of(left) {

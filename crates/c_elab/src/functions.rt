@@ -60,10 +60,21 @@ fn gives_complete(work: &Work<'_>, of: u32) -> bool
     }
 }
 
-// What is declared of a function with its body: 132 where what it gives is not complete, 133 where the declarator itself is not that of a
-// function.
+// What is declared of a function with its body: 132 where what it gives is not complete, 133 where the declarator
+// itself is not that of a function.
 fn defined_as(s: Specified, name: Name, f: Formed, is_complete: bool, is_own: bool) -> Decl
-    ensures { result ≡ record { name = name.span; pos = name.pos; of = f.of; faults = record f.faults { lacks = f.faults.lacks || not is_complete; misfits = f.faults.misfits || not is_own }; what = DeclKind.Fun; storage = s.storage; defines = true } }
+    ensures { result ≡ record {
+      name = name.span;
+      pos = name.pos;
+      of = f.of;
+      faults = record f.faults {
+        lacks = f.faults.lacks || not is_complete;
+        misfits = f.faults.misfits || not is_own;
+      };
+      what = DeclKind.Fun;
+      storage = s.storage;
+      defines = true;
+    } }
 {
     Decl {
         name: name.span,
@@ -94,7 +105,9 @@ fn define_so<'a>(
     requires parts { WrapsThere work.old wraps.items }
     requires part { HasPart work.old block }
     requires shown { HasState work.old }
-    ensures { (y : meant.Specified) (z : Syn) → IsSpecified work.old s y → IsPart work.old block z → AnswersFor freely work.old work.new (IsDeclarator work.old name wraps.entry.items) (λ e. define_named y e e.name z (reading z)) NothingThere IsNothing result }
+    ensures { (y : meant.Specified) (z : Syn) → IsSpecified work.old s y → IsPart work.old block z →
+        AnswersFor freely work.old work.new (IsDeclarator work.old name wraps.entry.items)
+        (λ e. define_named y e e.name z (reading z)) NothingThere IsNothing result }
 {
     let f = formed(work, s.of, wraps.as_slice())?;
     let own = own_prototype(wraps);
@@ -119,7 +132,9 @@ fn define_named<'a>(
     requires derived { DerivedThere work.old d }
     requires part { HasPart work.old block }
     requires shown { HasState work.old }
-    ensures { (y : meant.Specified) (z : Syn) → IsSpecified work.old s y → IsPart work.old block z → AnswersFor freely work.old work.new (ShowsDerived work.old d.entry) (λ e. define_named y e e.name z (reading z)) NothingThere IsNothing result }
+    ensures { (y : meant.Specified) (z : Syn) → IsSpecified work.old s y → IsPart work.old block z →
+        AnswersFor freely work.old work.new (ShowsDerived work.old d.entry)
+        (λ e. define_named y e e.name z (reading z)) NothingThere IsNothing result }
 {
     match d.name {
         None => Err(Refusal::Code(120, s.first)),
@@ -140,7 +155,8 @@ fn define(
     requires second { HasPart work.old declarator }
     requires third { HasPart work.old block }
     requires shown { HasState work.old }
-    ensures { (x y z : Syn) → IsPart work.old specifiers x → IsPart work.old declarator y → IsPart work.old block z → Answers freely work.old work.new (defines_from x y z) NothingThere IsNothing result }
+    ensures { (x y z : Syn) → IsPart work.old specifiers x → IsPart work.old declarator y → IsPart work.old block z →
+        Answers freely work.old work.new (defines_from x y z) NothingThere IsNothing result }
 {
     let s = specified(work, specifiers, false, depth)?;
     let d = derived(work, declarator, depth)?;
@@ -157,7 +173,8 @@ pub(crate) fn function_definition(
     requires whole { IsWhole work.old.nodes }
     requires parts { HaveParts work.old kids.now }
     requires shown { HasState work.old }
-    ensures { (t : Lexeme) (xs : Syns) → t.pos ≡ pos → AreParts work.old kids.now xs → Answers freely work.old work.new (function_definition t xs (readings xs)) NothingThere IsNothing result }
+    ensures { (t : Lexeme) (xs : Syns) → t.pos ≡ pos → AreParts work.old kids.now xs →
+        Answers freely work.old work.new (function_definition t xs (readings xs)) NothingThere IsNothing result }
 {
     match three(kids) {
         None => Err(Refusal::Code(120, pos)),

@@ -1,5 +1,6 @@
 -- A tree that is read from accepted tokens fits (C11 6.4.4, 6.8).
-use Rattle.std.proofs.Common.{◌≡◌, ℕ, suc, ◌-◌, Bool, true, false, List, [], ◌∷◌, ◌++◌, take, drop, Some, refl, sym, ap, subst, ◌∙◌}
+use Rattle.std.proofs.Common.{◌≡◌, ℕ, suc, ◌-◌, Bool, true, false, List, [], ◌∷◌, ◌++◌, take, drop, Some, refl, sym, ap}
+use Rattle.std.proofs.Common.{subst, ◌∙◌}
 use Rattle.std.specs.Prelude.{slice_get, bytes_eq}
 use Rattle.std.specs.List.{list_all}
 use Rattle.std.proofs.lemmas.Bool.{false≢true, and_parts}
@@ -17,7 +18,8 @@ use Rattle.c_tree.specs.declared.syntax.Head.TheVariants as Heads
 use Rattle.c_tree.specs.Syntax.{Syn, Syns, node, nil, more, one, joined}
 use Rattle.c_tree.specs.Symbols.{look_up, keyword_symbols, punctuator_symbols, symbol_of, head_of}
 use Rattle.c_tree.specs.Grammar
-use Rattle.c_tree.specs.Grammar.{Naming, Tags, Goal, Derives, Declares, Repeated, Separated, Listed, Initializes, Initialized, Declaration, Optional, States, Items, Externals}
+use Rattle.c_tree.specs.Grammar.{Naming, Tags, Goal, Derives, Declares, Repeated, Separated, Listed, Initializes}
+use Rattle.c_tree.specs.Grammar.{Initialized, Declaration, Optional, States, Items, Externals}
 use Rattle.c_tree.specs.Parses
 use Rattle.c_tree.specs.Parses.{DerivesFile}
 use Rattle.c_tree.specs.Typing.{IsSpelled, AreSpelled, Reads}
@@ -31,7 +33,8 @@ abbrev AllAccepted : List Lexeme → Type 0
 AllAccepted [] = Unit {0}
 AllAccepted (t ∷ ts) = IsAccepted t.kind t.text × AllAccepted ts
 
-all_from : (ts : List Lexeme) → ((k : ℕ) (t : Lexeme) → slice_get ts k ≡ Some t → IsAccepted t.kind t.text) → AllAccepted ts
+all_from : (ts : List Lexeme) → ((k : ℕ) (t : Lexeme) → slice_get ts k ≡ Some t → IsAccepted t.kind t.text) →
+    AllAccepted ts
 all_from [] h = tt
 all_from (t ∷ ts) h = (h 0 t refl, all_from ts (λ k u e. h (suc k) u e))
 
@@ -50,7 +53,8 @@ is_plain _ = true
 abbrev Plain : Symbol → Type 0
 Plain s = is_plain (head_of s) ≡ true
 
-looked_up : (table : List (List ℕ × Symbol)) (text : List ℕ) → list_all (λ (e : List ℕ × Symbol). is_plain (head_of e.1)) table ≡ true → Plain (look_up table text)
+looked_up : (table : List (List ℕ × Symbol)) (text : List ℕ) →
+    list_all (λ (e : List ℕ × Symbol). is_plain (head_of e.1)) table ≡ true → Plain (look_up table text)
 unfolding is_plain
 looked_up [] text all = refl
 looked_up (e ∷ table) text all =
@@ -59,7 +63,8 @@ looked_up (e ∷ table) text all =
 
 word_plain : (text : List ℕ) → Plain (symbol_of Tokens.Word text)
 unfolding symbol_of keyword_symbols is_plain
-word_plain text = branched Plain (is_among keywords text) (look_up keyword_symbols text) Symbols.Word (λ _. looked_up keyword_symbols text refl) (λ _. refl)
+word_plain text = branched Plain (is_among keywords text) (look_up keyword_symbols text) Symbols.Word
+    (λ _. looked_up keyword_symbols text refl) (λ _. refl)
 
 punctuator_plain : (text : List ℕ) → Plain (symbol_of Tokens.Punct text)
 unfolding symbol_of punctuator_symbols is_plain
@@ -68,21 +73,26 @@ punctuator_plain text = looked_up punctuator_symbols text refl
 unlike : (s : Symbol) (h : Head) → Plain s → head_of s ≡ h → is_plain h ≡ false → ⊥
 unlike s h p e f = false≢true (sym f ∙ ap is_plain (sym e) ∙ p)
 
-number_token : (k : TokenKind) (text : List ℕ) → head_of (symbol_of k text) ≡ Heads.Number → IsAccepted k text → IsAccepted Tokens.Number text
+number_token : (k : TokenKind) (text : List ℕ) → head_of (symbol_of k text) ≡ Heads.Number → IsAccepted k text →
+    IsAccepted Tokens.Number text
 unfolding symbol_of is_plain
 number_token Tokens.Word text e h = absurd (unlike (symbol_of Tokens.Word text) Heads.Number (word_plain text) e refl)
 number_token Tokens.Number text e h = h
 number_token Tokens.Char text e h = absurd cc
 number_token Tokens.Text text e h = absurd cc
-number_token Tokens.Punct text e h = absurd (unlike (symbol_of Tokens.Punct text) Heads.Number (punctuator_plain text) e refl)
+number_token Tokens.Punct text e h =
+    absurd (unlike (symbol_of Tokens.Punct text) Heads.Number (punctuator_plain text) e refl)
 
-character_token : (k : TokenKind) (text : List ℕ) → head_of (symbol_of k text) ≡ Heads.Character → IsAccepted k text → IsAccepted Tokens.Char text
+character_token : (k : TokenKind) (text : List ℕ) → head_of (symbol_of k text) ≡ Heads.Character → IsAccepted k text →
+    IsAccepted Tokens.Char text
 unfolding symbol_of is_plain
-character_token Tokens.Word text e h = absurd (unlike (symbol_of Tokens.Word text) Heads.Character (word_plain text) e refl)
+character_token Tokens.Word text e h =
+    absurd (unlike (symbol_of Tokens.Word text) Heads.Character (word_plain text) e refl)
 character_token Tokens.Number text e h = absurd cc
 character_token Tokens.Char text e h = h
 character_token Tokens.Text text e h = absurd cc
-character_token Tokens.Punct text e h = absurd (unlike (symbol_of Tokens.Punct text) Heads.Character (punctuator_plain text) e refl)
+character_token Tokens.Punct text e h =
+    absurd (unlike (symbol_of Tokens.Punct text) Heads.Character (punctuator_plain text) e refl)
 
 -- ---- what the grammar gives of a tree
 
@@ -167,7 +177,8 @@ mutual
   read (Grammar.empty_braces o c e f) h = (tt, tt)
   read (Grammar.braces o c a z e f ds w) h = (tt, separated_read ds (split a (z ++ (c ∷ [])) h.1).0)
 
-  declares_read : {types : List (List ℕ)} {m : Naming} {starred : Bool} {a : List Lexeme} {xs : Syns} → Declares types m starred a xs → AllAccepted a → AreRead xs
+  declares_read : {types : List (List ℕ)} {m : Naming} {starred : Bool} {a : List Lexeme} {xs : Syns} →
+      Declares types m starred a xs → AllAccepted a → AreRead xs
   declares_read (Grammar.empty e) h = tt
   declares_read (Grammar.declared n e) h = ((tt, tt), tt)
   declares_read (Grammar.enclosed o c a e f d) h = ((tt, declares_read d (split a (c ∷ []) h.1).0), tt)
@@ -176,48 +187,64 @@ mutual
       let p = split a (o ∷ (b ++ (c ∷ []))) h in
       ((tt, joined_read xs (one y) (declares_read d p.0) (read q (split b (c ∷ []) p.1.1).0, tt)), tt)
   declares_read (Grammar.function o c a b {xs = xs} {ys = ys} e f d ds) h =
-      let p = split a (o ∷ (b ++ (c ∷ []))) h in
-      ((tt, joined_read xs (one (node Kinds.Parameters o ys)) (declares_read d p.0) ((tt, listed_read ds (split b (c ∷ []) p.1.1).0), tt)), tt)
+      let p = split a (o ∷ (b ++ (c ∷ []))) h in (
+        (
+          tt,
+          joined_read xs (one (node Kinds.Parameters o ys)) (declares_read d p.0)
+              ((tt, listed_read ds (split b (c ∷ []) p.1.1).0), tt),
+        ),
+        tt,
+      )
   declares_read (Grammar.pointer o a b e ds d) h =
       let p = split a b h.1 in
       ((tt, ((tt, repeated_read ds p.0), declares_read d p.1)), tt)
 
-  repeated_read : {types : List (List ℕ)} {g : Goal} {a : List Lexeme} {xs : Syns} → Repeated types g a xs → AllAccepted a → AreRead xs
+  repeated_read : {types : List (List ℕ)} {g : Goal} {a : List Lexeme} {xs : Syns} → Repeated types g a xs →
+      AllAccepted a → AreRead xs
   repeated_read Grammar.finished h = tt
   repeated_read (Grammar.repeated a b d ds) h = let p = split a b h in (read d p.0, repeated_read ds p.1)
 
-  separated_read : {types : List (List ℕ)} {g : Goal} {a : List Lexeme} {xs : Syns} → Separated types g a xs → AllAccepted a → AreRead xs
+  separated_read : {types : List (List ℕ)} {g : Goal} {a : List Lexeme} {xs : Syns} → Separated types g a xs →
+      AllAccepted a → AreRead xs
   separated_read (Grammar.last a d) h = (read d h, tt)
   separated_read (Grammar.separated c a b e d ds) h = let p = split a (c ∷ b) h in (read d p.0, separated_read ds p.1.1)
 
-  listed_read : {types : List (List ℕ)} {g : Goal} {a : List Lexeme} {xs : Syns} → Listed types g a xs → AllAccepted a → AreRead xs
+  listed_read : {types : List (List ℕ)} {g : Goal} {a : List Lexeme} {xs : Syns} → Listed types g a xs → AllAccepted a →
+      AreRead xs
   listed_read Grammar.nothing h = tt
   listed_read (Grammar.listed a ds) h = separated_read ds h
 
 -- ---- declarations
 
-initializes_read : {types : List (List ℕ)} {m : Naming} {defines : Bool} {a : List Lexeme} {x : Syn} → Initializes types m defines a x → AllAccepted a → IsRead x
+initializes_read : {types : List (List ℕ)} {m : Naming} {defines : Bool} {a : List Lexeme} {x : Syn} →
+    Initializes types m defines a x → AllAccepted a → IsRead x
 initializes_read (Grammar.uninitialized a d) h = (tt, (read d h, tt))
-initializes_read (Grammar.initialized o a b e d q) h = let p = split a (o ∷ b) h in (tt, (read d p.0, (read q p.1.1, tt)))
+initializes_read (Grammar.initialized o a b e d q) h =
+    let p = split a (o ∷ b) h in (tt, (read d p.0, (read q p.1.1, tt)))
 
-initialized_read : {m : Naming} {defines : Bool} {types : List (List ℕ)} {a : List Lexeme} {xs : Syns} → Initialized m defines types a xs → AllAccepted a → AreRead xs
+initialized_read : {m : Naming} {defines : Bool} {types : List (List ℕ)} {a : List Lexeme} {xs : Syns} →
+    Initialized m defines types a xs → AllAccepted a → AreRead xs
 initialized_read (Grammar.last_one a d) h = (initializes_read d h, tt)
-initialized_read (Grammar.one_more c a b e d ds) h = let p = split a (c ∷ b) h in (initializes_read d p.0, initialized_read ds p.1.1)
+initialized_read (Grammar.one_more c a b e d ds) h =
+    let p = split a (c ∷ b) h in (initializes_read d p.0, initialized_read ds p.1.1)
 
-declaration_read : {types : List (List ℕ)} {at_file_scope : Bool} {a : List Lexeme} {x : Syn} → Declaration types at_file_scope a x → AllAccepted a → IsRead x
+declaration_read : {types : List (List ℕ)} {at_file_scope : Bool} {a : List Lexeme} {x : Syn} →
+    Declaration types at_file_scope a x → AllAccepted a → IsRead x
 declaration_read (Grammar.specifiers_only c a e d) h = (tt, (read d (split a (c ∷ []) h).0, tt))
 declaration_read (Grammar.declaration c a b e d ds) h =
     let p = split a (b ++ (c ∷ [])) h in
     (tt, (read d p.0, initialized_read ds (split b (c ∷ []) p.1).0))
 
-optional_read : {types : List (List ℕ)} {before : Lexeme} {a : List Lexeme} {x : Syn} → Optional types before a x → AllAccepted a → IsRead x
+optional_read : {types : List (List ℕ)} {before : Lexeme} {a : List Lexeme} {x : Syn} → Optional types before a x →
+    AllAccepted a → IsRead x
 optional_read Grammar.absent h = (tt, tt)
 optional_read (Grammar.present a d) h = read d h
 
 -- ---- statements
 
 mutual
-  states_read : {types : List (List ℕ)} {a : List Lexeme} {x : Syn} → States types a x → AllAccepted a → IsRead x × IsStatement x
+  states_read : {types : List (List ℕ)} {a : List Lexeme} {x : Syn} → States types a x → AllAccepted a →
+      IsRead x × IsStatement x
   states_read (Grammar.block o c a e f is) h = ((tt, items_read is (split a (c ∷ []) h.1).0), refl)
   states_read (Grammar.empty_statement c e) h = ((tt, tt), refl)
   states_read (Grammar.expression_statement c a e d) h = ((tt, (read d (split a (c ∷ []) h).0, tt)), refl)
@@ -259,19 +286,23 @@ mutual
   states_read (Grammar.return_statement t c e f) h = ((tt, tt), refl)
   states_read (Grammar.return_value t c a e f d) h = ((tt, (read d (split a (c ∷ []) h.1).0, tt)), refl)
 
-  items_read : {in_switch : Bool} {types : List (List ℕ)} {a : List Lexeme} {xs : Syns} → Items in_switch types a xs → AllAccepted a → AreRead xs
+  items_read : {in_switch : Bool} {types : List (List ℕ)} {a : List Lexeme} {xs : Syns} → Items in_switch types a xs →
+      AllAccepted a → AreRead xs
   items_read Grammar.no_item h = tt
   items_read (Grammar.declaration_item a b d is) h = let p = split a b h in (declaration_read d p.0, items_read is p.1)
   items_read (Grammar.statement_item a b s is) h = let p = split a b h in ((states_read s p.0).0, items_read is p.1)
-  items_read (Grammar.case_item t c a b e f d is) h = let p = split a (c ∷ b) h.1 in ((tt, (read d p.0, tt)), items_read is p.1.1)
+  items_read (Grammar.case_item t c a b e f d is) h =
+      let p = split a (c ∷ b) h.1 in ((tt, (read d p.0, tt)), items_read is p.1.1)
   items_read (Grammar.default_item t c b e f is) h = ((tt, tt), items_read is h.1.1)
 
 -- ---- files
 
-externals_read : {types : List (List ℕ)} {a : List Lexeme} {xs : Syns} → Externals types a xs → AllAccepted a → AreRead xs
+externals_read : {types : List (List ℕ)} {a : List Lexeme} {xs : Syns} → Externals types a xs → AllAccepted a →
+    AreRead xs
 externals_read Grammar.no_external h = tt
 externals_read (Grammar.empty_external c b e es) h = ((tt, tt), externals_read es h.1)
-externals_read (Grammar.external_declaration a b d es) h = let p = split a b h in (declaration_read d p.0, externals_read es p.1)
+externals_read (Grammar.external_declaration a b d es) h =
+    let p = split a b h in (declaration_read d p.0, externals_read es p.1)
 externals_read (Grammar.function_definition o c a b d z e f s x is es) h =
     let u = split a (b ++ (o ∷ (d ++ (c ∷ z)))) h in
     let v = split b (o ∷ (d ++ (c ∷ z))) u.1 in
@@ -290,7 +321,8 @@ kind_fits k t xs r s = r
 
 module _ (bytes : List ℕ) (small : Small bytes) where
   text_small : (t : Lexeme) → t.text ≡ take (t.span.end - t.span.start) (drop t.span.start bytes) → Small t.text
-  text_small t e = subst Small (sym e) (small_take (t.span.end - t.span.start) (drop t.span.start bytes) (small_drop t.span.start bytes small))
+  text_small t e = subst Small (sym e) (small_take (t.span.end - t.span.start) (drop t.span.start bytes)
+      (small_drop t.span.start bytes small))
 
   mutual
     unfolding IsFit AreFit IsSpelled AreSpelled
@@ -303,4 +335,5 @@ module _ (bytes : List ℕ) (small : Small bytes) where
     all_fit (more x xs) r s = (fit x r.0 s.0, all_fit xs r.1 s.1)
 
 pub fit_of_reads : (tree : Tree) (bytes : List ℕ) (x : Syn) → Reads tree bytes x → IsFit x
-fit_of_reads tree bytes x r = fit bytes (small_from bytes r.small) x (file_read r.derives (all_from r.tokens r.accepted)) r.spelled
+fit_of_reads tree bytes x r =
+    fit bytes (small_from bytes r.small) x (file_read r.derives (all_from r.tokens r.accepted)) r.spelled

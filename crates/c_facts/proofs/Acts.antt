@@ -1,5 +1,6 @@
 -- What holds of statements, of the variables that they declare and of the functions so far.
-use Rattle.std.proofs.Common.{◌≡◌, ℕ, zero, suc, ◌+◌, ◌<◌, ◌≤◌, Bool, true, false, cond, List, [], ◌∷◌, ◌++◌, length, Option, Some, None, refl, sym, ap, subst, ◌∙◌, inl, inr, ◌⊎◌, ⊎_elim, arith}
+use Rattle.std.proofs.Common.{◌≡◌, ℕ, zero, suc, ◌+◌, ◌<◌, ◌≤◌, Bool, true, false, cond, List, [], ◌∷◌, ◌++◌, length}
+use Rattle.std.proofs.Common.{Option, Some, None, refl, sym, ap, subst, ◌∙◌, inl, inr, ◌⊎◌, ⊎_elim, arith}
 use Rattle.std.specs.Prelude.{slice_get, ◌&&◌, ◌==◌, nat_lt, nat_le, if◌then◌else◌}
 use Rattle.std.proofs.lemmas.Bool.{false≢true, cases_lt, cases_order, eq-eqb, ne_eqb, lt-ltb, le-ltb, le-leb, lt-leb}
 use Rattle.std.proofs.lemmas.Option.{same_Some, slice_get_within}
@@ -7,12 +8,14 @@ use Rattle.std.proofs.lemmas.List.Sums.{sum_by-append}
 use Rattle.c_tree.specs.Layout.{Extent}
 use Rattle.c_tree.specs.Types.{Ty, Array, bare, is_integer, is_scalar, is_void, promoted}
 use Rattle.c_tree.specs.Terms as tree
-use Rattle.c_tree.specs.Terms.{Term, Terms, no_terms, with_term, type_of, Label, Form, Action, Actions, action, actions, no_actions, with_action}
+use Rattle.c_tree.specs.Terms.{Term, Terms, no_terms, with_term, type_of, Label, Form, Action, Actions, action, actions}
+use Rattle.c_tree.specs.Terms.{no_actions, with_action}
 use Rattle.c_tree.specs.Scopes.{LocalState, State, type_extent}
 use Rattle.c_tree.specs.Readings.{Context, Items}
 use Rattle.c_tree.specs.Declarations.{no_items, both, is_open}
 use Rattle.c_tree.specs.Views.{times_in}
-use Rattle.c_tree.specs.WellTyped.{holds, Inside, inside_of, LabelsFit, count_of, IsTest, TestsFit, declared, all_declared}
+use Rattle.c_tree.specs.WellTyped.{holds, Inside, inside_of, LabelsFit, count_of, IsTest, TestsFit, declared}
+use Rattle.c_tree.specs.WellTyped.{all_declared}
 use Rattle.c_facts.proofs.Agreeing.{refines}
 use Rattle.c_facts.proofs.Facts.{Complete, TermsOk, LocalGrows, Refers}
 use Rattle.c_facts.proofs.Growing.{extent_kept, refined_extent, terms_kept}
@@ -25,7 +28,8 @@ WholeOk u o t = holds (is_scalar (bare u)) → (o ≡ 0) × (t ≡ bare u)
 
 abbrev pub InitOk : State → ℕ → ℕ → Ty → Type 0
 InitOk s k o t =
-    (v : LocalState) × (x : Extent) × (y : Extent) × (slice_get s.locals k ≡ Some v) × (type_extent s.tags v.of ≡ Some x) × (type_extent s.tags t ≡ Some y) × (o + y.size ≤ x.size)
+    (v : LocalState) × (x : Extent) × (y : Extent) × (slice_get s.locals k ≡ Some v) ×
+    (type_extent s.tags v.of ≡ Some x) × (type_extent s.tags t ≡ Some y) × (o + y.size ≤ x.size)
     × WholeOk v.of o t
 
 abbrev pub AreLocals : State → List ℕ → Type 0
@@ -40,7 +44,8 @@ FormOk s t i tree.If xs n = IsTest xs × ((n ≡ 1) ⊎ (n ≡ 2))
 FormOk s t i tree.While xs n = IsTest xs × (n ≡ 1)
 FormOk s t i tree.Do xs n = IsTest xs × (n ≡ 1)
 FormOk s t i (tree.For vars k a b) xs n = AreLocals s vars × TestsFit a b xs × (n ≡ k + 1)
-FormOk s t i (tree.Switch vars labels) (with_term a no_terms) n = AreLocals s vars × holds (is_integer (type_of a)) × (promoted (type_of a) ≡ type_of a) × LabelsFit labels n
+FormOk s t i (tree.Switch vars labels) (with_term a no_terms) n =
+    AreLocals s vars × holds (is_integer (type_of a)) × (promoted (type_of a) ≡ type_of a) × LabelsFit labels n
 FormOk s t i tree.Break no_terms zero = holds i.breakable
 FormOk s t i tree.Continue no_terms zero = holds i.loop
 FormOk s t i tree.Return no_terms zero = holds (is_void t)
@@ -50,7 +55,8 @@ FormOk s t i x xs n = ⊥
 
 abbrev mutual
   pub ActionOk : State → Ty → Inside → Action → Type 0
-  ActionOk s t i (action x xs ys p) = TermsOk true s xs × FormOk s t i x xs (count_of ys) × ActionsOk s t (inside_of x i) ys
+  ActionOk s t i (action x xs ys p) =
+      TermsOk true s xs × FormOk s t i x xs (count_of ys) × ActionsOk s t (inside_of x i) ys
 
   pub ActionsOk : State → Ty → Inside → Actions → Type 0
   ActionsOk s t i no_actions = Unit {0}
@@ -64,7 +70,8 @@ at_number (x ∷ xs) zero l = (x, refl)
 at_number (x ∷ xs) (suc k) l = at_number xs k (omega (arith, l))
 
 pub locals_stay : (s r : State) → Refers s r → (k : ℕ) → k < length s.locals → k < length r.locals
-locals_stay s r g k l = let v = at_number s.locals k l in let w = g.locals k v.0 v.1 in slice_get_within r.locals k w.0 w.1
+locals_stay s r g k l = let v = at_number s.locals k l in let w = g.locals k v.0 v.1 in
+    slice_get_within r.locals k w.0 w.1
 
 -- an array whose length is not known becomes no scalar
 open_not_scalar : (s t : Ty) → refines s t ≡ true → is_open s ≡ true → is_scalar (bare t) ≡ true → ⊥
@@ -76,18 +83,29 @@ whole_kept : (v w : LocalState) → LocalGrows v w → (o : ℕ) (t : Ty) → Wh
 whole_kept v w g o t h = by (is_open v.of) refl
   where
     by : (b : Bool) → is_open v.of ≡ b → WholeOk w.of o t
-    by false e c = let same = g.fixed e in subst (λ u. (o ≡ 0) × (t ≡ bare u)) (sym same) (h (ap (λ u. is_scalar (bare u)) (sym same) ∙ c))
+    by false e c = let same = g.fixed e in
+        subst (λ u. (o ≡ 0) × (t ≡ bare u)) (sym same) (h (ap (λ u. is_scalar (bare u)) (sym same) ∙ c))
     by true e c = absurd (open_not_scalar v.of w.of g.type e c)
 
 init_kept : (s r : State) → Refers s r → (k o : ℕ) (t : Ty) → InitOk s k o t → InitOk r k o t
 init_kept s r g k o t h =
-    let w = g.locals k h.0 h.3 in
-    (w.0, h.1, h.2, w.1, refined_extent r.tags h.0.of w.0.of h.1 w.2.type (extent_kept s.tags r.tags g.tags h.0.of h.1 h.4), extent_kept s.tags r.tags g.tags t h.2 h.5, h.6, whole_kept h.0 w.0 w.2 o t h.7)
+    let w = g.locals k h.0 h.3 in (
+      w.0,
+      h.1,
+      h.2,
+      w.1,
+      refined_extent r.tags h.0.of w.0.of h.1 w.2.type
+          (extent_kept s.tags r.tags g.tags h.0.of h.1 h.4),
+      extent_kept s.tags r.tags g.tags t h.2 h.5,
+      h.6,
+      whole_kept h.0 w.0 w.2 o t h.7,
+    )
 
 pub are_locals_kept : (s r : State) → Refers s r → (ks : List ℕ) → AreLocals s ks → AreLocals r ks
 are_locals_kept s r g ks h j k e = locals_stay s r g k (h j k e)
 
-form_kept : (s r : State) → Refers s r → (t : Ty) (i : Inside) (x : Form) (xs : Terms) (n : ℕ) → FormOk s t i x xs n → FormOk r t i x xs n
+form_kept : (s r : State) → Refers s r → (t : Ty) (i : Inside) (x : Form) (xs : Terms) (n : ℕ) → FormOk s t i x xs n →
+    FormOk r t i x xs n
 form_kept s r g t i tree.Evaluate (with_term a no_terms) zero h = tt
 form_kept s r g t i (tree.Init k o) (with_term a no_terms) zero h = init_kept s r g k o (type_of a) h
 form_kept s r g t i (tree.Block vars) no_terms n h = are_locals_kept s r g vars h
@@ -95,7 +113,8 @@ form_kept s r g t i tree.If xs n h = h
 form_kept s r g t i tree.While xs n h = h
 form_kept s r g t i tree.Do xs n h = h
 form_kept s r g t i (tree.For vars k a b) xs n h = (are_locals_kept s r g vars h.0, h.1, h.2)
-form_kept s r g t i (tree.Switch vars labels) (with_term a no_terms) n h = (are_locals_kept s r g vars h.0, h.1, h.2, h.3)
+form_kept s r g t i (tree.Switch vars labels) (with_term a no_terms) n h =
+    (are_locals_kept s r g vars h.0, h.1, h.2, h.3)
 form_kept s r g t i tree.Break no_terms zero h = h
 form_kept s r g t i tree.Continue no_terms zero h = h
 form_kept s r g t i tree.Return no_terms zero h = h
@@ -104,14 +123,21 @@ form_kept s r g t i tree.Empty no_terms zero h = tt
 form_kept s r g t i x xs n h = absurd h
 
 mutual
-  pub action_kept : (s r : State) → Refers s r → (t : Ty) (i : Inside) (x : Action) → ActionOk s t i x → ActionOk r t i x
-  action_kept s r g t i (action x xs ys p) h = (terms_kept true s r g xs h.0, form_kept s r g t i x xs (count_of ys) h.1, actions_kept s r g t (inside_of x i) ys h.2)
+  pub action_kept : (s r : State) → Refers s r → (t : Ty) (i : Inside) (x : Action) → ActionOk s t i x →
+      ActionOk r t i x
+  action_kept s r g t i (action x xs ys p) h = (
+    terms_kept true s r g xs h.0,
+    form_kept s r g t i x xs (count_of ys) h.1,
+    actions_kept s r g t (inside_of x i) ys h.2,
+  )
 
-  pub actions_kept : (s r : State) → Refers s r → (t : Ty) (i : Inside) (xs : Actions) → ActionsOk s t i xs → ActionsOk r t i xs
+  pub actions_kept : (s r : State) → Refers s r → (t : Ty) (i : Inside) (xs : Actions) → ActionsOk s t i xs →
+      ActionsOk r t i xs
   actions_kept s r g t i no_actions h = tt
   actions_kept s r g t i (with_action x xs) h = (action_kept s r g t i x h.0, actions_kept s r g t i xs h.1)
 
-pub both_actions : (s : State) (t : Ty) (i : Inside) (xs ys : List Action) → ActionsOk s t i (actions xs) → ActionsOk s t i (actions ys) → ActionsOk s t i (actions (xs ++ ys))
+pub both_actions : (s : State) (t : Ty) (i : Inside) (xs ys : List Action) → ActionsOk s t i (actions xs) →
+    ActionsOk s t i (actions ys) → ActionsOk s t i (actions (xs ++ ys))
 both_actions s t i [] ys h k = k
 both_actions s t i (x ∷ xs) ys h k = (h.0, both_actions s t i xs ys h.1 k)
 
@@ -146,7 +172,11 @@ between_one a k =
     elim (cases_order a k) as (λ _. between a (a + 1) k ≡ (if a == k then 1 else 0)) [
       | inl e ↦ rw (le-leb a k (omega (arith, e)), lt-ltb k (a + 1) (omega (arith, e)), eq-eqb a k e) refl
       | inr w ↦ elim w as (λ _. between a (a + 1) k ≡ (if a == k then 1 else 0)) [
-        | inl lt ↦ rw (le-leb a k (omega arith), le-ltb k (a + 1) (omega arith), ne_eqb a k (λ e. absurd (omega (arith, e, lt)))) refl
+        | inl lt ↦ rw (
+          le-leb a k (omega arith),
+          le-ltb k (a + 1) (omega arith),
+          ne_eqb a k (λ e. absurd (omega (arith, e, lt))),
+        ) refl
         | inr gt ↦ rw (lt-leb a k gt, ne_eqb a k (λ e. absurd (omega (arith, e, gt)))) refl
       ]
     ]
@@ -160,7 +190,8 @@ times_declared k vs xs = times_in k vs + times_in k (all_declared (actions xs))
 abbrev pub inside_context : Context → Inside
 inside_context c = record { loop = c.in_loop; breakable = c.breakable }
 
--- what a declaration or a statement gives, from one state to another: its statements fit, and the new variables are complete and declared once
+-- what a declaration or a statement gives, from one state to another: its statements fit, and the new variables are
+-- complete and declared once
 pub record ItemsOk (c : Context) (s r : State) (i : Items) : Type 0 where
   pub fits : ActionsOk r c.gives (inside_context c) (actions i.actions)
   pub vars : AreLocals r i.vars
@@ -172,41 +203,57 @@ pub record ItemsOk (c : Context) (s r : State) (i : Items) : Type 0 where
 abbrev pub IsOne : Items → Type 0
 IsOne i = (a : Action) × (i.actions ≡ a ∷ []) × (i.vars ≡ [])
 
-all_declared-append : (xs ys : List Action) → all_declared (actions (xs ++ ys)) ≡ all_declared (actions xs) ++ all_declared (actions ys)
+all_declared-append : (xs ys : List Action) →
+    all_declared (actions (xs ++ ys)) ≡ all_declared (actions xs) ++ all_declared (actions ys)
 all_declared-append [] ys = refl
-all_declared-append (x ∷ xs) ys = ap (λ zs. declared x ++ zs) (all_declared-append xs ys) ∙ sym (Rattle.std.proofs.Common.append_assoc (declared x) (all_declared (actions xs)) (all_declared (actions ys)))
+all_declared-append (x ∷ xs) ys =
+    ap (λ zs. declared x ++ zs) (all_declared-append xs ys)
+    ∙ sym (Rattle.std.proofs.Common.append_assoc (declared x) (all_declared (actions xs)) (all_declared (actions ys)))
 
 pub times_in-append : (k : ℕ) (xs ys : List ℕ) → times_in k (xs ++ ys) ≡ times_in k xs + times_in k ys
 times_in-append k xs ys = sum_by-append (λ j. if j == k then 1 else 0) xs ys
 
-pub times_both : (k : ℕ) (a b : Items) → times_declared k (both a b).vars (both a b).actions ≡ times_declared k a.vars a.actions + times_declared k b.vars b.actions
+pub times_both : (k : ℕ) (a b : Items) →
+    times_declared k (both a b).vars (both a b).actions
+    ≡ times_declared k a.vars a.actions + times_declared k b.vars b.actions
 times_both k a b =
     let e = ap (times_in k) (all_declared-append a.actions b.actions) in
     let f = times_in-append k (all_declared (actions a.actions)) (all_declared (actions b.actions)) in
     let g = times_in-append k a.vars b.vars in
     omega (arith, e, f, g)
 
-locals_append : {P : ℕ → Type 0} (xs ys : List ℕ) → ((j k : ℕ) → slice_get xs j ≡ Some k → P k) → ((j k : ℕ) → slice_get ys j ≡ Some k → P k) → (j k : ℕ) → slice_get (xs ++ ys) j ≡ Some k → P k
+locals_append : {P : ℕ → Type 0} (xs ys : List ℕ) → ((j k : ℕ) → slice_get xs j ≡ Some k → P k) →
+    ((j k : ℕ) → slice_get ys j ≡ Some k → P k) → (j k : ℕ) → slice_get (xs ++ ys) j ≡ Some k → P k
 locals_append [] ys f g j k e = g j k e
 locals_append (x ∷ xs) ys f g zero k e = f 0 k e
 locals_append (x ∷ xs) ys f g (suc j) k e = locals_append xs ys (λ i k q. f (suc i) k q) g j k e
 
 -- a local that is complete stays so
-pub complete_on : (r q : State) → Refers r q → (k : ℕ) (w : LocalState) → slice_get q.locals k ≡ Some w → k < length r.locals → ((v : LocalState) → slice_get r.locals k ≡ Some v → Complete r.tags v.of) → Complete q.tags w.of
+pub complete_on : (r q : State) → Refers r q → (k : ℕ) (w : LocalState) → slice_get q.locals k ≡ Some w →
+    k < length r.locals → ((v : LocalState) → slice_get r.locals k ≡ Some v → Complete r.tags v.of) →
+    Complete q.tags w.of
 complete_on r q g k w e l h =
     let v = at_number r.locals k l in
     let u = g.locals k v.0 v.1 in
     let c = h v.0 v.1 in
-    let same : u.0 ≡ w = same_Some u.0 w (sym u.1 ∙ e) in
-    (c.0, refined_extent q.tags v.0.of w.of c.0 (subst (λ (z : LocalState). refines v.0.of z.of ≡ true) same u.2.type) (extent_kept r.tags q.tags g.tags v.0.of c.0 c.1))
+    let same : u.0 ≡ w = same_Some u.0 w (sym u.1 ∙ e) in (
+      c.0,
+      refined_extent q.tags v.0.of w.of c.0 (subst (λ (z : LocalState). refines v.0.of z.of ≡ true) same u.2.type)
+          (extent_kept r.tags q.tags g.tags v.0.of c.0 c.1),
+    )
 
-pub items_both : (c : Context) (s r q : State) (a b : Items) → Refers r q → ItemsOk c s r a → ItemsOk c r q b → ItemsOk c s q (both a b)
+pub items_both : (c : Context) (s r q : State) (a b : Items) → Refers r q → ItemsOk c s r a → ItemsOk c r q b →
+    ItemsOk c s q (both a b)
 items_both c s r q a b g h k = record {
-  fits = both_actions q c.gives (inside_context c) a.actions b.actions (actions_kept r q g c.gives (inside_context c) (actions a.actions) h.fits) k.fits;
+  fits = both_actions q c.gives (inside_context c) a.actions b.actions
+      (actions_kept r q g c.gives (inside_context c) (actions a.actions) h.fits) k.fits;
   vars = locals_append a.vars b.vars (are_locals_kept r q g a.vars h.vars) k.vars;
   more = omega (arith, h.more, k.more);
-  once = λ j. let e = times_both j a b in let f = between_sum (length s.locals) (length r.locals) (length q.locals) j h.more k.more in omega (arith, e, f, h.once j, k.once j);
-  complete = λ j v l e. ⊎_elim (λ lt. complete_on r q g j v e lt (λ w i. h.complete j w l i)) (λ ge. k.complete j v ge e) (cases_lt j (length r.locals));
+  once = λ j. let e = times_both j a b in
+      let f = between_sum (length s.locals) (length r.locals) (length q.locals) j h.more k.more in
+      omega (arith, e, f, h.once j, k.once j);
+  complete = λ j v l e. ⊎_elim (λ lt. complete_on r q g j v e lt (λ w i. h.complete j w l i))
+      (λ ge. k.complete j v ge e) (cases_lt j (length r.locals));
 }
 
 pub items_none : (c : Context) (s : State) → ItemsOk c s s no_items
@@ -219,7 +266,8 @@ items_none c s = record {
 }
 
 -- a state with the same number of locals
-pub items_from : (c : Context) (s t r : State) (i : Items) → length s.locals ≡ length t.locals → ItemsOk c t r i → ItemsOk c s r i
+pub items_from : (c : Context) (s t r : State) (i : Items) → length s.locals ≡ length t.locals → ItemsOk c t r i →
+    ItemsOk c s r i
 items_from c s t r i e h = record {
   fits = h.fits;
   vars = h.vars;

@@ -4,7 +4,8 @@ use Rattle.std.specs.Prelude.{◌==◌, ◌||◌}
 use Rattle.std.proofs.lemmas.Bool.{false≢true, and_parts, and_from, or_cases, or_left, or_right, eqb-true, eq-eqb}
 use Rattle.ck_int.specs.declared.kinds.IntKind.{IntKind}
 use Rattle.ck_int.specs.declared.kinds.IntKind.TheVariants as kind
-use Rattle.c_tree.specs.Types.{Ty, Void, Int, Cap, Pointer, Array, Tagged, Function, Const, Tys, no_types, also, same_kind, same_truth, agree, all_agree, same, compatible, composite, composites}
+use Rattle.c_tree.specs.Types.{Ty, Void, Int, Cap, Pointer, Array, Tagged, Function, Const, Tys, no_types, also}
+use Rattle.c_tree.specs.Types.{same_kind, same_truth, agree, all_agree, same, compatible, composite, composites}
 
 pub kinds_are : (j k : IntKind) → same_kind j k ≡ true → j ≡ k
 kinds_are kind.Bool kind.Bool e = refl
@@ -56,20 +57,24 @@ also_is s t ps qs p q = cc
 mutual
   pub same_is : (s t : Ty) → same s t ≡ true → s ≡ t
   same_is Void Void e = refl
-  same_is (Int j m) (Int k n) e = let p = and_parts (same_kind j k) (m == n) e in int_is j k m n (kinds_are j k p.0) (eqb-true m n p.1)
+  same_is (Int j m) (Int k n) e =
+      let p = and_parts (same_kind j k) (m == n) e in int_is j k m n (kinds_are j k p.0) (eqb-true m n p.1)
   same_is (Cap a) (Cap b) e = ap Cap (truths_are a b e)
   same_is (Pointer s) (Pointer t) e = ap Pointer (same_is s t e)
-  same_is (Array s m) (Array t n) e = let p = and_parts (same s t) (m == n) e in array_is s t m n (same_is s t p.0) (eqb-true m n p.1)
+  same_is (Array s m) (Array t n) e =
+      let p = and_parts (same s t) (m == n) e in array_is s t m n (same_is s t p.0) (eqb-true m n p.1)
   same_is (Tagged m) (Tagged n) e = ap Tagged (eqb-true m n e)
   same_is (Function r ps) (Function s qs) e =
-      let p = and_parts (same r s) (all_agree (λ m n. m == n) ps qs) e in function_is r s ps qs (same_is r s p.0) (all_same_are ps qs p.1)
+      let p = and_parts (same r s) (all_agree (λ m n. m == n) ps qs) e in
+      function_is r s ps qs (same_is r s p.0) (all_same_are ps qs p.1)
   same_is (Const s) (Const t) e = ap Const (same_is s t e)
   same_is s t e = absurd (false≢true e)
 
   all_same_are : (ss ts : Tys) → all_agree (λ m n. m == n) ss ts ≡ true → ss ≡ ts
   all_same_are no_types no_types e = refl
   all_same_are (also s ss) (also t ts) e =
-      let p = and_parts (same s t) (all_agree (λ m n. m == n) ss ts) e in also_is s t ss ts (same_is s t p.0) (all_same_are ss ts p.1)
+      let p = and_parts (same s t) (all_agree (λ m n. m == n) ss ts) e in
+      also_is s t ss ts (same_is s t p.0) (all_same_are ss ts p.1)
   all_same_are ss ts e = absurd (false≢true e)
 
 -- ---- types that agree up to lengths
@@ -97,17 +102,20 @@ module _ (f g : ℕ → ℕ → Bool) (h : (m n : ℕ) → f m n ≡ true → g 
     agree_more (Int j m) (Int k n) e = e
     agree_more (Cap a) (Cap b) e = e
     agree_more (Pointer s) (Pointer t) e = agree_more s t e
-    agree_more (Array s m) (Array t n) e = let p = and_parts (agree f s t) (f m n) e in and_from (agree g s t) (g m n) (agree_more s t p.0) (h m n p.1)
+    agree_more (Array s m) (Array t n) e =
+        let p = and_parts (agree f s t) (f m n) e in and_from (agree g s t) (g m n) (agree_more s t p.0) (h m n p.1)
     agree_more (Tagged m) (Tagged n) e = e
     agree_more (Function r ps) (Function s qs) e =
-        let p = and_parts (agree f r s) (all_agree f ps qs) e in and_from (agree g r s) (all_agree g ps qs) (agree_more r s p.0) (all_agree_more ps qs p.1)
+        let p = and_parts (agree f r s) (all_agree f ps qs) e in
+        and_from (agree g r s) (all_agree g ps qs) (agree_more r s p.0) (all_agree_more ps qs p.1)
     agree_more (Const s) (Const t) e = agree_more s t e
     agree_more s t e = absurd (false≢true e)
 
     all_agree_more : (ss ts : Tys) → all_agree f ss ts ≡ true → all_agree g ss ts ≡ true
     all_agree_more no_types no_types e = refl
     all_agree_more (also s ss) (also t ts) e =
-        let p = and_parts (agree f s t) (all_agree f ss ts) e in and_from (agree g s t) (all_agree g ss ts) (agree_more s t p.0) (all_agree_more ss ts p.1)
+        let p = and_parts (agree f s t) (all_agree f ss ts) e in
+        and_from (agree g s t) (all_agree g ss ts) (agree_more s t p.0) (all_agree_more ss ts p.1)
     all_agree_more ss ts e = absurd (false≢true e)
 
 module _ (f g h : ℕ → ℕ → Bool) (c : (l m n : ℕ) → f l m ≡ true → g m n ≡ true → h l n ≡ true) where
@@ -118,9 +126,11 @@ module _ (f g h : ℕ → ℕ → Bool) (c : (l m n : ℕ) → f l m ≡ true �
     agree_on (Int i l) (Int j m) (Int k n) p q =
         let a = and_parts (same_kind i j) (l == m) p in let b = and_parts (same_kind j k) (m == n) q in
         let e : i ≡ k = kinds_are i j a.0 ∙ kinds_are j k b.0 in
-        and_from (same_kind i k) (l == n) (ap (same_kind i) (sym e) ∙ kinds_same i) (eq-eqb l n (eqb-true l m a.1 ∙ eqb-true m n b.1))
+        and_from (same_kind i k) (l == n) (ap (same_kind i) (sym e) ∙ kinds_same i)
+        (eq-eqb l n (eqb-true l m a.1 ∙ eqb-true m n b.1))
     agree_on (Int i l) (Int j m) u p q = absurd (false≢true q)
-    agree_on (Cap a) (Cap b) (Cap d) p q = let e : a ≡ d = truths_are a b p ∙ truths_are b d q in ap (same_truth a) (sym e) ∙ truths_same a
+    agree_on (Cap a) (Cap b) (Cap d) p q =
+        let e : a ≡ d = truths_are a b p ∙ truths_are b d q in ap (same_truth a) (sym e) ∙ truths_same a
     agree_on (Cap a) (Cap b) u p q = absurd (false≢true q)
     agree_on (Pointer s) (Pointer t) (Pointer u) p q = agree_on s t u p q
     agree_on (Pointer s) (Pointer t) u p q = absurd (false≢true q)
@@ -131,7 +141,8 @@ module _ (f g h : ℕ → ℕ → Bool) (c : (l m n : ℕ) → f l m ≡ true �
     agree_on (Tagged l) (Tagged m) (Tagged n) p q = eq-eqb l n (eqb-true l m p ∙ eqb-true m n q)
     agree_on (Tagged l) (Tagged m) u p q = absurd (false≢true q)
     agree_on (Function r ps) (Function s qs) (Function t rs) p q =
-        let a = and_parts (agree f r s) (all_agree f ps qs) p in let b = and_parts (agree g s t) (all_agree g qs rs) q in
+        let a = and_parts (agree f r s) (all_agree f ps qs) p in
+        let b = and_parts (agree g s t) (all_agree g qs rs) q in
         and_from (agree h r t) (all_agree h ps rs) (agree_on r s t a.0 b.0) (all_agree_on ps qs rs a.1 b.1)
     agree_on (Function r ps) (Function s qs) u p q = absurd (false≢true q)
     agree_on (Const s) (Const t) (Const u) p q = agree_on s t u p q
@@ -142,7 +153,8 @@ module _ (f g h : ℕ → ℕ → Bool) (c : (l m n : ℕ) → f l m ≡ true �
     all_agree_on no_types no_types no_types p q = refl
     all_agree_on no_types no_types us p q = absurd (false≢true q)
     all_agree_on (also s ss) (also t ts) (also u us) p q =
-        let a = and_parts (agree f s t) (all_agree f ss ts) p in let b = and_parts (agree g t u) (all_agree g ts us) q in
+        let a = and_parts (agree f s t) (all_agree f ss ts) p in
+        let b = and_parts (agree g t u) (all_agree g ts us) q in
         and_from (agree h s u) (all_agree h ss us) (agree_on s t u a.0 b.0) (all_agree_on ss ts us a.1 b.1)
     all_agree_on (also s ss) (also t ts) us p q = absurd (false≢true q)
     all_agree_on ss ts us p q = absurd (false≢true p)
@@ -166,7 +178,8 @@ same_or_none l m n p q =
     ]
 
 pub refines_on : (s t u : Ty) → refines s t ≡ true → refines t u ≡ true → refines s u ≡ true
-refines_on s t u p q = agree_on (λ m n. m == n || m == 0) (λ m n. m == n || m == 0) (λ m n. m == n || m == 0) same_or_none s t u p q
+refines_on s t u p q = agree_on (λ m n. m == n || m == 0) (λ m n. m == n || m == 0)
+    (λ m n. m == n || m == 0) same_or_none s t u p q
 
 pub refined_compatible : (s t : Ty) → refines s t ≡ true → compatible s t ≡ true
 refined_compatible s t e =
@@ -180,7 +193,8 @@ Lengths m n = ((m ≡ n) ⊎ (m ≡ 0)) ⊎ (n ≡ 0)
 lengths_are : (m n : ℕ) → (m == n || m == 0 || n == 0) ≡ true → Lengths m n
 unfolding Lengths
 lengths_are m n e =
-    ⊎_elim (λ b. ⊎_elim (λ a. inl (inl (eqb-true m n a))) (λ a. inl (inr (eqb-true m 0 a))) (or_cases (m == n) (m == 0) b)) (λ a. inr (eqb-true n 0 a)) (or_cases (m == n || m == 0) (n == 0) e)
+    ⊎_elim (λ b. ⊎_elim (λ a. inl (inl (eqb-true m n a))) (λ a. inl (inr (eqb-true m 0 a)))
+    (or_cases (m == n) (m == 0) b)) (λ a. inr (eqb-true n 0 a)) (or_cases (m == n || m == 0) (n == 0) e)
 
 left_length : (m n : ℕ) → Lengths m n → (m == max m n || m == 0) ≡ true
 unfolding Lengths
@@ -205,19 +219,23 @@ mutual
   composite_left (Pointer s) (Pointer t) e = composite_left s t e
   composite_left (Array s m) (Array t n) e =
       let p = and_parts (compatible s t) (loose m n) e in
-      and_from (refines s (composite s t)) (m == max m n || m == 0) (composite_left s t p.0) (left_length m n (lengths_are m n p.1))
+      and_from (refines s (composite s t)) (m == max m n || m == 0) (composite_left s t p.0)
+      (left_length m n (lengths_are m n p.1))
   composite_left (Tagged m) (Tagged n) e = refines_self (Tagged m)
   composite_left (Function r ps) (Function s qs) e =
       let p = and_parts (compatible r s) (all_agree loose ps qs) e in
-      and_from (refines r (composite r s)) (all_agree (λ m n. m == n || m == 0) ps (composites ps qs)) (composite_left r s p.0) (composites_left ps qs p.1)
+      and_from (refines r (composite r s)) (all_agree (λ m n. m == n || m == 0) ps (composites ps qs))
+      (composite_left r s p.0) (composites_left ps qs p.1)
   composite_left (Const s) (Const t) e = composite_left s t e
   composite_left s t e = absurd (false≢true e)
 
-  composites_left : (ss ts : Tys) → all_agree loose ss ts ≡ true → all_agree (λ m n. m == n || m == 0) ss (composites ss ts) ≡ true
+  composites_left : (ss ts : Tys) → all_agree loose ss ts ≡ true →
+      all_agree (λ m n. m == n || m == 0) ss (composites ss ts) ≡ true
   composites_left no_types no_types e = refl
   composites_left (also s ss) (also t ts) e =
       let p = and_parts (compatible s t) (all_agree loose ss ts) e in
-      and_from (refines s (composite s t)) (all_agree (λ m n. m == n || m == 0) ss (composites ss ts)) (composite_left s t p.0) (composites_left ss ts p.1)
+      and_from (refines s (composite s t)) (all_agree (λ m n. m == n || m == 0) ss (composites ss ts))
+      (composite_left s t p.0) (composites_left ss ts p.1)
   composites_left ss ts e = absurd (false≢true e)
 
 mutual
@@ -230,17 +248,22 @@ mutual
   composite_right (Pointer s) (Pointer t) e = composite_right s t e
   composite_right (Array s m) (Array t n) e =
       let p = and_parts (compatible s t) (loose m n) e in
-      and_from (refines t (composite s t)) (n == max m n || n == 0) (composite_right s t p.0) (right_length m n (lengths_are m n p.1))
-  composite_right (Tagged m) (Tagged n) e = ap (λ c. refines (Tagged n) (Tagged c)) (eqb-true m n e) ∙ refines_self (Tagged n)
+      and_from (refines t (composite s t)) (n == max m n || n == 0) (composite_right s t p.0)
+      (right_length m n (lengths_are m n p.1))
+  composite_right (Tagged m) (Tagged n) e =
+      ap (λ c. refines (Tagged n) (Tagged c)) (eqb-true m n e) ∙ refines_self (Tagged n)
   composite_right (Function r ps) (Function s qs) e =
       let p = and_parts (compatible r s) (all_agree loose ps qs) e in
-      and_from (refines s (composite r s)) (all_agree (λ m n. m == n || m == 0) qs (composites ps qs)) (composite_right r s p.0) (composites_right ps qs p.1)
+      and_from (refines s (composite r s)) (all_agree (λ m n. m == n || m == 0) qs (composites ps qs))
+      (composite_right r s p.0) (composites_right ps qs p.1)
   composite_right (Const s) (Const t) e = composite_right s t e
   composite_right s t e = absurd (false≢true e)
 
-  composites_right : (ss ts : Tys) → all_agree loose ss ts ≡ true → all_agree (λ m n. m == n || m == 0) ts (composites ss ts) ≡ true
+  composites_right : (ss ts : Tys) → all_agree loose ss ts ≡ true →
+      all_agree (λ m n. m == n || m == 0) ts (composites ss ts) ≡ true
   composites_right no_types no_types e = refl
   composites_right (also s ss) (also t ts) e =
       let p = and_parts (compatible s t) (all_agree loose ss ts) e in
-      and_from (refines t (composite s t)) (all_agree (λ m n. m == n || m == 0) ts (composites ss ts)) (composite_right s t p.0) (composites_right ss ts p.1)
+      and_from (refines t (composite s t)) (all_agree (λ m n. m == n || m == 0) ts (composites ss ts))
+      (composite_right s t p.0) (composites_right ss ts p.1)
   composites_right ss ts e = absurd (false≢true e)

@@ -1,5 +1,6 @@
 -- Multiples of powers of two, and the alignments of types over the tags so far.
-use Rattle.std.proofs.Common.{◌≡◌, ℕ, zero, suc, ◌+◌, ◌-◌, ◌*◌, ◌^◌, ◌<◌, ◌≤◌, max, List, [], ◌∷◌, Option, Some, None, refl, sym, ap, subst, ◌∙◌, inl, inr, arith}
+use Rattle.std.proofs.Common.{◌≡◌, ℕ, zero, suc, ◌+◌, ◌-◌, ◌*◌, ◌^◌, ◌<◌, ◌≤◌, max, List, [], ◌∷◌, Option, Some, None}
+use Rattle.std.proofs.Common.{refl, sym, ap, subst, ◌∙◌, inl, inr, arith}
 use Rattle.std.specs.Prelude.{slice_get}
 use Rattle.std.proofs.lemmas.Bool.{cases_lt}
 use Rattle.std.proofs.lemmas.Option.{none-some, same_Some}
@@ -92,7 +93,8 @@ times_aligns n None h x e = absurd (none-some x e)
 times_aligns zero (Some y) h x e = absurd (none-some x e)
 times_aligns (suc n) (Some y) h x e =
     let a = h y refl in
-    some_aligns (record { size = suc n * y.size; align = y.align }) (record { power = a.power; size = multiple_times (suc n) y.size y.align a.size }) x e
+    some_aligns (record { size = suc n * y.size; align = y.align })
+    (record { power = a.power; size = multiple_times (suc n) y.size y.align a.size }) x e
 
 pub member_align_power : (y : Extent) → IsPower y.align → IsPower (member_align y)
 member_align_power y p = max_power _ _ p (alignment_is_power y.size)
@@ -103,11 +105,17 @@ behind_power y x p q = max_power _ _ q (member_align_power y p)
 abbrev Powered : Option Extent → Type 0
 Powered o = (x : Extent) → o ≡ Some x → IsPower x.align
 
-tree_members_power : (place : Extent → Extent → Extent) → ((y x : Extent) → IsPower y.align → IsPower x.align → IsPower (place y x).align) → (go : Ty → Option Extent) → ((t : Ty) → Aligns (go t)) → (ms : List (Span × Ty)) (w : Extent) → IsPower w.align → Powered (tree_members place go ms w)
+tree_members_power : (place : Extent → Extent → Extent) →
+    ((y x : Extent) → IsPower y.align → IsPower x.align → IsPower (place y x).align) → (go : Ty → Option Extent) →
+    ((t : Ty) → Aligns (go t)) → (ms : List (Span × Ty)) (w : Extent) → IsPower w.align →
+    Powered (tree_members place go ms w)
 tree_members_power place k go h [] w p x e = subst (λ (y : Extent). IsPower y.align) (same_Some w x e) p
-tree_members_power place k go h (m ∷ ms) w p x e = one (go m.1) (h m.1) (λ y q z g. tree_members_power place k go h ms (place y w) (k y w q p) z g) x e
+tree_members_power place k go h (m ∷ ms) w p x e =
+    one (go m.1) (h m.1) (λ y q z g. tree_members_power place k go h ms (place y w) (k y w q p) z g) x e
   where
-    one : (o : Option Extent) → Aligns o → ((y : Extent) → IsPower y.align → Powered (tree_members place go ms (place y w))) → (x : Extent) → with_extent o (λ y. tree_members place go ms (place y w)) ≡ Some x → IsPower x.align
+    one : (o : Option Extent) → Aligns o →
+        ((y : Extent) → IsPower y.align → Powered (tree_members place go ms (place y w))) → (x : Extent) →
+        with_extent o (λ y. tree_members place go ms (place y w)) ≡ Some x → IsPower x.align
     one None h f x e = absurd (none-some x e)
     one (Some y) h f x e = f y (h y refl).power x e
 
@@ -115,11 +123,17 @@ whole_aligns : (o : Option Extent) → Powered o → Aligns (with_extent o whole
 whole_aligns None h x e = absurd (none-some x e)
 whole_aligns (Some y) h x e = some_aligns _ (record { power = h y refl; size = (_, refl) }) x e
 
-record_aligns : (k : RecordKind) (go : Ty → Option Extent) → ((t : Ty) → Aligns (go t)) → (ms : List (Span × Ty)) → Aligns (record_level k go ms)
-record_aligns Struct go h ms = whole_aligns (tree_members behind go ms no_members) (tree_members_power behind behind_power go h ms no_members (0, refl))
-record_aligns Union go h ms = whole_aligns (tree_members beside go ms no_members) (tree_members_power beside behind_power go h ms no_members (0, refl))
+record_aligns : (k : RecordKind) (go : Ty → Option Extent) → ((t : Ty) → Aligns (go t)) → (ms : List (Span × Ty)) →
+    Aligns (record_level k go ms)
+record_aligns Struct go h ms =
+    whole_aligns (tree_members behind go ms no_members)
+    (tree_members_power behind behind_power go h ms no_members (0, refl))
+record_aligns Union go h ms =
+    whole_aligns (tree_members beside go ms no_members)
+    (tree_members_power beside behind_power go h ms no_members (0, refl))
 
-members_aligns : (o : Option (List (Span × Ty))) (k : RecordKind) (go : Ty → Option Extent) → ((t : Ty) → Aligns (go t)) → Aligns (members_level o k go)
+members_aligns : (o : Option (List (Span × Ty))) (k : RecordKind) (go : Ty → Option Extent) →
+    ((t : Ty) → Aligns (go t)) → Aligns (members_level o k go)
 members_aligns None k go h = none_aligns
 members_aligns (Some ms) k go h = record_aligns k go h ms
 
@@ -127,7 +141,8 @@ tag_aligns : (o : Option Tag) (go : Ty → Option Extent) → ((t : Ty) → Alig
 tag_aligns None go h = none_aligns
 tag_aligns (Some t) go h = members_aligns t.members t.kind go h
 
-level_aligns : (ts : List Tag) (t : Ty) (go : Ty → Option Extent) → ((t : Ty) → Aligns (go t)) → Aligns (type_level ts t go)
+level_aligns : (ts : List Tag) (t : Ty) (go : Ty → Option Extent) → ((t : Ty) → Aligns (go t)) →
+    Aligns (type_level ts t go)
 level_aligns ts Void go h = none_aligns
 level_aligns ts (Int k n) go h = some_aligns _ (byte_extent k)
 level_aligns ts (Cap s) go h = some_aligns _ cap_extent
@@ -142,5 +157,6 @@ unfolding tree_extent
 tree_aligns zero ts t = none_aligns
 tree_aligns (suc d) ts t = level_aligns ts t (tree_extent d ts) (tree_aligns d ts)
 
-pub extent_aligns : (ts : List TagState) → AllTags ts → (t : Ty) (x : Extent) → type_extent ts t ≡ Some x → AlignedExtent x
+pub extent_aligns : (ts : List TagState) → AllTags ts → (t : Ty) (x : Extent) → type_extent ts t ≡ Some x →
+    AlignedExtent x
 extent_aligns ts h t x e = let d = type_deep ts h t x e in tree_aligns d.0 _ t x d.1

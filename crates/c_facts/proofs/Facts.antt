@@ -1,12 +1,16 @@
 -- What holds of each part of a program while it is typed, over the state so far, and how a state grows.
-use Rattle.std.specs.Prelude.{◌≡◌, ℕ, ◌*◌, ◌<◌, ◌≤◌, ◌⊎◌, ℤ, Bool, true, false, List, [], ◌∷◌, length, Option, Some, None, slice_get, map}
+use Rattle.std.specs.Prelude.{◌≡◌, ℕ, ◌*◌, ◌<◌, ◌≤◌, ◌⊎◌, ℤ, Bool, true, false, List, [], ◌∷◌, length, Option, Some}
+use Rattle.std.specs.Prelude.{None, slice_get, map}
 use Rattle.ck_base.specs.declared.positions.Pos.{Pos}
 use Rattle.ck_int.specs.declared.kinds.IntOp.{IntOp}
 use Rattle.c_tree.specs.Layout.{Extent, size_limit}
-use Rattle.c_tree.specs.Types.{Ty, Void, Int, Cap, Pointer, Array, Tagged, Function, Const, Tys, no_types, also, char, int, long, bare, is_function, is_integer, is_pointer, is_scalar, is_void, is_tagged}
+use Rattle.c_tree.specs.Types.{Ty, Void, Int, Cap, Pointer, Array, Tagged, Function, Const, Tys, no_types, also, char}
+use Rattle.c_tree.specs.Types.{int, long, bare, is_function, is_integer, is_pointer, is_scalar, is_void, is_tagged}
 use Rattle.c_tree.specs.Terms as tree
 use Rattle.c_tree.specs.Terms.{Shape, Term, Terms, term, no_terms, with_term, type_of, Text}
-use Rattle.c_tree.specs.Scopes.{Entity, Local, Static, Routine, Alias, Enumerator, Library, Named, Scope, Part, TagState, StaticState, LocalState, RoutineState, State, type_extent, innermost, outer_scopes}
+use Rattle.c_tree.specs.Scopes.{Entity, Local, Static, Routine, Alias, Enumerator, Library, Named, Scope, Part}
+use Rattle.c_tree.specs.Scopes.{TagState, StaticState, LocalState, RoutineState, State, type_extent, innermost}
+use Rattle.c_tree.specs.Scopes.{outer_scopes}
 use Rattle.c_tree.specs.Conversions.{is_place, designates}
 use Rattle.c_tree.specs.Expressions.{is_modifiable, as_qualified, given_type}
 use Rattle.c_tree.specs.Declarators.{in_int, is_given, record_extent}
@@ -14,7 +18,8 @@ use Rattle.c_tree.specs.Declarations.{is_open}
 use Rattle.c_tree.specs.Libraries.{Service, services}
 use Rattle.c_tree.specs.TreeLayout.{tree_extent}
 use Rattle.c_tree.specs.Programs.{tag_of}
-use Rattle.c_tree.specs.WellTyped.{holds, IsInt, IsCap, OperandsFit, ArePromoted, Decays, UnaryFits, ArgumentsFit, AllAskedFit, list_of, ConstantFits}
+use Rattle.c_tree.specs.WellTyped.{holds, IsInt, IsCap, OperandsFit, ArePromoted, Decays, UnaryFits, ArgumentsFit}
+use Rattle.c_tree.specs.WellTyped.{AllAskedFit, list_of, ConstantFits}
 use Rattle.c_facts.proofs.Agreeing.{refines}
 
 -- what is asked where the truth value says so
@@ -37,7 +42,8 @@ may_be_const (Function r ps) = false
 may_be_const (Const t) = false
 may_be_const t = true
 
--- A type that declarators make: arrays are within the limit, functions give and take what they may, and a qualifier stands once
+-- A type that declarators make: arrays are within the limit, functions give and take what they may, and a qualifier
+-- stands once
 abbrev mutual
   pub TypeOk : List TagState → Ty → Type 0
   TypeOk tags Void = Unit {0}
@@ -69,7 +75,8 @@ abbrev pub IsUsed : Option Pos → Type 0
 IsUsed u = (p : Pos) × (u ≡ Some p)
 
 abbrev pub LiteralOk : Bool → State → ℕ → Ty → Type 0
-LiteralOk m s k t = (n : ℕ) × (t ≡ Array char n) × (n ≤ size_limit) × When m ((x : Text) × (slice_get s.texts k ≡ Some x) × (n ≡ length x.bytes))
+LiteralOk m s k t = (n : ℕ) × (t ≡ Array char n) × (n ≤ size_limit) ×
+    When m ((x : Text) × (slice_get s.texts k ≡ Some x) × (n ≡ length x.bytes))
 
 abbrev pub LocalOk : State → ℕ → Ty → Type 0
 LocalOk s k t = (v : LocalState) × (slice_get s.locals k ≡ Some v) × holds (refines t v.of)
@@ -92,11 +99,13 @@ SumOk tags minus s u t =
 
 abbrev pub CompoundOk : List TagState → IntOp → Ty → Ty → Ty → Type 0
 CompoundOk tags o of u t =
-    (PointsTo tags t × (of ≡ t) × holds (is_integer u)) ⊎ (holds (is_integer t) × OperandsFit o of u of × holds (is_integer of))
+    (PointsTo tags t × (of ≡ t) × holds (is_integer u)) ⊎
+    (holds (is_integer t) × OperandsFit o of u of × holds (is_integer of))
 
 abbrev pub MemberOk : List TagState → Ty → ℕ → Ty → Type 0
 MemberOk tags s k t =
-    (n : ℕ) × (g : TagState) × (ms : List Part) × (m : Part) × (bare s ≡ Tagged n) × (slice_get tags n ≡ Some g) × (g.members ≡ Some ms) × (slice_get ms k ≡ Some m)
+    (n : ℕ) × (g : TagState) × (ms : List Part) × (m : Part) × (bare s ≡ Tagged n) × (slice_get tags n ≡ Some g) ×
+    (g.members ≡ Some ms) × (slice_get ms k ≡ Some m)
     × (t ≡ as_qualified s m.of)
 
 -- what a function that is called takes: complete types without qualifiers
@@ -114,28 +123,43 @@ ShapeOk m s (tree.Literal k) no_terms t = LiteralOk m s k t
 ShapeOk m s (tree.Var k) no_terms t = When m (LocalOk s k t)
 ShapeOk m s (tree.Global k) no_terms t = When m (StaticOk s k t)
 ShapeOk m s (tree.Fun k) no_terms t = When m (RoutineOk s k t)
-ShapeOk m s tree.Load (with_term a no_terms) t = holds (designates a) × (t ≡ bare (type_of a)) × IsValue s.tags t × (t ≡ Void → holds (is_named a))
+ShapeOk m s tree.Load (with_term a no_terms) t =
+    holds (designates a) × (t ≡ bare (type_of a)) × IsValue s.tags t × (t ≡ Void → holds (is_named a))
 ShapeOk m s tree.Decay (with_term a no_terms) t = Decays (type_of a) t
 ShapeOk m s tree.Deref (with_term a no_terms) t = (type_of a ≡ Pointer t) × (Sized s.tags t ⊎ holds (is_function t))
 ShapeOk m s (tree.Member k) (with_term a no_terms) t = MemberOk s.tags (type_of a) k t
-ShapeOk m s tree.Address (with_term a no_terms) t = (holds (is_place a) ⊎ holds (is_function (type_of a))) × (t ≡ Pointer (type_of a))
-ShapeOk m s tree.Convert (with_term a no_terms) t = holds (is_void t) ⊎ (holds (is_scalar t) × holds (is_scalar (type_of a)))
+ShapeOk m s tree.Address (with_term a no_terms) t =
+    (holds (is_place a) ⊎ holds (is_function (type_of a))) × (t ≡ Pointer (type_of a))
+ShapeOk m s tree.Convert (with_term a no_terms) t =
+    holds (is_void t) ⊎ (holds (is_scalar t) × holds (is_scalar (type_of a)))
 ShapeOk m s (tree.Unary o) (with_term a no_terms) t = UnaryFits o (type_of a) t
-ShapeOk m s (tree.Step adds in_front) (with_term a no_terms) t = holds (is_modifiable a) × (t ≡ bare (type_of a)) × (holds (is_integer t) ⊎ PointsTo s.tags t)
-ShapeOk m s (tree.Arithmetic o) (with_term a (with_term b no_terms)) t = IsInt t × OperandsFit o (type_of a) (type_of b) t × ArePromoted (type_of a) (type_of b)
-ShapeOk m s (tree.Capability o r) (with_term a (with_term b no_terms)) t = IsCap t × OperandsFit o (type_of a) (type_of b) t × ArePromoted (type_of a) (type_of b)
+ShapeOk m s (tree.Step adds in_front) (with_term a no_terms) t =
+    holds (is_modifiable a) × (t ≡ bare (type_of a)) × (holds (is_integer t) ⊎ PointsTo s.tags t)
+ShapeOk m s (tree.Arithmetic o) (with_term a (with_term b no_terms)) t =
+    IsInt t × OperandsFit o (type_of a) (type_of b) t × ArePromoted (type_of a) (type_of b)
+ShapeOk m s (tree.Capability o r) (with_term a (with_term b no_terms)) t =
+    IsCap t × OperandsFit o (type_of a) (type_of b) t × ArePromoted (type_of a) (type_of b)
 ShapeOk m s (tree.Plus minus) (with_term a (with_term b no_terms)) t = SumOk s.tags minus (type_of a) (type_of b) t
-ShapeOk m s tree.Difference (with_term a (with_term b no_terms)) t = PointsTo s.tags (type_of a) × PointsTo s.tags (type_of b) × (t ≡ long)
+ShapeOk m s tree.Difference (with_term a (with_term b no_terms)) t =
+    PointsTo s.tags (type_of a) × PointsTo s.tags (type_of b) × (t ≡ long)
 ShapeOk m s (tree.Compare o) (with_term a (with_term b no_terms)) t = (t ≡ int) × ComparesOk (type_of a) (type_of b)
-ShapeOk m s tree.And (with_term a (with_term b no_terms)) t = (t ≡ int) × holds (is_scalar (type_of a)) × holds (is_scalar (type_of b))
-ShapeOk m s tree.Or (with_term a (with_term b no_terms)) t = (t ≡ int) × holds (is_scalar (type_of a)) × holds (is_scalar (type_of b))
+ShapeOk m s tree.And (with_term a (with_term b no_terms)) t =
+    (t ≡ int) × holds (is_scalar (type_of a)) × holds (is_scalar (type_of b))
+ShapeOk m s tree.Or (with_term a (with_term b no_terms)) t =
+    (t ≡ int) × holds (is_scalar (type_of a)) × holds (is_scalar (type_of b))
 ShapeOk m s tree.Comma (with_term a (with_term b no_terms)) t = t ≡ type_of b
 ShapeOk m s tree.Assign (with_term a (with_term b no_terms)) t =
-    holds (is_modifiable a) × (t ≡ bare (type_of a)) × (type_of b ≡ t) × (holds (is_scalar t) ⊎ holds (is_tagged t)) × Complete s.tags t
-ShapeOk m s (tree.Compound o of) (with_term a (with_term b no_terms)) t = holds (is_modifiable a) × (t ≡ bare (type_of a)) × CompoundOk s.tags o of (type_of b) t
-ShapeOk m s tree.Conditional (with_term a (with_term b (with_term c no_terms))) t = holds (is_scalar (type_of a)) × (type_of b ≡ t) × (type_of c ≡ t)
-ShapeOk m s tree.Call (with_term g xs) t = (r : Ty) × (ps : Tys) × (type_of g ≡ Pointer (Function r ps)) × ArgumentsFit ps xs × (t ≡ bare r) × IsValue s.tags t × AllTaken s.tags ps
-ShapeOk m s (tree.Library k) xs t = (f : Service) × (slice_get services k ≡ Some f) × AllAskedFit f.takes xs × (t ≡ given_type f.gives (list_of xs))
+    holds (is_modifiable a) × (t ≡ bare (type_of a)) × (type_of b ≡ t) × (holds (is_scalar t) ⊎ holds (is_tagged t)) ×
+    Complete s.tags t
+ShapeOk m s (tree.Compound o of) (with_term a (with_term b no_terms)) t =
+    holds (is_modifiable a) × (t ≡ bare (type_of a)) × CompoundOk s.tags o of (type_of b) t
+ShapeOk m s tree.Conditional (with_term a (with_term b (with_term c no_terms))) t =
+    holds (is_scalar (type_of a)) × (type_of b ≡ t) × (type_of c ≡ t)
+ShapeOk m s tree.Call (with_term g xs) t =
+    (r : Ty) × (ps : Tys) × (type_of g ≡ Pointer (Function r ps)) × ArgumentsFit ps xs × (t ≡ bare r) ×
+    IsValue s.tags t × AllTaken s.tags ps
+ShapeOk m s (tree.Library k) xs t =
+    (f : Service) × (slice_get services k ≡ Some f) × AllAskedFit f.takes xs × (t ≡ given_type f.gives (list_of xs))
 ShapeOk m s n xs t = ⊥
 
 abbrev mutual
@@ -166,10 +190,13 @@ pub record PartOk (tags : List TagState) (m : Part) : Type 0 where
   pub type : TypeOk tags m.of
   pub complete : Complete tags m.of
 
--- A struct or union that is complete was opened, and has the layout of its members, at some number of levels and within the limit
+-- A struct or union that is complete was opened, and has the layout of its members, at some number of levels and within
+-- the limit
 pub record TagOk (tags : List TagState) (n : ℕ) (t : TagState) : Type 0 where
   pub unknown : t.members ≡ None → t.extent ≡ None
-  pub known : (ms : List Part) → t.members ≡ Some ms → (t.begun ≡ true) × (x : Extent) × (t.extent ≡ Some x) × (record_extent tags t.kind ms ≡ Some x) × (x.size ≤ size_limit)
+  pub known : (ms : List Part) → t.members ≡ Some ms →
+      (t.begun ≡ true) × (x : Extent) × (t.extent ≡ Some x) × (record_extent tags t.kind ms ≡ Some x) ×
+      (x.size ≤ size_limit)
   pub parts : (ms : List Part) (k : ℕ) (m : Part) → t.members ≡ Some ms → slice_get ms k ≡ Some m → PartOk tags m
   pub laid : (x : Extent) → t.extent ≡ Some x → (d : ℕ) × (tree_extent d (map tag_of tags) (Tagged n) ≡ Some x)
 
@@ -195,7 +222,8 @@ pub record Inv (m : Bool) (s : State) : Type 0 where
   pub tags : (k : ℕ) (t : TagState) → slice_get s.tags k ≡ Some t → TagOk s.tags k t
   pub names : AllScopes (EntityOk m s) s.scopes
   pub statics : (k : ℕ) (g : StaticState) → slice_get s.statics k ≡ Some g → TypeOk s.tags g.of
-  pub routines : (k : ℕ) (f : RoutineState) → slice_get s.routines k ≡ Some f → TypeOk s.tags f.of × holds (is_function f.of)
+  pub routines : (k : ℕ) (f : RoutineState) → slice_get s.routines k ≡ Some f →
+      TypeOk s.tags f.of × holds (is_function f.of)
   pub locals : (k : ℕ) (v : LocalState) → slice_get s.locals k ≡ Some v → TypeOk s.tags v.of
 
 -- ---- growth
@@ -207,7 +235,8 @@ pub record TagGrows (t u : TagState) : Type 0 where
   pub parts : (ms : List Part) → t.members ≡ Some ms → u ≡ t
 
 abbrev pub TagsGrow : List TagState → List TagState → Type 0
-TagsGrow ts us = (k : ℕ) (t : TagState) → slice_get ts k ≡ Some t → (u : TagState) × (slice_get us k ≡ Some u) × TagGrows t u
+TagsGrow ts us = (k : ℕ) (t : TagState) → slice_get ts k ≡ Some t →
+    (u : TagState) × (slice_get us k ≡ Some u) × TagGrows t u
 
 -- and behind a step one that is opened does
 abbrev pub OpenStay : List TagState → List TagState → Type 0
@@ -229,17 +258,22 @@ pub record LocalGrows (g h : LocalState) : Type 0 where
 -- what terms speak of
 pub record Refers (s r : State) : Type 0 where
   pub tags : TagsGrow s.tags r.tags
-  pub statics : (k : ℕ) (g : StaticState) → slice_get s.statics k ≡ Some g → (h : StaticState) × (slice_get r.statics k ≡ Some h) × StaticGrows g h
-  pub routines : (k : ℕ) (g : RoutineState) → slice_get s.routines k ≡ Some g → (h : RoutineState) × (slice_get r.routines k ≡ Some h) × RoutineGrows g h
+  pub statics : (k : ℕ) (g : StaticState) → slice_get s.statics k ≡ Some g →
+      (h : StaticState) × (slice_get r.statics k ≡ Some h) × StaticGrows g h
+  pub routines : (k : ℕ) (g : RoutineState) → slice_get s.routines k ≡ Some g →
+      (h : RoutineState) × (slice_get r.routines k ≡ Some h) × RoutineGrows g h
   pub texts : (k : ℕ) (x : Text) → slice_get s.texts k ≡ Some x → slice_get r.texts k ≡ Some x
-  pub locals : (k : ℕ) (v : LocalState) → slice_get s.locals k ≡ Some v → (w : LocalState) × (slice_get r.locals k ≡ Some w) × LocalGrows v w
+  pub locals : (k : ℕ) (v : LocalState) → slice_get s.locals k ≡ Some v →
+      (w : LocalState) × (slice_get r.locals k ≡ Some w) × LocalGrows v w
 
 -- enumeration constants stand in front
 pub data Adds (xs : List (Named Entity)) : List (Named Entity) → Type 0 where
   none : Adds xs xs
-  one : {ys : List (Named Entity)} (name : List ℕ) (z : ℤ) → holds (in_int z) → Adds xs ys → Adds xs (record { name = name; is = Enumerator z } ∷ ys)
+  one : {ys : List (Named Entity)} (name : List ℕ) (z : ℤ) → holds (in_int z) → Adds xs ys →
+      Adds xs (record { name = name; is = Enumerator z } ∷ ys)
 
--- the objects and the functions are the same up to their uses, the locals up to whether their address is taken, and nothing new waits for the end of the file
+-- the objects and the functions are the same up to their uses, the locals up to whether their address is taken, and
+-- nothing new waits for the end of the file
 abbrev pub unused_static : StaticState → StaticState
 unused_static g = record g { used = None }
 
@@ -255,8 +289,8 @@ pub record Still (s r : State) : Type 0 where
   pub routines : map unused_routine r.routines ≡ map unused_routine s.routines
   pub pending : r.pending ≡ s.pending
 
--- A state behind a step. Outer scopes stay, and behind an expression, a specifier or a declarator the innermost has new enumeration
--- constants at most
+-- A state behind a step. Outer scopes stay, and behind an expression, a specifier or a declarator the innermost has new
+-- enumeration constants at most
 pub record Grows (e : Bool) (s r : State) : Type 0 where
   pub refers : Refers s r
   pub opened : OpenStay s.tags r.tags

@@ -1,14 +1,18 @@
 -- The variables of a function as it is run: what stands at each of their numbers.
-use Rattle.std.proofs.Common.{◌≡◌, ℕ, zero, suc, ◌+◌, ◌-◌, ◌<◌, ◌≤◌, Bool, true, false, List, [], ◌∷◌, ◌++◌, length, take, drop, Some, refl, sym, ap, subst, ◌∙◌, ⊎_elim, arith}
+use Rattle.std.proofs.Common.{◌≡◌, ℕ, zero, suc, ◌+◌, ◌-◌, ◌<◌, ◌≤◌, Bool, true, false, List, [], ◌∷◌, ◌++◌, length}
+use Rattle.std.proofs.Common.{take, drop, Some, refl, sym, ap, subst, ◌∙◌, ⊎_elim, arith}
 use Rattle.std.specs.Prelude.{slice_get, map, option_map, flat_map, if◌then◌else◌}
 use Rattle.std.proofs.lemmas.Bool.{false≢true, cases_lt, lt-ltb, le-ltb}
 use Rattle.std.proofs.lemmas.List.{length-append, length-map, length-take-le, length-drop}
 use Rattle.std.proofs.lemmas.Option.{same_Some, slice_get_within, slice_get-map}
 use Rattle.c_tree.specs.Types.{Ty, Pointer, Function, Tys, bare, is_scalar}
 use Rattle.c_tree.specs.Terms.{Variable, Routine, numbers_from}
-use Rattle.c_tree.specs.Passed.{Names, by_pointer, passed, hidden_of, passed_variable, result_types, result_variable, result_pointer, written_params, passed_param, copied_param, copied_params, named_variables, param_number, variable_number, passed_routine}
+use Rattle.c_tree.specs.Passed.{Names, by_pointer, passed, hidden_of, passed_variable, result_types, result_variable}
+use Rattle.c_tree.specs.Passed.{result_pointer, written_params, passed_param, copied_param, copied_params}
+use Rattle.c_tree.specs.Passed.{named_variables, param_number, variable_number, passed_routine}
 use Rattle.c_facts.proofs.Pointers.{pointer_stays, bare_scalar_passed}
-use Rattle.c_facts.proofs.PassedHidden.{Holds, get_left, get_right, holds_append, holds_front, holds_behind, holds_at, ActionCalls, hidden_fit, hidden_plain}
+use Rattle.c_facts.proofs.PassedHidden.{Holds, get_left, get_right, holds_append, holds_front, holds_behind, holds_at}
+use Rattle.c_facts.proofs.PassedHidden.{ActionCalls, hidden_fit, hidden_plain}
 
 -- ---- lists
 
@@ -18,7 +22,8 @@ get_take (suc n) [] k l = refl
 get_take (suc n) (x ∷ xs) zero l = refl
 get_take (suc n) (x ∷ xs) (suc k) l = get_take n xs k (omega (arith, l))
 
-pub from_take : {A : Type 0} (n : ℕ) (xs : List A) (k : ℕ) (x : A) → slice_get (take n xs) k ≡ Some x → slice_get xs k ≡ Some x
+pub from_take : {A : Type 0} (n : ℕ) (xs : List A) (k : ℕ) (x : A) → slice_get (take n xs) k ≡ Some x →
+    slice_get xs k ≡ Some x
 from_take zero xs k x e = absurd cc
 from_take (suc n) [] k x e = absurd cc
 from_take (suc n) (y ∷ xs) zero x e = e
@@ -30,7 +35,8 @@ get_drop (suc n) [] j k e = refl
 get_drop (suc n) (x ∷ xs) j zero e = absurd (omega (arith, e))
 get_drop (suc n) (x ∷ xs) j (suc k) e = get_drop n xs j k (omega (arith, e))
 
-mapped : {A B : Type 0} (v : A → B) (xs : List A) (k : ℕ) (x : A) → slice_get xs k ≡ Some x → slice_get (map v xs) k ≡ Some (v x)
+mapped : {A B : Type 0} (v : A → B) (xs : List A) (k : ℕ) (x : A) → slice_get xs k ≡ Some x →
+    slice_get (map v xs) k ≡ Some (v x)
 mapped v xs k x e = slice_get-map v xs k ∙ ap (option_map v) e
 
 item_below : {A : Type 0} (xs : List A) (k : ℕ) → k < length xs → (x : A) × (slice_get xs k ≡ Some x)
@@ -88,14 +94,17 @@ module _ (P : Variable → Type 0) where
   each_append (x ∷ xs) ys f g zero v e = f 0 v e
   each_append (x ∷ xs) ys f g (suc k) v e = each_append xs ys (λ k v q. f (suc k) v q) g k v e
 
-  pub each_map : {A : Type 0} (w : A → Variable) (xs : List A) → ((k : ℕ) (x : A) → slice_get xs k ≡ Some x → P (w x)) → Each P (map w xs)
+  pub each_map : {A : Type 0} (w : A → Variable) (xs : List A) → ((k : ℕ) (x : A) → slice_get xs k ≡ Some x → P (w x)) →
+      Each P (map w xs)
   each_map w [] f k v e = absurd cc
   each_map w (x ∷ xs) f zero v e = subst P (same_Some (w x) v e) (f 0 x refl)
   each_map w (x ∷ xs) f (suc k) v e = each_map w xs (λ k x q. f (suc k) x q) k v e
 
-  each_flat : (w : Variable → List Variable) (xs : List Variable) → ((k : ℕ) (x : Variable) → slice_get xs k ≡ Some x → Each P (w x)) → Each P (flat_map w xs)
+  each_flat : (w : Variable → List Variable) (xs : List Variable) →
+      ((k : ℕ) (x : Variable) → slice_get xs k ≡ Some x → Each P (w x)) → Each P (flat_map w xs)
   each_flat w [] f k v e = absurd cc
-  each_flat w (x ∷ xs) f k v e = each_append (w x) (flat_map w xs) (f 0 x refl) (each_flat w xs (λ k x q. f (suc k) x q)) k v e
+  each_flat w (x ∷ xs) f k v e =
+      each_append (w x) (flat_map w xs) (f 0 x refl) (each_flat w xs (λ k x q. f (suc k) x q)) k v e
 
   each_if : (b : Bool) (x : Variable) → (b ≡ true → P x) → Each P (if b then x ∷ [] else [])
   each_if true x f zero v e = subst P (same_Some x v e) (f refl)
@@ -109,13 +118,17 @@ module _ (P : Variable → Type 0) where
 -- ---- numbers of variables
 
 -- a copied parameter stands behind the copied ones before it
-copied_at : (xs : List Variable) (k : ℕ) (v : Variable) → slice_get xs k ≡ Some v → by_pointer v.of ≡ true → slice_get (flat_map copied_param xs) (length (flat_map copied_param (take k xs))) ≡ Some v
+copied_at : (xs : List Variable) (k : ℕ) (v : Variable) → slice_get xs k ≡ Some v → by_pointer v.of ≡ true →
+    slice_get (flat_map copied_param xs) (length (flat_map copied_param (take k xs))) ≡ Some v
 copied_at [] k v e b = absurd cc
 copied_at (x ∷ xs) zero v e b =
     let s = same_Some x v e in
-    get_left (copied_param x) (flat_map copied_param xs) 0 v (ap (λ (x : Variable). slice_get (copied_param x) 0) s ∙ ap (λ b. slice_get (if b then v ∷ [] else []) 0) b)
+    get_left (copied_param x) (flat_map copied_param xs) 0 v
+    (ap (λ (x : Variable). slice_get (copied_param x) 0) s ∙ ap (λ b. slice_get (if b then v ∷ [] else []) 0) b)
 copied_at (x ∷ xs) (suc k) v e b =
-    get_right (copied_param x) (flat_map copied_param xs) (length (copied_param x ++ flat_map copied_param (take k xs))) (length (flat_map copied_param (take k xs))) (length-append (copied_param x) (flat_map copied_param (take k xs)))
+    get_right (copied_param x) (flat_map copied_param xs) (length (copied_param x ++ flat_map copied_param (take k xs)))
+    (length (flat_map copied_param (take k xs)))
+    (length-append (copied_param x) (flat_map copied_param (take k xs)))
     ∙ copied_at xs k v e b
 
 module _ (names : Names) (f : Routine) (enough : length f.params ≤ length f.vars) where
@@ -149,14 +162,17 @@ module _ (names : Names) (f : Routine) (enough : length f.params ≤ length f.va
       let a = holds_append vars 0 (result_pointer f ++ as_run ++ copied_params f) others named in
       let b = holds_append vars 0 (result_pointer f ++ as_run) (copied_params f) a.0 in
       let e = length-append (result_pointer f) as_run in
-      holds_at vars (0 + length (result_pointer f ++ as_run)) (length (result_pointer f) + length f.params) (copied_params f) (omega (arith, e, params_count)) b.1
+      holds_at vars (0 + length (result_pointer f ++ as_run)) (length (result_pointer f) + length f.params)
+      (copied_params f) (omega (arith, e, params_count)) b.1
 
   pub others_there : Holds vars (length (result_pointer f) + length f.params + length (copied_params f)) others
   others_there =
       let a = holds_append vars 0 (result_pointer f ++ as_run ++ copied_params f) others named in
       let d = length-append (result_pointer f ++ as_run) (copied_params f) in
       let e = length-append (result_pointer f) as_run in
-      holds_at vars (0 + length (result_pointer f ++ as_run ++ copied_params f)) (length (result_pointer f) + length f.params + length (copied_params f)) others (omega (arith, d, e, params_count)) a.1
+      holds_at vars (0 + length (result_pointer f ++ as_run ++ copied_params f))
+      (length (result_pointer f) + length f.params + length (copied_params f)) others
+      (omega (arith, d, e, params_count)) a.1
 
   -- how many there are
   pub named_count : length (named_variables f) ≡ length (result_pointer f) + length (copied_params f) + length f.vars
@@ -164,86 +180,124 @@ module _ (names : Names) (f : Routine) (enough : length f.params ≤ length f.va
       let c = length-append (result_pointer f ++ as_run ++ copied_params f) others in
       let d = length-append (result_pointer f ++ as_run) (copied_params f) in
       let e = length-append (result_pointer f) as_run in
-      let g : length others ≡ length f.vars - length f.params = length-map (drop (length f.params) f.vars) passed_variable ∙ length-drop (length f.params) f.vars in
+      let g : length others ≡ length f.vars - length f.params =
+      length-map (drop (length f.params) f.vars) passed_variable ∙ length-drop (length f.params) f.vars in
       omega (arith, c, d, e, g, params_count, enough)
 
   pub vars_count : length vars ≡ length (named_variables f) + length (hidden_of names f.body)
   vars_count = length-append (named_variables f) (hidden_of names f.body)
 
-  param_numbered : (k : ℕ) (v : Variable) → k < length f.params → slice_get f.vars k ≡ Some v → variable_number f k ≡ param_number f k (Some v)
+  param_numbered : (k : ℕ) (v : Variable) → k < length f.params → slice_get f.vars k ≡ Some v →
+      variable_number f k ≡ param_number f k (Some v)
   param_numbered k v l e =
-      ap (λ b. if b then param_number f k (slice_get f.vars k) else length (result_pointer f) + length (copied_params f) + k) (lt-ltb k (length f.params) l) ∙ ap (param_number f k) e
+      ap (λ b. if b then param_number f k (slice_get f.vars k)
+      else length (result_pointer f) + length (copied_params f) + k) (lt-ltb k (length f.params) l)
+      ∙ ap (param_number f k) e
 
-  pub other_numbered : (k : ℕ) → length f.params ≤ k → variable_number f k ≡ length (result_pointer f) + length (copied_params f) + k
-  other_numbered k l = ap (λ b. if b then param_number f k (slice_get f.vars k) else length (result_pointer f) + length (copied_params f) + k) (le-ltb k (length f.params) l)
+  pub other_numbered : (k : ℕ) → length f.params ≤ k →
+      variable_number f k ≡ length (result_pointer f) + length (copied_params f) + k
+  other_numbered k l = ap (λ b. if b then param_number f k (slice_get f.vars k)
+      else length (result_pointer f) + length (copied_params f) + k) (le-ltb k (length f.params) l)
 
   abbrev before : ℕ → ℕ
   before k = length (flat_map copied_param (take k (written_params f)))
 
-  param_there : (k : ℕ) (v : Variable) → k < length f.params → slice_get f.vars k ≡ Some v → (b : Bool) → by_pointer v.of ≡ b → slice_get vars (variable_number f k) ≡ Some (passed_variable v)
+  param_there : (k : ℕ) (v : Variable) → k < length f.params → slice_get f.vars k ≡ Some v → (b : Bool) →
+      by_pointer v.of ≡ b → slice_get vars (variable_number f k) ≡ Some (passed_variable v)
   param_there k v l e true b =
       let n : variable_number f k ≡ length (result_pointer f) + length f.params + before k =
-      param_numbered k v l e ∙ ap (λ b. length (result_pointer f) + (if b then length f.params + before k else k)) b ∙ omega arith in
+      param_numbered k v l e ∙ ap (λ b. length (result_pointer f) + (if b then length f.params + before k else k)) b
+      ∙ omega arith in
       let w : slice_get (written_params f) k ≡ Some v = get_take (length f.params) f.vars k l ∙ e in
-      ap (slice_get vars) n ∙ copies_there (before k) v (copied_at (written_params f) k v w b) ∙ ap Some (sym (copy_kept v b))
+      ap (slice_get vars) n ∙ copies_there (before k) v (copied_at (written_params f) k v w b)
+      ∙ ap Some (sym (copy_kept v b))
   param_there k v l e false b =
-      let n : variable_number f k ≡ length (result_pointer f) + k = param_numbered k v l e ∙ ap (λ b. length (result_pointer f) + (if b then length f.params + before k else k)) b in
+      let n : variable_number f k ≡ length (result_pointer f) + k =
+      param_numbered k v l e ∙ ap (λ b. length (result_pointer f)
+      + (if b then length f.params + before k else k)) b in
       let w : slice_get (written_params f) k ≡ Some v = get_take (length f.params) f.vars k l ∙ e in
-      ap (slice_get vars) n ∙ params_there k (passed_param v) (mapped passed_param (written_params f) k v w) ∙ ap Some (param_plain v b)
+      ap (slice_get vars) n ∙ params_there k (passed_param v) (mapped passed_param (written_params f) k v w)
+      ∙ ap Some (param_plain v b)
 
   -- a written variable, also a parameter that is copied
-  pub variable_there : (k : ℕ) (v : Variable) → slice_get f.vars k ≡ Some v → slice_get vars (variable_number f k) ≡ Some (passed_variable v)
+  pub variable_there : (k : ℕ) (v : Variable) → slice_get f.vars k ≡ Some v →
+      slice_get vars (variable_number f k) ≡ Some (passed_variable v)
   variable_there k v e =
       ⊎_elim (λ l. param_there k v l e (by_pointer v.of) refl)
       (λ l.
       let j = k - length f.params in
       let is : k ≡ length f.params + j = omega (arith, l) in
       let d : slice_get (drop (length f.params) f.vars) j ≡ Some v = get_drop (length f.params) f.vars j k is ∙ e in
-      let n : variable_number f k ≡ length (result_pointer f) + length f.params + length (copied_params f) + j = other_numbered k l ∙ omega (arith, is) in
-      ap (slice_get vars) n ∙ others_there j (passed_variable v) (mapped passed_variable (drop (length f.params) f.vars) j v d))
+      let n : variable_number f k ≡ length (result_pointer f) + length f.params + length (copied_params f) + j =
+      other_numbered k l ∙ omega (arith, is) in
+      ap (slice_get vars) n ∙ others_there j (passed_variable v)
+      (mapped passed_variable (drop (length f.params) f.vars) j v d))
       (cases_lt k (length f.params))
 
   -- the numbers that a block declares
-  pub renumbered_below : (ks : List ℕ) → AllBelow (length f.vars) ks → AllBelow (length vars) (map (variable_number f) ks)
-  renumbered_below ks h = below_map (length f.vars) (length vars) (variable_number f) ks (λ k l. let v = item_below f.vars k l in slice_get_within vars (variable_number f k) (passed_variable v.0) (variable_there k v.0 v.1)) h
+  pub renumbered_below : (ks : List ℕ) → AllBelow (length f.vars) ks →
+      AllBelow (length vars) (map (variable_number f) ks)
+  renumbered_below ks h = below_map (length f.vars) (length vars) (variable_number f) ks
+      (λ k l. let v = item_below f.vars k l in
+      slice_get_within vars (variable_number f k) (passed_variable v.0) (variable_there k v.0 v.1)) h
 
   pub opened_below : (ks : List ℕ) → AllBelow (length f.vars) ks →
-      AllBelow (length vars) (numbers_from (length (result_pointer f) + length f.params) (length (copied_params f)) ++ map (variable_number f) ks ++ numbers_from (length (named_variables f)) (length (hidden_of names f.body)))
+      AllBelow (length vars) (numbers_from (length (result_pointer f) + length f.params) (length (copied_params f))
+      ++ map (variable_number f) ks ++ numbers_from (length (named_variables f))
+      (length (hidden_of names f.body)))
   opened_below ks h =
       let copied = numbers_from (length (result_pointer f) + length f.params) (length (copied_params f)) in
       let renumbered = map (variable_number f) ks in
-      below_append (length vars) (copied ++ renumbered) (numbers_from (length (named_variables f)) (length (hidden_of names f.body)))
-      (below_append (length vars) copied renumbered (numbers_below (length vars) (length (result_pointer f) + length f.params) (length (copied_params f)) (omega (arith, vars_count, named_count, enough))) (renumbered_below ks h))
-      (numbers_below (length vars) (length (named_variables f)) (length (hidden_of names f.body)) (omega (arith, vars_count)))
+      below_append (length vars) (copied ++ renumbered)
+      (numbers_from (length (named_variables f)) (length (hidden_of names f.body)))
+      (below_append (length vars) copied renumbered
+      (numbers_below (length vars) (length (result_pointer f) + length f.params) (length (copied_params f))
+      (omega (arith, vars_count, named_count, enough))) (renumbered_below ks h))
+      (numbers_below (length vars) (length (named_variables f)) (length (hidden_of names f.body))
+      (omega (arith, vars_count)))
 
 -- ---- the result's pointer
 
-pub result_there : (names : Names) (f : Routine) (r : Ty) (ps : Tys) → f.of ≡ Function r ps → by_pointer r ≡ true → slice_get (passed_routine names f).vars 0 ≡ Some (result_variable f (Pointer (bare r)))
+pub result_there : (names : Names) (f : Routine) (r : Ty) (ps : Tys) → f.of ≡ Function r ps → by_pointer r ≡ true →
+    slice_get (passed_routine names f).vars 0 ≡ Some (result_variable f (Pointer (bare r)))
 result_there names f r ps is b =
     let as_run = map passed_param (written_params f) in
     let others = map passed_variable (drop (length f.params) f.vars) in
-    let e : result_types f.of ≡ Pointer (bare r) ∷ [] = ap result_types is ∙ ap (λ b. if b then Pointer (bare r) ∷ [] else []) b in
+    let e : result_types f.of ≡ Pointer (bare r) ∷ [] =
+    ap result_types is ∙ ap (λ b. if b then Pointer (bare r) ∷ [] else []) b in
     let v = result_variable f (Pointer (bare r)) in
     let first : slice_get (result_pointer f) 0 ≡ Some v = ap (λ ts. slice_get (map (result_variable f) ts) 0) e in
-    get_left (named_variables f) (hidden_of names f.body) 0 v (get_left (result_pointer f ++ as_run ++ copied_params f) others 0 v (get_left (result_pointer f ++ as_run) (copied_params f) 0 v (get_left (result_pointer f) as_run 0 v first)))
+    get_left (named_variables f) (hidden_of names f.body) 0 v
+    (get_left (result_pointer f ++ as_run ++ copied_params f) others 0 v
+    (get_left (result_pointer f ++ as_run) (copied_params f) 0 v (get_left (result_pointer f) as_run 0 v first)))
 
 -- ---- each of them
 
--- what holds of the result's pointer, of each written variable, of each parameter that is a pointer to one, and of each hidden local
-pub every_variable : (P : Variable → Type 0) (names : Names) (f : Routine) → ((t : Ty) → P (result_variable f (Pointer t))) → ((k : ℕ) (v : Variable) → slice_get f.vars k ≡ Some v → P (passed_variable v)) →
-    ((v : Variable) → P (record v { of = Pointer (bare v.of); simple = true })) → Each P (hidden_of names f.body) → Each P (passed_routine names f).vars
+-- what holds of the result's pointer, of each written variable, of each parameter that is a pointer to one, and of each
+-- hidden local
+pub every_variable : (P : Variable → Type 0) (names : Names) (f : Routine) →
+    ((t : Ty) → P (result_variable f (Pointer t))) →
+    ((k : ℕ) (v : Variable) → slice_get f.vars k ≡ Some v → P (passed_variable v)) →
+    ((v : Variable) → P (record v { of = Pointer (bare v.of); simple = true })) → Each P (hidden_of names f.body) →
+    Each P (passed_routine names f).vars
 every_variable P names f result written param hidden =
     let as_run = map passed_param (written_params f) in
     let others = map passed_variable (drop (length f.params) f.vars) in
-    let in_written : (k : ℕ) (v : Variable) → slice_get (written_params f) k ≡ Some v → P (passed_variable v) = λ k v e. written k v (from_take (length f.params) f.vars k v e) in
+    let in_written : (k : ℕ) (v : Variable) → slice_get (written_params f) k ≡ Some v → P (passed_variable v) =
+    λ k v e. written k v (from_take (length f.params) f.vars k v e) in
     each_append P (named_variables f) (hidden_of names f.body)
     (each_append P (result_pointer f ++ as_run ++ copied_params f) others
     (each_append P (result_pointer f ++ as_run) (copied_params f)
     (each_append P (result_pointer f) as_run
     (each_result f.of)
-    (each_map P passed_param (written_params f) (λ k v e. either P (by_pointer v.of) (record v { of = Pointer (bare v.of); simple = true }) (passed_variable v) (λ b. param v) (λ b. in_written k v e))))
-    (each_flat P copied_param (written_params f) (λ k v e. each_if P (by_pointer v.of) v (λ b. subst P (copy_kept v b) (in_written k v e)))))
-    (each_map P passed_variable (drop (length f.params) f.vars) (λ k v e. written (length f.params + k) v (sym (get_drop (length f.params) f.vars k (length f.params + k) refl) ∙ e))))
+    (each_map P passed_param (written_params f)
+    (λ k v e. either P (by_pointer v.of) (record v { of = Pointer (bare v.of); simple = true })
+    (passed_variable v) (λ b. param v) (λ b. in_written k v e))))
+    (each_flat P copied_param (written_params f)
+    (λ k v e. each_if P (by_pointer v.of) v (λ b. subst P (copy_kept v b) (in_written k v e)))))
+    (each_map P passed_variable (drop (length f.params) f.vars)
+    (λ k v e. written (length f.params + k) v
+    (sym (get_drop (length f.params) f.vars k (length f.params + k) refl) ∙ e))))
     hidden
   where
     each_result : (t : Ty) → Each P (map (result_variable f) (result_types t))
@@ -254,13 +308,18 @@ every_variable P names f result written param hidden =
         by false k v e = absurd cc
     each_result t = each_none P
 
-pub passed_complete : (C : Ty → Type 0) (names : Names) (f : Routine) → ((t : Ty) → C (Pointer t)) → ((k : ℕ) (v : Variable) → slice_get f.vars k ≡ Some v → C (passed v.of)) → ActionCalls C f.body →
+pub passed_complete : (C : Ty → Type 0) (names : Names) (f : Routine) → ((t : Ty) → C (Pointer t)) →
+    ((k : ℕ) (v : Variable) → slice_get f.vars k ≡ Some v → C (passed v.of)) → ActionCalls C f.body →
     (k : ℕ) (v : Variable) → slice_get (passed_routine names f).vars k ≡ Some v → C v.of
 passed_complete C names f pointer written calls =
-    every_variable (λ v. C v.of) names f (λ t. pointer t) (λ k v e. written k v e) (λ v. pointer (bare v.of)) (λ j v e. (hidden_fit C names f.body calls j v e).0)
+    every_variable (λ v. C v.of) names f (λ t. pointer t) (λ k v e. written k v e) (λ v. pointer (bare v.of))
+    (λ j v e. (hidden_fit C names f.body calls j v e).0)
 
-pub passed_simple : (names : Names) (f : Routine) → ((k : ℕ) (v : Variable) → slice_get f.vars k ≡ Some v → v.simple ≡ true → is_scalar (bare v.of) ≡ true) →
-    (k : ℕ) (v : Variable) → slice_get (passed_routine names f).vars k ≡ Some v → v.simple ≡ true → is_scalar (bare v.of) ≡ true
+pub passed_simple : (names : Names) (f : Routine) →
+    ((k : ℕ) (v : Variable) → slice_get f.vars k ≡ Some v → v.simple ≡ true → is_scalar (bare v.of) ≡ true) →
+    (k : ℕ) (v : Variable) → slice_get (passed_routine names f).vars k ≡ Some v → v.simple ≡ true →
+    is_scalar (bare v.of) ≡ true
 passed_simple names f written =
-    every_variable (λ v. v.simple ≡ true → is_scalar (bare v.of) ≡ true) names f (λ t s. refl) (λ k v e s. bare_scalar_passed v.of ∙ written k v e s) (λ v s. refl)
+    every_variable (λ v. v.simple ≡ true → is_scalar (bare v.of) ≡ true) names f (λ t s. refl)
+    (λ k v e s. bare_scalar_passed v.of ∙ written k v e s) (λ v s. refl)
     (λ j v e s. absurd (false≢true (sym (hidden_plain names f.body j v e) ∙ s)))

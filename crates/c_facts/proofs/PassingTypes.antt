@@ -1,5 +1,6 @@
 -- Types as they are run (C11 6.2.5): what stays of a type where structs and unions go by pointers.
-use Rattle.std.proofs.Common.{◌≡◌, ℕ, zero, suc, Bool, true, false, List, [], ◌∷◌, Option, Some, None, refl, sym, ap, subst, ◌∙◌}
+use Rattle.std.proofs.Common.{◌≡◌, ℕ, zero, suc, Bool, true, false, List, [], ◌∷◌, Option, Some, None, refl, sym, ap}
+use Rattle.std.proofs.Common.{subst, ◌∙◌}
 use Rattle.std.specs.Prelude.{slice_get, map, option_map, not, ◌&&◌, ◌||◌, ◌==◌, if◌then◌else◌}
 use Rattle.std.proofs.lemmas.Bool.{false≢true}
 use Rattle.std.proofs.lemmas.Option.{slice_get-map}
@@ -7,7 +8,9 @@ use Rattle.ck_base.specs.declared.positions.Span.{Span}
 use Rattle.c_tree.specs.declared.syntax.RecordKind.{RecordKind}
 use Rattle.c_tree.specs.declared.syntax.RecordKind.TheVariants.{Struct, Union}
 use Rattle.c_tree.specs.Layout.{Extent, with_extent, behind, beside, no_members, whole, times}
-use Rattle.c_tree.specs.Types.{Ty, Void, Int, Cap, Pointer, Array, Tagged, Function, Const, Tys, no_types, also, bare, qualified, is_const, is_integer, is_pointer, is_scalar, is_void, is_array, is_function, is_tagged, is_capability}
+use Rattle.c_tree.specs.Types.{Ty, Void, Int, Cap, Pointer, Array, Tagged, Function, Const, Tys, no_types, also, bare}
+use Rattle.c_tree.specs.Types.{qualified, is_const, is_integer, is_pointer, is_scalar, is_void, is_array, is_function}
+use Rattle.c_tree.specs.Types.{is_tagged, is_capability}
 use Rattle.c_tree.specs.Terms.{Tag}
 use Rattle.c_tree.specs.Scopes.{Part, TagState, type_extent, tag_extent}
 use Rattle.c_tree.specs.Expressions.{as_qualified}
@@ -15,7 +18,8 @@ use Rattle.c_tree.specs.Declarators.{is_given, members_extent, record_extent}
 use Rattle.c_tree.specs.TreeLayout.{tree_members, record_level, members_level, tag_level, type_level, tree_extent}
 use Rattle.c_tree.specs.Programs.{member_of_tag, members_of_tag, tag_of}
 use Rattle.c_tree.specs.Passed.{by_pointer, passed, all_passed, passed_member, passed_members, passed_tag}
-use Rattle.c_facts.proofs.Facts.{Complete, Sized, may_be_const, TypeOk, TypesOk, IsValue, scalar, nothing, tagged, PointsTo, PartOk, TagOk}
+use Rattle.c_facts.proofs.Facts.{Complete, Sized, may_be_const, TypeOk, TypesOk, IsValue, scalar, nothing, tagged}
+use Rattle.c_facts.proofs.Facts.{PointsTo, PartOk, TagOk}
 use Rattle.c_facts.proofs.Agreeing.{refines}
 use Rattle.c_facts.proofs.Pointers.{passed_result, passed_takes, passed_function, passed_agree}
 use Rattle.c_facts.proofs.Scalars.{branched, integer_cases}
@@ -24,7 +28,8 @@ use Rattle.c_facts.proofs.Wholes.{mapped_from}
 -- ---- kinds of types
 
 -- a function is still one
-pub function_cases : (P : Ty → Type 0) → ((r : Ty) (ps : Tys) → P (Function r ps)) → (r : Ty) (ps : Tys) → P (passed (Function r ps))
+pub function_cases : (P : Ty → Type 0) → ((r : Ty) (ps : Tys) → P (Function r ps)) → (r : Ty) (ps : Tys) →
+    P (passed (Function r ps))
 function_cases P f r ps = subst P (sym (passed_function r ps)) (f (passed_result r) (passed_takes r ps))
 
 pub bare_passed : (t : Ty) → bare (passed t) ≡ passed (bare t)
@@ -93,7 +98,8 @@ qualified_passed t = refl
 
 pub as_qualified_passed : (s t : Ty) → as_qualified (passed s) (passed t) ≡ passed (as_qualified s t)
 as_qualified_passed s t =
-    ap (λ b. if b then qualified (passed t) else passed t) (const_passed s) ∙ ap (λ u. if is_const s then u else passed t) (qualified_passed t) ∙ by (is_const s)
+    ap (λ b. if b then qualified (passed t) else passed t) (const_passed s)
+    ∙ ap (λ u. if is_const s then u else passed t) (qualified_passed t) ∙ by (is_const s)
   where
     by : (b : Bool) → (if b then passed (qualified t) else passed t) ≡ passed (if b then qualified t else t)
     by true = refl
@@ -114,7 +120,8 @@ passed_record t = record t { members = passed_parts t.members }
 abbrev pub passed_records : List TagState → List TagState
 passed_records ts = map passed_record ts
 
-pub record_passed : (ts : List TagState) (k : ℕ) (t : TagState) → slice_get ts k ≡ Some t → slice_get (passed_records ts) k ≡ Some (passed_record t)
+pub record_passed : (ts : List TagState) (k : ℕ) (t : TagState) → slice_get ts k ≡ Some t →
+    slice_get (passed_records ts) k ≡ Some (passed_record t)
 record_passed ts k t e = slice_get-map passed_record ts k ∙ ap (option_map passed_record) e
 
 same_extents : (o : Option TagState) → tag_extent (option_map passed_record o) ≡ tag_extent o
@@ -153,7 +160,8 @@ tagged_ok ts (Tagged n) e = tt
 tagged_ok ts t e = absurd (false≢true e)
 
 given_passed : (t : Ty) → is_given t ≡ true → is_given (passed t) ≡ true
-given_passed t e = ap (λ b. not b && not (is_function (passed t))) (array_passed t) ∙ ap (λ b. not (is_array t) && not b) (functions_passed t) ∙ e
+given_passed t e = ap (λ b. not b && not (is_function (passed t))) (array_passed t)
+    ∙ ap (λ b. not (is_array t) && not b) (functions_passed t) ∙ e
 
 mutual
   pub type_passed : (ts : List TagState) (t : Ty) → TypeOk ts t → TypeOk (passed_records ts) (passed t)
@@ -164,7 +172,8 @@ mutual
   type_passed ts (Array t n) h = (type_passed ts t h.0, h.1, extent_passed ts t ∙ h.2, h.3)
   type_passed ts (Tagged n) h = tt
   type_passed ts (Function r ps) h =
-      branched (TypeOk (passed_records ts)) (by_pointer r) (Function Void (also (Pointer (bare r)) (all_passed ps))) (Function (passed r) (all_passed ps))
+      branched (TypeOk (passed_records ts)) (by_pointer r) (Function Void (also (Pointer (bare r)) (all_passed ps)))
+      (Function (passed r) (all_passed ps))
       (λ e. (tt, refl, (tagged_ok (passed_records ts) (bare r) e, refl, types_passed ts ps h.2)))
       (λ e. (type_passed ts r h.0, given_passed r h.1, types_passed ts ps h.2))
   type_passed ts (Const t) h = (type_passed ts t h.0, may_passed t ∙ h.1)
@@ -173,39 +182,49 @@ mutual
   types_passed ts no_types h = tt
   types_passed ts (also t ps) h =
       let u = branched (λ u. TypeOk (passed_records ts) u × (bare u ≡ u)) (by_pointer t) (Pointer (bare t)) (passed t)
-      (λ e. (tagged_ok (passed_records ts) (bare t) e, refl)) (λ e. (type_passed ts t h.0, bare_passed t ∙ ap passed h.1)) in
+      (λ e. (tagged_ok (passed_records ts) (bare t) e, refl))
+      (λ e. (type_passed ts t h.0, bare_passed t ∙ ap passed h.1)) in
       (u.0, u.1, types_passed ts ps h.2)
 
 -- ---- layouts
 
-with_same : {A : Type 0} (o : Option Extent) (f g : Extent → Option A) → ((x : Extent) → f x ≡ g x) → with_extent o f ≡ with_extent o g
+with_same : {A : Type 0} (o : Option Extent) (f g : Extent → Option A) → ((x : Extent) → f x ≡ g x) →
+    with_extent o f ≡ with_extent o g
 with_same None f g h = refl
 with_same (Some x) f g h = h x
 
-members_passed : (ts : List TagState) (place : Extent → Extent → Extent) (ms : List Part) (x : Extent) → members_extent (passed_records ts) place (map passed_part ms) x ≡ members_extent ts place ms x
+members_passed : (ts : List TagState) (place : Extent → Extent → Extent) (ms : List Part) (x : Extent) →
+    members_extent (passed_records ts) place (map passed_part ms) x ≡ members_extent ts place ms x
 members_passed ts place [] x = refl
 members_passed ts place (m ∷ ms) x =
-    ap (λ o. with_extent o (λ y. members_extent (passed_records ts) place (map passed_part ms) (place y x))) (extent_passed ts m.of)
-    ∙ with_same (type_extent ts m.of) (λ y. members_extent (passed_records ts) place (map passed_part ms) (place y x)) (λ y. members_extent ts place ms (place y x)) (λ y. members_passed ts place ms (place y x))
+    ap (λ o. with_extent o (λ y. members_extent (passed_records ts) place (map passed_part ms) (place y x)))
+    (extent_passed ts m.of)
+    ∙ with_same (type_extent ts m.of) (λ y. members_extent (passed_records ts) place (map passed_part ms) (place y x))
+    (λ y. members_extent ts place ms (place y x)) (λ y. members_passed ts place ms (place y x))
 
-layout_passed : (ts : List TagState) (k : RecordKind) (ms : List Part) → record_extent (passed_records ts) k (map passed_part ms) ≡ record_extent ts k ms
+layout_passed : (ts : List TagState) (k : RecordKind) (ms : List Part) →
+    record_extent (passed_records ts) k (map passed_part ms) ≡ record_extent ts k ms
 layout_passed ts Struct ms = members_passed ts behind ms no_members
 layout_passed ts Union ms = members_passed ts beside ms no_members
 
 -- ---- the same of the program's structs and unions
 
 module _ (go now : Ty → Option Extent) (h : (t : Ty) → now (passed t) ≡ go t) where
-  tree_members_passed : (place : Extent → Extent → Extent) (ms : List (Span × Ty)) (x : Extent) → tree_members place now (map passed_member ms) x ≡ tree_members place go ms x
+  tree_members_passed : (place : Extent → Extent → Extent) (ms : List (Span × Ty)) (x : Extent) →
+      tree_members place now (map passed_member ms) x ≡ tree_members place go ms x
   tree_members_passed place [] x = refl
   tree_members_passed place (m ∷ ms) x =
       ap (λ o. with_extent o (λ y. tree_members place now (map passed_member ms) (place y x))) (h m.1)
-      ∙ with_same (go m.1) (λ y. tree_members place now (map passed_member ms) (place y x)) (λ y. tree_members place go ms (place y x)) (λ y. tree_members_passed place ms (place y x))
+      ∙ with_same (go m.1) (λ y. tree_members place now (map passed_member ms) (place y x))
+      (λ y. tree_members place go ms (place y x)) (λ y. tree_members_passed place ms (place y x))
 
-  record_level_passed : (k : RecordKind) (ms : List (Span × Ty)) → record_level k now (map passed_member ms) ≡ record_level k go ms
+  record_level_passed : (k : RecordKind) (ms : List (Span × Ty)) →
+      record_level k now (map passed_member ms) ≡ record_level k go ms
   record_level_passed Struct ms = ap (λ o. with_extent o whole) (tree_members_passed behind ms no_members)
   record_level_passed Union ms = ap (λ o. with_extent o whole) (tree_members_passed beside ms no_members)
 
-  members_level_passed : (o : Option (List (Span × Ty))) (k : RecordKind) → members_level (passed_members o) k now ≡ members_level o k go
+  members_level_passed : (o : Option (List (Span × Ty))) (k : RecordKind) →
+      members_level (passed_members o) k now ≡ members_level o k go
   members_level_passed None k = refl
   members_level_passed (Some ms) k = record_level_passed k ms
 
@@ -219,14 +238,17 @@ module _ (go now : Ty → Option Extent) (h : (t : Ty) → now (passed t) ≡ go
   type_level_passed ts (Cap s) = refl
   type_level_passed ts (Pointer t) = refl
   type_level_passed ts (Array t n) = ap (λ o. with_extent o (times n)) (h t)
-  type_level_passed ts (Tagged k) = ap (λ o. tag_level o now) (slice_get-map passed_tag ts k) ∙ tag_level_passed (slice_get ts k)
-  type_level_passed ts (Function r ps) = function_cases (λ u. type_level (map passed_tag ts) u now ≡ None) (λ q qs. refl) r ps
+  type_level_passed ts (Tagged k) =
+      ap (λ o. tag_level o now) (slice_get-map passed_tag ts k) ∙ tag_level_passed (slice_get ts k)
+  type_level_passed ts (Function r ps) =
+      function_cases (λ u. type_level (map passed_tag ts) u now ≡ None) (λ q qs. refl) r ps
   type_level_passed ts (Const t) = h t
 
 tree_passed : (d : ℕ) (ts : List Tag) (t : Ty) → tree_extent d (map passed_tag ts) (passed t) ≡ tree_extent d ts t
 unfolding tree_extent
 tree_passed zero ts t = refl
-tree_passed (suc d) ts t = type_level_passed (tree_extent d ts) (tree_extent d (map passed_tag ts)) (λ u. tree_passed d ts u) ts t
+tree_passed (suc d) ts t =
+    type_level_passed (tree_extent d ts) (tree_extent d (map passed_tag ts)) (λ u. tree_passed d ts u) ts t
 
 -- ---- the tags of the program
 
@@ -243,7 +265,8 @@ tag_shown t = ap (λ ms. let u : Tag = record { kind = t.kind; members = ms } in
 
 pub tags_shown : (ts : List TagState) → map tag_of (passed_records ts) ≡ map passed_tag (map tag_of ts)
 tags_shown [] = refl
-tags_shown (t ∷ ts) = ap (λ u. u ∷ map tag_of (passed_records ts)) (tag_shown t) ∙ ap (λ us. passed_tag (tag_of t) ∷ us) (tags_shown ts)
+tags_shown (t ∷ ts) = ap (λ u. u ∷ map tag_of (passed_records ts)) (tag_shown t)
+    ∙ ap (λ us. passed_tag (tag_of t) ∷ us) (tags_shown ts)
 
 -- ---- what holds of each tag
 
@@ -251,11 +274,13 @@ no_parts : (o : Option (List Part)) → passed_parts o ≡ None → o ≡ None
 no_parts None e = refl
 no_parts (Some ms) e = absurd cc
 
-parts_from : (o : Option (List Part)) (ns : List Part) → passed_parts o ≡ Some ns → (ms : List Part) × (o ≡ Some ms) × (map passed_part ms ≡ ns)
+parts_from : (o : Option (List Part)) (ns : List Part) → passed_parts o ≡ Some ns →
+    (ms : List Part) × (o ≡ Some ms) × (map passed_part ms ≡ ns)
 parts_from None ns e = absurd cc
 parts_from (Some ms) ns e = (ms, refl, Rattle.std.proofs.lemmas.Option.same_Some (map passed_part ms) ns e)
 
-pub tag_passed : (ts : List TagState) (n : ℕ) (t : TagState) → TagOk ts n t → TagOk (passed_records ts) n (passed_record t)
+pub tag_passed : (ts : List TagState) (n : ℕ) (t : TagState) → TagOk ts n t →
+    TagOk (passed_records ts) n (passed_record t)
 tag_passed ts n t h = record {
   unknown = λ e. h.unknown (no_parts t.members e);
   known = λ ns e.
@@ -266,8 +291,12 @@ tag_passed ts n t h = record {
       let m = parts_from t.members ns e in
       let o = mapped_from passed_part m.0 k p (ap (λ ps. slice_get ps k) m.2 ∙ q) in
       let z = h.parts m.0 k o.0 m.1 o.1 in
-      subst (PartOk (passed_records ts)) o.2 (record { type = type_passed ts o.0.of z.type; complete = complete_passed ts o.0.of z.complete });
+      subst (PartOk (passed_records ts)) o.2 (record
+      { type = type_passed ts o.0.of z.type; complete = complete_passed ts o.0.of z.complete });
   laid = λ x e.
-      let l = h.laid x e in
-      (l.0, ap (λ us. tree_extent l.0 us (Tagged n)) (tags_shown ts) ∙ tree_passed l.0 (map tag_of ts) (Tagged n) ∙ l.1);
+      let l = h.laid x e in (
+        l.0,
+        ap (λ us. tree_extent l.0 us (Tagged n)) (tags_shown ts) ∙ tree_passed l.0 (map tag_of ts) (Tagged n)
+            ∙ l.1,
+      );
 }

@@ -2,7 +2,8 @@
 use Rattle.std.proofs.Common.{◌≡◌, ℕ, ◌+◌, Bool, true, false, refl, sym, ap}
 use Rattle.std.specs.Prelude.{if◌then◌else◌}
 use Rattle.std.proofs.lemmas.Bool.{false≢true, and_parts, and_from}
-use Rattle.c_tree.specs.Types.{Ty, Void, Int, Cap, Pointer, Array, Tagged, Function, Const, Tys, no_types, also, bare, is_scalar, is_tagged, agree, all_agree, count}
+use Rattle.c_tree.specs.Types.{Ty, Void, Int, Cap, Pointer, Array, Tagged, Function, Const, Tys, no_types, also, bare}
+use Rattle.c_tree.specs.Types.{is_scalar, is_tagged, agree, all_agree, count}
 use Rattle.c_tree.specs.Passed.{by_pointer, passed, all_passed}
 
 pub pointer_stays : (t : Ty) → by_pointer t ≡ true → passed t ≡ t
@@ -24,7 +25,8 @@ passed_taken t = (if by_pointer t then Pointer (bare t) else passed t)
 pub passed_function : (r : Ty) (ps : Tys) → passed (Function r ps) ≡ Function (passed_result r) (passed_takes r ps)
 passed_function r ps = by (by_pointer r)
   where
-    by : (b : Bool) → (if b then Function Void (also (Pointer (bare r)) (all_passed ps)) else Function (passed r) (all_passed ps))
+    by : (b : Bool) → (if b then Function Void (also (Pointer (bare r)) (all_passed ps))
+        else Function (passed r) (all_passed ps))
         ≡ Function (if b then Void else passed r) (if b then also (Pointer (bare r)) (all_passed ps) else all_passed ps)
     by true = refl
     by false = refl
@@ -73,16 +75,23 @@ module _ (f : ℕ → ℕ → Bool) where
   pointer_agrees s t e = tagged_agrees (bare s) (bare t) (bare_agrees s t e)
 
   -- by what goes by a pointer
-  taken_agrees : (s t : Ty) (b c : Bool) → c ≡ b → agree f s t ≡ true → agree f (passed s) (passed t) ≡ true → agree f (if c then Pointer (bare s) else passed s) (if b then Pointer (bare t) else passed t) ≡ true
+  taken_agrees : (s t : Ty) (b c : Bool) → c ≡ b → agree f s t ≡ true → agree f (passed s) (passed t) ≡ true →
+      agree f (if c then Pointer (bare s) else passed s) (if b then Pointer (bare t) else passed t) ≡ true
   taken_agrees s t true true i e h = bare_agrees s t e
   taken_agrees s t false false i e h = h
   taken_agrees s t true false i e h = absurd (false≢true i)
   taken_agrees s t false true i e h = absurd (false≢true (sym i))
 
-  function_agrees : (r q : Ty) (ps qs : Tys) (b c : Bool) → c ≡ b → agree f r q ≡ true → agree f (passed r) (passed q) ≡ true → all_agree f (all_passed ps) (all_passed qs) ≡ true →
-      agree f (if c then Function Void (also (Pointer (bare r)) (all_passed ps)) else Function (passed r) (all_passed ps)) (if b then Function Void (also (Pointer (bare q)) (all_passed qs)) else Function (passed q) (all_passed qs)) ≡ true
-  function_agrees r q ps qs true true i e h k = and_from (agree f (bare r) (bare q)) (all_agree f (all_passed ps) (all_passed qs)) (bare_agrees r q e) k
-  function_agrees r q ps qs false false i e h k = and_from (agree f (passed r) (passed q)) (all_agree f (all_passed ps) (all_passed qs)) h k
+  function_agrees : (r q : Ty) (ps qs : Tys) (b c : Bool) → c ≡ b → agree f r q ≡ true →
+      agree f (passed r) (passed q) ≡ true → all_agree f (all_passed ps) (all_passed qs) ≡ true →
+      agree f (if c then Function Void (also (Pointer (bare r)) (all_passed ps))
+      else Function (passed r) (all_passed ps))
+      (if b then Function Void (also (Pointer (bare q)) (all_passed qs)) else Function (passed q) (all_passed qs))
+      ≡ true
+  function_agrees r q ps qs true true i e h k =
+      and_from (agree f (bare r) (bare q)) (all_agree f (all_passed ps) (all_passed qs)) (bare_agrees r q e) k
+  function_agrees r q ps qs false false i e h k =
+      and_from (agree f (passed r) (passed q)) (all_agree f (all_passed ps) (all_passed qs)) h k
   function_agrees r q ps qs true false i e h k = absurd (false≢true i)
   function_agrees r q ps qs false true i e h k = absurd (false≢true (sym i))
 
@@ -92,11 +101,14 @@ module _ (f : ℕ → ℕ → Bool) where
     passed_agree (Int j m) (Int k n) e = e
     passed_agree (Cap a) (Cap b) e = e
     passed_agree (Pointer s) (Pointer t) e = passed_agree s t e
-    passed_agree (Array s m) (Array t n) e = let p = and_parts (agree f s t) (f m n) e in and_from (agree f (passed s) (passed t)) (f m n) (passed_agree s t p.0) p.1
+    passed_agree (Array s m) (Array t n) e =
+        let p = and_parts (agree f s t) (f m n) e in
+        and_from (agree f (passed s) (passed t)) (f m n) (passed_agree s t p.0) p.1
     passed_agree (Tagged m) (Tagged n) e = e
     passed_agree (Function r ps) (Function q qs) e =
         let p = and_parts (agree f r q) (all_agree f ps qs) e in
-        function_agrees r q ps qs (by_pointer q) (by_pointer r) (pointer_agrees r q p.0) p.0 (passed_agree r q p.0) (all_passed_agree ps qs p.1)
+        function_agrees r q ps qs (by_pointer q) (by_pointer r) (pointer_agrees r q p.0) p.0 (passed_agree r q p.0)
+        (all_passed_agree ps qs p.1)
     passed_agree (Const s) (Const t) e = passed_agree s t e
     passed_agree s t e = absurd (false≢true e)
 
@@ -105,5 +117,6 @@ module _ (f : ℕ → ℕ → Bool) where
     all_passed_agree (also s ss) (also t ts) e =
         let p = and_parts (agree f s t) (all_agree f ss ts) e in
         and_from (agree f (passed_taken s) (passed_taken t)) (all_agree f (all_passed ss) (all_passed ts))
-        (taken_agrees s t (by_pointer t) (by_pointer s) (pointer_agrees s t p.0) p.0 (passed_agree s t p.0)) (all_passed_agree ss ts p.1)
+        (taken_agrees s t (by_pointer t) (by_pointer s) (pointer_agrees s t p.0) p.0 (passed_agree s t p.0))
+        (all_passed_agree ss ts p.1)
     all_passed_agree ss ts e = absurd (false≢true e)

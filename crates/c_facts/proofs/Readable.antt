@@ -82,21 +82,26 @@ third_body xs rs h r q p e = take_third xs (subst (AllGood xs) e h)
     take_third (more x (more y (more z nil))) h = h.1.1.0.body
     take_third (more x (more y (more z (more w ws)))) h = absurd h.1.1.1
 
-label_ok : (rs : List Reading) (of : Ty) (s : State) → ReadAll rs → Inv true s → (y : Option ℕ × State) → case_label rs of s ≡ Ok y → Kept true true s (λ q v. Unit {0}) y
+label_ok : (rs : List Reading) (of : Ty) (s : State) → ReadAll rs → Inv true s → (y : Option ℕ × State) →
+    case_label rs of s ≡ Ok y → Kept true true s (λ q v. Unit {0}) y
 unfolding case_label
-label_ok [] of s h i y e = given (Kept true true s (λ q v. Unit {0})) None s y e (record { inv = i; grown = grows_self true s; post = tt })
+label_ok [] of s h i y e =
+    given (Kept true true s (λ q v. Unit {0})) None s y e (record { inv = i; grown = grows_self true s; post = tt })
 label_ok (r ∷ rs) of s h i y e =
     let z = first_then (constant r s) (λ k. give (Some (case_value of k))) y e in
     let k = regain true s (λ q c. Unit {0}) z.0 i (constant_ok r s h.0 (weaker true s i) z.0 z.1) in
-    onward true true s z.0 y k (given (Kept true true z.0.1 (λ q v. Unit {0})) (Some (case_value of z.0.0)) z.0.1 y z.2 (record { inv = k.inv; grown = grows_self true z.0.1; post = tt }))
+    onward true true s z.0 y k (given (Kept true true z.0.1 (λ q v. Unit {0})) (Some (case_value of z.0.0)) z.0.1 y z.2
+    (record { inv = k.inv; grown = grows_self true z.0.1; post = tt }))
 
-good_node : (k : NodeKind) (t : Lexeme) (xs : Syns) (rs : List Reading) → KindFits k t xs → AllGood xs rs → Good (node k t xs) (reading_of k t xs rs)
+good_node : (k : NodeKind) (t : Lexeme) (xs : Syns) (rs : List Reading) → KindFits k t xs → AllGood xs rs →
+    Good (node k t xs) (reading_of k t xs rs)
 good_node k t xs rs f h =
     let exprs = good_expressions xs rs h in
     let decls = good_declared xs rs h in
     let expression : ReadsExpression (reading_of k t xs rs) = record {
       operand = λ m s i y e. expression_ok m k t xs rs s f i exprs y e;
-      type = λ m alone s i y e. regain m s (λ q t. TypeOk q.tags t) y i (kind_type_ok k t xs rs alone s decls (weaker m s i) y e);
+      type = λ m alone s i y e. regain m s (λ q t. TypeOk q.tags t) y i
+          (kind_type_ok k t xs rs alone s decls (weaker m s i) y e);
     } in
     record {
       init = record {
@@ -114,7 +119,8 @@ good_node k t xs rs f h =
       declares = λ p s o i w y e. init_declarator_ok xs rs p s (good_inits xs rs h) o i w y e;
       item = record {
         expression = expression;
-        item = λ c s o i w y e. statement_ok k t xs rs c s f (good_items xs rs h) decls (good_declares xs rs h) o i w y e;
+        item = λ c s o i w y e. statement_ok k t xs rs c s f (good_items xs rs h) decls
+            (good_declares xs rs h) o i w y e;
         label = λ of s i y e. label_ok rs of s exprs i y e;
       };
       body = λ c s o i w y e. all_items_ok c xs rs s (good_items xs rs h) o i w y e;
@@ -131,7 +137,8 @@ mutual
   all_good nil f = tt
   all_good (more x xs) f = (good x f.0, all_good xs f.1)
 
-pub externals_ok : (xs : Syns) (rs : List Reading) (s : State) → AllGood xs rs → Outside s → (y : Unit {0} × State) → all_externals rs s ≡ Ok y → Outside y.1
+pub externals_ok : (xs : Syns) (rs : List Reading) (s : State) → AllGood xs rs → Outside s → (y : Unit {0} × State) →
+    all_externals rs s ≡ Ok y → Outside y.1
 externals_ok nil [] s h o y e = given (λ (z : Unit {0} × State). Outside z.1) tt s y e o
 externals_ok (more x xs) (r ∷ rs) s h o y e =
     let z = first_then (r.external s) (λ _. all_externals rs) y e in

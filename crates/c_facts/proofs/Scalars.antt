@@ -1,12 +1,16 @@
 -- Types of integers, scalars and values, and what the makers of types give.
-use Rattle.std.proofs.Common.{◌≡◌, ℕ, ◌+◌, ◌*◌, ◌≤◌, max, Bool, true, false, List, Option, Some, None, refl, sym, ap, subst, ◌∙◌, inl, inr, ◌⊎◌, arith}
+use Rattle.std.proofs.Common.{◌≡◌, ℕ, ◌+◌, ◌*◌, ◌≤◌, max, Bool, true, false, List, Option, Some, None, refl, sym, ap}
+use Rattle.std.proofs.Common.{subst, ◌∙◌, inl, inr, ◌⊎◌, arith}
 use Rattle.std.specs.Prelude.{◌||◌, not, nat_lt, nat_le, if◌then◌else◌}
 use Rattle.std.proofs.lemmas.Option.{none-some, same_Some}
 use Rattle.std.proofs.lemmas.Bool.{false≢true, and_parts, or_left, or_right, cases_lt}
 use Rattle.ck_int.specs.declared.kinds.IntKind.{IntKind}
 use Rattle.ck_int.specs.declared.kinds.IntKind.TheVariants as kind
 use Rattle.c_tree.specs.Layout.{Extent, with_extent, times, size_limit}
-use Rattle.c_tree.specs.Types.{Ty, Void, Int, Cap, Pointer, Array, Tagged, Function, Const, Tys, no_types, also, int, bare, bare_elements, qualified, is_integer, is_pointer, is_scalar, is_void, is_array, is_function, promoted, rank, width, has_sign, same, same_truth, is_const, without_sign, common, common_promoted, common_mixed, compatible, composite, composites, all_agree}
+use Rattle.c_tree.specs.Types.{Ty, Void, Int, Cap, Pointer, Array, Tagged, Function, Const, Tys, no_types, also, int}
+use Rattle.c_tree.specs.Types.{bare, bare_elements, qualified, is_integer, is_pointer, is_scalar, is_void, is_array}
+use Rattle.c_tree.specs.Types.{is_function, promoted, rank, width, has_sign, same, same_truth, is_const, without_sign}
+use Rattle.c_tree.specs.Types.{common, common_promoted, common_mixed, compatible, composite, composites, all_agree}
 use Rattle.c_tree.specs.Scopes.{TagState, State, type_extent, has_extent, is_complete}
 use Rattle.c_tree.specs.Expressions.{as_qualified}
 use Rattle.c_tree.specs.Declarators.{is_given}
@@ -20,7 +24,8 @@ pub implied : (p c : Bool) → (not p || c) ≡ true → p ≡ true → c ≡ tr
 implied true c h e = h
 implied false c h e = absurd (false≢true e)
 
-pub branched : {X : Type 0} (P : X → Type 0) (b : Bool) (x y : X) → (b ≡ true → P x) → (b ≡ false → P y) → P (if b then x else y)
+pub branched : {X : Type 0} (P : X → Type 0) (b : Bool) (x y : X) → (b ≡ true → P x) → (b ≡ false → P y) →
+    P (if b then x else y)
 branched P true x y f g = f refl
 branched P false x y f g = g refl
 
@@ -28,7 +33,8 @@ pub void_is : (t : Ty) → is_void t ≡ true → t ≡ Void
 void_is Void e = refl
 void_is t e = absurd (false≢true e)
 
-pub integer_cases : (P : Ty → Type 0) → ((k : IntKind) (n : ℕ) → P (Int k n)) → ((s : Bool) → P (Cap s)) → (t : Ty) → is_integer t ≡ true → P t
+pub integer_cases : (P : Ty → Type 0) → ((k : IntKind) (n : ℕ) → P (Int k n)) → ((s : Bool) → P (Cap s)) → (t : Ty) →
+    is_integer t ≡ true → P t
 integer_cases P f g (Int k n) e = f k n
 integer_cases P f g (Cap s) e = g s
 integer_cases P f g t e = absurd (false≢true e)
@@ -85,7 +91,8 @@ promoted_common s t p q =
     branched IsI (same s t) s (if same_truth (has_sign s) (has_sign t) then by_rank else by_sign) (λ _. p)
     (λ _. branched IsI (same_truth (has_sign s) (has_sign t)) by_rank by_sign
     (λ _. branched IsI (nat_lt (rank s) (rank t)) t s (λ _. q) (λ _. p))
-    (λ _. branched IsI (has_sign s) (common_mixed s t) (common_mixed t s) (λ _. mixed_integer s t p q) (λ _. mixed_integer t s q p)))
+    (λ _. branched IsI (has_sign s) (common_mixed s t) (common_mixed t s) (λ _. mixed_integer s t p q)
+    (λ _. mixed_integer t s q p)))
 
 pub common_integer : (s t : Ty) → is_integer s ≡ true → is_integer t ≡ true → is_integer (common s t) ≡ true
 unfolding common
@@ -123,11 +130,14 @@ both_promoted s t e f p q =
     branched IsP (same s t) s (if same_truth (has_sign s) (has_sign t) then by_rank else by_sign) (λ _. p)
     (λ _. branched IsP (same_truth (has_sign s) (has_sign t)) by_rank by_sign
     (λ _. branched IsP (nat_lt (rank s) (rank t)) t s (λ _. q) (λ _. p))
-    (λ _. branched IsP (has_sign s) (common_mixed s t) (common_mixed t s) (λ _. mixed_promoted s t e p q) (λ _. mixed_promoted t s f q p)))
+    (λ _. branched IsP (has_sign s) (common_mixed s t) (common_mixed t s) (λ _. mixed_promoted s t e p q)
+    (λ _. mixed_promoted t s f q p)))
 
 pub common_is_promoted : (s t : Ty) → is_integer s ≡ true → is_integer t ≡ true → promoted (common s t) ≡ common s t
 unfolding common
-common_is_promoted s t p q = both_promoted (promoted s) (promoted t) (promoted_integer s p) (promoted_integer t q) (promoted_self s) (promoted_self t)
+common_is_promoted s t p q =
+    both_promoted (promoted s) (promoted t) (promoted_integer s p) (promoted_integer t q) (promoted_self s)
+    (promoted_self t)
 
 -- ---- qualifiers
 
@@ -193,7 +203,9 @@ pub as_qualified_ok : (ts : List TagState) (s t : Ty) → TypeOk ts t → TypeOk
 as_qualified_ok ts s t h = branched (TypeOk ts) (is_const s) (qualified t) t (λ _. qualified_ok ts t h) (λ _. h)
 
 pub as_qualified_extent : (ts : List TagState) (s t : Ty) → type_extent ts (as_qualified s t) ≡ type_extent ts t
-as_qualified_extent ts s t = branched (λ u. type_extent ts u ≡ type_extent ts t) (is_const s) (qualified t) t (λ _. qualified_extent ts t) (λ _. refl)
+as_qualified_extent ts s t =
+    branched (λ u. type_extent ts u ≡ type_extent ts t) (is_const s) (qualified t) t (λ _. qualified_extent ts t)
+    (λ _. refl)
 
 bare_elements_extent : (ts : List TagState) (t : Ty) → type_extent ts (bare_elements t) ≡ type_extent ts t
 bare_elements_extent ts (Array t n) = ap (λ o. with_extent o (times n)) (bare_elements_extent ts t)
@@ -231,7 +243,8 @@ pub complete_is : (s : State) (t : Ty) → is_complete s t ≡ true → Complete
 complete_is s t e = extent_there (type_extent s.tags t) e
 
 -- the type of what is read: not an array, a function or void, by itself
-pub read_cases : (ts : List TagState) (t : Ty) → TypeOk ts t → is_array t ≡ false → is_function t ≡ false → (is_scalar (bare t) ≡ true) ⊎ ((bare t ≡ Void) ⊎ ((n : ℕ) × (bare t ≡ Tagged n)))
+pub read_cases : (ts : List TagState) (t : Ty) → TypeOk ts t → is_array t ≡ false → is_function t ≡ false →
+    (is_scalar (bare t) ≡ true) ⊎ ((bare t ≡ Void) ⊎ ((n : ℕ) × (bare t ≡ Tagged n)))
 read_cases ts Void h a f = inr (inl refl)
 read_cases ts (Int k n) h a f = inl refl
 read_cases ts (Cap s) h a f = inl refl
@@ -329,7 +342,8 @@ longer m n size p q =
     ]
 
 mutual
-  pub composite_ok : (ts : List TagState) (s t : Ty) → compatible s t ≡ true → TypeOk ts s → TypeOk ts t → TypeOk ts (composite s t)
+  pub composite_ok : (ts : List TagState) (s t : Ty) → compatible s t ≡ true → TypeOk ts s → TypeOk ts t →
+      TypeOk ts (composite s t)
   composite_ok ts Void Void e p q = p
   composite_ok ts (Int j m) (Int k n) e p q = p
   composite_ok ts (Cap a) (Cap b) e p q = p
@@ -338,8 +352,12 @@ mutual
       let c = and_parts (compatible s t) (loose m n) e in
       let a = refined_extent ts s (composite s t) p.1 (composite_left s t c.0) p.2 in
       let b = refined_extent ts t (composite s t) q.1 (composite_right s t c.0) q.2 in
-      let i : q.1 ≡ p.1 = same_Some q.1 p.1 (sym b ∙ a) in
-      (composite_ok ts s t c.0 p.0 q.0, p.1, a, longer m n p.1.size p.3 (subst (λ (x : Extent). n * x.size ≤ size_limit) i q.3))
+      let i : q.1 ≡ p.1 = same_Some q.1 p.1 (sym b ∙ a) in (
+        composite_ok ts s t c.0 p.0 q.0,
+        p.1,
+        a,
+        longer m n p.1.size p.3 (subst (λ (x : Extent). n * x.size ≤ size_limit) i q.3),
+      )
   composite_ok ts (Tagged m) (Tagged n) e p q = p
   composite_ok ts (Function r ps) (Function s qs) e p q =
       let c = and_parts (compatible r s) (all_agree loose ps qs) e in
@@ -347,7 +365,8 @@ mutual
   composite_ok ts (Const s) (Const t) e p q = (composite_ok ts s t e p.0 q.0, composite_may s t e p.1)
   composite_ok ts s t e p q = absurd (false≢true e)
 
-  composites_ok : (ts : List TagState) (ss us : Tys) → all_agree loose ss us ≡ true → TypesOk ts ss → TypesOk ts us → TypesOk ts (composites ss us)
+  composites_ok : (ts : List TagState) (ss us : Tys) → all_agree loose ss us ≡ true → TypesOk ts ss → TypesOk ts us →
+      TypesOk ts (composites ss us)
   composites_ok ts no_types no_types e p q = tt
   composites_ok ts (also s ss) (also u us) e p q =
       let c = and_parts (compatible s u) (all_agree loose ss us) e in

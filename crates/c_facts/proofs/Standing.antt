@@ -29,9 +29,11 @@ pub record BodyStands (s : State) (t : Ty) (b : Body) : Type 0 where
 -- nothing is used that is not defined, and each object is complete
 pub record Standing (s : State) : Type 0 where
   pub inv : Inv true s
-  pub bodies : (k : ℕ) (f : RoutineState) (b : Body) → slice_get s.routines k ≡ Some f → f.body ≡ Some b → BodyStands s f.of b
+  pub bodies : (k : ℕ) (f : RoutineState) (b : Body) → slice_get s.routines k ≡ Some f → f.body ≡ Some b →
+      BodyStands s f.of b
   pub begins : Begins s
-  pub statics : (k : ℕ) (g : StaticState) → slice_get s.statics k ≡ Some g → Complete s.tags g.of × (IsUsed g.used → g.defined ≡ true)
+  pub statics : (k : ℕ) (g : StaticState) → slice_get s.statics k ≡ Some g →
+      Complete s.tags g.of × (IsUsed g.used → g.defined ≡ true)
   pub routines : (k : ℕ) (f : RoutineState) → slice_get s.routines k ≡ Some f → IsUsed f.used → is_there f.body ≡ true
   pub reached : (k : ℕ) (z : ℤ) → IsWaiting s.pending k z → reaches (aim_length s (To_global k)) z ≡ true
   pub main : has_main s.routines ≡ true

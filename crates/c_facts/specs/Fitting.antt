@@ -1,4 +1,5 @@
--- What cutting a file into tokens and reading them ensure of its syntax (C11 6.4.4, 6.8), so that typing does not ask for it.
+-- What cutting a file into tokens and reading them ensure of its syntax (C11 6.4.4, 6.8), so that typing does not ask
+-- for it.
 use Rattle.std.specs.Prelude.{◌≡◌, ◌≤◌, false, Some}
 use Rattle.ck_base.specs.Tokens.{Lexeme}
 use Rattle.ck_base.specs.Literals as literal
@@ -12,8 +13,8 @@ use Rattle.c_tree.specs.Statements.{is_declaration}
 abbrev pub IsStatement : Syn → Type 0
 IsStatement x = is_declaration x ≡ false
 
--- A number has a type (6.4.4.1p6), a character constant is a byte (6.4.4.4p9), and the parts of a statement that are statements are no
--- declarations
+-- A number has a type (6.4.4.1p6), a character constant is a byte (6.4.4.4p9), and the parts of a statement that are
+-- statements are no declarations
 abbrev pub KindFits : NodeKind → Lexeme → Syns → Type 0
 KindFits Kinds.Number t xs = (i : literal.IntegerType) × (literal.type_of (integer_of t.text) ≡ Some i)
 KindFits Kinds.Character t xs = character_value t.text ≤ 255

@@ -1,5 +1,6 @@
 -- The finished program is that of the state.
-use Rattle.std.proofs.Common.{◌≡◌, ℕ, Bool, List, [], ◌++◌, length, map, Some, None, Ok, Err, sym, ap, subst, ◌∙◌, arith}
+use Rattle.std.proofs.Common.{◌≡◌, ℕ, Bool, List, [], ◌++◌, length, map, Some, None, Ok, Err, sym, ap, subst, ◌∙◌}
+use Rattle.std.proofs.Common.{arith}
 use Rattle.std.specs.Prelude.{slice_get, flat_map, if◌then◌else◌}
 use Rattle.std.proofs.lemmas.List.{append-nil, take_all}
 use Rattle.c_tree.specs.declared.syntax.Tree.{Tree}
@@ -20,12 +21,23 @@ use Rattle.c_work.specs.Work.{Shows}
 use Rattle.c_copy.specs.declared.numbers.Numbers.{Numbers}
 use Rattle.c_copy.specs.Copying.{actions_in}
 use Rattle.c_passing.specs.Routines.{IsPassedProgram}
-use Rattle.c_finish.specs.Finished.{IsFinished, IsWritten, IsSyntax, IsProgram, IsMain, HaveNumbers, TagsFit, AreObjects, AreRoutines}
+use Rattle.c_finish.specs.Finished.{IsFinished, IsWritten, IsSyntax, IsProgram, IsMain, HaveNumbers, TagsFit}
+use Rattle.c_finish.specs.Finished.{AreObjects, AreRoutines}
 
 abbrev made : Work → List GlobalDef → List FunDef → List Expr → List Stmt → ℕ → Typed
-made w gs fs es ss v = record { types = w.nodes.p.types; globals = gs; literals = w.nodes.p.literals; funs = fs; exprs = es; stmts = ss; main = v }
+made w gs fs es ss v = record {
+  types = w.nodes.p.types;
+  globals = gs;
+  literals = w.nodes.p.literals;
+  funs = fs;
+  exprs = es;
+  stmts = ss;
+  main = v;
+}
 
-shows_made : (w : Work) (t : Numbers) (gs : List GlobalDef) (fs : List FunDef) (es : List Expr) (ss : List Stmt) (k v : ℕ) (s : State) → TagsFit w → HaveNumbers w t → slice_get t.functions.items k ≡ Some v → IsMain w (Some k) → AreObjects w gs → AreRoutines w es ss s (length s.routines) fs →
+shows_made : (w : Work) (t : Numbers) (gs : List GlobalDef) (fs : List FunDef) (es : List Expr) (ss : List Stmt)
+    (k v : ℕ) (s : State) → TagsFit w → HaveNumbers w t → slice_get t.functions.items k ≡ Some v → IsMain w (Some k) →
+    AreObjects w gs → AreRoutines w es ss s (length s.routines) fs →
     Shows w s → views.Shows (made w gs fs es ss v) (program_of s)
 unfolding program_of
 shows_made w t gs fs es ss k v s a n e m o r h =
@@ -34,27 +46,38 @@ shows_made w t gs fs es ss k v s a n e m o r h =
       tags = λ j c g. a j c g s h;
       objects = o s h;
       texts = h.texts;
-      routines = ap (λ (xs : List Expr). map (routine_of ts (actions_in ts xs ss)) fs) (sym (append-nil es)) ∙ ap (λ (ys : List Stmt). map (routine_of ts (actions_in ts (es ++ []) ys)) fs) (sym (append-nil ss)) ∙ r.are [] [] ∙ ap (flat_map (programs.routine_of s)) (take_all (length s.routines) s.routines (omega arith));
+      routines = ap (λ (xs : List Expr). map (routine_of ts (actions_in ts xs ss)) fs) (sym (append-nil es))
+          ∙ ap (λ (ys : List Stmt). map (routine_of ts (actions_in ts (es ++ []) ys)) fs) (sym (append-nil ss))
+          ∙ r.are [] [] ∙ ap (flat_map (programs.routine_of s)) (take_all (length s.routines) s.routines (omega arith));
       main = sym ((n.fit s h).functions k v e) ∙ ap (numbers_of s).1 (sym (m s h).1);
     }
 
-pub written_is : (w : Work) (p : Typed) (t : Numbers) (gs : List GlobalDef) (fs : List FunDef) (es : List Expr) (ss : List Stmt) (k v : ℕ) → p ≡ made w gs fs es ss v → TagsFit w → HaveNumbers w t → slice_get t.functions.items k ≡ Some v → IsMain w (Some k) → AreObjects w gs →
+pub written_is : (w : Work) (p : Typed) (t : Numbers) (gs : List GlobalDef) (fs : List FunDef) (es : List Expr)
+    (ss : List Stmt) (k v : ℕ) → p ≡ made w gs fs es ss v → TagsFit w → HaveNumbers w t →
+    slice_get t.functions.items k ≡ Some v → IsMain w (Some k) → AreObjects w gs →
     ((s : State) → Shows w s → AreRoutines w es ss s (length s.routines) fs) → IsWritten w p
-written_is w p t gs fs es ss k v q a n e m o r = λ s h. subst (λ (x : Typed). views.Shows x (program_of s)) (sym q) (shows_made w t gs fs es ss k v s a n e m o (r s h) h)
+written_is w p t gs fs es ss k v q a n e m o r =
+    λ s h. subst (λ (x : Typed). views.Shows x (program_of s)) (sym q)
+    (shows_made w t gs fs es ss k v s a n e m o (r s h) h)
 
-pub program_is : (w : Work) (tree : Tree) (p q : Typed) → tree ≡ w.tree.now → IsWritten w p → IsPassedProgram tree p q → IsOrdered q → IsProgram w q
+pub program_is : (w : Work) (tree : Tree) (p q : Typed) → tree ≡ w.tree.now → IsWritten w p → IsPassedProgram tree p q →
+    IsOrdered q → IsProgram w q
 program_is w tree p q t a b d = record {
   shows = λ s x h y. b.shows x (program_of s) (subst (λ (u : Tree). StandsAt u.nodes u.root x) (sym t) y) (a s h);
   ordered = d;
 }
 
-pub no_main : (w : Work) (s : State) (names : Names) → IsMain w None → Shows w s → ended names None s ≡ Err (fault 135 file_begins)
-no_main w s names m h = ap (λ (b : Bool). if b then Ok (passed_program names (program_of s)) else Err (fault 135 file_begins)) (m s h)
+pub no_main : (w : Work) (s : State) (names : Names) → IsMain w None → Shows w s →
+    ended names None s ≡ Err (fault 135 file_begins)
+no_main w s names m h = ap (λ (b : Bool). if b then Ok (passed_program names (program_of s))
+    else Err (fault 135 file_begins)) (m s h)
 
-pub with_main : (w : Work) (s : State) (x : Syn) (k : ℕ) (p : Typed) → IsMain w (Some k) → Shows w s → IsSyntax w x → IsProgram w p → IsFinished (ended (call_name (calls_in x)) None s) p
+pub with_main : (w : Work) (s : State) (x : Syn) (k : ℕ) (p : Typed) → IsMain w (Some k) → Shows w s → IsSyntax w x →
+    IsProgram w p → IsFinished (ended (call_name (calls_in x)) None s) p
 with_main w s x k p m h y q = record {
   program = passed_program (call_name (calls_in x)) (program_of s);
-  is = ap (λ (b : Bool). if b then Ok (passed_program (call_name (calls_in x)) (program_of s)) else Err (fault 135 file_begins)) (m s h).0;
+  is = ap (λ (b : Bool). if b then Ok (passed_program (call_name (calls_in x)) (program_of s))
+      else Err (fault 135 file_begins)) (m s h).0;
   shows = q.shows s x h y;
   ordered = q.ordered;
 }

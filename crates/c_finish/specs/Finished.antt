@@ -1,5 +1,6 @@
 -- What the end of a file gives.
-use Rattle.std.specs.Prelude.{◌≡◌, ℕ, ◌+◌, ◌<◌, ◌≤◌, true, false, List, [], ◌∷◌, ◌++◌, length, map, flat_map, take, Option, Some, None, Result, Ok, Err, option_map, slice_get}
+use Rattle.std.specs.Prelude.{◌≡◌, ℕ, ◌+◌, ◌<◌, ◌≤◌, true, false, List, [], ◌∷◌, ◌++◌, length, map, flat_map, take}
+use Rattle.std.specs.Prelude.{Option, Some, None, Result, Ok, Err, option_map, slice_get}
 use Rattle.std.specs.List.{position_or_len}
 use Rattle.ck_base.specs.declared.positions.Pos.{Pos}
 use Rattle.ck_base.specs.declared.refusal.Refusal.{Refusal}
@@ -17,7 +18,8 @@ use Rattle.c_tree.specs.declared.typed.Target.TheVariants as targets
 use Rattle.c_tree.specs.declared.typed.Typed.{Typed}
 use Rattle.c_tree.specs.Syntax.{Syn, StandsAt}
 use Rattle.c_tree.specs.Layout.{Extent, size_limit}
-use Rattle.c_tree.specs.Terms.{Aim, To_global, To_function, To_literal, Text, Block, Action, action, Actions, no_terms, Program, Tag}
+use Rattle.c_tree.specs.Terms.{Aim, To_global, To_function, To_literal, Text, Block, Action, action, Actions, no_terms}
+use Rattle.c_tree.specs.Terms.{Program, Tag}
 use Rattle.c_tree.specs.Passed.{passed_program, call_name, calls_in}
 use Rattle.c_tree.specs.Scopes.{Aiming, Body, Fault, State, StaticState, RoutineState, type_extent}
 use Rattle.c_tree.specs.Views.{Shows, IsOrdered, TagAgrees, types_of, routine_of, member_of}
@@ -46,7 +48,8 @@ Finished r (Ok p) = IsFinished r p
 Finished r (Err (Code code place)) = r ≡ Err (record { code = code; place = place })
 Finished r (Err NoMemory) = Unit {0}
 
--- the body of a function is a block, its parameters are among its variables, and it names objects and functions of the state
+-- the body of a function is a block, its parameters are among its variables, and it names objects and functions of the
+-- state
 pub record BodyFits (s : State) (b : Body) : Type 0 where
   pub vars : List ℕ
   pub parts : Actions
@@ -63,8 +66,10 @@ AimFits s (To_literal k) = (x : Text) → slice_get s.texts k ≡ Some x → len
 
 -- what typing sees to: no object is over the limit, and initial pointers and bodies fit
 pub record IsTyped (s : State) : Type 0 where
-  pub sizes : (k : ℕ) (g : StaticState) (x : Extent) → slice_get s.statics k ≡ Some g → type_extent s.tags g.of ≡ Some x → x.size ≤ size_limit
-  pub aims : (k j : ℕ) (g : StaticState) (i : List ℕ × List Aiming) (a : Aiming) → slice_get s.statics k ≡ Some g → g.initial ≡ Some i → slice_get i.1 j ≡ Some a → AimFits s a.aim
+  pub sizes : (k : ℕ) (g : StaticState) (x : Extent) → slice_get s.statics k ≡ Some g →
+      type_extent s.tags g.of ≡ Some x → x.size ≤ size_limit
+  pub aims : (k j : ℕ) (g : StaticState) (i : List ℕ × List Aiming) (a : Aiming) → slice_get s.statics k ≡ Some g →
+      g.initial ≡ Some i → slice_get i.1 j ≡ Some a → AimFits s a.aim
   pub bodies : (k : ℕ) (f : RoutineState) (b : Body) → slice_get s.routines k ≡ Some f → f.body ≡ Some b → BodyFits s b
 
 -- the work stands for some state that typing gives
@@ -94,14 +99,19 @@ abbrev pub TagFits : Work → CType → Type 0
 TagFits w c = (s : State) → works.Shows w s → TagAgrees (types_of w.nodes.p.types) (map programs.tag_of s.tags) c
 
 abbrev pub IsRecord : Work → ℕ → RecordKind → List Member → Type 0
-IsRecord w tag kind ms = (s : State) → works.Shows w s → slice_get (map programs.tag_of s.tags) tag ≡ Some (record { kind = kind; members = Some (map (member_of (types_of w.nodes.p.types)) ms) })
+IsRecord w tag kind ms = (s : State) → works.Shows w s →
+    slice_get (map programs.tag_of s.tags) tag
+    ≡ Some (record { kind = kind; members = Some (map (member_of (types_of w.nodes.p.types)) ms) })
 
 -- the members of a tag, with their types as far as they are there
 abbrev pub HasMembers : Work → ℕ → List Member → Type 0
-HasMembers w tag ms = (s : State) → works.Shows w s → Some (map (member_kept (types_of w.nodes.p.types)) ms) ≡ option_map (map part_seen) (parts_of (slice_get s.tags tag))
+HasMembers w tag ms = (s : State) → works.Shows w s →
+    Some (map (member_kept (types_of w.nodes.p.types)) ms)
+    ≡ option_map (map part_seen) (parts_of (slice_get s.tags tag))
 
 abbrev pub IsOpen : Work → ℕ → Type 0
-IsOpen w tag = (s : State) → works.Shows w s → (t : Tag) × (slice_get (map programs.tag_of s.tags) tag ≡ Some t) × (t.members ≡ None)
+IsOpen w tag = (s : State) → works.Shows w s →
+    (t : Tag) × (slice_get (map programs.tag_of s.tags) tag ≡ Some t) × (t.members ≡ None)
 
 abbrev pub TagsFit : Work → Type 0
 TagsFit w = (k : ℕ) (c : CType) → slice_get w.nodes.p.types k ≡ Some c → TagFits w c
@@ -112,30 +122,39 @@ filled f = (f.bytes.items, map works.aiming_of f.starts.items)
 
 -- the objects that are defined
 abbrev pub AreObjects : Work → List GlobalDef → Type 0
-AreObjects w os = (s : State) → works.Shows w s → map (views.object_of (types_of w.nodes.p.types)) os ≡ flat_map (programs.object_of s) s.statics
+AreObjects w os = (s : State) → works.Shows w s →
+    map (views.object_of (types_of w.nodes.p.types)) os ≡ flat_map (programs.object_of s) s.statics
 
 -- one object more
 abbrev pub AddsObject : Work → ℕ → List GlobalDef → List GlobalDef → Type 0
 AddsObject w k os ps =
-    (s : State) → works.Shows w s → k < length s.statics → map (views.object_of (types_of w.nodes.p.types)) os ≡ flat_map (programs.object_of s) (take k s.statics) →
+    (s : State) → works.Shows w s → k < length s.statics →
+    map (views.object_of (types_of w.nodes.p.types)) os ≡ flat_map (programs.object_of s) (take k s.statics) →
     map (views.object_of (types_of w.nodes.p.types)) ps ≡ flat_map (programs.object_of s) (take (k + 1) s.statics)
 
 -- the functions that are defined, over these expressions and statements and over longer lists
-pub record AreRoutines (w : Work) (exprs : List Expr) (stmts : List Stmt) (s : State) (k : ℕ) (fs : List FunDef) : Type 0 where
+pub record AreRoutines (w : Work) (exprs : List Expr) (stmts : List Stmt) (s : State) (k : ℕ) (fs : List FunDef) :
+    Type 0 where
   pub are : (xs : List Expr) (ys : List Stmt) →
-      map (routine_of (types_of w.nodes.p.types) (actions_in (types_of w.nodes.p.types) (exprs ++ xs) (stmts ++ ys))) fs ≡ flat_map (programs.routine_of s) (take k s.routines)
+      map (routine_of (types_of w.nodes.p.types) (actions_in (types_of w.nodes.p.types) (exprs ++ xs) (stmts ++ ys))) fs
+      ≡ flat_map (programs.routine_of s) (take k s.routines)
 
 pub record IsRoutine (w : Work) (exprs : List Expr) (stmts : List Stmt) (k : ℕ) (f : FunDef) : Type 0 where
-  pub is : (s : State) (r : RoutineState) → works.Shows w s → slice_get s.routines k ≡ Some r → (xs : List Expr) (ys : List Stmt) →
-      routine_of (types_of w.nodes.p.types) (actions_in (types_of w.nodes.p.types) (exprs ++ xs) (stmts ++ ys)) f ∷ [] ≡ programs.routine_of s r
+  pub is : (s : State) (r : RoutineState) → works.Shows w s → slice_get s.routines k ≡ Some r →
+      (xs : List Expr) (ys : List Stmt) →
+      routine_of (types_of w.nodes.p.types) (actions_in (types_of w.nodes.p.types) (exprs ++ xs) (stmts ++ ys)) f ∷ []
+      ≡ programs.routine_of s r
 
 -- one function more
 abbrev pub AddsRoutine : Work → ℕ → List Expr → List Stmt → List FunDef → List Expr → List Stmt → List FunDef → Type 0
-AddsRoutine w k es ss fs ds rs gs = (s : State) → works.Shows w s → k < length s.routines → AreRoutines w es ss s k fs → AreRoutines w ds rs s (k + 1) gs
+AddsRoutine w k es ss fs ds rs gs =
+    (s : State) → works.Shows w s → k < length s.routines → AreRoutines w es ss s k fs →
+    AreRoutines w ds rs s (k + 1) gs
 
 -- the number of `main`, and that there is none
 abbrev pub IsMain : Work → Option ℕ → Type 0
-IsMain w (Some k) = (s : State) → works.Shows w s → (programs.has_main s.routines ≡ true) × (position_or_len programs.is_main s.routines ≡ k)
+IsMain w (Some k) = (s : State) → works.Shows w s →
+    (programs.has_main s.routines ≡ true) × (position_or_len programs.is_main s.routines ≡ k)
 IsMain w None = (s : State) → works.Shows w s → programs.has_main s.routines ≡ false
 
 -- the lists stand for the program of each state that the work stands for, as it is written
@@ -148,5 +167,6 @@ IsSyntax w x = StandsAt w.tree.now.nodes w.tree.now.root x
 
 -- and the lists stand for the one that is run, where the calls have the names that the syntax gives them
 pub record IsProgram (w : Work) (p : Typed) : Type 0 where
-  pub shows : (s : State) (x : Syn) → works.Shows w s → IsSyntax w x → Shows p (passed_program (call_name (calls_in x)) (programs.program_of s))
+  pub shows : (s : State) (x : Syn) → works.Shows w s → IsSyntax w x →
+      Shows p (passed_program (call_name (calls_in x)) (programs.program_of s))
   pub ordered : IsOrdered p

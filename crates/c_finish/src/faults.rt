@@ -18,7 +18,8 @@ use ck_base::NoMemory;
 fn object_fault(work: &Work<'_>, uses: &Uses, k: u32, rest: Option<Found>) -> Option<Found>
     requires uses { AreUses work.now uses.now }
     requires there { k < length work.now.nodes.p.globals }
-    ensures { (s : State) (g : StaticState) → Shows work.now s → slice_get s.statics k ≡ Some g → found result ≡ onto (static_faults s g) (found rest) }
+    ensures { (s : State) (g : StaticState) → Shows work.now s → slice_get s.statics k ≡ Some g →
+        found result ≡ onto (static_faults s g) (found rest) }
 {
     let used = uses.object(k);
     let best = undefined(work.nodes.scopes.is_defined(k), used, rest);
@@ -36,7 +37,8 @@ fn object_faults(
     rest: Option<Found>,
 ) -> Result<Option<Found>, NoMemory>
     requires { AreUses work.now uses.now }
-    ensures { IfOk result (λ best. (s : State) → Shows work.now s → found best ≡ onto (flat_map (static_faults s) s.statics) (found rest)) }
+    ensures { IfOk result (λ best. (s : State) → Shows work.now s →
+        found best ≡ onto (flat_map (static_faults s) s.statics) (found rest)) }
 {
     let n = count(work.nodes.p.globals.as_slice().len())?;
     let mut best = rest;
@@ -57,7 +59,8 @@ fn function_fault(
     requires uses { AreUses work.now uses.now }
     requires definitions { HasDefinitions work.now definitions.now }
     requires there { k < length work.now.nodes.p.funs }
-    ensures { (s : State) (f : RoutineState) → Shows work.now s → slice_get s.routines k ≡ Some f → found result ≡ onto (routine_faults f) (found rest) }
+    ensures { (s : State) (f : RoutineState) → Shows work.now s → slice_get s.routines k ≡ Some f →
+        found result ≡ onto (routine_faults f) (found rest) }
 {
     let used = uses.function(k);
     let found = definition(work, definitions, k);
@@ -75,7 +78,8 @@ fn function_faults(
 ) -> Result<Option<Found>, NoMemory>
     requires uses { AreUses work.now uses.now }
     requires definitions { HasDefinitions work.now definitions.now }
-    ensures { IfOk result (λ best. (s : State) → Shows work.now s → found best ≡ onto (flat_map routine_faults s.routines) (found rest)) }
+    ensures { IfOk result (λ best. (s : State) → Shows work.now s →
+        found best ≡ onto (flat_map routine_faults s.routines) (found rest)) }
 {
     let n = count(work.nodes.p.funs.as_slice().len())?;
     let mut best = rest;
@@ -119,7 +123,8 @@ fn waiting_at(list: &[Waiting], i: usize) -> Waiting
 
 fn waiting_faults(work: &Work<'_>, rest: Option<Found>) -> Option<Found>
     requires { IsShown work.now }
-    ensures { (s : State) → Shows work.now s → found result ≡ onto (flat_map (pending_faults s) s.pending) (found rest) }
+    ensures { (s : State) → Shows work.now s →
+        found result ≡ onto (flat_map (pending_faults s) s.pending) (found rest) }
 {
     let waiting = work.waiting.as_slice();
     let n = waiting.len();

@@ -42,7 +42,16 @@ fn assembled(
     copied: Copied,
     main: u32,
 ) -> Typed
-    ensures { result ≡ record { types = work.entry.nodes.p.types; globals = globals.items; literals = work.entry.nodes.p.literals; funs = funs.items; exprs = copied.exprs.items; stmts = copied.stmts.items; main = main } }
+    ensures { result ≡ record {
+      types = work.entry.nodes.p.types;
+      globals = globals.items;
+      literals = work.entry.nodes.p.literals;
+      funs = funs.items;
+      exprs = copied.exprs.items;
+      stmts =
+          copied.stmts.items;
+      main = main;
+    } }
 {
     let Copied { exprs, stmts } = copied;
     let p = work.nodes.p;
@@ -99,7 +108,8 @@ fn ending(work: Work<'_>, definitions: &[Option<u32>]) -> Result<Typed, Refusal>
     requires definitions { HasDefinitions work definitions.now }
     requires shown { IsShown work }
     requires syntax { HasSyntax work.tree.now }
-    ensures { (s : State) (x : Syn) → Shows work.entry s → IsSyntax work.entry x → Finished (ended (call_name (calls_in x)) None s) result }
+    ensures { (s : State) (x : Syn) → Shows work.entry s → IsSyntax work.entry x →
+        Finished (ended (call_name (calls_in x)) None s) result }
 {
     let found = main_of(&work, definitions)?;
     match found {
@@ -111,13 +121,14 @@ fn ending(work: Work<'_>, definitions: &[Option<u32>]) -> Result<Typed, Refusal>
     }
 }
 
-/// The finished program, or the first rule in the file that fails at its end (130, 132, 134), or 135 at the first byte where no `main`
-/// is defined.
+/// The finished program, or the first rule in the file that fails at its end (130, 132, 134), or 135 at the first byte
+/// where no `main` is defined.
 pub fn finish(work: Work<'_>) -> Result<Typed, Refusal>
     requires whole { IsWhole work.nodes }
     requires shown { IsShown work }
     requires syntax { HasSyntax work.tree.now }
-    ensures { (s : State) (x : Syn) → Shows work.entry s → IsSyntax work.entry x → Finished (ended (call_name (calls_in x)) (earliest (last_faults s)) s) result }
+    ensures { (s : State) (x : Syn) → Shows work.entry s → IsSyntax work.entry x →
+        Finished (ended (call_name (calls_in x)) (earliest (last_faults s)) s) result }
 {
     let uses = first_uses(&work)?;
     let definitions = last_definitions(&work)?;

@@ -1,6 +1,7 @@
 //! The function `main` (C11 5.1.2.2.1).
 
-ghost use Rattle.std.specs.Prelude.{◌≡◌, ◌<◌, ◌≤◌, ℕ, Some, IfOk, MatchOption, length, slice_get, codes, bytes_eq, ◌&&◌, if◌then◌else◌};
+ghost use Rattle.std.specs.Prelude.{◌≡◌, ◌<◌, ◌≤◌, ℕ, Some, IfOk, MatchOption, length, slice_get, codes, bytes_eq};
+ghost use Rattle.std.specs.Prelude.{◌&&◌, if◌then◌else◌};
 ghost use Rattle.ck_int.specs.declared.kinds.IntKind.TheVariants as int_kinds;
 ghost use Rattle.c_tree.specs.Types.{Ty, Function, no_types, int, same, same_kind};
 ghost use Rattle.c_tree.specs.Scopes.{State, RoutineState};

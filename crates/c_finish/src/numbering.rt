@@ -21,7 +21,8 @@ fn one_more(test: bool, n: u32) -> u32
 
 fn numbers_of_objects(work: &Work<'_>) -> Result<Vec<u32>, NoMemory>
     ensures count { IfOk result (λ t. length t.items ≡ length work.now.nodes.p.globals) }
-    ensures are { IfOk result (λ t. (s : State) → Shows work.now s → (k v : ℕ) → slice_get t.items k ≡ Some v → (numbers_of s).0 k ≡ v) }
+    ensures are { IfOk result (λ t. (s : State) → Shows work.now s → (k v : ℕ) → slice_get t.items k ≡ Some v →
+        (numbers_of s).0 k ≡ v) }
 {
     let n = count(work.nodes.p.globals.as_slice().len())?;
     let mut table = Vec::new(work.nodes.alloc);
@@ -36,7 +37,8 @@ fn numbers_of_objects(work: &Work<'_>) -> Result<Vec<u32>, NoMemory>
 fn numbers_of_functions(work: &Work<'_>, definitions: &[Option<u32>]) -> Result<Vec<u32>, NoMemory>
     requires { HasDefinitions work.now definitions.now }
     ensures count { IfOk result (λ t. length t.items ≡ length work.now.nodes.p.funs) }
-    ensures are { IfOk result (λ t. (s : State) → Shows work.now s → (k v : ℕ) → slice_get t.items k ≡ Some v → (numbers_of s).1 k ≡ v) }
+    ensures are { IfOk result (λ t. (s : State) → Shows work.now s → (k v : ℕ) → slice_get t.items k ≡ Some v →
+        (numbers_of s).1 k ≡ v) }
 {
     let n = count(work.nodes.p.funs.as_slice().len())?;
     let mut table = Vec::new(work.nodes.alloc);

@@ -64,7 +64,8 @@ fn links_of(work: &Work<'_>, numbers: &Numbers, starts: &[Start]) -> Result<Vec<
     requires numbers { HaveNumbers work.now numbers.now }
     requires shown { IsShown work.now }
     requires fit { StartsFit work.now starts.now }
-    ensures { IfOk result (λ ls. (s : State) → Shows work.now s → map views.pointing_of ls.items ≡ map (pointing_of s) (map aiming_of starts.now)) }
+    ensures { IfOk result (λ ls. (s : State) → Shows work.now s →
+        map views.pointing_of ls.items ≡ map (pointing_of s) (map aiming_of starts.now)) }
 {
     let mut links = Vec::new(work.nodes.alloc);
     for i in 0..starts.len() {
@@ -83,8 +84,11 @@ fn initial(
 ) -> Result<(Vec<u8>, Vec<Link>), NoMemory>
     requires numbers { HaveNumbers work.now numbers.now }
     requires shown { IsShown work.now }
-    requires fit { (f : Given) → option_map (λ (f : Bor Given). f.now) given ≡ Some f → StartsFit work.now f.starts.items }
-    ensures { IfOk result (λ x. (s : State) → Shows work.now s → initial_of s (option_map filled (option_map (λ (f : Bor Filling). f.now) given.entry)) ≡ (x.0.items, map views.pointing_of x.1.items)) }
+    requires fit { (f : Given) → option_map (λ (f : Bor Given). f.now) given ≡ Some f →
+        StartsFit work.now f.starts.items }
+    ensures { IfOk result (λ x. (s : State) → Shows work.now s →
+        initial_of s (option_map filled (option_map (λ (f : Bor Filling). f.now) given.entry))
+        ≡ (x.0.items, map views.pointing_of x.1.items)) }
 {
     let alloc = work.nodes.alloc;
     match given {
@@ -108,7 +112,8 @@ fn object(
     requires fillings { HasFillings work.now fillings.now }
     requires there { k < length work.now.nodes.p.globals }
     requires shown { IsShown work.now }
-    ensures { IfOk result (λ o. (s : State) (g : StaticState) → Shows work.now s → slice_get s.statics k ≡ Some g → g.defined ≡ true → views.object_of (types_of work.now.nodes.p.types) o ∷ [] ≡ object_of s g) }
+    ensures { IfOk result (λ o. (s : State) (g : StaticState) → Shows work.now s → slice_get s.statics k ≡ Some g →
+        g.defined ≡ true → views.object_of (types_of work.now.nodes.p.types) o ∷ [] ≡ object_of s g) }
 {
     let given = filling(work, fillings, k);
     let (bytes, links) = initial(work, numbers, given)?;

@@ -81,7 +81,8 @@ fn add_routine(
     requires definitions { HasDefinitions work.now definitions.now }
     requires there { k < length work.now.nodes.p.funs }
     requires shown { IsShown work.now }
-    ensures { OnOk result (AddsRoutine work.now k into.old.exprs.items into.old.stmts.items list.old.items into.new.exprs.items into.new.stmts.items list.new.items) }
+    ensures { OnOk result (AddsRoutine work.now k into.old.exprs.items into.old.stmts.items list.old.items
+        into.new.exprs.items into.new.stmts.items list.new.items) }
 {
     let found = definition(work, definitions, k);
     match found {
@@ -104,7 +105,8 @@ pub(crate) fn routines(
     requires numbers { HaveNumbers work.now new.now }
     requires definitions { HasDefinitions work.now definitions.now }
     requires shown { IsShown work.now }
-    ensures { IfOk result (λ fs. (s : State) → Shows work.now s → AreRoutines work.now into.new.exprs.items into.new.stmts.items s (length s.routines) fs.items) }
+    ensures { IfOk result (λ fs. (s : State) → Shows work.now s →
+        AreRoutines work.now into.new.exprs.items into.new.stmts.items s (length s.routines) fs.items) }
 {
     let n = count(work.nodes.p.funs.as_slice().len())?;
     let mut list = Vec::new(work.nodes.alloc);

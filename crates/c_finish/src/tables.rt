@@ -1,5 +1,5 @@
-//! What counts of all that was said of each object and function, by their numbers: the first use, the last definition and the last
-//! initial value.
+//! What counts of all that was said of each object and function, by their numbers: the first use, the last definition
+//! and the last initial value.
 
 ghost use Rattle.std.specs.Prelude.{◌≡◌, ◌<◌, Some, IfOk, None, length, option_map, slice_set, slice_get};
 ghost use Rattle.c_work.specs.Work.{definition_of, UseIsThere};

@@ -1,5 +1,7 @@
 -- What an object of static storage duration begins with.
-use Rattle.std.proofs.Common.{◌≡◌, ℕ, zero, suc, ◌+◌, ◌-◌, ◌<◌, ◌≤◌, List, [], ◌∷◌, ◌++◌, length, get_or, take, drop, drop-cons, map, Option, Some, None, Result, Ok, Err, refl, sym, ap, subst, ◌∙◌, arith, append_assoc}
+use Rattle.std.proofs.Common.{◌≡◌, ℕ, zero, suc, ◌+◌, ◌-◌, ◌<◌, ◌≤◌, List, [], ◌∷◌, ◌++◌, length, get_or, take, drop}
+use Rattle.std.proofs.Common.{drop-cons, map, Option, Some, None, Result, Ok, Err, refl, sym, ap, subst, ◌∙◌, arith}
+use Rattle.std.proofs.Common.{append_assoc}
 use Rattle.std.specs.Prelude.{ℤ, pos, slice_get, reverse}
 use Rattle.std.proofs.lemmas.List.{append-nil, map_push, take_more}
 use Rattle.std.specs.Global.{Vec}
@@ -10,7 +12,8 @@ use Rattle.c_tree.specs.Readings as meant
 use Rattle.c_tree.specs.Scopes.{Pending, State, Fault, some_or, give, continued, ◌>>=◌}
 use Rattle.c_tree.specs.Statics as statics
 use Rattle.c_tree.specs.Statics.{Number, There, Entry, nothing_found, known_value, ask_for, start_slot, start_slots}
-use Rattle.c_initializers.specs.Found.{Start, with_found, found_of, pendings, asked_of, all_asked, AddsFound, Waits, FoundThere, IsFound, found_seen}
+use Rattle.c_initializers.specs.Found.{Start, with_found, found_of, pendings, asked_of, all_asked, AddsFound, Waits}
+use Rattle.c_initializers.specs.Found.{FoundThere, IsFound, found_seen}
 use Rattle.c_initializers.proofs.PlaceLaws.{drop-next}
 use Rattle.c_tree.specs.declared.typed.Typed.{Typed}
 use Rattle.c_types.specs.declared.scopes.Scopes.{Scopes}
@@ -41,22 +44,30 @@ pending-same s ps qs e = ap (λ rs. record s { pending = rs }) e
 nothing-pending : (s : State) → s ≡ with_pending s []
 nothing-pending s = pending-same s s.pending (s.pending ++ []) (sym (append-nil s.pending))
 
-ask-all : (p : Pos) (k : ℕ) (zs : List ℤ) (s : State) → ask_for p (To_global k) zs s ≡ Ok (tt, with_pending s (pendings p k zs))
+ask-all : (p : Pos) (k : ℕ) (zs : List ℤ) (s : State) →
+    ask_for p (To_global k) zs s ≡ Ok (tt, with_pending s (pendings p k zs))
 ask-all p k [] s = ap (λ t. Ok (tt, t)) (nothing-pending s)
 ask-all p k (z ∷ zs) s =
     let r : Pending = record { place = p; static = k; least = z } in
     ask-all p k zs (with_pending s (r ∷ []))
-    ∙ ap (λ t. Ok (tt, t)) (pending-same s ((s.pending ++ r ∷ []) ++ pendings p k zs) (s.pending ++ r ∷ pendings p k zs) (append_assoc s.pending (r ∷ []) (pendings p k zs)))
+    ∙ ap (λ t. Ok (tt, t)) (pending-same s ((s.pending ++ r ∷ []) ++ pendings p k zs) (s.pending ++ r ∷ pendings p k zs)
+    (append_assoc s.pending (r ∷ []) (pendings p k zs)))
 
-then-give : {A : Type 0} (d : Result (Unit {0} × State) Fault) (t : State) (a : A) → d ≡ Ok (tt, t) → continued d (λ u. give a) ≡ Ok (a, t)
+then-give : {A : Type 0} (d : Result (Unit {0} × State) Fault) (t : State) (a : A) → d ≡ Ok (tt, t) →
+    continued d (λ u. give a) ≡ Ok (a, t)
 then-give d t a e = ap (λ r. continued r (λ u. give a)) e
 
-slot-started : (s t : State) (x : meant.Slot) (v : Start) (f : statics.Found) → start_slot s x v f t ≡ Ok (with_found s x v f, with_pending t (asked_of x v))
+slot-started : (s t : State) (x : meant.Slot) (v : Start) (f : statics.Found) →
+    start_slot s x v f t ≡ Ok (with_found s x v f, with_pending t (asked_of x v))
 slot-started s t x (Number v, zs) f = ap (λ u. Ok (with_found s x (Number v, zs) f, u)) (nothing-pending t)
 slot-started s t x (Entry k, zs) f = ap (λ u. Ok (with_found s x (Entry k, zs) f, u)) (nothing-pending t)
-slot-started s t x (There (To_global k) r z, zs) f = then-give (ask_for x.first (To_global k) zs t) (with_pending t (pendings x.first k zs)) (with_found s x (There (To_global k) r z, zs) f) (ask-all x.first k zs t)
-slot-started s t x (There (To_literal k) r z, zs) f = ap (λ u. Ok (with_found s x (There (To_literal k) r z, zs) f, u)) (nothing-pending t)
-slot-started s t x (There (To_function k) r z, zs) f = ap (λ u. Ok (with_found s x (There (To_function k) r z, zs) f, u)) (nothing-pending t)
+slot-started s t x (There (To_global k) r z, zs) f =
+    then-give (ask_for x.first (To_global k) zs t) (with_pending t (pendings x.first k zs))
+    (with_found s x (There (To_global k) r z, zs) f) (ask-all x.first k zs t)
+slot-started s t x (There (To_literal k) r z, zs) f =
+    ap (λ u. Ok (with_found s x (There (To_literal k) r z, zs) f, u)) (nothing-pending t)
+slot-started s t x (There (To_function k) r z, zs) f =
+    ap (λ u. Ok (with_found s x (There (To_function k) r z, zs) f, u)) (nothing-pending t)
 
 -- what comes behind the value of the first slot
 behind : State → meant.Slot → List meant.Slot → Option Start → Result (statics.Found × State) Fault
@@ -66,7 +77,9 @@ after-rest : State → meant.Slot → Start → Result (statics.Found × State) 
 after-rest s x v r = continued r (λ f. start_slot s x v f)
 
 -- all the values are known
-pub slots-started : (s : State) (xs : List meant.Slot) (vs : List Start) → map (λ (x : meant.Slot). known_value s x.value) xs ≡ map (λ (v : Start). Some v) vs → start_slots xs s ≡ Ok (found_of s xs vs, with_pending s (all_asked xs vs))
+pub slots-started : (s : State) (xs : List meant.Slot) (vs : List Start) →
+    map (λ (x : meant.Slot). known_value s x.value) xs ≡ map (λ (v : Start). Some v) vs →
+    start_slots xs s ≡ Ok (found_of s xs vs, with_pending s (all_asked xs vs))
 unfolding behind after-rest
 slots-started s [] [] e = ap (λ t. Ok (nothing_found, t)) (nothing-pending s)
 slots-started s [] (v ∷ vs) e = absurd cc
@@ -77,27 +90,33 @@ slots-started s (x ∷ xs) (v ∷ vs) e =
     let f = found_of s xs vs in
     let t = with_pending s (all_asked xs vs) in
     ap (behind s x xs) a ∙ ap (after-rest s x v) (slots-started s xs vs b) ∙ slot-started s t x v f
-    ∙ ap (λ u. Ok (with_found s x v f, u)) (pending-same s ((s.pending ++ all_asked xs vs) ++ asked_of x v) (s.pending ++ (all_asked xs vs ++ asked_of x v)) (append_assoc s.pending (all_asked xs vs) (asked_of x v)))
+    ∙ ap (λ u. Ok (with_found s x v f, u)) (pending-same s ((s.pending ++ all_asked xs vs) ++ asked_of x v)
+    (s.pending ++ (all_asked xs vs ++ asked_of x v)) (append_assoc s.pending (all_asked xs vs) (asked_of x v)))
 
 -- nothing is known of the first
-pub first-refused : (s : State) (x : meant.Slot) (xs : List meant.Slot) → known_value s x.value ≡ None → start_slots (x ∷ xs) s ≡ Err (record { code = 134; place = x.first })
+pub first-refused : (s : State) (x : meant.Slot) (xs : List meant.Slot) → known_value s x.value ≡ None →
+    start_slots (x ∷ xs) s ≡ Err (record { code = 134; place = x.first })
 unfolding behind
 first-refused s x xs e = ap (behind s x xs) e
 
 -- the first is known, and a later one is refused
-pub later-refused : (s : State) (x : meant.Slot) (xs : List meant.Slot) (v : Start) (e : Fault) → known_value s x.value ≡ Some v → start_slots xs s ≡ Err e → start_slots (x ∷ xs) s ≡ Err e
+pub later-refused : (s : State) (x : meant.Slot) (xs : List meant.Slot) (v : Start) (e : Fault) →
+    known_value s x.value ≡ Some v → start_slots xs s ≡ Err e → start_slots (x ∷ xs) s ≡ Err e
 unfolding behind after-rest
 later-refused s x xs v e a b = ap (behind s x xs) a ∙ ap (after-rest s x v) b
 
 -- ---- lists that grow
 
-pub pushed-front : {A B : Type 0} (g : A → B) (xs zs : List A) (x : A) (y : B) (rest : List B) → zs ≡ xs ++ x ∷ [] → g x ≡ y → map g zs ++ rest ≡ map g xs ++ y ∷ rest
+pub pushed-front : {A B : Type 0} (g : A → B) (xs zs : List A) (x : A) (y : B) (rest : List B) → zs ≡ xs ++ x ∷ [] →
+    g x ≡ y → map g zs ++ rest ≡ map g xs ++ y ∷ rest
 pushed-front g xs zs x y rest e h =
-    ap (λ l. map g l ++ rest) e ∙ ap (λ l. l ++ rest) (map_push g xs x) ∙ append_assoc (map g xs) (g x ∷ []) rest ∙ ap (λ b. map g xs ++ b ∷ rest) h
+    ap (λ l. map g l ++ rest) e ∙ ap (λ l. l ++ rest) (map_push g xs x) ∙ append_assoc (map g xs) (g x ∷ []) rest
+    ∙ ap (λ b. map g xs ++ b ∷ rest) h
 
 -- ---- what the work shows then
 
-stands-waiting : (sc : Scopes) (p : Typed) (s : State) (ps : List Pending) → Stands sc p s → Stands sc p (with_pending s ps)
+stands-waiting : (sc : Scopes) (p : Typed) (s : State) (ps : List Pending) → Stands sc p s →
+    Stands sc p (with_pending s ps)
 stands-waiting sc p s ps h = record {
   scopes = h.scopes;
   tags = h.tags;
@@ -111,7 +130,8 @@ stands-waiting sc p s ps h = record {
   linked = h.linked;
 }
 
-shows-waiting : (w : Work) (v : Vec Waiting) (s : State) (ps : List Pending) → Shows w s → map pending_of v.items ≡ map pending_of w.waiting.items ++ ps → Shows (record w { waiting = v }) (with_pending s ps)
+shows-waiting : (w : Work) (v : Vec Waiting) (s : State) (ps : List Pending) → Shows w s →
+    map pending_of v.items ≡ map pending_of w.waiting.items ++ ps → Shows (record w { waiting = v }) (with_pending s ps)
 shows-waiting w v s ps h e = record {
   stands = stands-waiting w.nodes.scopes w.nodes.p s ps h.stands;
   texts = h.texts;
@@ -121,7 +141,16 @@ shows-waiting w v s ps h e = record {
   fillings = h.fillings;
   definitions = h.definitions;
   waiting = e ∙ ap (λ q. q ++ ps) h.waiting;
-  closed = record { file = h.closed.file; members = h.closed.members; values = h.closed.values; uses = h.closed.uses; addressed = h.closed.addressed; fillings = h.closed.fillings; definitions = λ k d g. let r = h.closed.definitions k d g in record { function = r.function; body = r.body; vars = r.vars } };
+  closed = record {
+    file = h.closed.file;
+    members = h.closed.members;
+    values = h.closed.values;
+    uses = h.closed.uses;
+    addressed = h.closed.addressed;
+    fillings = h.closed.fillings;
+    definitions =
+        λ k d g. let r = h.closed.definitions k d g in record { function = r.function; body = r.body; vars = r.vars };
+  };
 }
 
 keeps-waiting : (w : Work) (v : Vec Waiting) → Keeps w (record w { waiting = v })
@@ -141,8 +170,11 @@ map-both : {A B C : Type 0} (g : B → C) (f : A → B) (ys : List A) → map g 
 map-both g f [] = refl
 map-both g f (y ∷ ys) = ap (λ l. g (f y) ∷ l) (map-both g f ys)
 
-pub started : (w n : Work) (slots : List Slot) (known : List Known) (f : Found) → IsWhole w.nodes → ((s : State) → Shows w s → map (λ (x : meant.Slot). known_value s x.value) (slots_in w.nodes slots) ≡ map (λ k. Some (known_of k)) known) →
-    ((s : State) → Shows w s → found_seen f ≡ found_of s (slots_in w.nodes slots) (map known_of known)) → Waits w n (all_asked (slots_in w.nodes slots) (map known_of known)) →
+pub started : (w n : Work) (slots : List Slot) (known : List Known) (f : Found) → IsWhole w.nodes →
+    ((s : State) → Shows w s →
+    map (λ (x : meant.Slot). known_value s x.value) (slots_in w.nodes slots) ≡ map (λ k. Some (known_of k)) known) →
+    ((s : State) → Shows w s → found_seen f ≡ found_of s (slots_in w.nodes slots) (map known_of known)) →
+    Waits w n (all_asked (slots_in w.nodes slots) (map known_of known)) →
     Done freely w n (start_slots (slots_in w.nodes slots)) (FoundThere n f) (IsFound n f)
 started w n slots known f h k e a =
     let xs = slots_in w.nodes slots in
@@ -164,14 +196,20 @@ started w n slots known f h k e a =
 
 -- ---- one more value
 
-pub knows-more : (w : Work) (s : State) (slots : List Slot) (i : ℕ) (d : Slot) (old new : List Known) (v : Known) → i < length slots → known_value s (term_in w.nodes (get_or slots i d).value) ≡ Some (known_of v) → new ≡ old ++ v ∷ [] →
-    map (λ (x : meant.Slot). known_value s x.value) (slots_in w.nodes (take i slots)) ≡ map (λ k. Some (known_of k)) old → map (λ (x : meant.Slot). known_value s x.value) (slots_in w.nodes (take (i + 1) slots)) ≡ map (λ k. Some (known_of k)) new
+pub knows-more : (w : Work) (s : State) (slots : List Slot) (i : ℕ) (d : Slot) (old new : List Known) (v : Known) →
+    i < length slots → known_value s (term_in w.nodes (get_or slots i d).value) ≡ Some (known_of v) →
+    new ≡ old ++ v ∷ [] →
+    map (λ (x : meant.Slot). known_value s x.value) (slots_in w.nodes (take i slots))
+    ≡ map (λ k. Some (known_of k)) old →
+    map (λ (x : meant.Slot). known_value s x.value) (slots_in w.nodes (take (i + 1) slots))
+    ≡ map (λ k. Some (known_of k)) new
 knows-more w s slots i d old new v l k e h =
     let x = get_or slots i d in
     let f : meant.Slot → Option Start = λ y. known_value s y.value in
     let g : Known → Option Start = λ q. Some (known_of q) in
     ap (λ ys. map f (slots_in w.nodes ys)) (take_more slots i d l)
-    ∙ ap (map f) (map_push (slot_in w.nodes) (take i slots) x) ∙ map_push f (slots_in w.nodes (take i slots)) (slot_in w.nodes x)
+    ∙ ap (map f) (map_push (slot_in w.nodes) (take i slots) x)
+    ∙ map_push f (slots_in w.nodes (take i slots)) (slot_in w.nodes x)
     ∙ ap (λ ys. ys ++ f (slot_in w.nodes x) ∷ []) h ∙ ap (λ o. map g old ++ o ∷ []) k
     ∙ sym (map_push g old v) ∙ ap (map g) (sym e)
 
@@ -179,16 +217,21 @@ pub front-all : {A : Type 0} (xs : List A) (i : ℕ) → length xs ≤ i → tak
 front-all xs i l = grind (arith, common_steps)
 
 -- a number
-pub add-number : (w : Work) (s : State) (x : Slot) (v : Known) (width number : ℕ) (xs zs : List Placed) (f : statics.Found) → v.value ≡ values.Number number → size s (type_in w.nodes x.of) ≡ width → zs ≡ xs ++ record { at = x.at; width = width; number = number } ∷ [] →
+pub add-number : (w : Work) (s : State) (x : Slot) (v : Known) (width number : ℕ) (xs zs : List Placed)
+    (f : statics.Found) → v.value ≡ values.Number number → size s (type_in w.nodes x.of) ≡ width →
+    zs ≡ xs ++ record { at = x.at; width = width; number = number } ∷ [] →
     map placed_of zs ++ f.0 ≡ map placed_of xs ++ (with_found s (slot_in w.nodes x) (known_of v) f).0
 add-number w s x v width number xs zs f n z e =
     let p : Placed = record { at = x.at; width = width; number = number } in
     let q : statics.Placed = record { at = x.at; width = size s (type_in w.nodes x.of); number = number } in
-    pushed-front placed_of xs zs p q f.0 e (ap (λ k. (let r : statics.Placed = record { at = x.at; width = k; number = number } in r)) (sym z))
+    pushed-front placed_of xs zs p q f.0 e (ap
+    (λ k. (let r : statics.Placed = record { at = x.at; width = k; number = number } in r)) (sym z))
     ∙ ap (λ y. map placed_of xs ++ (with_found s (slot_in w.nodes x) (value_start y, reverse v.asks.items) f).0) (sym n)
 
-pub add-no-start : (w : Work) (s : State) (x : Slot) (v : Known) (number : ℕ) (xs : List Aiming) (f : statics.Found) → v.value ≡ values.Number number → xs ++ f.1 ≡ xs ++ (with_found s (slot_in w.nodes x) (known_of v) f).1
-add-no-start w s x v number xs f n = ap (λ y. xs ++ (with_found s (slot_in w.nodes x) (value_start y, reverse v.asks.items) f).1) (sym n)
+pub add-no-start : (w : Work) (s : State) (x : Slot) (v : Known) (number : ℕ) (xs : List Aiming) (f : statics.Found) →
+    v.value ≡ values.Number number → xs ++ f.1 ≡ xs ++ (with_found s (slot_in w.nodes x) (known_of v) f).1
+add-no-start w s x v number xs f n =
+    ap (λ y. xs ++ (with_found s (slot_in w.nodes x) (value_start y, reverse v.asks.items) f).1) (sym n)
 
 -- ---- the values ask from the last one on
 
@@ -198,25 +241,36 @@ waits-then a b c ps qs h k = record {
   waiting = k.waiting ∙ ap (λ l. l ++ qs) h.waiting ∙ append_assoc (map pending_of a.waiting.items) ps qs;
 }
 
-pub asked-back : (n : Nodes) (slots : List Slot) (known : List Known) (left : ℕ) (d : Slot) (v : Known) → 0 < left → left ≤ length slots → length known ≡ length slots → v ≡ get_or known (left - 1) v →
-    all_asked (slots_in n (drop left slots)) (map known_of (drop left known)) ++ asked_of (slot_in n (get_or slots (left - 1) d)) (known_of v) ≡ all_asked (slots_in n (drop (left - 1) slots)) (map known_of (drop (left - 1) known))
+pub asked-back : (n : Nodes) (slots : List Slot) (known : List Known) (left : ℕ) (d : Slot) (v : Known) → 0 < left →
+    left ≤ length slots → length known ≡ length slots → v ≡ get_or known (left - 1) v →
+    all_asked (slots_in n (drop left slots)) (map known_of (drop left known))
+    ++ asked_of (slot_in n (get_or slots (left - 1) d)) (known_of v)
+    ≡ all_asked (slots_in n (drop (left - 1) slots)) (map known_of (drop (left - 1) known))
 asked-back n slots known zero d v l m e h = absurd (omega arith)
 asked-back n slots known (suc k) d v l m e h =
     let z : suc k - 1 ≡ k = omega arith in
     let a : drop k slots ≡ get_or slots k d ∷ drop (suc k) slots = drop-cons slots k d (omega arith) in
     let g : v ≡ get_or known k v = rw z at h in
-    let b : drop k known ≡ v ∷ drop (suc k) known = drop-cons known k v (omega arith) ∙ ap (λ y. y ∷ drop (suc k) known) (sym g) in
-    rw z (sym (ap (λ xs. all_asked (slots_in n xs) (map known_of (drop k known))) a ∙ ap (λ vs. all_asked (slots_in n (get_or slots k d ∷ drop (suc k) slots)) (map known_of vs)) b))
+    let b : drop k known ≡ v ∷ drop (suc k) known =
+    drop-cons known k v (omega arith) ∙ ap (λ y. y ∷ drop (suc k) known) (sym g) in
+    rw z (sym (ap (λ xs. all_asked (slots_in n xs) (map known_of (drop k known))) a
+    ∙ ap (λ vs. all_asked (slots_in n (get_or slots k d ∷ drop (suc k) slots)) (map known_of vs)) b))
 
-pub waits-more : (a b c : Work) (slots : List Slot) (known : List Known) (left : ℕ) (d : Slot) (v : Known) → 0 < left → left ≤ length slots → length known ≡ length slots → v ≡ get_or known (left - 1) v →
-    Waits a b (all_asked (slots_in a.nodes (drop left slots)) (map known_of (drop left known))) → Waits b c (asked_of (slot_in b.nodes (get_or slots (left - 1) d)) (known_of v)) →
+pub waits-more : (a b c : Work) (slots : List Slot) (known : List Known) (left : ℕ) (d : Slot) (v : Known) → 0 < left →
+    left ≤ length slots → length known ≡ length slots → v ≡ get_or known (left - 1) v →
+    Waits a b (all_asked (slots_in a.nodes (drop left slots)) (map known_of (drop left known))) →
+    Waits b c (asked_of (slot_in b.nodes (get_or slots (left - 1) d)) (known_of v)) →
     Waits a c (all_asked (slots_in a.nodes (drop (left - 1) slots)) (map known_of (drop (left - 1) known)))
 waits-more a b c slots known left d v l m e g h k =
     let x = get_or slots (left - 1) d in
     let same : b.nodes ≡ a.nodes = ap (λ (z : Work). z.nodes) h.rest in
-    let k' : Waits b c (asked_of (slot_in a.nodes x) (known_of v)) = subst (λ (n : Nodes). Waits b c (asked_of (slot_in n x) (known_of v))) same k in
-    subst (λ (ps : List Pending). Waits a c ps) (asked-back a.nodes slots known left d v l m e g) (waits-then a b c _ _ h k')
+    let k' : Waits b c (asked_of (slot_in a.nodes x) (known_of v)) =
+    subst (λ (n : Nodes). Waits b c (asked_of (slot_in n x) (known_of v))) same k in
+    subst (λ (ps : List Pending). Waits a c ps) (asked-back a.nodes slots known left d v l m e g)
+    (waits-then a b c _ _ h k')
 
-pub waits-all : (a b : Work) (slots : List Slot) (known : List Known) (left : ℕ) → left ≤ 0 → Waits a b (all_asked (slots_in a.nodes (drop left slots)) (map known_of (drop left known))) → Waits a b (all_asked (slots_in a.nodes slots) (map known_of known))
+pub waits-all : (a b : Work) (slots : List Slot) (known : List Known) (left : ℕ) → left ≤ 0 →
+    Waits a b (all_asked (slots_in a.nodes (drop left slots)) (map known_of (drop left known))) →
+    Waits a b (all_asked (slots_in a.nodes slots) (map known_of known))
 waits-all a b slots known zero l h = h
 waits-all a b slots known (suc k) l h = absurd (omega arith)

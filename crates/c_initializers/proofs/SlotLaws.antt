@@ -21,7 +21,8 @@ work-slot-there u v x k h =
     let d : term_count u.nodes ≤ term_count v.nodes = k.more_terms in
     record { of = omega arith; value = omega arith }
 
-pub work_slots_kept : (u v : Work) (xs : List Slot) → Keeps u v → AreSlotsThere u.nodes xs → slots_in v.nodes xs ≡ slots_in u.nodes xs
+pub work_slots_kept : (u v : Work) (xs : List Slot) → Keeps u v → AreSlotsThere u.nodes xs →
+    slots_in v.nodes xs ≡ slots_in u.nodes xs
 work_slots_kept u v [] k h = refl
 work_slots_kept u v (x ∷ xs) k h =
     let a : slot_in v.nodes x ≡ slot_in u.nodes x = work-slot u v x k (h 0 x (omega arith)) in

@@ -1,10 +1,12 @@
 -- Values that are known before the program runs.
-use Rattle.std.proofs.Common.{◌≡◌, ℕ, ◌+◌, ◌-◌, ◌%◌, ◌^◌, ◌<◌, List, [], ◌∷◌, ◌++◌, length, get_or, ltb, Option, Some, None, true, false, refl, sym, ap, ◌∙◌, arith}
+use Rattle.std.proofs.Common.{◌≡◌, ℕ, ◌+◌, ◌-◌, ◌%◌, ◌^◌, ◌<◌, List, [], ◌∷◌, ◌++◌, length, get_or, ltb, Option, Some}
+use Rattle.std.proofs.Common.{None, true, false, refl, sym, ap, ◌∙◌, arith}
 use Rattle.std.specs.Prelude.{ℤ, pos, negsuc, slice_get, option_map, reverse, if◌then◌else◌}
 use Rattle.std.proofs.lemmas.Option.{get_or_from_slice_get, slice_get-get_or}
 use Rattle.std.proofs.lemmas.Bool.{ltb-true}
 use Rattle.ck_int.specs.declared.kinds.IntKind.TheVariants as kind
-use Rattle.ck_int.specs.Kinds.{wrapped, reduced, kept_of, modulo, value_of, twos_complement, is_signed, form_of, Represents}
+use Rattle.ck_int.specs.Kinds.{wrapped, reduced, kept_of, modulo, value_of, twos_complement, is_signed, form_of}
+use Rattle.ck_int.specs.Kinds.{Represents}
 use Rattle.ck_int.specs.declared.kinds.IntKind.{IntKind}
 use Rattle.ck_int.proofs.Laws.{Represents-value_of}
 use Rattle.std.proofs.lemmas.Int.{ints}
@@ -29,7 +31,8 @@ use Rattle.c_initializers.proofs.PlaceLaws.{slice_get-map}
 twice : (n : ℕ) → n % 18446744073709551616 % 18446744073709551616 ≡ n % 18446744073709551616
 twice n = omega arith
 
-once : (n : ℕ) → (18446744073709551615 - n % 18446744073709551616) % 18446744073709551616 ≡ 18446744073709551615 - n % 18446744073709551616
+once : (n : ℕ) → (18446744073709551615 - n % 18446744073709551616) % 18446744073709551616
+    ≡ 18446744073709551615 - n % 18446744073709551616
 once n = omega arith
 
 -- a number of 64 bits is kept as it is
@@ -58,9 +61,12 @@ wide-signed kind.U16 z e r = absurd cc
 wide-signed kind.U32 z e r = absurd cc
 wide-signed kind.U64 z e r = absurd cc
 wide-signed kind.I64 z e r = r
-wide-signed kind.I8 z e r = let l = r.low in let h = r.high in record { low = omega (arith, ints); high = omega (arith, ints) }
-wide-signed kind.I16 z e r = let l = r.low in let h = r.high in record { low = omega (arith, ints); high = omega (arith, ints) }
-wide-signed kind.I32 z e r = let l = r.low in let h = r.high in record { low = omega (arith, ints); high = omega (arith, ints) }
+wide-signed kind.I8 z e r =
+    let l = r.low in let h = r.high in record { low = omega (arith, ints); high = omega (arith, ints) }
+wide-signed kind.I16 z e r =
+    let l = r.low in let h = r.high in record { low = omega (arith, ints); high = omega (arith, ints) }
+wide-signed kind.I32 z e r =
+    let l = r.low in let h = r.high in record { low = omega (arith, ints); high = omega (arith, ints) }
 
 wide-unsigned : (k : IntKind) (z : ℤ) → is_signed (form_of k) ≡ false → Represents k z → Represents kind.U64 z
 wide-unsigned kind.I8 z e r = absurd cc
@@ -68,39 +74,53 @@ wide-unsigned kind.I16 z e r = absurd cc
 wide-unsigned kind.I32 z e r = absurd cc
 wide-unsigned kind.I64 z e r = absurd cc
 wide-unsigned kind.U64 z e r = r
-wide-unsigned kind.Bool z e r = let l = r.low in let h = r.high in record { low = omega (arith, ints); high = omega (arith, ints) }
-wide-unsigned kind.U8 z e r = let l = r.low in let h = r.high in record { low = omega (arith, ints); high = omega (arith, ints) }
-wide-unsigned kind.U16 z e r = let l = r.low in let h = r.high in record { low = omega (arith, ints); high = omega (arith, ints) }
-wide-unsigned kind.U32 z e r = let l = r.low in let h = r.high in record { low = omega (arith, ints); high = omega (arith, ints) }
+wide-unsigned kind.Bool z e r =
+    let l = r.low in let h = r.high in record { low = omega (arith, ints); high = omega (arith, ints) }
+wide-unsigned kind.U8 z e r =
+    let l = r.low in let h = r.high in record { low = omega (arith, ints); high = omega (arith, ints) }
+wide-unsigned kind.U16 z e r =
+    let l = r.low in let h = r.high in record { low = omega (arith, ints); high = omega (arith, ints) }
+wide-unsigned kind.U32 z e r =
+    let l = r.low in let h = r.high in record { low = omega (arith, ints); high = omega (arith, ints) }
 
-pub number-signed : (k : IntKind) (v w : ℕ) → is_signed (form_of k) ≡ true → w < 18446744073709551616 → (Represents kind.I64 (value_of k v) → value_of kind.I64 w ≡ value_of k v) → twos_complement 64 w ≡ value_of k v
+pub number-signed : (k : IntKind) (v w : ℕ) → is_signed (form_of k) ≡ true → w < 18446744073709551616 →
+    (Represents kind.I64 (value_of k v) → value_of kind.I64 w ≡ value_of k v) → twos_complement 64 w ≡ value_of k v
 number-signed k v w e l h = sym (value-signed w l) ∙ h (wide-signed k (value_of k v) e (Represents-value_of k v))
 
-pub number-unsigned : (k : IntKind) (v w : ℕ) → is_signed (form_of k) ≡ false → w < 18446744073709551616 → (Represents kind.U64 (value_of k v) → value_of kind.U64 w ≡ value_of k v) → pos w ≡ value_of k v
+pub number-unsigned : (k : IntKind) (v w : ℕ) → is_signed (form_of k) ≡ false → w < 18446744073709551616 →
+    (Represents kind.U64 (value_of k v) → value_of kind.U64 w ≡ value_of k v) → pos w ≡ value_of k v
 number-unsigned k v w e l h = sym (value-unsigned w l) ∙ h (wide-unsigned k (value_of k v) e (Represents-value_of k v))
 
 -- ---- the lengths of objects and literals
 
-pub found-at : {A : Type 0} (xs list : List A) (k : ℕ) (x : A) → list ≡ xs → true ≡ ltb k (length list) → x ≡ get_or list k x → slice_get xs k ≡ Some x
-found-at xs list k x e l h = ap (λ ys. slice_get ys k) (sym e) ∙ slice_get-get_or list k x (ltb-true k (length list) (sym l)) ∙ ap (λ y. Some y) (sym h)
+pub found-at : {A : Type 0} (xs list : List A) (k : ℕ) (x : A) → list ≡ xs → true ≡ ltb k (length list) →
+    x ≡ get_or list k x → slice_get xs k ≡ Some x
+found-at xs list k x e l h =
+    ap (λ ys. slice_get ys k) (sym e) ∙ slice_get-get_or list k x (ltb-true k (length list) (sym l))
+    ∙ ap (λ y. Some y) (sym h)
 
-object-type : (w : Work) (s : State) (k : ℕ) (g : GlobalDef) → Shows w s → slice_get w.nodes.p.globals k ≡ Some g → (t : StaticState) × (slice_get s.statics k ≡ Some t) × (t.of ≡ type_in w.nodes g.of)
+object-type : (w : Work) (s : State) (k : ℕ) (g : GlobalDef) → Shows w s → slice_get w.nodes.p.globals k ≡ Some g →
+    (t : StaticState) × (slice_get s.statics k ≡ Some t) × (t.of ≡ type_in w.nodes g.of)
 object-type w s k g h e =
     let ts = types_of w.nodes.p.types in
-    let t = seen_at (global_kept w.nodes.scopes.file.now ts) static_seen w.nodes.p.globals s.statics k g h.stands.globals e in
+    let t = seen_at (global_kept w.nodes.scopes.file.now ts) static_seen w.nodes.p.globals s.statics k g
+    h.stands.globals e in
     let n : named ts g.of ≡ Some t.0.of = ap (λ (x : Declared). x.of) t.2 in
     (t.0, t.1, sym (get_or_from_slice_get ts g.of t.0.of Void n))
 
 owned_of : Option Extent → Option ℕ
 owned_of o = (if has_extent o then Some (owned (extent_size o)) else None)
 
-pub object-open : (w : Work) (s : State) (k : ℕ) (g : GlobalDef) → Shows w s → slice_get w.nodes.p.globals k ≡ Some g → type_extent s.tags (type_in w.nodes g.of) ≡ None → static_length s (slice_get s.statics k) ≡ None
+pub object-open : (w : Work) (s : State) (k : ℕ) (g : GlobalDef) → Shows w s → slice_get w.nodes.p.globals k ≡ Some g →
+    type_extent s.tags (type_in w.nodes g.of) ≡ None → static_length s (slice_get s.statics k) ≡ None
 unfolding owned_of
 object-open w s k g h e f =
     let t = object-type w s k g h e in
     ap (static_length s) t.1 ∙ ap (λ u. owned_of (type_extent s.tags u)) t.2 ∙ ap owned_of f
 
-pub object-complete : (w : Work) (s : State) (k : ℕ) (g : GlobalDef) (l : Layout) → Shows w s → slice_get w.nodes.p.globals k ≡ Some g → Fits (type_extent s.tags (type_in w.nodes g.of)) l → static_length s (slice_get s.statics k) ≡ Some (owned l.size)
+pub object-complete : (w : Work) (s : State) (k : ℕ) (g : GlobalDef) (l : Layout) → Shows w s →
+    slice_get w.nodes.p.globals k ≡ Some g → Fits (type_extent s.tags (type_in w.nodes g.of)) l →
+    static_length s (slice_get s.statics k) ≡ Some (owned l.size)
 unfolding owned_of
 object-complete w s k g l h e f =
     let t = object-type w s k g h e in

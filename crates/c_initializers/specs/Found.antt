@@ -51,8 +51,11 @@ all_asked xs vs = []
 
 -- something is known of each value, or the first of which nothing is known is refused
 abbrev pub Knows : Work → List Slot → Result (Vec Known) Refusal → Type 0
-Knows w xs (Ok v) = (length v.items ≡ length xs) × ((s : State) → Shows w s → map (λ (x : meant.Slot). known_value s x.value) (slots_in w.nodes xs) ≡ map (λ k. Some (known_of k)) v.items)
-Knows w xs (Err (Code code place)) = (s : State) → Shows w s → start_slots (slots_in w.nodes xs) s ≡ Err (record { code = code; place = place })
+Knows w xs (Ok v) = (length v.items ≡ length xs) ×
+    ((s : State) → Shows w s →
+    map (λ (x : meant.Slot). known_value s x.value) (slots_in w.nodes xs) ≡ map (λ k. Some (known_of k)) v.items)
+Knows w xs (Err (Code code place)) =
+    (s : State) → Shows w s → start_slots (slots_in w.nodes xs) s ≡ Err (record { code = code; place = place })
 Knows w xs (Err NoMemory) = Unit {0}
 
 abbrev pub found_seen : Found → statics.Found
@@ -60,8 +63,12 @@ found_seen f = (map placed_of f.numbers.items, map aiming_of f.starts.items)
 
 -- one more value stands behind those that were found
 pub record AddsFound (w : Work) (x : Slot) (v : Known) (old new : Found) : Type 0 where
-  pub numbers : (s : State) (f : statics.Found) → Shows w s → map placed_of new.numbers.items ++ f.0 ≡ map placed_of old.numbers.items ++ (with_found s (slot_in w.nodes x) (known_of v) f).0
-  pub starts : (s : State) (f : statics.Found) → Shows w s → map aiming_of new.starts.items ++ f.1 ≡ map aiming_of old.starts.items ++ (with_found s (slot_in w.nodes x) (known_of v) f).1
+  pub numbers : (s : State) (f : statics.Found) → Shows w s →
+      map placed_of new.numbers.items ++ f.0 ≡ map placed_of old.numbers.items
+      ++ (with_found s (slot_in w.nodes x) (known_of v) f).0
+  pub starts : (s : State) (f : statics.Found) → Shows w s →
+      map aiming_of new.starts.items ++ f.1 ≡ map aiming_of old.starts.items
+      ++ (with_found s (slot_in w.nodes x) (known_of v) f).1
 
 -- the work waits for more
 pub record Waits (old new : Work) (ps : List Pending) : Type 0 where

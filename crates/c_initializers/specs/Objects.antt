@@ -4,7 +4,8 @@ use Rattle.ck_base.specs.declared.positions.Pos.{Pos}
 use Rattle.ck_base.specs.Tokens.{Lexeme}
 use Rattle.c_tree.specs.Types.{Ty}
 use Rattle.c_tree.specs.Readings.{Slot, Filled}
-use Rattle.c_tree.specs.Scopes.{Local, StaticState, State, Aiming, Doing, give, look, change, ◌>>=◌, ◌>>◌, bind_name, changed_at, change_static}
+use Rattle.c_tree.specs.Scopes.{Local, StaticState, State, Aiming, Doing, give, look, change, ◌>>=◌, ◌>>◌, bind_name}
+use Rattle.c_tree.specs.Scopes.{changed_at, change_static}
 use Rattle.c_tree.specs.Initializers.{every_slot, with_count}
 use Rattle.c_tree.specs.Statics.{Found, start_slots, initial_bytes}
 use Rattle.c_tree.specs.Declarations.{complete_now, static_of}
@@ -49,7 +50,8 @@ AreBelow n fs = (j : ℕ) (x : Filling) → slice_get fs j ≡ Some x → x.obje
 
 -- it gets another type, and its name denotes it with that
 abbrev pub local_completed : ℕ → Ty → List ℕ → State → State
-local_completed k u name s = bind_name name (Local k u) (record s { locals = changed_at (λ v. record v { of = u }) s.locals k })
+local_completed k u name s =
+    bind_name name (Local k u) (record s { locals = changed_at (λ v. record v { of = u }) s.locals k })
 
 abbrev pub completes_local : ℕ → Ty → List ℕ → Doing Ty
 completes_local k u name = change (local_completed k u name) >> give u
@@ -58,5 +60,6 @@ completes_local k u name = change (local_completed k u name) >> give u
 abbrev pub local_filled : ℕ → Lexeme → Ty → Pos → Filled → Doing (List Slot)
 local_filled k t of whole f =
     let u = with_count of f.count in
-    change (λ s. bind_name t.text (Local k u) (record s { locals = changed_at (λ v. record v { of = u }) s.locals k })) >>
+    change (λ s. bind_name t.text (Local k u) (record s { locals = changed_at (λ v. record v { of = u }) s.locals k }))
+    >>
     complete_now u t.pos >> look >>= λ s. give (every_slot s whole u f.slots)

@@ -1,5 +1,6 @@
 -- Parts of objects.
-use Rattle.std.specs.Prelude.{◌≡◌, ℕ, ◌+◌, ◌*◌, ◌<◌, ◌||◌, nat_lt, ◌==◌, if◌then◌else◌, List, [], ◌∷◌, ◌++◌, length, map, Option, Some, None, option_map, slice_get}
+use Rattle.std.specs.Prelude.{◌≡◌, ℕ, ◌+◌, ◌*◌, ◌<◌, ◌||◌, nat_lt, ◌==◌, if◌then◌else◌, List, [], ◌∷◌, ◌++◌, length}
+use Rattle.std.specs.Prelude.{map, Option, Some, None, option_map, slice_get}
 use Rattle.std.specs.List.{All}
 use Rattle.c_tree.specs.Types.{Ty, Const}
 use Rattle.c_tree.specs.Scopes.{State, TagState, type_extent}
@@ -32,7 +33,8 @@ IsPlaceThere w p = p.of < type_count w.nodes
 
 -- the part of an item with a number
 abbrev pub place_at : Places → ℕ → Option Place
-place_at (Elements of size count) k = (if nat_lt k count || count == 0 then Some (record { at = k * size; of = of }) else None)
+place_at (Elements of size count) k =
+    (if nat_lt k count || count == 0 then Some (record { at = k * size; of = of }) else None)
 place_at (Members ps) k = slice_get ps.items k
 place_at (Alone of) k = (if k == 0 then Some (record { at = 0; of = of }) else None)
 
@@ -44,7 +46,8 @@ ArePlacesThere w (Alone of) = of < type_count w.nodes
 -- the parts of a type for the first so many items
 pub record ArePlaces (w : Work) (of count : ℕ) (x : Places) : Type 0 where
   pub there : ArePlacesThere w x
-  pub are : (s : State) → Shows w s → (k : ℕ) → k < count → item_place s (type_in w.nodes of) k ≡ option_map (place_in w) (place_at x k)
+  pub are : (s : State) → Shows w s → (k : ℕ) → k < count →
+      item_place s (type_in w.nodes of) k ≡ option_map (place_in w) (place_at x k)
 
 -- ---- members
 
@@ -52,7 +55,8 @@ pub record ArePlaces (w : Work) (of count : ℕ) (x : Places) : Type 0 where
 abbrev pub numbered_places : Work → List TagState → List Member → Extent → List (ℕ × Ty)
 numbered_places w tags [] x = []
 numbered_places w tags (m ∷ ms) x =
-    or_none (type_extent tags (type_in w.nodes m.of)) (λ y. (member_offset y x, type_in w.nodes m.of) ∷ numbered_places w tags ms (behind y x))
+    or_none (type_extent tags (type_in w.nodes m.of))
+    (λ y. (member_offset y x, type_in w.nodes m.of) ∷ numbered_places w tags ms (behind y x))
 
 abbrev pub first_place : Work → List Member → List (ℕ × Ty)
 first_place w [] = []
@@ -68,7 +72,8 @@ members_of s tag = tag_places s.tags (slice_get s.tags tag)
 
 -- these are the members that are kept of a struct or union
 abbrev pub AreMembersOf : Work → ℕ → List Member → Type 0
-AreMembersOf w tag ms = (s : State) → Shows w s → (t : TagState) → slice_get s.tags tag ≡ Some t → members_of s tag ≡ places_in w s.tags t.kind ms
+AreMembersOf w tag ms = (s : State) → Shows w s → (t : TagState) → slice_get s.tags tag ≡ Some t →
+    members_of s tag ≡ places_in w s.tags t.kind ms
 
 pub record IsRecordOf (w : Work) (s : State) (tag : ℕ) (r : Record) : Type 0 where
   pub state : TagState
@@ -87,7 +92,11 @@ IsTagCount w n = (s : State) → Shows w s → n ≡ length s.tags
 abbrev pub IsNext : Work → ℕ → Layout → Option Next → Type 0
 IsNext w of end None = (s : State) → Shows w s → type_extent s.tags (type_in w.nodes of) ≡ None
 IsNext w of end (Some n) =
-    (IsPlaceThere w n.place) × ((s : State) → Shows w s → (y : Extent) × (type_extent s.tags (type_in w.nodes of) ≡ Some y) × (place_in w n.place ≡ (member_offset y (extent_is end), type_in w.nodes of)) × (extent_is n.end ≡ behind y (extent_is end)))
+    (IsPlaceThere w n.place) ×
+    ((s : State) → Shows w s →
+    (y : Extent) × (type_extent s.tags (type_in w.nodes of) ≡ Some y) ×
+    (place_in w n.place ≡ (member_offset y (extent_is end), type_in w.nodes of)) ×
+    (extent_is n.end ≡ behind y (extent_is end)))
 
 -- parts are those that stand in a list
 pub record ArePartsOf (w : Work) (places : List Place) (parts : State → List (ℕ × Ty)) : Type 0 where
@@ -106,7 +115,8 @@ AreAllMembers w tag places = ArePartsOf w places (λ s. members_of s tag)
 -- the parts of the first so many items
 pub record AreFirstMembers (w : Work) (tag count : ℕ) (places : List Place) : Type 0 where
   pub there : All (IsPlaceThere w) places
-  pub are : (s : State) → Shows w s → (k : ℕ) → k < count → slice_get (members_of s tag) k ≡ option_map (place_in w) (slice_get places k)
+  pub are : (s : State) → Shows w s → (k : ℕ) → k < count →
+      slice_get (members_of s tag) k ≡ option_map (place_in w) (slice_get places k)
 
 -- parts were added behind those that were there
 pub record AddsParts (w : Work) (old new : List Place) (parts : State → List (ℕ × Ty)) : Type 0 where

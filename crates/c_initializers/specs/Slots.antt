@@ -1,5 +1,6 @@
 -- What an initializer gives.
-use Rattle.std.specs.Prelude.{◌≡◌, ℕ, ◌+◌, ◌<◌, Bool, ◌==◌, nat_le, if◌then◌else◌, List, ◌++◌, length, map, flat_map, position, Option, Some, None, slice_get}
+use Rattle.std.specs.Prelude.{◌≡◌, ℕ, ◌+◌, ◌<◌, Bool, ◌==◌, nat_le, if◌then◌else◌, List, ◌++◌, length, map, flat_map}
+use Rattle.std.specs.Prelude.{position, Option, Some, None, slice_get}
 use Rattle.std.specs.List.{All}
 use Rattle.std.specs.Global.{Vec}
 use Rattle.ck_base.specs.declared.positions.Pos.{Pos}
@@ -96,11 +97,13 @@ abbrev pub extent_of : State → meant.Slot → ℕ × ℕ
 extent_of s x = (x.at, x.at + size s x.of)
 
 abbrev pub HaveExtents : Work → List Slot → List Extent → Type 0
-HaveExtents w xs es = (length es ≡ length xs) × ((s : State) → Shows w s → map (λ (e : Extent). (e.from, e.to)) es ≡ map (extent_of s) (slots_in w.nodes xs))
+HaveExtents w xs es = (length es ≡ length xs) ×
+    ((s : State) → Shows w s → map (λ (e : Extent). (e.from, e.to)) es ≡ map (extent_of s) (slots_in w.nodes xs))
 
 -- what the scalars at these places get
 abbrev pub scalars_given : Pos → List meant.Slot → List Extent → List (ℕ × Ty) → List meant.Slot
-scalars_given whole given es places = flat_map (λ p. scalar_slot whole p (chosen given (position (covers_place p.0) es))) places
+scalars_given whole given es places =
+    flat_map (λ p. scalar_slot whole p (chosen given (position (covers_place p.0) es))) places
 
 -- these values were added behind those that were there
 pub record AddsSlots (old new : Nodes) (xs zs : List Slot) (ys : List meant.Slot) : Type 0 where

@@ -3,7 +3,8 @@
 ghost use Rattle.std.specs.Prelude.{◌≡◌, [], ◌<◌, ◌≤◌, ◌^◌, pos, ◌≤ℤ◌, neg_ℤ, option_map, IfOk, IfSome};
 ghost use Rattle.c_tree.specs.Constants.{constant_of};
 ghost use Rattle.c_tree.specs.Scopes.{State};
-ghost use Rattle.c_tree.specs.Statics.{known_value, start_of, number_in, by_number, with_known, by_offset, member_offset, pointed_at, cast_start, summed, derived_sum, is_start};
+ghost use Rattle.c_tree.specs.Statics.{known_value, start_of, number_in, by_number, with_known, by_offset};
+ghost use Rattle.c_tree.specs.Statics.{member_offset, pointed_at, cast_start, summed, derived_sum, is_start};
 ghost use Rattle.c_tree.specs.Types.{bare};
 ghost use Rattle.c_tree.specs.Terms.{type_of};
 ghost use Rattle.c_nodes.specs.Nodes.{IsWhole, type_in, term_in, type_count, term_count};
@@ -50,7 +51,8 @@ fn moved_by(
     requires low { IfSome number (λ z. neg_ℤ (pos (2 ^ 64)) ≤ℤ z) }
     requires high { IfSome number (λ z. z ≤ℤ pos (2 ^ 64)) }
     requires small { size ≤ 67108864 }
-    ensures { IfOk result (λ r. (s : State) → Shows work.now s → IsKnown (by_number s minus size number (option_map known_of x)) r) }
+    ensures { IfOk result (λ r. (s : State) → Shows work.now s →
+        IsKnown (by_number s minus size number (option_map known_of x)) r) }
 {
     match number {
         None => Ok(None),
@@ -65,7 +67,9 @@ fn moved_by(
 fn member_of(work: &Work, a: u32, k: u32, x: Option<Known>) -> Result<Option<Known>, NoMemory>
     requires whole { IsWhole work.now.nodes }
     requires there { a < term_count work.now.nodes }
-    ensures { IfOk result (λ r. (s : State) → Shows work.now s → IsKnown (with_known (option_map known_of x) (by_offset s (member_offset s (bare (type_of (term_in work.now.nodes a))) k))) r) }
+    ensures { IfOk result (λ r. (s : State) → Shows work.now s →
+        IsKnown (with_known (option_map known_of x)
+        (by_offset s (member_offset s (bare (type_of (term_in work.now.nodes a))) k))) r) }
 {
     match x {
         None => Ok(None),
@@ -83,7 +87,8 @@ fn member_of(work: &Work, a: u32, k: u32, x: Option<Known>) -> Result<Option<Kno
 fn pointer_to(work: &Work, a: u32, x: Option<Known>) -> Result<Option<Known>, NoMemory>
     requires whole { IsWhole work.now.nodes }
     requires there { a < term_count work.now.nodes }
-    ensures { IfOk result (λ r. (s : State) → Shows work.now s → IsKnown (with_known (option_map known_of x) (pointed_at s (term_in work.now.nodes a))) r) }
+    ensures { IfOk result (λ r. (s : State) → Shows work.now s →
+        IsKnown (with_known (option_map known_of x) (pointed_at s (term_in work.now.nodes a))) r) }
 {
     match x {
         None => Ok(None),
@@ -119,7 +124,10 @@ fn sum_of(
     requires of { of < type_count work.now.nodes }
     requires left { left.0 < term_count work.now.nodes }
     requires right { right.0 < term_count work.now.nodes }
-    ensures { IfOk result (λ r. (s : State) → Shows work.now s → IsKnown (summed s (type_in work.now.nodes of) minus (term_in work.now.nodes left.0, option_map known_of left.1) (term_in work.now.nodes right.0, option_map known_of right.1)) r) }
+    ensures { IfOk result (λ r. (s : State) → Shows work.now s →
+        IsKnown (summed s (type_in work.now.nodes of) minus
+        (term_in work.now.nodes left.0, option_map known_of left.1)
+        (term_in work.now.nodes right.0, option_map known_of right.1)) r) }
 {
     let size = target_size(work, of)?;
     if work
@@ -143,7 +151,9 @@ fn derived_of(
     requires whole { IsWhole work.now.nodes }
     requires left { left.0 < term_count work.now.nodes }
     requires right { right.0 < term_count work.now.nodes }
-    ensures { IfOk result (λ r. (s : State) → Shows work.now s → IsKnown (derived_sum s minus from_right (term_in work.now.nodes left.0, option_map known_of left.1) (term_in work.now.nodes right.0, option_map known_of right.1)) r) }
+    ensures { IfOk result (λ r. (s : State) → Shows work.now s →
+        IsKnown (derived_sum s minus from_right (term_in work.now.nodes left.0, option_map known_of left.1)
+        (term_in work.now.nodes right.0, option_map known_of right.1)) r) }
 {
     if !from_right {
         moved_by(work, number_of(&work.nodes, right.0), minus, 1, left.1)
@@ -185,7 +195,8 @@ fn form_start(work: &Work, node: u32, form: Form, depth: u32) -> Result<Option<K
     requires whole { IsWhole work.now.nodes }
     requires there { node < term_count work.now.nodes }
     requires before { StandsBefore form node }
-    ensures { IfOk result (λ r. (s : State) → Shows work.now s → IsKnown (form_start s (term_in work.now.nodes) (type_of (term_in work.now.nodes node)) form) r) }
+    ensures { IfOk result (λ r. (s : State) → Shows work.now s →
+        IsKnown (form_start s (term_in work.now.nodes) (type_of (term_in work.now.nodes node)) form) r) }
 {
     match form {
         Form::Whole(target) => Ok(Some(alone(
@@ -225,11 +236,13 @@ fn form_start(work: &Work, node: u32, form: Form, depth: u32) -> Result<Option<K
     }
 }
 
-/// What is known of a value before the program runs: a number, an address or a function. What is read from a place is not known.
+/// What is known of a value before the program runs: a number, an address or a function. What is read from a place is
+/// not known.
 pub(crate) fn known_value(work: &Work, node: u32) -> Result<Option<Known>, NoMemory>
     requires whole { IsWhole work.now.nodes }
     requires there { node < term_count work.now.nodes }
-    ensures { IfOk result (λ r. (s : State) → Shows work.now s → IsKnown (known_value s (term_in work.now.nodes node)) r) }
+    ensures { IfOk result (λ r. (s : State) → Shows work.now s →
+        IsKnown (known_value s (term_in work.now.nodes node)) r) }
 {
     if reads(&work.nodes, node) {
         Ok(None)
@@ -238,12 +251,13 @@ pub(crate) fn known_value(work: &Work, node: u32) -> Result<Option<Known>, NoMem
     }
 }
 
-/// A value that is written for an object of static storage duration is a constant or an address: else 134 at its first byte. This is asked
-/// of each item before the next one is typed.
+/// A value that is written for an object of static storage duration is a constant or an address: else 134 at its first
+/// byte. This is asked of each item before the next one is typed.
 pub fn is_start(work: &Work, x: &Slot) -> Result<(), Refusal>
     requires whole { IsWhole work.now.nodes }
     requires there { IsSlotThere work.now.nodes x.now }
-    ensures { Answers quietly work.now work.now (is_start (slot_in work.now.nodes x.now)) NothingThere IsNothing result }
+    ensures { Answers quietly work.now work.now
+        (is_start (slot_in work.now.nodes x.now)) NothingThere IsNothing result }
 {
     match known_value(work, x.value)? {
         None => Err(Refusal::Code(134, x.first)),

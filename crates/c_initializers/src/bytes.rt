@@ -79,7 +79,8 @@ fn put_byte(bytes: &mut [u8], at: u64, byte: u8) -> Result<(), NoMemory>
 fn put(bytes: &mut [u8], x: &Placed) -> Result<(), NoMemory>
     requires { end_in x.now ≤ length bytes.old }
     ensures length { length bytes.new ≡ length bytes.old }
-    ensures each { OnOk result ((k : ℕ) → slice_index bytes.new k ≡ slice_index bytes.old k + byte_in k (placed_of x.now)) }
+    ensures each { OnOk result ((k : ℕ) →
+        slice_index bytes.new k ≡ slice_index bytes.old k + byte_in k (placed_of x.now)) }
 {
     let count = significant(x.width, x.number);
     let mut left = x.number;
@@ -108,10 +109,12 @@ fn zeros(alloc: Global, count: usize) -> Result<Vec<u8>, NoMemory>
     Ok(vec![in alloc; 0; count]?)
 }
 
-/// The bytes of an object from the numbers and pointers that stand in it. They end at the last byte that is not zero or belongs to a
-/// pointer: the last pointer ends at `end`, which is 0 where there is none. A pointer's own bytes are zero.
+/// The bytes of an object from the numbers and pointers that stand in it. They end at the last byte that is not zero or
+/// belongs to a pointer: the last pointer ends at `end`, which is 0 where there is none. A pointer's own bytes are
+/// zero.
 pub fn initial_bytes(alloc: Global, numbers: &[Placed], end: u64) -> Result<Vec<u8>, NoMemory>
-    ensures { IfOk result (λ bytes. (ls : List Aiming) → pointers_end ls ≡ end → bytes.items ≡ initial_bytes (map placed_of numbers.now) ls) }
+    ensures { IfOk result (λ bytes. (ls : List Aiming) → pointers_end ls ≡ end →
+        bytes.items ≡ initial_bytes (map placed_of numbers.now) ls) }
 {
     let count = greatest_end(numbers)?.max(end);
     let mut bytes = zeros(alloc, count as usize)?;

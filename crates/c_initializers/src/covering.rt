@@ -10,8 +10,8 @@ pub(crate) struct Extent {
     pub(crate) to: u64,
 }
 
-/// The bytes that some values have, and how far a walk along the object has come. Values that stand in the order of their places are
-/// found without looking at all of them.
+/// The bytes that some values have, and how far a walk along the object has come. Values that stand in the order of
+/// their places are found without looking at all of them.
 #[derive(Clone, Copy)]
 pub(crate) struct Cursor<'c> {
     extents: &'c [Extent],

@@ -5,7 +5,9 @@ ghost use Rattle.std.specs.List.{All};
 ghost use Rattle.c_tree.specs.Initializers.{scalar_slot, zero_slot};
 ghost use Rattle.c_nodes.specs.Nodes.{IsWhole, type_in, type_count};
 ghost use Rattle.c_work.specs.Answers.{Answers, quietly};
-ghost use Rattle.c_initializers.specs.Slots.{HasSlots, AddsSlots, IsSlotThere, AreSlotsThere, SlotsThere, AreSlots, slot_in, slots_in, chosen, HaveExtents, place_of, scalars_given, every_slot_of};
+ghost use Rattle.c_initializers.specs.Slots.{HasSlots, AddsSlots, IsSlotThere, AreSlotsThere, SlotsThere, AreSlots};
+ghost use Rattle.c_initializers.specs.Slots.{slot_in, slots_in, chosen, HaveExtents, place_of, scalars_given};
+ghost use Rattle.c_initializers.specs.Slots.{every_slot_of};
 
 use crate::covering::{Cursor, Extent};
 use crate::places::Place;
@@ -32,7 +34,8 @@ fn extents_of(work: &Work, slots: &[Slot]) -> Result<Vec<Extent>, NoMemory>
 fn add_given(nodes: &Nodes, at: u64, x: Slot, out: &mut Vec<Slot>) -> Result<(), NoMemory>
     requires whole { IsWhole nodes.now }
     requires there { IsSlotThere nodes.now x }
-    ensures { OnOk result (AddsSlots nodes.now nodes.now out.old.items out.new.items (if x.at == at then slot_in nodes.now x ∷ [] else [])) }
+    ensures { OnOk result (AddsSlots nodes.now nodes.now out.old.items out.new.items
+        (if x.at == at then slot_in nodes.now x ∷ [] else [])) }
 {
     if x.at == at {
         out.push(x)?;
@@ -44,7 +47,8 @@ fn add_given(nodes: &Nodes, at: u64, x: Slot, out: &mut Vec<Slot>) -> Result<(),
 fn add_zero(nodes: &mut Nodes, whole: Pos, p: Place, out: &mut Vec<Slot>) -> Result<(), NoMemory>
     requires whole { IsWhole nodes.old }
     requires there { p.of < type_count nodes.old }
-    ensures { OnOk result (AddsSlots nodes.old nodes.new out.old.items out.new.items (zero_slot whole (place_of nodes.old p) ∷ [])) }
+    ensures { OnOk result (AddsSlots nodes.old nodes.new out.old.items out.new.items
+        (zero_slot whole (place_of nodes.old p) ∷ [])) }
 {
     let value = nodes.leaf(Leaf::Constant(0), p.of, whole)?;
     out.push(Slot {
@@ -69,7 +73,8 @@ fn add_slot(
     requires there { p.of < type_count nodes.old }
     requires slots { AreSlotsThere nodes.old slots.now }
     requires found { IfSome found (λ k. k < length slots.now) }
-    ensures { OnOk result (AddsSlots nodes.old nodes.new out.old.items out.new.items (scalar_slot whole (place_of nodes.old p) (chosen (slots_in nodes.old slots.now) found))) }
+    ensures { OnOk result (AddsSlots nodes.old nodes.new out.old.items out.new.items
+        (scalar_slot whole (place_of nodes.old p) (chosen (slots_in nodes.old slots.now) found))) }
 {
     match found {
         None => add_zero(nodes, whole, p, out),
@@ -89,7 +94,8 @@ fn scalar_slots(
     requires scalars { All (λ (p : Place). p.of < type_count nodes.old) scalars.now }
     requires slots { AreSlotsThere nodes.old slots.now }
     requires extents { length extents.now ≡ length slots.now }
-    ensures { IfOk result (λ out. HasSlots nodes.old nodes.new out.items (scalars_given whole (slots_in nodes.old slots.now) extents.now (map (place_of nodes.old) scalars.now))) }
+    ensures { IfOk result (λ out. HasSlots nodes.old nodes.new out.items
+        (scalars_given whole (slots_in nodes.old slots.now) extents.now (map (place_of nodes.old) scalars.now))) }
 {
     let mut cursor = Cursor::new(extents);
     let mut out = Vec::new(nodes.alloc);
@@ -110,7 +116,9 @@ pub fn every_slot(
     requires whole { IsWhole work.old.nodes }
     requires there { of < type_count work.old.nodes }
     requires slots { AreSlotsThere work.old.nodes slots.now }
-    ensures { Answers quietly work.old work.new (every_slot_of whole (type_in work.old.nodes of) (slots_in work.old.nodes slots.now)) SlotsThere AreSlots result }
+    ensures { Answers quietly work.old work.new
+        (every_slot_of whole (type_in work.old.nodes of) (slots_in work.old.nodes slots.now)) SlotsThere AreSlots
+        result }
 {
     let places = scalars(work, of)?;
     let extents = extents_of(work, slots)?;

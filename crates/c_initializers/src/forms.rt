@@ -31,7 +31,8 @@ pub(crate) enum Form {
     Converted(u32),
     /// A sum of a pointer and a number, which is taken from it where the truth value says so.
     Plus(u32, u32, bool),
-    /// A sum or difference of capability integers: whether it is a difference, and whether it derives from the right one.
+    /// A sum or difference of capability integers: whether it is a difference, and whether it derives from the right
+    /// one.
     Derived(u32, u32, bool, bool),
     /// No address.
     Other,
@@ -100,7 +101,8 @@ pub(crate) fn form_of(nodes: &Nodes, node: u32) -> Result<Form, NoMemory>
 
 // Whether an expression of this kind is a value that is read from a place.
 fn is_load(kind: &ExprKind) -> bool
-    ensures { (ts : List Ty) (t : Ty) (p : Pos) (go : ℕ → Term) → is_value_start (kind_term ts kind.now t p go) ≡ not result }
+    ensures { (ts : List Ty) (t : Ty) (p : Pos) (go : ℕ → Term) →
+        is_value_start (kind_term ts kind.now t p go) ≡ not result }
 {
     match kind {
         ExprKind::Load(_) => true,

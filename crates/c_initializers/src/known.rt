@@ -1,9 +1,11 @@
 //! What is known of an expression before the program runs (C11 6.6p7 to p9).
 
-ghost use Rattle.std.specs.Prelude.{◌≡◌, ◌+◌, ◌<◌, ◌≤◌, ◌^◌, ◌&&◌, nat_le, Some, None, pos, ◌≤ℤ◌, neg_ℤ, reverse, option_map, slice_get, if◌then◌else◌, IfOk};
+ghost use Rattle.std.specs.Prelude.{◌≡◌, ◌+◌, ◌<◌, ◌≤◌, ◌^◌, ◌&&◌, nat_le, Some, None, pos, ◌≤ℤ◌, neg_ℤ, reverse};
+ghost use Rattle.std.specs.Prelude.{option_map, slice_get, if◌then◌else◌, IfOk};
 ghost use Rattle.cap_concentrate.specs.Rounding.{owned};
 ghost use Rattle.c_tree.specs.Scopes.{State};
-ghost use Rattle.c_tree.specs.Statics.{There, static_length, text_length, aim_length, near_all, moved_to, inside, narrowed_in, narrowed, member_offset, move_by, pointed_at, target_size};
+ghost use Rattle.c_tree.specs.Statics.{There, static_length, text_length, aim_length, near_all, moved_to, inside};
+ghost use Rattle.c_tree.specs.Statics.{narrowed_in, narrowed, member_offset, move_by, pointed_at, target_size};
 ghost use Rattle.c_tree.specs.Views.{aim_of};
 ghost use Rattle.c_nodes.specs.Nodes.{IsWhole, type_in, term_in, type_count, term_count};
 ghost use Rattle.c_work.specs.Work.{Shows, reach_of};
@@ -91,7 +93,8 @@ fn place_if(
     offset: i128,
     asks: Vec<i64>,
 ) -> Result<Option<Known>, NoMemory>
-    ensures { IfOk result (IsKnown (if test then Some (There (aim_of target) (reach_of bounds) offset, reverse asks.items) else None)) }
+    ensures { IfOk result (IsKnown (if test
+        then Some (There (aim_of target) (reach_of bounds) offset, reverse asks.items) else None)) }
 {
     if test {
         Ok(Some(place(target, bounds, offset, asks)?))
@@ -132,7 +135,8 @@ fn moved_to(
 ) -> Result<Option<Known>, NoMemory>
     requires low { neg_ℤ (pos (2 ^ 65)) ≤ℤ offset }
     requires high { offset ≤ℤ pos (2 ^ 65) }
-    ensures { IfOk result (λ r. (s : State) → Shows work.now s → IsKnown (moved_to s (aim_of target) (reach_of bounds) offset (reverse asks.items)) r) }
+    ensures { IfOk result (λ r. (s : State) → Shows work.now s →
+        IsKnown (moved_to s (aim_of target) (reach_of bounds) offset (reverse asks.items)) r) }
 {
     match bounds {
         Bounds::Part(low, length) => {
@@ -194,7 +198,8 @@ fn narrowed_in(
     asks: Vec<i64>,
 ) -> Result<Option<Known>, NoMemory>
     requires { at + n < 2 ^ 64 }
-    ensures { IfOk result (λ r. (s : State) → Shows work.now s → IsKnown (narrowed_in s (aim_of target) (reach_of bounds) at n (reverse asks.items)) r) }
+    ensures { IfOk result (λ r. (s : State) → Shows work.now s →
+        IsKnown (narrowed_in s (aim_of target) (reach_of bounds) at n (reverse asks.items)) r) }
 {
     match bounds {
         Bounds::Part(low, length) => place_if(
@@ -271,7 +276,8 @@ pub(crate) fn member_offset(work: &Work, of: u32, k: u32) -> Result<Option<u64>,
 pub(crate) fn pointed_at(work: &Work, node: u32, x: Known) -> Result<Option<Known>, NoMemory>
     requires whole { IsWhole work.now.nodes }
     requires there { node < term_count work.now.nodes }
-    ensures { IfOk result (λ r. (s : State) → Shows work.now s → IsKnown (pointed_at s (term_in work.now.nodes node) (known_of x)) r) }
+    ensures { IfOk result (λ r. (s : State) → Shows work.now s →
+        IsKnown (pointed_at s (term_in work.now.nodes node) (known_of x)) r) }
 {
     if work.nodes.fact(node).member {
         let n = size_of(work, work.nodes.of(node))?;

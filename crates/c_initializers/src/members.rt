@@ -7,7 +7,8 @@ ghost use Rattle.c_tree.specs.Layout.{size_limit, member_offset, behind, no_memb
 ghost use Rattle.c_tree.specs.Scopes.{State};
 ghost use Rattle.c_nodes.specs.Nodes.{IsWhole};
 ghost use Rattle.c_work.specs.Work.{Shows};
-ghost use Rattle.c_initializers.specs.Places.{AreMembers, AreMembersOf, ArePlaced, AreAllMembers, AreFirstMembers, IsRecord, IsNext, IsTagCount};
+ghost use Rattle.c_initializers.specs.Places.{AreMembers, AreMembersOf, ArePlaced, AreAllMembers, AreFirstMembers};
+ghost use Rattle.c_initializers.specs.Places.{IsRecord, IsNext, IsTagCount};
 
 use crate::places::Place;
 use c_tree::{Member, RecordKind};

@@ -12,7 +12,8 @@ ghost use Rattle.c_work.specs.Answers.{Answers, quietly, freely, TypeThere, IsTy
 ghost use Rattle.c_work.specs.Parts.{token_of};
 ghost use Rattle.c_work.specs.Work.{aiming_of, filling_of};
 ghost use Rattle.c_initializers.specs.Found.{found_seen};
-ghost use Rattle.c_initializers.specs.Objects.{completes_object, object_complete, completes_local, fills_object, fills_found, static_filled, local_filled, AreBelow};
+ghost use Rattle.c_initializers.specs.Objects.{completes_object, object_complete, completes_local, fills_object};
+ghost use Rattle.c_initializers.specs.Objects.{fills_found, static_filled, local_filled, AreBelow};
 ghost use Rattle.c_initializers.specs.Slots.{FilledThere, filled_in, SlotsThere, AreSlots};
 
 use crate::bytes::initial_bytes;
@@ -29,13 +30,15 @@ use ck_base::{NoMemory, Pos, Refusal};
 fn retype(nodes: &mut Nodes<'_>, k: u32, of: u32)
     ensures rest { nodes.new ≡ record nodes.old { p = nodes.new.p } }
     ensures extends { Extends nodes.old.p nodes.new.p }
-    ensures stands { (s : State) (u : Ty) → Stands nodes.old.scopes nodes.old.p s → named (types_of nodes.old.p.types) of ≡ Some u → Stands nodes.new.scopes nodes.new.p (change_static k (λ (g : StaticState). record g { of = u }) s) }
+    ensures stands { (s : State) (u : Ty) → Stands nodes.old.scopes nodes.old.p s →
+        named (types_of nodes.old.p.types) of ≡ Some u →
+        Stands nodes.new.scopes nodes.new.p (change_static k (λ (g : StaticState). record g { of = u }) s) }
 {
     nodes.scopes.complete_global(&mut nodes.p, k, of);
 }
 
-// The type of an object of static storage duration whose initialiser gives so many elements: an array whose length was not known gets
-// it (C11 6.7.9p22).
+// The type of an object of static storage duration whose initialiser gives so many elements: an array whose length was
+// not known gets it (C11 6.7.9p22).
 fn complete_object(work: &mut Work, k: u32, count: u64) -> Result<(), Refusal>
     requires { IsWhole work.old.nodes }
     ensures { Answers freely work.old work.new (completes_object k count) NothingThere IsNothing result }
@@ -57,8 +60,11 @@ fn object_complete(work: &Work, k: u32, pos: Pos) -> Result<(), Refusal>
 
 // One more initial value. The last one of an object counts.
 fn add_filling(fillings: &mut Vec<Filling>, filling: Filling) -> Result<(), NoMemory>
-    ensures is { OnOk result ((j : ℕ) → filling_of j fillings.new.items ≡ (if filling.object == j then Some (filling.bytes.items, map aiming_of filling.starts.items) else filling_of j fillings.old.items)) }
-    ensures below { OnOk result ((n : ℕ) → filling.object < n → AreBelow n fillings.old.items → AreBelow n fillings.new.items) }
+    ensures is { OnOk result ((j : ℕ) →
+        filling_of j fillings.new.items ≡ (if filling.object == j
+        then Some (filling.bytes.items, map aiming_of filling.starts.items) else filling_of j fillings.old.items)) }
+    ensures below { OnOk result ((n : ℕ) → filling.object < n → AreBelow n fillings.old.items →
+        AreBelow n fillings.new.items) }
 {
     fillings.push(filling)?;
     Ok(())
@@ -70,7 +76,8 @@ fn mark_filled(nodes: &mut Nodes<'_>, k: u32)
     ensures void { nodes.new.void ≡ nodes.old.void }
     ensures file { nodes.new.scopes.file.now ≡ nodes.old.scopes.file.now }
     ensures program { nodes.new.p ≡ record nodes.old.p { globals = nodes.new.p.globals } }
-    ensures stands { (s : State) (i : List ℕ × List Aiming) → Stands nodes.old.scopes nodes.old.p s → Stands nodes.new.scopes nodes.new.p (change_static k (λ (g : StaticState). record g { initial = Some i }) s) }
+    ensures stands { (s : State) (i : List ℕ × List Aiming) → Stands nodes.old.scopes nodes.old.p s →
+        Stands nodes.new.scopes nodes.new.p (change_static k (λ (g : StaticState). record g { initial = Some i }) s) }
 {
     let alloc = nodes.alloc;
     nodes
@@ -81,7 +88,8 @@ fn mark_filled(nodes: &mut Nodes<'_>, k: u32)
 // An object of static storage duration gets its initial bytes and pointers.
 fn fill_object(work: &mut Work, k: u32, bytes: Vec<u8>, starts: Vec<Start>) -> Result<(), Refusal>
     requires { IsWhole work.old.nodes }
-    ensures { Answers freely work.old work.new (fills_object k bytes.items (map aiming_of starts.items)) NothingThere IsNothing result }
+    ensures { Answers freely work.old work.new
+        (fills_object k bytes.items (map aiming_of starts.items)) NothingThere IsNothing result }
 {
     let _known = work.object_type(k)?;
     let filling = Filling {
@@ -105,12 +113,14 @@ fn fill_found(work: &mut Work, k: u32, found: Found) -> Result<(), Refusal>
     fill_object(work, k, bytes, starts)
 }
 
-/// An object of static storage duration gets what its initialiser gives (C11 6.7.9p4, p22): 134 at a value that is not known before the
-/// program runs, and 132 and 140 at the object's name where its type is then not complete or too large.
+/// An object of static storage duration gets what its initialiser gives (C11 6.7.9p4, p22): 134 at a value that is not
+/// known before the program runs, and 132 and 140 at the object's name where its type is then not complete or too
+/// large.
 pub fn fill_static(work: &mut Work, k: u32, pos: Pos, filled: &Filled) -> Result<(), Refusal>
     requires whole { IsWhole work.old.nodes }
     requires filled { FilledThere work.old filled.now }
-    ensures { Answers freely work.old work.new (static_filled k pos (filled_in work.old.nodes filled.now)) NothingThere IsNothing result }
+    ensures { Answers freely work.old work.new
+        (static_filled k pos (filled_in work.old.nodes filled.now)) NothingThere IsNothing result }
 {
     complete_object(work, k, filled.count)?;
     let found = start_slots(work, filled.slots.as_slice())?;
@@ -118,19 +128,22 @@ pub fn fill_static(work: &mut Work, k: u32, pos: Pos, filled: &Filled) -> Result
     fill_found(work, k, found)
 }
 
-// The type of a local of the function at work whose initialiser gives so many elements. Its name denotes it with that type from here on.
+// The type of a local of the function at work whose initialiser gives so many elements. Its name denotes it with that
+// type from here on.
 fn complete_local(work: &mut Work, k: u32, of: u32, count: u64, name: Name) -> Result<u32, Refusal>
     requires whole { IsWhole work.old.nodes }
     requires there { of < type_count work.old.nodes }
-    ensures { Answers freely work.old work.new (completes_local k (with_count (type_in work.old.nodes of) count) (token_of work.old name).text) TypeThere IsType result }
+    ensures { Answers freely work.old work.new
+        (completes_local k (with_count (type_in work.old.nodes of) count) (token_of work.old name).text) TypeThere
+        IsType result }
 {
     let counted = with_count(&mut work.nodes, of, count)?;
     work.nodes.scopes.complete_local(k, counted, name.span)?;
     Ok(counted)
 }
 
-/// A local gets what its initialiser gives: the values of all its scalars (C11 6.7.9p10, p21, p22). 132 and 140 at its name where its type
-/// is then not complete or too large.
+/// A local gets what its initialiser gives: the values of all its scalars (C11 6.7.9p10, p21, p22). 132 and 140 at its
+/// name where its type is then not complete or too large.
 pub fn fill_local(
     work: &mut Work,
     k: u32,
@@ -142,7 +155,9 @@ pub fn fill_local(
     requires whole { IsWhole work.old.nodes }
     requires there { of < type_count work.old.nodes }
     requires filled { FilledThere work.old filled.now }
-    ensures { Answers freely work.old work.new (local_filled k (token_of work.old name) (type_in work.old.nodes of) whole (filled_in work.old.nodes filled.now)) SlotsThere AreSlots result }
+    ensures { Answers freely work.old work.new
+        (local_filled k (token_of work.old name) (type_in work.old.nodes of) whole
+        (filled_in work.old.nodes filled.now)) SlotsThere AreSlots result }
 {
     let counted = complete_local(work, k, of, filled.count, name)?;
     complete_now(work, counted, name.pos)?;

@@ -37,7 +37,8 @@ pub enum Places {
     Alone(u32),
 }
 
-/// The parts of a type that the first so many items of a list in braces initialise. They stay so while the work goes on.
+/// The parts of a type that the first so many items of a list in braces initialise. They stay so while the work goes
+/// on.
 pub fn places_of(work: &Work, of: u32, count: usize) -> Result<Places, NoMemory>
     requires whole { IsWhole work.now.nodes }
     requires there { of < type_count work.now.nodes }

@@ -49,7 +49,8 @@ fn add_scalars(
 ) -> Result<(), NoMemory>
     requires whole { IsWhole work.now.nodes }
     requires there { of < type_count work.now.nodes }
-    ensures { OnOk result (AddsParts work.now places.old.items places.new.items (λ s. scalars_of s (tag_scalars tags s) (type_in work.now.nodes of) at)) }
+    ensures { OnOk result (AddsParts work.now places.old.items places.new.items
+        (λ s. scalars_of s (tag_scalars tags s) (type_in work.now.nodes of) at)) }
 {
     if depth == 0 {
         return Err(NoMemory);
@@ -80,7 +81,9 @@ fn add_elements(
 ) -> Result<(), NoMemory>
     requires whole { IsWhole work.now.nodes }
     requires there { element < type_count work.now.nodes }
-    ensures { OnOk result (AddsParts work.now places.old.items places.new.items (λ s. repeat count (size s (type_in work.now.nodes element)) (scalars_of s (tag_scalars tags s) (type_in work.now.nodes element)) at)) }
+    ensures { OnOk result (AddsParts work.now places.old.items places.new.items
+        (λ s. repeat count (size s (type_in work.now.nodes element))
+        (scalars_of s (tag_scalars tags s) (type_in work.now.nodes element)) at)) }
 {
     let step = size_of(work, element)?;
     let mut from = at;

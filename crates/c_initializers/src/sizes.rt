@@ -29,7 +29,8 @@ pub fn size_of(work: &Work, t: u32) -> Result<u64, NoMemory>
 /// A type is complete once its initialiser is there (132), and within the limit (140).
 pub fn complete_now(work: &Work, of: u32, pos: Pos) -> Result<(), Refusal>
     requires { IsWhole work.now.nodes }
-    ensures { Answers quietly work.now work.now (complete_now (type_in work.now.nodes of) pos) NothingThere IsNothing result }
+    ensures { Answers quietly work.now work.now
+        (complete_now (type_in work.now.nodes of) pos) NothingThere IsNothing result }
 {
     match work.nodes.scopes.layout(&work.nodes.p, of) {
         Ok(_) => Ok(()),

@@ -30,8 +30,8 @@ pub struct Pointer {
     pub offset: i64,
 }
 
-/// A value that is known before the program runs, and what it asks of an object whose length is not known yet: the least lengths in bytes,
-/// the newest last.
+/// A value that is known before the program runs, and what it asks of an object whose length is not known yet: the
+/// least lengths in bytes, the newest last.
 #[derive(Drop)]
 pub struct Known {
     pub value: Value,

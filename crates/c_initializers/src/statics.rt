@@ -7,7 +7,8 @@ ghost use Rattle.c_tree.specs.Statics.{known_value, start_slots};
 ghost use Rattle.c_nodes.specs.Nodes.{IsWhole};
 ghost use Rattle.c_work.specs.Answers.{Answers, freely};
 ghost use Rattle.c_work.specs.Work.{Shows, aiming_of, pending_of};
-ghost use Rattle.c_initializers.specs.Found.{FoundThere, IsFound, Knows, AddsFound, Waits, found_seen, found_of, asked_of, pendings};
+ghost use Rattle.c_initializers.specs.Found.{FoundThere, IsFound, Knows, AddsFound, Waits, found_seen, found_of};
+ghost use Rattle.c_initializers.specs.Found.{asked_of, pendings};
 ghost use Rattle.c_initializers.specs.Placing.{pointers_end};
 ghost use Rattle.c_initializers.specs.Slots.{AreSlotsThere, slot_in, slots_in};
 ghost use Rattle.c_initializers.specs.Starts.{known_of};
@@ -90,7 +91,8 @@ fn add_start(work: &Work, x: Slot, v: &Known, found: &mut Found) -> Result<(), N
 // The numbers and the pointers, in the order of the slots.
 fn found_in(work: &Work, slots: &[Slot], known: &[Known]) -> Result<Found, NoMemory>
     requires { length known.now ≡ length slots.now }
-    ensures { IfOk result (λ f. (s : State) → Shows work.now s → found_seen f ≡ found_of s (slots_in work.now.nodes slots.now) (map known_of known.now)) }
+    ensures { IfOk result (λ f. (s : State) → Shows work.now s →
+        found_seen f ≡ found_of s (slots_in work.now.nodes slots.now) (map known_of known.now)) }
 {
     let mut found = Found {
         numbers: Vec::new(work.nodes.alloc),
@@ -104,7 +106,8 @@ fn found_in(work: &Work, slots: &[Slot], known: &[Known]) -> Result<Found, NoMem
 
 // Lengths that an object is asked for, the last one first.
 fn ask(waiting: &mut Vec<Waiting>, pos: Pos, object: u32, asks: &[i64]) -> Result<(), NoMemory>
-    ensures { OnOk result (map pending_of waiting.new.items ≡ map pending_of waiting.old.items ++ pendings pos object (reverse asks.now)) }
+    ensures { OnOk result (map pending_of waiting.new.items
+        ≡ map pending_of waiting.old.items ++ pendings pos object (reverse asks.now)) }
 {
     let mut left = asks.len();
     while left > 0 {
@@ -133,12 +136,13 @@ fn ask_for(work: &mut Work, x: Slot, v: &Known) -> Result<(), NoMemory>
     }
 }
 
-/// What each value is, once the object's length is known: 134 at the first that is not known before the program runs. What is asked of
-/// objects whose lengths are not known waits for the end of the file.
+/// What each value is, once the object's length is known: 134 at the first that is not known before the program runs.
+/// What is asked of objects whose lengths are not known waits for the end of the file.
 pub fn start_slots(work: &mut Work, slots: &[Slot]) -> Result<Found, Refusal>
     requires whole { IsWhole work.old.nodes }
     requires slots { AreSlotsThere work.old.nodes slots.now }
-    ensures { Answers freely work.old work.new (start_slots (slots_in work.old.nodes slots.now)) FoundThere IsFound result }
+    ensures { Answers freely work.old work.new
+        (start_slots (slots_in work.old.nodes slots.now)) FoundThere IsFound result }
 {
     match known_values(work, slots) {
         Err(refusal) => Err(refusal),
@@ -150,8 +154,11 @@ pub fn start_slots(work: &mut Work, slots: &[Slot]) -> Result<Found, Refusal>
 fn start_known(work: &mut Work, slots: &[Slot], known: &[Known]) -> Result<Found, Refusal>
     requires whole { IsWhole work.old.nodes }
     requires length { length known.now ≡ length slots.now }
-    requires known { (s : State) → Shows work.old s → map (λ (x : meant.Slot). known_value s x.value) (slots_in work.old.nodes slots.now) ≡ map (λ k. Some (known_of k)) known.now }
-    ensures { Answers freely work.old work.new (start_slots (slots_in work.old.nodes slots.now)) FoundThere IsFound result }
+    requires known { (s : State) → Shows work.old s →
+        map (λ (x : meant.Slot). known_value s x.value) (slots_in work.old.nodes slots.now)
+        ≡ map (λ k. Some (known_of k)) known.now }
+    ensures { Answers freely work.old work.new
+        (start_slots (slots_in work.old.nodes slots.now)) FoundThere IsFound result }
 {
     let found = found_in(work, slots, known)?;
     let mut left = slots.len();

@@ -5,7 +5,8 @@ ghost use Rattle.c_tree.specs.Initializers.{takes_string, byte_slots, is_charact
 ghost use Rattle.c_nodes.specs.Nodes.{IsWhole, operand_in, type_in, type_count, term_count};
 ghost use Rattle.c_nodes.specs.Answers.{Answers as Built};
 ghost use Rattle.c_work.specs.Answers.{Answers, quietly};
-ghost use Rattle.c_initializers.specs.Slots.{HasSlots, SlotThere, IsSlot, FilledThere, IsFilled, string_filled, plain_slot, IsSlotIn, IsFilledIn};
+ghost use Rattle.c_initializers.specs.Slots.{HasSlots, SlotThere, IsSlot, FilledThere, IsFilled, string_filled};
+ghost use Rattle.c_initializers.specs.Slots.{plain_slot, IsSlotIn, IsFilledIn};
 
 use crate::scalars::moved;
 use crate::slots::{Filled, Slot};
@@ -60,7 +61,8 @@ fn byte_slots(
 ) -> Result<Vec<Slot>, NoMemory>
     requires whole { IsWhole nodes.old }
     requires there { of < type_count nodes.old }
-    ensures { IfOk result (λ slots. HasSlots nodes.old nodes.new slots.items (byte_slots whole (type_in nodes.old of) at bytes.now)) }
+    ensures { IfOk result (λ slots. HasSlots nodes.old nodes.new slots.items
+        (byte_slots whole (type_in nodes.old of) at bytes.now)) }
 {
     let kind = nodes.class(of).kind();
     let mut slots = Vec::new(nodes.alloc);
@@ -117,7 +119,8 @@ fn string_in(
     Ok(Filled { slots, count })
 }
 
-/// The bytes of a string literal in an array of characters: 133 at the literal where more than its last zero has no room.
+/// The bytes of a string literal in an array of characters: 133 at the literal where more than its last zero has no
+/// room.
 pub fn string(
     work: &mut Work,
     bytes: &[u8],
@@ -128,7 +131,8 @@ pub fn string(
 ) -> Result<Filled, Refusal>
     requires whole { IsWhole work.old.nodes }
     requires there { of < type_count work.old.nodes }
-    ensures { Answers quietly work.old work.new (string_filled bytes.now pos whole (type_in work.old.nodes of) at) FilledThere IsFilled result }
+    ensures { Answers quietly work.old work.new
+        (string_filled bytes.now pos whole (type_in work.old.nodes of) at) FilledThere IsFilled result }
 {
     string_in(&mut work.nodes, bytes, pos, whole, of, at)
 }
@@ -171,12 +175,14 @@ fn plain_in(nodes: &mut Nodes, x: Operand, of: u32, at: u64) -> Result<Slot, Ref
     }
 }
 
-/// A value for a scalar, a struct or a union, as by assignment (133). What it stands for where a value is wanted was taken before.
+/// A value for a scalar, a struct or a union, as by assignment (133). What it stands for where a value is wanted was
+/// taken before.
 pub fn plain(work: &mut Work, x: Operand, of: u32, at: u64) -> Result<Slot, Refusal>
     requires whole { IsWhole work.old.nodes }
     requires there { of < type_count work.old.nodes }
     requires operand { x.node < term_count work.old.nodes }
-    ensures { Answers quietly work.old work.new (plain_slot (type_in work.old.nodes of) at (operand_in work.old.nodes x)) SlotThere IsSlot result }
+    ensures { Answers quietly work.old work.new
+        (plain_slot (type_in work.old.nodes of) at (operand_in work.old.nodes x)) SlotThere IsSlot result }
 {
     plain_in(&mut work.nodes, x, of, at)
 }

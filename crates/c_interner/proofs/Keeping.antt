@@ -1,5 +1,7 @@
 -- What is kept of pairs of types, as types are added and answers found.
-use Rattle.std.proofs.Common.{◌≡◌, ℕ, ◌+◌, ◌<◌, ◌≤◌, Bool, true, false, cond, eqb, List, [], ◌∷◌, ◌++◌, length, get_or, take, map, zero, suc, Option, Some, None, refl, sym, ap, subst, ◌∙◌, arith, append_assoc, length-append, eq-eqb}
+use Rattle.std.proofs.Common.{◌≡◌, ℕ, ◌+◌, ◌<◌, ◌≤◌, Bool, true, false, cond, eqb, List, [], ◌∷◌, ◌++◌, length, get_or}
+use Rattle.std.proofs.Common.{take, map, zero, suc, Option, Some, None, refl, sym, ap, subst, ◌∙◌, arith, append_assoc}
+use Rattle.std.proofs.Common.{length-append, eq-eqb}
 use Rattle.std.specs.Prelude.{◌&&◌, ◌||◌, IfSome, Result, Ok, Err, IfOk, All}
 use Rattle.std.specs.Map.{lookup}
 use Rattle.std.specs.Option.{ok_or}
@@ -36,18 +38,21 @@ pub if_some : {V : Type 0} (o : Option V) (P : V → Type 0) → ((r : V) → o 
 if_some None P h = tt
 if_some (Some r) P h = h r refl
 
-pub if_ok_some : {V E : Type 0} (r : Result (Option V) E) (P Q : V → Type 0) → ((v : V) → P v → Q v) → IfOk r (λ o. IfSome o P) → IfOk r (λ o. IfSome o Q)
+pub if_ok_some : {V E : Type 0} (r : Result (Option V) E) (P Q : V → Type 0) → ((v : V) → P v → Q v) →
+    IfOk r (λ o. IfSome o P) → IfOk r (λ o. IfSome o Q)
 if_ok_some (Ok None) P Q h i = tt
 if_ok_some (Ok (Some v)) P Q h i = h v i
 if_ok_some (Err e) P Q h i = tt
 
-pub none_kept : {V : Type 0} (P : ℕ × ℕ → V → Type 0) (es : List ((ℕ × ℕ) × V)) → es ≡ [] → (q : ℕ × ℕ) (r : V) → lookup (same_pair q) es ≡ Some r → P q r
+pub none_kept : {V : Type 0} (P : ℕ × ℕ → V → Type 0) (es : List ((ℕ × ℕ) × V)) → es ≡ [] → (q : ℕ × ℕ) (r : V) →
+    lookup (same_pair q) es ≡ Some r → P q r
 none_kept P [] e q r h = absurd cc
 none_kept P (x ∷ es) e q r h = absurd cc
 
 -- what holds of each kept answer holds with one more
 pub kept_more : {V : Type 0} (P : ℕ × ℕ → V → Type 0) (es new : List ((ℕ × ℕ) × V)) (key : ℕ × ℕ) (v : V) →
-    ((q : ℕ × ℕ) → lookup (same_pair q) new ≡ cond (same_pair key q) (Some v) (lookup (same_pair q) es)) → P key v → ((q : ℕ × ℕ) (r : V) → lookup (same_pair q) es ≡ Some r → P q r) →
+    ((q : ℕ × ℕ) → lookup (same_pair q) new ≡ cond (same_pair key q) (Some v) (lookup (same_pair q) es)) → P key v →
+    ((q : ℕ × ℕ) (r : V) → lookup (same_pair q) es ≡ Some r → P q r) →
     (q : ℕ × ℕ) (r : V) → lookup (same_pair q) new ≡ Some r → P q r
 kept_more {V = V} P es new key v u p h q r e = by (same_pair key q) refl (sym (u q) ∙ e)
   where
@@ -61,10 +66,12 @@ pub lengths_self : (how : Lengths) (n : ℕ) → lengths_of how n n ≡ true
 lengths_self Equal n = eq-eqb n n refl
 lengths_self Compatible n = ap (λ b. (b || eqb n 0) || eqb n 0) (eq-eqb n n refl)
 
-pub judged : (lengths : ℕ → ℕ → Bool) (go : ℕ → Ty) (x y : ℕ) (h : Head) (ps : List ℕ) (g : Head) (qs : List ℕ) (l r : Bool) → go x ≡ built h ps go → go y ≡ built g qs go → levels_agree lengths h ps g qs ≡ l →
+pub judged : (lengths : ℕ → ℕ → Bool) (go : ℕ → Ty) (x y : ℕ) (h : Head) (ps : List ℕ) (g : Head) (qs : List ℕ)
+    (l r : Bool) → go x ≡ built h ps go → go y ≡ built g qs go → levels_agree lengths h ps g qs ≡ l →
     (l && pairs_agree lengths go (parts_of h ps g qs)) ≡ r → agree lengths (go x) (go y) ≡ r
 judged lengths go x y h ps g qs l r a b c d =
-    ap (λ t. agree lengths t (go y)) a ∙ ap (λ t. agree lengths (built h ps go) t) b ∙ agree-built lengths go h ps g qs ∙ ap (λ m. m && pairs_agree lengths go (parts_of h ps g qs)) c ∙ d
+    ap (λ t. agree lengths t (go y)) a ∙ ap (λ t. agree lengths (built h ps go) t) b ∙ agree-built lengths go h ps g qs
+    ∙ ap (λ m. m && pairs_agree lengths go (parts_of h ps g qs)) c ∙ d
 
 -- ---- more types
 
@@ -92,7 +99,8 @@ composite_more p q x k a h =
       second = let l = h.second in omega arith;
       there = let l = h.there in omega arith;
       is =
-          adds_keep p q k a h.there ∙ h.is ∙ ap (λ t. composite t (type_in p.types x.1)) (sym (adds_keep p q x.0 a h.first))
+          adds_keep p q k a h.there ∙ h.is
+          ∙ ap (λ t. composite t (type_in p.types x.1)) (sym (adds_keep p q x.0 a h.first))
           ∙ ap (λ t. composite (type_in q.types x.0) t) (sym (adds_keep p q x.1 a h.second));
     }
 
@@ -117,13 +125,16 @@ one_below n v l (suc k) d h = absurd (omega arith)
 pub names_none : (types : List CType) (qs : List (ℕ × ℕ)) → NamesComposites types (take 0 qs) []
 names_none types qs = record { there = λ k d h. absurd (omega arith); are = refl }
 
-pub names_more : (types : List CType) (qs : List (ℕ × ℕ)) (k : ℕ) (d : ℕ × ℕ) (ks : List ℕ) (v : ℕ) → k < length qs → NamesComposites types (take k qs) ks → IsComposite types (get_or qs k d) v → NamesComposites types (take (k + 1) qs) (ks ++ v ∷ [])
+pub names_more : (types : List CType) (qs : List (ℕ × ℕ)) (k : ℕ) (d : ℕ × ℕ) (ks : List ℕ) (v : ℕ) → k < length qs →
+    NamesComposites types (take k qs) ks → IsComposite types (get_or qs k d) v →
+    NamesComposites types (take (k + 1) qs) (ks ++ v ∷ [])
 names_more types qs k d ks v l h i =
     let f = pair_composite (type_in types) in
     record {
       there = All-append (λ (j : ℕ). j < length types) ks (v ∷ []) h.there (one_below (length types) v i.there);
       are =
-          map-append (type_in types) ks (v ∷ []) ∙ ap (λ ts. ts ++ type_in types v ∷ []) h.are ∙ ap (λ t. map f (take k qs) ++ t ∷ []) i.is
+          map-append (type_in types) ks (v ∷ []) ∙ ap (λ ts. ts ++ type_in types v ∷ []) h.are
+          ∙ ap (λ t. map f (take k qs) ++ t ∷ []) i.is
           ∙ sym (map-append f (take k qs) (get_or qs k d ∷ [])) ∙ ap (map f) (sym (take_more qs k d l));
     }
 
@@ -135,17 +146,24 @@ self_composite types x e l = record {
   is = sym (ap (λ k. composite (type_in types x.0) (type_in types k)) (sym e) ∙ composite_self (type_in types x.0));
 }
 
-pub first_composite : (types : List CType) (x : ℕ × ℕ) (h : Head) (ps : List ℕ) (g : Head) (qs : List ℕ) → x.0 < length types → x.1 < length types → type_in types x.0 ≡ built h ps (type_in types) → type_in types x.1 ≡ built g qs (type_in types) →
-    composite (built h ps (type_in types)) (built g qs (type_in types)) ≡ built h ps (type_in types) → IsComposite types x x.0
+pub first_composite : (types : List CType) (x : ℕ × ℕ) (h : Head) (ps : List ℕ) (g : Head) (qs : List ℕ) →
+    x.0 < length types → x.1 < length types → type_in types x.0 ≡ built h ps (type_in types) →
+    type_in types x.1 ≡ built g qs (type_in types) →
+    composite (built h ps (type_in types)) (built g qs (type_in types)) ≡ built h ps (type_in types) →
+    IsComposite types x x.0
 first_composite types x h ps g qs l m a b c = record {
   first = l;
   second = m;
   there = l;
-  is = a ∙ sym c ∙ ap (λ t. composite t (built g qs (type_in types))) (sym a) ∙ ap (λ t. composite (type_in types x.0) t) (sym b);
+  is = a ∙ sym c ∙ ap (λ t. composite t (built g qs (type_in types))) (sym a)
+      ∙ ap (λ t. composite (type_in types x.0) t) (sym b);
 }
 
-pub new_composite : (p q : Typed) (x : ℕ × ℕ) (k : ℕ) (t : CType) (h : Head) (ps : List ℕ) (g : Head) (rs : List ℕ) → AddsTypes p q → IsNumberOf p q k t → x.0 < length p.types → x.1 < length p.types →
-    type_in p.types x.0 ≡ built h ps (type_in p.types) → type_in p.types x.1 ≡ built g rs (type_in p.types) → type_from t (type_in p.types) ≡ composite (built h ps (type_in p.types)) (built g rs (type_in p.types)) → IsComposite q.types x k
+pub new_composite : (p q : Typed) (x : ℕ × ℕ) (k : ℕ) (t : CType) (h : Head) (ps : List ℕ) (g : Head) (rs : List ℕ) →
+    AddsTypes p q → IsNumberOf p q k t → x.0 < length p.types → x.1 < length p.types →
+    type_in p.types x.0 ≡ built h ps (type_in p.types) → type_in p.types x.1 ≡ built g rs (type_in p.types) →
+    type_from t (type_in p.types) ≡ composite (built h ps (type_in p.types)) (built g rs (type_in p.types)) →
+    IsComposite q.types x k
 new_composite p q x k t h ps g rs a n l m b c e =
     let more = adds_more p q a in
     record {
@@ -157,14 +175,19 @@ new_composite p q x k t h ps g rs a n l m b c e =
           ∙ ap (λ u. composite (type_in q.types x.0) u) (sym c ∙ sym (adds_keep p q x.1 a m));
     }
 
-pub composite_named : (p q : Typed) (x : ℕ × ℕ) (k : ℕ) → AddsTypes p q → x.0 < length p.types → x.1 < length p.types → IsComposite q.types x k → type_in q.types k ≡ composite (type_in p.types x.0) (type_in p.types x.1)
-composite_named p q x k a l m h = h.is ∙ ap (λ t. composite t (type_in q.types x.1)) (adds_keep p q x.0 a l) ∙ ap (λ t. composite (type_in p.types x.0) t) (adds_keep p q x.1 a m)
+pub composite_named : (p q : Typed) (x : ℕ × ℕ) (k : ℕ) → AddsTypes p q → x.0 < length p.types → x.1 < length p.types →
+    IsComposite q.types x k → type_in q.types k ≡ composite (type_in p.types x.0) (type_in p.types x.1)
+composite_named p q x k a l m h =
+    h.is ∙ ap (λ t. composite t (type_in q.types x.1)) (adds_keep p q x.0 a l)
+    ∙ ap (λ t. composite (type_in p.types x.0) t) (adds_keep p q x.1 a m)
 
-pub ok_or_some : {V E : Type 0} (o : Option V) (r : Result V E) (e : E) (P Q : V → Type 0) → r ≡ ok_or o e → ((v : V) → P v → Q v) → IfSome o P → IfOk r Q
+pub ok_or_some : {V E : Type 0} (o : Option V) (r : Result V E) (e : E) (P Q : V → Type 0) → r ≡ ok_or o e →
+    ((v : V) → P v → Q v) → IfSome o P → IfOk r Q
 ok_or_some None r e P Q i h p = rw i tt
 ok_or_some (Some v) r e P Q i h p = rw i (h v p)
 
-pub below_next : (n : ℕ) (qs : List (ℕ × ℕ)) (k : ℕ) (d : ℕ × ℕ) (ws : List (ℕ × ℕ)) → k < length qs → AreBelow n qs → AreBelow n ws → AreBelow n (ws ++ get_or qs k d ∷ [])
+pub below_next : (n : ℕ) (qs : List (ℕ × ℕ)) (k : ℕ) (d : ℕ × ℕ) (ws : List (ℕ × ℕ)) → k < length qs → AreBelow n qs →
+    AreBelow n ws → AreBelow n (ws ++ get_or qs k d ∷ [])
 below_next n qs k d ws l h i = below_end n ws (get_or qs k d) (h k d l).0 (h k d l).1 i
 
 pub if_ok : {V E : Type 0} (r : Result V E) (P Q : V → Type 0) → ((v : V) → P v → Q v) → IfOk r P → IfOk r Q

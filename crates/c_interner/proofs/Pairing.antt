@@ -1,5 +1,7 @@
 -- Two types by their levels.
-use Rattle.std.proofs.Common.{◌≡◌, ℕ, zero, suc, ◌+◌, ◌<◌, ◌≤◌, Bool, true, false, cond, ltb, eqb, List, [], ◌∷◌, ◌++◌, length, get_or, take, drop, map, min, max, Some, refl, sym, ap, ◌∙◌, arith, add-one, eq-eqb}
+use Rattle.std.proofs.Common.{◌≡◌, ℕ, zero, suc, ◌+◌, ◌<◌, ◌≤◌, Bool, true, false, cond, ltb, eqb, List, [], ◌∷◌, ◌++◌}
+use Rattle.std.proofs.Common.{length, get_or, take, drop, map, min, max, Some, refl, sym, ap, ◌∙◌, arith, add-one}
+use Rattle.std.proofs.Common.{eq-eqb}
 use Rattle.std.specs.Prelude.{slice_get, ◌&&◌}
 use Rattle.std.proofs.Math.Dec.{eqb-zero-suc, eqb-suc-zero, eqb-suc-suc}
 use Rattle.std.proofs.lemmas.Bool.{ltb-true, ltb-false}
@@ -40,20 +42,27 @@ built_alike (heads.Tagged n) ps f g e = refl
 built_alike (heads.Function t) ps f g e = let x = e t in let y = tys_alike f g ps e in cc
 built_alike (heads.Const t) ps f g e = ap types.Const (e t)
 
-part_seen : (cs : List CType) (void k : ℕ) (seen : ℕ → Ty) → type_in cs void ≡ Void → SeesBefore cs k seen → (j : ℕ) → seen j ≡ type_in cs (part_of void k j)
+part_seen : (cs : List CType) (void k : ℕ) (seen : ℕ → Ty) → type_in cs void ≡ Void → SeesBefore cs k seen → (j : ℕ) →
+    seen j ≡ type_in cs (part_of void k j)
 part_seen cs void k seen v s j = by (ltb j k) refl
   where
     by : (b : Bool) → ltb j k ≡ b → seen j ≡ type_in cs (cond b j void)
     by true e = s.below j (ltb-true j k e)
     by false e = s.past j (ltb-false j k e) ∙ sym v
 
-pub level_is : (cs : List CType) (void k : ℕ) (c : CType) (h l : Head) (ps qs : List ℕ) → slice_get cs k ≡ Some c → type_in cs void ≡ Void →
-    ((go : ℕ → Ty) → type_from c go ≡ built h ps go) → ((go : ℕ → Ty) (rs : List ℕ) → built h rs (λ j. go (part_of void k j)) ≡ built l (map (part_of void k) rs) go) → qs ≡ map (part_of void k) ps →
+pub level_is : (cs : List CType) (void k : ℕ) (c : CType) (h l : Head) (ps qs : List ℕ) → slice_get cs k ≡ Some c →
+    type_in cs void ≡ Void →
+    ((go : ℕ → Ty) → type_from c go ≡ built h ps go) →
+    ((go : ℕ → Ty) (rs : List ℕ) → built h rs (λ j. go (part_of void k j)) ≡ built l (map (part_of void k) rs) go) →
+    qs ≡ map (part_of void k) ps →
     type_in cs k ≡ built l qs (type_in cs)
 level_is cs void k c h l ps qs e v t u q =
     let lt = slice_get_within cs k c e in
     let seen = type_at (types_of (take k cs)) in
-    type_at-level cs k c e ∙ t seen ∙ built_alike h ps seen (λ j. type_in cs (part_of void k j)) (part_seen cs void k seen v (sees_before cs k (omega arith))) ∙ u (type_in cs) ps ∙ ap (λ rs. built l rs (type_in cs)) (sym q)
+    type_at-level cs k c e ∙ t seen
+    ∙ built_alike h ps seen (λ j. type_in cs (part_of void k j))
+    (part_seen cs void k seen v (sees_before cs k (omega arith))) ∙ u (type_in cs) ps
+    ∙ ap (λ rs. built l rs (type_in cs)) (sym q)
 
 part_below : (void k n j : ℕ) → void < n → k ≤ n → part_of void k j < n
 part_below void k n j v l = by (ltb j k) refl
@@ -69,17 +78,21 @@ parts_below void k n (q ∷ ps) v l (suc j) p e = parts_below void k n ps v l j 
 
 -- ---- pairs of parts
 
-pairs-next : (ps qs : List ℕ) (k p q : ℕ) → k < length ps → k < length qs → p ≡ get_or ps k p → q ≡ get_or qs k q → pairs_of (take (suc k) ps) (take (suc k) qs) ≡ pairs_of (take k ps) (take k qs) ++ (p, q) ∷ []
+pairs-next : (ps qs : List ℕ) (k p q : ℕ) → k < length ps → k < length qs → p ≡ get_or ps k p → q ≡ get_or qs k q →
+    pairs_of (take (suc k) ps) (take (suc k) qs) ≡ pairs_of (take k ps) (take k qs) ++ (p, q) ∷ []
 pairs-next [] qs k p q a b c d = absurd (omega arith)
 pairs-next (x ∷ ps) [] k p q a b c d = absurd (omega arith)
 pairs-next (x ∷ ps) (y ∷ qs) zero p q a b c d = ap (λ u. (u, y) ∷ []) (sym c) ∙ ap (λ u. (p, u) ∷ []) (sym d)
-pairs-next (x ∷ ps) (y ∷ qs) (suc k) p q a b c d = ap (λ r. (x, y) ∷ r) (pairs-next ps qs k p q (omega arith) (omega arith) c d)
+pairs-next (x ∷ ps) (y ∷ qs) (suc k) p q a b c d =
+    ap (λ r. (x, y) ∷ r) (pairs-next ps qs k p q (omega arith) (omega arith) c d)
 
-pub pairs-more : (ps qs : List ℕ) (k p q : ℕ) → k < length ps → k < length qs → p ≡ get_or ps k p → q ≡ get_or qs k q → pairs_of (take (k + 1) ps) (take (k + 1) qs) ≡ pairs_of (take k ps) (take k qs) ++ (p, q) ∷ []
+pub pairs-more : (ps qs : List ℕ) (k p q : ℕ) → k < length ps → k < length qs → p ≡ get_or ps k p → q ≡ get_or qs k q →
+    pairs_of (take (k + 1) ps) (take (k + 1) qs) ≡ pairs_of (take k ps) (take k qs) ++ (p, q) ∷ []
 pairs-more ps qs k p q a b c d = rw (add-one k) (pairs-next ps qs k p q a b c d)
 
 -- the pairs of two lists stand within the length of the shorter
-pub pairs_whole : (ps qs : List ℕ) (k : ℕ) → min (length ps) (length qs) ≤ k → pairs_of (take k ps) (take k qs) ≡ pairs_of ps qs
+pub pairs_whole : (ps qs : List ℕ) (k : ℕ) → min (length ps) (length qs) ≤ k →
+    pairs_of (take k ps) (take k qs) ≡ pairs_of ps qs
 pairs_whole [] qs zero h = refl
 pairs_whole [] qs (suc k) h = refl
 pairs_whole (p ∷ ps) [] zero h = refl
@@ -117,16 +130,21 @@ and_swap true b c = refl
 and_swap false true c = refl
 and_swap false false c = refl
 
-all_agree-map : (lengths : ℕ → ℕ → Bool) (go : ℕ → Ty) (ps qs : List ℕ) → all_agree lengths (tys (map go ps)) (tys (map go qs)) ≡ (eqb (length ps) (length qs) && pairs_agree lengths go (pairs_of ps qs))
+all_agree-map : (lengths : ℕ → ℕ → Bool) (go : ℕ → Ty) (ps qs : List ℕ) →
+    all_agree lengths (tys (map go ps)) (tys (map go qs))
+    ≡ (eqb (length ps) (length qs) && pairs_agree lengths go (pairs_of ps qs))
 all_agree-map lengths go [] [] = refl
 all_agree-map lengths go [] (q ∷ qs) = rw (eqb-zero-suc (length qs)) refl
 all_agree-map lengths go (p ∷ ps) [] = rw (eqb-suc-zero (length ps)) refl
 all_agree-map lengths go (p ∷ ps) (q ∷ qs) =
-    ap (λ b. agree lengths (go p) (go q) && b) (all_agree-map lengths go ps qs) ∙ and_swap (agree lengths (go p) (go q)) (eqb (length ps) (length qs)) (pairs_agree lengths go (pairs_of ps qs))
+    ap (λ b. agree lengths (go p) (go q) && b) (all_agree-map lengths go ps qs)
+    ∙ and_swap (agree lengths (go p) (go q)) (eqb (length ps) (length qs)) (pairs_agree lengths go (pairs_of ps qs))
     ∙ ap (λ b. b && pairs_agree lengths go (pairs_of (p ∷ ps) (q ∷ qs))) (sym (eqb-suc-suc (length ps) (length qs)))
 
 -- two levels agree where they do but for their parts, and all of their parts do
-pub agree-built : (lengths : ℕ → ℕ → Bool) (go : ℕ → Ty) (h : Head) (ps : List ℕ) (g : Head) (qs : List ℕ) → agree lengths (built h ps go) (built g qs go) ≡ (levels_agree lengths h ps g qs && pairs_agree lengths go (parts_of h ps g qs))
+pub agree-built : (lengths : ℕ → ℕ → Bool) (go : ℕ → Ty) (h : Head) (ps : List ℕ) (g : Head) (qs : List ℕ) →
+    agree lengths (built h ps go) (built g qs go)
+    ≡ (levels_agree lengths h ps g qs && pairs_agree lengths go (parts_of h ps g qs))
 agree-built lengths go heads.Void ps heads.Void qs = refl
 agree-built lengths go (heads.Int j m) ps (heads.Int k n) qs = sym (and-true (types.same_kind j k && eqb m n))
 agree-built lengths go (heads.Cap a) ps (heads.Cap b) qs = sym (and-true (types.same_truth a b))
@@ -134,7 +152,8 @@ agree-built lengths go (heads.Pointer s) ps (heads.Pointer t) qs = sym (and-true
 agree-built lengths go (heads.Array s m) ps (heads.Array t n) qs = grind arith
 agree-built lengths go (heads.Tagged m) ps (heads.Tagged n) qs = sym (and-true (eqb m n))
 agree-built lengths go (heads.Function r) ps (heads.Function s) qs =
-    ap (λ b. agree lengths (go r) (go s) && b) (all_agree-map lengths go ps qs) ∙ and_swap (agree lengths (go r) (go s)) (eqb (length ps) (length qs)) (pairs_agree lengths go (pairs_of ps qs))
+    ap (λ b. agree lengths (go r) (go s) && b) (all_agree-map lengths go ps qs)
+    ∙ and_swap (agree lengths (go r) (go s)) (eqb (length ps) (length qs)) (pairs_agree lengths go (pairs_of ps qs))
 agree-built lengths go (heads.Const s) ps (heads.Const t) qs = sym (and-true (agree lengths (go s) (go t)))
 agree-built lengths go h ps g qs = refl
 
@@ -148,28 +167,39 @@ mutual
   agree_self lengths l (types.Pointer t) = agree_self lengths l t
   agree_self lengths l (types.Array t n) = ap (λ b. b && lengths n n) (agree_self lengths l t) ∙ l n
   agree_self lengths l (types.Tagged n) = eq-eqb n n refl
-  agree_self lengths l (types.Function r ps) = ap (λ b. b && all_agree lengths ps ps) (agree_self lengths l r) ∙ all_agree_self lengths l ps
+  agree_self lengths l (types.Function r ps) =
+      ap (λ b. b && all_agree lengths ps ps) (agree_self lengths l r) ∙ all_agree_self lengths l ps
   agree_self lengths l (types.Const t) = agree_self lengths l t
 
-  all_agree_self : (lengths : ℕ → ℕ → Bool) → ((n : ℕ) → lengths n n ≡ true) → (ts : Tys) → all_agree lengths ts ts ≡ true
+  all_agree_self : (lengths : ℕ → ℕ → Bool) → ((n : ℕ) → lengths n n ≡ true) → (ts : Tys) →
+      all_agree lengths ts ts ≡ true
   all_agree_self lengths l no_types = refl
-  all_agree_self lengths l (also t ts) = ap (λ b. b && all_agree lengths ts ts) (agree_self lengths l t) ∙ all_agree_self lengths l ts
+  all_agree_self lengths l (also t ts) =
+      ap (λ b. b && all_agree lengths ts ts) (agree_self lengths l t) ∙ all_agree_self lengths l ts
 
-pairs_agree-append : (lengths : ℕ → ℕ → Bool) (go : ℕ → Ty) (xs ys : List (ℕ × ℕ)) → pairs_agree lengths go (xs ++ ys) ≡ (pairs_agree lengths go xs && pairs_agree lengths go ys)
+pairs_agree-append : (lengths : ℕ → ℕ → Bool) (go : ℕ → Ty) (xs ys : List (ℕ × ℕ)) →
+    pairs_agree lengths go (xs ++ ys) ≡ (pairs_agree lengths go xs && pairs_agree lengths go ys)
 pairs_agree-append lengths go [] ys = refl
 pairs_agree-append lengths go (x ∷ xs) ys =
-    ap (λ b. agree lengths (go x.0) (go x.1) && b) (pairs_agree-append lengths go xs ys) ∙ sym (and-assoc (agree lengths (go x.0) (go x.1)) (pairs_agree lengths go xs) (pairs_agree lengths go ys))
+    ap (λ b. agree lengths (go x.0) (go x.1) && b) (pairs_agree-append lengths go xs ys)
+    ∙ sym (and-assoc (agree lengths (go x.0) (go x.1)) (pairs_agree lengths go xs) (pairs_agree lengths go ys))
 
 -- where one pair does not agree, not all of them do
-pub pairs_agree_false : (lengths : ℕ → ℕ → Bool) (go : ℕ → Ty) (qs : List (ℕ × ℕ)) (k : ℕ) (d : ℕ × ℕ) → k < length qs → agree lengths (go (get_or qs k d).0) (go (get_or qs k d).1) ≡ false → pairs_agree lengths go qs ≡ false
+pub pairs_agree_false : (lengths : ℕ → ℕ → Bool) (go : ℕ → Ty) (qs : List (ℕ × ℕ)) (k : ℕ) (d : ℕ × ℕ) → k < length qs →
+    agree lengths (go (get_or qs k d).0) (go (get_or qs k d).1) ≡ false → pairs_agree lengths go qs ≡ false
 pairs_agree_false lengths go [] k d l e = absurd (omega arith)
 pairs_agree_false lengths go (x ∷ qs) zero d l e = ap (λ b. b && pairs_agree lengths go qs) e
-pairs_agree_false lengths go (x ∷ qs) (suc k) d l e = ap (λ b. agree lengths (go x.0) (go x.1) && b) (pairs_agree_false lengths go qs k d (omega arith) e) ∙ and-false (agree lengths (go x.0) (go x.1))
+pairs_agree_false lengths go (x ∷ qs) (suc k) d l e =
+    ap (λ b. agree lengths (go x.0) (go x.1) && b) (pairs_agree_false lengths go qs k d (omega arith) e)
+    ∙ and-false (agree lengths (go x.0) (go x.1))
 
-pub pairs_agree_next : (lengths : ℕ → ℕ → Bool) (go : ℕ → Ty) (qs : List (ℕ × ℕ)) (k : ℕ) (d : ℕ × ℕ) → k < length qs → pairs_agree lengths go (take k qs) ≡ true → agree lengths (go (get_or qs k d).0) (go (get_or qs k d).1) ≡ true → pairs_agree lengths go (take (k + 1) qs) ≡ true
+pub pairs_agree_next : (lengths : ℕ → ℕ → Bool) (go : ℕ → Ty) (qs : List (ℕ × ℕ)) (k : ℕ) (d : ℕ × ℕ) → k < length qs →
+    pairs_agree lengths go (take k qs) ≡ true → agree lengths (go (get_or qs k d).0) (go (get_or qs k d).1) ≡ true →
+    pairs_agree lengths go (take (k + 1) qs) ≡ true
 pairs_agree_next lengths go qs k d l h e =
     let a = agree lengths (go (get_or qs k d).0) (go (get_or qs k d).1) in
-    ap (pairs_agree lengths go) (take_more qs k d l) ∙ pairs_agree-append lengths go (take k qs) (get_or qs k d ∷ []) ∙ ap (λ b. b && (a && true)) h ∙ and-true a ∙ e
+    ap (pairs_agree lengths go) (take_more qs k d l) ∙ pairs_agree-append lengths go (take k qs) (get_or qs k d ∷ [])
+    ∙ ap (λ b. b && (a && true)) h ∙ and-true a ∙ e
 
 -- ---- composites
 
@@ -189,7 +219,8 @@ mutual
   composites_self (also t ts) = let c = composite_self t in let d = composites_self ts in cc
 
 -- the composites of two lists of types, of the numbers of the composites of their pairs
-composites-map : (go : ℕ → Ty) (ps qs ks : List ℕ) → map go ks ≡ map (pair_composite go) (pairs_of ps qs) → tys (map go (ks ++ drop (length ks) ps)) ≡ composites (tys (map go ps)) (tys (map go qs))
+composites-map : (go : ℕ → Ty) (ps qs ks : List ℕ) → map go ks ≡ map (pair_composite go) (pairs_of ps qs) →
+    tys (map go (ks ++ drop (length ks) ps)) ≡ composites (tys (map go ps)) (tys (map go qs))
 composites-map go [] qs [] e = refl
 composites-map go [] qs (k ∷ ks) e = absurd cc
 composites-map go (p ∷ ps) [] [] e = refl
@@ -201,8 +232,11 @@ composites-map go (p ∷ ps) (q ∷ qs) (k ∷ ks) e =
     let c = composites-map go ps qs ks b in
     cc
 
-pub composite_params : (go : ℕ → Ty) (r s first : ℕ) (ps qs others all : List ℕ) → map go (first ∷ others) ≡ map (pair_composite go) ((r, s) ∷ pairs_of ps qs) → all ≡ others ++ drop (length others) ps →
-    types.Function (go first) (tys (map go all)) ≡ composite (types.Function (go r) (tys (map go ps))) (types.Function (go s) (tys (map go qs)))
+pub composite_params : (go : ℕ → Ty) (r s first : ℕ) (ps qs others all : List ℕ) →
+    map go (first ∷ others) ≡ map (pair_composite go) ((r, s) ∷ pairs_of ps qs) →
+    all ≡ others ++ drop (length others) ps →
+    types.Function (go first) (tys (map go all))
+    ≡ composite (types.Function (go r) (tys (map go ps))) (types.Function (go s) (tys (map go qs)))
 composite_params go r s first ps qs others all e a =
     let b : go first ≡ composite (go r) (go s) = cc in
     let d : map go others ≡ map (pair_composite go) (pairs_of ps qs) = cc in
@@ -211,7 +245,8 @@ composite_params go r s first ps qs others all e a =
     cc
 
 -- the composite of types without parts is the first
-pub composite_first : (go : ℕ → Ty) (h : Head) (ps : List ℕ) (g : Head) (qs : List ℕ) → parts_of h ps g qs ≡ [] → composite (built h ps go) (built g qs go) ≡ built h ps go
+pub composite_first : (go : ℕ → Ty) (h : Head) (ps : List ℕ) (g : Head) (qs : List ℕ) → parts_of h ps g qs ≡ [] →
+    composite (built h ps go) (built g qs go) ≡ built h ps go
 composite_first go (heads.Pointer s) ps (heads.Pointer t) qs e = absurd cc
 composite_first go (heads.Array s m) ps (heads.Array t n) qs e = absurd cc
 composite_first go (heads.Function r) ps (heads.Function s) qs e = absurd cc
@@ -219,7 +254,8 @@ composite_first go (heads.Const s) ps (heads.Const t) qs e = absurd cc
 composite_first go h ps g qs e = refl
 
 -- so it is where no part has a composite
-pub composite_none : (go : ℕ → Ty) (h : Head) (ps : List ℕ) (g : Head) (qs : List ℕ) → [] ≡ map (pair_composite go) (parts_of h ps g qs) → composite (built h ps go) (built g qs go) ≡ built h ps go
+pub composite_none : (go : ℕ → Ty) (h : Head) (ps : List ℕ) (g : Head) (qs : List ℕ) →
+    [] ≡ map (pair_composite go) (parts_of h ps g qs) → composite (built h ps go) (built g qs go) ≡ built h ps go
 composite_none go h ps g qs e = composite_first go h ps g qs (by (parts_of h ps g qs) e)
   where
     by : (xs : List (ℕ × ℕ)) → [] ≡ map (pair_composite go) xs → xs ≡ []
@@ -232,7 +268,8 @@ pairs_below : (n : ℕ) (ps qs : List ℕ) → AllBefore ps n → AllBefore qs n
 pairs_below n [] qs a b k d l = absurd (omega arith)
 pairs_below n (p ∷ ps) [] a b k d l = absurd (omega arith)
 pairs_below n (p ∷ ps) (q ∷ qs) a b zero d l = (a 0 p refl, b 0 q refl)
-pairs_below n (p ∷ ps) (q ∷ qs) a b (suc k) d l = pairs_below n ps qs (λ j r e. a (suc j) r e) (λ j r e. b (suc j) r e) k d (omega arith)
+pairs_below n (p ∷ ps) (q ∷ qs) a b (suc k) d l =
+    pairs_below n ps qs (λ j r e. a (suc j) r e) (λ j r e. b (suc j) r e) k d (omega arith)
 
 pair_below : (n s t : ℕ) → s < n → t < n → AreBelow n ((s, t) ∷ [])
 pair_below n s t a b zero d l = (a, b)
@@ -245,12 +282,15 @@ pub below_also : (n : ℕ) (q : ℕ × ℕ) (qs : List (ℕ × ℕ)) → q.0 < n
 below_also n q qs a b h zero d l = (a, b)
 below_also n q qs a b h (suc k) d l = h k d (omega arith)
 
-pub parts_are_below : (n : ℕ) (h : Head) (ps : List ℕ) (g : Head) (qs : List ℕ) → PartStandsBefore h n → AllBefore ps n → PartStandsBefore g n → AllBefore qs n → AreBelow n (parts_of h ps g qs)
+pub parts_are_below : (n : ℕ) (h : Head) (ps : List ℕ) (g : Head) (qs : List ℕ) → PartStandsBefore h n →
+    AllBefore ps n → PartStandsBefore g n → AllBefore qs n → AreBelow n (parts_of h ps g qs)
 parts_are_below n (heads.Pointer s) ps (heads.Pointer t) qs a b c d = pair_below n s t a c
 parts_are_below n (heads.Array s i) ps (heads.Array t j) qs a b c d = pair_below n s t a c
-parts_are_below n (heads.Function r) ps (heads.Function s) qs a b c d = below_also n (r, s) (pairs_of ps qs) a c (pairs_below n ps qs b d)
+parts_are_below n (heads.Function r) ps (heads.Function s) qs a b c d =
+    below_also n (r, s) (pairs_of ps qs) a c (pairs_below n ps qs b d)
 parts_are_below n (heads.Const s) ps (heads.Const t) qs a b c d = pair_below n s t a c
 parts_are_below n h ps g qs a b c d = none_below n
 
 pub below_end : (n : ℕ) (qs : List (ℕ × ℕ)) (q : ℕ × ℕ) → q.0 < n → q.1 < n → AreBelow n qs → AreBelow n (qs ++ q ∷ [])
-below_end n qs q a b h = All-append (λ (x : ℕ × ℕ). (x.0 < n) × (x.1 < n)) qs (q ∷ []) h (below_also n q [] a b (none_below n))
+below_end n qs q a b h = All-append (λ (x : ℕ × ℕ). (x.0 < n) × (x.1 < n)) qs (q ∷ []) h
+    (below_also n q [] a b (none_below n))

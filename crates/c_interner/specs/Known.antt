@@ -16,7 +16,8 @@ type_in types k = type_at (types_of types) k
 -- the answers that are kept are right
 pub record AreRight (a : Agreements) : Type 0 where
   pub void : type_in a.types.now a.void ≡ Void
-  pub known : (q : ℕ × ℕ) (r : Bool) → lookup (same_pair q) a.known.entries ≡ Some r → agree (lengths_of a.how) (type_in a.types.now q.0) (type_in a.types.now q.1) ≡ r
+  pub known : (q : ℕ × ℕ) (r : Bool) → lookup (same_pair q) a.known.entries ≡ Some r →
+      agree (lengths_of a.how) (type_in a.types.now q.0) (type_in a.types.now q.1) ≡ r
 
 -- a number is that of the composite of two types of the list
 pub record IsComposite (types : List CType) (q : ℕ × ℕ) (k : ℕ) : Type 0 where

@@ -1,5 +1,5 @@
-//! Whether types agree (C11 6.2.7). The answer for a pair of types is made of those for the pairs of their parts, and each is found
-//! once, since types share parts.
+//! Whether types agree (C11 6.2.7). The answer for a pair of types is made of those for the pairs of their parts, and
+//! each is found once, since types share parts.
 
 ghost use Rattle.std.specs.Prelude.{◌≡◌, ◌<◌, length, IfOk, IfSome, OnOk};
 ghost use Rattle.c_tree.specs.Types.{agree, same_kind};
@@ -97,7 +97,8 @@ impl<'t> Agreements<'t> {
     /// Whether two types agree, if it is known.
     fn look(&self, pair: (u32, u32)) -> Option<bool>
         requires { AreRight self.now }
-        ensures { IfSome result (λ r. agree (lengths_of self.now.how) (type_in self.now.types.now pair.0) (type_in self.now.types.now pair.1) ≡ r) }
+        ensures { IfSome result (λ r. agree (lengths_of self.now.how) (type_in self.now.types.now pair.0)
+            (type_in self.now.types.now pair.1) ≡ r) }
     {
         if pair.0 == pair.1 {
             return Some(true);
@@ -112,7 +113,8 @@ impl<'t> Agreements<'t> {
         waiting: &mut Vec<(u32, u32)>,
     ) -> Result<Option<bool>, NoMemory>
         requires { AreRight self.now }
-        ensures { IfOk result (λ o. IfSome o (λ r. pairs_agree (lengths_of self.now.how) (type_in self.now.types.now) pairs.now ≡ r)) }
+        ensures { IfOk result (λ o. IfSome o (λ r.
+            pairs_agree (lengths_of self.now.how) (type_in self.now.types.now) pairs.now ≡ r)) }
     {
         let mut all_known = true;
         for pair in pairs {
@@ -135,7 +137,9 @@ impl<'t> Agreements<'t> {
         waiting: &mut Vec<(u32, u32)>,
     ) -> Result<Option<bool>, NoMemory>
         requires { AreRight self.now }
-        ensures { IfOk result (λ o. IfSome o (λ r. agree (lengths_of self.now.how) (type_in self.now.types.now pair.0) (type_in self.now.types.now pair.1) ≡ r)) }
+        ensures { IfOk result (λ o. IfSome o (λ r.
+            agree (lengths_of self.now.how) (type_in self.now.types.now pair.0)
+            (type_in self.now.types.now pair.1) ≡ r)) }
     {
         let c = level_at(self.alloc, self.types, self.void, pair.0)?;
         let d = level_at(self.alloc, self.types, self.void, pair.1)?;

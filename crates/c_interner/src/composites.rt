@@ -1,5 +1,5 @@
-//! Composites of types (C11 6.2.7p3). The composite of a pair of types is made of those of the pairs of their parts, and each is made
-//! once, since types share parts.
+//! Composites of types (C11 6.2.7p3). The composite of a pair of types is made of those of the pairs of their parts,
+//! and each is made once, since types share parts.
 
 ghost use Rattle.std.specs.Prelude.{◌≡◌, ℕ, ◌<◌, List, ◌++◌, length, map, drop, IfOk, IfSome, OnOk, MatchOption};
 ghost use Rattle.c_tree.specs.Types.{Ty, Void, composite};
@@ -26,7 +26,8 @@ pub(crate) struct Composites {
     known: IndexMap<(u32, u32), u32>,
 }
 
-/// The parameters of a composite: the composites of the parameters that both types have, and those that the first has beside them.
+/// The parameters of a composite: the composites of the parameters that both types have, and those that the first has
+/// beside them.
 fn composed_params(alloc: Global, made: &[u32], params: &[u32]) -> Result<Sequence<u32>, NoMemory>
     ensures { IfOk result (λ v. v ≡ made.now ++ drop (length made.now) params.now) }
 {
@@ -39,7 +40,11 @@ fn composed_params(alloc: Global, made: &[u32], params: &[u32]) -> Result<Sequen
 
 /// The composite of two types, of the numbers of their parts' composites. None where it is the first type.
 fn composed(alloc: Global, c: &Level, d: &Level, made: &[u32]) -> Result<Option<CType>, NoMemory>
-    ensures { IfOk result (λ o. (go : ℕ → Ty) → map go made.now ≡ map (pair_composite go) (parts_of c.now.head c.now.params.items d.now.head d.now.params.items) → let t = composite (built c.now.head c.now.params.items go) (built d.now.head d.now.params.items go) in MatchOption o (t ≡ built c.now.head c.now.params.items go) (λ m. type_from m go ≡ t)) }
+    ensures { IfOk result (λ o. (go : ℕ → Ty) →
+        map go made.now ≡ map (pair_composite go)
+        (parts_of c.now.head c.now.params.items d.now.head d.now.params.items) →
+        let t = composite (built c.now.head c.now.params.items go) (built d.now.head d.now.params.items go) in
+        MatchOption o (t ≡ built c.now.head c.now.params.items go) (λ m. type_from m go ≡ t)) }
 {
     let Some((first, others)) = made.split_first() else {
         return Ok(None);
@@ -69,7 +74,8 @@ impl Composites {
 
     /// The composite of two types, if it is known.
     fn look(&self, pair: (u32, u32)) -> Option<u32>
-        ensures { IfSome result (λ k. (types : List CType) → AreComposites types self.now → pair.0 < length types → IsComposite types pair k) }
+        ensures { IfSome result (λ k. (types : List CType) → AreComposites types self.now → pair.0 < length types →
+            IsComposite types pair k) }
     {
         if pair.0 == pair.1 {
             return Some(pair.0);
@@ -83,8 +89,11 @@ impl Composites {
         pairs: &[(u32, u32)],
         waiting: &mut Vec<(u32, u32)>,
     ) -> Result<Option<Vec<u32>>, NoMemory>
-        ensures known { IfOk result (λ o. IfSome o (λ v. (types : List CType) → AreComposites types self.now → AreBelow (length types) pairs.now → NamesComposites types pairs.now v.items)) }
-        ensures waiting { OnOk result ((n : ℕ) → AreBelow n pairs.now → AreBelow n waiting.old.items → AreBelow n waiting.new.items) }
+        ensures known { IfOk result (λ o. IfSome o
+            (λ v. (types : List CType) → AreComposites types self.now → AreBelow (length types) pairs.now →
+            NamesComposites types pairs.now v.items)) }
+        ensures waiting { OnOk result ((n : ℕ) → AreBelow n pairs.now → AreBelow n waiting.old.items →
+            AreBelow n waiting.new.items) }
     {
         let mut made = Vec::new(self.alloc);
         let mut all_known = true;
@@ -100,7 +109,8 @@ impl Composites {
         Ok(if all_known { Some(made) } else { None })
     }
 
-    /// The composite of two types, if those of their parts are known. The pairs of parts of which they are not known wait.
+    /// The composite of two types, if those of their parts are known. The pairs of parts of which they are not known
+    /// wait.
     fn make(
         &self,
         numbers: &mut Numbers,

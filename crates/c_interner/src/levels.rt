@@ -26,7 +26,8 @@ fn part_of(void: u32, k: u32, part: u32) -> u32
 }
 
 fn with_part(head: Head, void: u32, k: u32) -> Head
-    ensures is { (go : ℕ → Ty) (ps : List ℕ) → built head ps (λ j. go (part_of void k j)) ≡ built result (map (part_of void k) ps) go }
+    ensures is { (go : ℕ → Ty) (ps : List ℕ) →
+        built head ps (λ j. go (part_of void k j)) ≡ built result (map (part_of void k) ps) go }
     ensures there { (n : ℕ) → void < n → k ≤ n → PartStandsBefore result n }
 {
     match head {

@@ -125,7 +125,8 @@ impl Numbers {
         }
     }
 
-    /// The number of a type, which is added to the program if it has none. The numbers in it are those of types of the program.
+    /// The number of a type, which is added to the program if it has none. The numbers in it are those of types of the
+    /// program.
     pub fn number_of(&mut self, p: &mut Typed, c: CType) -> Result<u32, NoMemory>
         ensures adds { AddsTypes p.old p.new }
         ensures ok { IfOk result (λ k. IsNumberOf p.old p.new k c) }
@@ -145,12 +146,14 @@ impl Numbers {
         Ok(k)
     }
 
-    /// The composite of two compatible types (C11 6.2.7p3). Types may have been added to the program, also for want of memory.
+    /// The composite of two compatible types (C11 6.2.7p3). Types may have been added to the program, also for want of
+    /// memory.
     pub fn composite(&mut self, p: &mut Typed, a: u32, b: u32) -> Result<u32, NoMemory>
         requires first { a < length p.old.types }
         requires second { b < length p.old.types }
         ensures adds { AddsTypes p.old p.new }
-        ensures ok { IfOk result (λ k. (k < length p.new.types) × (type_named p.new k ≡ composite (type_named p.old a) (type_named p.old b))) }
+        ensures ok { IfOk result (λ k. (k < length p.new.types) ×
+            (type_named p.new k ≡ composite (type_named p.old a) (type_named p.old b))) }
     {
         let void = self.number_of(p, CType::Void)?;
         Composites::new(self.alloc, void).find(self, p, a, b)

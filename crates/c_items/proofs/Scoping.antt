@@ -37,7 +37,8 @@ keeps_scopes w sc = record {
 pub whole_scopes : (w : Work) (sc : Scopes) → IsWhole w.nodes → IsWhole (with_scopes w sc).nodes
 whole_scopes w sc h = record { facts = h.facts; typed = h.typed; void_there = h.void_there; void = h.void }
 
-closed_scopes : (w : Work) (sc : Scopes) (s : State) (cs : List Scope) → sc.file.now ≡ w.nodes.scopes.file.now → IsClosed w s → IsClosed (with_scopes w sc) (record s { scopes = cs })
+closed_scopes : (w : Work) (sc : Scopes) (s : State) (cs : List Scope) → sc.file.now ≡ w.nodes.scopes.file.now →
+    IsClosed w s → IsClosed (with_scopes w sc) (record s { scopes = cs })
 closed_scopes w sc s cs e h = record {
   file = e ∙ h.file;
   members = h.members;
@@ -49,7 +50,8 @@ closed_scopes w sc s cs e h = record {
 }
 
 -- the scopes alone have changed
-pub shows_scopes : (w : Work) (sc : Scopes) (s : State) (cs : List Scope) → sc.file.now ≡ w.nodes.scopes.file.now → Stands sc w.nodes.p (record s { scopes = cs }) → Shows w s → Shows (with_scopes w sc) (record s { scopes = cs })
+pub shows_scopes : (w : Work) (sc : Scopes) (s : State) (cs : List Scope) → sc.file.now ≡ w.nodes.scopes.file.now →
+    Stands sc w.nodes.p (record s { scopes = cs }) → Shows w s → Shows (with_scopes w sc) (record s { scopes = cs })
 shows_scopes w sc s cs e t h = record {
   stands = t;
   texts = h.texts;
@@ -66,7 +68,8 @@ abbrev state_of : {A : Type 0} → State → Result (A × State) Fault → State
 state_of s (Ok x) = x.1
 state_of s (Err e) = s
 
-pub changes_scopes : (w : Work) (sc : Scopes) (f : List Scope → List Scope) → IsWhole w.nodes → sc.file.now ≡ w.nodes.scopes.file.now →
+pub changes_scopes : (w : Work) (sc : Scopes) (f : List Scope → List Scope) → IsWhole w.nodes →
+    sc.file.now ≡ w.nodes.scopes.file.now →
     ((p : Typed) → Does w.nodes.scopes p sc p (change (λ s. record s { scopes = f s.scopes })) (λ s a. Unit {0})) →
     Done freely w (with_scopes w sc) (change (λ s. record s { scopes = f s.scopes })) (Unit {0}) (λ s a. Unit {0})
 changes_scopes w sc f h e d = record {
@@ -79,35 +82,53 @@ changes_scopes w sc f h e d = record {
         state = record s { scopes = f s.scopes };
         is = refl;
         stays = tt;
-        shows = shows_scopes w sc s (f s.scopes) e (subst (λ (x : State). Stands sc w.nodes.p x) (sym (ap (state_of s) g.is)) g.stands) t;
+        shows = shows_scopes w sc s (f s.scopes) e
+            (subst (λ (x : State). Stands sc w.nodes.p x) (sym (ap (state_of s) g.is)) g.stands) t;
         fits = tt;
       };
 }
 
 -- ---- a step in a scope of its own
 
-pub in_scope_items : (u v w x : Work) (d : Doing meant.Items) (i : Items) → Done freely u v enter (Unit {0}) (λ s a. Unit {0}) → Done freely v w d (ItemsThere w i) (IsItems w i) → Leaves w x → Done freely u x (in_scope d) (ItemsThere x i) (IsItems x i)
+pub in_scope_items : (u v w x : Work) (d : Doing meant.Items) (i : Items) →
+    Done freely u v enter (Unit {0}) (λ s a. Unit {0}) → Done freely v w d (ItemsThere w i) (IsItems w i) → Leaves w x →
+    Done freely u x (in_scope d) (ItemsThere x i) (IsItems x i)
 in_scope_items u v w x d i e a l =
     let there : ItemsThere x i = actions_there w x i.actions.items l.grows a.there in
-    then_by freely free_law u w x (enter >> d) (λ b. leave >> give b) (leave >> give (items_in x i)) (ItemsThere w i) (IsItems w i) ItemsThere IsItems (Ok i)
+    then_by freely free_law u w x (enter >> d) (λ b. leave >> give b) (leave >> give (items_in x i)) (ItemsThere w i)
+    (IsItems w i) ItemsThere IsItems (Ok i)
     (also_then freely free_law u v w enter d (Unit {0}) (λ s b. Unit {0}) ItemsThere IsItems (Ok i) e a)
-    (λ s b t q. ap (λ (z : meant.Items). (leave >> give z) s) (q ∙ sym (items_kept w x i l.grows t.closed.values a.there)))
-    (also_then freely free_law w x x leave (give (items_in x i)) (Unit {0}) (λ s b. Unit {0}) ItemsThere IsItems (Ok i) l (gave freely free_law x (items_in x i) (ItemsThere x i) l.whole there))
+    (λ s b t q. ap (λ (z : meant.Items). (leave >> give z) s)
+    (q ∙ sym (items_kept w x i l.grows t.closed.values a.there)))
+    (also_then freely free_law w x x leave (give (items_in x i)) (Unit {0}) (λ s b. Unit {0}) ItemsThere IsItems
+    (Ok i) l (gave freely free_law x (items_in x i) (ItemsThere x i) l.whole there))
 
-pub in_scope_failed : {A X Z : Type 0} (u v w : Work) (d : Doing A) (There : Work → X → Type 0) (Is : Work → X → State → A → Type 0) (ThereZ : Work → Z → Type 0) (IsZ : Work → Z → State → A → Type 0) (e : Refusal) →
-    Done freely u v enter (Unit {0}) (λ s a. Unit {0}) → Answers freely v w d There Is (Err e) → Answers freely u w (in_scope d) ThereZ IsZ (Err e)
+pub in_scope_failed : {A X Z : Type 0} (u v w : Work) (d : Doing A) (There : Work → X → Type 0)
+    (Is : Work → X → State → A → Type 0) (ThereZ : Work → Z → Type 0) (IsZ : Work → Z → State → A → Type 0)
+    (e : Refusal) →
+    Done freely u v enter (Unit {0}) (λ s a. Unit {0}) → Answers freely v w d There Is (Err e) →
+    Answers freely u w (in_scope d) ThereZ IsZ (Err e)
 in_scope_failed u v w d There Is ThereZ IsZ e n a =
-    failed freely u w w (enter >> d) (λ b. leave >> give b) There Is ThereZ IsZ e (also_then freely free_law u v w enter d (Unit {0}) (λ s b. Unit {0}) There Is (Err e) n a)
+    failed freely u w w (enter >> d) (λ b. leave >> give b) There Is ThereZ IsZ e
+    (also_then freely free_law u v w enter d (Unit {0}) (λ s b. Unit {0}) There Is (Err e) n a)
 
-pub enter_failed : {A Z : Type 0} (u v w : Work) (d : Doing A) (ThereZ : Work → Z → Type 0) (IsZ : Work → Z → State → A → Type 0) (e : Refusal) → Answers freely u v enter NothingThere IsNothing (Err e) → Answers freely u w (in_scope d) ThereZ IsZ (Err e)
-enter_failed u v w d ThereZ IsZ e a = failed freely u w w (enter >> d) (λ b. leave >> give b) ThereZ IsZ ThereZ IsZ e (failed freely u v w enter (λ b. d) NothingThere IsNothing ThereZ IsZ e a)
+pub enter_failed : {A Z : Type 0} (u v w : Work) (d : Doing A) (ThereZ : Work → Z → Type 0)
+    (IsZ : Work → Z → State → A → Type 0) (e : Refusal) → Answers freely u v enter NothingThere IsNothing (Err e) →
+    Answers freely u w (in_scope d) ThereZ IsZ (Err e)
+enter_failed u v w d ThereZ IsZ e a =
+    failed freely u w w (enter >> d) (λ b. leave >> give b) ThereZ IsZ ThereZ IsZ e
+    (failed freely u v w enter (λ b. d) NothingThere IsNothing ThereZ IsZ e a)
 
 -- a statement in a scope of its own, where it is all that is given
-pub alone_in_scope : (u v w x : Work) (d : Doing meant.Items) (i : Items) (k : ℕ) → Done freely u v enter (Unit {0}) (λ s a. Unit {0}) → Done freely v w d (ItemsThere w i) (IsItems w i) → Leaves w x → i.actions.items ≡ k ∷ [] →
+pub alone_in_scope : (u v w x : Work) (d : Doing meant.Items) (i : Items) (k : ℕ) →
+    Done freely u v enter (Unit {0}) (λ s a. Unit {0}) → Done freely v w d (ItemsThere w i) (IsItems w i) → Leaves w x →
+    i.actions.items ≡ k ∷ [] →
     Done freely u x (in_scope d >>= λ j. give j.actions) (ActionThere x k) (IsOnlyAction x k)
 alone_in_scope u v w x d i k e a l q =
     let b = in_scope_items u v w x d i e a l in
     let there : ActionThere x k = (subst (λ (z : List ℕ). ActionsThere x z) q b.there).0 in
-    then freely free_law u x x (in_scope d) (λ j. give j.actions) (items_in x i) (ItemsThere x i) ActionThere IsOnlyAction (Ok k) b
-    (subst (λ (fs : List Action). Done freely x x (give fs) (ActionThere x k) (IsOnlyAction x k)) (sym (ap (map (action_in x)) q))
+    then freely free_law u x x (in_scope d) (λ j. give j.actions) (items_in x i)
+    (ItemsThere x i) ActionThere IsOnlyAction (Ok k) b
+    (subst (λ (fs : List Action). Done freely x x (give fs) (ActionThere x k) (IsOnlyAction x k))
+    (sym (ap (map (action_in x)) q))
     (gave freely free_law x (action_in x k ∷ []) (ActionThere x k) l.whole there))

@@ -9,7 +9,9 @@ use Rattle.c_work.proofs.Sequencing.{IsLawful}
 use Rattle.c_items.specs.Shown.{AnswersFor}
 
 -- what comes next is answered for each value that the step may have given
-pub then_for : {A B Z : Type 0} (y : Way) → IsLawful y → (u v w : Work) (d : Doing A) (f : A → Doing B) (T : Type 0) (I : State → A → Type 0) (There : Work → Z → Type 0) (Is : Work → Z → State → B → Type 0) (r : Result Z Refusal) →
+pub then_for : {A B Z : Type 0} (y : Way) → IsLawful y →
+    (u v w : Work) (d : Doing A) (f : A → Doing B) (T : Type 0) (I : State → A → Type 0) (There : Work → Z → Type 0)
+    (Is : Work → Z → State → B → Type 0) (r : Result Z Refusal) →
     Done y u v d T I → AnswersFor y v w I f There Is r → Answers y u w (d >>= f) There Is r
 then_for y law u v w d f T I There Is (Ok z) a b = record {
   whole = b.whole;
@@ -25,5 +27,6 @@ then_for y law u v w d f T I There Is (Ok z) a b = record {
         fits = n.fits;
       };
 }
-then_for y law u v w d f T I There Is (Err (Code code place)) a b = λ s t. let m = a.gives s t in ap (λ o. continued o f) m.is ∙ b m.state m.shows m.value m.fits
+then_for y law u v w d f T I There Is (Err (Code code place)) a b =
+    λ s t. let m = a.gives s t in ap (λ o. continued o f) m.is ∙ b m.state m.shows m.value m.fits
 then_for y law u v w d f T I There Is (Err NoMemory) a b = tt

@@ -54,7 +54,8 @@ fn next_number(list: &[Stmt]) -> Result<u32, NoMemory>
 pub fn add_statement(work: &mut Work<'_>, kind: StmtKind, pos: Pos) -> Result<u32, NoMemory>
     requires whole { IsWhole work.old.nodes }
     requires values { ValuesThere (term_count work.old.nodes) kind }
-    ensures { IfOk result (λ k. AddsAction work.old work.new k (kind_action (terms_of work.old.nodes.p) kind pos (action_in work.old))) }
+    ensures { IfOk result (λ k. AddsAction work.old work.new k
+        (kind_action (terms_of work.old.nodes.p) kind pos (action_in work.old))) }
 {
     let k = next_number(work.nodes.p.stmts.as_slice())?;
     append(
@@ -82,7 +83,9 @@ fn only_action(alloc: Global, k: u32) -> Result<Items, NoMemory>
 pub fn does(work: &mut Work<'_>, kind: StmtKind, pos: Pos) -> Result<Items, Refusal>
     requires whole { IsWhole work.old.nodes }
     requires values { ValuesThere (term_count work.old.nodes) kind }
-    ensures { Answers freely work.old work.new (give (one_action (kind_action (terms_of work.old.nodes.p) kind pos (action_in work.old)))) ItemsThere IsItems result }
+    ensures { Answers freely work.old work.new
+        (give (one_action (kind_action (terms_of work.old.nodes.p) kind pos (action_in work.old)))) ItemsThere IsItems
+        result }
 {
     let k = add_statement(work, kind, pos)?;
     let items = only_action(work.nodes.alloc, k)?;

@@ -1,5 +1,6 @@
 -- The tokens of one kind that some bytes begin with.
-use Rattle.std.specs.Prelude.{ℕ, ◌≤◌, if◌then◌else◌, ◌==◌, List, [], ◌∷◌, length, take, Option, MatchOption, IsTrue, IsFalse}
+use Rattle.std.specs.Prelude.{ℕ, ◌≤◌, if◌then◌else◌, ◌==◌, List, [], ◌∷◌, length, take, Option, MatchOption, IsTrue}
+use Rattle.std.specs.Prelude.{IsFalse}
 use Rattle.std.specs.Str.{byte}
 use Rattle.ck_base.specs.declared.tokens.TokenKind.{TokenKind}
 use Rattle.ck_base.specs.declared.tokens.TokenKind.TheVariants.{Word, Number, Char, Text, Punct}

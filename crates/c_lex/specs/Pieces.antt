@@ -2,7 +2,9 @@
 use Rattle.std.specs.Prelude.{◌≡◌, ℕ, ◌≤◌, not, ◌&&◌, ◌||◌, Bool, List, [], length, take, drop, codes, IsTrue, IsFalse}
 use Rattle.ck_base.specs.declared.tokens.TokenKind.{TokenKind}
 use Rattle.ck_base.specs.Tokens.{is_among, left_out}
-use Rattle.ck_base.specs.Lexes.{position_after, begins_line, begins_with, NeverCloses, BeginsWithComment, starts_comment, is_marker, is_pragma, is_pack, begins_skipped, begins_pack, Separates, IsAccepted, BeginsWithToken, is_literal, Breaks}
+use Rattle.ck_base.specs.Lexes.{position_after, begins_line, begins_with, NeverCloses, BeginsWithComment}
+use Rattle.ck_base.specs.Lexes.{starts_comment, is_marker, is_pragma, is_pack, begins_skipped, begins_pack, Separates}
+use Rattle.ck_base.specs.Lexes.{IsAccepted, BeginsWithToken, is_literal, Breaks}
 use Rattle.c_lex.specs.declared.separators.Comment.{Comment}
 use Rattle.c_lex.specs.declared.separators.Comment.TheVariants as comment
 use Rattle.c_lex.specs.declared.separators.Directive.{Directive}

@@ -1,5 +1,6 @@
 -- The parts of literals.
-use Rattle.std.specs.Prelude.{ℕ, ◌+◌, ◌^◌, Bool, true, false, not, ◌&&◌, ◌||◌, if◌then◌else◌, ◌==◌, nat_lt, nat_le, List, [], ◌∷◌, length, take, drop, codes, Option, Some, None, option_map}
+use Rattle.std.specs.Prelude.{ℕ, ◌+◌, ◌^◌, Bool, true, false, not, ◌&&◌, ◌||◌, if◌then◌else◌, ◌==◌, nat_lt, nat_le}
+use Rattle.std.specs.Prelude.{List, [], ◌∷◌, length, take, drop, codes, Option, Some, None, option_map}
 use Rattle.std.specs.Str.{byte}
 use Rattle.ck_base.specs.Tokens.{is_among, line_feed}
 use Rattle.ck_base.specs.Literals.{value_of, leading_digits, simple_escape}
@@ -32,7 +33,8 @@ abbrev pub long_long_suffix : List (List ℕ)
 long_long_suffix = codes "ll" ∷ codes "LL" ∷ []
 
 abbrev pub unsigned_long_suffix : List (List ℕ)
-unsigned_long_suffix = codes "ul" ∷ codes "lu" ∷ codes "uL" ∷ codes "Lu" ∷ codes "Ul" ∷ codes "lU" ∷ codes "UL" ∷ codes "LU" ∷ []
+unsigned_long_suffix = codes "ul" ∷ codes "lu" ∷ codes "uL" ∷ codes "Lu" ∷ codes "Ul" ∷ codes "lU" ∷ codes "UL"
+    ∷ codes "LU" ∷ []
 
 abbrev pub unsigned_long_long_suffix : List (List ℕ)
 unsigned_long_long_suffix =
@@ -52,7 +54,8 @@ suffix_at suffix =
 -- a numeric escape sequence with some bytes before its digits: its value, which is a byte's, and its length
 abbrev pub numeric_at : ℕ → List ℕ → ℕ → Option (ℕ × ℕ)
 numeric_at base digits before =
-    if nat_lt 0 (length digits) && nat_le (value_of base digits) 255 then Some (value_of base digits, before + length digits) else None
+    if nat_lt 0 (length digits) && nat_le (value_of base digits) 255
+    then Some (value_of base digits, before + length digits) else None
 
 abbrev pub octal_digits : List ℕ → List ℕ
 octal_digits bytes = take 3 (leading_digits 8 bytes)
@@ -65,7 +68,8 @@ other_escape_at (b ∷ bs) =
 
 -- the escape sequence at the front, behind its backslash: its value and its length
 unfoldable pub escape_at : List ℕ → Option (ℕ × ℕ)
-escape_at bytes = if nat_lt 0 (length (octal_digits bytes)) then numeric_at 8 (octal_digits bytes) 0 else other_escape_at bytes
+escape_at bytes = if nat_lt 0 (length (octal_digits bytes)) then numeric_at 8 (octal_digits bytes) 0
+    else other_escape_at bytes
 
 -- the character at the front, behind an opening quote: its value and its length
 unfoldable pub character_at : ℕ → List ℕ → Option (ℕ × ℕ)

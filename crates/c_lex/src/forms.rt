@@ -1,8 +1,11 @@
 //! The forms of tokens: how many bytes the longest token at the front of some bytes has.
 
-ghost use Rattle.std.specs.Prelude.{◌≡◌, ℕ, ◌+◌, ◌<◌, ◌≤◌, false, [], ◌∷◌, length, bytes_eq, take, drop, IfSome, IfNone, IsTrue, IsFalse};
+ghost use Rattle.std.specs.Prelude.{◌≡◌, ℕ, ◌+◌, ◌<◌, ◌≤◌, false, [], ◌∷◌, length, bytes_eq, take, drop, IfSome};
+ghost use Rattle.std.specs.Prelude.{IfNone, IsTrue, IsFalse};
 ghost use Rattle.std.specs.List.{list_any, prefix_len};
-ghost use Rattle.ck_base.specs.Tokens.{is_nondigit as nondigit, is_word_byte as word_byte, is_number_byte as number_byte, starts_number as number_start, is_among as among, punctuators, closes as closed, left_out, has_form};
+ghost use Rattle.ck_base.specs.Tokens.{is_nondigit as nondigit, is_word_byte as word_byte};
+ghost use Rattle.ck_base.specs.Tokens.{is_number_byte as number_byte, starts_number as number_start, is_among as among};
+ghost use Rattle.ck_base.specs.Tokens.{punctuators, closes as closed, left_out, has_form};
 ghost use Rattle.ck_base.specs.Lexes.{IsLongest, BeginsNoToken};
 ghost use Rattle.c_lex.specs.Fronts.{beginning as kind_at, MeasuresFront, MeasuresQuoted};
 

@@ -32,8 +32,8 @@ pub fn one_step()
         NextRefusal file i code pos → NextEnd file i → ⊥ }
 {}
 
-/// What calls of `Tokens::next` give, one after another from the beginning of a file, is its reading: tokens add to what was read, the
-/// end makes it whole, and a refusal is the file's.
+/// What calls of `Tokens::next` give, one after another from the beginning of a file, is its reading: tokens add to
+/// what was read, the end makes it whole, and a refusal is the file's.
 pub fn calls_read()
     ensures begin { (file : List ℕ) → Reads file 0 [] 0 }
     ensures token { (file : List ℕ) (tokens : List Lexeme) (k : ℕ) (token : Lexeme) →
@@ -45,8 +45,8 @@ pub fn calls_read()
         Reads file 0 tokens k → NextRefusal file k code pos → Refuses file code pos }
 {}
 
-/// Calls `Tokens::next` until the end or a refusal comes: how many tokens the file has, or the code and the position with which it is
-/// refused. So each file has a reading, and these calls give it.
+/// Calls `Tokens::next` until the end or a refusal comes: how many tokens the file has, or the code and the position
+/// with which it is refused. So each file has a reading, and these calls give it.
 pub fn token_count(file: &[u8]) -> Result<usize, (u16, Pos)>
     requires { length file.now ≤ 4_194_304 }
     ensures lexed { IfOk result (λ n. (tokens : List Lexeme) × Lexes file.now tokens × (length tokens ≡ n)) }

@@ -1,13 +1,16 @@
 //! The values of literals (C11 6.4.4, 6.4.5).
 
-ghost use Rattle.std.specs.Prelude.{◌≡◌, ℕ, ◌+◌, ◌^◌, ◌<◌, ◌≤◌, ◌↔◌, ◌++◌, List, Bool, length, take, SomeIff, IfSome, IfNone, OnOk, OnErr, MatchOption, IsTrue};
+ghost use Rattle.std.specs.Prelude.{◌≡◌, ℕ, ◌+◌, ◌^◌, ◌<◌, ◌≤◌, ◌↔◌, ◌++◌, List, Bool, length, take, SomeIff, IfSome};
+ghost use Rattle.std.specs.Prelude.{IfNone, OnOk, OnErr, MatchOption, IsTrue};
 ghost use Rattle.std.specs.List.{prefix_len};
 ghost use Rattle.std.specs.Char.{digit_value, is_digit};
 ghost use Rattle.ck_base.specs.declared.tokens.Integer.{Integer as IntegerOf};
 ghost use Rattle.ck_base.specs.Tokens.{is_among as among};
-ghost use Rattle.ck_base.specs.Literals.{are_digits, value_of as number_of, suffixes, leading_digits as digits_ahead, simple_escape as escape_of, in_quotes, IsInteger, IsCharacter, IsString};
+ghost use Rattle.ck_base.specs.Literals.{are_digits, value_of as number_of, suffixes, leading_digits as digits_ahead};
+ghost use Rattle.ck_base.specs.Literals.{simple_escape as escape_of, in_quotes, IsInteger, IsCharacter, IsString};
 ghost use Rattle.ck_base.specs.Lexes.{IsAccepted};
-ghost use Rattle.c_lex.specs.Spelled.{base_at, digits_at, suffix_at, has_type as typed, numeric_at, other_escape_at, escape_at, character_at};
+ghost use Rattle.c_lex.specs.Spelled.{base_at, digits_at, suffix_at, has_type as typed, numeric_at, other_escape_at};
+ghost use Rattle.c_lex.specs.Spelled.{escape_at, character_at};
 
 use crate::forms::is_among;
 use ck_base::{Integer, NoMemory, TokenKind};
@@ -257,7 +260,8 @@ pub fn is_string(text: &[u8]) -> bool
     rest.is_empty()
 }
 
-/// Appends the bytes that a string literal spells, without the zero at their end (C11 6.4.5). An error leaves `into` as it was.
+/// Appends the bytes that a string literal spells, without the zero at their end (C11 6.4.5). An error leaves `into` as
+/// it was.
 pub fn unescape(text: &[u8], into: &mut Vec<u8>) -> Result<(), NoMemory>
     requires { IsAccepted TokenKind.Text text.now }
     ensures ok { OnOk result ((values : List ℕ) → IsString text.now values → into.new.items ≡ into.old.items ++ values) }

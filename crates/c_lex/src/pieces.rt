@@ -1,7 +1,8 @@
 //! What stands at a place of a file.
 
 ghost use Rattle.std.specs.Prelude.{◌≡◌, ℕ, ◌≤◌, false, ◌∷◌, List, length, take, drop, IsFalse, MatchOption};
-ghost use Rattle.ck_base.specs.Lexes.{is_blank as blank, is_quote as quote, begins_line as line_start, starts_comment, Gap, IsAccepted};
+ghost use Rattle.ck_base.specs.Lexes.{is_blank as blank, is_quote as quote, begins_line as line_start, starts_comment};
+ghost use Rattle.ck_base.specs.Lexes.{Gap, IsAccepted};
 ghost use Rattle.c_lex.specs.Pieces.{IsPlaceOf, Faults, Stands, StandsFound};
 
 use crate::forms::{is_left_out, longest_token};

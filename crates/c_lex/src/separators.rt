@@ -2,7 +2,8 @@
 
 ghost use Rattle.std.specs.Prelude.{◌≡◌, ℕ, ◌+◌, ◌<◌, ◌≤◌, length, IfSome, IfNone};
 ghost use Rattle.std.specs.List.{prefix_len};
-ghost use Rattle.ck_base.specs.Lexes.{is_space as space, is_blank as blank, line_length as length_of_line, ClosesBehind, NeverCloses, next_word as word_behind, behind_word};
+ghost use Rattle.ck_base.specs.Lexes.{is_space as space, is_blank as blank, line_length as length_of_line};
+ghost use Rattle.ck_base.specs.Lexes.{ClosesBehind, NeverCloses, next_word as word_behind, behind_word};
 ghost use Rattle.c_lex.specs.Pieces.{DescribesComment, DescribesNamed, DescribesDirective};
 
 use crate::forms::word_length;

@@ -14,7 +14,8 @@ pub struct Token<'a> {
     pub text: &'a [u8],
 }
 
-/// A reader of the tokens of a file (C11 6.4), from its beginning on. Contracts see the file, and how many bytes of it were read.
+/// A reader of the tokens of a file (C11 6.4), from its beginning on. Contracts see the file, and how many bytes of it
+/// were read.
 #[derive(Drop)]
 pub struct Tokens<'a> {
     file: &'a [u8],
@@ -66,9 +67,9 @@ impl<'a> Tokens<'a> {
     }
 
     /// The next token; None at the end; or the code and the position of what breaks the rules there:
-    /// 100 a byte that begins no token, 101 a literal or comment that is not closed, 102 a literal that has no value, 103 a word or
-    /// punctuator that the language leaves out, 104 `#pragma pack`. A refusal and the end leave the reader as it is, so each later
-    /// call gives them again.
+    /// 100 a byte that begins no token, 101 a literal or comment that is not closed, 102 a literal that has no value,
+    /// 103 a word or punctuator that the language leaves out, 104 `#pragma pack`. A refusal and the end leave the
+    /// reader as it is, so each later call gives them again.
     pub fn next(&mut self) -> Option<Result<Token<'a>, (u16, Pos)>>
         // what a caller that was handed the reader learns
         ensures small { length self.old.file ≤ 4_194_304 }

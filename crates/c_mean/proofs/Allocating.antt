@@ -12,10 +12,12 @@ use Rattle.object_memory.specs.declared.memory.AllocateFault.TheVariants as refu
 abbrev pub store : Memory → ℕ → Store
 store m h = record { memory = m; heap = h }
 
-pub allocated : (r : Result Allocation Fault) (m n : Memory) (h i : ℕ) (v : Value) → Allocates r m h (Ok v) n i → taken r ≡ Ok (value_of v, store n i)
+pub allocated : (r : Result Allocation Fault) (m n : Memory) (h i : ℕ) (v : Value) → Allocates r m h (Ok v) n i →
+    taken r ≡ Ok (value_of v, store n i)
 allocated (Ok a) m n h i v (p, q, e) = cc
 allocated (Err f) m n h i v q = absurd q
 
-pub refused : (r : Result Allocation Fault) (m n : Memory) (h i : ℕ) (f : Fault) → Allocates r m h (Err (refusal.Fault f)) n i → (taken r ≡ Err f) × (store n i ≡ store m h)
+pub refused : (r : Result Allocation Fault) (m n : Memory) (h i : ℕ) (f : Fault) →
+    Allocates r m h (Err (refusal.Fault f)) n i → (taken r ≡ Err f) × (store n i ≡ store m h)
 refused (Ok a) m n h i f q = absurd q
 refused (Err g) m n h i f (p, q, e) = (ap Err (sym p), cc)

@@ -9,8 +9,8 @@ use mean_types::Types;
 use obj_mem::Ending;
 use std::alloc::Global;
 
-/// The strict run of a program, with so many turns. `Turns` comes exactly where one more turn is needed. Calls in progress and
-/// unfinished expressions stand in vectors.
+/// The strict run of a program, with so many turns. `Turns` comes exactly where one more turn is needed. Calls in
+/// progress and unfinished expressions stand in vectors.
 pub fn mean<I: Input, O: Sink>(
     alloc: Global,
     p: &Typed,

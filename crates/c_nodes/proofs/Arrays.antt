@@ -1,5 +1,6 @@
 -- Arrays of arrays.
-use Rattle.std.proofs.Common.{◌≡◌, ℕ, zero, suc, ◌+◌, ◌<◌, false, List, [], ◌∷◌, ◌++◌, length, get_or, drop, drop-cons, ◌-◌, ◌≤◌, refl, sym, ap, ◌∙◌, arith}
+use Rattle.std.proofs.Common.{◌≡◌, ℕ, zero, suc, ◌+◌, ◌<◌, false, List, [], ◌∷◌, ◌++◌, length, get_or, drop, drop-cons}
+use Rattle.std.proofs.Common.{◌-◌, ◌≤◌, refl, sym, ap, ◌∙◌, arith}
 use Rattle.c_tree.specs.Types.{Ty, Tys, Array, Function, Const, is_array, qualified, bare, bare_elements}
 use Rattle.c_nodes.specs.declared.nodes.Nodes.{Nodes}
 use Rattle.c_nodes.specs.Nodes.{HasType, type_in}
@@ -23,10 +24,13 @@ pub rows_type-push : (ns : List ℕ) (n : ℕ) (t : Ty) → rows_type (ns ++ n �
 rows_type-push [] n t = refl
 rows_type-push (m ∷ ns) n t = ap (λ u. Array u m) (rows_type-push ns n t)
 
-pub rows_more : (cs : List ℕ) (n : ℕ) (t at e : Ty) → t ≡ rows_type cs at → at ≡ Array e n → t ≡ rows_type (cs ++ n ∷ []) e
+pub rows_more : (cs : List ℕ) (n : ℕ) (t at e : Ty) → t ≡ rows_type cs at → at ≡ Array e n →
+    t ≡ rows_type (cs ++ n ∷ []) e
 rows_more cs n t at e h a = h ∙ ap (rows_type cs) a ∙ sym (rows_type-push cs n e)
 
-pub row_added : (a b c : Nodes) (xs : List ℕ) (left of k n : ℕ) (t : Ty) → HasType a b of (rows_type (drop left xs) t) → HasType b c k (Array (type_in b of) n) → 0 < left → left ≤ length xs → n ≡ get_or xs (left - 1) n → HasType a c k (rows_type (drop (left - 1) xs) t)
+pub row_added : (a b c : Nodes) (xs : List ℕ) (left of k n : ℕ) (t : Ty) → HasType a b of (rows_type (drop left xs) t) →
+    HasType b c k (Array (type_in b of) n) → 0 < left → left ≤ length xs → n ≡ get_or xs (left - 1) n →
+    HasType a c k (rows_type (drop (left - 1) xs) t)
 row_added a b c xs zero of k n t h g p le e = absurd (omega arith)
 row_added a b c xs (suc left) of k n t h g p le e =
     let z : suc left - 1 ≡ left = omega arith in
@@ -48,8 +52,13 @@ qualified-function t r ps e = rw e refl
 pub qualified-const : (t u : Ty) → t ≡ Const u → t ≡ qualified t
 qualified-const t u e = rw e refl
 
-pub qualified_is : (n m : Nodes) (t of inner : ℕ) (cs ds : List ℕ) → ds ≡ cs → type_in n t ≡ rows_type cs (type_in n inner) → type_in m of ≡ qualified (type_in n inner) → rows_type ds (type_in m of) ≡ qualified (type_in n t)
+pub qualified_is : (n m : Nodes) (t of inner : ℕ) (cs ds : List ℕ) → ds ≡ cs →
+    type_in n t ≡ rows_type cs (type_in n inner) → type_in m of ≡ qualified (type_in n inner) →
+    rows_type ds (type_in m of) ≡ qualified (type_in n t)
 qualified_is n m t of inner cs ds e h q = rw (e, q, h) (sym (qualified-rows cs (type_in n inner)))
 
-pub bare_is : (n : Nodes) (t of inner : ℕ) (cs ds : List ℕ) → ds ≡ cs → type_in n t ≡ rows_type cs (type_in n inner) → is_array (type_in n inner) ≡ false → type_in n of ≡ bare (type_in n inner) → rows_type ds (type_in n of) ≡ bare_elements (type_in n t)
-bare_is n t of inner cs ds e h a q = rw (e, q, h) (ap (rows_type cs) (bare-no_array (type_in n inner) a) ∙ sym (bare_elements-rows cs (type_in n inner)))
+pub bare_is : (n : Nodes) (t of inner : ℕ) (cs ds : List ℕ) → ds ≡ cs → type_in n t ≡ rows_type cs (type_in n inner) →
+    is_array (type_in n inner) ≡ false → type_in n of ≡ bare (type_in n inner) →
+    rows_type ds (type_in n of) ≡ bare_elements (type_in n t)
+bare_is n t of inner cs ds e h a q =
+    rw (e, q, h) (ap (rows_type cs) (bare-no_array (type_in n inner) a) ∙ sym (bare_elements-rows cs (type_in n inner)))

@@ -13,10 +13,12 @@ converted-same t x b e d = rw (e, d) refl
 pub loaded-plain : (x : Term) (b : Bool) → designates x ≡ b → b ≡ false → x ≡ loaded x
 loaded-plain x b e d = rw (e, d) refl
 
-pub goes_to-null : (a t : Ty) (x : Term) (r : Bool) → target_of t ≡ None → (is_integer t && is_null_constant x) ≡ r → goes_to (Pointer a) t x ≡ r
+pub goes_to-null : (a t : Ty) (x : Term) (r : Bool) → target_of t ≡ None → (is_integer t && is_null_constant x) ≡ r →
+    goes_to (Pointer a) t x ≡ r
 goes_to-null a (Pointer b) x r e h = absurd cc
 goes_to-null a _ x r e h = h
 
-pub goes_to-pointer : (a b t : Ty) (x : Term) → target_of t ≡ Some b → goes_to (Pointer a) t x ≡ (targets_agree a b || is_null_constant x)
+pub goes_to-pointer : (a b t : Ty) (x : Term) → target_of t ≡ Some b →
+    goes_to (Pointer a) t x ≡ (targets_agree a b || is_null_constant x)
 goes_to-pointer a b (Pointer c) x e = let i : c ≡ b = cc in ap (λ d. targets_agree a d || is_null_constant x) i
 goes_to-pointer a b _ x e = absurd cc

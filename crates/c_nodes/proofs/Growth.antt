@@ -1,5 +1,6 @@
 -- How the lists of nodes grow, and what they are read as.
-use Rattle.std.proofs.Common.{◌≡◌, ℕ, zero, suc, ◌+◌, ◌<◌, ◌≤◌, List, [], ◌∷◌, ◌++◌, length, map, Some, refl, sym, ap, subst, ◌∙◌, ◌⊎◌, inl, inr, ⊎_elim, arith, length-append}
+use Rattle.std.proofs.Common.{◌≡◌, ℕ, zero, suc, ◌+◌, ◌<◌, ◌≤◌, List, [], ◌∷◌, ◌++◌, length, map, Some, refl, sym, ap}
+use Rattle.std.proofs.Common.{subst, ◌∙◌, ◌⊎◌, inl, inr, ⊎_elim, arith, length-append}
 use Rattle.std.specs.Prelude.{slice_get, slice_index_or}
 use Rattle.std.proofs.Math.Seq.{get_or-append_seam}
 use Rattle.std.proofs.Math.ListN.{get_or-append}
@@ -32,15 +33,20 @@ AreAlike : List Ty → List Ty → ExprKind → Type 0
 AreAlike ts us (exprs.Compound o a b of) = type_at us of ≡ type_at ts of
 AreAlike ts us k = Unit {0}
 
-kind_alike : (ts us : List Ty) (k : ExprKind) (t : Ty) (p : Pos) (go : ℕ → Term) → AreAlike ts us k → kind_term us k t p go ≡ kind_term ts k t p go
+kind_alike : (ts us : List Ty) (k : ExprKind) (t : Ty) (p : Pos) (go : ℕ → Term) → AreAlike ts us k →
+    kind_term us k t p go ≡ kind_term ts k t p go
 unfolding AreAlike
 kind_alike ts us (exprs.Compound o a b of) t p go e = ap (λ u. join (tree.Compound o u) (go a) (go b) t p) e
 kind_alike ts us _ t p go e = refl
 
-expr_alike : (ts us : List Ty) (x : Expr) (go : ℕ → Term) → type_at us x.of ≡ type_at ts x.of → AreAlike ts us x.kind → expr_from us x go ≡ expr_from ts x go
-expr_alike ts us x go e h = ap (λ t. kind_term us x.kind t x.pos go) e ∙ kind_alike ts us x.kind (type_at ts x.of) x.pos go h
+expr_alike : (ts us : List Ty) (x : Expr) (go : ℕ → Term) → type_at us x.of ≡ type_at ts x.of → AreAlike ts us x.kind →
+    expr_from us x go ≡ expr_from ts x go
+expr_alike ts us x go e h =
+    ap (λ t. kind_term us x.kind t x.pos go) e ∙ kind_alike ts us x.kind (type_at ts x.of) x.pos go h
 
-grow-alike : (ts us : List Ty) (es : List Expr) (acc : List Term) → ((k : ℕ) (x : Expr) → slice_get es k ≡ Some x → (type_at us x.of ≡ type_at ts x.of) × AreAlike ts us x.kind) → grow (expr_from us) no_term es acc ≡ grow (expr_from ts) no_term es acc
+grow-alike : (ts us : List Ty) (es : List Expr) (acc : List Term) →
+    ((k : ℕ) (x : Expr) → slice_get es k ≡ Some x → (type_at us x.of ≡ type_at ts x.of) × AreAlike ts us x.kind) →
+    grow (expr_from us) no_term es acc ≡ grow (expr_from ts) no_term es acc
 unfolding grow
 grow-alike ts us [] acc h = refl
 grow-alike ts us (x ∷ es) acc h =
@@ -49,15 +55,19 @@ grow-alike ts us (x ∷ es) acc h =
     ap (λ y. grow (expr_from us) no_term es (acc ++ y ∷ [])) (expr_alike ts us x go a.0 a.1)
     ∙ grow-alike ts us es (acc ++ expr_from ts x go ∷ []) (λ k y g. h (suc k) y g)
 
-typed_alike : (cs more : List CType) (k : ExprKind) → KindIsTyped (length cs) k → AreAlike (types_of cs) (types_of (cs ++ more)) k
+typed_alike : (cs more : List CType) (k : ExprKind) → KindIsTyped (length cs) k →
+    AreAlike (types_of cs) (types_of (cs ++ more)) k
 unfolding AreAlike
 typed_alike cs more (exprs.Compound o a b of) h = type_at-longer cs more of h
 typed_alike cs more _ h = tt
 
 -- more types leave the expressions as they are
-terms-more_types : (p : Typed) (more : List CType) → ((k : ℕ) (x : Expr) → slice_get p.exprs k ≡ Some x → IsTyped (length p.types) x) → terms_of (record p { types = p.types ++ more }) ≡ terms_of p
+terms-more_types : (p : Typed) (more : List CType) →
+    ((k : ℕ) (x : Expr) → slice_get p.exprs k ≡ Some x → IsTyped (length p.types) x) →
+    terms_of (record p { types = p.types ++ more }) ≡ terms_of p
 terms-more_types p more h =
-    grow-alike (types_of p.types) (types_of (p.types ++ more)) p.exprs [] (λ k x g. let t = h k x g in (type_at-longer p.types more x.of t.of, typed_alike p.types more x.kind t.kind))
+    grow-alike (types_of p.types) (types_of (p.types ++ more)) p.exprs []
+    (λ k x g. let t = h k x g in (type_at-longer p.types more x.of t.of, typed_alike p.types more x.kind t.kind))
 
 kind_more : (m n : ℕ) (k : ExprKind) → m ≤ n → KindIsTyped m k → KindIsTyped n k
 kind_more m n (exprs.Compound o a b of) le h = omega arith
@@ -75,13 +85,15 @@ pub record MoreTypes (n m : Nodes) (more : List CType) : Type 0 where
   pub stands : (s : State) → Stands n.scopes n.p s → Stands m.scopes m.p s
   pub file : m.scopes.file.now ≡ n.scopes.file.now
 
-pub keeps_types : (n m : Nodes) (more : List CType) → IsWhole n → MoreTypes n m more → m.facts ≡ n.facts → m.void ≡ n.void → Keeps n m
+pub keeps_types : (n m : Nodes) (more : List CType) → IsWhole n → MoreTypes n m more → m.facts ≡ n.facts →
+    m.void ≡ n.void → Keeps n m
 keeps_types n m more w d f v =
     let e = d.is in
     let te : m.p.types ≡ n.p.types ++ more = ap (λ (q : Typed). q.types) e in
     let xe : m.p.exprs ≡ n.p.exprs = ap (λ (q : Typed). q.exprs) e in
     let le : type_count n ≤ type_count m = rw te (omega (arith, length-append n.p.types more)) in
-    let same : (k : ℕ) → k < type_count n → type_in m k ≡ type_in n k = λ k h. rw te (type_at-longer n.p.types more k h) in
+    let same : (k : ℕ) → k < type_count n → type_in m k ≡ type_in n k =
+    λ k h. rw te (type_at-longer n.p.types more k h) in
     let terms : terms_of m.p ≡ terms_of n.p = ap terms_of e ∙ terms-more_types n.p more w.typed in
     let vt : n.void < type_count n = w.void_there in
     record {
@@ -100,25 +112,32 @@ keeps_types n m more w d f v =
       file = d.file;
     }
 
-pub number_has : (n m : Nodes) (k : ℕ) (c : CType) → IsWhole n → m.facts ≡ n.facts → m.void ≡ n.void → AddsTypes n.p m.p → IsNumberOf n.p m.p k c → ((s : State) → Stands n.scopes n.p s → Stands m.scopes m.p s) → m.scopes.file.now ≡ n.scopes.file.now →
+pub number_has : (n m : Nodes) (k : ℕ) (c : CType) → IsWhole n → m.facts ≡ n.facts → m.void ≡ n.void →
+    AddsTypes n.p m.p → IsNumberOf n.p m.p k c → ((s : State) → Stands n.scopes n.p s → Stands m.scopes m.p s) →
+    m.scopes.file.now ≡ n.scopes.file.now →
     HasType n m k (type_from c (type_in n))
 number_has n m k c w f v a i st fl =
     record {
-      keeps = keeps_types n m a.added w (record { is = a.rest ∙ ap (λ ts. record n.p { types = ts }) a.types; stands = st; file = fl }) f v;
+      keeps = keeps_types n m a.added w (record
+          { is = a.rest ∙ ap (λ ts. record n.p { types = ts }) a.types; stands = st; file = fl }) f v;
       is = record { there = i.there; is = i.is };
     }
 
-pub added_has : (n m : Nodes) (k : ℕ) (t : Ty) → IsWhole n → m.facts ≡ n.facts → m.void ≡ n.void → AddsTypes n.p m.p → k < type_count m → type_in m k ≡ t → ((s : State) → Stands n.scopes n.p s → Stands m.scopes m.p s) → m.scopes.file.now ≡ n.scopes.file.now → HasType n m k t
+pub added_has : (n m : Nodes) (k : ℕ) (t : Ty) → IsWhole n → m.facts ≡ n.facts → m.void ≡ n.void → AddsTypes n.p m.p →
+    k < type_count m → type_in m k ≡ t → ((s : State) → Stands n.scopes n.p s → Stands m.scopes m.p s) →
+    m.scopes.file.now ≡ n.scopes.file.now → HasType n m k t
 added_has n m k t w f v a lt e st fl =
     record {
-      keeps = keeps_types n m a.added w (record { is = a.rest ∙ ap (λ ts. record n.p { types = ts }) a.types; stands = st; file = fl }) f v;
+      keeps = keeps_types n m a.added w (record
+          { is = a.rest ∙ ap (λ ts. record n.p { types = ts }) a.types; stands = st; file = fl }) f v;
       is = record { there = lt; is = e };
     }
 
 -- ---- a new expression
 
 -- what is declared does not look at expressions
-stands-exprs : (sc : Scopes) (p : Typed) (xs : List Expr) (s : State) → Stands sc p s → Stands sc (record p { exprs = xs }) s
+stands-exprs : (sc : Scopes) (p : Typed) (xs : List Expr) (s : State) → Stands sc p s →
+    Stands sc (record p { exprs = xs }) s
 stands-exprs sc p xs s h = record {
   scopes = h.scopes;
   tags = h.tags;
@@ -132,18 +151,23 @@ stands-exprs sc p xs s h = record {
   linked = h.linked;
 }
 
-stands-more : (n m : Nodes) (xs : List Expr) (s : State) → m.scopes ≡ n.scopes → m.p ≡ record n.p { exprs = xs } → Stands n.scopes n.p s → Stands m.scopes m.p s
+stands-more : (n m : Nodes) (xs : List Expr) (s : State) → m.scopes ≡ n.scopes → m.p ≡ record n.p { exprs = xs } →
+    Stands n.scopes n.p s → Stands m.scopes m.p s
 stands-more n m xs s c e h = rw (c, e) (stands-exprs n.scopes n.p xs s h)
 
-one_more : (p : Typed) (x : Expr) (ts : List Term) → grow (expr_from (types_of p.types)) no_term (x ∷ []) ts ≡ ts ++ expr_from (types_of p.types) x (term_at ts) ∷ []
+one_more : (p : Typed) (x : Expr) (ts : List Term) →
+    grow (expr_from (types_of p.types)) no_term (x ∷ []) ts ≡ ts ++ expr_from (types_of p.types) x (term_at ts) ∷ []
 unfolding grow
 one_more p x ts = refl
 
-terms-push : (p : Typed) (x : Expr) → terms_of (record p { exprs = p.exprs ++ x ∷ [] }) ≡ terms_of p ++ expr_from (types_of p.types) x (term_at (terms_of p)) ∷ []
+terms-push : (p : Typed) (x : Expr) →
+    terms_of (record p { exprs = p.exprs ++ x ∷ [] })
+    ≡ terms_of p ++ expr_from (types_of p.types) x (term_at (terms_of p)) ∷ []
 terms-push p x = grow-append (expr_from (types_of p.types)) no_term p.exprs (x ∷ []) [] ∙ one_more p x (terms_of p)
 
 -- an item of a longer list
-slice_get-push : {A : Type 0} (xs : List A) (y : A) (k : ℕ) (x : A) → slice_get (xs ++ y ∷ []) k ≡ Some x → (slice_get xs k ≡ Some x) ⊎ (x ≡ y)
+slice_get-push : {A : Type 0} (xs : List A) (y : A) (k : ℕ) (x : A) → slice_get (xs ++ y ∷ []) k ≡ Some x →
+    (slice_get xs k ≡ Some x) ⊎ (x ≡ y)
 slice_get-push [] y zero x e = inr cc
 slice_get-push [] y (suc k) x e = absurd cc
 slice_get-push (z ∷ xs) y zero x e = inl e
@@ -153,8 +177,10 @@ map-push : {A B : Type 0} (f : A → B) (xs : List A) (y : A) → map f (xs ++ y
 map-push f [] y = refl
 map-push f (x ∷ xs) y = ap (λ zs. f x ∷ zs) (map-push f xs y)
 
-pub add_has : (n m : Nodes) (k : ℕ) (x : Expr) (known : Fact) → IsWhole n → IsTyped (type_count n) x → known ≡ fact_of (expr_from (types_of n.p.types) x (term_in n)) →
-    m.p ≡ record n.p { exprs = n.p.exprs ++ x ∷ [] } → m.facts.items ≡ n.facts.items ++ known ∷ [] → m.void ≡ n.void → k ≡ length n.p.exprs → m.scopes ≡ n.scopes →
+pub add_has : (n m : Nodes) (k : ℕ) (x : Expr) (known : Fact) → IsWhole n → IsTyped (type_count n) x →
+    known ≡ fact_of (expr_from (types_of n.p.types) x (term_in n)) →
+    m.p ≡ record n.p { exprs = n.p.exprs ++ x ∷ [] } → m.facts.items ≡ n.facts.items ++ known ∷ [] → m.void ≡ n.void →
+    k ≡ length n.p.exprs → m.scopes ≡ n.scopes →
     HasTerm n m k (expr_from (types_of n.p.types) x (term_in n))
 add_has n m k x known w t h e f v z sc =
     let y : Term = expr_from (types_of n.p.types) x (term_in n) in
@@ -166,8 +192,11 @@ add_has n m k x known w t h e f v z sc =
     record {
       keeps = record {
         whole = record {
-          facts = f ∙ ap (λ a. a ++ known ∷ []) w.facts ∙ ap (λ a. map fact_of (terms_of n.p) ++ a ∷ []) h ∙ sym (map-push fact_of (terms_of n.p) y) ∙ ap (map fact_of) (sym terms);
-          typed = λ j a g. rw te (⊎_elim (λ b. w.typed j a b) (λ b. subst (λ (q : Expr). IsTyped (type_count n) q) (sym b) t) (slice_get-push n.p.exprs x j a (rw xe at g)));
+          facts = f ∙ ap (λ a. a ++ known ∷ []) w.facts ∙ ap (λ a. map fact_of (terms_of n.p) ++ a ∷ []) h
+              ∙ sym (map-push fact_of (terms_of n.p) y) ∙ ap (map fact_of) (sym terms);
+          typed = λ j a g. rw te (⊎_elim (λ b. w.typed j a b)
+              (λ b. subst (λ (q : Expr). IsTyped (type_count n) q) (sym b) t)
+              (slice_get-push n.p.exprs x j a (rw xe at g)));
           void_there = rw (v, te) w.void_there;
           void = rw (v, te) w.void;
         };
@@ -188,7 +217,8 @@ no_terms : (p : Typed) → p.exprs ≡ [] → terms_of p ≡ []
 unfolding grow
 no_terms p e = rw e refl
 
-pub nothing_whole : (p : Typed) (n : Nodes) → p.exprs ≡ [] → AddsTypes p n.p → IsNumberOf p n.p n.void ctypes.Void → n.facts.items ≡ [] → IsWhole n
+pub nothing_whole : (p : Typed) (n : Nodes) → p.exprs ≡ [] → AddsTypes p n.p → IsNumberOf p n.p n.void ctypes.Void →
+    n.facts.items ≡ [] → IsWhole n
 nothing_whole p n e a i f =
     let x : n.p.exprs ≡ [] = ap (λ (q : Typed). q.exprs) a.rest ∙ e in
     record {

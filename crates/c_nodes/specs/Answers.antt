@@ -7,7 +7,8 @@ use Rattle.c_tree.specs.Scopes.{State, Doing}
 use Rattle.c_nodes.specs.declared.nodes.Nodes.{Nodes}
 use Rattle.c_nodes.specs.Nodes.{Keeps}
 
--- in every state the step gives this result and leaves the state, and the new nodes show the result beside all that stood in the old ones
+-- in every state the step gives this result and leaves the state, and the new nodes show the result beside all that
+-- stood in the old ones
 pub record Given {A X : Type 0} (old new : Nodes) (d : Doing A) (Shows : Nodes → X → A → Type 0) (x : X) : Type 0 where
   pub value : A
   pub is : (s : State) → d s ≡ Ok (value, s)

@@ -27,7 +27,8 @@ impl Nodes<'_> {
     fn all_parts(&self, numbers: &[u32], t: u32) -> Result<Vec<u32>, NoMemory>
         requires whole { IsWhole self.now }
         requires there { t < type_count self.now }
-        ensures is { IfOk result (λ ps. (seen : ℕ → Ty) → Sees self.now t seen → map (type_in self.now) ps.items ≡ map seen numbers.now) }
+        ensures is { IfOk result (λ ps. (seen : ℕ → Ty) → Sees self.now t seen →
+            map (type_in self.now) ps.items ≡ map seen numbers.now) }
         ensures there { IfOk result (λ ps. AreBelow (type_count self.now) ps.items) }
     {
         let mut parts = Vec::new(self.alloc);
@@ -41,7 +42,8 @@ impl Nodes<'_> {
     pub fn params(&self, t: u32) -> Result<Vec<u32>, NoMemory>
         requires whole { IsWhole self.now }
         requires there { t < type_count self.now }
-        ensures is { IfOk result (λ ps. (r : Ty) (qs : Tys) → type_in self.now t ≡ Function r qs → tys (map (type_in self.now) ps.items) ≡ qs) }
+        ensures is { IfOk result (λ ps. (r : Ty) (qs : Tys) → type_in self.now t ≡ Function r qs →
+            tys (map (type_in self.now) ps.items) ≡ qs) }
         ensures there { IfOk result (λ ps. AreBelow (type_count self.now) ps.items) }
     {
         self.all_parts(params_of(&self.p.types.as_slice()[t as usize]), t)
@@ -82,7 +84,8 @@ impl Nodes<'_> {
         requires whole { IsWhole self.old }
         requires first { s < type_count self.old }
         requires second { t < type_count self.old }
-        ensures { IfOk result (λ b. Tells self.old self.new (compatible_bare (type_in self.old s) (type_in self.old t)) b) }
+        ensures { IfOk result (λ b. Tells self.old self.new
+            (compatible_bare (type_in self.old s) (type_in self.old t)) b) }
     {
         let a = self.bare_elements(s)?;
         let b = self.bare_elements(t)?;

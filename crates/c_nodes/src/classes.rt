@@ -1,7 +1,9 @@
 //! One level of a type, and the arithmetic types (C11 6.2.5, 6.3.1).
 
 ghost use Rattle.std.specs.Prelude.{◌≡◌, ℕ, map};
-ghost use Rattle.c_tree.specs.Types.{Ty, Tys, is_integer, is_pointer, is_scalar, is_void, is_bool, is_array, is_function, is_tagged, is_capability, rank, has_sign, width, promoted, kind_rank, same_kind, same_truth, same, without_sign, common_mixed, common_promoted};
+ghost use Rattle.c_tree.specs.Types.{Ty, Tys, is_integer, is_pointer, is_scalar, is_void, is_bool, is_array};
+ghost use Rattle.c_tree.specs.Types.{is_function, is_tagged, is_capability, rank, has_sign, width, promoted, kind_rank};
+ghost use Rattle.c_tree.specs.Types.{same_kind, same_truth, same, without_sign, common_mixed, common_promoted};
 ghost use Rattle.ck_int.specs.Kinds.{form_of, is_signed, width_of};
 ghost use Rattle.c_tree.specs.Constants.{kind_of};
 ghost use Rattle.c_tree.specs.Views.{type_from, tys};

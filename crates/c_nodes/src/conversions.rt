@@ -4,11 +4,13 @@ ghost use Rattle.std.specs.Prelude.{◌≡◌, ◌<◌, ◌&&◌, ◌||◌, IfOk
 ghost use Rattle.c_tree.specs.Types.{Pointer, bare, is_void, is_integer, is_bool, is_pointer};
 ghost use Rattle.c_tree.specs.Terms.{Decay, step, pos_of};
 ghost use Rattle.c_tree.specs.Constants.{constant_of, is_null_constant};
-ghost use Rattle.c_tree.specs.Conversions.{is_place, designates, value_term, converted_term, targets_agree, goes_to, assigned};
+ghost use Rattle.c_tree.specs.Conversions.{is_place, designates, value_term, converted_term, targets_agree, goes_to};
+ghost use Rattle.c_tree.specs.Conversions.{assigned};
 ghost use Rattle.c_tree.specs.Expressions.{promoted_term, condition, is_modifiable};
 ghost use Rattle.c_nodes.specs.Answers.{Answers};
 ghost use Rattle.c_nodes.specs.Values.{loaded};
-ghost use Rattle.c_nodes.specs.Nodes.{IsWhole, HasTerm, IsTerm, Tells, operand_in, type_in, term_in, type_count, term_count};
+ghost use Rattle.c_nodes.specs.Nodes.{IsWhole, HasTerm, IsTerm, Tells, operand_in, type_in, term_in, type_count};
+ghost use Rattle.c_nodes.specs.Nodes.{term_count};
 
 use crate::classes::Class;
 use crate::facts::Step;
@@ -69,8 +71,8 @@ impl Nodes<'_> {
         self.is_place(node) && !self.is_const(of) && !self.is_array(of) && !self.is_function(of)
     }
 
-    /// An array as the pointer to its first element, a function as the pointer to it, and a place as what stands there (C11 6.3.2.1p2
-    /// to p4).
+    /// An array as the pointer to its first element, a function as the pointer to it, and a place as what stands there
+    /// (C11 6.3.2.1p2 to p4).
     pub fn value_term(&mut self, node: u32) -> Result<u32, NoMemory>
         requires whole { IsWhole self.old }
         requires there { node < term_count self.old }
@@ -94,7 +96,8 @@ impl Nodes<'_> {
         requires whole { IsWhole self.old }
         requires there { node < term_count self.old }
         requires to { to < type_count self.old }
-        ensures { IfOk result (λ k. HasTerm self.old self.new k (step Decay (term_in self.old node) (Pointer (type_in self.old to)) (pos_of (term_in self.old node)))) }
+        ensures { IfOk result (λ k. HasTerm self.old self.new k
+            (step Decay (term_in self.old node) (Pointer (type_in self.old to)) (pos_of (term_in self.old node)))) }
     {
         let pos = self.pos(node);
         let of = self.pointer_to(to)?;
@@ -120,7 +123,8 @@ impl Nodes<'_> {
         requires whole { IsWhole self.old }
         requires there { node < term_count self.old }
         requires to { to < type_count self.old }
-        ensures { IfOk result (λ k. HasTerm self.old self.new k (converted_term (type_in self.old to) (term_in self.old node))) }
+        ensures { IfOk result (λ k. HasTerm self.old self.new k
+            (converted_term (type_in self.old to) (term_in self.old node))) }
     {
         let of = self.of(node);
         if self.same(of, to)? {
@@ -168,7 +172,8 @@ impl Nodes<'_> {
         requires to { to < type_count self.old }
         requires of { of < type_count self.old }
         requires there { node < term_count self.old }
-        ensures { IfOk result (λ b. Tells self.old self.new (goes_to (type_in self.old to) (type_in self.old of) (term_in self.old node)) b) }
+        ensures { IfOk result (λ b. Tells self.old self.new
+            (goes_to (type_in self.old to) (type_in self.old of) (term_in self.old node)) b) }
     {
         match self.class(to) {
             Class::Int(_, _) => Ok(self.goes_to_integer(to, of)),
@@ -187,7 +192,8 @@ impl Nodes<'_> {
         requires whole { IsWhole self.now }
         requires to { to < type_count self.now }
         requires of { of < type_count self.now }
-        ensures { (is_integer (type_in self.now of) || (is_bool (type_in self.now to) && is_pointer (type_in self.now of))) ≡ result }
+        ensures { (is_integer (type_in self.now of)
+            || (is_bool (type_in self.now to) && is_pointer (type_in self.now of))) ≡ result }
     {
         self.is_integer(of) || (self.is_bool(to) && self.is_pointer(of))
     }
@@ -206,7 +212,8 @@ impl Nodes<'_> {
         requires target { target < type_count self.old }
         requires of { of < type_count self.old }
         requires there { node < term_count self.old }
-        ensures { IfOk result (λ b. Tells self.old self.new (goes_to (Pointer (type_in self.old target)) (type_in self.old of) (term_in self.old node)) b) }
+        ensures { IfOk result (λ b. Tells self.old self.new
+            (goes_to (Pointer (type_in self.old target)) (type_in self.old of) (term_in self.old node)) b) }
     {
         match self.target(of) {
             Some(other) => {

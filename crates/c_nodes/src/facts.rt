@@ -1,10 +1,12 @@
-//! What the rules ask of an expression beside its type and its place. It stands beside each node, so that no operand is read again.
+//! What the rules ask of an expression beside its type and its place. It stands beside each node, so that no operand is
+//! read again.
 
 ghost use Rattle.std.specs.Prelude.{◌≡◌, ℕ, ◌∷◌, [], ◌&&◌, ◌||◌, true, not, ◌==◌, if◌then◌else◌, Some, None};
 ghost use Rattle.ck_base.specs.declared.positions.Pos.{Pos as Place};
 ghost use Rattle.c_tree.specs.Types.{Ty};
 ghost use Rattle.c_tree.specs.Terms.{Term, Terms, term, leaf, step, join, join_three, type_of};
-ghost use Rattle.c_tree.specs.Constants.{kind_of, is_zero, is_constant_shape, node_value, with_value, computed, truth, divides, unary_value};
+ghost use Rattle.c_tree.specs.Constants.{kind_of, is_zero, is_constant_shape, node_value, with_value, computed, truth};
+ghost use Rattle.c_tree.specs.Constants.{divides, unary_value};
 ghost use Rattle.c_tree.specs.Conversions.{is_place, is_member};
 ghost use Rattle.c_tree.specs.Expressions.{from_plain};
 ghost use Rattle.ck_int.specs.Kinds.{converted};
@@ -160,7 +162,8 @@ fn operation(op: IntOp, kind: IntKind, a: Option<u64>, b: Option<u64>) -> Option
 }
 
 fn comparison(op: CmpOp, kind: IntKind, a: Option<u64>, b: Option<u64>) -> Option<u64>
-    ensures { (t : Ty) → kind_of t ≡ kind → with_value a (λ v. with_value b (λ w. Some (truth (compare_of op (kind_of t) v w)))) ≡ result }
+    ensures { (t : Ty) → kind_of t ≡ kind →
+        with_value a (λ v. with_value b (λ w. Some (truth (compare_of op (kind_of t) v w)))) ≡ result }
 {
     match a {
         None => None,
@@ -188,7 +191,8 @@ fn truth_of(a: Option<u64>) -> Option<u64>
 
 // The second operand is not evaluated where the first one decides.
 fn conjunction(a: Option<u64>, b: Option<u64>) -> Option<u64>
-    ensures { with_value a (λ v. (if v == 0 then Some 0 else with_value b (λ w. Some (truth (not (w == 0)))))) ≡ result }
+    ensures { with_value a (λ v. (if v == 0 then Some 0 else with_value b (λ w. Some (truth (not (w == 0))))))
+        ≡ result }
 {
     match a {
         None => None,
@@ -197,7 +201,8 @@ fn conjunction(a: Option<u64>, b: Option<u64>) -> Option<u64>
 }
 
 fn disjunction(a: Option<u64>, b: Option<u64>) -> Option<u64>
-    ensures { with_value a (λ v. (if v == 0 then with_value b (λ w. Some (truth (not (w == 0)))) else Some 1)) ≡ result }
+    ensures { with_value a (λ v. (if v == 0 then with_value b (λ w. Some (truth (not (w == 0)))) else Some 1))
+        ≡ result }
 {
     match a {
         None => None,
@@ -342,7 +347,8 @@ impl Step {
 
 /// What is known of an expression of one operand, other than a conversion, by what is known of the operand.
 pub fn step_fact(kind: Step, of: Evaluation, a: Fact) -> Fact
-    ensures { (x : Term) (t : Ty) (p : Place) → fact_of x ≡ a → evaluation_of t ≡ of → fact_of (step (step_shape kind) x t p) ≡ result }
+    ensures { (x : Term) (t : Ty) (p : Place) → fact_of x ≡ a → evaluation_of t ≡ of →
+        fact_of (step (step_shape kind) x t p) ≡ result }
 {
     let constant = is_constant_step(kind.is_constant(), a.constant);
     let value = kind.value(of.kind, a.value);
@@ -372,7 +378,8 @@ fn is_null_conversion(zero: bool, to_void_pointer: bool, of_zero: bool) -> bool
 
 /// What is known of a conversion, by both types and what is known of its operand.
 pub fn conversion_fact(types: Conversion, a: Fact) -> Fact
-    ensures { (x : Term) (t : Ty) (p : Place) → fact_of x ≡ a → IsConversion types (type_of x) t → fact_of (step tree.Convert x t p) ≡ result }
+    ensures { (x : Term) (t : Ty) (p : Place) → fact_of x ≡ a → IsConversion types (type_of x) t →
+        fact_of (step tree.Convert x t p) ≡ result }
 {
     let constant = is_constant_step(types.to.integer, a.constant);
     let value = converted(types.from.kind, types.to.kind, a.value);
@@ -406,7 +413,8 @@ impl Join {
     }
 
     fn value(self, kind: IntKind, left: IntKind, a: Option<u64>, b: Option<u64>) -> Option<u64>
-        ensures { (go : ℕ → Ty) (t s u : Ty) → kind_of t ≡ kind → kind_of s ≡ left → node_value (join_shape go self) t ((s, a) ∷ (u, b) ∷ []) ≡ result }
+        ensures { (go : ℕ → Ty) (t s u : Ty) → kind_of t ≡ kind → kind_of s ≡ left →
+            node_value (join_shape go self) t ((s, a) ∷ (u, b) ∷ []) ≡ result }
     {
         match self {
             Join::Int(op) => operation(op, kind, a, b),
@@ -420,9 +428,11 @@ impl Join {
     }
 }
 
-/// What is known of an expression of two operands, by what is known of them; a comparison is computed in the type of the left one.
+/// What is known of an expression of two operands, by what is known of them; a comparison is computed in the type of
+/// the left one.
 pub fn join_fact(kind: Join, of: Evaluation, left: Evaluation, a: Fact, b: Fact) -> Fact
-    ensures { (go : ℕ → Ty) (x y : Term) (t : Ty) (p : Place) → fact_of x ≡ a → fact_of y ≡ b → evaluation_of t ≡ of → evaluation_of (type_of x) ≡ left → fact_of (join (join_shape go kind) x y t p) ≡ result }
+    ensures { (go : ℕ → Ty) (x y : Term) (t : Ty) (p : Place) → fact_of x ≡ a → fact_of y ≡ b → evaluation_of t ≡ of →
+        evaluation_of (type_of x) ≡ left → fact_of (join (join_shape go kind) x y t p) ≡ result }
 {
     let constant = is_constant_join(kind.is_constant(), a.constant, b.constant);
     let value = kind.value(of.kind, left.kind, a.value, b.value);
@@ -439,7 +449,8 @@ pub fn join_fact(kind: Join, of: Evaluation, left: Evaluation, a: Fact, b: Fact)
 
 /// What is known of a conditional expression (C11 6.5.15), by what is known of its three operands.
 pub fn choice_fact(of: Evaluation, a: Fact, b: Fact, c: Fact) -> Fact
-    ensures { (x y z : Term) (t : Ty) (p : Place) → fact_of x ≡ a → fact_of y ≡ b → fact_of z ≡ c → evaluation_of t ≡ of → fact_of (join_three tree.Conditional x y z t p) ≡ result }
+    ensures { (x y z : Term) (t : Ty) (p : Place) → fact_of x ≡ a → fact_of y ≡ b → fact_of z ≡ c →
+        evaluation_of t ≡ of → fact_of (join_three tree.Conditional x y z t p) ≡ result }
 {
     let constant = is_constant_join(a.constant, b.constant, c.constant);
     let value = choice(a.value, b.value, c.value);

@@ -9,7 +9,8 @@ ghost use Rattle.c_interner.specs.Numbers.{AddsTypes};
 ghost use Rattle.c_types.specs.Stands.{Stands};
 ghost use Rattle.c_nodes.specs.Classes.{class_type, PartIsThere};
 ghost use Rattle.c_nodes.specs.Facts.{fact_of};
-ghost use Rattle.c_nodes.specs.Nodes.{IsWhole, IsTyped, IsClass, IsType, IsTerm, HasType, HasTerm, Sees, type_in, term_in, type_count, term_count};
+ghost use Rattle.c_nodes.specs.Nodes.{IsWhole, IsTyped, IsClass, IsType, IsTerm, HasType, HasTerm, Sees, type_in};
+ghost use Rattle.c_nodes.specs.Nodes.{term_in, type_count, term_count};
 
 use crate::classes::{Class, class_of};
 use crate::facts::Fact;
@@ -73,7 +74,8 @@ impl<'a> Nodes<'a> {
         requires whole { IsWhole self.old }
         requires typed { IsTyped (type_count self.old) e }
         requires known { fact ≡ fact_of (expr_from (types_of self.old.p.types) e (term_in self.old)) }
-        ensures { IfOk result (λ k. HasTerm self.old self.new k (expr_from (types_of self.old.p.types) e (term_in self.old))) }
+        ensures { IfOk result (λ k. HasTerm self.old self.new k
+            (expr_from (types_of self.old.p.types) e (term_in self.old))) }
     {
         let k = next_number(self.p.exprs.as_slice())?;
         append(self.alloc, &mut self.p.exprs, e)?;
@@ -94,7 +96,8 @@ impl<'a> Nodes<'a> {
     fn level(&self, class: Class, t: u32) -> Class
         requires whole { IsWhole self.now }
         requires there { t < type_count self.now }
-        ensures is { (seen : ℕ → Ty) (ps : Tys) → Sees self.now t seen → class_type class seen ps ≡ class_type result (type_in self.now) ps }
+        ensures is { (seen : ℕ → Ty) (ps : Tys) → Sees self.now t seen →
+            class_type class seen ps ≡ class_type result (type_in self.now) ps }
         ensures there { PartIsThere result (type_count self.now) }
     {
         match class {
@@ -109,7 +112,8 @@ impl<'a> Nodes<'a> {
         }
     }
 
-    /// The type that another one is made of, by the number that it names: one that does not stand before it stands for `void`.
+    /// The type that another one is made of, by the number that it names: one that does not stand before it stands for
+    /// `void`.
     pub fn part(&self, inner: u32, t: u32) -> u32
         requires whole { IsWhole self.now }
         requires there { t < type_count self.now }

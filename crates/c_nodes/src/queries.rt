@@ -1,7 +1,8 @@
 //! What the rules ask of a type, by its number.
 
 ghost use Rattle.std.specs.Prelude.{◌≡◌, ◌<◌, ◌&&◌, None, Some, MatchOption};
-ghost use Rattle.c_tree.specs.Types.{bare, is_const, is_integer, is_pointer, is_scalar, is_void, is_bool, is_array, is_function, is_tagged, is_capability, target_of};
+ghost use Rattle.c_tree.specs.Types.{bare, is_const, is_integer, is_pointer, is_scalar, is_void, is_bool, is_array};
+ghost use Rattle.c_tree.specs.Types.{is_function, is_tagged, is_capability, target_of};
 ghost use Rattle.c_tree.specs.Constants.{is_pointer_to_void};
 ghost use Rattle.c_tree.specs.Expressions.{moves, points_to_function, is_void_pointer};
 ghost use Rattle.c_nodes.specs.Facts.{evaluation_of, IsConversion};
@@ -156,7 +157,8 @@ impl Nodes<'_> {
     pub fn target(&self, t: u32) -> Option<u32>
         requires whole { IsWhole self.now }
         requires there { t < type_count self.now }
-        ensures { MatchOption result (target_of (type_in self.now t) ≡ None) (λ u. (u < type_count self.now) × (target_of (type_in self.now t) ≡ Some (type_in self.now u))) }
+        ensures { MatchOption result (target_of (type_in self.now t) ≡ None)
+            (λ u. (u < type_count self.now) × (target_of (type_in self.now t) ≡ Some (type_in self.now u))) }
     {
         match self.class(t) {
             Class::Pointer(of) => Some(of),

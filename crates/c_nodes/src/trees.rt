@@ -7,7 +7,8 @@ ghost use Rattle.c_tree.specs.Terms as tree;
 ghost use Rattle.c_tree.specs.Terms.{Term, leaf, step, join, join_three, term, terms, with_term};
 ghost use Rattle.c_tree.specs.Views.{kind_term, type_at};
 ghost use Rattle.c_nodes.specs.Facts.{leaf_shape, step_shape, join_shape};
-ghost use Rattle.c_nodes.specs.Nodes.{IsWhole, HasTerm, KindIsTyped, JoinIsTyped, type_in, term_in, type_count, term_count};
+ghost use Rattle.c_nodes.specs.Nodes.{IsWhole, HasTerm, KindIsTyped, JoinIsTyped, type_in, term_in, type_count};
+ghost use Rattle.c_nodes.specs.Nodes.{term_count};
 
 use crate::facts::{
     Join, Leaf, Step, call_fact, choice_fact, conversion_fact, join_fact, leaf_fact, step_fact,
@@ -17,7 +18,8 @@ use c_tree::{Expr, ExprKind};
 use ck_base::{NoMemory, Pos, Sequence};
 
 fn leaf_kind(leaf: Leaf) -> ExprKind
-    ensures is { (ts : List Ty) (t : Ty) (p : Place) (go : ℕ → Term) → kind_term ts result t p go ≡ tree.leaf (leaf_shape leaf) t p }
+    ensures is { (ts : List Ty) (t : Ty) (p : Place) (go : ℕ → Term) →
+        kind_term ts result t p go ≡ tree.leaf (leaf_shape leaf) t p }
     ensures typed { (n : ℕ) → KindIsTyped n result }
 {
     match leaf {
@@ -30,7 +32,8 @@ fn leaf_kind(leaf: Leaf) -> ExprKind
 }
 
 fn step_kind(step: Step, a: u32) -> ExprKind
-    ensures is { (ts : List Ty) (t : Ty) (p : Place) (go : ℕ → Term) → kind_term ts result t p go ≡ tree.step (step_shape step) (go a) t p }
+    ensures is { (ts : List Ty) (t : Ty) (p : Place) (go : ℕ → Term) →
+        kind_term ts result t p go ≡ tree.step (step_shape step) (go a) t p }
     ensures typed { (n : ℕ) → KindIsTyped n result }
 {
     match step {
@@ -45,7 +48,8 @@ fn step_kind(step: Step, a: u32) -> ExprKind
 }
 
 fn join_kind(join: Join, a: u32, b: u32) -> ExprKind
-    ensures is { (ts : List Ty) (t : Ty) (p : Place) (go : ℕ → Term) → kind_term ts result t p go ≡ tree.join (join_shape (type_at ts) join) (go a) (go b) t p }
+    ensures is { (ts : List Ty) (t : Ty) (p : Place) (go : ℕ → Term) →
+        kind_term ts result t p go ≡ tree.join (join_shape (type_at ts) join) (go a) (go b) t p }
     ensures typed { (n : ℕ) → JoinIsTyped n join → KindIsTyped n result }
 {
     match join {
@@ -85,7 +89,8 @@ impl Nodes<'_> {
         requires whole { IsWhole self.old }
         requires operand { a < term_count self.old }
         requires of { of < type_count self.old }
-        ensures { IfOk result (λ k. HasTerm self.old self.new k (step (step_shape kind) (term_in self.old a) (type_in self.old of) pos)) }
+        ensures { IfOk result (λ k. HasTerm self.old self.new k
+            (step (step_shape kind) (term_in self.old a) (type_in self.old of) pos)) }
     {
         let fact = step_fact(kind, self.evaluation(of), self.fact(a));
         self.add(
@@ -103,7 +108,8 @@ impl Nodes<'_> {
         requires whole { IsWhole self.old }
         requires operand { a < term_count self.old }
         requires of { of < type_count self.old }
-        ensures { IfOk result (λ k. HasTerm self.old self.new k (step tree.Convert (term_in self.old a) (type_in self.old of) pos)) }
+        ensures { IfOk result (λ k. HasTerm self.old self.new k
+            (step tree.Convert (term_in self.old a) (type_in self.old of) pos)) }
     {
         let types = self.conversion(self.of(a), of);
         let fact = conversion_fact(types, self.fact(a));
@@ -124,7 +130,9 @@ impl Nodes<'_> {
         requires second { b < term_count self.old }
         requires of { of < type_count self.old }
         requires kind { JoinIsTyped (type_count self.old) kind }
-        ensures { IfOk result (λ k. HasTerm self.old self.new k (join (join_shape (type_in self.old) kind) (term_in self.old a) (term_in self.old b) (type_in self.old of) pos)) }
+        ensures { IfOk result (λ k. HasTerm self.old self.new k
+            (join (join_shape (type_in self.old) kind) (term_in self.old a) (term_in self.old b)
+            (type_in self.old of) pos)) }
     {
         let left = self.evaluation(self.of(a));
         let fact = join_fact(kind, self.evaluation(of), left, self.fact(a), self.fact(b));
@@ -138,14 +146,17 @@ impl Nodes<'_> {
         )
     }
 
-    /// A new conditional expression (C11 6.5.15): the condition, and what is evaluated where it is not 0 and where it is.
+    /// A new conditional expression (C11 6.5.15): the condition, and what is evaluated where it is not 0 and where it
+    /// is.
     pub fn choice(&mut self, a: u32, b: u32, c: u32, of: u32, pos: Pos) -> Result<u32, NoMemory>
         requires whole { IsWhole self.old }
         requires first { a < term_count self.old }
         requires second { b < term_count self.old }
         requires third { c < term_count self.old }
         requires of { of < type_count self.old }
-        ensures { IfOk result (λ k. HasTerm self.old self.new k (join_three tree.Conditional (term_in self.old a) (term_in self.old b) (term_in self.old c) (type_in self.old of) pos)) }
+        ensures { IfOk result (λ k. HasTerm self.old self.new k
+            (join_three tree.Conditional (term_in self.old a) (term_in self.old b) (term_in self.old c)
+            (type_in self.old of) pos)) }
     {
         let fact = choice_fact(
             self.evaluation(of),
@@ -167,7 +178,9 @@ impl Nodes<'_> {
     pub fn call_node(&mut self, f: u32, args: Vec<u32>, of: u32, pos: Pos) -> Result<u32, NoMemory>
         requires whole { IsWhole self.old }
         requires of { of < type_count self.old }
-        ensures { IfOk result (λ k. HasTerm self.old self.new k (term tree.Call (with_term (term_in self.old f) (terms (map (term_in self.old) args.items))) (type_in self.old of) pos)) }
+        ensures { IfOk result (λ k. HasTerm self.old self.new k
+            (term tree.Call (with_term (term_in self.old f) (terms (map (term_in self.old) args.items)))
+            (type_in self.old of) pos)) }
     {
         self.add(
             Expr {
@@ -189,7 +202,8 @@ impl Nodes<'_> {
     ) -> Result<u32, NoMemory>
         requires whole { IsWhole self.old }
         requires of { of < type_count self.old }
-        ensures { IfOk result (λ k. HasTerm self.old self.new k (term (tree.Library service) (terms (map (term_in self.old) args.items)) (type_in self.old of) pos)) }
+        ensures { IfOk result (λ k. HasTerm self.old self.new k
+            (term (tree.Library service) (terms (map (term_in self.old) args.items)) (type_in self.old of) pos)) }
     {
         self.add(
             Expr {

@@ -1,5 +1,6 @@
 -- From a reading of a file to the answer.
-use Rattle.std.proofs.Common.{◌≡◌, ℕ, suc, ◌+◌, ◌≤◌, ◌<◌, List, [], ◌∷◌, ◌++◌, length, reverse, map, take, get_or, Option, Some, None, refl, ap, sym, subst, ◌∙◌, arith}
+use Rattle.std.proofs.Common.{◌≡◌, ℕ, suc, ◌+◌, ◌≤◌, ◌<◌, List, [], ◌∷◌, ◌++◌, length, reverse, map, take, get_or}
+use Rattle.std.proofs.Common.{Option, Some, None, refl, ap, sym, subst, ◌∙◌, arith}
 use Rattle.std.proofs.lemmas.Option.{none-some}
 use Rattle.ck_base.specs.declared.refusal.Refusal.{Refusal}
 use Rattle.ck_base.specs.declared.refusal.Refusal.TheVariants.{Code, NoMemory}
@@ -22,7 +23,8 @@ use Rattle.std.proofs.Math.Seq.{take-suc}
 use Rattle.c_parse.proofs.Force.{reversed_push}
 use Rattle.c_parse.proofs.Outer.{file_of_none}
 
-pub tree_made : (file : List ℕ) (tokens ts : List Lexeme) (x : Syn) (tree : Tree) → IsCut file tokens → ts ≡ tokens → read_file 199 ts ≡ Some x → StandsAt tree.nodes tree.root x → length tree.nodes ≤ 67_108_864 → IsTreeOf file tree
+pub tree_made : (file : List ℕ) (tokens ts : List Lexeme) (x : Syn) (tree : Tree) → IsCut file tokens → ts ≡ tokens →
+    read_file 199 ts ≡ Some x → StandsAt tree.nodes tree.root x → length tree.nodes ≤ 67_108_864 → IsTreeOf file tree
 tree_made file tokens ts x tree cut same reads at few =
     let found = given (file_sound 199 ts) reads in
     record {
@@ -34,14 +36,16 @@ tree_made file tokens ts x tree cut same reads at few =
     }
 
 pub none_made : (tokens ts : List Lexeme) → ts ≡ tokens → read_file 199 ts ≡ None → HasNoTree tokens
-none_made tokens ts same none x derives low = none-some x (sym none ∙ file_complete 199 (subst (λ v. DerivesFile v x) (sym same) derives) low)
+none_made tokens ts same none x derives low =
+    none-some x (sym none ∙ file_complete 199 (subst (λ v. DerivesFile v x) (sym same) derives) low)
 
 -- a file without tokens has a tree
 pub some_token : (ts : List Lexeme) → read_file 199 ts ≡ None → 0 < length ts
 some_token [] none = absurd (none-some _ (sym none ∙ file_of_none [] refl))
 some_token (t ∷ ts) none = omega arith
 
-pub lexical_code : (file : List ℕ) (e : Refusal) → OnCode e (λ code place. Refuses file code place) → OnCode e (λ code place. IsRefused file code place)
+pub lexical_code : (file : List ℕ) (e : Refusal) → OnCode e (λ code place. Refuses file code place) →
+    OnCode e (λ code place. IsRefused file code place)
 lexical_code file (Code code place) r = lexical r
 lexical_code file NoMemory r = tt
 
@@ -49,9 +53,11 @@ pub fails_none : {A : Type 0} (e : Stop) (o : Option A) → e ≡ NoTree → Fai
 fails_none e o is why = subst (λ v. Fails v o) is why
 
 -- names that were added one by one, each before those that were there
-pub names_taken : {A : Type 0} (f : A → List ℕ) (xs : List A) (i : ℕ) (x : A) (old now next : Names) → i < length xs → now ≡ reverse (map f (take i xs)) ++ old → next ≡ f (get_or xs i x) ∷ now →
+pub names_taken : {A : Type 0} (f : A → List ℕ) (xs : List A) (i : ℕ) (x : A) (old now next : Names) → i < length xs →
+    now ≡ reverse (map f (take i xs)) ++ old → next ≡ f (get_or xs i x) ∷ now →
     next ≡ reverse (map f (take (i + 1) xs)) ++ old
 names_taken f xs i x old now next within before added =
     let same : suc i ≡ i + 1 = omega arith in
     added ∙ ap (λ v. f (get_or xs i x) ∷ v) before
-    ∙ ap (λ v. v ++ old) (sym (reversed_push f (take i xs) (get_or xs i x)) ∙ ap (λ v. reverse (map f v)) (sym (take-suc xs i x within)) ∙ ap (λ v. reverse (map f (take v xs))) same)
+    ∙ ap (λ v. v ++ old) (sym (reversed_push f (take i xs) (get_or xs i x))
+    ∙ ap (λ v. reverse (map f v)) (sym (take-suc xs i x within)) ∙ ap (λ v. reverse (map f (take v xs))) same)

@@ -1,5 +1,6 @@
 -- Reading all tokens of a file once.
-use Rattle.std.proofs.Common.{◌≡◌, ℕ, zero, suc, ◌+◌, ◌≤◌, ◌<◌, List, [], ◌∷◌, ◌++◌, length, Option, Some, None, refl, ap, sym, subst, ◌∙◌, arith, length-append, append_assoc, append-nil, inl, inr}
+use Rattle.std.proofs.Common.{◌≡◌, ℕ, zero, suc, ◌+◌, ◌≤◌, ◌<◌, List, [], ◌∷◌, ◌++◌, length, Option, Some, None, refl}
+use Rattle.std.proofs.Common.{ap, sym, subst, ◌∙◌, arith, length-append, append_assoc, append-nil, inl, inr}
 use Rattle.std.specs.Prelude.{slice_get, ◌⊎◌}
 use Rattle.std.proofs.lemmas.List.{length_push}
 use Rattle.ck_base.specs.declared.positions.Pos.{Pos}
@@ -12,14 +13,16 @@ use Rattle.c_parse.specs.Left.{Leaves}
 use Rattle.c_parse.specs.Checked.{HasRead, IsChecked}
 
 -- one token more was read
-pub read_more : (file : List ℕ) (i j : ℕ) (tokens : List Lexeme) (token : Lexeme) → HasRead file i tokens → NextToken file i token → j ≡ token.span.end → i < j → j ≤ length file →
+pub read_more : (file : List ℕ) (i j : ℕ) (tokens : List Lexeme) (token : Lexeme) → HasRead file i tokens →
+    NextToken file i token → j ≡ token.span.end → i < j → j ≤ length file →
     HasRead file j (tokens ++ token ∷ [])
 read_more file i j tokens token read next at forward within =
     let long = length-append tokens (token ∷ []) in
     record {
       few = omega (arith, read.few, forward, long);
       within = within;
-      reads = subst (λ v. Reads file 0 (tokens ++ token ∷ []) v) (sym at) (Reads-push file 0 tokens i token read.reads next);
+      reads = subst (λ v. Reads file 0 (tokens ++ token ∷ []) v) (sym at)
+          (Reads-push file 0 tokens i token read.reads next);
     }
 
 -- the place is that of one of these tokens
@@ -34,16 +37,20 @@ last_there [] token = refl
 last_there (t ∷ tokens) token = last_there tokens token
 
 -- a token that was just added stands there
-pub among_last : (tokens : List Lexeme) (token : Lexeme) (place : Pos) → place ≡ token.pos → IsAmong place (tokens ++ token ∷ [])
-among_last tokens token place same = record { k = length tokens; token = token; there = last_there tokens token; same = same }
+pub among_last : (tokens : List Lexeme) (token : Lexeme) (place : Pos) → place ≡ token.pos →
+    IsAmong place (tokens ++ token ∷ [])
+among_last tokens token place same =
+    record { k = length tokens; token = token; there = last_there tokens token; same = same }
 
-still_there : (tokens more : List Lexeme) (k : ℕ) (t : Lexeme) → slice_get tokens k ≡ Some t → slice_get (tokens ++ more) k ≡ Some t
+still_there : (tokens more : List Lexeme) (k : ℕ) (t : Lexeme) → slice_get tokens k ≡ Some t →
+    slice_get (tokens ++ more) k ≡ Some t
 still_there [] more k t there = cc
 still_there (x ∷ tokens) more zero t there = there
 still_there (x ∷ tokens) more (suc k) t there = still_there tokens more k t there
 
 -- tokens that follow change no place
-pub among_more : {place : Pos} {tokens : List Lexeme} (more : List Lexeme) → IsAmong place tokens → IsAmong place (tokens ++ more)
+pub among_more : {place : Pos} {tokens : List Lexeme} (more : List Lexeme) → IsAmong place tokens →
+    IsAmong place (tokens ++ more)
 among_more {place} {tokens} more among = record {
   k = among.k;
   token = among.token;
@@ -55,7 +62,8 @@ pub none_among : {place : Pos} {before : List Lexeme} → before ≡ [] → 0 < 
 none_among none some = let long = ap length none in absurd (omega (arith, some, long))
 
 -- the first of the tokens that are left goes to those that were passed
-pub passed : {all left : List Lexeme} (before : List Lexeme) (token : Lexeme) (rest : List Lexeme) → all ≡ before ++ left → left ≡ token ∷ rest → all ≡ (before ++ token ∷ []) ++ rest
+pub passed : {all left : List Lexeme} (before : List Lexeme) (token : Lexeme) (rest : List Lexeme) →
+    all ≡ before ++ left → left ≡ token ∷ rest → all ≡ (before ++ token ∷ []) ++ rest
 passed before token rest same first = same ∙ ap (λ v. before ++ v) first ∙ sym (append_assoc before (token ∷ []) rest)
 
 pub all_passed : {all left : List Lexeme} (before : List Lexeme) → all ≡ before ++ left → left ≡ [] → before ≡ all
@@ -65,6 +73,8 @@ pub place_of : (file : List ℕ) (all : List Lexeme) (place : Pos) → IsAmong p
 place_of file all place among = inl (among.k, among.token, among.there, among.same)
 
 -- the tokens that are left at the beginning
-pub checked_left : (tokens reader : Reader) → reader ≡ tokens → tokens.at ≡ 0 → (checked : IsChecked tokens.file) → Leaves reader.file reader.at checked.tokens
+pub checked_left : (tokens reader : Reader) → reader ≡ tokens → tokens.at ≡ 0 → (checked : IsChecked tokens.file) →
+    Leaves reader.file reader.at checked.tokens
 checked_left tokens reader same begins checked =
-    subst (λ (r : Reader). Leaves r.file r.at checked.tokens) (sym same) (subst (λ v. Leaves tokens.file v checked.tokens) (sym begins) ∣ checked.cut.lexes ∣₁)
+    subst (λ (r : Reader). Leaves r.file r.at checked.tokens) (sym same)
+    (subst (λ v. Leaves tokens.file v checked.tokens) (sym begins) ∣ checked.cut.lexes ∣₁)

@@ -16,11 +16,18 @@ use Rattle.c_parse.specs.Statements
 
 kind_at : ℕ → TokenKind
 unfolding is_nondigit
-kind_at b = if is_nondigit b then TokenKinds.Word else (if is_ascii_digit b then TokenKinds.Number else (if b == byte "'" then TokenKinds.Char else (if b == byte "\"" then TokenKinds.Text else TokenKinds.Punct)))
+kind_at b = if is_nondigit b then TokenKinds.Word
+    else (if is_ascii_digit b then TokenKinds.Number
+    else (if b == byte "'" then TokenKinds.Char else (if b == byte "\"" then TokenKinds.Text else TokenKinds.Punct)))
 
 token : List ℕ → List Lexeme
 token [] = []
-token (b ∷ bs) = record { kind = kind_at b; text = b ∷ bs; span = record { start = 0; end = 0 }; pos = record { line = 1; col = 1 } } ∷ []
+token (b ∷ bs) = record {
+  kind = kind_at b;
+  text = b ∷ bs;
+  span = record { start = 0; end = 0 };
+  pos = record { line = 1; col = 1 };
+} ∷ []
 
 -- the tokens between spaces
 split : List ℕ → List ℕ → List Lexeme
@@ -162,13 +169,52 @@ levels =
     (7, codes "int f ( void ) { if ( a ) if ( b ) c ; else ( d ) ; }") ∷ []
 
 accepted_are : list_all accepts accepted ≡ true
-unfolding kind_at token split is_tree accepts_at accepts refuses has_levels is_nondigit Reading.separated Reading.listed Reading.listed_in_braces Reading.members Reading.record_from Reading.enum_from Reading.specifier_list Reading.specifiers Reading.optional_declarator Reading.type_name Reading.in_parentheses Reading.cast_from Reading.prefix_from Reading.size_from Reading.measure_from Reading.operand Reading.index_from Reading.call_from Reading.select_from Reading.infix_from Reading.choice_from Reading.assign_from Reading.climb Reading.expression Reading.pointer_from Reading.enclosed_from Reading.core Reading.array_from Reading.function_from Reading.suffixes Reading.direct Reading.declarator Reading.parameter Reading.member Reading.enumerator Reading.braces_from Reading.initializer Reading.read Statements.initialize Statements.initialized Statements.declaration_behind Statements.declaration Statements.declare Statements.condition Statements.if_from Statements.while_from Statements.do_from Statements.optional Statements.for_behind Statements.for_from Statements.return_from Statements.jump_from Statements.expression_from Statements.items Statements.items_in_braces Statements.block_from Statements.switch_from Statements.statement Statements.state Statements.block Statements.definition_from Statements.external_behind Statements.external Statements.externals Statements.read_file Symbols.symbol_of Symbols.keyword_symbols Symbols.punctuator_symbols Tokens.keywords Grammar.predeclared
+unfolding kind_at token split is_tree accepts_at accepts refuses has_levels is_nondigit Reading.separated Reading.listed
+    Reading.listed_in_braces Reading.members Reading.record_from Reading.enum_from Reading.specifier_list
+    Reading.specifiers Reading.optional_declarator Reading.type_name Reading.in_parentheses Reading.cast_from
+    Reading.prefix_from Reading.size_from Reading.measure_from Reading.operand Reading.index_from Reading.call_from
+    Reading.select_from Reading.infix_from Reading.choice_from Reading.assign_from Reading.climb Reading.expression
+    Reading.pointer_from Reading.enclosed_from Reading.core Reading.array_from Reading.function_from Reading.suffixes
+    Reading.direct Reading.declarator Reading.parameter Reading.member Reading.enumerator Reading.braces_from
+    Reading.initializer Reading.read Statements.initialize Statements.initialized Statements.declaration_behind
+    Statements.declaration Statements.declare Statements.condition Statements.if_from Statements.while_from
+    Statements.do_from Statements.optional Statements.for_behind Statements.for_from Statements.return_from
+    Statements.jump_from Statements.expression_from Statements.items Statements.items_in_braces Statements.block_from
+    Statements.switch_from Statements.statement Statements.state Statements.block Statements.definition_from
+    Statements.external_behind Statements.external Statements.externals Statements.read_file Symbols.symbol_of
+    Symbols.keyword_symbols Symbols.punctuator_symbols Tokens.keywords Grammar.predeclared
 accepted_are = refl
 
 refused_are : list_all refuses refused ≡ true
-unfolding kind_at token split is_tree accepts_at accepts refuses has_levels is_nondigit Reading.separated Reading.listed Reading.listed_in_braces Reading.members Reading.record_from Reading.enum_from Reading.specifier_list Reading.specifiers Reading.optional_declarator Reading.type_name Reading.in_parentheses Reading.cast_from Reading.prefix_from Reading.size_from Reading.measure_from Reading.operand Reading.index_from Reading.call_from Reading.select_from Reading.infix_from Reading.choice_from Reading.assign_from Reading.climb Reading.expression Reading.pointer_from Reading.enclosed_from Reading.core Reading.array_from Reading.function_from Reading.suffixes Reading.direct Reading.declarator Reading.parameter Reading.member Reading.enumerator Reading.braces_from Reading.initializer Reading.read Statements.initialize Statements.initialized Statements.declaration_behind Statements.declaration Statements.declare Statements.condition Statements.if_from Statements.while_from Statements.do_from Statements.optional Statements.for_behind Statements.for_from Statements.return_from Statements.jump_from Statements.expression_from Statements.items Statements.items_in_braces Statements.block_from Statements.switch_from Statements.statement Statements.state Statements.block Statements.definition_from Statements.external_behind Statements.external Statements.externals Statements.read_file Symbols.symbol_of Symbols.keyword_symbols Symbols.punctuator_symbols Tokens.keywords Grammar.predeclared
+unfolding kind_at token split is_tree accepts_at accepts refuses has_levels is_nondigit Reading.separated Reading.listed
+    Reading.listed_in_braces Reading.members Reading.record_from Reading.enum_from Reading.specifier_list
+    Reading.specifiers Reading.optional_declarator Reading.type_name Reading.in_parentheses Reading.cast_from
+    Reading.prefix_from Reading.size_from Reading.measure_from Reading.operand Reading.index_from Reading.call_from
+    Reading.select_from Reading.infix_from Reading.choice_from Reading.assign_from Reading.climb Reading.expression
+    Reading.pointer_from Reading.enclosed_from Reading.core Reading.array_from Reading.function_from Reading.suffixes
+    Reading.direct Reading.declarator Reading.parameter Reading.member Reading.enumerator Reading.braces_from
+    Reading.initializer Reading.read Statements.initialize Statements.initialized Statements.declaration_behind
+    Statements.declaration Statements.declare Statements.condition Statements.if_from Statements.while_from
+    Statements.do_from Statements.optional Statements.for_behind Statements.for_from Statements.return_from
+    Statements.jump_from Statements.expression_from Statements.items Statements.items_in_braces Statements.block_from
+    Statements.switch_from Statements.statement Statements.state Statements.block Statements.definition_from
+    Statements.external_behind Statements.external Statements.externals Statements.read_file Symbols.symbol_of
+    Symbols.keyword_symbols Symbols.punctuator_symbols Tokens.keywords Grammar.predeclared
 refused_are = refl
 
 levels_are : list_all has_levels levels ≡ true
-unfolding kind_at token split is_tree accepts_at accepts refuses has_levels is_nondigit Reading.separated Reading.listed Reading.listed_in_braces Reading.members Reading.record_from Reading.enum_from Reading.specifier_list Reading.specifiers Reading.optional_declarator Reading.type_name Reading.in_parentheses Reading.cast_from Reading.prefix_from Reading.size_from Reading.measure_from Reading.operand Reading.index_from Reading.call_from Reading.select_from Reading.infix_from Reading.choice_from Reading.assign_from Reading.climb Reading.expression Reading.pointer_from Reading.enclosed_from Reading.core Reading.array_from Reading.function_from Reading.suffixes Reading.direct Reading.declarator Reading.parameter Reading.member Reading.enumerator Reading.braces_from Reading.initializer Reading.read Statements.initialize Statements.initialized Statements.declaration_behind Statements.declaration Statements.declare Statements.condition Statements.if_from Statements.while_from Statements.do_from Statements.optional Statements.for_behind Statements.for_from Statements.return_from Statements.jump_from Statements.expression_from Statements.items Statements.items_in_braces Statements.block_from Statements.switch_from Statements.statement Statements.state Statements.block Statements.definition_from Statements.external_behind Statements.external Statements.externals Statements.read_file Symbols.symbol_of Symbols.keyword_symbols Symbols.punctuator_symbols Tokens.keywords Grammar.predeclared
+unfolding kind_at token split is_tree accepts_at accepts refuses has_levels is_nondigit Reading.separated Reading.listed
+    Reading.listed_in_braces Reading.members Reading.record_from Reading.enum_from Reading.specifier_list
+    Reading.specifiers Reading.optional_declarator Reading.type_name Reading.in_parentheses Reading.cast_from
+    Reading.prefix_from Reading.size_from Reading.measure_from Reading.operand Reading.index_from Reading.call_from
+    Reading.select_from Reading.infix_from Reading.choice_from Reading.assign_from Reading.climb Reading.expression
+    Reading.pointer_from Reading.enclosed_from Reading.core Reading.array_from Reading.function_from Reading.suffixes
+    Reading.direct Reading.declarator Reading.parameter Reading.member Reading.enumerator Reading.braces_from
+    Reading.initializer Reading.read Statements.initialize Statements.initialized Statements.declaration_behind
+    Statements.declaration Statements.declare Statements.condition Statements.if_from Statements.while_from
+    Statements.do_from Statements.optional Statements.for_behind Statements.for_from Statements.return_from
+    Statements.jump_from Statements.expression_from Statements.items Statements.items_in_braces Statements.block_from
+    Statements.switch_from Statements.statement Statements.state Statements.block Statements.definition_from
+    Statements.external_behind Statements.external Statements.externals Statements.read_file Symbols.symbol_of
+    Symbols.keyword_symbols Symbols.punctuator_symbols Tokens.keywords Grammar.predeclared
 levels_are = refl

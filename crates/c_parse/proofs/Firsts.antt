@@ -1,5 +1,6 @@
 -- With which tokens phrases begin, and at which they stop.
-use Rattle.std.proofs.Common.{◌≡◌, ℕ, suc, ◌+◌, ◌≤◌, Bool, true, false, List, [], ◌∷◌, ◌++◌, ◌⊎◌, inl, inr, refl, ap, sym, ◌∙◌, arith, append_assoc}
+use Rattle.std.proofs.Common.{◌≡◌, ℕ, suc, ◌+◌, ◌≤◌, Bool, true, false, List, [], ◌∷◌, ◌++◌, ◌⊎◌, inl, inr, refl, ap}
+use Rattle.std.proofs.Common.{sym, ◌∙◌, arith, append_assoc}
 use Rattle.std.specs.Prelude.{if◌then◌else◌, nat_le, ◌&&◌, ◌||◌, not, ◌==◌}
 use Rattle.std.proofs.lemmas.Bool.{eqb-true}
 use Rattle.ck_base.specs.Tokens.{Lexeme, is_among}
@@ -20,8 +21,14 @@ use Rattle.c_tree.specs.declared.syntax.NodeKind.TheVariants as Kinds
 use Rattle.c_tree.specs.Syntax.{Syn, Syns, node, nil, more, one}
 use Rattle.c_tree.specs.Symbols.{symbol, head_of, tail_of, infix_level, operand_level}
 use Rattle.c_tree.specs.Grammar
-use Rattle.c_tree.specs.Grammar.{is_word, is_typedef_name, Naming, Plain, Any, Nameless, Either, is_declared_by, may_be_nameless, names_type, has_any, is_agreed, names_a_type, begins_with_typedef_name, may_follow, is_typedef_node, count, Goal, Expression, Piece, TypeName, Specifiers, Specifier, Member, Enumerator, Qualifier, Declarator, Parameter, Initializer, Derives, Declares, Repeated, Separated, Listed}
-use Rattle.c_parse.specs.Reading.{Names, is_open_parenthesis, is_close_parenthesis, is_close_bracket, is_open_brace, is_close_brace, is_semicolon, is_star, is_text, begins_specifier, begins_declarator, starts_with, starts, begins_type, goes_on_specifying, opens_type, level, goes_on}
+use Rattle.c_tree.specs.Grammar.{is_word, is_typedef_name, Naming, Plain, Any, Nameless, Either, is_declared_by}
+use Rattle.c_tree.specs.Grammar.{may_be_nameless, names_type, has_any, is_agreed, names_a_type}
+use Rattle.c_tree.specs.Grammar.{begins_with_typedef_name, may_follow, is_typedef_node, count, Goal, Expression, Piece}
+use Rattle.c_tree.specs.Grammar.{TypeName, Specifiers, Specifier, Member, Enumerator, Qualifier, Declarator, Parameter}
+use Rattle.c_tree.specs.Grammar.{Initializer, Derives, Declares, Repeated, Separated, Listed}
+use Rattle.c_parse.specs.Reading.{Names, is_open_parenthesis, is_close_parenthesis, is_close_bracket, is_open_brace}
+use Rattle.c_parse.specs.Reading.{is_close_brace, is_semicolon, is_star, is_text, begins_specifier, begins_declarator}
+use Rattle.c_parse.specs.Reading.{starts_with, starts, begins_type, goes_on_specifying, opens_type, level, goes_on}
 use Rattle.c_parse.proofs.Tools.{both_true, both_false, le_of, shut_le, behind}
 use Rattle.c_parse.proofs.Symbols.{word_is}
 use Rattle.c_parse.proofs.Sound.{infix_low, level_low}
@@ -137,7 +144,8 @@ prefix_low _ = omega arith
 
 edges : (x : Syn) → Edges x
 edges (node (Kinds.Infix p) t xs) = middle (infix_low p) refl
-edges (node (Kinds.Prefix p) t xs) = let k = prefix_low p in tight (omega arith) (omega arith) (prefix_high p) (omega arith)
+edges (node (Kinds.Prefix p) t xs) =
+    let k = prefix_low p in tight (omega arith) (omega arith) (prefix_high p) (omega arith)
 edges (node Kinds.SizeofExpression t xs) = tight (omega arith) (omega arith) (omega arith) (omega arith)
 edges (node Kinds.SizeofType t xs) = tight (omega arith) (omega arith) (omega arith) (omega arith)
 edges (node Kinds.Cast t xs) = tight (omega arith) (omega arith) (omega arith) (omega arith)
@@ -154,13 +162,36 @@ joins_infix x p le gap low =
       | whole e f ↦ omega arith
     ]
 
-joins_at : (x : Syn) (p k : ℕ) → p ≤ level x → ((p ≡ 3) × (k ≡ 3)) ⊎ (((p ≡ 14) × (k ≡ 2)) ⊎ ((p ≡ 15) × (k ≡ 16))) → k ≤ edge x
-joins_at x p k le (inl a) = elim (edges x) [ loose e f g i ↦ omega arith | middle e f ↦ omega arith | tight e f g i ↦ omega arith | whole e f ↦ omega arith ]
-joins_at x p k le (inr (inl a)) = elim (edges x) [ loose e f g i ↦ omega arith | middle e f ↦ omega arith | tight e f g i ↦ omega arith | whole e f ↦ omega arith ]
-joins_at x p k le (inr (inr a)) = elim (edges x) [ loose e f g i ↦ omega arith | middle e f ↦ omega arith | tight e f g i ↦ omega arith | whole e f ↦ omega arith ]
+joins_at : (x : Syn) (p k : ℕ) → p ≤ level x → ((p ≡ 3) × (k ≡ 3)) ⊎ (((p ≡ 14) × (k ≡ 2)) ⊎ ((p ≡ 15) × (k ≡ 16))) →
+    k ≤ edge x
+joins_at x p k le (inl a) =
+    elim (edges x) [
+      | loose e f g i ↦ omega arith
+      | middle e f ↦ omega arith
+      | tight e f g i ↦ omega arith
+      | whole e f ↦
+          omega arith
+    ]
+joins_at x p k le (inr (inl a)) =
+    elim (edges x) [
+      | loose e f g i ↦ omega arith
+      | middle e f ↦ omega arith
+      | tight e f g i ↦ omega arith
+      | whole e f ↦
+          omega arith
+    ]
+joins_at x p k le (inr (inr a)) =
+    elim (edges x) [
+      | loose e f g i ↦ omega arith
+      | middle e f ↦ omega arith
+      | tight e f g i ↦ omega arith
+      | whole e f ↦
+          omega arith
+    ]
 
 joins_by : (x : Syn) (k : Tail) (l : ℕ) → goes_on k l (level x) ≡ true → pull_by k ≤ edge x
-joins_by x (Tails.Joins p) l on = joins_infix x (infix_level p) (le_of _ _ (both_true _ _ on).1) (infix_gap p) (infix_low p)
+joins_by x (Tails.Joins p) l on =
+    joins_infix x (infix_level p) (le_of _ _ (both_true _ _ on).1) (infix_gap p) (infix_low p)
 joins_by x Tails.Asks l on = joins_at x 3 3 (le_of _ _ (both_true _ _ on).1) (inl (refl, refl))
 joins_by x (Tails.Assigns p) l on = joins_at x 14 2 (le_of _ _ (both_true _ _ on).1) (inr (inl (refl, refl)))
 joins_by x Tails.Ends l on = omega arith
@@ -174,10 +205,21 @@ joins x s l on = let k = joins_by x (tail_of s) l on in let e = pull_is s l (lev
 pub stops_edge : (x : Syn) (s : Symbol) (l : ℕ) → l ≤ level x → pull s ≤ l → pull s ≤ edge x
 stops_edge x s l le e =
     let k : pull s ≤ 13 = pull_gap s (let t = level_low x in omega arith) in
-    elim (edges x) [ loose a b c d ↦ omega arith | middle a b ↦ omega arith | tight a b c d ↦ omega arith | whole a b ↦ omega arith ]
+    elim (edges x) [
+      | loose a b c d ↦ omega arith
+      | middle a b ↦ omega arith
+      | tight a b c d ↦ omega arith
+      | whole a b ↦
+          omega arith
+    ]
 
 pub edge_low : (x : Syn) → edge x ≤ 16
-edge_low x = elim (edges x) [ loose a b c d ↦ omega arith | middle a b ↦ omega arith | tight a b c d ↦ omega arith | whole a b ↦ omega arith ]
+edge_low x = elim (edges x) [
+  | loose a b c d ↦ omega arith
+  | middle a b ↦ omega arith
+  | tight a b c d ↦ omega arith
+  | whole a b ↦ omega arith
+]
 
 stops_by : (k : Tail) (l m : ℕ) → l ≤ 15 → pull_by k ≤ l → goes_on k l m ≡ false
 stops_by (Tails.Joins p) l m le e = ap (λ v. v && nat_le (infix_level p) m) (shut_le l (infix_level p) (omega arith))
@@ -212,10 +254,12 @@ head_begins _ named = true
 abbrev pub begins_expression : Names → Lexeme → Bool
 begins_expression types t = head_begins (head_of (symbol t)) (is_typedef_name types t)
 
-headed : (types : Names) (t : Lexeme) (k : Head) → head_of (symbol t) ≡ k → head_begins k (is_typedef_name types t) ≡ true → begins_expression types t ≡ true
+headed : (types : Names) (t : Lexeme) (k : Head) → head_of (symbol t) ≡ k →
+    head_begins k (is_typedef_name types t) ≡ true → begins_expression types t ≡ true
 headed types t k e f = ap (λ k. head_begins k (is_typedef_name types t)) e ∙ f
 
-pub first : {types : Names} {l : ℕ} {a : List Lexeme} {x : Syn} → Derives types (Expression l) a x → (r : List Lexeme) → starts_with (begins_expression types) (a ++ r) ≡ true
+pub first : {types : Names} {l : ℕ} {a : List Lexeme} {x : Syn} → Derives types (Expression l) a x → (r : List Lexeme) →
+    starts_with (begins_expression types) (a ++ r) ≡ true
 first {types} (Grammar.name t p q e) r = headed types t _ q (ap not e)
 first {types} (Grammar.number t p q) r = headed types t _ q refl
 first {types} (Grammar.character t p q) r = headed types t _ q refl
@@ -234,7 +278,8 @@ first {types} (Grammar.conditional o m a b c p q e d f g) r = rw (behind a (b ++
 first {types} (Grammar.assignment o a b p q d e) r = rw (behind a b r o) (first d _)
 
 -- what begins an expression begins no type, no closing bracket and no statement
-no_type : (s : Symbol) (d : Bool) → head_begins (head_of s) (is_word s && d) ≡ true → (begins_specifier s || (is_word s && d)) ≡ false
+no_type : (s : Symbol) (d : Bool) → head_begins (head_of s) (is_word s && d) ≡ true →
+    (begins_specifier s || (is_word s && d)) ≡ false
 no_type Symbols.Word true e = cc
 no_type Symbols.Word false e = refl
 no_type (Symbols.Specifier w) d e = cc
@@ -242,7 +287,8 @@ no_type (Symbols.Record k) d e = cc
 no_type Symbols.Enum d e = cc
 no_type _ d e = refl
 
-pub expression_no_type : (types : Names) (ts : List Lexeme) → starts_with (begins_expression types) ts ≡ true → starts_with (begins_type types) ts ≡ false
+pub expression_no_type : (types : Names) (ts : List Lexeme) → starts_with (begins_expression types) ts ≡ true →
+    starts_with (begins_type types) ts ≡ false
 expression_no_type types [] e = cc
 expression_no_type types (t ∷ ts) e = no_type (symbol t) (is_among types t.text) e
 
@@ -266,12 +312,14 @@ no_end Symbols.Else d e = cc
 no_end Symbols.OpenBrace d e = cc
 no_end _ d e = refl
 
-pub expression_no_end : (types : Names) (ts : List Lexeme) → starts_with (begins_expression types) ts ≡ true → starts is_end ts ≡ false
+pub expression_no_end : (types : Names) (ts : List Lexeme) → starts_with (begins_expression types) ts ≡ true →
+    starts is_end ts ≡ false
 expression_no_end types [] e = cc
 expression_no_end types (t ∷ ts) e = no_end (symbol t) (is_typedef_name types t) e
 
 -- what no end is, no such bracket is
-pub not_end : (test : Symbol → Bool) → ((s : Symbol) → is_end s ≡ false → test s ≡ false) → (ts : List Lexeme) → starts is_end ts ≡ false → starts test ts ≡ false
+pub not_end : (test : Symbol → Bool) → ((s : Symbol) → is_end s ≡ false → test s ≡ false) → (ts : List Lexeme) →
+    starts is_end ts ≡ false → starts test ts ≡ false
 not_end test shut [] e = refl
 not_end test shut (t ∷ ts) e = shut (symbol t) e
 
@@ -300,29 +348,35 @@ and_shut : (a b : Bool) → b ≡ false → (a && b) ≡ false
 and_shut true b e = e
 and_shut false b e = refl
 
-no_opens : (t : Lexeme) (k : Head) → head_of (symbol t) ≡ k → (k ≡ Heads.Opens → ⊥) → is_open_parenthesis (symbol t) ≡ false
+no_opens : (t : Lexeme) (k : Head) → head_of (symbol t) ≡ k → (k ≡ Heads.Opens → ⊥) →
+    is_open_parenthesis (symbol t) ≡ false
 no_opens t k e other = by (symbol t) (λ f. other (sym e ∙ f))
   where
     by : (s : Symbol) → (head_of s ≡ Heads.Opens → ⊥) → is_open_parenthesis s ≡ false
     by Symbols.OpenParenthesis f = absurd (f refl)
     by _ f = refl
 
-no_bracket : (types : Names) (t : Lexeme) (ts : List Lexeme) → is_open_parenthesis (symbol t) ≡ false → opens_type types (t ∷ ts) ≡ false
+no_bracket : (types : Names) (t : Lexeme) (ts : List Lexeme) → is_open_parenthesis (symbol t) ≡ false →
+    opens_type types (t ∷ ts) ≡ false
 no_bracket types t ts e = ap (λ v. v && starts_with (begins_type types) ts) e
 
-pub no_cast : {types : Names} {l : ℕ} {a : List Lexeme} {x : Syn} → Derives types (Expression l) a x → 14 ≤ l → (r : List Lexeme) → opens_type types (a ++ r) ≡ false
+pub no_cast : {types : Names} {l : ℕ} {a : List Lexeme} {x : Syn} → Derives types (Expression l) a x → 14 ≤ l →
+    (r : List Lexeme) → opens_type types (a ++ r) ≡ false
 no_cast {types} (Grammar.name t p q e) le r = no_bracket types t _ (no_opens t _ q (λ f. cc))
 no_cast {types} (Grammar.number t p q) le r = no_bracket types t _ (no_opens t _ q (λ f. cc))
 no_cast {types} (Grammar.character t p q) le r = no_bracket types t _ (no_opens t _ q (λ f. cc))
 no_cast {types} (Grammar.text t a p q d) le r = no_bracket types t _ (no_opens t _ q (λ f. cc))
-no_cast {types} (Grammar.parenthesized o c a p q e d) le r = and_shut (is_open_parenthesis (symbol o)) _ (rw (behind a [] r c) (expression_no_type types (a ++ (c ∷ r)) (first d (c ∷ r))))
+no_cast {types} (Grammar.parenthesized o c a p q e d) le r =
+    and_shut (is_open_parenthesis (symbol o)) _
+    (rw (behind a [] r c) (expression_no_type types (a ++ (c ∷ r)) (first d (c ∷ r))))
 no_cast {types} (Grammar.index o c a b p q e d f) le r = rw (behind a (b ++ (c ∷ [])) r o) (no_cast d (omega arith) _)
 no_cast {types} (Grammar.call o c a b p q e d f) le r = rw (behind a (b ++ (c ∷ [])) r o) (no_cast d (omega arith) _)
 no_cast {types} (Grammar.select o n a p q e d) le r = rw (behind a (n ∷ []) r o) (no_cast d (omega arith) _)
 no_cast {types} (Grammar.postfix o a p q d) le r = rw (behind a [] r o) (no_cast d (omega arith) _)
 no_cast {types} (Grammar.prefix o a p q d) le r = no_bracket types o _ (no_opens o _ q (λ f. cc))
 no_cast {types} (Grammar.sizeof_expression o a p q d) le r = no_bracket types o _ (no_opens o _ q (λ f. cc))
-no_cast {types} (Grammar.sizeof_type o b c a p q e f d) le r = no_bracket types o (b ∷ ((a ++ (c ∷ [])) ++ r)) (no_opens o _ q (λ f. cc))
+no_cast {types} (Grammar.sizeof_type o b c a p q e f d) le r =
+    no_bracket types o (b ∷ ((a ++ (c ∷ [])) ++ r)) (no_opens o _ q (λ f. cc))
 no_cast {types} (Grammar.cast o c a b p q e d f) le r = absurd (omega arith)
 no_cast {types} (Grammar.binary {p = p} o a b q e d f) le r = let k = infix_low p in absurd (omega arith)
 no_cast {types} (Grammar.conditional o m a b c p q e d f g) le r = absurd (omega arith)
@@ -330,14 +384,17 @@ no_cast {types} (Grammar.assignment o a b p q d e) le r = absurd (omega arith)
 
 -- Firsts of the other phrases
 
-pub begins_type_by : (types : Names) (t : Lexeme) (s : Symbol) → symbol t ≡ s → begins_specifier s ≡ true → begins_type types t ≡ true
-begins_type_by types t s e f = ap (λ v. begins_specifier v || is_typedef_name types t) e ∙ ap (λ v. v || is_typedef_name types t) f
+pub begins_type_by : (types : Names) (t : Lexeme) (s : Symbol) → symbol t ≡ s → begins_specifier s ≡ true →
+    begins_type types t ≡ true
+begins_type_by types t s e f =
+    ap (λ v. begins_specifier v || is_typedef_name types t) e ∙ ap (λ v. v || is_typedef_name types t) f
 
 or_true : (a b : Bool) → b ≡ true → (a || b) ≡ true
 or_true true b e = refl
 or_true false b e = e
 
-pub first_specifier : {types : Names} {a : List Lexeme} {x : Syn} → Derives types Specifier a x → (r : List Lexeme) → starts_with (begins_type types) (a ++ r) ≡ true
+pub first_specifier : {types : Names} {a : List Lexeme} {x : Syn} → Derives types Specifier a x → (r : List Lexeme) →
+    starts_with (begins_type types) (a ++ r) ≡ true
 first_specifier {types} (Grammar.specifier_word t e) r = begins_type_by types t _ e refl
 first_specifier {types} (Grammar.typedef_name t e) r = or_true (begins_specifier (symbol t)) _ e
 first_specifier {types} (Grammar.record_tag t n e f) r = begins_type_by types t _ e refl
@@ -345,17 +402,23 @@ first_specifier {types} (Grammar.record_members t o c n a e g p q d) r = begins_
 first_specifier {types} (Grammar.enum_tag t n e f) r = begins_type_by types t _ e refl
 first_specifier {types} (Grammar.enum_list t o c n a b e g p q d f) r = begins_type_by types t _ e refl
 
-pub first_specifiers : {types : Names} {a : List Lexeme} {x : Syn} → Derives types Specifiers a x → (r : List Lexeme) → starts_with (begins_type types) (a ++ r) ≡ true
-first_specifiers {types} (Grammar.specifiers a (Grammar.repeated b c d ds) e) r = rw (append_assoc b c r) (first_specifier d (c ++ r))
+pub first_specifiers : {types : Names} {a : List Lexeme} {x : Syn} → Derives types Specifiers a x → (r : List Lexeme) →
+    starts_with (begins_type types) (a ++ r) ≡ true
+first_specifiers {types} (Grammar.specifiers a (Grammar.repeated b c d ds) e) r =
+    rw (append_assoc b c r) (first_specifier d (c ++ r))
 
-pub first_type_name : {types : Names} {a : List Lexeme} {x : Syn} → Derives types TypeName a x → (r : List Lexeme) → starts_with (begins_type types) (a ++ r) ≡ true
+pub first_type_name : {types : Names} {a : List Lexeme} {x : Syn} → Derives types TypeName a x → (r : List Lexeme) →
+    starts_with (begins_type types) (a ++ r) ≡ true
 first_type_name (Grammar.type_name a b d e) r = rw (append_assoc a b r) (first_specifiers d (b ++ r))
 
-pub first_parameter : {types : Names} {a : List Lexeme} {x : Syn} → Derives types Parameter a x → (r : List Lexeme) → starts_with (begins_type types) (a ++ r) ≡ true
+pub first_parameter : {types : Names} {a : List Lexeme} {x : Syn} → Derives types Parameter a x → (r : List Lexeme) →
+    starts_with (begins_type types) (a ++ r) ≡ true
 first_parameter (Grammar.parameter a b d e) r = rw (append_assoc a b r) (first_specifiers d (b ++ r))
 
-pub first_member : {types : Names} {a : List Lexeme} {x : Syn} → Derives types Member a x → (r : List Lexeme) → starts_with (begins_type types) (a ++ r) ≡ true
-first_member (Grammar.member c a b e d f g) r = rw (append_assoc a (b ++ (c ∷ [])) r) (first_specifiers d ((b ++ (c ∷ [])) ++ r))
+pub first_member : {types : Names} {a : List Lexeme} {x : Syn} → Derives types Member a x → (r : List Lexeme) →
+    starts_with (begins_type types) (a ++ r) ≡ true
+first_member (Grammar.member c a b e d f g) r =
+    rw (append_assoc a (b ++ (c ∷ [])) r) (first_specifiers d ((b ++ (c ∷ [])) ++ r))
 
 type_no_end : (s : Symbol) (d : Bool) → (begins_specifier s || (is_word s && d)) ≡ true → is_end s ≡ false
 type_no_end Symbols.CloseParenthesis d e = cc
@@ -366,11 +429,13 @@ type_no_end Symbols.Else d e = cc
 type_no_end Symbols.OpenBrace d e = cc
 type_no_end _ d e = refl
 
-pub types_no_end : (types : Names) (ts : List Lexeme) → starts_with (begins_type types) ts ≡ true → starts is_end ts ≡ false
+pub types_no_end : (types : Names) (ts : List Lexeme) → starts_with (begins_type types) ts ≡ true →
+    starts is_end ts ≡ false
 types_no_end types [] e = cc
 types_no_end types (t ∷ ts) e = type_no_end (symbol t) (is_among types t.text) e
 
-pub first_enumerator : {types : Names} {a : List Lexeme} {x : Syn} → Derives types Enumerator a x → (r : List Lexeme) → starts is_word (a ++ r) ≡ true
+pub first_enumerator : {types : Names} {a : List Lexeme} {x : Syn} → Derives types Enumerator a x → (r : List Lexeme) →
+    starts is_word (a ++ r) ≡ true
 first_enumerator (Grammar.enumerator n e) r = (both_true _ _ e).0
 first_enumerator (Grammar.enumerator_value n e a f g d) r = (both_true _ _ f).0
 
@@ -378,10 +443,12 @@ first_enumerator (Grammar.enumerator_value n e a f g d) r = (both_true _ _ f).0
 abbrev pub begins_initializer : Names → Lexeme → Bool
 begins_initializer types t = is_open_brace (symbol t) || begins_expression types t
 
-pub first_initializer : {types : Names} {a : List Lexeme} {x : Syn} → Derives types Initializer a x → (r : List Lexeme) → starts_with (begins_initializer types) (a ++ r) ≡ true
+pub first_initializer : {types : Names} {a : List Lexeme} {x : Syn} → Derives types Initializer a x →
+    (r : List Lexeme) → starts_with (begins_initializer types) (a ++ r) ≡ true
 first_initializer {types} (Grammar.plain_initializer a d) r = by (a ++ r) (first d r)
   where
-    by : (ts : List Lexeme) → starts_with (begins_expression types) ts ≡ true → starts_with (begins_initializer types) ts ≡ true
+    by : (ts : List Lexeme) → starts_with (begins_expression types) ts ≡ true →
+        starts_with (begins_initializer types) ts ≡ true
     by [] e = cc
     by (t ∷ ts) e = or_true (is_open_brace (symbol t)) _ e
 first_initializer {types} (Grammar.empty_braces o c e f) r = ap (λ s. is_open_brace s || begins_expression types o) e
@@ -406,12 +473,14 @@ pub words_no_close : (ts : List Lexeme) → starts is_word ts ≡ true → start
 words_no_close [] e = cc
 words_no_close (t ∷ ts) e = word_no_close (symbol t) e
 
-initializer_no_close : (s : Symbol) (d : Bool) → (is_open_brace s || head_begins (head_of s) d) ≡ true → is_close s ≡ false
+initializer_no_close : (s : Symbol) (d : Bool) → (is_open_brace s || head_begins (head_of s) d) ≡ true →
+    is_close s ≡ false
 initializer_no_close Symbols.CloseParenthesis d e = cc
 initializer_no_close Symbols.CloseBrace d e = cc
 initializer_no_close _ d e = refl
 
-pub initializers_no_close : (types : Names) (ts : List Lexeme) → starts_with (begins_initializer types) ts ≡ true → starts is_close ts ≡ false
+pub initializers_no_close : (types : Names) (ts : List Lexeme) → starts_with (begins_initializer types) ts ≡ true →
+    starts is_close ts ≡ false
 initializers_no_close types [] e = cc
 initializers_no_close types (t ∷ ts) e = initializer_no_close (symbol t) (is_typedef_name types t) e
 
@@ -429,13 +498,18 @@ is_plain _ types t = not (is_typedef_name types t)
 -- A declarator is nothing, or begins with a token that is no specifier.
 pub data Leading (types : Names) (m : Naming) (starred : Bool) : List Lexeme → Syns → Type 0 where
   no_token : may_be_nameless m ≡ true → Leading types m starred [] nil
-  leading : (t : Lexeme) (a : List Lexeme) {xs : Syns} → begins_declarator (symbol t) ≡ true → is_plain m types t ≡ true → (is_star (symbol t) && not starred) ≡ false → Leading types m starred (t ∷ a) xs
+  leading : (t : Lexeme) (a : List Lexeme) {xs : Syns} → begins_declarator (symbol t) ≡ true →
+      is_plain m types t ≡ true → (is_star (symbol t) && not starred) ≡ false → Leading types m starred (t ∷ a) xs
 
-plain_by : (m : Naming) (types : Names) (t : Lexeme) (s : Symbol) → symbol t ≡ s → is_word s ≡ false → is_plain m types t ≡ true
-plain_by Plain types t s e f = ap (λ v. not (is_word v && is_among types t.text)) e ∙ ap (λ v. not (v && is_among types t.text)) f
+plain_by : (m : Naming) (types : Names) (t : Lexeme) (s : Symbol) → symbol t ≡ s → is_word s ≡ false →
+    is_plain m types t ≡ true
+plain_by Plain types t s e f =
+    ap (λ v. not (is_word v && is_among types t.text)) e ∙ ap (λ v. not (v && is_among types t.text)) f
 plain_by Any types t s e f = refl
-plain_by Nameless types t s e f = ap (λ v. not (is_word v && is_among types t.text)) e ∙ ap (λ v. not (v && is_among types t.text)) f
-plain_by Either types t s e f = ap (λ v. not (is_word v && is_among types t.text)) e ∙ ap (λ v. not (v && is_among types t.text)) f
+plain_by Nameless types t s e f =
+    ap (λ v. not (is_word v && is_among types t.text)) e ∙ ap (λ v. not (v && is_among types t.text)) f
+plain_by Either types t s e f =
+    ap (λ v. not (is_word v && is_among types t.text)) e ∙ ap (λ v. not (v && is_among types t.text)) f
 
 plain_declared : (m : Naming) (types : Names) (t : Lexeme) → is_declared_by m types t ≡ true → is_plain m types t ≡ true
 plain_declared Plain types t e = (both_true _ _ e).1
@@ -443,14 +517,17 @@ plain_declared Any types t e = refl
 plain_declared Nameless types t e = cc
 plain_declared Either types t e = (both_true _ _ e).1
 
-pub declared_word : (m : Naming) (types : Names) (t : Lexeme) → is_declared_by m types t ≡ true → is_word (symbol t) ≡ true
+pub declared_word : (m : Naming) (types : Names) (t : Lexeme) → is_declared_by m types t ≡ true →
+    is_word (symbol t) ≡ true
 declared_word Plain types t e = (both_true _ _ e).0
 declared_word Any types t e = e
 declared_word Nameless types t e = cc
 declared_word Either types t e = (both_true _ _ e).0
 
 -- what stands before a suffix, or the suffix itself
-leads : {types : Names} {m : Naming} {starred : Bool} {a : List Lexeme} {xs : Syns} → Leading types m false a xs → (o : Lexeme) (b : List Lexeme) (ys : Syns) → begins_declarator (symbol o) ≡ true → is_plain m types o ≡ true → is_star (symbol o) ≡ false → Leading types m starred (a ++ (o ∷ b)) ys
+leads : {types : Names} {m : Naming} {starred : Bool} {a : List Lexeme} {xs : Syns} → Leading types m false a xs →
+    (o : Lexeme) (b : List Lexeme) (ys : Syns) → begins_declarator (symbol o) ≡ true → is_plain m types o ≡ true →
+    is_star (symbol o) ≡ false → Leading types m starred (a ++ (o ∷ b)) ys
 leads {types} {m} {starred} (no_token n) o b ys e p s = leading o b e p (ap (λ v. v && not starred) s)
 leads {types} {m} {starred} (leading t a e p s) o b ys f q u = leading t (a ++ (o ∷ b)) e p (by (is_star (symbol t)) s)
   where
@@ -458,23 +535,31 @@ leads {types} {m} {starred} (leading t a e p s) o b ys f q u = leading t (a ++ (
     by true e = cc
     by false e = refl
 
-pub lead : {types : Names} {m : Naming} {starred : Bool} {a : List Lexeme} {xs : Syns} → Declares types m starred a xs → Leading types m starred a xs
+pub lead : {types : Names} {m : Naming} {starred : Bool} {a : List Lexeme} {xs : Syns} → Declares types m starred a xs →
+    Leading types m starred a xs
 lead (Grammar.empty e) = no_token e
 lead {types} {m} {starred} (Grammar.declared n e) =
     let w = word_is (symbol n) (declared_word m types n e) in
     leading n [] (ap begins_declarator w) (plain_declared m types n e) (ap (λ s. is_star s && not starred) w)
-lead {types} {m} {starred} (Grammar.enclosed o c a p q d) = leading o (a ++ (c ∷ [])) (ap begins_declarator p) (plain_by m types o _ p refl) (ap (λ s. is_star s && not starred) p)
-lead {types} {m} (Grammar.open_array o c a p q d) = leads (lead d) o (c ∷ []) _ (ap begins_declarator p) (plain_by m types o _ p refl) (ap is_star p)
-lead {types} {m} (Grammar.array o c a b p q d e) = leads (lead d) o (b ++ (c ∷ [])) _ (ap begins_declarator p) (plain_by m types o _ p refl) (ap is_star p)
-lead {types} {m} (Grammar.function o c a b p q d e) = leads (lead d) o (b ++ (c ∷ [])) _ (ap begins_declarator p) (plain_by m types o _ p refl) (ap is_star p)
-lead {types} {m} (Grammar.pointer o a b p q d) = leading o (a ++ b) (ap begins_declarator p) (plain_by m types o _ p refl) (and_shut (is_star (symbol o)) _ refl)
+lead {types} {m} {starred} (Grammar.enclosed o c a p q d) =
+    leading o (a ++ (c ∷ [])) (ap begins_declarator p) (plain_by m types o _ p refl)
+    (ap (λ s. is_star s && not starred) p)
+lead {types} {m} (Grammar.open_array o c a p q d) =
+    leads (lead d) o (c ∷ []) _ (ap begins_declarator p) (plain_by m types o _ p refl) (ap is_star p)
+lead {types} {m} (Grammar.array o c a b p q d e) =
+    leads (lead d) o (b ++ (c ∷ [])) _ (ap begins_declarator p) (plain_by m types o _ p refl) (ap is_star p)
+lead {types} {m} (Grammar.function o c a b p q d e) =
+    leads (lead d) o (b ++ (c ∷ [])) _ (ap begins_declarator p) (plain_by m types o _ p refl) (ap is_star p)
+lead {types} {m} (Grammar.pointer o a b p q d) =
+    leading o (a ++ b) (ap begins_declarator p) (plain_by m types o _ p refl) (and_shut (is_star (symbol o)) _ refl)
 
 -- a declarator is empty or one tree
 pub data Shaped (types : Names) (m : Naming) (starred : Bool) : List Lexeme → Syns → Type 0 where
   bare : may_be_nameless m ≡ true → Shaped types m starred [] nil
   full : {a : List Lexeme} {x : Syn} → Declares types m starred a (one x) → Shaped types m starred a (one x)
 
-pub shaped : {types : Names} {m : Naming} {starred : Bool} {a : List Lexeme} {xs : Syns} → Declares types m starred a xs → Shaped types m starred a xs
+pub shaped : {types : Names} {m : Naming} {starred : Bool} {a : List Lexeme} {xs : Syns} →
+    Declares types m starred a xs → Shaped types m starred a xs
 shaped (Grammar.empty e) = bare e
 shaped (Grammar.declared n e) = full (Grammar.declared n e)
 shaped (Grammar.enclosed o c a p q d) = full (Grammar.enclosed o c a p q d)
@@ -486,7 +571,9 @@ shaped (Grammar.pointer o a b p q d) = full (Grammar.pointer o a b p q d)
 -- one with stars in front, or one without
 pub data Split (types : Names) (m : Naming) : List Lexeme → Syns → Type 0 where
   unstarred : {a : List Lexeme} {xs : Syns} → Declares types m false a xs → Split types m a xs
-  stars : (o : Lexeme) (a b : List Lexeme) {qs xs : Syns} → symbol o ≡ Symbols.Star → Repeated types Qualifier a qs → Declares types m true b xs → Split types m (o ∷ (a ++ b)) (one (node Kinds.Pointer o (more (node Kinds.Qualifiers o qs) xs)))
+  stars : (o : Lexeme) (a b : List Lexeme) {qs xs : Syns} → symbol o ≡ Symbols.Star → Repeated types Qualifier a qs →
+      Declares types m true b xs →
+      Split types m (o ∷ (a ++ b)) (one (node Kinds.Pointer o (more (node Kinds.Qualifiers o qs) xs)))
 
 pub split : {types : Names} {m : Naming} {a : List Lexeme} {xs : Syns} → Declares types m true a xs → Split types m a xs
 split (Grammar.empty e) = unstarred (Grammar.empty e)
@@ -522,9 +609,11 @@ pub record EndsSpecifying (types : Names) (named : Bool) (r : List Lexeme) : Typ
   pub no_brace : starts is_open_brace r ≡ false
 
 -- at a token of a declarator
-pub ends_at : (types : Names) (named : Bool) (t : Lexeme) (ts : List Lexeme) → begins_declarator (symbol t) ≡ true → (named || not (is_typedef_name types t)) ≡ true → EndsSpecifying types named (t ∷ ts)
+pub ends_at : (types : Names) (named : Bool) (t : Lexeme) (ts : List Lexeme) → begins_declarator (symbol t) ≡ true →
+    (named || not (is_typedef_name types t)) ≡ true → EndsSpecifying types named (t ∷ ts)
 ends_at types named t ts e f = record {
-  off = ap (λ v. v || (not named && is_typedef_name types t)) (declarator_no_specifier (symbol t) e) ∙ by named (is_typedef_name types t) f;
+  off = ap (λ v. v || (not named && is_typedef_name types t)) (declarator_no_specifier (symbol t) e)
+      ∙ by named (is_typedef_name types t) f;
   no_brace = declarator_no_brace (symbol t) e;
 }
   where
@@ -550,10 +639,12 @@ quiet_no_brace : (s : Symbol) → is_quiet s ≡ true → is_open_brace s ≡ fa
 quiet_no_brace Symbols.OpenBrace e = cc
 quiet_no_brace _ e = refl
 
-pub ends_quietly : (types : Names) (named : Bool) (r : List Lexeme) → starts is_quiet r ≡ true → EndsSpecifying types named r
+pub ends_quietly : (types : Names) (named : Bool) (r : List Lexeme) → starts is_quiet r ≡ true →
+    EndsSpecifying types named r
 ends_quietly types named [] e = cc
 ends_quietly types named (t ∷ ts) e = record {
-  off = by (begins_specifier (symbol t)) named (is_typedef_name types t) (quiet_no_specifier (symbol t) (is_among types t.text) e);
+  off = by (begins_specifier (symbol t)) named (is_typedef_name types t)
+      (quiet_no_specifier (symbol t) (is_among types t.text) e);
   no_brace = quiet_no_brace (symbol t) e;
 }
   where
@@ -582,10 +673,13 @@ parameters_quiet [] e = cc
 parameters_quiet (t ∷ ts) e = parameter_quiet (symbol t) e
 
 -- at a declarator that may be nameless, and what follows it
-pub ends_before : {types : Names} {m : Naming} {b : List Lexeme} {xs : Syns} → may_be_nameless m ≡ true → Declares types m true b xs → (named : Bool) (r : List Lexeme) → starts is_quiet r ≡ true → EndsSpecifying types named (b ++ r)
+pub ends_before : {types : Names} {m : Naming} {b : List Lexeme} {xs : Syns} → may_be_nameless m ≡ true →
+    Declares types m true b xs → (named : Bool) (r : List Lexeme) → starts is_quiet r ≡ true →
+    EndsSpecifying types named (b ++ r)
 ends_before {types} {m} nameless d named r quiet = by (lead d)
   where
-    plain : (m : Naming) (t : Lexeme) → may_be_nameless m ≡ true → is_plain m types t ≡ true → not (is_typedef_name types t) ≡ true
+    plain : (m : Naming) (t : Lexeme) → may_be_nameless m ≡ true → is_plain m types t ≡ true →
+        not (is_typedef_name types t) ≡ true
     plain Plain t n e = cc
     plain Any t n e = cc
     plain Nameless t n e = e
@@ -621,7 +715,9 @@ none_named : (xs : Syns) → count names_type xs ≡ 0 → has_any is_typedef_no
 none_named nil e = refl
 none_named (more x xs) e = by (names_type x) refl e (none_named xs)
   where
-    by : (b : Bool) → names_type x ≡ b → (if b then count names_type xs + 1 else count names_type xs) ≡ 0 → (count names_type xs ≡ 0 → has_any is_typedef_node xs ≡ false) → (is_typedef_node x || has_any is_typedef_node xs) ≡ false
+    by : (b : Bool) → names_type x ≡ b → (if b then count names_type xs + 1 else count names_type xs) ≡ 0 →
+        (count names_type xs ≡ 0 → has_any is_typedef_node xs ≡ false) →
+        (is_typedef_node x || has_any is_typedef_node xs) ≡ false
     by true f e k = absurd (omega arith)
     by false f e k = ap (λ v. v || has_any is_typedef_node xs) (typedef_names x f) ∙ k e
 
@@ -629,7 +725,8 @@ fits_none : (named : Bool) (xs : Syns) → has_any is_typedef_node xs ≡ false 
 fits_none named nil e = refl
 fits_none named (more x xs) e =
     let b = both_false _ _ e in
-    ap (λ v. not (named && v) && fits (named || names_type x) xs) b.0 ∙ by named (fits_none (named || names_type x) xs b.1)
+    ap (λ v. not (named && v) && fits (named || names_type x) xs) b.0
+    ∙ by named (fits_none (named || names_type x) xs b.1)
   where
     by : (n : Bool) {f : Bool} → f ≡ true → (not (n && false) && f) ≡ true
     by true e = e
@@ -639,7 +736,8 @@ fits_one : (xs : Syns) → count names_type xs ≤ 1 → fits false xs ≡ true
 fits_one nil e = refl
 fits_one (more x xs) e = by (names_type x) refl e (fits_one xs)
   where
-    by : (b : Bool) → names_type x ≡ b → (if b then count names_type xs + 1 else count names_type xs) ≤ 1 → (count names_type xs ≤ 1 → fits false xs ≡ true) → fits (names_type x) xs ≡ true
+    by : (b : Bool) → names_type x ≡ b → (if b then count names_type xs + 1 else count names_type xs) ≤ 1 →
+        (count names_type xs ≤ 1 → fits false xs ≡ true) → fits (names_type x) xs ≡ true
     by true f e k = fits_none (names_type x) xs (none_named xs (omega arith))
     by false f e k = ap (λ v. fits v xs) f ∙ k e
 

@@ -16,12 +16,16 @@ use Rattle.c_parse.specs.Got.{Holds, Got, GotParts, ReadsParts, after}
 use Rattle.c_parse.specs.Steps.{alone, specified_from}
 use Rattle.c_parse.proofs.Made.{holds_on, holds_more, fails_memory, then_is, else_is}
 
-pub parts_same : {old new : Cursor} {read other : ParsedParts} {parts : Parts} → read ≡ other → GotParts old new other parts → GotParts old new read parts
+pub parts_same : {old new : Cursor} {read other : ParsedParts} {parts : Parts} → read ≡ other →
+    GotParts old new other parts → GotParts old new read parts
 parts_same same g = record { trees = g.trees; holds = g.holds; reads = same ∙ g.reads; grows = g.grows }
 
 -- one more part
-pub followed : {old new : Cursor} {read : Parsed} {start : Parts} {part : Part} {ys : Syns} (steps : ParsedParts) (r : Result Parts Stop) → steps ≡ alone read → Got old new read part → Holds old.nodes.items start ys →
-    IfOk r (λ p. p.kids.items ≡ start.kids.items ++ (part.number ∷ [])) → IfOk r (λ p. p.height ≡ max start.height part.height) → IfErr r (λ e. e ≡ NoMemory) → ReadsParts old new (after ys steps) r
+pub followed : {old new : Cursor} {read : Parsed} {start : Parts} {part : Part} {ys : Syns} (steps : ParsedParts)
+    (r : Result Parts Stop) → steps ≡ alone read → Got old new read part → Holds old.nodes.items start ys →
+    IfOk r (λ p. p.kids.items ≡ start.kids.items ++ (part.number ∷ [])) →
+    IfOk r (λ p. p.height ≡ max start.height part.height) → IfErr r (λ e. e ≡ NoMemory) →
+    ReadsParts old new (after ys steps) r
 followed {ys = ys} steps (Ok p) same g h kids tall full = record {
   trees = joined ys (one g.tree);
   holds = holds_more (holds_on g.grows h) g.means kids tall;
@@ -39,6 +43,7 @@ module _ (rec : Reader) (types : Names) (ts : List Lexeme) where
   unfolding Reading.listed
   listed_none g e = then_is _ e
 
-  pub listed_some : (g : Goal) → starts is_close_parenthesis ts ≡ false → Reading.listed rec g types ts ≡ Reading.list_of rec g types ts
+  pub listed_some : (g : Goal) → starts is_close_parenthesis ts ≡ false →
+      Reading.listed rec g types ts ≡ Reading.list_of rec g types ts
   unfolding Reading.listed
   listed_some g e = else_is _ e

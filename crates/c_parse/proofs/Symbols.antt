@@ -3,7 +3,9 @@ use Rattle.std.proofs.Common.{◌≡◌, true, None, refl}
 use Rattle.c_tree.specs.declared.syntax.Symbol.{Symbol}
 use Rattle.c_tree.specs.declared.syntax.Symbol.TheVariants as Symbols
 use Rattle.c_tree.specs.Grammar.{is_word}
-use Rattle.c_parse.specs.Reading.{is_close_parenthesis, is_close_bracket, is_close_brace, is_open_parenthesis, is_open_bracket, is_open_brace, is_comma, is_semicolon, is_colon, is_star, is_text, is_else, is_while, is_equals}
+use Rattle.c_parse.specs.Reading.{is_close_parenthesis, is_close_bracket, is_close_brace, is_open_parenthesis}
+use Rattle.c_parse.specs.Reading.{is_open_bracket, is_open_brace, is_comma, is_semicolon, is_colon, is_star, is_text}
+use Rattle.c_parse.specs.Reading.{is_else, is_while, is_equals}
 
 pub close_parenthesis_is : (s : Symbol) → is_close_parenthesis s ≡ true → s ≡ Symbols.CloseParenthesis
 close_parenthesis_is Symbols.CloseParenthesis e = refl

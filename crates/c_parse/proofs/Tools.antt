@@ -1,5 +1,6 @@
 -- What holds of whatever is read, part by part; and what a reading of parts comes to.
-use Rattle.std.proofs.Common.{◌≡◌, ℕ, ◌≤◌, ◌<◌, Bool, true, false, List, [], ◌∷◌, ◌++◌, Option, Some, None, inl, inr, refl, ap, subst, arith, append_assoc}
+use Rattle.std.proofs.Common.{◌≡◌, ℕ, ◌≤◌, ◌<◌, Bool, true, false, List, [], ◌∷◌, ◌++◌, Option, Some, None, inl, inr}
+use Rattle.std.proofs.Common.{refl, ap, subst, arith, append_assoc}
 use Rattle.std.specs.Prelude.{if◌then◌else◌, nat_le, ◌&&◌, ◌||◌, not}
 use Rattle.std.proofs.lemmas.Bool.{leb-true}
 use Rattle.std.proofs.lemmas.Bool.Decides.{leb_tells}
@@ -13,7 +14,8 @@ pub data Gives {A : Type 0} (Q : A → Type 0) : Option A → Type 0 where
   nothing : Gives Q None
   gives : {x : A} → Q x → Gives Q (Some x)
 
-pub bind : {A B : Type 0} {P : A → Type 0} {Q : B → Type 0} {o : Option A} (f : A → Option B) → Gives P o → ((x : A) → P x → Gives Q (f x)) → Gives Q (o >>= f)
+pub bind : {A B : Type 0} {P : A → Type 0} {Q : B → Type 0} {o : Option A} (f : A → Option B) → Gives P o →
+    ((x : A) → P x → Gives Q (f x)) → Gives Q (o >>= f)
 bind f nothing k = nothing
 bind f (gives {x} p) k = k x p
 
@@ -27,11 +29,13 @@ given {A} {Q} {o} {x} (gives {x = y} q) e =
     let out : Option A → A = elim [ None ↦ y | Some p ↦ p ] in
     subst Q (ap out e) q
 
-pub guard : {A : Type 0} {Q : A → Type 0} (b : Bool) {o : Option A} → (b ≡ true → Gives Q o) → Gives Q (if b then o else None)
+pub guard : {A : Type 0} {Q : A → Type 0} (b : Bool) {o : Option A} → (b ≡ true → Gives Q o) →
+    Gives Q (if b then o else None)
 guard true k = k refl
 guard false k = nothing
 
-pub choose : {A : Type 0} {Q : A → Type 0} (b : Bool) {o p : Option A} → (b ≡ true → Gives Q o) → (b ≡ false → Gives Q p) → Gives Q (if b then o else p)
+pub choose : {A : Type 0} {Q : A → Type 0} (b : Bool) {o p : Option A} → (b ≡ true → Gives Q o) →
+    (b ≡ false → Gives Q p) → Gives Q (if b then o else p)
 choose true k m = k refl
 choose false k m = m refl
 
@@ -62,7 +66,8 @@ pub shut_le : (a b : ℕ) → b < a → nat_le a b ≡ false
 shut_le a b lt = elim (leb_tells a b) [ inl e ↦ absurd (omega (arith, e.1)) | inr e ↦ e.0 ]
 
 -- the token behind which the rest stands
-pub expects : (test : Symbol → Bool) (s : Symbol) → ((t : Symbol) → test t ≡ true → t ≡ s) → (ts : List Lexeme) → Gives (λ rest. (c : Lexeme) × (symbol c ≡ s) × (ts ≡ c ∷ rest)) (expect test ts)
+pub expects : (test : Symbol → Bool) (s : Symbol) → ((t : Symbol) → test t ≡ true → t ≡ s) → (ts : List Lexeme) →
+    Gives (λ rest. (c : Lexeme) × (symbol c ≡ s) × (ts ≡ c ∷ rest)) (expect test ts)
 expects test s only [] = nothing
 expects test s only (t ∷ ts) = guard (test (symbol t)) (λ e. gives (t, only (symbol t) e, refl))
 

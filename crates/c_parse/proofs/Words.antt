@@ -29,13 +29,18 @@ both : (a b : Bool) → (a && b) ≡ true → (a ≡ true) × (b ≡ true)
 both true b e = (refl, e)
 both false b e = cc
 
-keyed : (table : List (List ℕ × Symbol)) (text : List ℕ) → all_known table ≡ true → (if is_among (map (λ entry. entry.0) table) text then look_up table text else Word) ≡ word_or (look_up table text)
+keyed : (table : List (List ℕ × Symbol)) (text : List ℕ) → all_known table ≡ true →
+    (if is_among (map (λ entry. entry.0) table) text then look_up table text else Word) ≡ word_or (look_up table text)
 unfolding all_known
 keyed [] text e = refl
 keyed (entry ∷ table) text e = go (bytes_eq entry.0 text) (both _ _ e) (λ k. keyed table text k)
   where
-    go : (b : Bool) → (is_known entry.1 ≡ true) × (all_known table ≡ true) → (all_known table ≡ true → (if is_among (map (λ entry. entry.0) table) text then look_up table text else Word) ≡ word_or (look_up table text)) →
-        (if (b || is_among (map (λ entry. entry.0) table) text) then (if b then entry.1 else look_up table text) else Word) ≡ word_or (if b then entry.1 else look_up table text)
+    go : (b : Bool) → (is_known entry.1 ≡ true) × (all_known table ≡ true) →
+        (all_known table ≡ true →
+        (if is_among (map (λ entry. entry.0) table) text then look_up table text else Word)
+        ≡ word_or (look_up table text)) →
+        (if (b || is_among (map (λ entry. entry.0) table) text) then (if b then entry.1 else look_up table text)
+        else Word) ≡ word_or (if b then entry.1 else look_up table text)
     go true known rest = known_same entry.1 known.0
     go false known rest = rest known.1
 

@@ -1,5 +1,6 @@
 -- What the functions for declarations, statements and files answer.
-use Rattle.std.specs.Prelude.{◌≡◌, ℕ, suc, ◌≤◌, ◌<◌, Bool, true, false, List, [], ◌∷◌, ◌++◌, length, reverse, Option, Some, None, if◌then◌else◌}
+use Rattle.std.specs.Prelude.{◌≡◌, ℕ, suc, ◌≤◌, ◌<◌, Bool, true, false, List, [], ◌∷◌, ◌++◌, length, reverse, Option}
+use Rattle.std.specs.Prelude.{Some, None, if◌then◌else◌}
 use Rattle.ck_base.specs.Tokens.{Lexeme}
 use Rattle.c_tree.specs.declared.syntax.Node.{Node}
 use Rattle.c_tree.specs.declared.syntax.NodeKind.TheVariants as Kinds
@@ -7,7 +8,8 @@ use Rattle.c_tree.specs.declared.syntax.Symbol.{Symbol}
 use Rattle.c_tree.specs.declared.syntax.Symbol.TheVariants as Symbols
 use Rattle.c_tree.specs.Syntax.{Syn, Syns, node, nil, one, two, joined}
 use Rattle.c_tree.specs.Symbols.{symbol}
-use Rattle.c_tree.specs.Grammar.{Naming, Expression, Declarator, Initializer, declared_names, all_names, new_types, defines_types, names_a_type, naming}
+use Rattle.c_tree.specs.Grammar.{Naming, Expression, Declarator, Initializer, declared_names, all_names, new_types}
+use Rattle.c_tree.specs.Grammar.{defines_types, names_a_type, naming}
 use Rattle.c_parse.specs.declared.cursor.Root.{Root}
 use Rattle.c_parse.specs.declared.cursor.Part.{Part}
 use Rattle.c_parse.specs.declared.cursor.Parts.{Parts}
@@ -17,7 +19,8 @@ use Rattle.c_parse.specs.declared.statements.Opening.{Opening}
 use Rattle.c_parse.specs.declared.statements.Opening.TheVariants as Openings
 use Rattle.c_parse.specs.declared.statements.Label.{Label}
 use Rattle.c_parse.specs.declared.statements.Label.TheVariants as Labels
-use Rattle.c_parse.specs.Reading.{◌>>=◌, Names, Parsed, ParsedParts, Reader, expect, past, starts, bracketed, is_equals, is_comma, is_semicolon, is_colon, begins_type, read}
+use Rattle.c_parse.specs.Reading.{◌>>=◌, Names, Parsed, ParsedParts, Reader, expect, past, starts, bracketed, is_equals}
+use Rattle.c_parse.specs.Reading.{is_comma, is_semicolon, is_colon, begins_type, read}
 use Rattle.c_parse.specs.Statements as Statements
 use Rattle.c_parse.specs.Statements.{StatementReader, declare, state}
 use Rattle.c_parse.specs.Got.{Means, Holds, Grows, rest_of, names_of, after}
@@ -36,28 +39,34 @@ added false xs = []
 
 -- a declarator and its initializer, if there is one, as parts
 abbrev pub valued : Reader → Syn → Names → List Lexeme → ParsedParts
-valued rec d types ts = if starts is_equals ts then (rec Initializer types (past ts) >>= λ i. Some (two d i.0, i.1)) else Some (one d, ts)
+valued rec d types ts = if starts is_equals ts then (rec Initializer types (past ts) >>= λ i. Some (two d i.0, i.1))
+    else Some (one d, ts)
 
 -- a declarator that was not read yet, with its initializer
 abbrev pub declared : Reader → ℕ → Naming → Bool → Names → List Lexeme → Parsed
-declared rec h m defines types ts = rec (Declarator m) types ts >>= λ e. Statements.initialize rec h defines e.0 types e.1
+declared rec h m defines types ts =
+    rec (Declarator m) types ts >>= λ e. Statements.initialize rec h defines e.0 types e.1
 
 -- the rest of a list of declarators, behind the trees zs
 abbrev pub declared_behind : ℕ → ℕ → Naming → Bool → Syns → Names → List Lexeme → ParsedParts
 declared_behind h k m defines zs types ts =
-    if starts is_comma ts then after zs (read h (Declarator m) types (past ts) >>= λ e. Statements.initialized (read h) h k m defines e.0 types e.1) else Some (zs, ts)
+    if starts is_comma ts then after zs (read h (Declarator m) types (past ts)
+    >>= λ e. Statements.initialized (read h) h k m defines e.0 types e.1) else Some (zs, ts)
 
 -- what the loop over a declaration's declarators keeps; `ys` stood before them
-pub record Declares (old now : Cursor) (before behind : Names) (h : ℕ) (m : Naming) (defines : Bool) (x : Syn) (ys : Syns) (parts : Parts) : Type 0 where
+pub record Declares (old now : Cursor) (before behind : Names) (h : ℕ) (m : Naming) (defines : Bool) (x : Syn)
+    (ys : Syns) (parts : Parts) : Type 0 where
   pub trees : Syns
   pub holds : Holds now.nodes.items parts trees
   pub turns : ℕ
   pub enough : length (rest_of now) ≤ turns
-  pub same : after ys (Statements.initialized (read h) h (suc (length (rest_of old))) m defines x before (rest_of old)) ≡ declared_behind h turns m defines trees behind (rest_of now)
+  pub same : after ys (Statements.initialized (read h) h (suc (length (rest_of old))) m defines x before (rest_of old))
+      ≡ declared_behind h turns m defines trees behind (rest_of now)
   pub names : added defines ys ≡ [] → behind ≡ reverse (added defines trees) ++ before
   pub grows : Grows old.nodes.items now.nodes.items
 
-pub record GotDeclared (old new : Cursor) (before behind : Names) (defines : Bool) (ys : Syns) (read : ParsedParts) (parts : Parts) : Type 0 where
+pub record GotDeclared (old new : Cursor) (before behind : Names) (defines : Bool) (ys : Syns) (read : ParsedParts)
+    (parts : Parts) : Type 0 where
   pub trees : Syns
   pub holds : Holds new.nodes.items parts trees
   pub reads : after ys read ≡ Some (trees, rest_of new)
@@ -120,7 +129,8 @@ module _ (rec : Reader) (declare : StatementReader) (state : StatementReader) wh
   opened Openings.Return t types ts = Statements.return_from rec declare state t types ts
 
   abbrev pub labelled_by : Label → Lexeme → Names → List Lexeme → Parsed
-  labelled_by Labels.Case t types ts = bracketed rec (Expression 2) is_colon types ts >>= λ x. Some (node Kinds.Case t (one x.0), x.1)
+  labelled_by Labels.Case t types ts =
+      bracketed rec (Expression 2) is_colon types ts >>= λ x. Some (node Kinds.Case t (one x.0), x.1)
   labelled_by Labels.Default t types ts = expect is_colon ts >>= λ rest. Some (node Kinds.Default t nil, rest)
   labelled_by Labels.Unlabelled t types ts = state types (t ∷ ts)
 
@@ -132,7 +142,8 @@ abbrev pub entry : ℕ → Bool → Names → Lexeme → List Lexeme → Entry
 entry h in_switch types t ts =
     if begins_type types t
     then (declare h types (t ∷ ts) >>= λ a. Some (a.0, a.1, new_types a.0 ++ types))
-    else (Statements.labelled (read h) (declare h) (state h) (symbol t) in_switch t types ts >>= λ a. Some (a.0, a.1, types))
+    else (Statements.labelled (read h) (declare h) (state h) (symbol t) in_switch t types ts
+    >>= λ a. Some (a.0, a.1, types))
 
 pub record GotEntry (old new : Cursor) (before behind : Names) (read : Entry) (part : Part) : Type 0 where
   pub tree : Syn
@@ -142,12 +153,15 @@ pub record GotEntry (old new : Cursor) (before behind : Names) (read : Entry) (p
   pub grows : Grows old.nodes.items new.nodes.items
 
 -- what the loop over a block keeps; `ys` stood before it
-pub record Enters (old now : Cursor) (before behind : Names) (h : ℕ) (in_switch : Bool) (ys : Syns) (parts : Parts) : Type 0 where
+pub record Enters (old now : Cursor) (before behind : Names) (h : ℕ) (in_switch : Bool) (ys : Syns) (parts : Parts) :
+    Type 0 where
   pub trees : Syns
   pub holds : Holds now.nodes.items parts trees
   pub turns : ℕ
   pub enough : length (rest_of now) < turns
-  pub same : after ys (Statements.items (read h) (declare h) (state h) (suc (length (rest_of old))) in_switch before (rest_of old)) ≡ after trees (Statements.items (read h) (declare h) (state h) turns in_switch behind (rest_of now))
+  pub same : after ys (Statements.items (read h) (declare h) (state h) (suc (length (rest_of old))) in_switch before
+      (rest_of old)) ≡ after trees (Statements.items (read h) (declare h) (state h) turns in_switch behind
+      (rest_of now))
   pub grows : Grows old.nodes.items now.nodes.items
 
 -- External definitions
@@ -155,11 +169,13 @@ pub record Enters (old now : Cursor) (before behind : Names) (h : ℕ) (in_switc
 -- an external definition, or a semicolon
 abbrev pub outer : ℕ → Names → List Lexeme → Parsed
 outer h types [] = None
-outer h types (t ∷ ts) = if is_semicolon (symbol t) then Some (node Kinds.EmptyExternal t nil, ts) else Statements.external h types (t ∷ ts)
+outer h types (t ∷ ts) = if is_semicolon (symbol t) then Some (node Kinds.EmptyExternal t nil, ts)
+    else Statements.external h types (t ∷ ts)
 
 -- behind specifiers
 abbrev pub declared_externally : Syn → Names → List Lexeme → Parsed
-declared_externally s types ts = read 199 (Declarator (naming true s)) types ts >>= λ d. Statements.external_behind 199 s d.0 types d.1
+declared_externally s types ts =
+    read 199 (Declarator (naming true s)) types ts >>= λ d. Statements.external_behind 199 s d.0 types d.1
 
 abbrev pub outers_behind : Syns → Option Syns → Option Syns
 outers_behind zs read = read >>= λ xs. Some (joined zs xs)
@@ -170,7 +186,8 @@ pub record Gathers (old now : Cursor) (before behind : Names) (h : ℕ) (parts :
   pub holds : Holds now.nodes.items parts trees
   pub turns : ℕ
   pub enough : length (rest_of now) < turns
-  pub same : Statements.externals h (suc (length (rest_of old))) before (rest_of old) ≡ outers_behind trees (Statements.externals h turns behind (rest_of now))
+  pub same : Statements.externals h (suc (length (rest_of old))) before (rest_of old)
+      ≡ outers_behind trees (Statements.externals h turns behind (rest_of now))
   pub grows : Grows old.nodes.items now.nodes.items
 
 pub record GotExternals (new : Cursor) (read : Option Syns) (parts : Parts) : Type 0 where

@@ -15,7 +15,8 @@ first_of None later = later
 
 -- the brackets are those of these tokens
 pub record Counts (brackets : Brackets) (ts : List Lexeme) : Type 0 where
-  pub goes : (rest : List Lexeme) → excess (ts ++ rest) ≡ first_of brackets.deep (excess_from (gap brackets.opened brackets.closed) rest)
+  pub goes : (rest : List Lexeme) →
+      excess (ts ++ rest) ≡ first_of brackets.deep (excess_from (gap brackets.opened brackets.closed) rest)
   pub opened : brackets.opened ≤ length ts
   pub closed : brackets.closed ≤ length ts
 

@@ -11,7 +11,8 @@ use Rattle.c_parse.specs.Steps.{IsGathered}
 
 -- Each of so many parts leaves seven nodes of those that its first token pays for.
 pub record Spared (old new : Cursor) (parts : ℕ) : Type 0 where
-  pub room : length new.nodes.items + 8 * length (rest_of new) + 7 * parts ≤ length old.nodes.items + 8 * length (rest_of old)
+  pub room : length new.nodes.items + 8 * length (rest_of new) + 7 * parts ≤ length old.nodes.items
+      + 8 * length (rest_of old)
   pub shorter : length (rest_of new) + parts ≤ length (rest_of old)
   pub grows : length old.nodes.items ≤ length new.nodes.items
 
@@ -25,7 +26,8 @@ pub record Fills (old now : Cursor) (below k : ℕ) (types : Names) (ys : Syns) 
   pub holds : Holds now.nodes.items parts trees
   pub turns : ℕ
   pub enough : length (rest_of now) < turns
-  pub same : after ys (members (read below) k types (rest_of old)) ≡ members_behind (read below) turns types trees (rest_of now)
+  pub same : after ys (members (read below) k types (rest_of old))
+      ≡ members_behind (read below) turns types trees (rest_of now)
   pub grows : Grows old.nodes.items now.nodes.items
 
 -- the reading of specifiers goes on behind those that are gathered
@@ -35,5 +37,6 @@ pub record Gathers (old now : Cursor) (below : ℕ) (types : Names) (g : Gathere
   pub gathered : IsGathered g trees
   pub turns : ℕ
   pub enough : length (rest_of now) < turns
-  pub same : specifier_list (read below) (suc (length (rest_of old))) false types (rest_of old) ≡ after trees (specifier_list (read below) turns (nat_lt 0 g.type_names) types (rest_of now))
+  pub same : specifier_list (read below) (suc (length (rest_of old))) false types (rest_of old)
+      ≡ after trees (specifier_list (read below) turns (nat_lt 0 g.type_names) types (rest_of now))
   pub grows : Grows old.nodes.items now.nodes.items

@@ -1,5 +1,6 @@
 -- What the reading functions answer.
-use Rattle.std.specs.Prelude.{◌≡◌, ℕ, ◌+◌, ◌*◌, ◌^◌, ◌≤◌, ◌<◌, Bool, false, not, ◌&&◌, List, [], ◌∷◌, ◌++◌, length, drop, Option, Some, None, option_map, Result, MatchResult}
+use Rattle.std.specs.Prelude.{◌≡◌, ℕ, ◌+◌, ◌*◌, ◌^◌, ◌≤◌, ◌<◌, Bool, false, not, ◌&&◌, List, [], ◌∷◌, ◌++◌, length}
+use Rattle.std.specs.Prelude.{drop, Option, Some, None, option_map, Result, MatchResult}
 use Rattle.ck_base.specs.Tokens.{Lexeme}
 use Rattle.c_tree.specs.declared.syntax.Node.{Node}
 use Rattle.c_tree.specs.declared.syntax.NodeKind.{NodeKind}
@@ -20,7 +21,10 @@ use Rattle.c_parse.specs.declared.cursor.Stop.TheVariants.{NoMemory, NoTree}
 use Rattle.c_parse.specs.declared.names.Naming.{Naming}
 use Rattle.c_parse.specs.declared.names.Naming.TheVariants as Namings
 use Rattle.c_parse.specs.declared.names.TypeNames.{TypeNames}
-use Rattle.c_parse.specs.Reading.{◌>>=◌, Names, Parsed, ParsedParts, is_open_parenthesis, is_close_parenthesis, is_open_bracket, is_close_bracket, is_open_brace, is_close_brace, is_comma, is_semicolon, is_colon, is_star, is_equals, is_else, is_while, is_text, opens_parameters, parts_of}
+use Rattle.c_parse.specs.Reading.{◌>>=◌, Names, Parsed, ParsedParts, is_open_parenthesis, is_close_parenthesis}
+use Rattle.c_parse.specs.Reading.{is_open_bracket, is_close_bracket, is_open_brace, is_close_brace, is_comma}
+use Rattle.c_parse.specs.Reading.{is_semicolon, is_colon, is_star, is_equals, is_else, is_while, is_text}
+use Rattle.c_parse.specs.Reading.{opens_parameters, parts_of}
 
 -- where a token stands
 pub record IsPlaceOf (place : Place) (t : Lexeme) : Type 0 where
@@ -54,7 +58,8 @@ naming_of Namings.Either = Grammar.Either
 -- a parenthesis that a declarator stands in
 abbrev pub encloses : Grammar.Naming → Names → List Lexeme → Bool
 encloses m types [] = false
-encloses m types (t ∷ ts) = is_open_parenthesis (symbol t) && not (Grammar.may_be_nameless m && opens_parameters types ts)
+encloses m types (t ∷ ts) =
+    is_open_parenthesis (symbol t) && not (Grammar.may_be_nameless m && opens_parameters types ts)
 
 -- the names in force, the latest first
 unfoldable pub in_force : TypeNames → Names
@@ -96,12 +101,15 @@ pub record Grows (old new : List Node) : Type 0 where
 -- one more node, over parts that stood
 pub record Made (old new : List Node) (root : Root) (parts : Parts) (part : Part) : Type 0 where
   pub grows : Grows old new
-  pub means : (t : Lexeme) (xs : Syns) → Describes root (node root.kind t xs) → Holds old parts xs → Means new part (node root.kind t xs)
+  pub means : (t : Lexeme) (xs : Syns) → Describes root (node root.kind t xs) → Holds old parts xs →
+      Means new part (node root.kind t xs)
 
 -- one more node, whose own token is t, and which declares nothing
-pub record Joined (old new : List Node) (kind : NodeKind) (t : Lexeme) (first : Place) (parts : Parts) (part : Part) : Type 0 where
+pub record Joined (old new : List Node) (kind : NodeKind) (t : Lexeme) (first : Place) (parts : Parts) (part : Part) :
+    Type 0 where
   pub grows : Grows old new
-  pub means : (xs : Syns) → IsPlaceOf first (first_token (node kind t xs)) → declared_names (node kind t xs) ≡ [] → Holds old parts xs → Means new part (node kind t xs)
+  pub means : (xs : Syns) → IsPlaceOf first (first_token (node kind t xs)) → declared_names (node kind t xs) ≡ [] →
+      Holds old parts xs → Means new part (node kind t xs)
 
 -- the tokens that are left
 abbrev pub rest_of : Cursor → List Lexeme
@@ -142,13 +150,15 @@ after ys read = read >>= λ a. Some (joined ys a.0, a.1)
 
 -- Each token pays for eight nodes, and what is read leaves some of that over.
 pub record Paid (old new : Cursor) (over : ℕ) : Type 0 where
-  pub room : length new.nodes.items + 8 * length (rest_of new) + over ≤ length old.nodes.items + 8 * length (rest_of old)
+  pub room : length new.nodes.items + 8 * length (rest_of new) + over ≤ length old.nodes.items
+      + 8 * length (rest_of old)
   pub shorter : length (rest_of new) < length (rest_of old)
   pub grows : length old.nodes.items ≤ length new.nodes.items
 
 -- The same of what may read nothing, behind a token that was taken before.
 pub record Owed (old new : Cursor) (debt : ℕ) : Type 0 where
-  pub room : length new.nodes.items + 8 * length (rest_of new) ≤ length old.nodes.items + 8 * length (rest_of old) + debt
+  pub room : length new.nodes.items + 8 * length (rest_of new) ≤ length old.nodes.items + 8 * length (rest_of old)
+      + debt
   pub shorter : length (rest_of new) ≤ length (rest_of old)
   pub grows : length old.nodes.items ≤ length new.nodes.items
 

@@ -17,7 +17,8 @@ Left file at = (tokens : List Lexeme) × Leaves file at tokens
 -- they are the only ones
 pub leaves_once : (file : List ℕ) (at : ℕ) (xs ys : List Lexeme) → Leaves file at xs → Leaves file at ys → xs ≡ ys
 leaves_once file at xs ys a b =
-    ∥∥₁_elim a (lexemes_set xs ys) (λ p. ∥∥₁_elim b (lexemes_set xs ys) (λ q. one_rest file at xs ys p.0 q.0 p.1 p.2 q.1 q.2))
+    ∥∥₁_elim a (lexemes_set xs ys) (λ p. ∥∥₁_elim b (lexemes_set xs ys)
+    (λ q. one_rest file at xs ys p.0 q.0 p.1 p.2 q.1 q.2))
 
 pub left_prop : (file : List ℕ) (at : ℕ) → IsProp (Left file at)
 left_prop file at = λ a b. Σ_prop_path (λ _. ∥∥₁_prop) (leaves_once file at a.0 b.0 a.1 b.1)

@@ -35,24 +35,32 @@ kind_code : Coded TokenKind
 kind_code = code_by ℕ coded_ℕ number_of kind_of again
 
 span_code : Coded Span
-span_code = code_by (ℕ × ℕ) (coded× coded_ℕ coded_ℕ) (λ s. (s.start, s.end)) (λ p. record { start = p.0; end = p.1 }) (λ _. refl)
+span_code = code_by (ℕ × ℕ) (coded× coded_ℕ coded_ℕ) (λ s. (s.start, s.end)) (λ p. record { start = p.0; end = p.1 })
+    (λ _. refl)
 
 pos_code : Coded Pos
-pos_code = code_by (ℕ × ℕ) (coded× coded_ℕ coded_ℕ) (λ s. (s.line, s.col)) (λ p. record { line = p.0; col = p.1 }) (λ _. refl)
+pos_code = code_by (ℕ × ℕ) (coded× coded_ℕ coded_ℕ) (λ s. (s.line, s.col)) (λ p. record { line = p.0; col = p.1 })
+    (λ _. refl)
 
 lexeme_code : Coded Lexeme
 lexeme_code =
-    code_by (TokenKind × (List ℕ × (Span × Pos))) (coded× kind_code (coded× (coded_list coded_ℕ) (coded× span_code pos_code)))
-    (λ t. (t.kind, (t.text, (t.span, t.pos)))) (λ p. record { kind = p.0; text = p.1.0; span = p.1.1.0; pos = p.1.1.1 }) (λ _. refl)
+    code_by (TokenKind × (List ℕ × (Span × Pos)))
+    (coded× kind_code (coded× (coded_list coded_ℕ) (coded× span_code pos_code)))
+    (λ t. (t.kind, (t.text, (t.span, t.pos)))) (λ p. record { kind = p.0; text = p.1.0; span = p.1.1.0; pos = p.1.1.1 })
+    (λ _. refl)
 
 pub lexemes_set : (xs ys : List Lexeme) → IsProp (xs ≡ ys)
 lexemes_set = Coded-set (coded_list lexeme_code)
 
-pub one_rest : (file : List ℕ) (i : ℕ) (xs ys : List Lexeme) (k m : ℕ) → Reads file i xs k → NextEnd file k → Reads file i ys m → NextEnd file m → xs ≡ ys
+pub one_rest : (file : List ℕ) (i : ℕ) (xs ys : List Lexeme) (k m : ℕ) → Reads file i xs k → NextEnd file k →
+    Reads file i ys m → NextEnd file m → xs ≡ ys
 one_rest file i [] [] k m reads end again end_so = refl
-one_rest file i [] (y ∷ ys) k m reads end again end_so = absurd (token_not_end file i y again.0 (subst (λ v. NextEnd file v) (sym reads) end))
-one_rest file i (x ∷ xs) [] k m reads end again end_so = absurd (token_not_end file i x reads.0 (subst (λ v. NextEnd file v) (sym again) end_so))
+one_rest file i [] (y ∷ ys) k m reads end again end_so =
+    absurd (token_not_end file i y again.0 (subst (λ v. NextEnd file v) (sym reads) end))
+one_rest file i (x ∷ xs) [] k m reads end again end_so =
+    absurd (token_not_end file i x reads.0 (subst (λ v. NextEnd file v) (sym again) end_so))
 one_rest file i (x ∷ xs) (y ∷ ys) k m reads end again end_so =
     let same = one_token file i x y reads.0 again.0 in
-    let rest = one_rest file x.span.end xs ys k m reads.1 end (subst (λ (t : Lexeme). Reads file t.span.end ys m) (sym same) again.1) end_so in
+    let rest = one_rest file x.span.end xs ys k m reads.1 end
+    (subst (λ (t : Lexeme). Reads file t.span.end ys m) (sym same) again.1) end_so in
     λ j. same j ∷ rest j

@@ -11,7 +11,8 @@ use Rattle.c_tree.specs.Parses.{DerivesFile, Parses}
 use Rattle.c_tree.specs.Brackets.{height_limit, excess}
 use Rattle.c_tree.specs.File.{IsCut, IsTokenPlace}
 
--- The tree is that of the file's tokens: by the grammar, within the limits of brackets and levels, and with so many nodes at most.
+-- The tree is that of the file's tokens: by the grammar, within the limits of brackets and levels, and with so many
+-- nodes at most.
 pub record IsTreeOf (file : List ℕ) (tree : Tree) : Type 0 where
   pub tokens : List Lexeme
   pub cut : IsCut file tokens
@@ -28,8 +29,10 @@ pub data IsRefused (file : List ℕ) : ℕ → Pos → Type 0 where
   -- 100 to 104
   lexical : {code : ℕ} {place : Pos} → Refuses file code place → IsRefused file code place
   -- the bracket by which one too many stands open
-  brackets : {place : Pos} (tokens : List Lexeme) → Lexes file tokens → excess tokens ≡ Some place → IsRefused file 121 place
-  no_tree : {place : Pos} (tokens : List Lexeme) → IsCut file tokens → HasNoTree tokens → IsTokenPlace file tokens place → IsRefused file 120 place
+  brackets : {place : Pos} (tokens : List Lexeme) → Lexes file tokens → excess tokens ≡ Some place →
+      IsRefused file 121 place
+  no_tree : {place : Pos} (tokens : List Lexeme) → IsCut file tokens → HasNoTree tokens →
+      IsTokenPlace file tokens place → IsRefused file 120 place
 
 -- what holds of the code and the place of a refusal that is none for want of memory
 abbrev pub OnCode : Refusal → (ℕ → Pos → Type 0) → Type 0

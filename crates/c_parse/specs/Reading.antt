@@ -1,5 +1,7 @@
--- Reading phrases of the grammar from left to right. What is read has at most a given height, and that bounds the recursion.
-use Rattle.std.specs.Prelude.{ℕ, zero, suc, ◌+◌, Bool, true, false, not, List, [], ◌∷◌, length, Option, Some, None, nat_le, if◌then◌else◌, ◌&&◌, ◌||◌}
+-- Reading phrases of the grammar from left to right. What is read has at most a given height, and that bounds the
+-- recursion.
+use Rattle.std.specs.Prelude.{ℕ, zero, suc, ◌+◌, Bool, true, false, not, List, [], ◌∷◌, length, Option, Some, None}
+use Rattle.std.specs.Prelude.{nat_le, if◌then◌else◌, ◌&&◌, ◌||◌}
 use Rattle.ck_base.specs.Tokens.{Lexeme}
 use Rattle.ck_int.specs.declared.kinds.IntOp.{IntOp}
 use Rattle.c_tree.specs.declared.syntax.SpecifierWord.{SpecifierWord}
@@ -17,7 +19,9 @@ use Rattle.c_tree.specs.declared.syntax.NodeKind.{NodeKind}
 use Rattle.c_tree.specs.declared.syntax.NodeKind.TheVariants as Kinds
 use Rattle.c_tree.specs.Syntax.{Syn, Syns, node, nil, more, one, two, three, joined, then_one, own_token, height}
 use Rattle.c_tree.specs.Symbols.{symbol, head_of, tail_of, infix_level, operand_level, is_qualifier}
-use Rattle.c_tree.specs.Grammar.{is_word, is_typedef_name, Naming, Plain, Any, Nameless, Either, is_declared_by, may_be_nameless, names_type, is_agreed, Goal, Expression, Member, Enumerator, Declarator, Parameter, Initializer}
+use Rattle.c_tree.specs.Grammar.{is_word, is_typedef_name, Naming, Plain, Any, Nameless, Either, is_declared_by}
+use Rattle.c_tree.specs.Grammar.{may_be_nameless, names_type, is_agreed, Goal, Expression, Member, Enumerator}
+use Rattle.c_tree.specs.Grammar.{Declarator, Parameter, Initializer}
 
 infixl 10 ◌>>=◌
 abbrev pub ◌>>=◌ : {A B : Type 0} → Option A → (A → Option B) → Option B
@@ -189,7 +193,8 @@ parts_of (Some x) = one x
 
 abbrev pub pieces : List Lexeme → Syns × List Lexeme
 pieces [] = (nil, [])
-pieces (t ∷ ts) = if is_text (symbol t) then (more (node Kinds.Text t nil) (pieces ts).0, (pieces ts).1) else (nil, t ∷ ts)
+pieces (t ∷ ts) = if is_text (symbol t) then (more (node Kinds.Text t nil) (pieces ts).0, (pieces ts).1)
+    else (nil, t ∷ ts)
 
 abbrev pub qualified : Option SpecifierWord → Lexeme → List Lexeme → Syns × List Lexeme → Syns × List Lexeme
 qualified None t ts qs = (nil, t ∷ ts)
@@ -214,7 +219,8 @@ module _ (rec : Reader) where
   unfoldable pub separated : ℕ → Goal → Names → List Lexeme → ParsedParts
   separated zero g types ts = None
   separated (suc k) g types ts =
-      rec g types ts >>= λ a. if goes_on_listing a.1 then (separated k g types (past a.1) >>= λ b. Some (more a.0 b.0, b.1)) else Some (one a.0, a.1)
+      rec g types ts >>= λ a. if goes_on_listing a.1
+      then (separated k g types (past a.1) >>= λ b. Some (more a.0 b.0, b.1)) else Some (one a.0, a.1)
 
   abbrev pub list_of : Goal → Names → List Lexeme → ParsedParts
   list_of g types ts = separated (suc (length ts)) g types ts
@@ -225,7 +231,8 @@ module _ (rec : Reader) where
 
   -- in braces, up to and with the closing one
   unfoldable pub listed_in_braces : Goal → Names → List Lexeme → ParsedParts
-  listed_in_braces g types ts = list_of g types ts >>= λ a. expect is_close_brace (past_comma a.1) >>= λ rest. Some (a.0, rest)
+  listed_in_braces g types ts =
+      list_of g types ts >>= λ a. expect is_close_brace (past_comma a.1) >>= λ rest. Some (a.0, rest)
 
   -- behind an opening bracket, up to and with what closes it
   abbrev pub bracketed : Goal → (Symbol → Bool) → Names → List Lexeme → Parsed
@@ -235,18 +242,21 @@ module _ (rec : Reader) where
   unfoldable pub members : ℕ → Names → List Lexeme → ParsedParts
   members zero types ts = None
   members (suc k) types ts =
-      rec Member types ts >>= λ a. if starts is_close_brace a.1 then Some (one a.0, a.1) else (members k types a.1 >>= λ b. Some (more a.0 b.0, b.1))
+      rec Member types ts >>= λ a. if starts is_close_brace a.1 then Some (one a.0, a.1)
+      else (members k types a.1 >>= λ b. Some (more a.0 b.0, b.1))
 
   unfoldable pub record_from : RecordKind → Lexeme → Names → List Lexeme → Parsed
   record_from k t types ts =
       if starts is_open_brace (tag ts).1
-      then (members (suc (length ts)) types (past (tag ts).1) >>= λ a. expect is_close_brace a.1 >>= λ rest. Some (node (Kinds.Record k) t (joined (tag ts).0 a.0), rest))
+      then (members (suc (length ts)) types (past (tag ts).1) >>= λ a. expect is_close_brace a.1
+      >>= λ rest. Some (node (Kinds.Record k) t (joined (tag ts).0 a.0), rest))
       else with_parts (node (Kinds.Record k) t) (tag ts).0 (tag ts).1
 
   unfoldable pub enum_from : Lexeme → Names → List Lexeme → Parsed
   enum_from t types ts =
       if starts is_open_brace (tag ts).1
-      then (listed_in_braces Enumerator types (past (tag ts).1) >>= λ a. Some (node Kinds.Enum t (joined (tag ts).0 a.0), a.1))
+      then (listed_in_braces Enumerator types (past (tag ts).1)
+      >>= λ a. Some (node Kinds.Enum t (joined (tag ts).0 a.0), a.1))
       else with_parts (node Kinds.Enum t) (tag ts).0 (tag ts).1
 
   -- a specifier that begins with a token
@@ -263,12 +273,14 @@ module _ (rec : Reader) where
   specifier_list (suc k) named types [] = Some (nil, [])
   specifier_list (suc k) named types (t ∷ ts) =
       if goes_on_specifying types named t
-      then (specifier_by (symbol t) t types ts >>= λ a. specifier_list k (named || names_type a.0) types a.1 >>= λ b. Some (more a.0 b.0, b.1))
+      then (specifier_by (symbol t) t types ts >>= λ a. specifier_list k (named || names_type a.0) types a.1
+      >>= λ b. Some (more a.0 b.0, b.1))
       else Some (nil, t ∷ ts)
 
   abbrev pub gathered : Syns → List Lexeme → Parsed
   gathered nil ts = None
-  gathered (more x xs) ts = if is_agreed (more x xs) then Some (node Kinds.Specifiers (own_token x) (more x xs), ts) else None
+  gathered (more x xs) ts =
+      if is_agreed (more x xs) then Some (node Kinds.Specifiers (own_token x) (more x xs), ts) else None
 
   unfoldable pub specifiers : Names → List Lexeme → Parsed
   specifiers types ts = specifier_list (suc (length ts)) false types ts >>= λ a. gathered a.0 a.1
@@ -276,33 +288,41 @@ module _ (rec : Reader) where
   -- a declarator, or nothing where it may be nameless
   unfoldable pub optional_declarator : Naming → Names → List Lexeme → ParsedParts
   optional_declarator m types ts =
-      if starts begins_declarator ts then (rec (Declarator m) types ts >>= λ d. Some (one d.0, d.1)) else (if may_be_nameless m then Some (nil, ts) else None)
+      if starts begins_declarator ts then (rec (Declarator m) types ts >>= λ d. Some (one d.0, d.1))
+      else (if may_be_nameless m then Some (nil, ts) else None)
 
   unfoldable pub type_name : Names → List Lexeme → Parsed
   type_name types ts =
-      specifiers types ts >>= λ s. optional_declarator Nameless types s.1 >>= λ d. Some (node Kinds.TypeName (own_token s.0) (more s.0 d.0), d.1)
+      specifiers types ts >>= λ s. optional_declarator Nameless types s.1
+      >>= λ d. Some (node Kinds.TypeName (own_token s.0) (more s.0 d.0), d.1)
 
 -- Trees of at most the height h, over the reader of those that are one lower.
 module _ (rec : Reader) (h : ℕ) where
   -- Expressions
 
   unfoldable pub in_parentheses : Lexeme → Names → List Lexeme → Parsed
-  in_parentheses o types ts = bracketed rec (Expression 0) is_close_parenthesis types ts >>= λ a. Some (node Kinds.Parenthesized o (one a.0), a.1)
+  in_parentheses o types ts =
+      bracketed rec (Expression 0) is_close_parenthesis types ts
+      >>= λ a. Some (node Kinds.Parenthesized o (one a.0), a.1)
 
   unfoldable pub cast_from : Lexeme → Names → List Lexeme → Parsed
   cast_from o types ts =
-      type_name rec types ts >>= λ a. expect is_close_parenthesis a.1 >>= λ rest. rec (Expression 13) types rest >>= λ b. Some (node Kinds.Cast o (two a.0 b.0), b.1)
+      type_name rec types ts >>= λ a. expect is_close_parenthesis a.1 >>= λ rest. rec (Expression 13) types rest
+      >>= λ b. Some (node Kinds.Cast o (two a.0 b.0), b.1)
 
   unfoldable pub prefix_from : PrefixOperator → Lexeme → Names → List Lexeme → Parsed
-  prefix_from p o types ts = rec (Expression (operand_level p)) types ts >>= λ a. Some (node (Kinds.Prefix p) o (one a.0), a.1)
+  prefix_from p o types ts =
+      rec (Expression (operand_level p)) types ts >>= λ a. Some (node (Kinds.Prefix p) o (one a.0), a.1)
 
   unfoldable pub size_from : Lexeme → Names → List Lexeme → Parsed
-  size_from o types ts = type_name rec types ts >>= λ a. expect is_close_parenthesis a.1 >>= λ rest. Some (node Kinds.SizeofType o (one a.0), rest)
+  size_from o types ts = type_name rec types ts >>= λ a. expect is_close_parenthesis a.1
+      >>= λ rest. Some (node Kinds.SizeofType o (one a.0), rest)
 
   -- behind `sizeof`
   unfoldable pub measure_from : Lexeme → Names → List Lexeme → Parsed
   measure_from o types ts =
-      if opens_type types ts then size_from o types (past ts) else (rec (Expression 14) types ts >>= λ a. Some (node Kinds.SizeofExpression o (one a.0), a.1))
+      if opens_type types ts then size_from o types (past ts)
+      else (rec (Expression 14) types ts >>= λ a. Some (node Kinds.SizeofExpression o (one a.0), a.1))
 
   -- the tree, where it is not too high
   abbrev pub grow : Syn → List Lexeme → Parsed
@@ -313,7 +333,8 @@ module _ (rec : Reader) (h : ℕ) where
   operand_by Heads.Number t types ts = Some (node Kinds.Number t nil, ts)
   operand_by Heads.Character t types ts = Some (node Kinds.Character t nil, ts)
   operand_by Heads.Text t types ts = grow (node Kinds.Text t (pieces ts).0) (pieces ts).1
-  operand_by Heads.Opens t types ts = if starts_with (begins_type types) ts then cast_from t types ts else in_parentheses t types ts
+  operand_by Heads.Opens t types ts =
+      if starts_with (begins_type types) ts then cast_from t types ts else in_parentheses t types ts
   operand_by (Heads.Prefixes p) t types ts = prefix_from p t types ts
   operand_by Heads.Measures t types ts = measure_from t types ts
   operand_by Heads.NoHead t types ts = None
@@ -323,22 +344,27 @@ module _ (rec : Reader) (h : ℕ) where
   operand types (t ∷ ts) = operand_by (head_of (symbol t)) t types ts
 
   unfoldable pub index_from : Syn → Lexeme → Names → List Lexeme → Parsed
-  index_from x o types ts = bracketed rec (Expression 0) is_close_bracket types ts >>= λ b. grow (node Kinds.Index o (two x b.0)) b.1
+  index_from x o types ts =
+      bracketed rec (Expression 0) is_close_bracket types ts >>= λ b. grow (node Kinds.Index o (two x b.0)) b.1
 
   unfoldable pub call_from : Syn → Lexeme → Names → List Lexeme → Parsed
   call_from x o types ts =
-      listed rec (Expression 1) types ts >>= λ b. expect is_close_parenthesis b.1 >>= λ rest. grow (node Kinds.Call o (more x b.0)) rest
+      listed rec (Expression 1) types ts >>= λ b. expect is_close_parenthesis b.1
+      >>= λ rest. grow (node Kinds.Call o (more x b.0)) rest
 
   unfoldable pub select_from : Selection → Syn → Lexeme → List Lexeme → Parsed
   select_from s x o [] = None
-  select_from s x o (n ∷ ts) = if is_word (symbol n) then grow (node (Kinds.Select s) o (two x (node Kinds.MemberName n nil))) ts else None
+  select_from s x o (n ∷ ts) =
+      if is_word (symbol n) then grow (node (Kinds.Select s) o (two x (node Kinds.MemberName n nil))) ts else None
 
   unfoldable pub infix_from : InfixOperator → Syn → Lexeme → Names → List Lexeme → Parsed
-  infix_from p x o types ts = rec (Expression (infix_level p + 1)) types ts >>= λ b. grow (node (Kinds.Infix p) o (two x b.0)) b.1
+  infix_from p x o types ts =
+      rec (Expression (infix_level p + 1)) types ts >>= λ b. grow (node (Kinds.Infix p) o (two x b.0)) b.1
 
   unfoldable pub choice_from : Syn → Lexeme → Names → List Lexeme → Parsed
   choice_from x o types ts =
-      bracketed rec (Expression 0) is_colon types ts >>= λ b. rec (Expression 2) types b.1 >>= λ c. grow (node Kinds.Conditional o (three x b.0 c.0)) c.1
+      bracketed rec (Expression 0) is_colon types ts >>= λ b. rec (Expression 2) types b.1
+      >>= λ c. grow (node Kinds.Conditional o (three x b.0 c.0)) c.1
 
   unfoldable pub assign_from : Option IntOp → Syn → Lexeme → Names → List Lexeme → Parsed
   assign_from p x o types ts = rec (Expression 1) types ts >>= λ b. grow (node (Kinds.Assignment p) o (two x b.0)) b.1
@@ -358,7 +384,8 @@ module _ (rec : Reader) (h : ℕ) where
   climb zero l types x ts = None
   climb (suc k) l types x [] = Some (x, [])
   climb (suc k) l types x (o ∷ ts) =
-      if goes_on (tail_of (symbol o)) l (level x) then (longer (tail_of (symbol o)) x o types ts >>= λ b. climb k l types b.0 b.1) else Some (x, o ∷ ts)
+      if goes_on (tail_of (symbol o)) l (level x)
+      then (longer (tail_of (symbol o)) x o types ts >>= λ b. climb k l types b.0 b.1) else Some (x, o ∷ ts)
 
   unfoldable pub expression : ℕ → Names → List Lexeme → Parsed
   expression l types ts = operand types ts >>= λ a. if nat_le l (level a.0) then climb (suc h) l types a.0 a.1 else None
@@ -367,17 +394,20 @@ module _ (rec : Reader) (h : ℕ) where
 
   unfoldable pub pointer_from : Naming → Lexeme → Names → List Lexeme → Parsed
   pointer_from m o types ts =
-      optional_declarator rec m types (qualifiers ts).1 >>= λ d. Some (node Kinds.Pointer o (more (node Kinds.Qualifiers o (qualifiers ts).0) d.0), d.1)
+      optional_declarator rec m types (qualifiers ts).1
+      >>= λ d. Some (node Kinds.Pointer o (more (node Kinds.Qualifiers o (qualifiers ts).0) d.0), d.1)
 
   unfoldable pub enclosed_from : Naming → Lexeme → Names → List Lexeme → Parsed
   enclosed_from m o types ts =
-      bracketed rec (Declarator m) is_close_parenthesis types ts >>= λ a. Some (node Kinds.ParenthesizedDeclarator o (one a.0), a.1)
+      bracketed rec (Declarator m) is_close_parenthesis types ts
+      >>= λ a. Some (node Kinds.ParenthesizedDeclarator o (one a.0), a.1)
 
   -- what the suffixes stand behind: a name, a declarator in parentheses, or nothing
   unfoldable pub core : Naming → Names → List Lexeme → Option (Option Syn × List Lexeme)
   core m types [] = None
   core m types (t ∷ ts) =
-      if is_word (symbol t) then (if is_declared_by m types t then Some (Some (node Kinds.DeclaredName t nil), ts) else None)
+      if is_word (symbol t) then (if is_declared_by m types t then Some (Some (node Kinds.DeclaredName t nil), ts)
+      else None)
       else (if is_open_parenthesis (symbol t) && not (may_be_nameless m && opens_parameters types ts)
       then (enclosed_from m t types ts >>= λ a. Some (Some a.0, a.1))
       else (if may_be_nameless m then Some (None, t ∷ ts) else None))
@@ -386,11 +416,13 @@ module _ (rec : Reader) (h : ℕ) where
   array_from x o types ts =
       if starts is_close_bracket ts
       then grow (node Kinds.OpenArray o (parts_of x)) (past ts)
-      else (bracketed rec (Expression 2) is_close_bracket types ts >>= λ b. grow (node Kinds.Array o (then_one (parts_of x) b.0)) b.1)
+      else (bracketed rec (Expression 2) is_close_bracket types ts
+      >>= λ b. grow (node Kinds.Array o (then_one (parts_of x) b.0)) b.1)
 
   unfoldable pub function_from : Option Syn → Lexeme → Names → List Lexeme → Parsed
   function_from x o types ts =
-      listed rec Parameter types ts >>= λ b. expect is_close_parenthesis b.1 >>= λ rest. grow (node Kinds.Function o (then_one (parts_of x) (node Kinds.Parameters o b.0))) rest
+      listed rec Parameter types ts >>= λ b. expect is_close_parenthesis b.1
+      >>= λ rest. grow (node Kinds.Function o (then_one (parts_of x) (node Kinds.Parameters o b.0))) rest
 
   -- the suffixes behind x, at most k - 1
   unfoldable pub suffixes : ℕ → Names → Option Syn → List Lexeme → Option (Option Syn × List Lexeme)
@@ -398,7 +430,8 @@ module _ (rec : Reader) (h : ℕ) where
   suffixes (suc k) types x [] = Some (x, [])
   suffixes (suc k) types x (o ∷ ts) =
       if is_open_bracket (symbol o) then (array_from x o types ts >>= λ b. suffixes k types (Some b.0) b.1)
-      else (if is_open_parenthesis (symbol o) then (function_from x o types ts >>= λ b. suffixes k types (Some b.0) b.1) else Some (x, o ∷ ts))
+      else (if is_open_parenthesis (symbol o) then (function_from x o types ts >>= λ b. suffixes k types (Some b.0) b.1)
+      else Some (x, o ∷ ts))
 
   unfoldable pub direct : Naming → Names → List Lexeme → Parsed
   direct m types ts = core m types ts >>= λ a. suffixes (suc h) types a.0 a.1 >>= λ b. b.0 >>= λ x. Some (x, b.1)
@@ -409,19 +442,23 @@ module _ (rec : Reader) (h : ℕ) where
 
   unfoldable pub parameter : Names → List Lexeme → Parsed
   parameter types ts =
-      specifiers rec types ts >>= λ s. optional_declarator rec Either types s.1 >>= λ d. Some (node Kinds.Parameter (own_token s.0) (more s.0 d.0), d.1)
+      specifiers rec types ts >>= λ s. optional_declarator rec Either types s.1
+      >>= λ d. Some (node Kinds.Parameter (own_token s.0) (more s.0 d.0), d.1)
 
   -- Members, enumerators, initializers
 
   unfoldable pub member : Names → List Lexeme → Parsed
   member types ts =
-      specifiers rec types ts >>= λ s. list_of rec (Declarator Any) types s.1 >>= λ d. expect is_semicolon d.1 >>= λ rest. Some (node Kinds.Member (own_token s.0) (more s.0 d.0), rest)
+      specifiers rec types ts >>= λ s. list_of rec (Declarator Any) types s.1 >>= λ d. expect is_semicolon d.1
+      >>= λ rest. Some (node Kinds.Member (own_token s.0) (more s.0 d.0), rest)
 
   unfoldable pub enumerator : Names → List Lexeme → Parsed
   enumerator types [] = None
   enumerator types (n ∷ ts) =
       if is_declared_by Plain types n
-      then (if starts is_equals ts then (rec (Expression 2) types (past ts) >>= λ a. Some (node Kinds.Enumerator n (one a.0), a.1)) else Some (node Kinds.Enumerator n nil, ts))
+      then (if starts is_equals ts
+      then (rec (Expression 2) types (past ts) >>= λ a. Some (node Kinds.Enumerator n (one a.0), a.1))
+      else Some (node Kinds.Enumerator n nil, ts))
       else None
 
   unfoldable pub braces_from : Lexeme → Names → List Lexeme → Parsed

@@ -1,5 +1,6 @@
 -- Reading declarations, statements and files, with the typedef names that are in force.
-use Rattle.std.specs.Prelude.{ℕ, zero, suc, Bool, true, false, not, List, [], ◌∷◌, ◌++◌, length, Option, Some, None, nat_le, if◌then◌else◌}
+use Rattle.std.specs.Prelude.{ℕ, zero, suc, Bool, true, false, not, List, [], ◌∷◌, ◌++◌, length, Option, Some, None}
+use Rattle.std.specs.Prelude.{nat_le, if◌then◌else◌}
 use Rattle.std.specs.List.{list_any}
 use Rattle.ck_base.specs.Tokens.{Lexeme, is_among}
 use Rattle.c_tree.specs.declared.syntax.Symbol.{Symbol}
@@ -7,9 +8,12 @@ use Rattle.c_tree.specs.declared.syntax.Symbol.TheVariants as Symbols
 use Rattle.c_tree.specs.declared.syntax.NodeKind.TheVariants as Kinds
 use Rattle.c_tree.specs.Syntax.{Syn, Syns, node, nil, more, one, two, three, four, own_token, first_token, height}
 use Rattle.c_tree.specs.Symbols.{symbol}
-use Rattle.c_tree.specs.Grammar.{predeclared, Naming, Plain, Expression, Declarator, Initializer, defines_types, declared_names, added_names, new_types, naming}
+use Rattle.c_tree.specs.Grammar.{predeclared, Naming, Plain, Expression, Declarator, Initializer, defines_types}
+use Rattle.c_tree.specs.Grammar.{declared_names, added_names, new_types, naming}
 use Rattle.c_tree.specs.Parses.{file_start}
-use Rattle.c_parse.specs.Reading.{◌>>=◌, Names, Parsed, ParsedParts, Reader, is_open_parenthesis, is_close_parenthesis, is_open_brace, is_close_brace, is_comma, is_semicolon, is_colon, is_equals, is_else, is_while, starts_with, starts, past, expect, begins_type, bracketed, specifiers, read}
+use Rattle.c_parse.specs.Reading.{◌>>=◌, Names, Parsed, ParsedParts, Reader, is_open_parenthesis, is_close_parenthesis}
+use Rattle.c_parse.specs.Reading.{is_open_brace, is_close_brace, is_comma, is_semicolon, is_colon, is_equals, is_else}
+use Rattle.c_parse.specs.Reading.{is_while, starts_with, starts, past, expect, begins_type, bracketed, specifiers, read}
 
 abbrev pub StatementReader : Type 0
 StatementReader = Names → List Lexeme → Parsed
@@ -18,7 +22,8 @@ StatementReader = Names → List Lexeme → Parsed
 abbrev pub are_plain : Names → Syn → Bool
 are_plain types x = not (list_any (λ n. is_among types n) (declared_names x))
 
--- Declarations. What stands in an initialized declarator is read as if that had no height, which is judged when it is made.
+-- Declarations. What stands in an initialized declarator is read as if that had no height, which is judged when it is
+-- made.
 module _ (rec : Reader) (h : ℕ) where
   abbrev pub fitting : Syn → List Lexeme → Parsed
   fitting x ts = if nat_le (height x) h then Some (x, ts) else None
@@ -27,7 +32,8 @@ module _ (rec : Reader) (h : ℕ) where
   unfoldable pub initialize : Bool → Syn → Names → List Lexeme → Parsed
   initialize defines d types ts =
       if starts is_equals ts
-      then (rec Initializer (added_names defines d ++ types) (past ts) >>= λ i. fitting (node Kinds.InitDeclarator (first_token d) (two d i.0)) i.1)
+      then (rec Initializer (added_names defines d ++ types) (past ts)
+      >>= λ i. fitting (node Kinds.InitDeclarator (first_token d) (two d i.0)) i.1)
       else fitting (node Kinds.InitDeclarator (first_token d) (one d)) ts
 
   -- behind the first declarator: the rest of a list of at most k of them
@@ -36,13 +42,16 @@ module _ (rec : Reader) (h : ℕ) where
   initialized (suc k) m defines d types ts =
       initialize defines d types ts >>= λ a.
       if starts is_comma a.1
-      then (rec (Declarator m) (added_names defines a.0 ++ types) (past a.1) >>= λ e. initialized k m defines e.0 (added_names defines a.0 ++ types) e.1 >>= λ b. Some (more a.0 b.0, b.1))
+      then (rec (Declarator m) (added_names defines a.0 ++ types) (past a.1)
+      >>= λ e. initialized k m defines e.0 (added_names defines a.0 ++ types) e.1
+      >>= λ b. Some (more a.0 b.0, b.1))
       else Some (one a.0, a.1)
 
   -- behind specifiers and the first declarator: the rest of a declaration
   unfoldable pub declaration_behind : Naming → Syn → Syn → Names → List Lexeme → Parsed
   declaration_behind m s d types ts =
-      initialized (suc (length ts)) m (defines_types s) d types ts >>= λ a. expect is_semicolon a.1 >>= λ rest. Some (node Kinds.Declaration (own_token s) (more s a.0), rest)
+      initialized (suc (length ts)) m (defines_types s) d types ts >>= λ a. expect is_semicolon a.1
+      >>= λ rest. Some (node Kinds.Declaration (own_token s) (more s a.0), rest)
 
   unfoldable pub declaration : Names → List Lexeme → Parsed
   declaration types ts =
@@ -69,21 +78,26 @@ module _ (rec : Reader) (declare : StatementReader) (state : StatementReader) wh
       else Some (node Kinds.If t (two x.0 y.0), y.1)
 
   unfoldable pub while_from : Lexeme → Names → List Lexeme → Parsed
-  while_from t types ts = condition types ts >>= λ x. state types x.1 >>= λ y. Some (node Kinds.While t (two x.0 y.0), y.1)
+  while_from t types ts = condition types ts >>= λ x. state types x.1
+      >>= λ y. Some (node Kinds.While t (two x.0 y.0), y.1)
 
   unfoldable pub do_from : Lexeme → Names → List Lexeme → Parsed
   do_from t types ts =
-      state types ts >>= λ x. expect is_while x.1 >>= λ r. condition types r >>= λ y. expect is_semicolon y.1 >>= λ rest. Some (node Kinds.Do t (two x.0 y.0), rest)
+      state types ts >>= λ x. expect is_while x.1 >>= λ r. condition types r >>= λ y. expect is_semicolon y.1
+      >>= λ rest. Some (node Kinds.Do t (two x.0 y.0), rest)
 
   -- an expression or nothing, up to and with the token behind it
   unfoldable pub optional : (Symbol → Bool) → Names → List Lexeme → Parsed
   optional closes types [] = None
-  optional closes types (t ∷ ts) = if closes (symbol t) then Some (node Kinds.Absent t nil, ts) else bracketed rec (Expression 0) closes types (t ∷ ts)
+  optional closes types (t ∷ ts) =
+      if closes (symbol t) then Some (node Kinds.Absent t nil, ts)
+      else bracketed rec (Expression 0) closes types (t ∷ ts)
 
   -- behind the first part of a `for`
   unfoldable pub for_behind : Lexeme → Syn → Names → List Lexeme → Parsed
   for_behind t x types ts =
-      optional is_semicolon types ts >>= λ y. optional is_close_parenthesis types y.1 >>= λ z. state types z.1 >>= λ w. Some (node Kinds.For t (four x y.0 z.0 w.0), w.1)
+      optional is_semicolon types ts >>= λ y. optional is_close_parenthesis types y.1 >>= λ z. state types z.1
+      >>= λ w. Some (node Kinds.For t (four x y.0 z.0 w.0), w.1)
 
   unfoldable pub for_from : Lexeme → Names → List Lexeme → Parsed
   for_from t types ts =
@@ -103,11 +117,14 @@ module _ (rec : Reader) (declare : StatementReader) (state : StatementReader) wh
   jump_from x ts = expect is_semicolon ts >>= λ rest. Some (x, rest)
 
   unfoldable pub expression_from : Names → List Lexeme → Parsed
-  expression_from types ts = bracketed rec (Expression 0) is_semicolon types ts >>= λ x. Some (node Kinds.ExpressionStatement (first_token x.0) (one x.0), x.1)
+  expression_from types ts =
+      bracketed rec (Expression 0) is_semicolon types ts
+      >>= λ x. Some (node Kinds.ExpressionStatement (first_token x.0) (one x.0), x.1)
 
   -- a label of a switch, or a statement
   abbrev pub labelled : Symbol → Bool → Lexeme → Names → List Lexeme → Parsed
-  labelled Symbols.Case true t types ts = bracketed rec (Expression 2) is_colon types ts >>= λ x. Some (node Kinds.Case t (one x.0), x.1)
+  labelled Symbols.Case true t types ts =
+      bracketed rec (Expression 2) is_colon types ts >>= λ x. Some (node Kinds.Case t (one x.0), x.1)
   labelled Symbols.Default true t types ts = expect is_colon ts >>= λ rest. Some (node Kinds.Default t nil, rest)
   labelled _ in_switch t types ts = state types (t ∷ ts)
 
@@ -118,19 +135,23 @@ module _ (rec : Reader) (declare : StatementReader) (state : StatementReader) wh
   items (suc k) in_switch types (t ∷ ts) =
       if is_close_brace (symbol t) then Some (nil, t ∷ ts)
       else (if begins_type types t
-      then (declare types (t ∷ ts) >>= λ a. items k in_switch (new_types a.0 ++ types) a.1 >>= λ b. Some (more a.0 b.0, b.1))
-      else (labelled (symbol t) in_switch t types ts >>= λ a. items k in_switch types a.1 >>= λ b. Some (more a.0 b.0, b.1)))
+      then (declare types (t ∷ ts) >>= λ a. items k in_switch (new_types a.0 ++ types) a.1
+      >>= λ b. Some (more a.0 b.0, b.1))
+      else (labelled (symbol t) in_switch t types ts >>= λ a. items k in_switch types a.1
+      >>= λ b. Some (more a.0 b.0, b.1)))
 
   -- and the closing brace
   unfoldable pub items_in_braces : Bool → Names → List Lexeme → ParsedParts
-  items_in_braces in_switch types ts = items (suc (length ts)) in_switch types ts >>= λ a. expect is_close_brace a.1 >>= λ rest. Some (a.0, rest)
+  items_in_braces in_switch types ts =
+      items (suc (length ts)) in_switch types ts >>= λ a. expect is_close_brace a.1 >>= λ rest. Some (a.0, rest)
 
   unfoldable pub block_from : Lexeme → Names → List Lexeme → Parsed
   block_from o types ts = items_in_braces false types ts >>= λ a. Some (node Kinds.Block o a.0, a.1)
 
   unfoldable pub switch_from : Lexeme → Names → List Lexeme → Parsed
   switch_from t types ts =
-      condition types ts >>= λ x. expect is_open_brace x.1 >>= λ r. items_in_braces true types r >>= λ a. Some (node Kinds.Switch t (more x.0 a.0), a.1)
+      condition types ts >>= λ x. expect is_open_brace x.1 >>= λ r. items_in_braces true types r
+      >>= λ a. Some (node Kinds.Switch t (more x.0 a.0), a.1)
 
   abbrev pub statement_by : Symbol → Lexeme → Names → List Lexeme → Parsed
   statement_by Symbols.OpenBrace t types ts = block_from t types ts
@@ -164,7 +185,8 @@ block (suc h) o types ts = block_from (read h) (declare h) (state h) o types ts
 module _ (h : ℕ) where
   -- behind specifiers, a declarator and `{`: the body of a function
   unfoldable pub definition_from : Syn → Syn → Lexeme → Names → List Lexeme → Parsed
-  definition_from s d o types ts = block h o types ts >>= λ b. Some (node Kinds.FunctionDefinition (own_token s) (three s d b.0), b.1)
+  definition_from s d o types ts =
+      block h o types ts >>= λ b. Some (node Kinds.FunctionDefinition (own_token s) (three s d b.0), b.1)
 
   -- behind specifiers and a declarator
   unfoldable pub external_behind : Syn → Syn → Names → List Lexeme → Parsed

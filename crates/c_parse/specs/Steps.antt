@@ -4,12 +4,15 @@ use Rattle.ck_base.specs.Tokens.{Lexeme}
 use Rattle.c_tree.specs.declared.syntax.NodeKind.{NodeKind}
 use Rattle.c_tree.specs.declared.syntax.NodeKind.TheVariants as Kinds
 use Rattle.c_tree.specs.Syntax.{Syns, node, nil, more, one, own_token}
-use Rattle.c_tree.specs.Grammar.{has_any, count, is_typedef_word, is_typedef_node, names_type, defines_types, names_a_type, Naming, Goal, Expression, Declarator, Parameter, Member, Enumerator, Initializer}
+use Rattle.c_tree.specs.Grammar.{has_any, count, is_typedef_word, is_typedef_node, names_type, defines_types}
+use Rattle.c_tree.specs.Grammar.{names_a_type, Naming, Goal, Expression, Declarator, Parameter, Member, Enumerator}
+use Rattle.c_tree.specs.Grammar.{Initializer}
 use Rattle.c_parse.specs.declared.steps.Phrase.{Phrase}
 use Rattle.c_parse.specs.declared.steps.Phrase.TheVariants as Phrases
 use Rattle.c_parse.specs.declared.steps.Step.{Step}
 use Rattle.c_parse.specs.declared.steps.Step.TheVariants as Steps
-use Rattle.c_parse.specs.Reading.{◌>>=◌, Names, Parsed, ParsedParts, Reader, expect, is_close_brace, listed, members, specifiers, optional_declarator, type_name}
+use Rattle.c_parse.specs.Reading.{◌>>=◌, Names, Parsed, ParsedParts, Reader, expect, is_close_brace, listed, members}
+use Rattle.c_parse.specs.Reading.{specifiers, optional_declarator, type_name}
 use Rattle.c_parse.specs.Got.{is_mark, naming_of, after, Got, GotParts}
 use Rattle.c_parse.specs.declared.cursor.Cursor.{Cursor}
 use Rattle.c_parse.specs.declared.steps.Gathered.{Gathered}
@@ -46,7 +49,8 @@ module _ (rec : Reader) where
   -- specifiers, and a declarator or nothing
   abbrev pub specified_from : NodeKind → Naming → Names → List Lexeme → Parsed
   specified_from k m types ts =
-      specifiers rec types ts >>= λ s. optional_declarator rec m types s.1 >>= λ d. Some (node k (own_token s.0) (more s.0 d.0), d.1)
+      specifiers rec types ts >>= λ s. optional_declarator rec m types s.1
+      >>= λ d. Some (node k (own_token s.0) (more s.0 d.0), d.1)
 
   -- members and the closing brace, at most k members
   abbrev pub members_from : ℕ → Names → List Lexeme → ParsedParts

@@ -10,7 +10,8 @@ use Rattle.c_parse.specs.declared.cursor.Part.{Part}
 use Rattle.c_parse.specs.declared.cursor.Root.{Root}
 use Rattle.c_parse.specs.declared.cursor.Stop.{Stop}
 use Rattle.c_parse.specs.declared.cursor.Stop.TheVariants.{NoMemory, NoTree}
-use Rattle.c_parse.specs.Reading.{◌>>=◌, Names, Parsed, Reader, is_open_bracket, is_open_parenthesis, parts_of, array_from, function_from, suffixes, read}
+use Rattle.c_parse.specs.Reading.{◌>>=◌, Names, Parsed, Reader, is_open_bracket, is_open_parenthesis, parts_of}
+use Rattle.c_parse.specs.Reading.{array_from, function_from, suffixes, read}
 use Rattle.c_parse.specs.Got.{IsPlaceOf, MeansOption, Grows, Paid, names_of, rest_of}
 
 -- the height of a part that may be missing
@@ -36,7 +37,8 @@ module _ (rec : Reader) (h : ℕ) where
   next_from x types [] = Some (None, [])
   next_from x types (o ∷ ts) =
       if is_open_bracket (symbol o) then (array_from rec h x o types ts >>= λ b. Some (Some b.0, b.1))
-      else (if is_open_parenthesis (symbol o) then (function_from rec h x o types ts >>= λ b. Some (Some b.0, b.1)) else Some (None, o ∷ ts))
+      else (if is_open_parenthesis (symbol o) then (function_from rec h x o types ts >>= λ b. Some (Some b.0, b.1))
+      else Some (None, o ∷ ts))
 
   -- a declarator of x and at most k - 1 suffixes
   abbrev pub suffixed : ℕ → Names → Option Syn → List Lexeme → Parsed
@@ -48,7 +50,8 @@ pub record Suffixes (old now : Cursor) (below : ℕ) (types : Names) (x : Option
   pub means : MeansOption now.nodes.items part tree
   pub turns : ℕ
   pub enough : suc (suc below) ≤ turns + highest (parts_of tree)
-  pub same : suffixes (read below) (suc below) (suc (suc below)) types x (rest_of old) ≡ suffixes (read below) (suc below) turns types tree (rest_of now)
+  pub same : suffixes (read below) (suc below) (suc (suc below)) types x (rest_of old)
+      ≡ suffixes (read below) (suc below) turns types tree (rest_of now)
   pub grows : Grows old.nodes.items now.nodes.items
 
 -- either no suffix was read yet, or those that were leave something over

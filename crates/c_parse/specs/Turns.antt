@@ -2,7 +2,8 @@
 use Rattle.std.specs.Prelude.{ℕ, ℤ, pos, ◌+ℤ◌}
 use Rattle.std.proofs.Common.{neg_ℤ}
 use Rattle.c_tree.specs.declared.syntax.Symbol.{Symbol}
-use Rattle.c_tree.specs.declared.syntax.Symbol.TheVariants.{OpenParenthesis, CloseParenthesis, OpenBracket, CloseBracket, OpenBrace, CloseBrace}
+use Rattle.c_tree.specs.declared.syntax.Symbol.TheVariants.{OpenParenthesis, CloseParenthesis, OpenBracket}
+use Rattle.c_tree.specs.declared.syntax.Symbol.TheVariants.{CloseBracket, OpenBrace, CloseBrace}
 
 abbrev pub opening : Symbol → ℕ
 opening OpenParenthesis = 1

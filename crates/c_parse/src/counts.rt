@@ -39,7 +39,8 @@ impl<'a> Counts<'a> {
     /// One more of a text.
     pub(crate) fn add(&mut self, text: &'a [u8]) -> Result<(), AllocError>
         requires { count_of self.old text.now + 1 < 2 ^ 64 }
-        ensures ok { OnOk result ((other : List ℕ) → count_of self.new other ≡ count_of self.old other + (if bytes_eq text.now other then 1 else 0)) }
+        ensures ok { OnOk result ((other : List ℕ) →
+            count_of self.new other ≡ count_of self.old other + (if bytes_eq text.now other then 1 else 0)) }
         ensures err { OnErr result ((other : List ℕ) → count_of self.new other ≡ count_of self.old other) }
         ensures succeeds { HasRoom self.old → IsOk result }
     {
@@ -50,7 +51,8 @@ impl<'a> Counts<'a> {
 
     /// One fewer of a text.
     pub(crate) fn remove(&mut self, text: &[u8])
-        ensures { (other : List ℕ) → count_of self.new other ≡ count_of self.old other - (if bytes_eq text.now other then 1 else 0) }
+        ensures { (other : List ℕ) →
+            count_of self.new other ≡ count_of self.old other - (if bytes_eq text.now other then 1 else 0) }
     {
         if let Some(count) = self.table.get_mut(text) {
             *count = count.saturating_sub(1);

@@ -1,6 +1,7 @@
 //! Reading on through the tokens, and adding the nodes of what was read.
 
-ghost use Rattle.std.specs.Prelude.{◌≡◌, ℕ, ◌+◌, ◌<◌, ◌≤◌, ◌^◌, max, true, false, [], ◌∷◌, ◌++◌, length, Some, None, Err, IfSome, IfNone, MatchOption, MatchResult, IfOk, IfErr};
+ghost use Rattle.std.specs.Prelude.{◌≡◌, ℕ, ◌+◌, ◌<◌, ◌≤◌, ◌^◌, max, true, false, [], ◌∷◌, ◌++◌, length, Some, None};
+ghost use Rattle.std.specs.Prelude.{Err, IfSome, IfNone, MatchOption, MatchResult, IfOk, IfErr};
 ghost use Rattle.ck_base.specs.Tokens.{Lexeme};
 ghost use Rattle.c_tree.specs.Symbols.{symbol};
 ghost use Rattle.c_tree.specs.Syntax.{Syn, Syns, node, nil, one, first_token, weight as weight_of};
@@ -245,7 +246,8 @@ impl<'a> Cursor<'a> {
     pub(crate) fn expect(&mut self, mark: Mark) -> Result<(), Stop>
         ensures nodes { self.new.nodes.items ≡ self.old.nodes.items }
         ensures size { IfOk result (λ _. length (rest_of self.old) ≡ length (rest_of self.new) + 1) }
-        ensures found { MatchResult result (λ _. expect_of (is_mark mark) (rest_of self.old) ≡ Some (rest_of self.new)) (λ e. Fails e (expect_of (is_mark mark) (rest_of self.old))) }
+        ensures found { MatchResult result (λ _. expect_of (is_mark mark) (rest_of self.old) ≡ Some (rest_of self.new))
+            (λ e. Fails e (expect_of (is_mark mark) (rest_of self.old))) }
     {
         if self.takes(mark) {
             Ok(())
@@ -268,7 +270,8 @@ impl<'a> Cursor<'a> {
     /// The parts of a node that has one so far.
     pub(crate) fn only(&self, part: Part) -> Result<Parts, Stop>
         ensures size { IfOk result (λ parts. parts.height ≡ part.entry.height) }
-        ensures one { MatchResult result (λ parts. (x : Syn) → Means self.now.nodes.items part.entry x → Holds self.now.nodes.items parts (one x)) (λ e. e ≡ Stop.NoMemory) }
+        ensures one { MatchResult result (λ parts. (x : Syn) → Means self.now.nodes.items part.entry x →
+            Holds self.now.nodes.items parts (one x)) (λ e. e ≡ Stop.NoMemory) }
     {
         let mut kids = Vec::new(self.alloc);
         kids.push(part.number)?;
@@ -282,11 +285,13 @@ impl<'a> Cursor<'a> {
     pub(crate) fn make(&mut self, root: Root<'a>, parts: Parts) -> Result<Part<'a>, Stop>
         requires room { length self.old.nodes.items < 2 ^ 32 }
         requires height { parts.height < 2 ^ 31 }
-        ensures size { IfOk result (λ part. (length self.new.nodes.items ≡ length self.old.nodes.items + 1) × (part.height ≡ parts.height + weight_of root.entry.kind)) }
+        ensures size { IfOk result (λ part. (length self.new.nodes.items ≡ length self.old.nodes.items + 1) ×
+            (part.height ≡ parts.height + weight_of root.entry.kind)) }
         ensures low { IfOk result (λ part. part.height ≤ parts.height + 1) }
         ensures kind { IfOk result (λ part. part.root ≡ root.entry) }
         ensures rest { rest_of self.new ≡ rest_of self.old }
-        ensures tree { MatchResult result (λ part. Made self.old.nodes.items self.new.nodes.items root.entry parts part) (λ e. e ≡ Stop.NoMemory) }
+        ensures tree { MatchResult result (λ part. Made self.old.nodes.items self.new.nodes.items root.entry parts part)
+            (λ e. e ≡ Stop.NoMemory) }
     {
         let number = self.nodes.len() as u32;
         let Parts { kids, height } = parts;
@@ -319,7 +324,9 @@ impl<'a> Cursor<'a> {
         ensures kind { IfOk result (λ part. part.root.kind ≡ kind) }
         ensures rest { rest_of self.new ≡ rest_of self.old }
         ensures grows { IfOk result (λ part. Grows self.old.nodes.items self.new.nodes.items) }
-        ensures tree { MatchResult result (λ part. Joined self.old.nodes.items self.new.nodes.items kind item.now first parts part) (λ e. e ≡ Stop.NoMemory) }
+        ensures tree { MatchResult result (λ part.
+            Joined self.old.nodes.items self.new.nodes.items kind item.now first parts part)
+            (λ e. e ≡ Stop.NoMemory) }
     {
         let own = item.place();
         self.make(
@@ -341,7 +348,8 @@ impl<'a> Cursor<'a> {
         ensures kind { IfOk result (λ part. part.root.kind ≡ kind) }
         ensures rest { rest_of self.new ≡ rest_of self.old }
         ensures grows { IfOk result (λ part. Grows self.old.nodes.items self.new.nodes.items) }
-        ensures tree { MatchResult result (λ part. declared_names (node kind item.now nil) ≡ [] → Means self.new.nodes.items part (node kind item.now nil)) (λ e. e ≡ Stop.NoMemory) }
+        ensures tree { MatchResult result (λ part. declared_names (node kind item.now nil) ≡ [] →
+            Means self.new.nodes.items part (node kind item.now nil)) (λ e. e ≡ Stop.NoMemory) }
     {
         let parts = self.no_parts();
         self.join(kind, item, item.place(), parts)

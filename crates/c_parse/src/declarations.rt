@@ -1,9 +1,12 @@
-//! Declarations (C11 6.7). The names of types that a declaration adds are in force behind each declarator, the latest first.
+//! Declarations (C11 6.7). The names of types that a declaration adds are in force behind each declarator, the latest
+//! first.
 ghost use Rattle.std.specs.Prelude.{◌≡◌, ℕ, suc, ◌+◌, ◌<◌, ◌≤◌, ◌^◌, ◌++◌, length, Some, MatchResult, IfOk, IfErr};
 ghost use Rattle.c_tree.specs.Syntax.{Syn, Syns, node, one, own_token};
 ghost use Rattle.c_parse.specs.Reading.{read as reader};
-ghost use Rattle.c_parse.specs.Statements.{initialize as initialize_from, initialized as initialized_from, declaration_behind as declaration_behind_from, declare as declare_from};
-ghost use Rattle.c_parse.specs.Got.{rest_of, in_force, naming_of, IsRoomy, Paid, Owed, Grows, Reads, ReadsParts, Means, Holds, Fails, after};
+ghost use Rattle.c_parse.specs.Statements.{initialize as initialize_from, initialized as initialized_from};
+ghost use Rattle.c_parse.specs.Statements.{declaration_behind as declaration_behind_from, declare as declare_from};
+ghost use Rattle.c_parse.specs.Got.{rest_of, in_force, naming_of, IsRoomy, Paid, Owed, Grows, Reads, ReadsParts, Means};
+ghost use Rattle.c_parse.specs.Got.{Holds, Fails, after};
 ghost use Rattle.c_parse.specs.Blocks.{adds, valued, declared, Specifies, GotDeclared, GotNaming};
 ghost use Rattle.c_tree.specs.declared.syntax.NodeKind.TheVariants as kinds;
 
@@ -39,7 +42,8 @@ fn valued_declarator<'a>(
     requires low { declarator.height ≤ below }
     ensures size { IfOk result (λ _. Owed cursor.old cursor.new 0) }
     ensures low { IfOk result (λ parts. parts.height ≤ below) }
-    ensures tree { (x : Syn) → Means cursor.old.nodes.items declarator.entry x → ReadsParts cursor.old cursor.new (valued (reader below) x (in_force types.now) (rest_of cursor.old)) result }
+    ensures tree { (x : Syn) → Means cursor.old.nodes.items declarator.entry x →
+        ReadsParts cursor.old cursor.new (valued (reader below) x (in_force types.now) (rest_of cursor.old)) result }
 {
     let parts = cursor.only(declarator)?;
     if !cursor.takes(Mark::Equals) {
@@ -63,7 +67,9 @@ fn initialize<'a>(
     ensures size { IfOk result (λ _. Owed cursor.old cursor.new 1) }
     ensures low { IfOk result (λ part. part.height ≤ below) }
     ensures names { IfOk result (λ part. in_force types.new ≡ adds defines part.root ++ in_force types.old) }
-    ensures tree { (x : Syn) → Means cursor.old.nodes.items declarator.entry x → Reads cursor.old cursor.new (initialize_from (reader below) below defines x (in_force types.old) (rest_of cursor.old)) result }
+    ensures tree { (x : Syn) → Means cursor.old.nodes.items declarator.entry x →
+        Reads cursor.old cursor.new (initialize_from (reader below) below defines x (in_force types.old)
+        (rest_of cursor.old)) result }
 {
     define(types, defines, declarator.root)?;
     let parts = valued_declarator(cursor, types, declarator, below)?;
@@ -95,7 +101,8 @@ fn declarator<'a>(
     ensures size { IfOk result (λ _. Paid cursor.old cursor.new 3) }
     ensures low { IfOk result (λ part. part.height ≤ below) }
     ensures names { IfOk result (λ part. in_force types.new ≡ adds defines part.root ++ in_force types.old) }
-    ensures tree { Reads cursor.old cursor.new (declared (reader below) below (naming_of naming) defines (in_force types.old) (rest_of cursor.old)) result }
+    ensures tree { Reads cursor.old cursor.new
+        (declared (reader below) below (naming_of naming) defines (in_force types.old) (rest_of cursor.old)) result }
 {
     let declarator = read(cursor, types, Phrase::Declarator(naming), below)?;
     initialize(cursor, types, defines, declarator, below)
@@ -118,10 +125,14 @@ fn declarators<'a>(
     ensures size { IfOk result (λ _. Owed cursor.old cursor.new 1) }
     ensures low { IfOk result (λ parts. parts.height ≤ below) }
     ensures more { IfOk result (λ _. length (in_force types.old) ≤ length (in_force types.new)) }
-    ensures tree { (ys : Syns) (x : Syn) → Holds cursor.old.nodes.items start ys → Means cursor.old.nodes.items first.entry x →
+    ensures tree { (ys : Syns) (x : Syn) → Holds cursor.old.nodes.items start ys →
+        Means cursor.old.nodes.items first.entry x →
         MatchResult result
-        (λ parts. GotDeclared cursor.old cursor.new (in_force types.old) (in_force types.new) defines ys (initialized_from (reader below) below (suc (length (rest_of cursor.old))) (naming_of naming) defines x (in_force types.old) (rest_of cursor.old)) parts)
-        (λ e. Fails e (after ys (initialized_from (reader below) below (suc (length (rest_of cursor.old))) (naming_of naming) defines x (in_force types.old) (rest_of cursor.old)))) }
+        (λ parts. GotDeclared cursor.old cursor.new (in_force types.old) (in_force types.new) defines ys
+        (initialized_from (reader below) below (suc (length (rest_of cursor.old))) (naming_of naming) defines x
+        (in_force types.old) (rest_of cursor.old)) parts)
+        (λ e. Fails e (after ys (initialized_from (reader below) below (suc (length (rest_of cursor.old)))
+        (naming_of naming) defines x (in_force types.old) (rest_of cursor.old)))) }
 {
     let mut parts = start;
     let part = initialize(cursor, types, defines, first, below)?;
@@ -133,7 +144,8 @@ fn declarators<'a>(
     Ok(parts)
 }
 
-/// A declaration, behind its specifiers and the first declarator. The names that it adds are in force in their order then.
+/// A declaration, behind its specifiers and the first declarator. The names that it adds are in force in their order
+/// then.
 pub(crate) fn declaration_behind<'a>(
     cursor: &mut Cursor<'a>,
     types: &mut TypeNames<'a>,
@@ -148,10 +160,14 @@ pub(crate) fn declaration_behind<'a>(
     requires low { first.height ≤ below }
     ensures size { IfOk result (λ _. Paid cursor.old cursor.new 6) }
     ensures low { IfOk result (λ part. part.height ≤ below + 1) }
-    ensures tree { (s x : Syn) → Specifies cursor.old.nodes.items specified.entry s → Means cursor.old.nodes.items first.entry x →
+    ensures tree { (s x : Syn) → Specifies cursor.old.nodes.items specified.entry s →
+        Means cursor.old.nodes.items first.entry x →
         MatchResult result
-        (λ part. GotNaming cursor.old cursor.new (in_force types.old) (in_force types.new) (declaration_behind_from (reader below) below (naming_of naming) s x (in_force types.old) (rest_of cursor.old)) part)
-        (λ e. Fails e (declaration_behind_from (reader below) below (naming_of naming) s x (in_force types.old) (rest_of cursor.old))) }
+        (λ part. GotNaming cursor.old cursor.new (in_force types.old) (in_force types.new)
+        (declaration_behind_from (reader below) below (naming_of naming) s x (in_force types.old)
+        (rest_of cursor.old)) part)
+        (λ e. Fails e (declaration_behind_from (reader below) below (naming_of naming) s x (in_force types.old)
+        (rest_of cursor.old))) }
 {
     let before = types.len();
     let start = cursor.only(specified.part)?;
@@ -192,7 +208,8 @@ pub(crate) fn specifiers_only<'a>(
     ensures rest { rest_of cursor.new ≡ rest_of cursor.old }
     ensures grows { IfOk result (λ part. Grows cursor.old.nodes.items cursor.new.nodes.items) }
     ensures tree { (s : Syn) → Means cursor.old.nodes.items specified.entry.part s →
-        MatchResult result (λ part. Means cursor.new.nodes.items part (node kinds.Declaration (own_token s) (one s))) (λ e. e ≡ Stop.NoMemory) }
+        MatchResult result (λ part. Means cursor.new.nodes.items part (node kinds.Declaration (own_token s) (one s)))
+        (λ e. e ≡ Stop.NoMemory) }
 {
     let parts = cursor.only(specified.part)?;
     let own = specified.part.root.own;
@@ -218,7 +235,8 @@ pub(crate) fn declare<'a>(
     ensures size { IfOk result (λ _. Paid cursor.old cursor.new 4) }
     ensures low { IfOk result (λ part. part.height ≤ budget) }
     ensures tree { MatchResult result
-        (λ part. GotNaming cursor.old cursor.new (in_force types.old) (in_force types.new) (declare_from budget (in_force types.old) (rest_of cursor.old)) part)
+        (λ part. GotNaming cursor.old cursor.new (in_force types.old) (in_force types.new)
+        (declare_from budget (in_force types.old) (rest_of cursor.old)) part)
         (λ e. Fails e (declare_from budget (in_force types.old) (rest_of cursor.old))) }
 {
     if budget == 0 {

@@ -5,8 +5,10 @@ ghost use Rattle.ck_base.specs.Tokens.{is_among};
 ghost use Rattle.c_tree.specs.Syntax.{Syn};
 ghost use Rattle.c_parse.specs.Reading.{past};
 ghost use Rattle.c_tree.specs.Grammar.{predeclared, defines_types, names_a_type, naming as naming_from};
-ghost use Rattle.c_parse.specs.Statements.{definition_from, external as external_from, externals as externals_from, read_file};
-ghost use Rattle.c_parse.specs.Got.{rest_of, in_force, naming_of, names_of, IsRoomy, Paid, Owed, Reads, Means, Holds, Fails};
+ghost use Rattle.c_parse.specs.Statements.{definition_from, external as external_from, externals as externals_from};
+ghost use Rattle.c_parse.specs.Statements.{read_file};
+ghost use Rattle.c_parse.specs.Got.{rest_of, in_force, naming_of, names_of, IsRoomy, Paid, Owed, Reads, Means, Holds};
+ghost use Rattle.c_parse.specs.Got.{Fails};
 ghost use Rattle.c_parse.specs.Blocks.{outer, declared_externally, Specifies, GotNaming, GotExternals, GotFile};
 
 use crate::cursor::{Cursor, Mark, Part, Parts, Root, Stop};
@@ -34,7 +36,8 @@ fn is_plain(types: &TypeNames, root: Root) -> bool
 
 // How the first declarator of an external definition names what it declares: a declaration may define a type again.
 fn external_naming(specified: Specified) -> Naming
-    ensures { (s : Syn) → specified.entry.defines ≡ defines_types s → specified.entry.names_type ≡ names_a_type s → naming_of result ≡ naming_from true s }
+    ensures { (s : Syn) → specified.entry.defines ≡ defines_types s → specified.entry.names_type ≡ names_a_type s →
+        naming_of result ≡ naming_from true s }
 {
     if specified.defines && specified.names_type {
         Naming::Any
@@ -57,7 +60,10 @@ fn definition<'a>(
     ensures size { IfOk result (λ _. Owed cursor.old cursor.new 2) }
     ensures low { IfOk result (λ part. part.height ≤ BELOW + 1) }
     ensures names { IfOk result (λ part. in_force types.new ≡ in_force types.old) }
-    ensures tree { (s d : Syn) → Means cursor.old.nodes.items specified.entry.part s → Means cursor.old.nodes.items declarator.entry d → Reads cursor.old cursor.new (definition_from 199 s d brace.now (in_force types.old) (rest_of cursor.old)) result }
+    ensures tree { (s d : Syn) → Means cursor.old.nodes.items specified.entry.part s →
+        Means cursor.old.nodes.items declarator.entry d →
+        Reads cursor.old cursor.new (definition_from 199 s d brace.now (in_force types.old) (rest_of cursor.old))
+        result }
 {
     let body = block(cursor, types, brace, BELOW - 1)?;
     let mut parts = cursor.only(specified.part)?;
@@ -87,7 +93,8 @@ fn external_behind<'a>(
     ensures low { IfOk result (λ part. part.height ≤ BELOW + 1) }
     ensures tree { (s : Syn) → Specifies cursor.old.nodes.items specified.entry s →
         MatchResult result
-        (λ part. GotNaming cursor.old cursor.new (in_force types.old) (in_force types.new) (declared_externally s (in_force types.old) (rest_of cursor.old)) part)
+        (λ part. GotNaming cursor.old cursor.new (in_force types.old) (in_force types.new)
+        (declared_externally s (in_force types.old) (rest_of cursor.old)) part)
         (λ e. Fails e (declared_externally s (in_force types.old) (rest_of cursor.old))) }
 {
     let naming = external_naming(specified);
@@ -107,7 +114,8 @@ fn external<'a>(cursor: &mut Cursor<'a>, types: &mut TypeNames<'a>) -> Result<Pa
     ensures size { IfOk result (λ _. Paid cursor.old cursor.new 0) }
     ensures low { IfOk result (λ part. part.height ≤ BELOW + 1) }
     ensures tree { MatchResult result
-        (λ part. GotNaming cursor.old cursor.new (in_force types.old) (in_force types.new) (external_from 199 (in_force types.old) (rest_of cursor.old)) part)
+        (λ part. GotNaming cursor.old cursor.new (in_force types.old) (in_force types.new)
+        (external_from 199 (in_force types.old) (rest_of cursor.old)) part)
         (λ e. Fails e (external_from 199 (in_force types.old) (rest_of cursor.old))) }
 {
     let specified = specifiers(cursor, types, BELOW)?;
@@ -128,7 +136,8 @@ fn outer_item<'a>(
     ensures size { IfOk result (λ _. Paid cursor.old cursor.new 0) }
     ensures low { IfOk result (λ part. part.height ≤ BELOW + 1) }
     ensures tree { MatchResult result
-        (λ part. GotNaming cursor.old cursor.new (in_force types.old) (in_force types.new) (outer 199 (in_force types.old) (rest_of cursor.old)) part)
+        (λ part. GotNaming cursor.old cursor.new (in_force types.old) (in_force types.new)
+        (outer 199 (in_force types.old) (rest_of cursor.old)) part)
         (λ e. Fails e (outer 199 (in_force types.old) (rest_of cursor.old))) }
 {
     if cursor.takes(Mark::Semicolon) {
@@ -143,8 +152,10 @@ fn externals<'a>(cursor: &mut Cursor<'a>, types: &mut TypeNames<'a>) -> Result<P
     ensures size { IfOk result (λ _. Owed cursor.old cursor.new 0) }
     ensures low { IfOk result (λ parts. parts.height ≤ BELOW + 1) }
     ensures tree { MatchResult result
-        (λ parts. GotExternals cursor.new (externals_from 199 (suc (length (rest_of cursor.old))) (in_force types.old) (rest_of cursor.old)) parts)
-        (λ e. Fails e (externals_from 199 (suc (length (rest_of cursor.old))) (in_force types.old) (rest_of cursor.old))) }
+        (λ parts. GotExternals cursor.new (externals_from 199 (suc (length (rest_of cursor.old))) (in_force types.old)
+        (rest_of cursor.old)) parts)
+        (λ e. Fails e (externals_from 199 (suc (length (rest_of cursor.old))) (in_force types.old)
+        (rest_of cursor.old))) }
 {
     let mut parts = cursor.no_parts();
     'list: while let Some(item) = cursor.first() {
@@ -158,8 +169,10 @@ fn externals<'a>(cursor: &mut Cursor<'a>, types: &mut TypeNames<'a>) -> Result<P
 pub(crate) fn file<'a>(cursor: &mut Cursor<'a>, types: &mut TypeNames<'a>) -> Result<Part<'a>, Stop>
     requires room { IsRoomy cursor.old }
     requires names { in_force types.old ≡ predeclared }
-    ensures size { IfOk result (λ _. length cursor.new.nodes.items ≤ length cursor.old.nodes.items + 8 * length (rest_of cursor.old) + 1) }
-    ensures tree { MatchResult result (λ part. GotFile cursor.new (read_file 199 (rest_of cursor.old)) part) (λ e. Fails e (read_file 199 (rest_of cursor.old))) }
+    ensures size { IfOk result (λ _. length cursor.new.nodes.items ≤ length cursor.old.nodes.items
+        + 8 * length (rest_of cursor.old) + 1) }
+    ensures tree { MatchResult result (λ part. GotFile cursor.new (read_file 199 (rest_of cursor.old)) part)
+        (λ e. Fails e (read_file 199 (rest_of cursor.old))) }
 {
     let parts = externals(cursor, types)?;
     let own = Place {

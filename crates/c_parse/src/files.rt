@@ -1,5 +1,6 @@
 //! The tree of a file, from the reader of its tokens.
-ghost use Rattle.std.specs.Prelude.{◌≡◌, ℕ, ◌+◌, ◌<◌, ◌≤◌, ◌^◌, List, [], ◌∷◌, ◌++◌, map, reverse, length, Some, None, IfOk, MatchResult};
+ghost use Rattle.std.specs.Prelude.{◌≡◌, ℕ, ◌+◌, ◌<◌, ◌≤◌, ◌^◌, List, [], ◌∷◌, ◌++◌, map, reverse, length, Some, None};
+ghost use Rattle.std.specs.Prelude.{IfOk, MatchResult};
 ghost use Rattle.ck_base.specs.Tokens.{Lexeme};
 ghost use Rattle.c_tree.specs.Grammar.{predeclared as predeclared_names};
 ghost use Rattle.c_tree.specs.File.{IsTokenPlace};
@@ -193,12 +194,14 @@ fn tree_of<'a>(alloc: Global, tokens: Tokens<'a>) -> Result<Tree, Refusal>
     }
 }
 
-/// The tree of a file (C11 6.5 to 6.9), from the reader of its tokens, none of which was taken before. The file is refused by the first of
-/// these codes that applies: 100 to 104, as its tokens are; 121, at the bracket by which the excess of opening over closing brackets
-/// reaches 201; 120, at the position of a token, where the grammar has no tree of at most 200 levels for the tokens. It may be
-/// refused for want of memory at any time. A tree has at most 67,108,864 nodes.
+/// The tree of a file (C11 6.5 to 6.9), from the reader of its tokens, none of which was taken before. The file is
+/// refused by the first of these codes that applies: 100 to 104, as its tokens are; 121, at the bracket by which the
+/// excess of opening over closing brackets reaches 201; 120, at the position of a token, where the grammar has no tree
+/// of at most 200 levels for the tokens. It may be refused for want of memory at any time. A tree has at most
+/// 67,108,864 nodes.
 ///
-/// The tokens are read twice, and no list of them is kept: first up to the end, for the refusals before 120; then for the tree.
+/// The tokens are read twice, and no list of them is kept: first up to the end, for the refusals before 120; then for
+/// the tree.
 pub fn parse<'a>(alloc: Global, tokens: Tokens<'a>) -> Result<Tree, Refusal>
     requires { tokens.at ≡ 0 }
     ensures { Answers tokens.entry.file result }

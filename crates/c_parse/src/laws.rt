@@ -19,25 +19,31 @@ pub fn one_tree()
     ensures { (tokens : List Lexeme) (x y : Syn) → DerivesFile tokens x → DerivesFile tokens y → x ≡ y }
 {}
 
-/// Reading from left to right finds the tree of a file where it has one of at most so many levels, and finds nothing else.
+/// Reading from left to right finds the tree of a file where it has one of at most so many levels, and finds nothing
+/// else.
 pub fn readings_are_trees()
-    ensures sound { (h : ℕ) (tokens : List Lexeme) (x : Syn) → read_file h tokens ≡ Some x → DerivesFile tokens x × (height x ≤ suc h) }
-    ensures complete { (h : ℕ) (tokens : List Lexeme) (x : Syn) → DerivesFile tokens x → height x ≤ suc h → read_file h tokens ≡ Some x }
+    ensures sound { (h : ℕ) (tokens : List Lexeme) (x : Syn) → read_file h tokens ≡ Some x →
+        DerivesFile tokens x × (height x ≤ suc h) }
+    ensures complete { (h : ℕ) (tokens : List Lexeme) (x : Syn) → DerivesFile tokens x → height x ≤ suc h →
+        read_file h tokens ≡ Some x }
 {}
 
-/// What `parse` answers is the only answer to a file, up to the numbers of the nodes and to the place of 120: a file has at
-/// most one tree or is refused by one code, and never both.
+/// What `parse` answers is the only answer to a file, up to the numbers of the nodes and to the place of 120: a file
+/// has at most one tree or is refused by one code, and never both.
 pub fn one_answer()
-    ensures tree { (file : List ℕ) (a b : Tree) (s : IsTreeOf file a) (t : IsTreeOf file b) → s.parses.syntax ≡ t.parses.syntax }
-    ensures apart { (file : List ℕ) (tree : Tree) (code : ℕ) (place : Pos) → IsTreeOf file tree → IsRefused file code place → ⊥ }
-    ensures refusal { (file : List ℕ) (code other : ℕ) (place elsewhere : Pos) → IsRefused file code place → IsRefused file other elsewhere →
+    ensures tree { (file : List ℕ) (a b : Tree) (s : IsTreeOf file a) (t : IsTreeOf file b) →
+        s.parses.syntax ≡ t.parses.syntax }
+    ensures apart { (file : List ℕ) (tree : Tree) (code : ℕ) (place : Pos) → IsTreeOf file tree →
+        IsRefused file code place → ⊥ }
+    ensures refusal { (file : List ℕ) (code other : ℕ) (place elsewhere : Pos) → IsRefused file code place →
+        IsRefused file other elsewhere →
         (code ≡ other) × ((code ≡ 120) ⊎ (place ≡ elsewhere)) }
 {
     one_reading();
 }
 
-/// A file is at most one program, whatever the numbers of its nodes and types, or it is refused by one code, at one position but for 120,
-/// and never both.
+/// A file is at most one program, whatever the numbers of its nodes and types, or it is refused by one code, at one
+/// position but for 120, and never both.
 pub fn one_file()
     ensures { (bytes : List ℕ) → OneFile bytes }
 {}

@@ -2,8 +2,11 @@
 
 ghost use Rattle.std.specs.Prelude.{◌≡◌, ℕ, ◌≤◌, List, [], ◌∷◌, ◌++◌, length, reverse, drop, IfOk};
 ghost use Rattle.ck_base.specs.Tokens.{is_among};
-ghost use Rattle.c_tree.specs.Grammar.{is_typedef_name, is_word as is_word_of, may_be_nameless as may_be_nameless_of, is_declared_by as is_declared_by_of};
-ghost use Rattle.c_parse.specs.Reading.{begins_type, starts_with, starts, begins_specifier as begins_specifier_of, begins_declarator as begins_declarator_of, opens_type as opens_type_of, opens_parameters as opens_parameters_of, goes_on_listing as goes_on_listing_of};
+ghost use Rattle.c_tree.specs.Grammar.{is_typedef_name, is_word as is_word_of, may_be_nameless as may_be_nameless_of};
+ghost use Rattle.c_tree.specs.Grammar.{is_declared_by as is_declared_by_of};
+ghost use Rattle.c_parse.specs.Reading.{begins_type, starts_with, starts, begins_specifier as begins_specifier_of};
+ghost use Rattle.c_parse.specs.Reading.{begins_declarator as begins_declarator_of, opens_type as opens_type_of};
+ghost use Rattle.c_parse.specs.Reading.{opens_parameters as opens_parameters_of, goes_on_listing as goes_on_listing_of};
 ghost use Rattle.ck_base.specs.Tokens.{Lexeme};
 ghost use Rattle.c_parse.specs.Got.{in_force, naming_of, encloses, is_mark};
 ghost use Rattle.c_parse.specs.Begins.{Begins};
@@ -102,7 +105,8 @@ impl<'a> TypeNames<'a> {
     /// Puts the names behind the first so many in the other order.
     pub(crate) fn reverse_from(&mut self, count: usize)
         requires { count ≤ length (in_force self.old) }
-        ensures { (ys zs : List (List ℕ)) → in_force self.old ≡ ys ++ zs → length zs ≡ count → in_force self.new ≡ reverse ys ++ zs }
+        ensures { (ys zs : List (List ℕ)) → in_force self.old ≡ ys ++ zs → length zs ≡ count →
+            in_force self.new ≡ reverse ys ++ zs }
     {
         let names = self.names.as_mut_slice();
         names[count..].reverse();
@@ -124,7 +128,8 @@ impl<'a> TypeNames<'a> {
 
     /// Whether a type begins with this token, the first of some.
     fn start_at(&self, first: Option<&Item>) -> bool
-        ensures { (ts : List Lexeme) → Begins ts first.entry → result ≡ starts_with (begins_type (in_force self.now)) ts }
+        ensures { (ts : List Lexeme) → Begins ts first.entry →
+            result ≡ starts_with (begins_type (in_force self.now)) ts }
     {
         match first {
             Some(item) => self.begin_with(item),

@@ -1,18 +1,32 @@
-//! Expressions, specifiers, declarators and initializers. Each function reads one phrase, of which the tokens are the first that are left.
-//! What it reads has at most the height `below + 1`, and its parts have at most the height `below`.
-ghost use Rattle.std.specs.Prelude.{◌≡◌, ℕ, suc, ◌+◌, ◌<◌, ◌≤◌, ◌^◌, max, false, true, List, [], ◌∷◌, length, Option, Some, None, option_map, MatchResult, IfOk, IfSome, IfNone, OnErr, Err};
+//! Expressions, specifiers, declarators and initializers. Each function reads one phrase, of which the tokens are the
+//! first that are left. What it reads has at most the height `below + 1`, and its parts have at most the height
+//! `below`.
+ghost use Rattle.std.specs.Prelude.{◌≡◌, ℕ, suc, ◌+◌, ◌<◌, ◌≤◌, ◌^◌, max, false, true, List, [], ◌∷◌, length, Option};
+ghost use Rattle.std.specs.Prelude.{Some, None, option_map, MatchResult, IfOk, IfSome, IfNone, OnErr, Err};
 ghost use Rattle.ck_base.specs.Tokens.{Lexeme};
 ghost use Rattle.c_tree.specs.declared.syntax.Node.{Node as NodeOf};
 ghost use Rattle.c_tree.specs.Syntax.{Syn, Syns, node, more, joined, first_token, weight as weight_of};
 ghost use Rattle.c_tree.specs.Symbols.{symbol, tail_of as tail_table};
-ghost use Rattle.c_parse.specs.Reading.{read as reader, list_of, listed_in_braces, pieces as pieces_from, tag as tag_from, record_from, enum_from, specifier_by, specifier_list as specifier_list_from, specifiers as specifiers_from, optional_declarator as optional_from, member as member_from, enumerator as enumerator_from, initializer as initializer_from, declarator as declarator_from, core as core_from, parts_of, array_from, function_from, operand as operand_from, measure_from, longer as longer_from, expression as expression_from, climb as climb_from, goes_on_specifying as goes_on_specifying_of, goes_on as goes_on_of, starts as starts_of};
+ghost use Rattle.c_parse.specs.Reading.{read as reader, list_of, listed_in_braces, pieces as pieces_from};
+ghost use Rattle.c_parse.specs.Reading.{tag as tag_from, record_from, enum_from, specifier_by};
+ghost use Rattle.c_parse.specs.Reading.{specifier_list as specifier_list_from, specifiers as specifiers_from};
+ghost use Rattle.c_parse.specs.Reading.{optional_declarator as optional_from, member as member_from};
+ghost use Rattle.c_parse.specs.Reading.{enumerator as enumerator_from, initializer as initializer_from};
+ghost use Rattle.c_parse.specs.Reading.{declarator as declarator_from, core as core_from, parts_of, array_from};
+ghost use Rattle.c_parse.specs.Reading.{function_from, operand as operand_from, measure_from, longer as longer_from};
+ghost use Rattle.c_parse.specs.Reading.{expression as expression_from, climb as climb_from};
+ghost use Rattle.c_parse.specs.Reading.{goes_on_specifying as goes_on_specifying_of, goes_on as goes_on_of};
+ghost use Rattle.c_parse.specs.Reading.{starts as starts_of};
 ghost use Rattle.c_tree.specs.Grammar.{declared_names, names_of_first};
-ghost use Rattle.c_parse.specs.Got.{rest_of, in_force, IsPlaceOf, naming_of, some_name, IsRoomy, Paid, Owed, Reads, ReadsParts, Means, MeansOption, Holds, Describes, after, Fails, GotOptional, GotCore};
+ghost use Rattle.c_parse.specs.Got.{rest_of, in_force, IsPlaceOf, naming_of, some_name, IsRoomy, Paid, Owed, Reads};
+ghost use Rattle.c_parse.specs.Got.{ReadsParts, Means, MeansOption, Holds, Describes, after, Fails, GotOptional};
+ghost use Rattle.c_parse.specs.Got.{GotCore};
 ghost use Rattle.c_parse.specs.Suffixes.{height_of, BeginsSuffix, IsTooHigh, next_from, suffixed};
 ghost use Rattle.c_tree.specs.Syntax.{one};
 ghost use Rattle.c_parse.specs.Reading.{starts_with, with_parts, select_from};
 ghost use Rattle.c_parse.specs.Gathering.{Spared};
-ghost use Rattle.c_parse.specs.Steps.{goal_of, run, made_by, follow_from, specified_from, members_from, IsSmall, IsSmallPhrase, AreSmall, IsSpecifying, GotGathered, GotSpecified};
+ghost use Rattle.c_parse.specs.Steps.{goal_of, run, made_by, follow_from, specified_from, members_from, IsSmall};
+ghost use Rattle.c_parse.specs.Steps.{IsSmallPhrase, AreSmall, IsSpecifying, GotGathered, GotSpecified};
 
 use crate::cursor::{Cursor, Mark, Part, Parts, Root, Stop, starts};
 use crate::items::{Item, Place};
@@ -40,7 +54,8 @@ pub(crate) fn read<'a>(
     requires level { IsSmallPhrase phrase }
     ensures size { IfOk result (λ _. Paid cursor.old cursor.new 4) }
     ensures low { IfOk result (λ p. p.height ≤ budget) }
-    ensures tree { Reads cursor.old cursor.new (reader budget (goal_of phrase) (in_force types.now) (rest_of cursor.old)) result }
+    ensures tree { Reads cursor.old cursor.new
+        (reader budget (goal_of phrase) (in_force types.now) (rest_of cursor.old)) result }
 {
     if budget == 0 {
         return Err(Stop::NoTree);
@@ -78,7 +93,9 @@ fn separated<'a>(
     ensures size { IfOk result (λ _. Paid cursor.old cursor.new 4) }
     ensures low { IfOk result (λ p. p.height ≤ below) }
     ensures keeps { IfOk result (λ p. start.height ≤ p.height) }
-    ensures tree { (ys : Syns) → Holds cursor.old.nodes.items start ys → ReadsParts cursor.old cursor.new (after ys (list_of (reader below) (goal_of what) (in_force types.now) (rest_of cursor.old))) result }
+    ensures tree { (ys : Syns) → Holds cursor.old.nodes.items start ys →
+        ReadsParts cursor.old cursor.new (after ys
+        (list_of (reader below) (goal_of what) (in_force types.now) (rest_of cursor.old))) result }
 {
     let mut parts = start;
     let mut part = read(cursor, types, what, below)?;
@@ -106,7 +123,9 @@ fn braced<'a>(
     requires start { start.height ≤ below }
     ensures size { IfOk result (λ _. Paid cursor.old cursor.new 4) }
     ensures low { IfOk result (λ p. p.height ≤ below) }
-    ensures tree { (ys : Syns) → Holds cursor.old.nodes.items start ys → ReadsParts cursor.old cursor.new (after ys (listed_in_braces (reader below) (goal_of what) (in_force types.now) (rest_of cursor.old))) result }
+    ensures tree { (ys : Syns) → Holds cursor.old.nodes.items start ys →
+        ReadsParts cursor.old cursor.new (after ys
+        (listed_in_braces (reader below) (goal_of what) (in_force types.now) (rest_of cursor.old))) result }
 {
     let parts = separated(cursor, types, what, start, below)?;
     cursor.takes(Mark::Comma);
@@ -127,7 +146,10 @@ fn members<'a>(
     requires start { start.height ≤ below }
     ensures size { IfOk result (λ _. Paid cursor.old cursor.new 4) }
     ensures low { IfOk result (λ p. p.height ≤ below) }
-    ensures tree { (ys : Syns) (turns : ℕ) → length (rest_of cursor.old) < turns → Holds cursor.old.nodes.items start ys → ReadsParts cursor.old cursor.new (after ys (members_from (reader below) turns (in_force types.now) (rest_of cursor.old))) result }
+    ensures tree { (ys : Syns) (turns : ℕ) → length (rest_of cursor.old) < turns →
+        Holds cursor.old.nodes.items start ys →
+        ReadsParts cursor.old cursor.new (after ys
+        (members_from (reader below) turns (in_force types.now) (rest_of cursor.old))) result }
 {
     let mut parts = start;
     let mut part = read(cursor, types, Phrase::Member, below)?;
@@ -152,7 +174,9 @@ fn tag_alone<'a>(
     ensures size { IfOk result (λ _. length cursor.new.nodes.items ≡ length cursor.old.nodes.items + 1) }
     ensures low { IfOk result (λ p. p.height ≡ weight_of kind) }
     ensures rest { rest_of cursor.new ≡ rest_of cursor.old }
-    ensures tree { (ys : Syns) → first_token (node kind keyword.now ys) ≡ keyword.now → declared_names (node kind keyword.now ys) ≡ [] → Holds cursor.old.nodes.items tag ys → Reads cursor.old cursor.new (with_parts (node kind keyword.now) ys (rest_of cursor.old)) result }
+    ensures tree { (ys : Syns) → first_token (node kind keyword.now ys) ≡ keyword.now →
+        declared_names (node kind keyword.now ys) ≡ [] → Holds cursor.old.nodes.items tag ys →
+        Reads cursor.old cursor.new (with_parts (node kind keyword.now) ys (rest_of cursor.old)) result }
 {
     if tag.kids.is_empty() {
         return Err(Stop::NoTree);
@@ -173,7 +197,8 @@ fn record_specifier<'a>(
     requires height { below ≤ 200 }
     ensures size { IfOk result (λ _. Owed cursor.old cursor.new 1) }
     ensures low { IfOk result (λ p. p.height ≤ below) }
-    ensures tree { Reads cursor.old cursor.new (record_from (reader below) kind keyword.now (in_force types.now) (rest_of cursor.old)) result }
+    ensures tree { Reads cursor.old cursor.new
+        (record_from (reader below) kind keyword.now (in_force types.now) (rest_of cursor.old)) result }
 {
     let kind = NodeKind::Record(kind);
     let start = tag(cursor)?;
@@ -196,7 +221,8 @@ fn enum_specifier<'a>(
     requires height { below ≤ 200 }
     ensures size { IfOk result (λ _. Owed cursor.old cursor.new 1) }
     ensures low { IfOk result (λ p. p.height ≤ below) }
-    ensures tree { Reads cursor.old cursor.new (enum_from (reader below) keyword.now (in_force types.now) (rest_of cursor.old)) result }
+    ensures tree { Reads cursor.old cursor.new
+        (enum_from (reader below) keyword.now (in_force types.now) (rest_of cursor.old)) result }
 {
     let kind = NodeKind::Enum;
     let start = tag(cursor)?;
@@ -219,7 +245,8 @@ fn specifier<'a>(
     requires height { below ≤ 200 }
     ensures size { IfOk result (λ _. Owed cursor.old cursor.new 1) }
     ensures low { IfOk result (λ p. p.height ≤ below) }
-    ensures tree { Reads cursor.old cursor.new (specifier_by (reader below) (symbol item.now) item.now (in_force types.now) (rest_of cursor.old)) result }
+    ensures tree { Reads cursor.old cursor.new
+        (specifier_by (reader below) (symbol item.now) item.now (in_force types.now) (rest_of cursor.old)) result }
 {
     match item.symbol() {
         Symbol::Specifier(word) => cursor.leaf(NodeKind::Specifier(word), item),
@@ -242,7 +269,8 @@ fn take_specifier<'a>(cursor: &mut Cursor<'a>, types: &TypeNames, named: bool) -
     ensures nodes { cursor.new.nodes.items ≡ cursor.old.nodes.items }
     ensures size { IfSome result (λ _. length (rest_of cursor.old) ≡ length (rest_of cursor.new) + 1) }
     ensures left { IfNone result (rest_of cursor.new ≡ rest_of cursor.old) }
-    ensures other { IfNone result (starts_with (goes_on_specifying_of (in_force types.now) named) (rest_of cursor.old) ≡ false) }
+    ensures other { IfNone result (starts_with (goes_on_specifying_of (in_force types.now) named) (rest_of cursor.old)
+        ≡ false) }
     ensures rest { IfSome result (λ t. rest_of cursor.old ≡ t ∷ rest_of cursor.new) }
     ensures found { IfSome result (λ t. goes_on_specifying_of (in_force types.now) named t ≡ true) }
 {
@@ -266,7 +294,11 @@ fn specifier_list<'a>(
     requires height { below ≤ 200 }
     ensures size { IfOk result (λ g. Spared cursor.old cursor.new (length g.parts.kids.items)) }
     ensures low { IfOk result (λ p. p.parts.height ≤ below) }
-    ensures tree { MatchResult result (λ g. GotGathered cursor.old cursor.new (specifier_list_from (reader below) (suc (length (rest_of cursor.old))) false (in_force types.now) (rest_of cursor.old)) g) (λ e. Fails e (specifier_list_from (reader below) (suc (length (rest_of cursor.old))) false (in_force types.now) (rest_of cursor.old))) }
+    ensures tree { MatchResult result (λ g. GotGathered cursor.old cursor.new
+        (specifier_list_from (reader below) (suc (length (rest_of cursor.old))) false (in_force types.now)
+        (rest_of cursor.old)) g) (λ e. Fails e
+        (specifier_list_from (reader below) (suc (length (rest_of cursor.old))) false (in_force types.now)
+        (rest_of cursor.old))) }
 {
     let mut gathered = Gathered {
         parts: cursor.no_parts(),
@@ -292,7 +324,9 @@ pub(crate) fn specifiers<'a>(
     requires height { below ≤ 200 }
     ensures size { IfOk result (λ _. Paid cursor.old cursor.new 5) }
     ensures low { IfOk result (λ p. p.part.height ≤ below) }
-    ensures tree { MatchResult result (λ s. GotSpecified cursor.old cursor.new (specifiers_from (reader below) (in_force types.now) (rest_of cursor.old)) s) (λ e. Fails e (specifiers_from (reader below) (in_force types.now) (rest_of cursor.old))) }
+    ensures tree { MatchResult result (λ s. GotSpecified cursor.old cursor.new
+        (specifiers_from (reader below) (in_force types.now) (rest_of cursor.old)) s)
+        (λ e. Fails e (specifiers_from (reader below) (in_force types.now) (rest_of cursor.old))) }
 {
     let Some(item) = cursor.first() else {
         return Err(Stop::NoTree);
@@ -330,7 +364,10 @@ fn optional_declarator<'a>(
     requires height { below ≤ 200 }
     ensures size { IfOk result (λ _. Owed cursor.old cursor.new 0) }
     ensures low { IfOk result (λ found. IfSome found (λ p. p.height ≤ below)) }
-    ensures tree { MatchResult result (λ found. GotOptional cursor.old cursor.new (optional_from (reader below) (naming_of naming) (in_force types.now) (rest_of cursor.old)) found) (λ e. Fails e (optional_from (reader below) (naming_of naming) (in_force types.now) (rest_of cursor.old))) }
+    ensures tree { MatchResult result (λ found.
+        GotOptional cursor.old cursor.new (optional_from (reader below) (naming_of naming) (in_force types.now)
+        (rest_of cursor.old)) found) (λ e. Fails e
+        (optional_from (reader below) (naming_of naming) (in_force types.now) (rest_of cursor.old))) }
 {
     if begins_declarator(cursor.rest()) {
         let part = read(cursor, types, Phrase::Declarator(naming), below)?;
@@ -350,7 +387,9 @@ fn with_optional<'a>(
     other: Option<Part<'a>>,
 ) -> Result<Parts, Stop>
     ensures size { IfOk result (λ parts. parts.height ≡ max part.entry.height (height_of other.entry)) }
-    ensures tree { MatchResult result (λ parts. (x : Syn) (y : Option Syn) → Means cursor.now.nodes.items part.entry x → MeansOption cursor.now.nodes.items other.entry y → Holds cursor.now.nodes.items parts (more x (parts_of y))) (λ e. e ≡ Stop.NoMemory) }
+    ensures tree { MatchResult result (λ parts. (x : Syn) (y : Option Syn) → Means cursor.now.nodes.items part.entry x →
+        MeansOption cursor.now.nodes.items other.entry y → Holds cursor.now.nodes.items parts (more x (parts_of y)))
+        (λ e. e ≡ Stop.NoMemory) }
 {
     let parts = cursor.only(part)?;
     match other {
@@ -361,7 +400,8 @@ fn with_optional<'a>(
 
 // The name that a declarator declares, if there is one and it does.
 fn optional_name<'a>(declarator: Option<Part<'a>>) -> Option<&'a [u8]>
-    ensures { (nodes : List NodeOf) (x : Option Syn) → MeansOption nodes declarator.entry x → some_name (option_map (λ name. name.now) result) ≡ names_of_first (parts_of x) }
+    ensures { (nodes : List NodeOf) (x : Option Syn) → MeansOption nodes declarator.entry x →
+        some_name (option_map (λ name. name.now) result) ≡ names_of_first (parts_of x) }
 {
     match declarator {
         Some(part) => part.root.name,
@@ -383,7 +423,8 @@ fn parameter_or_type_name<'a>(
     requires kind { IsSpecifying kind }
     ensures size { IfOk result (λ _. Paid cursor.old cursor.new 4) }
     ensures low { IfOk result (λ p. p.height ≤ below + weight_of kind) }
-    ensures tree { Reads cursor.old cursor.new (specified_from (reader below) kind (naming_of naming) (in_force types.now) (rest_of cursor.old)) result }
+    ensures tree { Reads cursor.old cursor.new
+        (specified_from (reader below) kind (naming_of naming) (in_force types.now) (rest_of cursor.old)) result }
 {
     let specifiers = specifiers(cursor, types, below)?;
     let declarator = optional_declarator(cursor, types, naming, below)?;
@@ -406,7 +447,8 @@ fn member<'a>(cursor: &mut Cursor<'a>, types: &TypeNames<'a>, below: u32) -> Res
     requires height { below ≤ 200 }
     ensures size { IfOk result (λ _. Paid cursor.old cursor.new 4) }
     ensures low { IfOk result (λ p. p.height ≤ below + 1) }
-    ensures tree { Reads cursor.old cursor.new (member_from (reader below) (suc below) (in_force types.now) (rest_of cursor.old)) result }
+    ensures tree { Reads cursor.old cursor.new
+        (member_from (reader below) (suc below) (in_force types.now) (rest_of cursor.old)) result }
 {
     let specifiers = specifiers(cursor, types, below)?;
     let parts = cursor.only(specifiers.part)?;
@@ -434,7 +476,8 @@ fn enumerator<'a>(
     requires height { below ≤ 200 }
     ensures size { IfOk result (λ _. Paid cursor.old cursor.new 4) }
     ensures low { IfOk result (λ p. p.height ≤ below + 1) }
-    ensures tree { Reads cursor.old cursor.new (enumerator_from (reader below) (suc below) (in_force types.now) (rest_of cursor.old)) result }
+    ensures tree { Reads cursor.old cursor.new
+        (enumerator_from (reader below) (suc below) (in_force types.now) (rest_of cursor.old)) result }
 {
     let Some(name) = cursor.take() else {
         return Err(Stop::NoTree);
@@ -469,7 +512,8 @@ fn initializer<'a>(
     requires height { below ≤ 200 }
     ensures size { IfOk result (λ _. Paid cursor.old cursor.new 4) }
     ensures low { IfOk result (λ p. p.height ≤ below + 1) }
-    ensures tree { Reads cursor.old cursor.new (initializer_from (reader below) (suc below) (in_force types.now) (rest_of cursor.old)) result }
+    ensures tree { Reads cursor.old cursor.new
+        (initializer_from (reader below) (suc below) (in_force types.now) (rest_of cursor.old)) result }
 {
     let Some(brace) = cursor.take_if(Mark::OpenBrace) else {
         return expression(cursor, types, 1, below);
@@ -498,7 +542,9 @@ fn follow<'a>(
     ensures size { IfOk result (λ _. Owed cursor.old cursor.new 0) }
     ensures low { IfOk result (λ p. p.height ≤ below) }
     ensures keeps { IfOk result (λ p. start.height ≤ p.height) }
-    ensures tree { (ys : Syns) → Holds cursor.old.nodes.items start ys → ReadsParts cursor.old cursor.new (after ys (follow_from (reader below) step (in_force types.now) (rest_of cursor.old))) result }
+    ensures tree { (ys : Syns) → Holds cursor.old.nodes.items start ys →
+        ReadsParts cursor.old cursor.new (after ys
+        (follow_from (reader below) step (in_force types.now) (rest_of cursor.old))) result }
 {
     match step {
         Step::Read(what) => {
@@ -545,7 +591,9 @@ pub(crate) fn production<'a>(
     ensures size { IfOk result (λ _. Owed cursor.old cursor.new 0) }
     ensures low { IfOk result (λ p. p.height ≤ below) }
     ensures keeps { IfOk result (λ p. start.height ≤ p.height) }
-    ensures tree { (ys : Syns) → Holds cursor.old.nodes.items start ys → ReadsParts cursor.old cursor.new (run (reader below) steps.now ys (in_force types.now) (rest_of cursor.old)) result }
+    ensures tree { (ys : Syns) → Holds cursor.old.nodes.items start ys →
+        ReadsParts cursor.old cursor.new (run (reader below) steps.now ys (in_force types.now) (rest_of cursor.old))
+        result }
 {
     let mut parts = start;
     let mut left = steps;
@@ -575,7 +623,11 @@ fn node<'a>(
     ensures size { IfOk result (λ _. Owed cursor.old cursor.new 1) }
     ensures low { IfOk result (λ p. p.height ≤ below + 1) }
     ensures taller { IfOk result (λ p. start.height + weight_of kind ≤ p.height) }
-    ensures tree { (ys : Syns) → ((zs : Syns) → IsPlaceOf first (first_token (node kind item.now (joined ys zs)))) → ((zs : Syns) → declared_names (node kind item.now (joined ys zs)) ≡ []) → Holds cursor.old.nodes.items start ys → Reads cursor.old cursor.new (made_by (reader below) kind item.now steps.now ys (in_force types.now) (rest_of cursor.old)) result }
+    ensures tree { (ys : Syns) → ((zs : Syns) → IsPlaceOf first (first_token (node kind item.now (joined ys zs)))) →
+        ((zs : Syns) → declared_names (node kind item.now (joined ys zs)) ≡ []) →
+        Holds cursor.old.nodes.items start ys →
+        Reads cursor.old cursor.new (made_by (reader below) kind item.now steps.now ys (in_force types.now)
+        (rest_of cursor.old)) result }
 {
     let parts = production(cursor, types, steps, start, below)?;
     cursor.join(kind, item, first, parts)
@@ -588,7 +640,8 @@ fn operand<'a>(cursor: &mut Cursor<'a>, types: &TypeNames<'a>, below: u32) -> Re
     requires height { below ≤ 200 }
     ensures size { IfOk result (λ _. Paid cursor.old cursor.new 4) }
     ensures low { IfOk result (λ p. p.height ≤ below + 1) }
-    ensures tree { Reads cursor.old cursor.new (operand_from (reader below) (suc below) (in_force types.now) (rest_of cursor.old)) result }
+    ensures tree { Reads cursor.old cursor.new
+        (operand_from (reader below) (suc below) (in_force types.now) (rest_of cursor.old)) result }
 {
     let Some(item) = cursor.take() else {
         return Err(Stop::NoTree);
@@ -670,7 +723,8 @@ fn measure<'a>(
     requires height { below ≤ 200 }
     ensures size { IfOk result (λ _. Owed cursor.old cursor.new 1) }
     ensures low { IfOk result (λ p. p.height ≤ below + 1) }
-    ensures tree { Reads cursor.old cursor.new (measure_from (reader below) (suc below) item.now (in_force types.now) (rest_of cursor.old)) result }
+    ensures tree { Reads cursor.old cursor.new
+        (measure_from (reader below) (suc below) item.now (in_force types.now) (rest_of cursor.old)) result }
 {
     let none = cursor.no_parts();
     if opens_type(types, cursor.rest()) {
@@ -716,7 +770,9 @@ fn select<'a>(
     ensures size { IfOk result (λ _. Owed cursor.old cursor.new 1) }
     ensures low { IfOk result (λ p. p.height ≤ below + 1) }
     ensures taller { IfOk result (λ p. start.height < p.height) }
-    ensures tree { (x : Syn) → IsPlaceOf first (first_token x) → Holds cursor.old.nodes.items start (one x) → Reads cursor.old cursor.new (select_from (reader below) (suc below) selection x item.now (rest_of cursor.old)) result }
+    ensures tree { (x : Syn) → IsPlaceOf first (first_token x) → Holds cursor.old.nodes.items start (one x) →
+        Reads cursor.old cursor.new (select_from (reader below) (suc below) selection x item.now (rest_of cursor.old))
+        result }
 {
     // The member's name has the height 1.
     if below == 0 {
@@ -744,7 +800,9 @@ fn longer<'a>(
     ensures size { IfOk result (λ _. Owed cursor.old cursor.new 1) }
     ensures low { IfOk result (λ p. p.height ≤ below + 1) }
     ensures taller { IfOk result (λ p. left.entry.height < p.height) }
-    ensures tree { (x : Syn) → Means cursor.old.nodes.items left.entry x → Reads cursor.old cursor.new (longer_from (reader below) (suc below) (tail_table (symbol item.now)) x item.now (in_force types.now) (rest_of cursor.old)) result }
+    ensures tree { (x : Syn) → Means cursor.old.nodes.items left.entry x →
+        Reads cursor.old cursor.new (longer_from (reader below) (suc below) (tail_table (symbol item.now)) x item.now
+        (in_force types.now) (rest_of cursor.old)) result }
 {
     if left.height > below {
         return Err(Stop::NoTree);
@@ -847,7 +905,8 @@ fn expression<'a>(
     requires level { level ≤ 15 }
     ensures size { IfOk result (λ _. Paid cursor.old cursor.new 4) }
     ensures low { IfOk result (λ p. p.height ≤ below + 1) }
-    ensures tree { Reads cursor.old cursor.new (expression_from (reader below) (suc below) level (in_force types.now) (rest_of cursor.old)) result }
+    ensures tree { Reads cursor.old cursor.new
+        (expression_from (reader below) (suc below) level (in_force types.now) (rest_of cursor.old)) result }
 {
     let part = operand(cursor, types, below)?;
     if level_of(part.root.kind) < level {
@@ -871,7 +930,9 @@ fn climb<'a>(
     requires start { start.height ≤ below + 1 }
     ensures size { IfOk result (λ _. Owed cursor.old cursor.new 0) }
     ensures low { IfOk result (λ p. p.height ≤ below + 1) }
-    ensures tree { (x : Syn) → Means cursor.old.nodes.items start.entry x → Reads cursor.old cursor.new (climb_from (reader below) (suc below) (suc (suc below)) level (in_force types.now) x (rest_of cursor.old)) result }
+    ensures tree { (x : Syn) → Means cursor.old.nodes.items start.entry x →
+        Reads cursor.old cursor.new (climb_from (reader below) (suc below) (suc (suc below)) level
+        (in_force types.now) x (rest_of cursor.old)) result }
 {
     let mut part = start;
     while let Some(item) = take_tail(cursor, level, level_of(part.root.kind)) {
@@ -910,7 +971,9 @@ fn declarator<'a>(
     requires height { below ≤ 200 }
     ensures size { IfOk result (λ _. Paid cursor.old cursor.new 4) }
     ensures low { IfOk result (λ p. p.height ≤ below + 1) }
-    ensures tree { Reads cursor.old cursor.new (declarator_from (reader below) (suc below) (naming_of naming) (in_force types.now) (rest_of cursor.old)) result }
+    ensures tree { Reads cursor.old cursor.new
+        (declarator_from (reader below) (suc below) (naming_of naming) (in_force types.now) (rest_of cursor.old))
+        result }
 {
     let Some(item) = cursor.first() else {
         return Err(Stop::NoTree);
@@ -946,9 +1009,13 @@ fn core<'a>(
     requires room { IsRoomy cursor.old }
     requires height { below ≤ 200 }
     ensures size { IfOk result (λ found. IfSome found (λ p. Paid cursor.old cursor.new 4)) }
-    ensures none { IfOk result (λ found. IfNone found ((rest_of cursor.new ≡ rest_of cursor.old) × (cursor.new.nodes.items ≡ cursor.old.nodes.items))) }
+    ensures none { IfOk result (λ found. IfNone found
+        ((rest_of cursor.new ≡ rest_of cursor.old) × (cursor.new.nodes.items ≡ cursor.old.nodes.items))) }
     ensures low { IfOk result (λ found. IfSome found (λ p. p.height ≤ below + 1)) }
-    ensures tree { MatchResult result (λ found. GotCore cursor.old cursor.new (core_from (reader below) (suc below) (naming_of naming) (in_force types.now) (rest_of cursor.old)) found) (λ e. Fails e (core_from (reader below) (suc below) (naming_of naming) (in_force types.now) (rest_of cursor.old))) }
+    ensures tree { MatchResult result (λ found.
+        GotCore cursor.old cursor.new (core_from (reader below) (suc below) (naming_of naming) (in_force types.now)
+        (rest_of cursor.old)) found) (λ e. Fails e
+        (core_from (reader below) (suc below) (naming_of naming) (in_force types.now) (rest_of cursor.old))) }
 {
     let Some(item) = cursor.first() else {
         return Err(Stop::NoTree);
@@ -1008,7 +1075,9 @@ fn suffixes<'a>(
     ensures size { IfOk result (λ _. Owed cursor.old cursor.new 0) }
     ensures some { IfNone start.entry (IfOk result (λ _. Paid cursor.old cursor.new 4)) }
     ensures low { IfOk result (λ p. p.height ≤ below + 1) }
-    ensures tree { (x : Option Syn) → MeansOption cursor.old.nodes.items start.entry x → Reads cursor.old cursor.new (suffixed (reader below) (suc below) (suc (suc below)) (in_force types.now) x (rest_of cursor.old)) result }
+    ensures tree { (x : Option Syn) → MeansOption cursor.old.nodes.items start.entry x →
+        Reads cursor.old cursor.new (suffixed (reader below) (suc below) (suc (suc below)) (in_force types.now) x
+        (rest_of cursor.old)) result }
 {
     let mut inner = start;
     while let Some(part) = next_suffix(cursor, types, inner, below)? {
@@ -1028,10 +1097,14 @@ fn next_suffix<'a>(
     requires room { IsRoomy cursor.old }
     requires height { below ≤ 200 }
     ensures size { IfOk result (λ found. IfSome found (λ p. Paid cursor.old cursor.new 4)) }
-    ensures none { IfOk result (λ found. IfNone found ((rest_of cursor.new ≡ rest_of cursor.old) × (cursor.new.nodes.items ≡ cursor.old.nodes.items))) }
+    ensures none { IfOk result (λ found. IfNone found
+        ((rest_of cursor.new ≡ rest_of cursor.old) × (cursor.new.nodes.items ≡ cursor.old.nodes.items))) }
     ensures low { IfOk result (λ found. IfSome found (λ p. p.height ≤ below + 1)) }
     ensures taller { IfOk result (λ found. IfSome found (λ p. height_of inner.entry < p.height)) }
-    ensures tree { (x : Option Syn) → MeansOption cursor.old.nodes.items inner.entry x → MatchResult result (λ found. GotCore cursor.old cursor.new (next_from (reader below) (suc below) x (in_force types.now) (rest_of cursor.old)) found) (λ e. Fails e (next_from (reader below) (suc below) x (in_force types.now) (rest_of cursor.old))) }
+    ensures tree { (x : Option Syn) → MeansOption cursor.old.nodes.items inner.entry x →
+        MatchResult result (λ found. GotCore cursor.old cursor.new
+        (next_from (reader below) (suc below) x (in_force types.now) (rest_of cursor.old)) found)
+        (λ e. Fails e (next_from (reader below) (suc below) x (in_force types.now) (rest_of cursor.old))) }
 {
     let Some(item) = cursor.first() else {
         return Ok(None);
@@ -1058,7 +1131,9 @@ fn suffix<'a>(
     ensures size { IfOk result (λ r. r.0.height ≡ height_of inner.entry) }
     ensures low { IfOk result (λ r. r.0.height ≤ below) }
     ensures kind { IfOk result (λ r. r.1.kind ≡ kind) }
-    ensures tree { (x : Option Syn) → MeansOption cursor.now.nodes.items inner.entry x → MatchResult result (λ r. Holds cursor.now.nodes.items r.0 (parts_of x) × BeginsSuffix r.1 kind item.now x) (λ e. IsTooHigh e below x) }
+    ensures tree { (x : Option Syn) → MeansOption cursor.now.nodes.items inner.entry x →
+        MatchResult result (λ r. Holds cursor.now.nodes.items r.0 (parts_of x) × BeginsSuffix r.1 kind item.now x)
+        (λ e. IsTooHigh e below x) }
 {
     match inner {
         Some(part) if part.height > below => Err(Stop::NoTree),
@@ -1100,7 +1175,9 @@ fn array<'a>(
     ensures size { IfOk result (λ _. Owed cursor.old cursor.new 1) }
     ensures low { IfOk result (λ p. p.height ≤ below + 1) }
     ensures taller { IfOk result (λ p. height_of inner.entry < p.height) }
-    ensures tree { (x : Option Syn) → MeansOption cursor.old.nodes.items inner.entry x → Reads cursor.old cursor.new (array_from (reader below) (suc below) x item.now (in_force types.now) (rest_of cursor.old)) result }
+    ensures tree { (x : Option Syn) → MeansOption cursor.old.nodes.items inner.entry x →
+        Reads cursor.old cursor.new (array_from (reader below) (suc below) x item.now (in_force types.now)
+        (rest_of cursor.old)) result }
 {
     if cursor.takes(Mark::CloseBracket) {
         let (parts, root) = suffix(cursor, inner, NodeKind::OpenArray, item, below)?;
@@ -1127,7 +1204,9 @@ fn function<'a>(
     ensures size { IfOk result (λ _. Owed cursor.old cursor.new 2) }
     ensures low { IfOk result (λ p. p.height ≤ below + 1) }
     ensures taller { IfOk result (λ p. height_of inner.entry < p.height) }
-    ensures tree { (x : Option Syn) → MeansOption cursor.old.nodes.items inner.entry x → Reads cursor.old cursor.new (function_from (reader below) (suc below) x item.now (in_force types.now) (rest_of cursor.old)) result }
+    ensures tree { (x : Option Syn) → MeansOption cursor.old.nodes.items inner.entry x →
+        Reads cursor.old cursor.new (function_from (reader below) (suc below) x item.now (in_force types.now)
+        (rest_of cursor.old)) result }
 {
     let (mut parts, root) = suffix(cursor, inner, NodeKind::Function, item, below)?;
     let none = cursor.no_parts();

@@ -1,10 +1,12 @@
 //! Parts of phrases in which no phrase stands: tags, string literals and qualifiers.
 
-ghost use Rattle.std.specs.Prelude.{◌≡◌, ℕ, suc, ◌+◌, ◌<◌, ◌≤◌, ◌^◌, false, List, [], ◌∷◌, length, Option, Some, None, MatchResult, IfOk, IfSome, IfNone, OnErr, Err};
+ghost use Rattle.std.specs.Prelude.{◌≡◌, ℕ, suc, ◌+◌, ◌<◌, ◌≤◌, ◌^◌, false, List, [], ◌∷◌, length, Option, Some, None};
+ghost use Rattle.std.specs.Prelude.{MatchResult, IfOk, IfSome, IfNone, OnErr, Err};
 ghost use Rattle.ck_base.specs.Tokens.{Lexeme};
 ghost use Rattle.c_tree.specs.Syntax.{Syn, Syns, node, nil, more, one, joined};
 ghost use Rattle.c_tree.specs.Symbols.{symbol};
-ghost use Rattle.c_parse.specs.Reading.{starts, qualifier_of as qualifier_table, pieces as pieces_from, qualifiers as qualifiers_from, tag as tag_from, past as past_of};
+ghost use Rattle.c_parse.specs.Reading.{starts, qualifier_of as qualifier_table, pieces as pieces_from};
+ghost use Rattle.c_parse.specs.Reading.{qualifiers as qualifiers_from, tag as tag_from, past as past_of};
 ghost use Rattle.c_tree.specs.declared.syntax.NodeKind.TheVariants.{Specifier};
 ghost use Rattle.c_parse.specs.Runs.{text_from, qualifiers_node};
 ghost use Rattle.c_parse.specs.Got.{rest_of, IsRoomy, Owed, Reads, ReadsParts, Means, MeansOption, Holds, Describes};
@@ -80,7 +82,11 @@ fn take_qualifier<'a>(cursor: &mut Cursor<'a>) -> Option<(SpecifierWord, Item<'a
     ensures size { IfSome result (λ q. length (rest_of cursor.old) ≡ length (rest_of cursor.new) + 1) }
     ensures left { IfNone result (rest_of cursor.new ≡ rest_of cursor.old) }
     ensures other { IfNone result (qualifiers_from (rest_of cursor.old) ≡ (nil, rest_of cursor.old)) }
-    ensures found { IfSome result (λ q. qualifiers_from (rest_of cursor.old) ≡ (more (node (Specifier q.0) q.1 nil) (qualifiers_from (rest_of cursor.new)).0, (qualifiers_from (rest_of cursor.new)).1)) }
+    ensures found { IfSome result (λ q. qualifiers_from (rest_of cursor.old)
+        ≡ (
+          more (node (Specifier q.0) q.1 nil) (qualifiers_from (rest_of cursor.new)).0,
+          (qualifiers_from (rest_of cursor.new)).1,
+        )) }
 {
     let Some(item) = cursor.first() else {
         return None;

@@ -4,9 +4,14 @@ ghost use Rattle.c_tree.specs.Syntax.{Syn, Syns, node, nil, weight as weight_of}
 ghost use Rattle.c_tree.specs.Symbols.{symbol};
 ghost use Rattle.c_tree.specs.Grammar.{Expression, declared_names};
 ghost use Rattle.c_parse.specs.Reading.{Names, past, read as reader, bracketed as bracketed_from};
-ghost use Rattle.c_parse.specs.Statements.{declare as declare_from, state as state_from, condition as condition_from, while_from, if_from, do_from, for_from, switch_from, return_from, jump_from, expression_from, block_from, items_in_braces, labelled as labelled_from, optional as optional_from, for_behind as for_behind_from};
-ghost use Rattle.c_parse.specs.Got.{rest_of, in_force, is_mark, IsRoomy, Paid, Owed, Reads, ReadsParts, Means, Holds, Fails, after};
-ghost use Rattle.c_parse.specs.Blocks.{opening_of as opening_from, label_of as label_from, labelled_by, opened, entry, GotEntry};
+ghost use Rattle.c_parse.specs.Statements.{declare as declare_from, state as state_from, condition as condition_from};
+ghost use Rattle.c_parse.specs.Statements.{while_from, if_from, do_from, for_from, switch_from, return_from, jump_from};
+ghost use Rattle.c_parse.specs.Statements.{expression_from, block_from, items_in_braces, labelled as labelled_from};
+ghost use Rattle.c_parse.specs.Statements.{optional as optional_from, for_behind as for_behind_from};
+ghost use Rattle.c_parse.specs.Got.{rest_of, in_force, is_mark, IsRoomy, Paid, Owed, Reads, ReadsParts, Means, Holds};
+ghost use Rattle.c_parse.specs.Got.{Fails, after};
+ghost use Rattle.c_parse.specs.Blocks.{opening_of as opening_from, label_of as label_from, labelled_by, opened, entry};
+ghost use Rattle.c_parse.specs.Blocks.{GotEntry};
 
 use crate::cursor::{Cursor, Mark, Part, Parts, Root, Stop, is_marked};
 use crate::declarations::declare;
@@ -83,7 +88,9 @@ fn bracketed<'a>(
     requires level { level ≤ 15 }
     ensures size { IfOk result (λ part. Paid cursor.old cursor.new 8) }
     ensures low { IfOk result (λ part. part.height ≤ budget) }
-    ensures tree { Reads cursor.old cursor.new (bracketed_from (reader budget) (Expression level) (is_mark closing) (in_force types.now) (rest_of cursor.old)) result }
+    ensures tree { Reads cursor.old cursor.new
+        (bracketed_from (reader budget) (Expression level) (is_mark closing) (in_force types.now)
+        (rest_of cursor.old)) result }
 {
     let part = read(cursor, types, Phrase::Expression(level), budget)?;
     cursor.expect(closing)?;
@@ -101,7 +108,9 @@ fn condition<'a>(
     requires height { budget ≤ 200 }
     ensures size { IfOk result (λ part. Paid cursor.old cursor.new 16) }
     ensures low { IfOk result (λ part. part.height ≤ budget) }
-    ensures tree { Reads cursor.old cursor.new (condition_from (reader budget) (declare_from budget) (state_from budget) (in_force types.now) (rest_of cursor.old)) result }
+    ensures tree { Reads cursor.old cursor.new
+        (condition_from (reader budget) (declare_from budget) (state_from budget) (in_force types.now)
+        (rest_of cursor.old)) result }
 {
     cursor.expect(Mark::OpenParenthesis)?;
     bracketed(cursor, types, 0, Mark::CloseParenthesis, budget)
@@ -118,7 +127,9 @@ fn optional<'a>(
     requires height { below ≤ 200 }
     ensures size { IfOk result (λ part. Paid cursor.old cursor.new 7) }
     ensures low { IfOk result (λ part. part.height ≤ below) }
-    ensures tree { Reads cursor.old cursor.new (optional_from (reader below) (declare_from below) (state_from below) (is_mark closing) (in_force types.now) (rest_of cursor.old)) result }
+    ensures tree { Reads cursor.old cursor.new
+        (optional_from (reader below) (declare_from below) (state_from below) (is_mark closing) (in_force types.now)
+        (rest_of cursor.old)) result }
 {
     let Some(item) = cursor.first() else {
         return Err(Stop::NoTree);
@@ -135,7 +146,9 @@ fn jump<'a>(cursor: &mut Cursor<'a>, kind: NodeKind, own: &Item<'a>) -> Result<P
     requires room { IsRoomy cursor.old }
     ensures size { IfOk result (λ part. Owed cursor.old cursor.new 1) }
     ensures low { IfOk result (λ part. part.height ≡ weight_of kind) }
-    ensures tree { declared_names (node kind own.now nil) ≡ [] → (h : ℕ) → Reads cursor.old cursor.new (jump_from (reader h) (declare_from h) (state_from h) (node kind own.now nil) (rest_of cursor.old)) result }
+    ensures tree { declared_names (node kind own.now nil) ≡ [] → (h : ℕ) →
+        Reads cursor.old cursor.new (jump_from (reader h) (declare_from h) (state_from h) (node kind own.now nil)
+        (rest_of cursor.old)) result }
 {
     cursor.expect(Mark::Semicolon)?;
     cursor.leaf(kind, own)
@@ -152,7 +165,9 @@ fn return_statement<'a>(
     requires height { below ≤ 200 }
     ensures size { IfOk result (λ part. Owed cursor.old cursor.new 1) }
     ensures low { IfOk result (λ part. part.height ≤ below + 1) }
-    ensures tree { Reads cursor.old cursor.new (return_from (reader below) (declare_from below) (state_from below) own.now (in_force types.now) (rest_of cursor.old)) result }
+    ensures tree { Reads cursor.old cursor.new
+        (return_from (reader below) (declare_from below) (state_from below) own.now (in_force types.now)
+        (rest_of cursor.old)) result }
 {
     if cursor.takes(Mark::Semicolon) {
         return cursor.leaf(NodeKind::Return, own);
@@ -172,7 +187,9 @@ fn expression_statement<'a>(
     requires height { below ≤ 200 }
     ensures size { IfOk result (λ part. Paid cursor.old cursor.new 0) }
     ensures low { IfOk result (λ part. part.height ≤ below + 1) }
-    ensures tree { Reads cursor.old cursor.new (expression_from (reader below) (declare_from below) (state_from below) (in_force types.now) (rest_of cursor.old)) result }
+    ensures tree { Reads cursor.old cursor.new
+        (expression_from (reader below) (declare_from below) (state_from below) (in_force types.now)
+        (rest_of cursor.old)) result }
 {
     let whole = bracketed(cursor, types, 0, Mark::Semicolon, below)?;
     let parts = cursor.only(whole)?;
@@ -199,7 +216,9 @@ fn case_label<'a>(
     requires height { below ≤ 200 }
     ensures size { IfOk result (λ part. Owed cursor.old cursor.new 1) }
     ensures low { IfOk result (λ part. part.height ≤ below) }
-    ensures tree { Reads cursor.old cursor.new (labelled_by (reader below) (declare_from below) (state_from below) Label.Case own.now (in_force types.now) (rest_of cursor.old)) result }
+    ensures tree { Reads cursor.old cursor.new
+        (labelled_by (reader below) (declare_from below) (state_from below) Label.Case own.now (in_force types.now)
+        (rest_of cursor.old)) result }
 {
     let value = bracketed(cursor, types, 2, Mark::Colon, below)?;
     let parts = cursor.only(value)?;
@@ -211,7 +230,9 @@ fn default_label<'a>(cursor: &mut Cursor<'a>, own: &Item<'a>) -> Result<Part<'a>
     requires room { IsRoomy cursor.old }
     ensures size { IfOk result (λ part. Owed cursor.old cursor.new 1) }
     ensures low { IfOk result (λ part. part.height ≤ 0) }
-    ensures tree { (h : ℕ) (types : Names) → Reads cursor.old cursor.new (labelled_by (reader h) (declare_from h) (state_from h) Label.Default own.now types (rest_of cursor.old)) result }
+    ensures tree { (h : ℕ) (types : Names) →
+        Reads cursor.old cursor.new (labelled_by (reader h) (declare_from h)
+        (state_from h) Label.Default own.now types (rest_of cursor.old)) result }
 {
     cursor.expect(Mark::Colon)?;
     cursor.leaf(NodeKind::Default, own)
@@ -230,7 +251,9 @@ fn while_statement<'a>(
     ensures size { IfOk result (λ part. Owed cursor.old cursor.new 1) }
     ensures low { IfOk result (λ part. part.height ≤ below + 1) }
     ensures names { IfOk result (λ part. in_force types.new ≡ in_force types.old) }
-    ensures tree { Reads cursor.old cursor.new (while_from (reader below) (declare_from below) (state_from below) own.now (in_force types.old) (rest_of cursor.old)) result }
+    ensures tree { Reads cursor.old cursor.new
+        (while_from (reader below) (declare_from below) (state_from below) own.now (in_force types.old)
+        (rest_of cursor.old)) result }
 {
     let test = condition(cursor, types, below)?;
     let body = statement(cursor, types, below)?;
@@ -252,7 +275,9 @@ fn do_statement<'a>(
     ensures size { IfOk result (λ part. Owed cursor.old cursor.new 1) }
     ensures low { IfOk result (λ part. part.height ≤ below + 1) }
     ensures names { IfOk result (λ part. in_force types.new ≡ in_force types.old) }
-    ensures tree { Reads cursor.old cursor.new (do_from (reader below) (declare_from below) (state_from below) own.now (in_force types.old) (rest_of cursor.old)) result }
+    ensures tree { Reads cursor.old cursor.new
+        (do_from (reader below) (declare_from below) (state_from below) own.now (in_force types.old)
+        (rest_of cursor.old)) result }
 {
     let body = statement(cursor, types, below)?;
     cursor.expect(Mark::While)?;
@@ -276,7 +301,9 @@ fn if_statement<'a>(
     ensures size { IfOk result (λ part. Owed cursor.old cursor.new 1) }
     ensures low { IfOk result (λ part. part.height ≤ below + 1) }
     ensures names { IfOk result (λ part. in_force types.new ≡ in_force types.old) }
-    ensures tree { Reads cursor.old cursor.new (if_from (reader below) (declare_from below) (state_from below) own.now (in_force types.old) (rest_of cursor.old)) result }
+    ensures tree { Reads cursor.old cursor.new
+        (if_from (reader below) (declare_from below) (state_from below) own.now (in_force types.old)
+        (rest_of cursor.old)) result }
 {
     let test = condition(cursor, types, below)?;
     let yes = statement(cursor, types, below)?;
@@ -305,7 +332,9 @@ fn for_behind<'a>(
     ensures size { IfOk result (λ part. Owed cursor.old cursor.new 1) }
     ensures low { IfOk result (λ part. part.height ≤ below + 1) }
     ensures names { IfOk result (λ part. in_force types.new ≡ in_force types.old) }
-    ensures tree { (x : Syn) → Means cursor.old.nodes.items first.entry x → Reads cursor.old cursor.new (for_behind_from (reader below) (declare_from below) (state_from below) own.now x (in_force types.old) (rest_of cursor.old)) result }
+    ensures tree { (x : Syn) → Means cursor.old.nodes.items first.entry x →
+        Reads cursor.old cursor.new (for_behind_from (reader below) (declare_from below) (state_from below) own.now x
+        (in_force types.old) (rest_of cursor.old)) result }
 {
     let second = optional(cursor, types, Mark::Semicolon, below)?;
     let third = optional(cursor, types, Mark::CloseParenthesis, below)?;
@@ -330,7 +359,9 @@ fn for_statement<'a>(
     ensures size { IfOk result (λ part. Owed cursor.old cursor.new 1) }
     ensures low { IfOk result (λ part. part.height ≤ below + 1) }
     ensures names { IfOk result (λ part. in_force types.new ≡ in_force types.old) }
-    ensures tree { Reads cursor.old cursor.new (for_from (reader below) (declare_from below) (state_from below) own.now (in_force types.old) (rest_of cursor.old)) result }
+    ensures tree { Reads cursor.old cursor.new
+        (for_from (reader below) (declare_from below) (state_from below) own.now (in_force types.old)
+        (rest_of cursor.old)) result }
 {
     cursor.expect(Mark::OpenParenthesis)?;
     if !types.start(cursor.rest()) {
@@ -359,7 +390,9 @@ fn labelled<'a>(
     ensures size { IfOk result (λ part. Paid cursor.old cursor.new 0) }
     ensures low { IfOk result (λ part. part.height ≤ below) }
     ensures names { IfOk result (λ part. in_force types.new ≡ in_force types.old) }
-    ensures tree { Reads cursor.old cursor.new (labelled_from (reader below) (declare_from below) (state_from below) (symbol item.now) in_switch item.now (in_force types.old) (past (rest_of cursor.old))) result }
+    ensures tree { Reads cursor.old cursor.new
+        (labelled_from (reader below) (declare_from below) (state_from below) (symbol item.now) in_switch item.now
+        (in_force types.old) (past (rest_of cursor.old))) result }
 {
     match label_of(in_switch, item.symbol()) {
         Label::Case => {
@@ -389,7 +422,8 @@ fn enter<'a>(
     ensures size { IfOk result (λ part. Paid cursor.old cursor.new 0) }
     ensures low { IfOk result (λ part. part.height ≤ below) }
     ensures tree { MatchResult result
-        (λ part. GotEntry cursor.old cursor.new (in_force types.old) (in_force types.new) (entry below in_switch (in_force types.old) item.now (past (rest_of cursor.old))) part)
+        (λ part. GotEntry cursor.old cursor.new (in_force types.old) (in_force types.new)
+        (entry below in_switch (in_force types.old) item.now (past (rest_of cursor.old))) part)
         (λ e. Fails e (entry below in_switch (in_force types.old) item.now (past (rest_of cursor.old)))) }
 {
     if types.begin_with(item) {
@@ -399,7 +433,8 @@ fn enter<'a>(
     }
 }
 
-// Declarations, statements and, in a switch, labels, up to and with the closing brace, as further parts. The names that they add end with them.
+// Declarations, statements and, in a switch, labels, up to and with the closing brace, as further parts. The names that
+// they add end with them.
 #[cycle(statements)]
 fn items<'a>(
     cursor: &mut Cursor<'a>,
@@ -414,7 +449,10 @@ fn items<'a>(
     ensures size { IfOk result (λ _. Owed cursor.old cursor.new 0) }
     ensures low { IfOk result (λ parts. parts.height ≤ below) }
     ensures names { IfOk result (λ _. in_force types.new ≡ in_force types.old) }
-    ensures tree { (ys : Syns) → Holds cursor.old.nodes.items start ys → ReadsParts cursor.old cursor.new (after ys (items_in_braces (reader below) (declare_from below) (state_from below) in_switch (in_force types.old) (rest_of cursor.old))) result }
+    ensures tree { (ys : Syns) → Holds cursor.old.nodes.items start ys →
+        ReadsParts cursor.old cursor.new (after ys
+        (items_in_braces (reader below) (declare_from below) (state_from below) in_switch (in_force types.old)
+        (rest_of cursor.old))) result }
 {
     let outer = types.len();
     let mut parts = start;
@@ -442,7 +480,9 @@ pub(crate) fn block<'a>(
     ensures size { IfOk result (λ part. Owed cursor.old cursor.new 1) }
     ensures low { IfOk result (λ part. part.height ≤ below + 1) }
     ensures names { IfOk result (λ part. in_force types.new ≡ in_force types.old) }
-    ensures tree { Reads cursor.old cursor.new (block_from (reader below) (declare_from below) (state_from below) own.now (in_force types.old) (rest_of cursor.old)) result }
+    ensures tree { Reads cursor.old cursor.new
+        (block_from (reader below) (declare_from below) (state_from below) own.now (in_force types.old)
+        (rest_of cursor.old)) result }
 {
     let none = cursor.no_parts();
     let parts = items(cursor, types, false, none, below)?;
@@ -462,7 +502,9 @@ fn switch_statement<'a>(
     ensures size { IfOk result (λ part. Owed cursor.old cursor.new 1) }
     ensures low { IfOk result (λ part. part.height ≤ below + 1) }
     ensures names { IfOk result (λ part. in_force types.new ≡ in_force types.old) }
-    ensures tree { Reads cursor.old cursor.new (switch_from (reader below) (declare_from below) (state_from below) own.now (in_force types.old) (rest_of cursor.old)) result }
+    ensures tree { Reads cursor.old cursor.new
+        (switch_from (reader below) (declare_from below) (state_from below) own.now (in_force types.old)
+        (rest_of cursor.old)) result }
 {
     let value = condition(cursor, types, below)?;
     cursor.expect(Mark::OpenBrace)?;
@@ -485,7 +527,9 @@ fn open<'a>(
     ensures size { IfOk result (λ part. Owed cursor.old cursor.new 1) }
     ensures low { IfOk result (λ part. part.height ≤ below + 1) }
     ensures names { IfOk result (λ part. in_force types.new ≡ in_force types.old) }
-    ensures tree { Reads cursor.old cursor.new (opened (reader below) (declare_from below) (state_from below) opening own.now (in_force types.old) (rest_of cursor.old)) result }
+    ensures tree { Reads cursor.old cursor.new
+        (opened (reader below) (declare_from below) (state_from below) opening own.now (in_force types.old)
+        (rest_of cursor.old)) result }
 {
     match opening {
         Opening::Block => block(cursor, types, own, below),

@@ -3,7 +3,8 @@
 ghost use Rattle.std.specs.Prelude.{◌≡◌, ◌+◌, max, [], ◌∷◌, ◌++◌, IfOk, IfErr};
 ghost use Rattle.ck_base.specs.Tokens.{Lexeme};
 ghost use Rattle.c_tree.specs.Syntax.{Syn, Syns, node, one, joined};
-ghost use Rattle.c_tree.specs.Grammar.{is_typedef_word as is_typedef_word_of, is_typedef_node as is_typedef_node_of, names_type as names_type_of, is_agreed as is_agreed_of};
+ghost use Rattle.c_tree.specs.Grammar.{is_typedef_word as is_typedef_word_of, is_typedef_node as is_typedef_node_of};
+ghost use Rattle.c_tree.specs.Grammar.{names_type as names_type_of, is_agreed as is_agreed_of};
 ghost use Rattle.c_parse.specs.Got.{kind_of};
 ghost use Rattle.c_parse.specs.Steps.{IsGathered};
 
@@ -81,7 +82,8 @@ impl Gathered {
         ensures size { IfOk result (λ g. g.parts.height ≡ max self.parts.height part.entry.height) }
         ensures kids { IfOk result (λ g. g.parts.kids.items ≡ self.parts.kids.items ++ part.entry.number ∷ []) }
         ensures full { IfErr result (λ e. e ≡ Stop.NoMemory) }
-        ensures gathered { IfOk result (λ g. (xs : Syns) (x : Syn) → part.entry.root.kind ≡ kind_of x → IsGathered self xs → IsGathered g (joined xs (one x))) }
+        ensures gathered { IfOk result (λ g. (xs : Syns) (x : Syn) → part.entry.root.kind ≡ kind_of x →
+            IsGathered self xs → IsGathered g (joined xs (one x))) }
     {
         let kind = part.root.kind;
         let Gathered {

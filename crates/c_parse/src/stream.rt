@@ -13,7 +13,8 @@ use std::marker::Model;
 fn next<'a>(reader: &mut Tokens<'a>) -> Option<Item<'a>>
     requires { Left reader.old.file reader.old.at }
     ensures { (tokens : List Lexeme) → Leaves reader.old.file reader.old.at tokens →
-        MatchOption result (tokens ≡ []) (λ t. tokens ≡ t ∷ past_of tokens) × Leaves reader.new.file reader.new.at (past_of tokens) }
+        MatchOption result (tokens ≡ []) (λ t. tokens ≡ t ∷ past_of tokens) ×
+        Leaves reader.new.file reader.new.at (past_of tokens) }
 {
     one_step();
     match reader.next() {
@@ -23,7 +24,8 @@ fn next<'a>(reader: &mut Tokens<'a>) -> Option<Item<'a>>
     }
 }
 
-/// The tokens that are left of a file whose tokens break no rule, of which two are read ahead. Contracts see them as a list.
+/// The tokens that are left of a file whose tokens break no rule, of which two are read ahead. Contracts see them as a
+/// list.
 #[derive(Drop)]
 pub(crate) struct Stream<'a> {
     /// The reader behind those that are read ahead.

@@ -1,5 +1,6 @@
 -- The parts of a node from those of the tree.
-use Rattle.std.proofs.Common.{◌≡◌, ℕ, zero, suc, ◌+◌, ◌-◌, ◌<◌, ◌≤◌, List, [], ◌∷◌, length, Option, Some, None, take, drop, refl, sym, ap, subst, ◌∙◌, arith, length-drop, ⊎_elim}
+use Rattle.std.proofs.Common.{◌≡◌, ℕ, zero, suc, ◌+◌, ◌-◌, ◌<◌, ◌≤◌, List, [], ◌∷◌, length, Option, Some, None, take}
+use Rattle.std.proofs.Common.{drop, refl, sym, ap, subst, ◌∙◌, arith, length-drop, ⊎_elim}
 use Rattle.std.proofs.lemmas.List.{take_min, drop_all}
 use Rattle.std.proofs.lemmas.Bool.{cases_lt}
 use Rattle.std.specs.Prelude.{slice_get, slice_range, min}
@@ -50,7 +51,8 @@ written_more : (x : Syn) (xs : Syns) → AreWritten (more x xs) → IsWritten x 
 unfolding AreWritten
 written_more x xs h = h
 
-stand_more : (nodes : List Node) (k : ℕ) (ks : List ℕ) (xs : Syns) → StandAt nodes (k ∷ ks) xs → (x : Syn) × (ys : Syns) × (xs ≡ more x ys) × StandsAt nodes k x × StandAt nodes ks ys
+stand_more : (nodes : List Node) (k : ℕ) (ks : List ℕ) (xs : Syns) → StandAt nodes (k ∷ ks) xs →
+    (x : Syn) × (ys : Syns) × (xs ≡ more x ys) × StandsAt nodes k x × StandAt nodes ks ys
 stand_more nodes k ks xs (next a b) = (_, _, refl, a, b)
 
 pub cut : (w : Work) (k : ℕ) (ks : List ℕ) (xs : Syns) → AreParts w (k ∷ ks) xs → Cut w k ks xs
@@ -104,12 +106,23 @@ pub record Opened (w : Work) (n : Node) (x : Syn) : Type 0 where
   pub first : n.first ≡ first_of x
   pub node : IsNode w n token parts
 
-stands_open : (nodes : List Node) (k : ℕ) (x : Syn) (n : Node) → StandsAt nodes k x → slice_get nodes k ≡ Some n → (t : Lexeme) × (xs : Syns) × (x ≡ node n.kind t xs) × (t.pos ≡ n.pos) × (t.span ≡ n.text) × StandAt nodes n.kids xs × (n.first ≡ (first_token (node n.kind t xs)).pos)
+stands_open : (nodes : List Node) (k : ℕ) (x : Syn) (n : Node) → StandsAt nodes k x → slice_get nodes k ≡ Some n →
+    (t : Lexeme) × (xs : Syns) × (x ≡ node n.kind t xs) × (t.pos ≡ n.pos) × (t.span ≡ n.text) ×
+    StandAt nodes n.kids xs × (n.first ≡ (first_token (node n.kind t xs)).pos)
 stands_open nodes k x n (stands {n = m} {t = t} {xs = xs} e p s f a) g =
-    let same : m ≡ n = cc in
-    (t, xs, ap (λ (z : Node). node z.kind t xs) same, sym p ∙ ap (λ (z : Node). z.pos) same, sym s ∙ ap (λ (z : Node). z.text) same, subst (λ (z : Node). StandAt nodes z.kids xs) same a, subst (λ (z : Node). z.first ≡ (first_token (node z.kind t xs)).pos) same f)
+    let same : m ≡ n = cc in (
+      t,
+      xs,
+      ap (λ (z : Node). node z.kind t xs) same,
+      sym p ∙ ap (λ (z : Node). z.pos) same,
+      sym s
+          ∙ ap (λ (z : Node). z.text) same,
+      subst (λ (z : Node). StandAt nodes z.kids xs) same a,
+      subst (λ (z : Node). z.first ≡ (first_token (node z.kind t xs)).pos) same f,
+    )
 
-spelled_node : (f : List ℕ) (k : _) (t : Lexeme) (xs : Syns) → IsSpelled f (node k t xs) → (t.text ≡ bytes_at f t) × AreSpelled f xs
+spelled_node : (f : List ℕ) (k : _) (t : Lexeme) (xs : Syns) → IsSpelled f (node k t xs) →
+    (t.text ≡ bytes_at f t) × AreSpelled f xs
 unfolding IsSpelled
 spelled_node f k t xs h = h
 
@@ -124,12 +137,14 @@ text_is f t =
     let e = t.span.end in
     ⊎_elim (past f s e) (within f s e) (cases_lt (min e (length f)) s)
   where
-    within : (f : List ℕ) (s e : ℕ) → s ≤ min e (length f) → take (e - s) (drop s f) ≡ slice_range f (min s (min e (length f))) (min e (length f))
+    within : (f : List ℕ) (s e : ℕ) → s ≤ min e (length f) →
+        take (e - s) (drop s f) ≡ slice_range f (min s (min e (length f))) (min e (length f))
     within f s e h =
         let n : length (drop s f) ≡ length f - s = length-drop s f in
         let q : min (e - s) (length (drop s f)) ≡ min e (length f) - s = omega arith in
         let r : s ≡ min s (min e (length f)) = omega arith in
-        sym (take_min (e - s) (drop s f)) ∙ ap (λ (n : ℕ). take n (drop s f)) q ∙ ap (λ (i : ℕ). take (min e (length f) - i) (drop i f)) r
+        sym (take_min (e - s) (drop s f)) ∙ ap (λ (n : ℕ). take n (drop s f)) q
+        ∙ ap (λ (i : ℕ). take (min e (length f) - i) (drop i f)) r
 
     take_none : (n : ℕ) (xs : List ℕ) → n ≡ 0 → take n xs ≡ []
     take_none n xs e = ap (λ (k : ℕ). take k xs) e
@@ -138,7 +153,8 @@ text_is f t =
     from_none zero xs e = refl
     from_none (suc n) xs e = ap (take (suc n)) e
 
-    past : (f : List ℕ) (s e : ℕ) → min e (length f) < s → take (e - s) (drop s f) ≡ slice_range f (min s (min e (length f))) (min e (length f))
+    past : (f : List ℕ) (s e : ℕ) → min e (length f) < s →
+        take (e - s) (drop s f) ≡ slice_range f (min s (min e (length f))) (min e (length f))
     past f s e h =
         let none : min e (length f) - min s (min e (length f)) ≡ 0 = omega arith in
         ⊎_elim
@@ -147,7 +163,8 @@ text_is f t =
         (cases_lt e s)
         ∙ sym (take_none (min e (length f) - min s (min e (length f))) (drop (min s (min e (length f))) f) none)
 
-pub opened : (w : Work) (k : ℕ) (x : Syn) (n : Node) → IsPart w k x → slice_get w.tree.now.nodes k ≡ Some n → Opened w n x
+pub opened : (w : Work) (k : ℕ) (x : Syn) (n : Node) → IsPart w k x → slice_get w.tree.now.nodes k ≡ Some n →
+    Opened w n x
 opened w k x n p g =
     let m = stands_open w.tree.now.nodes k x n p.stands g in
     let s = spelled_node w.file.now n.kind m.0 m.1 (subst (λ (z : Syn). IsSpelled w.file.now z) m.2 p.spelled) in

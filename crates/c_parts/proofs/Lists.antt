@@ -12,7 +12,8 @@ two_items (x ∷ []) h l = absurd (omega arith)
 two_items (x ∷ y ∷ []) h l = refl
 two_items (x ∷ y ∷ z ∷ xs) h l = absurd (omega arith)
 
-pub three_items : (xs : List ℕ) → 3 ≤ length xs → length xs < 4 → xs ≡ get_or xs 0 0 ∷ get_or xs 1 0 ∷ get_or xs 2 0 ∷ []
+pub three_items : (xs : List ℕ) → 3 ≤ length xs → length xs < 4 →
+    xs ≡ get_or xs 0 0 ∷ get_or xs 1 0 ∷ get_or xs 2 0 ∷ []
 three_items [] h l = absurd (omega arith)
 three_items (x ∷ []) h l = absurd (omega arith)
 three_items (x ∷ y ∷ []) h l = absurd (omega arith)

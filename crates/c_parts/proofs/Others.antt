@@ -42,10 +42,12 @@ no_expression Kinds.Call t p e xs rs s n0 n1 n2 n3 n4 n5 n6 n7 n8 n9 n10 n11 n12
 no_expression (Kinds.Select o) t p e xs rs s n0 n1 n2 n3 n4 n5 n6 n7 n8 n9 n10 n11 n12 n13 n14 n15 = absurd (n7 o refl)
 no_expression (Kinds.Postfix o) t p e xs rs s n0 n1 n2 n3 n4 n5 n6 n7 n8 n9 n10 n11 n12 n13 n14 n15 = absurd (n8 o refl)
 no_expression (Kinds.Prefix o) t p e xs rs s n0 n1 n2 n3 n4 n5 n6 n7 n8 n9 n10 n11 n12 n13 n14 n15 = absurd (n9 o refl)
-no_expression Kinds.SizeofExpression t p e xs rs s n0 n1 n2 n3 n4 n5 n6 n7 n8 n9 n10 n11 n12 n13 n14 n15 = absurd (n10 refl)
+no_expression Kinds.SizeofExpression t p e xs rs s n0 n1 n2 n3 n4 n5 n6 n7 n8 n9 n10 n11 n12 n13 n14 n15 =
+    absurd (n10 refl)
 no_expression Kinds.SizeofType t p e xs rs s n0 n1 n2 n3 n4 n5 n6 n7 n8 n9 n10 n11 n12 n13 n14 n15 = absurd (n11 refl)
 no_expression Kinds.Cast t p e xs rs s n0 n1 n2 n3 n4 n5 n6 n7 n8 n9 n10 n11 n12 n13 n14 n15 = absurd (n12 refl)
 no_expression (Kinds.Infix o) t p e xs rs s n0 n1 n2 n3 n4 n5 n6 n7 n8 n9 n10 n11 n12 n13 n14 n15 = absurd (n13 o refl)
 no_expression Kinds.Conditional t p e xs rs s n0 n1 n2 n3 n4 n5 n6 n7 n8 n9 n10 n11 n12 n13 n14 n15 = absurd (n14 refl)
-no_expression (Kinds.Assignment o) t p e xs rs s n0 n1 n2 n3 n4 n5 n6 n7 n8 n9 n10 n11 n12 n13 n14 n15 = absurd (n15 o refl)
+no_expression (Kinds.Assignment o) t p e xs rs s n0 n1 n2 n3 n4 n5 n6 n7 n8 n9 n10 n11 n12 n13 n14 n15 =
+    absurd (n15 o refl)
 no_expression k t p e xs rs s n0 n1 n2 n3 n4 n5 n6 n7 n8 n9 n10 n11 n12 n13 n14 n15 = ap (λ (q : Pos). refuse 120 q s) e

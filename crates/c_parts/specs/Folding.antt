@@ -8,7 +8,8 @@ use Rattle.c_work.specs.Answers.{quietly, Done}
 use Rattle.c_work.specs.Parts.{AreParts}
 
 -- the parts that were read so far, of which the first step is made, and what is left: `on` goes on with it
-pub record SoFar {A B : Type 0} (u v : Work) (ks : List ℕ) (d : Doing B) (on : Syns → A → Doing B) (T : Type 0) (I : A → Type 0) : Type 0 where
+pub record SoFar {A B : Type 0} (u v : Work) (ks : List ℕ) (d : Doing B) (on : Syns → A → Doing B) (T : Type 0)
+    (I : A → Type 0) : Type 0 where
   pub rest : Syns
   pub parts : AreParts v ks rest
   pub before : Doing A

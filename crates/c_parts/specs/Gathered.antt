@@ -125,4 +125,5 @@ pub record ReadSoFar (u v : Work) (xs : Syns) (ks : List ℕ) (found : Vec Opera
   pub parts : AreParts v ks rest
   pub before : Doing (List meant.Operand)
   pub done : Done quietly u v before (AllThere v found) (AreOperands v found)
-  pub is : (s : State) → read_values (readings xs) s ≡ (before >>= λ ys. read_values (readings rest) >>= λ zs. give (ys ++ zs)) s
+  pub is : (s : State) → read_values (readings xs) s
+      ≡ (before >>= λ ys. read_values (readings rest) >>= λ zs. give (ys ++ zs)) s

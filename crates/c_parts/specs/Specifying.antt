@@ -1,5 +1,6 @@
 -- What is read of specifiers, tags, enumerations, declarators and parameters, and what is answered.
-use Rattle.std.specs.Prelude.{◌≡◌, ℕ, ◌<◌, ◌+◌, ℤ, pos, Bool, true, false, not, ◌||◌, if◌then◌else◌, List, [], ◌∷◌, ◌++◌, length, map, Option, Some, None, option_map, All}
+use Rattle.std.specs.Prelude.{◌≡◌, ℕ, ◌<◌, ◌+◌, ℤ, pos, Bool, true, false, not, ◌||◌, if◌then◌else◌, List, [], ◌∷◌}
+use Rattle.std.specs.Prelude.{◌++◌, length, map, Option, Some, None, option_map, All}
 use Rattle.std.specs.Global.{Vec}
 use Rattle.ck_base.specs.declared.positions.Pos.{Pos}
 use Rattle.ck_base.specs.Tokens.{Lexeme}
@@ -11,7 +12,9 @@ use Rattle.c_tree.specs.Types.{Ty, Tagged, int}
 use Rattle.c_tree.specs.Scopes.{Part, State, Doing, give, need, change, ◌>>=◌, ◌>>◌}
 use Rattle.c_tree.specs.Readings.{Reading, Specified, Param, Prototype, Row, Gives, Derived}
 use Rattle.c_tree.specs.Declarators as meant
-use Rattle.c_tree.specs.Declarators.{names_type, named_types, new_tag, named_tag, begin_tag, complete_tag, all_members, add_member, member_declarators, enumerators, no_derived, wrapped, array_length, bind_parameter, parameter_list}
+use Rattle.c_tree.specs.Declarators.{names_type, named_types, new_tag, named_tag, begin_tag, complete_tag, all_members}
+use Rattle.c_tree.specs.Declarators.{add_member, member_declarators, enumerators, no_derived, wrapped, array_length}
+use Rattle.c_tree.specs.Declarators.{bind_parameter, parameter_list}
 use Rattle.c_tree.specs.Programs.{reading, readings}
 use Rattle.c_nodes.specs.Nodes.{type_in, type_count}
 use Rattle.c_work.specs.declared.work.Work.{Work}

@@ -1,5 +1,5 @@
-//! Expressions, type names, specifiers and declarators: one function for each construct, which reads its parts from left to right and then
-//! asks its rule (C11 6.5, 6.7). `depth` bounds how deep they go: at 0 memory is wanting.
+//! Expressions, type names, specifiers and declarators: one function for each construct, which reads its parts from
+//! left to right and then asks its rule (C11 6.5, 6.7). `depth` bounds how deep they go: at 0 memory is wanting.
 
 ghost use Rattle.std.specs.Prelude.{◌≡◌, ◌==◌, ◌++◌, ◌∷◌, [], List, length, pos, IfOk, OnOk};
 ghost use Rattle.ck_base.specs.Tokens.{Lexeme};
@@ -8,19 +8,31 @@ ghost use Rattle.c_tree.specs.Syntax.{Syn, Syns, node as syntax};
 ghost use Rattle.c_tree.specs.Scopes.{Part, State};
 ghost use Rattle.c_tree.specs.declared.syntax.PrefixOperator.TheVariants as prefixes;
 ghost use Rattle.c_tree.specs.Readings.{Specified as MeantSpecified};
-ghost use Rattle.c_tree.specs.Expressions.{read_value, expression_of, selected, unevaluated, read_values, called_library, called_name};
-ghost use Rattle.c_tree.specs.Declarators.{constant, named_types, record_specifier, all_members, enum_specifier, enumerators, enumerator, array_length, declarator_of, type_name, member_declarators, parameter_of, parameter_list};
+ghost use Rattle.c_tree.specs.Expressions.{read_value, expression_of, selected, unevaluated, read_values};
+ghost use Rattle.c_tree.specs.Expressions.{called_library, called_name};
+ghost use Rattle.c_tree.specs.Declarators.{constant, named_types, record_specifier, all_members, enum_specifier};
+ghost use Rattle.c_tree.specs.Declarators.{enumerators, enumerator, array_length, declarator_of, type_name};
+ghost use Rattle.c_tree.specs.Declarators.{member_declarators, parameter_of, parameter_list};
 ghost use Rattle.c_work.specs.Work.{Shows};
 ghost use Rattle.c_tree.specs.declared.syntax.Selection.TheVariants as selections;
 ghost use Rattle.c_tree.specs.Programs.{reading, readings, type_of_kind};
 ghost use Rattle.c_nodes.specs.Nodes.{IsWhole};
-ghost use Rattle.c_work.specs.Answers.{Answers, quietly, OperandThere, IsOperand, TypeThere, IsType, NothingThere, IsNothing};
+ghost use Rattle.c_work.specs.Answers.{Answers, quietly, OperandThere, IsOperand, TypeThere, IsType, NothingThere};
+ghost use Rattle.c_work.specs.Answers.{IsNothing};
 ghost use Rattle.c_work.specs.Parts.{IsPart, HasPart, AreParts, token_of};
-ghost use Rattle.c_declarators.specs.Parts.{in_any, SpecifiedThere, IsSpecified, ConstantThere, IsConstant, NumberThere, IsNumber, AreMembers, AllMembersThere, AreAllMembers, ParamThere, IsParam, DerivedThere, ShowsDerived, CountThere, IsCount};
+ghost use Rattle.c_declarators.specs.Parts.{in_any, SpecifiedThere, IsSpecified, ConstantThere, IsConstant};
+ghost use Rattle.c_declarators.specs.Parts.{NumberThere, IsNumber, AreMembers, AllMembersThere, AreAllMembers};
+ghost use Rattle.c_declarators.specs.Parts.{ParamThere, IsParam, DerivedThere, ShowsDerived, CountThere, IsCount};
 ghost use Rattle.c_work.specs.Parts.{HaveParts};
 ghost use Rattle.c_parts.specs.Kids.{HasNode, IsNode};
-ghost use Rattle.c_parts.specs.Gathered.{operand_of, type_of, one_operand, one_value, one_type, both, two_values, place_and_value, three_values, type_and_value, assigning, two_in, PairThere, IsPair, TripleThere, IsTriple, CastThere, IsCast, AllThere, AreOperands, called_service, called_value};
-ghost use Rattle.c_parts.specs.Specifying.{MaybeTypeThere, IsMaybeType, TypesThere, AreTypes, ParamsThere, AreParams, PrototypeThere, ShowsPrototype, maybe_type, unstored, filled, untagged, tagged_record, tagged_enumeration, listed, within, row_of, function_of, member_declarator};
+ghost use Rattle.c_parts.specs.Gathered.{operand_of, type_of, one_operand, one_value, one_type, both, two_values};
+ghost use Rattle.c_parts.specs.Gathered.{place_and_value, three_values, type_and_value, assigning, two_in, PairThere};
+ghost use Rattle.c_parts.specs.Gathered.{IsPair, TripleThere, IsTriple, CastThere, IsCast, AllThere, AreOperands};
+ghost use Rattle.c_parts.specs.Gathered.{called_service, called_value};
+ghost use Rattle.c_parts.specs.Specifying.{MaybeTypeThere, IsMaybeType, TypesThere, AreTypes, ParamsThere, AreParams};
+ghost use Rattle.c_parts.specs.Specifying.{PrototypeThere, ShowsPrototype, maybe_type, unstored, filled, untagged};
+ghost use Rattle.c_parts.specs.Specifying.{tagged_record, tagged_enumeration, listed, within, row_of, function_of};
+ghost use Rattle.c_parts.specs.Specifying.{member_declarator};
 
 use crate::rules::{
     declare_parameter, either, int_type, is_lone, named_enum, named_record, names_type, push_some,
@@ -65,7 +77,8 @@ pub struct Casting {
 pub fn operand(work: &mut Work<'_>, k: u32, depth: u32) -> Result<Operand, Refusal>
     requires whole { IsWhole work.old.nodes }
     requires part { HasPart work.old k }
-    ensures { (x : Syn) → IsPart work.old k x → Answers quietly work.old work.new (reading x).operand OperandThere IsOperand result }
+    ensures { (x : Syn) → IsPart work.old k x →
+        Answers quietly work.old work.new (reading x).operand OperandThere IsOperand result }
 {
     if depth == 0 {
         return Err(Refusal::NoMemory);
@@ -80,7 +93,9 @@ fn expression(work: &mut Work<'_>, node: &Node, depth: u32) -> Result<Operand, R
     requires whole { IsWhole work.old.nodes }
     requires node { HasNode work.old node.now }
     requires parts { HaveParts work.old node.now.kids }
-    ensures { (t : Lexeme) (xs : Syns) → IsNode work.old node.now t xs → Answers quietly work.old work.new (expression_of node.now.kind t xs (readings xs)) OperandThere IsOperand result }
+    ensures { (t : Lexeme) (xs : Syns) → IsNode work.old node.now t xs →
+        Answers quietly work.old work.new (expression_of node.now.kind t xs (readings xs)) OperandThere IsOperand
+        result }
 {
     let kids = node.kids.as_slice();
     let name = name_of(node);
@@ -110,7 +125,8 @@ fn expression(work: &mut Work<'_>, node: &Node, depth: u32) -> Result<Operand, R
 pub fn value_of(work: &mut Work<'_>, k: u32, depth: u32) -> Result<Operand, Refusal>
     requires whole { IsWhole work.old.nodes }
     requires part { HasPart work.old k }
-    ensures { (x : Syn) → IsPart work.old k x → Answers quietly work.old work.new (read_value (reading x)) OperandThere IsOperand result }
+    ensures { (x : Syn) → IsPart work.old k x →
+        Answers quietly work.old work.new (read_value (reading x)) OperandThere IsOperand result }
 {
     let x = operand(work, k, depth)?;
     work.value(x)
@@ -120,7 +136,8 @@ pub fn value_of(work: &mut Work<'_>, k: u32, depth: u32) -> Result<Operand, Refu
 fn one_operand(work: &mut Work<'_>, kids: &[u32], pos: Pos, depth: u32) -> Result<Operand, Refusal>
     requires whole { IsWhole work.old.nodes }
     requires parts { HaveParts work.old kids.now }
-    ensures { (xs : Syns) → AreParts work.old kids.now xs → Answers quietly work.old work.new (one_operand pos (readings xs)) OperandThere IsOperand result }
+    ensures { (xs : Syns) → AreParts work.old kids.now xs →
+        Answers quietly work.old work.new (one_operand pos (readings xs)) OperandThere IsOperand result }
 {
     match only(kids) {
         Some(k) => operand(work, k, depth),
@@ -134,7 +151,9 @@ fn values_of(work: &mut Work<'_>, a: u32, b: u32, depth: u32) -> Result<Pair, Re
     requires whole { IsWhole work.old.nodes }
     requires first { HasPart work.old a }
     requires second { HasPart work.old b }
-    ensures { (x y : Syn) → IsPart work.old a x → IsPart work.old b y → Answers quietly work.old work.new (both (read_value (reading x)) (read_value (reading y))) PairThere IsPair result }
+    ensures { (x y : Syn) → IsPart work.old a x → IsPart work.old b y →
+        Answers quietly work.old work.new (both (read_value (reading x)) (read_value (reading y))) PairThere IsPair
+        result }
 {
     let left = value_of(work, a, depth)?;
     let right = value_of(work, b, depth)?;
@@ -145,7 +164,8 @@ fn values_of(work: &mut Work<'_>, a: u32, b: u32, depth: u32) -> Result<Pair, Re
 fn two_values(work: &mut Work<'_>, kids: &[u32], pos: Pos, depth: u32) -> Result<Pair, Refusal>
     requires whole { IsWhole work.old.nodes }
     requires parts { HaveParts work.old kids.now }
-    ensures { (xs : Syns) → AreParts work.old kids.now xs → Answers quietly work.old work.new (two_values pos (readings xs)) PairThere IsPair result }
+    ensures { (xs : Syns) → AreParts work.old kids.now xs →
+        Answers quietly work.old work.new (two_values pos (readings xs)) PairThere IsPair result }
 {
     match two(kids) {
         Some(x) => values_of(work, x.first, x.second, depth),
@@ -163,7 +183,9 @@ fn parenthesized(
 ) -> Result<Operand, Refusal>
     requires whole { IsWhole work.old.nodes }
     requires parts { HaveParts work.old kids.now }
-    ensures { (t : Lexeme) (xs : Syns) → t.pos ≡ pos → AreParts work.old kids.now xs → Answers quietly work.old work.new (expression_of kinds.Parenthesized t xs (readings xs)) OperandThere IsOperand result }
+    ensures { (t : Lexeme) (xs : Syns) → t.pos ≡ pos → AreParts work.old kids.now xs →
+        Answers quietly work.old work.new (expression_of kinds.Parenthesized t xs (readings xs)) OperandThere
+        IsOperand result }
 {
     let a = one_operand(work, kids, pos, depth)?;
     Ok(Operand {
@@ -176,7 +198,8 @@ fn parenthesized(
 fn index(work: &mut Work<'_>, kids: &[u32], pos: Pos, depth: u32) -> Result<Operand, Refusal>
     requires whole { IsWhole work.old.nodes }
     requires parts { HaveParts work.old kids.now }
-    ensures { (t : Lexeme) (xs : Syns) → t.pos ≡ pos → AreParts work.old kids.now xs → Answers quietly work.old work.new (expression_of kinds.Index t xs (readings xs)) OperandThere IsOperand result }
+    ensures { (t : Lexeme) (xs : Syns) → t.pos ≡ pos → AreParts work.old kids.now xs →
+        Answers quietly work.old work.new (expression_of kinds.Index t xs (readings xs)) OperandThere IsOperand result }
 {
     let both = two_values(work, kids, pos, depth)?;
     work.index(both.left, both.right, pos)
@@ -192,7 +215,9 @@ fn infix(
 ) -> Result<Operand, Refusal>
     requires whole { IsWhole work.old.nodes }
     requires parts { HaveParts work.old kids.now }
-    ensures { (t : Lexeme) (xs : Syns) → t.pos ≡ pos → AreParts work.old kids.now xs → Answers quietly work.old work.new (expression_of (kinds.Infix op) t xs (readings xs)) OperandThere IsOperand result }
+    ensures { (t : Lexeme) (xs : Syns) → t.pos ≡ pos → AreParts work.old kids.now xs →
+        Answers quietly work.old work.new (expression_of (kinds.Infix op) t xs (readings xs)) OperandThere IsOperand
+        result }
 {
     let both = two_values(work, kids, pos, depth)?;
     work.infix_join(op, both.left, both.right, pos)
@@ -202,7 +227,8 @@ fn infix(
 fn one_value(work: &mut Work<'_>, kids: &[u32], pos: Pos, depth: u32) -> Result<Operand, Refusal>
     requires whole { IsWhole work.old.nodes }
     requires parts { HaveParts work.old kids.now }
-    ensures { (xs : Syns) → AreParts work.old kids.now xs → Answers quietly work.old work.new (one_value pos (readings xs)) OperandThere IsOperand result }
+    ensures { (xs : Syns) → AreParts work.old kids.now xs →
+        Answers quietly work.old work.new (one_value pos (readings xs)) OperandThere IsOperand result }
 {
     match only(kids) {
         Some(k) => value_of(work, k, depth),
@@ -216,7 +242,9 @@ fn place_with_value(work: &mut Work<'_>, a: u32, b: u32, depth: u32) -> Result<P
     requires whole { IsWhole work.old.nodes }
     requires first { HasPart work.old a }
     requires second { HasPart work.old b }
-    ensures { (x y : Syn) → IsPart work.old a x → IsPart work.old b y → Answers quietly work.old work.new (both (operand_of (reading x)) (read_value (reading y))) PairThere IsPair result }
+    ensures { (x y : Syn) → IsPart work.old a x → IsPart work.old b y →
+        Answers quietly work.old work.new (both (operand_of (reading x)) (read_value (reading y))) PairThere IsPair
+        result }
 {
     let left = operand(work, a, depth)?;
     let right = value_of(work, b, depth)?;
@@ -227,7 +255,8 @@ fn place_with_value(work: &mut Work<'_>, a: u32, b: u32, depth: u32) -> Result<P
 fn place_and_value(work: &mut Work<'_>, kids: &[u32], pos: Pos, depth: u32) -> Result<Pair, Refusal>
     requires whole { IsWhole work.old.nodes }
     requires parts { HaveParts work.old kids.now }
-    ensures { (xs : Syns) → AreParts work.old kids.now xs → Answers quietly work.old work.new (place_and_value pos (readings xs)) PairThere IsPair result }
+    ensures { (xs : Syns) → AreParts work.old kids.now xs →
+        Answers quietly work.old work.new (place_and_value pos (readings xs)) PairThere IsPair result }
 {
     match two(kids) {
         Some(x) => place_with_value(work, x.first, x.second, depth),
@@ -248,7 +277,9 @@ fn values_of_three(
     requires first { HasPart work.old a }
     requires second { HasPart work.old b }
     requires third { HasPart work.old c }
-    ensures { (x y z : Syn) → IsPart work.old a x → IsPart work.old b y → IsPart work.old c z → Answers quietly work.old work.new (both (read_value (reading x)) (both (read_value (reading y)) (read_value (reading z)))) TripleThere IsTriple result }
+    ensures { (x y z : Syn) → IsPart work.old a x → IsPart work.old b y → IsPart work.old c z →
+        Answers quietly work.old work.new (both (read_value (reading x))
+        (both (read_value (reading y)) (read_value (reading z)))) TripleThere IsTriple result }
 {
     let first = value_of(work, a, depth)?;
     let pair = values_of(work, b, c, depth)?;
@@ -259,7 +290,8 @@ fn values_of_three(
 fn three_values(work: &mut Work<'_>, kids: &[u32], pos: Pos, depth: u32) -> Result<Triple, Refusal>
     requires whole { IsWhole work.old.nodes }
     requires parts { HaveParts work.old kids.now }
-    ensures { (xs : Syns) → AreParts work.old kids.now xs → Answers quietly work.old work.new (three_values pos (readings xs)) TripleThere IsTriple result }
+    ensures { (xs : Syns) → AreParts work.old kids.now xs →
+        Answers quietly work.old work.new (three_values pos (readings xs)) TripleThere IsTriple result }
 {
     match three(kids) {
         Some(x) => values_of_three(work, x.first, x.second, x.third, depth),
@@ -271,7 +303,8 @@ fn three_values(work: &mut Work<'_>, kids: &[u32], pos: Pos, depth: u32) -> Resu
 fn one_type(work: &mut Work<'_>, kids: &[u32], pos: Pos, depth: u32) -> Result<u32, Refusal>
     requires whole { IsWhole work.old.nodes }
     requires parts { HaveParts work.old kids.now }
-    ensures { (xs : Syns) → AreParts work.old kids.now xs → Answers quietly work.old work.new (one_type pos (readings xs)) TypeThere IsType result }
+    ensures { (xs : Syns) → AreParts work.old kids.now xs →
+        Answers quietly work.old work.new (one_type pos (readings xs)) TypeThere IsType result }
 {
     match only(kids) {
         Some(k) => type_of(work, k, false, depth),
@@ -285,7 +318,9 @@ fn type_with_value(work: &mut Work<'_>, a: u32, b: u32, depth: u32) -> Result<Ca
     requires whole { IsWhole work.old.nodes }
     requires first { HasPart work.old a }
     requires second { HasPart work.old b }
-    ensures { (x y : Syn) → IsPart work.old a x → IsPart work.old b y → Answers quietly work.old work.new (both (type_of (reading x)) (read_value (reading y))) CastThere IsCast result }
+    ensures { (x y : Syn) → IsPart work.old a x → IsPart work.old b y →
+        Answers quietly work.old work.new (both (type_of (reading x)) (read_value (reading y))) CastThere IsCast
+        result }
 {
     let of = type_of(work, a, false, depth)?;
     let operand = value_of(work, b, depth)?;
@@ -301,7 +336,8 @@ fn type_and_value(
 ) -> Result<Casting, Refusal>
     requires whole { IsWhole work.old.nodes }
     requires parts { HaveParts work.old kids.now }
-    ensures { (xs : Syns) → AreParts work.old kids.now xs → Answers quietly work.old work.new (type_and_value pos (readings xs)) CastThere IsCast result }
+    ensures { (xs : Syns) → AreParts work.old kids.now xs →
+        Answers quietly work.old work.new (type_and_value pos (readings xs)) CastThere IsCast result }
 {
     match two(kids) {
         Some(x) => type_with_value(work, x.first, x.second, depth),
@@ -313,7 +349,9 @@ fn type_and_value(
 fn conditional(work: &mut Work<'_>, kids: &[u32], pos: Pos, depth: u32) -> Result<Operand, Refusal>
     requires whole { IsWhole work.old.nodes }
     requires parts { HaveParts work.old kids.now }
-    ensures { (t : Lexeme) (xs : Syns) → t.pos ≡ pos → AreParts work.old kids.now xs → Answers quietly work.old work.new (expression_of kinds.Conditional t xs (readings xs)) OperandThere IsOperand result }
+    ensures { (t : Lexeme) (xs : Syns) → t.pos ≡ pos → AreParts work.old kids.now xs →
+        Answers quietly work.old work.new (expression_of kinds.Conditional t xs (readings xs)) OperandThere IsOperand
+        result }
 {
     let all = three_values(work, kids, pos, depth)?;
     work.conditional(all.first, all.pair.left, all.pair.right, pos)
@@ -341,7 +379,9 @@ fn assignment(
 ) -> Result<Operand, Refusal>
     requires whole { IsWhole work.old.nodes }
     requires parts { HaveParts work.old kids.now }
-    ensures { (t : Lexeme) (xs : Syns) → t.pos ≡ pos → AreParts work.old kids.now xs → Answers quietly work.old work.new (expression_of (kinds.Assignment op) t xs (readings xs)) OperandThere IsOperand result }
+    ensures { (t : Lexeme) (xs : Syns) → t.pos ≡ pos → AreParts work.old kids.now xs →
+        Answers quietly work.old work.new (expression_of (kinds.Assignment op) t xs (readings xs)) OperandThere
+        IsOperand result }
 {
     let x = place_and_value(work, kids, pos, depth)?;
     assigned(work, op, x, pos)
@@ -357,7 +397,9 @@ fn postfix(
 ) -> Result<Operand, Refusal>
     requires whole { IsWhole work.old.nodes }
     requires parts { HaveParts work.old kids.now }
-    ensures { (t : Lexeme) (xs : Syns) → t.pos ≡ pos → AreParts work.old kids.now xs → Answers quietly work.old work.new (expression_of (kinds.Postfix op) t xs (readings xs)) OperandThere IsOperand result }
+    ensures { (t : Lexeme) (xs : Syns) → t.pos ≡ pos → AreParts work.old kids.now xs →
+        Answers quietly work.old work.new (expression_of (kinds.Postfix op) t xs (readings xs)) OperandThere IsOperand
+        result }
 {
     let a = one_operand(work, kids, pos, depth)?;
     work.stepped(op, false, a, pos, a.first)
@@ -374,7 +416,9 @@ fn step_in_front(
 ) -> Result<Operand, Refusal>
     requires whole { IsWhole work.old.nodes }
     requires parts { HaveParts work.old kids.now }
-    ensures { (t : Lexeme) (xs : Syns) → t.pos ≡ pos → AreParts work.old kids.now xs → Answers quietly work.old work.new (expression_of (kinds.Prefix (prefixes.Step op)) t xs (readings xs)) OperandThere IsOperand result }
+    ensures { (t : Lexeme) (xs : Syns) → t.pos ≡ pos → AreParts work.old kids.now xs →
+        Answers quietly work.old work.new (expression_of (kinds.Prefix (prefixes.Step op)) t xs (readings xs))
+        OperandThere IsOperand result }
 {
     let a = one_operand(work, kids, pos, depth)?;
     work.stepped(op, true, a, pos, pos)
@@ -384,7 +428,9 @@ fn step_in_front(
 fn address(work: &mut Work<'_>, kids: &[u32], pos: Pos, depth: u32) -> Result<Operand, Refusal>
     requires whole { IsWhole work.old.nodes }
     requires parts { HaveParts work.old kids.now }
-    ensures { (t : Lexeme) (xs : Syns) → t.pos ≡ pos → AreParts work.old kids.now xs → Answers quietly work.old work.new (expression_of (kinds.Prefix prefixes.Address) t xs (readings xs)) OperandThere IsOperand result }
+    ensures { (t : Lexeme) (xs : Syns) → t.pos ≡ pos → AreParts work.old kids.now xs →
+        Answers quietly work.old work.new (expression_of (kinds.Prefix prefixes.Address) t xs (readings xs))
+        OperandThere IsOperand result }
 {
     let a = one_operand(work, kids, pos, depth)?;
     work.address(a, pos)
@@ -394,7 +440,9 @@ fn address(work: &mut Work<'_>, kids: &[u32], pos: Pos, depth: u32) -> Result<Op
 fn indirection(work: &mut Work<'_>, kids: &[u32], pos: Pos, depth: u32) -> Result<Operand, Refusal>
     requires whole { IsWhole work.old.nodes }
     requires parts { HaveParts work.old kids.now }
-    ensures { (t : Lexeme) (xs : Syns) → t.pos ≡ pos → AreParts work.old kids.now xs → Answers quietly work.old work.new (expression_of (kinds.Prefix prefixes.Indirection) t xs (readings xs)) OperandThere IsOperand result }
+    ensures { (t : Lexeme) (xs : Syns) → t.pos ≡ pos → AreParts work.old kids.now xs →
+        Answers quietly work.old work.new (expression_of (kinds.Prefix prefixes.Indirection) t xs (readings xs))
+        OperandThere IsOperand result }
 {
     let a = one_value(work, kids, pos, depth)?;
     work.dereference(a, pos, pos)
@@ -410,7 +458,9 @@ fn unary(
 ) -> Result<Operand, Refusal>
     requires whole { IsWhole work.old.nodes }
     requires parts { HaveParts work.old kids.now }
-    ensures { (t : Lexeme) (xs : Syns) → t.pos ≡ pos → AreParts work.old kids.now xs → Answers quietly work.old work.new (expression_of (kinds.Prefix (prefixes.Unary op)) t xs (readings xs)) OperandThere IsOperand result }
+    ensures { (t : Lexeme) (xs : Syns) → t.pos ≡ pos → AreParts work.old kids.now xs →
+        Answers quietly work.old work.new (expression_of (kinds.Prefix (prefixes.Unary op)) t xs (readings xs))
+        OperandThere IsOperand result }
 {
     let a = one_value(work, kids, pos, depth)?;
     work.unary_on(op, a, pos)
@@ -426,7 +476,9 @@ fn prefixed(
 ) -> Result<Operand, Refusal>
     requires whole { IsWhole work.old.nodes }
     requires parts { HaveParts work.old kids.now }
-    ensures { (t : Lexeme) (xs : Syns) → t.pos ≡ pos → AreParts work.old kids.now xs → Answers quietly work.old work.new (expression_of (kinds.Prefix op) t xs (readings xs)) OperandThere IsOperand result }
+    ensures { (t : Lexeme) (xs : Syns) → t.pos ≡ pos → AreParts work.old kids.now xs →
+        Answers quietly work.old work.new (expression_of (kinds.Prefix op) t xs (readings xs)) OperandThere IsOperand
+        result }
 {
     match op {
         PrefixOperator::Step(op) => step_in_front(work, op, kids, pos, depth),
@@ -440,7 +492,8 @@ fn prefixed(
 fn cast(work: &mut Work<'_>, kids: &[u32], pos: Pos, depth: u32) -> Result<Operand, Refusal>
     requires whole { IsWhole work.old.nodes }
     requires parts { HaveParts work.old kids.now }
-    ensures { (t : Lexeme) (xs : Syns) → t.pos ≡ pos → AreParts work.old kids.now xs → Answers quietly work.old work.new (expression_of kinds.Cast t xs (readings xs)) OperandThere IsOperand result }
+    ensures { (t : Lexeme) (xs : Syns) → t.pos ≡ pos → AreParts work.old kids.now xs →
+        Answers quietly work.old work.new (expression_of kinds.Cast t xs (readings xs)) OperandThere IsOperand result }
 {
     let x = type_and_value(work, kids, pos, depth)?;
     work.cast(x.of, x.operand, pos)
@@ -456,7 +509,8 @@ fn unevaluated_operand(
 ) -> Result<Operand, Refusal>
     requires whole { IsWhole work.old.nodes }
     requires parts { HaveParts work.old kids.now }
-    ensures { (xs : Syns) → AreParts work.old kids.now xs → Answers quietly work.old work.new (unevaluated (one_operand pos (readings xs))) OperandThere IsOperand result }
+    ensures { (xs : Syns) → AreParts work.old kids.now xs →
+        Answers quietly work.old work.new (unevaluated (one_operand pos (readings xs))) OperandThere IsOperand result }
 {
     let mark = work.mark();
     let a = one_operand(work, kids, pos, depth)?;
@@ -473,7 +527,9 @@ fn size_of_expression(
 ) -> Result<Operand, Refusal>
     requires whole { IsWhole work.old.nodes }
     requires parts { HaveParts work.old kids.now }
-    ensures { (t : Lexeme) (xs : Syns) → t.pos ≡ pos → AreParts work.old kids.now xs → Answers quietly work.old work.new (expression_of kinds.SizeofExpression t xs (readings xs)) OperandThere IsOperand result }
+    ensures { (t : Lexeme) (xs : Syns) → t.pos ≡ pos → AreParts work.old kids.now xs →
+        Answers quietly work.old work.new (expression_of kinds.SizeofExpression t xs (readings xs)) OperandThere
+        IsOperand result }
 {
     let a = unevaluated_operand(work, kids, pos, depth)?;
     let of = work.nodes.of(a.node);
@@ -485,7 +541,8 @@ fn size_of_expression(
 fn unevaluated_type(work: &mut Work<'_>, kids: &[u32], pos: Pos, depth: u32) -> Result<u32, Refusal>
     requires whole { IsWhole work.old.nodes }
     requires parts { HaveParts work.old kids.now }
-    ensures { (xs : Syns) → AreParts work.old kids.now xs → Answers quietly work.old work.new (unevaluated (one_type pos (readings xs))) TypeThere IsType result }
+    ensures { (xs : Syns) → AreParts work.old kids.now xs →
+        Answers quietly work.old work.new (unevaluated (one_type pos (readings xs))) TypeThere IsType result }
 {
     let mark = work.mark();
     let of = one_type(work, kids, pos, depth)?;
@@ -497,7 +554,9 @@ fn unevaluated_type(work: &mut Work<'_>, kids: &[u32], pos: Pos, depth: u32) -> 
 fn size_of_type(work: &mut Work<'_>, kids: &[u32], pos: Pos, depth: u32) -> Result<Operand, Refusal>
     requires whole { IsWhole work.old.nodes }
     requires parts { HaveParts work.old kids.now }
-    ensures { (t : Lexeme) (xs : Syns) → t.pos ≡ pos → AreParts work.old kids.now xs → Answers quietly work.old work.new (expression_of kinds.SizeofType t xs (readings xs)) OperandThere IsOperand result }
+    ensures { (t : Lexeme) (xs : Syns) → t.pos ≡ pos → AreParts work.old kids.now xs →
+        Answers quietly work.old work.new (expression_of kinds.SizeofType t xs (readings xs)) OperandThere IsOperand
+        result }
 {
     let of = unevaluated_type(work, kids, pos, depth)?;
     work.sized(of, pos)
@@ -514,7 +573,9 @@ fn member_of(
 ) -> Result<Operand, Refusal>
     requires whole { IsWhole work.old.nodes }
     requires part { HasPart work.old k }
-    ensures { (x : Syn) (t word : Lexeme) → t.pos ≡ pos → word.text ≡ name.now → IsPart work.old k x → Answers quietly work.old work.new (selected selections.Direct t word (reading x)) OperandThere IsOperand result }
+    ensures { (x : Syn) (t word : Lexeme) → t.pos ≡ pos → word.text ≡ name.now → IsPart work.old k x →
+        Answers quietly work.old work.new (selected selections.Direct t word (reading x)) OperandThere IsOperand
+        result }
 {
     let a = operand(work, k, depth)?;
     work.member(a, name, pos)
@@ -531,7 +592,9 @@ fn member_behind(
 ) -> Result<Operand, Refusal>
     requires whole { IsWhole work.old.nodes }
     requires part { HasPart work.old k }
-    ensures { (x : Syn) (t word : Lexeme) → t.pos ≡ pos → word.text ≡ name.now → IsPart work.old k x → Answers quietly work.old work.new (selected selections.Indirect t word (reading x)) OperandThere IsOperand result }
+    ensures { (x : Syn) (t word : Lexeme) → t.pos ≡ pos → word.text ≡ name.now → IsPart work.old k x →
+        Answers quietly work.old work.new (selected selections.Indirect t word (reading x)) OperandThere IsOperand
+        result }
 {
     let a = value_of(work, k, depth)?;
     work.member_behind(a, name, pos)
@@ -547,7 +610,9 @@ fn selected(
 ) -> Result<Operand, Refusal>
     requires whole { IsWhole work.old.nodes }
     requires parts { HaveParts work.old kids.now }
-    ensures { (t : Lexeme) (xs : Syns) → t.pos ≡ pos → AreParts work.old kids.now xs → Answers quietly work.old work.new (expression_of (kinds.Select how) t xs (readings xs)) OperandThere IsOperand result }
+    ensures { (t : Lexeme) (xs : Syns) → t.pos ≡ pos → AreParts work.old kids.now xs →
+        Answers quietly work.old work.new (expression_of (kinds.Select how) t xs (readings xs)) OperandThere IsOperand
+        result }
 {
     match two(kids) {
         Some(x) => {
@@ -574,7 +639,8 @@ fn push(values: &mut Vec<Operand>, x: Operand) -> Result<(), NoMemory>
 fn arguments(work: &mut Work<'_>, kids: &[u32], depth: u32) -> Result<Vec<Operand>, Refusal>
     requires whole { IsWhole work.old.nodes }
     requires parts { HaveParts work.old kids.now }
-    ensures { (xs : Syns) → AreParts work.old kids.now xs → Answers quietly work.old work.new (read_values (readings xs)) AllThere AreOperands result }
+    ensures { (xs : Syns) → AreParts work.old kids.now xs →
+        Answers quietly work.old work.new (read_values (readings xs)) AllThere AreOperands result }
 {
     let mut values = Vec::new(work.nodes.alloc);
     let mut left = kids;
@@ -598,7 +664,9 @@ fn call_of_library(
 ) -> Result<Operand, Refusal>
     requires whole { IsWhole work.old.nodes }
     requires parts { HaveParts work.old kids.now }
-    ensures { (xs : Syns) → AreParts work.old kids.now xs → Answers quietly work.old work.new (called_service service pos first (readings xs)) OperandThere IsOperand result }
+    ensures { (xs : Syns) → AreParts work.old kids.now xs →
+        Answers quietly work.old work.new (called_service service pos first (readings xs)) OperandThere IsOperand
+        result }
 {
     let xs = arguments(work, kids, depth)?;
     work.library_call(service, xs.as_slice(), pos, first)
@@ -616,7 +684,8 @@ fn call_of_value(
     requires whole { IsWhole work.old.nodes }
     requires called { HasPart work.old of }
     requires parts { HaveParts work.old kids.now }
-    ensures { (x : Syn) (xs : Syns) → IsPart work.old of x → AreParts work.old kids.now xs → Answers quietly work.old work.new (called_value pos (reading x) (readings xs)) OperandThere IsOperand result }
+    ensures { (x : Syn) (xs : Syns) → IsPart work.old of x → AreParts work.old kids.now xs →
+        Answers quietly work.old work.new (called_value pos (reading x) (readings xs)) OperandThere IsOperand result }
 {
     let f = value_of(work, of, depth)?;
     let xs = arguments(work, kids, depth)?;
@@ -627,7 +696,8 @@ fn call_of_value(
 fn call(work: &mut Work<'_>, kids: &[u32], pos: Pos, depth: u32) -> Result<Operand, Refusal>
     requires whole { IsWhole work.old.nodes }
     requires parts { HaveParts work.old kids.now }
-    ensures { (t : Lexeme) (xs : Syns) → t.pos ≡ pos → AreParts work.old kids.now xs → Answers quietly work.old work.new (expression_of kinds.Call t xs (readings xs)) OperandThere IsOperand result }
+    ensures { (t : Lexeme) (xs : Syns) → t.pos ≡ pos → AreParts work.old kids.now xs →
+        Answers quietly work.old work.new (expression_of kinds.Call t xs (readings xs)) OperandThere IsOperand result }
 {
     match first_of(kids) {
         None => Err(Refusal::Code(120, pos)),
@@ -647,7 +717,8 @@ fn call(work: &mut Work<'_>, kids: &[u32], pos: Pos, depth: u32) -> Result<Opera
 // The library function that a name denotes, unless something stands behind the name.
 fn named_library(work: &Work<'_>, node: &Node) -> Option<u8>
     requires { node.now.kind ≡ kinds.Name }
-    ensures { (t : Lexeme) (xs : Syns) → IsNode work.now node.now t xs → (s : State) → Shows work.now s → called_library s (called_name (syntax kinds.Name t xs)) ≡ result }
+    ensures { (t : Lexeme) (xs : Syns) → IsNode work.now node.now t xs → (s : State) → Shows work.now s →
+        called_library s (called_name (syntax kinds.Name t xs)) ≡ result }
 {
     if node.kids.as_slice().is_empty() {
         work.called_library(name_of(node))
@@ -658,7 +729,8 @@ fn named_library(work: &Work<'_>, node: &Node) -> Option<u8>
 
 // The library function that is called by the name that a node is, perhaps in parentheses.
 fn library(work: &Work<'_>, k: u32, depth: u32) -> Result<Option<u8>, NoMemory>
-    ensures { IfOk result (λ o. (x : Syn) → IsPart work.now k x → (s : State) → Shows work.now s → called_library s (called_name x) ≡ o) }
+    ensures { IfOk result (λ o. (x : Syn) → IsPart work.now k x → (s : State) → Shows work.now s →
+        called_library s (called_name x) ≡ o) }
 {
     if depth == 0 {
         return Err(NoMemory);
@@ -680,7 +752,8 @@ fn library(work: &Work<'_>, k: u32, depth: u32) -> Result<Option<u8>, NoMemory>
 fn unevaluated_value(work: &mut Work<'_>, k: u32, depth: u32) -> Result<Operand, Refusal>
     requires whole { IsWhole work.old.nodes }
     requires part { HasPart work.old k }
-    ensures { (x : Syn) → IsPart work.old k x → Answers quietly work.old work.new (unevaluated (read_value (reading x))) OperandThere IsOperand result }
+    ensures { (x : Syn) → IsPart work.old k x →
+        Answers quietly work.old work.new (unevaluated (read_value (reading x))) OperandThere IsOperand result }
 {
     let mark = work.mark();
     let x = value_of(work, k, depth)?;
@@ -693,7 +766,8 @@ fn unevaluated_value(work: &mut Work<'_>, k: u32, depth: u32) -> Result<Operand,
 pub fn constant(work: &mut Work<'_>, k: u32, depth: u32) -> Result<Constant, Refusal>
     requires whole { IsWhole work.old.nodes }
     requires part { HasPart work.old k }
-    ensures { (x : Syn) → IsPart work.old k x → Answers quietly work.old work.new (constant (reading x)) ConstantThere (in_any IsConstant) result }
+    ensures { (x : Syn) → IsPart work.old k x →
+        Answers quietly work.old work.new (constant (reading x)) ConstantThere (in_any IsConstant) result }
 {
     let x = unevaluated_value(work, k, depth)?;
     constant_value(work, x)
@@ -701,13 +775,14 @@ pub fn constant(work: &mut Work<'_>, k: u32, depth: u32) -> Result<Constant, Ref
 
 // ---- specifiers and type names
 
-/// The declaration specifiers that a node is: 133 where they are no type, or name two storage classes (C11 6.7.1, 6.7.2). `alone` says
-/// that no declarator follows.
+/// The declaration specifiers that a node is: 133 where they are no type, or name two storage classes (C11 6.7.1,
+/// 6.7.2). `alone` says that no declarator follows.
 #[cycle(parts)]
 pub fn specified(work: &mut Work<'_>, k: u32, alone: bool, depth: u32) -> Result<Specified, Refusal>
     requires whole { IsWhole work.old.nodes }
     requires part { HasPart work.old k }
-    ensures { (x : Syn) → IsPart work.old k x → Answers quietly work.old work.new ((reading x).specified alone) SpecifiedThere (in_any IsSpecified) result }
+    ensures { (x : Syn) → IsPart work.old k x →
+        Answers quietly work.old work.new ((reading x).specified alone) SpecifiedThere (in_any IsSpecified) result }
 {
     if depth == 0 {
         return Err(Refusal::NoMemory);
@@ -724,7 +799,8 @@ pub fn specified(work: &mut Work<'_>, k: u32, alone: bool, depth: u32) -> Result
 fn maybe_type(work: &mut Work<'_>, k: u32, alone: bool, depth: u32) -> Result<Option<u32>, Refusal>
     requires whole { IsWhole work.old.nodes }
     requires part { HasPart work.old k }
-    ensures { (x : Syn) → IsPart work.old k x → Answers quietly work.old work.new (maybe_type alone x) MaybeTypeThere IsMaybeType result }
+    ensures { (x : Syn) → IsPart work.old k x →
+        Answers quietly work.old work.new (maybe_type alone x) MaybeTypeThere IsMaybeType result }
 {
     let node = node_at(work, k)?;
     if names_type(node.kind) {
@@ -745,7 +821,8 @@ fn named_types(
 ) -> Result<Vec<u32>, Refusal>
     requires whole { IsWhole work.old.nodes }
     requires parts { HaveParts work.old kids.now }
-    ensures { (xs : Syns) → AreParts work.old kids.now xs → Answers quietly work.old work.new (named_types alone xs (readings xs)) TypesThere AreTypes result }
+    ensures { (xs : Syns) → AreParts work.old kids.now xs →
+        Answers quietly work.old work.new (named_types alone xs (readings xs)) TypesThere AreTypes result }
 {
     let mut types = Vec::new(work.nodes.alloc);
     let mut left = kids;
@@ -757,12 +834,14 @@ fn named_types(
     Ok(types)
 }
 
-/// The type that a node names: a type name, or a specifier that names one (C11 6.7.2, 6.7.7). `alone` says that no declarator follows.
+/// The type that a node names: a type name, or a specifier that names one (C11 6.7.2, 6.7.7). `alone` says that no
+/// declarator follows.
 #[cycle(parts)]
 pub fn type_of(work: &mut Work<'_>, k: u32, alone: bool, depth: u32) -> Result<u32, Refusal>
     requires whole { IsWhole work.old.nodes }
     requires part { HasPart work.old k }
-    ensures { (x : Syn) → IsPart work.old k x → Answers quietly work.old work.new ((reading x).type alone) TypeThere IsType result }
+    ensures { (x : Syn) → IsPart work.old k x →
+        Answers quietly work.old work.new ((reading x).type alone) TypeThere IsType result }
 {
     if depth == 0 {
         return Err(Refusal::NoMemory);
@@ -776,7 +855,9 @@ pub fn type_of(work: &mut Work<'_>, k: u32, alone: bool, depth: u32) -> Result<u
 fn type_of_node(work: &mut Work<'_>, node: &Node, alone: bool, depth: u32) -> Result<u32, Refusal>
     requires whole { IsWhole work.old.nodes }
     requires parts { HaveParts work.old node.now.kids }
-    ensures { (t : Lexeme) (xs : Syns) → IsNode work.old node.now t xs → Answers quietly work.old work.new (type_of_kind node.now.kind t xs (readings xs) alone) TypeThere IsType result }
+    ensures { (t : Lexeme) (xs : Syns) → IsNode work.old node.now t xs →
+        Answers quietly work.old work.new (type_of_kind node.now.kind t xs (readings xs) alone) TypeThere IsType
+        result }
 {
     let kids = node.kids.as_slice();
     match node.kind {
@@ -799,7 +880,9 @@ fn unstored(
 ) -> Result<Specified, Refusal>
     requires whole { IsWhole work.old.nodes }
     requires part { HasPart work.old k }
-    ensures { (x : Syn) → IsPart work.old k x → Answers quietly work.old work.new (unstored (reading x) register pos) SpecifiedThere (in_any IsSpecified) result }
+    ensures { (x : Syn) → IsPart work.old k x →
+        Answers quietly work.old work.new (unstored (reading x) register pos) SpecifiedThere
+        (in_any IsSpecified) result }
 {
     let s = specified(work, k, false, depth)?;
     if either(s.stored, register) {
@@ -812,7 +895,8 @@ fn unstored(
 fn type_name(work: &mut Work<'_>, kids: &[u32], pos: Pos, depth: u32) -> Result<u32, Refusal>
     requires whole { IsWhole work.old.nodes }
     requires parts { HaveParts work.old kids.now }
-    ensures { (t : Lexeme) (xs : Syns) → t.pos ≡ pos → AreParts work.old kids.now xs → Answers quietly work.old work.new (type_name t xs (readings xs)) TypeThere IsType result }
+    ensures { (t : Lexeme) (xs : Syns) → t.pos ≡ pos → AreParts work.old kids.now xs →
+        Answers quietly work.old work.new (type_name t xs (readings xs)) TypeThere IsType result }
 {
     match first_of(kids) {
         None => Err(Refusal::Code(120, pos)),
@@ -838,7 +922,8 @@ fn record_specifier(
 ) -> Result<u32, Refusal>
     requires whole { IsWhole work.old.nodes }
     requires parts { HaveParts work.old kids.now }
-    ensures { (t : Lexeme) (xs : Syns) → t.pos ≡ pos → AreParts work.old kids.now xs → Answers quietly work.old work.new (record_specifier kind alone t xs (readings xs)) TypeThere IsType result }
+    ensures { (t : Lexeme) (xs : Syns) → t.pos ≡ pos → AreParts work.old kids.now xs →
+        Answers quietly work.old work.new (record_specifier kind alone t xs (readings xs)) TypeThere IsType result }
 {
     let found = tag_of(work, kids)?;
     match found {
@@ -858,7 +943,8 @@ fn untagged(
 ) -> Result<u32, Refusal>
     requires whole { IsWhole work.old.nodes }
     requires parts { HaveParts work.old kids.now }
-    ensures { (xs : Syns) → AreParts work.old kids.now xs → Answers quietly work.old work.new (untagged kind (readings xs) pos) TypeThere IsType result }
+    ensures { (xs : Syns) → AreParts work.old kids.now xs →
+        Answers quietly work.old work.new (untagged kind (readings xs) pos) TypeThere IsType result }
 {
     let tag = new_tag(work, kind)?;
     filled(work, kind, tag, kids, pos, pos, depth)
@@ -877,7 +963,9 @@ fn tagged_record(
 ) -> Result<u32, Refusal>
     requires whole { IsWhole work.old.nodes }
     requires parts { HaveParts work.old members.now }
-    ensures { (xs : Syns) → AreParts work.old members.now xs → Answers quietly work.old work.new (tagged_record kind alone (token_of work.old name) (readings xs) pos) TypeThere IsType result }
+    ensures { (xs : Syns) → AreParts work.old members.now xs →
+        Answers quietly work.old work.new (tagged_record kind alone (token_of work.old name) (readings xs) pos)
+        TypeThere IsType result }
 {
     if members.is_empty() {
         return named_record(work, kind, alone, name);
@@ -899,7 +987,8 @@ fn filled(
 ) -> Result<u32, Refusal>
     requires whole { IsWhole work.old.nodes }
     requires parts { HaveParts work.old kids.now }
-    ensures { (xs : Syns) → AreParts work.old kids.now xs → Answers quietly work.old work.new (filled kind tag (readings xs) at keyword) TypeThere IsType result }
+    ensures { (xs : Syns) → AreParts work.old kids.now xs →
+        Answers quietly work.old work.new (filled kind tag (readings xs) at keyword) TypeThere IsType result }
 {
     begin_tag(work, tag, at)?;
     let members = all_members(work, kids, depth)?;
@@ -911,7 +1000,8 @@ fn filled(
 fn all_members<'a>(work: &mut Work<'a>, kids: &[u32], depth: u32) -> Result<Members<'a>, Refusal>
     requires whole { IsWhole work.old.nodes }
     requires parts { HaveParts work.old kids.now }
-    ensures { (xs : Syns) → AreParts work.old kids.now xs → Answers quietly work.old work.new (all_members (readings xs) []) AllMembersThere AreAllMembers result }
+    ensures { (xs : Syns) → AreParts work.old kids.now xs →
+        Answers quietly work.old work.new (all_members (readings xs) []) AllMembersThere AreAllMembers result }
 {
     let mut members = Members::new(work.nodes.alloc);
     let mut left = kids;
@@ -933,7 +1023,8 @@ fn member<'a>(
     requires whole { IsWhole work.old.nodes }
     requires part { HasPart work.old k }
     requires members { AllMembersThere work.old members }
-    ensures { (x : Syn) (ms : List Part) → IsPart work.old k x → AreMembers work.old members.entry.all.items ms → Answers quietly work.old work.new ((reading x).members ms) AllMembersThere AreAllMembers result }
+    ensures { (x : Syn) (ms : List Part) → IsPart work.old k x → AreMembers work.old members.entry.all.items ms →
+        Answers quietly work.old work.new ((reading x).members ms) AllMembersThere AreAllMembers result }
 {
     if depth == 0 {
         return Err(Refusal::NoMemory);
@@ -962,7 +1053,9 @@ fn member_declarators<'a>(
     requires specified { SpecifiedThere work.old s }
     requires parts { HaveParts work.old kids.now }
     requires members { AllMembersThere work.old members }
-    ensures { (x : MeantSpecified) (xs : Syns) (ms : List Part) → IsSpecified work.old s x → AreParts work.old kids.now xs → AreMembers work.old members.entry.all.items ms → Answers quietly work.old work.new (member_declarators x (readings xs) ms) AllMembersThere AreAllMembers result }
+    ensures { (x : MeantSpecified) (xs : Syns) (ms : List Part) → IsSpecified work.old s x →
+        AreParts work.old kids.now xs → AreMembers work.old members.entry.all.items ms →
+        Answers quietly work.old work.new (member_declarators x (readings xs) ms) AllMembersThere AreAllMembers result }
 {
     let mut all = members;
     let mut left = kids;
@@ -985,7 +1078,9 @@ fn member_declarator<'a>(
     requires specified { SpecifiedThere work.old s }
     requires part { HasPart work.old k }
     requires members { AllMembersThere work.old members }
-    ensures { (x : MeantSpecified) (y : Syn) (ms : List Part) → IsSpecified work.old s x → IsPart work.old k y → AreMembers work.old members.entry.all.items ms → Answers quietly work.old work.new (member_declarator x (reading y) ms) AllMembersThere AreAllMembers result }
+    ensures { (x : MeantSpecified) (y : Syn) (ms : List Part) → IsSpecified work.old s x → IsPart work.old k y →
+        AreMembers work.old members.entry.all.items ms →
+        Answers quietly work.old work.new (member_declarator x (reading y) ms) AllMembersThere AreAllMembers result }
 {
     let d = derived(work, k, depth)?;
     add_member(work, s, &d, members)
@@ -997,7 +1092,8 @@ fn member_declarator<'a>(
 fn enum_specifier(work: &mut Work<'_>, kids: &[u32], depth: u32) -> Result<u32, Refusal>
     requires whole { IsWhole work.old.nodes }
     requires parts { HaveParts work.old kids.now }
-    ensures { (xs : Syns) → AreParts work.old kids.now xs → Answers quietly work.old work.new (enum_specifier xs (readings xs)) TypeThere IsType result }
+    ensures { (xs : Syns) → AreParts work.old kids.now xs →
+        Answers quietly work.old work.new (enum_specifier xs (readings xs)) TypeThere IsType result }
 {
     let found = tag_of(work, kids)?;
     match found {
@@ -1016,7 +1112,9 @@ fn tagged_enumeration(
 ) -> Result<u32, Refusal>
     requires whole { IsWhole work.old.nodes }
     requires parts { HaveParts work.old list.now }
-    ensures { (xs : Syns) → AreParts work.old list.now xs → Answers quietly work.old work.new (tagged_enumeration (token_of work.old name) (readings xs)) TypeThere IsType result }
+    ensures { (xs : Syns) → AreParts work.old list.now xs →
+        Answers quietly work.old work.new (tagged_enumeration (token_of work.old name) (readings xs)) TypeThere IsType
+        result }
 {
     if list.is_empty() {
         return named_enum(work, name);
@@ -1030,7 +1128,8 @@ fn tagged_enumeration(
 fn listed(work: &mut Work<'_>, kids: &[u32], depth: u32) -> Result<u32, Refusal>
     requires whole { IsWhole work.old.nodes }
     requires parts { HaveParts work.old kids.now }
-    ensures { (xs : Syns) → AreParts work.old kids.now xs → Answers quietly work.old work.new (listed (readings xs)) TypeThere IsType result }
+    ensures { (xs : Syns) → AreParts work.old kids.now xs →
+        Answers quietly work.old work.new (listed (readings xs)) TypeThere IsType result }
 {
     enumerators(work, kids, depth)?;
     int_type(work)
@@ -1040,7 +1139,8 @@ fn listed(work: &mut Work<'_>, kids: &[u32], depth: u32) -> Result<u32, Refusal>
 fn enumerators(work: &mut Work<'_>, kids: &[u32], depth: u32) -> Result<(), Refusal>
     requires whole { IsWhole work.old.nodes }
     requires parts { HaveParts work.old kids.now }
-    ensures { (xs : Syns) → AreParts work.old kids.now xs → Answers quietly work.old work.new (enumerators (readings xs) (pos 0)) NothingThere IsNothing result }
+    ensures { (xs : Syns) → AreParts work.old kids.now xs →
+        Answers quietly work.old work.new (enumerators (readings xs) (pos 0)) NothingThere IsNothing result }
 {
     let mut next: i128 = 0;
     let mut left = kids;
@@ -1056,7 +1156,8 @@ fn enumerators(work: &mut Work<'_>, kids: &[u32], depth: u32) -> Result<(), Refu
 fn enumerator(work: &mut Work<'_>, k: u32, next: i128, depth: u32) -> Result<i128, Refusal>
     requires whole { IsWhole work.old.nodes }
     requires part { HasPart work.old k }
-    ensures { (x : Syn) → IsPart work.old k x → Answers quietly work.old work.new ((reading x).enumerator next) NumberThere (in_any IsNumber) result }
+    ensures { (x : Syn) → IsPart work.old k x →
+        Answers quietly work.old work.new ((reading x).enumerator next) NumberThere (in_any IsNumber) result }
 {
     if depth == 0 {
         return Err(Refusal::NoMemory);
@@ -1080,7 +1181,9 @@ fn valued(
 ) -> Result<i128, Refusal>
     requires whole { IsWhole work.old.nodes }
     requires parts { HaveParts work.old kids.now }
-    ensures { (xs : Syns) → AreParts work.old kids.now xs → Answers quietly work.old work.new (enumerator (token_of work.old name) (readings xs) next) NumberThere (in_any IsNumber) result }
+    ensures { (xs : Syns) → AreParts work.old kids.now xs →
+        Answers quietly work.old work.new (enumerator (token_of work.old name) (readings xs) next) NumberThere
+        (in_any IsNumber) result }
 {
     match first_of(kids) {
         None => enumerate(work, name, next, name.pos),
@@ -1098,7 +1201,8 @@ fn valued(
 pub fn derived<'a>(work: &mut Work<'a>, k: u32, depth: u32) -> Result<Derived<'a>, Refusal>
     requires whole { IsWhole work.old.nodes }
     requires part { HasPart work.old k }
-    ensures { (x : Syn) → IsPart work.old k x → Answers quietly work.old work.new (reading x).derived DerivedThere ShowsDerived result }
+    ensures { (x : Syn) → IsPart work.old k x →
+        Answers quietly work.old work.new (reading x).derived DerivedThere ShowsDerived result }
 {
     if depth == 0 {
         return Err(Refusal::NoMemory);
@@ -1112,7 +1216,9 @@ pub fn derived<'a>(work: &mut Work<'a>, k: u32, depth: u32) -> Result<Derived<'a
 fn declarator<'a>(work: &mut Work<'a>, node: &Node, depth: u32) -> Result<Derived<'a>, Refusal>
     requires whole { IsWhole work.old.nodes }
     requires parts { HaveParts work.old node.now.kids }
-    ensures { (t : Lexeme) (xs : Syns) → IsNode work.old node.now t xs → Answers quietly work.old work.new (declarator_of node.now.kind t xs (readings xs)) DerivedThere ShowsDerived result }
+    ensures { (t : Lexeme) (xs : Syns) → IsNode work.old node.now t xs →
+        Answers quietly work.old work.new (declarator_of node.now.kind t xs (readings xs)) DerivedThere ShowsDerived
+        result }
 {
     let kids = node.kids.as_slice();
     match node.kind {
@@ -1135,7 +1241,9 @@ fn enclosed<'a>(
 ) -> Result<Derived<'a>, Refusal>
     requires whole { IsWhole work.old.nodes }
     requires parts { HaveParts work.old kids.now }
-    ensures { (t : Lexeme) (xs : Syns) → t.pos ≡ pos → AreParts work.old kids.now xs → Answers quietly work.old work.new (declarator_of kinds.ParenthesizedDeclarator t xs (readings xs)) DerivedThere ShowsDerived result }
+    ensures { (t : Lexeme) (xs : Syns) → t.pos ≡ pos → AreParts work.old kids.now xs →
+        Answers quietly work.old work.new (declarator_of kinds.ParenthesizedDeclarator t xs (readings xs))
+        DerivedThere ShowsDerived result }
 {
     match first_of(kids) {
         None => Err(Refusal::Code(120, pos)),
@@ -1148,7 +1256,8 @@ fn enclosed<'a>(
 fn within<'a>(work: &mut Work<'a>, kids: &[u32], depth: u32) -> Result<Derived<'a>, Refusal>
     requires whole { IsWhole work.old.nodes }
     requires parts { HaveParts work.old kids.now }
-    ensures { (xs : Syns) → AreParts work.old kids.now xs → Answers quietly work.old work.new (within (readings xs)) DerivedThere ShowsDerived result }
+    ensures { (xs : Syns) → AreParts work.old kids.now xs →
+        Answers quietly work.old work.new (within (readings xs)) DerivedThere ShowsDerived result }
 {
     match first_of(kids) {
         None => Ok(Derived::new(work.nodes.alloc, None)),
@@ -1165,7 +1274,9 @@ fn pointer<'a>(
 ) -> Result<Derived<'a>, Refusal>
     requires whole { IsWhole work.old.nodes }
     requires parts { HaveParts work.old kids.now }
-    ensures { (t : Lexeme) (xs : Syns) → t.pos ≡ pos → AreParts work.old kids.now xs → Answers quietly work.old work.new (declarator_of kinds.Pointer t xs (readings xs)) DerivedThere ShowsDerived result }
+    ensures { (t : Lexeme) (xs : Syns) → t.pos ≡ pos → AreParts work.old kids.now xs →
+        Answers quietly work.old work.new (declarator_of kinds.Pointer t xs (readings xs)) DerivedThere ShowsDerived
+        result }
 {
     match first_of(kids) {
         None => Err(Refusal::Code(120, pos)),
@@ -1182,7 +1293,9 @@ fn pointer<'a>(
 fn open_array<'a>(work: &mut Work<'a>, kids: &[u32], depth: u32) -> Result<Derived<'a>, Refusal>
     requires whole { IsWhole work.old.nodes }
     requires parts { HaveParts work.old kids.now }
-    ensures { (t : Lexeme) (xs : Syns) → AreParts work.old kids.now xs → Answers quietly work.old work.new (declarator_of kinds.OpenArray t xs (readings xs)) DerivedThere ShowsDerived result }
+    ensures { (t : Lexeme) (xs : Syns) → AreParts work.old kids.now xs →
+        Answers quietly work.old work.new (declarator_of kinds.OpenArray t xs (readings xs)) DerivedThere ShowsDerived
+        result }
 {
     let d = within(work, kids, depth)?;
     let all = d.wrapped(Wrap::Row(0))?;
@@ -1198,7 +1311,9 @@ fn array<'a>(
 ) -> Result<Derived<'a>, Refusal>
     requires whole { IsWhole work.old.nodes }
     requires parts { HaveParts work.old kids.now }
-    ensures { (t : Lexeme) (xs : Syns) → t.pos ≡ pos → AreParts work.old kids.now xs → Answers quietly work.old work.new (declarator_of kinds.Array t xs (readings xs)) DerivedThere ShowsDerived result }
+    ensures { (t : Lexeme) (xs : Syns) → t.pos ≡ pos → AreParts work.old kids.now xs →
+        Answers quietly work.old work.new (declarator_of kinds.Array t xs (readings xs)) DerivedThere ShowsDerived
+        result }
 {
     match ends(kids) {
         None => Err(Refusal::Code(120, pos)),
@@ -1211,7 +1326,8 @@ fn array<'a>(
 fn length_of(work: &mut Work<'_>, k: u32, depth: u32) -> Result<u64, Refusal>
     requires whole { IsWhole work.old.nodes }
     requires part { HasPart work.old k }
-    ensures { (x : Syn) → IsPart work.old k x → Answers quietly work.old work.new (array_length (reading x)) CountThere (in_any IsCount) result }
+    ensures { (x : Syn) → IsPart work.old k x →
+        Answers quietly work.old work.new (array_length (reading x)) CountThere (in_any IsCount) result }
 {
     let c = constant(work, k, depth)?;
     array_length(work, c)
@@ -1228,7 +1344,8 @@ fn row<'a>(
     requires whole { IsWhole work.old.nodes }
     requires parts { HaveParts work.old before.now }
     requires count { HasPart work.old count }
-    ensures { (xs : Syns) (y : Syn) → AreParts work.old before.now xs → IsPart work.old count y → Answers quietly work.old work.new (row_of (readings xs) (reading y)) DerivedThere ShowsDerived result }
+    ensures { (xs : Syns) (y : Syn) → AreParts work.old before.now xs → IsPart work.old count y →
+        Answers quietly work.old work.new (row_of (readings xs) (reading y)) DerivedThere ShowsDerived result }
 {
     let d = within(work, before, depth)?;
     let n = length_of(work, count, depth)?;
@@ -1245,7 +1362,9 @@ fn function<'a>(
 ) -> Result<Derived<'a>, Refusal>
     requires whole { IsWhole work.old.nodes }
     requires parts { HaveParts work.old kids.now }
-    ensures { (t : Lexeme) (xs : Syns) → t.pos ≡ pos → AreParts work.old kids.now xs → Answers quietly work.old work.new (declarator_of kinds.Function t xs (readings xs)) DerivedThere ShowsDerived result }
+    ensures { (t : Lexeme) (xs : Syns) → t.pos ≡ pos → AreParts work.old kids.now xs →
+        Answers quietly work.old work.new (declarator_of kinds.Function t xs (readings xs)) DerivedThere ShowsDerived
+        result }
 {
     match ends(kids) {
         None => Err(Refusal::Code(120, pos)),
@@ -1264,7 +1383,8 @@ fn function_with<'a>(
     requires whole { IsWhole work.old.nodes }
     requires parts { HaveParts work.old before.now }
     requires parameters { HasPart work.old parameters }
-    ensures { (xs : Syns) (y : Syn) → AreParts work.old before.now xs → IsPart work.old parameters y → Answers quietly work.old work.new (function_of (readings xs) (reading y)) DerivedThere ShowsDerived result }
+    ensures { (xs : Syns) (y : Syn) → AreParts work.old before.now xs → IsPart work.old parameters y →
+        Answers quietly work.old work.new (function_of (readings xs) (reading y)) DerivedThere ShowsDerived result }
 {
     let d = within(work, before, depth)?;
     let found = prototype(work, parameters, depth)?;
@@ -1279,7 +1399,8 @@ fn function_with<'a>(
 fn prototype<'a>(work: &mut Work<'a>, k: u32, depth: u32) -> Result<Prototype<'a>, Refusal>
     requires whole { IsWhole work.old.nodes }
     requires part { HasPart work.old k }
-    ensures { (x : Syn) → IsPart work.old k x → Answers quietly work.old work.new (reading x).prototype PrototypeThere ShowsPrototype result }
+    ensures { (x : Syn) → IsPart work.old k x →
+        Answers quietly work.old work.new (reading x).prototype PrototypeThere ShowsPrototype result }
 {
     if depth == 0 {
         return Err(Refusal::NoMemory);
@@ -1296,7 +1417,9 @@ fn prototype<'a>(work: &mut Work<'a>, k: u32, depth: u32) -> Result<Prototype<'a
 fn parameter_list(work: &mut Work<'_>, kids: &[u32], depth: u32) -> Result<Vec<Param>, Refusal>
     requires whole { IsWhole work.old.nodes }
     requires parts { HaveParts work.old kids.now }
-    ensures { (xs : Syns) → AreParts work.old kids.now xs → Answers quietly work.old work.new (parameter_list 0 (length (readings xs) == 1) (readings xs)) ParamsThere AreParams result }
+    ensures { (xs : Syns) → AreParts work.old kids.now xs →
+        Answers quietly work.old work.new (parameter_list 0 (length (readings xs) == 1) (readings xs)) ParamsThere
+        AreParams result }
 {
     let only = is_lone(true, kids);
     let mut params = Vec::new(work.nodes.alloc);
@@ -1317,7 +1440,8 @@ fn parameter_list(work: &mut Work<'_>, kids: &[u32], depth: u32) -> Result<Vec<P
 fn parameter(work: &mut Work<'_>, k: u32, only: bool, depth: u32) -> Result<Param, Refusal>
     requires whole { IsWhole work.old.nodes }
     requires part { HasPart work.old k }
-    ensures { (x : Syn) → IsPart work.old k x → Answers quietly work.old work.new ((reading x).parameter only) ParamThere (in_any IsParam) result }
+    ensures { (x : Syn) → IsPart work.old k x →
+        Answers quietly work.old work.new ((reading x).parameter only) ParamThere (in_any IsParam) result }
 {
     if depth == 0 {
         return Err(Refusal::NoMemory);
@@ -1341,7 +1465,9 @@ fn parameter_at(
 ) -> Result<Param, Refusal>
     requires whole { IsWhole work.old.nodes }
     requires parts { HaveParts work.old kids.now }
-    ensures { (xs : Syns) → AreParts work.old kids.now xs → Answers quietly work.old work.new (parameter_of (token_of work.old first) (readings xs) only) ParamThere (in_any IsParam) result }
+    ensures { (xs : Syns) → AreParts work.old kids.now xs →
+        Answers quietly work.old work.new (parameter_of (token_of work.old first) (readings xs) only) ParamThere
+        (in_any IsParam) result }
 {
     match first_of(kids) {
         None => Err(Refusal::Code(120, first.pos)),

@@ -64,7 +64,8 @@ pub(crate) fn named_record(
     name: Name,
 ) -> Result<u32, Refusal>
     requires { IsWhole work.old.nodes }
-    ensures { Answers quietly work.old work.new (named_record kind alone (token_of work.old name)) TypeThere IsType result }
+    ensures { Answers quietly work.old work.new
+        (named_record kind alone (token_of work.old name)) TypeThere IsType result }
 {
     let tag = named_tag(work, alone, kind, name)?;
     tagged(work, tag)
@@ -101,7 +102,8 @@ pub(crate) fn declare_parameter(
 ) -> Result<(), Refusal>
     requires whole { IsWhole work.old.nodes }
     requires there { ParamThere work.old p }
-    ensures answers { Answers quietly work.old work.new (bound_behind (map (param_in work.old) params.old.items) (param_in work.old p)) NothingThere IsNothing result }
+    ensures answers { Answers quietly work.old work.new
+        (bound_behind (map (param_in work.old) params.old.items) (param_in work.old p)) NothingThere IsNothing result }
     ensures more { OnOk result (params.new.items ≡ params.old.items ++ p ∷ []) }
 {
     let k = next_number(params.as_slice())?;

@@ -1,5 +1,6 @@
 -- A statement as it is run, from its parts.
-use Rattle.std.proofs.Common.{◌≡◌, ℕ, ◌+◌, false, List, [], ◌∷◌, ◌++◌, length, take, drop, map, Option, Some, None, refl, sym, ap, subst, ◌∙◌}
+use Rattle.std.proofs.Common.{◌≡◌, ℕ, ◌+◌, false, List, [], ◌∷◌, ◌++◌, length, take, drop, map, Option, Some, None}
+use Rattle.std.proofs.Common.{refl, sym, ap, subst, ◌∙◌}
 use Rattle.std.specs.Prelude.{slice_get}
 use Rattle.std.proofs.lemmas.List.{append-nil, take-map, drop-map}
 use Rattle.c_tree.specs.declared.typed.Stmt.{Stmt}
@@ -9,15 +10,19 @@ use Rattle.c_tree.specs.Types.{Ty, bare}
 use Rattle.c_tree.specs.Terms as tree
 use Rattle.c_tree.specs.Terms.{Variable, Form, Term, terms, type_of, Action, action, actions}
 use Rattle.c_tree.specs.Views.{values, parts}
-use Rattle.c_tree.specs.Passed.{Names, Passing, by_pointer, hidden_in, hidden_of, ahead, passed_form, passed_term, passed_action, given_back}
+use Rattle.c_tree.specs.Passed.{Names, Passing, by_pointer, hidden_in, hidden_of, ahead, passed_form, passed_term}
+use Rattle.c_tree.specs.Passed.{passed_action, given_back}
 use Rattle.c_copy.specs.Copying.{Extends, AllBelow, stmt_form}
 use Rattle.c_copy.proofs.Copies.{action_same}
 use Rattle.c_passing.specs.declared.nodes.Source.{Source}
 use Rattle.c_passing.specs.declared.nodes.Made.{Made}
 use Rattle.c_passing.specs.Lists.{hidden_in_each, hidden_of_each, passed_each, passed_each_action}
-use Rattle.c_passing.specs.Passes.{written_type, written_term, written_action, Fits, HasTerms, HasAction, HasActions, Hides, IsPassed, ArePassed, IsGivenBack, IsGivenValue, IsReturned, IsPassedAction, ArePassedActions}
+use Rattle.c_passing.specs.Passes.{written_type, written_term, written_action, Fits, HasTerms, HasAction, HasActions}
+use Rattle.c_passing.specs.Passes.{Hides, IsPassed, ArePassed, IsGivenBack, IsGivenValue, IsReturned, IsPassedAction}
+use Rattle.c_passing.specs.Passes.{ArePassedActions}
 use Rattle.c_passing.proofs.Calling.{hides_then, hides_vars, hides_count}
-use Rattle.c_passing.proofs.Stating.{written_action_is, hidden_action, GivesPlainly, action_passed_is, return_by_pointer}
+use Rattle.c_passing.proofs.Stating.{written_action_is, hidden_action, GivesPlainly, action_passed_is}
+use Rattle.c_passing.proofs.Stating.{return_by_pointer}
 use Rattle.c_passing.proofs.Trees.{terms_more, action_made, no_actions_have, actions_more}
 
 -- ---- a statement that gives nothing back by a pointer
@@ -36,15 +41,19 @@ form_returns stmts.Break e = absurd cc
 form_returns stmts.Continue e = absurd cc
 form_returns stmts.Empty e = absurd cc
 
-gives_plainly : (s : Source) (k : StmtKind) → IsReturned s k None → GivesPlainly (stmt_form k) (map (written_term s) (values k))
+gives_plainly : (s : Source) (k : StmtKind) → IsReturned s k None →
+    GivesPlainly (stmt_form k) (map (written_term s) (values k))
 gives_plainly s k h = λ x e q.
     let r = form_returns k e in
     by r.0 r.1 x q
   where
-    by : (o : Option ℕ) → k ≡ stmts.Return o → (x : Term) → map (written_term s) (values k) ≡ x ∷ [] → by_pointer (type_of x) ≡ false
-    by None e x q = absurd (let z : map (written_term s) (values (stmts.Return None)) ≡ x ∷ [] = ap (λ z. map (written_term s) (values z)) (sym e) ∙ q in cc)
+    by : (o : Option ℕ) → k ≡ stmts.Return o → (x : Term) → map (written_term s) (values k) ≡ x ∷ [] →
+        by_pointer (type_of x) ≡ false
+    by None e x q =
+        absurd (let z : map (written_term s) (values (stmts.Return None)) ≡ x ∷ [] = ap (λ z. map (written_term s) (values z)) (sym e) ∙ q in cc)
     by (Some a) e x q =
-        let z : map (written_term s) (values (stmts.Return (Some a))) ≡ x ∷ [] = ap (λ z. map (written_term s) (values z)) (sym e) ∙ q in
+        let z : map (written_term s) (values (stmts.Return (Some a))) ≡ x ∷ [] =
+        ap (λ z. map (written_term s) (values z)) (sym e) ∙ q in
         let is : written_term s a ≡ x = cc in
         subst (λ y. by_pointer (type_of y) ≡ false) is (h a e)
 
@@ -52,9 +61,11 @@ pub record Built (s : Source) (old a b c new : Made) (k j : ℕ) (d r : Stmt) (v
   pub there : slice_get s.program.now.stmts k ≡ Some d
   pub below : AllBelow k (parts d.kind)
   pub plainly : IsReturned s d.kind None
-  pub hides_first : Hides s old a (λ names. hidden_of_each names (map (written_action s) (take (ahead (stmt_form d.kind)) (parts d.kind))))
+  pub hides_first : Hides s old a (λ names. hidden_of_each names
+      (map (written_action s) (take (ahead (stmt_form d.kind)) (parts d.kind))))
   pub hides_values : Hides s a b (λ names. hidden_in_each names (map (written_term s) (values d.kind)))
-  pub hides_last : Hides s b c (λ names. hidden_of_each names (map (written_action s) (drop (ahead (stmt_form d.kind)) (parts d.kind))))
+  pub hides_last : Hides s b c (λ names. hidden_of_each names
+      (map (written_action s) (drop (ahead (stmt_form d.kind)) (parts d.kind))))
   pub first : ArePassedActions s old a (map (written_action s) (take (ahead (stmt_form d.kind)) (parts d.kind))) [] js
   pub operands : ArePassed s a b (map (written_term s) (values d.kind)) vs
   pub last : ArePassedActions s b c (map (written_action s) (drop (ahead (stmt_form d.kind)) (parts d.kind))) js ls
@@ -70,7 +81,8 @@ pub record Built (s : Source) (old a b c new : Made) (k j : ℕ) (d r : Stmt) (v
   pub exprs : new.exprs ≡ c.exprs
   pub vars : new.vars ≡ c.vars
 
-pub statement_hides : (s : Source) (old a b c new : Made) (k j : ℕ) (d r : Stmt) (vs js ls : List ℕ) → Built s old a b c new k j d r vs js ls → Hides s old new (λ names. hidden_of names (written_action s k))
+pub statement_hides : (s : Source) (old a b c new : Made) (k j : ℕ) (d r : Stmt) (vs js ls : List ℕ) →
+    Built s old a b c new k j d r vs js ls → Hides s old new (λ names. hidden_of names (written_action s k))
 statement_hides s old a b c new k j d r vs js ls h =
     let n = ahead (stmt_form d.kind) in
     let ps = parts d.kind in
@@ -79,15 +91,18 @@ statement_hides s old a b c new k j d r vs js ls h =
     let last : Names → List Variable = λ names. hidden_of_each names (map (written_action s) (drop n ps)) in
     let both = hides_then s old a b first mid h.hides_first h.hides_values in
     let all = hides_then s old b c (λ names. first names ++ mid names) last both h.hides_last in
-    hides_vars s old c old new (λ names. (first names ++ mid names) ++ last names) (λ names. hidden_of names (written_action s k)) refl h.vars
+    hides_vars s old c old new (λ names. (first names ++ mid names) ++ last names)
+    (λ names. hidden_of names (written_action s k)) refl h.vars
     (λ names.
     sym (ap (hidden_of names) (written_action_is s k d h.there h.below)
     ∙ hidden_action names (stmt_form d.kind) (map (written_term s) (values d.kind)) (map (written_action s) ps) d.pos
-    ∙ ap (λ ys. (hidden_of_each names ys ++ mid names) ++ hidden_of_each names (drop n (map (written_action s) ps))) (take-map (written_action s) n ps)
+    ∙ ap (λ ys. (hidden_of_each names ys ++ mid names) ++ hidden_of_each names (drop n (map (written_action s) ps)))
+    (take-map (written_action s) n ps)
     ∙ ap (λ ys. (first names ++ mid names) ++ hidden_of_each names ys) (drop-map (written_action s) n ps)))
     all
 
-pub statement_passed : (s : Source) (old a b c new : Made) (k j : ℕ) (d r : Stmt) (vs js ls : List ℕ) → Built s old a b c new k j d r vs js ls → IsPassedAction s old new (written_action s k) j
+pub statement_passed : (s : Source) (old a b c new : Made) (k j : ℕ) (d r : Stmt) (vs js ls : List ℕ) →
+    Built s old a b c new k j d r vs js ls → IsPassedAction s old new (written_action s k) j
 statement_passed s old a b c new k j d r vs js ls h = record {
   is = λ ts e fits.
       let f = stmt_form d.kind in
@@ -100,19 +115,25 @@ statement_passed s old a b c new k j d r vs js ls h = record {
       let u = length old.vars.items in
       let v = length a.vars.items in
       let w = length b.vars.items in
-      let v_is : v ≡ u + length (hidden_of_each e.names front) = hides_count s old a (λ names. hidden_of_each names front) ts e h.hides_first fits in
-      let w_is : w ≡ v + length (hidden_in_each e.names xs) = hides_count s a b (λ names. hidden_in_each names xs) ts e h.hides_values fits in
+      let v_is : v ≡ u + length (hidden_of_each e.names front) =
+      hides_count s old a (λ names. hidden_of_each names front) ts e h.hides_first fits in
+      let w_is : w ≡ v + length (hidden_in_each e.names xs) =
+      hides_count s a b (λ names. hidden_in_each names xs) ts e h.hides_values fits in
       let one = h.first.are ts e [] fits (no_actions_have ts old.exprs.items old.stmts.items) in
-      let one-b = actions_more ts a.exprs.items b.exprs.items a.stmts.items b.stmts.items js (passed_each_action e u front) h.exprs_between ([], ap (λ z. z.items) h.stmts_between ∙ sym (append-nil a.stmts.items)) one in
+      let one-b = actions_more ts a.exprs.items b.exprs.items a.stmts.items b.stmts.items js
+      (passed_each_action e u front) h.exprs_between
+      ([], ap (λ z. z.items) h.stmts_between ∙ sym (append-nil a.stmts.items)) one in
       let two = h.last.are ts e (passed_each_action e u front) fits one-b in
-      let terms-c = terms_more ts b.exprs.items c.exprs.items vs (passed_each e v xs) h.exprs_behind (h.operands.are ts e fits) in
+      let terms-c = terms_more ts b.exprs.items c.exprs.items vs (passed_each e v xs) h.exprs_behind
+      (h.operands.are ts e fits) in
       let zs = passed_each_action e u front ++ passed_each_action e w back in
       let made =
       action_made ts c.exprs.items c.stmts.items new.stmts.items r j (passed_each e v xs) zs h.pushed h.number
       (subst (λ ks. HasTerms ts c.exprs.items ks (passed_each e v xs)) (sym h.values_are) terms-c)
       (subst (λ ks. HasActions ts c.exprs.items c.stmts.items ks zs) (sym h.parts_are) two) in
       let is : action (stmt_form r.kind) (terms (passed_each e v xs)) (actions zs) r.pos ≡ passed_action e u (written_action s k) =
-      action_same (stmt_form r.kind) (passed_form e f) (terms (passed_each e v xs)) (terms (passed_each e v xs)) (actions zs) (actions zs) r.pos d.pos (h.form ts e fits) refl refl h.place
+      action_same (stmt_form r.kind) (passed_form e f) (terms (passed_each e v xs)) (terms (passed_each e v xs))
+      (actions zs) (actions zs) r.pos d.pos (h.form ts e fits) refl refl h.place
       ∙ sym (ap (passed_action e u) (written_action_is s k d h.there h.below)
       ∙ action_passed_is e u f xs ys d.pos (gives_plainly s d.kind h.plainly)
       ∙ rw (take-map (written_action s) n ps, drop-map (written_action s) n ps, ← v_is, ← w_is) refl) in
@@ -121,31 +142,48 @@ statement_passed s old a b c new k j d r vs js ls h = record {
 
 -- ---- and one that does
 
-returned_is : (s : Source) (k x : ℕ) (d : Stmt) → slice_get s.program.now.stmts k ≡ Some d → d.kind ≡ stmts.Return (Some x) → written_action s k ≡ action tree.Return (terms (written_term s x ∷ [])) (actions []) d.pos
+returned_is : (s : Source) (k x : ℕ) (d : Stmt) → slice_get s.program.now.stmts k ≡ Some d →
+    d.kind ≡ stmts.Return (Some x) →
+    written_action s k ≡ action tree.Return (terms (written_term s x ∷ [])) (actions []) d.pos
 returned_is s k x d g q =
     written_action_is s k d g (rw q (λ j a e. absurd cc))
-    ∙ ap (λ z. action (stmt_form z) (terms (map (written_term s) (values z))) (actions (map (written_action s) (parts z))) d.pos) q
+    ∙ ap (λ z. action (stmt_form z) (terms (map (written_term s) (values z)))
+    (actions (map (written_action s) (parts z))) d.pos) q
 
-pub returned_hides : (s : Source) (old a new : Made) (k x : ℕ) (d : Stmt) → slice_get s.program.now.stmts k ≡ Some d → d.kind ≡ stmts.Return (Some x) → Hides s old a (λ names. hidden_in names (written_term s x)) → new.vars ≡ a.vars →
+pub returned_hides : (s : Source) (old a new : Made) (k x : ℕ) (d : Stmt) → slice_get s.program.now.stmts k ≡ Some d →
+    d.kind ≡ stmts.Return (Some x) → Hides s old a (λ names. hidden_in names (written_term s x)) → new.vars ≡ a.vars →
     Hides s old new (λ names. hidden_of names (written_action s k))
 returned_hides s old a new k x d g q h v =
-    hides_vars s old a old new (λ names. hidden_in names (written_term s x)) (λ names. hidden_of names (written_action s k)) refl v
-    (λ names. sym (ap (hidden_of names) (returned_is s k x d g q) ∙ append-nil (hidden_in names (written_term s x) ++ []) ∙ append-nil (hidden_in names (written_term s x)))) h
+    hides_vars s old a old new (λ names. hidden_in names (written_term s x))
+    (λ names. hidden_of names (written_action s k)) refl v
+    (λ names. sym (ap (hidden_of names) (returned_is s k x d g q)
+    ∙ append-nil (hidden_in names (written_term s x) ++ []) ∙ append-nil (hidden_in names (written_term s x))))
+    h
 
-pub returned_passed : (s : Source) (old a new : Made) (k x t value j : ℕ) (d : Stmt) → slice_get s.program.now.stmts k ≡ Some d → IsReturned s d.kind (Some (x, t)) → IsPassed s old a (written_term s x) value → IsGivenBack s a new value t d.pos j →
+pub returned_passed : (s : Source) (old a new : Made) (k x t value j : ℕ) (d : Stmt) →
+    slice_get s.program.now.stmts k ≡ Some d → IsReturned s d.kind (Some (x, t)) →
+    IsPassed s old a (written_term s x) value → IsGivenBack s a new value t d.pos j →
     IsPassedAction s old new (written_action s k) j
 returned_passed s old a new k x t value j d g r p h = record {
   is = λ ts e fits.
       let n = length old.vars.items in
       let y = passed_term e n (written_term s x) in
       let is : given_back y (written_type s t) d.pos ≡ passed_action e n (written_action s k) =
-      ap (λ u. given_back y u d.pos) r.2 ∙ sym (ap (passed_action e n) (returned_is s k x d g r.0) ∙ return_by_pointer e n (written_term s x) d.pos r.1) in
+      ap (λ u. given_back y u d.pos) r.2
+      ∙ sym (ap (passed_action e n) (returned_is s k x d g r.0)
+      ∙ return_by_pointer e n (written_term s x) d.pos r.1) in
       subst (λ z. HasAction ts new.exprs.items new.stmts.items j z) is (h.is ts e y fits (p.is ts e fits));
 }
 
 -- ---- what is returned
 
-pub value_returned : (s : Source) (a : ℕ) (o : Option (ℕ × ℕ)) → IsGivenValue s a o → IsReturned s (stmts.Return (Some a)) o
-value_returned s a None h = λ x q. let same : a ≡ x = cc in subst (λ y. by_pointer (type_of (written_term s y)) ≡ false) same h
-value_returned s a (Some x) h =
-    (ap (λ y. stmts.Return (Some y)) h.0, ap (λ y. by_pointer (type_of (written_term s y))) (sym h.0) ∙ h.1, h.2 ∙ ap (λ y. bare (type_of (written_term s y))) h.0)
+pub value_returned : (s : Source) (a : ℕ) (o : Option (ℕ × ℕ)) → IsGivenValue s a o →
+    IsReturned s (stmts.Return (Some a)) o
+value_returned s a None h =
+    λ x q. let same : a ≡ x = cc in subst (λ y. by_pointer (type_of (written_term s y)) ≡ false) same h
+value_returned s a (Some x) h = (
+  ap (λ y. stmts.Return (Some y)) h.0,
+  ap (λ y. by_pointer (type_of (written_term s y))) (sym h.0) ∙ h.1,
+  h.2
+      ∙ ap (λ y. bare (type_of (written_term s y))) h.0,
+)

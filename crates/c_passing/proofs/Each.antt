@@ -1,39 +1,52 @@
 -- Lists of expressions and statements as they are run, with one item more.
-use Rattle.std.proofs.Common.{◌≡◌, ℕ, ◌+◌, ◌<◌, true, false, List, [], ◌∷◌, ◌++◌, length, get_or, take, map, Some, None, refl, sym, ap, subst, ◌∙◌, arith, length-append, append_assoc}
+use Rattle.std.proofs.Common.{◌≡◌, ℕ, ◌+◌, ◌<◌, true, false, List, [], ◌∷◌, ◌++◌, length, get_or, take, map, Some, None}
+use Rattle.std.proofs.Common.{refl, sym, ap, subst, ◌∙◌, arith, length-append, append_assoc}
 use Rattle.std.specs.Prelude.{slice_get, flat_map}
 use Rattle.std.proofs.lemmas.List.{append-nil, map-append, take_more}
 use Rattle.ck_base.specs.declared.positions.Pos.{Pos}
 use Rattle.c_tree.specs.declared.typed.Expr.{Expr}
 use Rattle.c_tree.specs.Types.{Ty, bare}
 use Rattle.c_tree.specs.Terms.{Variable, Term, type_of, Action}
-use Rattle.c_tree.specs.Passed.{Names, Passing, by_pointer, hidden_in, hidden_of, hidden_for, passed_term, passed_action}
+use Rattle.c_tree.specs.Passed.{Names, Passing, by_pointer, hidden_in, hidden_of, hidden_for, passed_term}
+use Rattle.c_tree.specs.Passed.{passed_action}
 use Rattle.c_copy.specs.Copying.{Extends}
 use Rattle.c_copy.proofs.Copies.{extends_then}
 use Rattle.c_passing.specs.declared.nodes.Source.{Source}
 use Rattle.c_passing.specs.declared.nodes.Made.{Made}
-use Rattle.c_passing.specs.Lists.{hidden_in_each, hidden_of_each, hidden_for_each, passed_each, passed_each_action, passed_argument, passed_each_argument}
-use Rattle.c_passing.specs.Passes.{written_type, written_term, written_action, Fits, HasTerm, Hides, IsHidden, IsPassed, ArePassed, IsByAddress, AreCounted, ArePassedArguments, IsPassedAction, ArePassedActions}
+use Rattle.c_passing.specs.Lists.{hidden_in_each, hidden_of_each, hidden_for_each, passed_each, passed_each_action}
+use Rattle.c_passing.specs.Lists.{passed_argument, passed_each_argument}
+use Rattle.c_passing.specs.Passes.{written_type, written_term, written_action, Fits, HasTerm, Hides, IsHidden, IsPassed}
+use Rattle.c_passing.specs.Passes.{ArePassed, IsByAddress, AreCounted, ArePassedArguments, IsPassedAction}
+use Rattle.c_passing.specs.Passes.{ArePassedActions}
 use Rattle.c_passing.proofs.Calling.{written_of, hides_then, hides_vars, hides_count}
 use Rattle.c_passing.proofs.Hiding.{hidden_push, each_push, each_action_push, each_argument_push}
 use Rattle.c_passing.proofs.Trees.{no_terms_have, terms_more, terms_push, actions_more, actions_push}
 
 -- what stands for the numbers so far, and for one more
-pub map_turn : {T : Type 0} (f : ℕ → T) (ks : List ℕ) (i k : ℕ) → i < length ks → k ≡ get_or ks i 0 → map f (take (i + 1) ks) ≡ map f (take i ks) ++ f k ∷ []
+pub map_turn : {T : Type 0} (f : ℕ → T) (ks : List ℕ) (i k : ℕ) → i < length ks → k ≡ get_or ks i 0 →
+    map f (take (i + 1) ks) ≡ map f (take i ks) ++ f k ∷ []
 map_turn f ks i k lt e =
-    ap (map f) (take_more ks i 0 lt) ∙ map-append f (take i ks) (get_or ks i 0 ∷ []) ∙ ap (λ j. map f (take i ks) ++ f j ∷ []) (sym e)
+    ap (map f) (take_more ks i 0 lt) ∙ map-append f (take i ks) (get_or ks i 0 ∷ [])
+    ∙ ap (λ j. map f (take i ks) ++ f j ∷ []) (sym e)
 
-pub hides_push : {A : Type 0} (s : Source) (a b c : Made) (f : Names → A → List Variable) (xs : List A) (x : A) → Hides s a b (λ names. flat_map (f names) xs) → Hides s b c (λ names. f names x) →
+pub hides_push : {A : Type 0} (s : Source) (a b c : Made) (f : Names → A → List Variable) (xs : List A) (x : A) →
+    Hides s a b (λ names. flat_map (f names) xs) → Hides s b c (λ names. f names x) →
     Hides s a c (λ names. flat_map (f names) (xs ++ x ∷ []))
 hides_push s a b c f xs x h i =
-    hides_vars s a c a c (λ names. flat_map (f names) xs ++ f names x) (λ names. flat_map (f names) (xs ++ x ∷ [])) refl refl (λ names. sym (hidden_push (f names) xs x))
+    hides_vars s a c a c (λ names. flat_map (f names) xs ++ f names x)
+    (λ names. flat_map (f names) (xs ++ x ∷ [])) refl refl (λ names. sym (hidden_push (f names) xs x))
     (hides_then s a b c (λ names. flat_map (f names) xs) (λ names. f names x) h i)
 
 -- the hidden local for one argument more
-pub hides_argument : (s : Source) (a b c : Made) (p : Pos) (xs : List ℕ) (i k : ℕ) (e : Expr) → i < length xs → k ≡ get_or xs i 0 → slice_get s.program.now.exprs k ≡ Some e →
-    Hides s a b (λ names. hidden_for_each names p (map (written_term s) (take i xs))) → Hides s b c (λ names. hidden_for names p (written_type s e.of)) → Hides s a c (λ names. hidden_for_each names p (map (written_term s) (take (i + 1) xs)))
+pub hides_argument : (s : Source) (a b c : Made) (p : Pos) (xs : List ℕ) (i k : ℕ) (e : Expr) → i < length xs →
+    k ≡ get_or xs i 0 → slice_get s.program.now.exprs k ≡ Some e →
+    Hides s a b (λ names. hidden_for_each names p (map (written_term s) (take i xs))) →
+    Hides s b c (λ names. hidden_for names p (written_type s e.of)) →
+    Hides s a c (λ names. hidden_for_each names p (map (written_term s) (take (i + 1) xs)))
 hides_argument s a b c p xs i k e lt q g h new =
     let x = written_term s k in
-    let own : Hides s b c (λ names. hidden_for names p (type_of x)) = subst (λ u. Hides s b c (λ names. hidden_for names p u)) (sym (written_of s k e g)) new in
+    let own : Hides s b c (λ names. hidden_for names p (type_of x)) =
+    subst (λ u. Hides s b c (λ names. hidden_for names p u)) (sym (written_of s k e g)) new in
     subst (λ zs. Hides s a c (λ names. hidden_for_each names p zs)) (sym (map_turn (written_term s) xs i k lt q))
     (hides_push s a b c (λ names (y : Term). hidden_for names p (type_of y)) (map (written_term s) (take i xs)) x h own)
 
@@ -42,59 +55,78 @@ hides_argument s a b c p xs i k e lt q g h new =
 pub none_passed : (s : Source) (a : Made) → ArePassed s a a [] []
 none_passed s a = record { are = λ ts e fits. no_terms_have ts a.exprs.items }
 
-pub passed_push : (s : Source) (a b c : Made) (xs : List Term) (x : Term) (js ls : List ℕ) (j : ℕ) → Hides s a b (λ names. hidden_in_each names xs) → Extends b.exprs.items c.exprs.items →
+pub passed_push : (s : Source) (a b c : Made) (xs : List Term) (x : Term) (js ls : List ℕ) (j : ℕ) →
+    Hides s a b (λ names. hidden_in_each names xs) → Extends b.exprs.items c.exprs.items →
     ArePassed s a b xs js → IsPassed s b c x j → ls ≡ js ++ j ∷ [] → ArePassed s a c (xs ++ x ∷ []) ls
 passed_push s a b c xs x js ls j h e p i q = record {
   are = λ ts g fits.
       let n = hides_count s a b (λ names. hidden_in_each names xs) ts g h fits in
       rw (each_push g (length a.vars.items) (length b.vars.items) xs x n)
-      (terms_push ts c.exprs.items js ls j (passed_each g (length a.vars.items) xs) (passed_term g (length b.vars.items) x) q
-      (terms_more ts b.exprs.items c.exprs.items js (passed_each g (length a.vars.items) xs) e (p.are ts g fits)) (i.is ts g fits));
+      (terms_push ts c.exprs.items js ls j (passed_each g (length a.vars.items) xs)
+      (passed_term g (length b.vars.items) x) q
+      (terms_more ts b.exprs.items c.exprs.items js (passed_each g (length a.vars.items) xs) e (p.are ts g fits))
+      (i.is ts g fits));
 }
 
-pub passed_turn : (s : Source) (a b c : Made) (ks : List ℕ) (i k : ℕ) (js ls : List ℕ) (j : ℕ) → i < length ks → k ≡ get_or ks i 0 → Hides s a b (λ names. hidden_in_each names (map (written_term s) (take i ks))) → Extends b.exprs.items c.exprs.items →
-    ArePassed s a b (map (written_term s) (take i ks)) js → IsPassed s b c (written_term s k) j → ls ≡ js ++ j ∷ [] → ArePassed s a c (map (written_term s) (take (i + 1) ks)) ls
+pub passed_turn : (s : Source) (a b c : Made) (ks : List ℕ) (i k : ℕ) (js ls : List ℕ) (j : ℕ) → i < length ks →
+    k ≡ get_or ks i 0 → Hides s a b (λ names. hidden_in_each names (map (written_term s) (take i ks))) →
+    Extends b.exprs.items c.exprs.items →
+    ArePassed s a b (map (written_term s) (take i ks)) js → IsPassed s b c (written_term s k) j → ls ≡ js ++ j ∷ [] →
+    ArePassed s a c (map (written_term s) (take (i + 1) ks)) ls
 passed_turn s a b c ks i k js ls j lt q h e p n r =
-    subst (λ zs. ArePassed s a c zs ls) (sym (map_turn (written_term s) ks i k lt q)) (passed_push s a b c (map (written_term s) (take i ks)) (written_term s k) js ls j h e p n r)
+    subst (λ zs. ArePassed s a c zs ls) (sym (map_turn (written_term s) ks i k lt q))
+    (passed_push s a b c (map (written_term s) (take i ks)) (written_term s k) js ls j h e p n r)
 
-pub hides_turn : (s : Source) (a b c : Made) (ks : List ℕ) (i k : ℕ) → i < length ks → k ≡ get_or ks i 0 → Hides s a b (λ names. hidden_in_each names (map (written_term s) (take i ks))) → Hides s b c (λ names. hidden_in names (written_term s k)) →
+pub hides_turn : (s : Source) (a b c : Made) (ks : List ℕ) (i k : ℕ) → i < length ks → k ≡ get_or ks i 0 →
+    Hides s a b (λ names. hidden_in_each names (map (written_term s) (take i ks))) →
+    Hides s b c (λ names. hidden_in names (written_term s k)) →
     Hides s a c (λ names. hidden_in_each names (map (written_term s) (take (i + 1) ks)))
 hides_turn s a b c ks i k lt q h n =
-    subst (λ zs. Hides s a c (λ names. hidden_in_each names zs)) (sym (map_turn (written_term s) ks i k lt q)) (hides_push s a b c hidden_in (map (written_term s) (take i ks)) (written_term s k) h n)
+    subst (λ zs. Hides s a c (λ names. hidden_in_each names zs)) (sym (map_turn (written_term s) ks i k lt q))
+    (hides_push s a b c hidden_in (map (written_term s) (take i ks)) (written_term s k) h n)
 
 -- ---- arguments
 
 pub none_counted : (s : Source) (n : ℕ) (p : Pos) → AreCounted s n p [] n
 none_counted s n p = record { are = λ ts e fits. omega arith }
 
-pub counted_same : (s : Source) (first h : ℕ) (p : Pos) (xs : List Term) (x : Term) → by_pointer (type_of x) ≡ false → AreCounted s first p xs h → AreCounted s first p (xs ++ x ∷ []) h
+pub counted_same : (s : Source) (first h : ℕ) (p : Pos) (xs : List Term) (x : Term) → by_pointer (type_of x) ≡ false →
+    AreCounted s first p xs h → AreCounted s first p (xs ++ x ∷ []) h
 counted_same s first h p xs x n c = record {
   are = λ ts e fits.
       let none : hidden_for e.names p (type_of x) ≡ [] = rw n refl in
       let same : hidden_for_each e.names p (xs ++ x ∷ []) ≡ hidden_for_each e.names p xs =
-      hidden_push (λ (y : Term). hidden_for e.names p (type_of y)) xs x ∙ ap (λ vs. hidden_for_each e.names p xs ++ vs) none ∙ append-nil (hidden_for_each e.names p xs) in
+      hidden_push (λ (y : Term). hidden_for e.names p (type_of y)) xs x
+      ∙ ap (λ vs. hidden_for_each e.names p xs ++ vs) none ∙ append-nil (hidden_for_each e.names p xs) in
       c.are ts e fits ∙ ap (λ vs. first + length vs) (sym same);
 }
 
-pub counted_more : (s : Source) (first h : ℕ) (p : Pos) (xs : List Term) (x : Term) → by_pointer (type_of x) ≡ true → AreCounted s first p xs h → AreCounted s first p (xs ++ x ∷ []) (h + 1)
+pub counted_more : (s : Source) (first h : ℕ) (p : Pos) (xs : List Term) (x : Term) → by_pointer (type_of x) ≡ true →
+    AreCounted s first p xs h → AreCounted s first p (xs ++ x ∷ []) (h + 1)
 counted_more s first h p xs x b c = record {
   are = λ ts e fits.
       let own = hidden_for e.names p (type_of x) in
       let one : length own ≡ 1 = rw b refl in
       let before = hidden_for_each e.names p xs in
-      let all : hidden_for_each e.names p (xs ++ x ∷ []) ≡ before ++ own = hidden_push (λ (y : Term). hidden_for e.names p (type_of y)) xs x in
+      let all : hidden_for_each e.names p (xs ++ x ∷ []) ≡ before ++ own =
+      hidden_push (λ (y : Term). hidden_for e.names p (type_of y)) xs x in
       let now : h ≡ first + length before = c.are ts e fits in
       let count : h + 1 ≡ first + length (before ++ own) = omega (arith, length-append before own) in
       count ∙ ap (λ vs. first + length vs) (sym all);
 }
 
-pub no_arguments : (s : Source) (a : Made) (first : ℕ) (p : Pos) (js : List ℕ) → ArePassedArguments s a a first p [] js js
+pub no_arguments : (s : Source) (a : Made) (first : ℕ) (p : Pos) (js : List ℕ) →
+    ArePassedArguments s a a first p [] js js
 no_arguments s a first p js = record { are = λ ts e ys fits h. rw (append-nil ys) h }
 
 -- one argument more, which is made behind the value
-pub arguments_push : (s : Source) (a b c : Made) (first h : ℕ) (p : Pos) (xs : List Term) (x : Term) (before js ls : List ℕ) (j : ℕ) → Hides s a b (λ names. hidden_in_each names xs) → Extends b.exprs.items c.exprs.items →
+pub arguments_push : (s : Source) (a b c : Made) (first h : ℕ) (p : Pos) (xs : List Term) (x : Term)
+    (before js ls : List ℕ) (j : ℕ) → Hides s a b (λ names. hidden_in_each names xs) →
+    Extends b.exprs.items c.exprs.items →
     AreCounted s first p xs h → ArePassedArguments s a b first p xs before js →
-    ((ts : List Ty) (e : Passing) → Fits s ts e → HasTerm ts c.exprs.items j (passed_argument e h (length b.vars.items) p x)) → ls ≡ js ++ j ∷ [] → ArePassedArguments s a c first p (xs ++ x ∷ []) before ls
+    ((ts : List Ty) (e : Passing) → Fits s ts e →
+    HasTerm ts c.exprs.items j (passed_argument e h (length b.vars.items) p x)) → ls ≡ js ++ j ∷ [] →
+    ArePassedArguments s a c first p (xs ++ x ∷ []) before ls
 arguments_push s a b c first h p xs x before js ls j hid ext cnt pas is q = record {
   are = λ ts e ys fits i.
       let n = length a.vars.items in
@@ -102,31 +134,47 @@ arguments_push s a b c first h p xs x before js ls j hid ext cnt pas is q = reco
       let old = passed_each_argument e first n p xs in
       let now = passed_argument e h m p x in
       let all : ys ++ passed_each_argument e first n p (xs ++ x ∷ []) ≡ (ys ++ old) ++ now ∷ [] =
-      ap (λ zs. ys ++ zs) (each_argument_push e first h n m p xs x (cnt.are ts e fits) (hides_count s a b (λ names. hidden_in_each names xs) ts e hid fits)) ∙ sym (append_assoc ys old (now ∷ [])) in
-      rw all (terms_push ts c.exprs.items js ls j (ys ++ old) now q (terms_more ts b.exprs.items c.exprs.items js (ys ++ old) ext (pas.are ts e ys fits i)) (is ts e fits));
+      ap (λ zs. ys ++ zs) (each_argument_push e first h n m p xs x (cnt.are ts e fits)
+      (hides_count s a b (λ names. hidden_in_each names xs) ts e hid fits))
+      ∙ sym (append_assoc ys old (now ∷ [])) in
+      rw all (terms_push ts c.exprs.items js ls j (ys ++ old) now q
+      (terms_more ts b.exprs.items c.exprs.items js (ys ++ old) ext (pas.are ts e ys fits i)) (is ts e fits));
 }
 
-pub argument_plainly : (s : Source) (b c : Made) (h : ℕ) (p : Pos) (x : Term) (j : ℕ) → IsPassed s b c x j → by_pointer (type_of x) ≡ false →
-    (ts : List Ty) (e : Passing) → Fits s ts e → HasTerm ts c.exprs.items j (passed_argument e h (length b.vars.items) p x)
+pub argument_plainly : (s : Source) (b c : Made) (h : ℕ) (p : Pos) (x : Term) (j : ℕ) → IsPassed s b c x j →
+    by_pointer (type_of x) ≡ false →
+    (ts : List Ty) (e : Passing) → Fits s ts e →
+    HasTerm ts c.exprs.items j (passed_argument e h (length b.vars.items) p x)
 argument_plainly s b c h p x j i n = λ ts e fits. rw n (i.is ts e fits)
 
-pub argument_by_address : (s : Source) (b c d : Made) (h : ℕ) (p : Pos) (x : Term) (t value j : ℕ) → IsPassed s b c x value → IsByAddress s c d h value t p j → by_pointer (type_of x) ≡ true → written_type s t ≡ bare (type_of x) →
-    (ts : List Ty) (e : Passing) → Fits s ts e → HasTerm ts d.exprs.items j (passed_argument e h (length b.vars.items) p x)
-argument_by_address s b c d h p x t value j i a n w = λ ts e fits. rw (n, ← w) (a.is ts e (passed_term e (length b.vars.items) x) fits (i.is ts e fits))
+pub argument_by_address : (s : Source) (b c d : Made) (h : ℕ) (p : Pos) (x : Term) (t value j : ℕ) →
+    IsPassed s b c x value → IsByAddress s c d h value t p j → by_pointer (type_of x) ≡ true →
+    written_type s t ≡ bare (type_of x) →
+    (ts : List Ty) (e : Passing) → Fits s ts e →
+    HasTerm ts d.exprs.items j (passed_argument e h (length b.vars.items) p x)
+argument_by_address s b c d h p x t value j i a n w =
+    λ ts e fits. rw (n, ← w) (a.is ts e (passed_term e (length b.vars.items) x) fits (i.is ts e fits))
 
 -- what holds of the arguments so far
-pub record Arguments (s : Source) (old now : Made) (first : ℕ) (p : Pos) (ks : List ℕ) (i h : ℕ) (before js : List ℕ) : Type 0 where
+pub record Arguments (s : Source) (old now : Made) (first : ℕ) (p : Pos) (ks : List ℕ) (i h : ℕ) (before js : List ℕ) :
+    Type 0 where
   pub extends : Extends old.exprs.items now.exprs.items
   pub stmts : now.stmts ≡ old.stmts
   pub hides : Hides s old now (λ names. hidden_in_each names (map (written_term s) (take i ks)))
   pub counted : AreCounted s first p (map (written_term s) (take i ks)) h
   pub are : ArePassedArguments s old now first p (map (written_term s) (take i ks)) before js
 
-pub arguments_at : (s : Source) (a b now : Made) (first : ℕ) (p : Pos) (ks : List ℕ) (i h n : ℕ) (before js ls : List ℕ) → Arguments s a b first p ks i h before js → now ≡ b → n ≡ h → ls ≡ js → Arguments s a now first p ks i n before ls
+pub arguments_at : (s : Source) (a b now : Made) (first : ℕ) (p : Pos) (ks : List ℕ) (i h n : ℕ)
+    (before js ls : List ℕ) → Arguments s a b first p ks i h before js → now ≡ b → n ≡ h → ls ≡ js →
+    Arguments s a now first p ks i n before ls
 arguments_at s a b now first p ks i h n before js ls all q r t = rw (q, r, t) all
 
-pub arguments_plainly : (s : Source) (a b c : Made) (first : ℕ) (p : Pos) (ks : List ℕ) (i h k : ℕ) (e : Expr) (before js ls : List ℕ) (j : ℕ) → Arguments s a b first p ks i h before js → i < length ks → k ≡ get_or ks i 0 → slice_get s.program.now.exprs k ≡ Some e →
-    Extends b.exprs.items c.exprs.items → c.stmts ≡ b.stmts → Hides s b c (λ names. hidden_in names (written_term s k)) → IsPassed s b c (written_term s k) j → IsHidden s e.of None → ls ≡ js ++ j ∷ [] → Arguments s a c first p ks (i + 1) h before ls
+pub arguments_plainly : (s : Source) (a b c : Made) (first : ℕ) (p : Pos) (ks : List ℕ) (i h k : ℕ) (e : Expr)
+    (before js ls : List ℕ) (j : ℕ) → Arguments s a b first p ks i h before js → i < length ks → k ≡ get_or ks i 0 →
+    slice_get s.program.now.exprs k ≡ Some e →
+    Extends b.exprs.items c.exprs.items → c.stmts ≡ b.stmts →
+    Hides s b c (λ names. hidden_in names (written_term s k)) → IsPassed s b c (written_term s k) j →
+    IsHidden s e.of None → ls ≡ js ++ j ∷ [] → Arguments s a c first p ks (i + 1) h before ls
 arguments_plainly s a b c first p ks i h k e before js ls j all lt q g ext st hid is none r =
     let x = written_term s k in
     let xs = map (written_term s) (take i ks) in
@@ -137,13 +185,21 @@ arguments_plainly s a b c first p ks i h k e before js ls j all lt q g ext st hi
       stmts = st ∙ all.stmts;
       hides = hides_turn s a b c ks i k lt q all.hides hid;
       counted = subst (λ zs. AreCounted s first p zs h) turn (counted_same s first h p xs x plain all.counted);
-      are = subst (λ zs. ArePassedArguments s a c first p zs before ls) turn (arguments_push s a b c first h p xs x before js ls j all.hides ext all.counted all.are (argument_plainly s b c h p x j is plain) r);
+      are = subst (λ zs. ArePassedArguments s a c first p zs before ls) turn
+          (arguments_push s a b c first h p xs x before js ls j all.hides ext all.counted all.are
+          (argument_plainly s b c h p x j is plain) r);
     }
 
-pub arguments_by_address : (s : Source) (a b c d : Made) (first : ℕ) (p : Pos) (ks : List ℕ) (i h k : ℕ) (e : Expr) (t value : ℕ) (before js ls : List ℕ) (j : ℕ) → Arguments s a b first p ks i h before js → i < length ks → k ≡ get_or ks i 0 →
-    slice_get s.program.now.exprs k ≡ Some e → Extends b.exprs.items c.exprs.items → c.stmts ≡ b.stmts → Hides s b c (λ names. hidden_in names (written_term s k)) → IsPassed s b c (written_term s k) value → IsHidden s e.of (Some t) →
-    Extends c.exprs.items d.exprs.items → d ≡ record c { exprs = d.exprs } → IsByAddress s c d h value t p j → ls ≡ js ++ j ∷ [] → Arguments s a d first p ks (i + 1) (h + 1) before ls
-arguments_by_address s a b c d first p ks i h k e t value before js ls j all lt q g ext st hid is some more rest made r =
+pub arguments_by_address :
+    (s : Source) (a b c d : Made) (first : ℕ) (p : Pos) (ks : List ℕ) (i h k : ℕ) (e : Expr) (t value : ℕ)
+    (before js ls : List ℕ) (j : ℕ) → Arguments s a b first p ks i h before js → i < length ks → k ≡ get_or ks i 0 →
+    slice_get s.program.now.exprs k ≡ Some e → Extends b.exprs.items c.exprs.items → c.stmts ≡ b.stmts →
+    Hides s b c (λ names. hidden_in names (written_term s k)) → IsPassed s b c (written_term s k) value →
+    IsHidden s e.of (Some t) →
+    Extends c.exprs.items d.exprs.items → d ≡ record c { exprs = d.exprs } → IsByAddress s c d h value t p j →
+    ls ≡ js ++ j ∷ [] → Arguments s a d first p ks (i + 1) (h + 1) before ls
+arguments_by_address s a b c d first p ks i h k e t value before js ls j all lt q g ext st hid is some more rest made
+    r =
     let x = written_term s k in
     let xs = map (written_term s) (take i ks) in
     let turn = sym (map_turn (written_term s) ks i k lt q) in
@@ -151,7 +207,9 @@ arguments_by_address s a b c d first p ks i h k e t value before js ls j all lt 
     let pointed : by_pointer (type_of x) ≡ true = ap by_pointer type ∙ some.0 in
     let of : written_type s t ≡ bare (type_of x) = some.1 ∙ ap bare (sym type) in
     let both = extends_then b.exprs.items c.exprs.items d.exprs.items ext more in
-    let hides : Hides s b d (λ names. hidden_in names x) = hides_vars s b c b d (λ names. hidden_in names x) (λ names. hidden_in names x) refl (ap (λ (m : Made). m.vars) rest) (λ names. refl) hid in
+    let hides : Hides s b d (λ names. hidden_in names x) =
+    hides_vars s b c b d (λ names. hidden_in names x) (λ names. hidden_in names x) refl
+    (ap (λ (m : Made). m.vars) rest) (λ names. refl) hid in
     record {
       extends = extends_then a.exprs.items b.exprs.items d.exprs.items all.extends both;
       stmts = ap (λ (m : Made). m.stmts) rest ∙ st ∙ all.stmts;
@@ -159,7 +217,8 @@ arguments_by_address s a b c d first p ks i h k e t value before js ls j all lt 
       counted = subst (λ zs. AreCounted s first p zs (h + 1)) turn (counted_more s first h p xs x pointed all.counted);
       are =
           subst (λ zs. ArePassedArguments s a d first p zs before ls) turn
-          (arguments_push s a b d first h p xs x before js ls j all.hides both all.counted all.are (argument_by_address s b c d h p x t value j is made pointed of) r);
+          (arguments_push s a b d first h p xs x before js ls j all.hides both all.counted all.are
+          (argument_by_address s b c d h p x t value j is made pointed of) r);
     }
 
 -- ---- statements
@@ -167,8 +226,10 @@ arguments_by_address s a b c d first p ks i h k e t value before js ls j all lt 
 pub no_actions : (s : Source) (a : Made) (js : List ℕ) → ArePassedActions s a a [] js js
 no_actions s a js = record { are = λ ts e ys fits h. rw (append-nil ys) h }
 
-pub actions_passed_push : (s : Source) (a b c : Made) (xs : List Action) (x : Action) (before js ls : List ℕ) (j : ℕ) → Hides s a b (λ names. hidden_of_each names xs) →
-    Extends b.exprs.items c.exprs.items → Extends b.stmts.items c.stmts.items → ArePassedActions s a b xs before js → IsPassedAction s b c x j → ls ≡ js ++ j ∷ [] → ArePassedActions s a c (xs ++ x ∷ []) before ls
+pub actions_passed_push : (s : Source) (a b c : Made) (xs : List Action) (x : Action) (before js ls : List ℕ) (j : ℕ) →
+    Hides s a b (λ names. hidden_of_each names xs) →
+    Extends b.exprs.items c.exprs.items → Extends b.stmts.items c.stmts.items → ArePassedActions s a b xs before js →
+    IsPassedAction s b c x j → ls ≡ js ++ j ∷ [] → ArePassedActions s a c (xs ++ x ∷ []) before ls
 actions_passed_push s a b c xs x before js ls j hid ext sext pas is q = record {
   are = λ ts e ys fits i.
       let n = length a.vars.items in
@@ -176,17 +237,29 @@ actions_passed_push s a b c xs x before js ls j hid ext sext pas is q = record {
       let old = passed_each_action e n xs in
       let now = passed_action e m x in
       let all : ys ++ passed_each_action e n (xs ++ x ∷ []) ≡ (ys ++ old) ++ now ∷ [] =
-      ap (λ zs. ys ++ zs) (each_action_push e n m xs x (hides_count s a b (λ names. hidden_of_each names xs) ts e hid fits)) ∙ sym (append_assoc ys old (now ∷ [])) in
-      rw all (actions_push ts c.exprs.items c.stmts.items js ls j (ys ++ old) now q (actions_more ts b.exprs.items c.exprs.items b.stmts.items c.stmts.items js (ys ++ old) ext sext (pas.are ts e ys fits i)) (is.is ts e fits));
+      ap (λ zs. ys ++ zs) (each_action_push e n m xs x
+      (hides_count s a b (λ names. hidden_of_each names xs) ts e hid fits))
+      ∙ sym (append_assoc ys old (now ∷ [])) in
+      rw all (actions_push ts c.exprs.items c.stmts.items js ls j (ys ++ old) now q
+      (actions_more ts b.exprs.items c.exprs.items b.stmts.items c.stmts.items js (ys ++ old) ext sext
+      (pas.are ts e ys fits i)) (is.is ts e fits));
 }
 
-pub actions_turn : (s : Source) (a b c : Made) (ks : List ℕ) (i k : ℕ) (before js ls : List ℕ) (j : ℕ) → i < length ks → k ≡ get_or ks i 0 → Hides s a b (λ names. hidden_of_each names (map (written_action s) (take i ks))) →
-    Extends b.exprs.items c.exprs.items → Extends b.stmts.items c.stmts.items → ArePassedActions s a b (map (written_action s) (take i ks)) before js → IsPassedAction s b c (written_action s k) j → ls ≡ js ++ j ∷ [] →
+pub actions_turn : (s : Source) (a b c : Made) (ks : List ℕ) (i k : ℕ) (before js ls : List ℕ) (j : ℕ) → i < length ks →
+    k ≡ get_or ks i 0 → Hides s a b (λ names. hidden_of_each names (map (written_action s) (take i ks))) →
+    Extends b.exprs.items c.exprs.items → Extends b.stmts.items c.stmts.items →
+    ArePassedActions s a b (map (written_action s) (take i ks)) before js →
+    IsPassedAction s b c (written_action s k) j → ls ≡ js ++ j ∷ [] →
     ArePassedActions s a c (map (written_action s) (take (i + 1) ks)) before ls
 actions_turn s a b c ks i k before js ls j lt q h e f p n r =
-    subst (λ zs. ArePassedActions s a c zs before ls) (sym (map_turn (written_action s) ks i k lt q)) (actions_passed_push s a b c (map (written_action s) (take i ks)) (written_action s k) before js ls j h e f p n r)
+    subst (λ zs. ArePassedActions s a c zs before ls) (sym (map_turn (written_action s) ks i k lt q))
+    (actions_passed_push s a b c (map (written_action s) (take i ks))
+    (written_action s k) before js ls j h e f p n r)
 
-pub hides_action_turn : (s : Source) (a b c : Made) (ks : List ℕ) (i k : ℕ) → i < length ks → k ≡ get_or ks i 0 → Hides s a b (λ names. hidden_of_each names (map (written_action s) (take i ks))) → Hides s b c (λ names. hidden_of names (written_action s k)) →
+pub hides_action_turn : (s : Source) (a b c : Made) (ks : List ℕ) (i k : ℕ) → i < length ks → k ≡ get_or ks i 0 →
+    Hides s a b (λ names. hidden_of_each names (map (written_action s) (take i ks))) →
+    Hides s b c (λ names. hidden_of names (written_action s k)) →
     Hides s a c (λ names. hidden_of_each names (map (written_action s) (take (i + 1) ks)))
 hides_action_turn s a b c ks i k lt q h n =
-    subst (λ zs. Hides s a c (λ names. hidden_of_each names zs)) (sym (map_turn (written_action s) ks i k lt q)) (hides_push s a b c hidden_of (map (written_action s) (take i ks)) (written_action s k) h n)
+    subst (λ zs. Hides s a c (λ names. hidden_of_each names zs)) (sym (map_turn (written_action s) ks i k lt q))
+    (hides_push s a b c hidden_of (map (written_action s) (take i ks)) (written_action s k) h n)

@@ -1,5 +1,6 @@
 -- Numbers that stand before another, and the least such one.
-use Rattle.std.proofs.Common.{◌≡◌, ℕ, zero, suc, ◌+◌, ◌<◌, ◌≤◌, List, [], ◌∷◌, ◌++◌, length, get_or, take, drop, refl, ap, ◌∙◌, arith, length-append}
+use Rattle.std.proofs.Common.{◌≡◌, ℕ, zero, suc, ◌+◌, ◌<◌, ◌≤◌, List, [], ◌∷◌, ◌++◌, length, get_or, take, drop, refl}
+use Rattle.std.proofs.Common.{ap, ◌∙◌, arith, length-append}
 use Rattle.std.specs.Prelude.{max}
 use Rattle.c_copy.specs.Copying.{AllBelow}
 
@@ -52,13 +53,15 @@ back_least n k ks fs e h =
 pub take_and_drop : (n : ℕ) (ks : List ℕ) → length (take n ks) + length (drop n ks) ≡ length ks
 take_and_drop zero ks = omega arith
 take_and_drop (suc n) [] = refl
-take_and_drop (suc n) (k ∷ ks) = let h : length (take n ks) + length (drop n ks) ≡ length ks = take_and_drop n ks in omega arith
+take_and_drop (suc n) (k ∷ ks) =
+    let h : length (take n ks) + length (drop n ks) ≡ length ks = take_and_drop n ks in omega arith
 
 pub count_more : (xs ys : List ℕ) (y n : ℕ) → ys ≡ xs ++ y ∷ [] → length xs ≡ n → length ys ≡ n + 1
 count_more xs ys y n e h = ap length e ∙ length-append xs (y ∷ []) ∙ ap (λ m. m + 1) h
 
 -- two parts of a list were pushed one after the other
-pub count_both : (n : ℕ) (ks fs bs xs ys zs : List ℕ) → xs ≡ [] → fs ≡ take n ks → bs ≡ drop n ks → length ys ≡ length xs + length fs → length zs ≡ length ys + length bs → length zs ≡ length ks
+pub count_both : (n : ℕ) (ks fs bs xs ys zs : List ℕ) → xs ≡ [] → fs ≡ take n ks → bs ≡ drop n ks →
+    length ys ≡ length xs + length fs → length zs ≡ length ys + length bs → length zs ≡ length ks
 count_both n ks fs bs xs ys zs x f b d e =
     let p : length xs ≡ 0 = ap length x in
     let q : length fs ≡ length (take n ks) = ap length f in

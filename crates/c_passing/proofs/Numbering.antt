@@ -1,5 +1,7 @@
 -- The types of the program that is run, as they are added.
-use Rattle.std.proofs.Common.{◌≡◌, ℕ, zero, suc, ◌+◌, ◌<◌, ◌≤◌, Bool, true, false, List, [], ◌∷◌, ◌++◌, length, take, drop, map, Some, None, refl, sym, ap, subst, ◌∙◌, ◌⊎◌, inl, inr, ⊎_elim, arith, length-append, append_assoc}
+use Rattle.std.proofs.Common.{◌≡◌, ℕ, zero, suc, ◌+◌, ◌<◌, ◌≤◌, Bool, true, false, List, [], ◌∷◌, ◌++◌, length, take}
+use Rattle.std.proofs.Common.{drop, map, Some, None, refl, sym, ap, subst, ◌∙◌, ◌⊎◌, inl, inr, ⊎_elim, arith}
+use Rattle.std.proofs.Common.{length-append, append_assoc}
 use Rattle.std.specs.Prelude.{slice_get, slice_index_or, Result, Ok, Err, IfOk, OnOk}
 use Rattle.ck_base.specs.declared.refusal.NoMemory.{NoMemory}
 use Rattle.std.proofs.lemmas.List.{append-nil, map-append, length-take-le, take-append-drop, get_or_past}
@@ -16,12 +18,15 @@ use Rattle.c_copy.specs.Copying.{AllBelow}
 use Rattle.c_copy.proofs.Copies.{at_seam, forest_front, grow-append, length-grow, map_seen}
 use Rattle.c_copy.proofs.Marking.{get-push}
 use Rattle.c_passing.specs.declared.types.Types.{Types}
-use Rattle.c_passing.specs.Numbered.{type_in, is_record, const_of, gives_of, IsGivenIn, IsBare, IsNumber, IsPointer, StartsVoid, IsKept, Follows, AddsType, Keeps, passed_parameter, AreParameters, AreRenumbered, IsWithMembers, AreListed, TypesFit}
+use Rattle.c_passing.specs.Numbered.{type_in, is_record, const_of, gives_of, IsGivenIn, IsBare, IsNumber, IsPointer}
+use Rattle.c_passing.specs.Numbered.{StartsVoid, IsKept, Follows, AddsType, Keeps, passed_parameter, AreParameters}
+use Rattle.c_passing.specs.Numbered.{AreRenumbered, IsWithMembers, AreListed, TypesFit}
 
 -- ---- lists of types
 
 -- the type at a seam
-pub type_seam : (cs : List CType) (c : CType) (more : List CType) → type_in (cs ++ c ∷ more) (length cs) ≡ type_from c (type_in cs)
+pub type_seam : (cs : List CType) (c : CType) (more : List CType) →
+    type_in (cs ++ c ∷ more) (length cs) ≡ type_from c (type_in cs)
 type_seam cs c more = at_seam type_from Void cs c more
 
 pub type_kept : (cs more : List CType) (k : ℕ) → k < length cs → type_in (cs ++ more) k ≡ type_in cs k
@@ -38,7 +43,8 @@ reading types i c e =
     let r = forest_reads type_from Void types i c e in
     record { go = λ j. slice_index_or r.seen j Void; before = r.before; is = r.is }
 
-get-append : {A : Type 0} (xs ys : List A) (k : ℕ) (x : A) → slice_get (xs ++ ys) k ≡ Some x → (slice_get xs k ≡ Some x) ⊎ ((j : ℕ) × (slice_get ys j ≡ Some x))
+get-append : {A : Type 0} (xs ys : List A) (k : ℕ) (x : A) → slice_get (xs ++ ys) k ≡ Some x →
+    (slice_get xs k ≡ Some x) ⊎ ((j : ℕ) × (slice_get ys j ≡ Some x))
 get-append [] ys k x e = inr (k, e)
 get-append (z ∷ xs) ys zero x e = inl e
 get-append (z ∷ xs) ys (suc k) x e = ⊎_elim (λ h. inl h) (λ h. inr h) (get-append xs ys k x e)
@@ -49,11 +55,13 @@ split_at (x ∷ cs) zero c e = let i : x ≡ c = cc in rw i refl
 split_at (x ∷ cs) (suc k) c e = ap (λ ds. x ∷ ds) (split_at cs k c e)
 
 -- a type over those before it
-type_level : (cs : List CType) (k : ℕ) (c : CType) → slice_get cs k ≡ Some c → type_in cs k ≡ type_from c (type_in (take k cs))
+type_level : (cs : List CType) (k : ℕ) (c : CType) → slice_get cs k ≡ Some c →
+    type_in cs k ≡ type_from c (type_in (take k cs))
 type_level cs k c e =
     let lt = slice_get_within cs k c e in
     let l : length (take k cs) ≡ k = length-take-le k cs (omega arith) in
-    ap (λ ds. type_in ds k) (split_at cs k c e) ∙ ap (λ n. type_in (take k cs ++ c ∷ drop (suc k) cs) n) (sym l) ∙ type_seam (take k cs) c (drop (suc k) cs)
+    ap (λ ds. type_in ds k) (split_at cs k c e) ∙ ap (λ n. type_in (take k cs ++ c ∷ drop (suc k) cs) n) (sym l)
+    ∙ type_seam (take k cs) c (drop (suc k) cs)
 
 pub type_past : (cs : List CType) (k : ℕ) → length cs ≤ k → type_in cs k ≡ Void
 type_past cs k le = get_or_past (types_of cs) k Void (omega (arith, length-grow type_from Void cs []))
@@ -70,7 +78,8 @@ record_is (ctypes.Function t ps) go = refl
 record_is (ctypes.Const t) go = refl
 record_is (ctypes.Incomplete tag) go = refl
 
-pub tagged_there : (cs : List CType) (k : ℕ) (c : CType) → slice_get cs k ≡ Some c → is_record c ≡ is_tagged (type_in cs k)
+pub tagged_there : (cs : List CType) (k : ℕ) (c : CType) → slice_get cs k ≡ Some c →
+    is_record c ≡ is_tagged (type_in cs k)
 tagged_there cs k c e = record_is c (type_in (take k cs)) ∙ ap is_tagged (sym (type_level cs k c e))
 
 pub tagged_past : (cs : List CType) (k : ℕ) → length cs ≤ k → false ≡ is_tagged (type_in cs k)
@@ -100,8 +109,11 @@ plain_bare (ctypes.Function t ps) go e = refl
 plain_bare (ctypes.Const t) go e = absurd cc
 plain_bare (ctypes.Incomplete tag) go e = refl
 
-pub bare_plain : (types : List CType) (k : ℕ) (c : CType) → slice_get types k ≡ Some c → const_of c ≡ None → IsBare types k k
-bare_plain types k c e n = same_bare types k (type_from c (type_in (take k types))) (type_level types k c e) (plain_bare c (type_in (take k types)) n)
+pub bare_plain : (types : List CType) (k : ℕ) (c : CType) → slice_get types k ≡ Some c → const_of c ≡ None →
+    IsBare types k k
+bare_plain types k c e n =
+    same_bare types k (type_from c (type_in (take k types))) (type_level types k c e)
+    (plain_bare c (type_in (take k types)) n)
 
 const_is : (c : CType) (t : ℕ) → const_of c ≡ Some t → c ≡ ctypes.Const t
 const_is ctypes.Void t e = absurd cc
@@ -115,25 +127,33 @@ const_is (ctypes.Function p ps) t e = absurd cc
 const_is (ctypes.Const p) t e = let q : p ≡ t = cc in ap ctypes.Const q
 const_is (ctypes.Incomplete tag) t e = absurd cc
 
-const_level : (types : List CType) (k : ℕ) (c : CType) (t : ℕ) → slice_get types k ≡ Some c → const_of c ≡ Some t → type_in types k ≡ Const (type_in (take k types) t)
+const_level : (types : List CType) (k : ℕ) (c : CType) (t : ℕ) → slice_get types k ≡ Some c → const_of c ≡ Some t →
+    type_in types k ≡ Const (type_in (take k types) t)
 const_level types k c t e n = type_level types k c e ∙ ap (λ d. type_from d (type_in (take k types))) (const_is c t n)
 
-pub bare_const : (types : List CType) (k : ℕ) (c : CType) (t : ℕ) → slice_get types k ≡ Some c → const_of c ≡ Some t → t < k → IsBare types k t
+pub bare_const : (types : List CType) (k : ℕ) (c : CType) (t : ℕ) → slice_get types k ≡ Some c → const_of c ≡ Some t →
+    t < k → IsBare types k t
 bare_const types k c t e n lt =
     let within = slice_get_within types k c e in
     let l : length (take k types) ≡ k = length-take-le k types (omega arith) in
     let seen : type_in types t ≡ type_in (take k types) t =
-    ap (λ ds. type_in ds t) (sym (take-append-drop k types)) ∙ type_kept (take k types) (drop k types) t (omega arith) in
+    ap (λ ds. type_in ds t) (sym (take-append-drop k types))
+    ∙ type_kept (take k types) (drop k types) t (omega arith) in
     let is : type_in types k ≡ Const (type_in types t) = const_level types k c t e n ∙ ap Const (sym seen) in
     record { same = ap by_pointer (sym is); is = λ g. ap bare (sym is) }
 
 -- a number that names no earlier type
-pub bare_loose : (types : List CType) (k : ℕ) (c : CType) (t : ℕ) → slice_get types k ≡ Some c → const_of c ≡ Some t → k ≤ t → IsBare types k k
+pub bare_loose : (types : List CType) (k : ℕ) (c : CType) (t : ℕ) → slice_get types k ≡ Some c → const_of c ≡ Some t →
+    k ≤ t → IsBare types k k
 bare_loose types k c t e n le =
     let within = slice_get_within types k c e in
     let l : length (take k types) ≡ k = length-take-le k types (omega arith) in
-    let is : type_in types k ≡ Const Void = const_level types k c t e n ∙ ap Const (type_past (take k types) t (omega arith)) in
-    record { same = ap is_tagged is ∙ ap by_pointer (sym is); is = λ g. absurd (let q : by_pointer (Const Void) ≡ true = ap by_pointer (sym is) ∙ g in cc) }
+    let is : type_in types k ≡ Const Void =
+    const_level types k c t e n ∙ ap Const (type_past (take k types) t (omega arith)) in
+    record {
+      same = ap is_tagged is ∙ ap by_pointer (sym is);
+      is = λ g. absurd (let q : by_pointer (Const Void) ≡ true = ap by_pointer (sym is) ∙ g in cc);
+    }
 
 -- ---- what functions give
 
@@ -149,10 +169,14 @@ gives_is (ctypes.Union tag ms) t e = absurd cc
 gives_is (ctypes.Const p) t e = absurd cc
 gives_is (ctypes.Incomplete tag) t e = absurd cc
 
-gives_level : (types : List CType) (k : ℕ) (c : CType) (t : ℕ) → slice_get types k ≡ Some c → gives_of c ≡ Some t → (ps : Tys) × (type_in types k ≡ Function (type_in (take k types) t) ps)
+gives_level : (types : List CType) (k : ℕ) (c : CType) (t : ℕ) → slice_get types k ≡ Some c → gives_of c ≡ Some t →
+    (ps : Tys) × (type_in types k ≡ Function (type_in (take k types) t) ps)
 gives_level types k c t e g =
-    let r = gives_is c t g in
-    (tys (map (type_in (take k types)) r.0), type_level types k c e ∙ ap (λ d. type_from d (type_in (take k types))) r.1)
+    let r = gives_is c t g in (
+      tys (map (type_in (take k types)) r.0),
+      type_level types k c e
+          ∙ ap (λ d. type_from d (type_in (take k types))) r.1,
+    )
 
 no_function : (c : CType) (go : ℕ → Ty) → gives_of c ≡ None → result_types (type_from c go) ≡ []
 no_function (ctypes.Function p ps) go e = absurd cc
@@ -169,7 +193,8 @@ no_function (ctypes.Incomplete tag) go e = refl
 pub given_past : (types : List CType) (k : ℕ) → length types ≤ k → IsGivenIn types k None
 given_past types k le = ap result_types (type_past types k le)
 
-pub given_none : (types : List CType) (k : ℕ) (c : CType) → slice_get types k ≡ Some c → gives_of c ≡ None → IsGivenIn types k None
+pub given_none : (types : List CType) (k : ℕ) (c : CType) → slice_get types k ≡ Some c → gives_of c ≡ None →
+    IsGivenIn types k None
 given_none types k c e g = ap result_types (type_level types k c e) ∙ no_function c (type_in (take k types)) g
 
 plain_result : (r : Ty) (ps : Tys) → by_pointer r ≡ false → result_types (Function r ps) ≡ []
@@ -179,22 +204,30 @@ pointed_result : (r : Ty) (ps : Tys) → by_pointer r ≡ true → result_types 
 pointed_result r ps e = rw e refl
 
 -- what it gives stands before it
-given_level : (types : List CType) (k : ℕ) (c : CType) (t : ℕ) → slice_get types k ≡ Some c → gives_of c ≡ Some t → t < k → (ps : Tys) × (type_in types k ≡ Function (type_in types t) ps)
+given_level : (types : List CType) (k : ℕ) (c : CType) (t : ℕ) → slice_get types k ≡ Some c → gives_of c ≡ Some t →
+    t < k → (ps : Tys) × (type_in types k ≡ Function (type_in types t) ps)
 given_level types k c t e g lt =
     let r = gives_level types k c t e g in
     let within = slice_get_within types k c e in
     let l : length (take k types) ≡ k = length-take-le k types (omega arith) in
-    let seen : type_in types t ≡ type_in (take k types) t = ap (λ ds. type_in ds t) (sym (take-append-drop k types)) ∙ type_kept (take k types) (drop k types) t (omega arith) in
+    let seen : type_in types t ≡ type_in (take k types) t =
+    ap (λ ds. type_in ds t) (sym (take-append-drop k types))
+    ∙ type_kept (take k types) (drop k types) t (omega arith) in
     (r.0, r.1 ∙ ap (λ x. Function x r.0) (sym seen))
 
-pub given_plainly : (types : List CType) (k : ℕ) (c : CType) (t : ℕ) → slice_get types k ≡ Some c → gives_of c ≡ Some t → t < k → by_pointer (type_in types t) ≡ false → IsGivenIn types k None
-given_plainly types k c t e g lt b = let r = given_level types k c t e g lt in ap result_types r.1 ∙ plain_result (type_in types t) r.0 b
+pub given_plainly : (types : List CType) (k : ℕ) (c : CType) (t : ℕ) → slice_get types k ≡ Some c →
+    gives_of c ≡ Some t → t < k → by_pointer (type_in types t) ≡ false → IsGivenIn types k None
+given_plainly types k c t e g lt b =
+    let r = given_level types k c t e g lt in ap result_types r.1 ∙ plain_result (type_in types t) r.0 b
 
-pub given_pointed : (types : List CType) (k : ℕ) (c : CType) (t : ℕ) → slice_get types k ≡ Some c → gives_of c ≡ Some t → t < k → by_pointer (type_in types t) ≡ true → IsGivenIn types k (Some t)
-given_pointed types k c t e g lt b = let r = given_level types k c t e g lt in (ap result_types r.1 ∙ pointed_result (type_in types t) r.0 b, b)
+pub given_pointed : (types : List CType) (k : ℕ) (c : CType) (t : ℕ) → slice_get types k ≡ Some c →
+    gives_of c ≡ Some t → t < k → by_pointer (type_in types t) ≡ true → IsGivenIn types k (Some t)
+given_pointed types k c t e g lt b =
+    let r = given_level types k c t e g lt in (ap result_types r.1 ∙ pointed_result (type_in types t) r.0 b, b)
 
 -- a number that names no earlier type
-pub given_loose : (types : List CType) (k : ℕ) (c : CType) (t : ℕ) → slice_get types k ≡ Some c → gives_of c ≡ Some t → k ≤ t → IsGivenIn types k None
+pub given_loose : (types : List CType) (k : ℕ) (c : CType) (t : ℕ) → slice_get types k ≡ Some c → gives_of c ≡ Some t →
+    k ≤ t → IsGivenIn types k None
 given_loose types k c t e g le =
     let r = gives_level types k c t e g in
     let within = slice_get_within types k c e in
@@ -246,28 +279,46 @@ tagged_bare (Const t) e = absurd cc
 
 -- ---- one type more
 
-number_more : (types list new cs : List CType) (k n : ℕ) → new ≡ list ++ cs → IsNumber types list k n → IsNumber types new k n
+number_more : (types list new cs : List CType) (k n : ℕ) → new ≡ list ++ cs → IsNumber types list k n →
+    IsNumber types new k n
 number_more types list new cs k n e h =
-    rw e (record { there = let l = h.there in omega (arith, length-append list cs); is = type_kept list cs n h.there ∙ h.is })
+    rw e (record {
+      there = let l = h.there in
+          omega (arith, length-append list cs);
+      is = type_kept list cs n h.there ∙ h.is;
+    })
 
-pointer_more : (types list new cs : List CType) (k n : ℕ) → new ≡ list ++ cs → IsPointer types list k n → IsPointer types new k n
+pointer_more : (types list new cs : List CType) (k n : ℕ) → new ≡ list ++ cs → IsPointer types list k n →
+    IsPointer types new k n
 pointer_more types list new cs k n e h =
-    rw e (record { there = let l = h.there in omega (arith, length-append list cs); is = λ b. type_kept list cs n h.there ∙ h.is b })
+    rw e (record {
+      there = let l = h.there in
+          omega (arith, length-append list cs);
+      is = λ b. type_kept list cs n h.there ∙ h.is b;
+    })
 
 void_more : (list new cs : List CType) → new ≡ list ++ cs → StartsVoid list → StartsVoid new
 void_more list new cs e h =
-    rw e (record { there = let l = h.there in omega (arith, length-append list cs); is = type_kept list cs 0 h.there ∙ h.is })
+    rw e (record {
+      there = let l = h.there in
+          omega (arith, length-append list cs);
+      is = type_kept list cs 0 h.there ∙ h.is;
+    })
 
 pushed_count : (xs ys : List ℕ) (n i : ℕ) → ys ≡ xs ++ n ∷ [] → length xs ≡ i → length ys ≡ i + 1
 pushed_count xs ys n i e l = rw e (omega (arith, length-append xs (n ∷ [])))
 
 -- what holds of each number so far and of the one behind them holds of all
-each_pushed : (P : ℕ → ℕ → Type 0) (xs ys : List ℕ) (n i : ℕ) → ys ≡ xs ++ n ∷ [] → length xs ≡ i → ((k m : ℕ) → slice_get xs k ≡ Some m → P k m) → P i n → (k m : ℕ) → slice_get ys k ≡ Some m → P k m
+each_pushed : (P : ℕ → ℕ → Type 0) (xs ys : List ℕ) (n i : ℕ) → ys ≡ xs ++ n ∷ [] → length xs ≡ i →
+    ((k m : ℕ) → slice_get xs k ≡ Some m → P k m) → P i n → (k m : ℕ) → slice_get ys k ≡ Some m → P k m
 each_pushed P xs ys n i e l h p k m g =
-    ⊎_elim (λ a. h k m a) (λ b. let q : k ≡ i = b.0 ∙ l in rw (q, ← b.1) p) (get-push xs n k m (ap (λ zs. slice_get zs k) (sym e) ∙ g))
+    ⊎_elim (λ a. h k m a) (λ b. let q : k ≡ i = b.0 ∙ l in rw (q, ← b.1) p)
+    (get-push xs n k m (ap (λ zs. slice_get zs k) (sym e) ∙ g))
 
-pub follows_more : (types : List CType) (i : ℕ) (old new : Types) (cs : List CType) (n p : ℕ) → Follows types i old → Keeps old new cs n p →
-    IsNumber types new.list.items i n → IsPointer types new.list.items i p → ((k : ℕ) (c : CType) → slice_get cs k ≡ Some c → IsKept types c) → Follows types (i + 1) new
+pub follows_more : (types : List CType) (i : ℕ) (old new : Types) (cs : List CType) (n p : ℕ) → Follows types i old →
+    Keeps old new cs n p →
+    IsNumber types new.list.items i n → IsPointer types new.list.items i p →
+    ((k : ℕ) (c : CType) → slice_get cs k ≡ Some c → IsKept types c) → Follows types (i + 1) new
 follows_more types i old new cs n p f k a b h = record {
   void = void_more old.list.items new.list.items cs k.list f.void;
   number_count = pushed_count old.numbers.items new.numbers.items n i k.numbers f.number_count;
@@ -278,42 +329,56 @@ follows_more types i old new cs n p f k a b h = record {
   pointers =
       each_pushed (IsPointer types new.list.items) old.pointers.items new.pointers.items p i k.pointers f.pointer_count
       (λ j m e. pointer_more types old.list.items new.list.items cs j m k.list (f.pointers j m e)) b;
-  kept = λ j c e. ⊎_elim (λ g. f.kept j c g) (λ g. h g.0 c g.1) (get-append old.list.items cs j c (ap (λ zs. slice_get zs j) (sym k.list) ∙ e));
+  kept = λ j c e. ⊎_elim (λ g. f.kept j c g) (λ g. h g.0 c g.1)
+      (get-append old.list.items cs j c (ap (λ zs. slice_get zs j) (sym k.list) ∙ e));
 }
 
 none_kept : (types : List CType) (k : ℕ) (c : CType) → slice_get [] k ≡ Some c → IsKept types c
 none_kept types k c e = absurd cc
 
-one_kept : (types : List CType) (d : CType) → IsKept types d → (k : ℕ) (c : CType) → slice_get (d ∷ []) k ≡ Some c → IsKept types c
+one_kept : (types : List CType) (d : CType) → IsKept types d → (k : ℕ) (c : CType) → slice_get (d ∷ []) k ≡ Some c →
+    IsKept types c
 one_kept types d h zero c e = let q : d ≡ c = cc in subst (IsKept types) q h
 one_kept types d h (suc k) c e = absurd cc
 
-two_kept : (types : List CType) (d : CType) (n : ℕ) → IsKept types d → (k : ℕ) (c : CType) → slice_get (d ∷ ctypes.Pointer n ∷ []) k ≡ Some c → IsKept types c
+two_kept : (types : List CType) (d : CType) (n : ℕ) → IsKept types d → (k : ℕ) (c : CType) →
+    slice_get (d ∷ ctypes.Pointer n ∷ []) k ≡ Some c → IsKept types c
 two_kept types d n h zero c e = let q : d ≡ c = cc in subst (IsKept types) q h
 two_kept types d n h (suc k) c e = one_kept types (ctypes.Pointer n) tt k c e
 
 -- ---- what is kept in steps
 
-pub kept_push : (a b d : Types) (c : CType) (n p : ℕ) → b.list.items ≡ a.list.items ++ c ∷ [] → b ≡ record a { list = b.list } → Keeps b d [] n p → Keeps a d (c ∷ []) n p
+pub kept_push : (a b d : Types) (c : CType) (n p : ℕ) → b.list.items ≡ a.list.items ++ c ∷ [] →
+    b ≡ record a { list = b.list } → Keeps b d [] n p → Keeps a d (c ∷ []) n p
 kept_push a b d c n p e q k = record {
   list = k.list ∙ append-nil b.list.items ∙ e;
   numbers = k.numbers ∙ ap (λ (t : Types). t.numbers.items ++ n ∷ []) q;
   pointers = k.pointers ∙ ap (λ (t : Types). t.pointers.items ++ p ∷ []) q;
 }
 
-pub kept_both : (a b d f : Types) (c e : CType) (n p : ℕ) → b.list.items ≡ a.list.items ++ c ∷ [] → b ≡ record a { list = b.list } → d.list.items ≡ b.list.items ++ e ∷ [] → d ≡ record b { list = d.list } → Keeps d f [] n p → Keeps a f (c ∷ e ∷ []) n p
+pub kept_both : (a b d f : Types) (c e : CType) (n p : ℕ) → b.list.items ≡ a.list.items ++ c ∷ [] →
+    b ≡ record a { list = b.list } → d.list.items ≡ b.list.items ++ e ∷ [] → d ≡ record b { list = d.list } →
+    Keeps d f [] n p → Keeps a f (c ∷ e ∷ []) n p
 kept_both a b d f c e n p g q h r k = record {
   list = k.list ∙ append-nil d.list.items ∙ h ∙ ap (λ zs. zs ++ e ∷ []) g ∙ append_assoc a.list.items (c ∷ []) (e ∷ []);
-  numbers = k.numbers ∙ ap (λ (t : Types). t.numbers.items ++ n ∷ []) (r ∙ ap (λ (u : Types). record u { list = d.list }) q);
-  pointers = k.pointers ∙ ap (λ (t : Types). t.pointers.items ++ p ∷ []) (r ∙ ap (λ (u : Types). record u { list = d.list }) q);
+  numbers = k.numbers ∙ ap (λ (t : Types). t.numbers.items ++ n ∷ [])
+      (r ∙ ap (λ (u : Types). record u { list = d.list }) q);
+  pointers = k.pointers ∙ ap (λ (t : Types). t.pointers.items ++ p ∷ [])
+      (r ∙ ap (λ (u : Types). record u { list = d.list }) q);
 }
 
 -- a new type, and the pointer to it
-pub pointer_number : (a b d f : Types) (c : CType) (n p : ℕ) → b.list.items ≡ a.list.items ++ c ∷ [] → n ≡ length a.list.items → b ≡ record a { list = b.list } → d.list.items ≡ b.list.items ++ ctypes.Pointer n ∷ [] → p ≡ length b.list.items →
-    d ≡ record b { list = d.list } → Keeps d f [] n p → Keeps a f (c ∷ ctypes.Pointer (length a.list.items) ∷ []) (length a.list.items) (length a.list.items + 1)
+pub pointer_number : (a b d f : Types) (c : CType) (n p : ℕ) → b.list.items ≡ a.list.items ++ c ∷ [] →
+    n ≡ length a.list.items → b ≡ record a { list = b.list } → d.list.items ≡ b.list.items ++ ctypes.Pointer n ∷ [] →
+    p ≡ length b.list.items →
+    d ≡ record b { list = d.list } → Keeps d f [] n p →
+    Keeps a f (c ∷ ctypes.Pointer (length a.list.items) ∷ []) (length a.list.items) (length a.list.items + 1)
 pointer_number a b d f c n p g i q h j r k =
-    let m : length b.list.items ≡ length a.list.items + 1 = ap length g ∙ omega (arith, length-append a.list.items (c ∷ [])) in
-    subst (λ z. Keeps a f (c ∷ ctypes.Pointer z ∷ []) z (length a.list.items + 1)) i (subst (λ z. Keeps a f (c ∷ ctypes.Pointer n ∷ []) n z) (j ∙ m) (kept_both a b d f c (ctypes.Pointer n) n p g q h r k))
+    let m : length b.list.items ≡ length a.list.items + 1 =
+    ap length g ∙ omega (arith, length-append a.list.items (c ∷ [])) in
+    subst (λ z. Keeps a f (c ∷ ctypes.Pointer z ∷ []) z (length a.list.items + 1)) i
+    (subst (λ z. Keeps a f (c ∷ ctypes.Pointer n ∷ []) n z) (j ∙ m)
+    (kept_both a b d f c (ctypes.Pointer n) n p g q h r k))
 
 pub on_ok : {V : Type 0} (r : Result V NoMemory) (P Q : Type 0) → (P → Q) → OnOk r P → OnOk r Q
 on_ok (Ok v) P Q f h = f h
@@ -324,19 +389,27 @@ if_ok (Ok v) P Q f h = f v h
 if_ok (Err e) P Q f h = tt
 
 -- a type that is no struct or union
-pub plainly_follows : (types : List CType) (i : ℕ) (old new : Types) (c : CType) (t : Ty) → Follows types i old → Keeps old new (c ∷ []) (length old.list.items) (length old.list.items) →
-    type_in types i ≡ t → type_from c (type_in old.list.items) ≡ passed t → by_pointer t ≡ false → IsKept types c → Follows types (i + 1) new
+pub plainly_follows : (types : List CType) (i : ℕ) (old new : Types) (c : CType) (t : Ty) → Follows types i old →
+    Keeps old new (c ∷ []) (length old.list.items) (length old.list.items) →
+    type_in types i ≡ t → type_from c (type_in old.list.items) ≡ passed t → by_pointer t ≡ false → IsKept types c →
+    Follows types (i + 1) new
 plainly_follows types i old new c t f k e is b h =
-    let l : length old.list.items < length (old.list.items ++ c ∷ []) = omega (arith, length-append old.list.items (c ∷ [])) in
+    let l : length old.list.items < length (old.list.items ++ c ∷ []) =
+    omega (arith, length-append old.list.items (c ∷ [])) in
     follows_more types i old new (c ∷ []) (length old.list.items) (length old.list.items) f k
     (rw (k.list) (record { there = l; is = type_seam old.list.items c [] ∙ is ∙ ap passed (sym e) }))
-    (rw (k.list) (record { there = l; is = λ g. absurd (let q : by_pointer t ≡ true = ap by_pointer (sym e) ∙ g in cc) }))
+    (rw (k.list) (record {
+      there = l;
+      is = λ g. absurd (let q : by_pointer t ≡ true = ap by_pointer (sym e) ∙ g in cc);
+    }))
     (one_kept types c h)
 
 -- a struct or union
 pub record_follows : (types : List CType) (i : ℕ) (old new : Types) (c : CType) (tag : ℕ) → Follows types i old →
-    Keeps old new (c ∷ ctypes.Pointer (length old.list.items) ∷ []) (length old.list.items) (length old.list.items + 1) →
-    ((go : ℕ → Ty) → type_from c go ≡ Tagged tag) → type_in types i ≡ Tagged tag → IsKept types c → Follows types (i + 1) new
+    Keeps old new (c ∷ ctypes.Pointer (length old.list.items) ∷ []) (length old.list.items)
+    (length old.list.items + 1) →
+    ((go : ℕ → Ty) → type_from c go ≡ Tagged tag) → type_in types i ≡ Tagged tag → IsKept types c →
+    Follows types (i + 1) new
 record_follows types i old new c tag f k is e h =
     let list = old.list.items in
     let n = length list in
@@ -347,66 +420,102 @@ record_follows types i old new c tag f k is e h =
     let first : type_in (list ++ c ∷ p ∷ []) n ≡ Tagged tag = type_seam list c (p ∷ []) ∙ is (type_in list) in
     let inner : type_in (list ++ c ∷ []) n ≡ Tagged tag = type_seam list c [] ∙ is (type_in list) in
     let second : type_in (list ++ c ∷ p ∷ []) (n + 1) ≡ Pointer (Tagged tag) =
-    ap (λ zs. type_in zs (n + 1)) both ∙ ap (λ j. type_in ((list ++ c ∷ []) ++ p ∷ []) j) (sym m) ∙ type_seam (list ++ c ∷ []) p [] ∙ ap Pointer inner in
+    ap (λ zs. type_in zs (n + 1)) both ∙ ap (λ j. type_in ((list ++ c ∷ []) ++ p ∷ []) j) (sym m)
+    ∙ type_seam (list ++ c ∷ []) p [] ∙ ap Pointer inner in
     follows_more types i old new (c ∷ p ∷ []) n (n + 1) f k
     (rw (k.list) (record { there = omega arith; is = first ∙ ap passed (sym e) }))
     (rw (k.list) (record { there = omega arith; is = λ g. second ∙ ap (λ t. Pointer (bare t)) (sym e) }))
     (two_kept types c n h)
 
 -- a type of which no new one is made
-pub kept_follows : (types : List CType) (i : ℕ) (old new : Types) (n p : ℕ) → Follows types i old → Keeps old new [] n p → IsNumber types old.list.items i n → IsPointer types old.list.items i p → Follows types (i + 1) new
+pub kept_follows : (types : List CType) (i : ℕ) (old new : Types) (n p : ℕ) → Follows types i old →
+    Keeps old new [] n p → IsNumber types old.list.items i n → IsPointer types old.list.items i p →
+    Follows types (i + 1) new
 kept_follows types i old new n p f k a b =
-    follows_more types i old new [] n p f k (number_more types old.list.items new.list.items [] i n k.list a) (pointer_more types old.list.items new.list.items [] i p k.list b) (none_kept types)
+    follows_more types i old new [] n p f k (number_more types old.list.items new.list.items [] i n k.list a)
+    (pointer_more types old.list.items new.list.items [] i p k.list b) (none_kept types)
 
 -- ---- each kind of type
 
-number_below : (types : List CType) (i : ℕ) (t : Types) (k n : ℕ) → Follows types i t → slice_get t.numbers.items k ≡ Some n → k < i
+number_below : (types : List CType) (i : ℕ) (t : Types) (k n : ℕ) → Follows types i t →
+    slice_get t.numbers.items k ≡ Some n → k < i
 number_below types i t k n f e = let l = slice_get_within t.numbers.items k n e in let c = f.number_count in omega arith
 
-pointer_below : (types : List CType) (i : ℕ) (t : Types) (k n : ℕ) → Follows types i t → slice_get t.pointers.items k ≡ Some n → k < i
-pointer_below types i t k n f e = let l = slice_get_within t.pointers.items k n e in let c = f.pointer_count in omega arith
+pointer_below : (types : List CType) (i : ℕ) (t : Types) (k n : ℕ) → Follows types i t →
+    slice_get t.pointers.items k ≡ Some n → k < i
+pointer_below types i t k n f e =
+    let l = slice_get_within t.pointers.items k n e in let c = f.pointer_count in omega arith
 
 pub adds_void : (types : List CType) (old new : Types) → Keeps old new [] 0 0 → AddsType types old new ctypes.Void
 adds_void types old new k = λ i f e.
     let r = reading types i ctypes.Void e in
     kept_follows types i old new 0 0 f k (record { there = f.void.there; is = f.void.is ∙ ap passed (sym r.is) })
-    (record { there = f.void.there; is = λ g. absurd (let q : by_pointer Void ≡ true = ap by_pointer (sym r.is) ∙ g in cc) })
+    (record {
+      there = f.void.there;
+      is = λ g. absurd (let q : by_pointer Void ≡ true = ap by_pointer (sym r.is) ∙ g in cc);
+    })
 
-pub adds_pointer : (types : List CType) (old new : Types) (t n : ℕ) → slice_get old.numbers.items t ≡ Some n → Keeps old new (ctypes.Pointer n ∷ []) (length old.list.items) (length old.list.items) → AddsType types old new (ctypes.Pointer t)
+pub adds_pointer : (types : List CType) (old new : Types) (t n : ℕ) → slice_get old.numbers.items t ≡ Some n →
+    Keeps old new (ctypes.Pointer n ∷ []) (length old.list.items) (length old.list.items) →
+    AddsType types old new (ctypes.Pointer t)
 adds_pointer types old new t n g k = λ i f e.
     let r = reading types i (ctypes.Pointer t) e in
-    plainly_follows types i old new (ctypes.Pointer n) (Pointer (type_in types t)) f k (r.is ∙ ap Pointer (r.before t (number_below types i old t n f g))) (ap Pointer (f.numbers t n g).is) refl tt
+    plainly_follows types i old new (ctypes.Pointer n) (Pointer (type_in types t)) f k
+    (r.is ∙ ap Pointer (r.before t (number_below types i old t n f g))) (ap Pointer (f.numbers t n g).is) refl tt
 
-pub adds_tagged_pointer : (types : List CType) (old new : Types) (t n : ℕ) → slice_get old.pointers.items t ≡ Some n → is_tagged (type_in types t) ≡ true → Keeps old new [] n n → AddsType types old new (ctypes.Pointer t)
+pub adds_tagged_pointer : (types : List CType) (old new : Types) (t n : ℕ) → slice_get old.pointers.items t ≡ Some n →
+    is_tagged (type_in types t) ≡ true → Keeps old new [] n n → AddsType types old new (ctypes.Pointer t)
 adds_tagged_pointer types old new t n g b k = λ i f e.
     let r = reading types i (ctypes.Pointer t) e in
-    let is : type_in types i ≡ Pointer (type_in types t) = r.is ∙ ap Pointer (r.before t (pointer_below types i old t n f g)) in
+    let is : type_in types i ≡ Pointer (type_in types t) =
+    r.is ∙ ap Pointer (r.before t (pointer_below types i old t n f g)) in
     let p = f.pointers t n g in
-    kept_follows types i old new n n f k (record { there = p.there; is = p.is (tagged_goes (type_in types t) b) ∙ tagged_pointer (type_in types t) b ∙ ap passed (sym is) })
-    (record { there = p.there; is = λ h. absurd (let q : by_pointer (Pointer (type_in types t)) ≡ true = ap by_pointer (sym is) ∙ h in cc) })
+    kept_follows types i old new n n f k (record {
+      there = p.there;
+      is = p.is (tagged_goes (type_in types t) b) ∙ tagged_pointer (type_in types t) b
+          ∙ ap passed (sym is);
+    })
+    (record {
+      there = p.there;
+      is = λ h. absurd (let q : by_pointer (Pointer (type_in types t)) ≡ true = ap by_pointer (sym is) ∙ h in cc);
+    })
 
-pub adds_array : (types : List CType) (old new : Types) (t n m : ℕ) → slice_get old.numbers.items t ≡ Some n → Keeps old new (ctypes.Array n m ∷ []) (length old.list.items) (length old.list.items) → AddsType types old new (ctypes.Array t m)
+pub adds_array : (types : List CType) (old new : Types) (t n m : ℕ) → slice_get old.numbers.items t ≡ Some n →
+    Keeps old new (ctypes.Array n m ∷ []) (length old.list.items) (length old.list.items) →
+    AddsType types old new (ctypes.Array t m)
 adds_array types old new t n m g k = λ i f e.
     let r = reading types i (ctypes.Array t m) e in
-    plainly_follows types i old new (ctypes.Array n m) (Array (type_in types t) m) f k (r.is ∙ ap (λ x. Array x m) (r.before t (number_below types i old t n f g))) (ap (λ x. Array x m) (f.numbers t n g).is) refl tt
+    plainly_follows types i old new (ctypes.Array n m) (Array (type_in types t) m) f k
+    (r.is ∙ ap (λ x. Array x m) (r.before t (number_below types i old t n f g)))
+    (ap (λ x. Array x m) (f.numbers t n g).is) refl tt
 
-const_goes : (t s : Ty) → by_pointer (Const t) ≡ true → (by_pointer t ≡ true → s ≡ Pointer (bare t)) → s ≡ Pointer (bare (Const t))
+const_goes : (t s : Ty) → by_pointer (Const t) ≡ true → (by_pointer t ≡ true → s ≡ Pointer (bare t)) →
+    s ≡ Pointer (bare (Const t))
 const_goes t s e h = h (tagged_goes t e) ∙ ap Pointer (tagged_bare t e)
 
-pub adds_const : (types : List CType) (old new : Types) (t n p : ℕ) → slice_get old.numbers.items t ≡ Some n → slice_get old.pointers.items t ≡ Some p → Keeps old new (ctypes.Const n ∷ []) (length old.list.items) p →
+pub adds_const : (types : List CType) (old new : Types) (t n p : ℕ) → slice_get old.numbers.items t ≡ Some n →
+    slice_get old.pointers.items t ≡ Some p → Keeps old new (ctypes.Const n ∷ []) (length old.list.items) p →
     AddsType types old new (ctypes.Const t)
 adds_const types old new t n p g h k = λ i f e.
     let list = old.list.items in
     let r = reading types i (ctypes.Const t) e in
-    let is : type_in types i ≡ Const (type_in types t) = r.is ∙ ap Const (r.before t (number_below types i old t n f g)) in
+    let is : type_in types i ≡ Const (type_in types t) =
+    r.is ∙ ap Const (r.before t (number_below types i old t n f g)) in
     let q = f.pointers t p h in
-    let there : length list < length (list ++ ctypes.Const n ∷ []) = omega (arith, length-append list (ctypes.Const n ∷ [])) in
+    let there : length list < length (list ++ ctypes.Const n ∷ []) =
+    omega (arith, length-append list (ctypes.Const n ∷ [])) in
     let within : p < length (list ++ ctypes.Const n ∷ []) = let l = q.there in omega (arith, length-append list (ctypes.Const n ∷ [])) in
     follows_more types i old new (ctypes.Const n ∷ []) (length list) p f k
-    (rw (k.list) (record { there = there; is = type_seam list (ctypes.Const n) [] ∙ ap Const (f.numbers t n g).is ∙ ap passed (sym is) }))
+    (rw (k.list) (record {
+      there = there;
+      is = type_seam list (ctypes.Const n) [] ∙ ap Const (f.numbers t n g).is
+          ∙ ap passed (sym is);
+    }))
     (rw (k.list) (record {
       there = within;
-      is = λ b. type_kept list (ctypes.Const n ∷ []) p q.there ∙ const_goes (type_in types t) (type_in list p) (ap by_pointer (sym is) ∙ b) q.is ∙ ap (λ x. Pointer (bare x)) (sym is);
+      is = λ b. type_kept list (ctypes.Const n ∷ []) p q.there
+          ∙ const_goes (type_in types t) (type_in list p) (ap by_pointer (sym is) ∙ b) q.is
+          ∙ ap (λ x. Pointer (bare x)) (sym is);
     }))
     (one_kept types (ctypes.Const n) tt)
 
@@ -416,7 +525,8 @@ pub tys_passed : (ts : List Ty) → tys (map passed_parameter ts) ≡ all_passed
 tys_passed [] = refl
 tys_passed (t ∷ ts) = ap (λ us. also (passed_parameter t) us) (tys_passed ts)
 
-pub parameter_number : (types : List CType) (t : Types) (k n : ℕ) → slice_get t.numbers.items k ≡ Some n → by_pointer (type_in types k) ≡ false → AreParameters types t (k ∷ []) [] (n ∷ [])
+pub parameter_number : (types : List CType) (t : Types) (k n : ℕ) → slice_get t.numbers.items k ≡ Some n →
+    by_pointer (type_in types k) ≡ false → AreParameters types t (k ∷ []) [] (n ∷ [])
 parameter_number types t k n g b = record {
   below = λ i f. one_below i k (number_below types i t k n f g);
   are = λ i f. ap (λ x. x ∷ []) ((f.numbers k n g).is ∙ sym (by (type_in types k) b));
@@ -429,7 +539,8 @@ parameter_number types t k n g b = record {
     by : (u : Ty) → by_pointer u ≡ false → passed_parameter u ≡ passed u
     by u e = rw e refl
 
-pub parameter_pointer : (types : List CType) (t : Types) (k n : ℕ) → slice_get t.pointers.items k ≡ Some n → by_pointer (type_in types k) ≡ true → AreParameters types t (k ∷ []) [] (n ∷ [])
+pub parameter_pointer : (types : List CType) (t : Types) (k n : ℕ) → slice_get t.pointers.items k ≡ Some n →
+    by_pointer (type_in types k) ≡ true → AreParameters types t (k ∷ []) [] (n ∷ [])
 parameter_pointer types t k n g b = record {
   below = λ i f. one_below i k (pointer_below types i t k n f g);
   are = λ i f. ap (λ x. x ∷ []) ((f.pointers k n g).is b ∙ sym (by (type_in types k) b));
@@ -449,73 +560,113 @@ no_parameters types t ns = record {
 }
 
 -- one parameter more
-pub parameters_push : (types : List CType) (t : Types) (ks before now after : List ℕ) (k n : ℕ) → AreParameters types t ks before now → AreParameters types t (k ∷ []) [] (n ∷ []) → after ≡ now ++ n ∷ [] → AreParameters types t (ks ++ k ∷ []) before after
+pub parameters_push : (types : List CType) (t : Types) (ks before now after : List ℕ) (k n : ℕ) →
+    AreParameters types t ks before now → AreParameters types t (k ∷ []) [] (n ∷ []) → after ≡ now ++ n ∷ [] →
+    AreParameters types t (ks ++ k ∷ []) before after
 parameters_push types t ks before now after k n h i e = record {
   below = λ j f. below_both j ks k (h.below j f) (i.below j f);
   are = λ j f.
       let go = type_in t.list.items in
       let old = map go before in
       let us = map passed_parameter (map (type_in types) ks) in
-      ap (map go) e ∙ map-append go now (n ∷ []) ∙ ap (λ zs. zs ++ go n ∷ []) (h.are j f) ∙ append_assoc old us (go n ∷ [])
-      ∙ ap (λ zs. old ++ (us ++ zs)) (i.are j f) ∙ ap (λ zs. old ++ zs) (sym (ap (map passed_parameter) (map-append (type_in types) ks (k ∷ [])) ∙ map-append passed_parameter (map (type_in types) ks) (type_in types k ∷ [])));
+      ap (map go) e ∙ map-append go now (n ∷ []) ∙ ap (λ zs. zs ++ go n ∷ []) (h.are j f)
+      ∙ append_assoc old us (go n ∷ [])
+      ∙ ap (λ zs. old ++ (us ++ zs)) (i.are j f)
+      ∙ ap (λ zs. old ++ zs) (sym (ap (map passed_parameter) (map-append (type_in types) ks (k ∷ []))
+      ∙ map-append passed_parameter (map (type_in types) ks) (type_in types k ∷ [])));
 }
   where
     below_both : (j : ℕ) (ks : List ℕ) (k : ℕ) → AllBelow j ks → AllBelow j (k ∷ []) → AllBelow j (ks ++ k ∷ [])
     below_both j ks k h i m a e = ⊎_elim (λ g. h m a g) (λ g. i g.0 a g.1) (get-append ks (k ∷ []) m a e)
 
-function_read : (types : List CType) (i gives : ℕ) (ts : List ℕ) → slice_get types i ≡ Some (ctypes.Function gives ts) → gives < i → AllBelow i ts → type_in types i ≡ Function (type_in types gives) (tys (map (type_in types) ts))
+function_read : (types : List CType) (i gives : ℕ) (ts : List ℕ) → slice_get types i ≡ Some (ctypes.Function gives ts) →
+    gives < i → AllBelow i ts → type_in types i ≡ Function (type_in types gives) (tys (map (type_in types) ts))
 function_read types i gives ts e lt b =
     let r = reading types i (ctypes.Function gives ts) e in
-    r.is ∙ ap (λ x. Function x (tys (map r.go ts))) (r.before gives lt) ∙ ap (λ us. Function (type_in types gives) (tys us)) (map_seen r.go (type_in types) ts i b r.before)
+    r.is ∙ ap (λ x. Function x (tys (map r.go ts))) (r.before gives lt)
+    ∙ ap (λ us. Function (type_in types gives) (tys us)) (map_seen r.go (type_in types) ts i b r.before)
 
-passed_plainly : (r : Ty) (ps : Tys) → by_pointer r ≡ false → passed (Function r ps) ≡ Function (passed r) (all_passed ps)
+passed_plainly : (r : Ty) (ps : Tys) → by_pointer r ≡ false →
+    passed (Function r ps) ≡ Function (passed r) (all_passed ps)
 passed_plainly r ps e = rw e refl
 
-passed_by_pointer : (r : Ty) (ps : Tys) → by_pointer r ≡ true → passed (Function r ps) ≡ Function Void (also (Pointer (bare r)) (all_passed ps))
+passed_by_pointer : (r : Ty) (ps : Tys) → by_pointer r ≡ true →
+    passed (Function r ps) ≡ Function Void (also (Pointer (bare r)) (all_passed ps))
 passed_by_pointer r ps e = rw e refl
 
-pub adds_function : (types : List CType) (old new : Types) (gives of : ℕ) (ts after : List ℕ) → slice_get old.numbers.items gives ≡ Some of → by_pointer (type_in types gives) ≡ false → AreParameters types old ts [] after →
-    Keeps old new (ctypes.Function of after ∷ []) (length old.list.items) (length old.list.items) → AddsType types old new (ctypes.Function gives ts)
+pub adds_function : (types : List CType) (old new : Types) (gives of : ℕ) (ts after : List ℕ) →
+    slice_get old.numbers.items gives ≡ Some of → by_pointer (type_in types gives) ≡ false →
+    AreParameters types old ts [] after →
+    Keeps old new (ctypes.Function of after ∷ []) (length old.list.items) (length old.list.items) →
+    AddsType types old new (ctypes.Function gives ts)
 adds_function types old new gives of ts after g b h k = λ i f e.
     let go = type_in old.list.items in
     let us = map (type_in types) ts in
     let is = function_read types i gives ts e (number_below types i old gives of f g) (h.below i f) in
     plainly_follows types i old new (ctypes.Function of after) (Function (type_in types gives) (tys us)) f k is
-    (ap (λ x. Function x (tys (map go after))) (f.numbers gives of g).is ∙ ap (λ zs. Function (passed (type_in types gives)) (tys zs)) (h.are i f) ∙ ap (Function (passed (type_in types gives))) (tys_passed us)
+    (ap (λ x. Function x (tys (map go after))) (f.numbers gives of g).is
+    ∙ ap (λ zs. Function (passed (type_in types gives)) (tys zs)) (h.are i f)
+    ∙ ap (Function (passed (type_in types gives))) (tys_passed us)
     ∙ sym (passed_plainly (type_in types gives) (tys us) b))
     refl tt
 
-pub adds_result : (types : List CType) (old new : Types) (gives p : ℕ) (ts after : List ℕ) → slice_get old.pointers.items gives ≡ Some p → by_pointer (type_in types gives) ≡ true → AreParameters types old ts (p ∷ []) after →
-    Keeps old new (ctypes.Function 0 after ∷ []) (length old.list.items) (length old.list.items) → AddsType types old new (ctypes.Function gives ts)
+pub adds_result : (types : List CType) (old new : Types) (gives p : ℕ) (ts after : List ℕ) →
+    slice_get old.pointers.items gives ≡ Some p → by_pointer (type_in types gives) ≡ true →
+    AreParameters types old ts (p ∷ []) after →
+    Keeps old new (ctypes.Function 0 after ∷ []) (length old.list.items) (length old.list.items) →
+    AddsType types old new (ctypes.Function gives ts)
 adds_result types old new gives p ts after g b h k = λ i f e.
     let go = type_in old.list.items in
     let us = map (type_in types) ts in
     let is = function_read types i gives ts e (pointer_below types i old gives p f g) (h.below i f) in
     plainly_follows types i old new (ctypes.Function 0 after) (Function (type_in types gives) (tys us)) f k is
-    (ap (λ x. Function x (tys (map go after))) f.void.is ∙ ap (λ zs. Function Void (tys zs)) (h.are i f) ∙ ap (λ x. Function Void (also x (tys (map passed_parameter us)))) ((f.pointers gives p g).is b)
-    ∙ ap (λ zs. Function Void (also (Pointer (bare (type_in types gives))) zs)) (tys_passed us) ∙ sym (passed_by_pointer (type_in types gives) (tys us) b))
+    (ap (λ x. Function x (tys (map go after))) f.void.is ∙ ap (λ zs. Function Void (tys zs)) (h.are i f)
+    ∙ ap (λ x. Function Void (also x (tys (map passed_parameter us)))) ((f.pointers gives p g).is b)
+    ∙ ap (λ zs. Function Void (also (Pointer (bare (type_in types gives))) zs)) (tys_passed us)
+    ∙ sym (passed_by_pointer (type_in types gives) (tys us) b))
     refl tt
 
 -- ---- the other kinds
 
-pub adds_struct : (types : List CType) (old new : Types) (tag : ℕ) (ms : List Member) → Keeps old new (ctypes.Struct tag ms ∷ ctypes.Pointer (length old.list.items) ∷ []) (length old.list.items) (length old.list.items + 1) → AddsType types old new (ctypes.Struct tag ms)
-adds_struct types old new tag ms k = λ i f e. record_follows types i old new (ctypes.Struct tag ms) tag f k (λ go. refl) (reading types i (ctypes.Struct tag ms) e).is (i, e)
+pub adds_struct : (types : List CType) (old new : Types) (tag : ℕ) (ms : List Member) →
+    Keeps old new (ctypes.Struct tag ms ∷ ctypes.Pointer (length old.list.items) ∷ []) (length old.list.items)
+    (length old.list.items + 1) → AddsType types old new (ctypes.Struct tag ms)
+adds_struct types old new tag ms k =
+    λ i f e. record_follows types i old new (ctypes.Struct tag ms) tag f k (λ go. refl)
+    (reading types i (ctypes.Struct tag ms) e).is (i, e)
 
-pub adds_union : (types : List CType) (old new : Types) (tag : ℕ) (ms : List Member) → Keeps old new (ctypes.Union tag ms ∷ ctypes.Pointer (length old.list.items) ∷ []) (length old.list.items) (length old.list.items + 1) → AddsType types old new (ctypes.Union tag ms)
-adds_union types old new tag ms k = λ i f e. record_follows types i old new (ctypes.Union tag ms) tag f k (λ go. refl) (reading types i (ctypes.Union tag ms) e).is (i, e)
+pub adds_union : (types : List CType) (old new : Types) (tag : ℕ) (ms : List Member) →
+    Keeps old new (ctypes.Union tag ms ∷ ctypes.Pointer (length old.list.items) ∷ []) (length old.list.items)
+    (length old.list.items + 1) → AddsType types old new (ctypes.Union tag ms)
+adds_union types old new tag ms k =
+    λ i f e. record_follows types i old new (ctypes.Union tag ms) tag f k (λ go. refl)
+    (reading types i (ctypes.Union tag ms) e).is (i, e)
 
-pub adds_incomplete : (types : List CType) (old new : Types) (tag : ℕ) → Keeps old new (ctypes.Incomplete tag ∷ ctypes.Pointer (length old.list.items) ∷ []) (length old.list.items) (length old.list.items + 1) → AddsType types old new (ctypes.Incomplete tag)
-adds_incomplete types old new tag k = λ i f e. record_follows types i old new (ctypes.Incomplete tag) tag f k (λ go. refl) (reading types i (ctypes.Incomplete tag) e).is (i, e)
+pub adds_incomplete : (types : List CType) (old new : Types) (tag : ℕ) →
+    Keeps old new (ctypes.Incomplete tag ∷ ctypes.Pointer (length old.list.items) ∷ []) (length old.list.items)
+    (length old.list.items + 1) → AddsType types old new (ctypes.Incomplete tag)
+adds_incomplete types old new tag k =
+    λ i f e. record_follows types i old new (ctypes.Incomplete tag) tag f k (λ go. refl)
+    (reading types i (ctypes.Incomplete tag) e).is (i, e)
 
-pub adds_int : (types : List CType) (old new : Types) (k : IntKind) (n : ℕ) → Keeps old new (ctypes.Int k n ∷ []) (length old.list.items) (length old.list.items) → AddsType types old new (ctypes.Int k n)
-adds_int types old new k n q = λ i f e. plainly_follows types i old new (ctypes.Int k n) (Int k n) f q (reading types i (ctypes.Int k n) e).is refl refl tt
+pub adds_int : (types : List CType) (old new : Types) (k : IntKind) (n : ℕ) →
+    Keeps old new (ctypes.Int k n ∷ []) (length old.list.items) (length old.list.items) →
+    AddsType types old new (ctypes.Int k n)
+adds_int types old new k n q =
+    λ i f e. plainly_follows types i old new (ctypes.Int k n) (Int k n) f q
+    (reading types i (ctypes.Int k n) e).is refl refl tt
 
-pub adds_cap : (types : List CType) (old new : Types) (s : Bool) → Keeps old new (ctypes.Cap s ∷ []) (length old.list.items) (length old.list.items) → AddsType types old new (ctypes.Cap s)
-adds_cap types old new s q = λ i f e. plainly_follows types i old new (ctypes.Cap s) (Cap s) f q (reading types i (ctypes.Cap s) e).is refl refl tt
+pub adds_cap : (types : List CType) (old new : Types) (s : Bool) →
+    Keeps old new (ctypes.Cap s ∷ []) (length old.list.items) (length old.list.items) →
+    AddsType types old new (ctypes.Cap s)
+adds_cap types old new s q =
+    λ i f e. plainly_follows types i old new (ctypes.Cap s) (Cap s) f q
+    (reading types i (ctypes.Cap s) e).is refl refl tt
 
 -- ---- all types
 
-pub starts : (types : List CType) (t : Types) → t.list.items ≡ ctypes.Void ∷ [] → t.numbers.items ≡ [] → t.pointers.items ≡ [] → Follows types 0 t
+pub starts : (types : List CType) (t : Types) → t.list.items ≡ ctypes.Void ∷ [] → t.numbers.items ≡ [] →
+    t.pointers.items ≡ [] → Follows types 0 t
 starts types t l n p = record {
   void = rw l (record { there = omega arith; is = type_seam [] ctypes.Void [] });
   number_count = ap length n;
@@ -526,7 +677,8 @@ starts types t l n p = record {
 }
 
 -- the list with members that have their types
-pub types_fit : (types : List CType) (t : Types) (new : List CType) → Follows types (length types) t → AreListed t.numbers.items t.list.items new → TypesFit types t (types_of new)
+pub types_fit : (types : List CType) (t : Types) (new : List CType) → Follows types (length types) t →
+    AreListed t.numbers.items t.list.items new → TypesFit types t (types_of new)
 types_fit types t new f a = record {
   void = ap (λ us. type_at us 0) a.types ∙ f.void.is;
   numbers = λ k n e. ap (λ us. type_at us n) a.types ∙ (f.numbers k n e).is;
@@ -535,27 +687,33 @@ types_fit types t new f a = record {
 
 -- ---- members
 
-pub members_push : (numbers : List ℕ) (ms ns after : List Member) (m : Member) (n : ℕ) → AreRenumbered numbers ms ns → slice_get numbers m.of ≡ Some n → after ≡ ns ++ record { name = m.name; of = n } ∷ [] → AreRenumbered numbers (ms ++ m ∷ []) after
+pub members_push : (numbers : List ℕ) (ms ns after : List Member) (m : Member) (n : ℕ) → AreRenumbered numbers ms ns →
+    slice_get numbers m.of ≡ Some n → after ≡ ns ++ record { name = m.name; of = n } ∷ [] →
+    AreRenumbered numbers (ms ++ m ∷ []) after
 members_push numbers ms ns after m n h g e = record {
   are = λ types ts fits.
       let f = member_of ts in
       let old = map passed_member (map (member_of types) ms) in
-      ap (map f) e ∙ map-append f ns (record { name = m.name; of = n } ∷ []) ∙ ap (λ zs. zs ++ (m.name, type_at ts n) ∷ []) (h.are types ts fits)
+      ap (map f) e ∙ map-append f ns (record { name = m.name; of = n } ∷ [])
+      ∙ ap (λ zs. zs ++ (m.name, type_at ts n) ∷ []) (h.are types ts fits)
       ∙ ap (λ t. old ++ (m.name, t) ∷ []) (fits m.of n g)
-      ∙ sym (ap (map passed_member) (map-append (member_of types) ms (m ∷ [])) ∙ map-append passed_member (map (member_of types) ms) (member_of types m ∷ []));
+      ∙ sym (ap (map passed_member) (map-append (member_of types) ms (m ∷ []))
+      ∙ map-append passed_member (map (member_of types) ms) (member_of types m ∷ []));
 }
 
 pub no_members : (numbers : List ℕ) → AreRenumbered numbers [] []
 no_members numbers = record { are = λ types ts fits. refl }
 
-one_type : (c : CType) (ts : List Ty) → grow type_from Void (c ∷ []) ts ≡ ts ++ type_from c (λ k. slice_index_or ts k Void) ∷ []
+one_type : (c : CType) (ts : List Ty) →
+    grow type_from Void (c ∷ []) ts ≡ ts ++ type_from c (λ k. slice_index_or ts k Void) ∷ []
 unfolding grow
 one_type c ts = refl
 
 types_push : (cs : List CType) (c : CType) → types_of (cs ++ c ∷ []) ≡ types_of cs ++ type_from c (type_in cs) ∷ []
 types_push cs c = grow-append type_from Void cs (c ∷ []) [] ∙ one_type c (types_of cs)
 
-with_members_same : (numbers : List ℕ) (c d : CType) (go : ℕ → Ty) → IsWithMembers numbers c d → type_from d go ≡ type_from c go
+with_members_same : (numbers : List ℕ) (c d : CType) (go : ℕ → Ty) → IsWithMembers numbers c d →
+    type_from d go ≡ type_from c go
 with_members_same numbers (ctypes.Struct tag ms) d go h = ap (λ x. type_from x go) h.1
 with_members_same numbers (ctypes.Union tag ms) d go h = ap (λ x. type_from x go) h.1
 with_members_same numbers ctypes.Void d go h = ap (λ x. type_from x go) h
@@ -571,7 +729,8 @@ pub none_listed : (numbers : List ℕ) → AreListed numbers [] []
 none_listed numbers = record { types = refl; each = λ k d e. absurd cc }
 
 -- one type more of the list
-pub listed_push : (numbers : List ℕ) (cs ds after : List CType) (c d : CType) → length cs ≡ length ds → AreListed numbers cs ds → IsWithMembers numbers c d → after ≡ ds ++ d ∷ [] → AreListed numbers (cs ++ c ∷ []) after
+pub listed_push : (numbers : List ℕ) (cs ds after : List CType) (c d : CType) → length cs ≡ length ds →
+    AreListed numbers cs ds → IsWithMembers numbers c d → after ≡ ds ++ d ∷ [] → AreListed numbers (cs ++ c ∷ []) after
 listed_push numbers cs ds after c d l h i e = record {
   types =
       ap types_of e ∙ types_push ds d ∙ ap (λ us. us ++ type_from d (λ k. slice_index_or us k Void) ∷ []) h.types

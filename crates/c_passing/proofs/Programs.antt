@@ -15,8 +15,10 @@ use Rattle.c_tree.specs.declared.typed.Typed.{Typed}
 use Rattle.c_tree.specs.Syntax.{Syn, StandsAt}
 use Rattle.c_tree.specs.Types.{Ty}
 use Rattle.c_tree.specs.Terms.{Tag, Program}
-use Rattle.c_tree.specs.Views.{type_at, types_of, actions_of, routine_of, object_of, text_of, member_of, TagAgrees, Shows}
-use Rattle.c_tree.specs.Passed.{passed, passed_tag, passed_members, passed_object, passed_routine, passed_program, call_name, calls_in}
+use Rattle.c_tree.specs.Views.{type_at, types_of, actions_of, routine_of, object_of, text_of, member_of, TagAgrees}
+use Rattle.c_tree.specs.Views.{Shows}
+use Rattle.c_tree.specs.Passed.{passed, passed_tag, passed_members, passed_object, passed_routine, passed_program}
+use Rattle.c_tree.specs.Passed.{call_name, calls_in}
 use Rattle.c_copy.specs.Copying.{actions_in}
 use Rattle.c_passing.specs.declared.types.Types.{Types}
 use Rattle.c_passing.specs.declared.names.Names as known
@@ -30,7 +32,8 @@ use Rattle.c_passing.proofs.Numbering.{types_fit}
 
 -- ---- objects
 
-pub object_made : (numbers : List ℕ) (g h : GlobalDef) → slice_get numbers g.of ≡ Some h.of → h.name ≡ g.name → h.pos ≡ g.pos → h.bytes ≡ g.bytes → h.links ≡ g.links → IsObject numbers g h
+pub object_made : (numbers : List ℕ) (g h : GlobalDef) → slice_get numbers g.of ≡ Some h.of → h.name ≡ g.name →
+    h.pos ≡ g.pos → h.bytes ≡ g.bytes → h.links ≡ g.links → IsObject numbers g h
 object_made numbers g h e n p b l = record {
   is = λ types ts fits.
       let of : type_at ts h.of ≡ passed (type_at types g.of) = fits g.of h.of e in
@@ -40,46 +43,61 @@ object_made numbers g h e n p b l = record {
 pub no_objects : (numbers : List ℕ) → AreObjects numbers [] []
 no_objects numbers = record { are = λ types ts fits. refl }
 
-pub objects_push : (numbers : List ℕ) (gs hs after : List GlobalDef) (g h : GlobalDef) → AreObjects numbers gs hs → IsObject numbers g h → after ≡ hs ++ h ∷ [] → AreObjects numbers (gs ++ g ∷ []) after
+pub objects_push : (numbers : List ℕ) (gs hs after : List GlobalDef) (g h : GlobalDef) → AreObjects numbers gs hs →
+    IsObject numbers g h → after ≡ hs ++ h ∷ [] → AreObjects numbers (gs ++ g ∷ []) after
 objects_push numbers gs hs after g h x y e = record {
   are = λ types ts fits.
-      ap (map (object_of ts)) e ∙ map-append (object_of ts) hs (h ∷ []) ∙ ap (λ zs. zs ++ object_of ts h ∷ []) (x.are types ts fits) ∙ ap (λ z. map passed_object (map (object_of types) gs) ++ z ∷ []) (y.is types ts fits)
-      ∙ sym (ap (map passed_object) (map-append (object_of types) gs (g ∷ [])) ∙ map-append passed_object (map (object_of types) gs) (object_of types g ∷ []));
+      ap (map (object_of ts)) e ∙ map-append (object_of ts) hs (h ∷ [])
+      ∙ ap (λ zs. zs ++ object_of ts h ∷ []) (x.are types ts fits)
+      ∙ ap (λ z. map passed_object (map (object_of types) gs) ++ z ∷ []) (y.is types ts fits)
+      ∙ sym (ap (map passed_object) (map-append (object_of types) gs (g ∷ []))
+      ∙ map-append passed_object (map (object_of types) gs) (object_of types g ∷ []));
 }
 
 -- ---- tags
 
-with_tag : (tags : List Tag) (k : ℕ) (t : Tag) → slice_get tags k ≡ Some t → slice_get (map passed_tag tags) k ≡ Some (passed_tag t)
+with_tag : (tags : List Tag) (k : ℕ) (t : Tag) → slice_get tags k ≡ Some t →
+    slice_get (map passed_tag tags) k ≡ Some (passed_tag t)
 with_tag tags k t e = slice_get-map passed_tag tags k ∙ ap (option_map passed_tag) e
 
-members_same : (numbers : List ℕ) (types ts : List Ty) (ms ns : List Member) → AreRenumbered numbers ms ns → ((k n : ℕ) → slice_get numbers k ≡ Some n → type_at ts n ≡ passed (type_at types k)) →
+members_same : (numbers : List ℕ) (types ts : List Ty) (ms ns : List Member) → AreRenumbered numbers ms ns →
+    ((k n : ℕ) → slice_get numbers k ≡ Some n → type_at ts n ≡ passed (type_at types k)) →
     passed_members (Some (map (member_of types) ms)) ≡ Some (map (member_of ts) ns)
 members_same numbers types ts ms ns h fits = ap Some (sym (h.are types ts fits))
 
-tag_agrees : (numbers : List ℕ) (types : List CType) (ts : List Ty) (tags : List Tag) (c d : CType) → IsKept types c → IsWithMembers numbers c d → ((k n : ℕ) → slice_get numbers k ≡ Some n → type_at ts n ≡ passed (type_in types k)) →
-    ((j : ℕ) (x : CType) → slice_get types j ≡ Some x → TagAgrees (types_of types) tags x) → TagAgrees ts (map passed_tag tags) d
+tag_agrees : (numbers : List ℕ) (types : List CType) (ts : List Ty) (tags : List Tag) (c d : CType) → IsKept types c →
+    IsWithMembers numbers c d → ((k n : ℕ) → slice_get numbers k ≡ Some n → type_at ts n ≡ passed (type_in types k)) →
+    ((j : ℕ) (x : CType) → slice_get types j ≡ Some x → TagAgrees (types_of types) tags x) →
+    TagAgrees ts (map passed_tag tags) d
 tag_agrees numbers types ts tags (ctypes.Struct tag ms) d (j, g) (ns, e, r) fits a =
     subst (TagAgrees ts (map passed_tag tags)) (sym e)
-    (with_tag tags tag (record { kind = record_kinds.Struct; members = Some (map (member_of (types_of types)) ms) }) (a j (ctypes.Struct tag ms) g)
-    ∙ ap (λ m. Some (record { kind = record_kinds.Struct; members = m })) (members_same numbers (types_of types) ts ms ns r fits))
+    (with_tag tags tag (record { kind = record_kinds.Struct; members = Some (map (member_of (types_of types)) ms) })
+    (a j (ctypes.Struct tag ms) g)
+    ∙ ap (λ m. Some (record { kind = record_kinds.Struct; members = m }))
+    (members_same numbers (types_of types) ts ms ns r fits))
 tag_agrees numbers types ts tags (ctypes.Union tag ms) d (j, g) (ns, e, r) fits a =
     subst (TagAgrees ts (map passed_tag tags)) (sym e)
-    (with_tag tags tag (record { kind = record_kinds.Union; members = Some (map (member_of (types_of types)) ms) }) (a j (ctypes.Union tag ms) g)
-    ∙ ap (λ m. Some (record { kind = record_kinds.Union; members = m })) (members_same numbers (types_of types) ts ms ns r fits))
+    (with_tag tags tag (record { kind = record_kinds.Union; members = Some (map (member_of (types_of types)) ms) })
+    (a j (ctypes.Union tag ms) g)
+    ∙ ap (λ m. Some (record { kind = record_kinds.Union; members = m }))
+    (members_same numbers (types_of types) ts ms ns r fits))
 tag_agrees numbers types ts tags (ctypes.Incomplete tag) d (j, g) e fits a =
     let x = a j (ctypes.Incomplete tag) g in
-    subst (TagAgrees ts (map passed_tag tags)) (sym e) (passed_tag x.0, with_tag tags tag x.0 x.1, ap passed_members x.2)
+    subst (TagAgrees ts (map passed_tag tags)) (sym e)
+    (passed_tag x.0, with_tag tags tag x.0 x.1, ap passed_members x.2)
 tag_agrees numbers types ts tags ctypes.Void d k e fits a = subst (TagAgrees ts (map passed_tag tags)) (sym e) tt
 tag_agrees numbers types ts tags (ctypes.Int i n) d k e fits a = subst (TagAgrees ts (map passed_tag tags)) (sym e) tt
 tag_agrees numbers types ts tags (ctypes.Cap s) d k e fits a = subst (TagAgrees ts (map passed_tag tags)) (sym e) tt
 tag_agrees numbers types ts tags (ctypes.Pointer t) d k e fits a = subst (TagAgrees ts (map passed_tag tags)) (sym e) tt
 tag_agrees numbers types ts tags (ctypes.Array t n) d k e fits a = subst (TagAgrees ts (map passed_tag tags)) (sym e) tt
-tag_agrees numbers types ts tags (ctypes.Function t ps) d k e fits a = subst (TagAgrees ts (map passed_tag tags)) (sym e) tt
+tag_agrees numbers types ts tags (ctypes.Function t ps) d k e fits a =
+    subst (TagAgrees ts (map passed_tag tags)) (sym e) tt
 tag_agrees numbers types ts tags (ctypes.Const t) d k e fits a = subst (TagAgrees ts (map passed_tag tags)) (sym e) tt
 
 -- ---- the program
 
-pub record ProgramSteps (tree : Tree) (old new : Typed) (types : Types) (names : known.Names) (w : Whole) (out : Made) : Type 0 where
+pub record ProgramSteps (tree : Tree) (old new : Typed) (types : Types) (names : known.Names) (w : Whole) (out : Made) :
+    Type 0 where
   pub program : w.program.now ≡ old
   pub types_are : w.types.now ≡ types
   pub names_are : w.names.now ≡ names
@@ -93,14 +111,18 @@ pub record ProgramSteps (tree : Tree) (old new : Typed) (types : Types) (names :
   pub stmts : new.stmts ≡ out.stmts.items
   pub main : new.main ≡ old.main
 
-shown : (tree : Tree) (old new : Typed) (types : Types) (names : known.Names) (w : Whole) (out : Made) → ProgramSteps tree old new types names w out → (x : Syn) (q : Program) → StandsAt tree.nodes tree.root x → Shows old q →
+shown : (tree : Tree) (old new : Typed) (types : Types) (names : known.Names) (w : Whole) (out : Made) →
+    ProgramSteps tree old new types names w out → (x : Syn) (q : Program) → StandsAt tree.nodes tree.root x →
+    Shows old q →
     Shows new (passed_program (call_name (calls_in x)) q)
 unfolding passed_program
 shown tree old new types names w out h x q st sh =
     let ts = types_of new.types in
     let fit = types_fit old.types types new.types h.follows h.listed in
     let whole : WholeFits w ts = rw (h.program, h.types_are) (record { types = fit }) in
-    let named : (p : Pos) → call_name (calls_in x) p ≡ name_in w.names.now p = λ p. named_by names (calls_in x) (h.known x st) p ∙ ap (λ (m : known.Names). name_in m p) (sym h.names_are) in
+    let named : (p : Pos) → call_name (calls_in x) p ≡ name_in w.names.now p =
+    λ p. named_by names (calls_in x) (h.known x st) p
+    ∙ ap (λ (m : known.Names). name_in m p) (sym h.names_are) in
     record {
       tags = λ k d g.
           let y = h.listed.each k d g in
@@ -108,15 +130,23 @@ shown tree old new types names w out h x q st sh =
       objects = h.objects.are (types_of old.types) ts fit.numbers ∙ ap (map passed_object) sh.objects;
       texts = ap (map text_of) h.literals ∙ sh.texts;
       routines =
-          ap (λ es. map (routine_of ts (actions_in ts es new.stmts)) new.funs) (h.exprs ∙ sym (append-nil out.exprs.items))
+          ap (λ es. map (routine_of ts (actions_in ts es new.stmts)) new.funs)
+          (h.exprs ∙ sym (append-nil out.exprs.items))
           ∙ ap (λ ss. map (routine_of ts (actions_in ts (out.exprs.items ++ []) ss)) new.funs) h.stmts
           ∙ h.functions.are ts (call_name (calls_in x)) [] whole named
-          ∙ ap (λ (p : Typed). map (passed_routine (call_name (calls_in x))) (map (routine_of (types_of p.types) (actions_of p)) old.funs)) h.program
+          ∙ ap (λ (p : Typed). map (passed_routine (call_name (calls_in x)))
+          (map (routine_of (types_of p.types) (actions_of p)) old.funs)) h.program
           ∙ ap (map (passed_routine (call_name (calls_in x)))) sh.routines;
       main = h.main ∙ sh.main;
     }
 
-pub program_made : (tree : Tree) (old new : Typed) (types : Types) (names : known.Names) (w : Whole) (out : Made) (fs : List FunDef) → AreFunctions w (map (written_routine w) w.program.now.funs) out fs → new.funs ≡ fs →
-    (AreFunctions w (map (written_routine w) old.funs) out new.funs → ProgramSteps tree old new types names w out) → w.program.now ≡ old → IsPassedProgram tree old new
+pub program_made : (tree : Tree) (old new : Typed) (types : Types) (names : known.Names) (w : Whole) (out : Made)
+    (fs : List FunDef) → AreFunctions w (map (written_routine w) w.program.now.funs) out fs → new.funs ≡ fs →
+    (AreFunctions w (map (written_routine w) old.funs) out new.funs → ProgramSteps tree old new types names w out) →
+    w.program.now ≡ old → IsPassedProgram tree old new
 program_made tree old new types names w out fs a e h q =
-    record { shows = shown tree old new types names w out (h (subst (λ (p : Typed). AreFunctions w (map (written_routine w) p.funs) out new.funs) q (subst (λ zs. AreFunctions w (map (written_routine w) w.program.now.funs) out zs) (sym e) a))) }
+    record {
+      shows = shown tree old new types names w out
+          (h (subst (λ (p : Typed). AreFunctions w (map (written_routine w) p.funs) out new.funs) q
+          (subst (λ zs. AreFunctions w (map (written_routine w) w.program.now.funs) out zs) (sym e) a)));
+    }

@@ -1,5 +1,6 @@
 -- What a pointer points to, and what is put there and copied from there.
-use Rattle.std.proofs.Common.{◌≡◌, ℕ, zero, suc, ◌+◌, ◌<◌, Bool, true, false, cond, List, [], ◌∷◌, ◌++◌, length, get_or, take, map, Some, None, refl, sym, ap, subst, ◌∙◌, arith, length-append, append_assoc}
+use Rattle.std.proofs.Common.{◌≡◌, ℕ, zero, suc, ◌+◌, ◌<◌, Bool, true, false, cond, List, [], ◌∷◌, ◌++◌, length, get_or}
+use Rattle.std.proofs.Common.{take, map, Some, None, refl, sym, ap, subst, ◌∙◌, arith, length-append, append_assoc}
 use Rattle.std.specs.Prelude.{slice_get, flat_map}
 use Rattle.std.proofs.lemmas.List.{append-nil, map-append, length-map, take_more, length-take-le}
 use Rattle.ck_base.specs.declared.positions.Pos.{Pos}
@@ -22,14 +23,18 @@ use Rattle.c_passing.specs.Lists.{copies_of}
 use Rattle.c_passing.specs.Passes.{written_type, Fits, HasTerm, HasTerms, HasAction, HasActions, Makes, IsGivenBack}
 use Rattle.c_passing.specs.Routines.{source_variable, IsParamCopy, AreParamCopies}
 use Rattle.c_passing.proofs.Calling.{number_same, pointer_same, step_made, join_made}
-use Rattle.c_passing.proofs.Trees.{term_more, no_terms_have, terms_push, action_more, action_made, no_actions_have, actions_more, actions_push}
+use Rattle.c_passing.proofs.Trees.{term_more, no_terms_have, terms_push, action_more, action_made, no_actions_have}
+use Rattle.c_passing.proofs.Trees.{actions_more, actions_push}
 
 -- what a variable points to, that has the type of the pointer to a struct or union
 abbrev pub pointed : (k pointer of : ℕ) → Pos → List Ty → Term
-pointed k pointer of p = λ ts. step tree.Deref (step tree.Load (leaf (tree.Var k) (type_at ts pointer) p) (type_at ts pointer) p) (type_at ts of) p
+pointed k pointer of p = λ ts. step tree.Deref
+    (step tree.Load (leaf (tree.Var k) (type_at ts pointer) p) (type_at ts pointer) p) (type_at ts of) p
 
-pub behind_made : (s : Source) (ts : List Ty) (e : Passing) (a : Made) (k t n m : ℕ) (p : Pos) (j : ℕ) → Fits s ts e → is_tagged (written_type s t) ≡ true → slice_get s.types.now.numbers.items t ≡ Some n →
-    slice_get s.types.now.pointers.items t ≡ Some m → Makes a (pointed k m n p) j → HasTerm ts a.exprs.items j (behind k (written_type s t) p)
+pub behind_made : (s : Source) (ts : List Ty) (e : Passing) (a : Made) (k t n m : ℕ) (p : Pos) (j : ℕ) → Fits s ts e →
+    is_tagged (written_type s t) ≡ true → slice_get s.types.now.numbers.items t ≡ Some n →
+    slice_get s.types.now.pointers.items t ≡ Some m → Makes a (pointed k m n p) j →
+    HasTerm ts a.exprs.items j (behind k (written_type s t) p)
 behind_made s ts e a k t n m p j fits g u v h =
     let tn = number_same s ts e t n fits g u in
     let tm = pointer_same s ts e t m fits g v in
@@ -38,13 +43,17 @@ behind_made s ts e a k t n m p j fits g u v h =
 one_has : (ts : List Ty) (es : List Expr) (j : ℕ) (x : Term) → HasTerm ts es j x → HasTerms ts es (j ∷ []) (x ∷ [])
 one_has ts es j x h = terms_push ts es [] (j ∷ []) j [] x refl (no_terms_have ts es) h
 
-two_have : (ts : List Ty) (es : List Expr) (ss : List Stmt) (i j : ℕ) (x y : Action) → HasAction ts es ss i x → HasAction ts es ss j y → HasActions ts es ss (i ∷ j ∷ []) (x ∷ y ∷ [])
-two_have ts es ss i j x y h g = actions_push ts es ss (i ∷ []) (i ∷ j ∷ []) j (x ∷ []) y refl (actions_push ts es ss [] (i ∷ []) i [] x refl (no_actions_have ts es ss) h) g
+two_have : (ts : List Ty) (es : List Expr) (ss : List Stmt) (i j : ℕ) (x y : Action) → HasAction ts es ss i x →
+    HasAction ts es ss j y → HasActions ts es ss (i ∷ j ∷ []) (x ∷ y ∷ [])
+two_have ts es ss i j x y h g =
+    actions_push ts es ss (i ∷ []) (i ∷ j ∷ []) j (x ∷ []) y refl
+    (actions_push ts es ss [] (i ∷ []) i [] x refl (no_actions_have ts es ss) h) g
 
 -- ---- a value is given back
 
 -- the place, the assignment, and the three statements
-pub record GivesBack (s : Source) (old a b c d new : Made) (value t n m place assigned first second j : ℕ) (p : Pos) : Type 0 where
+pub record GivesBack (s : Source) (old a b c d new : Made) (value t n m place assigned first second j : ℕ) (p : Pos) :
+    Type 0 where
   pub number : slice_get s.types.now.numbers.items t ≡ Some n
   pub pointer : slice_get s.types.now.pointers.items t ≡ Some m
   pub extends : Extends old.exprs.items a.exprs.items
@@ -59,7 +68,8 @@ pub record GivesBack (s : Source) (old a b c d new : Made) (value t n m place as
   pub number_is : j ≡ length d.stmts.items
   pub exprs : new.exprs.items ≡ b.exprs.items
 
-pub given_back_made : (s : Source) (old a b c d new : Made) (value t n m place assigned first second j : ℕ) (p : Pos) → is_tagged (written_type s t) ≡ true →
+pub given_back_made : (s : Source) (old a b c d new : Made) (value t n m place assigned first second j : ℕ) (p : Pos) →
+    is_tagged (written_type s t) ≡ true →
     GivesBack s old a b c d new value t n m place assigned first second j p → IsGivenBack s old new value t p j
 given_back_made s old a b c d new value t n m place assigned first second j p g st = record {
   is = λ ts e y fits hv.
@@ -67,15 +77,27 @@ given_back_made s old a b c d new value t n m place assigned first second j p g 
       let w = written_type s t in
       let value-a = term_more ts old.exprs.items a.exprs.items value y st.extends hv in
       let place-a = behind_made s ts e a 0 t n m p place fits g st.number st.pointer st.behind in
-      let made = join_made ts a.exprs.items es (record { kind = exprs.Assign place value; of = n; pos = p }) place value assigned (behind 0 w p) y st.assign st.assigned_is refl place-a value-a in
-      let assign : HasTerm ts es assigned (join tree.Assign (behind 0 w p) y w p) = record { there = made.there; is = made.is ∙ ap (λ u. join tree.Assign (behind 0 w p) y u p) (number_same s ts e t n fits g st.number) } in
+      let made = join_made ts a.exprs.items es
+      (record { kind = exprs.Assign place value; of = n; pos = p }) place value assigned
+      (behind 0 w p) y st.assign st.assigned_is refl place-a value-a in
+      let assign : HasTerm ts es assigned (join tree.Assign (behind 0 w p) y w p) =
+      record {
+        there = made.there;
+        is = made.is
+            ∙ ap (λ u. join tree.Assign (behind 0 w p) y u p) (number_same s ts e t n fits g st.number);
+      } in
       let one =
-      action_made ts es b.stmts.items c.stmts.items (record { kind = stmts.Expr assigned; pos = p }) first (join tree.Assign (behind 0 w p) y w p ∷ []) [] st.evaluate st.first_is
+      action_made ts es b.stmts.items c.stmts.items (record { kind = stmts.Expr assigned; pos = p }) first
+      (join tree.Assign (behind 0 w p) y w p ∷ []) [] st.evaluate st.first_is
       (one_has ts es assigned (join tree.Assign (behind 0 w p) y w p) assign) (no_actions_have ts es b.stmts.items) in
-      let two = action_made ts es c.stmts.items d.stmts.items (record { kind = stmts.Return None; pos = p }) second [] [] st.leave st.second_is (no_terms_have ts es) (no_actions_have ts es c.stmts.items) in
-      let one-d = action_more ts es es c.stmts.items d.stmts.items first _ ([], sym (append-nil es)) (_, st.leave) one in
+      let two = action_made ts es c.stmts.items d.stmts.items (record { kind = stmts.Return None; pos = p }) second []
+      [] st.leave st.second_is (no_terms_have ts es) (no_actions_have ts es c.stmts.items) in
+      let one-d = action_more ts es es c.stmts.items d.stmts.items first _ ([], sym (append-nil es))
+      (_, st.leave) one in
       let all =
-      action_made ts es d.stmts.items new.stmts.items (record { kind = stmts.Block [] (first ∷ second ∷ []); pos = p }) j [] (_ ∷ _ ∷ []) st.block st.number_is (no_terms_have ts es)
+      action_made ts es d.stmts.items new.stmts.items
+      (record { kind = stmts.Block [] (first ∷ second ∷ []); pos = p }) j [] (_ ∷ _ ∷ []) st.block st.number_is
+      (no_terms_have ts es)
       (two_have ts es d.stmts.items first second _ _ one-d two) in
       rw st.exprs all;
 }
@@ -93,7 +115,9 @@ pub record CopiesParam (s : Source) (a b new : Made) (v : VarDef) (from to t n m
   pub number_is : j ≡ length b.stmts.items
   pub exprs : new.exprs.items ≡ b.exprs.items
 
-pub param_copy_made : (s : Source) (old a b new : Made) (v : VarDef) (from to t n m place value j : ℕ) → by_pointer (written_type s v.of) ≡ true → CopiesParam s a b new v from to t n m place value j → IsParamCopy s old new v from to j
+pub param_copy_made : (s : Source) (old a b new : Made) (v : VarDef) (from to t n m place value j : ℕ) →
+    by_pointer (written_type s v.of) ≡ true → CopiesParam s a b new v from to t n m place value j →
+    IsParamCopy s old new v from to j
 param_copy_made s old a b new v from to t n m place value j g st = record {
   is = λ ts e fits.
       let es = b.exprs.items in
@@ -101,10 +125,18 @@ param_copy_made s old a b new v from to t n m place value j g st = record {
       let tagged : is_tagged u ≡ true = st.bare.same ∙ g in
       let is : u ≡ bare (written_type s v.of) = st.bare.is g in
       let place-a = behind_made s ts e a from t n m v.pos place fits tagged st.number st.pointer st.behind in
-      let made = step_made ts a.exprs.items es (record { kind = exprs.Load place; of = n; pos = v.pos }) place value (behind from u v.pos) st.load st.value_is refl place-a in
-      let load : HasTerm ts es value (step tree.Load (behind from u v.pos) u v.pos) = record { there = made.there; is = made.is ∙ ap (λ x. step tree.Load (behind from u v.pos) x v.pos) (number_same s ts e t n fits tagged st.number) } in
+      let made = step_made ts a.exprs.items es (record { kind = exprs.Load place; of = n; pos = v.pos }) place value
+      (behind from u v.pos) st.load st.value_is refl place-a in
+      let load : HasTerm ts es value (step tree.Load (behind from u v.pos) u v.pos) =
+      record {
+        there = made.there;
+        is = made.is
+            ∙ ap (λ x. step tree.Load (behind from u v.pos) x v.pos)
+            (number_same s ts e t n fits tagged st.number);
+      } in
       let all =
-      action_made ts es b.stmts.items new.stmts.items (record { kind = stmts.Init to 0 value; pos = v.pos }) j (step tree.Load (behind from u v.pos) u v.pos ∷ []) [] st.init st.number_is
+      action_made ts es b.stmts.items new.stmts.items (record { kind = stmts.Init to 0 value; pos = v.pos }) j
+      (step tree.Load (behind from u v.pos) u v.pos ∷ []) [] st.init st.number_is
       (one_has ts es value (step tree.Load (behind from u v.pos) u v.pos) load) (no_actions_have ts es b.stmts.items) in
       rw (st.exprs, ← is) all;
 }
@@ -114,7 +146,9 @@ param_copy_made s old a b new v from to t n m place value j g st = record {
 abbrev copy_of : (k j : ℕ) → Variable → List Action
 copy_of k j v = cond (by_pointer v.of) (param_copy k j v ∷ []) []
 
-copies_push : (from to k j : ℕ) (vs : List Variable) (v : Variable) → k ≡ from + length vs → j ≡ to + length (flat_map copied_param vs) → copies_of from to (vs ++ v ∷ []) ≡ copies_of from to vs ++ copy_of k j v
+copies_push : (from to k j : ℕ) (vs : List Variable) (v : Variable) → k ≡ from + length vs →
+    j ≡ to + length (flat_map copied_param vs) →
+    copies_of from to (vs ++ v ∷ []) ≡ copies_of from to vs ++ copy_of k j v
 copies_push from to k j [] v p q =
     let a : k ≡ from = p ∙ omega arith in
     let b : j ≡ to = q ∙ omega arith in
@@ -122,9 +156,12 @@ copies_push from to k j [] v p q =
   where
     by : (c : Bool) → cond c (param_copy from to v ∷ []) [] ≡ cond c (param_copy from to v ∷ []) []
     by c = refl
-copies_push from to k j (x ∷ vs) v p q = by (by_pointer x.of) refl (λ m r. copies_push (from + 1) m k j vs v (p ∙ omega arith) r)
+copies_push from to k j (x ∷ vs) v p q =
+    by (by_pointer x.of) refl (λ m r. copies_push (from + 1) m k j vs v (p ∙ omega arith) r)
   where
-    by : (c : Bool) → by_pointer x.of ≡ c → ((m : ℕ) → j ≡ m + length (flat_map copied_param vs) → copies_of (from + 1) m (vs ++ v ∷ []) ≡ copies_of (from + 1) m vs ++ copy_of k j v) →
+    by : (c : Bool) → by_pointer x.of ≡ c →
+        ((m : ℕ) → j ≡ m + length (flat_map copied_param vs) →
+        copies_of (from + 1) m (vs ++ v ∷ []) ≡ copies_of (from + 1) m vs ++ copy_of k j v) →
         copies_of from to (x ∷ (vs ++ v ∷ [])) ≡ copies_of from to (x ∷ vs) ++ copy_of k j v
     by true e h =
         let n : length (flat_map copied_param (x ∷ vs)) ≡ length (flat_map copied_param vs) + 1 = rw e (omega arith) in
@@ -136,43 +173,58 @@ copies_push from to k j (x ∷ vs) v p q = by (by_pointer x.of) refl (λ m r. co
 pub no_copies : (s : Source) (a : Made) (from to : ℕ) (js : List ℕ) → AreParamCopies s a a from to [] js js
 no_copies s a from to js = record { are = λ ts e ys fits h. rw (append-nil ys) h }
 
-pub pointed_copied : (s : Source) (a b c : Made) (from to k j : ℕ) (vs : List Variable) (v : VarDef) (before js ls : List ℕ) (i : ℕ) → AreParamCopies s a b from to vs before js → Extends b.exprs.items c.exprs.items → Extends b.stmts.items c.stmts.items →
-    IsParamCopy s b c v k j i → by_pointer (written_type s v.of) ≡ true → k ≡ from + length vs → j ≡ to + length (flat_map copied_param vs) → ls ≡ js ++ i ∷ [] → AreParamCopies s a c from to (vs ++ source_variable s v ∷ []) before ls
+pub pointed_copied : (s : Source) (a b c : Made) (from to k j : ℕ) (vs : List Variable) (v : VarDef)
+    (before js ls : List ℕ) (i : ℕ) → AreParamCopies s a b from to vs before js → Extends b.exprs.items c.exprs.items →
+    Extends b.stmts.items c.stmts.items →
+    IsParamCopy s b c v k j i → by_pointer (written_type s v.of) ≡ true → k ≡ from + length vs →
+    j ≡ to + length (flat_map copied_param vs) → ls ≡ js ++ i ∷ [] →
+    AreParamCopies s a c from to (vs ++ source_variable s v ∷ []) before ls
 pointed_copied s a b c from to k j vs v before js ls i h ext sext copy g p q l = record {
   are = λ ts e ys fits had.
       let x = source_variable s v in
       let one : copy_of k j x ≡ param_copy k j x ∷ [] = rw g refl in
       let all : ys ++ copies_of from to (vs ++ x ∷ []) ≡ (ys ++ copies_of from to vs) ++ param_copy k j x ∷ [] =
-      ap (λ zs. ys ++ zs) (copies_push from to k j vs x p q ∙ ap (λ zs. copies_of from to vs ++ zs) one) ∙ sym (append_assoc ys (copies_of from to vs) (param_copy k j x ∷ [])) in
+      ap (λ zs. ys ++ zs) (copies_push from to k j vs x p q ∙ ap (λ zs. copies_of from to vs ++ zs) one)
+      ∙ sym (append_assoc ys (copies_of from to vs) (param_copy k j x ∷ [])) in
       rw all (actions_push ts c.exprs.items c.stmts.items js ls i (ys ++ copies_of from to vs) (param_copy k j x) l
-      (actions_more ts b.exprs.items c.exprs.items b.stmts.items c.stmts.items js (ys ++ copies_of from to vs) ext sext (h.are ts e ys fits had)) (copy.is ts e fits));
+      (actions_more ts b.exprs.items c.exprs.items b.stmts.items c.stmts.items js (ys ++ copies_of from to vs) ext sext
+      (h.are ts e ys fits had)) (copy.is ts e fits));
 }
 
-pub plain_copied : (s : Source) (a b : Made) (from to : ℕ) (vs : List Variable) (v : VarDef) (before js : List ℕ) → AreParamCopies s a b from to vs before js → by_pointer (written_type s v.of) ≡ false →
+pub plain_copied : (s : Source) (a b : Made) (from to : ℕ) (vs : List Variable) (v : VarDef) (before js : List ℕ) →
+    AreParamCopies s a b from to vs before js → by_pointer (written_type s v.of) ≡ false →
     AreParamCopies s a b from to (vs ++ source_variable s v ∷ []) before js
 plain_copied s a b from to vs v before js h g = record {
   are = λ ts e ys fits had.
       let x = source_variable s v in
       let none : copy_of (from + length vs) (to + length (flat_map copied_param vs)) x ≡ [] = rw g refl in
       let all : copies_of from to (vs ++ x ∷ []) ≡ copies_of from to vs =
-      copies_push from to (from + length vs) (to + length (flat_map copied_param vs)) vs x refl refl ∙ ap (λ zs. copies_of from to vs ++ zs) none ∙ append-nil (copies_of from to vs) in
+      copies_push from to (from + length vs) (to + length (flat_map copied_param vs)) vs x refl refl
+      ∙ ap (λ zs. copies_of from to vs ++ zs) none ∙ append-nil (copies_of from to vs) in
       rw all (h.are ts e ys fits had);
 }
 
 -- how many there are then
-pub copied_count : (s : Source) (vs : List Variable) (v : VarDef) (n m : ℕ) → n ≡ length (flat_map copied_param vs) → m ≡ length (copied_param (source_variable s v)) → n + m ≡ length (flat_map copied_param (vs ++ source_variable s v ∷ []))
+pub copied_count : (s : Source) (vs : List Variable) (v : VarDef) (n m : ℕ) → n ≡ length (flat_map copied_param vs) →
+    m ≡ length (copied_param (source_variable s v)) →
+    n + m ≡ length (flat_map copied_param (vs ++ source_variable s v ∷ []))
 copied_count s vs v n m p q =
     let x = source_variable s v in
     let all : flat_map copied_param (vs ++ x ∷ []) ≡ flat_map copied_param vs ++ copied_param x = flat_map_push vs x in
-    let count : n + m ≡ length (flat_map copied_param vs ++ copied_param x) = omega (arith, length-append (flat_map copied_param vs) (copied_param x)) in
+    let count : n + m ≡ length (flat_map copied_param vs ++ copied_param x) =
+    omega (arith, length-append (flat_map copied_param vs) (copied_param x)) in
     count ∙ ap length (sym all)
   where
-    flat_map_push : (vs : List Variable) (x : Variable) → flat_map copied_param (vs ++ x ∷ []) ≡ flat_map copied_param vs ++ copied_param x
+    flat_map_push : (vs : List Variable) (x : Variable) →
+        flat_map copied_param (vs ++ x ∷ []) ≡ flat_map copied_param vs ++ copied_param x
     flat_map_push [] x = append-nil (copied_param x)
-    flat_map_push (y ∷ ys) x = ap (λ zs. copied_param y ++ zs) (flat_map_push ys x) ∙ sym (append_assoc (copied_param y) (flat_map copied_param ys) (copied_param x))
+    flat_map_push (y ∷ ys) x =
+        ap (λ zs. copied_param y ++ zs) (flat_map_push ys x)
+        ∙ sym (append_assoc (copied_param y) (flat_map copied_param ys) (copied_param x))
 
 -- what holds of the copies so far
-pub record Copies (s : Source) (old now : Made) (first local : ℕ) (params : List VarDef) (i from to : ℕ) (before js : List ℕ) : Type 0 where
+pub record Copies (s : Source) (old now : Made) (first local : ℕ) (params : List VarDef) (i from to : ℕ)
+    (before js : List ℕ) : Type 0 where
   pub exprs : Extends old.exprs.items now.exprs.items
   pub stmts : Extends old.stmts.items now.stmts.items
   pub vars : now.vars ≡ old.vars
@@ -180,22 +232,32 @@ pub record Copies (s : Source) (old now : Made) (first local : ℕ) (params : Li
   pub to_is : to ≡ local + length (flat_map copied_param (map (source_variable s) (take i params)))
   pub are : AreParamCopies s old now first local (map (source_variable s) (take i params)) before js
 
-params_turn : (s : Source) (params : List VarDef) (i : ℕ) (d v : VarDef) → i < length params → v ≡ get_or params i d → map (source_variable s) (take (i + 1) params) ≡ map (source_variable s) (take i params) ++ source_variable s v ∷ []
+params_turn : (s : Source) (params : List VarDef) (i : ℕ) (d v : VarDef) → i < length params → v ≡ get_or params i d →
+    map (source_variable s) (take (i + 1) params) ≡ map (source_variable s) (take i params) ++ source_variable s v ∷ []
 params_turn s params i d v lt q =
-    ap (map (source_variable s)) (take_more params i d lt ∙ ap (λ z. take i params ++ z ∷ []) (sym q)) ∙ map-append (source_variable s) (take i params) (v ∷ [])
+    ap (map (source_variable s)) (take_more params i d lt ∙ ap (λ z. take i params ++ z ∷ []) (sym q))
+    ∙ map-append (source_variable s) (take i params) (v ∷ [])
 
-seen_length : (s : Source) (params : List VarDef) (i : ℕ) → i < length params → length (map (source_variable s) (take i params)) ≡ i
+seen_length : (s : Source) (params : List VarDef) (i : ℕ) → i < length params →
+    length (map (source_variable s) (take i params)) ≡ i
 seen_length s params i lt = length-map (take i params) (source_variable s) ∙ length-take-le i params (omega arith)
 
-pub copies_pointed : (s : Source) (a b c : Made) (first local : ℕ) (params : List VarDef) (i from to : ℕ) (d v : VarDef) (before js ls : List ℕ) (j : ℕ) → Copies s a b first local params i from to before js → i < length params → v ≡ get_or params i d →
-    by_pointer (written_type s v.of) ≡ true → Extends b.exprs.items c.exprs.items → Extends b.stmts.items c.stmts.items → c.vars ≡ b.vars → IsParamCopy s b c v from to j → ls ≡ js ++ j ∷ [] → Copies s a c first local params (i + 1) (from + 1) (to + 1) before ls
+pub copies_pointed : (s : Source) (a b c : Made) (first local : ℕ) (params : List VarDef) (i from to : ℕ) (d v : VarDef)
+    (before js ls : List ℕ) (j : ℕ) → Copies s a b first local params i from to before js → i < length params →
+    v ≡ get_or params i d →
+    by_pointer (written_type s v.of) ≡ true → Extends b.exprs.items c.exprs.items →
+    Extends b.stmts.items c.stmts.items → c.vars ≡ b.vars → IsParamCopy s b c v from to j → ls ≡ js ++ j ∷ [] →
+    Copies s a c first local params (i + 1) (from + 1) (to + 1) before ls
 copies_pointed s a b c first local params i from to d v before js ls j h lt q g ext sext vars copy l =
     let vs = map (source_variable s) (take i params) in
     let turn = sym (params_turn s params i d v lt q) in
     let x = source_variable s v in
     let one : 1 ≡ length (copied_param x) = rw g refl in
-    let more : length (flat_map copied_param vs) + 1 ≡ length (flat_map copied_param (vs ++ x ∷ [])) = copied_count s vs v (length (flat_map copied_param vs)) 1 refl one in
-    let all : length (flat_map copied_param (vs ++ x ∷ [])) ≡ length (flat_map copied_param (map (source_variable s) (take (i + 1) params))) = ap (λ zs. length (flat_map copied_param zs)) turn in
+    let more : length (flat_map copied_param vs) + 1 ≡ length (flat_map copied_param (vs ++ x ∷ [])) =
+    copied_count s vs v (length (flat_map copied_param vs)) 1 refl one in
+    let all : length (flat_map copied_param (vs ++ x ∷ []))
+    ≡ length (flat_map copied_param (map (source_variable s) (take (i + 1) params))) =
+    ap (λ zs. length (flat_map copied_param zs)) turn in
     let size = seen_length s params i lt in
     let at : from ≡ first + length vs = let f = h.from_is in omega arith in
     record {
@@ -204,28 +266,37 @@ copies_pointed s a b c first local params i from to d v before js ls j h lt q g 
       vars = vars ∙ h.vars;
       from_is = let f = h.from_is in omega arith;
       to_is = let t = h.to_is in omega arith;
-      are = subst (λ zs. AreParamCopies s a c first local zs before ls) turn (pointed_copied s a b c first local from to vs v before js ls j h.are ext sext copy g at h.to_is l);
+      are = subst (λ zs. AreParamCopies s a c first local zs before ls) turn
+          (pointed_copied s a b c first local from to vs v before js ls j h.are ext sext copy g at h.to_is l);
     }
 
-pub copies_plain : (s : Source) (a b : Made) (first local : ℕ) (params : List VarDef) (i from to : ℕ) (d v : VarDef) (before js : List ℕ) → Copies s a b first local params i from to before js → i < length params → v ≡ get_or params i d →
+pub copies_plain : (s : Source) (a b : Made) (first local : ℕ) (params : List VarDef) (i from to : ℕ) (d v : VarDef)
+    (before js : List ℕ) → Copies s a b first local params i from to before js → i < length params →
+    v ≡ get_or params i d →
     by_pointer (written_type s v.of) ≡ false → Copies s a b first local params (i + 1) (from + 1) to before js
 copies_plain s a b first local params i from to d v before js h lt q g =
     let vs = map (source_variable s) (take i params) in
     let turn = sym (params_turn s params i d v lt q) in
     let x = source_variable s v in
     let none : 0 ≡ length (copied_param x) = rw g refl in
-    let more : length (flat_map copied_param vs) + 0 ≡ length (flat_map copied_param (vs ++ x ∷ [])) = copied_count s vs v (length (flat_map copied_param vs)) 0 refl none in
-    let all : length (flat_map copied_param (vs ++ x ∷ [])) ≡ length (flat_map copied_param (map (source_variable s) (take (i + 1) params))) = ap (λ zs. length (flat_map copied_param zs)) turn in
+    let more : length (flat_map copied_param vs) + 0 ≡ length (flat_map copied_param (vs ++ x ∷ [])) =
+    copied_count s vs v (length (flat_map copied_param vs)) 0 refl none in
+    let all : length (flat_map copied_param (vs ++ x ∷ []))
+    ≡ length (flat_map copied_param (map (source_variable s) (take (i + 1) params))) =
+    ap (λ zs. length (flat_map copied_param zs)) turn in
     record {
       exprs = h.exprs;
       stmts = h.stmts;
       vars = h.vars;
       from_is = let f = h.from_is in omega arith;
       to_is = let t = h.to_is in omega arith;
-      are = subst (λ zs. AreParamCopies s a b first local zs before js) turn (plain_copied s a b first local vs v before js h.are g);
+      are = subst (λ zs. AreParamCopies s a b first local zs before js) turn
+          (plain_copied s a b first local vs v before js h.are g);
     }
 
-pub copies_at : (s : Source) (a b now : Made) (first local : ℕ) (params : List VarDef) (i from to f t : ℕ) (before js ls : List ℕ) → Copies s a b first local params i from to before js → now ≡ b → f ≡ from → t ≡ to → ls ≡ js →
+pub copies_at : (s : Source) (a b now : Made) (first local : ℕ) (params : List VarDef) (i from to f t : ℕ)
+    (before js ls : List ℕ) → Copies s a b first local params i from to before js → now ≡ b → f ≡ from → t ≡ to →
+    ls ≡ js →
     Copies s a now first local params i f t before ls
 copies_at s a b now first local params i from to f t before js ls h p q r u = rw (p, q, r, u) h
 

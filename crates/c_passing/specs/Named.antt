@@ -1,5 +1,6 @@
 -- The names of calls that are known.
-use Rattle.std.specs.Prelude.{◌≡◌, ℕ, ◌+◌, ◌≤◌, max, Bool, ◌&&◌, ◌==◌, if◌then◌else◌, List, [], ◌∷◌, ◌++◌, Option, Some, None}
+use Rattle.std.specs.Prelude.{◌≡◌, ℕ, ◌+◌, ◌≤◌, max, Bool, ◌&&◌, ◌==◌, if◌then◌else◌, List, [], ◌∷◌, ◌++◌, Option, Some}
+use Rattle.std.specs.Prelude.{None}
 use Rattle.std.specs.Map.{lookup}
 use Rattle.ck_base.specs.declared.positions.Pos.{Pos}
 use Rattle.ck_base.specs.declared.positions.Span.{Span}
@@ -37,7 +38,8 @@ pub record Knows (m : Names) (ts : List Lexeme) : Type 0 where
 
 -- one more is known
 abbrev pub AddsName : Names → Names → Pos → Span → Type 0
-AddsName old new place name = (ts : List Lexeme) (t : Lexeme) → t.pos ≡ place → t.span ≡ name → Knows old ts → Knows new (ts ++ t ∷ [])
+AddsName old new place name =
+    (ts : List Lexeme) (t : Lexeme) → t.pos ≡ place → t.span ≡ name → Knows old ts → Knows new (ts ++ t ∷ [])
 
 -- the call that a node is, if it is one
 abbrev pub own_calls : NodeKind → Lexeme → List Lexeme
@@ -45,7 +47,8 @@ own_calls Kinds.Call t = t ∷ []
 own_calls k t = []
 
 abbrev pub AddsCall : Names → Names → Node → Type 0
-AddsCall old new n = (ts : List Lexeme) (t : Lexeme) → t.pos ≡ n.pos → t.span ≡ n.text → Knows old ts → Knows new (ts ++ own_calls n.kind t)
+AddsCall old new n = (ts : List Lexeme) (t : Lexeme) → t.pos ≡ n.pos → t.span ≡ n.text → Knows old ts →
+    Knows new (ts ++ own_calls n.kind t)
 
 -- ---- the parts of a tree
 
@@ -71,4 +74,5 @@ pub record HasSyntax (tree : Tree) : Type 0 where
 
 -- the calls in a part of a tree are known too
 abbrev pub Gathers : Tree → Names → Names → ℕ → Type 0
-Gathers tree old new k = (x : Syn) (ts : List Lexeme) → StandsAt tree.nodes k x → Knows old ts → Knows new (ts ++ calls_in x)
+Gathers tree old new k = (x : Syn) (ts : List Lexeme) → StandsAt tree.nodes k x → Knows old ts →
+    Knows new (ts ++ calls_in x)

@@ -1,5 +1,6 @@
 -- What stands for the types of a program.
-use Rattle.std.specs.Prelude.{◌≡◌, ℕ, ◌+◌, ◌<◌, Bool, true, false, List, ◌∷◌, [], ◌++◌, length, map, Option, Some, None, slice_get, if◌then◌else◌}
+use Rattle.std.specs.Prelude.{◌≡◌, ℕ, ◌+◌, ◌<◌, Bool, true, false, List, ◌∷◌, [], ◌++◌, length, map, Option, Some, None}
+use Rattle.std.specs.Prelude.{slice_get, if◌then◌else◌}
 use Rattle.c_tree.specs.declared.typed.CType.{CType}
 use Rattle.c_tree.specs.declared.typed.CType.TheVariants as ctypes
 use Rattle.c_tree.specs.declared.typed.Member.{Member}
@@ -33,7 +34,8 @@ gives_of c = None
 -- the type of the result that a function of a type gives by a pointer, if there is one
 abbrev pub IsGivenIn : List CType → ℕ → Option ℕ → Type 0
 IsGivenIn types of None = result_types (type_in types of) ≡ []
-IsGivenIn types of (Some k) = (result_types (type_in types of) ≡ Pointer (bare (type_in types k)) ∷ []) × (by_pointer (type_in types k) ≡ true)
+IsGivenIn types of (Some k) =
+    (result_types (type_in types of) ≡ Pointer (bare (type_in types k)) ∷ []) × (by_pointer (type_in types k) ≡ true)
 
 -- a type without a qualifier of its own, as far as that matters
 pub record IsBare (types : List CType) (k n : ℕ) : Type 0 where
@@ -87,25 +89,32 @@ passed_parameter t = (if by_pointer t then Pointer (bare t) else passed t)
 -- numbers of what stands for parameters of types come behind others
 pub record AreParameters (types : List CType) (t : Types) (ks before after : List ℕ) : Type 0 where
   pub below : (i : ℕ) → Follows types i t → AllBelow i ks
-  pub are : (i : ℕ) → Follows types i t → map (type_in t.list.items) after ≡ map (type_in t.list.items) before ++ map passed_parameter (map (type_in types) ks)
+  pub are : (i : ℕ) → Follows types i t →
+      map (type_in t.list.items) after ≡ map (type_in t.list.items) before
+      ++ map passed_parameter (map (type_in types) ks)
 
 -- the members of a struct or union, with the numbers of what stands for their types
 pub record AreRenumbered (numbers : List ℕ) (ms ns : List Member) : Type 0 where
-  pub are : (types ts : List Ty) → ((k n : ℕ) → slice_get numbers k ≡ Some n → type_at ts n ≡ passed (type_at types k)) →
+  pub are : (types ts : List Ty) →
+      ((k n : ℕ) → slice_get numbers k ≡ Some n → type_at ts n ≡ passed (type_at types k)) →
       map (member_of ts) ns ≡ map passed_member (map (member_of types) ms)
 
 abbrev pub IsWithMembers : List ℕ → CType → CType → Type 0
-IsWithMembers numbers (ctypes.Struct tag ms) d = (ns : List Member) × (d ≡ ctypes.Struct tag ns) × AreRenumbered numbers ms ns
-IsWithMembers numbers (ctypes.Union tag ms) d = (ns : List Member) × (d ≡ ctypes.Union tag ns) × AreRenumbered numbers ms ns
+IsWithMembers numbers (ctypes.Struct tag ms) d =
+    (ns : List Member) × (d ≡ ctypes.Struct tag ns) × AreRenumbered numbers ms ns
+IsWithMembers numbers (ctypes.Union tag ms) d =
+    (ns : List Member) × (d ≡ ctypes.Union tag ns) × AreRenumbered numbers ms ns
 IsWithMembers numbers c d = d ≡ c
 
 -- the same list, where members have the numbers of what stands for their types
 pub record AreListed (numbers : List ℕ) (list new : List CType) : Type 0 where
   pub types : types_of new ≡ types_of list
-  pub each : (k : ℕ) (d : CType) → slice_get new k ≡ Some d → (c : CType) × (slice_get list k ≡ Some c) × IsWithMembers numbers c d
+  pub each : (k : ℕ) (d : CType) → slice_get new k ≡ Some d →
+      (c : CType) × (slice_get list k ≡ Some c) × IsWithMembers numbers c d
 
 -- the types of the program that is run, for all written ones
 pub record TypesFit (types : List CType) (t : Types) (ts : List Ty) : Type 0 where
   pub void : type_at ts 0 ≡ Void
   pub numbers : (k n : ℕ) → slice_get t.numbers.items k ≡ Some n → type_at ts n ≡ passed (type_in types k)
-  pub pointers : (k n : ℕ) → slice_get t.pointers.items k ≡ Some n → by_pointer (type_in types k) ≡ true → type_at ts n ≡ Pointer (bare (type_in types k))
+  pub pointers : (k n : ℕ) → slice_get t.pointers.items k ≡ Some n → by_pointer (type_in types k) ≡ true →
+      type_at ts n ≡ Pointer (bare (type_in types k))

@@ -10,7 +10,8 @@ use Rattle.c_tree.specs.Types.{Ty, Void, bare}
 use Rattle.c_tree.specs.Terms as tree
 use Rattle.c_tree.specs.Terms.{Term, Terms, terms, with_term, term, leaf, step, join, Action, Variable}
 use Rattle.c_tree.specs.Views.{types_of, terms_of, term_at, actions_of, action_at, variable_of, operands, values, parts}
-use Rattle.c_tree.specs.Passed.{Names, Passing, by_pointer, passed_shape, passed_form, passed, passed_term, passed_action, by_address, by_result, given_back}
+use Rattle.c_tree.specs.Passed.{Names, Passing, by_pointer, passed_shape, passed_form, passed, passed_term}
+use Rattle.c_tree.specs.Passed.{passed_action, by_address, by_result, given_back}
 use Rattle.c_copy.specs.Copying.{expr_shape, stmt_form, terms_in, actions_in, AllBelow}
 use Rattle.c_passing.specs.declared.nodes.Source.{Source}
 use Rattle.c_passing.specs.declared.nodes.Made.{Made}
@@ -59,7 +60,8 @@ pub record HasActions (ts : List Ty) (es : List Expr) (ss : List Stmt) (js : Lis
 
 -- these hidden locals are added
 pub record Hides (s : Source) (old new : Made) (vs : Names → List Variable) : Type 0 where
-  pub are : (ts : List Ty) (e : Passing) → Fits s ts e → map (variable_of ts) new.vars.items ≡ map (variable_of ts) old.vars.items ++ vs e.names
+  pub are : (ts : List Ty) (e : Passing) → Fits s ts e →
+      map (variable_of ts) new.vars.items ≡ map (variable_of ts) old.vars.items ++ vs e.names
 
 -- the type of the hidden local for a value of a type, if there is one
 abbrev pub IsHidden : Source → ℕ → Option ℕ → Type 0
@@ -75,47 +77,60 @@ pub record Makes (new : Made) (make : List Ty → Term) (j : ℕ) : Type 0 where
 -- the same expression with these operands, as it is run
 pub record IsKindPassed (s : Source) (old : ExprKind) (xs : List ℕ) (new : ExprKind) : Type 0 where
   pub operands : operands new ≡ xs
-  pub shape : (ts : List Ty) (e : Passing) → Fits s ts e → expr_shape ts new ≡ passed_shape e (expr_shape (types_of s.program.now.types) old)
+  pub shape : (ts : List Ty) (e : Passing) → Fits s ts e →
+      expr_shape ts new ≡ passed_shape e (expr_shape (types_of s.program.now.types) old)
 
 -- an expression as it is run, where its first hidden local is the next variable
 pub record IsPassed (s : Source) (old new : Made) (x : Term) (j : ℕ) : Type 0 where
-  pub is : (ts : List Ty) (e : Passing) → Fits s ts e → HasTerm ts new.exprs.items j (passed_term e (length old.vars.items) x)
+  pub is : (ts : List Ty) (e : Passing) → Fits s ts e →
+      HasTerm ts new.exprs.items j (passed_term e (length old.vars.items) x)
 
 pub record ArePassed (s : Source) (old new : Made) (xs : List Term) (js : List ℕ) : Type 0 where
-  pub are : (ts : List Ty) (e : Passing) → Fits s ts e → HasTerms ts new.exprs.items js (passed_each e (length old.vars.items) xs)
+  pub are : (ts : List Ty) (e : Passing) → Fits s ts e →
+      HasTerms ts new.exprs.items js (passed_each e (length old.vars.items) xs)
 
 -- a written call
 abbrev pub written_call : Source → Expr → (f : ℕ) → List ℕ → Term
-written_call s e f xs = term tree.Call (with_term (written_term s f) (terms (map (written_term s) xs))) (written_type s e.of) e.pos
+written_call s e f xs = term tree.Call (with_term (written_term s f) (terms (map (written_term s) xs)))
+    (written_type s e.of) e.pos
 
 -- an argument that goes by a pointer
 pub record IsByAddress (s : Source) (old new : Made) (h value t : ℕ) (p : Pos) (j : ℕ) : Type 0 where
-  pub is : (ts : List Ty) (e : Passing) (y : Term) → Fits s ts e → HasTerm ts old.exprs.items value y → HasTerm ts new.exprs.items j (by_address h y (written_type s t) p)
+  pub is : (ts : List Ty) (e : Passing) (y : Term) → Fits s ts e → HasTerm ts old.exprs.items value y →
+      HasTerm ts new.exprs.items j (by_address h y (written_type s t) p)
 
 -- a number comes behind those of the hidden locals for the arguments of a call at a place, which begin at another one
 pub record AreCounted (s : Source) (first : ℕ) (p : Pos) (xs : List Term) (next : ℕ) : Type 0 where
   pub are : (ts : List Ty) (e : Passing) → Fits s ts e → next ≡ first + length (hidden_for_each e.names p xs)
 
 -- the arguments of a call at a place go behind the others, and their hidden locals begin at a number
-pub record ArePassedArguments (s : Source) (old new : Made) (first : ℕ) (p : Pos) (xs : List Term) (before after : List ℕ) : Type 0 where
+pub record ArePassedArguments (s : Source) (old new : Made) (first : ℕ) (p : Pos) (xs : List Term)
+    (before after : List ℕ) : Type 0 where
   pub are : (ts : List Ty) (e : Passing) (ys : List Term) → Fits s ts e → HasTerms ts old.exprs.items before ys →
       HasTerms ts new.exprs.items after (ys ++ passed_each_argument e first (length old.vars.items) p xs)
 
 -- the hidden local of its result stands for a call
-pub record IsByResult (s : Source) (old new : Made) (h called : ℕ) (list : List ℕ) (t : ℕ) (p : Pos) (j : ℕ) : Type 0 where
-  pub is : (ts : List Ty) (e : Passing) (f : Term) (ys : List Term) → Fits s ts e → HasTerm ts old.exprs.items called f → HasTerms ts old.exprs.items list ys →
-      HasTerm ts new.exprs.items j (join tree.Comma (term tree.Call (with_term f (terms ys)) Void p) (leaf (tree.Var h) (written_type s t) p) (written_type s t) p)
+pub record IsByResult (s : Source) (old new : Made) (h called : ℕ) (list : List ℕ) (t : ℕ) (p : Pos) (j : ℕ) :
+    Type 0 where
+  pub is : (ts : List Ty) (e : Passing) (f : Term) (ys : List Term) → Fits s ts e →
+      HasTerm ts old.exprs.items called f → HasTerms ts old.exprs.items list ys →
+      HasTerm ts new.exprs.items j (join tree.Comma (term tree.Call (with_term f (terms ys)) Void p)
+      (leaf (tree.Var h) (written_type s t) p) (written_type s t) p)
 
 -- calls of what stands at a number, whose first own hidden local has a number too: one without a result by a pointer
 pub record IsPlainCall (s : Source) (old new : Made) (e : Expr) (called own : ℕ) (xs : List ℕ) (j : ℕ) : Type 0 where
   pub is : (ts : List Ty) (g : Passing) (f : Term) → Fits s ts g → HasTerm ts old.exprs.items called f →
       HasTerm ts new.exprs.items j
-      (term tree.Call (with_term f (terms (passed_each_argument g own (length old.vars.items) e.pos (map (written_term s) xs)))) (passed (written_type s e.of)) e.pos)
+      (term tree.Call (with_term f (terms (passed_each_argument g own (length old.vars.items) e.pos
+      (map (written_term s) xs)))) (passed (written_type s e.of)) e.pos)
 
 -- and one with it
-pub record IsCallByResult (s : Source) (old new : Made) (e : Expr) (called own hidden t : ℕ) (xs : List ℕ) (j : ℕ) : Type 0 where
+pub record IsCallByResult (s : Source) (old new : Made) (e : Expr) (called own hidden t : ℕ) (xs : List ℕ) (j : ℕ) :
+    Type 0 where
   pub is : (ts : List Ty) (g : Passing) (f : Term) → Fits s ts g → HasTerm ts old.exprs.items called f →
-      HasTerm ts new.exprs.items j (by_result hidden f (terms (passed_each_argument g own (length old.vars.items) e.pos (map (written_term s) xs))) (written_type s t) e.pos)
+      HasTerm ts new.exprs.items j (by_result hidden f
+      (terms (passed_each_argument g own (length old.vars.items) e.pos (map (written_term s) xs)))
+      (written_type s t) e.pos)
 
 -- ---- statements
 
@@ -137,19 +152,24 @@ pub record IsGivenBack (s : Source) (old new : Made) (value t : ℕ) (p : Pos) (
 -- an expression, and its type, if it is given back by a pointer
 abbrev pub IsGivenValue : Source → ℕ → Option (ℕ × ℕ) → Type 0
 IsGivenValue s a None = by_pointer (tree.type_of (written_term s a)) ≡ false
-IsGivenValue s a (Some x) = (a ≡ x.0) × (by_pointer (tree.type_of (written_term s a)) ≡ true) × (written_type s x.1 ≡ bare (tree.type_of (written_term s a)))
+IsGivenValue s a (Some x) =
+    (a ≡ x.0) × (by_pointer (tree.type_of (written_term s a)) ≡ true) ×
+    (written_type s x.1 ≡ bare (tree.type_of (written_term s a)))
 
 -- the expression that a statement gives back by a pointer, and its type
 abbrev pub IsReturned : Source → StmtKind → Option (ℕ × ℕ) → Type 0
 IsReturned s k None = (a : ℕ) → k ≡ stmts.Return (Some a) → by_pointer (tree.type_of (written_term s a)) ≡ false
 IsReturned s k (Some x) =
-    (k ≡ stmts.Return (Some x.0)) × (by_pointer (tree.type_of (written_term s x.0)) ≡ true) × (written_type s x.1 ≡ bare (tree.type_of (written_term s x.0)))
+    (k ≡ stmts.Return (Some x.0)) × (by_pointer (tree.type_of (written_term s x.0)) ≡ true) ×
+    (written_type s x.1 ≡ bare (tree.type_of (written_term s x.0)))
 
 -- a statement as it is run
 pub record IsPassedAction (s : Source) (old new : Made) (x : Action) (j : ℕ) : Type 0 where
-  pub is : (ts : List Ty) (e : Passing) → Fits s ts e → HasAction ts new.exprs.items new.stmts.items j (passed_action e (length old.vars.items) x)
+  pub is : (ts : List Ty) (e : Passing) → Fits s ts e →
+      HasAction ts new.exprs.items new.stmts.items j (passed_action e (length old.vars.items) x)
 
 -- statements go behind the others
 pub record ArePassedActions (s : Source) (old new : Made) (xs : List Action) (before after : List ℕ) : Type 0 where
-  pub are : (ts : List Ty) (e : Passing) (ys : List Action) → Fits s ts e → HasActions ts old.exprs.items old.stmts.items before ys →
+  pub are : (ts : List Ty) (e : Passing) (ys : List Action) → Fits s ts e →
+      HasActions ts old.exprs.items old.stmts.items before ys →
       HasActions ts new.exprs.items new.stmts.items after (ys ++ passed_each_action e (length old.vars.items) xs)

@@ -1,5 +1,6 @@
 -- What is made of a function, and of a program.
-use Rattle.std.specs.Prelude.{◌≡◌, ℕ, ◌+◌, ◌-◌, ◌<◌, ◌≤◌, List, ◌++◌, length, map, take, drop, flat_map, Some, slice_get}
+use Rattle.std.specs.Prelude.{◌≡◌, ℕ, ◌+◌, ◌-◌, ◌<◌, ◌≤◌, List, ◌++◌, length, map, take, drop, flat_map, Some}
+use Rattle.std.specs.Prelude.{slice_get}
 use Rattle.ck_base.specs.declared.positions.Pos.{Pos}
 use Rattle.c_tree.specs.declared.syntax.Tree.{Tree}
 use Rattle.c_tree.specs.declared.typed.Expr.{Expr}
@@ -14,7 +15,9 @@ use Rattle.c_tree.specs.Syntax.{Syn, StandsAt}
 use Rattle.c_tree.specs.Types.{Ty}
 use Rattle.c_tree.specs.Terms.{Action, Variable, Routine, Program, numbers_from}
 use Rattle.c_tree.specs.Views.{type_at, types_of, actions_of, variable_of, routine_of, object_of, Shows}
-use Rattle.c_tree.specs.Passed.{Names, Passing, result_pointer, written_params, passed_param, copied_param, named_variables, variable_number, passing, param_copy, passed_body, passed_routine, passed, passed_object, passed_program, call_name, calls_in}
+use Rattle.c_tree.specs.Passed.{Names, Passing, result_pointer, written_params, passed_param, copied_param}
+use Rattle.c_tree.specs.Passed.{named_variables, variable_number, passing, param_copy, passed_body, passed_routine}
+use Rattle.c_tree.specs.Passed.{passed, passed_object, passed_program, call_name, calls_in}
 use Rattle.c_copy.specs.Copying.{actions_in}
 use Rattle.c_passing.specs.declared.nodes.Source.{Source}
 use Rattle.c_passing.specs.declared.nodes.Made.{Made}
@@ -76,12 +79,14 @@ pub record IsNamed (w : Whole) (f : FunDef) (k : ℕ) (n : Standing) (all : List
 
 -- those so far, where the first `k` parameters have been looked at
 abbrev pub named_so_far : Routine → ℕ → List Variable
-named_so_far r k = result_pointer r ++ map passed_param (written_params r) ++ flat_map copied_param (take k (written_params r))
+named_so_far r k = result_pointer r ++ map passed_param (written_params r)
+    ++ flat_map copied_param (take k (written_params r))
 
 -- one parameter more, with this number
 abbrev pub AddsParam : Whole → Standing → Standing → VarDef → ℕ → Type 0
 AddsParam w old new v k =
-    (f : FunDef) → slice_get f.vars k ≡ Some v → k < length f.params → length f.params ≤ length f.vars → IsNamed w f k old (named_so_far (written_routine w f) k) →
+    (f : FunDef) → slice_get f.vars k ≡ Some v → k < length f.params → length f.params ≤ length f.vars →
+    IsNamed w f k old (named_so_far (written_routine w f) k) →
     IsNamed w f (k + 1) new (named_so_far (written_routine w f) (k + 1))
 
 -- these are the parameters, and the other locals, of a function
@@ -95,11 +100,14 @@ HasLocals w f vs = (vs ≡ drop (length f.params) f.vars) × (length f.params �
 
 -- the copy of a parameter that comes by a pointer
 pub record IsParamCopy (s : Source) (old new : Made) (v : VarDef) (from to j : ℕ) : Type 0 where
-  pub is : (ts : List Ty) (e : Passing) → Fits s ts e → HasAction ts new.exprs.items new.stmts.items j (param_copy from to (source_variable s v))
+  pub is : (ts : List Ty) (e : Passing) → Fits s ts e →
+      HasAction ts new.exprs.items new.stmts.items j (param_copy from to (source_variable s v))
 
 -- the copies of parameters go behind other statements
-pub record AreParamCopies (s : Source) (old new : Made) (from to : ℕ) (vs : List Variable) (before after : List ℕ) : Type 0 where
-  pub are : (ts : List Ty) (e : Passing) (ys : List Action) → Fits s ts e → HasActions ts old.exprs.items old.stmts.items before ys →
+pub record AreParamCopies (s : Source) (old new : Made) (from to : ℕ) (vs : List Variable) (before after : List ℕ) :
+    Type 0 where
+  pub are : (ts : List Ty) (e : Passing) (ys : List Action) → Fits s ts e →
+      HasActions ts old.exprs.items old.stmts.items before ys →
       HasActions ts new.exprs.items new.stmts.items after (ys ++ copies_of from to vs)
 
 -- the variables of the outermost block
@@ -109,7 +117,8 @@ pub record AreBlockVars (s : Source) (copied : ℕ × ℕ) (ks : List ℕ) (hidd
 
 -- the body of a function, whose named variables are those of what was made so far
 pub record IsBody (s : Source) (r : Routine) (old new : Made) (j : ℕ) : Type 0 where
-  pub is : (ts : List Ty) (names : Names) → Fits s ts (passing names r) → length old.vars.items ≡ length (named_variables r) →
+  pub is : (ts : List Ty) (names : Names) → Fits s ts (passing names r) →
+      length old.vars.items ≡ length (named_variables r) →
       HasAction ts new.exprs.items new.stmts.items j (passed_body names r)
 
 -- ---- functions and the program
@@ -117,21 +126,27 @@ pub record IsBody (s : Source) (r : Routine) (old new : Made) (j : ℕ) : Type 0
 -- a function as it is run, over these expressions and statements and whatever stands behind them
 pub record IsFunction (w : Whole) (r : Routine) (new : Made) (f : FunDef) : Type 0 where
   pub there : f.body < length new.stmts.items
-  pub is : (ts : List Ty) (names : Names) (more : List Expr) → WholeFits w ts → ((p : Pos) → names p ≡ name_in w.names.now p) →
+  pub is : (ts : List Ty) (names : Names) (more : List Expr) → WholeFits w ts →
+      ((p : Pos) → names p ≡ name_in w.names.now p) →
       routine_of ts (actions_in ts (new.exprs.items ++ more) new.stmts.items) f ≡ passed_routine names r
 
 pub record AreFunctions (w : Whole) (rs : List Routine) (new : Made) (fs : List FunDef) : Type 0 where
   pub there : (k : ℕ) (f : FunDef) → slice_get fs k ≡ Some f → f.body < length new.stmts.items
-  pub are : (ts : List Ty) (names : Names) (more : List Expr) → WholeFits w ts → ((p : Pos) → names p ≡ name_in w.names.now p) →
+  pub are : (ts : List Ty) (names : Names) (more : List Expr) → WholeFits w ts →
+      ((p : Pos) → names p ≡ name_in w.names.now p) →
       map (routine_of ts (actions_in ts (new.exprs.items ++ more) new.stmts.items)) fs ≡ map (passed_routine names) rs
 
 -- an object with its type as it is run
 pub record IsObject (numbers : List ℕ) (old new : GlobalDef) : Type 0 where
-  pub is : (types ts : List Ty) → ((k n : ℕ) → slice_get numbers k ≡ Some n → type_at ts n ≡ passed (type_at types k)) → object_of ts new ≡ passed_object (object_of types old)
+  pub is : (types ts : List Ty) → ((k n : ℕ) → slice_get numbers k ≡ Some n → type_at ts n ≡ passed (type_at types k)) →
+      object_of ts new ≡ passed_object (object_of types old)
 
 pub record AreObjects (numbers : List ℕ) (old new : List GlobalDef) : Type 0 where
-  pub are : (types ts : List Ty) → ((k n : ℕ) → slice_get numbers k ≡ Some n → type_at ts n ≡ passed (type_at types k)) → map (object_of ts) new ≡ map passed_object (map (object_of types) old)
+  pub are : (types ts : List Ty) →
+      ((k n : ℕ) → slice_get numbers k ≡ Some n → type_at ts n ≡ passed (type_at types k)) →
+      map (object_of ts) new ≡ map passed_object (map (object_of types) old)
 
 -- The program that is run stands for the passed one, where the calls have the names that the syntax gives them
 pub record IsPassedProgram (tree : Tree) (old new : Typed) : Type 0 where
-  pub shows : (x : Syn) (q : Program) → StandsAt tree.nodes tree.root x → Shows old q → Shows new (passed_program (call_name (calls_in x)) q)
+  pub shows : (x : Syn) (q : Program) → StandsAt tree.nodes tree.root x → Shows old q →
+      Shows new (passed_program (call_name (calls_in x)) q)

@@ -26,7 +26,8 @@ pub(crate) fn hidden_type(source: &Source<'_>, of: u32) -> Option<u32>
 
 /// A hidden local of the call at a place, for a value of a type, if it needs one.
 pub(crate) fn hide(source: &Source<'_>, of: u32, pos: Pos, out: &mut Made) -> Result<(), NoMemory>
-    ensures hides { OnOk result (Hides source.now out.old out.new (λ names. hidden_for names pos (written_type source.now of))) }
+    ensures hides { OnOk result (Hides source.now out.old out.new
+        (λ names. hidden_for names pos (written_type source.now of))) }
     ensures rest { OnOk result (out.new ≡ record out.old { vars = out.new.vars }) }
 {
     match hidden_type(source, of) {
@@ -50,7 +51,8 @@ pub(crate) fn hide_arguments(
     pos: Pos,
     out: &mut Made,
 ) -> Result<(), NoMemory>
-    ensures hides { OnOk result (Hides source.now out.old out.new (λ names. hidden_for_each names pos (map (written_term source.now) xs.now))) }
+    ensures hides { OnOk result (Hides source.now out.old out.new
+        (λ names. hidden_for_each names pos (map (written_term source.now) xs.now))) }
     ensures rest { OnOk result (out.new ≡ record out.old { vars = out.new.vars }) }
 {
     for x in xs {

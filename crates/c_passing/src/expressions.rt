@@ -6,7 +6,8 @@ ghost use Rattle.c_tree.specs.Views.{operands};
 ghost use Rattle.c_tree.specs.Passed.{hidden_in};
 ghost use Rattle.c_copy.specs.Copying.{Extends};
 ghost use Rattle.c_passing.specs.Lists.{hidden_in_each};
-ghost use Rattle.c_passing.specs.Passes.{written_type, written_term, written_call, Hides, IsKindPassed, IsPassed, ArePassed, ArePassedArguments, IsPlainCall, IsCallByResult};
+ghost use Rattle.c_passing.specs.Passes.{written_type, written_term, written_call, Hides, IsKindPassed, IsPassed};
+ghost use Rattle.c_passing.specs.Passes.{ArePassed, ArePassedArguments, IsPlainCall, IsCallByResult};
 
 use crate::calls::{by_address, by_result, hidden_type, hide, hide_arguments};
 use crate::counts::after;
@@ -15,7 +16,8 @@ use c_copy::{all_below, inner_with, operands, two};
 use c_tree::{Expr, ExprKind};
 use ck_base::{NoMemory, Pos, Sequence};
 
-// The same kind of expression with as many operands, these. A compound assignment is computed in the type that stands for its type.
+// The same kind of expression with as many operands, these. A compound assignment is computed in the type that stands
+// for its type.
 fn kind_with(source: &Source<'_>, kind: &ExprKind, xs: &[u32]) -> Result<ExprKind, NoMemory>
     requires { length xs.now ≡ length (operands kind.now) }
     ensures { IfOk result (IsKindPassed source.now kind.now xs.now) }
@@ -50,8 +52,10 @@ fn arguments(
 ) -> Result<(), NoMemory>
     ensures extends { OnOk result (Extends out.old.exprs.items out.new.exprs.items) }
     ensures stmts { OnOk result (out.new.stmts ≡ out.old.stmts) }
-    ensures hides { OnOk result (Hides source.now out.old out.new (λ names. hidden_in_each names (map (written_term source.now) xs.now))) }
-    ensures are { OnOk result (ArePassedArguments source.now out.old out.new first pos (map (written_term source.now) xs.now) list.old.items list.new.items) }
+    ensures hides { OnOk result (Hides source.now out.old out.new
+        (λ names. hidden_in_each names (map (written_term source.now) xs.now))) }
+    ensures are { OnOk result (ArePassedArguments source.now out.old out.new first pos
+        (map (written_term source.now) xs.now) list.old.items list.new.items) }
 {
     let mut h = first;
     for x in xs {
@@ -81,7 +85,8 @@ fn call_plainly(
 ) -> Result<u32, NoMemory>
     ensures extends { OnOk result (Extends out.old.exprs.items out.new.exprs.items) }
     ensures stmts { OnOk result (out.new.stmts ≡ out.old.stmts) }
-    ensures hides { OnOk result (Hides source.now out.old out.new (λ names. hidden_in_each names (map (written_term source.now) xs.now))) }
+    ensures hides { OnOk result (Hides source.now out.old out.new
+        (λ names. hidden_in_each names (map (written_term source.now) xs.now))) }
     ensures is { IfOk result (IsPlainCall source.now out.old out.new e.now called own xs.now) }
 {
     let mut list = Vec::new(source.alloc);
@@ -106,7 +111,8 @@ fn call_by_result(
     requires { is_tagged (written_type source.now t) ≡ true }
     ensures extends { OnOk result (Extends out.old.exprs.items out.new.exprs.items) }
     ensures stmts { OnOk result (out.new.stmts ≡ out.old.stmts) }
-    ensures hides { OnOk result (Hides source.now out.old out.new (λ names. hidden_in_each names (map (written_term source.now) xs.now))) }
+    ensures hides { OnOk result (Hides source.now out.old out.new
+        (λ names. hidden_in_each names (map (written_term source.now) xs.now))) }
     ensures is { IfOk result (IsCallByResult source.now out.old out.new e.now called own hidden t xs.now) }
 {
     let of = source.types.number(t)?;
@@ -123,7 +129,8 @@ fn call_by_result(
 fn call(source: &Source<'_>, e: &Expr, f: u32, xs: &[u32], out: &mut Made) -> Result<u32, NoMemory>
     ensures extends { OnOk result (Extends out.old.exprs.items out.new.exprs.items) }
     ensures stmts { OnOk result (out.new.stmts ≡ out.old.stmts) }
-    ensures hides { OnOk result (Hides source.now out.old out.new (λ names. hidden_in names (written_call source.now e.now f xs.now))) }
+    ensures hides { OnOk result (Hides source.now out.old out.new
+        (λ names. hidden_in names (written_call source.now e.now f xs.now))) }
     ensures is { IfOk result (IsPassed source.now out.old out.new (written_call source.now e.now f xs.now)) }
 {
     let called = expression(source, f, out)?;
@@ -142,7 +149,8 @@ fn call(source: &Source<'_>, e: &Expr, f: u32, xs: &[u32], out: &mut Made) -> Re
 pub(crate) fn expression(source: &Source<'_>, k: u32, out: &mut Made) -> Result<u32, NoMemory>
     ensures extends { OnOk result (Extends out.old.exprs.items out.new.exprs.items) }
     ensures stmts { OnOk result (out.new.stmts ≡ out.old.stmts) }
-    ensures hides { OnOk result (Hides source.now out.old out.new (λ names. hidden_in names (written_term source.now k))) }
+    ensures hides { OnOk result (Hides source.now out.old out.new
+        (λ names. hidden_in names (written_term source.now k))) }
     ensures is { IfOk result (IsPassed source.now out.old out.new (written_term source.now k)) }
 {
     let e = source.expr(k)?;
@@ -168,9 +176,11 @@ pub(crate) fn expressions(
 ) -> Result<Vec<u32>, NoMemory>
     ensures extends { OnOk result (Extends out.old.exprs.items out.new.exprs.items) }
     ensures stmts { OnOk result (out.new.stmts ≡ out.old.stmts) }
-    ensures hides { OnOk result (Hides source.now out.old out.new (λ names. hidden_in_each names (map (written_term source.now) ks.now))) }
+    ensures hides { OnOk result (Hides source.now out.old out.new
+        (λ names. hidden_in_each names (map (written_term source.now) ks.now))) }
     ensures count { IfOk result (λ js. length js.items ≡ length ks.now) }
-    ensures are { IfOk result (λ js. ArePassed source.now out.old out.new (map (written_term source.now) ks.now) js.items) }
+    ensures are { IfOk result (λ js. ArePassed source.now out.old out.new
+        (map (written_term source.now) ks.now) js.items) }
 {
     let mut js = Vec::new(source.alloc);
     for k in ks {

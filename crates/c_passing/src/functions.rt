@@ -3,10 +3,13 @@
 ghost use Rattle.std.specs.Prelude.{◌≡◌, ◌<◌, ◌≤◌, ◌-◌, ◌++◌, [], true, List, IfOk, OnOk, length, map, take, drop};
 ghost use Rattle.c_tree.specs.declared.typed.FunDef.{FunDef as Function};
 ghost use Rattle.c_tree.specs.Terms.{numbers_from, Variable};
-ghost use Rattle.c_tree.specs.Passed.{by_pointer, named_variables, passed_param, passed_variable, result_pointer, copied_params, hidden_of};
+ghost use Rattle.c_tree.specs.Passed.{by_pointer, named_variables, passed_param, passed_variable, result_pointer};
+ghost use Rattle.c_tree.specs.Passed.{copied_params, hidden_of};
 ghost use Rattle.c_copy.specs.Copying.{Extends};
 ghost use Rattle.c_passing.specs.Passes.{written_type, written_action, Hides};
-ghost use Rattle.c_passing.specs.Routines.{written_routine, written_variable, source_routine, source_variable, HasBody, AreRun, IsRun, IsNamed, named_so_far, AddsParam, HasParams, HasLocals, IsParamCopy, AreParamCopies, AreBlockVars, IsBody, IsFunction};
+ghost use Rattle.c_passing.specs.Routines.{written_routine, written_variable, source_routine, source_variable, HasBody};
+ghost use Rattle.c_passing.specs.Routines.{AreRun, IsRun, IsNamed, named_so_far, AddsParam, HasParams, HasLocals};
+ghost use Rattle.c_passing.specs.Routines.{IsParamCopy, AreParamCopies, AreBlockVars, IsBody, IsFunction};
 
 use crate::counts::{after, count, sum};
 use crate::names::Names;
@@ -97,7 +100,8 @@ fn params_as_run(
     params: &[VarDef],
     vars: &mut Vec<VarDef>,
 ) -> Result<(), NoMemory>
-    ensures { OnOk result ((vs : List Variable) → AreRun whole.now vars.old.items vs → AreRun whole.now vars.new.items (vs ++ map passed_param (map (written_variable whole.now) params.now))) }
+    ensures { OnOk result ((vs : List Variable) → AreRun whole.now vars.old.items vs →
+        AreRun whole.now vars.new.items (vs ++ map passed_param (map (written_variable whole.now) params.now))) }
 {
     for v in params {
         let v = passed(whole, *v)?;
@@ -125,7 +129,10 @@ fn add_param(whole: &Whole<'_>, v: VarDef, k: u32, into: &mut Standing) -> Resul
 
 // The locals that parameters are copied to, and where each written parameter stands.
 fn copied_params(whole: &Whole<'_>, params: &[VarDef], into: &mut Standing) -> Result<(), NoMemory>
-    ensures { OnOk result ((f : Function) → HasParams whole.now f params.now → IsNamed whole.now f 0 into.old (named_so_far (written_routine whole.now f) 0) → IsNamed whole.now f (length params.now) into.new (named_so_far (written_routine whole.now f) (length params.now))) }
+    ensures { OnOk result ((f : Function) → HasParams whole.now f params.now →
+        IsNamed whole.now f 0 into.old (named_so_far (written_routine whole.now f) 0) →
+        IsNamed whole.now f (length params.now) into.new
+        (named_so_far (written_routine whole.now f) (length params.now))) }
 {
     for k in 0..params.len() {
         let at = count(k)?;
@@ -135,7 +142,10 @@ fn copied_params(whole: &Whole<'_>, params: &[VarDef], into: &mut Standing) -> R
 }
 
 fn other_locals(whole: &Whole<'_>, locals: &[VarDef], into: &mut Standing) -> Result<(), NoMemory>
-    ensures { OnOk result ((f : Function) → HasLocals whole.now f locals.now → IsNamed whole.now f (length f.params) into.old (named_so_far (written_routine whole.now f) (length f.params)) → IsNamed whole.now f (length f.vars) into.new (named_variables (written_routine whole.now f))) }
+    ensures { OnOk result ((f : Function) → HasLocals whole.now f locals.now →
+        IsNamed whole.now f (length f.params) into.old
+        (named_so_far (written_routine whole.now f) (length f.params)) →
+        IsNamed whole.now f (length f.vars) into.new (named_variables (written_routine whole.now f))) }
 {
     for v in locals {
         let at = into.next_var()?;
@@ -157,7 +167,8 @@ fn written_vars(f: &FunDef) -> (&[VarDef], &[VarDef])
 
 fn named(whole: &Whole<'_>, f: &FunDef) -> Result<Standing, NoMemory>
     requires { length f.now.params ≤ length f.now.vars }
-    ensures { IfOk result (λ n. IsNamed whole.now f.now (length f.now.vars) n (named_variables (written_routine whole.now f.now))) }
+    ensures { IfOk result (λ n. IsNamed whole.now f.now (length f.now.vars) n
+        (named_variables (written_routine whole.now f.now))) }
 {
     let alloc = whole.alloc;
     let (params, locals) = written_vars(f);
@@ -214,7 +225,8 @@ fn param_copies(
     ensures exprs { OnOk result (Extends out.old.exprs.items out.new.exprs.items) }
     ensures stmts { OnOk result (Extends out.old.stmts.items out.new.stmts.items) }
     ensures vars { OnOk result (out.new.vars ≡ out.old.vars) }
-    ensures are { OnOk result (AreParamCopies source.now out.old out.new first local (map (source_variable source.now) params.now) body.old.items body.new.items) }
+    ensures are { OnOk result (AreParamCopies source.now out.old out.new first local
+        (map (source_variable source.now) params.now) body.old.items body.new.items) }
 {
     let mut from = first;
     let mut to = local;
@@ -239,7 +251,8 @@ fn add_numbers(list: &mut Vec<u32>, from: u32, to: u32) -> Result<(), NoMemory>
     Ok(())
 }
 
-// The variables of the outermost block: the locals that parameters are copied to, those that it declares, and the hidden ones.
+// The variables of the outermost block: the locals that parameters are copied to, those that it declares, and the
+// hidden ones.
 fn block_vars(
     source: &Source<'_>,
     copied: (u32, u32),
@@ -269,7 +282,8 @@ fn body(
     requires copied { copied ≡ length (copied_params (source_routine source.now f.now)) }
     ensures exprs { OnOk result (Extends out.old.exprs.items out.new.exprs.items) }
     ensures stmts { OnOk result (Extends out.old.stmts.items out.new.stmts.items) }
-    ensures hides { OnOk result (Hides source.now out.old out.new (λ names. hidden_of names (written_action source.now f.now.body))) }
+    ensures hides { OnOk result (Hides source.now out.old out.new
+        (λ names. hidden_of names (written_action source.now f.now.body))) }
     ensures there { IfOk result (λ j. j < length out.new.stmts.items) }
     ensures is { IfOk result (IsBody source.now (source_routine source.now f.now) out.old out.new) }
 {

@@ -2,8 +2,8 @@
 //! through hidden locals of the caller.
 //!
 //! Promise: `pass` gives the program that the typing puts in the place of one with its types as written.
-//! Definitions (`specs/`): `Passed` of `c_tree`; `Routines` (`IsPassedProgram`), `Passes`, `Numbered`, `Named`, `Lists`.
-//! Main lemmas (`proofs/`): `Programs`, `Passing`.
+//! Definitions (`specs/`): `Passed` of `c_tree`; `Routines` (`IsPassedProgram`), `Passes`, `Numbered`, `Named`,
+//! `Lists`. Main lemmas (`proofs/`): `Programs`, `Passing`.
 #![tactic(auto)]
 
 mod calls;

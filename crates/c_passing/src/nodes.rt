@@ -72,7 +72,8 @@ impl<'a> Source<'a> {
 
 impl Made {
     pub(crate) fn push_expr(&mut self, kind: ExprKind, of: u32, pos: Pos) -> Result<u32, NoMemory>
-        ensures exprs { OnOk result (self.new.exprs.items ≡ self.old.exprs.items ++ record { kind = kind; of = of; pos = pos } ∷ []) }
+        ensures exprs { OnOk result (self.new.exprs.items
+            ≡ self.old.exprs.items ++ record { kind = kind; of = of; pos = pos } ∷ []) }
         ensures number { IfOk result (λ k. k ≡ length self.old.exprs.items) }
         ensures rest { OnOk result (self.new ≡ record self.old { exprs = self.new.exprs }) }
     {
@@ -84,7 +85,8 @@ impl Made {
     }
 
     pub(crate) fn push_stmt(&mut self, kind: StmtKind, pos: Pos) -> Result<u32, NoMemory>
-        ensures stmts { OnOk result (self.new.stmts.items ≡ self.old.stmts.items ++ record { kind = kind; pos = pos } ∷ []) }
+        ensures stmts { OnOk result (self.new.stmts.items
+            ≡ self.old.stmts.items ++ record { kind = kind; pos = pos } ∷ []) }
         ensures number { IfOk result (λ k. k ≡ length self.old.stmts.items) }
         ensures rest { OnOk result (self.new ≡ record self.old { stmts = self.new.stmts }) }
     {
@@ -123,7 +125,9 @@ impl Made {
     ) -> Result<u32, NoMemory>
         ensures extends { OnOk result (Extends self.old.exprs.items self.new.exprs.items) }
         ensures rest { OnOk result (self.new ≡ record self.old { exprs = self.new.exprs }) }
-        ensures is { IfOk result (Makes self.new (λ ts. step tree.Deref (step tree.Load (leaf (tree.Var k) (type_at ts pointer) pos) (type_at ts pointer) pos) (type_at ts of) pos)) }
+        ensures is { IfOk result (Makes self.new
+            (λ ts. step tree.Deref (step tree.Load (leaf (tree.Var k) (type_at ts pointer) pos)
+            (type_at ts pointer) pos) (type_at ts of) pos)) }
     {
         let place = self.push_expr(ExprKind::Var(k), pointer, pos)?;
         let value = self.push_expr(ExprKind::Load(place), pointer, pos)?;
@@ -140,7 +144,8 @@ impl Made {
     ) -> Result<u32, NoMemory>
         ensures extends { OnOk result (Extends self.old.exprs.items self.new.exprs.items) }
         ensures rest { OnOk result (self.new ≡ record self.old { exprs = self.new.exprs }) }
-        ensures is { IfOk result (Makes self.new (λ ts. step tree.Address (leaf (tree.Var k) (type_at ts of) pos) (type_at ts pointer) pos)) }
+        ensures is { IfOk result (Makes self.new
+            (λ ts. step tree.Address (leaf (tree.Var k) (type_at ts of) pos) (type_at ts pointer) pos)) }
     {
         let place = self.push_expr(ExprKind::Var(k), of, pos)?;
         self.push_expr(ExprKind::Address(place), pointer, pos)

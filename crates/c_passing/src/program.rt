@@ -3,7 +3,8 @@
 ghost use Rattle.std.specs.Prelude.{◌≡◌, IfOk, OnOk, map};
 ghost use Rattle.c_copy.specs.Copying.{Extends};
 ghost use Rattle.c_passing.specs.Named.{HasSyntax};
-ghost use Rattle.c_passing.specs.Routines.{written_routine, HaveBodies, AreFunctions, IsObject, AreObjects, IsPassedProgram};
+ghost use Rattle.c_passing.specs.Routines.{written_routine, HaveBodies, AreFunctions, IsObject, AreObjects};
+ghost use Rattle.c_passing.specs.Routines.{IsPassedProgram};
 
 use crate::functions::{Whole, function};
 use crate::names::Names;
@@ -15,7 +16,8 @@ use std::alloc::Global;
 
 fn functions(whole: &Whole<'_>, out: &mut Made) -> Result<Vec<FunDef>, NoMemory>
     requires { HaveBodies whole.now.program.now }
-    ensures { IfOk result (λ fs. AreFunctions whole.now (map (written_routine whole.now) whole.now.program.now.funs) out.new fs.items) }
+    ensures { IfOk result (λ fs. AreFunctions whole.now
+        (map (written_routine whole.now) whole.now.program.now.funs) out.new fs.items) }
 {
     let mut list = Vec::new(whole.alloc);
     for f in whole.program.funs.as_slice() {
@@ -56,8 +58,8 @@ fn objects(
     Ok(list)
 }
 
-/// The program that is run in the place of one that is typed as it is written. Structs and unions go to functions and come back by pointers,
-/// through hidden locals, which have the names of the calls in the file's tree.
+/// The program that is run in the place of one that is typed as it is written. Structs and unions go to functions and
+/// come back by pointers, through hidden locals, which have the names of the calls in the file's tree.
 pub fn pass(alloc: Global, p: Typed, tree: &Tree) -> Result<Typed, NoMemory>
     requires syntax { HasSyntax tree.now }
     requires bodies { HaveBodies p }

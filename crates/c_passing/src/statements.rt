@@ -7,7 +7,8 @@ ghost use Rattle.c_tree.specs.Views.{parts};
 ghost use Rattle.c_tree.specs.Passed.{ahead, hidden_of};
 ghost use Rattle.c_copy.specs.Copying.{Extends, stmt_form};
 ghost use Rattle.c_passing.specs.Lists.{hidden_of_each};
-ghost use Rattle.c_passing.specs.Passes.{written_type, written_action, Hides, AreVariables, IsRenumbered, IsGivenBack, IsGivenValue, IsReturned, IsPassedAction, ArePassedActions};
+ghost use Rattle.c_passing.specs.Passes.{written_type, written_action, Hides, AreVariables, IsRenumbered, IsGivenBack};
+ghost use Rattle.c_passing.specs.Passes.{IsGivenValue, IsReturned, IsPassedAction, ArePassedActions};
 
 use crate::expressions::{expression, expressions};
 use crate::nodes::{Made, Source};
@@ -158,7 +159,8 @@ fn returned(source: &Source<'_>, kind: &StmtKind) -> Result<Option<(u32, u32)>, 
 pub(crate) fn statement(source: &Source<'_>, k: u32, out: &mut Made) -> Result<u32, NoMemory>
     ensures exprs { OnOk result (Extends out.old.exprs.items out.new.exprs.items) }
     ensures stmts { OnOk result (Extends out.old.stmts.items out.new.stmts.items) }
-    ensures hides { OnOk result (Hides source.now out.old out.new (λ names. hidden_of names (written_action source.now k))) }
+    ensures hides { OnOk result (Hides source.now out.old out.new
+        (λ names. hidden_of names (written_action source.now k))) }
     ensures is { IfOk result (IsPassedAction source.now out.old out.new (written_action source.now k)) }
 {
     let s = source.stmt(k)?;
@@ -193,9 +195,11 @@ pub(crate) fn statements(
 ) -> Result<(), NoMemory>
     ensures exprs { OnOk result (Extends out.old.exprs.items out.new.exprs.items) }
     ensures stmts { OnOk result (Extends out.old.stmts.items out.new.stmts.items) }
-    ensures hides { OnOk result (Hides source.now out.old out.new (λ names. hidden_of_each names (map (written_action source.now) ks.now))) }
+    ensures hides { OnOk result (Hides source.now out.old out.new
+        (λ names. hidden_of_each names (map (written_action source.now) ks.now))) }
     ensures count { OnOk result (length js.new.items ≡ length js.old.items + length ks.now) }
-    ensures are { OnOk result (ArePassedActions source.now out.old out.new (map (written_action source.now) ks.now) js.old.items js.new.items) }
+    ensures are { OnOk result (ArePassedActions source.now out.old out.new
+        (map (written_action source.now) ks.now) js.old.items js.new.items) }
 {
     for k in ks {
         let j = statement(source, *k, out)?;

@@ -1,11 +1,13 @@
 //! The types of the program that is run.
 
-ghost use Rattle.std.specs.Prelude.{◌≡◌, ◌≤◌, ◌++◌, ◌∷◌, ◌+◌, [], List, Some, IfOk, IfSome, IfNone, OnOk, length, slice_get};
+ghost use Rattle.std.specs.Prelude.{◌≡◌, ◌≤◌, ◌++◌, ◌∷◌, ◌+◌, [], List, Some, IfOk, IfSome, IfNone, OnOk, length};
+ghost use Rattle.std.specs.Prelude.{slice_get};
 ghost use Rattle.c_tree.specs.declared.typed.CType.{CType as Written};
 ghost use Rattle.c_tree.specs.declared.typed.CType.TheVariants as ctypes;
 ghost use Rattle.c_tree.specs.Types.{is_tagged};
 ghost use Rattle.c_tree.specs.Passed.{by_pointer};
-ghost use Rattle.c_passing.specs.Numbered.{type_in, is_record, const_of, gives_of, IsGivenIn, IsBare, Follows, AddsType, Keeps, AreParameters, AreRenumbered, IsWithMembers, AreListed};
+ghost use Rattle.c_passing.specs.Numbered.{type_in, is_record, const_of, gives_of, IsGivenIn, IsBare, Follows};
+ghost use Rattle.c_passing.specs.Numbered.{AddsType, Keeps, AreParameters, AreRenumbered, IsWithMembers, AreListed};
 
 use c_copy::listed as copied;
 use c_tree::{CType, Member};
@@ -207,7 +209,8 @@ impl Types {
 
     // A type that is no struct or union, by its number.
     fn plainly(&mut self, c: CType) -> Result<(), NoMemory>
-        ensures { OnOk result (Keeps self.old self.new (c ∷ []) (length self.old.list.items) (length self.old.list.items)) }
+        ensures { OnOk result (Keeps self.old self.new (c ∷ []) (length self.old.list.items)
+            (length self.old.list.items)) }
     {
         let k = self.push(c)?;
         self.keep(k, k)
@@ -215,7 +218,8 @@ impl Types {
 
     // A struct or union, and the pointer to it.
     fn add_tagged(&mut self, c: CType) -> Result<(), NoMemory>
-        ensures { OnOk result (Keeps self.old self.new (c ∷ ctypes.Pointer (length self.old.list.items) ∷ []) (length self.old.list.items) (length self.old.list.items + 1)) }
+        ensures { OnOk result (Keeps self.old self.new (c ∷ ctypes.Pointer (length self.old.list.items) ∷ [])
+            (length self.old.list.items) (length self.old.list.items + 1)) }
     {
         let k = self.push(c)?;
         let pointer = self.push(CType::Pointer(k))?;

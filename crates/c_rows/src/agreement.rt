@@ -1,4 +1,5 @@
-//! Types by their numbers: each call on known types, and types that are large in depth or in the number of their leaves.
+//! Types by their numbers: each call on known types, and types that are large in depth or in the number of their
+//! leaves.
 ghost use Rattle.std.specs.Prelude.{◌≡◌, ◌<◌, true, length};
 
 use crate::given::{got, with_types};
@@ -78,7 +79,8 @@ fn pointers(alloc: Global, p: &mut Typed, array: u32) -> Result<u32, NoMemory> {
     Ok(top)
 }
 
-// `int`, an array of an unknown number of them and one of four, pointers to these, and a function from the one to the other, and back.
+// `int`, an array of an unknown number of them and one of four, pointers to these, and a function from the one to the
+// other, and back.
 fn small_types(alloc: Global) -> Result<Typed, NoMemory> {
     let to_open = params(alloc, &[3])?;
     let to_four = params(alloc, &[4])?;

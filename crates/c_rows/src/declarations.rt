@@ -187,7 +187,8 @@ fn nested(
     of
 }
 
-// The kind of records, how many levels there are of them, how often each has the one before it, and the bytes of the last.
+// The kind of records, how many levels there are of them, how often each has the one before it, and the bytes of the
+// last.
 const NESTED: [(RecordKind, u32, usize, u64); 3] = [
     (RecordKind::Struct, 10_000, 1, 4),
     (RecordKind::Union, 40, 2, 4),

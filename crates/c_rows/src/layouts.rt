@@ -129,7 +129,8 @@ fn expression(kind: ExprKind, of: u32) -> Expr {
     }
 }
 
-// A read, assignments of values of two structs and of an integer, and conditional expressions that choose a struct and an integer.
+// A read, assignments of values of two structs and of an integer, and conditional expressions that choose a struct and
+// an integer.
 fn expressions(alloc: Global) -> Result<Vec<Expr>, AllocError> {
     let mut expressions = vec![in alloc; expression(ExprKind::Load(0), 10)]?;
     for of in [10, 8, 2] {

@@ -78,7 +78,8 @@ fn literals(alloc: Global) -> Result<Vec<Literal>, AllocError> {
     Ok(vec![in alloc; literal]?)
 }
 
-// A program whose globals are arrays of these lengths, with one literal, and with one function that has an array of `local` bytes.
+// A program whose globals are arrays of these lengths, with one literal, and with one function that has an array of
+// `local` bytes.
 fn program(rt: &impl Abort, alloc: Global, lengths: &[u64], local: u64) -> Typed
     ensures { length result.funs ≡ 1 }
 {

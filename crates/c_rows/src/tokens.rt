@@ -15,7 +15,8 @@ use tables::{
     STRINGS, WORDS,
 };
 
-// The tokens of a file, each with its kind, its position and its text, and how the file ends: `end`, or a code and its position.
+// The tokens of a file, each with its kind, its position and its text, and how the file ends: `end`, or a code and its
+// position.
 fn list(listing: &mut String, file: &[u8]) -> Result<(), AllocError>
     requires { length file.now ≤ 4_194_304 }
 {

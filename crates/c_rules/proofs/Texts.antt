@@ -1,13 +1,17 @@
 -- The values of the literals that are accepted (C11 6.4.4.4, 6.4.5).
-use Rattle.std.proofs.Common.{◌≡◌, ◌≢◌, ℕ, zero, suc, ◌+◌, ◌-◌, ◌≤◌, ◌<◌, add-one, Bool, true, false, ◌||◌, ◌==◌, List, [], ◌∷◌, ◌++◌, length, take, drop, get_or, length-drop, append_assoc, Option, Some, None, refl, sym, ap, subst, ◌∙◌, arith, length-append, take_at}
+use Rattle.std.proofs.Common.{◌≡◌, ◌≢◌, ℕ, zero, suc, ◌+◌, ◌-◌, ◌≤◌, ◌<◌, add-one, Bool, true, false, ◌||◌, ◌==◌, List}
+use Rattle.std.proofs.Common.{[], ◌∷◌, ◌++◌, length, take, drop, get_or, length-drop, append_assoc, Option, Some, None}
+use Rattle.std.proofs.Common.{refl, sym, ap, subst, ◌∙◌, arith, length-append, take_at}
 use Rattle.std.specs.Char.{is_digit}
 use Rattle.std.proofs.lemmas.Bool.{false≢true, ne_eqb}
 use Rattle.std.proofs.lemmas.List.{append-nil}
 use Rattle.std.specs.Borrow.{Bor}
 use Rattle.ck_base.specs.declared.tokens.TokenKind.TheVariants.{Text}
 use Rattle.ck_base.specs.Lexes.{IsAccepted}
-use Rattle.ck_base.specs.Literals.{are_digits, value_of, simple_escape, leading_digits, BeginsWithEscape, BeginsWithCharacter, AreCharacters, in_quotes, IsCharacter, IsString}
-use Rattle.c_tree.specs.Values.{between_quotes, escape, escaped, numeric, characters, characters_of, first_or_zero, character_value}
+use Rattle.ck_base.specs.Literals.{are_digits, value_of, simple_escape, leading_digits, BeginsWithEscape}
+use Rattle.ck_base.specs.Literals.{BeginsWithCharacter, AreCharacters, in_quotes, IsCharacter, IsString}
+use Rattle.c_tree.specs.Values.{between_quotes, escape, escaped, numeric, characters, characters_of, first_or_zero}
+use Rattle.c_tree.specs.Values.{character_value}
 
 -- ---- escape sequences
 
@@ -34,7 +38,10 @@ digit_plain b e =
       other eight b 98 refl e,
       other eight b 102 refl e,
       other eight b 118 refl e,
-      neither (b == 92 || b == 39 || b == 34) (b == 63) (neither (b == 92 || b == 39) (b == 34) (neither (b == 92) (b == 39) (other eight b 92 refl e) (other eight b 39 refl e)) (other eight b 34 refl e)) (other eight b 63 refl e),
+      neither (b == 92 || b == 39 || b == 34) (b == 63)
+          (neither (b == 92 || b == 39) (b == 34)
+          (neither (b == 92) (b == 39) (other eight b 92 refl e) (other eight b 39 refl e)) (other eight b 34 refl e))
+          (other eight b 63 refl e),
     ) refl
 
 digit_no_x : (b : ℕ) → eight b ≡ true → (b == 120) ≡ false
@@ -50,29 +57,40 @@ octal_first c cs h = by_test (eight c) refl
     by_test true e = e
     by_test false e = absurd (false≢true (rw e at h))
 
-octal_escaped : (go : List ℕ → List ℕ) (c : ℕ) (cs digits : List ℕ) → digits ≡ take 3 (leading_digits 8 (c ∷ cs)) → eight c ≡ true → escape (simple_escape c) go c cs ≡ value_of 8 digits ∷ go (drop (length digits) (c ∷ cs))
-octal_escaped go c cs digits e d = rw (digit_plain c d, digit_no_x c d) (ap (λ ds. value_of 8 ds ∷ go (drop (length ds) (c ∷ cs))) (sym e))
+octal_escaped : (go : List ℕ → List ℕ) (c : ℕ) (cs digits : List ℕ) → digits ≡ take 3 (leading_digits 8 (c ∷ cs)) →
+    eight c ≡ true → escape (simple_escape c) go c cs ≡ value_of 8 digits ∷ go (drop (length digits) (c ∷ cs))
+octal_escaped go c cs digits e d =
+    rw (digit_plain c d, digit_no_x c d) (ap (λ ds. value_of 8 ds ∷ go (drop (length ds) (c ∷ cs))) (sym e))
 
-hexadecimal_escaped : (go : List ℕ → List ℕ) (rest digits : List ℕ) → digits ≡ leading_digits 16 rest → escaped go (120 ∷ rest) ≡ value_of 16 digits ∷ go (drop (1 + length digits) (120 ∷ rest))
+hexadecimal_escaped : (go : List ℕ → List ℕ) (rest digits : List ℕ) → digits ≡ leading_digits 16 rest →
+    escaped go (120 ∷ rest) ≡ value_of 16 digits ∷ go (drop (1 + length digits) (120 ∷ rest))
 unfolding simple_escape
 hexadecimal_escaped go rest digits f =
     let n : 1 + length digits ≡ suc (length digits) = omega arith in
     rw n (ap (λ ds. value_of 16 ds ∷ go (drop (length ds) rest)) (sym f))
 
-escaped_step : (go : List ℕ → List ℕ) (bytes : List ℕ) {value n : ℕ} → BeginsWithEscape bytes value n → escaped go bytes ≡ value ∷ go (drop n bytes)
-escaped_step go bytes (BeginsWithEscape.simple {value = v} b rest e f) = subst (λ bs. escaped go bs ≡ v ∷ go (drop 1 bs)) (sym e) (ap (λ o. escape o go b rest) f)
-escaped_step go [] (BeginsWithEscape.octal digits e all small) = absurd (false≢true (subst (λ ds. are_digits 8 ds ≡ true) e all))
-escaped_step go (c ∷ cs) (BeginsWithEscape.octal digits e all small) = octal_escaped go c cs digits e (octal_first c cs (subst (λ ds. are_digits 8 ds ≡ true) e all))
+escaped_step : (go : List ℕ → List ℕ) (bytes : List ℕ) {value n : ℕ} → BeginsWithEscape bytes value n →
+    escaped go bytes ≡ value ∷ go (drop n bytes)
+escaped_step go bytes (BeginsWithEscape.simple {value = v} b rest e f) =
+    subst (λ bs. escaped go bs ≡ v ∷ go (drop 1 bs)) (sym e) (ap (λ o. escape o go b rest) f)
+escaped_step go [] (BeginsWithEscape.octal digits e all small) =
+    absurd (false≢true (subst (λ ds. are_digits 8 ds ≡ true) e all))
+escaped_step go (c ∷ cs) (BeginsWithEscape.octal digits e all small) =
+    octal_escaped go c cs digits e (octal_first c cs (subst (λ ds. are_digits 8 ds ≡ true) e all))
 escaped_step go bytes (BeginsWithEscape.hexadecimal digits rest e f all small) =
-    subst (λ bs. escaped go bs ≡ value_of 16 digits ∷ go (drop (1 + length digits) bs)) (sym e) (hexadecimal_escaped go rest digits f)
+    subst (λ bs. escaped go bs ≡ value_of 16 digits ∷ go (drop (1 + length digits) bs)) (sym e)
+    (hexadecimal_escaped go rest digits f)
 
 -- ---- characters
 
-character_step : (quote m : ℕ) (bytes : List ℕ) {value n : ℕ} → BeginsWithCharacter quote bytes value n → characters (suc m) bytes ≡ value ∷ characters m (drop n bytes)
+character_step : (quote m : ℕ) (bytes : List ℕ) {value n : ℕ} → BeginsWithCharacter quote bytes value n →
+    characters (suc m) bytes ≡ value ∷ characters m (drop n bytes)
 unfolding characters
-character_step quote m bytes (BeginsWithCharacter.itself b rest e q o l) = subst (λ bs. characters (suc m) bs ≡ b ∷ characters m (drop 1 bs)) (sym e) (rw (ne_eqb b 92 o) refl)
+character_step quote m bytes (BeginsWithCharacter.itself b rest e q o l) =
+    subst (λ bs. characters (suc m) bs ≡ b ∷ characters m (drop 1 bs)) (sym e) (rw (ne_eqb b 92 o) refl)
 character_step quote m bytes (BeginsWithCharacter.escape {value = v} {n = n} rest e begins) =
-    subst (λ bs. characters (suc m) bs ≡ v ∷ characters m (drop (n + 1) bs)) (sym e) (rw (add-one n) (escaped_step (characters m) rest begins))
+    subst (λ bs. characters (suc m) bs ≡ v ∷ characters m (drop (n + 1) bs)) (sym e)
+    (rw (add-one n) (escaped_step (characters m) rest begins))
 
 digits_length : (base : ℕ) (digits : List ℕ) → are_digits base digits ≡ true → 1 ≤ length digits
 digits_length base [] e = absurd (false≢true e)
@@ -88,14 +106,18 @@ record IsSome (bytes : List ℕ) (n : ℕ) : Type 0 where
   there : 1 ≤ length bytes
 
 character_length : (quote : ℕ) (bytes : List ℕ) {value n : ℕ} → BeginsWithCharacter quote bytes value n → IsSome bytes n
-character_length quote bytes (BeginsWithCharacter.itself b rest e q o l) = record { count = omega arith; there = rw e (omega arith) }
-character_length quote bytes (BeginsWithCharacter.escape {n = n} rest e begins) = record { count = omega arith; there = rw e (omega arith) }
+character_length quote bytes (BeginsWithCharacter.itself b rest e q o l) =
+    record { count = omega arith; there = rw e (omega arith) }
+character_length quote bytes (BeginsWithCharacter.escape {n = n} rest e begins) =
+    record { count = omega arith; there = rw e (omega arith) }
 
-characters_all : (quote m : ℕ) {bytes values : List ℕ} → AreCharacters quote bytes values → length bytes ≤ m → characters m bytes ≡ values
+characters_all : (quote m : ℕ) {bytes values : List ℕ} → AreCharacters quote bytes values → length bytes ≤ m →
+    characters m bytes ≡ values
 unfolding characters
 characters_all quote zero AreCharacters.nothing le = refl
 characters_all quote (suc m) AreCharacters.nothing le = refl
-characters_all quote zero (AreCharacters.more {bytes = bs} h t) le = let l = character_length quote bs h in absurd (let k = l.there in omega arith)
+characters_all quote zero (AreCharacters.more {bytes = bs} h t) le =
+    let l = character_length quote bs h in absurd (let k = l.there in omega arith)
 characters_all quote (suc m) (AreCharacters.more {value = v} {n = n} {bytes = bs} h t) le =
     let l = character_length quote bs h in
     let k = l.count in

@@ -1,7 +1,8 @@
 -- The conditional operator (C11 6.5.15), by parts.
 use Rattle.std.specs.Prelude.{Bool, ◌&&◌, ◌||◌, if◌then◌else◌, Option, Some, None}
 use Rattle.ck_base.specs.declared.positions.Pos.{Pos}
-use Rattle.c_tree.specs.Types.{Ty, Void, Pointer, bare, bare_elements, is_integer, is_pointer, is_scalar, is_void, common, compatible_bare, composite}
+use Rattle.c_tree.specs.Types.{Ty, Void, Pointer, bare, bare_elements, is_integer, is_pointer, is_scalar, is_void}
+use Rattle.c_tree.specs.Types.{common, compatible_bare, composite}
 use Rattle.c_tree.specs.Terms.{Conditional, join_three}
 use Rattle.c_tree.specs.Scopes.{Doing, need, ◌>>◌}
 use Rattle.c_tree.specs.Conversions.{Operand, operand_type, converted_term}
@@ -15,7 +16,8 @@ conditional_with t a b c p =
     need (is_scalar (operand_type a)) 133 a.first >>
     gives (join_three Conditional a.is (converted_term t b.is) (converted_term t c.is) t p) a.first
 
--- which of the types of two values a choice between them has, where it is known whether both are the same struct or union
+-- which of the types of two values a choice between them has, where it is known whether both are the same struct or
+-- union
 abbrev pub arms_where : Bool → Ty → Ty → Bool → Bool → Arms
 arms_where tagged s t null_b null_c =
     (if is_integer s && is_integer t then arms.Common

@@ -1,4 +1,5 @@
--- Parts of the rules on operands: each rule without its test that the state knows the size of what a pointer points to, and single cases.
+-- Parts of the rules on operands: each rule without its test that the state knows the size of what a pointer points to,
+-- and single cases.
 use Rattle.std.specs.Prelude.{ℕ, Bool, not, ◌&&◌, ◌||◌, if◌then◌else◌, List}
 use Rattle.ck_base.specs.declared.positions.Pos.{Pos}
 use Rattle.ck_int.specs.declared.kinds.IntOp.{IntOp}
@@ -11,10 +12,13 @@ use Rattle.c_tree.specs.declared.syntax.InfixOperator.TheVariants as infixes
 use Rattle.c_tree.specs.declared.syntax.StepOperator.{StepOperator}
 use Rattle.c_tree.specs.Types.{Ty, Pointer, bare, is_integer, is_pointer, is_scalar, is_function, int, promoted}
 use Rattle.c_tree.specs.Values.{integer_of, number_type, character_value}
-use Rattle.c_tree.specs.Terms.{Constant, leaf, Unary, Load, Compare, And, Or, Comma, Compound, Step, Address, Term, type_of, pos_of, step, join}
+use Rattle.c_tree.specs.Terms.{Constant, leaf, Unary, Load, Compare, And, Or, Comma, Compound, Step, Address, Term}
+use Rattle.c_tree.specs.Terms.{type_of, pos_of, step, join}
 use Rattle.c_tree.specs.Scopes.{Doing, need, refuse, ◌>>◌}
 use Rattle.c_tree.specs.Conversions.{Operand, operand_type, designates, is_place, converted_term}
-use Rattle.c_tree.specs.Expressions.{gives, arithmetic, shift, sum_of, difference_of, compared, logical, is_modifiable, both_agree, compounds, computed_in, right_of, points_to_function, increments, is_void_pointer}
+use Rattle.c_tree.specs.Expressions.{gives, arithmetic, shift, sum_of, difference_of, compared, logical, is_modifiable}
+use Rattle.c_tree.specs.Expressions.{both_agree, compounds, computed_in, right_of, points_to_function, increments}
+use Rattle.c_tree.specs.Expressions.{is_void_pointer}
 use Rattle.c_rules.specs.declared.pointers.Fallback.{Fallback}
 use Rattle.c_rules.specs.declared.pointers.Fallback.TheVariants as fallbacks
 
@@ -55,11 +59,14 @@ with_left o p a b = comparing o (converted_term (operand_type b) a.is) b.is p a.
 
 -- a null pointer constant on the right or on the left
 abbrev pub null_of : Ty → Ty → Bool → Bool → Fallback
-null_of s t null_a null_b = (if is_pointer s && null_b then fallbacks.Right else (if is_pointer t && null_a then fallbacks.Left else fallbacks.Neither))
+null_of s t null_a null_b =
+    (if is_pointer s && null_b then fallbacks.Right
+    else (if is_pointer t && null_a then fallbacks.Left else fallbacks.Neither))
 
 -- a pointer beside one to void
 abbrev pub fallback_of : Ty → Ty → Fallback
-fallback_of s t = (if is_pointer s && is_void_pointer t then fallbacks.Left else (if is_void_pointer s && is_pointer t then fallbacks.Right else fallbacks.Neither))
+fallback_of s t = (if is_pointer s && is_void_pointer t then fallbacks.Left
+    else (if is_void_pointer s && is_pointer t then fallbacks.Right else fallbacks.Neither))
 
 abbrev pub comparing_as : Fallback → CmpOp → Pos → Operand → Operand → Doing Operand
 comparing_as fallbacks.Right o p a b = with_right o p a b
@@ -69,7 +76,8 @@ comparing_as fallbacks.Neither o p a b = refuse 133 a.first
 -- two operands that are not both integers, neither a null pointer constant
 abbrev pub comparing_pointers : CmpOp → Pos → Operand → Operand → Doing Operand
 comparing_pointers o p a b =
-    (if both_agree (operand_type a) (operand_type b) then comparing o a.is b.is p a.first else comparing_as (fallback_of (operand_type a) (operand_type b)) o p a b)
+    (if both_agree (operand_type a) (operand_type b) then comparing o a.is b.is p a.first
+    else comparing_as (fallback_of (operand_type a) (operand_type b)) o p a b)
 
 abbrev pub comparing_by : Fallback → CmpOp → Pos → Operand → Operand → Doing Operand
 comparing_by fallbacks.Right o p a b = with_right o p a b

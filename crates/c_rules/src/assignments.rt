@@ -4,10 +4,12 @@ ghost use Rattle.std.specs.Prelude.{◌≡◌, ◌<◌, ◌&&◌, ◌||◌, not,
 ghost use Rattle.c_tree.specs.Types.{promoted, common, is_pointer, is_scalar, is_void, is_function};
 ghost use Rattle.c_tree.specs.Terms.{type_of};
 ghost use Rattle.c_tree.specs.Conversions.{converted_term, is_place};
-ghost use Rattle.c_tree.specs.Expressions.{assign, is_modifiable, is_additive, is_shift, computed_in, right_of, compounds, increments, points_to_function, casts, cast, as_qualified};
+ghost use Rattle.c_tree.specs.Expressions.{assign, is_modifiable, is_additive, is_shift, computed_in, right_of};
+ghost use Rattle.c_tree.specs.Expressions.{compounds, increments, points_to_function, casts, cast, as_qualified};
 ghost use Rattle.c_nodes.specs.Answers.{Answers};
 ghost use Rattle.c_nodes.specs.Facts.{local_of};
-ghost use Rattle.c_nodes.specs.Nodes.{IsWhole, HasTerm, HasType, IsOperand, operand_in, type_in, term_in, type_count, term_count};
+ghost use Rattle.c_nodes.specs.Nodes.{IsWhole, HasTerm, HasType, IsOperand, operand_in, type_in, term_in, type_count};
+ghost use Rattle.c_nodes.specs.Nodes.{term_count};
 ghost use Rattle.c_rules.specs.Rules.{compound_of, stepped_of, address_of};
 
 use c_nodes::{Join, Nodes, Operand, Step};
@@ -61,7 +63,8 @@ pub fn assign(nodes: &mut Nodes<'_>, a: Operand, b: Operand, pos: Pos) -> Result
     requires whole { IsWhole nodes.old }
     requires left { a.node < term_count nodes.old }
     requires right { b.node < term_count nodes.old }
-    ensures { Answers nodes.old nodes.new (assign (operand_in nodes.old a) (operand_in nodes.old b) pos) IsOperand result }
+    ensures { Answers nodes.old nodes.new (assign (operand_in nodes.old a) (operand_in nodes.old b) pos) IsOperand
+        result }
 {
     if !nodes.is_modifiable(a.node) {
         return Err(Refusal::Code(133, a.first));
@@ -83,7 +86,8 @@ fn may_compound(nodes: &Nodes<'_>, op: IntOp, node: u32, s: u32, t: u32) -> bool
     requires node { node < term_count nodes.now }
     requires first { s < type_count nodes.now }
     requires second { t < type_count nodes.now }
-    ensures { (is_modifiable (term_in nodes.now node) && compounds op (type_in nodes.now s) (type_in nodes.now t)) ≡ result }
+    ensures { (is_modifiable (term_in nodes.now node) && compounds op (type_in nodes.now s) (type_in nodes.now t))
+        ≡ result }
 {
     nodes.is_modifiable(node)
         && ((is_additive(op) && nodes.moves(s, t)) || nodes.are_integers(s, t))
@@ -93,7 +97,9 @@ fn computed_integers(nodes: &mut Nodes<'_>, op: IntOp, s: u32, t: u32) -> Result
     requires whole { IsWhole nodes.old }
     requires first { s < type_count nodes.old }
     requires second { t < type_count nodes.old }
-    ensures { IfOk result (λ k. HasType nodes.old nodes.new k (if is_shift op then promoted (type_in nodes.old s) else common (type_in nodes.old s) (type_in nodes.old t))) }
+    ensures { IfOk result (λ k. HasType nodes.old nodes.new k
+        (if is_shift op then promoted (type_in nodes.old s)
+        else common (type_in nodes.old s) (type_in nodes.old t))) }
 {
     if is_shift(op) {
         nodes.promoted(s)
@@ -107,7 +113,8 @@ fn computed_in(nodes: &mut Nodes<'_>, op: IntOp, s: u32, t: u32) -> Result<u32, 
     requires whole { IsWhole nodes.old }
     requires first { s < type_count nodes.old }
     requires second { t < type_count nodes.old }
-    ensures { IfOk result (λ k. HasType nodes.old nodes.new k (computed_in op (type_in nodes.old s) (type_in nodes.old t))) }
+    ensures { IfOk result (λ k. HasType nodes.old nodes.new k
+        (computed_in op (type_in nodes.old s) (type_in nodes.old t))) }
 {
     if nodes.is_pointer(s) {
         Ok(s)
@@ -128,7 +135,8 @@ fn common_right(nodes: &mut Nodes<'_>, s: u32, node: u32) -> Result<u32, NoMemor
     requires whole { IsWhole nodes.old }
     requires there { s < type_count nodes.old }
     requires node { node < term_count nodes.old }
-    ensures { IfOk result (λ k. HasTerm nodes.old nodes.new k (converted_term (common (type_in nodes.old s) (type_of (term_in nodes.old node))) (term_in nodes.old node))) }
+    ensures { IfOk result (λ k. HasTerm nodes.old nodes.new k
+        (converted_term (common (type_in nodes.old s) (type_of (term_in nodes.old node))) (term_in nodes.old node))) }
 {
     let t = nodes.of(node);
     let of = nodes.common(s, t)?;
@@ -140,7 +148,8 @@ fn right_of(nodes: &mut Nodes<'_>, op: IntOp, s: u32, node: u32) -> Result<u32, 
     requires whole { IsWhole nodes.old }
     requires there { s < type_count nodes.old }
     requires node { node < term_count nodes.old }
-    ensures { IfOk result (λ k. HasTerm nodes.old nodes.new k (right_of op (type_in nodes.old s) (term_in nodes.old node))) }
+    ensures { IfOk result (λ k. HasTerm nodes.old nodes.new k
+        (right_of op (type_in nodes.old s) (term_in nodes.old node))) }
 {
     if right_is_promoted(nodes, op, s) {
         nodes.promoted_term(node)
@@ -160,7 +169,8 @@ pub fn compound_of(
     requires whole { IsWhole nodes.old }
     requires left { a.node < term_count nodes.old }
     requires right { b.node < term_count nodes.old }
-    ensures { Answers nodes.old nodes.new (compound_of op (operand_in nodes.old a) (operand_in nodes.old b) pos) IsOperand result }
+    ensures { Answers nodes.old nodes.new (compound_of op (operand_in nodes.old a) (operand_in nodes.old b) pos)
+        IsOperand result }
 {
     let of = nodes.of(a.node);
     let s = nodes.bare(of);
@@ -183,7 +193,8 @@ fn may_step(nodes: &Nodes<'_>, node: u32, t: u32) -> bool
     requires whole { IsWhole nodes.now }
     requires node { node < term_count nodes.now }
     requires there { t < type_count nodes.now }
-    ensures { (is_modifiable (term_in nodes.now node) && is_scalar (type_in nodes.now t) && not (points_to_function (type_in nodes.now t))) ≡ result }
+    ensures { (is_modifiable (term_in nodes.now node) && is_scalar (type_in nodes.now t)
+        && not (points_to_function (type_in nodes.now t))) ≡ result }
 {
     nodes.is_modifiable(node) && nodes.is_scalar(t) && !nodes.points_to_function(t)
 }
@@ -278,7 +289,8 @@ pub fn as_qualified(nodes: &mut Nodes<'_>, s: u32, t: u32) -> Result<u32, NoMemo
     requires whole { IsWhole nodes.old }
     requires first { s < type_count nodes.old }
     requires second { t < type_count nodes.old }
-    ensures { IfOk result (λ k. HasType nodes.old nodes.new k (as_qualified (type_in nodes.old s) (type_in nodes.old t))) }
+    ensures { IfOk result (λ k. HasType nodes.old nodes.new k
+        (as_qualified (type_in nodes.old s) (type_in nodes.old t))) }
 {
     if nodes.is_const(s) {
         nodes.qualified(t)

@@ -39,7 +39,8 @@ pub(crate) fn fewer(m: usize, n: usize) -> usize
 
 #[tactic(auto, using(crate::proofs::Arguments::same_number))]
 fn are_as_many(params: &[u32], xs: &[Operand]) -> bool
-    ensures { (go : ℕ → Ty) (is : Operand → MeantOperand) → (length (map is xs.now) == many (tys (map go params.now))) ≡ result }
+    ensures { (go : ℕ → Ty) (is : Operand → MeantOperand) →
+        (length (map is xs.now) == many (tys (map go params.now))) ≡ result }
 {
     xs.len() == params.len()
 }
@@ -87,7 +88,8 @@ pub fn arguments(nodes: &mut Nodes<'_>, params: &[u32], xs: &[Operand]) -> Resul
     requires whole { IsWhole nodes.old }
     requires params { AreBelow (type_count nodes.old) params.now }
     requires operands { AreThere (term_count nodes.old) xs.now }
-    ensures { Answers nodes.old nodes.new (arguments (tys (map (type_in nodes.old) params.now)) (map (operand_in nodes.old) xs.now)) AreTerms result }
+    ensures { Answers nodes.old nodes.new (arguments (tys (map (type_in nodes.old) params.now))
+        (map (operand_in nodes.old) xs.now)) AreTerms result }
 {
     let mut values = Vec::new(nodes.alloc);
     let count = fewer(params.len(), xs.len());
@@ -103,7 +105,8 @@ pub fn call(nodes: &mut Nodes<'_>, f: Operand, xs: &[Operand], pos: Pos) -> Resu
     requires whole { IsWhole nodes.old }
     requires called { f.node < term_count nodes.old }
     requires operands { AreThere (term_count nodes.old) xs.now }
-    ensures { Answers nodes.old nodes.new (call_of (operand_type (operand_in nodes.old f)) (operand_in nodes.old f) (map (operand_in nodes.old) xs.now) pos) IsOperand result }
+    ensures { Answers nodes.old nodes.new (call_of (operand_type (operand_in nodes.old f)) (operand_in nodes.old f)
+        (map (operand_in nodes.old) xs.now) pos) IsOperand result }
 {
     let of = nodes.of(f.node);
     match callee(nodes, of)? {
@@ -132,7 +135,9 @@ fn called(
     requires gives { gives < type_count nodes.old }
     requires params { AreBelow (type_count nodes.old) params.now }
     requires operands { AreThere (term_count nodes.old) xs.now }
-    ensures { Answers nodes.old nodes.new (call_of (Pointer (Function (type_in nodes.old gives) (tys (map (type_in nodes.old) params.now)))) (operand_in nodes.old f) (map (operand_in nodes.old) xs.now) pos) IsOperand result }
+    ensures { Answers nodes.old nodes.new (call_of
+        (Pointer (Function (type_in nodes.old gives) (tys (map (type_in nodes.old) params.now))))
+        (operand_in nodes.old f) (map (operand_in nodes.old) xs.now) pos) IsOperand result }
 {
     let values = arguments(nodes, params, xs)?;
     if !are_as_many(params, xs) {

@@ -6,7 +6,8 @@ ghost use Rattle.c_tree.specs.Types as types;
 ghost use Rattle.c_tree.specs.Constants.{is_null_constant};
 ghost use Rattle.c_tree.specs.Expressions.{with_const_of, pointer_arms, arms_type, conditional};
 ghost use Rattle.c_nodes.specs.Answers.{Answers};
-ghost use Rattle.c_nodes.specs.Nodes.{IsWhole, IsOperand, HasType, HasMaybe, operand_in, type_in, term_in, type_count, term_count};
+ghost use Rattle.c_nodes.specs.Nodes.{IsWhole, IsOperand, HasType, HasMaybe, operand_in, type_in, term_in, type_count};
+ghost use Rattle.c_nodes.specs.Nodes.{term_count};
 ghost use Rattle.c_rules.specs.Choices.{conditional_with, arms_where, arms_as, target_arms};
 
 use c_nodes::{Nodes, Operand};
@@ -52,7 +53,8 @@ fn with_const_of(nodes: &mut Nodes<'_>, s: u32, t: u32, of: u32) -> Result<u32, 
     requires first { s < type_count nodes.old }
     requires second { t < type_count nodes.old }
     requires of { of < type_count nodes.old }
-    ensures { IfOk result (λ k. HasType nodes.old nodes.new k (with_const_of (type_in nodes.old s) (type_in nodes.old t) (type_in nodes.old of))) }
+    ensures { IfOk result (λ k. HasType nodes.old nodes.new k
+        (with_const_of (type_in nodes.old s) (type_in nodes.old t) (type_in nodes.old of))) }
 {
     if is_either_const(nodes, s, t) {
         nodes.qualified(of)
@@ -67,7 +69,8 @@ fn pointer_with(nodes: &mut Nodes<'_>, s: u32, t: u32, of: u32) -> Result<u32, N
     requires first { s < type_count nodes.old }
     requires second { t < type_count nodes.old }
     requires of { of < type_count nodes.old }
-    ensures { IfOk result (λ k. HasType nodes.old nodes.new k (Pointer (with_const_of (type_in nodes.old s) (type_in nodes.old t) (type_in nodes.old of)))) }
+    ensures { IfOk result (λ k. HasType nodes.old nodes.new k
+        (Pointer (with_const_of (type_in nodes.old s) (type_in nodes.old t) (type_in nodes.old of)))) }
 {
     let to = with_const_of(nodes, s, t, of)?;
     nodes.pointer_to(to)
@@ -78,7 +81,9 @@ fn composite_pointer(nodes: &mut Nodes<'_>, s: u32, t: u32) -> Result<u32, NoMem
     requires whole { IsWhole nodes.old }
     requires first { s < type_count nodes.old }
     requires second { t < type_count nodes.old }
-    ensures { IfOk result (λ k. HasType nodes.old nodes.new k (Pointer (with_const_of (type_in nodes.old s) (type_in nodes.old t) (composite (bare_elements (type_in nodes.old s)) (bare_elements (type_in nodes.old t)))))) }
+    ensures { IfOk result (λ k. HasType nodes.old nodes.new k
+        (Pointer (with_const_of (type_in nodes.old s) (type_in nodes.old t)
+        (composite (bare_elements (type_in nodes.old s)) (bare_elements (type_in nodes.old t)))))) }
 {
     let a = nodes.bare_elements(s)?;
     let b = nodes.bare_elements(t)?;
@@ -91,7 +96,8 @@ fn void_pointer(nodes: &mut Nodes<'_>, s: u32, t: u32) -> Result<u32, NoMemory>
     requires whole { IsWhole nodes.old }
     requires first { s < type_count nodes.old }
     requires second { t < type_count nodes.old }
-    ensures { IfOk result (λ k. HasType nodes.old nodes.new k (Pointer (with_const_of (type_in nodes.old s) (type_in nodes.old t) types.Void))) }
+    ensures { IfOk result (λ k. HasType nodes.old nodes.new k
+        (Pointer (with_const_of (type_in nodes.old s) (type_in nodes.old t) types.Void))) }
 {
     pointer_with(nodes, s, t, nodes.void)
 }
@@ -101,7 +107,8 @@ fn target_arms(nodes: &mut Nodes<'_>, s: u32, t: u32) -> Result<Option<u32>, NoM
     requires whole { IsWhole nodes.old }
     requires first { s < type_count nodes.old }
     requires second { t < type_count nodes.old }
-    ensures { IfOk result (λ o. HasMaybe nodes.old nodes.new o (target_arms (type_in nodes.old s) (type_in nodes.old t))) }
+    ensures { IfOk result (λ o. HasMaybe nodes.old nodes.new o
+        (target_arms (type_in nodes.old s) (type_in nodes.old t))) }
 {
     let void = is_either_void(nodes, s, t);
     let compatible = nodes.compatible_bare(s, t)?;
@@ -121,7 +128,8 @@ fn pointer_arms(nodes: &mut Nodes<'_>, s: u32, t: u32) -> Result<Option<u32>, No
     requires whole { IsWhole nodes.old }
     requires first { s < type_count nodes.old }
     requires second { t < type_count nodes.old }
-    ensures { IfOk result (λ o. HasMaybe nodes.old nodes.new o (pointer_arms (type_in nodes.old s) (type_in nodes.old t))) }
+    ensures { IfOk result (λ o. HasMaybe nodes.old nodes.new o
+        (pointer_arms (type_in nodes.old s) (type_in nodes.old t))) }
 {
     match nodes.target(s) {
         None => Ok(None),
@@ -139,7 +147,8 @@ fn same_tagged(nodes: &Nodes<'_>, s: u32, t: u32) -> Result<bool, NoMemory>
     requires whole { IsWhole nodes.now }
     requires first { s < type_count nodes.now }
     requires second { t < type_count nodes.now }
-    ensures { IfOk result (λ b. (is_tagged (type_in nodes.now s) && same (type_in nodes.now s) (type_in nodes.now t)) ≡ b) }
+    ensures { IfOk result (λ b. (is_tagged (type_in nodes.now s) && same (type_in nodes.now s) (type_in nodes.now t))
+        ≡ b) }
 {
     if nodes.is_tagged(s) {
         nodes.same(s, t)
@@ -164,7 +173,8 @@ fn arms_where(nodes: &Nodes<'_>, tagged: bool, s: u32, t: u32, b: u32, c: u32) -
     requires second { t < type_count nodes.now }
     requires left { b < term_count nodes.now }
     requires right { c < term_count nodes.now }
-    ensures { arms_where tagged (type_in nodes.now s) (type_in nodes.now t) (is_null_constant (term_in nodes.now b)) (is_null_constant (term_in nodes.now c)) ≡ result }
+    ensures { arms_where tagged (type_in nodes.now s) (type_in nodes.now t) (is_null_constant (term_in nodes.now b))
+        (is_null_constant (term_in nodes.now c)) ≡ result }
 {
     if nodes.are_integers(s, t) {
         Arms::Common
@@ -185,7 +195,8 @@ fn arms_as(nodes: &mut Nodes<'_>, how: Arms, s: u32, t: u32) -> Result<Option<u3
     requires whole { IsWhole nodes.old }
     requires first { s < type_count nodes.old }
     requires second { t < type_count nodes.old }
-    ensures { IfOk result (λ o. HasMaybe nodes.old nodes.new o (arms_as how (type_in nodes.old s) (type_in nodes.old t))) }
+    ensures { IfOk result (λ o. HasMaybe nodes.old nodes.new o
+        (arms_as how (type_in nodes.old s) (type_in nodes.old t))) }
 {
     match how {
         Arms::Common => {
@@ -198,12 +209,14 @@ fn arms_as(nodes: &mut Nodes<'_>, how: Arms, s: u32, t: u32) -> Result<Option<u3
     }
 }
 
-// The type of the result of a conditional operator, by its second and third operands. There is none where they do not agree.
+// The type of the result of a conditional operator, by its second and third operands. There is none where they do not
+// agree.
 fn arms_type(nodes: &mut Nodes<'_>, b: Operand, c: Operand) -> Result<Option<u32>, NoMemory>
     requires whole { IsWhole nodes.old }
     requires second { b.node < term_count nodes.old }
     requires third { c.node < term_count nodes.old }
-    ensures { IfOk result (λ o. HasMaybe nodes.old nodes.new o (arms_type (operand_in nodes.old b) (operand_in nodes.old c))) }
+    ensures { IfOk result (λ o. HasMaybe nodes.old nodes.new o
+        (arms_type (operand_in nodes.old b) (operand_in nodes.old c))) }
 {
     let s = nodes.of(b.node);
     let t = nodes.of(c.node);
@@ -226,7 +239,8 @@ fn conditional_with(
     requires condition { a.node < term_count nodes.old }
     requires second { b.node < term_count nodes.old }
     requires third { c.node < term_count nodes.old }
-    ensures { Answers nodes.old nodes.new (conditional_with (type_in nodes.old of) (operand_in nodes.old a) (operand_in nodes.old b) (operand_in nodes.old c) pos) IsOperand result }
+    ensures { Answers nodes.old nodes.new (conditional_with (type_in nodes.old of) (operand_in nodes.old a)
+        (operand_in nodes.old b) (operand_in nodes.old c) pos) IsOperand result }
 {
     if !nodes.is_scalar(nodes.of(a.node)) {
         return Err(Refusal::Code(133, a.first));
@@ -252,7 +266,8 @@ pub fn conditional(
     requires condition { a.node < term_count nodes.old }
     requires second { b.node < term_count nodes.old }
     requires third { c.node < term_count nodes.old }
-    ensures { Answers nodes.old nodes.new (conditional (operand_in nodes.old a) (operand_in nodes.old b) (operand_in nodes.old c) pos) IsOperand result }
+    ensures { Answers nodes.old nodes.new (conditional (operand_in nodes.old a) (operand_in nodes.old b)
+        (operand_in nodes.old c) pos) IsOperand result }
 {
     match arms_type(nodes, b, c)? {
         None => Err(Refusal::Code(133, a.first)),

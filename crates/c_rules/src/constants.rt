@@ -31,7 +31,8 @@ fn is_listed(n: Number, unsigned: bool) -> bool
 
 // Whether a constant can have a type that says `long` so often, and whose values are below a limit.
 fn can_have(n: Number, longs: u8, unsigned: bool, limit: u128) -> bool
-    ensures { (nat_le n.longs longs && (if n.unsigned then unsigned else not (n.decimal && unsigned)) && nat_lt n.value limit) ≡ result }
+    ensures { (nat_le n.longs longs && (if n.unsigned then unsigned else not (n.decimal && unsigned))
+        && nat_lt n.value limit) ≡ result }
 {
     n.longs <= longs && is_listed(n, unsigned) && u128::from(n.value) < limit
 }
@@ -69,7 +70,8 @@ pub fn append_text(text: &[u8], into: &mut Vec<u8>) -> Result<(), NoMemory>
 fn constant(nodes: &mut Nodes<'_>, value: u64, of: u32, pos: Pos) -> Result<Operand, Refusal>
     requires whole { IsWhole nodes.old }
     requires of { of < type_count nodes.old }
-    ensures { Answers nodes.old nodes.new (gives (leaf (Constant value) (type_in nodes.old of) pos) pos) IsOperand result }
+    ensures { Answers nodes.old nodes.new (gives (leaf (Constant value) (type_in nodes.old of) pos) pos) IsOperand
+        result }
 {
     let node = nodes.leaf(Leaf::Constant(value), of, pos)?;
     Ok(Operand { node, first: pos })
@@ -96,7 +98,8 @@ pub fn size_constant(nodes: &mut Nodes<'_>, value: u64, pos: Pos) -> Result<Oper
 // A number by its value and its type.
 fn number_with(nodes: &mut Nodes<'_>, n: Number, pos: Pos) -> Result<Operand, Refusal>
     requires { IsWhole nodes.old }
-    ensures { Answers nodes.old nodes.new (gives (leaf (Constant n.value) (values.integer_type (type_of n)) pos) pos) IsOperand result }
+    ensures { Answers nodes.old nodes.new (gives (leaf (Constant n.value) (values.integer_type (type_of n)) pos) pos)
+        IsOperand result }
 {
     let of = nodes.integer(number_type(n))?;
     constant(nodes, n.value, of, pos)

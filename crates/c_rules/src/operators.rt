@@ -3,9 +3,11 @@
 ghost use Rattle.std.specs.Prelude.{◌≡◌, ◌<◌, IfOk};
 ghost use Rattle.c_tree.specs.Terms as tree;
 ghost use Rattle.c_tree.specs.Terms.{join};
-ghost use Rattle.c_tree.specs.Expressions.{gives, arithmetic, shift, unary_on, logical, from_right, integer_join, shift_join};
+ghost use Rattle.c_tree.specs.Expressions.{gives, arithmetic, shift, unary_on, logical, from_right, integer_join};
+ghost use Rattle.c_tree.specs.Expressions.{shift_join};
 ghost use Rattle.c_nodes.specs.Answers.{Answers};
-ghost use Rattle.c_nodes.specs.Nodes.{IsWhole, HasTerm, IsOperand, operand_in, type_in, term_in, type_count, term_count};
+ghost use Rattle.c_nodes.specs.Nodes.{IsWhole, HasTerm, IsOperand, operand_in, type_in, term_in, type_count};
+ghost use Rattle.c_nodes.specs.Nodes.{term_count};
 ghost use Rattle.c_rules.specs.Rules.{negated, promoted_unary};
 
 use c_nodes::{Class, Join, Nodes, Operand, Step};
@@ -36,7 +38,8 @@ fn integer_node(
     requires first { a < term_count nodes.old }
     requires second { b < term_count nodes.old }
     requires of { of < type_count nodes.old }
-    ensures { IfOk result (λ k. HasTerm nodes.old nodes.new k (integer_join op (term_in nodes.old a) (term_in nodes.old b) (type_in nodes.old of) pos)) }
+    ensures { IfOk result (λ k. HasTerm nodes.old nodes.new k
+        (integer_join op (term_in nodes.old a) (term_in nodes.old b) (type_in nodes.old of) pos)) }
 {
     match nodes.class(of) {
         Class::Cap(_) => {
@@ -64,7 +67,8 @@ pub fn arithmetic(
     requires whole { IsWhole nodes.old }
     requires left { a.node < term_count nodes.old }
     requires right { b.node < term_count nodes.old }
-    ensures { Answers nodes.old nodes.new (arithmetic op (operand_in nodes.old a) (operand_in nodes.old b) pos) IsOperand result }
+    ensures { Answers nodes.old nodes.new (arithmetic op (operand_in nodes.old a) (operand_in nodes.old b) pos)
+        IsOperand result }
 {
     let s = nodes.of(a.node);
     let t = nodes.of(b.node);
@@ -93,7 +97,8 @@ fn shift_node(
     requires first { a < term_count nodes.old }
     requires second { b < term_count nodes.old }
     requires of { of < type_count nodes.old }
-    ensures { IfOk result (λ k. HasTerm nodes.old nodes.new k (shift_join op (term_in nodes.old a) (term_in nodes.old b) (type_in nodes.old of) pos)) }
+    ensures { IfOk result (λ k. HasTerm nodes.old nodes.new k
+        (shift_join op (term_in nodes.old a) (term_in nodes.old b) (type_in nodes.old of) pos)) }
 {
     match nodes.class(of) {
         Class::Cap(_) => nodes.join(Join::Capability(op, false), a, b, of, pos),
@@ -118,7 +123,8 @@ pub fn shift(
     requires whole { IsWhole nodes.old }
     requires left { a.node < term_count nodes.old }
     requires right { b.node < term_count nodes.old }
-    ensures { Answers nodes.old nodes.new (shift op (operand_in nodes.old a) (operand_in nodes.old b) pos) IsOperand result }
+    ensures { Answers nodes.old nodes.new (shift op (operand_in nodes.old a) (operand_in nodes.old b) pos) IsOperand
+        result }
 {
     let s = nodes.of(a.node);
     let t = nodes.of(b.node);
@@ -197,7 +203,8 @@ pub fn conjunction(
     requires whole { IsWhole nodes.old }
     requires left { a.node < term_count nodes.old }
     requires right { b.node < term_count nodes.old }
-    ensures { Answers nodes.old nodes.new (logical tree.And (operand_in nodes.old a) (operand_in nodes.old b) pos) IsOperand result }
+    ensures { Answers nodes.old nodes.new (logical tree.And (operand_in nodes.old a) (operand_in nodes.old b) pos)
+        IsOperand result }
 {
     let s = nodes.of(a.node);
     let t = nodes.of(b.node);
@@ -222,7 +229,8 @@ pub fn disjunction(
     requires whole { IsWhole nodes.old }
     requires left { a.node < term_count nodes.old }
     requires right { b.node < term_count nodes.old }
-    ensures { Answers nodes.old nodes.new (logical tree.Or (operand_in nodes.old a) (operand_in nodes.old b) pos) IsOperand result }
+    ensures { Answers nodes.old nodes.new (logical tree.Or (operand_in nodes.old a) (operand_in nodes.old b) pos)
+        IsOperand result }
 {
     let s = nodes.of(a.node);
     let t = nodes.of(b.node);
@@ -242,7 +250,9 @@ pub fn comma(nodes: &mut Nodes<'_>, a: Operand, b: Operand, pos: Pos) -> Result<
     requires whole { IsWhole nodes.old }
     requires left { a.node < term_count nodes.old }
     requires right { b.node < term_count nodes.old }
-    ensures { Answers nodes.old nodes.new (gives (join tree.Comma (operand_in nodes.old a).is (operand_in nodes.old b).is (tree.type_of (operand_in nodes.old b).is) pos) a.first) IsOperand result }
+    ensures { Answers nodes.old nodes.new (gives
+        (join tree.Comma (operand_in nodes.old a).is (operand_in nodes.old b).is
+        (tree.type_of (operand_in nodes.old b).is) pos) a.first) IsOperand result }
 {
     let of = nodes.of(b.node);
     let node = nodes.join(Join::Comma, a.node, b.node, of, pos)?;

@@ -8,8 +8,10 @@ ghost use Rattle.c_tree.specs.Constants.{is_null_constant};
 ghost use Rattle.c_tree.specs.Conversions.{operand_type, converted_term};
 ghost use Rattle.c_tree.specs.Expressions.{gives, promoted_term, sum_of, differ, difference_of, both_agree, compared};
 ghost use Rattle.c_nodes.specs.Answers.{Answers};
-ghost use Rattle.c_nodes.specs.Nodes.{IsWhole, HasTerm, IsOperand, Tells, operand_in, type_in, term_in, type_count, term_count};
-ghost use Rattle.c_rules.specs.Rules.{infix_join_of, int_join_of, with_right, with_left, comparing, null_of, fallback_of, comparing_as, comparing_pointers};
+ghost use Rattle.c_nodes.specs.Nodes.{IsWhole, HasTerm, IsOperand, Tells, operand_in, type_in, term_in, type_count};
+ghost use Rattle.c_nodes.specs.Nodes.{term_count};
+ghost use Rattle.c_rules.specs.Rules.{infix_join_of, int_join_of, with_right, with_left, comparing, null_of};
+ghost use Rattle.c_rules.specs.Rules.{fallback_of, comparing_as, comparing_pointers};
 
 use crate::operators::{arithmetic, comma, conjunction, disjunction, shift};
 use c_nodes::{Join, Nodes, Operand};
@@ -38,7 +40,9 @@ fn moved_left(
     requires whole { IsWhole nodes.old }
     requires left { a.node < term_count nodes.old }
     requires right { b.node < term_count nodes.old }
-    ensures { Answers nodes.old nodes.new (gives (join (tree.Plus minus) (operand_in nodes.old a).is (promoted_term (operand_in nodes.old b).is) (operand_type (operand_in nodes.old a)) pos) a.first) IsOperand result }
+    ensures { Answers nodes.old nodes.new (gives
+        (join (tree.Plus minus) (operand_in nodes.old a).is (promoted_term (operand_in nodes.old b).is)
+        (operand_type (operand_in nodes.old a)) pos) a.first) IsOperand result }
 {
     let of = nodes.of(a.node);
     let right = nodes.promoted_term(b.node)?;
@@ -54,7 +58,9 @@ fn moved_right(nodes: &mut Nodes<'_>, a: Operand, b: Operand, pos: Pos) -> Resul
     requires whole { IsWhole nodes.old }
     requires left { a.node < term_count nodes.old }
     requires right { b.node < term_count nodes.old }
-    ensures { Answers nodes.old nodes.new (gives (join (tree.Plus false) (promoted_term (operand_in nodes.old a).is) (operand_in nodes.old b).is (operand_type (operand_in nodes.old b)) pos) a.first) IsOperand result }
+    ensures { Answers nodes.old nodes.new (gives
+        (join (tree.Plus false) (promoted_term (operand_in nodes.old a).is) (operand_in nodes.old b).is
+        (operand_type (operand_in nodes.old b)) pos) a.first) IsOperand result }
 {
     let of = nodes.of(b.node);
     let left = nodes.promoted_term(a.node)?;
@@ -70,7 +76,8 @@ pub fn sum_of(nodes: &mut Nodes<'_>, a: Operand, b: Operand, pos: Pos) -> Result
     requires whole { IsWhole nodes.old }
     requires left { a.node < term_count nodes.old }
     requires right { b.node < term_count nodes.old }
-    ensures { Answers nodes.old nodes.new (sum_of (operand_in nodes.old a) (operand_in nodes.old b) pos) IsOperand result }
+    ensures { Answers nodes.old nodes.new (sum_of (operand_in nodes.old a) (operand_in nodes.old b) pos) IsOperand
+        result }
 {
     let s = nodes.of(a.node);
     let t = nodes.of(b.node);
@@ -87,7 +94,8 @@ fn differ_targets(nodes: &mut Nodes<'_>, s: u32, t: u32) -> Result<bool, NoMemor
     requires whole { IsWhole nodes.old }
     requires first { s < type_count nodes.old }
     requires second { t < type_count nodes.old }
-    ensures { IfOk result (λ b. Tells nodes.old nodes.new (not (is_function (type_in nodes.old s)) && compatible_bare (type_in nodes.old s) (type_in nodes.old t)) b) }
+    ensures { IfOk result (λ b. Tells nodes.old nodes.new
+        (not (is_function (type_in nodes.old s)) && compatible_bare (type_in nodes.old s) (type_in nodes.old t)) b) }
 {
     let function = nodes.is_function(s);
     let compatible = nodes.compatible_bare(s, t)?;
@@ -120,7 +128,9 @@ fn pointer_difference(
     requires whole { IsWhole nodes.old }
     requires left { a.node < term_count nodes.old }
     requires right { b.node < term_count nodes.old }
-    ensures { Answers nodes.old nodes.new (gives (join tree.Difference (operand_in nodes.old a).is (operand_in nodes.old b).is long pos) a.first) IsOperand result }
+    ensures { Answers nodes.old nodes.new (gives
+        (join tree.Difference (operand_in nodes.old a).is (operand_in nodes.old b).is long pos) a.first) IsOperand
+        result }
 {
     let of = nodes.long()?;
     let node = nodes.join(Join::Difference, a.node, b.node, of, pos)?;
@@ -140,7 +150,8 @@ pub fn difference_of(
     requires whole { IsWhole nodes.old }
     requires left { a.node < term_count nodes.old }
     requires right { b.node < term_count nodes.old }
-    ensures { Answers nodes.old nodes.new (difference_of (operand_in nodes.old a) (operand_in nodes.old b) pos) IsOperand result }
+    ensures { Answers nodes.old nodes.new (difference_of (operand_in nodes.old a) (operand_in nodes.old b) pos)
+        IsOperand result }
 {
     let s = nodes.of(a.node);
     let t = nodes.of(b.node);
@@ -161,7 +172,8 @@ fn comparison(nodes: &mut Nodes<'_>, op: CmpOp, a: u32, b: u32, pos: Pos) -> Res
     requires whole { IsWhole nodes.old }
     requires left { a < term_count nodes.old }
     requires right { b < term_count nodes.old }
-    ensures { IfOk result (λ k. HasTerm nodes.old nodes.new k (join (tree.Compare op) (term_in nodes.old a) (term_in nodes.old b) int pos)) }
+    ensures { IfOk result (λ k. HasTerm nodes.old nodes.new k
+        (join (tree.Compare op) (term_in nodes.old a) (term_in nodes.old b) int pos)) }
 {
     let of = nodes.int()?;
     nodes.join(Join::Compare(op), a, b, of, pos)
@@ -177,7 +189,11 @@ fn compared_integers(
     requires whole { IsWhole nodes.old }
     requires left { a.node < term_count nodes.old }
     requires right { b.node < term_count nodes.old }
-    ensures { Answers nodes.old nodes.new (comparing op (converted_term (common (operand_type (operand_in nodes.old a)) (operand_type (operand_in nodes.old b))) (operand_in nodes.old a).is) (converted_term (common (operand_type (operand_in nodes.old a)) (operand_type (operand_in nodes.old b))) (operand_in nodes.old b).is) pos a.first) IsOperand result }
+    ensures { Answers nodes.old nodes.new (comparing op
+        (converted_term (common (operand_type (operand_in nodes.old a)) (operand_type (operand_in nodes.old b)))
+        (operand_in nodes.old a).is) (converted_term
+        (common (operand_type (operand_in nodes.old a)) (operand_type (operand_in nodes.old b)))
+        (operand_in nodes.old b).is) pos a.first) IsOperand result }
 {
     let s = nodes.of(a.node);
     let t = nodes.of(b.node);
@@ -201,7 +217,8 @@ fn compared_alike(
     requires whole { IsWhole nodes.old }
     requires left { a.node < term_count nodes.old }
     requires right { b.node < term_count nodes.old }
-    ensures { Answers nodes.old nodes.new (comparing op (operand_in nodes.old a).is (operand_in nodes.old b).is pos a.first) IsOperand result }
+    ensures { Answers nodes.old nodes.new (comparing op (operand_in nodes.old a).is
+        (operand_in nodes.old b).is pos a.first) IsOperand result }
 {
     let node = comparison(nodes, op, a.node, b.node, pos)?;
     Ok(Operand {
@@ -220,7 +237,8 @@ fn compared_right(
     requires whole { IsWhole nodes.old }
     requires left { a.node < term_count nodes.old }
     requires right { b.node < term_count nodes.old }
-    ensures { Answers nodes.old nodes.new (with_right op pos (operand_in nodes.old a) (operand_in nodes.old b)) IsOperand result }
+    ensures { Answers nodes.old nodes.new (with_right op pos (operand_in nodes.old a) (operand_in nodes.old b))
+        IsOperand result }
 {
     let of = nodes.of(a.node);
     let right = nodes.converted(of, b.node)?;
@@ -241,7 +259,8 @@ fn compared_left(
     requires whole { IsWhole nodes.old }
     requires left { a.node < term_count nodes.old }
     requires right { b.node < term_count nodes.old }
-    ensures { Answers nodes.old nodes.new (with_left op pos (operand_in nodes.old a) (operand_in nodes.old b)) IsOperand result }
+    ensures { Answers nodes.old nodes.new (with_left op pos (operand_in nodes.old a) (operand_in nodes.old b)) IsOperand
+        result }
 {
     let of = nodes.of(b.node);
     let left = nodes.converted(of, a.node)?;
@@ -276,7 +295,8 @@ fn null_between(nodes: &Nodes<'_>, s: u32, t: u32, a: u32, b: u32) -> Fallback
     requires second { t < type_count nodes.now }
     requires left { a < term_count nodes.now }
     requires right { b < term_count nodes.now }
-    ensures { null_of (type_in nodes.now s) (type_in nodes.now t) (is_null_constant (term_in nodes.now a)) (is_null_constant (term_in nodes.now b)) ≡ result }
+    ensures { null_of (type_in nodes.now s) (type_in nodes.now t) (is_null_constant (term_in nodes.now a))
+        (is_null_constant (term_in nodes.now b)) ≡ result }
 {
     if nodes.is_pointer(s) && nodes.is_null(b) {
         Fallback::Right
@@ -314,7 +334,8 @@ fn compared_as(
     requires whole { IsWhole nodes.old }
     requires left { a.node < term_count nodes.old }
     requires right { b.node < term_count nodes.old }
-    ensures { Answers nodes.old nodes.new (comparing_as how op pos (operand_in nodes.old a) (operand_in nodes.old b)) IsOperand result }
+    ensures { Answers nodes.old nodes.new (comparing_as how op pos (operand_in nodes.old a) (operand_in nodes.old b))
+        IsOperand result }
 {
     match how {
         Fallback::Right => compared_right(nodes, op, a, b, pos),
@@ -323,7 +344,8 @@ fn compared_as(
     }
 }
 
-// Two operands that are not both integers, neither a null pointer constant: their types agree, or one is a pointer to `void`.
+// Two operands that are not both integers, neither a null pointer constant: their types agree, or one is a pointer to
+// `void`.
 fn compared_pointers(
     nodes: &mut Nodes<'_>,
     op: CmpOp,
@@ -334,7 +356,8 @@ fn compared_pointers(
     requires whole { IsWhole nodes.old }
     requires left { a.node < term_count nodes.old }
     requires right { b.node < term_count nodes.old }
-    ensures { Answers nodes.old nodes.new (comparing_pointers op pos (operand_in nodes.old a) (operand_in nodes.old b)) IsOperand result }
+    ensures { Answers nodes.old nodes.new (comparing_pointers op pos (operand_in nodes.old a) (operand_in nodes.old b))
+        IsOperand result }
 {
     let s = nodes.of(a.node);
     let t = nodes.of(b.node);
@@ -358,7 +381,8 @@ pub fn compared(
     requires whole { IsWhole nodes.old }
     requires left { a.node < term_count nodes.old }
     requires right { b.node < term_count nodes.old }
-    ensures { Answers nodes.old nodes.new (compared op (operand_in nodes.old a) (operand_in nodes.old b) pos) IsOperand result }
+    ensures { Answers nodes.old nodes.new (compared op (operand_in nodes.old a) (operand_in nodes.old b) pos) IsOperand
+        result }
 {
     let s = nodes.of(a.node);
     let t = nodes.of(b.node);
@@ -384,7 +408,8 @@ fn int_join_of(
     requires whole { IsWhole nodes.old }
     requires left { a.node < term_count nodes.old }
     requires right { b.node < term_count nodes.old }
-    ensures { Answers nodes.old nodes.new (int_join_of op (operand_in nodes.old a) (operand_in nodes.old b) pos) IsOperand result }
+    ensures { Answers nodes.old nodes.new (int_join_of op (operand_in nodes.old a) (operand_in nodes.old b) pos)
+        IsOperand result }
 {
     match op {
         IntOp::Add => sum_of(nodes, a, b, pos),
@@ -400,7 +425,8 @@ fn int_join_of(
     }
 }
 
-/// An operator between two operands, where what pointers point to is known to be complete (C11 6.5.5 to 6.5.14, 6.5.17).
+/// An operator between two operands, where what pointers point to is known to be complete (C11 6.5.5 to 6.5.14,
+/// 6.5.17).
 pub fn infix_join_of(
     nodes: &mut Nodes<'_>,
     op: InfixOperator,
@@ -411,7 +437,8 @@ pub fn infix_join_of(
     requires whole { IsWhole nodes.old }
     requires left { a.node < term_count nodes.old }
     requires right { b.node < term_count nodes.old }
-    ensures { Answers nodes.old nodes.new (infix_join_of op (operand_in nodes.old a) (operand_in nodes.old b) pos) IsOperand result }
+    ensures { Answers nodes.old nodes.new (infix_join_of op (operand_in nodes.old a) (operand_in nodes.old b) pos)
+        IsOperand result }
 {
     match op {
         InfixOperator::Int(op) => int_join_of(nodes, op, a, b, pos),

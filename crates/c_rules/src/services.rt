@@ -58,9 +58,9 @@ struct Service {
     gives: Given,
 }
 
-/// By their numbers: `putchar`, `getchar`, `malloc`, `exit`; the intrinsics that get the address, the base, the offset, the length, the
-/// tag and the permissions; those that set the address, clear the tag, set bounds, set exact bounds and take permissions away; the exact
-/// comparison; and the two that round lengths.
+/// By their numbers: `putchar`, `getchar`, `malloc`, `exit`; the intrinsics that get the address, the base, the offset,
+/// the length, the tag and the permissions; those that set the address, clear the tag, set bounds, set exact bounds and
+/// take permissions away; the exact comparison; and the two that round lengths.
 const SERVICES: [Service; 18] = [
     Service {
         takes: Takes::Int,
@@ -199,7 +199,8 @@ fn as_asked(nodes: &mut Nodes<'_>, what: Asked, x: Operand) -> Result<u32, Refus
 fn all_asked(nodes: &mut Nodes<'_>, takes: &[Asked], xs: &[Operand]) -> Result<Vec<u32>, Refusal>
     requires whole { IsWhole nodes.old }
     requires operands { AreThere (term_count nodes.old) xs.now }
-    ensures { Answers nodes.old nodes.new (all_asked (map asked_as takes.now) (map (operand_in nodes.old) xs.now)) AreTerms result }
+    ensures { Answers nodes.old nodes.new (all_asked (map asked_as takes.now) (map (operand_in nodes.old) xs.now))
+        AreTerms result }
 {
     let mut values = Vec::new(nodes.alloc);
     let count = fewer(takes.len(), xs.len());
@@ -226,7 +227,8 @@ fn first_type(nodes: &Nodes<'_>, values: &[u32]) -> u32
 fn given_type(nodes: &mut Nodes<'_>, gives: Given, values: &[u32]) -> Result<u32, NoMemory>
     requires whole { IsWhole nodes.old }
     requires there { AreBelow (term_count nodes.old) values.now }
-    ensures { IfOk result (λ k. HasType nodes.old nodes.new k (given_type (given_as gives) (map (term_in nodes.old) values.now))) }
+    ensures { IfOk result (λ k. HasType nodes.old nodes.new k
+        (given_type (given_as gives) (map (term_in nodes.old) values.now))) }
 {
     match gives {
         Given::Void => nodes.void(),
@@ -250,7 +252,8 @@ fn served(
 ) -> Result<Operand, Refusal>
     requires whole { IsWhole nodes.old }
     requires operands { AreThere (term_count nodes.old) xs.now }
-    ensures { Answers nodes.old nodes.new (library_as (map asked_as takes.now) (given_as gives) service (map (operand_in nodes.old) xs.now) pos first) IsOperand result }
+    ensures { Answers nodes.old nodes.new (library_as (map asked_as takes.now) (given_as gives) service
+        (map (operand_in nodes.old) xs.now) pos first) IsOperand result }
 {
     let values = all_asked(nodes, takes, xs)?;
     if !are_as_many_asked(takes, xs) {
@@ -261,8 +264,9 @@ fn served(
     Ok(Operand { node, first })
 }
 
-/// A direct call of a library function or an intrinsic, by its number. `pos` is the place of the call, and `first` its first byte. Each
-/// argument is refused by 133 where it is not what is asked for, and the call by 136 where there are more or fewer.
+/// A direct call of a library function or an intrinsic, by its number. `pos` is the place of the call, and `first` its
+/// first byte. Each argument is refused by 133 where it is not what is asked for, and the call by 136 where there are
+/// more or fewer.
 pub fn library_call(
     nodes: &mut Nodes<'_>,
     service: u8,
@@ -272,7 +276,8 @@ pub fn library_call(
 ) -> Result<Operand, Refusal>
     requires whole { IsWhole nodes.old }
     requires operands { AreThere (term_count nodes.old) xs.now }
-    ensures { Answers nodes.old nodes.new (library_call (slice_get services service) service (map (operand_in nodes.old) xs.now) pos first) IsOperand result }
+    ensures { Answers nodes.old nodes.new (library_call (slice_get services service) service
+        (map (operand_in nodes.old) xs.now) pos first) IsOperand result }
 {
     match service_of(service) {
         None => Err(Refusal::Code(133, first)),

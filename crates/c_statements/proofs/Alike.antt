@@ -1,5 +1,6 @@
 -- Whether a label is among those before it, and one more behind them.
-use Rattle.std.proofs.Common.{◌≡◌, ℕ, Bool, true, false, List, [], ◌∷◌, ◌++◌, map, Option, None, Some, refl, sym, ap, ◌∙◌, is_some, nat_eq, cond, if◌then◌else◌, true≢false}
+use Rattle.std.proofs.Common.{◌≡◌, ℕ, Bool, true, false, List, [], ◌∷◌, ◌++◌, map, Option, None, Some, refl, sym, ap}
+use Rattle.std.proofs.Common.{◌∙◌, is_some, nat_eq, cond, if◌then◌else◌, true≢false}
 use Rattle.std.specs.Prelude.{◌||◌}
 use Rattle.std.specs.Map.{lookup}
 use Rattle.std.specs.Option.{option_eq}
@@ -19,7 +20,8 @@ found_is : (b : Bool) (n : ℕ) (o : Option ℕ) → (b || is_some o) ≡ is_som
 found_is true n o = refl
 found_is false n o = refl
 
-pub has_found : (v : Option ℕ) (es : List (Option ℕ × ℕ)) → has_label v (map label_of (map switch_label es)) ≡ is_some (lookup (option_eq nat_eq v) es)
+pub has_found : (v : Option ℕ) (es : List (Option ℕ × ℕ)) →
+    has_label v (map label_of (map switch_label es)) ≡ is_some (lookup (option_eq nat_eq v) es)
 has_found v [] = refl
 has_found v (e ∷ es) =
     ap (λ b. b || has_label v (map label_of (map switch_label es))) (same_is v e.0)
@@ -27,10 +29,17 @@ has_found v (e ∷ es) =
     ∙ found_is (option_eq nat_eq v e.0) e.1 (lookup (option_eq nat_eq v) es)
 
 -- a label that no earlier one is like goes last
-pub added : (v : Option ℕ) (n : ℕ) (es : List (Option ℕ × ℕ)) → has_label v (map label_of (map switch_label es)) ≡ false → map switch_label (insert_entry (option_eq nat_eq) es v n) ≡ map switch_label es ++ switch_label (v, n) ∷ []
+pub added : (v : Option ℕ) (n : ℕ) (es : List (Option ℕ × ℕ)) →
+    has_label v (map label_of (map switch_label es)) ≡ false →
+    map switch_label (insert_entry (option_eq nat_eq) es v n) ≡ map switch_label es ++ switch_label (v, n) ∷ []
 added v n [] h = refl
-added v n (e ∷ es) h = by (option_eq nat_eq v e.0) (sym (ap (λ b. b || has_label v (map label_of (map switch_label es))) (same_is v e.0)) ∙ h) (added v n es)
+added v n (e ∷ es) h = by (option_eq nat_eq v e.0)
+    (sym (ap (λ b. b || has_label v (map label_of (map switch_label es))) (same_is v e.0)) ∙ h) (added v n es)
   where
-    by : (b : Bool) → (b || has_label v (map label_of (map switch_label es))) ≡ false → (has_label v (map label_of (map switch_label es)) ≡ false → map switch_label (insert_entry (option_eq nat_eq) es v n) ≡ map switch_label es ++ switch_label (v, n) ∷ []) → map switch_label (if b then (e.0, n) ∷ es else e ∷ insert_entry (option_eq nat_eq) es v n) ≡ map switch_label (e ∷ es) ++ switch_label (v, n) ∷ []
+    by : (b : Bool) → (b || has_label v (map label_of (map switch_label es))) ≡ false →
+        (has_label v (map label_of (map switch_label es)) ≡ false →
+        map switch_label (insert_entry (option_eq nat_eq) es v n) ≡ map switch_label es ++ switch_label (v, n) ∷ []) →
+        map switch_label (if b then (e.0, n) ∷ es else e ∷ insert_entry (option_eq nat_eq) es v n)
+        ≡ map switch_label (e ∷ es) ++ switch_label (v, n) ∷ []
     by true g rest = absurd (true≢false g)
     by false g rest = ap (λ (ls : List SwitchLabel). switch_label e ∷ ls) (rest g)

@@ -1,5 +1,7 @@
 -- What the work shows once a name is declared.
-use Rattle.std.proofs.Common.{◌≡◌, ℕ, zero, suc, ◌+◌, ◌<◌, ◌≤◌, Bool, true, false, ◌⊎◌, inl, inr, ⊎_elim, List, [], ◌∷◌, ◌++◌, length, map, Option, Some, None, Result, Ok, Err, refl, sym, ap, subst, ◌∙◌, arith, length-append}
+use Rattle.std.proofs.Common.{◌≡◌, ℕ, zero, suc, ◌+◌, ◌<◌, ◌≤◌, Bool, true, false, ◌⊎◌, inl, inr, ⊎_elim, List, [], ◌∷◌}
+use Rattle.std.proofs.Common.{◌++◌, length, map, Option, Some, None, Result, Ok, Err, refl, sym, ap, subst, ◌∙◌, arith}
+use Rattle.std.proofs.Common.{length-append}
 use Rattle.std.specs.Prelude.{slice_get, option_map, ◌==◌, ◌||◌, if◌then◌else◌}
 use Rattle.std.specs.Global.{Vec}
 use Rattle.std.proofs.lemmas.Bool.{ne_eqb}
@@ -10,7 +12,8 @@ use Rattle.ck_base.specs.Tokens.{Lexeme}
 use Rattle.c_tree.specs.declared.typed.Typed.{Typed}
 use Rattle.c_tree.specs.declared.typed.VarDef.{VarDef}
 use Rattle.c_tree.specs.Scopes as meant
-use Rattle.c_tree.specs.Scopes.{StaticState, RoutineState, LocalState, State, Doing, Fault, give, look, continued, ◌>>=◌, find_in, innermost}
+use Rattle.c_tree.specs.Scopes.{StaticState, RoutineState, LocalState, State, Doing, Fault, give, look, continued}
+use Rattle.c_tree.specs.Scopes.{◌>>=◌, find_in, innermost}
 use Rattle.c_tree.specs.Declarators.{Formed}
 use Rattle.c_tree.specs.Views.{types_of, actions_of, text_of}
 use Rattle.c_types.specs.declared.scopes.Scopes.{Scopes}
@@ -33,11 +36,14 @@ use Rattle.c_work.specs.declared.work.Use.{Use}
 use Rattle.c_work.specs.declared.work.Filling.{Filling}
 use Rattle.c_work.specs.declared.work.Definition.{Definition}
 use Rattle.c_work.specs.declared.work.Work.{Work}
-use Rattle.c_work.specs.Work.{Shows, IsClosed, DefinitionIsThere, UseIsThere, is_object, is_function, first_place, is_among, filling_of, definition_of, option_seen, body_seen, seen_of}
+use Rattle.c_work.specs.Work.{Shows, IsClosed, DefinitionIsThere, UseIsThere, is_object, is_function, first_place}
+use Rattle.c_work.specs.Work.{is_among, filling_of, definition_of, option_seen, body_seen, seen_of}
 use Rattle.c_work.specs.Answers.{Keeps, freely, Done, Answers}
-use Rattle.c_work.proofs.Extending.{AreExtended, extends_goes_on, extended_whole, extended_keeps, extended_values, extended_definition}
+use Rattle.c_work.proofs.Extending.{AreExtended, extends_goes_on, extended_whole, extended_keeps, extended_values}
+use Rattle.c_work.proofs.Extending.{extended_definition}
 use Rattle.c_statements.specs.Declaring.{DeclaresIn, declares, begins, EntityThere, IsEntity, FunctionThere, IsFunction}
-use Rattle.c_statements.proofs.Leaving.{AddsFresh, static_facts, no_static, routine_facts, no_routine, Enters, Begins, named_leaves, definition_leaves, denoted_value}
+use Rattle.c_statements.proofs.Leaving.{AddsFresh, static_facts, no_static, routine_facts, no_routine, Enters, Begins}
+use Rattle.c_statements.proofs.Leaving.{named_leaves, definition_leaves, denoted_value}
 use Rattle.c_statements.proofs.Meaning.{definition_number}
 
 -- ---- what is there, and what is new
@@ -45,24 +51,31 @@ use Rattle.c_statements.proofs.Meaning.{definition_number}
 abbrev Known : {A B : Type 0} → (A → B) → B → List A → ℕ → A → Type 0
 Known {A} of none xs k y = ((x : A) × (slice_get xs k ≡ Some x) × (of y ≡ of x)) ⊎ ((k ≡ length xs) × (of y ≡ none))
 
-one_known : {A B : Type 0} (of : A → B) (none : B) (xs ys : List A) (k : ℕ) (y : A) → map of ys ≡ map of xs ++ none ∷ [] → slice_get ys k ≡ Some y → Known of none xs k y
+one_known : {A B : Type 0} (of : A → B) (none : B) (xs ys : List A) (k : ℕ) (y : A) →
+    map of ys ≡ map of xs ++ none ∷ [] → slice_get ys k ≡ Some y → Known of none xs k y
 one_known of none [] [] k y e g = absurd cc
-one_known of none [] (z ∷ []) zero y e g = inr (refl, (let a : of z ≡ none = cc in let b : z ≡ y = cc in ap of (sym b) ∙ a))
+one_known of none [] (z ∷ []) zero y e g =
+    inr (refl, (let a : of z ≡ none = cc in let b : z ≡ y = cc in ap of (sym b) ∙ a))
 one_known of none [] (z ∷ []) (suc k) y e g = absurd cc
 one_known of none [] (z ∷ u ∷ zs) k y e g = absurd cc
 one_known of none (x ∷ xs) [] k y e g = absurd cc
-one_known of none (x ∷ xs) (z ∷ zs) zero y e g = inl (x, refl, (let a : of z ≡ of x = cc in let b : z ≡ y = cc in ap of (sym b) ∙ a))
+one_known of none (x ∷ xs) (z ∷ zs) zero y e g =
+    inl (x, refl, (let a : of z ≡ of x = cc in let b : z ≡ y = cc in ap of (sym b) ∙ a))
 one_known of none (x ∷ xs) (z ∷ zs) (suc k) y e g =
-    ⊎_elim (λ a. inl (a.0, a.1, a.2)) (λ b. inr (ap suc b.0, b.1)) (one_known of none xs zs k y (let a : map of zs ≡ map of xs ++ none ∷ [] = cc in a) g)
+    ⊎_elim (λ a. inl (a.0, a.1, a.2)) (λ b. inr (ap suc b.0, b.1))
+    (one_known of none xs zs k y (let a : map of zs ≡ map of xs ++ none ∷ [] = cc in a) g)
 
-known : {A B : Type 0} (of : A → B) (none : B) (xs ys : List A) (k : ℕ) (y : A) → AddsFresh of none xs ys → slice_get ys k ≡ Some y → Known of none xs k y
+known : {A B : Type 0} (of : A → B) (none : B) (xs ys : List A) (k : ℕ) (y : A) → AddsFresh of none xs ys →
+    slice_get ys k ≡ Some y → Known of none xs k y
 known of none xs ys k y (inl e) g = let a = seen_at of of ys xs k y e g in inl (a.0, a.1, a.2)
 known of none xs ys k y (inr e) g = one_known of none xs ys k y e g
 
-one_longer : {A B : Type 0} (of : A → B) (none : B) (xs ys : List A) → map of ys ≡ map of xs ++ none ∷ [] → length xs ≤ length ys
+one_longer : {A B : Type 0} (of : A → B) (none : B) (xs ys : List A) → map of ys ≡ map of xs ++ none ∷ [] →
+    length xs ≤ length ys
 one_longer of none [] ys e = omega arith
 one_longer of none (x ∷ xs) [] e = absurd cc
-one_longer of none (x ∷ xs) (y ∷ ys) e = let f = one_longer of none xs ys (let a : map of ys ≡ map of xs ++ none ∷ [] = cc in a) in omega arith
+one_longer of none (x ∷ xs) (y ∷ ys) e =
+    let f = one_longer of none xs ys (let a : map of ys ≡ map of xs ++ none ∷ [] = cc in a) in omega arith
 
 longer : {A B : Type 0} (of : A → B) (none : B) (xs ys : List A) → AddsFresh of none xs ys → length xs ≤ length ys
 longer of none xs ys (inl e) = let f : length ys ≡ length xs = seen_length of of ys xs e in omega arith
@@ -81,21 +94,26 @@ not_function : (n m : ℕ) (x : Used) → UseIsThere n m x → is_function m x �
 not_function n m (used.Object j) l = refl
 not_function n m (used.Function j) l = below_other j m l
 
-no_place : (test : Used → Bool) (us : List Use) → ((k : ℕ) (u : Use) → slice_get us k ≡ Some u → test u.what ≡ false) → first_place test us ≡ None
+no_place : (test : Used → Bool) (us : List Use) → ((k : ℕ) (u : Use) → slice_get us k ≡ Some u → test u.what ≡ false) →
+    first_place test us ≡ None
 no_place test [] h = refl
-no_place test (u ∷ us) h = ap (λ b. if b then Some u.pos else first_place test us) (h 0 u refl) ∙ no_place test us (λ k v e. h (suc k) v e)
+no_place test (u ∷ us) h =
+    ap (λ b. if b then Some u.pos else first_place test us) (h 0 u refl) ∙ no_place test us (λ k v e. h (suc k) v e)
 
-no_filling : (n : ℕ) (fs : List Filling) → ((k : ℕ) (f : Filling) → slice_get fs k ≡ Some f → f.object < n) → filling_of n fs ≡ None
+no_filling : (n : ℕ) (fs : List Filling) → ((k : ℕ) (f : Filling) → slice_get fs k ≡ Some f → f.object < n) →
+    filling_of n fs ≡ None
 no_filling n [] h = refl
 no_filling n (f ∷ fs) h = rw (below_other f.object n (h 0 f refl)) (no_filling n fs (λ k g e. h (suc k) g e))
 
-no_definition : (n : ℕ) (ds : List Definition) → ((k : ℕ) (d : Definition) → slice_get ds k ≡ Some d → d.function < n) → definition_of n ds ≡ None
+no_definition : (n : ℕ) (ds : List Definition) → ((k : ℕ) (d : Definition) → slice_get ds k ≡ Some d → d.function < n) →
+    definition_of n ds ≡ None
 no_definition n [] h = refl
 no_definition n (d ∷ ds) h = rw (below_other d.function n (h 0 d refl)) (no_definition n ds (λ k e i. h (suc k) e i))
 
 not_among : (n : ℕ) (ks : List ℕ) → ((k j : ℕ) → slice_get ks k ≡ Some j → j < n) → is_among n ks ≡ false
 not_among n [] h = refl
-not_among n (j ∷ ks) h = ap (λ b. b || is_among n ks) (below_other j n (h 0 j refl)) ∙ not_among n ks (λ k i e. h (suc k) i e)
+not_among n (j ∷ ks) h = ap (λ b. b || is_among n ks) (below_other j n (h 0 j refl))
+    ∙ not_among n ks (λ k i e. h (suc k) i e)
 
 use_there : (a b n m : ℕ) (x : Used) → a ≤ n → b ≤ m → UseIsThere a b x → UseIsThere n m x
 use_there a b n m (used.Object j) l k h = omega arith
@@ -106,69 +124,105 @@ use_there a b n m (used.Function j) l k h = omega arith
 abbrev pub with_declared : Work → Scopes → Typed → Vec ℕ → Work
 with_declared w sc q ks = record w { nodes = record w.nodes { p = q; scopes = sc }; addressed = ks }
 
-extended : (w : Work) (sc : Scopes) (q : Typed) → Extends w.nodes.p q → sc.file.now ≡ w.nodes.scopes.file.now → AreExtended w.nodes (record w.nodes { p = q; scopes = sc })
+extended : (w : Work) (sc : Scopes) (q : Typed) → Extends w.nodes.p q → sc.file.now ≡ w.nodes.scopes.file.now →
+    AreExtended w.nodes (record w.nodes { p = q; scopes = sc })
 extended w sc q e f = record { program = extends_goes_on w.nodes.p q e; facts = refl; void = refl; file = f }
 
-whole_declared : (w : Work) (sc : Scopes) (q : Typed) → IsWhole w.nodes → Extends w.nodes.p q → sc.file.now ≡ w.nodes.scopes.file.now → IsWhole (record w.nodes { p = q; scopes = sc })
+whole_declared : (w : Work) (sc : Scopes) (q : Typed) → IsWhole w.nodes → Extends w.nodes.p q →
+    sc.file.now ≡ w.nodes.scopes.file.now → IsWhole (record w.nodes { p = q; scopes = sc })
 whole_declared w sc q h e f = extended_whole w.nodes (record w.nodes { p = q; scopes = sc }) h (extended w sc q e f)
 
-keeps_declared : (w : Work) (sc : Scopes) (q : Typed) (ks : Vec ℕ) → IsWhole w.nodes → Extends w.nodes.p q → sc.file.now ≡ w.nodes.scopes.file.now → Keeps w (with_declared w sc q ks)
+keeps_declared : (w : Work) (sc : Scopes) (q : Typed) (ks : Vec ℕ) → IsWhole w.nodes → Extends w.nodes.p q →
+    sc.file.now ≡ w.nodes.scopes.file.now → Keeps w (with_declared w sc q ks)
 keeps_declared w sc q ks h e f =
     let k = extended_keeps w (record w.nodes { p = q; scopes = sc }) h (extended w sc q e f) in
-    record { more_types = k.more_types; more_terms = k.more_terms; more_actions = k.more_actions; types = k.types; terms = k.terms; values = k.values; actions = k.actions; file = refl; tree = refl }
+    record {
+      more_types = k.more_types;
+      more_terms = k.more_terms;
+      more_actions = k.more_actions;
+      types = k.types;
+      terms = k.terms;
+      values = k.values;
+      actions = k.actions;
+      file = refl;
+      tree = refl;
+    }
 
-module _ (w : Work) (sc : Scopes) (q : Typed) (ks : Vec ℕ) (s t : State) (whole : IsWhole w.nodes) (ext : Extends w.nodes.p q) (fl : sc.file.now ≡ w.nodes.scopes.file.now) (h : Shows w s)
-    (statics : AddsFresh static_facts no_static s.statics t.statics) (routines : AddsFresh routine_facts no_routine s.routines t.routines) where
-  objects_used : (k : ℕ) (g : StaticState) → slice_get t.statics k ≡ Some g → g.used ≡ first_place (is_object k) w.uses.items
+module _ (w : Work) (sc : Scopes) (q : Typed) (ks : Vec ℕ) (s t : State) (whole : IsWhole w.nodes)
+    (ext : Extends w.nodes.p q) (fl : sc.file.now ≡ w.nodes.scopes.file.now) (h : Shows w s)
+    (statics : AddsFresh static_facts no_static s.statics t.statics)
+    (routines : AddsFresh routine_facts no_routine s.routines t.routines) where
+  objects_used : (k : ℕ) (g : StaticState) → slice_get t.statics k ≡ Some g →
+      g.used ≡ first_place (is_object k) w.uses.items
   objects_used k g e =
       ⊎_elim
       (λ a. ap (λ x. x.1) a.2 ∙ h.used_objects k a.0 a.1)
-      (λ b. ap (λ x. x.1) b.1 ∙ sym (ap (λ n. first_place (is_object n) w.uses.items) b.0 ∙ no_place (is_object (length s.statics)) w.uses.items (λ j u i. not_object (length s.statics) (length s.routines) u.what (h.closed.uses j u i))))
+      (λ b. ap (λ x. x.1) b.1 ∙ sym (ap (λ n. first_place (is_object n) w.uses.items) b.0
+      ∙ no_place (is_object (length s.statics)) w.uses.items
+      (λ j u i. not_object (length s.statics) (length s.routines) u.what (h.closed.uses j u i))))
       (known static_facts no_static s.statics t.statics k g statics e)
 
-  functions_used : (k : ℕ) (f : RoutineState) → slice_get t.routines k ≡ Some f → f.used ≡ first_place (is_function k) w.uses.items
+  functions_used : (k : ℕ) (f : RoutineState) → slice_get t.routines k ≡ Some f →
+      f.used ≡ first_place (is_function k) w.uses.items
   functions_used k f e =
       ⊎_elim
       (λ a. ap (λ x. x.1) a.2 ∙ h.used_functions k a.0 a.1)
-      (λ b. ap (λ x. x.1) b.1 ∙ sym (ap (λ n. first_place (is_function n) w.uses.items) b.0 ∙ no_place (is_function (length s.routines)) w.uses.items (λ j u i. not_function (length s.statics) (length s.routines) u.what (h.closed.uses j u i))))
+      (λ b. ap (λ x. x.1) b.1 ∙ sym (ap (λ n. first_place (is_function n) w.uses.items) b.0
+      ∙ no_place (is_function (length s.routines)) w.uses.items
+      (λ j u i. not_function (length s.statics) (length s.routines) u.what (h.closed.uses j u i))))
       (known routine_facts no_routine s.routines t.routines k f routines e)
 
-  objects_filled : (k : ℕ) (g : StaticState) → slice_get t.statics k ≡ Some g → g.initial ≡ filling_of k w.fillings.items
+  objects_filled : (k : ℕ) (g : StaticState) → slice_get t.statics k ≡ Some g →
+      g.initial ≡ filling_of k w.fillings.items
   objects_filled k g e =
       ⊎_elim
       (λ a. ap (λ x. x.0) a.2 ∙ h.fillings k a.0 a.1)
-      (λ b. ap (λ x. x.0) b.1 ∙ sym (ap (λ n. filling_of n w.fillings.items) b.0 ∙ no_filling (length s.statics) w.fillings.items h.closed.fillings))
+      (λ b. ap (λ x. x.0) b.1 ∙ sym (ap (λ n. filling_of n w.fillings.items) b.0
+      ∙ no_filling (length s.statics) w.fillings.items h.closed.fillings))
       (known static_facts no_static s.statics t.statics k g statics e)
 
-  functions_defined : (k : ℕ) (f : RoutineState) → slice_get t.routines k ≡ Some f → option_seen body_seen f.body ≡ option_seen (seen_of (types_of q.types) (actions_of q)) (definition_of k w.definitions.items)
+  functions_defined : (k : ℕ) (f : RoutineState) → slice_get t.routines k ≡ Some f →
+      option_seen body_seen f.body ≡ option_seen (seen_of (types_of q.types) (actions_of q))
+      (definition_of k w.definitions.items)
   functions_defined k f e =
       ⊎_elim
-      (λ a. ap (option_seen body_seen) (ap (λ x. x.0) a.2) ∙ h.definitions k a.0 a.1 ∙ sym (extended_definition w (record w.nodes { p = q; scopes = sc }) s k whole (extended w sc q ext fl) h.closed))
-      (λ b. ap (option_seen body_seen) (ap (λ x. x.0) b.1) ∙ sym (ap (option_seen (seen_of (types_of q.types) (actions_of q))) (ap (λ n. definition_of n w.definitions.items) b.0 ∙ no_definition (length s.routines) w.definitions.items (λ j d i. (h.closed.definitions j d i).function))))
+      (λ a. ap (option_seen body_seen) (ap (λ x. x.0) a.2) ∙ h.definitions k a.0 a.1
+      ∙ sym (extended_definition w (record w.nodes { p = q; scopes = sc }) s k whole
+      (extended w sc q ext fl) h.closed))
+      (λ b. ap (option_seen body_seen) (ap (λ x. x.0) b.1)
+      ∙ sym (ap (option_seen (seen_of (types_of q.types) (actions_of q)))
+      (ap (λ n. definition_of n w.definitions.items) b.0
+      ∙ no_definition (length s.routines) w.definitions.items
+      (λ j d i. (h.closed.definitions j d i).function))))
       (known routine_facts no_routine s.routines t.routines k f routines e)
 
   definition_there : (d : Definition) → DefinitionIsThere w s d → DefinitionIsThere (with_declared w sc q ks) t d
   definition_there d a = record {
     function = (let l : length s.routines ≤ length t.routines = longer routine_facts no_routine s.routines t.routines routines in let f : d.function < length s.routines = a.function in omega arith);
     body = rw ext.stmts a.body;
-    vars = λ j v g. (let f : v.of < length w.nodes.p.types = a.vars j v g in let l : length w.nodes.p.types ≤ length q.types = ext.count in omega arith);
+    vars = λ j v g. (let f : v.of < length w.nodes.p.types = a.vars j v g in
+        let l : length w.nodes.p.types ≤ length q.types = ext.count in omega arith);
   }
 
-  closed_declared : t.tags ≡ s.tags → ((k j : ℕ) → slice_get ks.items k ≡ Some j → j < length t.locals) → IsClosed (with_declared w sc q ks) t
+  closed_declared : t.tags ≡ s.tags → ((k j : ℕ) → slice_get ks.items k ≡ Some j → j < length t.locals) →
+      IsClosed (with_declared w sc q ks) t
   closed_declared tags there =
       let objects : length s.statics ≤ length t.statics = longer static_facts no_static s.statics t.statics statics in
-      let functions : length s.routines ≤ length t.routines = longer routine_facts no_routine s.routines t.routines routines in
+      let functions : length s.routines ≤ length t.routines =
+      longer routine_facts no_routine s.routines t.routines routines in
       record {
         file = fl ∙ h.closed.file;
         members = λ n g ms i j k m e. h.closed.members n g ms (rw tags at i) j k m e;
         values = extended_values w (record w.nodes { p = q; scopes = sc }) (extended w sc q ext fl) h.closed.values;
-        uses = λ k u e. use_there (length s.statics) (length s.routines) (length t.statics) (length t.routines) u.what objects functions (h.closed.uses k u e);
+        uses = λ k u e. use_there (length s.statics) (length s.routines) (length t.statics)
+            (length t.routines) u.what objects functions (h.closed.uses k u e);
         addressed = there;
         fillings = λ k f e. (let l : f.object < length s.statics = h.closed.fillings k f e in omega arith);
         definitions = λ k d e. definition_there d (h.closed.definitions k d e);
       }
 
-  shows_declared : Stands sc q t → t.tags ≡ s.tags → t.texts ≡ s.texts → t.pending ≡ s.pending → ((k : ℕ) (v : LocalState) → slice_get t.locals k ≡ Some v → v.addressed ≡ is_among k ks.items) →
+  shows_declared : Stands sc q t → t.tags ≡ s.tags → t.texts ≡ s.texts → t.pending ≡ s.pending →
+      ((k : ℕ) (v : LocalState) → slice_get t.locals k ≡ Some v → v.addressed ≡ is_among k ks.items) →
       ((k j : ℕ) → slice_get ks.items k ≡ Some j → j < length t.locals) → Shows (with_declared w sc q ks) t
   shows_declared stands tags texts pending addressed there = record {
     stands = stands;
@@ -184,25 +238,37 @@ module _ (w : Work) (sc : Scopes) (q : Typed) (ks : Vec ℕ) (s t : State) (whol
 
 -- ---- a name is declared
 
-shows_named : (w : Work) (sc : Scopes) (q : Typed) (s t : State) → IsWhole w.nodes → Extends w.nodes.p q → sc.file.now ≡ w.nodes.scopes.file.now → Shows w s → Stands sc q t → Enters s t → Shows (with_declared w sc q w.addressed) t
+shows_named : (w : Work) (sc : Scopes) (q : Typed) (s t : State) → IsWhole w.nodes → Extends w.nodes.p q →
+    sc.file.now ≡ w.nodes.scopes.file.now → Shows w s → Stands sc q t → Enters s t →
+    Shows (with_declared w sc q w.addressed) t
 shows_named w sc q s t whole ext fl h stands e =
-    let locals : length s.locals ≤ length t.locals = longer (λ (v : LocalState). v.addressed) false s.locals t.locals e.locals in
+    let locals : length s.locals ≤ length t.locals =
+    longer (λ (v : LocalState). v.addressed) false s.locals t.locals e.locals in
     shows_declared w sc q w.addressed s t whole ext fl h e.statics e.routines stands e.tags e.texts e.pending
     (λ k v g.
     ⊎_elim
     (λ a. a.2 ∙ h.addressed k a.0 a.1)
-    (λ b. b.1 ∙ sym (ap (λ n. is_among n w.addressed.items) b.0 ∙ not_among (length s.locals) w.addressed.items h.closed.addressed))
+    (λ b. b.1 ∙ sym (ap (λ n. is_among n w.addressed.items) b.0
+    ∙ not_among (length s.locals) w.addressed.items h.closed.addressed))
     (known (λ (v : LocalState). v.addressed) false s.locals t.locals k v e.locals g))
     (λ k j g. let l : j < length s.locals = h.closed.addressed k j g in omega arith)
 
-pub named_kind : (k : DeclKind) (file : List ℕ) (before : Scopes) (p : Typed) (after : Scopes) (q : Typed) (d : Decl) (r : Result Entry Refusal) → k ≡ kinds.Object → DeclaresKind k file before p after q d r →
-    types.Answers before p after q (declares_named (storage_of d.storage) (name_of file d) (formed_of p d) d.defines) (IsDenoted q) r
+pub named_kind : (k : DeclKind) (file : List ℕ) (before : Scopes) (p : Typed) (after : Scopes) (q : Typed) (d : Decl)
+    (r : Result Entry Refusal) → k ≡ kinds.Object → DeclaresKind k file before p after q d r →
+    types.Answers before p after q (declares_named (storage_of d.storage) (name_of file d) (formed_of p d) d.defines)
+    (IsDenoted q) r
 named_kind k file before p after q d r e h = subst (λ (j : DeclKind). DeclaresKind j file before p after q d r) e h
 
-pub named_done : (w : Work) (sc : Scopes) (q : Typed) (d : Decl) (x : Entity) (F : State → Option meant.Entity → Type 0) → IsWhole w.nodes → Extends w.nodes.p q → sc.file.now ≡ w.nodes.scopes.file.now →
-    Does w.nodes.scopes w.nodes.p sc q (declares_named (storage_of d.storage) (name_of w.nodes.scopes.file.now d) (formed_of w.nodes.p d) d.defines) F →
-    ((s : State) → Shows (with_declared w sc q w.addressed) s → IsEntity (with_declared w sc q w.addressed) x s (find_in (innermost s.scopes).names (text_at w.file.now d.name))) →
-    Done freely w (with_declared w sc q w.addressed) (declares w d) (Unit {0}) (IsEntity (with_declared w sc q w.addressed) x)
+pub named_done : (w : Work) (sc : Scopes) (q : Typed) (d : Decl) (x : Entity)
+    (F : State → Option meant.Entity → Type 0) → IsWhole w.nodes → Extends w.nodes.p q →
+    sc.file.now ≡ w.nodes.scopes.file.now →
+    Does w.nodes.scopes w.nodes.p sc q (declares_named (storage_of d.storage) (name_of w.nodes.scopes.file.now d)
+    (formed_of w.nodes.p d) d.defines) F →
+    ((s : State) → Shows (with_declared w sc q w.addressed) s →
+    IsEntity (with_declared w sc q w.addressed) x s
+    (find_in (innermost s.scopes).names (text_at w.file.now d.name))) →
+    Done freely w (with_declared w sc q w.addressed) (declares w d) (Unit {0})
+    (IsEntity (with_declared w sc q w.addressed) x)
 named_done w sc q d x F whole ext fl does look = record {
   whole = whole_declared w sc q whole ext fl;
   grows = keeps_declared w sc q w.addressed whole ext fl;
@@ -211,48 +277,68 @@ named_done w sc q d x F whole ext fl does look = record {
       let st = storage_of d.storage in
       let f : Formed = formed_of w.nodes.p d in
       let g = does s h.stands in
-      let is : declares w d s ≡ Ok (g.value, g.state) = subst (λ (file : List ℕ). declares_named st (name_of file d) f d.defines s ≡ Ok (g.value, g.state)) h.closed.file g.is in
-      let shows = shows_named w sc q s g.state whole ext fl h g.stands (named_leaves st (name_of w.file.now d) f d.defines s g.value g.state is) in
+      let is : declares w d s ≡ Ok (g.value, g.state) =
+      subst (λ (file : List ℕ). declares_named st (name_of file d) f d.defines s ≡ Ok (g.value, g.state))
+      h.closed.file g.is in
+      let shows = shows_named w sc q s g.state whole ext fl h g.stands
+      (named_leaves st (name_of w.file.now d) f d.defines s g.value g.state is) in
       record {
         value = g.value;
         state = g.state;
         is = is;
         stays = tt;
         shows = shows;
-        fits = subst (IsEntity (with_declared w sc q w.addressed) x g.state) (denoted_value st (name_of w.file.now d) f d.defines s g.value g.state is) (look g.state shows);
+        fits = subst (IsEntity (with_declared w sc q w.addressed) x g.state)
+            (denoted_value st (name_of w.file.now d) f d.defines s g.value g.state is) (look g.state shows);
       };
 }
 
-pub named_failed : (w v : Work) (n : Nodes) (d : Decl) (r : Refusal) → d.what ≡ kinds.Object → d.of < type_count w.nodes → DeclaresIn w.nodes n d (Err r) → Answers freely w v (declares w d) EntityThere IsEntity (Err r)
+pub named_failed : (w v : Work) (n : Nodes) (d : Decl) (r : Refusal) → d.what ≡ kinds.Object →
+    d.of < type_count w.nodes → DeclaresIn w.nodes n d (Err r) →
+    Answers freely w v (declares w d) EntityThere IsEntity (Err r)
 named_failed w v n d (Code code place) e l a = λ s h.
-    let f = named_kind d.what w.nodes.scopes.file.now w.nodes.scopes w.nodes.p n.scopes n.p d (Err (Code code place)) e (a l) in
-    subst (λ (file : List ℕ). declares_named (storage_of d.storage) (name_of file d) (formed_of w.nodes.p d) d.defines s ≡ Err (record { code = code; place = place })) h.closed.file (f.refused s h.stands)
+    let f = named_kind d.what w.nodes.scopes.file.now w.nodes.scopes w.nodes.p n.scopes n.p d (Err (Code code place)) e
+    (a l) in
+    subst (λ (file : List ℕ). declares_named (storage_of d.storage) (name_of file d) (formed_of w.nodes.p d) d.defines s
+    ≡ Err (record { code = code; place = place })) h.closed.file (f.refused s h.stands)
 named_failed w v n d NoMemory e l a = tt
 
 -- ---- a definition is begun
 
-pub definition_kind : (k : DeclKind) (file : List ℕ) (before : Scopes) (p : Typed) (after : Scopes) (q : Typed) (d : Decl) (r : Result Entry Refusal) → k ≡ kinds.Fun → d.defines ≡ true → DeclaresKind k file before p after q d r →
-    types.Answers before p after q (denoted (name_of file d) (declares_definition (storage_of d.storage) (name_of file d) (formed_of p d))) (IsDenoted q) r
+pub definition_kind : (k : DeclKind) (file : List ℕ) (before : Scopes) (p : Typed) (after : Scopes) (q : Typed)
+    (d : Decl) (r : Result Entry Refusal) → k ≡ kinds.Fun → d.defines ≡ true →
+    DeclaresKind k file before p after q d r →
+    types.Answers before p after q (denoted (name_of file d)
+    (declares_definition (storage_of d.storage) (name_of file d) (formed_of p d))) (IsDenoted q) r
 definition_kind k file before p after q d r e b h =
     let t : Lexeme = name_of file d in
     let g = subst (λ (j : DeclKind). DeclaresKind j file before p after q d r) e h in
-    subst (λ (c : Bool). types.Answers before p after q (if c then denoted t (declares_definition (storage_of d.storage) t (formed_of p d)) else declares_named (storage_of d.storage) t (formed_of p d) c) (IsDenoted q) r) b g
+    subst (λ (c : Bool). types.Answers before p after q
+    (if c then denoted t (declares_definition (storage_of d.storage) t (formed_of p d))
+    else declares_named (storage_of d.storage) t (formed_of p d) c) (IsDenoted q) r) b g
 
 -- what is denoted then was given before
-before_denoted : (t : Lexeme) (d : Doing ℕ) (s : State) (o : Option meant.Entity) (u : State) → denoted t d s ≡ Ok (o, u) → (k : ℕ) × (d s ≡ Ok (k, u))
+before_denoted : (t : Lexeme) (d : Doing ℕ) (s : State) (o : Option meant.Entity) (u : State) →
+    denoted t d s ≡ Ok (o, u) → (k : ℕ) × (d s ≡ Ok (k, u))
 before_denoted t d s o u e = at (d s) refl e
   where
     left : State → Result (Option meant.Entity × State) Fault → State
     left v (Ok x) = x.1
     left v (Err y) = v
 
-    at : (r : Result (ℕ × State) Fault) → d s ≡ r → continued r (λ k. look >>= λ v. give (find_in (innermost v.scopes).names t.text)) ≡ Ok (o, u) → (k : ℕ) × (d s ≡ Ok (k, u))
+    at : (r : Result (ℕ × State) Fault) → d s ≡ r →
+        continued r (λ k. look >>= λ v. give (find_in (innermost v.scopes).names t.text)) ≡ Ok (o, u) →
+        (k : ℕ) × (d s ≡ Ok (k, u))
     at (Ok x) i h = (x.0, i ∙ ap (λ v. Ok (x.0, v)) (ap (left u) h))
     at (Err y) i h = absurd cc
 
-pub definition_done : (w : Work) (sc : Scopes) (q : Typed) (ks : Vec ℕ) (d : Decl) (k : ℕ) (x : Entity) (F : State → Option meant.Entity → Type 0) → IsWhole w.nodes → Extends w.nodes.p q → sc.file.now ≡ w.nodes.scopes.file.now → ks.items ≡ [] → x ≡ entities.Routine k →
-    Does w.nodes.scopes w.nodes.p sc q (denoted (name_of w.nodes.scopes.file.now d) (declares_definition (storage_of d.storage) (name_of w.nodes.scopes.file.now d) (formed_of w.nodes.p d))) F →
-    ((s : State) → Shows (with_declared w sc q ks) s → IsEntity (with_declared w sc q ks) x s (find_in (innermost s.scopes).names (text_at w.file.now d.name))) →
+pub definition_done : (w : Work) (sc : Scopes) (q : Typed) (ks : Vec ℕ) (d : Decl) (k : ℕ) (x : Entity)
+    (F : State → Option meant.Entity → Type 0) → IsWhole w.nodes → Extends w.nodes.p q →
+    sc.file.now ≡ w.nodes.scopes.file.now → ks.items ≡ [] → x ≡ entities.Routine k →
+    Does w.nodes.scopes w.nodes.p sc q (denoted (name_of w.nodes.scopes.file.now d)
+    (declares_definition (storage_of d.storage) (name_of w.nodes.scopes.file.now d) (formed_of w.nodes.p d))) F →
+    ((s : State) → Shows (with_declared w sc q ks) s →
+    IsEntity (with_declared w sc q ks) x s (find_in (innermost s.scopes).names (text_at w.file.now d.name))) →
     Done freely w (with_declared w sc q ks) (begins w d) (Unit {0}) (IsFunction (with_declared w sc q ks) k)
 definition_done w sc q ks d k x F whole ext fl none kind does look = record {
   whole = whole_declared w sc q whole ext fl;
@@ -263,7 +349,9 @@ definition_done w sc q ks d k x F whole ext fl none kind does look = record {
       let f : Formed = formed_of w.nodes.p d in
       let t : Lexeme = name_of w.file.now d in
       let g = does s h.stands in
-      let is : denoted t (declares_definition st t f) s ≡ Ok (g.value, g.state) = subst (λ (file : List ℕ). denoted (name_of file d) (declares_definition st (name_of file d) f) s ≡ Ok (g.value, g.state)) h.closed.file g.is in
+      let is : denoted t (declares_definition st t f) s ≡ Ok (g.value, g.state) =
+      subst (λ (file : List ℕ). denoted (name_of file d) (declares_definition st (name_of file d) f) s
+      ≡ Ok (g.value, g.state)) h.closed.file g.is in
       let b = before_denoted t (declares_definition st t f) s g.value g.state is in
       let e = definition_leaves st t f s b.0 g.state b.1 in
       let shows : Shows (with_declared w sc q ks) g.state = shows_declared w sc q ks s g.state whole ext fl h e.statics e.routines g.stands e.tags e.texts e.pending
@@ -291,24 +379,33 @@ definition_done w sc q ks d k x F whole ext fl none kind does look = record {
     no_number [] j n e g = absurd cc
     no_number (y ∷ ys) j n e g = absurd cc
 
-    number_is : (ts : List _) (x : Entity) (k : ℕ) (e : meant.Entity) (j : ℕ) → x ≡ entities.Routine k → entity_kept ts x ≡ entity_seen e → e ≡ meant.Routine j → j ≡ k
-    number_is ts x k e j a b c = let i : entity_kept ts (entities.Routine k) ≡ entity_seen (meant.Routine j) = ap (entity_kept ts) (sym a) ∙ b ∙ ap entity_seen c in cc
+    number_is : (ts : List _) (x : Entity) (k : ℕ) (e : meant.Entity) (j : ℕ) → x ≡ entities.Routine k →
+        entity_kept ts x ≡ entity_seen e → e ≡ meant.Routine j → j ≡ k
+    number_is ts x k e j a b c =
+        let i : entity_kept ts (entities.Routine k) ≡ entity_seen (meant.Routine j) = ap (entity_kept ts) (sym a) ∙ b ∙ ap entity_seen c in cc
 
 denoted_fails : (t : Lexeme) (d : Doing ℕ) (s : State) (f : Fault) → denoted t d s ≡ Err f → d s ≡ Err f
 denoted_fails t d s f e = at (d s) refl e
   where
-    at : (r : Result (ℕ × State) Fault) → d s ≡ r → continued r (λ k. look >>= λ v. give (find_in (innermost v.scopes).names t.text)) ≡ Err f → d s ≡ Err f
+    at : (r : Result (ℕ × State) Fault) → d s ≡ r →
+        continued r (λ k. look >>= λ v. give (find_in (innermost v.scopes).names t.text)) ≡ Err f → d s ≡ Err f
     at (Ok x) i h = absurd cc
     at (Err y) i h = i ∙ (let j : y ≡ f = cc in ap (λ z. Err z) j)
 
-pub definition_failed : (w v : Work) (n : Nodes) (d : Decl) (r : Refusal) → d.what ≡ kinds.Fun → d.defines ≡ true → d.of < type_count w.nodes → DeclaresIn w.nodes n d (Err r) → Answers freely w v (begins w d) FunctionThere IsFunction (Err r)
+pub definition_failed : (w v : Work) (n : Nodes) (d : Decl) (r : Refusal) → d.what ≡ kinds.Fun → d.defines ≡ true →
+    d.of < type_count w.nodes → DeclaresIn w.nodes n d (Err r) →
+    Answers freely w v (begins w d) FunctionThere IsFunction (Err r)
 definition_failed w v n d (Code code place) e b l a = λ s h.
-    let f = definition_kind d.what w.nodes.scopes.file.now w.nodes.scopes w.nodes.p n.scopes n.p d (Err (Code code place)) e b (a l) in
+    let f = definition_kind d.what w.nodes.scopes.file.now w.nodes.scopes w.nodes.p n.scopes n.p d
+    (Err (Code code place)) e b (a l) in
     denoted_fails (name_of w.file.now d) (begins w d) s (record { code = code; place = place })
-    (subst (λ (file : List ℕ). denoted (name_of file d) (declares_definition (storage_of d.storage) (name_of file d) (formed_of w.nodes.p d)) s ≡ Err (record { code = code; place = place })) h.closed.file (f.refused s h.stands))
+    (subst (λ (file : List ℕ). denoted (name_of file d)
+    (declares_definition (storage_of d.storage) (name_of file d) (formed_of w.nodes.p d)) s
+    ≡ Err (record { code = code; place = place })) h.closed.file (f.refused s h.stands))
 definition_failed w v n d NoMemory e b l a = tt
 
 -- what a name of the innermost scope denotes
-pub entity_found : (w : Work) (x : Entity) (s : State) (o : Option meant.Entity) → Some (entity_kept (types_of w.nodes.p.types) x) ≡ option_map entity_seen o → IsEntity w x s o
+pub entity_found : (w : Work) (x : Entity) (s : State) (o : Option meant.Entity) →
+    Some (entity_kept (types_of w.nodes.p.types) x) ≡ option_map entity_seen o → IsEntity w x s o
 entity_found w x s None h = absurd cc
 entity_found w x s (Some e) h = record { entity = e; is = refl; seen = cc }

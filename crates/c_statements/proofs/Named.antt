@@ -1,5 +1,6 @@
 -- A name is declared and then initialised.
-use Rattle.std.proofs.Common.{◌≡◌, ℕ, Bool, List, ◌∷◌, [], Option, Some, None, Result, Ok, Err, refl, sym, ap, subst, ◌∙◌}
+use Rattle.std.proofs.Common.{◌≡◌, ℕ, Bool, List, ◌∷◌, [], Option, Some, None, Result, Ok, Err, refl, sym, ap, subst}
+use Rattle.std.proofs.Common.{◌∙◌}
 use Rattle.ck_base.specs.declared.refusal.Refusal.{Refusal}
 use Rattle.ck_base.specs.Tokens.{Lexeme}
 use Rattle.c_tree.specs.Syntax.{Syn, Syns}
@@ -35,9 +36,12 @@ use Rattle.c_statements.specs.Declaring.{declares, declares_list, EntityThere, I
 use Rattle.c_statements.proofs.Following.{goes_on, fails_with, fails_freed}
 use Rattle.c_statements.proofs.Meaning.{Follows, initialized, named_follows}
 
-entity_is : (ts : List Ty) (x : Entity) (e : scopes.Entity) (t : Lexeme) (of : Ty) (b : Behind) → entity_kept ts x ≡ entity_seen e → initialized e t of b ≡ initializes x t of b
-entity_is ts (entities.Local k u) (scopes.Local j v) t of b h = let a : k ≡ j = cc in ap (λ (i : ℕ). initialized (scopes.Local i v) t of b) (sym a)
-entity_is ts (entities.Static k) (scopes.Static j) t of b h = let a : k ≡ j = cc in ap (λ (i : ℕ). initialized (scopes.Static i) t of b) (sym a)
+entity_is : (ts : List Ty) (x : Entity) (e : scopes.Entity) (t : Lexeme) (of : Ty) (b : Behind) →
+    entity_kept ts x ≡ entity_seen e → initialized e t of b ≡ initializes x t of b
+entity_is ts (entities.Local k u) (scopes.Local j v) t of b h =
+    let a : k ≡ j = cc in ap (λ (i : ℕ). initialized (scopes.Local i v) t of b) (sym a)
+entity_is ts (entities.Static k) (scopes.Static j) t of b h =
+    let a : k ≡ j = cc in ap (λ (i : ℕ). initialized (scopes.Static i) t of b) (sym a)
 entity_is ts (entities.Routine k) (scopes.Routine j) t of b h = refl
 entity_is ts (entities.Alias u) (scopes.Alias v) t of b h = refl
 entity_is ts (entities.Enumerator z) (scopes.Enumerator y) t of b h = refl
@@ -46,73 +50,119 @@ entity_is ts _ _ t of b h = absurd cc
 
 -- what is declared of an object
 abbrev pub decl_of : Specified → Name → Formed → Bool → Decl
-decl_of s name f defines = record { name = name.span; pos = name.pos; of = f.of; faults = f.faults; what = kinds.Object; storage = s.storage; defines = defines }
+decl_of s name f defines =
+    record {
+      name = name.span;
+      pos = name.pos;
+      of = f.of;
+      faults = f.faults;
+      what = kinds.Object;
+      storage = s.storage;
+      defines = defines;
+    }
 
 -- a name is declared, of a type that is known
 abbrev declaring : Storage → Lexeme → Behind → meant_types.Formed → Doing meant.Items
 declaring st t b g = look >>= λ s. declare s st t g b
 
-follows_at : (st : Storage) (t : Lexeme) (f : meant_types.Formed) (b : Behind) (s : State) (r : Result (Option scopes.Entity × State) Fault) → declares_named st t f (has_any b) s ≡ r → Follows t f.of b r (declaring st t b f s)
+follows_at : (st : Storage) (t : Lexeme) (f : meant_types.Formed) (b : Behind) (s : State)
+    (r : Result (Option scopes.Entity × State) Fault) → declares_named st t f (has_any b) s ≡ r →
+    Follows t f.of b r (declaring st t b f s)
 follows_at st t f b s r e = subst (λ q. Follows t f.of b q (declaring st t b f s)) e (named_follows st t f b s)
 
-declared_then : (v w x : Work) (st : Storage) (t : Lexeme) (f : meant_types.Formed) (b : Behind) (e : Entity) (r : Result Items Refusal) →
-    Done freely v w (declares_named st t f (has_any b)) (Unit {0}) (IsEntity w e) → Answers freely w x (initializes e t f.of b) ItemsThere IsItems r → Answers freely v x (declaring st t b f) ItemsThere IsItems r
+declared_then : (v w x : Work) (st : Storage) (t : Lexeme) (f : meant_types.Formed) (b : Behind) (e : Entity)
+    (r : Result Items Refusal) →
+    Done freely v w (declares_named st t f (has_any b)) (Unit {0}) (IsEntity w e) →
+    Answers freely w x (initializes e t f.of b) ItemsThere IsItems r →
+    Answers freely v x (declaring st t b f) ItemsThere IsItems r
 declared_then v w x st t f b e r a h =
-    goes_on freely free_law v w x (declares_named st t f (has_any b)) (declaring st t b f) (initializes e t f.of b) (Unit {0}) (IsEntity w e) ItemsThere IsItems r a
-    (λ o s p q k i. follows_at st t f b o (Ok (p, s)) q i.entity i.is ∙ ap (λ (d : Doing meant.Items). d s) (entity_is _ e i.entity t f.of b i.seen)) h
+    goes_on freely free_law v w x (declares_named st t f (has_any b)) (declaring st t b f) (initializes e t f.of b)
+    (Unit {0}) (IsEntity w e) ItemsThere IsItems r a
+    (λ o s p q k i. follows_at st t f b o (Ok (p, s)) q i.entity i.is
+    ∙ ap (λ (d : Doing meant.Items). d s) (entity_is _ e i.entity t f.of b i.seen)) h
 
 -- the declaration is that of these specifiers and of this type
-same_declares : (u v : Work) (s : Specified) (name : Name) (f : Formed) (b : Behind) (defines : Bool) → Keeps u v → has_any b ≡ defines → declares v (decl_of s name f defines) ≡ declares_named (storage_of s.storage) (token_of u name) (formed_in v.nodes f) (has_any b)
+same_declares : (u v : Work) (s : Specified) (name : Name) (f : Formed) (b : Behind) (defines : Bool) → Keeps u v →
+    has_any b ≡ defines → declares v (decl_of s name f defines)
+    ≡ declares_named (storage_of s.storage) (token_of u name) (formed_in v.nodes f) (has_any b)
 same_declares u v s name f b defines k e =
-    ap (λ (file : List ℕ). declares_named (storage_of s.storage) (name_of file (decl_of s name f defines)) (formed_in v.nodes f) defines) k.file
+    ap (λ (file : List ℕ). declares_named (storage_of s.storage) (name_of file (decl_of s name f defines))
+    (formed_in v.nodes f) defines) k.file
     ∙ ap (λ (c : Bool). declares_named (storage_of s.storage) (token_of u name) (formed_in v.nodes f) c) (sym e)
 
 -- the specifiers' type is formed first
-named_begins : (u x : Work) (s : Specified) (y : meant.Specified) (e : meant.Derived) (b : Behind) (name : Name) (r : Result Items Refusal) → IsSpecified u s y → e.name ≡ Some (token_of u name) →
-    Answers freely u x (forms (type_in u.nodes s.of) e.wraps >>= declaring (storage_of s.storage) (token_of u name) b) ItemsThere IsItems r → Answers freely u x (declare_named y e e.name b) ItemsThere IsItems r
+named_begins : (u x : Work) (s : Specified) (y : meant.Specified) (e : meant.Derived) (b : Behind) (name : Name)
+    (r : Result Items Refusal) → IsSpecified u s y → e.name ≡ Some (token_of u name) →
+    Answers freely u x (forms (type_in u.nodes s.of) e.wraps >>= declaring (storage_of s.storage) (token_of u name) b)
+    ItemsThere IsItems r → Answers freely u x (declare_named y e e.name b) ItemsThere IsItems r
 named_begins u x s y e b name r h n a =
     let t = token_of u name in
     subst (λ (o : Option Lexeme). Answers freely u x (declare_named y e o b) ItemsThere IsItems r) (sym n)
-    (answers_at freely u x (declare_named y e (Some t) b) (forms (type_in u.nodes s.of) e.wraps >>= declaring (storage_of s.storage) t b) ItemsThere IsItems r
-    (λ o q. ap (λ (st : Storage). declare o st t (formed o y.of e.wraps) b o) h.storage ∙ ap (λ (of : Ty). declare o (storage_of s.storage) t (formed o of e.wraps) b o) h.of) a)
+    (answers_at freely u x (declare_named y e (Some t) b)
+    (forms (type_in u.nodes s.of) e.wraps >>= declaring (storage_of s.storage) t b) ItemsThere IsItems r
+    (λ o q. ap (λ (st : Storage). declare o st t (formed o y.of e.wraps) b o) h.storage
+    ∙ ap (λ (of : Ty). declare o (storage_of s.storage) t (formed o of e.wraps) b o) h.of) a)
 
 -- the type cannot be formed
-pub named_unformed : (u v x : Work) (s : Specified) (y : meant.Specified) (e : meant.Derived) (b : Behind) (name : Name) (q : Refusal) → IsSpecified u s y → e.name ≡ Some (token_of u name) →
-    Answers quietly u v (forms (type_in u.nodes s.of) e.wraps) FormedThere (in_any IsFormed) (Err q) → Answers freely u x (declare_named y e e.name b) ItemsThere IsItems (Err q)
+pub named_unformed : (u v x : Work) (s : Specified) (y : meant.Specified) (e : meant.Derived) (b : Behind) (name : Name)
+    (q : Refusal) → IsSpecified u s y → e.name ≡ Some (token_of u name) →
+    Answers quietly u v (forms (type_in u.nodes s.of) e.wraps) FormedThere (in_any IsFormed) (Err q) →
+    Answers freely u x (declare_named y e e.name b) ItemsThere IsItems (Err q)
 named_unformed u v x s y e b name q h n a =
     let d = forms (type_in u.nodes s.of) e.wraps in
-    named_begins u x s y e b name (Err q) h n (failed freely u v x d (declaring (storage_of s.storage) (token_of u name) b) FormedThere (in_any IsFormed) ItemsThere IsItems q (freed u v d FormedThere (in_any IsFormed) (Err q) a))
+    named_begins u x s y e b name (Err q) h n
+    (failed freely u v x d (declaring (storage_of s.storage) (token_of u name) b) FormedThere
+    (in_any IsFormed) ItemsThere IsItems q (freed u v d FormedThere (in_any IsFormed) (Err q) a))
 
-after_formed : (u v x : Work) (s : Specified) (y : meant.Specified) (e : meant.Derived) (b : Behind) (name : Name) (f : Formed) (r : Result Items Refusal) → IsSpecified u s y → e.name ≡ Some (token_of u name) →
-    Done quietly u v (forms (type_in u.nodes s.of) e.wraps) (FormedThere v f) (in_any IsFormed v f) → Answers freely v x (declaring (storage_of s.storage) (token_of u name) b (formed_in v.nodes f)) ItemsThere IsItems r →
+after_formed : (u v x : Work) (s : Specified) (y : meant.Specified) (e : meant.Derived) (b : Behind) (name : Name)
+    (f : Formed) (r : Result Items Refusal) → IsSpecified u s y → e.name ≡ Some (token_of u name) →
+    Done quietly u v (forms (type_in u.nodes s.of) e.wraps) (FormedThere v f) (in_any IsFormed v f) →
+    Answers freely v x (declaring (storage_of s.storage) (token_of u name) b (formed_in v.nodes f)) ItemsThere
+    IsItems r →
     Answers freely u x (declare_named y e e.name b) ItemsThere IsItems r
 after_formed u v x s y e b name f r h n a g =
     let d = forms (type_in u.nodes s.of) e.wraps in
-    named_begins u x s y e b name r h n (then freely free_law u v x d (declaring (storage_of s.storage) (token_of u name) b) (formed_in v.nodes f) (FormedThere v f) ItemsThere IsItems r (freed u v d FormedThere (in_any IsFormed) (Ok f) a) g)
+    named_begins u x s y e b name r h n (then freely free_law u v x d
+    (declaring (storage_of s.storage) (token_of u name) b) (formed_in v.nodes f)
+    (FormedThere v f) ItemsThere IsItems r (freed u v d FormedThere (in_any IsFormed) (Ok f) a) g)
 
 -- the name cannot be declared
-named_undeclared : (u v w x : Work) (s : Specified) (y : meant.Specified) (e : meant.Derived) (b : Behind) (name : Name) (f : Formed) (defines : Bool) (q : Refusal) → IsSpecified u s y → e.name ≡ Some (token_of u name) → has_any b ≡ defines →
-    Done quietly u v (forms (type_in u.nodes s.of) e.wraps) (FormedThere v f) (in_any IsFormed v f) → Answers freely v w (declares v (decl_of s name f defines)) EntityThere IsEntity (Err q) →
+named_undeclared : (u v w x : Work) (s : Specified) (y : meant.Specified) (e : meant.Derived) (b : Behind) (name : Name)
+    (f : Formed) (defines : Bool) (q : Refusal) → IsSpecified u s y → e.name ≡ Some (token_of u name) →
+    has_any b ≡ defines →
+    Done quietly u v (forms (type_in u.nodes s.of) e.wraps) (FormedThere v f) (in_any IsFormed v f) →
+    Answers freely v w (declares v (decl_of s name f defines)) EntityThere IsEntity (Err q) →
     Answers freely u x (declare_named y e e.name b) ItemsThere IsItems (Err q)
 named_undeclared u v w x s y e b name f defines q h n i a g =
     let st = storage_of s.storage in
     let t = token_of u name in
     let m = formed_in v.nodes f in
     after_formed u v x s y e b name f (Err q) h n a
-    (fails_with freely v w x (declares_named st t m (has_any b)) (declaring st t b m) EntityThere IsEntity ItemsThere IsItems q
+    (fails_with freely v w x (declares_named st t m (has_any b))
+    (declaring st t b m) EntityThere IsEntity ItemsThere IsItems q
     (λ o fault k. follows_at st t m b o (Err fault) k)
-    (subst (λ (d : Doing (Option scopes.Entity)). Answers freely v w d EntityThere IsEntity (Err q)) (same_declares u v s name f b defines a.grows.keeps i) g))
+    (subst (λ (d : Doing (Option scopes.Entity)). Answers freely v w d EntityThere IsEntity (Err q))
+    (same_declares u v s name f b defines a.grows.keeps i) g))
 
 -- the same where it is said otherwise what is declared
-pub named_refused : (u v w x : Work) (s : Specified) (y : meant.Specified) (e : meant.Derived) (b : Behind) (name : Name) (f : Formed) (defines : Bool) (d : Decl) (q : Refusal) → IsSpecified u s y → e.name ≡ Some (token_of u name) → has_any b ≡ defines →
-    Done quietly u v (forms (type_in u.nodes s.of) e.wraps) (FormedThere v f) (in_any IsFormed v f) → d ≡ decl_of s name f defines → Answers freely v w (declares v d) EntityThere IsEntity (Err q) → Answers freely u x (declare_named y e e.name b) ItemsThere IsItems (Err q)
+pub named_refused : (u v w x : Work) (s : Specified) (y : meant.Specified) (e : meant.Derived) (b : Behind)
+    (name : Name) (f : Formed) (defines : Bool) (d : Decl) (q : Refusal) → IsSpecified u s y →
+    e.name ≡ Some (token_of u name) → has_any b ≡ defines →
+    Done quietly u v (forms (type_in u.nodes s.of) e.wraps) (FormedThere v f) (in_any IsFormed v f) →
+    d ≡ decl_of s name f defines → Answers freely v w (declares v d) EntityThere IsEntity (Err q) →
+    Answers freely u x (declare_named y e e.name b) ItemsThere IsItems (Err q)
 named_refused u v w x s y e b name f defines d q h n i a g c =
-    named_undeclared u v w x s y e b name f defines q h n i a (subst (λ (z : Decl). Answers freely v w (declares v z) EntityThere IsEntity (Err q)) g c)
+    named_undeclared u v w x s y e b name f defines q h n i a
+    (subst (λ (z : Decl). Answers freely v w (declares v z) EntityThere IsEntity (Err q)) g c)
 
 -- the name is declared, and what it denotes gets its value
-pub named_answers : (u v w x : Work) (s : Specified) (y : meant.Specified) (e : meant.Derived) (b : Behind) (name : Name) (f : Formed) (defines : Bool) (entity : Entity) (r : Result Items Refusal) → IsSpecified u s y → e.name ≡ Some (token_of u name) → has_any b ≡ defines →
-    Done quietly u v (forms (type_in u.nodes s.of) e.wraps) (FormedThere v f) (in_any IsFormed v f) → Done freely v w (declares v (decl_of s name f defines)) (Unit {0}) (IsEntity w entity) →
-    Answers freely w x (initializes entity (token_of w name) (type_in w.nodes f.of) b) ItemsThere IsItems r → Answers freely u x (declare_named y e e.name b) ItemsThere IsItems r
+pub named_answers : (u v w x : Work) (s : Specified) (y : meant.Specified) (e : meant.Derived) (b : Behind)
+    (name : Name) (f : Formed) (defines : Bool) (entity : Entity) (r : Result Items Refusal) → IsSpecified u s y →
+    e.name ≡ Some (token_of u name) → has_any b ≡ defines →
+    Done quietly u v (forms (type_in u.nodes s.of) e.wraps) (FormedThere v f) (in_any IsFormed v f) →
+    Done freely v w (declares v (decl_of s name f defines)) (Unit {0}) (IsEntity w entity) →
+    Answers freely w x (initializes entity (token_of w name) (type_in w.nodes f.of) b) ItemsThere IsItems r →
+    Answers freely u x (declare_named y e e.name b) ItemsThere IsItems r
 named_answers u v w x s y e b name f defines entity r h n i a g c =
     let st = storage_of s.storage in
     let t = token_of u name in
@@ -120,12 +170,18 @@ named_answers u v w x s y e b name f defines entity r h n i a g c =
     let same : token_of w name ≡ t = ap (λ (file : List ℕ). (let z : Lexeme = record { kind = t.kind; text = text_at file name.span; span = name.span; pos = name.pos } in z)) (g.grows.file ∙ a.grows.keeps.file) in
     after_formed u v x s y e b name f r h n a
     (declared_then v w x st t m b entity r
-    (subst (λ (d : Doing (Option scopes.Entity)). Done freely v w d (Unit {0}) (IsEntity w entity)) (same_declares u v s name f b defines a.grows.keeps i) g)
+    (subst (λ (d : Doing (Option scopes.Entity)). Done freely v w d (Unit {0}) (IsEntity w entity))
+    (same_declares u v s name f b defines a.grows.keeps i) g)
     (subst (λ (z : Lexeme). Answers freely w x (initializes entity z m.of b) ItemsThere IsItems r) same
-    (subst (λ (of : Ty). Answers freely w x (initializes entity (token_of w name) of b) ItemsThere IsItems r) (g.grows.types f.of a.there) c)))
+    (subst (λ (of : Ty). Answers freely w x (initializes entity (token_of w name) of b) ItemsThere IsItems r)
+    (g.grows.types f.of a.there) c)))
 
 -- the specifiers are refused
-pub list_unspecified : (u v w : Work) (x : Syn) (ys : Syns) (b : Bool) (e : Refusal) → is_alone (readings ys) ≡ b → Answers quietly u v ((reading x).specified b) SpecifiedThere (in_any IsSpecified) (Err e) → Answers freely u w (declares_list x ys) ItemsThere IsItems (Err e)
+pub list_unspecified : (u v w : Work) (x : Syn) (ys : Syns) (b : Bool) (e : Refusal) → is_alone (readings ys) ≡ b →
+    Answers quietly u v ((reading x).specified b) SpecifiedThere (in_any IsSpecified) (Err e) →
+    Answers freely u w (declares_list x ys) ItemsThere IsItems (Err e)
 list_unspecified u v w x ys b e i a =
-    subst (λ (t : Bool). Answers freely u w ((reading x).specified t >>= λ s. declare_all s (readings ys)) ItemsThere IsItems (Err e)) (sym i)
-    (fails_freed u v w ((reading x).specified b) (λ s. declare_all s (readings ys)) SpecifiedThere (in_any IsSpecified) ItemsThere IsItems e a)
+    subst (λ (t : Bool). Answers freely u w ((reading x).specified t >>= λ s. declare_all s (readings ys)) ItemsThere
+    IsItems (Err e)) (sym i)
+    (fails_freed u v w ((reading x).specified b) (λ s. declare_all s (readings ys)) SpecifiedThere
+    (in_any IsSpecified) ItemsThere IsItems e a)

@@ -22,7 +22,8 @@ use Rattle.c_statements.proofs.Stating.{readings_more, readings_nil, readings_no
 
 -- ---- for
 
-for_not : (c : meant.Context) (p : Pos) (xs : Syns) (rs : List Reading) → (length rs ≡ 4 → ⊥) → for_in c p xs rs ≡ refuse 120 p
+for_not : (c : meant.Context) (p : Pos) (xs : Syns) (rs : List Reading) → (length rs ≡ 4 → ⊥) →
+    for_in c p xs rs ≡ refuse 120 p
 for_not c p nil rs h = refl
 for_not c p (more x nil) rs h = refl
 for_not c p (more x (more y nil)) rs h = refl
@@ -33,11 +34,16 @@ for_not c p (more x (more y (more z ws))) (r ∷ q ∷ o ∷ []) h = refl
 for_not c p (more x (more y (more z ws))) (r ∷ q ∷ o ∷ b ∷ []) h = absurd (h refl)
 for_not c p (more x (more y (more z ws))) (r ∷ q ∷ o ∷ b ∷ a ∷ rs) h = refl
 
-pub for_refused : (w : Work) (ks : List ℕ) (c : meant.Context) (p : Pos) → HasNot 4 ks → (xs : Syns) → AreParts w ks xs → (s : State) → Shows w s → for_in c p xs (readings xs) s ≡ refuse 120 p s
-for_refused w ks c p h xs a s t = ap (λ (d : Doing meant.Items). d s) (for_not c p xs (readings xs) (readings_not w 4 ks xs a h))
+pub for_refused : (w : Work) (ks : List ℕ) (c : meant.Context) (p : Pos) → HasNot 4 ks → (xs : Syns) →
+    AreParts w ks xs → (s : State) → Shows w s → for_in c p xs (readings xs) s ≡ refuse 120 p s
+for_refused w ks c p h xs a s t =
+    ap (λ (d : Doing meant.Items). d s) (for_not c p xs (readings xs) (readings_not w 4 ks xs a h))
 
-pub for_answers : (u v : Work) (ks : List ℕ) (i j k l : ℕ) (c : meant.Context) (p : Pos) (r : Result Items Refusal) → ks ≡ i ∷ j ∷ k ∷ l ∷ [] →
-    ((x1 x2 x3 x4 : Syn) → IsPart u i x1 → IsPart u j x2 → IsPart u k x3 → IsPart u l x4 → Answers freely u v (for_with c p x1 x2 x3 (reading x1) (reading x2) (reading x3) (reading x4)) ItemsThere IsItems r) →
+pub for_answers : (u v : Work) (ks : List ℕ) (i j k l : ℕ) (c : meant.Context) (p : Pos) (r : Result Items Refusal) →
+    ks ≡ i ∷ j ∷ k ∷ l ∷ [] →
+    ((x1 x2 x3 x4 : Syn) → IsPart u i x1 → IsPart u j x2 → IsPart u k x3 → IsPart u l x4 →
+    Answers freely u v (for_with c p x1 x2 x3 (reading x1) (reading x2) (reading x3) (reading x4)) ItemsThere
+    IsItems r) →
     (xs : Syns) → AreParts u ks xs → Answers freely u v (for_in c p xs (readings xs)) ItemsThere IsItems r
 for_answers u v ks i j k l c p r e h xs q =
     let m1 = cut u i (j ∷ k ∷ l ∷ []) xs (subst (λ (z : List ℕ). AreParts u z xs) e q) in
@@ -45,47 +51,70 @@ for_answers u v ks i j k l c p r e h xs q =
     let m3 = cut u k (l ∷ []) m2.tail m2.others in
     let m4 = cut u l [] m3.tail m3.others in
     let is : xs ≡ more m1.head (more m2.head (more m3.head (more m4.head nil))) =
-    m1.is ∙ ap (more m1.head) (m2.is ∙ ap (more m2.head) (m3.is ∙ ap (more m3.head) (m4.is ∙ ap (more m4.head) (no_parts u m4.tail m4.others)))) in
+    m1.is ∙ ap (more m1.head) (m2.is
+    ∙ ap (more m2.head) (m3.is ∙ ap (more m3.head) (m4.is ∙ ap (more m4.head) (no_parts u m4.tail m4.others)))) in
     let read : readings (more m1.head (more m2.head (more m3.head (more m4.head nil)))) ≡ reading m1.head ∷ reading m2.head ∷ reading m3.head ∷ reading m4.head ∷ [] =
     readings_more m1.head (more m2.head (more m3.head (more m4.head nil)))
     ∙ ap (λ (z : List Reading). reading m1.head ∷ z) (readings_more m2.head (more m3.head (more m4.head nil))
     ∙ ap (λ (z : List Reading). reading m2.head ∷ z) (readings_more m3.head (more m4.head nil)
-    ∙ ap (λ (z : List Reading). reading m3.head ∷ z) (readings_more m4.head nil ∙ ap (λ (z : List Reading). reading m4.head ∷ z) readings_nil))) in
+    ∙ ap (λ (z : List Reading). reading m3.head ∷ z)
+    (readings_more m4.head nil ∙ ap (λ (z : List Reading). reading m4.head ∷ z) readings_nil))) in
     subst (λ (ys : Syns). Answers freely u v (for_in c p ys (readings ys)) ItemsThere IsItems r) (sym is)
-    (subst (λ (rs : List Reading). Answers freely u v (for_in c p (more m1.head (more m2.head (more m3.head (more m4.head nil)))) rs) ItemsThere IsItems r) (sym read)
+    (subst (λ (rs : List Reading). Answers freely u v
+    (for_in c p (more m1.head (more m2.head (more m3.head (more m4.head nil)))) rs) ItemsThere IsItems r)
+    (sym read)
     (h m1.head m2.head m3.head m4.head m1.first m2.first m3.first m4.first))
 
-pub have_four : (w : Work) (ks : List ℕ) (i j k l : ℕ) → ks ≡ i ∷ j ∷ k ∷ l ∷ [] → HaveParts w ks → HasPart w i × HasPart w j × HasPart w k × HasPart w l
+pub have_four : (w : Work) (ks : List ℕ) (i j k l : ℕ) → ks ≡ i ∷ j ∷ k ∷ l ∷ [] → HaveParts w ks →
+    HasPart w i × HasPart w j × HasPart w k × HasPart w l
 have_four w ks i j k l e h =
     let p = subst (λ (z : List ℕ). HaveParts w z) e h in
     let q = have_others w i (j ∷ k ∷ l ∷ []) p in
-    let r = have_others w j (k ∷ l ∷ []) q in
-    (have_first w i (j ∷ k ∷ l ∷ []) p, have_first w j (k ∷ l ∷ []) q, have_first w k (l ∷ []) r, have_first w l [] (have_others w k (l ∷ []) r))
+    let r = have_others w j (k ∷ l ∷ []) q in (
+      have_first w i (j ∷ k ∷ l ∷ []) p,
+      have_first w j (k ∷ l ∷ []) q,
+      have_first w k (l ∷ []) r,
+      have_first w l [] (have_others w k (l ∷ []) r),
+    )
 
 -- ---- switch
 
-pub switch_refused : (w : Work) (ks : List ℕ) (c : meant.Context) (p : Pos) → ks ≡ [] → (xs : Syns) → AreParts w ks xs → (s : State) → Shows w s → switch_in c p xs (readings xs) s ≡ refuse 120 p s
-switch_refused w ks c p e xs a s t = ap (λ (ys : Syns). switch_in c p ys (readings ys) s) (no_parts w xs (subst (λ (z : List ℕ). AreParts w z xs) e a))
+pub switch_refused : (w : Work) (ks : List ℕ) (c : meant.Context) (p : Pos) → ks ≡ [] → (xs : Syns) → AreParts w ks xs →
+    (s : State) → Shows w s → switch_in c p xs (readings xs) s ≡ refuse 120 p s
+switch_refused w ks c p e xs a s t =
+    ap (λ (ys : Syns). switch_in c p ys (readings ys) s) (no_parts w xs (subst (λ (z : List ℕ). AreParts w z xs) e a))
 
-pub switch_answers : (u v : Work) (ks : List ℕ) (k : ℕ) (others : List ℕ) (c : meant.Context) (p : Pos) (r : Result Items Refusal) → ks ≡ k ∷ others →
-    ((x : Syn) (xs : Syns) → IsPart u k x → AreParts u others xs → Answers freely u v (switch_with c p xs (reading x) (readings xs)) ItemsThere IsItems r) → (xs : Syns) → AreParts u ks xs → Answers freely u v (switch_in c p xs (readings xs)) ItemsThere IsItems r
+pub switch_answers : (u v : Work) (ks : List ℕ) (k : ℕ) (others : List ℕ) (c : meant.Context) (p : Pos)
+    (r : Result Items Refusal) → ks ≡ k ∷ others →
+    ((x : Syn) (xs : Syns) → IsPart u k x → AreParts u others xs →
+    Answers freely u v (switch_with c p xs (reading x) (readings xs)) ItemsThere IsItems r) → (xs : Syns) →
+    AreParts u ks xs → Answers freely u v (switch_in c p xs (readings xs)) ItemsThere IsItems r
 switch_answers u v ks k others c p r e h xs q =
     let m = cut u k others xs (subst (λ (z : List ℕ). AreParts u z xs) e q) in
     subst (λ (ys : Syns). Answers freely u v (switch_in c p ys (readings ys)) ItemsThere IsItems r) (sym m.is)
-    (subst (λ (rs : List Reading). Answers freely u v (switch_in c p (more m.head m.tail) rs) ItemsThere IsItems r) (sym (readings_more m.head m.tail)) (h m.head m.tail m.first m.others))
+    (subst (λ (rs : List Reading). Answers freely u v (switch_in c p (more m.head m.tail) rs) ItemsThere IsItems r)
+    (sym (readings_more m.head m.tail)) (h m.head m.tail m.first m.others))
 
 -- ---- the first part, if there is one
 
-pub at_none : {A X : Type 0} (y : Way) (u v : Work) (d : List Reading → Doing A) (There : Work → X → Type 0) (Is : Work → X → State → A → Type 0) (r : Result X Refusal) (ks : List ℕ) → ks ≡ [] → Answers y u v (d []) There Is r →
+pub at_none : {A X : Type 0} (y : Way) (u v : Work) (d : List Reading → Doing A) (There : Work → X → Type 0)
+    (Is : Work → X → State → A → Type 0) (r : Result X Refusal) (ks : List ℕ) → ks ≡ [] →
+    Answers y u v (d []) There Is r →
     (xs : Syns) → AreParts u ks xs → Answers y u v (d (readings xs)) There Is r
 at_none y u v d There Is r ks e a xs q =
-    subst (λ (rs : List Reading). Answers y u v (d rs) There Is r) (sym (ap readings (no_parts u xs (subst (λ (z : List ℕ). AreParts u z xs) e q)) ∙ readings_nil)) a
+    subst (λ (rs : List Reading). Answers y u v (d rs) There Is r)
+    (sym (ap readings (no_parts u xs (subst (λ (z : List ℕ). AreParts u z xs) e q)) ∙ readings_nil)) a
 
-pub at_some : {A X : Type 0} (y : Way) (u v : Work) (d : List Reading → Doing A) (There : Work → X → Type 0) (Is : Work → X → State → A → Type 0) (r : Result X Refusal) (ks : List ℕ) (k : ℕ) (others : List ℕ) → ks ≡ k ∷ others →
-    ((x : Syn) (xs : Syns) → IsPart u k x → AreParts u others xs → Answers y u v (d (reading x ∷ readings xs)) There Is r) → (xs : Syns) → AreParts u ks xs → Answers y u v (d (readings xs)) There Is r
+pub at_some : {A X : Type 0} (y : Way) (u v : Work) (d : List Reading → Doing A) (There : Work → X → Type 0)
+    (Is : Work → X → State → A → Type 0) (r : Result X Refusal) (ks : List ℕ) (k : ℕ) (others : List ℕ) →
+    ks ≡ k ∷ others →
+    ((x : Syn) (xs : Syns) → IsPart u k x → AreParts u others xs →
+    Answers y u v (d (reading x ∷ readings xs)) There Is r) → (xs : Syns) → AreParts u ks xs →
+    Answers y u v (d (readings xs)) There Is r
 at_some y u v d There Is r ks k others e h xs q =
     let m = cut u k others xs (subst (λ (z : List ℕ). AreParts u z xs) e q) in
-    subst (λ (rs : List Reading). Answers y u v (d rs) There Is r) (sym (ap readings m.is ∙ readings_more m.head m.tail)) (h m.head m.tail m.first m.others)
+    subst (λ (rs : List Reading). Answers y u v (d rs) There Is r)
+    (sym (ap readings m.is ∙ readings_more m.head m.tail)) (h m.head m.tail m.first m.others)
 
 pub label_none_is : (of : Ty) → case_label [] of ≡ give None
 unfolding case_label

@@ -18,22 +18,37 @@ use Rattle.c_items.specs.declared.items.Items.{Items}
 use Rattle.c_items.specs.Items.{ItemsThere, IsItems}
 
 pub node_kept : (u v : Work) (n : Node) (t : Lexeme) (xs : Syns) → Keeps u v → IsNode u n t xs → IsNode v n t xs
-node_kept u v n t xs k h = record { place = h.place; span = h.span; text = subst (λ (f : List ℕ). t.text ≡ text_at f n.text) (sym k.file) h.text; fits = h.fits; parts = parts_kept u v n.kids xs k h.parts }
+node_kept u v n t xs k h =
+    record {
+      place = h.place;
+      span = h.span;
+      text = subst (λ (f : List ℕ). t.text ≡ text_at f n.text) (sym k.file) h.text;
+      fits = h.fits;
+      parts =
+          parts_kept u v n.kids xs k h.parts;
+    }
 
 pub has_node_kept : (u v : Work) (n : Node) → Keeps u v → HasNode u n → HasNode v n
 has_node_kept u v n k h = record { token = h.token; syntax = h.syntax; is = node_kept u v n h.token h.syntax k h.is }
 
 pub kids_of : (w : Work) (n : Node) (ks : List ℕ) → HasNode w n → ks ≡ n.kids → HaveParts w ks
-kids_of w n ks h e = record { syntax = h.syntax; are = subst (λ (z : List ℕ). AreParts w z h.syntax) (sym e) h.is.parts }
+kids_of w n ks h e = record {
+  syntax = h.syntax;
+  are = subst (λ (z : List ℕ). AreParts w z h.syntax) (sym e) h.is.parts;
+}
 
 -- ---- a construct, by its kind and at its place
 
-pub of_kind : (u w : Work) (d : NodeKind → Doing meant.Items) (k j : NodeKind) (r : Result Items Refusal) → k ≡ j → Answers freely u w (d j) ItemsThere IsItems r → Answers freely u w (d k) ItemsThere IsItems r
+pub of_kind : (u w : Work) (d : NodeKind → Doing meant.Items) (k j : NodeKind) (r : Result Items Refusal) → k ≡ j →
+    Answers freely u w (d j) ItemsThere IsItems r → Answers freely u w (d k) ItemsThere IsItems r
 of_kind u w d k j r e a = subst (λ (i : NodeKind). Answers freely u w (d i) ItemsThere IsItems r) (sym e) a
 
-pub at_place : (u w : Work) (d : Pos → Doing meant.Items) (q p : Pos) (r : Result Items Refusal) → q ≡ p → Answers freely u w (d p) ItemsThere IsItems r → Answers freely u w (d q) ItemsThere IsItems r
+pub at_place : (u w : Work) (d : Pos → Doing meant.Items) (q p : Pos) (r : Result Items Refusal) → q ≡ p →
+    Answers freely u w (d p) ItemsThere IsItems r → Answers freely u w (d q) ItemsThere IsItems r
 at_place u w d q p r e a = subst (λ (i : Pos). Answers freely u w (d i) ItemsThere IsItems r) (sym e) a
 
 -- the same of what is the same
-pub at_same : {A E X : Type 0} (y : Way) (u v : Work) (f : E → Doing A) (There : Work → X → Type 0) (Is : Work → X → State → A → Type 0) (r : Result X Refusal) (a b : E) → a ≡ b → Answers y u v (f a) There Is r → Answers y u v (f b) There Is r
+pub at_same : {A E X : Type 0} (y : Way) (u v : Work) (f : E → Doing A) (There : Work → X → Type 0)
+    (Is : Work → X → State → A → Type 0) (r : Result X Refusal) (a b : E) → a ≡ b → Answers y u v (f a) There Is r →
+    Answers y u v (f b) There Is r
 at_same {A} {E} y u v f There Is r a b e h = subst (λ (o : E). Answers y u v (f o) There Is r) e h

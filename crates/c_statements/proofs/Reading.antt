@@ -1,5 +1,6 @@
 -- What an initializer stands for, by its kind.
-use Rattle.std.proofs.Common.{◌≡◌, ℕ, suc, zero, Bool, true, false, List, [], ◌∷◌, ◌++◌, length, get_or, Option, Some, None, refl, sym, ap, subst, ◌∙◌, arith}
+use Rattle.std.proofs.Common.{◌≡◌, ℕ, suc, zero, Bool, true, false, List, [], ◌∷◌, ◌++◌, length, get_or, Option, Some}
+use Rattle.std.proofs.Common.{None, refl, sym, ap, subst, ◌∙◌, arith}
 use Rattle.std.specs.Prelude.{◌&&◌, if◌then◌else◌}
 use Rattle.ck_base.specs.declared.positions.Pos.{Pos}
 use Rattle.ck_base.specs.Tokens.{Lexeme}
@@ -24,40 +25,56 @@ use Rattle.c_work.proofs.Parting.{cut, no_parts}
 use Rattle.c_initializers.specs.Slots.{string_filled}
 use Rattle.c_statements.specs.Initial.{gives_items}
 
-pub reads_braces : (x : Syn) (asked : Slot → Doing Unit) (whole : Pos) (of : Ty) (at : ℕ) → kind_of x ≡ Kinds.BracedInitializer → (reading x).initializer asked whole of at ≡ braced_initializer (own_token x) (is_text (syns_of x)) (readings (syns_of x)) asked whole of at
+pub reads_braces : (x : Syn) (asked : Slot → Doing Unit) (whole : Pos) (of : Ty) (at : ℕ) →
+    kind_of x ≡ Kinds.BracedInitializer →
+    (reading x).initializer asked whole of at
+    ≡ braced_initializer (own_token x) (is_text (syns_of x)) (readings (syns_of x)) asked whole of at
 unfolding reading
-reads_braces (node k t xs) asked whole of at e = ap (λ (j : NodeKind). initializer_of j t xs (readings xs) asked whole of at) e
+reads_braces (node k t xs) asked whole of at e =
+    ap (λ (j : NodeKind). initializer_of j t xs (readings xs) asked whole of at) e
 
-pub reads_string : (x : Syn) (asked : Slot → Doing Unit) (whole : Pos) (of : Ty) (at : ℕ) → kind_of x ≡ Kinds.Text → takes_string of ≡ true → (reading x).initializer asked whole of at ≡ string_initializer (own_token x) (syns_of x) whole of at
+pub reads_string : (x : Syn) (asked : Slot → Doing Unit) (whole : Pos) (of : Ty) (at : ℕ) → kind_of x ≡ Kinds.Text →
+    takes_string of ≡ true → (reading x).initializer asked whole of at
+    ≡ string_initializer (own_token x) (syns_of x) whole of at
 unfolding reading
 reads_string (node k t xs) asked whole of at e h =
     ap (λ (j : NodeKind). initializer_of j t xs (readings xs) asked whole of at) e
-    ∙ ap (λ (b : Bool). if b then string_initializer t xs whole of at else plain_initializer (expression_of Kinds.Text t xs (readings xs)) asked whole of at) h
+    ∙ ap (λ (b : Bool). if b then string_initializer t xs whole of at
+    else plain_initializer (expression_of Kinds.Text t xs (readings xs)) asked whole of at) h
 
-pub reads_text : (x : Syn) (asked : Slot → Doing Unit) (whole : Pos) (of : Ty) (at : ℕ) → kind_of x ≡ Kinds.Text → takes_string of ≡ false → (reading x).initializer asked whole of at ≡ plain_initializer (reading x).operand asked whole of at
+pub reads_text : (x : Syn) (asked : Slot → Doing Unit) (whole : Pos) (of : Ty) (at : ℕ) → kind_of x ≡ Kinds.Text →
+    takes_string of ≡ false →
+    (reading x).initializer asked whole of at ≡ plain_initializer (reading x).operand asked whole of at
 unfolding reading
 reads_text (node k t xs) asked whole of at e h =
     ap (λ (j : NodeKind). initializer_of j t xs (readings xs) asked whole of at) e
-    ∙ ap (λ (b : Bool). if b then string_initializer t xs whole of at else plain_initializer (expression_of Kinds.Text t xs (readings xs)) asked whole of at) h
+    ∙ ap (λ (b : Bool). if b then string_initializer t xs whole of at
+    else plain_initializer (expression_of Kinds.Text t xs (readings xs)) asked whole of at) h
     ∙ ap (λ (j : NodeKind). plain_initializer (expression_of j t xs (readings xs)) asked whole of at) (sym e)
 
-other : (k : NodeKind) (t : Lexeme) (xs : Syns) (rs : List Reading) (asked : Slot → Doing Unit) (whole : Pos) (of : Ty) (at : ℕ) → (k ≡ Kinds.BracedInitializer → ⊥) → (k ≡ Kinds.Text → ⊥) → initializer_of k t xs rs asked whole of at ≡ plain_initializer (expression_of k t xs rs) asked whole of at
+other : (k : NodeKind) (t : Lexeme) (xs : Syns) (rs : List Reading) (asked : Slot → Doing Unit) (whole : Pos) (of : Ty)
+    (at : ℕ) → (k ≡ Kinds.BracedInitializer → ⊥) → (k ≡ Kinds.Text → ⊥) →
+    initializer_of k t xs rs asked whole of at ≡ plain_initializer (expression_of k t xs rs) asked whole of at
 other Kinds.BracedInitializer t xs rs asked whole of at g h = absurd (g refl)
 other Kinds.Text t xs rs asked whole of at g h = absurd (h refl)
 other _ t xs rs asked whole of at g h = refl
 
-pub reads_value : (x : Syn) (asked : Slot → Doing Unit) (whole : Pos) (of : Ty) (at : ℕ) → (kind_of x ≡ Kinds.BracedInitializer → ⊥) → (kind_of x ≡ Kinds.Text → ⊥) → (reading x).initializer asked whole of at ≡ plain_initializer (reading x).operand asked whole of at
+pub reads_value : (x : Syn) (asked : Slot → Doing Unit) (whole : Pos) (of : Ty) (at : ℕ) →
+    (kind_of x ≡ Kinds.BracedInitializer → ⊥) → (kind_of x ≡ Kinds.Text → ⊥) →
+    (reading x).initializer asked whole of at ≡ plain_initializer (reading x).operand asked whole of at
 unfolding reading
 reads_value (node k t xs) asked whole of at g h = other k t xs (readings xs) asked whole of at g h
 
 -- ---- strings
 
-pub string_is : (t : Lexeme) (xs : Syns) (whole : Pos) (of : Ty) (at : ℕ) → string_initializer t xs whole of at ≡ string_filled (text_bytes t xs) t.pos whole of at
+pub string_is : (t : Lexeme) (xs : Syns) (whole : Pos) (of : Ty) (at : ℕ) →
+    string_initializer t xs whole of at ≡ string_filled (text_bytes t xs) t.pos whole of at
 unfolding string_initializer
 string_is t xs whole of at = refl
 
 -- the token's bytes and its place alone count
-pub string_same : (t u : Lexeme) (xs : Syns) (whole : Pos) (of : Ty) (at : ℕ) → t.text ≡ u.text → t.pos ≡ u.pos → string_initializer t xs whole of at ≡ string_initializer u xs whole of at
+pub string_same : (t u : Lexeme) (xs : Syns) (whole : Pos) (of : Ty) (at : ℕ) → t.text ≡ u.text → t.pos ≡ u.pos →
+    string_initializer t xs whole of at ≡ string_initializer u xs whole of at
 string_same t u xs whole of at e f =
     string_is t xs whole of at
     ∙ ap (λ (bs : List ℕ). string_filled (characters_of bs ++ pieces xs ++ 0 ∷ []) t.pos whole of at) e
@@ -74,14 +91,19 @@ pub readings_nil : readings nil ≡ []
 unfolding readings
 readings_nil = refl
 
-pub braced_lone : (t : Lexeme) (b : Bool) (r : Reading) (asked : Slot → Doing Unit) (whole : Pos) (of : Ty) (at : ℕ) → (b && takes_string of) ≡ true → braced_initializer t b (r ∷ []) asked whole of at ≡ r.initializer asked whole of at
+pub braced_lone : (t : Lexeme) (b : Bool) (r : Reading) (asked : Slot → Doing Unit) (whole : Pos) (of : Ty) (at : ℕ) →
+    (b && takes_string of) ≡ true → braced_initializer t b (r ∷ []) asked whole of at ≡ r.initializer asked whole of at
 unfolding braced_initializer
-braced_lone t b r asked whole of at h = ap (λ (z : Bool). if z then r.initializer asked whole of at else gives_items (r ∷ []) asked whole of at t.pos) h
+braced_lone t b r asked whole of at h =
+    ap (λ (z : Bool). if z then r.initializer asked whole of at else gives_items (r ∷ []) asked whole of at t.pos) h
 
-pub braced_listed : (t : Lexeme) (b : Bool) (rs : List Reading) (asked : Slot → Doing Unit) (whole : Pos) (of : Ty) (at : ℕ) → (b && takes_string of) ≡ false → braced_initializer t b rs asked whole of at ≡ gives_items rs asked whole of at t.pos
+pub braced_listed : (t : Lexeme) (b : Bool) (rs : List Reading) (asked : Slot → Doing Unit) (whole : Pos) (of : Ty)
+    (at : ℕ) → (b && takes_string of) ≡ false →
+    braced_initializer t b rs asked whole of at ≡ gives_items rs asked whole of at t.pos
 unfolding braced_initializer
 braced_listed t b [] asked whole of at h = refl
-braced_listed t b (r ∷ []) asked whole of at h = ap (λ (z : Bool). if z then r.initializer asked whole of at else gives_items (r ∷ []) asked whole of at t.pos) h
+braced_listed t b (r ∷ []) asked whole of at h =
+    ap (λ (z : Bool). if z then r.initializer asked whole of at else gives_items (r ∷ []) asked whole of at t.pos) h
 braced_listed t b (r ∷ q ∷ rs) asked whole of at h = refl
 
 text_alone : (x : Syn) → kind_of x ≡ Kinds.Text → is_text (more x nil) ≡ true
@@ -100,21 +122,26 @@ pub one_part : (w : Work) (k : ℕ) (xs : Syns) → AreParts w (k ∷ []) xs →
 one_part w k xs p = let c = cut w k [] xs p in (c.head, c.is ∙ ap (more c.head) (no_parts w c.tail c.others), c.first)
 
 pub lone_part : (w : Work) (k : ℕ) (ks : List ℕ) → ks ≡ k ∷ [] → HaveParts w ks → HasPart w k
-lone_part w k ks e h = let o = one_part w k h.syntax (subst (λ (js : List ℕ). AreParts w js h.syntax) e h.are) in record { syntax = o.0; is = o.2 }
+lone_part w k ks e h = let o = one_part w k h.syntax (subst (λ (js : List ℕ). AreParts w js h.syntax) e h.are) in
+    record { syntax = o.0; is = o.2 }
 
 pub first_part : (w : Work) (k : ℕ) (ks : List ℕ) → HaveParts w (k ∷ ks) → HasPart w k
 first_part w k ks h = let c = cut w k ks h.syntax h.are in record { syntax = c.head; is = c.first }
 
-pub lone_given : (t : Lexeme) (xs : Syns) (x : Syn) (asked : Slot → Doing Unit) (whole : Pos) (of : Ty) (at : ℕ) → xs ≡ more x nil → (is_text xs && takes_string of) ≡ true →
+pub lone_given : (t : Lexeme) (xs : Syns) (x : Syn) (asked : Slot → Doing Unit) (whole : Pos) (of : Ty) (at : ℕ) →
+    xs ≡ more x nil → (is_text xs && takes_string of) ≡ true →
     braced_initializer t (is_text xs) (readings xs) asked whole of at ≡ (reading x).initializer asked whole of at
 lone_given t xs x asked whole of at e h =
-    ap (λ (rs : List Reading). braced_initializer t (is_text xs) rs asked whole of at) (ap readings e ∙ readings_more x nil ∙ ap (λ (rs : List Reading). reading x ∷ rs) readings_nil)
+    ap (λ (rs : List Reading). braced_initializer t (is_text xs) rs asked whole of at)
+    (ap readings e ∙ readings_more x nil ∙ ap (λ (rs : List Reading). reading x ∷ rs) readings_nil)
     ∙ braced_lone t (is_text xs) (reading x) asked whole of at h
 
-pub lone_text : (xs : Syns) (x : Syn) (of : Ty) → xs ≡ more x nil → kind_of x ≡ Kinds.Text → takes_string of ≡ true → (is_text xs && takes_string of) ≡ true
+pub lone_text : (xs : Syns) (x : Syn) (of : Ty) → xs ≡ more x nil → kind_of x ≡ Kinds.Text → takes_string of ≡ true →
+    (is_text xs && takes_string of) ≡ true
 lone_text xs x of e k h = rw e (rw (text_alone x k) h)
 
-pub lone_other : (xs : Syns) (x : Syn) (of : Ty) → xs ≡ more x nil → (kind_of x ≡ Kinds.Text → ⊥) → (is_text xs && takes_string of) ≡ false
+pub lone_other : (xs : Syns) (x : Syn) (of : Ty) → xs ≡ more x nil → (kind_of x ≡ Kinds.Text → ⊥) →
+    (is_text xs && takes_string of) ≡ false
 lone_other xs x of e k = rw e (rw (other_alone x k) refl)
 
 pub lone_value : (xs : Syns) (of : Ty) → takes_string of ≡ false → (is_text xs && takes_string of) ≡ false
@@ -124,7 +151,8 @@ lone_value xs of h = rw h (none (is_text xs))
     none true = refl
     none false = refl
 
-pub not_alone : (w : Work) (ks : List ℕ) (xs : Syns) (of : Ty) → AreParts w ks xs → (length ks ≡ 1 → ⊥) → (is_text xs && takes_string of) ≡ false
+pub not_alone : (w : Work) (ks : List ℕ) (xs : Syns) (of : Ty) → AreParts w ks xs → (length ks ≡ 1 → ⊥) →
+    (is_text xs && takes_string of) ≡ false
 not_alone w [] xs of p h = rw (no_parts w xs p) refl
 not_alone w (k ∷ []) xs of p h = absurd (h refl)
 not_alone w (k ∷ j ∷ ks) xs of p h =
@@ -140,8 +168,11 @@ one_alone (k ∷ j ∷ ks) d e = absurd (omega arith)
 
 -- ---- nodes
 
-pub text_accepted : (w : Work) (p : Part) (x : Syn) → IsNode w p x → p.kind ≡ Kinds.Text → IsAccepted Text (text_at w.file.now p.name.span)
-text_accepted w p x n e = subst (λ (bs : List ℕ). IsAccepted Text bs) n.text (subst (λ (k : NodeKind). TokenFits k (own_token x)) e n.fits)
+pub text_accepted : (w : Work) (p : Part) (x : Syn) → IsNode w p x → p.kind ≡ Kinds.Text →
+    IsAccepted Text (text_at w.file.now p.name.span)
+text_accepted w p x n e =
+    subst (λ (bs : List ℕ). IsAccepted Text bs) n.text (subst (λ (k : NodeKind). TokenFits k (own_token x)) e n.fits)
 
-pub node_parts : (w : Work) (k : ℕ) (p : Part) → ((x : Syn) → IsPart w k x → IsNode w p x) → HasPart w k → HaveParts w p.kids.now
+pub node_parts : (w : Work) (k : ℕ) (p : Part) → ((x : Syn) → IsPart w k x → IsNode w p x) → HasPart w k →
+    HaveParts w p.kids.now
 node_parts w k p h a = record { syntax = syns_of a.syntax; are = (h a.syntax a.is).parts }

@@ -10,7 +10,8 @@ use Rattle.c_tree.specs.Readings.{Reading}
 use Rattle.c_tree.specs.Scopes as scopes
 use Rattle.c_tree.specs.Scopes.{State, Doing, give, ◌>>=◌, ◌>>◌}
 use Rattle.c_tree.specs.Declarations as declarations
-use Rattle.c_tree.specs.Declarations.{no_items, init_action, init_static, init_local, fill_local, fill_static, declare_named, declare_all, is_alone}
+use Rattle.c_tree.specs.Declarations.{no_items, init_action, init_static, init_local, fill_local, fill_static}
+use Rattle.c_tree.specs.Declarations.{declare_named, declare_all, is_alone}
 use Rattle.c_tree.specs.Programs.{reading, readings}
 use Rattle.c_tree.specs.Views.{types_of}
 use Rattle.c_types.specs.Declares.{declares_named, declares_definition, storage_of, name_of, formed_of}
@@ -74,8 +75,10 @@ begins w d = declares_definition (storage_of d.storage) (name_of w.file.now d) (
 
 -- the scopes and the program show a declaration
 abbrev pub DeclaresIn : Nodes → Nodes → Decl → Result (Unit {0}) Refusal → Type 0
-DeclaresIn n m d (Ok x) = (e : Entry) × (d.of < type_count n → DeclaresKind d.what n.scopes.file.now n.scopes n.p m.scopes m.p d (Ok e))
-DeclaresIn n m d (Err e) = d.of < type_count n → DeclaresKind d.what n.scopes.file.now n.scopes n.p m.scopes m.p d (Err e)
+DeclaresIn n m d (Ok x) =
+    (e : Entry) × (d.of < type_count n → DeclaresKind d.what n.scopes.file.now n.scopes n.p m.scopes m.p d (Ok e))
+DeclaresIn n m d (Err e) =
+    d.of < type_count n → DeclaresKind d.what n.scopes.file.now n.scopes n.p m.scopes m.p d (Err e)
 
 abbrev pub EntityThere : Work → Entity → Type 0
 EntityThere w x = Unit {0}

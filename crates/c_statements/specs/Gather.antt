@@ -17,9 +17,11 @@ gather step [] = give no_items
 gather step (r ∷ rs) = step r >>= λ a. gather step rs >>= λ b. give (both a b)
 
 -- what was found so far: what is left, and the step that has given what was found
-pub record SoFar (step : Reading → Doing meant.Items) (u v : Work) (xs : Syns) (ks : List ℕ) (found : Items) : Type 0 where
+pub record SoFar (step : Reading → Doing meant.Items) (u v : Work) (xs : Syns) (ks : List ℕ) (found : Items) :
+    Type 0 where
   pub rest : Syns
   pub parts : AreParts v ks rest
   pub before : Doing meant.Items
   pub done : Done freely u v before (ItemsThere v found) (IsItems v found)
-  pub is : (s : State) → gather step (readings xs) s ≡ (before >>= λ a. gather step (readings rest) >>= λ b. give (both a b)) s
+  pub is : (s : State) → gather step (readings xs) s
+      ≡ (before >>= λ a. gather step (readings rest) >>= λ b. give (both a b)) s

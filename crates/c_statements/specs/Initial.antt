@@ -1,5 +1,6 @@
 -- What is asked of the values of an initializer, and what a list in braces gives.
-use Rattle.std.specs.Prelude.{◌≡◌, ℕ, ◌+◌, Bool, true, false, ◌&&◌, List, [], ◌∷◌, ◌++◌, length, Option, Some, None, Result, Ok, Err}
+use Rattle.std.specs.Prelude.{◌≡◌, ℕ, ◌+◌, Bool, true, false, ◌&&◌, List, [], ◌∷◌, ◌++◌, length, Option, Some, None}
+use Rattle.std.specs.Prelude.{Result, Ok, Err}
 use Rattle.ck_base.specs.declared.positions.Pos.{Pos}
 use Rattle.ck_base.specs.declared.refusal.Refusal.{Refusal}
 use Rattle.ck_base.specs.declared.refusal.Refusal.TheVariants.{Code, NoMemory}
@@ -34,12 +35,14 @@ listing w g brace s k rs = items s (asked_by g.asked) g.whole (type_in w.nodes g
 
 -- as many elements as there are items
 abbrev pub gives_items : List Reading → (Slot → Doing Unit) → Pos → Ty → ℕ → Pos → Doing Filled
-gives_items rs asked whole of at brace = look >>= λ s. items s asked whole of at brace 0 rs >>= λ slots. give (record { slots = slots; count = length rs })
+gives_items rs asked whole of at brace =
+    look >>= λ s. items s asked whole of at brace 0 rs >>= λ slots. give (record { slots = slots; count = length rs })
 
 -- the only one of some parts, where it is a string literal for an array of characters
 abbrev pub IsLone : Work → ℕ → List ℕ → Option ℕ → Type 0
 IsLone w of ks None = (xs : Syns) → AreParts w ks xs → (is_text xs && takes_string (type_in w.nodes of)) ≡ false
-IsLone w of ks (Some k) = (ks ≡ k ∷ []) × ((xs : Syns) → AreParts w ks xs → (is_text xs && takes_string (type_in w.nodes of)) ≡ true)
+IsLone w of ks (Some k) =
+    (ks ≡ k ∷ []) × ((xs : Syns) → AreParts w ks xs → (is_text xs && takes_string (type_in w.nodes of)) ≡ true)
 
 -- what the item with a number initialises
 abbrev pub part_of : Goal → Place → Goal
@@ -51,9 +54,12 @@ IsNext places k g brace (Err (Code code place)) = (place_at places k ≡ None) �
 IsNext places k g brace (Err NoMemory) = Unit {0}
 
 -- what was given so far: the parts that are left from a number on, and the step that has given what was given
-pub record SoFar (u v : Work) (g : Goal) (brace : Pos) (xs : Syns) (i : ℕ) (ks : List ℕ) (given : List Kept) : Type 0 where
+pub record SoFar (u v : Work) (g : Goal) (brace : Pos) (xs : Syns) (i : ℕ) (ks : List ℕ) (given : List Kept) :
+    Type 0 where
   pub rest : Syns
   pub parts : AreParts v ks rest
   pub before : Doing (List Slot)
   pub done : Done quietly u v before (AreSlotsThere v.nodes given) (λ s ys. ys ≡ slots_in v.nodes given)
-  pub is : (s : State) → Shows u s → listing u g brace s 0 (readings xs) s ≡ (before >>= λ ys. listing u g brace s i (readings rest) >>= λ zs. give (ys ++ zs)) s
+  pub is : (s : State) → Shows u s →
+      listing u g brace s 0 (readings xs) s ≡ (before >>= λ ys. listing u g brace s i (readings rest)
+      >>= λ zs. give (ys ++ zs)) s

@@ -1,5 +1,6 @@
 -- What is read of the parts of a statement, and what a statement with a scope of its own is in it (C11 6.8).
-use Rattle.std.specs.Prelude.{◌≡◌, ℕ, ◌<◌, Bool, true, false, not, List, [], ◌∷◌, ◌++◌, length, map, Option, Some, None, Result, Ok, Err}
+use Rattle.std.specs.Prelude.{◌≡◌, ℕ, ◌<◌, Bool, true, false, not, List, [], ◌∷◌, ◌++◌, length, map, Option, Some, None}
+use Rattle.std.specs.Prelude.{Result, Ok, Err}
 use Rattle.ck_base.specs.declared.positions.Pos.{Pos}
 use Rattle.ck_base.specs.declared.refusal.Refusal.{Refusal}
 use Rattle.ck_base.specs.declared.refusal.Refusal.TheVariants.{Code, NoMemory}
@@ -10,7 +11,8 @@ use Rattle.c_tree.specs.declared.typed.StmtKind.{StmtKind}
 use Rattle.c_tree.specs.declared.typed.StmtKind.TheVariants as stmts
 use Rattle.c_tree.specs.Syntax.{Syn, Syns, more}
 use Rattle.c_tree.specs.Types.{Ty, is_integer, is_void, promoted}
-use Rattle.c_tree.specs.Terms.{Term, type_of, no_terms, actions, no_actions, Form, Evaluate, If, While, Do, Switch, Break, Continue, Return}
+use Rattle.c_tree.specs.Terms.{Term, type_of, no_terms, actions, no_actions, Form, Evaluate, If, While, Do, Switch}
+use Rattle.c_tree.specs.Terms.{Break, Continue, Return}
 use Rattle.c_tree.specs.Scopes.{State, Doing, give, refuse, need, in_scope, ◌>>=◌, ◌>>◌}
 use Rattle.c_tree.specs.Conversions.{operand_type, converted_term, assigned}
 use Rattle.c_tree.specs.Readings as meant
@@ -19,7 +21,9 @@ use Rattle.c_tree.specs.Expressions.{read_value}
 use Rattle.c_tree.specs.Declarators.{constant}
 use Rattle.c_tree.specs.Declarations.{both}
 use Rattle.c_tree.specs.Statements as statements
-use Rattle.c_tree.specs.Statements.{one_action, one_term, does, all_items, block_action, substatement, test, in_a_loop, in_a_switch, for_action, first_part, optional_test, optional_step, has_label, switch_items, no_cases, case_value, case_label, add_label}
+use Rattle.c_tree.specs.Statements.{one_action, one_term, does, all_items, block_action, substatement, test, in_a_loop}
+use Rattle.c_tree.specs.Statements.{in_a_switch, for_action, first_part, optional_test, optional_step, has_label}
+use Rattle.c_tree.specs.Statements.{switch_items, no_cases, case_value, case_label, add_label}
 use Rattle.c_tree.specs.Views.{label_of}
 use Rattle.c_tree.specs.declared.typed.SwitchLabel.{SwitchLabel}
 use Rattle.c_nodes.specs.declared.nodes.Nodes.{Nodes}
@@ -53,7 +57,8 @@ abbrev pub jumping : StmtKind → Bool → Pos → Doing meant.Items
 jumping k allowed p = need allowed 133 p >> does (jump_form k) no_terms no_actions p
 
 abbrev pub return_one : meant.Context → Pos → Reading → Doing meant.Items
-return_one c p r = read_value r >>= λ a. need (not (is_void c.gives)) 133 p >> assigned c.gives a >>= λ x. does Return (one_term x) no_actions p
+return_one c p r = read_value r >>= λ a. need (not (is_void c.gives)) 133 p >> assigned c.gives a
+    >>= λ x. does Return (one_term x) no_actions p
 
 abbrev pub return_of : meant.Context → Pos → List Reading → Doing meant.Items
 return_of c p [] = need (is_void c.gives) 133 p >> does Return no_terms no_actions p
@@ -71,7 +76,8 @@ abbrev pub if_of : meant.Context → Pos → List Reading → Doing meant.Items
 if_of c p rs = with_two (if_with c p) p rs
 
 abbrev pub if_else_with : meant.Context → Pos → Reading → Reading → Reading → Doing meant.Items
-if_else_with c p r q o = test r >>= λ a. substatement c q >>= λ x. substatement c o >>= λ y. does If (one_term a) (actions (x ++ y)) p
+if_else_with c p r q o = test r >>= λ a. substatement c q >>= λ x. substatement c o
+    >>= λ y. does If (one_term a) (actions (x ++ y)) p
 
 abbrev pub if_else_of : meant.Context → Pos → List Reading → Doing meant.Items
 if_else_of c p rs = with_three (if_else_with c p) p rs
@@ -97,7 +103,8 @@ pub record ForHead : Type 0 where
   pub step : List Term
 
 abbrev pub for_head : meant.Context → Syn → Syn → Syn → Reading → Reading → Reading → Doing ForHead
-for_head c x y z r q p = first_part c x r >>= λ i. optional_test y q >>= λ ts. optional_step z p >>= λ ss. give (record { items = i; test = ts; step = ss })
+for_head c x y z r q p = first_part c x r >>= λ i. optional_test y q >>= λ ts. optional_step z p
+    >>= λ ss. give (record { items = i; test = ts; step = ss })
 
 abbrev pub maybe_term : Work → Option ℕ → List Term
 maybe_term w None = []
@@ -120,7 +127,9 @@ abbrev pub IsHead : Work → Head → State → ForHead → Type 0
 IsHead w h s x = x ≡ head_in w h
 
 abbrev pub for_with : meant.Context → Pos → Syn → Syn → Syn → Reading → Reading → Reading → Reading → Doing meant.Items
-for_with c p x y z r q o b = for_head c x y z r q o >>= λ h. substatement (in_a_loop c) b >>= λ body. give (one_action (for_action h.items h.test h.step body p))
+for_with c p x y z r q o b =
+    for_head c x y z r q o >>= λ h. substatement (in_a_loop c) b
+    >>= λ body. give (one_action (for_action h.items h.test h.step body p))
 
 abbrev pub for_in : meant.Context → Pos → Syns → List Reading → Doing meant.Items
 for_in c p (more x (more y (more z ws))) (r ∷ q ∷ o ∷ b ∷ []) = for_with c p x y z r q o b
@@ -185,7 +194,8 @@ abbrev pub AddsLabel : Cases → Option ℕ → Pos → Result Cases Refusal →
 AddsLabel cases v p (Ok new) =
     (has_label v (map label_of (labels_in cases)) ≡ false) × (new.items ≡ cases.items) ×
     (labels_in new ≡ labels_in cases ++ record { value = v; before = length cases.items.actions.items } ∷ [])
-AddsLabel cases v p (Err (Code code place)) = (has_label v (map label_of (labels_in cases)) ≡ true) × (code ≡ 131) × (place ≡ p)
+AddsLabel cases v p (Err (Code code place)) =
+    (has_label v (map label_of (labels_in cases)) ≡ true) × (code ≡ 131) × (place ≡ p)
 AddsLabel cases v p (Err NoMemory) = Unit {0}
 
 abbrev pub switch_with : meant.Context → Pos → Syns → Reading → List Reading → Doing meant.Items

@@ -14,9 +14,11 @@ use Rattle.c_statements.specs.declared.labels.Cases.{Cases}
 use Rattle.c_statements.specs.Statements.{CasesThere, IsCases}
 
 -- what is left, and the step that has given what was found
-pub record CasesSoFar (c : meant.Context) (of : Ty) (u v : Work) (xs : Syns) (ks : List ℕ) (found : Cases) : Type 0 where
+pub record CasesSoFar (c : meant.Context) (of : Ty) (u v : Work) (xs : Syns) (ks : List ℕ) (found : Cases) :
+    Type 0 where
   pub rest : Syns
   pub parts : AreParts v ks rest
   pub before : Doing statements.Cases
   pub done : Done freely u v before (CasesThere v found) (IsCases v found)
-  pub is : (s : State) → switch_items c of xs (readings xs) no_cases s ≡ (before >>= λ a. switch_items c of rest (readings rest) a) s
+  pub is : (s : State) → switch_items c of xs (readings xs) no_cases s
+      ≡ (before >>= λ a. switch_items c of rest (readings rest) a) s

@@ -11,7 +11,8 @@ ghost use Rattle.c_work.specs.Answers.{Answers, freely};
 ghost use Rattle.c_work.specs.Parts.{IsPart, HasPart, AreParts, HaveParts, token_of};
 ghost use Rattle.c_declarators.specs.Parts.{SpecifiedThere, IsSpecified, DerivedThere, IsDerived, AreWraps, any_scope};
 ghost use Rattle.c_items.specs.Items.{ItemsThere, IsItems};
-ghost use Rattle.c_statements.specs.Declaring.{HasBehind, IsBehind, behind_in, WrapsThere, declares_with, declares_list};
+ghost use Rattle.c_statements.specs.Declaring.{HasBehind, IsBehind, behind_in, WrapsThere, declares_with};
+ghost use Rattle.c_statements.specs.Declaring.{declares_list};
 
 use crate::declaring::declare_name;
 use crate::filling::initialize;
@@ -51,7 +52,15 @@ fn behind_of(work: &Work<'_>, kids: &[u32]) -> Result<Option<Behind>, NoMemory>
 
 // What is declared of an object.
 fn declared_as(s: Specified, name: Name, f: Formed, defines: bool) -> Decl
-    ensures { result ≡ record { name = name.span; pos = name.pos; of = f.of; faults = f.faults; what = DeclKind.Object; storage = s.storage; defines = defines } }
+    ensures { result ≡ record {
+      name = name.span;
+      pos = name.pos;
+      of = f.of;
+      faults = f.faults;
+      what = DeclKind.Object;
+      storage = s.storage;
+      defines = defines;
+    } }
 {
     Decl {
         name: name.span,
@@ -77,7 +86,10 @@ fn declare_so(
     requires specified { SpecifiedThere work.old s }
     requires parts { WrapsThere work.old wraps.now }
     requires behind { HasBehind work.old behind }
-    ensures { (y : meant.Specified) (e : meant.Derived) (b : declarations.Behind) → IsSpecified work.old s y → e.name ≡ Some (token_of work.old name) → AreWraps any_scope work.old (reverse wraps.now) e.wraps → IsBehind work.old behind b → Answers freely work.old work.new (declare_named y e e.name b) ItemsThere IsItems result }
+    ensures { (y : meant.Specified) (e : meant.Derived) (b : declarations.Behind) → IsSpecified work.old s y →
+        e.name ≡ Some (token_of work.old name) → AreWraps any_scope work.old (reverse wraps.now) e.wraps →
+        IsBehind work.old behind b →
+        Answers freely work.old work.new (declare_named y e e.name b) ItemsThere IsItems result }
 {
     let f = formed(work, s.of, wraps)?;
     let entity = declare_name(work, declared_as(s, name, f, behind.is_some()))?;
@@ -96,7 +108,9 @@ fn declare_named(
     requires specified { SpecifiedThere work.old s }
     requires derived { DerivedThere work.old d.now }
     requires behind { HasBehind work.old behind }
-    ensures { (y : meant.Specified) (e : meant.Derived) (b : declarations.Behind) → IsSpecified work.old s y → IsDerived any_scope work.old d.now e → IsBehind work.old behind b → Answers freely work.old work.new (declare_named y e e.name b) ItemsThere IsItems result }
+    ensures { (y : meant.Specified) (e : meant.Derived) (b : declarations.Behind) → IsSpecified work.old s y →
+        IsDerived any_scope work.old d.now e → IsBehind work.old behind b →
+        Answers freely work.old work.new (declare_named y e e.name b) ItemsThere IsItems result }
 {
     match d.name {
         None => Err(Refusal::Code(120, s.first)),
@@ -116,7 +130,9 @@ fn declare_with(
     requires specified { SpecifiedThere work.old s }
     requires part { HasPart work.old first }
     requires parts { HaveParts work.old others.now }
-    ensures { (y : meant.Specified) (x : Syn) (ys : Syns) → IsSpecified work.old s y → IsPart work.old first x → AreParts work.old others.now ys → Answers freely work.old work.new (declares_with y x ys) ItemsThere IsItems result }
+    ensures { (y : meant.Specified) (x : Syn) (ys : Syns) → IsSpecified work.old s y → IsPart work.old first x →
+        AreParts work.old others.now ys →
+        Answers freely work.old work.new (declares_with y x ys) ItemsThere IsItems result }
 {
     let behind = behind_of(work, others)?;
     let d = derived(work, first, depth)?;
@@ -128,7 +144,8 @@ fn declared(work: &mut Work<'_>, s: Specified, k: u32, depth: u32) -> Result<Ite
     requires whole { IsWhole work.old.nodes }
     requires specified { SpecifiedThere work.old s }
     requires part { HasPart work.old k }
-    ensures { (y : meant.Specified) (x : Syn) → IsSpecified work.old s y → IsPart work.old k x → Answers freely work.old work.new ((reading x).declared y) ItemsThere IsItems result }
+    ensures { (y : meant.Specified) (x : Syn) → IsSpecified work.old s y → IsPart work.old k x →
+        Answers freely work.old work.new ((reading x).declared y) ItemsThere IsItems result }
 {
     let node = node_at(work, k)?;
     match first_of(node.kids.as_slice()) {
@@ -147,7 +164,8 @@ fn declare_all(
     requires whole { IsWhole work.old.nodes }
     requires specified { SpecifiedThere work.old s }
     requires parts { HaveParts work.old kids.now }
-    ensures { (y : meant.Specified) (xs : Syns) → IsSpecified work.old s y → AreParts work.old kids.now xs → Answers freely work.old work.new (declare_all y (readings xs)) ItemsThere IsItems result }
+    ensures { (y : meant.Specified) (xs : Syns) → IsSpecified work.old s y → AreParts work.old kids.now xs →
+        Answers freely work.old work.new (declare_all y (readings xs)) ItemsThere IsItems result }
 {
     let mut items = no_items(work.nodes.alloc);
     let mut left = kids;
@@ -169,7 +187,8 @@ fn declare_list(
     requires whole { IsWhole work.old.nodes }
     requires part { HasPart work.old first }
     requires parts { HaveParts work.old others.now }
-    ensures { (x : Syn) (ys : Syns) → IsPart work.old first x → AreParts work.old others.now ys → Answers freely work.old work.new (declares_list x ys) ItemsThere IsItems result }
+    ensures { (x : Syn) (ys : Syns) → IsPart work.old first x → AreParts work.old others.now ys →
+        Answers freely work.old work.new (declares_list x ys) ItemsThere IsItems result }
 {
     let s = specified(work, first, others.is_empty(), depth)?;
     declare_all(work, s, others, depth)
@@ -184,7 +203,8 @@ pub fn declaration(
 ) -> Result<Items, Refusal>
     requires whole { IsWhole work.old.nodes }
     requires parts { HaveParts work.old kids.now }
-    ensures { (xs : Syns) → AreParts work.old kids.now xs → Answers freely work.old work.new (declaration pos (readings xs)) ItemsThere IsItems result }
+    ensures { (xs : Syns) → AreParts work.old kids.now xs →
+        Answers freely work.old work.new (declaration pos (readings xs)) ItemsThere IsItems result }
 {
     match first_of(kids) {
         None => Err(Refusal::Code(120, pos)),

@@ -7,7 +7,8 @@ ghost use Rattle.c_types.specs.Stands.{text_at};
 ghost use Rattle.c_nodes.specs.Nodes.{IsWhole, type_count};
 ghost use Rattle.c_work.specs.Work.{Shows};
 ghost use Rattle.c_work.specs.Answers.{Answers, freely};
-ghost use Rattle.c_statements.specs.Declaring.{DeclaresIn, declares, begins, EntityThere, IsEntity, FunctionThere, IsFunction};
+ghost use Rattle.c_statements.specs.Declaring.{DeclaresIn, declares, begins, EntityThere, IsEntity, FunctionThere};
+ghost use Rattle.c_statements.specs.Declaring.{IsFunction};
 
 use c_nodes::Nodes;
 use c_types::{Decl, DeclKind, Entity};
@@ -16,7 +17,8 @@ use ck_base::{NoMemory, Refusal, Span};
 
 // What a name of the innermost scope denotes.
 fn denoted(work: &Work<'_>, name: Span) -> Result<Entity, NoMemory>
-    ensures { IfOk result (λ x. (s : State) → Shows work.now s → IsEntity work.now x s (find_in (innermost s.scopes).names (text_at work.now.file.now name))) }
+    ensures { IfOk result (λ x. (s : State) → Shows work.now s →
+        IsEntity work.now x s (find_in (innermost s.scopes).names (text_at work.now.file.now name))) }
 {
     match work.nodes.scopes.look_here(work.text(name)) {
         None => Err(NoMemory),
@@ -37,8 +39,8 @@ fn declare_in(nodes: &mut Nodes<'_>, d: Decl) -> Result<(), Refusal>
     }
 }
 
-/// The name of an object, of a function or of a type is declared in the innermost scope: 131 where it does not agree with what it denotes
-/// there, then the rules on its type (132, 133, 140).
+/// The name of an object, of a function or of a type is declared in the innermost scope: 131 where it does not agree
+/// with what it denotes there, then the rules on its type (132, 133, 140).
 pub fn declare_name(work: &mut Work<'_>, d: Decl) -> Result<Entity, Refusal>
     requires whole { IsWhole work.old.nodes }
     requires there { d.of < type_count work.old.nodes }
@@ -50,8 +52,8 @@ pub fn declare_name(work: &mut Work<'_>, d: Decl) -> Result<Entity, Refusal>
     Ok(entity)
 }
 
-/// The definition of a function is begun: 131 where it was begun before, or where its name denotes something else, then the rules on its
-/// type. The function has no locals yet.
+/// The definition of a function is begun: 131 where it was begun before, or where its name denotes something else, then
+/// the rules on its type. The function has no locals yet.
 pub fn declare_definition(work: &mut Work<'_>, d: Decl) -> Result<u32, Refusal>
     requires whole { IsWhole work.old.nodes }
     requires there { d.of < type_count work.old.nodes }

@@ -11,7 +11,8 @@ ghost use Rattle.c_work.specs.Answers.{Answers, freely};
 ghost use Rattle.c_work.specs.Parts.{IsPart, HasPart, token_of};
 ghost use Rattle.c_initializers.specs.Slots.{AreSlotsThere, slots_in};
 ghost use Rattle.c_items.specs.Items.{ItemsThere, IsItems};
-ghost use Rattle.c_statements.specs.Declaring.{HasBehind, IsBehind, fills_local, fills_static, init_items, initializes, local_initialized, static_initialized};
+ghost use Rattle.c_statements.specs.Declaring.{HasBehind, IsBehind, fills_local, fills_static, init_items, initializes};
+ghost use Rattle.c_statements.specs.Declaring.{local_initialized, static_initialized};
 
 use crate::declarations::Behind;
 use crate::initial::{Asked, Goal, initializer};
@@ -47,7 +48,8 @@ fn push_action(actions: &mut Vec<u32>, action: u32) -> Result<(), NoMemory>
 fn init_actions(work: &mut Work<'_>, k: u32, pos: Pos, slots: &[Slot]) -> Result<Items, Refusal>
     requires whole { IsWhole work.old.nodes }
     requires slots { AreSlotsThere work.old.nodes slots.now }
-    ensures { Answers freely work.old work.new (give (init_items k pos (slots_in work.old.nodes slots.now))) ItemsThere IsItems result }
+    ensures { Answers freely work.old work.new
+        (give (init_items k pos (slots_in work.old.nodes slots.now))) ItemsThere IsItems result }
 {
     let mut items = new_variable(work.nodes.alloc, k)?;
     for slot in slots {
@@ -74,7 +76,9 @@ fn initialize_local(
     requires whole { IsWhole work.old.nodes }
     requires there { of < type_count work.old.nodes }
     requires part { HasPart work.old b.node }
-    ensures { (x : Syn) → IsPart work.old b.node x → Answers freely work.old work.new (fills_local k (token_of work.old name) (type_in work.old.nodes of) (reading x) b.first) ItemsThere IsItems result }
+    ensures { (x : Syn) → IsPart work.old b.node x →
+        Answers freely work.old work.new (fills_local k (token_of work.old name) (type_in work.old.nodes of)
+        (reading x) b.first) ItemsThere IsItems result }
 {
     let goal = Goal {
         asked: Asked::Nothing,
@@ -97,7 +101,9 @@ fn initialize_static(
 ) -> Result<Items, Refusal>
     requires whole { IsWhole work.old.nodes }
     requires part { HasPart work.old b.node }
-    ensures { (x : Syn) → IsPart work.old b.node x → Answers freely work.old work.new (fills_static k (token_of work.old name) (reading x) b.first) ItemsThere IsItems result }
+    ensures { (x : Syn) → IsPart work.old b.node x →
+        Answers freely work.old work.new (fills_static k (token_of work.old name) (reading x) b.first) ItemsThere
+        IsItems result }
 {
     let of = work.object_type(k)?;
     let goal = Goal {
@@ -132,7 +138,9 @@ fn initialize_variable(
     requires whole { IsWhole work.old.nodes }
     requires there { of < type_count work.old.nodes }
     requires behind { HasBehind work.old behind }
-    ensures { (b : meant.Behind) → IsBehind work.old behind b → Answers freely work.old work.new (local_initialized k (token_of work.old name) (type_in work.old.nodes of) b) ItemsThere IsItems result }
+    ensures { (b : meant.Behind) → IsBehind work.old behind b →
+        Answers freely work.old work.new (local_initialized k (token_of work.old name) (type_in work.old.nodes of) b)
+        ItemsThere IsItems result }
 {
     match behind {
         None => declare_variable(work, k),
@@ -150,7 +158,8 @@ fn initialize_object(
 ) -> Result<Items, Refusal>
     requires whole { IsWhole work.old.nodes }
     requires behind { HasBehind work.old behind }
-    ensures { (b : meant.Behind) → IsBehind work.old behind b → Answers freely work.old work.new (static_initialized k (token_of work.old name) b) ItemsThere IsItems result }
+    ensures { (b : meant.Behind) → IsBehind work.old behind b →
+        Answers freely work.old work.new (static_initialized k (token_of work.old name) b) ItemsThere IsItems result }
 {
     match behind {
         None => Ok(no_items(work.nodes.alloc)),
@@ -170,7 +179,9 @@ pub(crate) fn initialize(
     requires whole { IsWhole work.old.nodes }
     requires there { of < type_count work.old.nodes }
     requires behind { HasBehind work.old behind }
-    ensures { (b : meant.Behind) → IsBehind work.old behind b → Answers freely work.old work.new (initializes entity (token_of work.old name) (type_in work.old.nodes of) b) ItemsThere IsItems result }
+    ensures { (b : meant.Behind) → IsBehind work.old behind b →
+        Answers freely work.old work.new (initializes entity (token_of work.old name) (type_in work.old.nodes of) b)
+        ItemsThere IsItems result }
 {
     match entity {
         Entity::Local(k, _) => initialize_variable(work, k, name, of, behind, depth),

@@ -15,7 +15,8 @@ pub(crate) struct FourParts {
 /// The parts where there are four.
 #[tactic(auto, using(crate::proofs::Fours::four_items))]
 pub(crate) fn four(kids: &[u32]) -> Option<FourParts>
-    ensures { MatchOption result (HasNot 4 kids.now) (λ x. kids.now ≡ x.head.first ∷ x.head.second ∷ x.head.third ∷ x.last ∷ []) }
+    ensures { MatchOption result (HasNot 4 kids.now)
+        (λ x. kids.now ≡ x.head.first ∷ x.head.second ∷ x.head.third ∷ x.last ∷ []) }
 {
     match kids {
         [a, b, c, d] => Some(FourParts {

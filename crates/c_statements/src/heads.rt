@@ -30,7 +30,9 @@ pub struct Head {
 fn first_part(work: &mut Work<'_>, context: Context, k: u32, depth: u32) -> Result<Items, Refusal>
     requires whole { IsWhole work.old.nodes }
     requires part { HasPart work.old k }
-    ensures { (x : Syn) → IsPart work.old k x → Answers freely work.old work.new (first_part (context_in work.old context) x (reading x)) ItemsThere IsItems result }
+    ensures { (x : Syn) → IsPart work.old k x →
+        Answers freely work.old work.new (first_part (context_in work.old context) x (reading x)) ItemsThere IsItems
+        result }
 {
     let node = node_at(work, k)?;
     match node.kind {
@@ -52,7 +54,8 @@ fn is_absent(work: &Work<'_>, k: u32) -> Result<bool, NoMemory>
 fn optional_test(work: &mut Work<'_>, k: u32, depth: u32) -> Result<Option<u32>, Refusal>
     requires whole { IsWhole work.old.nodes }
     requires part { HasPart work.old k }
-    ensures { (x : Syn) → IsPart work.old k x → Answers quietly work.old work.new (optional_test x (reading x)) MaybeThere IsMaybe result }
+    ensures { (x : Syn) → IsPart work.old k x →
+        Answers quietly work.old work.new (optional_test x (reading x)) MaybeThere IsMaybe result }
 {
     let absent = is_absent(work, k)?;
     if absent {
@@ -66,7 +69,8 @@ fn optional_test(work: &mut Work<'_>, k: u32, depth: u32) -> Result<Option<u32>,
 fn optional_step(work: &mut Work<'_>, k: u32, depth: u32) -> Result<Option<u32>, Refusal>
     requires whole { IsWhole work.old.nodes }
     requires part { HasPart work.old k }
-    ensures { (x : Syn) → IsPart work.old k x → Answers quietly work.old work.new (optional_step x (reading x)) MaybeThere IsMaybe result }
+    ensures { (x : Syn) → IsPart work.old k x →
+        Answers quietly work.old work.new (optional_step x (reading x)) MaybeThere IsMaybe result }
 {
     let absent = is_absent(work, k)?;
     if absent {
@@ -87,7 +91,10 @@ pub(crate) fn for_head(
     requires first { HasPart work.old parts.first }
     requires second { HasPart work.old parts.second }
     requires third { HasPart work.old parts.third }
-    ensures { (x y z : Syn) → IsPart work.old parts.first x → IsPart work.old parts.second y → IsPart work.old parts.third z → Answers freely work.old work.new (for_head (context_in work.old context) x y z (reading x) (reading y) (reading z)) HeadThere IsHead result }
+    ensures { (x y z : Syn) → IsPart work.old parts.first x → IsPart work.old parts.second y →
+        IsPart work.old parts.third z →
+        Answers freely work.old work.new (for_head (context_in work.old context) x y z (reading x) (reading y)
+        (reading z)) HeadThere IsHead result }
 {
     let items = first_part(work, context, parts.first, depth)?;
     let test = optional_test(work, parts.second, depth)?;

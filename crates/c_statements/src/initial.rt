@@ -46,7 +46,8 @@ pub struct Goal {
 fn ask(work: &Work<'_>, asked: Asked, slot: &Slot) -> Result<(), Refusal>
     requires whole { IsWhole work.now.nodes }
     requires there { SlotThere work.now slot.now }
-    ensures { Answers quietly work.now work.now (asked_by asked (slot_in work.now.nodes slot.now)) NothingThere IsNothing result }
+    ensures { Answers quietly work.now work.now
+        (asked_by asked (slot_in work.now.nodes slot.now)) NothingThere IsNothing result }
 {
     match asked {
         Asked::Nothing => Ok(()),
@@ -59,7 +60,9 @@ fn plain_value(work: &mut Work<'_>, k: u32, goal: Goal, depth: u32) -> Result<Fi
     requires whole { IsWhole work.old.nodes }
     requires there { goal.of < type_count work.old.nodes }
     requires part { HasPart work.old k }
-    ensures { (x : Syn) → IsPart work.old k x → Answers quietly work.old work.new (plain_initializer (reading x).operand (asked_by goal.asked) goal.whole (type_in work.old.nodes goal.of) goal.at) FilledThere IsFilled result }
+    ensures { (x : Syn) → IsPart work.old k x →
+        Answers quietly work.old work.new (plain_initializer (reading x).operand (asked_by goal.asked) goal.whole
+        (type_in work.old.nodes goal.of) goal.at) FilledThere IsFilled result }
 {
     let x = value_of(work, k, depth)?;
     let slot = plain(work, x, goal.of, goal.at)?;
@@ -74,7 +77,9 @@ fn text_value(work: &mut Work<'_>, name: Name, kids: &[u32], goal: Goal) -> Resu
     requires there { goal.of < type_count work.old.nodes }
     requires accepted { IsAccepted TokenKind.Text (text_at work.old.file.now name.span) }
     requires parts { HaveParts work.old kids.now }
-    ensures { (xs : Syns) → AreParts work.old kids.now xs → Answers quietly work.old work.new (string_initializer (token_of work.old name) xs goal.whole (type_in work.old.nodes goal.of) goal.at) FilledThere IsFilled result }
+    ensures { (xs : Syns) → AreParts work.old kids.now xs →
+        Answers quietly work.old work.new (string_initializer (token_of work.old name) xs goal.whole
+        (type_in work.old.nodes goal.of) goal.at) FilledThere IsFilled result }
 {
     let bytes = work.text_bytes(name, kids)?;
     string(
@@ -87,14 +92,16 @@ fn text_value(work: &mut Work<'_>, name: Name, kids: &[u32], goal: Goal) -> Resu
     )
 }
 
-/// An initialiser: a string that fills an array of characters, braces, or one expression (C11 6.7.9). 133 where a value does not fit its
-/// part or has none, and 134 where it has to be known before the program runs and is not.
+/// An initialiser: a string that fills an array of characters, braces, or one expression (C11 6.7.9). 133 where a value
+/// does not fit its part or has none, and 134 where it has to be known before the program runs and is not.
 #[cycle(initial)]
 pub fn initializer(work: &mut Work<'_>, k: u32, goal: Goal, depth: u32) -> Result<Filled, Refusal>
     requires whole { IsWhole work.old.nodes }
     requires there { goal.of < type_count work.old.nodes }
     requires part { HasPart work.old k }
-    ensures { (x : Syn) → IsPart work.old k x → Answers quietly work.old work.new ((reading x).initializer (asked_by goal.asked) goal.whole (type_in work.old.nodes goal.of) goal.at) FilledThere IsFilled result }
+    ensures { (x : Syn) → IsPart work.old k x →
+        Answers quietly work.old work.new ((reading x).initializer (asked_by goal.asked) goal.whole
+        (type_in work.old.nodes goal.of) goal.at) FilledThere IsFilled result }
 {
     if depth == 0 {
         return Err(Refusal::NoMemory);
@@ -125,7 +132,9 @@ fn braced(
     requires whole { IsWhole work.old.nodes }
     requires there { goal.of < type_count work.old.nodes }
     requires parts { HaveParts work.old kids.now }
-    ensures { (t : Lexeme) (xs : Syns) → t.pos ≡ brace → AreParts work.old kids.now xs → Answers quietly work.old work.new (braced_initializer t (is_text xs) (readings xs) (asked_by goal.asked) goal.whole (type_in work.old.nodes goal.of) goal.at) FilledThere IsFilled result }
+    ensures { (t : Lexeme) (xs : Syns) → t.pos ≡ brace → AreParts work.old kids.now xs →
+        Answers quietly work.old work.new (braced_initializer t (is_text xs) (readings xs)
+        (asked_by goal.asked) goal.whole (type_in work.old.nodes goal.of) goal.at) FilledThere IsFilled result }
 {
     match lone_text(work, kids, goal.of)? {
         Some(k) => initializer(work, k, goal, depth),
@@ -145,7 +154,9 @@ fn list(
     requires whole { IsWhole work.old.nodes }
     requires there { goal.of < type_count work.old.nodes }
     requires parts { HaveParts work.old kids.now }
-    ensures { (xs : Syns) → AreParts work.old kids.now xs → Answers quietly work.old work.new (gives_items (readings xs) (asked_by goal.asked) goal.whole (type_in work.old.nodes goal.of) goal.at brace) FilledThere IsFilled result }
+    ensures { (xs : Syns) → AreParts work.old kids.now xs →
+        Answers quietly work.old work.new (gives_items (readings xs) (asked_by goal.asked) goal.whole
+        (type_in work.old.nodes goal.of) goal.at brace) FilledThere IsFilled result }
 {
     let places = places_of(work, goal.of, kids.len())?;
     listed(work, kids, &places, brace, goal, depth)
@@ -165,7 +176,9 @@ fn listed(
     requires there { goal.of < type_count work.old.nodes }
     requires parts { HaveParts work.old kids.now }
     requires places { ArePlaces work.old goal.of (length kids.now) places.now }
-    ensures { (xs : Syns) → AreParts work.old kids.now xs → Answers quietly work.old work.new (gives_items (readings xs) (asked_by goal.asked) goal.whole (type_in work.old.nodes goal.of) goal.at brace) FilledThere IsFilled result }
+    ensures { (xs : Syns) → AreParts work.old kids.now xs →
+        Answers quietly work.old work.new (gives_items (readings xs) (asked_by goal.asked) goal.whole
+        (type_in work.old.nodes goal.of) goal.at brace) FilledThere IsFilled result }
 {
     let mut slots = Vec::new(work.nodes.alloc);
     let mut number: u32 = 0;

@@ -9,7 +9,9 @@ ghost use Rattle.c_tree.specs.Statements.{has_label, case_label};
 ghost use Rattle.c_nodes.specs.Nodes.{IsWhole, type_in, type_count, term_count};
 ghost use Rattle.c_work.specs.Answers.{Answers, quietly, freely};
 ghost use Rattle.c_work.specs.Parts.{IsPart, HasPart, AreParts, HaveParts};
-ghost use Rattle.c_statements.specs.Statements.{switched, SwitchedThere, IsSwitched, IsPromoted, LabelThere, IsLabel, AddsLabel, CasesThere, IsCases, cases_in, case_of, labelling, switch_of, switch_label, labels_in};
+ghost use Rattle.c_statements.specs.Statements.{switched, SwitchedThere, IsSwitched, IsPromoted, LabelThere, IsLabel};
+ghost use Rattle.c_statements.specs.Statements.{AddsLabel, CasesThere, IsCases, cases_in, case_of, labelling};
+ghost use Rattle.c_statements.specs.Statements.{switch_of, switch_label, labels_in};
 
 use c_declarators::Constant;
 use c_items::{Context, Items, join};
@@ -33,7 +35,8 @@ pub struct Controlling {
 #[derive(Drop)]
 pub struct Cases {
     pub items: Items,
-    /// The values of the labels, none for `default`, in their order. Each has the number of statements that stand before it.
+    /// The values of the labels, none for `default`, in their order. Each has the number of statements that stand
+    /// before it.
     pub labels: IndexMap<Option<u64>, u32>,
 }
 
@@ -52,7 +55,8 @@ fn promoted_value(nodes: &mut Nodes<'_>, node: u32) -> Result<Controlling, NoMem
 pub(crate) fn switched(work: &mut Work<'_>, k: u32, depth: u32) -> Result<Controlling, Refusal>
     requires whole { IsWhole work.old.nodes }
     requires part { HasPart work.old k }
-    ensures { (x : Syn) → IsPart work.old k x → Answers quietly work.old work.new (switched (reading x)) SwitchedThere IsSwitched result }
+    ensures { (x : Syn) → IsPart work.old k x →
+        Answers quietly work.old work.new (switched (reading x)) SwitchedThere IsSwitched result }
 {
     let a = value_of(work, k, depth)?;
     if !work.nodes.is_integer(work.nodes.of(a.node)) {
@@ -74,7 +78,8 @@ fn case_value(work: &mut Work<'_>, of: u32, k: u32, depth: u32) -> Result<Option
     requires whole { IsWhole work.old.nodes }
     requires there { of < type_count work.old.nodes }
     requires part { HasPart work.old k }
-    ensures { (x : Syn) → IsPart work.old k x → Answers quietly work.old work.new (case_of (type_in work.old.nodes of) (reading x)) LabelThere IsLabel result }
+    ensures { (x : Syn) → IsPart work.old k x →
+        Answers quietly work.old work.new (case_of (type_in work.old.nodes of) (reading x)) LabelThere IsLabel result }
 {
     let value = constant(work, k, depth)?;
     let kind = work.nodes.class(of).kind();
@@ -86,7 +91,9 @@ fn label(work: &mut Work<'_>, of: u32, kids: &[u32], depth: u32) -> Result<Optio
     requires whole { IsWhole work.old.nodes }
     requires there { of < type_count work.old.nodes }
     requires parts { HaveParts work.old kids.now }
-    ensures { (xs : Syns) → AreParts work.old kids.now xs → Answers quietly work.old work.new (case_label (readings xs) (type_in work.old.nodes of)) LabelThere IsLabel result }
+    ensures { (xs : Syns) → AreParts work.old kids.now xs →
+        Answers quietly work.old work.new (case_label (readings xs) (type_in work.old.nodes of)) LabelThere IsLabel
+        result }
 {
     match first_of(kids) {
         None => Ok(None),
@@ -106,7 +113,8 @@ fn has_label(labels: &IndexMap<Option<u64>, u32>, value: Option<u64>) -> bool
 fn with_label(cases: Cases, value: Option<u64>) -> Result<Cases, NoMemory>
     requires { has_label value (map label_of (labels_in cases)) ≡ false }
     ensures items { IfOk result (λ x. x.items ≡ cases.items) }
-    ensures labels { IfOk result (λ x. labels_in x ≡ labels_in cases ++ record { value = value; before = length cases.items.actions.items } ∷ []) }
+    ensures labels { IfOk result (λ x. labels_in x
+        ≡ labels_in cases ++ record { value = value; before = length cases.items.actions.items } ∷ []) }
 {
     let mut cases = cases;
     let before = u32::try_from(cases.items.actions.len()).map_err(|_| NoMemory)?;
@@ -138,7 +146,9 @@ pub(crate) fn labelled(
     requires there { of < type_count work.old.nodes }
     requires parts { HaveParts work.old kids.now }
     requires cases { CasesThere work.old cases }
-    ensures { (xs : Syns) → AreParts work.old kids.now xs → Answers freely work.old work.new (labelling (readings xs) (type_in work.old.nodes of) pos (cases_in work.old cases)) CasesThere IsCases result }
+    ensures { (xs : Syns) → AreParts work.old kids.now xs →
+        Answers freely work.old work.new (labelling (readings xs) (type_in work.old.nodes of) pos
+        (cases_in work.old cases)) CasesThere IsCases result }
 {
     let value = label(work, of, kids, depth)?;
     add_label(cases, value, pos)

@@ -20,7 +20,8 @@ use ck_base::{Pos, Refusal};
 pub(crate) fn test(work: &mut Work<'_>, k: u32, depth: u32) -> Result<u32, Refusal>
     requires whole { IsWhole work.old.nodes }
     requires part { HasPart work.old k }
-    ensures { (x : Syn) → IsPart work.old k x → Answers quietly work.old work.new (test (reading x)) TermThere IsTerm result }
+    ensures { (x : Syn) → IsPart work.old k x →
+        Answers quietly work.old work.new (test (reading x)) TermThere IsTerm result }
 {
     let a = value_of(work, k, depth)?;
     work.condition(a)
@@ -35,7 +36,8 @@ pub(crate) fn evaluate_one(
 ) -> Result<Items, Refusal>
     requires whole { IsWhole work.old.nodes }
     requires part { HasPart work.old k }
-    ensures { (x : Syn) → IsPart work.old k x → Answers freely work.old work.new (evaluate_one (reading x) pos) ItemsThere IsItems result }
+    ensures { (x : Syn) → IsPart work.old k x →
+        Answers freely work.old work.new (evaluate_one (reading x) pos) ItemsThere IsItems result }
 {
     let a = value_of(work, k, depth)?;
     does(work, StmtKind::Expr(a.node), pos)
@@ -50,7 +52,8 @@ pub(crate) fn evaluate(
 ) -> Result<Items, Refusal>
     requires whole { IsWhole work.old.nodes }
     requires parts { HaveParts work.old kids.now }
-    ensures { (xs : Syns) → AreParts work.old kids.now xs → Answers freely work.old work.new (evaluated pos (readings xs)) ItemsThere IsItems result }
+    ensures { (xs : Syns) → AreParts work.old kids.now xs →
+        Answers freely work.old work.new (evaluated pos (readings xs)) ItemsThere IsItems result }
 {
     match only(kids) {
         None => Err(Refusal::Code(120, pos)),
@@ -82,7 +85,8 @@ pub(crate) fn jump(
 fn return_nothing(work: &mut Work<'_>, context: Context, pos: Pos) -> Result<Items, Refusal>
     requires whole { IsWhole work.old.nodes }
     requires context { ContextThere work.old context }
-    ensures { Answers freely work.old work.new (return_of (context_in work.old context) pos []) ItemsThere IsItems result }
+    ensures { Answers freely work.old work.new
+        (return_of (context_in work.old context) pos []) ItemsThere IsItems result }
 {
     if work.nodes.is_void(context.gives) {
         does(work, StmtKind::Return(None), pos)
@@ -102,7 +106,9 @@ fn return_value(
     requires whole { IsWhole work.old.nodes }
     requires context { ContextThere work.old context }
     requires part { HasPart work.old k }
-    ensures { (x : Syn) → IsPart work.old k x → Answers freely work.old work.new (return_one (context_in work.old context) pos (reading x)) ItemsThere IsItems result }
+    ensures { (x : Syn) → IsPart work.old k x →
+        Answers freely work.old work.new (return_one (context_in work.old context) pos (reading x)) ItemsThere IsItems
+        result }
 {
     let a = value_of(work, k, depth)?;
     if work.nodes.is_void(context.gives) {
@@ -123,7 +129,9 @@ pub(crate) fn return_at(
     requires whole { IsWhole work.old.nodes }
     requires context { ContextThere work.old context }
     requires parts { HaveParts work.old kids.now }
-    ensures { (xs : Syns) → AreParts work.old kids.now xs → Answers freely work.old work.new (return_of (context_in work.old context) pos (readings xs)) ItemsThere IsItems result }
+    ensures { (xs : Syns) → AreParts work.old kids.now xs →
+        Answers freely work.old work.new (return_of (context_in work.old context) pos (readings xs)) ItemsThere
+        IsItems result }
 {
     match first_of(kids) {
         None => return_nothing(work, context, pos),

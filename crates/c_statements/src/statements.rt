@@ -11,7 +11,9 @@ ghost use Rattle.c_work.specs.Answers.{Answers, freely};
 ghost use Rattle.c_work.specs.Parts.{IsPart, HasPart, AreParts, HaveParts};
 ghost use Rattle.c_parts.specs.Kids.{HasNode, IsNode};
 ghost use Rattle.c_items.specs.Items.{ContextThere, context_in, ItemsThere, IsItems, ActionThere, IsOnlyAction};
-ghost use Rattle.c_statements.specs.Statements.{CasesThere, IsCases, cases_in, block_of, if_of, if_with, if_else_of, if_else_with, while_of, while_with, do_of, do_with, for_in, for_with, switch_in, switch_with, inside_of, further};
+ghost use Rattle.c_statements.specs.Statements.{CasesThere, IsCases, cases_in, block_of, if_of, if_with, if_else_of};
+ghost use Rattle.c_statements.specs.Statements.{if_else_with, while_of, while_with, do_of, do_with, for_in, for_with};
+ghost use Rattle.c_statements.specs.Statements.{switch_in, switch_with, inside_of, further};
 ghost use Rattle.c_tree.specs.Statements as meant;
 
 use crate::declarations::declaration;
@@ -42,7 +44,8 @@ pub fn item(work: &mut Work<'_>, context: Context, k: u32, depth: u32) -> Result
     requires whole { IsWhole work.old.nodes }
     requires context { ContextThere work.old context }
     requires part { HasPart work.old k }
-    ensures { (x : Syn) → IsPart work.old k x → Answers freely work.old work.new ((reading x).item (context_in work.old context)) ItemsThere IsItems result }
+    ensures { (x : Syn) → IsPart work.old k x →
+        Answers freely work.old work.new ((reading x).item (context_in work.old context)) ItemsThere IsItems result }
 {
     if depth == 0 {
         return Err(Refusal::NoMemory);
@@ -62,7 +65,9 @@ fn statement(
     requires whole { IsWhole work.old.nodes }
     requires context { ContextThere work.old context }
     requires node { HasNode work.old node.now }
-    ensures { (t : Lexeme) (xs : Syns) → IsNode work.old node.now t xs → Answers freely work.old work.new (statement_of node.now.kind t xs (readings xs) (context_in work.old context)) ItemsThere IsItems result }
+    ensures { (t : Lexeme) (xs : Syns) → IsNode work.old node.now t xs →
+        Answers freely work.old work.new (statement_of node.now.kind t xs (readings xs) (context_in work.old context))
+        ItemsThere IsItems result }
 {
     let kids = node.kids.as_slice();
     match node.kind {
@@ -82,7 +87,9 @@ fn scoped(work: &mut Work<'_>, context: Context, node: &Node, depth: u32) -> Res
     requires whole { IsWhole work.old.nodes }
     requires context { ContextThere work.old context }
     requires node { HasNode work.old node.now }
-    ensures { (t : Lexeme) (xs : Syns) → IsNode work.old node.now t xs → Answers freely work.old work.new (in_scope (inside_of node.now.kind t xs (readings xs) (context_in work.old context))) ItemsThere IsItems result }
+    ensures { (t : Lexeme) (xs : Syns) → IsNode work.old node.now t xs →
+        Answers freely work.old work.new (in_scope
+        (inside_of node.now.kind t xs (readings xs) (context_in work.old context))) ItemsThere IsItems result }
 {
     enter(work)?;
     let items = inside(work, context, node, depth)?;
@@ -96,7 +103,9 @@ fn inside(work: &mut Work<'_>, context: Context, node: &Node, depth: u32) -> Res
     requires whole { IsWhole work.old.nodes }
     requires context { ContextThere work.old context }
     requires node { HasNode work.old node.now }
-    ensures { (t : Lexeme) (xs : Syns) → IsNode work.old node.now t xs → Answers freely work.old work.new (inside_of node.now.kind t xs (readings xs) (context_in work.old context)) ItemsThere IsItems result }
+    ensures { (t : Lexeme) (xs : Syns) → IsNode work.old node.now t xs →
+        Answers freely work.old work.new (inside_of node.now.kind t xs (readings xs) (context_in work.old context))
+        ItemsThere IsItems result }
 {
     let kids = node.kids.as_slice();
     match node.kind {
@@ -122,7 +131,9 @@ pub fn all_items(
     requires whole { IsWhole work.old.nodes }
     requires context { ContextThere work.old context }
     requires parts { HaveParts work.old kids.now }
-    ensures { (xs : Syns) → AreParts work.old kids.now xs → Answers freely work.old work.new (all_items (context_in work.old context) (readings xs)) ItemsThere IsItems result }
+    ensures { (xs : Syns) → AreParts work.old kids.now xs →
+        Answers freely work.old work.new (all_items (context_in work.old context) (readings xs)) ItemsThere IsItems
+        result }
 {
     let mut items = no_items(work.nodes.alloc);
     let mut left = kids;
@@ -146,7 +157,9 @@ fn block(
     requires whole { IsWhole work.old.nodes }
     requires context { ContextThere work.old context }
     requires parts { HaveParts work.old kids.now }
-    ensures { (xs : Syns) → AreParts work.old kids.now xs → Answers freely work.old work.new (block_of (context_in work.old context) pos (readings xs)) ItemsThere IsItems result }
+    ensures { (xs : Syns) → AreParts work.old kids.now xs →
+        Answers freely work.old work.new (block_of (context_in work.old context) pos (readings xs)) ItemsThere IsItems
+        result }
 {
     let items = all_items(work, context, kids, depth)?;
     does(
@@ -165,7 +178,9 @@ fn substatement(work: &mut Work<'_>, context: Context, k: u32, depth: u32) -> Re
     requires whole { IsWhole work.old.nodes }
     requires context { ContextThere work.old context }
     requires part { HasPart work.old k }
-    ensures { (x : Syn) → IsPart work.old k x → Answers freely work.old work.new (substatement (context_in work.old context) (reading x)) ActionThere IsOnlyAction result }
+    ensures { (x : Syn) → IsPart work.old k x →
+        Answers freely work.old work.new (substatement (context_in work.old context) (reading x)) ActionThere
+        IsOnlyAction result }
 {
     enter(work)?;
     let items = item(work, context, k, depth)?;
@@ -186,7 +201,9 @@ fn if_one(
     requires whole { IsWhole work.old.nodes }
     requires context { ContextThere work.old context }
     requires parts { HaveParts work.old kids.now }
-    ensures { (xs : Syns) → AreParts work.old kids.now xs → Answers freely work.old work.new (if_of (context_in work.old context) pos (readings xs)) ItemsThere IsItems result }
+    ensures { (xs : Syns) → AreParts work.old kids.now xs →
+        Answers freely work.old work.new (if_of (context_in work.old context) pos (readings xs)) ItemsThere IsItems
+        result }
 {
     match two(kids) {
         None => Err(Refusal::Code(120, pos)),
@@ -207,7 +224,9 @@ fn if_with(
     requires context { ContextThere work.old context }
     requires first { HasPart work.old a }
     requires second { HasPart work.old b }
-    ensures { (x y : Syn) → IsPart work.old a x → IsPart work.old b y → Answers freely work.old work.new (if_with (context_in work.old context) pos (reading x) (reading y)) ItemsThere IsItems result }
+    ensures { (x y : Syn) → IsPart work.old a x → IsPart work.old b y →
+        Answers freely work.old work.new (if_with (context_in work.old context) pos (reading x) (reading y))
+        ItemsThere IsItems result }
 {
     let on = test(work, a, depth)?;
     let body = substatement(work, context, b, depth)?;
@@ -226,7 +245,9 @@ fn if_else(
     requires whole { IsWhole work.old.nodes }
     requires context { ContextThere work.old context }
     requires parts { HaveParts work.old kids.now }
-    ensures { (xs : Syns) → AreParts work.old kids.now xs → Answers freely work.old work.new (if_else_of (context_in work.old context) pos (readings xs)) ItemsThere IsItems result }
+    ensures { (xs : Syns) → AreParts work.old kids.now xs →
+        Answers freely work.old work.new (if_else_of (context_in work.old context) pos (readings xs)) ItemsThere
+        IsItems result }
 {
     match three(kids) {
         None => Err(Refusal::Code(120, pos)),
@@ -249,7 +270,9 @@ fn if_else_with(
     requires first { HasPart work.old a }
     requires second { HasPart work.old b }
     requires third { HasPart work.old c }
-    ensures { (x y z : Syn) → IsPart work.old a x → IsPart work.old b y → IsPart work.old c z → Answers freely work.old work.new (if_else_with (context_in work.old context) pos (reading x) (reading y) (reading z)) ItemsThere IsItems result }
+    ensures { (x y z : Syn) → IsPart work.old a x → IsPart work.old b y → IsPart work.old c z →
+        Answers freely work.old work.new (if_else_with (context_in work.old context) pos (reading x) (reading y)
+        (reading z)) ItemsThere IsItems result }
 {
     let on = test(work, a, depth)?;
     let body = substatement(work, context, b, depth)?;
@@ -269,7 +292,9 @@ fn while_loop(
     requires whole { IsWhole work.old.nodes }
     requires context { ContextThere work.old context }
     requires parts { HaveParts work.old kids.now }
-    ensures { (xs : Syns) → AreParts work.old kids.now xs → Answers freely work.old work.new (while_of (context_in work.old context) pos (readings xs)) ItemsThere IsItems result }
+    ensures { (xs : Syns) → AreParts work.old kids.now xs →
+        Answers freely work.old work.new (while_of (context_in work.old context) pos (readings xs)) ItemsThere IsItems
+        result }
 {
     match two(kids) {
         None => Err(Refusal::Code(120, pos)),
@@ -290,7 +315,9 @@ fn while_with(
     requires context { ContextThere work.old context }
     requires first { HasPart work.old a }
     requires second { HasPart work.old b }
-    ensures { (x y : Syn) → IsPart work.old a x → IsPart work.old b y → Answers freely work.old work.new (while_with (context_in work.old context) pos (reading x) (reading y)) ItemsThere IsItems result }
+    ensures { (x y : Syn) → IsPart work.old a x → IsPart work.old b y →
+        Answers freely work.old work.new (while_with (context_in work.old context) pos (reading x) (reading y))
+        ItemsThere IsItems result }
 {
     let on = test(work, a, depth)?;
     let body = substatement(work, in_a_loop(context), b, depth)?;
@@ -309,7 +336,9 @@ fn do_loop(
     requires whole { IsWhole work.old.nodes }
     requires context { ContextThere work.old context }
     requires parts { HaveParts work.old kids.now }
-    ensures { (xs : Syns) → AreParts work.old kids.now xs → Answers freely work.old work.new (do_of (context_in work.old context) pos (readings xs)) ItemsThere IsItems result }
+    ensures { (xs : Syns) → AreParts work.old kids.now xs →
+        Answers freely work.old work.new (do_of (context_in work.old context) pos (readings xs)) ItemsThere IsItems
+        result }
 {
     match two(kids) {
         None => Err(Refusal::Code(120, pos)),
@@ -330,7 +359,9 @@ fn do_with(
     requires context { ContextThere work.old context }
     requires first { HasPart work.old a }
     requires second { HasPart work.old b }
-    ensures { (x y : Syn) → IsPart work.old a x → IsPart work.old b y → Answers freely work.old work.new (do_with (context_in work.old context) pos (reading x) (reading y)) ItemsThere IsItems result }
+    ensures { (x y : Syn) → IsPart work.old a x → IsPart work.old b y →
+        Answers freely work.old work.new (do_with (context_in work.old context) pos (reading x) (reading y))
+        ItemsThere IsItems result }
 {
     let body = substatement(work, in_a_loop(context), a, depth)?;
     let on = test(work, b, depth)?;
@@ -349,7 +380,9 @@ fn for_loop(
     requires whole { IsWhole work.old.nodes }
     requires context { ContextThere work.old context }
     requires parts { HaveParts work.old kids.now }
-    ensures { (xs : Syns) → AreParts work.old kids.now xs → Answers freely work.old work.new (for_in (context_in work.old context) pos xs (readings xs)) ItemsThere IsItems result }
+    ensures { (xs : Syns) → AreParts work.old kids.now xs →
+        Answers freely work.old work.new (for_in (context_in work.old context) pos xs (readings xs)) ItemsThere
+        IsItems result }
 {
     match four(kids) {
         None => Err(Refusal::Code(120, pos)),
@@ -369,7 +402,10 @@ fn for_with(
     requires context { ContextThere work.old context }
     requires head { HasPart work.old x.head.first × HasPart work.old x.head.second × HasPart work.old x.head.third }
     requires body { HasPart work.old x.last }
-    ensures { (x1 x2 x3 x4 : Syn) → IsPart work.old x.head.first x1 → IsPart work.old x.head.second x2 → IsPart work.old x.head.third x3 → IsPart work.old x.last x4 → Answers freely work.old work.new (for_with (context_in work.old context) pos x1 x2 x3 (reading x1) (reading x2) (reading x3) (reading x4)) ItemsThere IsItems result }
+    ensures { (x1 x2 x3 x4 : Syn) → IsPart work.old x.head.first x1 → IsPart work.old x.head.second x2 →
+        IsPart work.old x.head.third x3 → IsPart work.old x.last x4 →
+        Answers freely work.old work.new (for_with (context_in work.old context) pos x1 x2 x3 (reading x1)
+        (reading x2) (reading x3) (reading x4)) ItemsThere IsItems result }
 {
     let head = for_head(work, context, x.head, depth)?;
     let body = substatement(work, in_a_loop(context), x.last, depth)?;
@@ -391,7 +427,9 @@ fn switch_item(
     requires of { of < type_count work.old.nodes }
     requires part { HasPart work.old k }
     requires cases { CasesThere work.old cases }
-    ensures { (x : Syn) → IsPart work.old k x → Answers freely work.old work.new (switch_item (context_in work.old context) (type_in work.old.nodes of) x (reading x) (cases_in work.old cases)) CasesThere IsCases result }
+    ensures { (x : Syn) → IsPart work.old k x →
+        Answers freely work.old work.new (switch_item (context_in work.old context) (type_in work.old.nodes of) x
+        (reading x) (cases_in work.old cases)) CasesThere IsCases result }
 {
     let node = node_at(work, k)?;
     let kids = node.kids.as_slice();
@@ -415,7 +453,9 @@ fn further_item(
     requires context { ContextThere work.old context }
     requires part { HasPart work.old k }
     requires cases { CasesThere work.old cases }
-    ensures { (x : Syn) → IsPart work.old k x → Answers freely work.old work.new (further (context_in work.old context) (reading x) (cases_in work.old cases)) CasesThere IsCases result }
+    ensures { (x : Syn) → IsPart work.old k x →
+        Answers freely work.old work.new (further (context_in work.old context) (reading x) (cases_in work.old cases))
+        CasesThere IsCases result }
 {
     let more = item(work, context, k, depth)?;
     let longer = with_items(cases, more)?;
@@ -435,7 +475,9 @@ fn switch_items(
     requires context { ContextThere work.old context }
     requires of { of < type_count work.old.nodes }
     requires parts { HaveParts work.old kids.now }
-    ensures { (xs : Syns) → AreParts work.old kids.now xs → Answers freely work.old work.new (switch_items (context_in work.old context) (type_in work.old.nodes of) xs (readings xs) no_cases) CasesThere IsCases result }
+    ensures { (xs : Syns) → AreParts work.old kids.now xs →
+        Answers freely work.old work.new (switch_items (context_in work.old context) (type_in work.old.nodes of) xs
+        (readings xs) no_cases) CasesThere IsCases result }
 {
     let mut cases = Cases {
         items: no_items(work.nodes.alloc),
@@ -462,7 +504,10 @@ fn switch_body(
     requires context { ContextThere work.old context }
     requires of { of < type_count work.old.nodes }
     requires parts { HaveParts work.old kids.now }
-    ensures { (xs : Syns) → AreParts work.old kids.now xs → Answers freely work.old work.new (in_scope (switch_items (meant.in_a_switch (context_in work.old context)) (type_in work.old.nodes of) xs (readings xs) no_cases)) CasesThere IsCases result }
+    ensures { (xs : Syns) → AreParts work.old kids.now xs →
+        Answers freely work.old work.new (in_scope
+        (switch_items (meant.in_a_switch (context_in work.old context)) (type_in work.old.nodes of) xs
+        (readings xs) no_cases)) CasesThere IsCases result }
 {
     enter(work)?;
     let cases = switch_items(work, in_a_switch(context), of, kids, depth)?;
@@ -482,7 +527,9 @@ fn switch(
     requires whole { IsWhole work.old.nodes }
     requires context { ContextThere work.old context }
     requires parts { HaveParts work.old kids.now }
-    ensures { (xs : Syns) → AreParts work.old kids.now xs → Answers freely work.old work.new (switch_in (context_in work.old context) pos xs (readings xs)) ItemsThere IsItems result }
+    ensures { (xs : Syns) → AreParts work.old kids.now xs →
+        Answers freely work.old work.new (switch_in (context_in work.old context) pos xs (readings xs)) ItemsThere
+        IsItems result }
 {
     match first_of(kids) {
         None => Err(Refusal::Code(120, pos)),
@@ -503,7 +550,9 @@ fn switch_with(
     requires context { ContextThere work.old context }
     requires on { HasPart work.old k }
     requires parts { HaveParts work.old kids.now }
-    ensures { (x : Syn) (xs : Syns) → IsPart work.old k x → AreParts work.old kids.now xs → Answers freely work.old work.new (switch_with (context_in work.old context) pos xs (reading x) (readings xs)) ItemsThere IsItems result }
+    ensures { (x : Syn) (xs : Syns) → IsPart work.old k x → AreParts work.old kids.now xs →
+        Answers freely work.old work.new (switch_with (context_in work.old context) pos xs (reading x) (readings xs))
+        ItemsThere IsItems result }
 {
     let on = switched(work, k, depth)?;
     let cases = switch_body(work, context, on.of, kids, depth)?;

@@ -1,5 +1,6 @@
 -- Every alignment of a type is a power of two.
-use Rattle.std.proofs.Common.{◌≡◌, ℕ, zero, suc, ◌^◌, max, List, [], ◌∷◌, Option, Some, None, refl, sym, ap, subst, inl, inr, arith}
+use Rattle.std.proofs.Common.{◌≡◌, ℕ, zero, suc, ◌^◌, max, List, [], ◌∷◌, Option, Some, None, refl, sym, ap, subst, inl}
+use Rattle.std.proofs.Common.{inr, arith}
 use Rattle.std.specs.Prelude.{slice_get}
 use Rattle.std.proofs.lemmas.Bool.{cases_lt}
 use Rattle.std.proofs.lemmas.Option.{none-some}
@@ -8,9 +9,11 @@ use Rattle.cap_concentrate.proofs.Owned.{alignment_power}
 use Rattle.ck_int.specs.declared.kinds.IntKind.{IntKind}
 use Rattle.ck_int.specs.declared.kinds.IntKind.TheVariants as kind
 use Rattle.c_tree.specs.declared.typed.CType.{CType}
-use Rattle.c_tree.specs.declared.typed.CType.TheVariants.{Void, Int, Cap, Pointer, Array, Struct, Union, Function, Const, Incomplete}
+use Rattle.c_tree.specs.declared.typed.CType.TheVariants.{Void, Int, Cap, Pointer, Array, Struct, Union, Function}
+use Rattle.c_tree.specs.declared.typed.CType.TheVariants.{Const, Incomplete}
 use Rattle.c_tree.specs.declared.typed.Member.{Member}
-use Rattle.c_tree.specs.Layout.{Extent, bytes_of, scalar, with_extent, behind, beside, no_members, members, whole, times, extent_of, extent_within}
+use Rattle.c_tree.specs.Layout.{Extent, bytes_of, scalar, with_extent, behind, beside, no_members, members, whole}
+use Rattle.c_tree.specs.Layout.{times, extent_of, extent_within}
 
 abbrev pub IsPower : ℕ → Type 0
 IsPower n = (k : ℕ) × (n ≡ 2 ^ k)
@@ -51,7 +54,8 @@ some_powered x p y e = subst IsPower (ap align_or e) p
 none_powered : Powered None
 none_powered y e = absurd (none-some y e)
 
-with_powered : (o : Option Extent) (f : Extent → Option Extent) → Powered o → ((x : Extent) → IsPower x.align → Powered (f x)) → Powered (with_extent o f)
+with_powered : (o : Option Extent) (f : Extent → Option Extent) → Powered o →
+    ((x : Extent) → IsPower x.align → Powered (f x)) → Powered (with_extent o f)
 with_powered None f p g = none_powered
 with_powered (Some x) f p g = g x (p x refl)
 
@@ -59,14 +63,17 @@ with_powered (Some x) f p g = g x (p x refl)
 abbrev Keeps : (Extent → Extent → Extent) → Type 0
 Keeps place = (m x : Extent) → IsPower m.align → IsPower x.align → IsPower (place m x).align
 
-placed_power : (m x : Extent) → IsPower m.align → IsPower x.align → IsPower (max x.align (max m.align (alignment m.size)))
+placed_power : (m x : Extent) → IsPower m.align → IsPower x.align →
+    IsPower (max x.align (max m.align (alignment m.size)))
 placed_power m x p q = max_power _ _ q (max_power _ _ p (alignment_is_power m.size))
 
-members_powered : (place : Extent → Extent → Extent) (go : ℕ → Option Extent) (ms : List Member) (x : Extent) → Keeps place → ((t : ℕ) → Powered (go t)) → IsPower x.align → Powered (members place go ms x)
+members_powered : (place : Extent → Extent → Extent) (go : ℕ → Option Extent) (ms : List Member) (x : Extent) →
+    Keeps place → ((t : ℕ) → Powered (go t)) → IsPower x.align → Powered (members place go ms x)
 unfolding members
 members_powered place go [] x k g p = some_powered x p
 members_powered place go (m ∷ ms) x k g p =
-    with_powered (go m.of) (λ y. members place go ms (place y x)) (g m.of) (λ y q. members_powered place go ms (place y x) k g (k y x q p))
+    with_powered (go m.of) (λ y. members place go ms (place y x)) (g m.of)
+    (λ y q. members_powered place go ms (place y x) k g (k y x q p))
 
 times_powered : (n : ℕ) (x : Extent) → IsPower x.align → Powered (times n x)
 times_powered zero x p = none_powered
@@ -82,13 +89,18 @@ of_powered (Some (Int k n)) go g = some_powered (scalar (bytes_of k)) (bytes_pow
 of_powered (Some (Cap s)) go g = some_powered (scalar 16) (4, refl)
 of_powered (Some (Pointer t)) go g = some_powered (scalar 16) (4, refl)
 of_powered (Some (Array t n)) go g = with_powered (go t) (times n) (g t) (times_powered n)
-of_powered (Some (Struct tag ms)) go g = with_powered (members behind go ms no_members) whole (members_powered behind go ms no_members placed_power g (0, refl)) whole_powered
-of_powered (Some (Union tag ms)) go g = with_powered (members beside go ms no_members) whole (members_powered beside go ms no_members placed_power g (0, refl)) whole_powered
+of_powered (Some (Struct tag ms)) go g =
+    with_powered (members behind go ms no_members) whole
+    (members_powered behind go ms no_members placed_power g (0, refl)) whole_powered
+of_powered (Some (Union tag ms)) go g =
+    with_powered (members beside go ms no_members) whole
+    (members_powered beside go ms no_members placed_power g (0, refl)) whole_powered
 of_powered (Some (Function t ps)) go g = none_powered
 of_powered (Some (Const t)) go g = g t
 of_powered (Some (Incomplete tag)) go g = none_powered
 
-pub extent_aligned : (d : ℕ) (types : List CType) (t : ℕ) (x : Extent) → extent_within d types t ≡ Some x → IsPower x.align
+pub extent_aligned : (d : ℕ) (types : List CType) (t : ℕ) (x : Extent) → extent_within d types t ≡ Some x →
+    IsPower x.align
 unfolding extent_within
 extent_aligned zero types t = none_powered
 extent_aligned (suc d) types t = of_powered (slice_get types t) (extent_within d types) (extent_aligned d types)

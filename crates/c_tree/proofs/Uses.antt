@@ -1,5 +1,6 @@
 -- Sums over numbers each of which stands once in a list.
-use Rattle.std.proofs.Common.{◌≡◌, ℕ, zero, suc, ◌+◌, ◌*◌, ◌<◌, ◌≤◌, List, [], ◌∷◌, ◌++◌, length, cond, eq-eqb, Some, refl, sym, ap, ◌∙◌, arith, inl, inr}
+use Rattle.std.proofs.Common.{◌≡◌, ℕ, zero, suc, ◌+◌, ◌*◌, ◌<◌, ◌≤◌, List, [], ◌∷◌, ◌++◌, length, cond, eq-eqb, Some}
+use Rattle.std.proofs.Common.{refl, sym, ap, ◌∙◌, arith, inl, inr}
 use Rattle.std.specs.Prelude.{slice_get, sum_by, flat_map, map, ◌==◌, if◌then◌else◌}
 use Rattle.std.proofs.lemmas.List.Sums.{sum_by-cons, sum_by-append}
 use Rattle.std.proofs.lemmas.Bool.{cases_lt, ne_eqb}
@@ -67,11 +68,13 @@ pub each_append : (P : ℕ → Type 0) (xs ys : List ℕ) → Each P xs → Each
 each_append P [] ys p q = q
 each_append P (x ∷ xs) ys p q = (p.0, each_append P xs ys p.1 q)
 
-pub each_flat : {X : Type 0} (P : ℕ → Type 0) (f : X → List ℕ) (es : List X) → ((k : ℕ) (e : X) → slice_get es k ≡ Some e → Each P (f e)) → Each P (flat_map f es)
+pub each_flat : {X : Type 0} (P : ℕ → Type 0) (f : X → List ℕ) (es : List X) →
+    ((k : ℕ) (e : X) → slice_get es k ≡ Some e → Each P (f e)) → Each P (flat_map f es)
 each_flat P f [] h = tt
 each_flat P f (e ∷ es) h = each_append P (f e) (flat_map f es) (h 0 e refl) (each_flat P f es (λ k x g. h (suc k) x g))
 
-pub each_map : {X : Type 0} (P : ℕ → Type 0) (f : X → ℕ) (es : List X) → ((k : ℕ) (e : X) → slice_get es k ≡ Some e → P (f e)) → Each P (map f es)
+pub each_map : {X : Type 0} (P : ℕ → Type 0) (f : X → ℕ) (es : List X) →
+    ((k : ℕ) (e : X) → slice_get es k ≡ Some e → P (f e)) → Each P (map f es)
 each_map P f [] h = tt
 each_map P f (e ∷ es) h = (h 0 e refl, each_map P f es (λ k x g. h (suc k) x g))
 
@@ -89,12 +92,15 @@ counted f n (x ∷ xs) h =
     omega (arith, i, s, o, e, u)
 
 -- where each stands there once, it is the sum over all of them
-pub used_once : (f : ℕ → ℕ) (n : ℕ) (xs : List ℕ) → Each (λ x. x < n) xs → ((k : ℕ) → k < n → times_in k xs ≡ 1) → sum_by f xs ≡ upto f 0 n
+pub used_once : (f : ℕ → ℕ) (n : ℕ) (xs : List ℕ) → Each (λ x. x < n) xs → ((k : ℕ) → k < n → times_in k xs ≡ 1) →
+    sum_by f xs ≡ upto f 0 n
 used_once f n xs h once_each =
-    counted f n xs h ∙ upto_same (λ k. times_in k xs * f k) f 0 n (λ k b c. rw (once_each k (omega arith)) (omega arith))
+    counted f n xs h ∙ upto_same (λ k. times_in k xs * f k) f 0 n
+    (λ k b c. rw (once_each k (omega arith)) (omega arith))
 
 -- a sum over a list as one over its numbers
-pub sum_upto : {X : Type 0} (g : X → ℕ) (f : ℕ → ℕ) (es : List X) (a : ℕ) → ((k : ℕ) (e : X) → slice_get es k ≡ Some e → g e ≡ f (a + k)) → sum_by g es ≡ upto f a (length es)
+pub sum_upto : {X : Type 0} (g : X → ℕ) (f : ℕ → ℕ) (es : List X) (a : ℕ) →
+    ((k : ℕ) (e : X) → slice_get es k ≡ Some e → g e ≡ f (a + k)) → sum_by g es ≡ upto f a (length es)
 sum_upto g f [] a h = refl
 sum_upto g f (e ∷ es) a h =
     let z : a + 0 ≡ a = omega arith in
@@ -106,14 +112,21 @@ pub sum_same : (f g : ℕ → ℕ) (xs : List ℕ) → Each (λ x. f x ≡ g x) 
 sum_same f g [] h = refl
 sum_same f g (x ∷ xs) h = omega (arith, sum_by-cons f x xs, sum_by-cons g x xs, sum_same f g xs h.1, h.0)
 
-pub sum_flat : {X : Type 0} (f : ℕ → ℕ) (g : X → List ℕ) (es : List X) → sum_by f (flat_map g es) ≡ sum_by (λ e. sum_by f (g e)) es
+pub sum_flat : {X : Type 0} (f : ℕ → ℕ) (g : X → List ℕ) (es : List X) →
+    sum_by f (flat_map g es) ≡ sum_by (λ e. sum_by f (g e)) es
 sum_flat f g [] = refl
 sum_flat f g (e ∷ es) =
     omega (arith, sum_by-append f (g e) (flat_map g es), sum_by-cons (λ x. sum_by f (g x)) e es, sum_flat f g es)
 
 pub sum_both : {X : Type 0} (f g : X → ℕ) (es : List X) → sum_by (λ e. f e + g e) es ≡ sum_by f es + sum_by g es
 sum_both f g [] = refl
-sum_both f g (e ∷ es) = omega (arith, sum_by-cons (λ x. f x + g x) e es, sum_by-cons f e es, sum_by-cons g e es, sum_both f g es)
+sum_both f g (e ∷ es) = omega (
+  arith,
+  sum_by-cons (λ x. f x + g x) e es,
+  sum_by-cons f e es,
+  sum_by-cons g e es,
+  sum_both f g es,
+)
 
 pub sum_map : {X : Type 0} (f : ℕ → ℕ) (g : X → ℕ) (es : List X) → sum_by f (map g es) ≡ sum_by (λ e. f (g e)) es
 sum_map f g [] = refl

@@ -4,7 +4,8 @@ use Rattle.std.specs.Ordering.{int_eq}
 use Rattle.ck_base.specs.declared.positions.Pos.{Pos}
 use Rattle.ck_base.specs.Tokens.{Lexeme}
 use Rattle.c_tree.specs.declared.syntax.Symbol.{Symbol}
-use Rattle.c_tree.specs.declared.syntax.Symbol.TheVariants.{OpenParenthesis, CloseParenthesis, OpenBracket, CloseBracket, OpenBrace, CloseBrace}
+use Rattle.c_tree.specs.declared.syntax.Symbol.TheVariants.{OpenParenthesis, CloseParenthesis, OpenBracket}
+use Rattle.c_tree.specs.declared.syntax.Symbol.TheVariants.{CloseBracket, OpenBrace, CloseBrace}
 use Rattle.c_tree.specs.Symbols.{symbol}
 
 -- the greatest height of a tree, and the greatest excess of brackets
@@ -25,7 +26,8 @@ opens s = pos 0
 abbrev pub excess_from : ℤ → List Lexeme → Option Pos
 excess_from z [] = None
 excess_from z (t ∷ ts) =
-    (if int_eq (z +ℤ opens (symbol t)) (pos (height_limit + 1)) then Some t.pos else excess_from (z +ℤ opens (symbol t)) ts)
+    (if int_eq (z +ℤ opens (symbol t)) (pos (height_limit + 1)) then Some t.pos
+    else excess_from (z +ℤ opens (symbol t)) ts)
 
 abbrev pub excess : List Lexeme → Option Pos
 excess tokens = excess_from (pos 0) tokens

@@ -1,5 +1,6 @@
 -- Constant expressions (C11 6.6) over expressions whose types are known.
-use Rattle.std.specs.Prelude.{ℕ, negsuc, Bool, true, false, not, ◌&&◌, ◌||◌, ◌==◌, if◌then◌else◌, List, [], ◌∷◌, Option, Some, None}
+use Rattle.std.specs.Prelude.{ℕ, negsuc, Bool, true, false, not, ◌&&◌, ◌||◌, ◌==◌, if◌then◌else◌, List, [], ◌∷◌, Option}
+use Rattle.std.specs.Prelude.{Some, None}
 use Rattle.ck_int.specs.declared.kinds.IntKind.{IntKind}
 use Rattle.ck_int.specs.declared.kinds.IntKind.TheVariants as kind
 use Rattle.ck_int.specs.declared.kinds.IntOp.{IntOp}
@@ -9,7 +10,8 @@ use Rattle.ck_int.specs.Arithmetic.{binary_of, compare_of}
 use Rattle.c_tree.specs.declared.typed.UnaryOp.{UnaryOp}
 use Rattle.c_tree.specs.declared.typed.UnaryOp.TheVariants as unary
 use Rattle.c_tree.specs.Types.{Ty, Void, Int, Cap, Pointer, bare, is_integer}
-use Rattle.c_tree.specs.Terms.{Shape, Constant, Convert, Unary, Arithmetic, Capability, Compare, And, Or, Conditional, Term, term, Terms, no_terms, with_term, type_of}
+use Rattle.c_tree.specs.Terms.{Shape, Constant, Convert, Unary, Arithmetic, Capability, Compare, And, Or, Conditional}
+use Rattle.c_tree.specs.Terms.{Term, term, Terms, no_terms, with_term, type_of}
 
 -- the kind at which an integer type is computed; a capability integer is computed as its address
 abbrev pub kind_of : Ty → IntKind
@@ -75,9 +77,12 @@ node_value Convert t (a ∷ []) = with_value a.1 (λ v. Some (converted (kind_of
 node_value (Unary o) t (a ∷ []) = with_value a.1 (λ v. Some (unary_value o t v))
 node_value (Arithmetic o) t (a ∷ b ∷ []) = with_value a.1 (λ v. with_value b.1 (λ w. computed o t v w))
 node_value (Capability o r) t (a ∷ b ∷ []) = with_value a.1 (λ v. with_value b.1 (λ w. computed o t v w))
-node_value (Compare o) t (a ∷ b ∷ []) = with_value a.1 (λ v. with_value b.1 (λ w. Some (truth (compare_of o (kind_of a.0) v w))))
-node_value And t (a ∷ b ∷ []) = with_value a.1 (λ v. (if v == 0 then Some 0 else with_value b.1 (λ w. Some (truth (not (w == 0))))))
-node_value Or t (a ∷ b ∷ []) = with_value a.1 (λ v. (if v == 0 then with_value b.1 (λ w. Some (truth (not (w == 0)))) else Some 1))
+node_value (Compare o) t (a ∷ b ∷ []) =
+    with_value a.1 (λ v. with_value b.1 (λ w. Some (truth (compare_of o (kind_of a.0) v w))))
+node_value And t (a ∷ b ∷ []) =
+    with_value a.1 (λ v. (if v == 0 then Some 0 else with_value b.1 (λ w. Some (truth (not (w == 0))))))
+node_value Or t (a ∷ b ∷ []) =
+    with_value a.1 (λ v. (if v == 0 then with_value b.1 (λ w. Some (truth (not (w == 0)))) else Some 1))
 node_value Conditional t (a ∷ b ∷ c ∷ []) = with_value a.1 (λ v. (if v == 0 then c.1 else b.1))
 node_value n t xs = None
 

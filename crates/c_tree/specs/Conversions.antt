@@ -1,8 +1,10 @@
 -- What an expression stands for where a value is wanted, and how values are converted (C11 6.3, 6.5.16.1).
 use Rattle.std.specs.Prelude.{Bool, true, false, not, ◌&&◌, ◌||◌, if◌then◌else◌}
 use Rattle.ck_base.specs.declared.positions.Pos.{Pos}
-use Rattle.c_tree.specs.Types.{Ty, Int, Cap, Pointer, Array, Tagged, Function, bare, is_integer, is_pointer, is_void, is_bool, is_tagged, same, compatible_bare}
-use Rattle.c_tree.specs.Terms.{Literal, Var, Global, Load, Decay, Deref, Member, Convert, Term, term, no_terms, with_term, type_of, pos_of, step}
+use Rattle.c_tree.specs.Types.{Ty, Int, Cap, Pointer, Array, Tagged, Function, bare, is_integer, is_pointer, is_void}
+use Rattle.c_tree.specs.Types.{is_bool, is_tagged, same, compatible_bare}
+use Rattle.c_tree.specs.Terms.{Literal, Var, Global, Load, Decay, Deref, Member, Convert, Term, term, no_terms}
+use Rattle.c_tree.specs.Terms.{with_term, type_of, pos_of, step}
 use Rattle.c_tree.specs.Scopes.{State, Doing, give, need, look, ◌>>=◌, ◌>>◌, is_complete}
 use Rattle.c_tree.specs.Constants.{is_null_constant}
 
@@ -16,8 +18,8 @@ operand_type x = type_of x.is
 
 -- ---- places (6.3.2.1p1)
 
--- An expression that designates an object. A member of a struct or union value that is no place designates a part of the object from which
--- the value was taken, and is no place itself
+-- An expression that designates an object. A member of a struct or union value that is no place designates a part of
+-- the object from which the value was taken, and is no place itself
 abbrev pub is_place : Term → Bool
 is_place (term (Literal k) xs t p) = true
 is_place (term (Var k) xs t p) = true
@@ -36,7 +38,8 @@ designates x = is_place x || is_member x
 
 -- ---- values (6.3.2.1p2 to p4)
 
--- An array becomes the pointer to its first element, a function the pointer to it, and a place what stands there, without qualifiers
+-- An array becomes the pointer to its first element, a function the pointer to it, and a place what stands there,
+-- without qualifiers
 abbrev pub value_at : Ty → Term → Term
 value_at (Array e n) x = step Decay x (Pointer e) (pos_of x)
 value_at (Function r ps) x = step Decay x (Pointer (Function r ps)) (pos_of x)
@@ -62,8 +65,8 @@ converted_term t x = (if same (type_of x) t then x else step Convert x t (pos_of
 abbrev pub targets_agree : Ty → Ty → Bool
 targets_agree s t = compatible_bare s t || is_void (bare s) || is_void (bare t)
 
--- whether a value of the second type, and this expression, goes to the first: an integer to an integer, a scalar to `_Bool`, a pointer to a
--- pointer, a null pointer constant to a pointer, a struct or union to itself
+-- whether a value of the second type, and this expression, goes to the first: an integer to an integer, a scalar to
+-- `_Bool`, a pointer to a pointer, a null pointer constant to a pointer, a struct or union to itself
 abbrev pub goes_to : Ty → Ty → Term → Bool
 goes_to (Int k n) t x = is_integer t || (is_bool (Int k n) && is_pointer t)
 goes_to (Cap s) t x = is_integer t

@@ -1,5 +1,6 @@
 -- The two counts of a program that bound the steps of its run beside its weight, both in parts of 16 bytes.
-use Rattle.std.specs.Prelude.{ℕ, ◌+◌, ◌/◌, List, Option, Some, None, slice_get, Bool, true, false, if◌then◌else◌, nat_le, sum_by}
+use Rattle.std.specs.Prelude.{ℕ, ◌+◌, ◌/◌, List, Option, Some, None, slice_get, Bool, true, false, if◌then◌else◌}
+use Rattle.std.specs.Prelude.{nat_le, sum_by}
 use Rattle.cap_concentrate.specs.Rounding.{owned}
 use Rattle.c_tree.specs.Layout.{Extent, extent, bare, size_limit}
 use Rattle.c_tree.specs.declared.typed.CType.{CType}
@@ -34,8 +35,8 @@ fun_granules types f = sum_by (var_granules types) f.vars
 unfoldable pub granules : Typed → ℕ
 granules p = sum_by (fun_granules p.types) p.funs
 
--- ---- copies: the parts of all struct and union values that are assigned, with which a local is initialised, or that a conditional expression
--- chooses
+-- ---- copies: the parts of all struct and union values that are assigned, with which a local is initialised, or that a
+-- conditional expression chooses
 
 abbrev pub is_record : Option CType → Bool
 is_record (Some (types.Struct tag ms)) = true

@@ -1,12 +1,16 @@
 -- The typing of declarations (C11 6.7, 6.9): what a name denotes from its declarator on, and its initializer.
-use Rattle.std.specs.Prelude.{ℕ, zero, ◌+◌, Bool, true, false, not, ◌&&◌, ◌||◌, nat_le, if◌then◌else◌, List, [], ◌∷◌, ◌++◌, length, map, Option, Some, None, bytes_eq, slice_get}
+use Rattle.std.specs.Prelude.{ℕ, zero, ◌+◌, Bool, true, false, not, ◌&&◌, ◌||◌, nat_le, if◌then◌else◌, List, [], ◌∷◌}
+use Rattle.std.specs.Prelude.{◌++◌, length, map, Option, Some, None, bytes_eq, slice_get}
 use Rattle.ck_base.specs.declared.positions.Pos.{Pos}
 use Rattle.ck_base.specs.Tokens.{Lexeme}
 use Rattle.c_tree.specs.Layout.{size_limit}
 use Rattle.c_tree.specs.Syntax.{Syns, nil, more, first_token}
 use Rattle.c_tree.specs.Types.{Ty, Void, Array, compatible, composite, is_function, same}
 use Rattle.c_tree.specs.Terms.{no_terms, with_term, Init, Action, action, no_actions}
-use Rattle.c_tree.specs.Scopes.{Entity, Local, Static, Routine, Alias, Library, Named, Scope, StaticState, RoutineState, State, Doing, give, refuse, need, look, change, ◌>>=◌, ◌>>◌, find_in, innermost, at_file_scope, bind_name, changed_at, change_static, change_routine, is_complete, type_extent, extent_size}
+use Rattle.c_tree.specs.Scopes.{Entity, Local, Static, Routine, Alias, Library, Named, Scope, StaticState, RoutineState}
+use Rattle.c_tree.specs.Scopes.{State, Doing, give, refuse, need, look, change, ◌>>=◌, ◌>>◌, find_in, innermost}
+use Rattle.c_tree.specs.Scopes.{at_file_scope, bind_name, changed_at, change_static, change_routine, is_complete}
+use Rattle.c_tree.specs.Scopes.{type_extent, extent_size}
 use Rattle.c_tree.specs.Readings.{Storage, Internal, External, Defining_type, Specified, Derived, Slot, Items, Reading}
 use Rattle.c_tree.specs.Declarators.{Formed, formed, judge, is_new}
 use Rattle.c_tree.specs.Initializers.{every_slot, with_count}
@@ -82,7 +86,8 @@ function_agrees s None name t defines = not (has_number (linked s name))
 
 -- 131 of what has a body: it agrees as a function or, where its type is none, as an object
 abbrev pub definition_agrees : State → Option Entity → List ℕ → Ty → Bool
-definition_agrees s e name t = (if is_function t then function_agrees s e name t true else object_agrees s e name t true)
+definition_agrees s e name t =
+    (if is_function t then function_agrees s e name t true else object_agrees s e name t true)
 
 -- 6.7p3: a typedef name may be declared again for the same type
 abbrev pub alias_agrees : Option Entity → Ty → Bool
@@ -95,13 +100,24 @@ alias_agrees None t = true
 -- a new object: its name denotes it, with linkage or without
 abbrev pub new_static : Lexeme → Ty → Bool → Bool → Doing ℕ
 new_static t of linkage defined = look >>= λ s.
-    change (λ s. bind_name t.text (Static (length s.statics)) (record s { statics = s.statics ++ record { name = t; of = of; linked = linkage; defined = defined; initial = None; used = None } ∷ [] })) >>
+    change (λ s. bind_name t.text (Static (length s.statics))
+    (record s {
+      statics = s.statics ++ record {
+        name = t;
+        of = of;
+        linked = linkage;
+        defined = defined;
+        initial = None;
+        used = None;
+      } ∷ [];
+    })) >>
     give (length s.statics)
 
 -- one that is known: its type is the composite one, and its name denotes it here too
 abbrev pub known_static : Lexeme → ℕ → Ty → Bool → Doing ℕ
 known_static t k of defined =
-    change (change_static k (λ g. record g { of = composite g.of of; defined = g.defined || defined })) >> change (bind_name t.text (Static k)) >> give k
+    change (change_static k (λ g. record g { of = composite g.of of; defined = g.defined || defined }))
+    >> change (bind_name t.text (Static k)) >> give k
 
 abbrev pub linked_static : Lexeme → Ty → Bool → Option ℕ → Doing ℕ
 linked_static t of defined (Some k) = known_static t k of defined
@@ -109,7 +125,11 @@ linked_static t of defined None = new_static t of true defined
 
 abbrev pub new_routine : Lexeme → Ty → Doing ℕ
 new_routine t of = look >>= λ s.
-    change (λ s. bind_name t.text (Routine (length s.routines)) (record s { routines = s.routines ++ record { name = t; of = of; begun = false; body = None; used = None } ∷ [] })) >>
+    change (λ s. bind_name t.text (Routine (length s.routines))
+    (record s {
+      routines = s.routines ++ record { name = t; of = of; begun = false; body = None; used = None }
+          ∷ [];
+    })) >>
     give (length s.routines)
 
 abbrev pub known_routine : ℕ → Ty → Doing ℕ
@@ -122,7 +142,8 @@ linked_routine t of None = new_routine t of
 
 abbrev pub new_local : Lexeme → Ty → Doing ℕ
 new_local t of = look >>= λ s.
-    change (λ s. bind_name t.text (Local (length s.locals) of) (record s { locals = s.locals ++ record { name = t; of = of; addressed = false } ∷ [] })) >>
+    change (λ s. bind_name t.text (Local (length s.locals) of)
+    (record s { locals = s.locals ++ record { name = t; of = of; addressed = false } ∷ [] })) >>
     give (length s.locals)
 
 -- ---- initializers of declared objects
@@ -140,7 +161,8 @@ has_any (Some r) = true
 
 -- the type is complete once the initializer is there, and within the limit
 abbrev pub complete_now : Ty → Pos → Doing Unit
-complete_now of p = look >>= λ s. need (is_complete s of) 132 p >> need (nat_le (extent_size (type_extent s.tags of)) size_limit) 140 p
+complete_now of p = look >>= λ s. need (is_complete s of) 132 p
+    >> need (nat_le (extent_size (type_extent s.tags of)) size_limit) 140 p
 
 abbrev pub static_of : Option StaticState → Ty
 static_of None = Void
@@ -166,7 +188,8 @@ abbrev pub fill_local : ℕ → Lexeme → Ty → Reading × Pos → Doing (List
 fill_local k t of r =
     r.0.initializer (λ x. give tt) r.1 of 0 >>= λ f.
     let u = with_count of f.count in
-    change (λ s. bind_name t.text (Local k u) (record s { locals = changed_at (λ v. record v { of = u }) s.locals k })) >>
+    change (λ s. bind_name t.text (Local k u) (record s { locals = changed_at (λ v. record v { of = u }) s.locals k }))
+    >>
     complete_now u t.pos >> look >>= λ s.
     give (map (init_action k t.pos) (every_slot s r.1 u f.slots))
 
@@ -183,13 +206,15 @@ is_open t = false
 
 abbrev pub declare_alias : Lexeme → Formed → Behind → Doing Items
 declare_alias t f b = look >>= λ s.
-    need (if at_file_scope s then alias_agrees (find_in (innermost s.scopes).names t.text) f.of else is_new s t.text) 131 t.pos >>
+    need (if at_file_scope s then alias_agrees (find_in (innermost s.scopes).names t.text) f.of else is_new s t.text)
+    131 t.pos >>
     judge f false (has_any b) t.pos >> change (bind_name t.text (Alias f.of)) >> give no_items
 
 -- a function at file scope; in a block none is declared
 abbrev pub declare_function : Lexeme → Formed → Behind → Doing Items
 declare_function t f b = look >>= λ s.
-    need (if at_file_scope s then function_agrees s (find_in (innermost s.scopes).names t.text) t.text f.of false else is_new s t.text) 131 t.pos >>
+    need (if at_file_scope s then function_agrees s (find_in (innermost s.scopes).names t.text) t.text f.of false
+    else is_new s t.text) 131 t.pos >>
     judge f false (has_any b || not (at_file_scope s)) t.pos >>
     linked_routine t f.of (find_in (innermost s.scopes).names t.text) >>= λ k. give no_items
 
@@ -205,13 +230,15 @@ abbrev pub declare_global : Storage → Lexeme → Formed → Behind → Doing I
 declare_global storage t f b = look >>= λ s.
     need (object_agrees s (find_in (innermost s.scopes).names t.text) t.text f.of (has_any b)) 131 t.pos >>
     judge f (not (waits s f.of b)) false t.pos >>
-    linked_static t f.of (has_any b || not (is_external storage)) (linked s t.text) >>= λ k. init_static k t b >> give no_items
+    linked_static t f.of (has_any b || not (is_external storage)) (linked s t.text) >>= λ k. init_static k t b
+    >> give no_items
 
 abbrev pub has_linkage : Option StaticState → Bool
 has_linkage None = false
 has_linkage (Some g) = g.linked
 
--- what a name of the block's scope may denote before: nothing, or an object with linkage, which may be declared again (6.7p3)
+-- what a name of the block's scope may denote before: nothing, or an object with linkage, which may be declared again
+-- (6.7p3)
 abbrev pub may_be_external : State → Option Entity → Bool
 may_be_external s None = true
 may_be_external s (Some (Static k)) = has_linkage (slice_get s.statics k)
@@ -220,7 +247,8 @@ may_be_external s (Some e) = false
 -- in a block, `extern` names an object of the file
 abbrev pub declare_external : Lexeme → Formed → Behind → Doing Items
 declare_external t f b = look >>= λ s.
-    need (may_be_external s (find_in (innermost s.scopes).names t.text) && not (named_function s t.text) && object_agrees s None t.text f.of false) 131 t.pos >>
+    need (may_be_external s (find_in (innermost s.scopes).names t.text) && not (named_function s t.text)
+    && object_agrees s None t.text f.of false) 131 t.pos >>
     judge f false (has_any b) t.pos >> linked_static t f.of false (linked s t.text) >>= λ k. give no_items
 
 abbrev pub ready : State → Ty → Behind → Bool
@@ -257,7 +285,8 @@ declare_named s d (Some t) b = look >>= λ st. declare st s.storage t (formed st
 -- The name is in force in its own initializer (6.2.1p7)
 unfoldable pub init_declarator : Syns → List Reading → Specified → Doing Items
 init_declarator (more x nil) (r ∷ rs) s = r.derived >>= λ d. declare_named s d d.name None
-init_declarator (more x (more y ys)) (r ∷ q ∷ rs) s = r.derived >>= λ d. declare_named s d d.name (Some (q, (first_token y).pos))
+init_declarator (more x (more y ys)) (r ∷ q ∷ rs) s =
+    r.derived >>= λ d. declare_named s d d.name (Some (q, (first_token y).pos))
 init_declarator xs rs s = refuse 120 s.first.pos
 
 abbrev pub both : Items → Items → Items

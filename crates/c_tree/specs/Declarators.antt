@@ -1,5 +1,7 @@
 -- The typing of specifiers, of tags and of declarators (C11 6.7.1 to 6.7.7).
-use Rattle.std.specs.Prelude.{ℕ, zero, suc, ◌+◌, ◌-◌, ◌^◌, ℤ, pos, negsuc, ◌+ℤ◌, Bool, true, false, not, ◌&&◌, ◌||◌, ◌==◌, nat_lt, nat_le, if◌then◌else◌, List, [], ◌∷◌, ◌++◌, length, Option, Some, None, bytes_eq, slice_get}
+use Rattle.std.specs.Prelude.{ℕ, zero, suc, ◌+◌, ◌-◌, ◌^◌, ℤ, pos, negsuc, ◌+ℤ◌, Bool, true, false, not, ◌&&◌, ◌||◌}
+use Rattle.std.specs.Prelude.{◌==◌, nat_lt, nat_le, if◌then◌else◌, List, [], ◌∷◌, ◌++◌, length, Option, Some, None}
+use Rattle.std.specs.Prelude.{bytes_eq, slice_get}
 use Rattle.std.specs.Prelude.{int_le}
 use Rattle.ck_base.specs.declared.positions.Pos.{Pos}
 use Rattle.ck_base.specs.Tokens.{Lexeme}
@@ -13,11 +15,17 @@ use Rattle.c_tree.specs.declared.syntax.RecordKind.{RecordKind}
 use Rattle.c_tree.specs.declared.syntax.RecordKind.TheVariants.{Struct, Union}
 use Rattle.c_tree.specs.Layout.{Extent, with_extent, behind, beside, no_members, whole, size_limit}
 use Rattle.c_tree.specs.Syntax.{Syn, Syns, node, nil, more}
-use Rattle.c_tree.specs.Types.{Ty, Void, Int, Cap, Pointer, Array, Tagged, Function, Const, Tys, no_types, also, bool, char, signed_char, unsigned_char, int, long, unsigned_long, qualified, bare, is_function, is_array, adjusted, in_signature}
-use Rattle.c_tree.specs.Scopes.{Entity, Local, Alias, Enumerator, Tagging, Recorded, Enumerated, Part, TagState, State, Doing, give, refuse, need, look, change, some_or, ◌>>=◌, ◌>>◌, find_in, find_name, find_tag, innermost, bind_name, bind_tag, enter, leave, changed_at, type_extent, extent_size, is_complete}
+use Rattle.c_tree.specs.Types.{Ty, Void, Int, Cap, Pointer, Array, Tagged, Function, Const, Tys, no_types, also, bool}
+use Rattle.c_tree.specs.Types.{char, signed_char, unsigned_char, int, long, unsigned_long, qualified, bare, is_function}
+use Rattle.c_tree.specs.Types.{is_array, adjusted, in_signature}
+use Rattle.c_tree.specs.Scopes.{Entity, Local, Alias, Enumerator, Tagging, Recorded, Enumerated, Part, TagState, State}
+use Rattle.c_tree.specs.Scopes.{Doing, give, refuse, need, look, change, some_or, ◌>>=◌, ◌>>◌, find_in, find_name}
+use Rattle.c_tree.specs.Scopes.{find_tag, innermost, bind_name, bind_tag, enter, leave, changed_at, type_extent}
+use Rattle.c_tree.specs.Scopes.{extent_size, is_complete}
 use Rattle.c_tree.specs.Constants.{kind_of, constant_of}
 use Rattle.c_tree.specs.Conversions.{operand_type}
-use Rattle.c_tree.specs.Readings.{Storage, Plain, Internal, External, Defining_type, Specified, Param, Prototype, Wrap, Point, Row, Gives, Derived, Reading}
+use Rattle.c_tree.specs.Readings.{Storage, Plain, Internal, External, Defining_type, Specified, Param, Prototype, Wrap}
+use Rattle.c_tree.specs.Readings.{Point, Row, Gives, Derived, Reading}
 use Rattle.c_tree.specs.Expressions.{unevaluated, read_value}
 
 -- ---- constant expressions in declarations (6.6)
@@ -33,7 +41,8 @@ number_of t v = value_of (kind_of t) v
 -- It leaves nothing behind
 abbrev pub constant : Reading → Doing Constant
 constant r = unevaluated (read_value r) >>= λ x.
-    some_or (constant_of x.is) 134 x.first >>= λ v. give (record { number = number_of (bare (operand_type x)) v; first = x.first })
+    some_or (constant_of x.is) 134 x.first
+    >>= λ v. give (record { number = number_of (bare (operand_type x)) v; first = x.first })
 
 -- ---- words among specifiers (6.7.1, 6.7.2)
 
@@ -59,7 +68,8 @@ is_word v w = false
 -- how often a word stands there
 abbrev pub times_there : SpecifierWord → Syns → ℕ
 times_there w nil = 0
-times_there w (more (node (Kinds.Specifier v) t ys) xs) = (if is_word w v then times_there w xs + 1 else times_there w xs)
+times_there w (more (node (Kinds.Specifier v) t ys) xs) =
+    (if is_word w v then times_there w xs + 1 else times_there w xs)
 times_there w (more x xs) = times_there w xs
 
 abbrev pub has_word : SpecifierWord → Syns → Bool
@@ -68,19 +78,23 @@ has_word w xs = nat_lt 0 (times_there w xs)
 -- how many of the words that stand for types
 abbrev pub type_words : Syns → ℕ
 type_words xs =
-    times_there words.Void xs + times_there words.Char xs + times_there words.Short xs + times_there words.Int xs + times_there words.Long xs
-    + times_there words.Signed xs + times_there words.Unsigned xs + times_there words.Bool xs + times_there words.IntCap xs + times_there words.UintCap xs
+    times_there words.Void xs + times_there words.Char xs + times_there words.Short xs + times_there words.Int xs
+    + times_there words.Long xs
+    + times_there words.Signed xs + times_there words.Unsigned xs + times_there words.Bool xs
+    + times_there words.IntCap xs + times_there words.UintCap xs
 
 abbrev pub storage_words : Syns → ℕ
 storage_words xs =
-    times_there words.Typedef xs + times_there words.Static xs + times_there words.Extern xs + times_there words.Auto xs + times_there words.Register xs
+    times_there words.Typedef xs + times_there words.Static xs + times_there words.Extern xs + times_there words.Auto xs
+    + times_there words.Register xs
 
 abbrev pub storage_of : Syns → Storage
 storage_of xs =
     (if has_word words.Typedef xs then Defining_type
     else (if has_word words.Static xs then Internal else (if has_word words.Extern xs then External else Plain)))
 
--- the numbers of `short`, `long`, `char` and `int` that stand for an integer type, and the type with a sign and without one
+-- the numbers of `short`, `long`, `char` and `int` that stand for an integer type, and the type with a sign and without
+-- one
 abbrev pub signs : Syns → Ty → Ty → Option Ty
 signs xs s u =
     (if nat_le (times_there words.Signed xs + times_there words.Unsigned xs) 1
@@ -120,20 +134,26 @@ names_type x = false
 -- typedef names, structs, unions and enumerations among the specifiers, in their order
 abbrev pub named_types : Bool → Syns → List Reading → Doing (List Ty)
 named_types alone (more x xs) (r ∷ rs) =
-    (if names_type x then (r.type alone >>= λ t. named_types alone xs rs >>= λ ts. give (t ∷ ts)) else named_types alone xs rs)
+    (if names_type x then (r.type alone >>= λ t. named_types alone xs rs >>= λ ts. give (t ∷ ts))
+    else named_types alone xs rs)
 named_types alone xs rs = give []
 
 abbrev pub with_const : Syns → Ty → Ty
 with_const xs t = (if has_word words.Const xs then qualified t else t)
 
--- Specifiers: what stands among them, and then at most one storage-class specifier, and a type. Only `struct S` and nothing else before the
--- `;` declares a tag of this scope (6.7.2.3p7)
+-- Specifiers: what stands among them, and then at most one storage-class specifier, and a type. Only `struct S` and
+-- nothing else before the `;` declares a tag of this scope (6.7.2.3p7)
 unfoldable pub specifiers : Bool → Lexeme → Syns → List Reading → Doing Specified
 specifiers alone t xs rs =
     named_types (alone && length rs == 1) xs rs >>= λ ts.
     need (nat_le (storage_words xs) 1) 133 t.pos >>
     some_or (specified_type xs ts) 133 t.pos >>= λ of.
-    give (record { first = t; stored = nat_lt (times_there words.Register xs) (storage_words xs); storage = storage_of xs; of = with_const xs of })
+    give (record {
+      first = t;
+      stored = nat_lt (times_there words.Register xs) (storage_words xs);
+      storage = storage_of xs;
+      of = with_const xs of;
+    })
 
 -- a typedef name (6.7.8)
 abbrev pub alias_type : Option Entity → Pos → Doing Ty
@@ -159,7 +179,9 @@ kind_at s n k = has_kind (slice_get s.tags n) k
 
 -- a new struct or union that is not complete, with this tag or without one
 abbrev pub new_tag : RecordKind → Doing ℕ
-new_tag k = look >>= λ s. change (λ s. record s { tags = s.tags ++ record { kind = k; begun = false; members = None; extent = None } ∷ [] }) >> give (length s.tags)
+new_tag k = look >>= λ s. change (λ s. record s
+    { tags = s.tags ++ record { kind = k; begun = false; members = None; extent = None } ∷ [] })
+    >> give (length s.tags)
 
 abbrev pub declare_tag : RecordKind → Lexeme → Doing ℕ
 declare_tag k t = new_tag k >>= λ n. change (bind_tag t.text (Recorded n)) >> give n
@@ -179,7 +201,8 @@ abbrev pub is_begun : Option TagState → Bool
 is_begun None = false
 is_begun (Some t) = t.begun
 
--- Its braces are opened, which happens once: a tag is declared from its name on, so also within them (6.2.1p7, 6.7.2.3p1)
+-- Its braces are opened, which happens once: a tag is declared from its name on, so also within them (6.2.1p7,
+-- 6.7.2.3p1)
 abbrev pub begin_tag : ℕ → Pos → Doing Unit
 begin_tag n p = look >>= λ s.
     need (not (is_begun (slice_get s.tags n))) 131 p >>
@@ -188,7 +211,8 @@ begin_tag n p = look >>= λ s.
 -- the layout of the members, in a struct or in a union
 abbrev pub members_extent : List TagState → (Extent → Extent → Extent) → List Part → Extent → Option Extent
 members_extent tags place [] x = whole x
-members_extent tags place (m ∷ ms) x = with_extent (type_extent tags m.of) (λ y. members_extent tags place ms (place y x))
+members_extent tags place (m ∷ ms) x =
+    with_extent (type_extent tags m.of) (λ y. members_extent tags place ms (place y x))
 
 abbrev pub record_extent : List TagState → RecordKind → List Part → Option Extent
 record_extent tags Struct ms = members_extent tags behind ms no_members
@@ -215,7 +239,8 @@ filled_tag k n rs keyword at =
 -- A struct or union: with a tag alone, with a tag and members, or with members alone
 unfoldable pub record_specifier : RecordKind → Bool → Lexeme → Syns → List Reading → Doing Ty
 record_specifier k alone t (more (node Kinds.Tag n ys) nil) rs = named_tag alone k n >>= λ m. give (Tagged m)
-record_specifier k alone t (more (node Kinds.Tag n ys) (more x xs)) (r ∷ rs) = named_tag true k n >>= λ m. filled_tag k m rs t n.pos
+record_specifier k alone t (more (node Kinds.Tag n ys) (more x xs)) (r ∷ rs) =
+    named_tag true k n >>= λ m. filled_tag k m rs t n.pos
 record_specifier k alone t xs rs = new_tag k >>= λ m. filled_tag k m rs t t.pos
 
 -- ---- enumerations (6.7.2.2)
@@ -233,7 +258,8 @@ is_new s name = is_none (find_in (innermost s.scopes).names name)
 -- An enumeration constant has its value from here on. It gives the value that the next one has without an expression
 abbrev pub enumerate : Lexeme → ℤ → Pos → Doing ℤ
 enumerate t z p = look >>= λ s.
-    need (is_new s t.text) 131 t.pos >> need (in_int z) 134 p >> change (bind_name t.text (Enumerator z)) >> give (z +ℤ pos 1)
+    need (is_new s t.text) 131 t.pos >> need (in_int z) 134 p >> change (bind_name t.text (Enumerator z))
+    >> give (z +ℤ pos 1)
 
 unfoldable pub enumerator : Lexeme → List Reading → ℤ → Doing ℤ
 enumerator t (r ∷ rs) next = constant r >>= λ c. enumerate t c.number c.first
@@ -256,7 +282,8 @@ named_enumeration t (Some (Recorded n)) = refuse 133 t.pos
 
 -- its type is `int`
 unfoldable pub enum_specifier : Syns → List Reading → Doing Ty
-enum_specifier (more (node Kinds.Tag n ys) nil) rs = look >>= λ s. named_enumeration n (find_tag s.scopes n.text) >> give int
+enum_specifier (more (node Kinds.Tag n ys) nil) rs =
+    look >>= λ s. named_enumeration n (find_tag s.scopes n.text) >> give int
 enum_specifier (more (node Kinds.Tag n ys) (more x xs)) (r ∷ rs) =
     look >>= λ s. new_enumeration n (find_in (innermost s.scopes).tags n.text) >> enumerators rs (pos 0) >> give int
 enum_specifier xs rs = enumerators rs (pos 0) >> give int
@@ -282,8 +309,8 @@ abbrev pub parts_const : Syns → Bool
 parts_const (more (node k t ys) xs) = has_word words.Const ys
 parts_const nil = false
 
--- A declarator's parts in the order of the source, and then itself: what is before `[` and `(` is made of an array or a function, and what
--- is behind `*` is made of a pointer
+-- A declarator's parts in the order of the source, and then itself: what is before `[` and `(` is made of an array or a
+-- function, and what is behind `*` is made of a pointer
 unfoldable pub declarator_of : NodeKind → Lexeme → Syns → List Reading → Doing Derived
 declarator_of Kinds.DeclaredName t xs rs = give (record { name = Some t; wraps = [] })
 declarator_of Kinds.ParenthesizedDeclarator t xs (r ∷ rs) = r.derived
@@ -299,8 +326,8 @@ declarator_of k t xs rs = refuse 120 t.pos
 
 -- ---- the type that a declarator makes
 
--- The type, and which rules it breaks: an array has elements of complete object type; a function gives no array and no function, and what
--- it gives has no qualifier of its own (6.7.6.3p5); an array is not over the limit
+-- The type, and which rules it breaks: an array has elements of complete object type; a function gives no array and no
+-- function, and what it gives has no qualifier of its own (6.7.6.3p5); an array is not over the limit
 pub record Formed : Type 0 where
   pub of : Ty
   pub lacks : Bool
@@ -364,7 +391,8 @@ has_register (more (node k t xs) ys) = has_word words.Register xs
 unfoldable pub type_name : Lexeme → Syns → List Reading → Doing Ty
 type_name t xs [] = refuse 120 t.pos
 type_name t xs (r ∷ rs) =
-    r.specified false >>= λ s. need (not (s.stored || has_register xs)) 133 t.pos >> abstract r rs >>= λ d. look >>= λ st.
+    r.specified false >>= λ s. need (not (s.stored || has_register xs)) 133 t.pos >> abstract r rs >>= λ d. look
+    >>= λ st.
     let f = formed st s.of d.wraps in
     judge f false false t.pos >> give f.of
 
@@ -385,7 +413,8 @@ add_member s stored (Some t) ws ms = look >>= λ st.
 
 abbrev pub member_declarators : Specified → List Reading → List Part → Doing (List Part)
 member_declarators s [] ms = give ms
-member_declarators s (r ∷ rs) ms = r.derived >>= λ d. add_member s s.stored d.name d.wraps ms >>= λ ns. member_declarators s rs ns
+member_declarators s (r ∷ rs) ms =
+    r.derived >>= λ d. add_member s s.stored d.name d.wraps ms >>= λ ns. member_declarators s rs ns
 
 unfoldable pub member_of : Lexeme → Syns → List Reading → List Part → Doing (List Part)
 member_of t xs [] ms = refuse 120 t.pos
@@ -434,9 +463,11 @@ abbrev pub parameter_list : ℕ → Bool → List Reading → Doing (List Param)
 parameter_list k only [] = give []
 parameter_list k only (r ∷ rs) =
     r.parameter only >>= λ p.
-    (if p.nothing then give [] else change (bind_parameter k p) >> parameter_list (k + 1) only rs >>= λ ps. give (p ∷ ps))
+    (if p.nothing then give []
+    else change (bind_parameter k p) >> parameter_list (k + 1) only rs >>= λ ps. give (p ∷ ps))
 
 -- the parameters are declared in a scope of their own (6.2.1p4), which a function's body goes on with
 unfoldable pub prototype_of : List Reading → Doing Prototype
 prototype_of rs =
-    enter >> parameter_list 0 (length rs == 1) rs >>= λ ps. look >>= λ s. leave >> give (record { params = ps; scope = innermost s.scopes })
+    enter >> parameter_list 0 (length rs == 1) rs >>= λ ps. look >>= λ s. leave
+    >> give (record { params = ps; scope = innermost s.scopes })

@@ -1,6 +1,8 @@
--- The typing of expressions (C11 6.5): what each construct asks of its operands, and the typed expression that it gives. The operands
--- are typed before, from left to right. Where a construct fails several rules, the lowest code decides: it is asked for first.
-use Rattle.std.specs.Prelude.{ℕ, ◌+◌, Bool, true, false, not, ◌&&◌, ◌||◌, ◌==◌, nat_le, if◌then◌else◌, List, [], ◌∷◌, ◌++◌, length, Option, Some, None, bytes_eq, slice_get}
+-- The typing of expressions (C11 6.5): what each construct asks of its operands, and the typed expression that it
+-- gives. The operands are typed before, from left to right. Where a construct fails several rules, the lowest code
+-- decides: it is asked for first.
+use Rattle.std.specs.Prelude.{ℕ, ◌+◌, Bool, true, false, not, ◌&&◌, ◌||◌, ◌==◌, nat_le, if◌then◌else◌, List, [], ◌∷◌}
+use Rattle.std.specs.Prelude.{◌++◌, length, Option, Some, None, bytes_eq, slice_get}
 use Rattle.ck_base.specs.declared.positions.Pos.{Pos}
 use Rattle.ck_base.specs.Tokens.{Lexeme}
 use Rattle.ck_int.specs.declared.kinds.IntOp.{IntOp}
@@ -21,9 +23,17 @@ use Rattle.c_tree.specs.declared.syntax.Selection.{Selection}
 use Rattle.c_tree.specs.declared.syntax.Selection.TheVariants.{Direct, Indirect}
 use Rattle.c_tree.specs.Layout.{size_limit}
 use Rattle.c_tree.specs.Syntax.{Syn, Syns, node, nil, more, first_token}
-use Rattle.c_tree.specs.Types.{Ty, Void, Int, Cap, Pointer, Array, Tagged, Function, Tys, no_types, also, char, int, long, unsigned_long, qualified, bare, bare_elements, is_const, is_integer, is_pointer, is_scalar, is_void, is_array, is_function, is_tagged, is_capability, same, compatible_bare, composite, common, promoted}
-use Rattle.c_tree.specs.Terms.{Shape, Constant, Literal, Var, Global, Fun, Deref, Member, Address, Convert, Unary, Step, Arithmetic, Capability, Plus, Difference, Compare, And, Or, Comma, Assign, Compound, Conditional, Call, Library, Term, term, no_terms, with_term, terms, type_of, leaf, step, join, join_three}
-use Rattle.c_tree.specs.Scopes.{Entity, Local, Static, Routine, Alias, Enumerator, Part, TagState, StaticState, RoutineState, State, Doing, give, refuse, need, look, change, some_or, ◌>>=◌, ◌>>◌, find_name, use_static, use_routine, take_address, is_complete, size}
+use Rattle.c_tree.specs.Types.{Ty, Void, Int, Cap, Pointer, Array, Tagged, Function, Tys, no_types, also, char, int}
+use Rattle.c_tree.specs.Types.{long, unsigned_long, qualified, bare, bare_elements, is_const, is_integer, is_pointer}
+use Rattle.c_tree.specs.Types.{is_scalar, is_void, is_array, is_function, is_tagged, is_capability, same}
+use Rattle.c_tree.specs.Types.{compatible_bare, composite, common, promoted}
+use Rattle.c_tree.specs.Terms.{Shape, Constant, Literal, Var, Global, Fun, Deref, Member, Address, Convert, Unary, Step}
+use Rattle.c_tree.specs.Terms.{Arithmetic, Capability, Plus, Difference, Compare, And, Or, Comma, Assign, Compound}
+use Rattle.c_tree.specs.Terms.{Conditional, Call, Library, Term, term, no_terms, with_term, terms, type_of, leaf, step}
+use Rattle.c_tree.specs.Terms.{join, join_three}
+use Rattle.c_tree.specs.Scopes.{Entity, Local, Static, Routine, Alias, Enumerator, Part, TagState, StaticState}
+use Rattle.c_tree.specs.Scopes.{RoutineState, State, Doing, give, refuse, need, look, change, some_or, ◌>>=◌, ◌>>◌}
+use Rattle.c_tree.specs.Scopes.{find_name, use_static, use_routine, take_address, is_complete, size}
 use Rattle.c_tree.specs.Scopes as scopes
 use Rattle.c_tree.specs.Values.{integer_of, number_type, characters_of, character_value}
 use Rattle.c_tree.specs.Constants.{is_null_constant}
@@ -49,8 +59,12 @@ routine_type (Some f) = f.of
 abbrev pub denoted : Option Entity → Lexeme → Doing Operand
 denoted None t = refuse 130 t.pos
 denoted (Some (Local k of)) t = gives (leaf (Var k) of t.pos) t.pos
-denoted (Some (Static k)) t = change (use_static k t.pos) >> look >>= λ s. gives (leaf (Global k) (static_type (slice_get s.statics k)) t.pos) t.pos
-denoted (Some (Routine k)) t = change (use_routine k t.pos) >> look >>= λ s. gives (leaf (Fun k) (routine_type (slice_get s.routines k)) t.pos) t.pos
+denoted (Some (Static k)) t =
+    change (use_static k t.pos) >> look
+    >>= λ s. gives (leaf (Global k) (static_type (slice_get s.statics k)) t.pos) t.pos
+denoted (Some (Routine k)) t =
+    change (use_routine k t.pos) >> look
+    >>= λ s. gives (leaf (Fun k) (routine_type (slice_get s.routines k)) t.pos) t.pos
 denoted (Some (Alias of)) t = refuse 133 t.pos
 denoted (Some (Enumerator n)) t = gives (leaf (Constant (kept_of n)) int t.pos) t.pos
 denoted (Some (scopes.Library k of)) t = refuse 133 t.pos
@@ -91,8 +105,8 @@ abbrev pub from_plain : Term → Bool
 from_plain (term Convert (with_term x no_terms) (Cap s) p) = plain_source (bare (type_of x)) (from_plain x)
 from_plain x = false
 
--- the result of an operation on capability integers derives from the operand that was not converted from a plain integer; where both or
--- neither were, from the left one
+-- the result of an operation on capability integers derives from the operand that was not converted from a plain
+-- integer; where both or neither were, from the left one
 abbrev pub from_right : Term → Term → Bool
 from_right a b = from_plain a && not (from_plain b)
 
@@ -107,7 +121,8 @@ arithmetic o a b p =
     need (is_integer (operand_type a) && is_integer (operand_type b)) 133 a.first >>
     gives (integer_join o (converted_term t a.is) (converted_term t b.is) t p) a.first
 
--- 6.5.7p3: each operand of a shift is promoted on its own, and the result has the type of the left one, from which it derives
+-- 6.5.7p3: each operand of a shift is promoted on its own, and the result has the type of the left one, from which it
+-- derives
 abbrev pub shift_join : IntOp → Term → Term → Ty → Pos → Term
 shift_join o a b (Cap s) p = join (Capability o false) a b (Cap s) p
 shift_join o a b t p = join (Arithmetic o) a b t p
@@ -119,7 +134,8 @@ shift o a b p =
     gives (shift_join o (converted_term t a.is) (converted_term (promoted (operand_type b)) b.is) t p) a.first
 
 abbrev pub unary_on : UnaryOp → Operand → Pos → Doing Operand
-unary_on unary.LogicalNot a p = need (is_scalar (operand_type a)) 133 p >> gives (step (Unary unary.LogicalNot) a.is int p) p
+unary_on unary.LogicalNot a p =
+    need (is_scalar (operand_type a)) 133 p >> gives (step (Unary unary.LogicalNot) a.is int p) p
 unary_on o a p =
     let t = promoted (operand_type a) in
     need (is_integer (operand_type a)) 133 p >> gives (step (Unary o) (converted_term t a.is) t p) p
@@ -145,14 +161,18 @@ promoted_term x = converted_term (promoted (type_of x)) x
 
 abbrev pub sum_of : Operand → Operand → Pos → Doing Operand
 sum_of a b p =
-    (if moves (operand_type a) (operand_type b) then gives (join (Plus false) a.is (promoted_term b.is) (operand_type a) p) a.first
-    else (if moves (operand_type b) (operand_type a) then gives (join (Plus false) (promoted_term a.is) b.is (operand_type b) p) a.first
+    (if moves (operand_type a) (operand_type b)
+    then gives (join (Plus false) a.is (promoted_term b.is) (operand_type a) p) a.first
+    else (if moves (operand_type b) (operand_type a)
+    then gives (join (Plus false) (promoted_term a.is) b.is (operand_type b) p) a.first
     else arithmetic Add a b p))
 
 abbrev pub sum : Operand → Operand → Pos → Doing Operand
 sum a b p = look >>= λ s.
-    need (not (is_pointer (operand_type a) && is_integer (operand_type b)) || is_counted s (operand_type a)) 132 a.first >>
-    need (not (is_integer (operand_type a) && is_pointer (operand_type b)) || is_counted s (operand_type b)) 132 a.first >>
+    need (not (is_pointer (operand_type a) && is_integer (operand_type b)) || is_counted s (operand_type a)) 132 a.first
+    >>
+    need (not (is_integer (operand_type a) && is_pointer (operand_type b)) || is_counted s (operand_type b)) 132 a.first
+    >>
     sum_of a b p
 
 -- 6.5.6p3: pointers to compatible complete objects
@@ -162,14 +182,17 @@ differ s t = false
 
 abbrev pub difference_of : Operand → Operand → Pos → Doing Operand
 difference_of a b p =
-    (if moves (operand_type a) (operand_type b) then gives (join (Plus true) a.is (promoted_term b.is) (operand_type a) p) a.first
+    (if moves (operand_type a) (operand_type b)
+    then gives (join (Plus true) a.is (promoted_term b.is) (operand_type a) p) a.first
     else (if differ (operand_type a) (operand_type b) then gives (join Difference a.is b.is long p) a.first
     else arithmetic Sub a b p))
 
 abbrev pub difference : Operand → Operand → Pos → Doing Operand
 difference a b p = look >>= λ s.
-    need (not (is_pointer (operand_type a) && is_scalar (operand_type b)) || is_counted s (operand_type a)) 132 a.first >>
-    need (not (is_pointer (operand_type a) && is_pointer (operand_type b)) || is_counted s (operand_type b)) 132 a.first >>
+    need (not (is_pointer (operand_type a) && is_scalar (operand_type b)) || is_counted s (operand_type a)) 132 a.first
+    >>
+    need (not (is_pointer (operand_type a) && is_pointer (operand_type b)) || is_counted s (operand_type b)) 132 a.first
+    >>
     difference_of a b p
 
 abbrev pub int_join : IntOp → Operand → Operand → Pos → Doing Operand
@@ -189,8 +212,8 @@ abbrev pub both_agree : Ty → Ty → Bool
 both_agree (Pointer s) (Pointer t) = compatible_bare s t
 both_agree s t = false
 
--- Two integers; a null pointer constant, which is converted to the other pointer's type; two pointers to compatible types; or a pointer to
--- void, to whose type the other pointer is converted
+-- Two integers; a null pointer constant, which is converted to the other pointer's type; two pointers to compatible
+-- types; or a pointer to void, to whose type the other pointer is converted
 abbrev pub compared : CmpOp → Operand → Operand → Pos → Doing Operand
 compared o a b p =
     let s = operand_type a in
@@ -207,7 +230,8 @@ compared o a b p =
 -- ---- logic (6.5.13, 6.5.14)
 
 abbrev pub logical : Shape → Operand → Operand → Pos → Doing Operand
-logical n a b p = need (is_scalar (operand_type a) && is_scalar (operand_type b)) 133 a.first >> gives (join n a.is b.is int p) a.first
+logical n a b p = need (is_scalar (operand_type a) && is_scalar (operand_type b)) 133 a.first
+    >> gives (join n a.is b.is int p) a.first
 
 -- a condition (6.8.4.1p1)
 abbrev pub condition : Operand → Doing Term
@@ -254,7 +278,8 @@ conditional a b c p =
 
 -- 6.3.2.1p1: a place that may be written
 abbrev pub is_modifiable : Term → Bool
-is_modifiable x = is_place x && not (is_const (type_of x)) && not (is_array (type_of x)) && not (is_function (type_of x))
+is_modifiable x = is_place x && not (is_const (type_of x)) && not (is_array (type_of x))
+    && not (is_function (type_of x))
 
 abbrev pub assign : Operand → Operand → Pos → Doing Operand
 assign a b p =
@@ -374,7 +399,8 @@ sized t p = look >>= λ s.
 -- The operand is not evaluated: it makes no literal, uses nothing and takes no address. What it declares stays
 abbrev pub unevaluated : {B : Type 0} → Doing B → Doing B
 unevaluated d = look >>= λ old. d >>= λ a.
-    change (λ s. record s { texts = old.texts; statics = old.statics; routines = old.routines; locals = old.locals }) >> give a
+    change (λ s. record s { texts = old.texts; statics = old.statics; routines = old.routines; locals = old.locals })
+    >> give a
 
 -- ---- calls (6.5.2.2)
 
@@ -493,6 +519,7 @@ expression_of Kinds.SizeofExpression t xs (r ∷ []) = unevaluated r.operand >>=
 expression_of Kinds.SizeofType t xs (r ∷ []) = unevaluated (r.type false) >>= λ of. sized of t.pos
 expression_of Kinds.Cast t xs (r ∷ q ∷ []) = r.type false >>= λ of. read_value q >>= λ a. cast of a t.pos
 expression_of (Kinds.Infix o) t xs (r ∷ q ∷ []) = read_value r >>= λ a. read_value q >>= λ b. infix_join o a b t.pos
-expression_of Kinds.Conditional t xs (r ∷ q ∷ p ∷ []) = read_value r >>= λ a. read_value q >>= λ b. read_value p >>= λ c. conditional a b c t.pos
+expression_of Kinds.Conditional t xs (r ∷ q ∷ p ∷ []) =
+    read_value r >>= λ a. read_value q >>= λ b. read_value p >>= λ c. conditional a b c t.pos
 expression_of (Kinds.Assignment o) t xs (r ∷ q ∷ []) = assignment o t r q
 expression_of k t xs rs = refuse 120 t.pos

@@ -1,5 +1,6 @@
 -- A C file as a whole: which typed program it is, or the first rule that it breaks.
-use Rattle.std.specs.Prelude.{◌≡◌, ℕ, ◌+◌, ◌<◌, ◌≤◌, max, if◌then◌else◌, List, length, sum_by, slice_get, Option, Some, None, ◌⊎◌}
+use Rattle.std.specs.Prelude.{◌≡◌, ℕ, ◌+◌, ◌<◌, ◌≤◌, max, if◌then◌else◌, List, length, sum_by, slice_get, Option, Some}
+use Rattle.std.specs.Prelude.{None, ◌⊎◌}
 use Rattle.ck_base.specs.declared.positions.Pos.{Pos}
 use Rattle.ck_base.specs.Tokens.{Lexeme}
 use Rattle.ck_base.specs.Lexes.{Lexes, position_after}
@@ -93,27 +94,36 @@ abbrev pub IsTokenPlace : List ℕ → List Lexeme → Pos → Type 0
 IsTokenPlace bytes tokens place =
     ((k : ℕ) × (t : Lexeme) × (slice_get tokens k ≡ Some t) × (place ≡ t.pos)) ⊎ (place ≡ position_after bytes)
 
--- The first rule that a file breaks, by its code, and where: the rules stand in their order, and each holds where those before it do not apply
+-- The first rule that a file breaks, by its code, and where: the rules stand in their order, and each holds where those
+-- before it do not apply
 pub data Refused (bytes : List ℕ) : ℕ → Pos → Type 0 where
   too_long : file_limit < length bytes → Refused bytes 143 beginning
-  lexical : {code : ℕ} {place : Pos} → length bytes ≤ file_limit → lexing.Refuses bytes code place → Refused bytes code place
-  brackets : {place : Pos} (tokens : List Lexeme) → length bytes ≤ file_limit → Lexes bytes tokens → excess tokens ≡ Some place → Refused bytes 121 place
-  no_tree : {place : Pos} (tokens : List Lexeme) → IsCut bytes tokens → ((x : Syn) → DerivesFile tokens x → height x ≤ height_limit → ⊥) → IsTokenPlace bytes tokens place → Refused bytes 120 place
-  typing : {code : ℕ} {place : Pos} (tokens : List Lexeme) (x : Syn) → IsRead bytes tokens x → RefusesSyntax x code place → Refused bytes code place
-  room : (tokens : List Lexeme) (x : Syn) (p : Typed) → IsRead bytes tokens x → TypesSyntax x p → (HasRoom p → ⊥) → Refused bytes 141 beginning
-  too_heavy : (tokens : List Lexeme) (x : Syn) (p : Typed) → IsRead bytes tokens x → TypesSyntax x p → HasRoom p → weight_limit < weights.weight p → Refused bytes 142 beginning
+  lexical : {code : ℕ} {place : Pos} → length bytes ≤ file_limit → lexing.Refuses bytes code place →
+      Refused bytes code place
+  brackets : {place : Pos} (tokens : List Lexeme) → length bytes ≤ file_limit → Lexes bytes tokens →
+      excess tokens ≡ Some place → Refused bytes 121 place
+  no_tree : {place : Pos} (tokens : List Lexeme) → IsCut bytes tokens →
+      ((x : Syn) → DerivesFile tokens x → height x ≤ height_limit → ⊥) → IsTokenPlace bytes tokens place →
+      Refused bytes 120 place
+  typing : {code : ℕ} {place : Pos} (tokens : List Lexeme) (x : Syn) → IsRead bytes tokens x →
+      RefusesSyntax x code place → Refused bytes code place
+  room : (tokens : List Lexeme) (x : Syn) (p : Typed) → IsRead bytes tokens x → TypesSyntax x p → (HasRoom p → ⊥) →
+      Refused bytes 141 beginning
+  too_heavy : (tokens : List Lexeme) (x : Syn) (p : Typed) → IsRead bytes tokens x → TypesSyntax x p → HasRoom p →
+      weight_limit < weights.weight p → Refused bytes 142 beginning
 
 -- ---- one answer
 
--- what the calls that cut and read a file show: a file is cut into tokens or refused in one way, and tokens have one syntax at most
+-- what the calls that cut and read a file show: a file is cut into tokens or refused in one way, and tokens have one
+-- syntax at most
 pub record ReadsOnce (bytes : List ℕ) : Type 0 where
   pub tokens : (a b : List Lexeme) → Lexes bytes a → Lexes bytes b → a ≡ b
   pub unrefused : (a : List Lexeme) (code : ℕ) (place : Pos) → Lexes bytes a → lexing.Refuses bytes code place → ⊥
   pub refused : (c d : ℕ) (p q : Pos) → lexing.Refuses bytes c p → lexing.Refuses bytes d q → (c ≡ d) × (p ≡ q)
   pub syntax : (a : List Lexeme) (x y : Syn) → DerivesFile a x → DerivesFile a y → x ≡ y
 
--- A file is at most one program, whatever the numbers of its nodes and types, or is refused by at most one code, at one place but for 120,
--- and never both
+-- A file is at most one program, whatever the numbers of its nodes and types, or is refused by at most one code, at one
+-- place but for 120, and never both
 pub record OneFile (bytes : List ℕ) : Type 0 where
   pub accepted : (p q : Typed) → Accepts bytes p → Accepts bytes q → Alike p q
   pub refused : (c d : ℕ) (p q : Pos) → Refused bytes c p → Refused bytes d q → (c ≡ d) × ((c ≡ 120) ⊎ (p ≡ q))

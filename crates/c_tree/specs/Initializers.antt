@@ -1,5 +1,6 @@
 -- The typing of initializers (C11 6.7.9): what value each part of an object gets.
-use Rattle.std.specs.Prelude.{ℕ, zero, suc, pos, ◌+◌, ◌*◌, Bool, true, false, ◌&&◌, ◌||◌, ◌==◌, nat_lt, nat_le, if◌then◌else◌, List, [], ◌∷◌, ◌++◌, length, Option, Some, None, slice_get, flat_map, find}
+use Rattle.std.specs.Prelude.{ℕ, zero, suc, pos, ◌+◌, ◌*◌, Bool, true, false, ◌&&◌, ◌||◌, ◌==◌, nat_lt, nat_le}
+use Rattle.std.specs.Prelude.{if◌then◌else◌, List, [], ◌∷◌, ◌++◌, length, Option, Some, None, slice_get, flat_map, find}
 use Rattle.ck_base.specs.declared.positions.Pos.{Pos}
 use Rattle.ck_base.specs.Tokens.{Lexeme}
 use Rattle.ck_int.specs.declared.kinds.IntKind.TheVariants as kind
@@ -25,7 +26,8 @@ or_none (Some y) f = f y
 
 abbrev pub struct_places : List TagState → List Part → Extent → List (ℕ × Ty)
 struct_places tags [] x = []
-struct_places tags (m ∷ ms) x = or_none (type_extent tags m.of) (λ y. (member_offset y x, m.of) ∷ struct_places tags ms (behind y x))
+struct_places tags (m ∷ ms) x =
+    or_none (type_extent tags m.of) (λ y. (member_offset y x, m.of) ∷ struct_places tags ms (behind y x))
 
 -- of a union the first member alone counts
 abbrev pub first_place : List Part → List (ℕ × Ty)
@@ -73,7 +75,9 @@ array_count t = 0
 -- the bytes one by one, as constants of the element's type at the first byte of the whole initializer
 abbrev pub byte_slots : Pos → Ty → ℕ → List ℕ → List Slot
 byte_slots whole t at [] = []
-byte_slots whole t at (b ∷ bs) = record { at = at; of = t; value = leaf (Constant (wrapped (kind_of t) (pos b))) t whole; first = whole } ∷ byte_slots whole t (at + 1) bs
+byte_slots whole t at (b ∷ bs) =
+    record { at = at; of = t; value = leaf (Constant (wrapped (kind_of t) (pos b))) t whole; first = whole }
+    ∷ byte_slots whole t (at + 1) bs
 
 abbrev pub taken : ℕ → List ℕ → List ℕ
 taken zero bs = []
@@ -109,9 +113,11 @@ items s asked whole of at brace k (r ∷ rs) =
 unfoldable pub braced_initializer : Lexeme → Bool → List Reading → (Slot → Doing Unit) → Pos → Ty → ℕ → Doing Filled
 braced_initializer brace text (r ∷ []) asked whole of at =
     (if text && takes_string of then r.initializer asked whole of at
-    else look >>= λ s. items s asked whole of at brace.pos 0 (r ∷ []) >>= λ slots. give (record { slots = slots; count = 1 }))
+    else look >>= λ s. items s asked whole of at brace.pos 0 (r ∷ [])
+    >>= λ slots. give (record { slots = slots; count = 1 }))
 braced_initializer brace text rs asked whole of at =
-    look >>= λ s. items s asked whole of at brace.pos 0 rs >>= λ slots. give (record { slots = slots; count = length rs })
+    look >>= λ s. items s asked whole of at brace.pos 0 rs
+    >>= λ slots. give (record { slots = slots; count = length rs })
 
 -- ---- the whole object
 

@@ -1,11 +1,12 @@
--- Sizes, alignments and member offsets of types (C11 6.2.8, 6.5.3.4, 6.7.2.1), where each pointer is a capability of 128 bits and
--- a member that is an array, a struct or a union can have exact bounds of its own.
+-- Sizes, alignments and member offsets of types (C11 6.2.8, 6.5.3.4, 6.7.2.1), where each pointer is a capability of
+-- 128 bits and a member that is an array, a struct or a union can have exact bounds of its own.
 use Rattle.std.specs.Prelude.{ℕ, zero, suc, ◌+◌, ◌*◌, max, List, [], ◌∷◌, length, Option, Some, None, slice_get}
 use Rattle.cap_concentrate.specs.Rounding.{rounded_up, alignment, owned}
 use Rattle.ck_int.specs.declared.kinds.IntKind.{IntKind}
 use Rattle.ck_int.specs.declared.kinds.IntKind.TheVariants as kind
 use Rattle.c_tree.specs.declared.typed.CType.{CType}
-use Rattle.c_tree.specs.declared.typed.CType.TheVariants.{Void, Int, Cap, Pointer, Array, Struct, Union, Function, Const, Incomplete}
+use Rattle.c_tree.specs.declared.typed.CType.TheVariants.{Void, Int, Cap, Pointer, Array, Struct, Union, Function}
+use Rattle.c_tree.specs.declared.typed.CType.TheVariants.{Const, Incomplete}
 use Rattle.c_tree.specs.declared.typed.Member.{Member}
 
 -- a size and an alignment, in bytes
@@ -43,8 +44,8 @@ with_extent (Some x) f = f x
 abbrev pub member_align : Extent → ℕ
 member_align m = max m.align (alignment m.size)
 
--- A member of a struct begins at the least multiple of its alignment that is not below the end of the members before it.
--- The members so far are an extent too: where they end, and the greatest of their alignments
+-- A member of a struct begins at the least multiple of its alignment that is not below the end of the members before
+-- it. The members so far are an extent too: where they end, and the greatest of their alignments
 abbrev pub member_offset : Extent → Extent → ℕ
 member_offset m before = rounded_up before.size (member_align m)
 
@@ -74,8 +75,8 @@ abbrev pub times : ℕ → Extent → Option Extent
 times zero x = None
 times (suc k) x = Some (record { size = suc k * x.size; align = x.align })
 
--- One level of a type, over the extents of those that it names. What is not complete has none (C11 6.2.5p1): void, functions,
--- an array without a length, a struct or union without members, and what has a part that is not complete
+-- One level of a type, over the extents of those that it names. What is not complete has none (C11 6.2.5p1): void,
+-- functions, an array without a length, a struct or union without members, and what has a part that is not complete
 abbrev pub extent_of : Option CType → (ℕ → Option Extent) → Option Extent
 extent_of None go = None
 extent_of (Some Void) go = None
@@ -94,8 +95,8 @@ unfoldable pub extent_within : ℕ → List CType → ℕ → Option Extent
 extent_within zero types t = None
 extent_within (suc d) types t = extent_of (slice_get types t) (extent_within d types)
 
--- The extent of a type. As many levels as there are types are enough: where there are more, a type contains itself, and it is
--- not complete
+-- The extent of a type. As many levels as there are types are enough: where there are more, a type contains itself, and
+-- it is not complete
 abbrev pub extent : List CType → ℕ → Option Extent
 extent types t = extent_within (length types) types t
 

@@ -1,7 +1,8 @@
 -- The library functions and the intrinsics, by their numbers: their names, what they take and what they give.
 use Rattle.std.specs.Prelude.{ℕ, true, false, if◌then◌else◌, List, [], ◌∷◌, ◌++◌, Option, Some, None, codes, bytes_eq}
 use Rattle.ck_int.specs.declared.kinds.IntKind.TheVariants as kind
-use Rattle.c_tree.specs.Types.{Ty, Void, Int, Cap, Pointer, Tys, no_types, also, Function, bool, int, long, unsigned_long}
+use Rattle.c_tree.specs.Types.{Ty, Void, Int, Cap, Pointer, Tys, no_types, also, Function, bool, int, long}
+use Rattle.c_tree.specs.Types.{unsigned_long}
 use Rattle.c_tree.specs.Types.{signed_char}
 
 -- an argument: any pointer or capability integer as it is, or what a type is initialised with
@@ -74,5 +75,7 @@ unfoldable pub aliases : List (List ℕ × Ty)
 aliases =
     (codes "size_t", unsigned_long) ∷ (codes "ptraddr_t", unsigned_long) ∷ (codes "ptrdiff_t", long)
     ∷ (codes "intptr_t", Cap true) ∷ (codes "uintptr_t", Cap false)
-    ∷ (codes "int8_t", signed_char) ∷ (codes "int16_t", Int kind.I16 0) ∷ (codes "int32_t", int) ∷ (codes "int64_t", long)
-    ∷ (codes "uint8_t", Int kind.U8 1) ∷ (codes "uint16_t", Int kind.U16 0) ∷ (codes "uint32_t", Int kind.U32 0) ∷ (codes "uint64_t", unsigned_long) ∷ []
+    ∷ (codes "int8_t", signed_char) ∷ (codes "int16_t", Int kind.I16 0) ∷ (codes "int32_t", int)
+    ∷ (codes "int64_t", long)
+    ∷ (codes "uint8_t", Int kind.U8 1) ∷ (codes "uint16_t", Int kind.U16 0) ∷ (codes "uint32_t", Int kind.U32 0)
+    ∷ (codes "uint64_t", unsigned_long) ∷ []

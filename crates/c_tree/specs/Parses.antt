@@ -13,7 +13,8 @@ file_start = record { kind = Word; text = []; span = record { start = 0; end = 0
 
 -- The tokens are a file, and this is its tree.
 pub data DerivesFile : List Lexeme → Syn → Type 0 where
-  file : {tokens : List Lexeme} {xs : Syns} → Externals predeclared tokens xs → DerivesFile tokens (node File file_start xs)
+  file : {tokens : List Lexeme} {xs : Syns} → Externals predeclared tokens xs →
+      DerivesFile tokens (node File file_start xs)
 
 -- The tree is one of these tokens, of which kinds and texts alone decide the productions. It stands among nodes.
 pub record Parses (tokens : List Lexeme) (tree : Tree) : Type 0 where

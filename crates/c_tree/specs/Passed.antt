@@ -1,13 +1,18 @@
--- The program that is run in the place of a typed one: structs and unions go to functions and come back by pointers. Each argument of such
--- a type is copied to a hidden local of the caller, and each result to another one, before its value is used.
-use Rattle.std.specs.Prelude.{ℕ, zero, suc, ◌+◌, Bool, true, false, ◌&&◌, ◌==◌, nat_lt, if◌then◌else◌, List, [], ◌∷◌, ◌++◌, length, map, flat_map, take, drop, Option, Some, None, slice_get}
+-- The program that is run in the place of a typed one: structs and unions go to functions and come back by pointers.
+-- Each argument of such a type is copied to a hidden local of the caller, and each result to another one, before its
+-- value is used.
+use Rattle.std.specs.Prelude.{ℕ, zero, suc, ◌+◌, Bool, true, false, ◌&&◌, ◌==◌, nat_lt, if◌then◌else◌, List, [], ◌∷◌}
+use Rattle.std.specs.Prelude.{◌++◌, length, map, flat_map, take, drop, Option, Some, None, slice_get}
 use Rattle.ck_base.specs.declared.positions.Pos.{Pos}
 use Rattle.ck_base.specs.declared.positions.Span.{Span}
 use Rattle.ck_base.specs.Tokens.{Lexeme}
 use Rattle.c_tree.specs.declared.syntax.NodeKind.TheVariants as Kinds
 use Rattle.c_tree.specs.Syntax.{Syn, Syns, node, nil, more}
 use Rattle.c_tree.specs.Types.{Ty, Void, Pointer, Array, Function, Const, Tys, no_types, also, bare, is_tagged}
-use Rattle.c_tree.specs.Terms.{Shape, Var, Load, Deref, Address, Comma, Assign, Compound, Call, Term, term, Terms, no_terms, with_term, type_of, leaf, step, join, Form, Evaluate, Init, Block, Do, For, Switch, Return, Action, action, Actions, no_actions, with_action, Variable, Object, Routine, Tag, Program, numbers_from}
+use Rattle.c_tree.specs.Terms.{Shape, Var, Load, Deref, Address, Comma, Assign, Compound, Call, Term, term, Terms}
+use Rattle.c_tree.specs.Terms.{no_terms, with_term, type_of, leaf, step, join, Form, Evaluate, Init, Block, Do, For}
+use Rattle.c_tree.specs.Terms.{Switch, Return, Action, action, Actions, no_actions, with_action, Variable, Object}
+use Rattle.c_tree.specs.Terms.{Routine, Tag, Program, numbers_from}
 
 -- ---- types
 
@@ -15,14 +20,15 @@ use Rattle.c_tree.specs.Terms.{Shape, Var, Load, Deref, Address, Comma, Assign, 
 abbrev pub by_pointer : Ty → Bool
 by_pointer t = is_tagged (bare t)
 
--- The type of a function as it is run: a pointer stands for each struct or union that it takes, and a first parameter points to where it
--- puts the one that it gives
+-- The type of a function as it is run: a pointer stands for each struct or union that it takes, and a first parameter
+-- points to where it puts the one that it gives
 abbrev mutual
   pub passed : Ty → Ty
   passed (Pointer t) = Pointer (passed t)
   passed (Array t n) = Array (passed t) n
   passed (Const t) = Const (passed t)
-  passed (Function r ps) = (if by_pointer r then Function Void (also (Pointer (bare r)) (all_passed ps)) else Function (passed r) (all_passed ps))
+  passed (Function r ps) = (if by_pointer r then Function Void (also (Pointer (bare r)) (all_passed ps))
+      else Function (passed r) (all_passed ps))
   passed t = t
 
   pub all_passed : Tys → Tys
@@ -50,11 +56,12 @@ for_arguments names p (with_term x xs) = hidden_for names p (type_of x) ++ for_a
 abbrev pub for_call : Names → Pos → Terms → Ty → List Variable
 for_call names p xs t = for_arguments names p xs ++ hidden_for names p t
 
--- the hidden locals of the calls in an expression, in the order of the calls' places: what is called stands before the `(`, and the
--- arguments stand behind it
+-- the hidden locals of the calls in an expression, in the order of the calls' places: what is called stands before the
+-- `(`, and the arguments stand behind it
 abbrev mutual
   pub hidden_in : Names → Term → List Variable
-  hidden_in names (term Call (with_term f xs) t p) = hidden_in names f ++ for_call names p xs t ++ all_hidden_in names xs
+  hidden_in names (term Call (with_term f xs) t p) =
+      hidden_in names f ++ for_call names p xs t ++ all_hidden_in names xs
   hidden_in names (term x xs t p) = all_hidden_in names xs
 
   pub all_hidden_in : Names → Terms → List Variable
@@ -70,7 +77,8 @@ ahead f = 0
 -- those of a statement: of the parts before its expressions, of these, and of the parts behind them
 abbrev mutual
   pub hidden_of : Names → Action → List Variable
-  hidden_of names (action f xs ys p) = first_hidden_of names (ahead f) ys ++ all_hidden_in names xs ++ last_hidden_of names (ahead f) ys
+  hidden_of names (action f xs ys p) =
+      first_hidden_of names (ahead f) ys ++ all_hidden_in names xs ++ last_hidden_of names (ahead f) ys
 
   -- of so many statements
   pub first_hidden_of : Names → ℕ → Actions → List Variable
@@ -102,9 +110,11 @@ address_of h t p = step Address (leaf (Var h) t p) (Pointer t) p
 abbrev pub by_address : ℕ → Term → Ty → Pos → Term
 by_address h y t p = join Comma (join Assign (leaf (Var h) t p) y t p) (address_of h t p) (Pointer t) p
 
--- a call whose result comes by a pointer takes the address of a hidden local first, and the local stands for what it gives
+-- a call whose result comes by a pointer takes the address of a hidden local first, and the local stands for what it
+-- gives
 abbrev pub by_result : ℕ → Term → Terms → Ty → Pos → Term
-by_result h f ys t p = join Comma (term Call (with_term f (with_term (address_of h t p) ys)) Void p) (leaf (Var h) t p) t p
+by_result h f ys t p = join Comma (term Call (with_term f (with_term (address_of h t p) ys)) Void p)
+    (leaf (Var h) t p) t p
 
 abbrev pub call_with : ℕ → Term → Terms → Ty → Pos → Term
 call_with h f ys t p = (if by_pointer t then by_result h f ys (bare t) p else term Call (with_term f ys) (passed t) p)
@@ -120,7 +130,8 @@ abbrev mutual
 
   pub passed_terms : Passing → ℕ → Terms → Terms
   passed_terms e n no_terms = no_terms
-  passed_terms e n (with_term x xs) = with_term (passed_term e n x) (passed_terms e (n + length (hidden_in e.names x)) xs)
+  passed_terms e n (with_term x xs) =
+      with_term (passed_term e n x) (passed_terms e (n + length (hidden_in e.names x)) xs)
 
   -- the arguments of a call at a place: the call's own hidden locals, and those of the calls in the arguments
   pub passed_arguments : Passing → (own n : ℕ) → Terms → Pos → Terms
@@ -206,7 +217,8 @@ copied_params f = flat_map copied_param (written_params f)
 -- the parameters, those that are locals beside them, and the other locals
 abbrev pub named_variables : Routine → List Variable
 named_variables f =
-    result_pointer f ++ map passed_param (written_params f) ++ copied_params f ++ map passed_variable (drop (length f.params) f.vars)
+    result_pointer f ++ map passed_param (written_params f) ++ copied_params f
+    ++ map passed_variable (drop (length f.params) f.vars)
 
 -- where a written parameter stands among them
 abbrev pub param_number : Routine → ℕ → Option Variable → ℕ
@@ -218,18 +230,22 @@ param_number f k (Some v) =
 -- and any written variable
 abbrev pub variable_number : Routine → ℕ → ℕ
 variable_number f k =
-    (if nat_lt k (length f.params) then param_number f k (slice_get f.vars k) else length (result_pointer f) + length (copied_params f) + k)
+    (if nat_lt k (length f.params) then param_number f k (slice_get f.vars k)
+    else length (result_pointer f) + length (copied_params f) + k)
 
 abbrev pub passing : Names → Routine → Passing
 passing names f = record { names = names; number = variable_number f }
 
 -- a parameter, the one with this number as it is run, is copied to the local with that number
 abbrev pub param_copy : (from to : ℕ) → Variable → Action
-param_copy k j v = action (Init j 0) (one_term (step Load (behind k (bare v.of) v.place) (bare v.of) v.place)) no_actions v.place
+param_copy k j v = action (Init j 0) (one_term (step Load (behind k (bare v.of) v.place) (bare v.of) v.place))
+    no_actions v.place
 
 abbrev pub param_copies : (from to : ℕ) → List Variable → Actions → Actions
 param_copies k j [] ys = ys
-param_copies k j (v ∷ vs) ys = (if by_pointer v.of then with_action (param_copy k j v) (param_copies (k + 1) (j + 1) vs ys) else param_copies (k + 1) j vs ys)
+param_copies k j (v ∷ vs) ys =
+    (if by_pointer v.of then with_action (param_copy k j v) (param_copies (k + 1) (j + 1) vs ys)
+    else param_copies (k + 1) j vs ys)
 
 -- the outermost block declares the copied parameters and the hidden locals too, and it copies the parameters first
 abbrev pub opened : (copied : List ℕ) → (hidden : List ℕ) → (Actions → Actions) → Action → Action

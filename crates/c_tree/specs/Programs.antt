@@ -1,5 +1,7 @@
 -- The typing of a whole file (C11 6.9): from its syntax to a program, or to the first rule that fails.
-use Rattle.std.specs.Prelude.{ℕ, zero, suc, ◌+◌, ℤ, pos, int_lt, Bool, true, false, not, ◌&&◌, ◌||◌, ◌==◌, nat_lt, if◌then◌else◌, List, [], ◌∷◌, ◌++◌, length, map, flat_map, Option, Some, None, Result, Ok, Err, codes, bytes_eq, slice_get}
+use Rattle.std.specs.Prelude.{ℕ, zero, suc, ◌+◌, ℤ, pos, int_lt, Bool, true, false, not, ◌&&◌, ◌||◌, ◌==◌, nat_lt}
+use Rattle.std.specs.Prelude.{if◌then◌else◌, List, [], ◌∷◌, ◌++◌, length, map, flat_map, Option, Some, None, Result, Ok}
+use Rattle.std.specs.Prelude.{Err, codes, bytes_eq, slice_get}
 use Rattle.std.specs.List.{position_or_len}
 use Rattle.ck_base.specs.declared.positions.Pos.{Pos}
 use Rattle.ck_base.specs.declared.positions.Span.{Span}
@@ -8,12 +10,19 @@ use Rattle.c_tree.specs.declared.syntax.NodeKind.{NodeKind}
 use Rattle.c_tree.specs.declared.syntax.NodeKind.TheVariants as Kinds
 use Rattle.c_tree.specs.Syntax.{Syn, Syns, node, nil, more, first_token}
 use Rattle.c_tree.specs.Types.{Ty, Function, no_types, int, bare, same, is_scalar, is_function, given_by}
-use Rattle.c_tree.specs.Terms.{Shape, Global, Fun, Term, term, Terms, no_terms, with_term, Action, action, Actions, no_actions, with_action, Pointing, Object, Variable, Routine, Tag, Program, To_global, To_literal, To_function, Aim, numbers_from}
-use Rattle.c_tree.specs.Scopes.{Entity, Alias, Library, Named, Part, Scope, Reach, All, Within, Aiming, Pending, StaticState, LocalState, Body, RoutineState, TagState, State, Fault, Doing, give, refuse, need, look, change, ◌>>=◌, ◌>>◌, find_in, innermost, leave, change_routine, is_complete, has_extent, type_extent}
+use Rattle.c_tree.specs.Terms.{Shape, Global, Fun, Term, term, Terms, no_terms, with_term, Action, action, Actions}
+use Rattle.c_tree.specs.Terms.{no_actions, with_action, Pointing, Object, Variable, Routine, Tag, Program, To_global}
+use Rattle.c_tree.specs.Terms.{To_literal, To_function, Aim, numbers_from}
+use Rattle.c_tree.specs.Scopes.{Entity, Alias, Library, Named, Part, Scope, Reach, All, Within, Aiming, Pending}
+use Rattle.c_tree.specs.Scopes.{StaticState, LocalState, Body, RoutineState, TagState, State, Fault, Doing, give}
+use Rattle.c_tree.specs.Scopes.{refuse, need, look, change, ◌>>=◌, ◌>>◌, find_in, innermost, leave, change_routine}
+use Rattle.c_tree.specs.Scopes.{is_complete, has_extent, type_extent}
 use Rattle.c_tree.specs.Libraries.{Service, services, builtin_name, signature, aliases}
-use Rattle.c_tree.specs.Readings.{Specified, Storage, Defining_type, Param, Prototype, Wrap, Gives, Derived, Context, Slot, Filled, Reading}
+use Rattle.c_tree.specs.Readings.{Specified, Storage, Defining_type, Param, Prototype, Wrap, Gives, Derived, Context}
+use Rattle.c_tree.specs.Readings.{Slot, Filled, Reading}
 use Rattle.c_tree.specs.Expressions.{expression_of, routine_type, may_be_given}
-use Rattle.c_tree.specs.Declarators.{specifiers, typedef_name, record_specifier, enum_specifier, enumerator, declarator_of, type_name, member_of, parameter_of, prototype_of, formed, judge}
+use Rattle.c_tree.specs.Declarators.{specifiers, typedef_name, record_specifier, enum_specifier, enumerator}
+use Rattle.c_tree.specs.Declarators.{declarator_of, type_name, member_of, parameter_of, prototype_of, formed, judge}
 use Rattle.c_tree.specs.Initializers.{takes_string, string_initializer, plain_initializer, braced_initializer}
 use Rattle.c_tree.specs.Statics.{aim_length}
 use Rattle.c_tree.specs.Declarations.{declaration, init_declarator, definition_agrees, linked_routine}
@@ -40,7 +49,8 @@ is_there (Some x) = true
 -- a parameter without a name has an empty one at its first byte
 abbrev pub parameter_name : Param → Option Lexeme → Lexeme
 parameter_name p (Some t) = t
-parameter_name p None = (let t = p.at in record t { text = []; span = record { start = t.span.start; end = t.span.start } })
+parameter_name p None = (let t = p.at in
+    record t { text = []; span = record { start = t.span.start; end = t.span.start } })
 
 abbrev pub parameter_local : Param → LocalState
 parameter_local p = record { name = parameter_name p p.name; of = p.of; addressed = false }
@@ -64,7 +74,8 @@ gives_complete s t = true
 -- 6.7.6.3p4: and its parameters are complete
 abbrev pub first_incomplete : List TagState → List Param → Option Pos
 first_incomplete tags [] = None
-first_incomplete tags (p ∷ ps) = (if has_extent (type_extent tags p.of) then first_incomplete tags ps else Some p.at.pos)
+first_incomplete tags (p ∷ ps) =
+    (if has_extent (type_extent tags p.of) then first_incomplete tags ps else Some p.at.pos)
 
 abbrev pub refused_at : ℕ → Option Pos → Doing Unit
 refused_at code None = give tt
@@ -73,10 +84,15 @@ refused_at code (Some p) = refuse code p
 -- The parameters and the outermost block of the body are one scope (6.2.1p4)
 abbrev pub define_body : ℕ → Lexeme → Ty → Option Prototype → Syn → Reading → Doing Unit
 define_body k t of p block r =
-    change (λ s. change_routine k (λ f. record f { name = t; begun = true }) (record s { locals = map parameter_local (params_of p); scopes = scope_of p ∷ s.scopes })) >>
+    change (λ s. change_routine k (λ f. record f { name = t; begun = true })
+    (record s { locals = map parameter_local (params_of p); scopes = scope_of p ∷ s.scopes })) >>
     look >>= λ s. refused_at 132 (first_incomplete s.tags (params_of p)) >>
     r.body (body_context of) >>= λ i. look >>= λ s.
-    let body : Body = record { params = numbers_from 0 (length (params_of p)); vars = s.locals; action = block_action i (first_token block).pos } in
+    let body : Body = record {
+      params = numbers_from 0 (length (params_of p));
+      vars = s.locals;
+      action = block_action i (first_token block).pos;
+    } in
     leave >> change (λ s. change_routine k (λ f. record f { body = Some body }) (record s { locals = [] }))
 
 abbrev pub define_named : Specified → Derived → Option Lexeme → Syn → Reading → Doing Unit
@@ -86,7 +102,8 @@ define_named s d (Some t) block r = look >>= λ st.
     let e = find_in (innermost st.scopes).names t.text in
     let p = own_prototype d.wraps in
     need (definition_agrees st e t.text f.of) 131 t.pos >>
-    judge f (not (gives_complete st f.of)) (is_typedef s.storage || (not (is_function f.of) || not (is_there p))) t.pos >>
+    judge f (not (gives_complete st f.of)) (is_typedef s.storage || (not (is_function f.of) || not (is_there p))) t.pos
+    >>
     linked_routine t f.of e >>= λ k. look >>= λ now.
     define_body k t (routine_type (slice_get now.routines k)) p block r
 
@@ -115,9 +132,11 @@ external_of k t xs rs = give tt
 
 -- a string that fills an array of characters, braces, or one expression
 abbrev pub initializer_of : NodeKind → Lexeme → Syns → List Reading → (Slot → Doing Unit) → Pos → Ty → ℕ → Doing Filled
-initializer_of Kinds.BracedInitializer t xs rs asked whole of at = braced_initializer t (is_text xs) rs asked whole of at
+initializer_of Kinds.BracedInitializer t xs rs asked whole of at =
+    braced_initializer t (is_text xs) rs asked whole of at
 initializer_of Kinds.Text t xs rs asked whole of at =
-    (if takes_string of then string_initializer t xs whole of at else plain_initializer (expression_of Kinds.Text t xs rs) asked whole of at)
+    (if takes_string of then string_initializer t xs whole of at
+    else plain_initializer (expression_of Kinds.Text t xs rs) asked whole of at)
 initializer_of k t xs rs asked whole of at = plain_initializer (expression_of k t xs rs) asked whole of at
 
 abbrev pub reading_of : NodeKind → Lexeme → Syns → List Reading → Reading
@@ -166,7 +185,15 @@ unfoldable pub file_scope : Scope
 file_scope = record { names = map alias_name aliases ++ names_of_services 0 services; tags = [] }
 
 abbrev pub beginning : State
-beginning = record { scopes = file_scope ∷ []; tags = []; statics = []; routines = []; texts = []; locals = []; pending = [] }
+beginning = record {
+  scopes = file_scope ∷ [];
+  tags = [];
+  statics = [];
+  routines = [];
+  texts = [];
+  locals = [];
+  pending = [];
+}
 
 -- ---- the end of the file (6.9.2, 6.9p5)
 
@@ -194,7 +221,8 @@ abbrev pub pending_faults : State → Pending → List Fault
 pending_faults s p = (if reaches (aim_length s (To_global p.static)) p.least then [] else fault 134 p.place ∷ [])
 
 abbrev pub last_faults : State → List Fault
-last_faults s = flat_map (static_faults s) s.statics ++ flat_map routine_faults s.routines ++ flat_map (pending_faults s) s.pending
+last_faults s = flat_map (static_faults s) s.statics ++ flat_map routine_faults s.routines
+    ++ flat_map (pending_faults s) s.pending
 
 abbrev pub stands_before : Pos → Pos → Bool
 stands_before p q = nat_lt p.line q.line || (p.line == q.line && nat_lt p.col q.col)
@@ -220,7 +248,10 @@ abbrev pub Numbers : Type 0
 Numbers = (ℕ → ℕ) × (ℕ → ℕ)
 
 abbrev pub numbers_of : State → Numbers
-numbers_of s = (count_before (λ (g : StaticState). g.defined) s.statics, count_before (λ (f : RoutineState). is_there f.body) s.routines)
+numbers_of s = (
+  count_before (λ (g : StaticState). g.defined) s.statics,
+  count_before (λ (f : RoutineState). is_there f.body) s.routines,
+)
 
 abbrev pub shape_with : Numbers → Shape → Shape
 shape_with n (Global k) = Global (n.0 k)
@@ -265,16 +296,29 @@ initial_of s (Some i) = (i.0, map (pointing_of s) i.1)
 
 abbrev pub object_of : State → StaticState → List Object
 object_of s g =
-    (if g.defined then (let i = initial_of s g.initial in record { name = g.name.span; place = g.name.pos; of = g.of; bytes = i.0; links = i.1 } ∷ []) else [])
+    (if g.defined then (let i = initial_of s g.initial in
+    record { name = g.name.span; place = g.name.pos; of = g.of; bytes = i.0; links = i.1 } ∷ []) else [])
 
 -- a local is no object where it is a scalar whose address is never taken
 abbrev pub variable_of : LocalState → Variable
-variable_of v = record { name = v.name.span; place = v.name.pos; of = v.of; simple = is_scalar (bare v.of) && not v.addressed }
+variable_of v = record {
+  name = v.name.span;
+  place = v.name.pos;
+  of = v.of;
+  simple = is_scalar (bare v.of) && not v.addressed;
+}
 
 abbrev pub with_body : State → RoutineState → Option Body → List Routine
 with_body s f None = []
 with_body s f (Some b) =
-    record { name = f.name.span; place = f.name.pos; of = f.of; params = b.params; vars = map variable_of b.vars; body = action_with (numbers_of s) b.action } ∷ []
+    record {
+      name = f.name.span;
+      place = f.name.pos;
+      of = f.of;
+      params = b.params;
+      vars = map variable_of b.vars;
+      body = action_with (numbers_of s) b.action;
+    } ∷ []
 
 abbrev pub routine_of : State → RoutineState → List Routine
 routine_of s f = with_body s f f.body
@@ -312,7 +356,8 @@ file_begins = record { line = 1; col = 1 }
 -- Structs and unions go by pointers in the end
 abbrev pub ended : Names → Option Fault → State → Result Program Fault
 ended names (Some f) s = Err f
-ended names None s = (if has_main s.routines then Ok (passed_program names (program_of s)) else Err (fault 135 file_begins))
+ended names None s = (if has_main s.routines then Ok (passed_program names (program_of s))
+    else Err (fault 135 file_begins))
 
 abbrev pub all_externals : List Reading → Doing Unit
 all_externals [] = give tt

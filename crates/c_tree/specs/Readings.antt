@@ -1,4 +1,5 @@
--- What a part of the syntax is to the constructs above it: the steps of typing that it stands for, by the place where it stands.
+-- What a part of the syntax is to the constructs above it: the steps of typing that it stands for, by the place where
+-- it stands.
 use Rattle.std.specs.Prelude.{ℕ, ℤ, Bool, List, Option}
 use Rattle.ck_base.specs.declared.positions.Pos.{Pos}
 use Rattle.ck_base.specs.Tokens.{Lexeme}
@@ -16,15 +17,16 @@ pub data Storage : Type 0 where
   External : Storage
   Defining_type : Storage
 
--- declaration specifiers: their first token, whether a storage-class specifier stands among them other than `register`, the storage, and the
--- type
+-- declaration specifiers: their first token, whether a storage-class specifier stands among them other than `register`,
+-- the storage, and the type
 pub record Specified : Type 0 where
   pub first : Lexeme
   pub stored : Bool
   pub storage : Storage
   pub of : Ty
 
--- a parameter: its name, if it has one; the token that gives its place; its type, adjusted; whether it is `void` without a name
+-- a parameter: its name, if it has one; the token that gives its place; its type, adjusted; whether it is `void`
+-- without a name
 pub record Param : Type 0 where
   pub name : Option Lexeme
   pub at : Lexeme
@@ -49,7 +51,8 @@ pub record Derived : Type 0 where
 
 -- ---- initializers (6.7.9)
 
--- one value that an initializer gives to a part of an object: the part's offset and type, the value, and the first byte of what was written
+-- one value that an initializer gives to a part of an object: the part's offset and type, the value, and the first byte
+-- of what was written
 pub record Slot : Type 0 where
   pub at : ℕ
   pub of : Ty
@@ -90,7 +93,8 @@ pub record Reading : Type 0 where
   pub members : List Part → Doing (List Part)
   -- the value that it has without one of its own
   pub enumerator : ℤ → Doing ℤ
-  -- what is asked of each value that is written; the first byte of the whole initializer, the type of what is initialised, and its offset
+  -- what is asked of each value that is written; the first byte of the whole initializer, the type of what is
+  -- initialised, and its offset
   pub initializer : (Slot → Doing Unit) → Pos → Ty → ℕ → Doing Filled
   -- an initializer's declarator, behind these specifiers
   pub declared : Specified → Doing Items

@@ -1,5 +1,7 @@
--- What has been declared so far: scopes, name spaces and linkage (C11 6.2.1 to 6.2.3), and how a step of typing goes on from there.
-use Rattle.std.specs.Prelude.{ℕ, ℤ, Bool, true, false, ◌==◌, if◌then◌else◌, List, [], ◌∷◌, length, Option, Some, None, Result, Ok, Err, bytes_eq, slice_get, slice_set}
+-- What has been declared so far: scopes, name spaces and linkage (C11 6.2.1 to 6.2.3), and how a step of typing goes on
+-- from there.
+use Rattle.std.specs.Prelude.{ℕ, ℤ, Bool, true, false, ◌==◌, if◌then◌else◌, List, [], ◌∷◌, length, Option, Some, None}
+use Rattle.std.specs.Prelude.{Result, Ok, Err, bytes_eq, slice_get, slice_set}
 use Rattle.ck_base.specs.declared.positions.Pos.{Pos}
 use Rattle.ck_base.specs.Tokens.{Lexeme}
 use Rattle.c_tree.specs.declared.syntax.RecordKind.{RecordKind}
@@ -58,8 +60,8 @@ pub record Aiming : Type 0 where
   pub reach : Reach
   pub offset : ℤ
 
--- An object of static storage duration: its first declaration, its type so far, whether it has linkage, whether it is defined, its
--- initial bytes and pointers, if there was an initializer, and where it was first used
+-- An object of static storage duration: its first declaration, its type so far, whether it has linkage, whether it is
+-- defined, its initial bytes and pointers, if there was an initializer, and where it was first used
 pub record StaticState : Type 0 where
   pub name : Lexeme
   pub of : Ty
@@ -86,14 +88,15 @@ pub record RoutineState : Type 0 where
   pub body : Option Body
   pub used : Option Pos
 
--- an initial pointer into an array whose length is not known yet: the least length with which its initializer is accepted
+-- an initial pointer into an array whose length is not known yet: the least length with which its initializer is
+-- accepted
 pub record Pending : Type 0 where
   pub place : Pos
   pub static : ℕ
   pub least : ℤ
 
--- The scopes in force, the innermost first; the tags, the objects, the functions and the string literals so far; the locals of the function
--- so far; and what waits for the end of the file
+-- The scopes in force, the innermost first; the tags, the objects, the functions and the string literals so far; the
+-- locals of the function so far; and what waits for the end of the file
 pub record State : Type 0 where
   pub scopes : List Scope
   pub tags : List TagState
@@ -183,10 +186,16 @@ in_innermost f (s ∷ ss) = f s ∷ ss
 
 -- 6.2.1p7: from here on the name denotes this
 abbrev pub bind_name : List ℕ → Entity → State → State
-bind_name name e s = record s { scopes = in_innermost (λ c. record c { names = record { name = name; is = e } ∷ c.names }) s.scopes }
+bind_name name e s = record s {
+  scopes = in_innermost
+      (λ c. record c { names = record { name = name; is = e } ∷ c.names }) s.scopes;
+}
 
 abbrev pub bind_tag : List ℕ → Tagging → State → State
-bind_tag name t s = record s { scopes = in_innermost (λ c. record c { tags = record { name = name; is = t } ∷ c.tags }) s.scopes }
+bind_tag name t s = record s {
+  scopes = in_innermost
+      (λ c. record c { tags = record { name = name; is = t } ∷ c.tags }) s.scopes;
+}
 
 abbrev pub outer_scopes : List Scope → List Scope
 outer_scopes [] = []

@@ -1,5 +1,6 @@
 -- The typing of statements (C11 6.8).
-use Rattle.std.specs.Prelude.{ℕ, Bool, true, false, not, ◌||◌, ◌==◌, if◌then◌else◌, List, [], ◌∷◌, ◌++◌, length, Option, Some, None}
+use Rattle.std.specs.Prelude.{ℕ, Bool, true, false, not, ◌||◌, ◌==◌, if◌then◌else◌, List, [], ◌∷◌, ◌++◌, length, Option}
+use Rattle.std.specs.Prelude.{Some, None}
 use Rattle.ck_base.specs.declared.positions.Pos.{Pos}
 use Rattle.ck_base.specs.Tokens.{Lexeme}
 use Rattle.ck_int.specs.Kinds.{wrapped}
@@ -7,7 +8,8 @@ use Rattle.c_tree.specs.declared.syntax.NodeKind.{NodeKind}
 use Rattle.c_tree.specs.declared.syntax.NodeKind.TheVariants as Kinds
 use Rattle.c_tree.specs.Syntax.{Syn, Syns, node, more, first_token}
 use Rattle.c_tree.specs.Types.{Ty, is_integer, is_void, promoted}
-use Rattle.c_tree.specs.Terms.{Label, Term, Terms, no_terms, with_term, Form, Evaluate, Block, If, While, Do, For, Switch, Break, Continue, Return, Empty, Action, Actions, action, no_actions, actions}
+use Rattle.c_tree.specs.Terms.{Label, Term, Terms, no_terms, with_term, Form, Evaluate, Block, If, While, Do, For}
+use Rattle.c_tree.specs.Terms.{Switch, Break, Continue, Return, Empty, Action, Actions, action, no_actions, actions}
 use Rattle.c_tree.specs.Scopes.{Doing, give, refuse, need, ◌>>=◌, ◌>>◌, in_scope}
 use Rattle.c_tree.specs.Constants.{kind_of}
 use Rattle.c_tree.specs.Conversions.{operand_type, converted_term, assigned}
@@ -80,11 +82,13 @@ list_terms (x ∷ xs) = with_term x (list_terms xs)
 
 abbrev pub for_action : Items → List Term → List Term → List Action → Pos → Action
 for_action i ts ss body p =
-    action (For i.vars (length i.actions) (has_one ts) (has_one ss)) (list_terms (ts ++ ss)) (actions (i.actions ++ body)) p
+    action (For i.vars (length i.actions) (has_one ts) (has_one ss)) (list_terms (ts ++ ss))
+    (actions (i.actions ++ body)) p
 
 abbrev pub for_of : Context → Lexeme → Syn → Syn → Syn → Reading → Reading → Reading → Reading → Doing Items
 for_of c t x y z r q p b =
-    first_part c x r >>= λ i. optional_test y q >>= λ ts. optional_step z p >>= λ ss. substatement (in_a_loop c) b >>= λ body.
+    first_part c x r >>= λ i. optional_test y q >>= λ ts. optional_step z p >>= λ ss. substatement (in_a_loop c) b
+    >>= λ body.
     give (one_action (for_action i ts ss body t.pos))
 
 -- ---- switch (6.8.4.2)
@@ -153,7 +157,8 @@ switch_of c t xs r rs =
 abbrev pub return_of : Context → Lexeme → List Reading → Doing Items
 return_of c t [] = need (is_void c.gives) 133 t.pos >> does Return no_terms no_actions t.pos
 return_of c t (r ∷ rs) =
-    read_value r >>= λ a. need (not (is_void c.gives)) 133 t.pos >> assigned c.gives a >>= λ x. does Return (one_term x) no_actions t.pos
+    read_value r >>= λ a. need (not (is_void c.gives)) 133 t.pos >> assigned c.gives a
+    >>= λ x. does Return (one_term x) no_actions t.pos
 
 -- ---- all of them
 
@@ -161,11 +166,13 @@ abbrev pub statement_of : NodeKind → Lexeme → Syns → List Reading → Cont
 statement_of Kinds.Declaration t xs rs c = declaration t.pos rs
 statement_of Kinds.Block t xs rs c = in_scope (all_items c rs) >>= λ i. give (one_action (block_action i t.pos))
 statement_of Kinds.EmptyStatement t xs rs c = does Empty no_terms no_actions t.pos
-statement_of Kinds.ExpressionStatement t xs (r ∷ []) c = read_value r >>= λ a. does Evaluate (one_term a.is) no_actions t.pos
+statement_of Kinds.ExpressionStatement t xs (r ∷ []) c =
+    read_value r >>= λ a. does Evaluate (one_term a.is) no_actions t.pos
 statement_of Kinds.If t xs (r ∷ q ∷ []) c =
     in_scope (test r >>= λ a. substatement c q >>= λ x. does If (one_term a) (actions x) t.pos)
 statement_of Kinds.IfElse t xs (r ∷ q ∷ p ∷ []) c =
-    in_scope (test r >>= λ a. substatement c q >>= λ x. substatement c p >>= λ y. does If (one_term a) (actions (x ++ y)) t.pos)
+    in_scope (test r >>= λ a. substatement c q >>= λ x. substatement c p
+    >>= λ y. does If (one_term a) (actions (x ++ y)) t.pos)
 statement_of Kinds.While t xs (r ∷ q ∷ []) c =
     in_scope (test r >>= λ a. substatement (in_a_loop c) q >>= λ x. does While (one_term a) (actions x) t.pos)
 statement_of Kinds.Do t xs (r ∷ q ∷ []) c =

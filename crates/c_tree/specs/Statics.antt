@@ -1,5 +1,8 @@
--- The initial bytes and pointers of objects of static storage duration (C11 6.6p7 to p9, 6.7.9p4), from constants and addresses.
-use Rattle.std.specs.Prelude.{ℕ, zero, suc, ◌+◌, ◌-◌, ◌/◌, ◌%◌, ◌^◌, max, ℤ, pos, ◌+ℤ◌, ◌-ℤ◌, ◌*ℤ◌, int_lt, Bool, true, false, ◌&&◌, ◌==◌, nat_lt, nat_le, if◌then◌else◌, List, [], ◌∷◌, ◌++◌, length, fold, Option, Some, None, slice_get}
+-- The initial bytes and pointers of objects of static storage duration (C11 6.6p7 to p9, 6.7.9p4), from constants and
+-- addresses.
+use Rattle.std.specs.Prelude.{ℕ, zero, suc, ◌+◌, ◌-◌, ◌/◌, ◌%◌, ◌^◌, max, ℤ, pos, ◌+ℤ◌, ◌-ℤ◌, ◌*ℤ◌, int_lt, Bool, true}
+use Rattle.std.specs.Prelude.{false, ◌&&◌, ◌==◌, nat_lt, nat_le, if◌then◌else◌, List, [], ◌∷◌, ◌++◌, length, fold}
+use Rattle.std.specs.Prelude.{Option, Some, None, slice_get}
 use Rattle.ck_base.specs.declared.positions.Pos.{Pos}
 use Rattle.ck_int.specs.declared.kinds.IntOp.TheVariants.{Add, Sub}
 use Rattle.ck_int.specs.Kinds.{value_of, kept_of, twos_complement}
@@ -7,16 +10,19 @@ use Rattle.cap_concentrate.specs.Rounding.{owned, least_base, least_top}
 use Rattle.c_tree.specs.declared.syntax.RecordKind.{RecordKind}
 use Rattle.c_tree.specs.declared.syntax.RecordKind.TheVariants.{Struct, Union}
 use Rattle.c_tree.specs.Types.{Ty, Pointer, Tagged, bare, is_capability, is_pointer}
-use Rattle.c_tree.specs.Terms.{Shape, Literal, Global, Fun, Load, Decay, Deref, Member, Address, Convert, Capability, Plus, Term, term, Terms, no_terms, with_term, type_of, Aim, To_global, To_literal, To_function, Text}
-use Rattle.c_tree.specs.Scopes.{Reach, All, Within, Aiming, StaticState, TagState, State, Doing, give, look, change, some_or, ◌>>=◌, ◌>>◌, is_complete, size}
+use Rattle.c_tree.specs.Terms.{Shape, Literal, Global, Fun, Load, Decay, Deref, Member, Address, Convert, Capability}
+use Rattle.c_tree.specs.Terms.{Plus, Term, term, Terms, no_terms, with_term, type_of, Aim, To_global, To_literal}
+use Rattle.c_tree.specs.Terms.{To_function, Text}
+use Rattle.c_tree.specs.Scopes.{Reach, All, Within, Aiming, StaticState, TagState, State, Doing, give, look, change}
+use Rattle.c_tree.specs.Scopes.{some_or, ◌>>=◌, ◌>>◌, is_complete, size}
 use Rattle.c_tree.specs.Constants.{kind_of, constant_of}
 use Rattle.c_tree.specs.Readings.{Slot}
 use Rattle.c_tree.specs.Initializers.{tag_places}
 
 -- ---- addresses
 
--- A value that is known before the program runs: a number, which may be an address in null; a place in an object or literal or a pointer
--- there, with its bounds and its offset; or a function
+-- A value that is known before the program runs: a number, which may be an address in null; a place in an object or
+-- literal or a pointer there, with its bounds and its offset; or a function
 pub data Start : Type 0 where
   Number : ℕ → Start
   There : Aim → Reach → ℤ → Start
@@ -47,18 +53,21 @@ is_near low length at = int_lt (pos low) (at +ℤ pos 1024) && int_lt at (pos (l
 -- a move to an offset, by the bounds. Where the length is not known, it is asked for: 1023 bytes less than the offset
 abbrev pub near_all : Aim → ℤ → Option ℕ → List ℤ → Known
 near_all a at (Some n) asks = (if is_near 0 n at then Some (There a All at, asks) else None)
-near_all a at None asks = (if int_lt (pos 0) (at +ℤ pos 1024) then Some (There a All at, (at -ℤ pos 1023) ∷ asks) else None)
+near_all a at None asks =
+    (if int_lt (pos 0) (at +ℤ pos 1024) then Some (There a All at, (at -ℤ pos 1023) ∷ asks) else None)
 
 abbrev pub moved_to : State → Aim → Reach → ℤ → List ℤ → Known
 moved_to s a All at asks = near_all a at (aim_length s a) asks
 moved_to s a (Within low n) at asks = (if is_near low n at then Some (There a (Within low n) at, asks) else None)
 
--- Narrowing to n bytes: exact, and inside the bounds. An object stands at a multiple of every alignment that its parts need
+-- Narrowing to n bytes: exact, and inside the bounds. An object stands at a multiple of every alignment that its parts
+-- need
 abbrev pub is_exact : ℕ → ℕ → Bool
 is_exact at n = least_base at (at + n) == at && least_top at (at + n) == at + n
 
 abbrev pub inside : Option ℕ → ℕ → ℕ → List ℤ → Aim → Known
-inside (Some length) at n asks a = (if nat_le (at + n) length then Some (There a (Within at n) (pos at), asks) else None)
+inside (Some length) at n asks a =
+    (if nat_le (at + n) length then Some (There a (Within at n) (pos at), asks) else None)
 inside None at n asks a = Some (There a (Within at n) (pos at), pos (at + n) ∷ asks)
 
 abbrev pub narrowed_in : State → Aim → Reach → ℕ → ℕ → List ℤ → Known
@@ -226,13 +235,17 @@ abbrev pub nothing_found : Found
 nothing_found = ([], [])
 
 abbrev pub ask_for : Pos → Aim → List ℤ → Doing Unit
-ask_for p (To_global k) (z ∷ zs) = change (λ s. record s { pending = s.pending ++ record { place = p; static = k; least = z } ∷ [] }) >> ask_for p (To_global k) zs
+ask_for p (To_global k) (z ∷ zs) =
+    change (λ s. record s { pending = s.pending ++ record { place = p; static = k; least = z } ∷ [] })
+    >> ask_for p (To_global k) zs
 ask_for p a zs = give tt
 
 abbrev pub start_slot : State → Slot → Start × List ℤ → Found → Doing Found
 start_slot s x (Number v, asks) f = give (record { at = x.at; width = size s x.of; number = v } ∷ f.0, f.1)
-start_slot s x (There a r z, asks) f = ask_for x.first a asks >> give (f.0, record { at = x.at; aim = a; reach = r; offset = z } ∷ f.1)
-start_slot s x (Entry k, asks) f = give (f.0, record { at = x.at; aim = To_function k; reach = All; offset = pos 0 } ∷ f.1)
+start_slot s x (There a r z, asks) f =
+    ask_for x.first a asks >> give (f.0, record { at = x.at; aim = a; reach = r; offset = z } ∷ f.1)
+start_slot s x (Entry k, asks) f =
+    give (f.0, record { at = x.at; aim = To_function k; reach = All; offset = pos 0 } ∷ f.1)
 
 abbrev pub known_value : State → Term → Known
 known_value s x = (if is_value_start x then start_of s x else None)

@@ -17,7 +17,13 @@ use Rattle.c_tree.specs.declared.syntax.PrefixOperator.{PrefixOperator}
 use Rattle.c_tree.specs.declared.syntax.PrefixOperator.TheVariants as Prefixes
 use Rattle.c_tree.specs.declared.syntax.Selection.TheVariants.{Direct, Indirect}
 use Rattle.c_tree.specs.declared.syntax.Symbol.{Symbol}
-use Rattle.c_tree.specs.declared.syntax.Symbol.TheVariants.{Word, Number, Character, Text, OpenParenthesis, CloseParenthesis, OpenBracket, CloseBracket, OpenBrace, CloseBrace, Selection, Step, Ampersand, Star, Plus, Minus, Tilde, Exclamation, Infix, Question, Colon, Semicolon, Comma, Assignment, Specifier, Record, Enum, Sizeof, If, Else, While, Do, For, Switch, Case, Default, Break, Continue, Return, Other}
+use Rattle.c_tree.specs.declared.syntax.Symbol.TheVariants.{Word, Number, Character, Text, OpenParenthesis}
+use Rattle.c_tree.specs.declared.syntax.Symbol.TheVariants.{CloseParenthesis, OpenBracket, CloseBracket, OpenBrace}
+use Rattle.c_tree.specs.declared.syntax.Symbol.TheVariants.{CloseBrace, Selection, Step, Ampersand, Star, Plus, Minus}
+use Rattle.c_tree.specs.declared.syntax.Symbol.TheVariants.{Tilde, Exclamation, Infix, Question, Colon, Semicolon}
+use Rattle.c_tree.specs.declared.syntax.Symbol.TheVariants.{Comma, Assignment, Specifier, Record, Enum, Sizeof, If}
+use Rattle.c_tree.specs.declared.syntax.Symbol.TheVariants.{Else, While, Do, For, Switch, Case, Default, Break}
+use Rattle.c_tree.specs.declared.syntax.Symbol.TheVariants.{Continue, Return, Other}
 use Rattle.c_tree.specs.declared.syntax.Head.{Head}
 use Rattle.c_tree.specs.declared.syntax.Head.TheVariants as Heads
 use Rattle.c_tree.specs.declared.syntax.Tail.{Tail}
@@ -31,29 +37,43 @@ look_up (entry ∷ table) text = if bytes_eq entry.0 text then entry.1 else look
 -- 6.4.1
 unfoldable pub keyword_symbols : List (List ℕ × Symbol)
 keyword_symbols =
-    (codes "auto", Specifier Words.Auto) ∷ (codes "break", Break) ∷ (codes "case", Case) ∷ (codes "char", Specifier Words.Char) ∷
-    (codes "const", Specifier Words.Const) ∷ (codes "continue", Continue) ∷ (codes "default", Default) ∷ (codes "do", Do) ∷
-    (codes "else", Else) ∷ (codes "enum", Enum) ∷ (codes "extern", Specifier Words.Extern) ∷ (codes "for", For) ∷ (codes "if", If) ∷
-    (codes "inline", Specifier Words.Inline) ∷ (codes "int", Specifier Words.Int) ∷ (codes "long", Specifier Words.Long) ∷
-    (codes "register", Specifier Words.Register) ∷ (codes "restrict", Specifier Words.Restrict) ∷ (codes "return", Return) ∷
+    (codes "auto", Specifier Words.Auto) ∷ (codes "break", Break) ∷ (codes "case", Case)
+    ∷ (codes "char", Specifier Words.Char) ∷
+    (codes "const", Specifier Words.Const) ∷ (codes "continue", Continue) ∷ (codes "default", Default)
+    ∷ (codes "do", Do) ∷
+    (codes "else", Else) ∷ (codes "enum", Enum) ∷ (codes "extern", Specifier Words.Extern) ∷ (codes "for", For)
+    ∷ (codes "if", If) ∷
+    (codes "inline", Specifier Words.Inline) ∷ (codes "int", Specifier Words.Int) ∷ (codes "long", Specifier Words.Long)
+    ∷
+    (codes "register", Specifier Words.Register) ∷ (codes "restrict", Specifier Words.Restrict)
+    ∷ (codes "return", Return) ∷
     (codes "short", Specifier Words.Short) ∷ (codes "signed", Specifier Words.Signed) ∷ (codes "sizeof", Sizeof) ∷
     (codes "static", Specifier Words.Static) ∷ (codes "struct", Record Struct) ∷ (codes "switch", Switch) ∷
-    (codes "typedef", Specifier Words.Typedef) ∷ (codes "union", Record Union) ∷ (codes "unsigned", Specifier Words.Unsigned) ∷
+    (codes "typedef", Specifier Words.Typedef) ∷ (codes "union", Record Union)
+    ∷ (codes "unsigned", Specifier Words.Unsigned) ∷
     (codes "void", Specifier Words.Void) ∷ (codes "volatile", Specifier Words.Volatile) ∷ (codes "while", While) ∷
-    (codes "_Bool", Specifier Words.Bool) ∷ (codes "__intcap_t", Specifier Words.IntCap) ∷ (codes "__uintcap_t", Specifier Words.UintCap) ∷
+    (codes "_Bool", Specifier Words.Bool) ∷ (codes "__intcap_t", Specifier Words.IntCap)
+    ∷ (codes "__uintcap_t", Specifier Words.UintCap) ∷
     (codes "__restrict", Specifier Words.Restrict) ∷ (codes "__inline", Specifier Words.Inline) ∷ []
 
 -- 6.4.6
 unfoldable pub punctuator_symbols : List (List ℕ × Symbol)
 punctuator_symbols =
-    (codes "[", OpenBracket) ∷ (codes "]", CloseBracket) ∷ (codes "(", OpenParenthesis) ∷ (codes ")", CloseParenthesis) ∷
-    (codes "{", OpenBrace) ∷ (codes "}", CloseBrace) ∷ (codes ".", Selection Direct) ∷ (codes "->", Selection Indirect) ∷
-    (codes "++", Step Increment) ∷ (codes "--", Step Decrement) ∷ (codes "&", Ampersand) ∷ (codes "*", Star) ∷ (codes "+", Plus) ∷
-    (codes "-", Minus) ∷ (codes "~", Tilde) ∷ (codes "!", Exclamation) ∷ (codes "/", Infix (Int Div)) ∷ (codes "%", Infix (Int Rem)) ∷
-    (codes "<<", Infix (Int Shl)) ∷ (codes ">>", Infix (Int Shr)) ∷ (codes "<", Infix (Compare Lt)) ∷ (codes ">", Infix (Compare Gt)) ∷
+    (codes "[", OpenBracket) ∷ (codes "]", CloseBracket) ∷ (codes "(", OpenParenthesis) ∷ (codes ")", CloseParenthesis)
+    ∷
+    (codes "{", OpenBrace) ∷ (codes "}", CloseBrace) ∷ (codes ".", Selection Direct) ∷ (codes "->", Selection Indirect)
+    ∷
+    (codes "++", Step Increment) ∷ (codes "--", Step Decrement) ∷ (codes "&", Ampersand) ∷ (codes "*", Star)
+    ∷ (codes "+", Plus) ∷
+    (codes "-", Minus) ∷ (codes "~", Tilde) ∷ (codes "!", Exclamation) ∷ (codes "/", Infix (Int Div))
+    ∷ (codes "%", Infix (Int Rem)) ∷
+    (codes "<<", Infix (Int Shl)) ∷ (codes ">>", Infix (Int Shr)) ∷ (codes "<", Infix (Compare Lt))
+    ∷ (codes ">", Infix (Compare Gt)) ∷
     (codes "<=", Infix (Compare Le)) ∷ (codes ">=", Infix (Compare Ge)) ∷ (codes "==", Infix (Compare Eq)) ∷
-    (codes "!=", Infix (Compare Ne)) ∷ (codes "^", Infix (Int Xor)) ∷ (codes "|", Infix (Int Or)) ∷ (codes "&&", Infix Infixes.And) ∷
-    (codes "||", Infix Infixes.Or) ∷ (codes "?", Question) ∷ (codes ":", Colon) ∷ (codes ";", Semicolon) ∷ (codes "=", Assignment None) ∷
+    (codes "!=", Infix (Compare Ne)) ∷ (codes "^", Infix (Int Xor)) ∷ (codes "|", Infix (Int Or))
+    ∷ (codes "&&", Infix Infixes.And) ∷
+    (codes "||", Infix Infixes.Or) ∷ (codes "?", Question) ∷ (codes ":", Colon) ∷ (codes ";", Semicolon)
+    ∷ (codes "=", Assignment None) ∷
     (codes "*=", Assignment (Some Mul)) ∷ (codes "/=", Assignment (Some Div)) ∷ (codes "%=", Assignment (Some Rem)) ∷
     (codes "+=", Assignment (Some Add)) ∷ (codes "-=", Assignment (Some Sub)) ∷ (codes "<<=", Assignment (Some Shl)) ∷
     (codes ">>=", Assignment (Some Shr)) ∷ (codes "&=", Assignment (Some And)) ∷ (codes "^=", Assignment (Some Xor)) ∷
@@ -102,8 +122,8 @@ tail_of Question = Tails.Asks
 tail_of (Assignment o) = Tails.Assigns o
 tail_of _ = Tails.Ends
 
--- Levels of expressions, the loosest first: 0 comma (6.5.17), 1 assignment (6.5.16), 2 conditional (6.5.15), 3 to 12 the operators of 6.5.14
--- down to 6.5.5, 13 cast (6.5.4), 14 unary (6.5.3), 15 postfix (6.5.2).
+-- Levels of expressions, the loosest first: 0 comma (6.5.17), 1 assignment (6.5.16), 2 conditional (6.5.15), 3 to 12
+-- the operators of 6.5.14 down to 6.5.5, 13 cast (6.5.4), 14 unary (6.5.3), 15 postfix (6.5.2).
 abbrev pub infix_level : InfixOperator → ℕ
 infix_level Infixes.Comma = 0
 infix_level Infixes.Or = 3

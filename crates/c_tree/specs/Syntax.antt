@@ -104,4 +104,5 @@ mutual
   -- trees stand there, with their roots at these numbers
   pub data StandAt (nodes : List Node) : List ℕ → Syns → Type 0 where
     none : StandAt nodes [] nil
-    next : {i : ℕ} {is : List ℕ} {x : Syn} {xs : Syns} → StandsAt nodes i x → StandAt nodes is xs → StandAt nodes (i ∷ is) (more x xs)
+    next : {i : ℕ} {is : List ℕ} {x : Syn} {xs : Syns} → StandsAt nodes i x → StandAt nodes is xs →
+        StandAt nodes (i ∷ is) (more x xs)

@@ -94,8 +94,8 @@ pub data Form : Type 0 where
   If : Form
   While : Form
   Do : Form
-  -- the variables declared, how many statements initialise, whether there is a test, and whether there is a step; the test and the step;
-  -- the statements that initialise, and the body
+  -- the variables declared, how many statements initialise, whether there is a test, and whether there is a step; the
+  -- test and the step; the statements that initialise, and the body
   For : List ℕ → ℕ → Bool → Bool → Form
   -- the variables and the labels; one expression; statements
   Switch : List ℕ → List Label → Form
@@ -125,8 +125,8 @@ pub data Aim : Type 0 where
   To_literal : ℕ → Aim
   To_function : ℕ → Aim
 
--- a pointer with which an object begins: its place in the object; what it points to, where its bounds begin there, their length, and its
--- address from the base
+-- a pointer with which an object begins: its place in the object; what it points to, where its bounds begin there,
+-- their length, and its address from the base
 pub record Pointing : Type 0 where
   pub at : ℕ
   pub aim : Aim

@@ -2,7 +2,8 @@
 use Rattle.std.specs.Prelude.{ℕ, ◌+◌, length, sum_by}
 use Rattle.c_tree.specs.declared.typed.FunDef.{FunDef}
 use Rattle.c_tree.specs.declared.typed.Typed.{Typed}
-use Rattle.c_tree.specs.Terms.{Shape, Call, Library, Term, term, Terms, no_terms, with_term, Form, Switch, Action, action, Actions, no_actions, with_action, Routine, Program}
+use Rattle.c_tree.specs.Terms.{Shape, Call, Library, Term, term, Terms, no_terms, with_term, Form, Switch, Action}
+use Rattle.c_tree.specs.Terms.{action, Actions, no_actions, with_action, Routine, Program}
 use Rattle.c_tree.specs.Views.{actions_of, action_at}
 
 -- a call weighs 4, one of a library function among them; another expression weighs 1

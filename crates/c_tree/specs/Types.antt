@@ -1,11 +1,13 @@
--- The types of C as they are, apart from the list in which their numbers stand, and the rules on types alone (C11 6.2.5, 6.2.7, 6.3).
-use Rattle.std.specs.Prelude.{ℕ, ◌+◌, max, Bool, true, false, not, ◌&&◌, ◌||◌, ◌==◌, nat_lt, nat_le, if◌then◌else◌, Option, Some, None}
+-- The types of C as they are, apart from the list in which their numbers stand, and the rules on types alone (C11
+-- 6.2.5, 6.2.7, 6.3).
+use Rattle.std.specs.Prelude.{ℕ, ◌+◌, max, Bool, true, false, not, ◌&&◌, ◌||◌, ◌==◌, nat_lt, nat_le, if◌then◌else◌}
+use Rattle.std.specs.Prelude.{Option, Some, None}
 use Rattle.ck_int.specs.declared.kinds.IntKind.{IntKind}
 use Rattle.ck_int.specs.declared.kinds.IntKind.TheVariants as kind
 use Rattle.ck_int.specs.Kinds.{form_of, width_of, is_signed}
 
--- A type. An integer type has a number that tells types of one kind apart. An array of 0 elements is one whose length is not known. A
--- struct or union is known by the number of its tag: its members stand with the tags.
+-- A type. An integer type has a number that tells types of one kind apart. An array of 0 elements is one whose length
+-- is not known. A struct or union is known by the number of its tag: its members stand with the tags.
 mutual
   pub data Ty : Type 0 where
     Void : Ty

@@ -1,4 +1,5 @@
--- Which typed program a file is, and why a file is none: the public relations of typing, and that they are exclusive and single-valued.
+-- Which typed program a file is, and why a file is none: the public relations of typing, and that they are exclusive
+-- and single-valued.
 use Rattle.std.specs.Prelude.{◌≡◌, ℕ, ◌-◌, ◌<◌, List, take, drop, slice_get, Some, Ok, Err}
 use Rattle.ck_base.specs.declared.positions.Pos.{Pos}
 use Rattle.ck_base.specs.Tokens.{Lexeme}
@@ -39,7 +40,8 @@ RefusesSyntax x code place = typing x ≡ Err (record { code = code; place = pla
 abbrev pub AreBytes : List ℕ → Type 0
 AreBytes bytes = (k b : ℕ) → slice_get bytes k ≡ Some b → b < 256
 
--- An untyped tree stands for a syntax in the bytes of a file: it is the tree of tokens, each of which is one of the language
+-- An untyped tree stands for a syntax in the bytes of a file: it is the tree of tokens, each of which is one of the
+-- language
 pub record Reads (tree : Tree) (bytes : List ℕ) (x : Syn) : Type 0 where
   pub small : AreBytes bytes
   pub stands : StandsAt tree.nodes tree.root x
@@ -70,7 +72,8 @@ pub record Alike (p q : Typed) : Type 0 where
   pub first : Shows p program
   pub second : Shows q program
 
--- One syntax is one program, whatever the numbers of its nodes and types, or is refused by one code at one place, and never both
+-- One syntax is one program, whatever the numbers of its nodes and types, or is refused by one code at one place, and
+-- never both
 pub record OneAnswer (x : Syn) : Type 0 where
   pub typed : (p q : Typed) → TypesSyntax x p → TypesSyntax x q → Alike p q
   pub refused : (c d : ℕ) (p q : Pos) → RefusesSyntax x c p → RefusesSyntax x d q → (c ≡ d) × (p ≡ q)

@@ -1,5 +1,6 @@
 -- The values and types of literals (C11 6.4.4, 6.4.5), from the bytes that spell them.
-use Rattle.std.specs.Prelude.{ℕ, zero, suc, ◌-◌, Bool, not, ◌||◌, ◌==◌, if◌then◌else◌, List, [], ◌∷◌, length, take, drop, filter, Option, Some, None}
+use Rattle.std.specs.Prelude.{ℕ, zero, suc, ◌-◌, Bool, not, ◌||◌, ◌==◌, if◌then◌else◌, List, [], ◌∷◌, length, take}
+use Rattle.std.specs.Prelude.{drop, filter, Option, Some, None}
 use Rattle.std.specs.List.{list_any}
 use Rattle.std.specs.Str.{byte}
 use Rattle.ck_base.specs.declared.tokens.Integer.{Integer}
@@ -22,7 +23,8 @@ is_suffix_letter c = is_unsigned_letter c || is_long_letter c
 
 -- the base that the first digits tell, and the digits behind the prefix
 abbrev pub base_and_digits : List ℕ → ℕ × List ℕ
-base_and_digits (d ∷ x ∷ ds) = (if d == byte "0" then (if x == byte "x" || x == byte "X" then (16, ds) else (8, x ∷ ds)) else (10, d ∷ x ∷ ds))
+base_and_digits (d ∷ x ∷ ds) =
+    (if d == byte "0" then (if x == byte "x" || x == byte "X" then (16, ds) else (8, x ∷ ds)) else (10, d ∷ x ∷ ds))
 base_and_digits (d ∷ []) = (if d == byte "0" then (8, d ∷ []) else (10, d ∷ []))
 base_and_digits [] = (10, [])
 
@@ -35,7 +37,8 @@ integer_with b suffix = record {
 }
 
 unfoldable pub integer_of : List ℕ → Integer
-integer_of text = integer_with (base_and_digits (filter (λ c. not (is_suffix_letter c)) text)) (filter is_suffix_letter text)
+integer_of text = integer_with (base_and_digits (filter (λ c. not (is_suffix_letter c)) text))
+    (filter is_suffix_letter text)
 
 -- 6.4.4.1p5: the type of an integer constant
 abbrev pub integer_type : Option IntegerType → Ty
@@ -62,7 +65,8 @@ numeric base digits go rest = literal.value_of base digits ∷ go (drop (length 
 
 abbrev pub escape : Option ℕ → (List ℕ → List ℕ) → ℕ → List ℕ → List ℕ
 escape (Some v) go c cs = v ∷ go cs
-escape None go c cs = (if c == byte "x" then numeric 16 (leading_digits 16 cs) go cs else numeric 8 (take 3 (leading_digits 8 (c ∷ cs))) go (c ∷ cs))
+escape None go c cs = (if c == byte "x" then numeric 16 (leading_digits 16 cs) go cs
+    else numeric 8 (take 3 (leading_digits 8 (c ∷ cs))) go (c ∷ cs))
 
 abbrev pub escaped : (List ℕ → List ℕ) → List ℕ → List ℕ
 escaped go [] = []

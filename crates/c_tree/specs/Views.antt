@@ -1,6 +1,7 @@
--- The program that the lists of a typed program stand for. Numbers of types, expressions and statements are read here, and mean nothing
--- else.
-use Rattle.std.specs.Prelude.{◌≡◌, ℕ, ◌<◌, Bool, true, false, ◌==◌, if◌then◌else◌, List, [], ◌∷◌, ◌++◌, length, map, flat_map, sum_by, Option, Some, None, slice_get, slice_index_or}
+-- The program that the lists of a typed program stand for. Numbers of types, expressions and statements are read here,
+-- and mean nothing else.
+use Rattle.std.specs.Prelude.{◌≡◌, ℕ, ◌<◌, Bool, true, false, ◌==◌, if◌then◌else◌, List, [], ◌∷◌, ◌++◌, length, map}
+use Rattle.std.specs.Prelude.{flat_map, sum_by, Option, Some, None, slice_get, slice_index_or}
 use Rattle.ck_base.specs.declared.positions.Pos.{Pos}
 use Rattle.ck_base.specs.declared.positions.Span.{Span}
 use Rattle.c_tree.specs.declared.syntax.RecordKind.TheVariants as record_kinds
@@ -24,7 +25,9 @@ use Rattle.c_tree.specs.declared.typed.FunDef.{FunDef}
 use Rattle.c_tree.specs.declared.typed.Typed.{Typed}
 use Rattle.c_tree.specs.Types.{Ty, Void, Int, Cap, Pointer, Array, Tagged, Function, Const, Tys, no_types, also}
 use Rattle.c_tree.specs.Terms as tree
-use Rattle.c_tree.specs.Terms.{Shape, Term, Terms, terms, leaf, step, join, join_three, term, with_term, no_terms, Label, Form, Action, Actions, action, actions, Aim, Pointing, Variable, Object, Text, Routine, Tag, Program}
+use Rattle.c_tree.specs.Terms.{Shape, Term, Terms, terms, leaf, step, join, join_three, term, with_term, no_terms}
+use Rattle.c_tree.specs.Terms.{Label, Form, Action, Actions, action, actions, Aim, Pointing, Variable, Object, Text}
+use Rattle.c_tree.specs.Terms.{Routine, Tag, Program}
 
 -- ---- lists whose items name earlier items by their numbers
 
@@ -127,8 +130,10 @@ kind_action es (stmts.If a x y) p go = action tree.If (terms (term_at es a ∷ [
 kind_action es (stmts.While a x) p go = action tree.While (terms (term_at es a ∷ [])) (actions (go x ∷ [])) p
 kind_action es (stmts.Do x a) p go = action tree.Do (terms (term_at es a ∷ [])) (actions (go x ∷ [])) p
 kind_action es (stmts.For vars first a b x) p go =
-    action (tree.For vars (length first) (is_some a) (is_some b)) (terms (listed (term_at es) a ++ listed (term_at es) b)) (actions (map go first ++ go x ∷ [])) p
-kind_action es (stmts.Switch a vars labels body) p go = action (tree.Switch vars (map label_of labels)) (terms (term_at es a ∷ [])) (actions (map go body)) p
+    action (tree.For vars (length first) (is_some a) (is_some b))
+    (terms (listed (term_at es) a ++ listed (term_at es) b)) (actions (map go first ++ go x ∷ [])) p
+kind_action es (stmts.Switch a vars labels body) p go =
+    action (tree.Switch vars (map label_of labels)) (terms (term_at es a ∷ [])) (actions (map go body)) p
 kind_action es stmts.Break p go = action tree.Break (terms []) (actions []) p
 kind_action es stmts.Continue p go = action tree.Continue (terms []) (actions []) p
 kind_action es (stmts.Return a) p go = action tree.Return (terms (listed (term_at es) a)) (actions []) p
@@ -158,7 +163,13 @@ abbrev pub pointing_of : Link → Pointing
 pointing_of l = record { at = l.at; aim = aim_of l.target; low = l.low; length = l.length; offset = l.offset }
 
 abbrev pub object_of : List Ty → GlobalDef → Object
-object_of ts g = record { name = g.name; place = g.pos; of = type_at ts g.of; bytes = g.bytes; links = map pointing_of g.links }
+object_of ts g = record {
+  name = g.name;
+  place = g.pos;
+  of = type_at ts g.of;
+  bytes = g.bytes;
+  links = map pointing_of g.links;
+}
 
 abbrev pub text_of : Literal → Text
 text_of l = record { place = l.pos; bytes = l.bytes }
@@ -167,15 +178,24 @@ abbrev pub variable_of : List Ty → VarDef → Variable
 variable_of ts v = record { name = v.name; place = v.pos; of = type_at ts v.of; simple = v.simple }
 
 abbrev pub routine_of : List Ty → List Action → FunDef → Routine
-routine_of ts xs f = record { name = f.name; place = f.pos; of = type_at ts f.of; params = f.params; vars = map (variable_of ts) f.vars; body = action_at xs f.body }
+routine_of ts xs f = record {
+  name = f.name;
+  place = f.pos;
+  of = type_at ts f.of;
+  params = f.params;
+  vars = map (variable_of ts) f.vars;
+  body = action_at xs f.body;
+}
 
 abbrev pub member_of : List Ty → Member → Span × Ty
 member_of ts m = (m.name, type_at ts m.of)
 
 -- what a type of the list says of a tag is so
 abbrev pub TagAgrees : List Ty → List Tag → CType → Type 0
-TagAgrees ts tags (ctypes.Struct tag ms) = slice_get tags tag ≡ Some (record { kind = record_kinds.Struct; members = Some (map (member_of ts) ms) })
-TagAgrees ts tags (ctypes.Union tag ms) = slice_get tags tag ≡ Some (record { kind = record_kinds.Union; members = Some (map (member_of ts) ms) })
+TagAgrees ts tags (ctypes.Struct tag ms) =
+    slice_get tags tag ≡ Some (record { kind = record_kinds.Struct; members = Some (map (member_of ts) ms) })
+TagAgrees ts tags (ctypes.Union tag ms) =
+    slice_get tags tag ≡ Some (record { kind = record_kinds.Union; members = Some (map (member_of ts) ms) })
 TagAgrees ts tags (ctypes.Incomplete tag) = (t : Tag) × (slice_get tags tag ≡ Some t) × (t.members ≡ None)
 TagAgrees ts tags c = Unit {0}
 
@@ -270,16 +290,19 @@ expression_uses p = flat_map (λ (e : Expr). operands e.kind) p.exprs ++ flat_ma
 abbrev pub statement_uses : Typed → List ℕ
 statement_uses p = flat_map (λ (s : Stmt). parts s.kind) p.stmts ++ map (λ (f : FunDef). f.body) p.funs
 
--- Each number that names something names what is there, and types, operands and parts stand before what names them. Each expression and
--- each statement is used once
+-- Each number that names something names what is there, and types, operands and parts stand before what names them.
+-- Each expression and each statement is used once
 pub record IsOrdered (p : Typed) : Type 0 where
   pub types : (k : ℕ) (c : CType) → slice_get p.types k ≡ Some c → Below (length p.types) k c
   pub typed : (k : ℕ) (e : Expr) → slice_get p.exprs k ≡ Some e → e.of < length p.types
-  pub operands_before : (k j a : ℕ) (e : Expr) → slice_get p.exprs k ≡ Some e → slice_get (operands e.kind) j ≡ Some a → a < k
-  pub values_there : (k j a : ℕ) (s : Stmt) → slice_get p.stmts k ≡ Some s → slice_get (values s.kind) j ≡ Some a → a < length p.exprs
+  pub operands_before : (k j a : ℕ) (e : Expr) → slice_get p.exprs k ≡ Some e → slice_get (operands e.kind) j ≡ Some a →
+      a < k
+  pub values_there : (k j a : ℕ) (s : Stmt) → slice_get p.stmts k ≡ Some s → slice_get (values s.kind) j ≡ Some a →
+      a < length p.exprs
   pub parts_before : (k j a : ℕ) (s : Stmt) → slice_get p.stmts k ≡ Some s → slice_get (parts s.kind) j ≡ Some a → a < k
   pub globals : (k : ℕ) (g : GlobalDef) → slice_get p.globals k ≡ Some g → g.of < length p.types
   pub funs : (k : ℕ) (f : FunDef) → slice_get p.funs k ≡ Some f → (f.of < length p.types) × (f.body < length p.stmts)
-  pub vars : (k j : ℕ) (f : FunDef) (v : VarDef) → slice_get p.funs k ≡ Some f → slice_get f.vars j ≡ Some v → v.of < length p.types
+  pub vars : (k j : ℕ) (f : FunDef) (v : VarDef) → slice_get p.funs k ≡ Some f → slice_get f.vars j ≡ Some v →
+      v.of < length p.types
   pub expressions_once : (k : ℕ) → k < length p.exprs → times_in k (expression_uses p) ≡ 1
   pub statements_once : (k : ℕ) → k < length p.stmts → times_in k (statement_uses p) ≡ 1

@@ -1,5 +1,7 @@
--- What is true of a typed program node by node, in terms of each node's own parts: the facts on which what is built from it stands.
-use Rattle.std.specs.Prelude.{◌≡◌, ℕ, zero, ◌+◌, ◌%◌, ◌^◌, ◌<◌, ◌≤◌, ◌⊎◌, Bool, true, false, List, [], ◌∷◌, ◌++◌, length, Some, slice_get}
+-- What is true of a typed program node by node, in terms of each node's own parts: the facts on which what is built
+-- from it stands.
+use Rattle.std.specs.Prelude.{◌≡◌, ℕ, zero, ◌+◌, ◌%◌, ◌^◌, ◌<◌, ◌≤◌, ◌⊎◌, Bool, true, false, List, [], ◌∷◌, ◌++◌}
+use Rattle.std.specs.Prelude.{length, Some, slice_get}
 use Rattle.cap_concentrate.specs.Rounding.{owned}
 use Rattle.ck_int.specs.declared.kinds.IntKind.{IntKind}
 use Rattle.ck_int.specs.declared.kinds.IntOp.{IntOp}
@@ -18,9 +20,12 @@ use Rattle.c_tree.specs.declared.typed.FunDef.{FunDef}
 use Rattle.c_tree.specs.declared.typed.Typed.{Typed}
 use Rattle.c_tree.specs.Layout.{Extent, extent, size_limit}
 use Rattle.c_tree.specs.Layout as layout
-use Rattle.c_tree.specs.Types.{Ty, Int, Cap, Pointer, Array, Tagged, Function, Tys, no_types, also, char, int, long, bare, in_signature, is_function, is_integer, is_pointer, is_scalar, is_void, is_tagged, is_capability, compatible, promoted, count}
+use Rattle.c_tree.specs.Types.{Ty, Int, Cap, Pointer, Array, Tagged, Function, Tys, no_types, also, char, int, long}
+use Rattle.c_tree.specs.Types.{bare, in_signature, is_function, is_integer, is_pointer, is_scalar, is_void, is_tagged}
+use Rattle.c_tree.specs.Types.{is_capability, compatible, promoted, count}
 use Rattle.c_tree.specs.Terms as tree
-use Rattle.c_tree.specs.Terms.{Shape, Term, Terms, term, no_terms, with_term, type_of, Label, Form, Action, Actions, action, no_actions, with_action}
+use Rattle.c_tree.specs.Terms.{Shape, Term, Terms, term, no_terms, with_term, type_of, Label, Form, Action, Actions}
+use Rattle.c_tree.specs.Terms.{action, no_actions, with_action}
 use Rattle.c_tree.specs.Conversions.{is_place, designates}
 use Rattle.c_tree.specs.Expressions.{is_modifiable, is_shift, as_qualified, given_type}
 use Rattle.c_tree.specs.Statics.{is_exact, is_near}
@@ -50,7 +55,8 @@ PointsToComplete p t = (u : Ty) × (t ≡ Pointer u) × IsComplete p u
 
 -- the members of the struct or union with a tag
 abbrev pub HasMembers : Typed → ℕ → List Member → Type 0
-HasMembers p tag ms = (k : ℕ) × ((slice_get p.types k ≡ Some (ctypes.Struct tag ms)) ⊎ (slice_get p.types k ≡ Some (ctypes.Union tag ms)))
+HasMembers p tag ms = (k : ℕ) ×
+    ((slice_get p.types k ≡ Some (ctypes.Struct tag ms)) ⊎ (slice_get p.types k ≡ Some (ctypes.Union tag ms)))
 
 -- ---- expressions
 
@@ -91,7 +97,8 @@ SumFits p minus s u t =
 
 abbrev pub CompoundFits : Typed → IntOp → Ty → Ty → Ty → Type 0
 CompoundFits p o of u t =
-    (PointsToComplete p t × (of ≡ t) × holds (is_integer u)) ⊎ (holds (is_integer t) × OperandsFit o of u of × holds (is_integer of))
+    (PointsToComplete p t × (of ≡ t) × holds (is_integer u)) ⊎
+    (holds (is_integer t) × OperandsFit o of u of × holds (is_integer of))
 
 abbrev pub ArgumentsFit : Tys → Terms → Type 0
 ArgumentsFit no_types no_terms = Unit {0}
@@ -116,39 +123,60 @@ abbrev pub ConstantFits : Ty → ℕ → Type 0
 ConstantFits (Int k n) v = IsKept k v
 ConstantFits t v = v < 2 ^ 64
 
--- A node, its operands and its type. A name's type may know less than its object or function in the end: the length of an array
+-- A node, its operands and its type. A name's type may know less than its object or function in the end: the length of
+-- an array
 abbrev pub ShapeFits : Frame → Shape → Terms → Ty → Type 0
 ShapeFits f (tree.Constant n) no_terms t = ConstantFits (bare t) n × holds (is_scalar t)
-ShapeFits f (tree.Literal k) no_terms t = (x : Literal) × (slice_get f.program.literals k ≡ Some x) × (t ≡ Array char (length x.bytes))
-ShapeFits f (tree.Var k) no_terms t = (v : VarDef) × (slice_get f.vars k ≡ Some v) × holds (compatible t (type_in f.program v.of))
-ShapeFits f (tree.Global k) no_terms t = (g : GlobalDef) × (slice_get f.program.globals k ≡ Some g) × holds (compatible t (type_in f.program g.of))
-ShapeFits f (tree.Fun k) no_terms t = (g : FunDef) × (slice_get f.program.funs k ≡ Some g) × holds (compatible t (type_in f.program g.of))
-ShapeFits f tree.Load (with_term a no_terms) t = holds (designates a) × (t ≡ bare (type_of a)) × (holds (is_scalar t) ⊎ holds (is_tagged t)) × IsComplete f.program t
+ShapeFits f (tree.Literal k) no_terms t =
+    (x : Literal) × (slice_get f.program.literals k ≡ Some x) × (t ≡ Array char (length x.bytes))
+ShapeFits f (tree.Var k) no_terms t =
+    (v : VarDef) × (slice_get f.vars k ≡ Some v) × holds (compatible t (type_in f.program v.of))
+ShapeFits f (tree.Global k) no_terms t =
+    (g : GlobalDef) × (slice_get f.program.globals k ≡ Some g) × holds (compatible t (type_in f.program g.of))
+ShapeFits f (tree.Fun k) no_terms t =
+    (g : FunDef) × (slice_get f.program.funs k ≡ Some g) × holds (compatible t (type_in f.program g.of))
+ShapeFits f tree.Load (with_term a no_terms) t =
+    holds (designates a) × (t ≡ bare (type_of a)) × (holds (is_scalar t) ⊎ holds (is_tagged t)) × IsComplete f.program t
 ShapeFits f tree.Decay (with_term a no_terms) t = Decays (type_of a) t
-ShapeFits f tree.Deref (with_term a no_terms) t = (type_of a ≡ Pointer t) × (IsComplete f.program t ⊎ holds (is_function t))
+ShapeFits f tree.Deref (with_term a no_terms) t =
+    (type_of a ≡ Pointer t) × (IsComplete f.program t ⊎ holds (is_function t))
 ShapeFits f (tree.Member k) (with_term a no_terms) t =
-    (tag : ℕ) × (ms : List Member) × (m : Member) × (bare (type_of a) ≡ Tagged tag) × HasMembers f.program tag ms × (slice_get ms k ≡ Some m)
+    (tag : ℕ) × (ms : List Member) × (m : Member) × (bare (type_of a) ≡ Tagged tag) × HasMembers f.program tag ms ×
+    (slice_get ms k ≡ Some m)
     × (t ≡ as_qualified (type_of a) (type_in f.program m.of)) × IsComplete f.program (Tagged tag)
-ShapeFits f tree.Address (with_term a no_terms) t = (holds (is_place a) ⊎ holds (is_function (type_of a))) × (t ≡ Pointer (type_of a))
-ShapeFits f tree.Convert (with_term a no_terms) t = holds (is_void t) ⊎ (holds (is_scalar t) × holds (is_scalar (type_of a)))
+ShapeFits f tree.Address (with_term a no_terms) t =
+    (holds (is_place a) ⊎ holds (is_function (type_of a))) × (t ≡ Pointer (type_of a))
+ShapeFits f tree.Convert (with_term a no_terms) t =
+    holds (is_void t) ⊎ (holds (is_scalar t) × holds (is_scalar (type_of a)))
 ShapeFits f (tree.Unary o) (with_term a no_terms) t = UnaryFits o (type_of a) t
 ShapeFits f (tree.Step adds in_front) (with_term a no_terms) t =
     holds (is_modifiable a) × (t ≡ bare (type_of a)) × (holds (is_integer t) ⊎ PointsToComplete f.program t)
-ShapeFits f (tree.Arithmetic o) (with_term a (with_term b no_terms)) t = IsInt t × OperandsFit o (type_of a) (type_of b) t × ArePromoted (type_of a) (type_of b)
-ShapeFits f (tree.Capability o r) (with_term a (with_term b no_terms)) t = IsCap t × OperandsFit o (type_of a) (type_of b) t × ArePromoted (type_of a) (type_of b)
+ShapeFits f (tree.Arithmetic o) (with_term a (with_term b no_terms)) t =
+    IsInt t × OperandsFit o (type_of a) (type_of b) t × ArePromoted (type_of a) (type_of b)
+ShapeFits f (tree.Capability o r) (with_term a (with_term b no_terms)) t =
+    IsCap t × OperandsFit o (type_of a) (type_of b) t × ArePromoted (type_of a) (type_of b)
 ShapeFits f (tree.Plus minus) (with_term a (with_term b no_terms)) t = SumFits f.program minus (type_of a) (type_of b) t
-ShapeFits f tree.Difference (with_term a (with_term b no_terms)) t = PointsToComplete f.program (type_of a) × PointsToComplete f.program (type_of b) × (t ≡ long)
+ShapeFits f tree.Difference (with_term a (with_term b no_terms)) t =
+    PointsToComplete f.program (type_of a) × PointsToComplete f.program (type_of b) × (t ≡ long)
 ShapeFits f (tree.Compare o) (with_term a (with_term b no_terms)) t =
-    (t ≡ int) × ((holds (is_integer (type_of a)) × (type_of a ≡ type_of b)) ⊎ (holds (is_pointer (type_of a)) × holds (is_pointer (type_of b))))
-ShapeFits f tree.And (with_term a (with_term b no_terms)) t = (t ≡ int) × holds (is_scalar (type_of a)) × holds (is_scalar (type_of b))
-ShapeFits f tree.Or (with_term a (with_term b no_terms)) t = (t ≡ int) × holds (is_scalar (type_of a)) × holds (is_scalar (type_of b))
+    (t ≡ int) × ((holds (is_integer (type_of a)) × (type_of a ≡ type_of b)) ⊎
+    (holds (is_pointer (type_of a)) × holds (is_pointer (type_of b))))
+ShapeFits f tree.And (with_term a (with_term b no_terms)) t =
+    (t ≡ int) × holds (is_scalar (type_of a)) × holds (is_scalar (type_of b))
+ShapeFits f tree.Or (with_term a (with_term b no_terms)) t =
+    (t ≡ int) × holds (is_scalar (type_of a)) × holds (is_scalar (type_of b))
 ShapeFits f tree.Comma (with_term a (with_term b no_terms)) t = t ≡ type_of b
 ShapeFits f tree.Assign (with_term a (with_term b no_terms)) t =
-    holds (is_modifiable a) × (t ≡ bare (type_of a)) × (type_of b ≡ t) × (holds (is_scalar t) ⊎ holds (is_tagged t)) × IsComplete f.program t
-ShapeFits f (tree.Compound o of) (with_term a (with_term b no_terms)) t = holds (is_modifiable a) × (t ≡ bare (type_of a)) × CompoundFits f.program o of (type_of b) t
-ShapeFits f tree.Conditional (with_term a (with_term b (with_term c no_terms))) t = holds (is_scalar (type_of a)) × (type_of b ≡ t) × (type_of c ≡ t)
-ShapeFits f tree.Call (with_term g xs) t = (r : Ty) × (ps : Tys) × (type_of g ≡ Pointer (Function r ps)) × ArgumentsFit ps xs × (t ≡ bare r)
-ShapeFits f (tree.Library k) xs t = (s : Service) × (slice_get services k ≡ Some s) × AllAskedFit s.takes xs × (t ≡ given_type s.gives (list_of xs))
+    holds (is_modifiable a) × (t ≡ bare (type_of a)) × (type_of b ≡ t) × (holds (is_scalar t) ⊎ holds (is_tagged t)) ×
+    IsComplete f.program t
+ShapeFits f (tree.Compound o of) (with_term a (with_term b no_terms)) t =
+    holds (is_modifiable a) × (t ≡ bare (type_of a)) × CompoundFits f.program o of (type_of b) t
+ShapeFits f tree.Conditional (with_term a (with_term b (with_term c no_terms))) t =
+    holds (is_scalar (type_of a)) × (type_of b ≡ t) × (type_of c ≡ t)
+ShapeFits f tree.Call (with_term g xs) t =
+    (r : Ty) × (ps : Tys) × (type_of g ≡ Pointer (Function r ps)) × ArgumentsFit ps xs × (t ≡ bare r)
+ShapeFits f (tree.Library k) xs t =
+    (s : Service) × (slice_get services k ≡ Some s) × AllAskedFit s.takes xs × (t ≡ given_type s.gives (list_of xs))
 ShapeFits f n xs t = ⊥
 
 unfoldable mutual
@@ -187,7 +215,8 @@ WholeFits f v offset t = v.simple ≡ true → (offset ≡ 0) × (t ≡ bare (ty
 -- a value of a type at an offset lies in a variable
 abbrev pub InitFits : Frame → ℕ → ℕ → Ty → Type 0
 InitFits f var offset t =
-    (v : VarDef) × (x y : Extent) × (slice_get f.vars var ≡ Some v) × HasExtent f.program (type_in f.program v.of) x × HasExtent f.program t y × (offset + y.size ≤ x.size)
+    (v : VarDef) × (x y : Extent) × (slice_get f.vars var ≡ Some v) × HasExtent f.program (type_in f.program v.of) x ×
+    HasExtent f.program t y × (offset + y.size ≤ x.size)
     × WholeFits f v offset t
 
 abbrev pub AreVars : Frame → List ℕ → Type 0
@@ -221,7 +250,8 @@ FormFits f i tree.If xs n = IsTest xs × ((n ≡ 1) ⊎ (n ≡ 2))
 FormFits f i tree.While xs n = IsTest xs × (n ≡ 1)
 FormFits f i tree.Do xs n = IsTest xs × (n ≡ 1)
 FormFits f i (tree.For vars k a b) xs n = AreVars f vars × TestsFit a b xs × (n ≡ k + 1)
-FormFits f i (tree.Switch vars labels) (with_term a no_terms) n = AreVars f vars × holds (is_integer (type_of a)) × (promoted (type_of a) ≡ type_of a) × LabelsFit labels n
+FormFits f i (tree.Switch vars labels) (with_term a no_terms) n =
+    AreVars f vars × holds (is_integer (type_of a)) × (promoted (type_of a) ≡ type_of a) × LabelsFit labels n
 FormFits f i tree.Break no_terms zero = holds i.breakable
 FormFits f i tree.Continue no_terms zero = holds i.loop
 FormFits f i tree.Return no_terms zero = holds (is_void f.gives)
@@ -262,8 +292,8 @@ ParametersFit p no_types vs = Unit {0}
 ParametersFit p (also t ts) (v ∷ vs) = holds (compatible t (in_signature (type_in p v.of))) × ParametersFit p ts vs
 ParametersFit p ts vs = ⊥
 
--- A function: its parameters come first and are the type's, each other variable is declared in one block, each has a complete type, and a
--- variable that is no object has a scalar type
+-- A function: its parameters come first and are the type's, each other variable is declared in one block, each has a
+-- complete type, and a variable that is no object has a scalar type
 pub record FunctionFits (p : Typed) (f : FunDef) : Type 0 where
   pub result : Ty
   pub takes : Tys
@@ -272,17 +302,23 @@ pub record FunctionFits (p : Typed) (f : FunDef) : Type 0 where
   pub params_count : length f.params ≡ count takes
   pub params_fit : ParametersFit p takes f.vars
   pub vars_complete : (k : ℕ) (v : VarDef) → slice_get f.vars k ≡ Some v → IsComplete p (type_in p v.of)
-  pub simple_scalar : (k : ℕ) (v : VarDef) → slice_get f.vars k ≡ Some v → v.simple ≡ true → holds (is_scalar (bare (type_in p v.of)))
-  pub declared_once : (k : ℕ) → length f.params ≤ k → k < length f.vars → times_in k (declared (action_at (actions_of p) f.body)) ≡ 1
-  pub body : ActionFits (record { program = p; vars = f.vars; gives = bare result }) outside (action_at (actions_of p) f.body)
+  pub simple_scalar : (k : ℕ) (v : VarDef) → slice_get f.vars k ≡ Some v → v.simple ≡ true →
+      holds (is_scalar (bare (type_in p v.of)))
+  pub declared_once : (k : ℕ) → length f.params ≤ k → k < length f.vars →
+      times_in k (declared (action_at (actions_of p) f.body)) ≡ 1
+  pub body : ActionFits (record { program = p; vars = f.vars; gives = bare result }) outside
+      (action_at (actions_of p) f.body)
 
 -- the bytes that a target owns; a function has none of its own
 abbrev pub OwnsBytes : Typed → Target → ℕ → Type 0
-OwnsBytes p (targets.Global k) n = (g : GlobalDef) × (x : Extent) × (slice_get p.globals k ≡ Some g) × HasExtent p (type_in p g.of) x × (n ≡ owned x.size)
+OwnsBytes p (targets.Global k) n =
+    (g : GlobalDef) × (x : Extent) × (slice_get p.globals k ≡ Some g) × HasExtent p (type_in p g.of) x ×
+    (n ≡ owned x.size)
 OwnsBytes p (targets.Literal k) n = (l : Literal) × (slice_get p.literals k ≡ Some l) × (n ≡ owned (length l.bytes))
 OwnsBytes p (targets.Fun k) n = (k < length p.funs) × (n ≡ 0)
 
--- An initial pointer lies in the bytes of its object, and its bounds, which are exact, in its target; its address is near them
+-- An initial pointer lies in the bytes of its object, and its bounds, which are exact, in its target; its address is
+-- near them
 pub record LinkFits (p : Typed) (size : ℕ) (l : Link) : Type 0 where
   pub inside : l.at + 16 ≤ size
   pub aligned : l.at % 16 ≡ 0

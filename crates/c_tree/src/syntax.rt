@@ -1,5 +1,5 @@
-//! A C file as it is written: what its tokens are to the grammar, and the tree that they make (C11 6.5 to 6.9). The nodes of a
-//! tree stand in a list, and name each other by their numbers there, counted from 0.
+//! A C file as it is written: what its tokens are to the grammar, and the tree that they make (C11 6.5 to 6.9). The
+//! nodes of a tree stand in a list, and name each other by their numbers there, counted from 0.
 
 use crate::typed::UnaryOp;
 use ck_base::{Pos, Sequence, Span};
@@ -280,8 +280,8 @@ pub enum NodeKind {
 #[derive(Debug, Drop)]
 pub struct Node {
     pub kind: NodeKind,
-    /// The place of its own token: its operator, its word, its name or its opening bracket. Where it has none, it is that of
-    /// its first token.
+    /// The place of its own token: its operator, its word, its name or its opening bracket. Where it has none, it is
+    /// that of its first token.
     pub pos: Pos,
     /// The place of the first token of the whole construct.
     pub first: Pos,

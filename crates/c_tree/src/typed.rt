@@ -1,5 +1,5 @@
-//! A program whose types are known. Types, globals, literals, functions, expressions and statements stand in lists, and name each
-//! other by their numbers there, counted from 0.
+//! A program whose types are known. Types, globals, literals, functions, expressions and statements stand in lists, and
+//! name each other by their numbers there, counted from 0.
 
 use ck_base::{Pos, Sequence, Span};
 use ck_int::{CmpOp, IntKind, IntOp};
@@ -139,10 +139,11 @@ pub enum ExprKind {
     Unary(UnaryOp, u32),
     /// An operation on integers of one type, or a shift.
     Int(IntOp, u32, u32),
-    /// An operation on capability integers. The result derives from the right operand where the truth value says so, else
-    /// from the left one.
+    /// An operation on capability integers. The result derives from the right operand where the truth value says so,
+    /// else from the left one.
     Capability(IntOp, u32, u32, bool),
-    /// A pointer and an integer, in the order of the source; the truth value says that the integer is taken from the pointer.
+    /// A pointer and an integer, in the order of the source; the truth value says that the integer is taken from the
+    /// pointer.
     Plus(u32, u32, bool),
     /// The difference of two pointers.
     Difference(u32, u32),
@@ -155,8 +156,8 @@ pub enum ExprKind {
     Assign(u32, u32),
     /// An operation, a place, a right operand, and the number of the type in which the result is computed.
     Compound(IntOp, u32, u32, u32),
-    /// A place that is moved by one: up where the first truth value says so, else down; the expression has the new value
-    /// where the second says that the operator stands in front, else the old one.
+    /// A place that is moved by one: up where the first truth value says so, else down; the expression has the new
+    /// value where the second says that the operator stands in front, else the old one.
     Step(u32, bool, bool),
     /// What is called, and the arguments.
     Call(u32, Sequence<u32>),

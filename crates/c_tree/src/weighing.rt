@@ -58,9 +58,9 @@ fn funs_weight(funs: &[FunDef]) -> u64
     total
 }
 
-/// The weight of a program, which bounds the size of its code: 1 for each expression, but 4 for a call; 1 for each statement,
-/// each label of a `switch`, each parameter and each other local; and 8 for each function. A weight of 2^64 or more is
-/// 2^64 - 1 here.
+/// The weight of a program, which bounds the size of its code: 1 for each expression, but 4 for a call; 1 for each
+/// statement, each label of a `switch`, each parameter and each other local; and 8 for each function. A weight of 2^64
+/// or more is 2^64 - 1 here.
 #[tactic(auto, unfolding(crate::specs::Weight::weight))]
 pub fn weight(p: &Typed) -> u64
     ensures { result ≡ counted (weight p.now) }

@@ -1,5 +1,6 @@
 -- A name is bound in a map.
-use Rattle.std.proofs.Common.{◌≡◌, ℕ, zero, suc, ◌-◌, ◌≤◌, ◌++◌, length, set, take, get_or, arith, Bool, true, false, cond, List, [], ◌∷◌, Option, Some, None, Bor, refl, sym, ap, subst, ◌∙◌}
+use Rattle.std.proofs.Common.{◌≡◌, ℕ, zero, suc, ◌-◌, ◌≤◌, ◌++◌, length, set, take, get_or, arith, Bool, true, false}
+use Rattle.std.proofs.Common.{cond, List, [], ◌∷◌, Option, Some, None, Bor, refl, sym, ap, subst, ◌∙◌}
 use Rattle.std.specs.Prelude.{bytes_eq}
 use Rattle.std.specs.Map.{lookup}
 use Rattle.std.proofs.lemmas.Slice.Eq.{bytes_eq-Decides}
@@ -45,16 +46,23 @@ bytes_sym xs ys = both (bytes_eq xs ys) (bytes_eq ys xs) refl refl
     both false true e f = absurd (false≢true (sym e ∙ ap (λ zs. bytes_eq xs zs) (bytes_same ys xs f) ∙ bytes_refl xs))
     both false false e f = e ∙ sym f
 
-pub lookup_insert : {X : Type 0} (es : List (Bor (List ℕ) × X)) (k : Bor (List ℕ)) (v : X) (n : List ℕ) → lookup (λ x. bytes_eq n x.now) (insert_entry (λ x y. bytes_eq x.now y.now) es k v) ≡ cond (bytes_eq k.now n) (Some v) (lookup (λ x. bytes_eq n x.now) es)
+pub lookup_insert : {X : Type 0} (es : List (Bor (List ℕ) × X)) (k : Bor (List ℕ)) (v : X) (n : List ℕ) →
+    lookup (λ x. bytes_eq n x.now) (insert_entry (λ x y. bytes_eq x.now y.now) es k v)
+    ≡ cond (bytes_eq k.now n) (Some v) (lookup (λ x. bytes_eq n x.now) es)
 lookup_insert {X = X} [] k v n = ap (λ b. cond {A = Option X} b (Some v) None) (bytes_sym n k.now)
-lookup_insert {X = X} (e ∷ es) k v n = by_key (bytes_eq k.now e.0.now) (bytes_eq n e.0.now) refl refl (lookup_insert es k v n)
+lookup_insert {X = X} (e ∷ es) k v n =
+    by_key (bytes_eq k.now e.0.now) (bytes_eq n e.0.now) refl refl (lookup_insert es k v n)
   where
     found : List (Bor (List ℕ) × X) → Option X
     found = lookup (λ x. bytes_eq n x.now)
 
-    by_key : (a b : Bool) → bytes_eq k.now e.0.now ≡ a → bytes_eq n e.0.now ≡ b → found (insert_entry (λ x y. bytes_eq x.now y.now) es k v) ≡ cond (bytes_eq k.now n) (Some v) (found es) → found (cond a ((e.0, v) ∷ es) (e ∷ insert_entry (λ x y. bytes_eq x.now y.now) es k v)) ≡ cond (bytes_eq k.now n) (Some v) (found (e ∷ es))
+    by_key : (a b : Bool) → bytes_eq k.now e.0.now ≡ a → bytes_eq n e.0.now ≡ b →
+        found (insert_entry (λ x y. bytes_eq x.now y.now) es k v) ≡ cond (bytes_eq k.now n) (Some v) (found es) →
+        found (cond a ((e.0, v) ∷ es) (e ∷ insert_entry (λ x y. bytes_eq x.now y.now) es k v))
+        ≡ cond (bytes_eq k.now n) (Some v) (found (e ∷ es))
     by_key true b p q r =
-        let same : bytes_eq n e.0.now ≡ bytes_eq k.now n = bytes_sym n e.0.now ∙ ap (λ zs. bytes_eq zs n) (sym (bytes_same k.now e.0.now p)) in
+        let same : bytes_eq n e.0.now ≡ bytes_eq k.now n =
+        bytes_sym n e.0.now ∙ ap (λ zs. bytes_eq zs n) (sym (bytes_same k.now e.0.now p)) in
         at_once (bytes_eq n e.0.now) (bytes_eq k.now n) same
       where
         at_once : (c d : Bool) → c ≡ d → cond c (Some v) (found es) ≡ cond d (Some v) (cond c (Some e.1) (found es))
@@ -70,30 +78,41 @@ lookup_insert {X = X} (e ∷ es) k v n = by_key (bytes_eq k.now e.0.now) (bytes_
 -- ---- a scope with one more name
 
 module _ {A B C : Type 0} (f : A → C) (g : B → C) where
-  bound_alike : (t : Bool) (a : A) (b : B) (o : Option A) (q : Option B) → f a ≡ g b → option_map f o ≡ option_map g q → option_map f (cond t (Some a) o) ≡ option_map g (cond t (Some b) q)
+  bound_alike : (t : Bool) (a : A) (b : B) (o : Option A) (q : Option B) → f a ≡ g b → option_map f o ≡ option_map g q →
+      option_map f (cond t (Some a) o) ≡ option_map g (cond t (Some b) q)
   bound_alike true a b o q e h = ap (λ x. Some x) e
   bound_alike false a b o q e h = h
 
-pub scope_bound : (ts : List Ty) (k : ℕ) (c d : Scope) (m : meant.Scope) (name : List ℕ) (e : Entity) (x : meant.Entity) → ((n : List ℕ) → name_in d n ≡ cond (bytes_eq name n) (Some e) (name_in c n)) → ((n : List ℕ) → tag_in d n ≡ tag_in c n) → entity_kept ts e ≡ entity_seen x → ShowsScope ts k c m → ShowsScope ts k d (record m { names = record { name = name; is = x } ∷ m.names })
+pub scope_bound : (ts : List Ty) (k : ℕ) (c d : Scope) (m : meant.Scope) (name : List ℕ) (e : Entity)
+    (x : meant.Entity) → ((n : List ℕ) → name_in d n ≡ cond (bytes_eq name n) (Some e) (name_in c n)) →
+    ((n : List ℕ) → tag_in d n ≡ tag_in c n) → entity_kept ts e ≡ entity_seen x → ShowsScope ts k c m →
+    ShowsScope ts k d (record m { names = record { name = name; is = x } ∷ m.names })
 scope_bound ts k c d m name e x b t i h = record {
-  names = λ n. ap (option_map (entity_kept ts)) (b n) ∙ bound_alike (entity_kept ts) entity_seen (bytes_eq name n) e x (name_in c n) (find_in m.names n) i (h.names n);
+  names = λ n. ap (option_map (entity_kept ts)) (b n)
+      ∙ bound_alike (entity_kept ts) entity_seen (bytes_eq name n) e x (name_in c n) (find_in m.names n) i (h.names n);
   tags = λ n. ap (option_map tagging_of) (t n) ∙ h.tags n;
   there = λ n j g. h.there n j (sym (t n) ∙ g);
 }
 
-pub scope_tagged : (ts : List Ty) (k : ℕ) (c d : Scope) (m : meant.Scope) (name : List ℕ) (e : Tagging) → Numbered k (tagging_of e) → ((n : List ℕ) → tag_in d n ≡ cond (bytes_eq name n) (Some e) (tag_in c n)) → ((n : List ℕ) → name_in d n ≡ name_in c n) → ShowsScope ts k c m → ShowsScope ts k d (record m { tags = record { name = name; is = tagging_of e } ∷ m.tags })
+pub scope_tagged : (ts : List Ty) (k : ℕ) (c d : Scope) (m : meant.Scope) (name : List ℕ) (e : Tagging) →
+    Numbered k (tagging_of e) → ((n : List ℕ) → tag_in d n ≡ cond (bytes_eq name n) (Some e) (tag_in c n)) →
+    ((n : List ℕ) → name_in d n ≡ name_in c n) → ShowsScope ts k c m →
+    ShowsScope ts k d (record m { tags = record { name = name; is = tagging_of e } ∷ m.tags })
 scope_tagged ts k c d m name e l b t h = record {
   names = λ n. ap (option_map (entity_kept ts)) (t n) ∙ h.names n;
   tags = λ n. ap (option_map tagging_of) (b n) ∙ by_test (bytes_eq name n) (tag_in c n) (find_in m.tags n) (h.tags n);
   there = λ n j g. numbered (bytes_eq name n) (tag_in c n) j (h.there n j) (sym (b n) ∙ g);
 }
   where
-    by_test : (u : Bool) (o : Option Tagging) (q : Option meant.Tagging) → option_map tagging_of o ≡ q → option_map tagging_of (cond u (Some e) o) ≡ cond u (Some (tagging_of e)) q
+    by_test : (u : Bool) (o : Option Tagging) (q : Option meant.Tagging) → option_map tagging_of o ≡ q →
+        option_map tagging_of (cond u (Some e) o) ≡ cond u (Some (tagging_of e)) q
     by_test true o q z = refl
     by_test false o q z = z
 
-    numbered : (u : Bool) (o : Option Tagging) (j : ℕ) → (o ≡ Some (Recorded j) → j < k) → cond u (Some e) o ≡ Some (Recorded j) → j < k
-    numbered true o j z g = let w : Numbered k (tagging_of (Recorded j)) = subst (λ y. Numbered k (tagging_of y)) (same_Some _ _ g) l in w
+    numbered : (u : Bool) (o : Option Tagging) (j : ℕ) → (o ≡ Some (Recorded j) → j < k) →
+        cond u (Some e) o ≡ Some (Recorded j) → j < k
+    numbered true o j z g =
+        let w : Numbered k (tagging_of (Recorded j)) = subst (λ y. Numbered k (tagging_of y)) (same_Some _ _ g) l in w
     numbered false o j z g = z g
 
 -- ---- the innermost scope
@@ -104,20 +123,28 @@ last_set (x ∷ []) zero d e = refl
 last_set (x ∷ y ∷ xs) zero d e = absurd (omega arith)
 last_set (x ∷ xs) (suc n) d e = ap (λ ys. x ∷ ys) (last_set xs n d (omega arith))
 
-innermost_changed : (ts : List Ty) (k : ℕ) (cs : List Scope) (c d : Scope) (f : meant.Scope → meant.Scope) (ms : List meant.Scope) → ((m : meant.Scope) → ShowsScope ts k c m → ShowsScope ts k d (f m)) → ShowScopes ts k (c ∷ cs) ms → ShowScopes ts k (d ∷ cs) (in_innermost f ms)
+innermost_changed : (ts : List Ty) (k : ℕ) (cs : List Scope) (c d : Scope) (f : meant.Scope → meant.Scope)
+    (ms : List meant.Scope) → ((m : meant.Scope) → ShowsScope ts k c m → ShowsScope ts k d (f m)) →
+    ShowScopes ts k (c ∷ cs) ms → ShowScopes ts k (d ∷ cs) (in_innermost f ms)
 innermost_changed ts k cs c d f [] g h = absurd h
 innermost_changed ts k cs c d f (m ∷ ms) g h = (g m h.0, h.1)
 
 -- the innermost scope changes, and the others stay
-pub scopes_changed : (ts : List Ty) (k : ℕ) (items : List Scope) (n : ℕ) (c d : Scope) (f : meant.Scope → meant.Scope) (ms : List meant.Scope) → 0 < n → n ≡ length items → c ≡ get_or items (n - 1) c → ((m : meant.Scope) → ShowsScope ts k c m → ShowsScope ts k d (f m)) → ShowScopes ts k (reverse items) ms → ShowScopes ts k (reverse (set items (n - 1) d)) (in_innermost f ms)
+pub scopes_changed : (ts : List Ty) (k : ℕ) (items : List Scope) (n : ℕ) (c d : Scope) (f : meant.Scope → meant.Scope)
+    (ms : List meant.Scope) → 0 < n → n ≡ length items → c ≡ get_or items (n - 1) c →
+    ((m : meant.Scope) → ShowsScope ts k c m → ShowsScope ts k d (f m)) → ShowScopes ts k (reverse items) ms →
+    ShowScopes ts k (reverse (set items (n - 1) d)) (in_innermost f ms)
 scopes_changed ts k items zero c d f ms p l e g h = absurd (omega arith)
 scopes_changed ts k items (suc n) c d f ms p l e g h =
     let z : suc n - 1 ≡ n = omega arith in
-    let a : reverse items ≡ c ∷ reverse (take n items) = sym (reversed_whole items (suc n) l) ∙ (rw z at (reversed_turn items (suc n) c p (omega arith) e)) in
-    let b : reverse (set items n d) ≡ d ∷ reverse (take n items) = ap reverse (last_set items n d l) ∙ reverse-append (take n items) (d ∷ []) in
+    let a : reverse items ≡ c ∷ reverse (take n items) =
+    sym (reversed_whole items (suc n) l) ∙ (rw z at (reversed_turn items (suc n) c p (omega arith) e)) in
+    let b : reverse (set items n d) ≡ d ∷ reverse (take n items) =
+    ap reverse (last_set items n d l) ∙ reverse-append (take n items) (d ∷ []) in
     rw (z, b) (innermost_changed ts k (reverse (take n items)) c d f ms g (rw a at h))
 
-pub none_changed : (ts : List Ty) (k : ℕ) (items : List Scope) (f : meant.Scope → meant.Scope) (ms : List meant.Scope) → length items ≤ 0 → ShowScopes ts k (reverse items) ms → ShowScopes ts k (reverse items) (in_innermost f ms)
+pub none_changed : (ts : List Ty) (k : ℕ) (items : List Scope) (f : meant.Scope → meant.Scope) (ms : List meant.Scope) →
+    length items ≤ 0 → ShowScopes ts k (reverse items) ms → ShowScopes ts k (reverse items) (in_innermost f ms)
 none_changed ts k [] f [] le h = h
 none_changed ts k [] f (m ∷ ms) le h = absurd h
 none_changed ts k (c ∷ cs) f ms le h = absurd (omega arith)
@@ -134,21 +161,36 @@ in_innermost_same : (ms : List meant.Scope) → in_innermost (λ m. m) ms ≡ ms
 in_innermost_same [] = refl
 in_innermost_same (m ∷ ms) = refl
 
-pub bound_stands : (sc : Scopes) (v : Vec Scope) (p : Typed) (s : State) (n : ℕ) (c d : Scope) (name : List ℕ) (e : Entity) (x : meant.Entity) → Stands sc p s → 0 < n → n ≡ length sc.scopes.items → c ≡ get_or sc.scopes.items (n - 1) c → v.items ≡ set sc.scopes.items (n - 1) d → ((k : List ℕ) → name_in d k ≡ cond (bytes_eq name k) (Some e) (name_in c k)) → ((k : List ℕ) → tag_in d k ≡ tag_in c k) → entity_kept (types_of p.types) e ≡ entity_seen x → Stands (record sc { scopes = v }) p (bind_name name x s)
+pub bound_stands : (sc : Scopes) (v : Vec Scope) (p : Typed) (s : State) (n : ℕ) (c d : Scope) (name : List ℕ)
+    (e : Entity) (x : meant.Entity) → Stands sc p s → 0 < n → n ≡ length sc.scopes.items →
+    c ≡ get_or sc.scopes.items (n - 1) c → v.items ≡ set sc.scopes.items (n - 1) d →
+    ((k : List ℕ) → name_in d k ≡ cond (bytes_eq name k) (Some e) (name_in c k)) →
+    ((k : List ℕ) → tag_in d k ≡ tag_in c k) → entity_kept (types_of p.types) e ≡ entity_seen x →
+    Stands (record sc { scopes = v }) p (bind_name name x s)
 bound_stands sc v p s n c d name e x h lt l g w b t i =
     let ts = types_of p.types in
     let k = length sc.tags.items in
     stands_scopes sc v p s (in_innermost (with_name name x) s.scopes) h
-    (rw w (scopes_changed ts k sc.scopes.items n c d (with_name name x) s.scopes lt l g (λ m q. scope_bound ts k c d m name e x b t i q) h.scopes))
+    (rw w (scopes_changed ts k sc.scopes.items n c d (with_name name x) s.scopes lt l g
+    (λ m q. scope_bound ts k c d m name e x b t i q) h.scopes))
 
-pub tagged_stands : (sc : Scopes) (v : Vec Scope) (p : Typed) (s : State) (n : ℕ) (c d : Scope) (name : List ℕ) (e : Tagging) → Stands sc p s → 0 < n → n ≡ length sc.scopes.items → c ≡ get_or sc.scopes.items (n - 1) c → v.items ≡ set sc.scopes.items (n - 1) d → ((k : List ℕ) → tag_in d k ≡ cond (bytes_eq name k) (Some e) (tag_in c k)) → ((k : List ℕ) → name_in d k ≡ name_in c k) → Numbered (length sc.tags.items) (tagging_of e) → Stands (record sc { scopes = v }) p (bind_tag name (tagging_of e) s)
+pub tagged_stands : (sc : Scopes) (v : Vec Scope) (p : Typed) (s : State) (n : ℕ) (c d : Scope) (name : List ℕ)
+    (e : Tagging) → Stands sc p s → 0 < n → n ≡ length sc.scopes.items → c ≡ get_or sc.scopes.items (n - 1) c →
+    v.items ≡ set sc.scopes.items (n - 1) d →
+    ((k : List ℕ) → tag_in d k ≡ cond (bytes_eq name k) (Some e) (tag_in c k)) →
+    ((k : List ℕ) → name_in d k ≡ name_in c k) → Numbered (length sc.tags.items) (tagging_of e) →
+    Stands (record sc { scopes = v }) p (bind_tag name (tagging_of e) s)
 tagged_stands sc v p s n c d name e h lt l g w b t i =
     let ts = types_of p.types in
     let k = length sc.tags.items in
     stands_scopes sc v p s (in_innermost (with_tag name (tagging_of e)) s.scopes) h
-    (rw w (scopes_changed ts k sc.scopes.items n c d (with_tag name (tagging_of e)) s.scopes lt l g (λ m q. scope_tagged ts k c d m name e i b t q) h.scopes))
+    (rw w (scopes_changed ts k sc.scopes.items n c d (with_tag name (tagging_of e)) s.scopes lt l g
+    (λ m q. scope_tagged ts k c d m name e i b t q) h.scopes))
 
-pub alike_stands : (sc : Scopes) (v : Vec Scope) (p : Typed) (s : State) (n : ℕ) (c d : Scope) → Stands sc p s → 0 < n → n ≡ length sc.scopes.items → c ≡ get_or sc.scopes.items (n - 1) c → v.items ≡ set sc.scopes.items (n - 1) d → ((k : List ℕ) → name_in d k ≡ name_in c k) → ((k : List ℕ) → tag_in d k ≡ tag_in c k) → Stands (record sc { scopes = v }) p s
+pub alike_stands : (sc : Scopes) (v : Vec Scope) (p : Typed) (s : State) (n : ℕ) (c d : Scope) → Stands sc p s → 0 < n →
+    n ≡ length sc.scopes.items → c ≡ get_or sc.scopes.items (n - 1) c → v.items ≡ set sc.scopes.items (n - 1) d →
+    ((k : List ℕ) → name_in d k ≡ name_in c k) → ((k : List ℕ) → tag_in d k ≡ tag_in c k) →
+    Stands (record sc { scopes = v }) p s
 alike_stands sc v p s n c d h lt l g w b t =
     let ts = types_of p.types in
     let k = length sc.tags.items in
@@ -164,19 +206,24 @@ alike_stands sc v p s n c d h lt l g w b t =
 
 -- ---- enumeration constants
 
-found_bound : (ms : List meant.Scope) (name : List ℕ) (x : meant.Entity) → 0 < length ms → find_in (innermost (in_innermost (with_name name x) ms)).names name ≡ Some x
+found_bound : (ms : List meant.Scope) (name : List ℕ) (x : meant.Entity) → 0 < length ms →
+    find_in (innermost (in_innermost (with_name name x) ms)).names name ≡ Some x
 found_bound [] name x lt = absurd (omega arith)
 found_bound (m ∷ ms) name x lt = rw (bytes_refl name) refl
 
-changed_length : (f : meant.Scope → meant.Scope) (ms : List meant.Scope) → 0 < length (in_innermost f ms) → 0 < length ms
+changed_length : (f : meant.Scope → meant.Scope) (ms : List meant.Scope) → 0 < length (in_innermost f ms) →
+    0 < length ms
 changed_length f [] lt = lt
 changed_length f (m ∷ ms) lt = omega arith
 
 -- a name that was bound denotes that
-pub bound_named : {A : Type 0} (q : Typed) (s : State) (name : List ℕ) (x : meant.Entity) (y : Entry) (a : A) → IsEntity q y x → IsNamed q name y (bind_name name x s) a
+pub bound_named : {A : Type 0} (q : Typed) (s : State) (name : List ℕ) (x : meant.Entity) (y : Entry) (a : A) →
+    IsEntity q y x → IsNamed q name y (bind_name name x s) a
 bound_named q s name x y a h lt = rw (found_bound s.scopes name x (changed_length (with_name name x) s.scopes lt)) h
 
-pub constant_given : (sd : Scopes) (p : Typed) (s : State) (t : Lexeme) (z : ℤ) → is_new s t.text ≡ true → Stands sd p (bind_name t.text (meant.Enumerator z) s) → Given sd p (denoted t (declares_constant t z) s) (IsDenoted p (entries.Constant z))
+pub constant_given : (sd : Scopes) (p : Typed) (s : State) (t : Lexeme) (z : ℤ) → is_new s t.text ≡ true →
+    Stands sd p (bind_name t.text (meant.Enumerator z) s) →
+    Given sd p (denoted t (declares_constant t z) s) (IsDenoted p (entries.Constant z))
 constant_given sd p s t z e h = record {
   value = find_in (innermost (in_innermost (with_name t.text (meant.Enumerator z)) s.scopes)).names t.text;
   state = bind_name t.text (meant.Enumerator z) s;
@@ -185,7 +232,9 @@ constant_given sd p s t z e h = record {
   fits = bound_named {A = ℕ} p s t.text (meant.Enumerator z) (entries.Constant z) 0 refl;
 }
 
-pub constant_fails : (sc : Scopes) (p : Typed) (t : Lexeme) (z : ℤ) → ((s : State) → Stands sc p s → is_new s t.text ≡ false) → Fails sc p sc p (denoted t (declares_constant t z)) 131 t.pos
+pub constant_fails : (sc : Scopes) (p : Typed) (t : Lexeme) (z : ℤ) →
+    ((s : State) → Stands sc p s → is_new s t.text ≡ false) →
+    Fails sc p sc p (denoted t (declares_constant t z)) 131 t.pos
 constant_fails sc p t z f = record {
   refused = λ s h. rw (f s h) refl;
   program = refl;
@@ -193,7 +242,8 @@ constant_fails sc p t z f = record {
 }
 
 -- a name is new where the innermost scope does not keep it
-pub new_name : (ts : List Ty) (o : Option Entity) (q : Option meant.Entity) (b : Bool) → option_map (entity_kept ts) o ≡ option_map entity_seen q → b ≡ is_some o → is_none q ≡ not b
+pub new_name : (ts : List Ty) (o : Option Entity) (q : Option meant.Entity) (b : Bool) →
+    option_map (entity_kept ts) o ≡ option_map entity_seen q → b ≡ is_some o → is_none q ≡ not b
 new_name ts None None b e f = rw f refl
 new_name ts None (Some x) b e f = absurd cc
 new_name ts (Some y) None b e f = absurd cc

@@ -1,5 +1,6 @@
 -- What stays of a program as it goes on.
-use Rattle.std.proofs.Common.{◌≡◌, ℕ, zero, suc, List, [], ◌∷◌, ◌++◌, set, Some, refl, sym, ap, subst, ◌∙◌, arith, length-append}
+use Rattle.std.proofs.Common.{◌≡◌, ℕ, zero, suc, List, [], ◌∷◌, ◌++◌, set, Some, refl, sym, ap, subst, ◌∙◌, arith}
+use Rattle.std.proofs.Common.{length-append}
 use Rattle.std.specs.Prelude.{slice_get}
 use Rattle.std.proofs.lemmas.List.{length-set}
 use Rattle.std.proofs.lemmas.Option.{same_Some, none-some}
@@ -25,13 +26,15 @@ module _ {A : Type 0} (Kept : A → A → Type 0) where
   pub each_same : (xs : List A) → ((x : A) → Kept x x) → EachKept Kept xs xs
   each_same xs r = λ k x e. (x, e, r x)
 
-  pub each_after : (xs ys zs : List A) → ((x y z : A) → Kept x y → Kept y z → Kept x z) → EachKept Kept xs ys → EachKept Kept ys zs → EachKept Kept xs zs
+  pub each_after : (xs ys zs : List A) → ((x y z : A) → Kept x y → Kept y z → Kept x z) → EachKept Kept xs ys →
+      EachKept Kept ys zs → EachKept Kept xs zs
   each_after xs ys zs t a b = λ k x e. let f = a k x e in let g = b k f.0 f.1 in (g.0, g.1, t x f.0 g.0 f.2 g.2)
 
   pub each_pushed : (xs : List A) (y : A) → ((x : A) → Kept x x) → EachKept Kept xs (xs ++ y ∷ [])
   each_pushed xs y r = λ k x e. (x, slice_get-longer xs (y ∷ []) k x e, r x)
 
-  pub each_changed : (f : A → A) (xs : List A) (k : ℕ) → ((x : A) → Kept x x) → ((x : A) → Kept x (f x)) → EachKept Kept xs (changed_at f xs k)
+  pub each_changed : (f : A → A) (xs : List A) (k : ℕ) → ((x : A) → Kept x x) → ((x : A) → Kept x (f x)) →
+      EachKept Kept xs (changed_at f xs k)
   each_changed f [] k r h j y e = absurd (none-some y e)
   each_changed f (x ∷ xs) zero r h zero y e = (f x, refl, subst (λ z. Kept z (f x)) (same_Some x y e) (h x))
   each_changed f (x ∷ xs) zero r h (suc j) y e = (y, e, r y)
@@ -86,11 +89,14 @@ extends_types p q a = record {
   main = ap (λ (x : Typed). x.main) a.rest;
   count = rw a.types (omega (arith, length-append p.types a.added));
   types = λ k lt. ap (λ ts. type_at (types_of ts) k) a.types ∙ type_at-longer p.types a.added k lt;
-  globals = subst (λ gs. EachKept IsSameGlobal p.globals gs) (sym (ap (λ (x : Typed). x.globals) a.rest)) (each_same IsSameGlobal p.globals same_global);
-  funs = subst (λ fs. EachKept IsSameFun p.funs fs) (sym (ap (λ (x : Typed). x.funs) a.rest)) (each_same IsSameFun p.funs same_fun);
+  globals = subst (λ gs. EachKept IsSameGlobal p.globals gs) (sym (ap (λ (x : Typed). x.globals) a.rest))
+      (each_same IsSameGlobal p.globals same_global);
+  funs = subst (λ fs. EachKept IsSameFun p.funs fs) (sym (ap (λ (x : Typed). x.funs) a.rest))
+      (each_same IsSameFun p.funs same_fun);
 }
 
-extends_lists : (p : Typed) (gs : List GlobalDef) (fs : List FunDef) → EachKept IsSameGlobal p.globals gs → EachKept IsSameFun p.funs fs → Extends p (record p { globals = gs; funs = fs })
+extends_lists : (p : Typed) (gs : List GlobalDef) (fs : List FunDef) → EachKept IsSameGlobal p.globals gs →
+    EachKept IsSameFun p.funs fs → Extends p (record p { globals = gs; funs = fs })
 extends_lists p gs fs g f = record {
   exprs = refl;
   stmts = refl;
@@ -102,26 +108,37 @@ extends_lists p gs fs g f = record {
   funs = f;
 }
 
-pub extends_globals : (p : Typed) (gs : List GlobalDef) → EachKept IsSameGlobal p.globals gs → Extends p (record p { globals = gs })
+pub extends_globals : (p : Typed) (gs : List GlobalDef) → EachKept IsSameGlobal p.globals gs →
+    Extends p (record p { globals = gs })
 extends_globals p gs g = extends_lists p gs p.funs g (each_same IsSameFun p.funs same_fun)
 
 pub extends_funs : (p : Typed) (fs : List FunDef) → EachKept IsSameFun p.funs fs → Extends p (record p { funs = fs })
 extends_funs p fs f = extends_lists p p.globals fs (each_same IsSameGlobal p.globals same_global) f
 
-pub global_added : (p : Typed) (gs : List GlobalDef) (x : GlobalDef) → gs ≡ p.globals ++ x ∷ [] → Extends p (record p { globals = gs })
-global_added p gs x e = extends_globals p gs (subst (λ xs. EachKept IsSameGlobal p.globals xs) (sym e) (each_pushed IsSameGlobal p.globals x same_global))
+pub global_added : (p : Typed) (gs : List GlobalDef) (x : GlobalDef) → gs ≡ p.globals ++ x ∷ [] →
+    Extends p (record p { globals = gs })
+global_added p gs x e = extends_globals p gs
+    (subst (λ xs. EachKept IsSameGlobal p.globals xs) (sym e) (each_pushed IsSameGlobal p.globals x same_global))
 
 pub fun_added : (p : Typed) (fs : List FunDef) (x : FunDef) → fs ≡ p.funs ++ x ∷ [] → Extends p (record p { funs = fs })
-fun_added p fs x e = extends_funs p fs (subst (λ xs. EachKept IsSameFun p.funs xs) (sym e) (each_pushed IsSameFun p.funs x same_fun))
+fun_added p fs x e = extends_funs p fs (subst (λ xs. EachKept IsSameFun p.funs xs) (sym e)
+    (each_pushed IsSameFun p.funs x same_fun))
 
-pub global_changed : (p : Typed) (gs : List GlobalDef) (f : GlobalDef → GlobalDef) (k : ℕ) → gs ≡ changed_at f p.globals k → ((x : GlobalDef) → IsSameGlobal x (f x)) → Extends p (record p { globals = gs })
-global_changed p gs f k e h = extends_globals p gs (subst (λ xs. EachKept IsSameGlobal p.globals xs) (sym e) (each_changed IsSameGlobal f p.globals k same_global h))
+pub global_changed : (p : Typed) (gs : List GlobalDef) (f : GlobalDef → GlobalDef) (k : ℕ) →
+    gs ≡ changed_at f p.globals k → ((x : GlobalDef) → IsSameGlobal x (f x)) → Extends p (record p { globals = gs })
+global_changed p gs f k e h =
+    extends_globals p gs (subst (λ xs. EachKept IsSameGlobal p.globals xs) (sym e)
+    (each_changed IsSameGlobal f p.globals k same_global h))
 
-pub fun_changed : (p : Typed) (fs : List FunDef) (f : FunDef → FunDef) (k : ℕ) → fs ≡ changed_at f p.funs k → ((x : FunDef) → IsSameFun x (f x)) → Extends p (record p { funs = fs })
-fun_changed p fs f k e h = extends_funs p fs (subst (λ xs. EachKept IsSameFun p.funs xs) (sym e) (each_changed IsSameFun f p.funs k same_fun h))
+pub fun_changed : (p : Typed) (fs : List FunDef) (f : FunDef → FunDef) (k : ℕ) → fs ≡ changed_at f p.funs k →
+    ((x : FunDef) → IsSameFun x (f x)) → Extends p (record p { funs = fs })
+fun_changed p fs f k e h =
+    extends_funs p fs (subst (λ xs. EachKept IsSameFun p.funs xs) (sym e)
+    (each_changed IsSameFun f p.funs k same_fun h))
 
 -- a struct or union that is not complete gets its members
-pub completed_extends : (p : Typed) (of n : ℕ) (k : RecordKind) (ms : List Member) → slice_get p.types of ≡ Some (Incomplete n) → Extends p (record p { types = set p.types of (completed_type k n ms) })
+pub completed_extends : (p : Typed) (of n : ℕ) (k : RecordKind) (ms : List Member) →
+    slice_get p.types of ≡ Some (Incomplete n) → Extends p (record p { types = set p.types of (completed_type k n ms) })
 completed_extends p of n k ms e = record {
   exprs = refl;
   stmts = refl;

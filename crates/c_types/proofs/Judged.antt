@@ -1,5 +1,6 @@
 -- Tests come before a step.
-use Rattle.std.proofs.Common.{◌≡◌, ℕ, zero, suc, List, Bool, true, false, Result, Ok, Err, refl, sym, ap, ◌∙◌, ◌<◌, ◌≤◌, length, Some, None, arith}
+use Rattle.std.proofs.Common.{◌≡◌, ℕ, zero, suc, List, Bool, true, false, Result, Ok, Err, refl, sym, ap, ◌∙◌, ◌<◌, ◌≤◌}
+use Rattle.std.proofs.Common.{length, Some, None, arith}
 use Rattle.std.specs.Prelude.{nat_eq, not, ◌||◌, ◌&&◌}
 use Rattle.std.proofs.Math.Dec.{eqb-suc-zero}
 use Rattle.std.proofs.lemmas.Option.{slice_get-get_or, slice_get_past}
@@ -23,15 +24,18 @@ use Rattle.c_interner.proofs.Growing.{length-types_of}
 
 -- ---- the tests
 
-pub admits_not : (fits : Bool) (f : Formed) (lacks misfits : Bool) (place : Pos) → fits ≡ false → IsJudged (admits fits f lacks misfits place) (Err (Code 131 place))
+pub admits_not : (fits : Bool) (f : Formed) (lacks misfits : Bool) (place : Pos) → fits ≡ false →
+    IsJudged (admits fits f lacks misfits place) (Err (Code 131 place))
 admits_not fits f lacks misfits place e s = rw e refl
 
-pub admits_then : (fits : Bool) (f : Formed) (lacks misfits : Bool) (place : Pos) (r : Result Unit Refusal) → fits ≡ true → IsJudged (judge f lacks misfits place) r → IsJudged (admits fits f lacks misfits place) r
+pub admits_then : (fits : Bool) (f : Formed) (lacks misfits : Bool) (place : Pos) (r : Result Unit Refusal) →
+    fits ≡ true → IsJudged (judge f lacks misfits place) r → IsJudged (admits fits f lacks misfits place) r
 admits_then fits f lacks misfits place (Ok x) e h = λ s. rw e (h s)
 admits_then fits f lacks misfits place (Err (Code code at)) e h = λ s. rw e (h s)
 admits_then fits f lacks misfits place (Err NoMemory) e h = h
 
-pub steps_after : {A B : Type 0} (d : Doing Unit) (k : Doing A) (f : A → Doing B) (s : State) → ((d >> k) >>= f) s ≡ (d >> (k >>= f)) s
+pub steps_after : {A B : Type 0} (d : Doing Unit) (k : Doing A) (f : A → Doing B) (s : State) →
+    ((d >> k) >>= f) s ≡ (d >> (k >>= f)) s
 steps_after {A} {B} d k f s = by_result (d s)
   where
     by_result : (r : Result (Unit × State) Fault) → continued (continued r (λ a. k)) f ≡ continued r (λ a. k >>= f)
@@ -39,7 +43,10 @@ steps_after {A} {B} d k f s = by_result (d s)
     by_result (Err e) = refl
 
 -- a step that goes on only where the tests pass
-pub admitted : {A : Type 0} (sd : Scopes) (q : Typed) (s : State) (d k : Doing A) (f : Formed) (fits lacks misfits b l m : Bool) (place : Pos) (x : Unit {0}) (Fits : State → A → Type 0) → d s ≡ (admits b f l m place >> k) s → fits ≡ b → lacks ≡ l → misfits ≡ m → IsJudged (admits fits f lacks misfits place) (Ok x) → Given sd q (k s) Fits → Given sd q (d s) Fits
+pub admitted : {A : Type 0} (sd : Scopes) (q : Typed) (s : State) (d k : Doing A) (f : Formed)
+    (fits lacks misfits b l m : Bool) (place : Pos) (x : Unit {0}) (Fits : State → A → Type 0) →
+    d s ≡ (admits b f l m place >> k) s → fits ≡ b → lacks ≡ l → misfits ≡ m →
+    IsJudged (admits fits f lacks misfits place) (Ok x) → Given sd q (k s) Fits → Given sd q (d s) Fits
 admitted sd q s d k f fits lacks misfits b l m place x Fits i u v w h o =
     let e : admits b f l m place s ≡ Ok (tt, s) = rw (← u, ← v, ← w) (h s) in
     record {
@@ -50,15 +57,21 @@ admitted sd q s d k f fits lacks misfits b l m place x Fits i u v w h o =
       fits = o.fits;
     }
 
-pub not_admitted : {A X : Type 0} (sc : Scopes) (p : Typed) (d : Doing A) (k : State → Doing A) (f : Formed) (fits lacks misfits : Bool) (b l m : State → Bool) (place : Pos) (Fits : X → State → A → Type 0) (e : Refusal) → ((s : State) → d s ≡ (admits (b s) f (l s) (m s) place >> k s) s) → ((s : State) → Stands sc p s → fits ≡ b s) → ((s : State) → Stands sc p s → lacks ≡ l s) → ((s : State) → Stands sc p s → misfits ≡ m s) → IsJudged (admits fits f lacks misfits place) (Err e) → Answers sc p sc p d Fits (Err e)
+pub not_admitted : {A X : Type 0} (sc : Scopes) (p : Typed) (d : Doing A) (k : State → Doing A) (f : Formed)
+    (fits lacks misfits : Bool) (b l m : State → Bool) (place : Pos) (Fits : X → State → A → Type 0) (e : Refusal) →
+    ((s : State) → d s ≡ (admits (b s) f (l s) (m s) place >> k s) s) → ((s : State) → Stands sc p s → fits ≡ b s) →
+    ((s : State) → Stands sc p s → lacks ≡ l s) → ((s : State) → Stands sc p s → misfits ≡ m s) →
+    IsJudged (admits fits f lacks misfits place) (Err e) → Answers sc p sc p d Fits (Err e)
 not_admitted sc p d k f fits lacks misfits b l m place Fits (Code code at) i u v w h = record {
-  refused = λ s g. i s ∙ ap (λ r. continued r (λ a. k s)) (let e : admits (b s) f (l s) (m s) place s ≡ Err (record { code = code; place = at }) = rw (← u s g, ← v s g, ← w s g) (h s) in e);
+  refused = λ s g. i s ∙ ap (λ r. continued r (λ a. k s))
+      (let e : admits (b s) f (l s) (m s) place s ≡ Err (record { code = code; place = at }) = rw (← u s g, ← v s g, ← w s g) (h s) in e);
   program = refl;
   keeps = λ s g. g;
 }
 not_admitted sc p d k f fits lacks misfits b l m place Fits NoMemory i u v w h = absurd h
 
-pub numbered_named : (sd : Scopes) (q : Typed) (r : Result (ℕ × State) Fault) (name : List ℕ) (k : ℕ) (x y : Entry) → y ≡ x → Given sd q r (IsNumbered q name k x) → Given sd q r (IsNamed q name y)
+pub numbered_named : (sd : Scopes) (q : Typed) (r : Result (ℕ × State) Fault) (name : List ℕ) (k : ℕ) (x y : Entry) →
+    y ≡ x → Given sd q r (IsNumbered q name k x) → Given sd q r (IsNamed q name y)
 numbered_named sd q r name k x y e g = record {
   value = g.value;
   state = g.state;

@@ -1,5 +1,7 @@
 -- Structs and unions: new ones, and their members.
-use Rattle.std.proofs.Common.{◌≡◌, ℕ, zero, suc, ◌<◌, ◌≤◌, List, [], ◌∷◌, ◌++◌, length, set, take, map, Option, Some, None, Ok, Err, Bool, true, false, refl, sym, ap, subst, ◌∙◌, arith, inl, inr, length-append}
+use Rattle.std.proofs.Common.{◌≡◌, ℕ, zero, suc, ◌<◌, ◌≤◌, List, [], ◌∷◌, ◌++◌, length, set, take, map, Option, Some}
+use Rattle.std.proofs.Common.{None, Ok, Err, Bool, true, false, refl, sym, ap, subst, ◌∙◌, arith, inl, inr}
+use Rattle.std.proofs.Common.{length-append}
 use Rattle.std.specs.Prelude.{◌⊎◌, slice_get, option_map, reverse, nat_le}
 use Rattle.std.specs.Global.{Vec}
 use Rattle.std.proofs.lemmas.List.{map_push, map-set, length-set, append-nil}
@@ -25,12 +27,14 @@ use Rattle.c_tree.specs.Types as types
 use Rattle.c_tree.specs.Types.{Ty, Tagged}
 use Rattle.c_tree.specs.Views.{grow, type_from, type_at, types_of}
 use Rattle.c_tree.specs.Scopes.{State, TagState, Part, changed_at, with_changed, type_extent, extent_size}
-use Rattle.c_tree.specs.Declarators.{is_begun, begin_tag, complete_tag, completed, members_extent, record_extent, kind_at, has_kind, same_record}
+use Rattle.c_tree.specs.Declarators.{is_begun, begin_tag, complete_tag, completed, members_extent, record_extent}
+use Rattle.c_tree.specs.Declarators.{kind_at, has_kind, same_record}
 use Rattle.c_types.specs.declared.rooms.Room.{Room}
 use Rattle.c_types.specs.declared.scopes.TagInfo.{TagInfo}
 use Rattle.c_types.specs.declared.scopes.Scopes.{Scopes}
 use Rattle.c_interner.specs.Numbers.{AddsTypes}
-use Rattle.c_types.specs.Stands.{Stands, SeenTag, ShowScopes, tag_seen, tag_kept, part_seen, member_kept, members_kept, named}
+use Rattle.c_types.specs.Stands.{Stands, SeenTag, ShowScopes, tag_seen, tag_kept, part_seen, member_kept, members_kept}
+use Rattle.c_types.specs.Stands.{named}
 use Rattle.c_types.specs.Calls.{Given, Fails, HasParts}
 use Rattle.c_interner.proofs.Growing.{types_of-push, length-types_of, type_at-level}
 use Rattle.c_types.proofs.Growth.{scopes_more, stands_more}
@@ -38,7 +42,8 @@ use Rattle.c_types.proofs.Looking.{seen_at}
 
 -- ---- lists
 
-pub seen_none : {A B C : Type 0} (f : A → C) (g : B → C) (xs : List A) (ys : List B) (k : ℕ) → map f xs ≡ map g ys → slice_get xs k ≡ None → slice_get ys k ≡ None
+pub seen_none : {A B C : Type 0} (f : A → C) (g : B → C) (xs : List A) (ys : List B) (k : ℕ) → map f xs ≡ map g ys →
+    slice_get xs k ≡ None → slice_get ys k ≡ None
 seen_none f g [] [] k e h = refl
 seen_none f g [] (b ∷ ys) k e h = absurd cc
 seen_none f g (a ∷ xs) [] k e h = refl
@@ -49,7 +54,8 @@ pub slice_get-push : {A : Type 0} (xs : List A) (x : A) → slice_get (xs ++ x �
 slice_get-push [] x = refl
 slice_get-push (a ∷ xs) x = slice_get-push xs x
 
-pub push_cases : {A : Type 0} (xs : List A) (x y : A) (k : ℕ) → slice_get (xs ++ x ∷ []) k ≡ Some y → (slice_get xs k ≡ Some y) ⊎ ((k ≡ length xs) × (x ≡ y))
+pub push_cases : {A : Type 0} (xs : List A) (x y : A) (k : ℕ) → slice_get (xs ++ x ∷ []) k ≡ Some y →
+    (slice_get xs k ≡ Some y) ⊎ ((k ≡ length xs) × (x ≡ y))
 push_cases [] x y zero e = inr (refl, same_Some x y e)
 push_cases [] x y (suc k) e = absurd (none-some y e)
 push_cases (a ∷ xs) x y zero e = inl e
@@ -59,7 +65,8 @@ push_cases (a ∷ xs) x y (suc k) e =
       | inr h ↦ inr (ap suc h.0, h.1)
     ]
 
-pub set_cases : {A : Type 0} (xs : List A) (n : ℕ) (x y : A) (k : ℕ) → slice_get (set xs n x) k ≡ Some y → (slice_get xs k ≡ Some y) ⊎ ((k ≡ n) × (x ≡ y))
+pub set_cases : {A : Type 0} (xs : List A) (n : ℕ) (x y : A) (k : ℕ) → slice_get (set xs n x) k ≡ Some y →
+    (slice_get xs k ≡ Some y) ⊎ ((k ≡ n) × (x ≡ y))
 set_cases [] n x y k e = inl e
 set_cases (a ∷ xs) zero x y zero e = inr (refl, same_Some x y e)
 set_cases (a ∷ xs) zero x y (suc k) e = inl e
@@ -76,9 +83,13 @@ set_cases (a ∷ xs) (suc n) x y (suc k) e =
 abbrev pub HaveTypes : List Ty → List TagInfo → Type 0
 HaveTypes ts is = (n : ℕ) (i : TagInfo) → slice_get is n ≡ Some i → named ts i.of ≡ Some (Tagged n)
 
-pub stands_tags : (sc : Scopes) (v : Vec TagInfo) (p : Typed) (s : State) (ms : List TagState) → Stands sc p s → length sc.tags.items ≤ length v.items → map (tag_kept p.types (types_of p.types)) v.items ≡ map tag_seen ms → HaveTypes (types_of p.types) v.items → Stands (record sc { tags = v }) p (record s { tags = ms })
+pub stands_tags : (sc : Scopes) (v : Vec TagInfo) (p : Typed) (s : State) (ms : List TagState) → Stands sc p s →
+    length sc.tags.items ≤ length v.items → map (tag_kept p.types (types_of p.types)) v.items ≡ map tag_seen ms →
+    HaveTypes (types_of p.types) v.items → Stands (record sc { tags = v }) p (record s { tags = ms })
 stands_tags sc v p s ms h le e t = record {
-  scopes = subst (λ x. ShowScopes x (length v.items) (reverse sc.scopes.items) s.scopes) (append-nil (types_of p.types)) (scopes_more (types_of p.types) [] (length sc.tags.items) (length v.items) (reverse sc.scopes.items) s.scopes le h.scopes);
+  scopes = subst (λ x. ShowScopes x (length v.items) (reverse sc.scopes.items) s.scopes) (append-nil (types_of p.types))
+      (scopes_more (types_of p.types) [] (length sc.tags.items) (length v.items)
+      (reverse sc.scopes.items) s.scopes le h.scopes);
   tags = e;
   tag_types = t;
   objects = h.objects;
@@ -95,16 +106,25 @@ stands_tags sc v p s ms h le e t = record {
 abbrev pub no_tag : RecordKind → TagState
 no_tag k = record { kind = k; begun = false; members = None; extent = None }
 
-pub stands_new_tag : (sc : Scopes) (v : Vec TagInfo) (p q : Typed) (s : State) (k : RecordKind) (n of : ℕ) → Stands sc p s → AddsTypes p q → q.types ≡ p.types ++ ctypes.Incomplete n ∷ [] → of ≡ length p.types → n ≡ length sc.tags.items → v.items ≡ sc.tags.items ++ record { kind = k; begun = false; of = of; room = None } ∷ [] → Stands (record sc { tags = v }) q (record s { tags = s.tags ++ no_tag k ∷ [] })
+pub stands_new_tag : (sc : Scopes) (v : Vec TagInfo) (p q : Typed) (s : State) (k : RecordKind) (n of : ℕ) →
+    Stands sc p s → AddsTypes p q → q.types ≡ p.types ++ ctypes.Incomplete n ∷ [] → of ≡ length p.types →
+    n ≡ length sc.tags.items →
+    v.items ≡ sc.tags.items ++ record { kind = k; begun = false; of = of; room = None } ∷ [] →
+    Stands (record sc { tags = v }) q (record s { tags = s.tags ++ no_tag k ∷ [] })
 stands_new_tag sc v p q s k n of h a e o m g =
     let i : TagInfo = record { kind = k; begun = false; of = of; room = None } in
     let h1 = stands_more sc p q s a h in
-    let c : slice_get q.types of ≡ Some (ctypes.Incomplete n) = rw (e, o) (slice_get-push p.types (ctypes.Incomplete n)) in
-    let t : named (types_of q.types) of ≡ Some (Tagged n) = rw (e, o, types_of-push p.types (ctypes.Incomplete n), ← length-types_of p.types) (slice_get-push (types_of p.types) (Tagged n)) in
+    let c : slice_get q.types of ≡ Some (ctypes.Incomplete n) =
+    rw (e, o) (slice_get-push p.types (ctypes.Incomplete n)) in
+    let t : named (types_of q.types) of ≡ Some (Tagged n) =
+    rw (e, o, types_of-push p.types (ctypes.Incomplete n), ← length-types_of p.types)
+    (slice_get-push (types_of p.types) (Tagged n)) in
     let le : length sc.tags.items ≤ length v.items = rw g (omega (arith, length-append sc.tags.items (i ∷ []))) in
-    let kept : tag_kept q.types (types_of q.types) i ≡ tag_seen (no_tag k) = ap (λ x. tag_kept_with k (members_kept (types_of q.types) x)) c in
+    let kept : tag_kept q.types (types_of q.types) i ≡ tag_seen (no_tag k) =
+    ap (λ x. tag_kept_with k (members_kept (types_of q.types) x)) c in
     stands_tags sc v q s (s.tags ++ no_tag k ∷ []) h1 le
-    (rw g (map_push (tag_kept q.types (types_of q.types)) sc.tags.items i ∙ pushed _ _ _ _ h1.tags kept ∙ sym (map_push tag_seen s.tags (no_tag k))))
+    (rw g (map_push (tag_kept q.types (types_of q.types)) sc.tags.items i ∙ pushed _ _ _ _ h1.tags kept
+    ∙ sym (map_push tag_seen s.tags (no_tag k))))
     (λ j x f. let w : slice_get (sc.tags.items ++ i ∷ []) j ≡ Some x = rw (← g) f in
     elim (push_cases sc.tags.items i x j w) as (λ _. named (types_of q.types) x.of ≡ Some (Tagged j)) [
       | inl y ↦ h1.tag_types j x y
@@ -119,28 +139,35 @@ stands_new_tag sc v p q s k n of h a e o m g =
 
 -- ---- braces are opened
 
-pub tag_begun : (sc : Scopes) (p : Typed) (s : State) (n : ℕ) (i : TagInfo) → Stands sc p s → slice_get sc.tags.items n ≡ Some i → is_begun (slice_get s.tags n) ≡ i.begun
+pub tag_begun : (sc : Scopes) (p : Typed) (s : State) (n : ℕ) (i : TagInfo) → Stands sc p s →
+    slice_get sc.tags.items n ≡ Some i → is_begun (slice_get s.tags n) ≡ i.begun
 tag_begun sc p s n i h e =
     let t = seen_at (tag_kept p.types (types_of p.types)) tag_seen sc.tags.items s.tags n i h.tags e in
     ap is_begun t.1 ∙ sym (ap (λ (x : SeenTag). x.begun) t.2)
 
-pub begun_fails : (sc : Scopes) (p : Typed) (n : ℕ) (i : TagInfo) (place : Pos) → slice_get sc.tags.items n ≡ Some i → i.begun ≡ true → Fails sc p sc p (begin_tag n place) 131 place
+pub begun_fails : (sc : Scopes) (p : Typed) (n : ℕ) (i : TagInfo) (place : Pos) → slice_get sc.tags.items n ≡ Some i →
+    i.begun ≡ true → Fails sc p sc p (begin_tag n place) 131 place
 begun_fails sc p n i place e b = record {
   refused = λ s h. let f : is_begun (slice_get s.tags n) ≡ true = tag_begun sc p s n i h e ∙ b in rw f refl;
   program = refl;
   keeps = λ s h. h;
 }
 
-pub begun_nothing : (sc : Scopes) (p : Typed) (s : State) (n : ℕ) (place : Pos) → Stands sc p s → slice_get sc.tags.items n ≡ None → Given sc p (begin_tag n place s) (λ t a. Unit {0})
+pub begun_nothing : (sc : Scopes) (p : Typed) (s : State) (n : ℕ) (place : Pos) → Stands sc p s →
+    slice_get sc.tags.items n ≡ None → Given sc p (begin_tag n place s) (λ t a. Unit {0})
 begun_nothing sc p s n place h e =
-    let f : slice_get s.tags n ≡ None = seen_none (tag_kept p.types (types_of p.types)) tag_seen sc.tags.items s.tags n h.tags e in
+    let f : slice_get s.tags n ≡ None =
+    seen_none (tag_kept p.types (types_of p.types)) tag_seen sc.tags.items s.tags n h.tags e in
     let g : changed_at opened s.tags n ≡ s.tags = ap (λ o. with_changed opened o s.tags n) f in
     record { value = tt; state = s; is = rw f (ap (λ ts. Ok (tt, record s { tags = ts })) g); stands = h; fits = tt }
   where
     opened : TagState → TagState
     opened t = record t { begun = true }
 
-pub with_tag : (sc : Scopes) (p : Typed) (s : State) (n : ℕ) (i j : TagInfo) (t : TagState) (v : Vec TagInfo) → Stands sc p s → slice_get sc.tags.items n ≡ Some i → j.of ≡ i.of → v.items ≡ set sc.tags.items n j → tag_kept p.types (types_of p.types) j ≡ tag_seen t → Stands (record sc { tags = v }) p (record s { tags = set s.tags n t })
+pub with_tag : (sc : Scopes) (p : Typed) (s : State) (n : ℕ) (i j : TagInfo) (t : TagState) (v : Vec TagInfo) →
+    Stands sc p s → slice_get sc.tags.items n ≡ Some i → j.of ≡ i.of → v.items ≡ set sc.tags.items n j →
+    tag_kept p.types (types_of p.types) j ≡ tag_seen t →
+    Stands (record sc { tags = v }) p (record s { tags = set s.tags n t })
 with_tag sc p s n i j t v h e o g k =
     let le : length sc.tags.items ≤ length v.items = rw g (omega (arith, length-set sc.tags.items n j)) in
     let kept = tag_kept p.types (types_of p.types) in
@@ -155,11 +182,15 @@ with_tag sc p s n i j t v h e o g k =
     same_set : (xs ys : List SeenTag) (n : ℕ) (x y : SeenTag) → xs ≡ ys → x ≡ y → set xs n x ≡ set ys n y
     same_set xs ys n x y d f = cc
 
-pub begun_now : (sc : Scopes) (p : Typed) (s : State) (n : ℕ) (i : TagInfo) (place : Pos) (v : Vec TagInfo) → Stands sc p s → slice_get sc.tags.items n ≡ Some i → i.begun ≡ false → v.items ≡ set sc.tags.items n (record i { begun = true }) → Given (record sc { tags = v }) p (begin_tag n place s) (λ t a. Unit {0})
+pub begun_now : (sc : Scopes) (p : Typed) (s : State) (n : ℕ) (i : TagInfo) (place : Pos) (v : Vec TagInfo) →
+    Stands sc p s → slice_get sc.tags.items n ≡ Some i → i.begun ≡ false →
+    v.items ≡ set sc.tags.items n (record i { begun = true }) →
+    Given (record sc { tags = v }) p (begin_tag n place s) (λ t a. Unit {0})
 begun_now sc p s n i place v h e b g =
     let t = seen_at (tag_kept p.types (types_of p.types)) tag_seen sc.tags.items s.tags n i h.tags e in
     let f : is_begun (slice_get s.tags n) ≡ false = tag_begun sc p s n i h e ∙ b in
-    let k : tag_kept p.types (types_of p.types) (record i { begun = true }) ≡ tag_seen (record t.0 { begun = true }) = ap (λ (x : SeenTag). record x { begun = true }) t.2 in
+    let k : tag_kept p.types (types_of p.types) (record i { begun = true }) ≡ tag_seen (record t.0 { begun = true }) =
+    ap (λ (x : SeenTag). record x { begun = true }) t.2 in
     record {
       value = tt;
       state = record s { tags = set s.tags n (record t.0 { begun = true }) };
@@ -170,7 +201,10 @@ begun_now sc p s n i place v h e b g =
 
 -- ---- members
 
-pub parts_extent : (tags : List TagState) (cs : List CType) (shared : Bool) (parts : List Part) (ms : List Member) (x : Extent) → HasParts (types_of cs) parts ms → members_extent tags (placing shared) parts x ≡ with_extent (members (placing shared) (numbered_extent tags cs) ms x) whole
+pub parts_extent : (tags : List TagState) (cs : List CType) (shared : Bool) (parts : List Part) (ms : List Member)
+    (x : Extent) → HasParts (types_of cs) parts ms →
+    members_extent tags (placing shared) parts x
+    ≡ with_extent (members (placing shared) (numbered_extent tags cs) ms x) whole
 unfolding members
 parts_extent tags cs shared [] [] x h = refl
 parts_extent tags cs shared [] (m ∷ ms) x h = absurd cc
@@ -182,11 +216,19 @@ parts_extent tags cs shared (r ∷ rs) (m ∷ ms) x h =
     let t : type_at (types_of cs) m.of ≡ r.of = get_or_from_slice_get (types_of cs) m.of r.of types.Void n in
     rw t (inside (type_extent tags r.of) (λ y. parts_extent tags cs shared rs ms (placing shared y x) b))
   where
-    inside : (o : Option Extent) → ((y : Extent) → members_extent tags (placing shared) rs (placing shared y x) ≡ with_extent (members (placing shared) (numbered_extent tags cs) ms (placing shared y x)) whole) → with_extent o (λ y. members_extent tags (placing shared) rs (placing shared y x)) ≡ with_extent (with_extent o (λ y. members (placing shared) (numbered_extent tags cs) ms (placing shared y x))) whole
+    inside : (o : Option Extent) →
+        ((y : Extent) → members_extent tags (placing shared) rs (placing shared y x)
+        ≡ with_extent (members (placing shared) (numbered_extent tags cs) ms (placing shared y x)) whole) →
+        with_extent o (λ y. members_extent tags (placing shared) rs (placing shared y x))
+        ≡ with_extent (with_extent o (λ y. members (placing shared) (numbered_extent tags cs) ms (placing shared y x)))
+        whole
     inside None f = refl
     inside (Some y) f = f y
 
-pub record_is : (tags : List TagState) (cs : List CType) (k : RecordKind) (parts : List Part) (ms : List Member) → HasParts (types_of cs) parts ms → record_extent tags k parts ≡ with_extent (members (placing (is_union k)) (numbered_extent tags cs) ms no_members) whole
+pub record_is : (tags : List TagState) (cs : List CType) (k : RecordKind) (parts : List Part) (ms : List Member) →
+    HasParts (types_of cs) parts ms →
+    record_extent tags k parts ≡ with_extent (members (placing (is_union k)) (numbered_extent tags cs) ms no_members)
+    whole
 record_is tags cs records.Struct parts ms h = parts_extent tags cs false parts ms no_members h
 record_is tags cs records.Union parts ms h = parts_extent tags cs true parts ms no_members h
 
@@ -204,11 +246,14 @@ tagged_form (ctypes.Function t ps) go n e f = absurd cc
 tagged_form (ctypes.Const t) go n e f = absurd cc
 tagged_form (ctypes.Incomplete m) go n e f = e
 
-completed_form : (k : RecordKind) (n : ℕ) (ms : List Member) (f : ℕ → Ty) → type_from (completed_type k n ms) f ≡ Tagged n
+completed_form : (k : RecordKind) (n : ℕ) (ms : List Member) (f : ℕ → Ty) →
+    type_from (completed_type k n ms) f ≡ Tagged n
 completed_form records.Struct n ms f = refl
 completed_form records.Union n ms f = refl
 
-grow-set : (cs : List CType) (ts : List Ty) (k : ℕ) (old new : CType) → slice_get cs k ≡ Some old → ((f : ℕ → Ty) → type_from new f ≡ type_from old f) → grow type_from types.Void (set cs k new) ts ≡ grow type_from types.Void cs ts
+grow-set : (cs : List CType) (ts : List Ty) (k : ℕ) (old new : CType) → slice_get cs k ≡ Some old →
+    ((f : ℕ → Ty) → type_from new f ≡ type_from old f) →
+    grow type_from types.Void (set cs k new) ts ≡ grow type_from types.Void cs ts
 unfolding grow
 grow-set [] ts k old new e h = refl
 grow-set (c ∷ cs) ts zero old new e h =
@@ -216,12 +261,14 @@ grow-set (c ∷ cs) ts zero old new e h =
     ap (λ t. grow type_from types.Void cs (ts ++ t ∷ [])) (h (type_at ts) ∙ ap (λ x. type_from x (type_at ts)) (sym i))
 grow-set (c ∷ cs) ts (suc k) old new e h = grow-set cs (ts ++ type_from c (type_at ts) ∷ []) k old new e h
 
-pub slice_get-slice_set : {A : Type 0} (xs : List A) (k : ℕ) (x y : A) → slice_get xs k ≡ Some x → slice_get (set xs k y) k ≡ Some y
+pub slice_get-slice_set : {A : Type 0} (xs : List A) (k : ℕ) (x y : A) → slice_get xs k ≡ Some x →
+    slice_get (set xs k y) k ≡ Some y
 slice_get-slice_set [] k x y e = absurd cc
 slice_get-slice_set (a ∷ xs) zero x y e = refl
 slice_get-slice_set (a ∷ xs) (suc k) x y e = slice_get-slice_set xs k x y e
 
-pub slice_get-set_apart : {A : Type 0} (xs : List A) (k j : ℕ) (y : A) → (j ≡ k → ⊥) → slice_get (set xs k y) j ≡ slice_get xs j
+pub slice_get-set_apart : {A : Type 0} (xs : List A) (k j : ℕ) (y : A) → (j ≡ k → ⊥) →
+    slice_get (set xs k y) j ≡ slice_get xs j
 slice_get-set_apart [] k j y h = refl
 slice_get-set_apart (a ∷ xs) zero zero y h = absurd (h refl)
 slice_get-set_apart (a ∷ xs) zero (suc j) y h = refl
@@ -233,7 +280,8 @@ there_is [] k lt = absurd (omega arith)
 there_is (a ∷ xs) zero lt = (a, refl)
 there_is (a ∷ xs) (suc k) lt = there_is xs k (omega arith)
 
-pub types_of-completed : (cs : List CType) (of n : ℕ) (k : RecordKind) (ms : List Member) → named (types_of cs) of ≡ Some (Tagged n) → types_of (set cs of (completed_type k n ms)) ≡ types_of cs
+pub types_of-completed : (cs : List CType) (of n : ℕ) (k : RecordKind) (ms : List Member) →
+    named (types_of cs) of ≡ Some (Tagged n) → types_of (set cs of (completed_type k n ms)) ≡ types_of cs
 types_of-completed cs of n k ms e =
     let lt : of < length cs = omega (arith, slice_get_within (types_of cs) of (Tagged n) e, length-types_of cs) in
     let c = there_is cs of lt in
@@ -242,18 +290,28 @@ types_of-completed cs of n k ms e =
     grow-set cs [] of c.0 (completed_type k n ms) c.1 (λ g. completed_form k n ms g ∙ sym (f g))
 
 -- a struct or union that is not complete gets its members
-pub types_of-opened : (cs : List CType) (of n : ℕ) (k : RecordKind) (ms : List Member) → slice_get cs of ≡ Some (ctypes.Incomplete n) → types_of (set cs of (completed_type k n ms)) ≡ types_of cs
-types_of-opened cs of n k ms e = grow-set cs [] of (ctypes.Incomplete n) (completed_type k n ms) e (completed_form k n ms)
+pub types_of-opened : (cs : List CType) (of n : ℕ) (k : RecordKind) (ms : List Member) →
+    slice_get cs of ≡ Some (ctypes.Incomplete n) → types_of (set cs of (completed_type k n ms)) ≡ types_of cs
+types_of-opened cs of n k ms e =
+    grow-set cs [] of (ctypes.Incomplete n) (completed_type k n ms) e (completed_form k n ms)
 
-pub record_fault : (tags : List TagState) (cs : List CType) (k : RecordKind) (parts : List Part) (ms : List Member) (shared : Bool) (f g : LayoutFault) → shared ≡ is_union k → HasParts (types_of cs) parts ms → f ≡ g → IsLayout (members (placing shared) (numbered_extent tags cs) ms no_members) (Err f) → IsLayout (record_extent tags k parts) (Err g)
+pub record_fault : (tags : List TagState) (cs : List CType) (k : RecordKind) (parts : List Part) (ms : List Member)
+    (shared : Bool) (f g : LayoutFault) → shared ≡ is_union k → HasParts (types_of cs) parts ms → f ≡ g →
+    IsLayout (members (placing shared) (numbered_extent tags cs) ms no_members) (Err f) →
+    IsLayout (record_extent tags k parts) (Err g)
 record_fault tags cs k parts ms shared f g u h e l =
     layout_at _ _ (Err g) (record_is tags cs k parts ms h)
     (whole_fault (is_union k) (numbered_extent tags cs) ms g
-    (fault_at _ f g e (subst (λ x. IsLayout (members (placing x) (numbered_extent tags cs) ms no_members) (Err f)) u l)))
+    (fault_at _ f g e (subst (λ x. IsLayout (members (placing x) (numbered_extent tags cs) ms no_members) (Err f)) u
+    l)))
 
-pub record_fits : (tags : List TagState) (cs : List CType) (k : RecordKind) (parts : List Part) (ms : List Member) (shared : Bool) (end l : Layout) → shared ≡ is_union k → HasParts (types_of cs) parts ms → Fits (members (placing shared) (numbered_extent tags cs) ms no_members) end → whole (extent_is end) ≡ Some (extent_is l) → record_extent tags k parts ≡ Some (extent_is l)
+pub record_fits : (tags : List TagState) (cs : List CType) (k : RecordKind) (parts : List Part) (ms : List Member)
+    (shared : Bool) (end l : Layout) → shared ≡ is_union k → HasParts (types_of cs) parts ms →
+    Fits (members (placing shared) (numbered_extent tags cs) ms no_members) end →
+    whole (extent_is end) ≡ Some (extent_is l) → record_extent tags k parts ≡ Some (extent_is l)
 record_fits tags cs k parts ms shared end l u h f w =
-    let e : members (placing (is_union k)) (numbered_extent tags cs) ms no_members ≡ Some (extent_is end) = subst (λ x. members (placing x) (numbered_extent tags cs) ms no_members ≡ Some (extent_is end)) u f.is in
+    let e : members (placing (is_union k)) (numbered_extent tags cs) ms no_members ≡ Some (extent_is end) =
+    subst (λ x. members (placing x) (numbered_extent tags cs) ms no_members ≡ Some (extent_is end)) u f.is in
     record_is tags cs k parts ms h ∙ ap (λ o. with_extent o whole) e ∙ w
 
 -- ---- completion
@@ -264,7 +322,8 @@ same_record_is records.Union records.Union e = refl
 same_record_is records.Struct records.Union e = absurd (false≢true e)
 same_record_is records.Union records.Struct e = absurd (false≢true e)
 
-pub kind_is : (sc : Scopes) (p : Typed) (s : State) (n : ℕ) (i : TagInfo) (k : RecordKind) → Stands sc p s → slice_get sc.tags.items n ≡ Some i → kind_at s n k ≡ true → i.kind ≡ k
+pub kind_is : (sc : Scopes) (p : Typed) (s : State) (n : ℕ) (i : TagInfo) (k : RecordKind) → Stands sc p s →
+    slice_get sc.tags.items n ≡ Some i → kind_at s n k ≡ true → i.kind ≡ k
 kind_is sc p s n i k h e g =
     let t = seen_at (tag_kept p.types (types_of p.types)) tag_seen sc.tags.items s.tags n i h.tags e in
     let a : same_record t.0.kind k ≡ true = sym (ap (λ o. has_kind o k) t.1) ∙ g in
@@ -277,52 +336,75 @@ not_within a b h = by_value (nat_le a b) refl
     by_value true e = absurd (let l = leb-true a b e in omega arith)
     by_value false e = e
 
-pub over_fails : (s : State) (k : RecordKind) (n : ℕ) (parts : List Part) (place : Pos) → Exceeds (record_extent s.tags k parts) → complete_tag k n parts place s ≡ Err (record { code = 140; place = place })
+pub over_fails : (s : State) (k : RecordKind) (n : ℕ) (parts : List Part) (place : Pos) →
+    Exceeds (record_extent s.tags k parts) → complete_tag k n parts place s ≡ Err (record { code = 140; place = place })
 over_fails s k n parts place x =
-    let e : nat_le (extent_size (record_extent s.tags k parts)) size_limit ≡ false = rw x.is (not_within x.extent.size size_limit x.over) in
+    let e : nat_le (extent_size (record_extent s.tags k parts)) size_limit ≡ false =
+    rw x.is (not_within x.extent.size size_limit x.over) in
     rw e refl
 
-room_passes : (o : Option Extent) (r : Option Room) → o ≡ option_map room_extent r → nat_le (extent_size o) size_limit ≡ true
+room_passes : (o : Option Extent) (r : Option Room) → o ≡ option_map room_extent r →
+    nat_le (extent_size o) size_limit ≡ true
 room_passes o None e = rw e refl
 room_passes o (Some r) e = rw e (le-leb r.size size_limit r.small)
 
-map_alike : {A B : Type 0} (f g : A → B) (xs : List A) → ((m : ℕ) (b : A) → slice_get xs m ≡ Some b → f b ≡ g b) → map f xs ≡ map g xs
+map_alike : {A B : Type 0} (f g : A → B) (xs : List A) → ((m : ℕ) (b : A) → slice_get xs m ≡ Some b → f b ≡ g b) →
+    map f xs ≡ map g xs
 map_alike f g [] k = refl
 map_alike f g (b ∷ xs) k = let i = k 0 b refl in let j = map_alike f g xs (λ m c e. k (suc m) c e) in cc
 
-set_map_apart : {A B : Type 0} (f g : A → B) (xs : List A) (n : ℕ) (x : B) → ((m : ℕ) (a : A) → slice_get xs m ≡ Some a → (m ≡ n → ⊥) → f a ≡ g a) → set (map f xs) n x ≡ set (map g xs) n x
+set_map_apart : {A B : Type 0} (f g : A → B) (xs : List A) (n : ℕ) (x : B) →
+    ((m : ℕ) (a : A) → slice_get xs m ≡ Some a → (m ≡ n → ⊥) → f a ≡ g a) → set (map f xs) n x ≡ set (map g xs) n x
 set_map_apart f g [] n x h = refl
-set_map_apart f g (a ∷ xs) zero x h = ap (λ ys. x ∷ ys) (map_alike f g xs (λ m b e. h (suc m) b e (λ z. absurd (omega arith))))
+set_map_apart f g (a ∷ xs) zero x h =
+    ap (λ ys. x ∷ ys) (map_alike f g xs (λ m b e. h (suc m) b e (λ z. absurd (omega arith))))
 set_map_apart f g (a ∷ xs) (suc n) x h =
     let i : f a ≡ g a = h 0 a refl (λ z. absurd (omega arith)) in
     let j = set_map_apart f g xs n x (λ m b e d. h (suc m) b e (λ z. d (omega arith))) in
     cc
 
-members_of_completed : (ts : List Ty) (k : RecordKind) (n : ℕ) (ms : List Member) → members_kept ts (Some (completed_type k n ms)) ≡ Some (map (member_kept ts) ms)
+members_of_completed : (ts : List Ty) (k : RecordKind) (n : ℕ) (ms : List Member) →
+    members_kept ts (Some (completed_type k n ms)) ≡ Some (map (member_kept ts) ms)
 members_of_completed ts records.Struct n ms = refl
 members_of_completed ts records.Union n ms = refl
 
-pub stands_completed : (sc : Scopes) (v : Vec TagInfo) (p : Typed) (s : State) (n : ℕ) (i : TagInfo) (r : Option Room) (ms : List Member) (parts : List Part) (t : TagState) → Stands sc p s → slice_get sc.tags.items n ≡ Some i → v.items ≡ set sc.tags.items n (record i { room = r }) → HasParts (types_of p.types) parts ms → t.kind ≡ i.kind → t.begun ≡ i.begun → t.members ≡ Some parts → t.extent ≡ option_map room_extent r → Stands (record sc { tags = v }) (record p { types = set p.types i.of (completed_type i.kind n ms) }) (record s { tags = set s.tags n t })
+pub stands_completed : (sc : Scopes) (v : Vec TagInfo) (p : Typed) (s : State) (n : ℕ) (i : TagInfo) (r : Option Room)
+    (ms : List Member) (parts : List Part) (t : TagState) → Stands sc p s → slice_get sc.tags.items n ≡ Some i →
+    v.items ≡ set sc.tags.items n (record i { room = r }) → HasParts (types_of p.types) parts ms → t.kind ≡ i.kind →
+    t.begun ≡ i.begun → t.members ≡ Some parts → t.extent ≡ option_map room_extent r →
+    Stands (record sc { tags = v }) (record p { types = set p.types i.of (completed_type i.kind n ms) })
+    (record s { tags = set s.tags n t })
 stands_completed sc v p s n i r ms parts t h e g has k b m x =
     let cs = p.types in
     let ds = set cs i.of (completed_type i.kind n ms) in
     let ts = types_of cs in
     let same : types_of ds ≡ ts = types_of-completed cs i.of n i.kind ms (h.tag_types n i e) in
     let at : slice_get ds i.of ≡ Some (completed_type i.kind n ms) =
-    let c = there_is cs i.of (omega (arith, slice_get_within ts i.of (Tagged n) (h.tag_types n i e), length-types_of cs)) in
+    let c = there_is cs i.of (omega (
+      arith,
+      slice_get_within ts i.of (Tagged n) (h.tag_types n i e),
+      length-types_of cs,
+    )) in
     slice_get-slice_set cs i.of c.0 (completed_type i.kind n ms) c.1 in
     let apart = λ (j : ℕ) (y : TagInfo) (f : slice_get sc.tags.items j ≡ Some y) (d : j ≡ n → ⊥).
-    let other : y.of ≡ i.of → ⊥ = λ z. d (numbers_same j n (same_Some _ _ (sym (h.tag_types j y f) ∙ ap (named ts) z ∙ h.tag_types n i e))) in
-    ap (λ o. record (tag_kept cs ts y) { members = members_kept ts o }) (slice_get-set_apart cs i.of y.of (completed_type i.kind n ms) other) in
+    let other : y.of ≡ i.of → ⊥ =
+    λ z. d (numbers_same j n (same_Some _ _ (sym (h.tag_types j y f) ∙ ap (named ts) z ∙ h.tag_types n i e))) in
+    ap (λ o. record (tag_kept cs ts y) { members = members_kept ts o })
+    (slice_get-set_apart cs i.of y.of (completed_type i.kind n ms) other) in
     let seen : tag_kept ds ts (record i { room = r }) ≡ tag_seen t =
-    let a : members_kept ts (slice_get ds i.of) ≡ option_map (map part_seen) t.members = ap (members_kept ts) at ∙ members_of_completed ts i.kind n ms ∙ ap (λ y. Some y) (sym has) ∙ ap (option_map (map part_seen)) (sym m) in
+    let a : members_kept ts (slice_get ds i.of) ≡ option_map (map part_seen) t.members =
+    ap (members_kept ts) at ∙ members_of_completed ts i.kind n ms ∙ ap (λ y. Some y) (sym has)
+    ∙ ap (option_map (map part_seen)) (sym m) in
     tag_parts i.kind t.kind i.begun t.begun _ _ _ _ (sym k) (sym b) a (sym x) in
-    let le : length sc.tags.items ≤ length v.items = rw g (omega (arith, length-set sc.tags.items n (record i { room = r }))) in
+    let le : length sc.tags.items ≤ length v.items =
+    rw g (omega (arith, length-set sc.tags.items n (record i { room = r }))) in
     record {
-      scopes = rw same (subst (λ y. ShowScopes y (length v.items) (reverse sc.scopes.items) s.scopes) (append-nil ts) (scopes_more ts [] (length sc.tags.items) (length v.items) (reverse sc.scopes.items) s.scopes le h.scopes));
+      scopes = rw same (subst (λ y. ShowScopes y (length v.items) (reverse sc.scopes.items) s.scopes) (append-nil ts)
+          (scopes_more ts [] (length sc.tags.items) (length v.items) (reverse sc.scopes.items) s.scopes le h.scopes));
       tags = rw (same, g)
           (map-set (tag_kept ds ts) sc.tags.items n (record i { room = r })
-          ∙ set_map_apart (tag_kept ds ts) (tag_kept cs ts) sc.tags.items n (tag_kept ds ts (record i { room = r })) apart
+          ∙ set_map_apart (tag_kept ds ts) (tag_kept cs ts) sc.tags.items n
+          (tag_kept ds ts (record i { room = r })) apart
           ∙ set_alike _ _ n _ _ h.tags seen
           ∙ sym (map-set tag_seen s.tags n t));
       tag_types = λ j y f. rw same
@@ -349,21 +431,30 @@ stands_completed sc v p s n i r ms parts t h e g has k b m x =
     record_of : RecordKind → Bool → Option (List (Span × Option Ty)) → Option Extent → SeenTag
     record_of k b ms x = record { kind = k; begun = b; members = ms; extent = x }
 
-    tag_parts : (j k : RecordKind) (b c : Bool) (ms ns : Option (List (Span × Option Ty))) (x y : Option Extent) → j ≡ k → b ≡ c → ms ≡ ns → x ≡ y → record_of j b ms x ≡ record_of k c ns y
+    tag_parts : (j k : RecordKind) (b c : Bool) (ms ns : Option (List (Span × Option Ty))) (x y : Option Extent) →
+        j ≡ k → b ≡ c → ms ≡ ns → x ≡ y → record_of j b ms x ≡ record_of k c ns y
     tag_parts j k b c ms ns x y d e f g = cc
 
-pub completed_now : (sc : Scopes) (v : Vec TagInfo) (p : Typed) (s : State) (k : RecordKind) (n : ℕ) (i : TagInfo) (r : Option Room) (ms : List Member) (parts : List Part) (place : Pos) → Stands sc p s → slice_get sc.tags.items n ≡ Some i → kind_at s n k ≡ true → v.items ≡ set sc.tags.items n (record i { room = r }) → HasParts (types_of p.types) parts ms → record_extent s.tags i.kind parts ≡ option_map room_extent r → Given (record sc { tags = v }) (record p { types = set p.types i.of (completed_type i.kind n ms) }) (complete_tag k n parts place s) (λ t a. Unit {0})
+pub completed_now : (sc : Scopes) (v : Vec TagInfo) (p : Typed) (s : State) (k : RecordKind) (n : ℕ) (i : TagInfo)
+    (r : Option Room) (ms : List Member) (parts : List Part) (place : Pos) → Stands sc p s →
+    slice_get sc.tags.items n ≡ Some i → kind_at s n k ≡ true → v.items ≡ set sc.tags.items n (record i { room = r }) →
+    HasParts (types_of p.types) parts ms → record_extent s.tags i.kind parts ≡ option_map room_extent r →
+    Given (record sc { tags = v }) (record p { types = set p.types i.of (completed_type i.kind n ms) })
+    (complete_tag k n parts place s) (λ t a. Unit {0})
 completed_now sc v p s k n i r ms parts place h e kk g has x =
     let t = seen_at (tag_kept p.types (types_of p.types)) tag_seen sc.tags.items s.tags n i h.tags e in
     let j : i.kind ≡ k = kind_is sc p s n i k h e kk in
-    let y : record_extent s.tags k parts ≡ option_map room_extent r = subst (λ z. record_extent s.tags z parts ≡ option_map room_extent r) j x in
+    let y : record_extent s.tags k parts ≡ option_map room_extent r =
+    subst (λ z. record_extent s.tags z parts ≡ option_map room_extent r) j x in
     let f : nat_le (extent_size (record_extent s.tags k parts)) size_limit ≡ true = room_passes _ r y in
     let u = completed s.tags k parts t.0 in
-    let c : changed_at (completed s.tags k parts) s.tags n ≡ set s.tags n u = ap (λ o. with_changed (completed s.tags k parts) o s.tags n) t.1 in
+    let c : changed_at (completed s.tags k parts) s.tags n ≡ set s.tags n u =
+    ap (λ o. with_changed (completed s.tags k parts) o s.tags n) t.1 in
     record {
       value = tt;
       state = record s { tags = set s.tags n u };
       is = rw f (ap (λ ts. Ok (tt, record s { tags = ts })) c);
-      stands = stands_completed sc v p s n i r ms parts u h e g has (sym (ap (λ (z : SeenTag). z.kind) t.2)) (sym (ap (λ (z : SeenTag). z.begun) t.2)) refl y;
+      stands = stands_completed sc v p s n i r ms parts u h e g has (sym (ap (λ (z : SeenTag). z.kind) t.2))
+          (sym (ap (λ (z : SeenTag). z.begun) t.2)) refl y;
       fits = tt;
     }

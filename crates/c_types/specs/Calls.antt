@@ -1,5 +1,6 @@
 -- What a call answers, against a step of the typing.
-use Rattle.std.specs.Prelude.{◌≡◌, ℕ, ◌<◌, ◌≤◌, Bool, true, List, length, map, Option, Some, None, Result, Ok, Err, if◌then◌else◌, slice_get}
+use Rattle.std.specs.Prelude.{◌≡◌, ℕ, ◌<◌, ◌≤◌, Bool, true, List, length, map, Option, Some, None, Result, Ok, Err}
+use Rattle.std.specs.Prelude.{if◌then◌else◌, slice_get}
 use Rattle.ck_base.specs.declared.positions.Pos.{Pos}
 use Rattle.ck_base.specs.declared.refusal.Refusal.{Refusal}
 use Rattle.ck_base.specs.declared.refusal.Refusal.TheVariants.{Code, NoMemory}
@@ -24,10 +25,12 @@ use Rattle.c_types.specs.declared.scopes.Scopes.{Scopes}
 use Rattle.c_interner.specs.Numbers.{type_named}
 use Rattle.c_tree.specs.declared.typed.Member.{Member}
 use Rattle.c_types.specs.Stands.{Stands, part_seen, member_kept}
-use Rattle.c_types.specs.Declares.{storage_of, name_of, formed_of, declares_named, declares_definition, declares_constant, declares_tag, denoted}
+use Rattle.c_types.specs.Declares.{storage_of, name_of, formed_of, declares_named, declares_definition}
+use Rattle.c_types.specs.Declares.{declares_constant, declares_tag, denoted}
 
 -- a step gives this result and this state, for which the scopes and the program stand
-pub record Given {A : Type 0} (sc : Scopes) (p : Typed) (r : Result (A × State) Fault) (Fits : State → A → Type 0) : Type 0 where
+pub record Given {A : Type 0} (sc : Scopes) (p : Typed) (r : Result (A × State) Fault) (Fits : State → A → Type 0) :
+    Type 0 where
   pub value : A
   pub state : State
   pub is : r ≡ Ok (value, state)
@@ -35,21 +38,24 @@ pub record Given {A : Type 0} (sc : Scopes) (p : Typed) (r : Result (A × State)
   pub fits : Fits state value
 
 -- from the scopes and the program before to those after, a step is done
-abbrev pub Does : {A : Type 0} → (before : Scopes) (p : Typed) (after : Scopes) (q : Typed) → Doing A → (State → A → Type 0) → Type 0
+abbrev pub Does : {A : Type 0} → (before : Scopes) (p : Typed) (after : Scopes) (q : Typed) → Doing A →
+    (State → A → Type 0) → Type 0
 Does before p after q d Fits = (s : State) → Stands before p s → Given after q (d s) Fits
 
 -- nothing that is seen has changed
 abbrev pub Keeps : (before after : Scopes) (p : Typed) → Type 0
 Keeps before after p = (s : State) → Stands before p s → Stands after p s
 
-pub record Fails {A : Type 0} (before : Scopes) (p : Typed) (after : Scopes) (q : Typed) (d : Doing A) (code : ℕ) (place : Pos) : Type 0 where
+pub record Fails {A : Type 0} (before : Scopes) (p : Typed) (after : Scopes) (q : Typed) (d : Doing A) (code : ℕ)
+    (place : Pos) : Type 0 where
   pub refused : (s : State) → Stands before p s → d s ≡ Err (record { code = code; place = place })
   pub program : q ≡ p
   pub keeps : Keeps before after p
 
--- The answer is the step's: its result, or the refusal that it gives. After a refusal, and for want of memory, nothing that is seen has
--- changed
-abbrev pub Answers : {A X : Type 0} → (before : Scopes) (p : Typed) (after : Scopes) (q : Typed) → Doing A → (X → State → A → Type 0) → Result X Refusal → Type 0
+-- The answer is the step's: its result, or the refusal that it gives. After a refusal, and for want of memory, nothing
+-- that is seen has changed
+abbrev pub Answers : {A X : Type 0} → (before : Scopes) (p : Typed) (after : Scopes) (q : Typed) → Doing A →
+    (X → State → A → Type 0) → Result X Refusal → Type 0
 Answers before p after q d Fits (Ok x) = Does before p after q d (Fits x)
 Answers before p after q d Fits (Err (Code code place)) = Fails before p after q d code place
 Answers before p after q d Fits (Err NoMemory) = (q ≡ p) × Keeps before after p
@@ -92,9 +98,12 @@ HasParts ts parts ms = map part_seen parts ≡ map (member_kept ts) ms
 
 -- the completion of a struct or union of this kind
 abbrev pub Completes : Scopes → Typed → Scopes → Typed → RecordKind → ℕ → List Part → Pos → Result Unit Refusal → Type 0
-Completes before p after q k n parts place (Ok x) = (s : State) → Stands before p s → kind_at s n k ≡ true → Given after q (complete_tag k n parts place s) (λ t a. Unit {0})
+Completes before p after q k n parts place (Ok x) =
+    (s : State) → Stands before p s → kind_at s n k ≡ true →
+    Given after q (complete_tag k n parts place s) (λ t a. Unit {0})
 Completes before p after q k n parts place (Err (Code code at)) =
-    ((s : State) → Stands before p s → kind_at s n k ≡ true → complete_tag k n parts place s ≡ Err (record { code = code; place = at })) × (q ≡ p) × Keeps before after p
+    ((s : State) → Stands before p s → kind_at s n k ≡ true →
+    complete_tag k n parts place s ≡ Err (record { code = code; place = at })) × (q ≡ p) × Keeps before after p
 Completes before p after q k n parts place (Err NoMemory) = (q ≡ p) × Keeps before after p
 
 -- ---- declarations
@@ -106,14 +115,17 @@ IsDenoted p x s o = 0 < length s.scopes → Found (IsEntity p) (Some x) o
 -- the step that a declaration is, by what it is of
 abbrev pub declares_kind : DeclKind → Storage → Lexeme → Formed → Bool → Doing (Option meant.Entity)
 declares_kind kinds.Object storage t f defines = declares_named storage t f defines
-declares_kind kinds.Fun storage t f defines = (if defines then denoted t (declares_definition storage t f) else declares_named storage t f defines)
+declares_kind kinds.Fun storage t f defines =
+    (if defines then denoted t (declares_definition storage t f) else declares_named storage t f defines)
 declares_kind (kinds.Constant z) storage t f defines = denoted t (declares_constant t z)
 declares_kind k storage t f defines = declares_named Defining_type t f defines
 
 abbrev pub DeclaresKind : DeclKind → List ℕ → Scopes → Typed → Scopes → Typed → Decl → Result Entry Refusal → Type 0
-DeclaresKind (kinds.Tag k) file before p after q d r = Answers before p after q (declares_tag k (name_of file d) d.defines) (IsTag q) r
+DeclaresKind (kinds.Tag k) file before p after q d r =
+    Answers before p after q (declares_tag k (name_of file d) d.defines) (IsTag q) r
 DeclaresKind k file before p after q d r =
-    Answers before p after q (declares_kind k (storage_of d.storage) (name_of file d) (formed_of p d) d.defines) (IsDenoted q) r
+    Answers before p after q (declares_kind k (storage_of d.storage) (name_of file d) (formed_of p d) d.defines)
+    (IsDenoted q) r
 
 -- a declaration of a type of the program
 abbrev pub Declares : List ℕ → Scopes → Typed → Scopes → Typed → Decl → Result Entry Refusal → Type 0

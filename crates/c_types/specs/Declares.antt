@@ -7,10 +7,13 @@ use Rattle.c_tree.specs.declared.syntax.RecordKind.TheVariants as records
 use Rattle.c_tree.specs.declared.typed.Typed.{Typed}
 use Rattle.c_tree.specs.Types.{Ty, is_function}
 use Rattle.c_tree.specs.Scopes as meant
-use Rattle.c_tree.specs.Scopes.{Entity, Enumerator, State, Doing, give, need, look, change, ◌>>=◌, ◌>>◌, find_in, find_tag, innermost, at_file_scope, bind_name, change_routine, is_complete}
+use Rattle.c_tree.specs.Scopes.{Entity, Enumerator, State, Doing, give, need, look, change, ◌>>=◌, ◌>>◌, find_in}
+use Rattle.c_tree.specs.Scopes.{find_tag, innermost, at_file_scope, bind_name, change_routine, is_complete}
 use Rattle.c_tree.specs.Readings.{Storage, Plain, Internal, External, Defining_type}
 use Rattle.c_tree.specs.Declarators.{Formed, judge, is_new, named_tag, begin_tag, new_enumeration, named_enumeration}
-use Rattle.c_tree.specs.Declarations.{linked, named_function, may_be_external, object_agrees, function_agrees, definition_agrees, alias_agrees, new_static, linked_static, linked_routine, new_local, is_open, is_external}
+use Rattle.c_tree.specs.Declarations.{linked, named_function, may_be_external, object_agrees, function_agrees}
+use Rattle.c_tree.specs.Declarations.{definition_agrees, alias_agrees, new_static, linked_static, linked_routine}
+use Rattle.c_tree.specs.Declarations.{new_local, is_open, is_external}
 use Rattle.c_tree.specs.Programs.{is_typedef}
 use Rattle.c_types.specs.declared.entries.Decl.{Decl}
 use Rattle.c_types.specs.declared.entries.Storage.TheVariants as storages
@@ -34,19 +37,26 @@ name_of file d = record { kind = Word; text = text_at file d.name; span = d.name
 
 -- the type that its declarator makes, and the rules that it breaks
 abbrev pub formed_of : Typed → Decl → Formed
-formed_of p d = record { of = type_named p d.of; lacks = d.faults.lacks; misfits = d.faults.misfits; too_large = d.faults.too_large }
+formed_of p d = record {
+  of = type_named p d.of;
+  lacks = d.faults.lacks;
+  misfits = d.faults.misfits;
+  too_large = d.faults.too_large;
+}
 
 -- ---- ordinary names. The truth value says whether an initialiser stands with the name
 
 abbrev pub declares_alias : Lexeme → Formed → Bool → Doing Unit
 declares_alias t f defines = look >>= λ s.
-    need (if at_file_scope s then alias_agrees (find_in (innermost s.scopes).names t.text) f.of else is_new s t.text) 131 t.pos >>
+    need (if at_file_scope s then alias_agrees (find_in (innermost s.scopes).names t.text) f.of else is_new s t.text)
+    131 t.pos >>
     judge f false defines t.pos >> change (bind_name t.text (meant.Alias f.of))
 
 -- a function at file scope; in a block none is declared
 abbrev pub declares_function : Lexeme → Formed → Bool → Doing ℕ
 declares_function t f defines = look >>= λ s.
-    need (if at_file_scope s then function_agrees s (find_in (innermost s.scopes).names t.text) t.text f.of false else is_new s t.text) 131 t.pos >>
+    need (if at_file_scope s then function_agrees s (find_in (innermost s.scopes).names t.text) t.text f.of false
+    else is_new s t.text) 131 t.pos >>
     judge f false (defines || not (at_file_scope s)) t.pos >>
     linked_routine t f.of (find_in (innermost s.scopes).names t.text)
 
@@ -69,7 +79,8 @@ declares_global storage t f defines = look >>= λ s.
 
 abbrev pub declares_external : Lexeme → Formed → Bool → Doing ℕ
 declares_external t f defines = look >>= λ s.
-    need (may_be_external s (find_in (innermost s.scopes).names t.text) && not (named_function s t.text) && object_agrees s None t.text f.of false) 131 t.pos >>
+    need (may_be_external s (find_in (innermost s.scopes).names t.text) && not (named_function s t.text)
+    && object_agrees s None t.text f.of false) 131 t.pos >>
     judge f false defines t.pos >> linked_static t f.of false (linked s t.text)
 
 abbrev pub is_ready : State → Ty → Bool → Bool
@@ -77,7 +88,8 @@ is_ready s of defines = is_complete s of || (is_open of && defines)
 
 abbrev pub declares_internal : Lexeme → Formed → Bool → Doing ℕ
 declares_internal t f defines = look >>= λ s.
-    need (is_new s t.text) 131 t.pos >> judge f (not (is_ready s f.of defines)) false t.pos >> new_static t f.of false true
+    need (is_new s t.text) 131 t.pos >> judge f (not (is_ready s f.of defines)) false t.pos
+    >> new_static t f.of false true
 
 abbrev pub declares_local : Lexeme → Formed → Bool → Doing ℕ
 declares_local t f defines = look >>= λ s.
@@ -111,7 +123,8 @@ declares_record k t defines = named_tag true k t >>= λ n. (if defines then begi
 
 abbrev pub declares_enumeration : Lexeme → Bool → Doing Unit
 declares_enumeration t defines = look >>= λ s.
-    (if defines then new_enumeration t (find_in (innermost s.scopes).tags t.text) else named_enumeration t (find_tag s.scopes t.text))
+    (if defines then new_enumeration t (find_in (innermost s.scopes).tags t.text)
+    else named_enumeration t (find_tag s.scopes t.text))
 
 -- what the tag denotes then: the number of the struct or union, or an enumeration
 abbrev pub declares_tag : TagKind → Lexeme → Bool → Doing meant.Tagging

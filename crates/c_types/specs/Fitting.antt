@@ -4,7 +4,9 @@ use Rattle.ck_base.specs.Tokens.{Lexeme}
 use Rattle.c_tree.specs.Types.{Ty, agree, same, is_function}
 use Rattle.c_tree.specs.Scopes.{State, Doing, give, find_in, innermost, at_file_scope}
 use Rattle.c_tree.specs.Declarators.{is_new}
-use Rattle.c_tree.specs.Declarations.{agrees_static, agrees_routine, agrees_library, agrees_linked, linked, has_number, known_routine, new_routine, alias_agrees, function_agrees, object_agrees, named_function, has_linkage, may_be_external}
+use Rattle.c_tree.specs.Declarations.{agrees_static, agrees_routine, agrees_library, agrees_linked, linked, has_number}
+use Rattle.c_tree.specs.Declarations.{known_routine, new_routine, alias_agrees, function_agrees, object_agrees}
+use Rattle.c_tree.specs.Declarations.{named_function, has_linkage, may_be_external}
 use Rattle.c_types.specs.Stands.{Seen, static, routine, alias, library}
 
 -- two types that are there agree up to the lengths of arrays
@@ -48,7 +50,8 @@ alias_seen None t = true
 alias_seen (Some x) t = same_alias (seen_alias x) t
 
 abbrev pub alias_fits : State → List ℕ → Ty → Bool
-alias_fits s name t = (if at_file_scope s then alias_agrees (find_in (innermost s.scopes).names name) t else is_new s name)
+alias_fits s name t = (if at_file_scope s then alias_agrees (find_in (innermost s.scopes).names name) t
+    else is_new s name)
 
 -- ---- objects
 
@@ -70,7 +73,8 @@ external_seen s (Some x) = linked_or_none s (seen_static x)
 
 abbrev pub external_fits : State → List ℕ → Ty → Bool
 external_fits s name t =
-    may_be_external s (find_in (innermost s.scopes).names name) && not (named_function s name) && object_agrees s None name t false
+    may_be_external s (find_in (innermost s.scopes).names name) && not (named_function s name)
+    && object_agrees s None name t false
 
 abbrev pub is_callee : Seen → Bool
 is_callee (routine k) = true
@@ -95,7 +99,8 @@ abbrev pub definition_seen : State → Option Seen → List ℕ → Ty → Bool
 definition_seen s o name t = (if is_function t then function_seen s o name t true else object_seen s o name t true)
 
 abbrev pub function_fits : State → List ℕ → Ty → Bool
-function_fits s name t = (if at_file_scope s then function_agrees s (find_in (innermost s.scopes).names name) name t false else is_new s name)
+function_fits s name t = (if at_file_scope s
+    then function_agrees s (find_in (innermost s.scopes).names name) name t false else is_new s name)
 
 abbrev pub known_or_none : Option ℕ → Ty → Doing ℕ
 known_or_none (Some k) of = known_routine k of

@@ -51,7 +51,8 @@ function_entry (Some x) k = entry_of x
 
 -- the definition of a function is begun: it has the name and the place of that, and no locals yet
 abbrev pub begins : Lexeme → ℕ → Doing ℕ
-begins t k = change (λ s. change_routine k (λ r. record r { name = t; begun = true }) (record s { locals = [] })) >> give k
+begins t k = change (λ s. change_routine k (λ r. record r { name = t; begun = true }) (record s { locals = [] }))
+    >> give k
 
 -- the enumeration constant that a declaration is of
 abbrev pub constant_of : DeclKind → Entity

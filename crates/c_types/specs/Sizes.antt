@@ -1,5 +1,6 @@
 -- The size of a type, level by level.
-use Rattle.std.specs.Prelude.{◌≡◌, ℕ, ◌<◌, ◌≤◌, List, Bool, true, false, Option, Some, None, Result, Ok, Err, option_map, slice_get}
+use Rattle.std.specs.Prelude.{◌≡◌, ℕ, ◌<◌, ◌≤◌, List, Bool, true, false, Option, Some, None, Result, Ok, Err}
+use Rattle.std.specs.Prelude.{option_map, slice_get}
 use Rattle.c_tree.specs.declared.typed.CType.{CType}
 use Rattle.cap_layout.specs.Answers.{greatest_align, Exceeds}
 use Rattle.cap_layout.specs.declared.answers.Layout.{Layout}

@@ -1,5 +1,6 @@
 -- What the scopes and the lists of a program stand for: the state of the typing of a file.
-use Rattle.std.specs.Prelude.{◌≡◌, ℕ, ℤ, ◌<◌, Bool, List, [], ◌∷◌, length, min, map, reverse, Option, Some, None, option_map, slice_get, slice_range, bytes_eq}
+use Rattle.std.specs.Prelude.{◌≡◌, ℕ, ℤ, ◌<◌, Bool, List, [], ◌∷◌, length, min, map, reverse, Option, Some, None}
+use Rattle.std.specs.Prelude.{option_map, slice_get, slice_range, bytes_eq}
 use Rattle.std.specs.Map.{lookup}
 use Rattle.ck_base.specs.declared.positions.Pos.{Pos}
 use Rattle.ck_base.specs.declared.positions.Span.{Span}
@@ -106,10 +107,20 @@ members_kept ts (Some (ctypes.Union n ms)) = Some (map (member_kept ts) ms)
 members_kept ts c = None
 
 abbrev pub tag_seen : TagState → SeenTag
-tag_seen t = record { kind = t.kind; begun = t.begun; members = option_map (map part_seen) t.members; extent = t.extent }
+tag_seen t = record {
+  kind = t.kind;
+  begun = t.begun;
+  members = option_map (map part_seen) t.members;
+  extent = t.extent;
+}
 
 abbrev pub tag_kept : List CType → List Ty → TagInfo → SeenTag
-tag_kept types ts i = record { kind = i.kind; begun = i.begun; members = members_kept ts (slice_get types i.of); extent = option_map room_extent i.room }
+tag_kept types ts i = record {
+  kind = i.kind;
+  begun = i.begun;
+  members = members_kept ts (slice_get types i.of);
+  extent = option_map room_extent i.room;
+}
 
 -- ---- objects and functions
 
@@ -149,12 +160,13 @@ var_kept file ts v = declared_at file ts v.name v.pos v.of
 
 -- ---- all of it
 
--- The scopes and the program stand for the state. The places of the uses, the bodies, the addresses that were taken, the string literals and
--- what waits for the end of the file are no part of it
+-- The scopes and the program stand for the state. The places of the uses, the bodies, the addresses that were taken,
+-- the string literals and what waits for the end of the file are no part of it
 pub record Stands (sc : Scopes) (p : Typed) (s : State) : Type 0 where
   pub scopes : ShowScopes (types_of p.types) (length sc.tags.items) (reverse sc.scopes.items) s.scopes
   pub tags : map (tag_kept p.types (types_of p.types)) sc.tags.items ≡ map tag_seen s.tags
-  pub tag_types : (n : ℕ) (i : TagInfo) → slice_get sc.tags.items n ≡ Some i → named (types_of p.types) i.of ≡ Some (Tagged n)
+  pub tag_types : (n : ℕ) (i : TagInfo) → slice_get sc.tags.items n ≡ Some i →
+      named (types_of p.types) i.of ≡ Some (Tagged n)
   pub objects : sc.objects.items ≡ map object_of s.statics
   pub globals : map (global_kept sc.file.now (types_of p.types)) p.globals ≡ map static_seen s.statics
   pub begun : sc.begun.items ≡ map (λ (f : RoutineState). f.begun) s.routines

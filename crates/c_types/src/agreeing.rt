@@ -26,9 +26,11 @@ fn keep_first(alloc: Global, types: &mut Sequence<CType>, count: usize)
 }
 
 impl<'a> Scopes<'a> {
-    /// Whether two types agree: they are equal, or compatible (C11 6.2.7p1). A number that names no type agrees with none.
+    /// Whether two types agree: they are equal, or compatible (C11 6.2.7p1). A number that names no type agrees with
+    /// none.
     pub fn agree(&self, p: &Typed, how: Lengths, a: u32, b: u32) -> Result<bool, NoMemory>
-        ensures { IfOk result (λ r. r ≡ both_agree (lengths_of how) (named (types_of p.now.types) a) (named (types_of p.now.types) b)) }
+        ensures { IfOk result (λ r. r ≡ both_agree (lengths_of how) (named (types_of p.now.types) a)
+            (named (types_of p.now.types) b)) }
     {
         let count = p.types.as_slice().len();
         if (a as usize) < count {
@@ -39,13 +41,14 @@ impl<'a> Scopes<'a> {
         Ok(false)
     }
 
-    /// The number of the composite of two compatible types of the program (C11 6.2.7p3). Types may have been added to the program, also
-    /// for want of memory.
+    /// The number of the composite of two compatible types of the program (C11 6.2.7p3). Types may have been added to
+    /// the program, also for want of memory.
     pub fn composite(&mut self, p: &mut Typed, a: u32, b: u32) -> Result<u32, NoMemory>
         requires first { a < length p.old.types }
         requires second { b < length p.old.types }
         ensures adds { AddsTypes p.old p.new }
-        ensures ok { IfOk result (λ k. (k < length p.new.types) × (type_named p.new k ≡ composite (type_named p.old a) (type_named p.old b))) }
+        ensures ok { IfOk result (λ k. (k < length p.new.types) ×
+            (type_named p.new k ≡ composite (type_named p.old a) (type_named p.old b))) }
         ensures keeps { (s : State) → Stands self.old p.old s → Stands self.new p.new s }
         ensures others { self.new ≡ record self.old { numbers = self.new.numbers } }
         ensures extends { Extends p.old p.new }
@@ -57,7 +60,8 @@ impl<'a> Scopes<'a> {
     // The same of types that are there. For want of memory the program is as it was.
     pub(crate) fn merged(&mut self, p: &mut Typed, a: u32, b: u32) -> Result<u32, NoMemory>
         ensures adds { AddsTypes p.old p.new }
-        ensures ok { IfOk result (λ k. (t u : Ty) → named (types_of p.old.types) a ≡ Some t → named (types_of p.old.types) b ≡ Some u → named (types_of p.new.types) k ≡ Some (composite t u)) }
+        ensures ok { IfOk result (λ k. (t u : Ty) → named (types_of p.old.types) a ≡ Some t →
+            named (types_of p.old.types) b ≡ Some u → named (types_of p.new.types) k ≡ Some (composite t u)) }
         ensures err { OnErr result (p.new ≡ p.old) }
         ensures keeps { (s : State) → Stands self.old p.old s → Stands self.new p.new s }
         ensures others { self.new ≡ record self.old { numbers = self.new.numbers } }

@@ -40,7 +40,8 @@ fn alias_of(entity: Entity) -> Option<u32>
 impl<'a> Scopes<'a> {
     // Whether a typedef name may be declared again: it denotes the same type (C11 6.7p3).
     fn alias_agrees(&self, p: &Typed, found: Option<Entity>, of: u32) -> Result<bool, NoMemory>
-        ensures { IfOk result (λ r. of < length p.now.types → r ≡ alias_seen (option_map (entity_kept (types_of p.now.types)) found) (type_named p.now of)) }
+        ensures { IfOk result (λ r. of < length p.now.types →
+            r ≡ alias_seen (option_map (entity_kept (types_of p.now.types)) found) (type_named p.now of)) }
     {
         match found {
             None => Ok(true),
@@ -53,7 +54,8 @@ impl<'a> Scopes<'a> {
 
     // Whether the declaration of a typedef name agrees with what the name denotes.
     fn alias_fits(&self, p: &Typed, d: Decl) -> Result<bool, NoMemory>
-        ensures { IfOk result (λ r. (s : State) → Stands self.now p.now s → d.of < length p.now.types → r ≡ alias_fits s (text_at self.now.file.now d.name) (type_named p.now d.of)) }
+        ensures { IfOk result (λ r. (s : State) → Stands self.now p.now s → d.of < length p.now.types →
+            r ≡ alias_fits s (text_at self.now.file.now d.name) (type_named p.now d.of)) }
     {
         let name = self.text(d.name);
         if self.is_at_file_scope() {
@@ -65,7 +67,9 @@ impl<'a> Scopes<'a> {
 
     // A typedef name is declared (C11 6.7.8).
     pub(crate) fn declare_alias(&mut self, p: &Typed, d: Decl) -> Result<Entry, Refusal>
-        ensures is { d.of < length p.now.types → Answers self.old p.now self.new p.now (declares_alias (name_of self.old.file.now d) (formed_of p.now d) d.defines) (IsNamed p.now (text_at self.old.file.now d.name)) result }
+        ensures is { d.of < length p.now.types →
+            Answers self.old p.now self.new p.now (declares_alias (name_of self.old.file.now d)
+            (formed_of p.now d) d.defines) (IsNamed p.now (text_at self.old.file.now d.name)) result }
         ensures file { self.new.file.now ≡ self.old.file.now }
     {
         let fits = self.alias_fits(p, d)?;

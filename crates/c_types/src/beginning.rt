@@ -125,7 +125,8 @@ fn number_at(numbers: &[u32], k: usize) -> u32
 
 // The type of a recipe.
 fn made(alloc: Global, recipe: Recipe, numbers: &[u32]) -> Result<CType, NoMemory>
-    ensures { IfOk result (λ c. (go : ℕ → Ty) → type_from c go ≡ recipe_type recipe (λ k. go (slice_index numbers.now k))) }
+    ensures { IfOk result (λ c. (go : ℕ → Ty) →
+        type_from c go ≡ recipe_type recipe (λ k. go (slice_index numbers.now k))) }
 {
     match recipe {
         Recipe::Void => Ok(CType::Void),
@@ -174,7 +175,8 @@ fn named_scope<'a>(
     rows: &[(&'static [u8], Known)],
     numbers: &[u32],
 ) -> Result<Scope<'a>, NoMemory>
-    ensures { IfOk result (λ c. (ts : List Ty) → KnowsTypes ts numbers.now → all_refer_within rows.now ≡ true → ShowsScope ts 0 c (names_scope rows.now)) }
+    ensures { IfOk result (λ c. (ts : List Ty) → KnowsTypes ts numbers.now → all_refer_within rows.now ≡ true →
+        ShowsScope ts 0 c (names_scope rows.now)) }
 {
     let mut scope = Scope::new(alloc);
     for &(name, known) in rows {
@@ -191,8 +193,9 @@ fn known_names<'a>(alloc: Global, numbers: &[u32]) -> Result<Scope<'a>, NoMemory
 }
 
 impl<'a> Scopes<'a> {
-    /// The scopes before a file: that of the file alone, with the typedef names, the library functions and the intrinsics that are
-    /// declared before it, whose types are added to the program. The program has no objects and no functions yet.
+    /// The scopes before a file: that of the file alone, with the typedef names, the library functions and the
+    /// intrinsics that are declared before it, whose types are added to the program. The program has no objects and no
+    /// functions yet.
     pub fn new(alloc: Global, p: &mut Typed, file: &'a [u8]) -> Result<Scopes<'a>, NoMemory>
         ensures adds { AddsTypes p.old p.new }
         ensures ok { IfOk result (λ sc. p.old.globals ≡ [] → p.old.funs ≡ [] → Stands sc p.new beginning) }

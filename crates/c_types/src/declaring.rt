@@ -2,7 +2,8 @@
 ghost use Rattle.std.specs.Prelude.{◌≡◌, ◌<◌, length};
 ghost use Rattle.c_interner.specs.Numbers.{type_named};
 ghost use Rattle.c_types.specs.Calls.{Answers, Declares, Extends, IsDenoted};
-ghost use Rattle.c_types.specs.Declares.{storage_of, name_of, formed_of, declares_in_block, declares_object, declares_named};
+ghost use Rattle.c_types.specs.Declares.{storage_of, name_of, formed_of, declares_in_block, declares_object};
+ghost use Rattle.c_types.specs.Declares.{declares_named};
 ghost use Rattle.c_types.specs.Naming.{IsNamed};
 ghost use Rattle.c_types.specs.Stands.{text_at};
 
@@ -16,7 +17,10 @@ use ck_base::Refusal;
 impl<'a> Scopes<'a> {
     // An object of a block is declared.
     fn declare_in_block(&mut self, p: &mut Typed, d: Decl) -> Result<Entry, Refusal>
-        ensures answers { d.of < length p.old.types → Answers self.old p.old self.new p.new (declares_in_block (storage_of d.storage) (name_of self.old.file.now d) (formed_of p.old d) d.defines) (IsNamed p.new (text_at self.old.file.now d.name)) result }
+        ensures answers { d.of < length p.old.types →
+            Answers self.old p.old self.new p.new (declares_in_block (storage_of d.storage)
+            (name_of self.old.file.now d) (formed_of p.old d) d.defines)
+            (IsNamed p.new (text_at self.old.file.now d.name)) result }
         ensures extends { Extends p.old p.new }
         ensures file { self.new.file.now ≡ self.old.file.now }
     {
@@ -29,7 +33,10 @@ impl<'a> Scopes<'a> {
 
     // A function or an object is declared.
     fn declare_object(&mut self, p: &mut Typed, d: Decl) -> Result<Entry, Refusal>
-        ensures answers { d.of < length p.old.types → Answers self.old p.old self.new p.new (declares_object (storage_of d.storage) (name_of self.old.file.now d) (formed_of p.old d) d.defines) (IsNamed p.new (text_at self.old.file.now d.name)) result }
+        ensures answers { d.of < length p.old.types →
+            Answers self.old p.old self.new p.new (declares_object (storage_of d.storage)
+            (name_of self.old.file.now d) (formed_of p.old d) d.defines)
+            (IsNamed p.new (text_at self.old.file.now d.name)) result }
         ensures extends { Extends p.old p.new }
         ensures file { self.new.file.now ≡ self.old.file.now }
     {
@@ -44,7 +51,9 @@ impl<'a> Scopes<'a> {
 
     // A typedef name, a function or an object is declared.
     fn declare_named(&mut self, p: &mut Typed, d: Decl) -> Result<Entry, Refusal>
-        ensures answers { d.of < length p.old.types → Answers self.old p.old self.new p.new (declares_named (storage_of d.storage) (name_of self.old.file.now d) (formed_of p.old d) d.defines) (IsDenoted p.new) result }
+        ensures answers { d.of < length p.old.types →
+            Answers self.old p.old self.new p.new (declares_named (storage_of d.storage) (name_of self.old.file.now d)
+            (formed_of p.old d) d.defines) (IsDenoted p.new) result }
         ensures extends { Extends p.old p.new }
         ensures file { self.new.file.now ≡ self.old.file.now }
     {
@@ -54,10 +63,11 @@ impl<'a> Scopes<'a> {
         }
     }
 
-    /// A name is declared, and the answer is what it denotes then. A new object or function is added to the program, and a new local to
-    /// those of the function at work. After a refusal the scopes and the program are as they were: 131 at the name where it denotes
-    /// something else in the scope or has another type, 132 where an object lacks a complete type, 133 where the type, the storage class
-    /// and what stands with the name do not fit one another, and 140 for an array of more than 67,108,864 bytes; the lowest code first.
+    /// A name is declared, and the answer is what it denotes then. A new object or function is added to the program,
+    /// and a new local to those of the function at work. After a refusal the scopes and the program are as they were:
+    /// 131 at the name where it denotes something else in the scope or has another type, 132 where an object lacks a
+    /// complete type, 133 where the type, the storage class and what stands with the name do not fit one another, and
+    /// 140 for an array of more than 67,108,864 bytes; the lowest code first.
     pub fn declare(&mut self, p: &mut Typed, d: Decl) -> Result<Entry, Refusal>
         ensures answers { Declares self.old.file.now self.old p.old self.new p.new d result }
         ensures extends { Extends p.old p.new }

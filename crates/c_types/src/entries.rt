@@ -35,8 +35,8 @@ pub enum Storage {
 pub struct Faults {
     /// An array has elements of a type that is not complete.
     pub lacks: bool,
-    /// An array has functions as elements; or a function gives an array, a function, a struct or a union; or a function definition has no
-    /// parameters of its own.
+    /// An array has functions as elements; or a function gives an array, a function, a struct or a union; or a function
+    /// definition has no parameters of its own.
     pub misfits: bool,
     /// An array has more than 67,108,864 bytes.
     pub too_large: bool,

@@ -62,7 +62,8 @@ fn bytes_of(kind: IntKind) -> u64
 
 // Elements of a type that stands before the number.
 fn part(inner: u32, count: u64, t: u32) -> Step
-    ensures is { (tags : List TagState) (types : List CType) (seen : ℕ → Ty) → SeesBefore types t seen → with_extent (type_extent tags (seen inner)) (times count) ≡ step_extent tags types result }
+    ensures is { (tags : List TagState) (types : List CType) (seen : ℕ → Ty) → SeesBefore types t seen →
+        with_extent (type_extent tags (seen inner)) (times count) ≡ step_extent tags types result }
     ensures small { IsSmallStep result }
     ensures smaller { HasSmallerPart result t }
 {
@@ -76,7 +77,8 @@ fn part(inner: u32, count: u64, t: u32) -> Step
 }
 
 fn level(head: Head, t: u32) -> Step
-    ensures is { (tags : List TagState) (types : List CType) (seen : ℕ → Ty) (ps : List ℕ) → SeesBefore types t seen → type_extent tags (built head ps seen) ≡ step_extent tags types result }
+    ensures is { (tags : List TagState) (types : List CType) (seen : ℕ → Ty) (ps : List ℕ) → SeesBefore types t seen →
+        type_extent tags (built head ps seen) ≡ step_extent tags types result }
     ensures small { IsSmallStep result }
     ensures smaller { HasSmallerPart result t }
 {
@@ -91,7 +93,8 @@ fn level(head: Head, t: u32) -> Step
 }
 
 fn step_at(types: &[CType], t: u32) -> Step
-    ensures is { (tags : List TagState) → type_extent tags (type_at (types_of types.now) t) ≡ step_extent tags types.now result }
+    ensures is { (tags : List TagState) →
+        type_extent tags (type_at (types_of types.now) t) ≡ step_extent tags types.now result }
     ensures small { IsSmallStep result }
     ensures smaller { HasSmallerPart result t }
 {
@@ -116,7 +119,8 @@ fn product(m: u64, n: u64) -> u64
 
 /// A type without its arrays and the words `const` around it.
 pub(crate) fn row_of(types: &[CType], t: u32) -> Row
-    ensures is { (tags : List TagState) → IsRow (type_extent tags (type_at (types_of types.now) t)) (base_extent tags result.base) result.count }
+    ensures is { (tags : List TagState) →
+        IsRow (type_extent tags (type_at (types_of types.now) t)) (base_extent tags result.base) result.count }
     ensures base { IsSmallBase result.base }
     ensures small { result.count ≤ 67108865 }
 {

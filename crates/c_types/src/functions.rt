@@ -1,5 +1,6 @@
 // Functions are declared and defined (C11 6.7.6.3, 6.9.1).
-ghost use Rattle.std.specs.Prelude.{◌≡◌, ℕ, List, [], Bool, true, false, not, ◌&&◌, ◌||◌, ◌<◌, length, Some, None, option_map, slice_get, Option, IfOk, OnErr};
+ghost use Rattle.std.specs.Prelude.{◌≡◌, ℕ, List, [], Bool, true, false, not, ◌&&◌, ◌||◌, ◌<◌, length, Some, None};
+ghost use Rattle.std.specs.Prelude.{option_map, slice_get, Option, IfOk, OnErr};
 ghost use Rattle.c_tree.specs.Declarations.{new_routine, known_routine, linked_routine, agrees_routine, agrees_library};
 ghost use Rattle.c_tree.specs.Scopes.{State, Routine, changed_at, change_routine, find_in, innermost};
 ghost use Rattle.c_tree.specs.Scopes.{Entity as Meant};
@@ -11,7 +12,8 @@ ghost use Rattle.c_tree.specs.declared.typed.FunDef.{FunDef};
 ghost use Rattle.c_interner.specs.Numbers.{AddsTypes, type_named};
 ghost use Rattle.c_types.specs.Calls.{Given, Keeps, Answers, Extends};
 ghost use Rattle.c_types.specs.Declares.{storage_of, name_of, formed_of, declares_function, declares_definition};
-ghost use Rattle.c_types.specs.Fitting.{joined, seen_routine, seen_library, function_seen, definition_seen, function_fits};
+ghost use Rattle.c_types.specs.Fitting.{joined, seen_routine, seen_library, function_seen, definition_seen};
+ghost use Rattle.c_types.specs.Fitting.{function_fits};
 ghost use Rattle.c_types.specs.Naming.{IsNamed, IsNumbered, begun_at, function_entry};
 ghost use Rattle.c_types.specs.Stands.{Stands, named, fun_kept, declared_at, entity_kept, entity_seen, text_at};
 
@@ -126,7 +128,8 @@ impl<'a> Scopes<'a> {
 
     // Whether a declaration agrees with a function that was declared before.
     fn routine_agrees(&self, p: &Typed, k: u32, of: u32, defines: bool) -> Result<bool, NoMemory>
-        ensures { IfOk result (λ r. (s : State) → Stands self.now p.now s → of < length p.now.types → r ≡ agrees_routine (slice_get s.routines k) (type_named p.now of) defines) }
+        ensures { IfOk result (λ r. (s : State) → Stands self.now p.now s → of < length p.now.types →
+            r ≡ agrees_routine (slice_get s.routines k) (type_named p.now of) defines) }
     {
         match p.funs.as_slice().get(k as usize) {
             None => Ok(false),
@@ -145,7 +148,9 @@ impl<'a> Scopes<'a> {
         of: u32,
         defines: bool,
     ) -> Result<bool, NoMemory>
-        ensures { IfOk result (λ r. of < length p.now.types → r ≡ agrees_library (joined (option_map (named (types_of p.now.types)) library)) (type_named p.now of) defines) }
+        ensures { IfOk result (λ r. of < length p.now.types →
+            r ≡ agrees_library (joined (option_map (named (types_of p.now.types)) library))
+            (type_named p.now of) defines) }
     {
         match library {
             None => Ok(false),
@@ -164,7 +169,9 @@ impl<'a> Scopes<'a> {
         d: Decl,
         defines: bool,
     ) -> Result<bool, NoMemory>
-        ensures { IfOk result (λ r. (s : State) → Stands self.now p.now s → d.of < length p.now.types → r ≡ function_seen s (option_map (entity_kept (types_of p.now.types)) found) (text_at self.now.file.now d.name) (type_named p.now d.of) defines) }
+        ensures { IfOk result (λ r. (s : State) → Stands self.now p.now s → d.of < length p.now.types →
+            r ≡ function_seen s (option_map (entity_kept (types_of p.now.types)) found)
+            (text_at self.now.file.now d.name) (type_named p.now d.of) defines) }
     {
         match found {
             None => Ok(self.look_linked(self.text(d.name)).is_none()),
@@ -175,9 +182,12 @@ impl<'a> Scopes<'a> {
         }
     }
 
-    // Whether what has a body agrees with what was found of its name: as a function or, where its type is none, as an object.
+    // Whether what has a body agrees with what was found of its name: as a function or, where its type is none, as an
+    // object.
     fn definition_agrees(&self, p: &Typed, found: Option<Entity>, d: Decl) -> Result<bool, NoMemory>
-        ensures { IfOk result (λ r. (s : State) → Stands self.now p.now s → d.of < length p.now.types → r ≡ definition_seen s (option_map (entity_kept (types_of p.now.types)) found) (text_at self.now.file.now d.name) (type_named p.now d.of)) }
+        ensures { IfOk result (λ r. (s : State) → Stands self.now p.now s → d.of < length p.now.types →
+            r ≡ definition_seen s (option_map (entity_kept (types_of p.now.types)) found)
+            (text_at self.now.file.now d.name) (type_named p.now d.of)) }
     {
         if is_function(p.types.as_slice(), d.of) {
             self.function_agrees(p, found, d, true)
@@ -188,7 +198,9 @@ impl<'a> Scopes<'a> {
 
     // A new function, which its name denotes from here on.
     fn new_routine(&mut self, p: &mut Typed, d: Decl) -> Result<u32, NoMemory>
-        ensures ok { IfOk result (λ k. (s : State) → Stands self.old p.old s → d.of < length p.old.types → Given self.new p.new (new_routine (name_of self.old.file.now d) (type_named p.old d.of) s) (IsNumbered p.new (text_at self.old.file.now d.name) k (Entry.Fun k))) }
+        ensures ok { IfOk result (λ k. (s : State) → Stands self.old p.old s → d.of < length p.old.types →
+            Given self.new p.new (new_routine (name_of self.old.file.now d) (type_named p.old d.of) s)
+            (IsNumbered p.new (text_at self.old.file.now d.name) k (Entry.Fun k))) }
         ensures err { OnErr result (p.new ≡ p.old) }
         ensures keeps { OnErr result (Keeps self.old self.new p.old) }
         ensures extends { Extends p.old p.new }
@@ -206,7 +218,9 @@ impl<'a> Scopes<'a> {
     // The number of the composite of the type of a function and another type.
     fn merged_routine(&mut self, p: &mut Typed, k: u32, of: u32) -> Result<u32, NoMemory>
         ensures adds { AddsTypes p.old p.new }
-        ensures ok { IfOk result (λ u. (f : FunDef) (t v : Ty) → slice_get p.old.funs k ≡ Some f → named (types_of p.old.types) f.of ≡ Some t → named (types_of p.old.types) of ≡ Some v → named (types_of p.new.types) u ≡ Some (composite t v)) }
+        ensures ok { IfOk result (λ u. (f : FunDef) (t v : Ty) → slice_get p.old.funs k ≡ Some f →
+            named (types_of p.old.types) f.of ≡ Some t → named (types_of p.old.types) of ≡ Some v →
+            named (types_of p.new.types) u ≡ Some (composite t v)) }
         ensures err { OnErr result (p.new ≡ p.old) }
         ensures keeps { (s : State) → Stands self.old p.old s → Stands self.new p.new s }
         ensures others { self.new ≡ record self.old { numbers = self.new.numbers } }
@@ -221,7 +235,10 @@ impl<'a> Scopes<'a> {
 
     // A function that is known gets the composite type.
     fn known_routine(&mut self, p: &mut Typed, k: u32, d: Decl) -> Result<u32, NoMemory>
-        ensures ok { IfOk result (λ j. (s : State) → Stands self.old p.old s → d.of < length p.old.types → find_in (innermost s.scopes).names (text_at self.old.file.now d.name) ≡ Some (Routine k) → Given self.new p.new (known_routine k (type_named p.old d.of) s) (IsNumbered p.new (text_at self.old.file.now d.name) j (Entry.Fun k))) }
+        ensures ok { IfOk result (λ j. (s : State) → Stands self.old p.old s → d.of < length p.old.types →
+            find_in (innermost s.scopes).names (text_at self.old.file.now d.name) ≡ Some (Routine k) →
+            Given self.new p.new (known_routine k (type_named p.old d.of) s)
+            (IsNumbered p.new (text_at self.old.file.now d.name) j (Entry.Fun k))) }
         ensures err { OnErr result (p.new ≡ p.old) }
         ensures keeps { OnErr result (Keeps self.old self.new p.old) }
         ensures extends { Extends p.old p.new }
@@ -232,14 +249,20 @@ impl<'a> Scopes<'a> {
         Ok(k)
     }
 
-    // The function that a declaration is of: that of its name, or a new one. A library function has no number, and 0 stands for it.
+    // The function that a declaration is of: that of its name, or a new one. A library function has no number, and 0
+    // stands for it.
     fn linked_routine(
         &mut self,
         p: &mut Typed,
         found: Option<Entity>,
         d: Decl,
     ) -> Result<u32, NoMemory>
-        ensures ok { IfOk result (λ k. (s : State) (e : Option Meant) → Stands self.old p.old s → d.of < length p.old.types → option_map (entity_kept (types_of p.old.types)) found ≡ option_map entity_seen e → find_in (innermost s.scopes).names (text_at self.old.file.now d.name) ≡ e → Given self.new p.new (linked_routine (name_of self.old.file.now d) (type_named p.old d.of) e s) (IsNumbered p.new (text_at self.old.file.now d.name) k (function_entry found k))) }
+        ensures ok { IfOk result (λ k. (s : State) (e : Option Meant) → Stands self.old p.old s →
+            d.of < length p.old.types →
+            option_map (entity_kept (types_of p.old.types)) found ≡ option_map entity_seen e →
+            find_in (innermost s.scopes).names (text_at self.old.file.now d.name) ≡ e →
+            Given self.new p.new (linked_routine (name_of self.old.file.now d) (type_named p.old d.of) e s)
+            (IsNumbered p.new (text_at self.old.file.now d.name) k (function_entry found k))) }
         ensures err { OnErr result (p.new ≡ p.old) }
         ensures keeps { OnErr result (Keeps self.old self.new p.old) }
         ensures extends { Extends p.old p.new }
@@ -256,7 +279,10 @@ impl<'a> Scopes<'a> {
 
     // Whether the declaration of a function agrees with what its name denotes.
     fn function_fits(&self, p: &Typed, found: Option<Entity>, d: Decl) -> Result<bool, NoMemory>
-        ensures { IfOk result (λ r. (s : State) → Stands self.now p.now s → d.of < length p.now.types → option_map (entity_kept (types_of p.now.types)) found ≡ option_map entity_seen (find_in (innermost s.scopes).names (text_at self.now.file.now d.name)) → r ≡ function_fits s (text_at self.now.file.now d.name) (type_named p.now d.of)) }
+        ensures { IfOk result (λ r. (s : State) → Stands self.now p.now s → d.of < length p.now.types →
+            option_map (entity_kept (types_of p.now.types)) found
+            ≡ option_map entity_seen (find_in (innermost s.scopes).names (text_at self.now.file.now d.name)) →
+            r ≡ function_fits s (text_at self.now.file.now d.name) (type_named p.now d.of)) }
     {
         if self.is_at_file_scope() {
             self.function_agrees(p, found, d, false)
@@ -267,7 +293,9 @@ impl<'a> Scopes<'a> {
 
     // A function is declared.
     pub(crate) fn declare_function(&mut self, p: &mut Typed, d: Decl) -> Result<Entry, Refusal>
-        ensures answers { d.of < length p.old.types → Answers self.old p.old self.new p.new (declares_function (name_of self.old.file.now d) (formed_of p.old d) d.defines) (IsNamed p.new (text_at self.old.file.now d.name)) result }
+        ensures answers { d.of < length p.old.types →
+            Answers self.old p.old self.new p.new (declares_function (name_of self.old.file.now d)
+            (formed_of p.old d) d.defines) (IsNamed p.new (text_at self.old.file.now d.name)) result }
         ensures extends { Extends p.old p.new }
         ensures file { self.new.file.now ≡ self.old.file.now }
     {
@@ -283,9 +311,13 @@ impl<'a> Scopes<'a> {
         }
     }
 
-    // The definition of a function is begun: it has the name and the place of that, and no locals yet. It takes no memory.
+    // The definition of a function is begun: it has the name and the place of that, and no locals yet. It takes no
+    // memory.
     fn begin_routine(&mut self, p: &mut Typed, k: u32, d: Decl)
-        ensures stands { (s : State) → Stands self.old p.old s → Stands self.new p.new (change_routine k (λ (r : RoutineState). record r { name = name_of self.old.file.now d; begun = true }) (record s { locals = [] })) }
+        ensures stands { (s : State) → Stands self.old p.old s →
+            Stands self.new p.new (change_routine k
+            (λ (r : RoutineState). record r { name = name_of self.old.file.now d; begun = true })
+            (record s { locals = [] })) }
         ensures types { p.new.types ≡ p.old.types }
         ensures extends { Extends p.old p.new }
         ensures file { self.new.file.now ≡ self.old.file.now }
@@ -299,7 +331,10 @@ impl<'a> Scopes<'a> {
 
     // The definition of a function is declared (C11 6.9.1).
     pub(crate) fn declare_definition(&mut self, p: &mut Typed, d: Decl) -> Result<Entry, Refusal>
-        ensures answers { d.of < length p.old.types → Answers self.old p.old self.new p.new (declares_definition (storage_of d.storage) (name_of self.old.file.now d) (formed_of p.old d)) (IsNamed p.new (text_at self.old.file.now d.name)) result }
+        ensures answers { d.of < length p.old.types →
+            Answers self.old p.old self.new p.new (declares_definition (storage_of d.storage)
+            (name_of self.old.file.now d) (formed_of p.old d))
+            (IsNamed p.new (text_at self.old.file.now d.name)) result }
         ensures extends { Extends p.old p.new }
         ensures file { self.new.file.now ≡ self.old.file.now }
     {

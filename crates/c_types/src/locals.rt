@@ -27,7 +27,10 @@ fn local(k: u32, of: u32) -> Entity
 impl<'a> Scopes<'a> {
     // A new local of the function at work, which its name denotes from here on.
     pub(crate) fn new_local(&mut self, d: Decl) -> Result<Entry, NoMemory>
-        ensures ok { IfOk result (λ x. (p : Typed) (s : State) (of : Ty) → Stands self.old p s → named (types_of p.types) d.of ≡ Some of → Given self.new p (new_local (name_of self.old.file.now d) of s) (IsNamed p (text_at self.old.file.now d.name) x)) }
+        ensures ok { IfOk result (λ x. (p : Typed) (s : State) (of : Ty) → Stands self.old p s →
+            named (types_of p.types) d.of ≡ Some of →
+            Given self.new p (new_local (name_of self.old.file.now d) of s)
+            (IsNamed p (text_at self.old.file.now d.name) x)) }
         ensures err { OnErr result ((p : Typed) → Keeps self.old self.new p) }
         ensures file { self.new.file.now ≡ self.old.file.now }
     {
@@ -46,7 +49,9 @@ impl<'a> Scopes<'a> {
 
     // An object of automatic storage duration is declared (C11 6.2.4p5).
     pub(crate) fn declare_local(&mut self, p: &Typed, d: Decl) -> Result<Entry, Refusal>
-        ensures is { d.of < length p.now.types → Answers self.old p.now self.new p.now (declares_local (name_of self.old.file.now d) (formed_of p.now d) d.defines) (IsNamed p.now (text_at self.old.file.now d.name)) result }
+        ensures is { d.of < length p.now.types →
+            Answers self.old p.now self.new p.now (declares_local (name_of self.old.file.now d)
+            (formed_of p.now d) d.defines) (IsNamed p.now (text_at self.old.file.now d.name)) result }
         ensures file { self.new.file.now ≡ self.old.file.now }
     {
         let fits = self.is_new(self.text(d.name));
@@ -59,7 +64,9 @@ impl<'a> Scopes<'a> {
 
     /// One more parameter of the function at work. The scope of its prototype has its name.
     pub fn add_parameter(&mut self, parameter: VarDef) -> Result<(), NoMemory>
-        ensures ok { OnOk result ((p : Typed) (s : State) (y : LocalState) → Stands self.old p s → var_kept self.old.file.now (types_of p.types) parameter ≡ local_seen y → Stands self.new p (record s { locals = s.locals ++ y ∷ [] })) }
+        ensures ok { OnOk result ((p : Typed) (s : State) (y : LocalState) → Stands self.old p s →
+            var_kept self.old.file.now (types_of p.types) parameter ≡ local_seen y →
+            Stands self.new p (record s { locals = s.locals ++ y ∷ [] })) }
         ensures err { OnErr result ((p : Typed) → Keeps self.old self.new p) }
         ensures file { self.new.file.now ≡ self.old.file.now }
     {
@@ -69,7 +76,8 @@ impl<'a> Scopes<'a> {
 
     /// The parameters and the other locals of the function at work, which has none from here on.
     pub fn take_locals(&mut self) -> Vec<VarDef>
-        ensures seen { (p : Typed) (s : State) → Stands self.old p s → map (var_kept self.old.file.now (types_of p.types)) result.items ≡ map local_seen s.locals }
+        ensures seen { (p : Typed) (s : State) → Stands self.old p s →
+            map (var_kept self.old.file.now (types_of p.types)) result.items ≡ map local_seen s.locals }
         ensures none { (p : Typed) (s : State) → Stands self.old p s → Stands self.new p (record s { locals = [] }) }
         ensures file { self.new.file.now ≡ self.old.file.now }
     {
@@ -78,7 +86,9 @@ impl<'a> Scopes<'a> {
 
     /// A name of the innermost scope denotes a parameter from here on, by its number in the function (C11 6.2.1p4).
     pub fn bind_local(&mut self, k: u32, of: u32, name: Span) -> Result<(), NoMemory>
-        ensures ok { OnOk result ((p : Typed) (s : State) (u : Ty) → Stands self.old p s → named (types_of p.types) of ≡ Some u → Stands self.new p (bind_name (text_at self.old.file.now name) (Local k u) s)) }
+        ensures ok { OnOk result ((p : Typed) (s : State) (u : Ty) → Stands self.old p s →
+            named (types_of p.types) of ≡ Some u →
+            Stands self.new p (bind_name (text_at self.old.file.now name) (Local k u) s)) }
         ensures err { OnErr result ((p : Typed) → Keeps self.old self.new p) }
         ensures file { self.new.file.now ≡ self.old.file.now }
     {
@@ -93,7 +103,8 @@ impl<'a> Scopes<'a> {
 
     // The type of a local becomes another.
     fn retype_local(&mut self, k: u32, of: u32)
-        ensures is { (p : Typed) (s : State) (u : Ty) → Stands self.old p s → named (types_of p.types) of ≡ Some u → Stands self.new p (record s { locals = retyped u s.locals k }) }
+        ensures is { (p : Typed) (s : State) (u : Ty) → Stands self.old p s → named (types_of p.types) of ≡ Some u →
+            Stands self.new p (record s { locals = retyped u s.locals k }) }
         ensures file { self.new.file.now ≡ self.old.file.now }
     {
         match self.local_at(k) {
@@ -111,7 +122,10 @@ impl<'a> Scopes<'a> {
 
     /// A local of an array whose length was not known gets the type with its length, by its initialiser (C11 6.7.9p22).
     pub fn complete_local(&mut self, k: u32, of: u32, name: Span) -> Result<(), NoMemory>
-        ensures ok { OnOk result ((p : Typed) (s : State) (u : Ty) → Stands self.old p s → named (types_of p.types) of ≡ Some u → Stands self.new p (bind_name (text_at self.old.file.now name) (Local k u) (record s { locals = retyped u s.locals k }))) }
+        ensures ok { OnOk result ((p : Typed) (s : State) (u : Ty) → Stands self.old p s →
+            named (types_of p.types) of ≡ Some u →
+            Stands self.new p (bind_name (text_at self.old.file.now name) (Local k u)
+            (record s { locals = retyped u s.locals k }))) }
         ensures err { OnErr result ((p : Typed) → Keeps self.old self.new p) }
         ensures file { self.new.file.now ≡ self.old.file.now }
     {

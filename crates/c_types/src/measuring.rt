@@ -15,7 +15,8 @@ use cap_layout::{Layout, LayoutFault};
 
 impl<'a> Scopes<'a> {
     fn room_of(&self, n: u32) -> Option<Layout>
-        ensures is { (p : Typed) (s : State) → Stands self.now p s → tag_extent (slice_get s.tags n) ≡ option_map extent_is result }
+        ensures is { (p : Typed) (s : State) → Stands self.now p s →
+            tag_extent (slice_get s.tags n) ≡ option_map extent_is result }
         ensures modest { IfSome result IsModest }
     {
         match self.tags.get(n as usize) {
@@ -27,8 +28,8 @@ impl<'a> Scopes<'a> {
         }
     }
 
-    /// The size and the alignment of a type (C11 6.2.8, 6.5.3.4). The answer is Incomplete exactly for a type that is not complete here,
-    /// and TooLarge exactly for a complete one of more than 67,108,864 bytes.
+    /// The size and the alignment of a type (C11 6.2.8, 6.5.3.4). The answer is Incomplete exactly for a type that is
+    /// not complete here, and TooLarge exactly for a complete one of more than 67,108,864 bytes.
     pub fn layout(&self, p: &Typed, t: u32) -> Result<Layout, LayoutFault>
         ensures is { (s : State) → Stands self.now p.now s → IsLayout (type_extent s.tags (type_named p.now t)) result }
         ensures modest { IfOk result IsModest }
@@ -61,7 +62,8 @@ impl<'a> Scopes<'a> {
         ms: &[Member],
         shared: bool,
     ) -> Result<Layout, LayoutFault>
-        ensures is { (s : State) → Stands self.now p.now s → IsLayout (members (placing shared) (numbered_extent s.tags p.now.types) ms.now no_members) result }
+        ensures is { (s : State) → Stands self.now p.now s →
+            IsLayout (members (placing shared) (numbered_extent s.tags p.now.types) ms.now no_members) result }
         ensures modest { IfOk result IsModest }
     {
         let mut end = Layout { size: 0, align: 1 };

@@ -31,7 +31,9 @@ fn members_of(c: &CType) -> Option<&[Member]>
 impl<'a> Scopes<'a> {
     /// The members of a struct or union by the number of its tag, once it is complete (C11 6.7.2.1).
     pub fn members<'p>(&self, p: &'p Typed, tag: u32) -> Option<&'p [Member]>
-        ensures { (s : State) → Stands self.now p.now s → option_map (λ x. map (member_kept (types_of p.now.types)) (now x)) result ≡ option_map (map part_seen) (parts_of (slice_get s.tags tag)) }
+        ensures { (s : State) → Stands self.now p.now s →
+            option_map (λ x. map (member_kept (types_of p.now.types)) (now x)) result
+            ≡ option_map (map part_seen) (parts_of (slice_get s.tags tag)) }
     {
         match self.tag(tag) {
             None => None,
@@ -51,7 +53,8 @@ impl<'a> Scopes<'a> {
 
     /// Whether a tag is that of a struct or of a union, if there is one with this number.
     pub fn kind_of_tag(&self, tag: u32) -> Option<RecordKind>
-        ensures { (p : Typed) (s : State) → Stands self.now p s → result ≡ option_map (λ (t : TagState). t.kind) (slice_get s.tags tag) }
+        ensures { (p : Typed) (s : State) → Stands self.now p s →
+            result ≡ option_map (λ (t : TagState). t.kind) (slice_get s.tags tag) }
     {
         match self.tag(tag) {
             None => None,
@@ -87,7 +90,9 @@ impl<'a> Scopes<'a> {
 
     /// The number of the type of an object of static storage duration.
     pub fn type_of_object(&self, p: &Typed, k: u32) -> Option<u32>
-        ensures { (s : State) → Stands self.now p.now s → option_map (named (types_of p.now.types)) result ≡ option_map (λ (g : StaticState). Some g.of) (slice_get s.statics k) }
+        ensures { (s : State) → Stands self.now p.now s →
+            option_map (named (types_of p.now.types)) result
+            ≡ option_map (λ (g : StaticState). Some g.of) (slice_get s.statics k) }
     {
         match p.globals.as_slice().get(k as usize) {
             None => None,
@@ -97,7 +102,9 @@ impl<'a> Scopes<'a> {
 
     /// The number of the type of a function.
     pub fn type_of_function(&self, p: &Typed, k: u32) -> Option<u32>
-        ensures { (s : State) → Stands self.now p.now s → option_map (named (types_of p.now.types)) result ≡ option_map (λ (f : RoutineState). Some f.of) (slice_get s.routines k) }
+        ensures { (s : State) → Stands self.now p.now s →
+            option_map (named (types_of p.now.types)) result
+            ≡ option_map (λ (f : RoutineState). Some f.of) (slice_get s.routines k) }
     {
         match p.funs.as_slice().get(k as usize) {
             None => None,
@@ -107,7 +114,9 @@ impl<'a> Scopes<'a> {
 
     /// The number of the type of a parameter or another local of the function at work.
     pub fn type_of_local(&self, k: u32) -> Option<u32>
-        ensures { (p : Typed) (s : State) → Stands self.now p s → option_map (named (types_of p.types)) result ≡ option_map (λ (v : LocalState). Some v.of) (slice_get s.locals k) }
+        ensures { (p : Typed) (s : State) → Stands self.now p s →
+            option_map (named (types_of p.types)) result
+            ≡ option_map (λ (v : LocalState). Some v.of) (slice_get s.locals k) }
     {
         match self.locals.get(k as usize) {
             None => None,

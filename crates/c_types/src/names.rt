@@ -46,7 +46,9 @@ impl<'a> Scopes<'a> {
 
     // An ordinary name of the innermost scope denotes this from here on.
     pub(crate) fn bind(&mut self, name: &'a [u8], entity: Entity) -> Result<(), NoMemory>
-        ensures ok { OnOk result ((p : Typed) (s : State) (x : Meant) → Stands self.old p s → entity_kept (types_of p.types) entity ≡ entity_seen x → Stands self.new p (bind_name name.entry.now x s)) }
+        ensures ok { OnOk result ((p : Typed) (s : State) (x : Meant) → Stands self.old p s →
+            entity_kept (types_of p.types) entity ≡ entity_seen x →
+            Stands self.new p (bind_name name.entry.now x s)) }
         ensures err { OnErr result ((p : Typed) → Keeps self.old self.new p) }
         ensures others { self.new ≡ record self.old { scopes = self.new.scopes } }
         ensures succeeds { HasNameRoom self.old.scopes.items → IsOk result }
@@ -61,7 +63,8 @@ impl<'a> Scopes<'a> {
 
     // A tag of the innermost scope denotes this from here on.
     pub(crate) fn bind_tag(&mut self, name: &'a [u8], tagging: Tagging) -> Result<(), NoMemory>
-        ensures ok { OnOk result ((p : Typed) (s : State) → Stands self.old p s → IsThere s (tagging_of tagging) → Stands self.new p (bind_tag name.entry.now (tagging_of tagging) s)) }
+        ensures ok { OnOk result ((p : Typed) (s : State) → Stands self.old p s → IsThere s (tagging_of tagging) →
+            Stands self.new p (bind_tag name.entry.now (tagging_of tagging) s)) }
         ensures err { OnErr result ((p : Typed) → Keeps self.old self.new p) }
         ensures succeeds { HasTagRoom self.old.scopes.items → IsOk result }
         ensures file { self.new.file.now ≡ self.old.file.now }
@@ -73,9 +76,12 @@ impl<'a> Scopes<'a> {
         Ok(())
     }
 
-    // A name of the innermost scope denotes an enumeration constant: 131 at the name where the scope has the name already.
+    // A name of the innermost scope denotes an enumeration constant: 131 at the name where the scope has the name
+    // already.
     pub(crate) fn declare_value(&mut self, d: Decl, entity: Entity) -> Result<Entry, Refusal>
-        ensures is { (p : Typed) (z : ℤ) → entity ≡ Entity.Enumerator z → Answers self.old p self.new p (denoted (name_of self.old.file.now d) (declares_constant (name_of self.old.file.now d) z)) (IsDenoted p) result }
+        ensures is { (p : Typed) (z : ℤ) → entity ≡ Entity.Enumerator z →
+            Answers self.old p self.new p (denoted (name_of self.old.file.now d)
+            (declares_constant (name_of self.old.file.now d) z)) (IsDenoted p) result }
         ensures file { self.new.file.now ≡ self.old.file.now }
     {
         let name = self.text(d.name);
@@ -86,9 +92,12 @@ impl<'a> Scopes<'a> {
         Ok(entry_of(entity))
     }
 
-    /// An enumeration constant of the innermost scope (C11 6.7.2.2): 131 at the name where the scope has the name already.
+    /// An enumeration constant of the innermost scope (C11 6.7.2.2): 131 at the name where the scope has the name
+    /// already.
     pub fn declare_constant(&mut self, d: Decl, value: i32) -> Result<Entry, Refusal>
-        ensures is { (p : Typed) → Answers self.old p self.new p (denoted (name_of self.old.file.now d) (declares_constant (name_of self.old.file.now d) value)) (IsDenoted p) result }
+        ensures is { (p : Typed) →
+            Answers self.old p self.new p (denoted (name_of self.old.file.now d)
+            (declares_constant (name_of self.old.file.now d) value)) (IsDenoted p) result }
         ensures file { self.new.file.now ≡ self.old.file.now }
     {
         self.declare_value(d, constant(value))

@@ -1,6 +1,7 @@
 //! The scopes in force.
 
-ghost use Rattle.std.specs.Prelude.{◌≡◌, ℕ, List, ◌∷◌, Some, None, OnOk, OnErr, IfOk, option_map, reverse, length, bytes_eq, ◌<◌, IsOk, if◌then◌else◌};
+ghost use Rattle.std.specs.Prelude.{◌≡◌, ℕ, List, ◌∷◌, Some, None, OnOk, OnErr, IfOk, option_map, reverse, length};
+ghost use Rattle.std.specs.Prelude.{bytes_eq, ◌<◌, IsOk, if◌then◌else◌};
 ghost use Rattle.indexmap.specs.IndexMap.{spare};
 ghost use Rattle.c_tree.specs.Scopes.{State, enter, leave, find_name, find_tag, find_in, innermost};
 ghost use Rattle.c_tree.specs.Scopes.{Scope as MeantScope};
@@ -79,7 +80,8 @@ impl<'a> Scope<'a> {
 
     /// An ordinary name denotes this from here on (C11 6.2.1p7).
     pub(crate) fn bind(&mut self, name: &'a [u8], entity: Entity) -> Result<(), NoMemory>
-        ensures names { OnOk result ((n : List ℕ) → name_in self.new n ≡ (if bytes_eq name.entry.now n then Some entity else name_in self.old n)) }
+        ensures names { OnOk result ((n : List ℕ) →
+            name_in self.new n ≡ (if bytes_eq name.entry.now n then Some entity else name_in self.old n)) }
         ensures tags { (n : List ℕ) → tag_in self.new n ≡ tag_in self.old n }
         ensures err { OnErr result ((n : List ℕ) → name_in self.new n ≡ name_in self.old n) }
         ensures succeeds { 0 < spare self.old.names → IsOk result }
@@ -91,7 +93,8 @@ impl<'a> Scope<'a> {
     /// A tag denotes this from here on.
     pub(crate) fn bind_tag(&mut self, name: &'a [u8], tagging: Tagging) -> Result<(), NoMemory>
         ensures names { (n : List ℕ) → name_in self.new n ≡ name_in self.old n }
-        ensures tags { OnOk result ((n : List ℕ) → tag_in self.new n ≡ (if bytes_eq name.entry.now n then Some tagging else tag_in self.old n)) }
+        ensures tags { OnOk result ((n : List ℕ) →
+            tag_in self.new n ≡ (if bytes_eq name.entry.now n then Some tagging else tag_in self.old n)) }
         ensures err { OnErr result ((n : List ℕ) → tag_in self.new n ≡ tag_in self.old n) }
         ensures succeeds { 0 < spare self.old.tags → IsOk result }
     {
@@ -133,8 +136,8 @@ impl<'a> Scope<'a> {
 }
 
 impl<'a> Scopes<'a> {
-    /// The number of a type, which is added to the program if it has none. The numbers in it are those of types of the program. Equal
-    /// types get one number. For want of memory the program is as it was.
+    /// The number of a type, which is added to the program if it has none. The numbers in it are those of types of the
+    /// program. Equal types get one number. For want of memory the program is as it was.
     pub fn number_of(&mut self, p: &mut Typed, c: CType) -> Result<u32, NoMemory>
         ensures adds { AddsTypes p.old p.new }
         ensures ok { IfOk result (λ k. IsNumberOf p.old p.new k c) }
@@ -166,7 +169,8 @@ impl<'a> Scopes<'a> {
     /// Closes the innermost scope, and gives it.
     pub fn close(&mut self) -> Option<Scope<'a>>
         ensures left { (p : Typed) → Does self.old p self.new p leave (λ s a. Unit {0}) }
-        ensures scope { (p : Typed) (s : State) → Stands self.old p s → ShowsInnermost (types_of p.types) (length s.tags) result s.scopes }
+        ensures scope { (p : Typed) (s : State) → Stands self.old p s →
+            ShowsInnermost (types_of p.types) (length s.tags) result s.scopes }
         ensures file { self.new.file.now ≡ self.old.file.now }
     {
         self.scopes.pop()
@@ -174,7 +178,9 @@ impl<'a> Scopes<'a> {
 
     /// Opens a scope that was closed.
     pub fn reopen(&mut self, scope: Scope<'a>) -> Result<(), NoMemory>
-        ensures ok { OnOk result ((p : Typed) (s : State) (c : MeantScope) → Stands self.old p s → ShowsScope (types_of p.types) (length s.tags) scope.entry c → Stands self.new p (record s { scopes = c ∷ s.scopes })) }
+        ensures ok { OnOk result ((p : Typed) (s : State) (c : MeantScope) → Stands self.old p s →
+            ShowsScope (types_of p.types) (length s.tags) scope.entry c →
+            Stands self.new p (record s { scopes = c ∷ s.scopes })) }
         ensures err { OnErr result ((p : Typed) → Keeps self.old self.new p) }
         ensures file { self.new.file.now ≡ self.old.file.now }
     {
@@ -184,14 +190,18 @@ impl<'a> Scopes<'a> {
 
     /// What an ordinary name denotes: the innermost scope that has it decides (C11 6.2.1p4).
     pub fn look(&self, name: &[u8]) -> Option<Entity>
-        ensures { (p : Typed) (s : State) → Stands self.now p s → option_map (entity_kept (types_of p.types)) result ≡ option_map entity_seen (find_name s.scopes name.now) }
+        ensures { (p : Typed) (s : State) → Stands self.now p s →
+            option_map (entity_kept (types_of p.types)) result
+            ≡ option_map entity_seen (find_name s.scopes name.now) }
     {
         name_of(self.scopes.as_slice(), name)
     }
 
     /// What an ordinary name of the innermost scope denotes.
     pub fn look_here(&self, name: &[u8]) -> Option<Entity>
-        ensures { (p : Typed) (s : State) → Stands self.now p s → option_map (entity_kept (types_of p.types)) result ≡ option_map entity_seen (find_in (innermost s.scopes).names name.now) }
+        ensures { (p : Typed) (s : State) → Stands self.now p s →
+            option_map (entity_kept (types_of p.types)) result
+            ≡ option_map entity_seen (find_in (innermost s.scopes).names name.now) }
     {
         match self.scopes.last() {
             None => None,
@@ -201,14 +211,16 @@ impl<'a> Scopes<'a> {
 
     /// What a tag denotes: the innermost scope that has it decides.
     pub fn look_tag(&self, name: &[u8]) -> Option<Tagging>
-        ensures { (p : Typed) (s : State) → Stands self.now p s → option_map tagging_of result ≡ find_tag s.scopes name.now }
+        ensures { (p : Typed) (s : State) → Stands self.now p s →
+            option_map tagging_of result ≡ find_tag s.scopes name.now }
     {
         tag_of(self.scopes.as_slice(), name)
     }
 
     /// What a tag of the innermost scope denotes.
     pub fn look_tag_here(&self, name: &[u8]) -> Option<Tagging>
-        ensures { (p : Typed) (s : State) → Stands self.now p s → option_map tagging_of result ≡ find_in (innermost s.scopes).tags name.now }
+        ensures { (p : Typed) (s : State) → Stands self.now p s →
+            option_map tagging_of result ≡ find_in (innermost s.scopes).tags name.now }
     {
         match self.scopes.last() {
             None => None,
@@ -218,7 +230,8 @@ impl<'a> Scopes<'a> {
 
     /// The entry of what an ordinary name denotes.
     pub fn find(&self, name: &[u8]) -> Option<Entry>
-        ensures { (p : Typed) (s : State) → Stands self.now p s → Found (IsEntity p) result (find_name s.scopes name.now) }
+        ensures { (p : Typed) (s : State) → Stands self.now p s →
+            Found (IsEntity p) result (find_name s.scopes name.now) }
     {
         match self.look(name) {
             None => None,
@@ -228,7 +241,8 @@ impl<'a> Scopes<'a> {
 
     /// The entry of what a tag denotes.
     pub fn find_tag(&self, name: &[u8]) -> Option<Entry>
-        ensures { (p : Typed) (s : State) → Stands self.now p s → Found (λ x g. IsTag p x s g) result (find_tag s.scopes name.now) }
+        ensures { (p : Typed) (s : State) → Stands self.now p s →
+            Found (λ x g. IsTag p x s g) result (find_tag s.scopes name.now) }
     {
         match self.look_tag(name) {
             None => None,
@@ -238,7 +252,8 @@ impl<'a> Scopes<'a> {
 
     // The entry of a tag.
     pub(crate) fn tag_entry(&self, tagging: Tagging) -> Option<Entry>
-        ensures { (p : Typed) (s : State) → Stands self.now p s → IsThere s (tagging_of tagging) → Found (λ x g. IsTag p x s g) result (Some (tagging_of tagging)) }
+        ensures { (p : Typed) (s : State) → Stands self.now p s → IsThere s (tagging_of tagging) →
+            Found (λ x g. IsTag p x s g) result (Some (tagging_of tagging)) }
     {
         match tagging {
             Tagging::Enumerated => Some(Entry::Tag(self.int, TagKind::Enum)),

@@ -1,15 +1,18 @@
 // Objects of static storage duration are declared (C11 6.2.2, 6.2.4p3, 6.9.2).
-ghost use Rattle.std.specs.Prelude.{◌≡◌, ℕ, List, Bool, true, false, not, ◌&&◌, ◌||◌, ◌<◌, length, Some, None, option_map, bytes_eq, if◌then◌else◌, slice_get, IfOk, IsOk, OnOk, OnErr};
+ghost use Rattle.std.specs.Prelude.{◌≡◌, ℕ, List, Bool, true, false, not, ◌&&◌, ◌||◌, ◌<◌, length, Some, None};
+ghost use Rattle.std.specs.Prelude.{option_map, bytes_eq, if◌then◌else◌, slice_get, IfOk, IsOk, OnOk, OnErr};
 ghost use Rattle.std.specs.Map.{lookup};
 ghost use Rattle.indexmap.specs.IndexMap.{spare};
-ghost use Rattle.c_tree.specs.Declarations.{new_static, known_static, linked_static, linked, agrees_static, is_external, named_function, may_be_external};
+ghost use Rattle.c_tree.specs.Declarations.{new_static, known_static, linked_static, linked, agrees_static};
+ghost use Rattle.c_tree.specs.Declarations.{is_external, named_function, may_be_external};
 ghost use Rattle.c_tree.specs.Scopes.{State, changed_at, change_static, find_in, innermost};
 ghost use Rattle.c_tree.specs.Types.{Ty, composite};
 ghost use Rattle.c_tree.specs.Views.{types_of};
 ghost use Rattle.c_tree.specs.declared.typed.GlobalDef.{GlobalDef};
 ghost use Rattle.c_interner.specs.Numbers.{AddsTypes, type_named};
 ghost use Rattle.c_types.specs.Calls.{Given, Keeps, Answers, Extends};
-ghost use Rattle.c_types.specs.Declares.{storage_of, name_of, formed_of, declares_internal, declares_external, declares_global};
+ghost use Rattle.c_types.specs.Declares.{storage_of, name_of, formed_of, declares_internal, declares_external};
+ghost use Rattle.c_types.specs.Declares.{declares_global};
 ghost use Rattle.c_types.specs.Fitting.{seen_static, object_seen, external_seen, external_fits, callee_seen};
 ghost use Rattle.c_types.specs.Naming.{IsNamed, given_at};
 ghost use Rattle.c_types.specs.Rooms.{HasNameRoom};
@@ -143,7 +146,10 @@ impl<'a> Scopes<'a> {
 
     // A name is that of an object with linkage from here on, if the object has linkage.
     fn note_linked(&mut self, name: &'a [u8], k: u32, linkage: bool) -> Result<(), NoMemory>
-        ensures ok { OnOk result ((n : List ℕ) → lookup (λ k. bytes_eq n k.now) self.new.linked.entries ≡ (if linkage && bytes_eq name.entry.now n then Some k else lookup (λ k. bytes_eq n k.now) self.old.linked.entries)) }
+        ensures ok { OnOk result ((n : List ℕ) →
+            lookup (λ k. bytes_eq n k.now) self.new.linked.entries
+            ≡ (if linkage && bytes_eq name.entry.now n then Some k
+            else lookup (λ k. bytes_eq n k.now) self.old.linked.entries)) }
         ensures others { self.new ≡ record self.old { linked = self.new.linked } }
         ensures succeeds { 0 < spare self.old.linked → IsOk result }
         ensures file { self.new.file.now ≡ self.old.file.now }
@@ -166,7 +172,8 @@ impl<'a> Scopes<'a> {
 
     // Whether a declaration agrees with an object that was declared before.
     fn static_agrees(&self, p: &Typed, k: u32, of: u32, defines: bool) -> Result<bool, NoMemory>
-        ensures { IfOk result (λ r. (s : State) → Stands self.now p.now s → of < length p.now.types → r ≡ agrees_static (slice_get s.statics k) (type_named p.now of) defines) }
+        ensures { IfOk result (λ r. (s : State) → Stands self.now p.now s → of < length p.now.types →
+            r ≡ agrees_static (slice_get s.statics k) (type_named p.now of) defines) }
     {
         match p.globals.as_slice().get(k as usize) {
             None => Ok(false),
@@ -177,7 +184,8 @@ impl<'a> Scopes<'a> {
         }
     }
 
-    // Whether the declaration of an object agrees with what was found of its name, or else with the object with linkage of that name.
+    // Whether the declaration of an object agrees with what was found of its name, or else with the object with linkage
+    // of that name.
     pub(crate) fn object_agrees(
         &self,
         p: &Typed,
@@ -185,7 +193,9 @@ impl<'a> Scopes<'a> {
         d: Decl,
         defines: bool,
     ) -> Result<bool, NoMemory>
-        ensures { IfOk result (λ r. (s : State) → Stands self.now p.now s → d.of < length p.now.types → r ≡ object_seen s (option_map (entity_kept (types_of p.now.types)) found) (text_at self.now.file.now d.name) (type_named p.now d.of) defines) }
+        ensures { IfOk result (λ r. (s : State) → Stands self.now p.now s → d.of < length p.now.types →
+            r ≡ object_seen s (option_map (entity_kept (types_of p.now.types)) found)
+            (text_at self.now.file.now d.name) (type_named p.now d.of) defines) }
     {
         match found {
             None => match self.look_linked(self.text(d.name)) {
@@ -207,7 +217,10 @@ impl<'a> Scopes<'a> {
         linkage: bool,
         defined: bool,
     ) -> Result<Entry, NoMemory>
-        ensures ok { IfOk result (λ x. (s : State) → Stands self.old p.old s → d.of < length p.old.types → (linkage ≡ true → linked s (text_at self.old.file.now d.name) ≡ None) → Given self.new p.new (new_static (name_of self.old.file.now d) (type_named p.old d.of) linkage defined s) (IsNamed p.new (text_at self.old.file.now d.name) x)) }
+        ensures ok { IfOk result (λ x. (s : State) → Stands self.old p.old s → d.of < length p.old.types →
+            (linkage ≡ true → linked s (text_at self.old.file.now d.name) ≡ None) →
+            Given self.new p.new (new_static (name_of self.old.file.now d)
+            (type_named p.old d.of) linkage defined s) (IsNamed p.new (text_at self.old.file.now d.name) x)) }
         ensures err { OnErr result (p.new ≡ p.old) }
         ensures keeps { OnErr result (Keeps self.old self.new p.old) }
         ensures extends { Extends p.old p.new }
@@ -233,7 +246,8 @@ impl<'a> Scopes<'a> {
     // An object is defined, if it was not yet.
     fn note_defined(&mut self, k: u32, defined: bool)
         ensures others { self.new ≡ record self.old { objects = self.new.objects } }
-        ensures objects { self.new.objects.items ≡ changed_at (λ (o : ObjectInfo). record o { defined = o.defined || defined }) self.old.objects.items k }
+        ensures objects { self.new.objects.items
+            ≡ changed_at (λ (o : ObjectInfo). record o { defined = o.defined || defined }) self.old.objects.items k }
         ensures file { self.new.file.now ≡ self.old.file.now }
     {
         if (k as usize) < self.objects.len() {
@@ -245,7 +259,9 @@ impl<'a> Scopes<'a> {
     // The number of the composite of the type of an object and another type.
     fn merged_object(&mut self, p: &mut Typed, k: u32, of: u32) -> Result<u32, NoMemory>
         ensures adds { AddsTypes p.old p.new }
-        ensures ok { IfOk result (λ u. (g : GlobalDef) (t v : Ty) → slice_get p.old.globals k ≡ Some g → named (types_of p.old.types) g.of ≡ Some t → named (types_of p.old.types) of ≡ Some v → named (types_of p.new.types) u ≡ Some (composite t v)) }
+        ensures ok { IfOk result (λ u. (g : GlobalDef) (t v : Ty) → slice_get p.old.globals k ≡ Some g →
+            named (types_of p.old.types) g.of ≡ Some t → named (types_of p.old.types) of ≡ Some v →
+            named (types_of p.new.types) u ≡ Some (composite t v)) }
         ensures err { OnErr result (p.new ≡ p.old) }
         ensures keeps { (s : State) → Stands self.old p.old s → Stands self.new p.new s }
         ensures others { self.new ≡ record self.old { numbers = self.new.numbers } }
@@ -266,7 +282,9 @@ impl<'a> Scopes<'a> {
         d: Decl,
         defined: bool,
     ) -> Result<Entry, NoMemory>
-        ensures ok { IfOk result (λ x. (s : State) → Stands self.old p.old s → d.of < length p.old.types → Given self.new p.new (known_static (name_of self.old.file.now d) k (type_named p.old d.of) defined s) (IsNamed p.new (text_at self.old.file.now d.name) x)) }
+        ensures ok { IfOk result (λ x. (s : State) → Stands self.old p.old s → d.of < length p.old.types →
+            Given self.new p.new (known_static (name_of self.old.file.now d) k (type_named p.old d.of) defined s)
+            (IsNamed p.new (text_at self.old.file.now d.name) x)) }
         ensures err { OnErr result (p.new ≡ p.old) }
         ensures keeps { OnErr result (Keeps self.old self.new p.old) }
         ensures extends { Extends p.old p.new }
@@ -283,7 +301,9 @@ impl<'a> Scopes<'a> {
 
     // An object with linkage is declared: it is that of its name, or a new one (C11 6.2.2p2).
     fn linked_object(&mut self, p: &mut Typed, d: Decl, defined: bool) -> Result<Entry, NoMemory>
-        ensures ok { IfOk result (λ x. (s : State) → Stands self.old p.old s → d.of < length p.old.types → Given self.new p.new (linked_static (name_of self.old.file.now d) (type_named p.old d.of) defined (linked s (text_at self.old.file.now d.name)) s) (IsNamed p.new (text_at self.old.file.now d.name) x)) }
+        ensures ok { IfOk result (λ x. (s : State) → Stands self.old p.old s → d.of < length p.old.types →
+            Given self.new p.new (linked_static (name_of self.old.file.now d) (type_named p.old d.of) defined
+            (linked s (text_at self.old.file.now d.name)) s) (IsNamed p.new (text_at self.old.file.now d.name) x)) }
         ensures err { OnErr result (p.new ≡ p.old) }
         ensures keeps { OnErr result (Keeps self.old self.new p.old) }
         ensures extends { Extends p.old p.new }
@@ -297,7 +317,9 @@ impl<'a> Scopes<'a> {
 
     // An object of a block that has static storage duration is declared (C11 6.2.4p3).
     pub(crate) fn declare_internal(&mut self, p: &mut Typed, d: Decl) -> Result<Entry, Refusal>
-        ensures answers { d.of < length p.old.types → Answers self.old p.old self.new p.new (declares_internal (name_of self.old.file.now d) (formed_of p.old d) d.defines) (IsNamed p.new (text_at self.old.file.now d.name)) result }
+        ensures answers { d.of < length p.old.types →
+            Answers self.old p.old self.new p.new (declares_internal (name_of self.old.file.now d)
+            (formed_of p.old d) d.defines) (IsNamed p.new (text_at self.old.file.now d.name)) result }
         ensures extends { Extends p.old p.new }
         ensures file { self.new.file.now ≡ self.old.file.now }
     {
@@ -311,7 +333,10 @@ impl<'a> Scopes<'a> {
 
     // An object of the file is declared (C11 6.9.2).
     pub(crate) fn declare_global(&mut self, p: &mut Typed, d: Decl) -> Result<Entry, Refusal>
-        ensures answers { d.of < length p.old.types → Answers self.old p.old self.new p.new (declares_global (storage_of d.storage) (name_of self.old.file.now d) (formed_of p.old d) d.defines) (IsNamed p.new (text_at self.old.file.now d.name)) result }
+        ensures answers { d.of < length p.old.types →
+            Answers self.old p.old self.new p.new (declares_global (storage_of d.storage)
+            (name_of self.old.file.now d) (formed_of p.old d) d.defines)
+            (IsNamed p.new (text_at self.old.file.now d.name)) result }
         ensures extends { Extends p.old p.new }
         ensures file { self.new.file.now ≡ self.old.file.now }
     {
@@ -334,9 +359,11 @@ impl<'a> Scopes<'a> {
         }
     }
 
-    // Whether what a name of a block denotes, if anything, may be declared there by `extern`: an object with linkage (C11 6.7p3).
+    // Whether what a name of a block denotes, if anything, may be declared there by `extern`: an object with linkage
+    // (C11 6.7p3).
     fn is_new_or_linked(&self, found: Option<Entity>) -> bool
-        ensures { (p : Typed) (s : State) → Stands self.now p s → result ≡ external_seen s (option_map (entity_kept (types_of p.types)) found) }
+        ensures { (p : Typed) (s : State) → Stands self.now p s →
+            result ≡ external_seen s (option_map (entity_kept (types_of p.types)) found) }
     {
         match found {
             None => true,
@@ -349,14 +376,16 @@ impl<'a> Scopes<'a> {
 
     // The same of a name of the innermost scope.
     fn may_be_external(&self, name: &[u8]) -> bool
-        ensures { (p : Typed) (s : State) → Stands self.now p s → result ≡ may_be_external s (find_in (innermost s.scopes).names name.now) }
+        ensures { (p : Typed) (s : State) → Stands self.now p s →
+            result ≡ may_be_external s (find_in (innermost s.scopes).names name.now) }
     {
         self.is_new_or_linked(self.look_here(name))
     }
 
     // Whether the declaration of an object by `extern` in a block agrees with what its name denotes.
     fn external_fits(&self, p: &Typed, d: Decl) -> Result<bool, NoMemory>
-        ensures { IfOk result (λ r. (s : State) → Stands self.now p.now s → d.of < length p.now.types → r ≡ external_fits s (text_at self.now.file.now d.name) (type_named p.now d.of)) }
+        ensures { IfOk result (λ r. (s : State) → Stands self.now p.now s → d.of < length p.now.types →
+            r ≡ external_fits s (text_at self.now.file.now d.name) (type_named p.now d.of)) }
     {
         let name = self.text(d.name);
         let agrees = self.object_agrees(p, None, d, false)?;
@@ -369,7 +398,9 @@ impl<'a> Scopes<'a> {
 
     // An object of the file is declared by `extern` in a block (C11 6.2.2p4).
     pub(crate) fn declare_external(&mut self, p: &mut Typed, d: Decl) -> Result<Entry, Refusal>
-        ensures answers { d.of < length p.old.types → Answers self.old p.old self.new p.new (declares_external (name_of self.old.file.now d) (formed_of p.old d) d.defines) (IsNamed p.new (text_at self.old.file.now d.name)) result }
+        ensures answers { d.of < length p.old.types →
+            Answers self.old p.old self.new p.new (declares_external (name_of self.old.file.now d)
+            (formed_of p.old d) d.defines) (IsNamed p.new (text_at self.old.file.now d.name)) result }
         ensures extends { Extends p.old p.new }
         ensures file { self.new.file.now ≡ self.old.file.now }
     {

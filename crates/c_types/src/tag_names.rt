@@ -32,7 +32,8 @@ impl<'a> Scopes<'a> {
 
     /// The number of the type of a struct or union, by the number of its tag.
     pub fn type_of_tag(&self, tag: u32) -> u32
-        ensures { (p : Typed) (s : State) (k : RecordKind) → Stands self.now p s → kind_at s tag k ≡ true → type_named p result ≡ Tagged tag }
+        ensures { (p : Typed) (s : State) (k : RecordKind) → Stands self.now p s → kind_at s tag k ≡ true →
+            type_named p result ≡ Tagged tag }
     {
         match self.tag(tag) {
             None => 0,
@@ -57,7 +58,8 @@ impl<'a> Scopes<'a> {
         kind: RecordKind,
         name: &'a [u8],
     ) -> Result<u32, NoMemory>
-        ensures ok { IfOk result (λ n. (t : Lexeme) → t.text ≡ name.entry.now → Does self.old p.old self.new p.new (declare_tag kind t) (IsNewTag kind n)) }
+        ensures ok { IfOk result (λ n. (t : Lexeme) → t.text ≡ name.entry.now →
+            Does self.old p.old self.new p.new (declare_tag kind t) (IsNewTag kind n)) }
         ensures err { OnErr result (p.new ≡ p.old) }
         ensures keeps { OnErr result (Keeps self.old self.new p.old) }
         ensures extends { Extends p.old p.new }
@@ -71,7 +73,9 @@ impl<'a> Scopes<'a> {
 
     // A struct or union that is in force here is named, perhaps with braces.
     fn name_record(&mut self, tag: u32, kind: RecordKind, d: Decl) -> Result<u32, Refusal>
-        ensures is { (p : Typed) → Answers self.old p self.new p (names_record kind (name_of self.old.file.now d) d.defines (Recorded tag)) (IsTagOf kind) result }
+        ensures is { (p : Typed) →
+            Answers self.old p self.new p (names_record kind (name_of self.old.file.now d) d.defines (Recorded tag))
+            (IsTagOf kind) result }
         ensures file { self.new.file.now ≡ self.old.file.now }
     {
         if !self.is_of_kind(tag, kind) {
@@ -89,7 +93,9 @@ impl<'a> Scopes<'a> {
 
     // A tag that is in force here is named.
     fn name_tag(&mut self, found: Tagging, kind: RecordKind, d: Decl) -> Result<u32, Refusal>
-        ensures is { (p : Typed) → Answers self.old p self.new p (names_record kind (name_of self.old.file.now d) d.defines (tagging_of found)) (IsTagOf kind) result }
+        ensures is { (p : Typed) →
+            Answers self.old p self.new p (names_record kind (name_of self.old.file.now d) d.defines
+            (tagging_of found)) (IsTagOf kind) result }
         ensures file { self.new.file.now ≡ self.old.file.now }
     {
         match found {
@@ -100,7 +106,8 @@ impl<'a> Scopes<'a> {
 
     // A struct or union is declared by its tag in the innermost scope.
     fn declare_record(&mut self, p: &mut Typed, kind: RecordKind, d: Decl) -> Result<u32, Refusal>
-        ensures answers { Answers self.old p.old self.new p.new (declares_record kind (name_of self.old.file.now d) d.defines) (IsTagOf kind) result }
+        ensures answers { Answers self.old p.old self.new p.new
+            (declares_record kind (name_of self.old.file.now d) d.defines) (IsTagOf kind) result }
         ensures extends { Extends p.old p.new }
         ensures file { self.new.file.now ≡ self.old.file.now }
     {
@@ -119,7 +126,9 @@ impl<'a> Scopes<'a> {
 
     // The tag of an enumeration is declared with its braces.
     fn new_enumeration(&mut self, d: Decl) -> Result<(), Refusal>
-        ensures is { (p : Typed) → Answers self.old p self.new p (declares_enumeration (name_of self.old.file.now d) true) (λ x s a. Unit {0}) result }
+        ensures is { (p : Typed) →
+            Answers self.old p self.new p (declares_enumeration (name_of self.old.file.now d) true)
+            (λ x s a. Unit {0}) result }
         ensures file { self.new.file.now ≡ self.old.file.now }
     {
         let name = self.text(d.name);
@@ -134,7 +143,8 @@ impl<'a> Scopes<'a> {
 
     // The tag of an enumeration that is in force is named.
     fn name_enumeration(&self, d: Decl) -> Result<(), Refusal>
-        ensures { (p : Typed) → Answers self.now p self.now p (declares_enumeration (name_of self.now.file.now d) false) (λ x s a. Unit {0}) result }
+        ensures { (p : Typed) → Answers self.now p self.now p (declares_enumeration (name_of self.now.file.now d) false)
+            (λ x s a. Unit {0}) result }
     {
         match self.look_tag(self.text(d.name)) {
             None => Err(Refusal::Code(132, d.pos)),
@@ -147,7 +157,9 @@ impl<'a> Scopes<'a> {
 
     // An enumeration is declared by its tag.
     fn declare_enumeration(&mut self, d: Decl) -> Result<(), Refusal>
-        ensures is { (p : Typed) → Answers self.old p self.new p (declares_enumeration (name_of self.old.file.now d) d.defines) (λ x s a. Unit {0}) result }
+        ensures is { (p : Typed) →
+            Answers self.old p self.new p (declares_enumeration (name_of self.old.file.now d) d.defines)
+            (λ x s a. Unit {0}) result }
         ensures file { self.new.file.now ≡ self.old.file.now }
     {
         if d.defines {
@@ -157,10 +169,11 @@ impl<'a> Scopes<'a> {
         }
     }
 
-    /// A tag stands with braces, or alone (C11 6.7.2.3). 131 at the name where its braces were opened before, 132 where it is that of no
-    /// enumeration that is in force, and 133 where it is that of another kind.
+    /// A tag stands with braces, or alone (C11 6.7.2.3). 131 at the name where its braces were opened before, 132 where
+    /// it is that of no enumeration that is in force, and 133 where it is that of another kind.
     pub fn declare_tag(&mut self, p: &mut Typed, kind: TagKind, d: Decl) -> Result<Entry, Refusal>
-        ensures answers { Answers self.old p.old self.new p.new (declares_tag kind (name_of self.old.file.now d) d.defines) (IsTag p.new) result }
+        ensures answers { Answers self.old p.old self.new p.new
+            (declares_tag kind (name_of self.old.file.now d) d.defines) (IsTag p.new) result }
         ensures extends { Extends p.old p.new }
         ensures file { self.new.file.now ≡ self.old.file.now }
     {
@@ -194,7 +207,8 @@ fn is_same_kind(a: RecordKind, b: RecordKind) -> bool
 
 // The code where a tag that is in the scope stands with the braces of an enumeration.
 fn clash(found: Tagging) -> u16
-    ensures { (t : Lexeme) (s : State) → new_enumeration t (Some (tagging_of found)) s ≡ Err (record { code = result; place = t.pos }) }
+    ensures { (t : Lexeme) (s : State) →
+        new_enumeration t (Some (tagging_of found)) s ≡ Err (record { code = result; place = t.pos }) }
 {
     match found {
         Tagging::Enumerated => 131,

@@ -1,6 +1,7 @@
 // The tags of structs and unions: their declaration, and their members.
 ghost use Rattle.ck_base.specs.declared.positions.Pos.{Pos};
-ghost use Rattle.std.specs.Prelude.{false, true, Some, ◌≡◌, ℕ, List, Bool, ◌<◌, map, length, IfOk, OnErr, MatchResult, slice_get};
+ghost use Rattle.std.specs.Prelude.{false, true, Some, ◌≡◌, ℕ, List, Bool, ◌<◌, map, length, IfOk, OnErr, MatchResult};
+ghost use Rattle.std.specs.Prelude.{slice_get};
 ghost use Rattle.c_tree.specs.Layout.{size_limit};
 ghost use Rattle.c_tree.specs.Scopes.{State, Part};
 ghost use Rattle.c_tree.specs.Declarators.{new_tag, begin_tag, complete_tag, is_begun, record_extent};
@@ -99,7 +100,8 @@ impl<'a> Scopes<'a> {
 
     // The braces of a struct or union are opened for the first time.
     pub(crate) fn open_tag(&mut self, tag: u32)
-        ensures is { (p : Typed) (s : State) (place : Pos) → Stands self.old p s → is_begun (slice_get s.tags tag) ≡ false → Given self.new p (begin_tag tag place s) (λ t a. Unit {0}) }
+        ensures is { (p : Typed) (s : State) (place : Pos) → Stands self.old p s →
+            is_begun (slice_get s.tags tag) ≡ false → Given self.new p (begin_tag tag place s) (λ t a. Unit {0}) }
         ensures file { self.new.file.now ≡ self.old.file.now }
     {
         match self.tag(tag) {
@@ -139,7 +141,8 @@ impl<'a> Scopes<'a> {
         kind: RecordKind,
         ms: &[Member],
     ) -> Result<Option<Room>, LayoutFault>
-        ensures { (s : State) (parts : List Part) → Stands self.now p.now s → HasParts (types_of p.now.types) parts ms.now → IsRecordRoom (record_extent s.tags kind parts) result }
+        ensures { (s : State) (parts : List Part) → Stands self.now p.now s →
+            HasParts (types_of p.now.types) parts ms.now → IsRecordRoom (record_extent s.tags kind parts) result }
     {
         match self.members_end(p, ms, is_union(kind)) {
             Err(LayoutFault::Incomplete) => Ok(None),
@@ -158,8 +161,8 @@ impl<'a> Scopes<'a> {
         }
     }
 
-    /// A struct or union gets its members, which make it complete (C11 6.7.2.1): 140 at the place if it has more than 67,108,864 bytes.
-    /// The members' types are those of the program.
+    /// A struct or union gets its members, which make it complete (C11 6.7.2.1): 140 at the place if it has more than
+    /// 67,108,864 bytes. The members' types are those of the program.
     pub fn complete_tag(
         &mut self,
         p: &mut Typed,
@@ -167,7 +170,9 @@ impl<'a> Scopes<'a> {
         members: Vec<Member>,
         pos: Pos,
     ) -> Result<(), Refusal>
-        ensures answers { (kind : RecordKind) (parts : List Part) → HasParts (types_of p.old.types) parts members.items → Completes self.old p.old self.new p.new kind tag parts pos result }
+        ensures answers { (kind : RecordKind) (parts : List Part) →
+            HasParts (types_of p.old.types) parts members.items →
+            Completes self.old p.old self.new p.new kind tag parts pos result }
         ensures extends { Extends p.old p.new }
         ensures file { self.new.file.now ≡ self.old.file.now }
     {

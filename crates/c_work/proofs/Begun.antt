@@ -15,10 +15,13 @@ nothing_at {A} {B} xs k x e g = let h = rw e at g in absurd (none h)
     none : slice_get [] k ≡ Some x → ⊥
     none h = cc
 
-pub shows_beginning : (w : Work) (p q : Typed) → w.nodes.scopes.file.now ≡ w.file.now → p.literals ≡ [] → p.stmts ≡ [] → AddsTypes p q → AddsTypes q w.nodes.p → Stands w.nodes.scopes w.nodes.p beginning →
-    w.uses.items ≡ [] → w.addressed.items ≡ [] → w.fillings.items ≡ [] → w.definitions.items ≡ [] → w.waiting.items ≡ [] → Shows w beginning
+pub shows_beginning : (w : Work) (p q : Typed) → w.nodes.scopes.file.now ≡ w.file.now → p.literals ≡ [] → p.stmts ≡ [] →
+    AddsTypes p q → AddsTypes q w.nodes.p → Stands w.nodes.scopes w.nodes.p beginning →
+    w.uses.items ≡ [] → w.addressed.items ≡ [] → w.fillings.items ≡ [] → w.definitions.items ≡ [] →
+    w.waiting.items ≡ [] → Shows w beginning
 shows_beginning w p q d a b f g h u v x y z =
-    let ls : w.nodes.p.literals ≡ [] = ap (λ (r : Typed). r.literals) g.rest ∙ ap (λ (r : Typed). r.literals) f.rest ∙ a in
+    let ls : w.nodes.p.literals ≡ [] =
+    ap (λ (r : Typed). r.literals) g.rest ∙ ap (λ (r : Typed). r.literals) f.rest ∙ a in
     let ss : w.nodes.p.stmts ≡ [] = ap (λ (r : Typed). r.stmts) g.rest ∙ ap (λ (r : Typed). r.stmts) f.rest ∙ b in
     record {
       stands = h;

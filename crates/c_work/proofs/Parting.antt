@@ -1,5 +1,6 @@
 -- The parts of a construct, one after another.
-use Rattle.std.proofs.Common.{◌≡◌, ℕ, zero, suc, ◌<◌, List, [], ◌∷◌, ◌++◌, length, get_or, refl, sym, ap, subst, ◌∙◌, arith, append_assoc}
+use Rattle.std.proofs.Common.{◌≡◌, ℕ, zero, suc, ◌<◌, List, [], ◌∷◌, ◌++◌, length, get_or, refl, sym, ap, subst, ◌∙◌}
+use Rattle.std.proofs.Common.{arith, append_assoc}
 use Rattle.std.proofs.lemmas.List.{append-nil}
 use Rattle.ck_base.specs.declared.tokens.TokenKind.TheVariants.{Text}
 use Rattle.ck_base.specs.Lexes.{IsAccepted}
@@ -32,7 +33,8 @@ written_more : (x : Syn) (xs : Syns) → AreWritten (more x xs) → IsWritten x 
 unfolding AreWritten
 written_more x xs h = h
 
-stand_more : (nodes : List Node) (k : ℕ) (ks : List ℕ) (xs : Syns) → StandAt nodes (k ∷ ks) xs → (x : Syn) × (ys : Syns) × (xs ≡ more x ys) × StandsAt nodes k x × StandAt nodes ks ys
+stand_more : (nodes : List Node) (k : ℕ) (ks : List ℕ) (xs : Syns) → StandAt nodes (k ∷ ks) xs →
+    (x : Syn) × (ys : Syns) × (xs ≡ more x ys) × StandsAt nodes k x × StandAt nodes ks ys
 stand_more nodes k ks xs (next a b) = (_, _, refl, a, b)
 
 pub cut : (w : Work) (k : ℕ) (ks : List ℕ) (xs : Syns) → AreParts w (k ∷ ks) xs → Cut w k ks xs
@@ -57,14 +59,20 @@ no_parts w xs p = empty w.tree.now.nodes xs p.stand
 pub have_at : (w : Work) (ks : List ℕ) (i d : ℕ) → HaveParts w ks → i < length ks → HasPart w (get_or ks i d)
 have_at w [] i d h lt = absurd (omega arith)
 have_at w (k ∷ ks) zero d h lt = let c = cut w k ks h.syntax h.are in record { syntax = c.head; is = c.first }
-have_at w (k ∷ ks) (suc i) d h lt = let c = cut w k ks h.syntax h.are in have_at w ks i d (record { syntax = c.tail; are = c.others }) (omega arith)
+have_at w (k ∷ ks) (suc i) d h lt =
+    let c = cut w k ks h.syntax h.are in have_at w ks i d (record { syntax = c.tail; are = c.others }) (omega arith)
 
 -- ---- adjacent string literals
 
-pub piece_accepted : (w : Work) (p : Part) (x : Syn) → p.kind ≡ Kinds.Text → IsNode w p x → IsAccepted Text (text_at w.file.now p.name.span)
-piece_accepted w p x e n = let fits : TokenFits Kinds.Text (own_token x) = subst (λ (k : NodeKind). TokenFits k (own_token x)) e n.fits in subst (λ (bs : List ℕ). IsAccepted Text bs) n.text fits
+pub piece_accepted : (w : Work) (p : Part) (x : Syn) → p.kind ≡ Kinds.Text → IsNode w p x →
+    IsAccepted Text (text_at w.file.now p.name.span)
+piece_accepted w p x e n =
+    let fits : TokenFits Kinds.Text (own_token x) = subst (λ (k : NodeKind). TokenFits k (own_token x)) e n.fits in
+    subst (λ (bs : List ℕ). IsAccepted Text bs) n.text fits
 
-pub piece_is : (w : Work) (p : Part) (before later : List ℕ) (x : Syn) → later ≡ before ++ characters_of (text_at w.file.now p.name.span) → IsNode w p x → later ≡ before ++ characters_of (own_token x).text
+pub piece_is : (w : Work) (p : Part) (before later : List ℕ) (x : Syn) →
+    later ≡ before ++ characters_of (text_at w.file.now p.name.span) → IsNode w p x →
+    later ≡ before ++ characters_of (own_token x).text
 piece_is w p before later x e n = e ∙ ap (λ bs. before ++ characters_of bs) (sym n.text)
 
 -- what was written of them, and what is left
@@ -73,24 +81,29 @@ pub record Written (w : Work) (before : List ℕ) (xs : Syns) (now : List ℕ) (
   pub parts : AreParts w ks rest
   pub is : now ++ pieces rest ≡ before ++ pieces xs
 
-pub none_written : (w : Work) (before : List ℕ) (xs : Syns) (ks : List ℕ) → AreParts w ks xs → Written w before xs before ks
+pub none_written : (w : Work) (before : List ℕ) (xs : Syns) (ks : List ℕ) → AreParts w ks xs →
+    Written w before xs before ks
 none_written w before xs ks h = record { rest = xs; parts = h; is = refl }
 
 -- the bytes of a literal come first
 pieces_more : (x : Syn) (xs : Syns) → pieces (more x xs) ≡ characters_of (own_token x).text ++ pieces xs
 pieces_more (node k t ys) xs = refl
 
-pub one_written : (w : Work) (before : List ℕ) (xs : Syns) (now : List ℕ) (later : List ℕ) (k : ℕ) (ks : List ℕ) → ((x : Syn) → IsPart w k x → later ≡ now ++ characters_of (own_token x).text) → Written w before xs now (k ∷ ks) → Written w before xs later ks
+pub one_written : (w : Work) (before : List ℕ) (xs : Syns) (now : List ℕ) (later : List ℕ) (k : ℕ) (ks : List ℕ) →
+    ((x : Syn) → IsPart w k x → later ≡ now ++ characters_of (own_token x).text) → Written w before xs now (k ∷ ks) →
+    Written w before xs later ks
 one_written w before xs now later k ks h g =
     let c = cut w k ks g.rest g.parts in
     let bytes = characters_of (own_token c.head).text in
     record {
       rest = c.tail;
       parts = c.others;
-      is = ap (λ bs. bs ++ pieces c.tail) (h c.head c.first) ∙ append_assoc now bytes (pieces c.tail) ∙ ap (λ bs. now ++ bs) (sym (ap pieces c.is ∙ pieces_more c.head c.tail)) ∙ g.is;
+      is = ap (λ bs. bs ++ pieces c.tail) (h c.head c.first) ∙ append_assoc now bytes (pieces c.tail)
+          ∙ ap (λ bs. now ++ bs) (sym (ap pieces c.is ∙ pieces_more c.head c.tail)) ∙ g.is;
     }
 
-pub all_written : (w : Work) (before : List ℕ) (xs : Syns) (now : List ℕ) (ks : List ℕ) → ks ≡ [] → Written w before xs now ks → now ≡ before ++ pieces xs
+pub all_written : (w : Work) (before : List ℕ) (xs : Syns) (now : List ℕ) (ks : List ℕ) → ks ≡ [] →
+    Written w before xs now ks → now ≡ before ++ pieces xs
 all_written w before xs now ks e h =
     let none : h.rest ≡ nil = no_parts w h.rest (subst (λ (js : List ℕ). AreParts w js h.rest) e h.parts) in
     sym (append-nil now) ∙ ap (λ (ys : Syns). now ++ pieces ys) (sym none) ∙ h.is

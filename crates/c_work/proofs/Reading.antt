@@ -1,5 +1,6 @@
 -- What a node of the tree shows.
-use Rattle.std.proofs.Common.{◌≡◌, ℕ, ◌-◌, ◌<◌, ◌≤◌, ⊎_elim, List, length, take, drop, Some, refl, sym, ap, subst, ◌∙◌, arith, length-drop}
+use Rattle.std.proofs.Common.{◌≡◌, ℕ, ◌-◌, ◌<◌, ◌≤◌, ⊎_elim, List, length, take, drop, Some, refl, sym, ap, subst, ◌∙◌}
+use Rattle.std.proofs.Common.{arith, length-drop}
 use Rattle.std.specs.Prelude.{min, slice_get}
 use Rattle.std.proofs.lemmas.List.{take_min}
 use Rattle.std.proofs.lemmas.Bool.{cases_lt}
@@ -18,7 +19,9 @@ pub text_spelled : (file : List ℕ) (s : Span) → take (s.end - s.start) (drop
 text_spelled file s =
     let e = min s.end (length file) in
     let cut : take (s.end - s.start) (drop s.start file) ≡ take (min (s.end - s.start) (length file - s.start)) (drop s.start file) =
-    sym (subst (λ (n : ℕ). take (min (s.end - s.start) n) (drop s.start file) ≡ take (s.end - s.start) (drop s.start file)) (length-drop s.start file) (take_min (s.end - s.start) (drop s.start file))) in
+    sym (subst (λ (n : ℕ). take (min (s.end - s.start) n) (drop s.start file)
+    ≡ take (s.end - s.start) (drop s.start file)) (length-drop s.start file)
+    (take_min (s.end - s.start) (drop s.start file))) in
     ⊎_elim
     (λ (a : e < s.start).
     let none : min (s.end - s.start) (length file - s.start) ≡ 0 = omega arith in
@@ -32,9 +35,11 @@ text_spelled file s =
 
 -- what a node shows of its number
 abbrev IsRead : Work → Node → Syn → Type 0
-IsRead w n x = (ks : Bor (List ℕ)) → ks.now ≡ n.kids → IsNode w (let p : Part = record { kind = n.kind; name = record { span = n.text; pos = n.pos }; first = n.first; kids = ks } in p) x
+IsRead w n x = (ks : Bor (List ℕ)) → ks.now ≡ n.kids →
+    IsNode w (let p : Part = record { kind = n.kind; name = record { span = n.text; pos = n.pos }; first = n.first; kids = ks } in p) x
 
-node_read : (w : Work) (k : ℕ) (n : Node) (x : Syn) → slice_get w.tree.now.nodes k ≡ Some n → StandsAt w.tree.now.nodes k x → IsSpelled w.file.now x → IsWritten x → IsRead w n x
+node_read : (w : Work) (k : ℕ) (n : Node) (x : Syn) → slice_get w.tree.now.nodes k ≡ Some n →
+    StandsAt w.tree.now.nodes k x → IsSpelled w.file.now x → IsWritten x → IsRead w n x
 unfolding IsSpelled IsWritten
 node_read w k n _ e (stands {n = m} {t = t} {xs = xs} f p s i kids) sp wr =
     let same : m ≡ n = cc in
@@ -49,6 +54,7 @@ node_read w k n _ e (stands {n = m} {t = t} {xs = xs} f p s i kids) sp wr =
       parts = record { stand = rw q kids; spelled = sp.1; written = wr.1 };
     })
 
-pub part_read : (w : Work) (k : ℕ) (n : Node) (ks : Bor (List ℕ)) (x : Syn) → slice_get w.tree.now.nodes k ≡ Some n → ks.now ≡ n.kids → IsPart w k x →
+pub part_read : (w : Work) (k : ℕ) (n : Node) (ks : Bor (List ℕ)) (x : Syn) → slice_get w.tree.now.nodes k ≡ Some n →
+    ks.now ≡ n.kids → IsPart w k x →
     IsNode w (let p : Part = record { kind = n.kind; name = record { span = n.text; pos = n.pos }; first = n.first; kids = ks } in p) x
 part_read w k n ks x e q h = node_read w k n x e h.stands h.spelled h.written ks q

@@ -14,7 +14,8 @@ use Rattle.c_nodes.specs.Nodes as nodes_are
 use Rattle.c_nodes.specs.Nodes.{IsWhole, type_in, term_in, type_count, term_count}
 use Rattle.c_work.specs.declared.work.Work.{Work}
 use Rattle.c_work.specs.Work.{Shows}
-use Rattle.c_work.specs.Answers.{Keeps, Quiet, Still, Way, quietly, freely, Done, Refuses, Answers, OperandThere, operand_in, IsOperand, TypeThere, IsType, TermThere, IsTerm, action_count}
+use Rattle.c_work.specs.Answers.{Keeps, Quiet, Still, Way, quietly, freely, Done, Refuses, Answers, OperandThere}
+use Rattle.c_work.specs.Answers.{operand_in, IsOperand, TypeThere, IsType, TermThere, IsTerm, action_count}
 use Rattle.c_work.proofs.Growing.{begins_same, begins_then, quiet_nodes, shows_nodes}
 
 -- ---- ways to grow
@@ -81,7 +82,14 @@ pub still_then : (s t u : State) → Still s t → Still t u → Still s u
 still_then s t u a b =
     let one : length s.tags ≤ length t.tags = a.tags in
     let two : length t.tags ≤ length u.tags = b.tags in
-    record { tags = omega arith; statics = b.statics ∙ a.statics; routines = b.routines ∙ a.routines; locals = b.locals ∙ a.locals; pending = b.pending ∙ a.pending }
+    record {
+      tags = omega arith;
+      statics = b.statics ∙ a.statics;
+      routines = b.routines ∙ a.routines;
+      locals = b.locals
+          ∙ a.locals;
+      pending = b.pending ∙ a.pending;
+    }
 
 -- a way goes on from where it stopped
 pub record IsLawful (y : Way) : Type 0 where
@@ -92,26 +100,42 @@ pub record IsLawful (y : Way) : Type 0 where
   pub stays_later : (s t u : State) → y.stays s t → y.stays t u → y.stays s u
 
 pub quiet_law : IsLawful quietly
-quiet_law = record { keeps = λ u v q. q.keeps; same = quiet_same; later = quiet_then; still = still_same; stays_later = still_then }
+quiet_law = record {
+  keeps = λ u v q. q.keeps;
+  same = quiet_same;
+  later = quiet_then;
+  still = still_same;
+  stays_later = still_then;
+}
 
 pub free_law : IsLawful freely
-free_law = record { keeps = λ u v k. k; same = keeps_same; later = keeps_then; still = λ s. tt; stays_later = λ s t u a b. tt }
+free_law = record {
+  keeps = λ u v k. k;
+  same = keeps_same;
+  later = keeps_then;
+  still = λ s. tt;
+  stays_later = λ s t u a b. tt;
+}
 
 -- ---- one answer
 
 -- where two steps are the same, from the states that the work stands for
-pub answers_at : {A X : Type 0} (y : Way) (u v : Work) (d e : Doing A) (There : Work → X → Type 0) (Is : Work → X → State → A → Type 0) (r : Result X Refusal) → ((s : State) → Shows u s → d s ≡ e s) → Answers y u v e There Is r → Answers y u v d There Is r
+pub answers_at : {A X : Type 0} (y : Way) (u v : Work) (d e : Doing A) (There : Work → X → Type 0)
+    (Is : Work → X → State → A → Type 0) (r : Result X Refusal) → ((s : State) → Shows u s → d s ≡ e s) →
+    Answers y u v e There Is r → Answers y u v d There Is r
 answers_at y u v d e There Is (Ok x) h a = record {
   whole = a.whole;
   grows = a.grows;
   there = a.there;
-  gives = λ s t. let g = a.gives s t in record { value = g.value; state = g.state; is = h s t ∙ g.is; stays = g.stays; shows = g.shows; fits = g.fits };
+  gives = λ s t. let g = a.gives s t in
+      record { value = g.value; state = g.state; is = h s t ∙ g.is; stays = g.stays; shows = g.shows; fits = g.fits };
 }
 answers_at y u v d e There Is (Err (Code code place)) h a = λ s t. h s t ∙ a s t
 answers_at y u v d e There Is (Err NoMemory) h a = tt
 
 -- an answer that nothing has to be built for
-pub gave : {A : Type 0} (y : Way) → IsLawful y → (w : Work) (a : A) (T : Type 0) → IsWhole w.nodes → T → Done y w w (give a) T (λ s x. x ≡ a)
+pub gave : {A : Type 0} (y : Way) → IsLawful y → (w : Work) (a : A) (T : Type 0) → IsWhole w.nodes → T →
+    Done y w w (give a) T (λ s x. x ≡ a)
 gave y law w a T h t = record {
   whole = h;
   grows = law.same w;
@@ -120,34 +144,50 @@ gave y law w a T h t = record {
 }
 
 -- a refusal, whatever was built
-pub refuses : {A X : Type 0} (y : Way) (u v : Work) (d : Doing A) (There : Work → X → Type 0) (Is : Work → X → State → A → Type 0) (code : ℕ) (place : Pos) → Refuses u d code place → Answers y u v d There Is (Err (Code code place))
+pub refuses : {A X : Type 0} (y : Way) (u v : Work) (d : Doing A) (There : Work → X → Type 0)
+    (Is : Work → X → State → A → Type 0) (code : ℕ) (place : Pos) → Refuses u d code place →
+    Answers y u v d There Is (Err (Code code place))
 refuses y u v d There Is code place h = h
 
 -- a quiet answer is one of a declaration or a statement too
-pub freed : {A X : Type 0} (u v : Work) (d : Doing A) (There : Work → X → Type 0) (Is : Work → X → State → A → Type 0) (r : Result X Refusal) → Answers quietly u v d There Is r → Answers freely u v d There Is r
+pub freed : {A X : Type 0} (u v : Work) (d : Doing A) (There : Work → X → Type 0) (Is : Work → X → State → A → Type 0)
+    (r : Result X Refusal) → Answers quietly u v d There Is r → Answers freely u v d There Is r
 freed u v d There Is (Ok x) a = record {
   whole = a.whole;
   grows = a.grows.keeps;
   there = a.there;
-  gives = λ s t. let g = a.gives s t in record { value = g.value; state = g.state; is = g.is; stays = tt; shows = g.shows; fits = g.fits };
+  gives = λ s t. let g = a.gives s t in
+      record { value = g.value; state = g.state; is = g.is; stays = tt; shows = g.shows; fits = g.fits };
 }
 freed u v d There Is (Err (Code code place)) a = a
 freed u v d There Is (Err NoMemory) a = tt
 
 -- what is answered may be said otherwise
-pub told : {A : Type 0} (y : Way) (u v : Work) (d : Doing A) (T S : Type 0) (I K : State → A → Type 0) → (T → S) → ((s : State) (a : A) → Shows v s → I s a → K s a) → Done y u v d T I → Done y u v d S K
+pub told : {A : Type 0} (y : Way) (u v : Work) (d : Doing A) (T S : Type 0) (I K : State → A → Type 0) → (T → S) →
+    ((s : State) (a : A) → Shows v s → I s a → K s a) → Done y u v d T I → Done y u v d S K
 told y u v d T S I K f g a = record {
   whole = a.whole;
   grows = a.grows;
   there = f a.there;
-  gives = λ s t. let m = a.gives s t in record { value = m.value; state = m.state; is = m.is; stays = m.stays; shows = m.shows; fits = g m.state m.value m.shows m.fits };
+  gives = λ s t. let m = a.gives s t in
+      record {
+        value = m.value;
+        state = m.state;
+        is = m.is;
+        stays = m.stays;
+        shows = m.shows;
+        fits = g m.state m.value m.shows m.fits;
+      };
 }
 
 -- ---- one step and then the next
 
 -- what comes next does not hang on which of the values it was
-pub then_by : {A B Z : Type 0} (y : Way) → IsLawful y → (u v w : Work) (d : Doing A) (f : A → Doing B) (g : Doing B) (T : Type 0) (I : State → A → Type 0) (There : Work → Z → Type 0) (Is : Work → Z → State → B → Type 0) (r : Result Z Refusal) →
-    Done y u v d T I → ((s : State) (a : A) → Shows v s → I s a → f a s ≡ g s) → Answers y v w g There Is r → Answers y u w (d >>= f) There Is r
+pub then_by : {A B Z : Type 0} (y : Way) → IsLawful y →
+    (u v w : Work) (d : Doing A) (f : A → Doing B) (g : Doing B) (T : Type 0) (I : State → A → Type 0)
+    (There : Work → Z → Type 0) (Is : Work → Z → State → B → Type 0) (r : Result Z Refusal) →
+    Done y u v d T I → ((s : State) (a : A) → Shows v s → I s a → f a s ≡ g s) → Answers y v w g There Is r →
+    Answers y u w (d >>= f) There Is r
 then_by y law u v w d f g T I There Is (Ok z) a h b = record {
   whole = b.whole;
   grows = law.later u v w a.grows b.grows;
@@ -162,71 +202,110 @@ then_by y law u v w d f g T I There Is (Ok z) a h b = record {
         fits = n.fits;
       };
 }
-then_by y law u v w d f g T I There Is (Err (Code code place)) a h b = λ s t. let m = a.gives s t in ap (λ o. continued o f) m.is ∙ h m.state m.value m.shows m.fits ∙ b m.state m.shows
+then_by y law u v w d f g T I There Is (Err (Code code place)) a h b =
+    λ s t. let m = a.gives s t in ap (λ o. continued o f) m.is ∙ h m.state m.value m.shows m.fits ∙ b m.state m.shows
 then_by y law u v w d f g T I There Is (Err NoMemory) a h b = tt
 
 -- the value is known from the work
-pub then : {A B Z : Type 0} (y : Way) → IsLawful y → (u v w : Work) (d : Doing A) (f : A → Doing B) (a : A) (T : Type 0) (There : Work → Z → Type 0) (Is : Work → Z → State → B → Type 0) (r : Result Z Refusal) →
+pub then : {A B Z : Type 0} (y : Way) → IsLawful y →
+    (u v w : Work) (d : Doing A) (f : A → Doing B) (a : A) (T : Type 0) (There : Work → Z → Type 0)
+    (Is : Work → Z → State → B → Type 0) (r : Result Z Refusal) →
     Done y u v d T (λ s x. x ≡ a) → Answers y v w (f a) There Is r → Answers y u w (d >>= f) There Is r
-then y law u v w d f a T There Is r h b = then_by y law u v w d f (f a) T (λ s x. x ≡ a) There Is r h (λ s x t e. ap (λ z. f z s) e) b
+then y law u v w d f a T There Is r h b =
+    then_by y law u v w d f (f a) T (λ s x. x ≡ a) There Is r h (λ s x t e. ap (λ z. f z s) e) b
 
 -- the value is not looked at
-pub also_then : {A B Z : Type 0} (y : Way) → IsLawful y → (u v w : Work) (d : Doing A) (e : Doing B) (T : Type 0) (I : State → A → Type 0) (There : Work → Z → Type 0) (Is : Work → Z → State → B → Type 0) (r : Result Z Refusal) →
+pub also_then : {A B Z : Type 0} (y : Way) → IsLawful y →
+    (u v w : Work) (d : Doing A) (e : Doing B) (T : Type 0) (I : State → A → Type 0) (There : Work → Z → Type 0)
+    (Is : Work → Z → State → B → Type 0) (r : Result Z Refusal) →
     Done y u v d T I → Answers y v w e There Is r → Answers y u w (d >> e) There Is r
 also_then y law u v w d e T I There Is r h b = then_by y law u v w d (λ x. e) e T I There Is r h (λ s x t q. refl) b
 
 -- a change of the state, for which the work is made to stand, and then a step
-pub changed : {A X : Type 0} (y : Way) → IsLawful y → (u v w : Work) (g : State → State) (d e : Doing A) (There : Work → X → Type 0) (Is : Work → X → State → A → Type 0) (r : Result X Refusal) →
-    IsWhole v.nodes → y.grows u v → ((s : State) → Shows u s → y.stays s (g s)) → ((s : State) → Shows u s → Shows v (g s)) → ((s : State) → Shows u s → d s ≡ e (g s)) → Answers y v w e There Is r → Answers y u w d There Is r
+pub changed : {A X : Type 0} (y : Way) → IsLawful y →
+    (u v w : Work) (g : State → State) (d e : Doing A) (There : Work → X → Type 0) (Is : Work → X → State → A → Type 0)
+    (r : Result X Refusal) →
+    IsWhole v.nodes → y.grows u v → ((s : State) → Shows u s → y.stays s (g s)) →
+    ((s : State) → Shows u s → Shows v (g s)) → ((s : State) → Shows u s → d s ≡ e (g s)) →
+    Answers y v w e There Is r → Answers y u w d There Is r
 changed y law u v w g d e There Is (Ok x) whole grows stays shows h a = record {
   whole = a.whole;
   grows = law.later u v w grows a.grows;
   there = a.there;
-  gives = λ s t. let m = a.gives (g s) (shows s t) in record { value = m.value; state = m.state; is = h s t ∙ m.is; stays = law.stays_later s (g s) m.state (stays s t) m.stays; shows = m.shows; fits = m.fits };
+  gives = λ s t. let m = a.gives (g s) (shows s t) in
+      record {
+        value = m.value;
+        state = m.state;
+        is = h s t ∙ m.is;
+        stays = law.stays_later s (g s) m.state (stays s t) m.stays;
+        shows = m.shows;
+        fits = m.fits;
+      };
 }
-changed y law u v w g d e There Is (Err (Code code place)) whole grows stays shows h a = λ s t. h s t ∙ a (g s) (shows s t)
+changed y law u v w g d e There Is (Err (Code code place)) whole grows stays shows h a =
+    λ s t. h s t ∙ a (g s) (shows s t)
 changed y law u v w g d e There Is (Err NoMemory) whole grows stays shows h a = tt
 
 -- nothing comes after a refusal
-pub failed : {A B X Z : Type 0} (y : Way) (u v w : Work) (d : Doing A) (f : A → Doing B) (There : Work → X → Type 0) (Is : Work → X → State → A → Type 0) (ThereZ : Work → Z → Type 0) (IsZ : Work → Z → State → B → Type 0) (e : Refusal) →
+pub failed : {A B X Z : Type 0} (y : Way) (u v w : Work) (d : Doing A) (f : A → Doing B) (There : Work → X → Type 0)
+    (Is : Work → X → State → A → Type 0) (ThereZ : Work → Z → Type 0) (IsZ : Work → Z → State → B → Type 0)
+    (e : Refusal) →
     Answers y u v d There Is (Err e) → Answers y u w (d >>= f) ThereZ IsZ (Err e)
 failed y u v w d f There Is ThereZ IsZ (Code code place) a = λ s t. ap (λ o. continued o f) (a s t)
 failed y u v w d f There Is ThereZ IsZ NoMemory a = tt
 
 -- ---- tests
 
-pub need_true : {B : Type 0} (b : Bool) (code : ℕ) (p : Pos) (d : Doing B) (s : State) → b ≡ true → (need b code p >> d) s ≡ d s
+pub need_true : {B : Type 0} (b : Bool) (code : ℕ) (p : Pos) (d : Doing B) (s : State) → b ≡ true →
+    (need b code p >> d) s ≡ d s
 need_true b code p d s e = ap (λ x. (need x code p >> d) s) e
 
-pub need_false : {B : Type 0} (b : Bool) (code : ℕ) (p : Pos) (d : Doing B) (s : State) → b ≡ false → (need b code p >> d) s ≡ Err (record { code = code; place = p })
+pub need_false : {B : Type 0} (b : Bool) (code : ℕ) (p : Pos) (d : Doing B) (s : State) → b ≡ false →
+    (need b code p >> d) s ≡ Err (record { code = code; place = p })
 need_false b code p d s e = ap (λ x. (need x code p >> d) s) e
 
 -- ---- rules on typed expressions, which leave the state
 
-pub lift : {A X : Type 0} (w : Work) (n : Nodes) (d : Doing A) (Was : Nodes → X → A → Type 0) (There : Work → X → Type 0) (Is : Work → X → State → A → Type 0) (r : Result X Refusal) →
-    ((x : X) (a : A) → Was n x a → There (record w { nodes = n }) x) → ((x : X) (a : A) (s : State) → Was n x a → Is (record w { nodes = n }) x s a) → nodes.Answers w.nodes n d Was r → Answers quietly w (record w { nodes = n }) d There Is r
+pub lift : {A X : Type 0} (w : Work) (n : Nodes) (d : Doing A) (Was : Nodes → X → A → Type 0)
+    (There : Work → X → Type 0) (Is : Work → X → State → A → Type 0) (r : Result X Refusal) →
+    ((x : X) (a : A) → Was n x a → There (record w { nodes = n }) x) →
+    ((x : X) (a : A) (s : State) → Was n x a → Is (record w { nodes = n }) x s a) →
+    nodes.Answers w.nodes n d Was r → Answers quietly w (record w { nodes = n }) d There Is r
 lift w n d Was There Is (Ok x) f g a = record {
   whole = a.keeps.whole;
   grows = quiet_nodes w n a.keeps;
   there = f x a.value a.shows;
-  gives = λ s t. record { value = a.value; state = s; is = a.is s; stays = still_same s; shows = shows_nodes w n s a.keeps t; fits = g x a.value s a.shows };
+  gives = λ s t. record {
+    value = a.value;
+    state = s;
+    is = a.is s;
+    stays = still_same s;
+    shows = shows_nodes w n s a.keeps t;
+    fits = g x a.value s a.shows;
+  };
 }
 lift w n d Was There Is (Err (Code code place)) f g a = λ s t. a s
 lift w n d Was There Is (Err NoMemory) f g a = tt
 
-pub lift_operand : (w : Work) (n : Nodes) (d : Doing meant.Operand) (r : Result Operand Refusal) → nodes.Answers w.nodes n d nodes_are.IsOperand r → Answers quietly w (record w { nodes = n }) d OperandThere IsOperand r
-lift_operand w n d r a = lift w n d nodes_are.IsOperand OperandThere IsOperand r (λ x o h. h.there) (λ x o s h. sym h.is) a
+pub lift_operand : (w : Work) (n : Nodes) (d : Doing meant.Operand) (r : Result Operand Refusal) →
+    nodes.Answers w.nodes n d nodes_are.IsOperand r →
+    Answers quietly w (record w { nodes = n }) d OperandThere IsOperand r
+lift_operand w n d r a = lift w n d nodes_are.IsOperand OperandThere IsOperand r (λ x o h. h.there)
+    (λ x o s h. sym h.is) a
 
-pub lift_term : (w : Work) (n : Nodes) (d : Doing Term) (r : Result ℕ Refusal) → nodes.Answers w.nodes n d nodes_are.IsTerm r → Answers quietly w (record w { nodes = n }) d TermThere IsTerm r
+pub lift_term : (w : Work) (n : Nodes) (d : Doing Term) (r : Result ℕ Refusal) →
+    nodes.Answers w.nodes n d nodes_are.IsTerm r → Answers quietly w (record w { nodes = n }) d TermThere IsTerm r
 lift_term w n d r a = lift w n d nodes_are.IsTerm TermThere IsTerm r (λ x o h. h.there) (λ x o s h. sym h.is) a
 
-pub lift_type : (w : Work) (n : Nodes) (d : Doing Ty) (r : Result ℕ Refusal) → nodes.Answers w.nodes n d nodes_are.IsType r → Answers quietly w (record w { nodes = n }) d TypeThere IsType r
+pub lift_type : (w : Work) (n : Nodes) (d : Doing Ty) (r : Result ℕ Refusal) →
+    nodes.Answers w.nodes n d nodes_are.IsType r → Answers quietly w (record w { nodes = n }) d TypeThere IsType r
 lift_type w n d r a = lift w n d nodes_are.IsType TypeThere IsType r (λ x o h. h.there) (λ x o s h. sym h.is) a
 
 -- ---- what goes on being named
 
 pub operand_kept : (u v : Work) (o : Operand) → Keeps u v → OperandThere u o → operand_in v o ≡ operand_in u o
-operand_kept u v o k h = ap (λ (x : Term). (let y : meant.Operand = record { is = x; first = o.first } in y)) (k.terms o.node h)
+operand_kept u v o k h = ap (λ (x : Term). (let y : meant.Operand = record { is = x; first = o.first } in y))
+    (k.terms o.node h)
 
 pub operand_there : (u v : Work) (o : Operand) → Keeps u v → OperandThere u o → OperandThere v o
 operand_there u v o k h = let m : term_count u.nodes ≤ term_count v.nodes = k.more_terms in omega arith

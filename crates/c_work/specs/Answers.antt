@@ -77,7 +77,8 @@ abbrev pub freely : Way
 freely = record { grows = Keeps; stays = λ s t. Unit {0} }
 
 -- a step gives this result and this state, for which the work stands
-pub record Given {A : Type 0} (y : Way) (new : Work) (before : State) (r : Result (A × State) Fault) (Is : State → A → Type 0) : Type 0 where
+pub record Given {A : Type 0} (y : Way) (new : Work) (before : State) (r : Result (A × State) Fault)
+    (Is : State → A → Type 0) : Type 0 where
   pub value : A
   pub state : State
   pub is : r ≡ Ok (value, state)
@@ -85,8 +86,10 @@ pub record Given {A : Type 0} (y : Way) (new : Work) (before : State) (r : Resul
   pub shows : Shows new state
   pub fits : Is state value
 
--- From the old work to the new one a step is done, whatever the state. `There` says that what is answered names what is there
-pub record Done {A : Type 0} (y : Way) (old new : Work) (d : Doing A) (There : Type 0) (Is : State → A → Type 0) : Type 0 where
+-- From the old work to the new one a step is done, whatever the state. `There` says that what is answered names what is
+-- there
+pub record Done {A : Type 0} (y : Way) (old new : Work) (d : Doing A) (There : Type 0) (Is : State → A → Type 0) :
+    Type 0 where
   pub whole : IsWhole new.nodes
   pub grows : y.grows old new
   pub there : There
@@ -97,7 +100,8 @@ abbrev pub Refuses : {A : Type 0} → Work → Doing A → ℕ → Pos → Type 
 Refuses old d code place = (s : State) → Shows old s → d s ≡ Err (record { code = code; place = place })
 
 -- The answer is the step's: its result, or its refusal. Want of memory says nothing, and no refused work is used again
-abbrev pub Answers : {A X : Type 0} → Way → (old new : Work) → Doing A → (There : Work → X → Type 0) → (Is : Work → X → State → A → Type 0) → Result X Refusal → Type 0
+abbrev pub Answers : {A X : Type 0} → Way → (old new : Work) → Doing A → (There : Work → X → Type 0) →
+    (Is : Work → X → State → A → Type 0) → Result X Refusal → Type 0
 Answers y old new d There Is (Ok x) = Done y old new d (There new x) (Is new x)
 Answers y old new d There Is (Err (Code code place)) = Refuses old d code place
 Answers y old new d There Is (Err NoMemory) = Unit {0}

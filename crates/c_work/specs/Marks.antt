@@ -13,7 +13,11 @@ pub record IsMark (w : Work) (m : Mark) : Type 0 where
 
 -- the work with these uses, addresses and literals
 abbrev pub with_those : Work → Vec Use → Vec ℕ → List Literal → Work
-with_those w us ks ls = record w { nodes = record w.nodes { p = record w.nodes.p { literals = ls } }; uses = us; addressed = ks }
+with_those w us ks ls = record w {
+  nodes = record w.nodes { p = record w.nodes.p { literals = ls } };
+  uses = us;
+  addressed = ks;
+}
 
 -- the first of the uses, addresses and literals stay
 pub record IsBack (w : Work) (m : Mark) (v : Work) : Type 0 where

@@ -1,5 +1,6 @@
 -- Members of structs and unions, and where they are found.
-use Rattle.std.specs.Prelude.{◌≡◌, ℕ, ◌+◌, if◌then◌else◌, List, [], ◌∷◌, Option, Some, None, option_map, slice_get, bytes_eq}
+use Rattle.std.specs.Prelude.{◌≡◌, ℕ, ◌+◌, if◌then◌else◌, List, [], ◌∷◌, Option, Some, None, option_map, slice_get}
+use Rattle.std.specs.Prelude.{bytes_eq}
 use Rattle.ck_base.specs.declared.positions.Pos.{Pos}
 use Rattle.c_tree.specs.declared.typed.Member.{Member}
 use Rattle.c_tree.specs.Types.{Ty}
@@ -16,7 +17,9 @@ use Rattle.c_work.specs.declared.members.Outcome.TheVariants.{Incomplete, Missin
 -- the first member that has this name in the file
 abbrev pub found_from : List ℕ → ℕ → List Member → List ℕ → Option Found
 found_from file k [] name = None
-found_from file k (m ∷ ms) name = (if bytes_eq (text_at file m.name) name then Some (record { number = k; of = m.of }) else found_from file (k + 1) ms name)
+found_from file k (m ∷ ms) name =
+    (if bytes_eq (text_at file m.name) name then Some (record { number = k; of = m.of })
+    else found_from file (k + 1) ms name)
 
 -- the number and the type of a member, of a complete struct or union, if it has one of that name
 abbrev pub sought : State → ℕ → List ℕ → Option (Option (ℕ × Ty))

@@ -1,12 +1,14 @@
 -- Whether the state knows the sizes that a rule on operands asks for.
-use Rattle.std.specs.Prelude.{◌≡◌, ℕ, Bool, not, ◌&&◌, ◌||◌, nat_le, List, [], ◌∷◌, ◌++◌, length, Option, Some, None, slice_get}
+use Rattle.std.specs.Prelude.{◌≡◌, ℕ, Bool, not, ◌&&◌, ◌||◌, nat_le, List, [], ◌∷◌, ◌++◌, length, Option, Some, None}
+use Rattle.std.specs.Prelude.{slice_get}
 use Rattle.ck_int.specs.declared.kinds.IntOp.{IntOp}
 use Rattle.ck_int.specs.Kinds.{kept_of}
 use Rattle.ck_base.specs.declared.positions.Pos.{Pos}
 use Rattle.c_tree.specs.Terms.{Shape, Constant, Literal, Var, Global, Fun, Term, Deref, leaf, step}
 use Rattle.c_tree.specs.Layout.{size_limit}
 use Rattle.c_tree.specs.Types.{Ty, Pointer, Array, char, int, is_integer, is_pointer, is_scalar, is_function}
-use Rattle.c_tree.specs.Scopes.{StaticState, RoutineState, LocalState, State, Doing, look, change, refuse, need, use_static, use_routine, is_complete, ◌>>=◌, ◌>>◌}
+use Rattle.c_tree.specs.Scopes.{StaticState, RoutineState, LocalState, State, Doing, look, change, refuse, need}
+use Rattle.c_tree.specs.Scopes.{use_static, use_routine, is_complete, ◌>>=◌, ◌>>◌}
 use Rattle.c_tree.specs.Conversions.{Operand}
 use Rattle.c_tree.specs.Expressions.{gives, static_type, routine_type, pointed, is_counted, is_additive}
 use Rattle.c_types.specs.declared.entries.Entity.{Entity}
@@ -25,10 +27,12 @@ abbrev pub if_so : Bool → Bool → Bool
 if_so asked known = not asked || known
 
 abbrev pub sum_counted : State → Ty → Ty → Bool
-sum_counted st s t = if_so (is_pointer s && is_integer t) (is_counted st s) && if_so (is_integer s && is_pointer t) (is_counted st t)
+sum_counted st s t = if_so (is_pointer s && is_integer t) (is_counted st s)
+    && if_so (is_integer s && is_pointer t) (is_counted st t)
 
 abbrev pub difference_counted : State → Ty → Ty → Bool
-difference_counted st s t = if_so (is_pointer s && is_scalar t) (is_counted st s) && if_so (is_pointer s && is_pointer t) (is_counted st t)
+difference_counted st s t =
+    if_so (is_pointer s && is_scalar t) (is_counted st s) && if_so (is_pointer s && is_pointer t) (is_counted st t)
 
 abbrev pub compound_counted : State → IntOp → Ty → Ty → Bool
 compound_counted st o s t = if_so (is_additive o && is_pointer s && is_integer t) (is_counted st s)
@@ -44,10 +48,12 @@ abbrev pub giving_leaf : Shape → Ty → Pos → Doing Operand
 giving_leaf n t p = gives (leaf n t p) p
 
 abbrev pub using_object : ℕ → Pos → Doing Operand
-using_object k p = change (use_static k p) >> look >>= λ s. giving_leaf (Global k) (static_type (slice_get s.statics k)) p
+using_object k p = change (use_static k p) >> look
+    >>= λ s. giving_leaf (Global k) (static_type (slice_get s.statics k)) p
 
 abbrev pub using_function : ℕ → Pos → Doing Operand
-using_function k p = change (use_routine k p) >> look >>= λ s. giving_leaf (Fun k) (routine_type (slice_get s.routines k)) p
+using_function k p = change (use_routine k p) >> look
+    >>= λ s. giving_leaf (Fun k) (routine_type (slice_get s.routines k)) p
 
 -- what a name gives that denotes this, with the types that numbers name
 abbrev pub denoting : Nodes → Option Entity → Pos → Doing Operand
@@ -61,10 +67,12 @@ denoting n (Some (entities.Library k of)) p = refuse 133 p
 
 -- a number names the type of an object of static storage duration, and of a function
 abbrev pub IsObjectType : Work → ℕ → ℕ → Type 0
-IsObjectType w k of = (s : State) → Shows w s → (g : StaticState) × (slice_get s.statics k ≡ Some g) × (type_in w.nodes of ≡ g.of)
+IsObjectType w k of = (s : State) → Shows w s →
+    (g : StaticState) × (slice_get s.statics k ≡ Some g) × (type_in w.nodes of ≡ g.of)
 
 abbrev pub IsFunctionType : Work → ℕ → ℕ → Type 0
-IsFunctionType w k of = (s : State) → Shows w s → (f : RoutineState) × (slice_get s.routines k ≡ Some f) × (type_in w.nodes of ≡ f.of)
+IsFunctionType w k of = (s : State) → Shows w s →
+    (f : RoutineState) × (slice_get s.routines k ≡ Some f) × (type_in w.nodes of ≡ f.of)
 
 -- a number names a local of the function at work
 abbrev pub IsLocal : Work → ℕ → Type 0

@@ -49,7 +49,8 @@ impl<'a> Work<'a> {
     pub(crate) fn leaf(&mut self, kind: Leaf, of: u32, pos: Pos) -> Result<Operand, Refusal>
         requires whole { IsWhole self.old.nodes }
         requires of { of < type_count self.old.nodes }
-        ensures { Answers quietly self.old self.new (giving_leaf (leaf_shape kind) (type_in self.old.nodes of) pos) OperandThere IsOperand result }
+        ensures { Answers quietly self.old self.new
+            (giving_leaf (leaf_shape kind) (type_in self.old.nodes of) pos) OperandThere IsOperand result }
     {
         let node = self.nodes.leaf(kind, of, pos)?;
         Ok(Operand { node, first: pos })
@@ -78,7 +79,8 @@ impl<'a> Work<'a> {
     // A use of a parameter or another local.
     fn local(&mut self, k: u32, of: u32, pos: Pos) -> Result<Operand, Refusal>
         requires { IsWhole self.old.nodes }
-        ensures { Answers quietly self.old self.new (giving_leaf (Var k) (type_in self.old.nodes of) pos) OperandThere IsOperand result }
+        ensures { Answers quietly self.old self.new
+            (giving_leaf (Var k) (type_in self.old.nodes of) pos) OperandThere IsOperand result }
     {
         let known = self.there(of)?;
         self.leaf(Leaf::Var(k), known, pos)
@@ -103,14 +105,15 @@ impl<'a> Work<'a> {
     // An enumeration constant (C11 6.7.2.2p3).
     fn constant(&mut self, number: i32, pos: Pos) -> Result<Operand, Refusal>
         requires { IsWhole self.old.nodes }
-        ensures { Answers quietly self.old self.new (giving_leaf (Constant (kept_of number)) int pos) OperandThere IsOperand result }
+        ensures { Answers quietly self.old self.new
+            (giving_leaf (Constant (kept_of number)) int pos) OperandThere IsOperand result }
     {
         let bits = kept(number);
         int_constant(&mut self.nodes, bits, pos)
     }
 
-    /// What a name denotes, as an expression (C11 6.5.1p2): 130 where it is not declared, 133 for a typedef name and for a library
-    /// function, which stands in a direct call only.
+    /// What a name denotes, as an expression (C11 6.5.1p2): 130 where it is not declared, 133 for a typedef name and
+    /// for a library function, which stands in a direct call only.
     pub fn named(&mut self, name: Name) -> Result<Operand, Refusal>
         requires { IsWhole self.old.nodes }
         ensures { Answers quietly self.old self.new (named (token_of self.old name)) OperandThere IsOperand result }
@@ -121,7 +124,8 @@ impl<'a> Work<'a> {
 
     /// The number of the library function or intrinsic that a name denotes, if it denotes one.
     pub fn called_library(&self, name: Name) -> Option<u8>
-        ensures { (s : State) → Shows self.now s → library_number (find_name s.scopes (token_of self.now name).text) ≡ result }
+        ensures { (s : State) → Shows self.now s →
+            library_number (find_name s.scopes (token_of self.now name).text) ≡ result }
     {
         match self.nodes.scopes.look(self.text(name.span)) {
             Some(Entity::Library(k, _)) => Some(k),

@@ -59,7 +59,8 @@ impl Work<'_> {
     // The bytes that one of adjacent literals spells.
     fn append_piece(&self, k: u32, into: &mut Vec<u8>) -> Result<(), NoMemory>
         requires { HasPart self.now k }
-        ensures { OnOk result ((x : Syn) → IsPart self.now k x → into.new.items ≡ into.old.items ++ characters_of (own_token x).text) }
+        ensures { OnOk result ((x : Syn) → IsPart self.now k x →
+            into.new.items ≡ into.old.items ++ characters_of (own_token x).text) }
     {
         let part = self.part(k)?;
         match part.kind {
@@ -70,7 +71,8 @@ impl Work<'_> {
 
     fn append_pieces(&self, kids: &[u32], into: &mut Vec<u8>) -> Result<(), NoMemory>
         requires { HaveParts self.now kids.now }
-        ensures { OnOk result ((xs : Syns) → AreParts self.now kids.now xs → into.new.items ≡ into.old.items ++ pieces xs) }
+        ensures { OnOk result ((xs : Syns) → AreParts self.now kids.now xs →
+            into.new.items ≡ into.old.items ++ pieces xs) }
     {
         for k in kids {
             self.append_piece(*k, into)?;
@@ -82,7 +84,8 @@ impl Work<'_> {
     pub fn text_bytes(&self, name: Name, kids: &[u32]) -> Result<Vec<u8>, NoMemory>
         requires accepted { IsAccepted TokenKind.Text (text_at self.now.file.now name.span) }
         requires parts { HaveParts self.now kids.now }
-        ensures { IfOk result (λ v. (xs : Syns) → AreParts self.now kids.now xs → v.items ≡ text_bytes (token_of self.now name) xs) }
+        ensures { IfOk result (λ v. (xs : Syns) → AreParts self.now kids.now xs →
+            v.items ≡ text_bytes (token_of self.now name) xs) }
     {
         let mut bytes = Vec::new(self.nodes.alloc);
         append_text(self.text(name.span), &mut bytes)?;
@@ -115,7 +118,8 @@ impl Work<'_> {
         requires whole { IsWhole self.old.nodes }
         requires accepted { IsAccepted TokenKind.Text (text_at self.old.file.now name.span) }
         requires parts { HaveParts self.old kids.now }
-        ensures { (xs : Syns) → AreParts self.old kids.now xs → Answers quietly self.old self.new (text (token_of self.old name) xs) OperandThere IsOperand result }
+        ensures { (xs : Syns) → AreParts self.old kids.now xs →
+            Answers quietly self.old self.new (text (token_of self.old name) xs) OperandThere IsOperand result }
     {
         let bytes = self.text_bytes(name, kids)?;
         self.written(bytes, name.pos)

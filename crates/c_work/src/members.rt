@@ -70,7 +70,8 @@ impl Work<'_> {
 
     // The member of a name, of a struct or union by the number of its tag.
     fn seek(&self, tag: u32, name: &[u8]) -> Result<Outcome, NoMemory>
-        ensures { IfOk result (λ f. (s : State) → Shows self.now s → IsSought (types_of self.now.nodes.p.types) f (sought s tag name.now)) }
+        ensures { IfOk result (λ f. (s : State) → Shows self.now s →
+            IsSought (types_of self.now.nodes.p.types) f (sought s tag name.now)) }
     {
         match self.nodes.scopes.members(&self.nodes.p, tag) {
             None => Ok(Outcome::Incomplete),
@@ -86,7 +87,10 @@ impl Work<'_> {
         requires whole { IsWhole self.old.nodes }
         requires operand { OperandThere self.old a }
         requires of { of < type_count self.old.nodes }
-        ensures { Answers quietly self.old self.new (gives (step (The_member k) (operand_in self.old a).is (as_qualified (operand_type (operand_in self.old a)) (type_in self.old.nodes of)) pos) a.first) OperandThere IsOperand result }
+        ensures { Answers quietly self.old self.new
+            (gives (step (The_member k) (operand_in self.old a).is
+            (as_qualified (operand_type (operand_in self.old a)) (type_in self.old.nodes of)) pos) a.first)
+            OperandThere IsOperand result }
     {
         let whole = self.nodes.of(a.node);
         let qualified = as_qualified(&mut self.nodes, whole, of)?;
@@ -101,7 +105,8 @@ impl Work<'_> {
     fn tag_of(&self, t: u32) -> Option<u32>
         requires whole { IsWhole self.now.nodes }
         requires there { t < type_count self.now.nodes }
-        ensures { MatchOption result (is_tagged (type_in self.now.nodes t) ≡ false) (λ n. type_in self.now.nodes t ≡ Tagged n) }
+        ensures { MatchOption result (is_tagged (type_in self.now.nodes t) ≡ false)
+            (λ n. type_in self.now.nodes t ≡ Tagged n) }
     {
         match self.nodes.class(t) {
             Class::Tagged(tag) => Some(tag),
@@ -120,7 +125,8 @@ impl Work<'_> {
         requires whole { IsWhole self.old.nodes }
         requires operand { OperandThere self.old a }
         requires tagged { bare (operand_type (operand_in self.old a)) ≡ Tagged tag }
-        ensures { Answers quietly self.old self.new (member (operand_in self.old a) name.now pos) OperandThere IsOperand result }
+        ensures { Answers quietly self.old self.new
+            (member (operand_in self.old a) name.now pos) OperandThere IsOperand result }
     {
         let found = self.seek(tag, name)?;
         match found {
@@ -133,11 +139,13 @@ impl Work<'_> {
         }
     }
 
-    /// A member (C11 6.5.2.3p3): 132 at an incomplete struct or union, 133 at what is none and where there is no such member.
+    /// A member (C11 6.5.2.3p3): 132 at an incomplete struct or union, 133 at what is none and where there is no such
+    /// member.
     pub fn member(&mut self, a: Operand, name: &[u8], pos: Pos) -> Result<Operand, Refusal>
         requires whole { IsWhole self.old.nodes }
         requires operand { OperandThere self.old a }
-        ensures { Answers quietly self.old self.new (member (operand_in self.old a) name.now pos) OperandThere IsOperand result }
+        ensures { Answers quietly self.old self.new
+            (member (operand_in self.old a) name.now pos) OperandThere IsOperand result }
     {
         let of = self.nodes.of(a.node);
         let bare = self.nodes.bare(of);
@@ -151,7 +159,8 @@ impl Work<'_> {
     pub fn member_behind(&mut self, a: Operand, name: &[u8], pos: Pos) -> Result<Operand, Refusal>
         requires whole { IsWhole self.old.nodes }
         requires operand { OperandThere self.old a }
-        ensures { Answers quietly self.old self.new (member_behind (operand_in self.old a) name.now pos) OperandThere IsOperand result }
+        ensures { Answers quietly self.old self.new
+            (member_behind (operand_in self.old a) name.now pos) OperandThere IsOperand result }
     {
         let x = self.dereference(a, pos, a.first)?;
         self.member(x, name, pos)

@@ -4,7 +4,8 @@ ghost use Rattle.std.specs.Prelude.{◌≡◌, ◌<◌, ◌&&◌, ◌||◌, not}
 ghost use Rattle.c_tree.specs.Types.{bare, is_integer, is_pointer, is_scalar};
 ghost use Rattle.c_tree.specs.Scopes.{State, is_complete};
 ghost use Rattle.c_tree.specs.Conversions.{is_readable, value, operand_type};
-ghost use Rattle.c_tree.specs.Expressions.{is_counted, is_additive, sum, difference, int_join, infix_join, compound, stepped};
+ghost use Rattle.c_tree.specs.Expressions.{is_counted, is_additive, sum, difference, int_join, infix_join, compound};
+ghost use Rattle.c_tree.specs.Expressions.{stepped};
 ghost use Rattle.c_nodes.specs.Nodes.{IsWhole, type_in, term_in, type_count, term_count};
 ghost use Rattle.c_work.specs.Work.{Shows};
 ghost use Rattle.c_work.specs.Answers.{Answers, quietly, OperandThere, IsOperand, operand_in};
@@ -141,7 +142,8 @@ impl Work<'_> {
         requires whole { IsWhole self.now.nodes }
         requires first { s < type_count self.now.nodes }
         requires second { t < type_count self.now.nodes }
-        ensures { (st : State) → Shows self.now st → sum_counted st (type_in self.now.nodes s) (type_in self.now.nodes t) ≡ result }
+        ensures { (st : State) → Shows self.now st →
+            sum_counted st (type_in self.now.nodes s) (type_in self.now.nodes t) ≡ result }
     {
         if_so(self.is_pointer_with_integer(s, t), self.is_counted(s))
             && if_so(self.is_integer_with_pointer(s, t), self.is_counted(t))
@@ -151,7 +153,8 @@ impl Work<'_> {
         requires whole { IsWhole self.now.nodes }
         requires first { s < type_count self.now.nodes }
         requires second { t < type_count self.now.nodes }
-        ensures { (st : State) → Shows self.now st → difference_counted st (type_in self.now.nodes s) (type_in self.now.nodes t) ≡ result }
+        ensures { (st : State) → Shows self.now st →
+            difference_counted st (type_in self.now.nodes s) (type_in self.now.nodes t) ≡ result }
     {
         if_so(self.is_pointer_with_scalar(s, t), self.is_counted(s))
             && if_so(self.are_pointers(s, t), self.is_counted(t))
@@ -161,7 +164,8 @@ impl Work<'_> {
         requires whole { IsWhole self.now.nodes }
         requires first { s < type_count self.now.nodes }
         requires second { t < type_count self.now.nodes }
-        ensures { (st : State) → Shows self.now st → compound_counted st op (type_in self.now.nodes s) (type_in self.now.nodes t) ≡ result }
+        ensures { (st : State) → Shows self.now st →
+            compound_counted st op (type_in self.now.nodes s) (type_in self.now.nodes t) ≡ result }
     {
         if is_additive(op) {
             if_so(self.is_pointer_with_integer(s, t), self.is_counted(s))
@@ -175,7 +179,8 @@ impl Work<'_> {
         requires whole { IsWhole self.old.nodes }
         requires left { OperandThere self.old a }
         requires right { OperandThere self.old b }
-        ensures { Answers quietly self.old self.new (sum (operand_in self.old a) (operand_in self.old b) pos) OperandThere IsOperand result }
+        ensures { Answers quietly self.old self.new
+            (sum (operand_in self.old a) (operand_in self.old b) pos) OperandThere IsOperand result }
     {
         let s = self.nodes.of(a.node);
         let t = self.nodes.of(b.node);
@@ -190,7 +195,8 @@ impl Work<'_> {
         requires whole { IsWhole self.old.nodes }
         requires left { OperandThere self.old a }
         requires right { OperandThere self.old b }
-        ensures { Answers quietly self.old self.new (difference (operand_in self.old a) (operand_in self.old b) pos) OperandThere IsOperand result }
+        ensures { Answers quietly self.old self.new
+            (difference (operand_in self.old a) (operand_in self.old b) pos) OperandThere IsOperand result }
     {
         let s = self.nodes.of(a.node);
         let t = self.nodes.of(b.node);
@@ -211,7 +217,8 @@ impl Work<'_> {
         requires whole { IsWhole self.old.nodes }
         requires left { OperandThere self.old a }
         requires right { OperandThere self.old b }
-        ensures { Answers quietly self.old self.new (infix_join_of op (operand_in self.old a) (operand_in self.old b) pos) OperandThere IsOperand result }
+        ensures { Answers quietly self.old self.new
+            (infix_join_of op (operand_in self.old a) (operand_in self.old b) pos) OperandThere IsOperand result }
     {
         infix_join_of(&mut self.nodes, op, a, b, pos)
     }
@@ -227,7 +234,8 @@ impl Work<'_> {
         requires whole { IsWhole self.old.nodes }
         requires left { OperandThere self.old a }
         requires right { OperandThere self.old b }
-        ensures { Answers quietly self.old self.new (int_join op (operand_in self.old a) (operand_in self.old b) pos) OperandThere IsOperand result }
+        ensures { Answers quietly self.old self.new
+            (int_join op (operand_in self.old a) (operand_in self.old b) pos) OperandThere IsOperand result }
     {
         match op {
             IntOp::Add => self.sum(a, b, pos),
@@ -254,7 +262,8 @@ impl Work<'_> {
         requires whole { IsWhole self.old.nodes }
         requires left { OperandThere self.old a }
         requires right { OperandThere self.old b }
-        ensures { Answers quietly self.old self.new (infix_join op (operand_in self.old a) (operand_in self.old b) pos) OperandThere IsOperand result }
+        ensures { Answers quietly self.old self.new
+            (infix_join op (operand_in self.old a) (operand_in self.old b) pos) OperandThere IsOperand result }
     {
         match op {
             InfixOperator::Int(op) => self.int_join(op, a, b, pos),
@@ -278,7 +287,8 @@ impl Work<'_> {
         requires whole { IsWhole self.old.nodes }
         requires left { OperandThere self.old a }
         requires right { OperandThere self.old b }
-        ensures { Answers quietly self.old self.new (compound op (operand_in self.old a) (operand_in self.old b) pos) OperandThere IsOperand result }
+        ensures { Answers quietly self.old self.new
+            (compound op (operand_in self.old a) (operand_in self.old b) pos) OperandThere IsOperand result }
     {
         let s = self.nodes.bare(self.nodes.of(a.node));
         let t = self.nodes.of(b.node);
@@ -299,7 +309,8 @@ impl Work<'_> {
     ) -> Result<Operand, Refusal>
         requires whole { IsWhole self.old.nodes }
         requires operand { OperandThere self.old a }
-        ensures { Answers quietly self.old self.new (stepped op in_front (operand_in self.old a) pos first) OperandThere IsOperand result }
+        ensures { Answers quietly self.old self.new
+            (stepped op in_front (operand_in self.old a) pos first) OperandThere IsOperand result }
     {
         let t = self.nodes.bare(self.nodes.of(a.node));
         if !self.is_counted(t) {

@@ -38,7 +38,8 @@ impl<'a> Work<'a> {
     pub fn number(&mut self, name: Name) -> Result<Operand, Refusal>
         requires whole { IsWhole self.old.nodes }
         requires accepted { IsAccepted TokenKind.Number (text_at self.old.file.now name.span) }
-        ensures { Answers quietly self.old self.new (number_at (text_at self.old.file.now name.span) name.pos) OperandThere IsOperand result }
+        ensures { Answers quietly self.old self.new
+            (number_at (text_at self.old.file.now name.span) name.pos) OperandThere IsOperand result }
     {
         let text = self.text(name.span);
         c_rules::number(&mut self.nodes, text, name.pos)
@@ -48,7 +49,8 @@ impl<'a> Work<'a> {
     pub fn character(&mut self, name: Name) -> Result<Operand, Refusal>
         requires whole { IsWhole self.old.nodes }
         requires accepted { IsAccepted TokenKind.Char (text_at self.old.file.now name.span) }
-        ensures { Answers quietly self.old self.new (character_at (text_at self.old.file.now name.span) name.pos) OperandThere IsOperand result }
+        ensures { Answers quietly self.old self.new
+            (character_at (text_at self.old.file.now name.span) name.pos) OperandThere IsOperand result }
     {
         let text = self.text(name.span);
         c_rules::character(&mut self.nodes, text, name.pos)

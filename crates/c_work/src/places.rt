@@ -31,7 +31,9 @@ impl Work<'_> {
         requires whole { IsWhole self.old.nodes }
         requires operand { OperandThere self.old a }
         requires to { to < type_count self.old.nodes }
-        ensures { Answers quietly self.old self.new (dereferencing (type_in self.old.nodes to) (operand_in self.old a).is pos first) OperandThere IsOperand result }
+        ensures { Answers quietly self.old self.new
+            (dereferencing (type_in self.old.nodes to) (operand_in self.old a).is pos first) OperandThere IsOperand
+            result }
     {
         if !self.is_sized(to) {
             return Err(Refusal::Code(132, first));
@@ -44,7 +46,8 @@ impl Work<'_> {
     pub fn dereference(&mut self, a: Operand, pos: Pos, first: Pos) -> Result<Operand, Refusal>
         requires whole { IsWhole self.old.nodes }
         requires operand { OperandThere self.old a }
-        ensures { Answers quietly self.old self.new (dereference (operand_in self.old a) pos first) OperandThere IsOperand result }
+        ensures { Answers quietly self.old self.new
+            (dereference (operand_in self.old a) pos first) OperandThere IsOperand result }
     {
         let of = self.nodes.of(a.node);
         match self.nodes.target(of) {
@@ -58,7 +61,8 @@ impl Work<'_> {
         requires whole { IsWhole self.old.nodes }
         requires left { OperandThere self.old a }
         requires right { OperandThere self.old b }
-        ensures { Answers quietly self.old self.new (index (operand_in self.old a) (operand_in self.old b) pos) OperandThere IsOperand result }
+        ensures { Answers quietly self.old self.new
+            (index (operand_in self.old a) (operand_in self.old b) pos) OperandThere IsOperand result }
     {
         let x = self.sum(a, b, pos)?;
         self.dereference(x, pos, a.first)
@@ -68,7 +72,8 @@ impl Work<'_> {
     pub fn address(&mut self, a: Operand, pos: Pos) -> Result<Operand, Refusal>
         requires whole { IsWhole self.old.nodes }
         requires operand { OperandThere self.old a }
-        ensures { Answers quietly self.old self.new (address (operand_in self.old a) pos) OperandThere IsOperand result }
+        ensures { Answers quietly self.old self.new
+            (address (operand_in self.old a) pos) OperandThere IsOperand result }
     {
         match local_of(&self.nodes, a.node) {
             None => address_of(&mut self.nodes, a, pos),
@@ -80,7 +85,8 @@ impl Work<'_> {
         requires whole { IsWhole self.old.nodes }
         requires operand { OperandThere self.old a }
         requires local { local_of (operand_in self.old a).is ≡ Some k }
-        ensures { Answers quietly self.old self.new (address (operand_in self.old a) pos) OperandThere IsOperand result }
+        ensures { Answers quietly self.old self.new
+            (address (operand_in self.old a) pos) OperandThere IsOperand result }
     {
         let known = self.local_there(k)?;
         push_number(&mut self.addressed, known)?;

@@ -7,7 +7,8 @@ ghost use Rattle.c_tree.specs.Conversions.{assigned};
 ghost use Rattle.c_tree.specs.Libraries.{services};
 ghost use Rattle.c_tree.specs.Types.{Pointer};
 ghost use Rattle.c_tree.specs.Views.{tys};
-ghost use Rattle.c_tree.specs.Expressions.{unary_on, cast, assign, condition, conditional, call, library_call, sized, may_be_given, all_complete, is_callable};
+ghost use Rattle.c_tree.specs.Expressions.{unary_on, cast, assign, condition, conditional, call, library_call, sized};
+ghost use Rattle.c_tree.specs.Expressions.{may_be_given, all_complete, is_callable};
 ghost use Rattle.c_nodes.specs.Nodes.{IsWhole, type_in, type_count, term_count};
 ghost use Rattle.c_rules.specs.Called.{AreThere};
 ghost use Rattle.c_work.specs.Work.{Shows};
@@ -24,7 +25,8 @@ impl Work<'_> {
     pub fn unary_on(&mut self, op: UnaryOp, a: Operand, pos: Pos) -> Result<Operand, Refusal>
         requires whole { IsWhole self.old.nodes }
         requires operand { OperandThere self.old a }
-        ensures { Answers quietly self.old self.new (unary_on op (operand_in self.old a) pos) OperandThere IsOperand result }
+        ensures { Answers quietly self.old self.new
+            (unary_on op (operand_in self.old a) pos) OperandThere IsOperand result }
     {
         c_rules::unary_on(&mut self.nodes, op, a, pos)
     }
@@ -34,7 +36,8 @@ impl Work<'_> {
         requires whole { IsWhole self.old.nodes }
         requires of { of < type_count self.old.nodes }
         requires operand { OperandThere self.old a }
-        ensures { Answers quietly self.old self.new (cast (type_in self.old.nodes of) (operand_in self.old a) pos) OperandThere IsOperand result }
+        ensures { Answers quietly self.old self.new
+            (cast (type_in self.old.nodes of) (operand_in self.old a) pos) OperandThere IsOperand result }
     {
         c_rules::cast(&mut self.nodes, of, a, pos)
     }
@@ -44,7 +47,8 @@ impl Work<'_> {
         requires whole { IsWhole self.old.nodes }
         requires left { OperandThere self.old a }
         requires right { OperandThere self.old b }
-        ensures { Answers quietly self.old self.new (assign (operand_in self.old a) (operand_in self.old b) pos) OperandThere IsOperand result }
+        ensures { Answers quietly self.old self.new
+            (assign (operand_in self.old a) (operand_in self.old b) pos) OperandThere IsOperand result }
     {
         c_rules::assign(&mut self.nodes, a, b, pos)
     }
@@ -54,7 +58,8 @@ impl Work<'_> {
         requires whole { IsWhole self.old.nodes }
         requires of { of < type_count self.old.nodes }
         requires operand { OperandThere self.old x }
-        ensures { Answers quietly self.old self.new (assigned (type_in self.old.nodes of) (operand_in self.old x)) TermThere IsTerm result }
+        ensures { Answers quietly self.old self.new
+            (assigned (type_in self.old.nodes of) (operand_in self.old x)) TermThere IsTerm result }
     {
         self.nodes.assigned(of, x)
     }
@@ -80,7 +85,9 @@ impl Work<'_> {
         requires condition { OperandThere self.old a }
         requires second { OperandThere self.old b }
         requires third { OperandThere self.old c }
-        ensures { Answers quietly self.old self.new (conditional (operand_in self.old a) (operand_in self.old b) (operand_in self.old c) pos) OperandThere IsOperand result }
+        ensures { Answers quietly self.old self.new
+            (conditional (operand_in self.old a) (operand_in self.old b) (operand_in self.old c) pos) OperandThere
+            IsOperand result }
     {
         c_rules::conditional(&mut self.nodes, a, b, c, pos)
     }
@@ -97,7 +104,8 @@ impl Work<'_> {
     }
 
     fn all_complete(&self, params: &[u32]) -> bool
-        ensures { (s : State) → Shows self.now s → result ≡ all_complete s (tys (map (type_in self.now.nodes) params.now)) }
+        ensures { (s : State) → Shows self.now s →
+            result ≡ all_complete s (tys (map (type_in self.now.nodes) params.now)) }
     {
         for of in params {
             if !self.nodes.scopes.is_complete(&self.nodes.p, *of) {
@@ -111,7 +119,8 @@ impl Work<'_> {
     fn is_complete_function(&self, of: u32) -> Result<bool, NoMemory>
         requires whole { IsWhole self.now.nodes }
         requires there { of < type_count self.now.nodes }
-        ensures { IfOk result (λ b. (s : State) → Shows self.now s → b ≡ is_callable s (Pointer (type_in self.now.nodes of))) }
+        ensures { IfOk result (λ b. (s : State) → Shows self.now s →
+            b ≡ is_callable s (Pointer (type_in self.now.nodes of))) }
     {
         match self.nodes.class(of) {
             Class::Function(gives) => {
@@ -141,12 +150,14 @@ impl Work<'_> {
         }
     }
 
-    /// The call of a value (C11 6.5.2.2): 132 where it gives or takes what is not complete, 133 and 136 of the arguments.
+    /// The call of a value (C11 6.5.2.2): 132 where it gives or takes what is not complete, 133 and 136 of the
+    /// arguments.
     pub fn call(&mut self, f: Operand, xs: &[Operand], pos: Pos) -> Result<Operand, Refusal>
         requires whole { IsWhole self.old.nodes }
         requires called { OperandThere self.old f }
         requires operands { AreThere (term_count self.old.nodes) xs.now }
-        ensures { Answers quietly self.old self.new (call (operand_in self.old f) (map (operand_in self.old) xs.now) pos) OperandThere IsOperand result }
+        ensures { Answers quietly self.old self.new
+            (call (operand_in self.old f) (map (operand_in self.old) xs.now) pos) OperandThere IsOperand result }
     {
         let callable = self.is_callable(self.nodes.of(f.node))?;
         if !callable {
@@ -165,7 +176,9 @@ impl Work<'_> {
     ) -> Result<Operand, Refusal>
         requires whole { IsWhole self.old.nodes }
         requires operands { AreThere (term_count self.old.nodes) xs.now }
-        ensures { Answers quietly self.old self.new (library_call (slice_get services service) service (map (operand_in self.old) xs.now) pos first) OperandThere IsOperand result }
+        ensures { Answers quietly self.old self.new
+            (library_call (slice_get services service) service (map (operand_in self.old) xs.now) pos first)
+            OperandThere IsOperand result }
     {
         c_rules::library_call(&mut self.nodes, service, xs, pos, first)
     }
@@ -179,7 +192,8 @@ impl Work<'_> {
     /// The size of a type (C11 6.5.3.4). A type over the limit is refused where it is formed.
     pub fn sized(&mut self, of: u32, pos: Pos) -> Result<Operand, Refusal>
         requires whole { IsWhole self.old.nodes }
-        ensures { Answers quietly self.old self.new (sized (type_in self.old.nodes of) pos) OperandThere IsOperand result }
+        ensures { Answers quietly self.old self.new
+            (sized (type_in self.old.nodes of) pos) OperandThere IsOperand result }
     {
         let measured = self.measured(of);
         match measured {

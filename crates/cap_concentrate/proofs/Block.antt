@@ -1,4 +1,5 @@
--- The bounds that fields give are the same at all addresses of one block of 2048 bytes: decoding reads of an address no lower bit.
+-- The bounds that fields give are the same at all addresses of one block of 2048 bytes: decoding reads of an address no
+-- lower bit.
 use Rattle.std.proofs.Common.{◌≡◌, ℕ, ◌+◌, ◌/◌, ◌%◌, ◌^◌, Bool, refl, sym, ap, ◌∙◌, arith}
 use Rattle.std.proofs.lemmas.Nat.{shr-shr}
 use Rattle.cap_concentrate.specs.Decoding.{exponent, mantissa, whole_top, high, placed, base_of, top_of}
@@ -18,7 +19,8 @@ placed_in_block e a c b x s =
     let above : a / 2 ^ (e + 14) ≡ c / 2 ^ (e + 14) = rw (← shr-shr a e 14, ← shr-shr c e 14) (omega (arith, u)) in
     rw (low, above) refl
 
-pub same_in_block : (internal : Bool) (t b a c : ℕ) → a / 2048 ≡ c / 2048 → (base_of internal t b a ≡ base_of internal t b c) × (top_of internal t b a ≡ top_of internal t b c)
+pub same_in_block : (internal : Bool) (t b a c : ℕ) → a / 2048 ≡ c / 2048 →
+    (base_of internal t b a ≡ base_of internal t b c) × (top_of internal t b a ≡ top_of internal t b c)
 unfolding base_of top_of
 same_in_block internal t b a c s =
     let e = exponent internal t b in

@@ -18,7 +18,8 @@ pub record IsSpan (e v d : ℕ) : Type 0 where
   pub base_within : v * 2 ^ e < 2 ^ 64
   pub top_within : (v + d) * 2 ^ e ≤ 2 ^ 64
 
-corrected_stays : (e base top : ℕ) → base ≤ top → top ≤ 2 ^ 64 → (e < 51 → top < base + 2 ^ 63) → corrected e base top ≡ top
+corrected_stays : (e base top : ℕ) → base ≤ top → top ≤ 2 ^ 64 → (e < 51 → top < base + 2 ^ 63) →
+    corrected e base top ≡ top
 unfolding corrected
 corrected_stays e base top l h near =
     cond_both (ltb e 51 && ltb 1 ((top / 2 ^ 63 + 4 - base / 2 ^ 63) % 4)) ((top + 2 ^ 64) % 2 ^ 65) top (λ v. v ≡ top)
@@ -38,19 +39,28 @@ top_stays e v d s =
     let p : 2 ^ e ≤ 2 ^ 50 = pow-le-pow_right two fifty in
     omega (arith, mul-lt-mul_of_pos_right s.short (pow_pos e)))
 
-pub decoded_base : (internal : Bool) (t b e v d a : ℕ) → Spell internal t b e v d → IsSpan e v d → InRegion v (a / 2 ^ e) → base_of internal t b a ≡ v * 2 ^ e
+pub decoded_base : (internal : Bool) (t b e v d a : ℕ) → Spell internal t b e v d → IsSpan e v d →
+    InRegion v (a / 2 ^ e) → base_of internal t b a ≡ v * 2 ^ e
 unfolding base_of
 decoded_base internal t b e v d a f s near =
     let w = s.base_within in
     let own : InRegion v v = region_above v v (omega arith) (omega arith) in
     rw (f.exponent_is, f.base_is, placed_at e a v v near own) (omega arith)
 
-pub decoded_top : (internal : Bool) (t b e v d a : ℕ) → Spell internal t b e v d → IsSpan e v d → InRegion v (a / 2 ^ e) → top_of internal t b a ≡ (v + d) * 2 ^ e
+pub decoded_top : (internal : Bool) (t b e v d a : ℕ) → Spell internal t b e v d → IsSpan e v d →
+    InRegion v (a / 2 ^ e) → top_of internal t b a ≡ (v + d) * 2 ^ e
 unfolding top_of
 decoded_top internal t b e v d a f s near =
     let w = s.top_within in
     let short = s.short in
     let own : InRegion v (v + d) = region_above v (v + d) (omega arith) (omega arith) in
     let whole : (v + d) * 2 ^ e % 2 ^ 65 ≡ (v + d) * 2 ^ e = omega arith in
-    rw (decoded_base internal t b e v d a f s near, f.exponent_is, f.top_is, f.base_is, placed_at e a v (v + d) near own, whole)
+    rw (
+      decoded_base internal t b e v d a f s near,
+      f.exponent_is,
+      f.top_is,
+      f.base_is,
+      placed_at e a v (v + d) near own,
+      whole,
+    )
     (top_stays e v d s)

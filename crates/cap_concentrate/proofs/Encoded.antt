@@ -1,11 +1,13 @@
 -- The canonical fields decode to their bounds, and below 2 ^ 40 no other fields do.
-use Rattle.std.proofs.Common.{◌≡◌, ℕ, zero, suc, ◌+◌, ◌-◌, ◌*◌, ◌/◌, ◌%◌, ◌^◌, ◌<◌, ◌≤◌, min, Bool, true, false, nat_lt, ltb, refl, sym, ap, ◌∙◌, arith, subst, inl, inr}
+use Rattle.std.proofs.Common.{◌≡◌, ℕ, zero, suc, ◌+◌, ◌-◌, ◌*◌, ◌/◌, ◌%◌, ◌^◌, ◌<◌, ◌≤◌, min, Bool, true, false, nat_lt}
+use Rattle.std.proofs.Common.{ltb, refl, sym, ap, ◌∙◌, arith, subst, inl, inr}
 use Rattle.std.proofs.lemmas.Bool.{cases_lt, cond_both, ltb-true, ltb-false, lt-ltb, le-ltb, le-leb, lt-leb}
 use Rattle.std.proofs.lemmas.Nat.{pow-add, pow_pos, shl-shr}
 use Rattle.std.proofs.Math.Nat.{pow-le-pow_right, mul-le-mul_right, mul-lt-mul_of_pos_right, mul-mod_left}
 use Rattle.cap_concentrate.specs.Decoding.{base_of, top_of, exponent, mantissa, whole_top}
 use Rattle.cap_concentrate.specs.Rounding.{FitsExponent, Encodable}
-use Rattle.cap_concentrate.specs.Encoding.{length_exponent, length_exponent_within, encoded_internal, encoded_t, encoded_b, AreEncoded}
+use Rattle.cap_concentrate.specs.Encoding.{length_exponent, length_exponent_within, encoded_internal, encoded_t}
+use Rattle.cap_concentrate.specs.Encoding.{encoded_b, AreEncoded}
 use Rattle.cap_concentrate.proofs.Region.{InRegion, region_above}
 use Rattle.cap_concentrate.proofs.Decoded.{Spell, IsSpan, decoded_base, decoded_top}
 use Rattle.cap_concentrate.proofs.Near.{InUnits, in_units}
@@ -20,10 +22,12 @@ pub pow_1024 : (e : ℕ) → 2 ^ (e + 13) ≡ 1024 * 2 ^ (e + 3)
 pow_1024 e = omega (arith, pow-add 2 e 13, pow-add 2 e 3)
 
 pub cancel_le : (a b k : ℕ) → a * 2 ^ k ≤ b * 2 ^ k → a ≤ b
-cancel_le a b k h = elim (cases_lt b a) as (λ _. a ≤ b) [ inl less ↦ absurd (omega (arith, mul-lt-mul_of_pos_right less (pow_pos k))) | inr more ↦ more ]
+cancel_le a b k h = elim (cases_lt b a) as (λ _. a ≤ b)
+    [ inl less ↦ absurd (omega (arith, mul-lt-mul_of_pos_right less (pow_pos k))) | inr more ↦ more ]
 
 pub cancel_lt : (a b k : ℕ) → a * 2 ^ k < b * 2 ^ k → a < b
-cancel_lt a b k h = elim (cases_lt a b) as (λ _. a < b) [ inl less ↦ less | inr more ↦ absurd (omega (arith, mul-le-mul_right (2 ^ k) more)) ]
+cancel_lt a b k h = elim (cases_lt a b) as (λ _. a < b)
+    [ inl less ↦ less | inr more ↦ absurd (omega (arith, mul-le-mul_right (2 ^ k) more)) ]
 
 -- ---- the exponent of a length: the length has its top bit at e + 12
 pub record IsLengthExponent (n e : ℕ) : Type 0 where
@@ -69,7 +73,8 @@ pub record IsLong (e low high base top : ℕ) : Type 0 where
   pub long : low + 512 ≤ high
   pub short : high < low + 1024
 
-pub long_encoded : (e low high base top : ℕ) → IsLong e low high base top → AreEncoded true (high % 512 * 8 + e / 8) (low % 2048 * 8 + e % 8) base top
+pub long_encoded : (e low high base top : ℕ) → IsLong e low high base top →
+    AreEncoded true (high % 512 * 8 + e / 8) (low % 2048 * 8 + e % 8) base top
 unfolding encoded_internal encoded_t encoded_b
 long_encoded e low high base top x =
     let m = 2 ^ (e + 3) in
@@ -81,7 +86,8 @@ long_encoded e low high base top x =
     let long : 2 ^ (e + 12) ≤ top - base = omega (arith, pow_512 e) in
     let short : top - base < 2 ^ (e + 13) = omega (arith, pow_1024 e) in
     let big : 4096 ≤ top - base = omega (arith, pow-add 2 e 12, pow_pos e) in
-    let is : length_exponent (top - base) ≡ e = length_exponent_is (top - base) e (record { within = x.within; long = long; short = short }) in
+    let is : length_exponent (top - base) ≡ e =
+    length_exponent_is (top - base) e (record { within = x.within; long = long; short = short }) in
     let ub : base / m ≡ low = ap (λ v. v / m) eb ∙ shl-shr low (e + 3) in
     let ut : top / m ≡ high = ap (λ v. v / m) et ∙ shl-shr high (e + 3) in
     record {
@@ -106,25 +112,33 @@ unfolding exponent mantissa whole_top
 short_spell base d h = record {
   exponent_is = refl;
   base_is = refl;
-  top_is = cond_both (ltb ((base + d) % 4096) (base % 16384 % 4096)) 1 0 (λ v. (base % 16384 / 4096 + v + 0) % 4 * 4096 + (base + d) % 4096 ≡ (base + d) % 16384)
+  top_is = cond_both (ltb ((base + d) % 4096) (base % 16384 % 4096)) 1 0
+      (λ v. (base % 16384 / 4096 + v + 0) % 4 * 4096 + (base + d) % 4096 ≡ (base + d) % 16384)
       (λ e. omega (arith, ltb-true _ _ e)) (λ e. omega (arith, ltb-false _ _ e));
 }
 
 long_top : (b d : ℕ) → 4096 ≤ d → d < 8192 → whole_top true ((b + d) % 4096) (b % 16384) ≡ (b + d) % 16384
 unfolding whole_top
 long_top b d l h =
-    cond_both (ltb ((b + d) % 4096) (b % 16384 % 4096)) 1 0 (λ v. (b % 16384 / 4096 + v + 1) % 4 * 4096 + (b + d) % 4096 ≡ (b + d) % 16384)
+    cond_both (ltb ((b + d) % 4096) (b % 16384 % 4096)) 1 0
+    (λ v. (b % 16384 / 4096 + v + 1) % 4 * 4096 + (b + d) % 4096 ≡ (b + d) % 16384)
     (λ e. omega (arith, ltb-true _ _ e)) (λ e. omega (arith, ltb-false _ _ e))
 
-long_spell : (e low c : ℕ) → e ≤ 52 → 512 ≤ c → c < 1024 → Spell true ((low + c) % 512 * 8 + e / 8) (low % 2048 * 8 + e % 8) e (low * 8) (c * 8)
+long_spell : (e low c : ℕ) → e ≤ 52 → 512 ≤ c → c < 1024 →
+    Spell true ((low + c) % 512 * 8 + e / 8) (low % 2048 * 8 + e % 8) e (low * 8) (c * 8)
 unfolding exponent mantissa
 long_spell e low c w l h =
     let t : ((low + c) % 512 * 8 + e / 8) / 8 * 8 ≡ (low * 8 + c * 8) % 4096 = omega arith in
     let b : (low % 2048 * 8 + e % 8) / 8 * 8 ≡ low * 8 % 16384 = omega arith in
-    record { exponent_is = omega arith; base_is = b; top_is = rw (t, b) (long_top (low * 8) (c * 8) (omega arith) (omega arith)) }
+    record {
+      exponent_is = omega arith;
+      base_is = b;
+      top_is = rw (t, b) (long_top (low * 8) (c * 8) (omega arith) (omega arith));
+    }
 
 -- an Encodable length of 4096 or more has ten bits above those that are zero at both ends
-long_encodable : (base top : ℕ) → Encodable base top → 4096 ≤ top - base → (e : ℕ) × (low : ℕ) × (high : ℕ) × IsLong e low high base top
+long_encodable : (base top : ℕ) → Encodable base top → 4096 ≤ top - base →
+    (e : ℕ) × (low : ℕ) × (high : ℕ) × IsLong e low high base top
 long_encodable base top enc big =
     let ordered = enc.ordered in
     elim (enc.form) as (λ _. (e : ℕ) × (low : ℕ) × (high : ℕ) × IsLong e low high base top) [
@@ -163,7 +177,8 @@ long_encodable base top enc big =
 
 -- ---- the canonical fields decode to their bounds
 module _ (base top a : ℕ) (enc : Encodable base top) (below : base < 2 ^ 64) (from : base ≤ a) (to : a ≤ top) where
-  short_decodes : top - base < 4096 → (base_of false (top % 4096) (base % 16384) a ≡ base) × (top_of false (top % 4096) (base % 16384) a ≡ top)
+  short_decodes : top - base < 4096 →
+      (base_of false (top % 4096) (base % 16384) a ≡ base) × (top_of false (top % 4096) (base % 16384) a ≡ top)
   short_decodes h =
       let d = top - base in
       let ordered = enc.ordered in
@@ -171,11 +186,17 @@ module _ (base top a : ℕ) (enc : Encodable base top) (below : base < 2 ^ 64) (
       let sum : base + d ≡ top = omega arith in
       let spell = rw sum at (short_spell base d h) in
       let one : (x : ℕ) → x * 2 ^ 0 ≡ x = λ x. omega arith in
-      let span : IsSpan 0 base d = record { short = omega arith; base_within = omega arith; top_within = omega arith } in
-      let near : InRegion base (a / 2 ^ 0) = region_above base (a / 2 ^ 0) (omega arith) (omega arith) in
-      (decoded_base _ _ _ 0 base d a spell span near ∙ one base, decoded_top _ _ _ 0 base d a spell span near ∙ one (base + d) ∙ sum)
+      let span : IsSpan 0 base d =
+      record { short = omega arith; base_within = omega arith; top_within = omega arith } in
+      let near : InRegion base (a / 2 ^ 0) = region_above base (a / 2 ^ 0) (omega arith) (omega arith) in (
+        decoded_base _ _ _ 0 base d a spell span near ∙ one base,
+        decoded_top _ _ _ 0 base d a spell span near
+            ∙ one (base + d) ∙ sum,
+      )
 
-  long_decodes : (e low high : ℕ) → IsLong e low high base top → (base_of true (high % 512 * 8 + e / 8) (low % 2048 * 8 + e % 8) a ≡ base) × (top_of true (high % 512 * 8 + e / 8) (low % 2048 * 8 + e % 8) a ≡ top)
+  long_decodes : (e low high : ℕ) → IsLong e low high base top →
+      (base_of true (high % 512 * 8 + e / 8) (low % 2048 * 8 + e % 8) a ≡ base) ×
+      (top_of true (high % 512 * 8 + e / 8) (low % 2048 * 8 + e % 8) a ≡ top)
   long_decodes e low high x =
       let c = high - low in
       let n = 2 ^ e in
@@ -187,18 +208,29 @@ module _ (base top a : ℕ) (enc : Encodable base top) (below : base < 2 ^ 64) (
       let eb : base ≡ low * 8 * n = x.base_is ∙ omega (arith, ap (λ v. low * v) p) in
       let et : top ≡ (low * 8 + c * 8) * n = x.top_is ∙ omega (arith, ap (λ v. high * v) p, ap (λ v. v * n) sum) in
       let spell = rw sum at (long_spell e low c x.within (omega arith) (omega arith)) in
-      let span : IsSpan e (low * 8) (c * 8) = record { short = omega arith; base_within = omega arith; top_within = omega arith } in
+      let span : IsSpan e (low * 8) (c * 8) =
+      record { short = omega arith; base_within = omega arith; top_within = omega arith } in
       let pos : 0 < n = pow_pos e in
-      let q : low * 8 ≤ a / n = elim (cases_lt (a / n) (low * 8)) as (λ _. low * 8 ≤ a / n) [ inl less ↦ absurd (omega (arith, mul-le-mul_right n less)) | inr more ↦ more ] in
-      let r : a / n ≤ low * 8 + c * 8 = elim (cases_lt (low * 8 + c * 8) (a / n)) as (λ _. a / n ≤ low * 8 + c * 8) [ inl less ↦ absurd (omega (arith, mul-le-mul_right n less)) | inr more ↦ more ] in
-      let near : InRegion (low * 8) (a / n) = region_above (low * 8) (a / n) q (omega arith) in
-      (decoded_base _ _ _ e (low * 8) (c * 8) a spell span near ∙ sym eb, decoded_top _ _ _ e (low * 8) (c * 8) a spell span near ∙ sym et)
+      let q : low * 8 ≤ a / n =
+      elim (cases_lt (a / n) (low * 8)) as (λ _. low * 8 ≤ a / n)
+      [ inl less ↦ absurd (omega (arith, mul-le-mul_right n less)) | inr more ↦ more ] in
+      let r : a / n ≤ low * 8 + c * 8 =
+      elim (cases_lt (low * 8 + c * 8) (a / n)) as (λ _. a / n ≤ low * 8 + c * 8)
+      [ inl less ↦ absurd (omega (arith, mul-le-mul_right n less)) | inr more ↦ more ] in
+      let near : InRegion (low * 8) (a / n) = region_above (low * 8) (a / n) q (omega arith) in (
+        decoded_base _ _ _ e (low * 8) (c * 8) a spell span near ∙ sym eb,
+        decoded_top _ _ _ e (low * 8) (c * 8) a spell span near ∙ sym et,
+      )
 
 -- the canonical fields of an Encodable pair decode to it at each address from its base to its top
-pub encoded_decodes : (base top a : ℕ) → Encodable base top → base < 2 ^ 64 → base ≤ a → a ≤ top → (base_of (encoded_internal base top) (encoded_t base top) (encoded_b base top) a ≡ base) × (top_of (encoded_internal base top) (encoded_t base top) (encoded_b base top) a ≡ top)
+pub encoded_decodes : (base top a : ℕ) → Encodable base top → base < 2 ^ 64 → base ≤ a → a ≤ top →
+    (base_of (encoded_internal base top) (encoded_t base top) (encoded_b base top) a ≡ base) ×
+    (top_of (encoded_internal base top) (encoded_t base top) (encoded_b base top) a ≡ top)
 encoded_decodes base top a enc below from to =
     let ordered = enc.ordered in
-    elim (cases_lt (top - base) 4096) as (λ _. (base_of (encoded_internal base top) (encoded_t base top) (encoded_b base top) a ≡ base) × (top_of (encoded_internal base top) (encoded_t base top) (encoded_b base top) a ≡ top)) [
+    elim (cases_lt (top - base) 4096) as (λ _.
+    (base_of (encoded_internal base top) (encoded_t base top) (encoded_b base top) a ≡ base) ×
+    (top_of (encoded_internal base top) (encoded_t base top) (encoded_b base top) a ≡ top)) [
       | inl small ↦
           let is = short_encoded base top (omega arith) in
           rw (← is.internal_is, ← is.t_is, ← is.b_is) (short_decodes base top a enc below from to small)
@@ -234,7 +266,8 @@ short_only t b e v d base top ht u =
     let is = short_encoded base top (omega arith) in
     record { internal_is = is.internal_is; t_is = omega (arith, is.t_is); b_is = omega (arith, is.b_is) }
 
-long_units : (t b e v d base top : ℕ) → t < 4096 → InUnits true t b base top e v d → IsLong e (v / 8) ((v + d) / 8) base top
+long_units : (t b e v d base top : ℕ) → t < 4096 → InUnits true t b base top e v d →
+    IsLong e (v / 8) ((v + d) / 8) base top
 unfolding mantissa
 long_units t b e v d base top ht u =
     let s = u.spell in
@@ -270,7 +303,9 @@ long_only t b e v d base top ht u =
     record { internal_is = is.internal_is; t_is = it ∙ is.t_is; b_is = ib ∙ is.b_is }
 
 -- bounds from 65,536 to 2 ^ 40 have one encoding, whatever the address
-pub only_fields : (internal : Bool) (t b address base top : ℕ) → t < 4096 → b < 16384 → base ≡ base_of internal t b address → top ≡ top_of internal t b address → 65536 ≤ base → base ≤ top → top ≤ 2 ^ 40 → AreEncoded internal t b base top
+pub only_fields : (internal : Bool) (t b address base top : ℕ) → t < 4096 → b < 16384 →
+    base ≡ base_of internal t b address → top ≡ top_of internal t b address → 65536 ≤ base → base ≤ top → top ≤ 2 ^ 40 →
+    AreEncoded internal t b base top
 only_fields true t b address base top ht hb eb et start ordered end =
     let r = in_units true t b address base top ht hb eb et start ordered end in
     long_only t b r.0 r.1 r.2 base top ht r.3
@@ -300,7 +335,9 @@ encodable_long e low high base top x fits =
     }
 
 -- bounds from 65,536 to 2 ^ 40 that some fields have are Encodable
-pub decoded_encodable : (internal : Bool) (t b address base top : ℕ) → t < 4096 → b < 16384 → base ≡ base_of internal t b address → top ≡ top_of internal t b address → 65536 ≤ base → base ≤ top → top ≤ 2 ^ 40 → Encodable base top
+pub decoded_encodable : (internal : Bool) (t b address base top : ℕ) → t < 4096 → b < 16384 →
+    base ≡ base_of internal t b address → top ≡ top_of internal t b address → 65536 ≤ base → base ≤ top → top ≤ 2 ^ 40 →
+    Encodable base top
 decoded_encodable true t b address base top ht hb eb et start ordered end =
     let r = in_units true t b address base top ht hb eb et start ordered end in
     encodable_long r.0 (r.1 / 8) ((r.1 + r.2) / 8) base top (long_units t b r.0 r.1 r.2 base top ht r.3) (omega arith)

@@ -14,7 +14,8 @@ first_from_is test zero e x l h f = omega arith
 first_from_is test (suc k) e x l h f =
     elim (cases_lt e x) as (λ _. first_from test (suc k) e ≡ x) [
       | inl less ↦
-          let rest : IsFirst test (suc e) x = record { passes = f.passes; first = λ j a b. f.first j (omega arith) b } in
+          let rest : IsFirst test (suc e) x =
+          record { passes = f.passes; first = λ j a b. f.first j (omega arith) b } in
           cond-false _ _ _ (f.first e (omega arith) less) ∙ first_from_is test k (suc e) x less (omega arith) rest
       | inr more ↦
           let same : x ≡ e = omega arith in

@@ -1,9 +1,11 @@
 -- Rounding at the least exponent that serves gives the least bounds.
-use Rattle.std.proofs.Common.{◌≡◌, ℕ, suc, ◌+◌, ◌-◌, ◌*◌, ◌/◌, ◌%◌, ◌^◌, ◌<◌, ◌≤◌, nat_lt, sym, ap, ◌∙◌, arith, inl, inr}
+use Rattle.std.proofs.Common.{◌≡◌, ℕ, suc, ◌+◌, ◌-◌, ◌*◌, ◌/◌, ◌%◌, ◌^◌, ◌<◌, ◌≤◌, nat_lt, sym, ap, ◌∙◌, arith, inl}
+use Rattle.std.proofs.Common.{inr}
 use Rattle.std.proofs.lemmas.Bool.{cases_lt, ltb-true, ltb-false, lt-ltb, le-ltb, le-leb, lt-leb}
 use Rattle.std.proofs.lemmas.Nat.{pow-add, pow_pos, le-div, div_below, div-add-mod'}
 use Rattle.std.proofs.Math.Nat.{mul-le-mul_right, mul-mod_left}
-use Rattle.cap_concentrate.specs.Rounding.{FitsExponent, Encodable, IsLeastBounds, rounded_down, rounded_up, least_exponent_within, bounds_exponent, least_base, least_top}
+use Rattle.cap_concentrate.specs.Rounding.{FitsExponent, Encodable, IsLeastBounds, rounded_down, rounded_up}
+use Rattle.cap_concentrate.specs.Rounding.{least_exponent_within, bounds_exponent, least_base, least_top}
 use Rattle.cap_concentrate.proofs.First.{least_exponent_is, least_exponent_passes}
 
 -- ---- rounding
@@ -90,20 +92,25 @@ bounds_exponent_serves start end h =
 
 -- ---- the least bounds
 module _ (start end e : ℕ) (x : IsExponent start end e) (long : start + 4096 ≤ end) (end_within : end ≤ 2 ^ 64) where
-  inside_others : (base' top' : ℕ) → Encodable base' top' → base' ≤ start → end ≤ top' → (base' ≤ rounded_down start (2 ^ (e + 3))) × (rounded_up end (2 ^ (e + 3)) ≤ top')
+  inside_others : (base' top' : ℕ) → Encodable base' top' → base' ≤ start → end ≤ top' →
+      (base' ≤ rounded_down start (2 ^ (e + 3))) × (rounded_up end (2 ^ (e + 3)) ≤ top')
   inside_others base' top' enc l h =
       elim (enc.form) as (λ _. (base' ≤ rounded_down start (2 ^ (e + 3))) × (rounded_up end (2 ^ (e + 3)) ≤ top')) [
         | inl tiny ↦ absurd (omega arith)
         | inr f ↦
             let fits : FitsExponent base' top' f.0 = f.1 in
-            elim (cases_lt f.0 e) as (λ _. (base' ≤ rounded_down start (2 ^ (e + 3))) × (rounded_up end (2 ^ (e + 3)) ≤ top')) [
+            elim (cases_lt f.0 e) as (λ _. (base' ≤ rounded_down start (2 ^ (e + 3))) ×
+            (rounded_up end (2 ^ (e + 3)) ≤ top')) [
               | inl less ↦
                   let a = x.first f.0 less in
                   let d = down_inside start base' f.0 f.0 (omega arith) fits.base_multiple l in
                   let u = up_inside end top' f.0 f.0 (omega arith) fits.top_multiple h in
                   let s = fits.short in
                   absurd (omega (arith, a, d, u, s))
-              | inr more ↦ (down_inside start base' e f.0 more fits.base_multiple l, up_inside end top' e f.0 more fits.top_multiple h)
+              | inr more ↦ (
+                down_inside start base' e f.0 more fits.base_multiple l,
+                up_inside end top' e f.0 more fits.top_multiple h,
+              )
             ]
       ]
 
@@ -112,7 +119,15 @@ module _ (start end e : ℕ) (x : IsExponent start end e) (long : start + 4096 �
     encodable = record {
       ordered = omega (arith, rounded_down_le start (2 ^ (e + 3)), rounded_up_ge end (2 ^ (e + 3)) (pow_pos (e + 3)));
       within = rounded_within end e x.within end_within;
-      form = inr (e, record { within = x.within; base_multiple = mul-mod_left _ _; top_multiple = mul-mod_left _ _; short = x.short });
+      form = inr (
+        e,
+        record {
+          within = x.within;
+          base_multiple = mul-mod_left _ _;
+          top_multiple = mul-mod_left _ _;
+          short = x.short;
+        },
+      );
     };
     from = rounded_down_le start (2 ^ (e + 3));
     to = rounded_up_ge end (2 ^ (e + 3)) (pow_pos (e + 3));
@@ -128,16 +143,19 @@ least_short start end o w h = record {
 }
 
 -- the two functions give the least bounds of each request
-pub least_functions : (start end : ℕ) → start ≤ end → end ≤ 2 ^ 64 → IsLeastBounds start end (least_base start end) (least_top start end)
+pub least_functions : (start end : ℕ) → start ≤ end → end ≤ 2 ^ 64 →
+    IsLeastBounds start end (least_base start end) (least_top start end)
 unfolding least_base least_top
 least_functions start end l h =
     elim (cases_lt (end - start) 4096) as (λ _. IsLeastBounds start end (least_base start end) (least_top start end)) [
       | inl short ↦ rw (le-leb (end - start) 4095 (omega arith)) (least_short start end l h (omega arith))
-      | inr long ↦ rw (lt-leb (end - start) 4095 long) (least_rounded start end (bounds_exponent start end) (bounds_exponent_serves start end h) (omega arith) h)
+      | inr long ↦ rw (lt-leb (end - start) 4095 long)
+          (least_rounded start end (bounds_exponent start end) (bounds_exponent_serves start end h) (omega arith) h)
     ]
 
 -- a request has one least pair
-pub least_unique : (start end base top base' top' : ℕ) → IsLeastBounds start end base top → IsLeastBounds start end base' top' → (base ≡ base') × (top ≡ top')
+pub least_unique : (start end base top base' top' : ℕ) → IsLeastBounds start end base top →
+    IsLeastBounds start end base' top' → (base ≡ base') × (top ≡ top')
 least_unique start end base top base' top' l m =
     let a = l.least base' top' m.encodable m.from m.to in
     let b = m.least base top l.encodable l.from l.to in
@@ -145,4 +163,5 @@ least_unique start end base top base' top' l m =
 
 -- a request that is Encodable itself is its own least bounds
 pub least_where_encodable : (start end : ℕ) → Encodable start end → IsLeastBounds start end start end
-least_where_encodable start end enc = record { encodable = enc; from = omega arith; to = omega arith; least = λ b t other l m. (l, m) }
+least_where_encodable start end enc =
+    record { encodable = enc; from = omega arith; to = omega arith; least = λ b t other l m. (l, m) }

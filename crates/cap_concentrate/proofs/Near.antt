@@ -1,9 +1,12 @@
 -- Fields whose bounds lie between 65,536 and 2 ^ 40 keep them at each address within 1024 bytes.
-use Rattle.std.proofs.Common.{◌≡◌, ℕ, ◌+◌, ◌-◌, ◌*◌, ◌/◌, ◌%◌, ◌^◌, ◌<◌, ◌≤◌, min, Bool, true, false, ltb, ◌&&◌, refl, sym, ap, ◌∙◌, arith, subst, inl, inr}
+use Rattle.std.proofs.Common.{◌≡◌, ℕ, ◌+◌, ◌-◌, ◌*◌, ◌/◌, ◌%◌, ◌^◌, ◌<◌, ◌≤◌, min, Bool, true, false, ltb, ◌&&◌, refl}
+use Rattle.std.proofs.Common.{sym, ap, ◌∙◌, arith, subst, inl, inr}
 use Rattle.std.proofs.lemmas.Bool.{cond_both, cases_lt, lt-ltb, le-ltb}
 use Rattle.std.proofs.lemmas.Nat.{pow-add, pow_pos, mod-pow-add, shl-shr}
-use Rattle.std.proofs.Math.Nat.{mod-eq_of_lt, pow-le-pow_right, mul-le-mul_right, mul-lt-mul_of_pos_right, mod-add-mod, mul-mod_left}
-use Rattle.cap_concentrate.specs.Decoding.{one_where, exponent, mantissa, whole_top, high, placed, corrected, base_of, top_of}
+use Rattle.std.proofs.Math.Nat.{mod-eq_of_lt, pow-le-pow_right, mul-le-mul_right, mul-lt-mul_of_pos_right, mod-add-mod}
+use Rattle.std.proofs.Math.Nat.{mul-mod_left}
+use Rattle.cap_concentrate.specs.Decoding.{one_where, exponent, mantissa, whole_top, high, placed, corrected, base_of}
+use Rattle.cap_concentrate.specs.Decoding.{top_of}
 use Rattle.cap_concentrate.proofs.Region.{InRegion, region_above, high_at, in_bytes}
 use Rattle.cap_concentrate.proofs.Decoded.{Spell, IsSpan, decoded_base, decoded_top}
 
@@ -18,13 +21,25 @@ length_of : (internal : Bool) (t b : ℕ) → t < 4096 → b < 16384 → (d : �
 unfolding whole_top
 length_of true t b ht hb =
     elim (cases_lt t (b % 4096)) as (λ _. (d : ℕ) × IsLengthOf true t b d) [
-      | inl less ↦ (8192 + t - b % 4096, record { from = omega arith; below = omega arith; sum = rw (lt-ltb t (b % 4096) less) (omega arith) })
-      | inr more ↦ (4096 + t - b % 4096, record { from = omega arith; below = omega arith; sum = rw (le-ltb t (b % 4096) more) (omega arith) })
+      | inl less ↦ (
+        8192 + t - b % 4096,
+        record { from = omega arith; below = omega arith; sum = rw (lt-ltb t (b % 4096) less) (omega arith) },
+      )
+      | inr more ↦ (
+        4096 + t - b % 4096,
+        record { from = omega arith; below = omega arith; sum = rw (le-ltb t (b % 4096) more) (omega arith) },
+      )
     ]
 length_of false t b ht hb =
     elim (cases_lt t (b % 4096)) as (λ _. (d : ℕ) × IsLengthOf false t b d) [
-      | inl less ↦ (4096 + t - b % 4096, record { from = omega arith; below = omega arith; sum = rw (lt-ltb t (b % 4096) less) (omega arith) })
-      | inr more ↦ (t - b % 4096, record { from = omega arith; below = omega arith; sum = rw (le-ltb t (b % 4096) more) (omega arith) })
+      | inl less ↦ (
+        4096 + t - b % 4096,
+        record { from = omega arith; below = omega arith; sum = rw (lt-ltb t (b % 4096) less) (omega arith) },
+      )
+      | inr more ↦ (
+        t - b % 4096,
+        record { from = omega arith; below = omega arith; sum = rw (le-ltb t (b % 4096) more) (omega arith) },
+      )
     ]
 
 -- ---- what the decoding places, before it is cut to 65 bits
@@ -39,7 +54,8 @@ high_small : (x b : ℕ) → high x b ≤ 1
 unfolding high
 high_small x b = cond_both (ltb (x / 2048) ((b / 2048 + 7) % 8)) 1 0 (λ v. v ≤ 1) (λ e. omega arith) (λ e. omega arith)
 
-pub units_apart : (e address b d t : ℕ) → b < 16384 → d < 8192 → t ≡ (b + d) % 16384 → units e address b t ≡ units e address b b + d
+pub units_apart : (e address b d t : ℕ) → b < 16384 → d < 8192 → t ≡ (b + d) % 16384 →
+    units e address b t ≡ units e address b b + d
 unfolding units
 units_apart e address b d t hb hd et =
     let low : b % 16384 ≡ b = mod-eq_of_lt hb in
@@ -61,7 +77,8 @@ shifted_64 u j e s = subst (λ w. (u * 2 ^ e) % 2 ^ w ≡ (u % 2 ^ j) * 2 ^ e) s
 corrected_low : (e base top : ℕ) → corrected e base top % 2 ^ 64 ≡ top % 2 ^ 64
 unfolding corrected
 corrected_low e base top =
-    cond_both (ltb e 51 && ltb 1 ((top / 2 ^ 63 + 4 - base / 2 ^ 63) % 4)) ((top + 2 ^ 64) % 2 ^ 65) top (λ v. v % 2 ^ 64 ≡ top % 2 ^ 64)
+    cond_both (ltb e 51 && ltb 1 ((top / 2 ^ 63 + 4 - base / 2 ^ 63) % 4)) ((top + 2 ^ 64) % 2 ^ 65) top
+    (λ v. v % 2 ^ 64 ≡ top % 2 ^ 64)
     (λ p. omega arith) (λ p. refl)
 
 -- ---- below 2 ^ 40 nothing is cut
@@ -91,19 +108,23 @@ room_left e k v d s h hd =
 low_of : (u i : ℕ) → u % 2 ^ (i + 14) % 16384 ≡ u % 16384
 low_of u i = rw (mod-pow-add u i 14) (omega arith)
 
-base_units : (e j b address base : ℕ) → j + e ≡ 64 → base ≡ placed e address b b % 2 ^ 64 → base ≡ (units e address b b % 2 ^ j) * 2 ^ e
+base_units : (e j b address base : ℕ) → j + e ≡ 64 → base ≡ placed e address b b % 2 ^ 64 →
+    base ≡ (units e address b b % 2 ^ j) * 2 ^ e
 base_units e j b address base s is =
     let u = units e address b b in
     is ∙ rw placed_units (omega (arith, shifted_64 u j e s))
 
-top_units : (e j b t d address base top : ℕ) → b < 16384 → d < 8192 → t ≡ (b + d) % 16384 → j + e ≡ 64 → top ≡ corrected e base (placed e address b t) → top < 2 ^ 64 → units e address b b % 2 ^ j + d < 2 ^ j → top ≡ (units e address b b % 2 ^ j + d) * 2 ^ e
+top_units : (e j b t d address base top : ℕ) → b < 16384 → d < 8192 → t ≡ (b + d) % 16384 → j + e ≡ 64 →
+    top ≡ corrected e base (placed e address b t) → top < 2 ^ 64 → units e address b b % 2 ^ j + d < 2 ^ j →
+    top ≡ (units e address b b % 2 ^ j + d) * 2 ^ e
 top_units e j b t d address base top hb hd et s is fits room =
     let u = units e address b b in
     let low : top % 2 ^ 64 ≡ (units e address b t * 2 ^ e) % 2 ^ 64 =
     ap (λ x. x % 2 ^ 64) is ∙ corrected_low e base (placed e address b t) ∙ rw placed_units (omega arith) in
     let cut : ((u + d) * 2 ^ e) % 2 ^ 64 ≡ ((u + d) % 2 ^ j) * 2 ^ e = shifted_64 (u + d) j e s in
     let sum : (u + d) % 2 ^ j ≡ u % 2 ^ j + d = sym (mod-add-mod u (2 ^ j) d) ∙ mod-eq_of_lt room in
-    sym (mod-eq_of_lt fits) ∙ low ∙ ap (λ x. (x * 2 ^ e) % 2 ^ 64) (units_apart e address b d t hb hd et) ∙ cut ∙ ap (λ x. x * 2 ^ e) sum
+    sym (mod-eq_of_lt fits) ∙ low ∙ ap (λ x. (x * 2 ^ e) % 2 ^ 64) (units_apart e address b d t hb hd et) ∙ cut
+    ∙ ap (λ x. x * 2 ^ e) sum
 
 -- ---- the bounds in units of 2 ^ e, where they lie between 65,536 and 2 ^ 40
 pub record InUnits (internal : Bool) (t b base top e v d : ℕ) : Type 0 where
@@ -116,13 +137,16 @@ pub record InUnits (internal : Bool) (t b base top e v d : ℕ) : Type 0 where
 
 exponent_within : (internal : Bool) (t b : ℕ) → exponent internal t b ≤ 52
 unfolding exponent
-exponent_within internal t b = cond_both internal (min 52 (t % 8 * 8 + b % 8)) 0 (λ v. v ≤ 52) (λ _. omega arith) (λ _. omega arith)
+exponent_within internal t b =
+    cond_both internal (min 52 (t % 8 * 8 + b % 8)) 0 (λ v. v ≤ 52) (λ _. omega arith) (λ _. omega arith)
 
 mantissa_below : (internal : Bool) (x n : ℕ) → x < n → mantissa internal x < n
 unfolding mantissa
 mantissa_below internal x n h = cond_both internal (x / 8 * 8) x (λ v. v < n) (λ _. omega arith) (λ _. h)
 
-pub in_units : (internal : Bool) (t b address base top : ℕ) → t < 4096 → b < 16384 → base ≡ base_of internal t b address → top ≡ top_of internal t b address → 65536 ≤ base → base ≤ top → top ≤ 2 ^ 40 → (e : ℕ) × (v : ℕ) × (d : ℕ) × InUnits internal t b base top e v d
+pub in_units : (internal : Bool) (t b address base top : ℕ) → t < 4096 → b < 16384 →
+    base ≡ base_of internal t b address → top ≡ top_of internal t b address → 65536 ≤ base → base ≤ top → top ≤ 2 ^ 40 →
+    (e : ℕ) × (v : ℕ) × (d : ℕ) × InUnits internal t b base top e v d
 unfolding base_of top_of
 in_units internal t b address base top ht hb eb et start ordered end =
     let e = exponent internal t b in
@@ -146,8 +170,10 @@ in_units internal t b address base top ht hb eb et start ordered end =
     let sk : 24 + k ≡ j = omega arith in
     let s14 : 10 + k + 14 ≡ j = omega arith in
     let room : v + d < 2 ^ j = subst (λ x. v + d < 2 ^ x) sk (room_left e k v d (omega arith) (omega arith) short) in
-    let low : v % 16384 ≡ b' = subst (λ x. u % 2 ^ x % 16384 ≡ u % 16384) s14 (low_of u (10 + k)) ∙ units_low e address b' hb' in
-    let top_here : top ≡ corrected e base (placed e address b' t') = et ∙ ap (λ x. corrected e x (placed e address b' t')) (sym eb) in
+    let low : v % 16384 ≡ b' =
+    subst (λ x. u % 2 ^ x % 16384 ≡ u % 16384) s14 (low_of u (10 + k)) ∙ units_low e address b' hb' in
+    let top_here : top ≡ corrected e base (placed e address b' t') =
+    et ∙ ap (λ x. corrected e x (placed e address b' t')) (sym eb) in
     let sum = l.sum in (
       e,
       v,
@@ -178,7 +204,10 @@ region_near e v d a hd l h =
     ] in
     record { from = omega arith; below = omega arith }
 
-pub keeps_near : (internal : Bool) (t b address a : ℕ) → t < 4096 → b < 16384 → 65536 ≤ base_of internal t b address → base_of internal t b address ≤ top_of internal t b address → top_of internal t b address ≤ 2 ^ 40 → base_of internal t b address < a + 1024 → a < top_of internal t b address + 1024 → (base_of internal t b a ≡ base_of internal t b address) × (top_of internal t b a ≡ top_of internal t b address)
+pub keeps_near : (internal : Bool) (t b address a : ℕ) → t < 4096 → b < 16384 → 65536 ≤ base_of internal t b address →
+    base_of internal t b address ≤ top_of internal t b address → top_of internal t b address ≤ 2 ^ 40 →
+    base_of internal t b address < a + 1024 → a < top_of internal t b address + 1024 →
+    (base_of internal t b a ≡ base_of internal t b address) × (top_of internal t b a ≡ top_of internal t b address)
 keeps_near internal t b address a ht hb start ordered end above below =
     let r = in_units internal t b address _ _ ht hb refl refl start ordered end in
     let e = r.0 in
@@ -191,5 +220,8 @@ keeps_near internal t b address a ht hb start ordered end above below =
     let it = i.top_is in
     let short : d < 8192 = omega arith in
     let span : IsSpan e v d = record { short = short; base_within = omega arith; top_within = omega arith } in
-    let near : InRegion v (a / 2 ^ e) = region_near e v d a short (rw (← is) above) (rw (← it) below) in
-    (decoded_base internal t b e v d a i.spell span near ∙ sym is, decoded_top internal t b e v d a i.spell span near ∙ sym it)
+    let near : InRegion v (a / 2 ^ e) = region_near e v d a short (rw (← is) above) (rw (← it) below) in (
+      decoded_base internal t b e v d a i.spell span near ∙ sym is,
+      decoded_top internal t b e v d a i.spell span near
+          ∙ sym it,
+    )

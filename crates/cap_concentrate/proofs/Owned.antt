@@ -1,12 +1,17 @@
 -- The alignment of a length, and its owned length.
-use Rattle.std.proofs.Common.{◌≡◌, ℕ, ◌+◌, ◌-◌, ◌*◌, ◌/◌, ◌%◌, ◌^◌, ◌<◌, ◌≤◌, nat_lt, nat_le, refl, sym, ap, ◌∙◌, arith, inl, inr}
+use Rattle.std.proofs.Common.{◌≡◌, ℕ, ◌+◌, ◌-◌, ◌*◌, ◌/◌, ◌%◌, ◌^◌, ◌<◌, ◌≤◌, nat_lt, nat_le, refl, sym, ap, ◌∙◌, arith}
+use Rattle.std.proofs.Common.{inl, inr}
 use Rattle.std.proofs.lemmas.Bool.{cases_lt, cond_both, cond-true, cond-false, lt-ltb, le-ltb, le-leb, lt-leb}
 use Rattle.std.proofs.lemmas.Nat.{pow_pos, pow-add, div-add-mod'}
 use Rattle.std.proofs.Math.Nat.{mul-mod_left, pow-le-pow_right}
 use Rattle.std.proofs.Math.Pow.{pow-lt}
-use Rattle.cap_concentrate.specs.Rounding.{Encodable, rounded_down, rounded_up, first_from, least_exponent, least_exponent_within, bounds_exponent, least_base, least_top, alignment, owned}
+use Rattle.cap_concentrate.specs.Rounding.{Encodable, rounded_down, rounded_up, first_from, least_exponent}
+use Rattle.cap_concentrate.specs.Rounding.{least_exponent_within, bounds_exponent, least_base, least_top, alignment}
+use Rattle.cap_concentrate.specs.Rounding.{owned}
 use Rattle.cap_concentrate.proofs.First.{least_exponent_is}
-use Rattle.cap_concentrate.proofs.Least.{up_inside, rounded_up_ge, rounded_up_near, rounded_up_monotone, rounded_up_multiple, bounds_exponent_serves, least_functions, least_unique, least_where_encodable}
+use Rattle.cap_concentrate.proofs.Least.{up_inside, rounded_up_ge, rounded_up_near, rounded_up_monotone}
+use Rattle.cap_concentrate.proofs.Least.{rounded_up_multiple, bounds_exponent_serves, least_functions, least_unique}
+use Rattle.cap_concentrate.proofs.Least.{least_where_encodable}
 
 -- the exponent of the alignment of a length from 4096 on
 pub record IsAlignment (n e : ℕ) : Type 0 where
@@ -28,10 +33,13 @@ alignment_long n l h =
     let within = x.within in
     let none : (m : ℕ) → rounded_down 0 m ≡ 0 = λ m. omega arith in
     let short : rounded_up n (2 ^ (e + 3)) < 2 ^ (e + 13) = omega (arith, x.short, none (2 ^ (e + 3))) in
-    let first : (j : ℕ) → j < e → 2 ^ (j + 13) ≤ rounded_up n (2 ^ (j + 3)) = λ j b. omega (arith, x.first j b, none (2 ^ (j + 3))) in
+    let first : (j : ℕ) → j < e → 2 ^ (j + 13) ≤ rounded_up n (2 ^ (j + 3)) =
+    λ j b. omega (arith, x.first j b, none (2 ^ (j + 3))) in
     let test = λ (i : ℕ). nat_lt (rounded_up n (2 ^ (i + 3))) (2 ^ (i + 13)) in
     record {
-      is = cond-false _ _ _ (lt-leb n 4095 l) ∙ ap (λ v. 2 ^ (v + 3)) (least_exponent_is test e within (record { passes = lt-ltb _ _ short; first = λ j a b. le-ltb _ _ (first j b) }));
+      is = cond-false _ _ _ (lt-leb n 4095 l)
+          ∙ ap (λ v. 2 ^ (v + 3)) (least_exponent_is test e within
+          (record { passes = lt-ltb _ _ short; first = λ j a b. le-ltb _ _ (first j b) }));
       within = within;
       short = short;
       first = first;
@@ -39,7 +47,9 @@ alignment_long n l h =
 
 pub alignment_pos : (n : ℕ) → 0 < alignment n
 unfolding alignment
-alignment_pos n = cond_both (nat_le n 4095) 1 (2 ^ (least_exponent (λ e. nat_lt (rounded_up n (2 ^ (e + 3))) (2 ^ (e + 13))) + 3)) (λ v. 0 < v) (λ _. omega arith) (λ _. pow_pos _)
+alignment_pos n = cond_both (nat_le n 4095) 1
+    (2 ^ (least_exponent (λ e. nat_lt (rounded_up n (2 ^ (e + 3))) (2 ^ (e + 13))) + 3)) (λ v. 0 < v) (λ _. omega arith)
+    (λ _. pow_pos _)
 
 -- the alignment is a power of two, and at most 2 ^ 55
 pub alignment_power : (n : ℕ) → (k : ℕ) × (k ≤ 55) × (alignment n ≡ 2 ^ k)
@@ -47,7 +57,8 @@ unfolding alignment
 alignment_power n =
     let test = λ (e : ℕ). nat_lt (rounded_up n (2 ^ (e + 3))) (2 ^ (e + 13)) in
     let within = least_exponent_within test in
-    cond_both (nat_le n 4095) 1 (2 ^ (least_exponent test + 3)) (λ v. (k : ℕ) × (k ≤ 55) × (v ≡ 2 ^ k)) (λ _. (0, omega arith, refl)) (λ _. (least_exponent test + 3, omega arith, refl))
+    cond_both (nat_le n 4095) 1 (2 ^ (least_exponent test + 3)) (λ v. (k : ℕ) × (k ≤ 55) × (v ≡ 2 ^ k))
+    (λ _. (0, omega arith, refl)) (λ _. (least_exponent test + 3, omega arith, refl))
 
 pub owned_ge : (n : ℕ) → n ≤ owned n
 unfolding owned
@@ -66,7 +77,8 @@ sum_multiple base q m h =
     let e : base + q * m ≡ (base / m + q) * m = omega (arith, div-add-mod' base m) in
     ap (λ v. v % m) e ∙ mul-mod_left (base / m + q) m
 
-long_encodable : (base n : ℕ) → 4096 ≤ n → base + owned n ≤ 2 ^ 64 → base % alignment n ≡ 0 → Encodable base (base + owned n)
+long_encodable : (base n : ℕ) → 4096 ≤ n → base + owned n ≤ 2 ^ 64 → base % alignment n ≡ 0 →
+    Encodable base (base + owned n)
 unfolding owned
 long_encodable base n long fits multiple =
     let more = rounded_up_ge n (alignment n) (alignment_pos n) in
@@ -98,9 +110,12 @@ owned_encodable base n fits multiple =
     ]
 
 -- its least bounds are exact
-pub owned_exact : (base n : ℕ) → base + owned n ≤ 2 ^ 64 → base % alignment n ≡ 0 → (least_base base (base + owned n) ≡ base) × (least_top base (base + owned n) ≡ base + owned n)
+pub owned_exact : (base n : ℕ) → base + owned n ≤ 2 ^ 64 → base % alignment n ≡ 0 →
+    (least_base base (base + owned n) ≡ base) × (least_top base (base + owned n) ≡ base + owned n)
 owned_exact base n fits multiple =
-    least_unique base (base + owned n) _ _ base (base + owned n) (least_functions base (base + owned n) (omega arith) fits) (least_where_encodable base (base + owned n) (owned_encodable base n fits multiple))
+    least_unique base (base + owned n) _ _ base (base + owned n)
+    (least_functions base (base + owned n) (omega arith) fits)
+    (least_where_encodable base (base + owned n) (owned_encodable base n fits multiple))
 
 -- ---- an owned length owns itself
 long_alignment_owned : (n : ℕ) → 4096 ≤ n → n ≤ 2 ^ 64 → alignment (owned n) ≡ alignment n
@@ -117,8 +132,11 @@ long_alignment_owned n long h =
     let here : rounded_up o m ≡ o = rounded_up_multiple o m (pow_pos (e + 3)) multiple in
     let first : (j : ℕ) → j < e → 2 ^ (j + 13) ≤ rounded_up o (2 ^ (j + 3)) = λ j b.
     omega (arith, a.first j b, rounded_up_monotone n o (2 ^ (j + 3)) (pow_pos (j + 3)) more) in
-    let is : least_exponent test ≡ e = least_exponent_is test e a.within (record { passes = lt-ltb _ _ (omega arith); first = λ j x b. le-ltb _ _ (first j b) }) in
-    ap alignment (ap (λ v. rounded_up n v) a.is) ∙ cond-false _ _ _ (lt-leb o 4095 (omega arith)) ∙ ap (λ v. 2 ^ (v + 3)) is ∙ sym a.is
+    let is : least_exponent test ≡ e =
+    least_exponent_is test e a.within (record
+    { passes = lt-ltb _ _ (omega arith); first = λ j x b. le-ltb _ _ (first j b) }) in
+    ap alignment (ap (λ v. rounded_up n v) a.is) ∙ cond-false _ _ _ (lt-leb o 4095 (omega arith))
+    ∙ ap (λ v. 2 ^ (v + 3)) is ∙ sym a.is
 
 pub alignment-owned : (n : ℕ) → n ≤ 2 ^ 64 → alignment (owned n) ≡ alignment n
 alignment-owned n h =
@@ -130,7 +148,8 @@ alignment-owned n h =
 pub owned-owned : (n : ℕ) → n ≤ 2 ^ 64 → owned (owned n) ≡ owned n
 unfolding owned
 owned-owned n h =
-    ap (λ m. rounded_up (owned n) m) (alignment-owned n h) ∙ rounded_up_multiple (owned n) (alignment n) (alignment_pos n) (owned_multiple n)
+    ap (λ m. rounded_up (owned n) m) (alignment-owned n h)
+    ∙ rounded_up_multiple (owned n) (alignment n) (alignment_pos n) (owned_multiple n)
 
 -- ---- growth
 pub owned_near : (n : ℕ) → owned n < n + alignment n
@@ -166,8 +185,10 @@ module _ (n m : ℕ) (long : 4096 ≤ n) (le : n ≤ m) (within : m ≤ 2 ^ 64) 
   unfolding owned
   long_owned =
       let j = bounds_exponent 0 m in
-      let multiple : rounded_up m (alignment m) % 2 ^ (j + 3) ≡ 0 = ap (λ v. rounded_up m (alignment m) % v) (sym b.is) ∙ mul-mod_left _ (alignment m) in
-      let up = up_inside n (rounded_up m (alignment m)) (bounds_exponent 0 n) j exponents multiple (omega (arith, rounded_up_ge m (alignment m) (alignment_pos m))) in
+      let multiple : rounded_up m (alignment m) % 2 ^ (j + 3) ≡ 0 =
+      ap (λ v. rounded_up m (alignment m) % v) (sym b.is) ∙ mul-mod_left _ (alignment m) in
+      let up = up_inside n (rounded_up m (alignment m)) (bounds_exponent 0 n) j exponents multiple
+      (omega (arith, rounded_up_ge m (alignment m) (alignment_pos m))) in
       omega (arith, up, ap (λ v. rounded_up n v) a.is)
 
 pub alignment_monotone : (n m : ℕ) → n ≤ m → m ≤ 2 ^ 64 → alignment n ≤ alignment m

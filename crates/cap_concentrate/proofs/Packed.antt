@@ -42,4 +42,5 @@ fields_of-bits_of f h =
 
 pub bits_of-fields_of : (bits : ℕ) → bits < 2 ^ 128 → bits_of (fields_of bits) ≡ bits
 unfolding bits_of fields_of
-bits_of-fields_of bits h = omega (arith, one_where_bit (bits / 2 ^ 90 % 2) (omega arith), one_where_bit (bits / 2 ^ 109 % 2) (omega arith))
+bits_of-fields_of bits h =
+    omega (arith, one_where_bit (bits / 2 ^ 90 % 2) (omega arith), one_where_bit (bits / 2 ^ 109 % 2) (omega arith))

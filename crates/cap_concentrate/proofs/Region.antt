@@ -1,4 +1,5 @@
--- Addresses and bounds in the region of a base, in units of 2 ^ e: the eight blocks of 2 ^ 11 units from the one below the base on.
+-- Addresses and bounds in the region of a base, in units of 2 ^ e: the eight blocks of 2 ^ 11 units from the one below
+-- the base on.
 use Rattle.std.proofs.Common.{◌≡◌, ℕ, ◌+◌, ◌-◌, ◌*◌, ◌/◌, ◌%◌, ◌^◌, ◌<◌, ◌≤◌, ltb, ap, ◌∙◌, arith}
 use Rattle.std.proofs.lemmas.Bool.{ltb-true, ltb-false, cond_both}
 use Rattle.std.proofs.lemmas.Nat.{shr-shr, pow-add}
@@ -20,7 +21,8 @@ high_at b x r =
     (λ e. omega (arith, ltb-true _ _ e)) (λ e. omega (arith, ltb-false _ _ e))
 
 -- so x is found again from its low 14 bits and from an address a in the region
-found_again : (b a x : ℕ) → InRegion b a → InRegion b x → (a / 16384 + 2 ^ 65 + high (x % 16384) (b % 16384) - high (a % 16384) (b % 16384)) * 16384 + x % 16384 ≡ 2 ^ 79 + x
+found_again : (b a x : ℕ) → InRegion b a → InRegion b x →
+    (a / 16384 + 2 ^ 65 + high (x % 16384) (b % 16384) - high (a % 16384) (b % 16384)) * 16384 + x % 16384 ≡ 2 ^ 79 + x
 found_again b a x ra rx = omega (arith, high_at b a ra, high_at b x rx)
 
 -- a number of blocks and units, in bytes
@@ -29,8 +31,10 @@ in_bytes e q y x s =
     let p : 2 ^ (e + 14) ≡ 2 ^ e * 16384 = pow-add 2 e 14 in
     omega (arith, ap (λ v. v * 2 ^ e) s, ap (λ v. q * v) p)
 
-pub placed_at : (e address b x : ℕ) → InRegion b (address / 2 ^ e) → InRegion b x → placed e address (b % 16384) (x % 16384) ≡ (x * 2 ^ e) % 2 ^ 65
+pub placed_at : (e address b x : ℕ) → InRegion b (address / 2 ^ e) → InRegion b x →
+    placed e address (b % 16384) (x % 16384) ≡ (x * 2 ^ e) % 2 ^ 65
 unfolding placed
 placed_at e address b x ra rx =
     rw (← shr-shr address e 14)
-    (ap (λ v. v % 2 ^ 65) (in_bytes e _ (x % 16384) (2 ^ 79 + x) (found_again b (address / 2 ^ e) x ra rx)) ∙ omega arith)
+    (ap (λ v. v % 2 ^ 65) (in_bytes e _ (x % 16384) (2 ^ 79 + x) (found_again b (address / 2 ^ e) x ra rx))
+    ∙ omega arith)

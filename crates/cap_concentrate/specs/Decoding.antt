@@ -27,7 +27,8 @@ high x b = one_where (nat_lt (x / 2048) ((b / 2048 + 7) % 8))
 -- x alone is high, and one less where the address alone is. (The 2 ^ 65 keeps them from going below zero.)
 unfoldable pub placed : ℕ → ℕ → ℕ → ℕ → ℕ
 placed e address b x =
-    ((address / 2 ^ (e + 14) + 2 ^ 65 + high x b - high (address / 2 ^ e % 16384) b) * 2 ^ (e + 14) + x * 2 ^ e) % 2 ^ 65
+    ((address / 2 ^ (e + 14) + 2 ^ 65 + high x b - high (address / 2 ^ e % 16384) b) * 2 ^ (e + 14) + x * 2 ^ e) % 2 ^
+    65
 
 -- bit 64 of the top is inverted where E is below 51 and top[64:63] less base[63], modulo 4, exceeds 1
 unfoldable pub corrected : ℕ → ℕ → ℕ → ℕ
@@ -36,13 +37,15 @@ corrected e base top =
 
 -- the base, in 64 bits
 unfoldable pub base_of : Bool → ℕ → ℕ → ℕ → ℕ
-base_of internal t b address = placed (exponent internal t b) address (mantissa internal b) (mantissa internal b) % 2 ^ 64
+base_of internal t b address =
+    placed (exponent internal t b) address (mantissa internal b) (mantissa internal b) % 2 ^ 64
 
 -- the top, in 65 bits
 unfoldable pub top_of : Bool → ℕ → ℕ → ℕ → ℕ
 top_of internal t b address =
     corrected (exponent internal t b) (base_of internal t b address)
-    (placed (exponent internal t b) address (mantissa internal b) (whole_top internal (mantissa internal t) (mantissa internal b)))
+    (placed (exponent internal t b) address (mantissa internal b)
+    (whole_top internal (mantissa internal t) (mantissa internal b)))
 
 -- the base and the top that the fields give with this address in place of their own
 abbrev pub base_at : Fields → ℕ → ℕ

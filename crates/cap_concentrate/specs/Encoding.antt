@@ -1,4 +1,5 @@
--- The canonical fields of bounds: those of the least exponent that holds their length (CHERI ISAv9, CHERI Concentrate, encoding).
+-- The canonical fields of bounds: those of the least exponent that holds their length (CHERI ISAv9, CHERI Concentrate,
+-- encoding).
 use Rattle.std.specs.Prelude.{ℕ, ◌≡◌, ◌+◌, ◌-◌, ◌*◌, ◌/◌, ◌%◌, ◌^◌, ◌<◌, ◌≤◌, Bool, nat_lt, nat_le, if◌then◌else◌}
 use Rattle.std.proofs.Common.{arith}
 use Rattle.std.proofs.lemmas.Bool.{cond_both}
@@ -42,13 +43,15 @@ unfolding encoded_t
 encoded_t_below base top =
     let e = length_exponent (top - base) in
     let h : e ≤ 52 = length_exponent_within (top - base) in
-    cond_both (nat_le 4096 (top - base)) (top / 2 ^ (e + 3) % 512 * 8 + e / 8) (top % 4096) (λ x. x < 4096) (λ _. omega arith) (λ _. omega arith)
+    cond_both (nat_le 4096 (top - base)) (top / 2 ^ (e + 3) % 512 * 8 + e / 8) (top % 4096) (λ x. x < 4096)
+    (λ _. omega arith) (λ _. omega arith)
 
 pub encoded_b_below : (base top : ℕ) → encoded_b base top < 16384
 unfolding encoded_b
 encoded_b_below base top =
     let e = length_exponent (top - base) in
-    cond_both (nat_le 4096 (top - base)) (base / 2 ^ (e + 3) % 2048 * 8 + e % 8) (base % 16384) (λ x. x < 16384) (λ _. omega arith) (λ _. omega arith)
+    cond_both (nat_le 4096 (top - base)) (base / 2 ^ (e + 3) % 2048 * 8 + e % 8) (base % 16384) (λ x. x < 16384)
+    (λ _. omega arith) (λ _. omega arith)
 
 -- the fields f, but with these bounds, in their canonical form
 unfoldable pub with_bounds : Fields → ℕ → ℕ → Fields

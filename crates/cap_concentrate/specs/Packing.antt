@@ -11,7 +11,8 @@ use Rattle.cap_concentrate.specs.Decoding.{one_where}
 -- each field at its place
 unfoldable pub bits_of : Fields → ℕ
 bits_of f =
-    f.address + 2 ^ 64 * f.b + 2 ^ 78 * f.t + 2 ^ 90 * one_where f.internal + 2 ^ 91 * f.otype + 2 ^ 109 * one_where f.flag +
+    f.address + 2 ^ 64 * f.b + 2 ^ 78 * f.t + 2 ^ 90 * one_where f.internal + 2 ^ 91 * f.otype
+    + 2 ^ 109 * one_where f.flag +
     2 ^ 110 * f.reserved + 2 ^ 112 * f.perms + 2 ^ 124 * f.user
 
 -- the fields at their places in the bits

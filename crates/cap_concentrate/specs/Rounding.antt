@@ -1,5 +1,7 @@
--- Which bounds can be encoded, and how far a request is rounded (CHERI ISAv9, CHERI Concentrate). No fields are named here.
-use Rattle.std.specs.Prelude.{ℕ, zero, suc, ◌≡◌, ◌+◌, ◌-◌, ◌*◌, ◌/◌, ◌%◌, ◌^◌, ◌<◌, ◌≤◌, ◌⊎◌, Bool, nat_lt, nat_le, if◌then◌else◌}
+-- Which bounds can be encoded, and how far a request is rounded (CHERI ISAv9, CHERI Concentrate). No fields are named
+-- here.
+use Rattle.std.specs.Prelude.{ℕ, zero, suc, ◌≡◌, ◌+◌, ◌-◌, ◌*◌, ◌/◌, ◌%◌, ◌^◌, ◌<◌, ◌≤◌, ◌⊎◌, Bool, nat_lt, nat_le}
+use Rattle.std.specs.Prelude.{if◌then◌else◌}
 use Rattle.std.proofs.Common.{arith}
 use Rattle.std.proofs.lemmas.Bool.{cond_both}
 
@@ -39,8 +41,8 @@ first_from test (suc k) e = (if test e then e else first_from test k (suc e))
 abbrev pub least_exponent : (ℕ → Bool) → ℕ
 least_exponent test = first_from test 52 0
 
--- The alignment of an object of n bytes, n being at most 2 ^ 64. From 4096 bytes on it is 2 ^ (e + 3) for the least exponent at which n,
--- rounded up to a multiple of 2 ^ (e + 3), is below 2 ^ (e + 13).
+-- The alignment of an object of n bytes, n being at most 2 ^ 64. From 4096 bytes on it is 2 ^ (e + 3) for the least
+-- exponent at which n, rounded up to a multiple of 2 ^ (e + 3), is below 2 ^ (e + 13).
 unfoldable pub alignment : ℕ → ℕ
 alignment n =
     (if nat_le n 4095 then 1 else 2 ^ (least_exponent (λ e. nat_lt (rounded_up n (2 ^ (e + 3))) (2 ^ (e + 13))) + 3))
@@ -49,7 +51,8 @@ alignment n =
 unfoldable pub owned : ℕ → ℕ
 owned n = rounded_up n (alignment n)
 
--- the least exponent at which the request, with both ends rounded to multiples of 2 ^ (e + 3), is shorter than 2 ^ (e + 13)
+-- the least exponent at which the request, with both ends rounded to multiples of 2 ^ (e + 3), is shorter than 2 ^ (e +
+-- 13)
 unfoldable pub bounds_exponent : ℕ → ℕ → ℕ
 bounds_exponent start end =
     least_exponent (λ e. nat_lt (rounded_up end (2 ^ (e + 3))) (rounded_down start (2 ^ (e + 3)) + 2 ^ (e + 13)))
@@ -68,7 +71,8 @@ first_from_le : (test : ℕ → Bool) (k e : ℕ) → first_from test k e ≤ e 
 unfolding first_from
 first_from_le test zero e = omega arith
 first_from_le test (suc k) e =
-    cond_both (test e) e (first_from test k (suc e)) (λ x. x ≤ e + suc k) (λ _. omega arith) (λ _. omega (arith, first_from_le test k (suc e)))
+    cond_both (test e) e (first_from test k (suc e)) (λ x. x ≤ e + suc k) (λ _. omega arith)
+    (λ _. omega (arith, first_from_le test k (suc e)))
 
 pub least_exponent_within : (test : ℕ → Bool) → least_exponent test ≤ 52
 least_exponent_within test = first_from_le test 52 0

@@ -1,6 +1,7 @@
 // The bounds of fields.
 ghost use Rattle.std.specs.Prelude.{◌≡◌, ◌+◌, ◌*◌, ◌%◌, ◌^◌, ◌<◌, ◌≤◌, ◌↔◌, IsTrue};
-ghost use Rattle.cap_concentrate.specs.Decoding.{one_where, exponent, mantissa, whole_top, placed, corrected, base_at, top_at, same_bounds};
+ghost use Rattle.cap_concentrate.specs.Decoding.{one_where, exponent, mantissa, whole_top, placed, corrected, base_at};
+ghost use Rattle.cap_concentrate.specs.Decoding.{top_at, same_bounds};
 ghost use Rattle.cap_concentrate.specs.Encoding.{AreEncoded};
 
 use super::Fields;

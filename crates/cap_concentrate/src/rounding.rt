@@ -2,7 +2,8 @@
 ghost use Rattle.std.specs.Prelude.{◌≡◌, ℕ, ◌+◌, ◌-◌, ◌/◌, ◌%◌, ◌^◌, ◌≤◌, ◌↔◌, IsTrue};
 ghost use Rattle.cap_concentrate.specs.Decoding.{base_of, top_of};
 ghost use Rattle.cap_concentrate.specs.Encoding.{AreEncoded};
-ghost use Rattle.cap_concentrate.specs.Rounding.{IsLeastBounds, bounds_exponent, least_base, least_top, alignment, owned};
+ghost use Rattle.cap_concentrate.specs.Rounding.{IsLeastBounds, bounds_exponent, least_base, least_top, alignment};
+ghost use Rattle.cap_concentrate.specs.Rounding.{owned};
 
 use super::Bounds;
 

@@ -17,7 +17,8 @@ exponent_most : (n e : ℕ) → n ≤ size_limit → IsAlignment n e → e ≤ 1
 exponent_most n e h a =
     elim (cases_lt e 15) as (λ _. e ≤ 14) [
       | inl lt ↦ omega arith
-      | inr le ↦ absurd (let f = a.first 14 (omega arith) in let b = rounded_up_bounds n (2 ^ 17) (omega arith) in omega (arith, f, b.1))
+      | inr le ↦ absurd (let f = a.first 14 (omega arith) in let b = rounded_up_bounds n (2 ^ 17) (omega arith) in
+          omega (arith, f, b.1))
     ]
 
 power_most : (e : ℕ) → e ≤ 14 → 2 ^ (e + 3) ≤ 131072

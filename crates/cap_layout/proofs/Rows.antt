@@ -1,5 +1,6 @@
 -- Rows of rows of elements.
-use Rattle.std.proofs.Common.{◌≡◌, ℕ, zero, suc, ◌-◌, ◌*◌, ◌<◌, ◌≤◌, List, Option, Some, None, Result, Err, refl, sym, ap, subst, ◌∙◌, arith, inl, inr}
+use Rattle.std.proofs.Common.{◌≡◌, ℕ, zero, suc, ◌-◌, ◌*◌, ◌<◌, ◌≤◌, List, Option, Some, None, Result, Err, refl, sym}
+use Rattle.std.proofs.Common.{ap, subst, ◌∙◌, arith, inl, inr}
 use Rattle.std.specs.Prelude.{slice_get}
 use Rattle.std.proofs.Math.Nat.{mul_assoc, mul_comm, mul-le-mul_left}
 use Rattle.std.proofs.lemmas.Bool.{cases_lt}
@@ -11,7 +12,8 @@ use Rattle.cap_layout.specs.declared.answers.LayoutFault.TheVariants.{TooLarge, 
 use Rattle.cap_layout.specs.Answers.{Fits, Exceeds, IsLayout, extent_is, greatest_align}
 use Rattle.cap_layout.specs.Walks.{capped, IsRow}
 
-pub extent_step : (types : List CType) (d t : ℕ) → 0 < d → extent_within d types t ≡ extent_of (slice_get types t) (extent_within (d - 1) types)
+pub extent_step : (types : List CType) (d t : ℕ) → 0 < d →
+    extent_within d types t ≡ extent_of (slice_get types t) (extent_within (d - 1) types)
 unfolding extent_within
 extent_step types zero t h = absurd (omega arith)
 extent_step types (suc d) t h = let e : suc d - 1 ≡ d = omega arith in rw e refl
@@ -37,7 +39,8 @@ row_zero o e f c n r h z = row_none o e c r (h ∙ none_row f n z)
 
 once : (o : Option Extent) → o ≡ with_extent o (times 1)
 once None = refl
-once (Some x) = let e : x.size ≡ 1 * x.size = omega arith in ap (λ (n : ℕ). Some (record { size = n; align = x.align })) e
+once (Some x) = let e : x.size ≡ 1 * x.size = omega arith in
+    ap (λ (n : ℕ). Some (record { size = n; align = x.align })) e
 
 pub row_start : (o : Option Extent) → IsRow o o 1
 row_start o = record { number = 1; positive = omega arith; count_is = refl; is = once o }
@@ -45,7 +48,8 @@ row_start o = record { number = 1; positive = omega arith; count_is = refl; is =
 pub row_at : (o e f : Option Extent) (c : ℕ) → IsRow o e c → e ≡ f → IsRow o f c
 row_at o e f c r h = subst (λ p. IsRow o p c) h r
 
-twice : (e : Option Extent) (k n : ℕ) → 0 < k → 0 < n → with_extent (with_extent e (times n)) (times k) ≡ with_extent e (times (k * n))
+twice : (e : Option Extent) (k n : ℕ) → 0 < k → 0 < n →
+    with_extent (with_extent e (times n)) (times k) ≡ with_extent e (times (k * n))
 twice None k n p q = refl
 twice (Some x) k n p q =
     let r : 0 < k * n = omega (arith, mul-le-mul_left k q) in
@@ -53,7 +57,8 @@ twice (Some x) k n p q =
     ∙ ap (λ (m : ℕ). Some (record { size = m; align = x.align })) (sym (mul_assoc k n x.size))
     ∙ sym (times_positive (k * n) x r)
 
-pub row_more : (o e f : Option Extent) (c n d : ℕ) → IsRow o e c → e ≡ with_extent f (times n) → 0 < n → ((k : ℕ) → c ≡ capped k → 0 < n → d ≡ capped (k * n)) → IsRow o f d
+pub row_more : (o e f : Option Extent) (c n d : ℕ) → IsRow o e c → e ≡ with_extent f (times n) → 0 < n →
+    ((k : ℕ) → c ≡ capped k → 0 < n → d ≡ capped (k * n)) → IsRow o f d
 row_more o e f c n d r h p g =
     record {
       number = r.number * n;
@@ -67,9 +72,11 @@ row_more o e f c n d r h p g =
 pub layout_at : (o p : Option Extent) (r : Result Layout LayoutFault) → o ≡ p → IsLayout p r → IsLayout o r
 layout_at o p r e h = subst (λ q. IsLayout q r) (sym e) h
 
-pub row_layout : (o e : Option Extent) (c : ℕ) (x : Extent) (r : Result Layout LayoutFault) → IsRow o e c → e ≡ Some x → ((k : ℕ) → 0 < k → c ≡ capped k → IsLayout (times k x) r) → IsLayout o r
+pub row_layout : (o e : Option Extent) (c : ℕ) (x : Extent) (r : Result Layout LayoutFault) → IsRow o e c → e ≡ Some x →
+    ((k : ℕ) → 0 < k → c ≡ capped k → IsLayout (times k x) r) → IsLayout o r
 row_layout o e c x r w h g =
-    layout_at o (times w.number x) r (w.is ∙ ap (λ p. with_extent p (times w.number)) h) (g w.number w.positive w.count_is)
+    layout_at o (times w.number x) r (w.is ∙ ap (λ p. with_extent p (times w.number)) h)
+    (g w.number w.positive w.count_is)
 
 over : (k : ℕ) (x : Extent) → 0 < k → size_limit < x.size → Exceeds (times k x)
 over k x p h =
@@ -82,7 +89,8 @@ over k x p h =
 -- a fault of the element is one of the row
 pub row_fault : (o e : Option Extent) (c : ℕ) (f : LayoutFault) → IsRow o e c → IsLayout e (Err f) → IsLayout o (Err f)
 row_fault o e c TooLarge r h =
-    layout_at o (times r.number h.extent) (Err TooLarge) (r.is ∙ ap (λ p. with_extent p (times r.number)) h.is) (over r.number h.extent r.positive h.over)
+    layout_at o (times r.number h.extent) (Err TooLarge) (r.is ∙ ap (λ p. with_extent p (times r.number)) h.is)
+    (over r.number h.extent r.positive h.over)
 row_fault o e c Incomplete r h = row_none o e c r h
 
 -- the size of a row, where the code's number of elements is within the limit or the elements have no bytes
@@ -97,10 +105,12 @@ row_size s k c e h =
           rw z (omega arith)
     ]
 
-pub row_fits : (l : Layout) (c : ℕ) → l.size * c ≤ size_limit → 0 < l.align → l.align ≤ greatest_align → (k : ℕ) → 0 < k → c ≡ capped k → Fits (times k (extent_is l)) (record { size = l.size * c; align = l.align })
+pub row_fits : (l : Layout) (c : ℕ) → l.size * c ≤ size_limit → 0 < l.align → l.align ≤ greatest_align → (k : ℕ) →
+    0 < k → c ≡ capped k → Fits (times k (extent_is l)) (record { size = l.size * c; align = l.align })
 row_fits l c h p a k q e =
     record {
-      is = times_positive k (extent_is l) q ∙ ap (λ (n : ℕ). Some (record { size = n; align = l.align })) (row_size l.size k c e h);
+      is = times_positive k (extent_is l) q
+          ∙ ap (λ (n : ℕ). Some (record { size = n; align = l.align })) (row_size l.size k c e h);
       size = h;
       positive = p;
       align = a;

@@ -1,6 +1,9 @@
 -- How far the code has come in a type.
-use Rattle.std.specs.Prelude.{◌≡◌, ℕ, ◌+◌, ◌<◌, ◌≤◌, min, List, [], Option, Some, None, Result, Ok, Err, Bool, true, false, not, slice_get}
-use Rattle.c_tree.specs.Layout.{Extent, size_limit, scalar, with_extent, behind, beside, no_members, members, whole, times, extent_of, extent_within, bare_of, members_of, struct_offset, union_offset, offset_of_member}
+use Rattle.std.specs.Prelude.{◌≡◌, ℕ, ◌+◌, ◌<◌, ◌≤◌, min, List, [], Option, Some, None, Result, Ok, Err, Bool, true}
+use Rattle.std.specs.Prelude.{false, not, slice_get}
+use Rattle.c_tree.specs.Layout.{Extent, size_limit, scalar, with_extent, behind, beside, no_members, members, whole}
+use Rattle.c_tree.specs.Layout.{times, extent_of, extent_within, bare_of, members_of, struct_offset, union_offset}
+use Rattle.c_tree.specs.Layout.{offset_of_member}
 use Rattle.c_tree.specs.Counts.{is_record}
 use Rattle.c_tree.specs.declared.typed.CType.{CType}
 use Rattle.c_tree.specs.declared.typed.Member.{Member}
@@ -64,15 +67,19 @@ IsCore d types t (Some c) = HasCore d types t c
 
 -- how far a walk over members has come: the end so far, or that it is over the limit whatever follows
 abbrev pub Walk : Bool → (Extent → Extent → Extent) → (ℕ → Option Extent) → List Member → List Member → Layout → Type 0
-Walk false place go ms rest end = (members place go ms no_members ≡ members place go rest (extent_is end)) × (end.size ≤ size_limit) × (0 < end.align) × (end.align ≤ greatest_align)
-Walk true place go ms rest end = (x : Extent) × (size_limit < x.size) × (members place go ms no_members ≡ members place go rest x)
+Walk false place go ms rest end =
+    (members place go ms no_members ≡ members place go rest (extent_is end)) × (end.size ≤ size_limit) ×
+    (0 < end.align) × (end.align ≤ greatest_align)
+Walk true place go ms rest end =
+    (x : Extent) × (size_limit < x.size) × (members place go ms no_members ≡ members place go rest x)
 
 -- ---- structs and unions behind the words `const`
 
 -- the type behind one word `const`
 abbrev pub IsInner : CType → Option ℕ → Type 0
 IsInner c None = ((go : ℕ → Option CType) → bare_of (Some c) go ≡ Some c)
-IsInner c (Some t) = ((go : ℕ → Option CType) → bare_of (Some c) go ≡ go t) × ((go : ℕ → Option Extent) → extent_of (Some c) go ≡ go t)
+IsInner c (Some t) = ((go : ℕ → Option CType) → bare_of (Some c) go ≡ go t) ×
+    ((go : ℕ → Option Extent) → extent_of (Some c) go ≡ go t)
 
 -- the members of the struct or union
 abbrev pub record_members : Record → List Member

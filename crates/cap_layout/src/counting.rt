@@ -3,7 +3,8 @@ ghost use Rattle.std.specs.Prelude.{◌≡◌, ◌≤◌, sum_by, slice_get};
 ghost use Rattle.c_tree.specs.Layout.{extent, bare, size_limit};
 ghost use Rattle.c_tree.specs.Weight.{counted};
 ghost use Rattle.cap_layout.specs.Kept.{AreLayoutsOf};
-ghost use Rattle.c_tree.specs.Counts.{parts, size_of, var_granules, fun_granules, granules, is_record, copied, expr_copies, value_copies, stmt_copies, copies};
+ghost use Rattle.c_tree.specs.Counts.{parts, size_of, var_granules, fun_granules, granules, is_record, copied};
+ghost use Rattle.c_tree.specs.Counts.{expr_copies, value_copies, stmt_copies, copies};
 
 use crate::kept::Layouts;
 use crate::owning::owned;
@@ -51,8 +52,8 @@ fn fun_granules(layouts: &Layouts, p: &Typed, f: &FunDef) -> u64
     total
 }
 
-/// How many parts of 16 bytes, rounded up for each object, all locals that are objects have. A count of 2^64 or more is 2^64 - 1
-/// here. A type without a layout counts nothing.
+/// How many parts of 16 bytes, rounded up for each object, all locals that are objects have. A count of 2^64 or more is
+/// 2^64 - 1 here. A type without a layout counts nothing.
 #[tactic(auto, unfolding(c_tree::specs::Counts::granules))]
 pub fn granules(layouts: &Layouts, p: &Typed) -> u64
     requires { AreLayoutsOf p.now.types layouts.now }
@@ -142,8 +143,8 @@ fn stmts_copies(layouts: &Layouts, p: &Typed) -> u64
 }
 
 /// How many parts of 16 bytes, rounded up for each copy, are copied by the assignments of structs and unions, by the
-/// initialisations from their values and by the conditional expressions that choose one. A count of 2^64 or more is 2^64 - 1
-/// here.
+/// initialisations from their values and by the conditional expressions that choose one. A count of 2^64 or more is
+/// 2^64 - 1 here.
 #[tactic(auto, unfolding(c_tree::specs::Counts::copies))]
 pub fn copies(layouts: &Layouts, p: &Typed) -> u64
     requires { AreLayoutsOf p.now.types layouts.now }

@@ -87,7 +87,8 @@ fn fields(k: Known, ms: &[Member], shared: bool) -> Option<Layout>
 // A struct or union of such members.
 fn record_layout(k: Known, ms: &[Member], shared: bool) -> Option<Layout>
     requires { AreLayoutsOf k.types.now k.found.now }
-    ensures { IfSome result (λ l. Fits (with_extent (members (placing shared) (extent k.entry.types.now) ms.now no_members) whole) l) }
+    ensures { IfSome result (λ l. Fits (with_extent
+        (members (placing shared) (extent k.entry.types.now) ms.now no_members) whole) l) }
 {
     match fields(k, ms, shared) {
         None => None,
@@ -168,7 +169,8 @@ fn begin(begun: &mut Vec<bool>, visits: &mut Vec<Visit>, t: u32) -> Result<(), A
     Ok(())
 }
 
-// One step of the last visit: the type of its next part is visited before it goes on, or it ends, and its type is the answer.
+// One step of the last visit: the type of its next part is visited before it goes on, or it ends, and its type is the
+// answer.
 fn step(
     types: &[CType],
     begun: &mut Vec<bool>,
@@ -234,7 +236,8 @@ fn find(alloc: Global, types: &[CType]) -> Result<Vec<Option<Layout>>, AllocErro
 }
 
 impl Layouts {
-    /// The layouts of the types of a program, in time that grows with the types and their members, and without recursion.
+    /// The layouts of the types of a program, in time that grows with the types and their members, and without
+    /// recursion.
     pub fn new(alloc: Global, p: &Typed) -> Result<Layouts, AllocError>
         ensures { IfOk result (λ ls. AreLayoutsOf p.now.types ls) }
     {

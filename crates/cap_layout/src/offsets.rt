@@ -32,9 +32,9 @@ fn struct_offset(p: &Typed, ms: &[Member], k: u32) -> Result<u64, LayoutFault>
     unreachable!()
 }
 
-/// Where a member of a struct or union begins, in bytes (C11 6.7.2.1): at the least multiple of its alignment that is not below
-/// the end of the member before it, or at 0 in a union. The type may be const, and has such a member. The refusals are those of
-/// `layout` for the type.
+/// Where a member of a struct or union begins, in bytes (C11 6.7.2.1): at the least multiple of its alignment that is
+/// not below the end of the member before it, or at 0 in a union. The type may be const, and has such a member. The
+/// refusals are those of `layout` for the type.
 pub fn offset_of(p: &Typed, t: u32, member: u32) -> Result<u64, LayoutFault>
     requires { member < length (members_of (bare p.now.types t)) }
     ensures { IsOffset (extent p.now.types t) (member_at p.now.types t member) result }

@@ -7,8 +7,8 @@ ghost use Rattle.cap_layout.specs.Answers.{greatest_align};
 use crate::answers::Owned;
 use cap_concentrate::{alignment_mask, rounded_length};
 
-/// What an object or a member of `n` bytes owns, so that its bounds can be exact (CHERI ISAv9, CRRL and CRAM): `n` rounded up
-/// to the alignment of a capability's bounds of that length, and this alignment. `n` is at most 67,108,864.
+/// What an object or a member of `n` bytes owns, so that its bounds can be exact (CHERI ISAv9, CRRL and CRAM): `n`
+/// rounded up to the alignment of a capability's bounds of that length, and this alignment. `n` is at most 67,108,864.
 pub fn owned(n: u64) -> Owned
     requires { n ≤ size_limit }
     ensures length { result.length ≡ owned n }

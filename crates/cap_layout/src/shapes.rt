@@ -92,7 +92,8 @@ fn product(m: u64, n: u64) -> u64
     }
 }
 
-/// A type without its arrays and the words `const` around it, at most `depth` levels deep, or None where it is not complete.
+/// A type without its arrays and the words `const` around it, at most `depth` levels deep, or None where it is not
+/// complete.
 pub fn core_of<'a>(types: &'a [CType], depth: usize, t: u32) -> Option<Core<'a>>
     ensures { IsCore depth types.now t result }
 {

@@ -1,6 +1,7 @@
 // The layout of a type.
 ghost use Rattle.std.specs.Prelude.{◌≡◌, ℕ, Some, ◌+◌, ◌<◌, ◌≤◌, length};
-ghost use Rattle.c_tree.specs.Layout.{size_limit, times, whole, with_extent, members, no_members, extent_within, extent};
+ghost use Rattle.c_tree.specs.Layout.{size_limit, times, whole, with_extent, members, no_members, extent_within};
+ghost use Rattle.c_tree.specs.Layout.{extent};
 ghost use Rattle.cap_layout.specs.Answers.{extent_is, greatest_align, IsLayout};
 ghost use Rattle.cap_layout.specs.Walks.{placing, capped};
 
@@ -88,10 +89,10 @@ fn measure(types: &[CType], depth: usize, t: u32) -> Result<Layout, LayoutFault>
     }
 }
 
-/// The size and the alignment of a type (C11 6.2.8, 6.5.3.4). A member that is an array, a struct or a union of n bytes is
-/// aligned to what its type and its length need, and owns its owned length; a struct or union is rounded up to its greatest
-/// alignment. The answer is Incomplete exactly for a type that is not complete, one that contains itself among them, and
-/// TooLarge exactly for a complete one of more than 67,108,864 bytes.
+/// The size and the alignment of a type (C11 6.2.8, 6.5.3.4). A member that is an array, a struct or a union of n bytes
+/// is aligned to what its type and its length need, and owns its owned length; a struct or union is rounded up to its
+/// greatest alignment. The answer is Incomplete exactly for a type that is not complete, one that contains itself among
+/// them, and TooLarge exactly for a complete one of more than 67,108,864 bytes.
 pub fn layout(p: &Typed, t: u32) -> Result<Layout, LayoutFault>
     ensures { IsLayout (extent p.now.types t) result }
 {

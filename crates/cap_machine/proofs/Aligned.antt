@@ -1,5 +1,6 @@
 -- An access that passes the check is aligned.
-use Rattle.std.proofs.Common.{◌≡◌, ℕ, ◌%◌, Bool, true, false, cond, eqb, List, [], ◌∷◌, ◌++◌, Option, Some, None, Result, Ok, Err, refl, sym, subst}
+use Rattle.std.proofs.Common.{◌≡◌, ℕ, ◌%◌, Bool, true, false, cond, eqb, List, [], ◌∷◌, ◌++◌, Option, Some, None}
+use Rattle.std.proofs.Common.{Result, Ok, Err, refl, sym, subst}
 use Rattle.std.specs.Prelude.{find, not}
 use Rattle.std.proofs.lemmas.Bool.{eqb-true, false≢true}
 use Rattle.cap_ops.specs.declared.capability.Cap.{Cap}
@@ -35,5 +36,7 @@ pub aligned : (c : Cap) (at : ℕ) (a : Access) (x : ℕ) → Ok x ≡ checked c
 unfolding checked first_seven
 aligned c at a x h =
     let found = none_found at x (find (fails c at a) in_order) (sym h) in
-    let even : (at % size a) ≡ 0 = eqb-true (at % size a) 0 (not_false (eqb (at % size a) 0) (fails_last (fails c at a) first_seven cause.Align found.0)) in
+    let even : (at % size a) ≡ 0 =
+    eqb-true (at % size a) 0 (not_false (eqb (at % size a) 0)
+    (fails_last (fails c at a) first_seven cause.Align found.0)) in
     subst (λ y. y % size a ≡ 0) found.1 even

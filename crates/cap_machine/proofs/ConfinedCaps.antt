@@ -1,5 +1,6 @@
 -- What an operation on a confined capability gives is confined.
-use Rattle.std.proofs.Common.{◌≡◌, ℕ, ◌+◌, ◌/◌, ◌%◌, ◌^◌, ◌<◌, ◌⊎◌, ◌&&◌, ◌==◌, inl, inr, Bool, true, false, cond, refl, sym, ap, ◌∙◌, arith}
+use Rattle.std.proofs.Common.{◌≡◌, ℕ, ◌+◌, ◌/◌, ◌%◌, ◌^◌, ◌<◌, ◌⊎◌, ◌&&◌, ◌==◌, inl, inr, Bool, true, false, cond, refl}
+use Rattle.std.proofs.Common.{sym, ap, ◌∙◌, arith}
 use Rattle.std.specs.Prelude.{min, bit_and}
 use Rattle.std.proofs.lemmas.Bool.{eqb-true, eq-eqb, false≢true, not_from_false, not-true, and_parts, both_ways, ne_eqb}
 use Rattle.std.proofs.lemmas.Nat.Bits.{bit_at_and}
@@ -7,7 +8,8 @@ use Rattle.std.specs.Int.{bit_at}
 use Rattle.cap_concentrate.specs.Decoding.{same_bounds}
 use Rattle.cap_ops.specs.declared.capability.Cap.{Cap}
 use Rattle.cap_ops.specs.declared.capability.TheConstants.{UNSEALED, EXECUTE}
-use Rattle.cap_ops.specs.Capability.{IsInside, usable, permits, lacks, null_at, cleared, moved, added, fits, is_exact, with_request, narrowed, narrowed_exactly, with_mask, masked}
+use Rattle.cap_ops.specs.Capability.{IsInside, usable, permits, lacks, null_at, cleared, moved, added, fits, is_exact}
+use Rattle.cap_ops.specs.Capability.{with_request, narrowed, narrowed_exactly, with_mask, masked}
 use Rattle.cap_ops.proofs.Inside.{moved_inside, narrowed_inside, narrowed_exactly_inside, masked_inside}
 use Rattle.cap_concentrate.specs.Encoding.{with_bounds}
 use Rattle.cap_machine.specs.ContainedText.{Text}
@@ -18,7 +20,8 @@ use Rattle.cap_machine.specs.Containment.{IsTextSentry, IsApart, IsConfined}
 -- a permission that the operand lacks
 lacks_inside : (r c : ℕ) → bit_and r c ≡ r → lacks c EXECUTE ≡ true → lacks r EXECUTE ≡ true
 lacks_inside r c inside h =
-    let none : c / 2 ^ EXECUTE % 2 ≡ 1 → ⊥ = λ e. both_ways (permits c EXECUTE) (not-true (permits c EXECUTE) h) (eq-eqb (c / 2 ^ EXECUTE % 2) 1 e) in
+    let none : c / 2 ^ EXECUTE % 2 ≡ 1 → ⊥ =
+    λ e. both_ways (permits c EXECUTE) (not-true (permits c EXECUTE) h) (eq-eqb (c / 2 ^ EXECUTE % 2) 1 e) in
     let least : bit_at r 1 ≡ min (bit_at r 1) (bit_at c 1) = ap (λ n. bit_at n 1) (sym inside) ∙ bit_at_and r c 1 in
     not_from_false (permits r EXECUTE) (ne_eqb (r / 2 ^ EXECUTE % 2) 1 (λ e. none (omega (arith, least))))
 
@@ -36,10 +39,12 @@ used_confined t c r held u = record {
   tagged = λ tag.
       let used = and_parts c.tag (c.fields.otype == UNSEALED) (u.usable tag) in
       elim (held.tagged used.0) as (λ _. IsTextSentry t r ⊎ IsApart t r) [
-        | inl gate ↦ absurd (let open_type : c.fields.otype ≡ UNSEALED = eqb-true c.fields.otype UNSEALED used.1 in omega (arith, gate.sentry))
+        | inl gate ↦ absurd (let open_type : c.fields.otype ≡ UNSEALED = eqb-true c.fields.otype UNSEALED used.1 in
+            omega (arith, gate.sentry))
         | inr plain ↦ inr (record {
           no_execute = lacks_inside r.fields.perms c.fields.perms u.inside.perms plain.no_execute;
-          outside = λ x from below. plain.outside x (omega (arith, u.inside.low tag)) (omega (arith, u.inside.high tag));
+          outside = λ x from below. plain.outside x (omega (arith, u.inside.low tag))
+              (omega (arith, u.inside.high tag));
         })
       ];
 }
@@ -72,11 +77,13 @@ pub added_confined : (t : Text) (c : Cap) (by : ℕ) → IsConfined t c → IsCo
 added_confined t c by held = moved_confined t c ((c.fields.address + by) % 2 ^ 64) held (omega arith)
 
 -- a choice between a result and the operand without its tag
-chosen_usable : (c x : Cap) (b : Bool) → (b ≡ true → usable c ≡ true) → (cond b x (cleared c)).tag ≡ true → usable c ≡ true
+chosen_usable : (c x : Cap) (b : Bool) → (b ≡ true → usable c ≡ true) → (cond b x (cleared c)).tag ≡ true →
+    usable c ≡ true
 chosen_usable c x true h tag = h refl
 chosen_usable c x false h tag = absurd (false≢true tag)
 
-chosen_address : (c x : Cap) (b : Bool) → x.fields.address ≡ c.fields.address → (cond b x (cleared c)).fields.address ≡ c.fields.address
+chosen_address : (c x : Cap) (b : Bool) → x.fields.address ≡ c.fields.address →
+    (cond b x (cleared c)).fields.address ≡ c.fields.address
 chosen_address c x true e = e
 chosen_address c x false e = refl
 
@@ -86,7 +93,8 @@ request_address c n = refl
 
 narrowed_usable : (c : Cap) (n : ℕ) → (narrowed c n).tag ≡ true → usable c ≡ true
 unfolding narrowed
-narrowed_usable c n = chosen_usable c (with_request c n) (usable c && fits c n) (λ e. (and_parts (usable c) (fits c n) e).0)
+narrowed_usable c n = chosen_usable c (with_request c n) (usable c && fits c n)
+    (λ e. (and_parts (usable c) (fits c n) e).0)
 
 narrowed_address : (c : Cap) (n : ℕ) → (narrowed c n).fields.address ≡ c.fields.address
 unfolding narrowed
@@ -101,7 +109,8 @@ narrowed_confined t c n held = used_confined t c (narrowed c n) held (record {
 
 exactly_usable : (c : Cap) (n : ℕ) → (narrowed_exactly c n).tag ≡ true → usable c ≡ true
 unfolding narrowed_exactly
-exactly_usable c n = chosen_usable c (with_request c n) (usable c && fits c n && is_exact c n) (λ e. (and_parts (usable c) (fits c n) (and_parts (usable c && fits c n) (is_exact c n) e).0).0)
+exactly_usable c n = chosen_usable c (with_request c n) (usable c && fits c n && is_exact c n)
+    (λ e. (and_parts (usable c) (fits c n) (and_parts (usable c && fits c n) (is_exact c n) e).0).0)
 
 exactly_address : (c : Cap) (n : ℕ) → (narrowed_exactly c n).fields.address ≡ c.fields.address
 unfolding narrowed_exactly
@@ -124,7 +133,8 @@ masked_usable c mask = chosen_usable c (record c { fields = with_mask c.fields m
 
 masked_address : (c : Cap) (mask : ℕ) → (masked c mask).fields.address ≡ c.fields.address
 unfolding masked
-masked_address c mask = chosen_address c (record c { fields = with_mask c.fields mask }) (usable c) (mask_address c mask)
+masked_address c mask = chosen_address c (record c { fields = with_mask c.fields mask }) (usable c)
+    (mask_address c mask)
 
 pub masked_confined : (t : Text) (c : Cap) (mask : ℕ) → IsConfined t c → IsConfined t (masked c mask)
 masked_confined t c mask held = used_confined t c (masked c mask) held (record {

@@ -1,5 +1,6 @@
 -- An act keeps a contained state, and so does a run of any length in any world of bytes.
-use Rattle.std.proofs.Common.{◌≡◌, ℕ, zero, suc, ◌-◌, ◌^◌, ◌<◌, inl, inr, Bool, true, false, List, Option, Some, None, Result, Ok, Err, refl, sym, ap, ◌∙◌, subst, arith}
+use Rattle.std.proofs.Common.{◌≡◌, ℕ, zero, suc, ◌-◌, ◌^◌, ◌<◌, inl, inr, Bool, true, false, List, Option, Some, None}
+use Rattle.std.proofs.Common.{Result, Ok, Err, refl, sym, ap, ◌∙◌, subst, arith}
 use Rattle.std.specs.Prelude.{All, IfSome, slice_get, length, ◌==◌, if◌then◌else◌}
 use Rattle.std.proofs.lemmas.Bool.{false≢true, eq-eqb, cases_lt}
 use Rattle.std.proofs.lemmas.Option.{same_Some, slice_get-get_or, slice_get_past}
@@ -10,7 +11,8 @@ use Rattle.cap_ops.specs.declared.access.Access.TheVariants as access
 use Rattle.cap_ops.specs.declared.access.Cause.{Cause}
 use Rattle.cap_ops.specs.Access.{checked}
 use Rattle.rv_instr.specs.declared.instr.Instr.{Instr}
-use Rattle.rv_instr.specs.declared.instr.Instr.TheVariants.{Upper, Cjal, Cjalr, Branch, Load, Store, Clc, Imm, Shift, Op, Ecall, Ebreak, CapImm, CapReg, CapGet}
+use Rattle.rv_instr.specs.declared.instr.Instr.TheVariants.{Upper, Cjal, Cjalr, Branch, Load, Store, Clc, Imm, Shift}
+use Rattle.rv_instr.specs.declared.instr.Instr.TheVariants.{Op, Ecall, Ebreak, CapImm, CapReg, CapGet}
 use Rattle.rv_code.specs.Decoding.{decode_of}
 use Rattle.tag_mem.specs.Memory.{number_at}
 use Rattle.cap_machine.specs.declared.machine.Machine.{Machine}
@@ -18,7 +20,8 @@ use Rattle.cap_machine.specs.declared.end.End.{End}
 use Rattle.cap_machine.specs.declared.end.End.TheVariants.{Exit, Illegal, Steps, ReadFault, WriteFault}
 use Rattle.cap_machine.specs.State.{integer, counter}
 use Rattle.cap_machine.specs.Rows.{row}
-use Rattle.cap_machine.specs.Step.{decoded, read, fetch_checked, fetched, low_byte, answered, read_value, call, act_of, act_on, act_fetched, act, limits, ending_of}
+use Rattle.cap_machine.specs.Step.{decoded, read, fetch_checked, fetched, low_byte, answered, read_value, call, act_of}
+use Rattle.cap_machine.specs.Step.{act_on, act_fetched, act, limits, ending_of}
 use Rattle.cap_machine.specs.ContainedText.{Text, LiesWell, word_at, instr_at, Stands, is_allowed, IsContainedText}
 use Rattle.cap_machine.specs.Containment.{IsContained, IsProper, Keeps, LeavesContained, RunsContained}
 use Rattle.cap_machine.specs.declared.end.Step.{Step}
@@ -26,7 +29,9 @@ use Rattle.cap_machine.specs.declared.end.Step.TheVariants.{Next, Ended}
 use Rattle.cap_machine.proofs.Endings.{EndsWell}
 use Rattle.cap_machine.proofs.Passed.{checked_passes}
 use Rattle.cap_machine.proofs.TextMemory.{word_read}
-use Rattle.cap_machine.proofs.KeptRows.{set_integer_kept, upper_kept, op_kept, shift_kept, imm_kept, branch_kept, cjal_kept, cjalr_kept, load_kept, clc_kept, store_kept, cap_imm_kept, cap_reg_kept, cap_get_kept}
+use Rattle.cap_machine.proofs.KeptRows.{set_integer_kept, upper_kept, op_kept, shift_kept, imm_kept, branch_kept}
+use Rattle.cap_machine.proofs.KeptRows.{cjal_kept, cjalr_kept, load_kept, clc_kept, store_kept, cap_imm_kept}
+use Rattle.cap_machine.proofs.KeptRows.{cap_reg_kept, cap_get_kept}
 
 module _ (t : Text) (well : LiesWell t) (text : IsContainedText t) where
   module _ (m : Machine) (has : IsContained t m) where
@@ -35,7 +40,8 @@ module _ (t : Text) (well : LiesWell t) (text : IsContainedText t) where
     answered_kept : Stands t (counter m) Ecall → (n : ℕ) → n < 2 ^ 64 → IsContained t (answered m n)
     answered_kept s n below = set_integer_kept t well text m has Ecall s refl refl 10 n below
 
-    read_kept : Stands t (counter m) Ecall → (o : Option ℕ) → IfSome o (λ b. b < 256) → IsContained t (answered m (read_value o))
+    read_kept : Stands t (counter m) Ecall → (o : Option ℕ) → IfSome o (λ b. b < 256) →
+        IsContained t (answered m (read_value o))
     read_kept s None h = answered_kept s (2 ^ 64 - 1) (omega arith)
     read_kept s (Some b) h = answered_kept s b (omega arith)
 
@@ -44,7 +50,9 @@ module _ (t : Text) (well : LiesWell t) (text : IsContainedText t) where
     call_kept s = by (integer m 17 == 1) (integer m 17 == 2) (integer m 17 == 3) refl refl refl
       where
         by : (a b c : Bool) → (integer m 17 == 1) ≡ a → (integer m 17 == 2) ≡ b → (integer m 17 == 3) ≡ c
-            → Keeps t (if a then Puts (low_byte m) (answered m (low_byte m)) else if b then Reads (λ byte. answered m (read_value byte)) else if c then Ends (Exit (low_byte m)) else Ends (Illegal (counter m)))
+            → Keeps t (if a then Puts (low_byte m) (answered m (low_byte m)) else if b
+            then Reads (λ byte. answered m (read_value byte)) else if c then Ends (Exit (low_byte m))
+            else Ends (Illegal (counter m)))
         by true b c one two three = answered_kept s (low_byte m) (omega arith)
         by false true c one two three = λ o h. read_kept s o h
         by false false true one two three = tt
@@ -83,15 +91,19 @@ module _ (t : Text) (well : LiesWell t) (text : IsContainedText t) where
     read_by None e = tt
     read_by (Some w) e =
         let place = has.pc.place in
-        let word : w ≡ word_at t (counter m) = same_Some w (word_at t (counter m)) (sym e ∙ word_read t m.mem (counter m) well has.memory place) in
+        let word : w ≡ word_at t (counter m) =
+        same_Some w (word_at t (counter m)) (sym e ∙ word_read t m.mem (counter m) well has.memory place) in
         let found = text.decodes (counter m) place in
         let s : Stands t (counter m) found.0 = record { place = place; is = found.1 } in
         let is : decode_of w ≡ Some found.0 = ap decode_of word ∙ found.1 in
-        subst (λ o. Keeps t (act_fetched m (decoded m o))) (sym is) (act_on_kept found.0 s (text.allowed (counter m) found.0 s))
+        subst (λ o. Keeps t (act_fetched m (decoded m o))) (sym is)
+        (act_on_kept found.0 s (text.allowed (counter m) found.0 s))
 
-    checked_by : (r : Result ℕ Cause) → checked m.pc (counter m) access.Jump ≡ r → Keeps t (act_fetched m (fetch_checked m r))
+    checked_by : (r : Result ℕ Cause) → checked m.pc (counter m) access.Jump ≡ r →
+        Keeps t (act_fetched m (fetch_checked m r))
     checked_by (Err e) is = tt
-    checked_by (Ok at) is = read_by (number_at m.mem at 4) (ap (λ x. number_at m.mem x 4) (checked_passes m.pc (counter m) at access.Jump is).0)
+    checked_by (Ok at) is = read_by (number_at m.mem at 4)
+        (ap (λ x. number_at m.mem x 4) (checked_passes m.pc (counter m) at access.Jump is).0)
 
     -- one act keeps containment, and ends neither by Illegal nor by Break
     pub act_kept : Keeps t (act m)
@@ -112,7 +124,9 @@ module _ (t : Text) (well : LiesWell t) (text : IsContainedText t) where
   stops : (m : Machine) (d : Done) (e : End) → IsContained t m → IsProper e → StopsContained (stopped m d e)
   stops m d e has proper = record { state = has; proper = proper }
 
-  acted_kept : (w : World) → All (λ b. b < 256) w.bytes → (m : Machine) (d : Done) → IsContained t m → (go : Machine → Done → Stopped Machine End) → ((m' : Machine) (d' : Done) → IsContained t m' → StopsContained (go m' d'))
+  acted_kept : (w : World) → All (λ b. b < 256) w.bytes → (m : Machine) (d : Done) → IsContained t m →
+      (go : Machine → Done → Stopped Machine End) →
+      ((m' : Machine) (d' : Done) → IsContained t m' → StopsContained (go m' d'))
       → (a : Act Machine End) → Keeps t a → StopsContained (act_in limits w m d go a)
   acted_kept w small m d has go again (Goes m') kept = again m' d kept
   acted_kept w small m d has go again (Puts b m') kept = by (fails_after w.failing_put (length d.output))
@@ -122,15 +136,20 @@ module _ (t : Text) (well : LiesWell t) (text : IsContainedText t) where
       by false = again m' (with_put d b) kept
   acted_kept w small m d has go again (Reads to) kept = by (fails_after w.failing_read d.reads)
     where
-      by : (f : Bool) → StopsContained (if f then stopped m d ReadFault else go (to (slice_get w.bytes d.reads)) (with_read d))
+      by : (f : Bool) → StopsContained (if f then stopped m d ReadFault
+          else go (to (slice_get w.bytes d.reads)) (with_read d))
       by true = stops m d ReadFault has tt
-      by false = again (to (slice_get w.bytes d.reads)) (with_read d) (kept (slice_get w.bytes d.reads) (byte_within w.bytes d.reads small))
+      by false = again (to (slice_get w.bytes d.reads)) (with_read d)
+          (kept (slice_get w.bytes d.reads) (byte_within w.bytes d.reads small))
   acted_kept w small m d has go again (Ends e) kept = stops m d e has kept
 
-  run_kept : (w : World) → All (λ b. b < 256) w.bytes → (n : ℕ) (m : Machine) (d : Done) → IsContained t m → StopsContained (run limits act w n m d)
+  run_kept : (w : World) → All (λ b. b < 256) w.bytes → (n : ℕ) (m : Machine) (d : Done) → IsContained t m →
+      StopsContained (run limits act w n m d)
   unfolding run
   run_kept w small zero m d has = stops m d Steps has tt
-  run_kept w small (suc n) m d has = acted_kept w small m d has (run limits act w n) (λ m' d' has'. run_kept w small n m' d' has') (act m) (act_kept m has)
+  run_kept w small (suc n) m d has =
+      acted_kept w small m d has (run limits act w n) (λ m' d' has'. run_kept w small n m' d' has') (act m)
+      (act_kept m has)
 
   -- each state of a run up to its end: that after any number of acts
   pub runs_contained : (m : Machine) → IsContained t m → RunsContained t m
@@ -139,12 +158,15 @@ module _ (t : Text) (well : LiesWell t) (text : IsContainedText t) where
 -- ---- what a step did
 
 -- a row that was done
-pub row_leaves : (t : Text) (m : Machine) (s : Step) (after : Machine) (r : Step × Machine) → IsContained t m → EndsWell m r → Keeps t (act_of r) → (s, after) ≡ r → LeavesContained t after (ending_of s)
+pub row_leaves : (t : Text) (m : Machine) (s : Step) (after : Machine) (r : Step × Machine) → IsContained t m →
+    EndsWell m r → Keeps t (act_of r) → (s, after) ≡ r → LeavesContained t after (ending_of s)
 row_leaves t m s after (Next, to) has well kept e =
     let same : after ≡ to = ap (λ p. p.1) e in
     let how : ending_of s ≡ None = ap (λ p. ending_of p.0) e in
-    subst (λ a. LeavesContained t after a) (sym how) (record { state = subst (λ n. IsContained t n) (sym same) kept; proper = tt })
+    subst (λ a. LeavesContained t after a) (sym how)
+    (record { state = subst (λ n. IsContained t n) (sym same) kept; proper = tt })
 row_leaves t m s after (Ended end, to) has well kept e =
     let same : after ≡ m = ap (λ p. p.1) e ∙ well.0 in
     let how : ending_of s ≡ Some end = ap (λ p. ending_of p.0) e in
-    subst (λ a. LeavesContained t after a) (sym how) (record { state = subst (λ n. IsContained t n) (sym same) has; proper = kept })
+    subst (λ a. LeavesContained t after a) (sym how)
+    (record { state = subst (λ n. IsContained t n) (sym same) has; proper = kept })

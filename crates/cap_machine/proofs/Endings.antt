@@ -1,5 +1,6 @@
 -- A row that ends leaves the state as it was, and ends by no fault of the outside.
-use Rattle.std.proofs.Common.{◌≡◌, ◌≢◌, ℕ, ℤ, Bool, true, false, cond, eqb, Option, Some, None, Result, Ok, Err, refl, ap, sym, ◌∙◌, subst}
+use Rattle.std.proofs.Common.{◌≡◌, ◌≢◌, ℕ, ℤ, Bool, true, false, cond, eqb, Option, Some, None, Result, Ok, Err, refl}
+use Rattle.std.proofs.Common.{ap, sym, ◌∙◌, subst}
 use Rattle.std.proofs.Common.{arith}
 use Rattle.std.proofs.lemmas.Bool.{false≢true}
 use Rattle.std.proofs.lemmas.Bool.Decides.{nat_tests}
@@ -9,7 +10,8 @@ use Rattle.ck_base.specs.Calls.{Seen, Acted}
 use Rattle.cap_ops.specs.declared.capability.Cap.{Cap}
 use Rattle.cap_ops.specs.declared.access.Cause.{Cause}
 use Rattle.rv_instr.specs.declared.instr.Instr.{Instr}
-use Rattle.rv_instr.specs.declared.instr.Instr.TheVariants.{Upper, Cjal, Cjalr, Branch, Load, Store, Clc, Imm, Shift, Op, Ecall, Ebreak, CapImm, CapReg, CapGet}
+use Rattle.rv_instr.specs.declared.instr.Instr.TheVariants.{Upper, Cjal, Cjalr, Branch, Load, Store, Clc, Imm, Shift}
+use Rattle.rv_instr.specs.declared.instr.Instr.TheVariants.{Op, Ecall, Ebreak, CapImm, CapReg, CapGet}
 use Rattle.rv_instr.specs.declared.ops.UpperOp.TheVariants.{Lui, Auipcc}
 use Rattle.rv_instr.specs.declared.ops.UpperOp.{UpperOp}
 use Rattle.rv_instr.specs.declared.ops.LoadOp.{LoadOp}
@@ -18,9 +20,11 @@ use Rattle.rv_instr.specs.declared.ops.StoreOp.TheVariants.{Sb, Sh, Sw, Sd, Csc}
 use Rattle.rv_instr.specs.declared.ops.CapImmOp.{CapImmOp}
 use Rattle.rv_instr.specs.declared.ops.CapImmOp.TheVariants.{Cincoffsetimm, Csetboundsimm}
 use Rattle.rv_instr.specs.declared.ops.CapRegOp.{CapRegOp}
-use Rattle.rv_instr.specs.declared.ops.CapRegOp.TheVariants.{Csetbounds, Csetboundsexact, Candperm, Csetaddr, Cincoffset, Csetequalexact}
+use Rattle.rv_instr.specs.declared.ops.CapRegOp.TheVariants.{Csetbounds, Csetboundsexact, Candperm, Csetaddr}
+use Rattle.rv_instr.specs.declared.ops.CapRegOp.TheVariants.{Cincoffset, Csetequalexact}
 use Rattle.rv_instr.specs.declared.ops.CapGetOp.{CapGetOp}
-use Rattle.rv_instr.specs.declared.ops.CapGetOp.TheVariants.{Cgetperm, Cgetbase, Cgetlen, Cgettag, Cgetoffset, Crrl, Cram, Cmove, Ccleartag, Cgetaddr, Csealentry}
+use Rattle.rv_instr.specs.declared.ops.CapGetOp.TheVariants.{Cgetperm, Cgetbase, Cgetlen, Cgettag, Cgetoffset, Crrl}
+use Rattle.rv_instr.specs.declared.ops.CapGetOp.TheVariants.{Cram, Cmove, Ccleartag, Cgetaddr, Csealentry}
 use Rattle.rv_code.specs.Decoding.{decode_of}
 use Rattle.cap_ops.specs.Access.{checked}
 use Rattle.cap_ops.specs.declared.access.Access.TheVariants as access
@@ -33,8 +37,12 @@ use Rattle.cap_machine.specs.declared.end.Step.{Step}
 use Rattle.cap_machine.specs.declared.end.Step.TheVariants.{Next, Ended}
 use Rattle.cap_machine.specs.State.{register, integer, counter}
 use Rattle.cap_machine.specs.Integers.{loaded_bytes}
-use Rattle.cap_machine.specs.Rows.{trap, entered, cjalr_checked, loaded, load_checked, stored, store_checked, memory_bits, cap_loaded, clc_checked, row, upper_row, op_row, imm_row, shift_row, branch_row, cjal_row, cjalr_row, load_row, store_row, clc_row, cap_imm_row, cap_reg_row, cap_get_row}
-use Rattle.cap_machine.specs.Step.{decoded, read, fetch_checked, fetched, low_byte, answered, read_value, call, act_of, is_call, act_on, act_fetched, act, limits, ending_of}
+use Rattle.cap_machine.specs.Rows.{trap, entered, cjalr_checked, loaded, load_checked, stored, store_checked}
+use Rattle.cap_machine.specs.Rows.{memory_bits, cap_loaded, clc_checked, row, upper_row, op_row, imm_row, shift_row}
+use Rattle.cap_machine.specs.Rows.{branch_row, cjal_row, cjalr_row, load_row, store_row, clc_row, cap_imm_row}
+use Rattle.cap_machine.specs.Rows.{cap_reg_row, cap_get_row}
+use Rattle.cap_machine.specs.Step.{decoded, read, fetch_checked, fetched, low_byte, answered, read_value, call, act_of}
+use Rattle.cap_machine.specs.Step.{is_call, act_on, act_fetched, act, limits, ending_of}
 
 -- an ending of the machine's own
 abbrev pub IsOwn : End → Type 0
@@ -183,7 +191,10 @@ own_row : (m : Machine) (r : Step × Machine) → EndsWell m r → IsOwnAct (act
 own_row m (Next, after) well = ((λ h. cc), (λ h. cc))
 own_row m (Ended e, after) well = own_ends e well.1
 
-own_call : (m : Machine) (a b c : Bool) → IsOwnAct (cond a (Puts (low_byte m) (answered m (low_byte m))) (cond b (Reads (λ byte. answered m (read_value byte))) (cond c (Ends (Exit (low_byte m))) (Ends (Illegal (counter m))))))
+own_call : (m : Machine) (a b c : Bool) →
+    IsOwnAct (cond a (Puts (low_byte m) (answered m (low_byte m)))
+    (cond b (Reads (λ byte. answered m (read_value byte)))
+    (cond c (Ends (Exit (low_byte m))) (Ends (Illegal (counter m))))))
 own_call m true b c = ((λ h. cc), (λ h. cc))
 own_call m false true c = ((λ h. cc), (λ h. cc))
 own_call m false false true = ((λ h. cc), (λ h. cc))
@@ -237,13 +248,16 @@ own_endings = record {
 
 -- ---- what a row's step did
 
-acted_row : (m : Machine) (x : Seen) (s : Step) (after : Machine) (r : Step × Machine) → EndsWell m r → (s, after) ≡ r → Acted limits (act_of r) x x m after (ending_of s)
+acted_row : (m : Machine) (x : Seen) (s : Step) (after : Machine) (r : Step × Machine) → EndsWell m r → (s, after) ≡ r →
+    Acted limits (act_of r) x x m after (ending_of s)
 acted_row m x s after (Next, to) well e = (ap (λ p. ending_of p.0) e, ap (λ p. p.1) e, refl)
 acted_row m x s after (Ended end, to) well e = (ap (λ p. ending_of p.0) e, ap (λ p. p.1) e ∙ well.0, refl)
 
 -- a row that was done was the act of its instruction
-pub acted : (m : Machine) (x : Seen) (s : Step) (after : Machine) (i : Instr) → act_on m i ≡ act_of (row m i) → (s, after) ≡ row m i → Acted limits (act_on m i) x x m after (ending_of s)
-acted m x s after i is e = subst (λ a. Acted limits a x x m after (ending_of s)) (sym is) (acted_row m x s after (row m i) (row_well m i) e)
+pub acted : (m : Machine) (x : Seen) (s : Step) (after : Machine) (i : Instr) → act_on m i ≡ act_of (row m i) →
+    (s, after) ≡ row m i → Acted limits (act_on m i) x x m after (ending_of s)
+acted m x s after i is e =
+    subst (λ a. Acted limits a x x m after (ending_of s)) (sym is) (acted_row m x s after (row m i) (row_well m i) e)
 
 -- an environment call acts by itself, and every other instruction by its row
 pub act_on-call : (m : Machine) (i : Instr) → true ≡ is_call i → act_on m i ≡ call m
@@ -286,11 +300,19 @@ pub act-fetched : (m : Machine) (r : Result Instr End) → fetched m ≡ r → a
 unfolding act
 act-fetched m r e = ap (act_fetched m) e
 
-pub call-numbered : (m : Machine) (k : ℕ) → integer m 17 ≡ k → call m ≡ cond (eqb k 1) (Puts (low_byte m) (answered m (low_byte m))) (cond (eqb k 2) (Reads (λ byte. answered m (read_value byte))) (cond (eqb k 3) (Ends (Exit (low_byte m))) (Ends (Illegal (counter m)))))
+pub call-numbered : (m : Machine) (k : ℕ) → integer m 17 ≡ k →
+    call m ≡ cond (eqb k 1) (Puts (low_byte m) (answered m (low_byte m)))
+    (cond (eqb k 2) (Reads (λ byte. answered m (read_value byte)))
+    (cond (eqb k 3) (Ends (Exit (low_byte m))) (Ends (Illegal (counter m)))))
 unfolding call
-call-numbered m k e = ap (λ k. cond (eqb k 1) (Puts (low_byte m) (answered m (low_byte m))) (cond (eqb k 2) (Reads (λ byte. answered m (read_value byte))) (cond (eqb k 3) (Ends (Exit (low_byte m))) (Ends (Illegal (counter m)))))) e
+call-numbered m k e = ap (λ k. cond (eqb k 1) (Puts (low_byte m) (answered m (low_byte m)))
+    (cond (eqb k 2) (Reads (λ byte. answered m (read_value byte)))
+    (cond (eqb k 3) (Ends (Exit (low_byte m))) (Ends (Illegal (counter m)))))) e
 
-call_by : (m : Machine) (k : ℕ) → eqb k 1 ≡ false → eqb k 2 ≡ false → eqb k 3 ≡ false → cond (eqb k 1) (Puts (low_byte m) (answered m (low_byte m))) (cond (eqb k 2) (Reads (λ byte. answered m (read_value byte))) (cond (eqb k 3) (Ends (Exit (low_byte m))) (Ends (Illegal (counter m))))) ≡ Ends (Illegal (counter m))
+call_by : (m : Machine) (k : ℕ) → eqb k 1 ≡ false → eqb k 2 ≡ false → eqb k 3 ≡ false →
+    cond (eqb k 1) (Puts (low_byte m) (answered m (low_byte m)))
+    (cond (eqb k 2) (Reads (λ byte. answered m (read_value byte)))
+    (cond (eqb k 3) (Ends (Exit (low_byte m))) (Ends (Illegal (counter m))))) ≡ Ends (Illegal (counter m))
 call_by m k a b c = rw (a, b, c) refl
 
 not_equal : (a b : ℕ) → a ≢ b → eqb a b ≡ false

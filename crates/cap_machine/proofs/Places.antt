@@ -4,8 +4,10 @@ use Rattle.std.specs.Prelude.{Contains}
 use Rattle.std.proofs.lemmas.Bool.{false≢true, not-true, cases_eq, both_ways}
 use Rattle.std.proofs.lemmas.Option.{same_Some}
 use Rattle.rv_instr.specs.declared.instr.Instr.{Instr}
-use Rattle.rv_instr.specs.declared.instr.Instr.TheVariants.{Upper, Cjal, Cjalr, Branch, Load, Store, Clc, Imm, Shift, Op, Ecall, Ebreak, CapImm, CapReg, CapGet}
-use Rattle.cap_machine.specs.ContainedText.{Text, end_of, LiesWell, IsPlace, Stands, links, is_plain_jump, sets_service, IsReturn, IsContainedText}
+use Rattle.rv_instr.specs.declared.instr.Instr.TheVariants.{Upper, Cjal, Cjalr, Branch, Load, Store, Clc, Imm, Shift}
+use Rattle.rv_instr.specs.declared.instr.Instr.TheVariants.{Op, Ecall, Ebreak, CapImm, CapReg, CapGet}
+use Rattle.cap_machine.specs.ContainedText.{Text, end_of, LiesWell, IsPlace, Stands, links, is_plain_jump, sets_service}
+use Rattle.cap_machine.specs.ContainedText.{IsReturn, IsContainedText}
 
 -- two instructions at one place are one
 pub same_instr : (t : Text) (x : ℕ) (i j : Instr) → Stands t x i → Stands t x j → i ≡ j
@@ -44,7 +46,8 @@ module _ (t : Text) (well : LiesWell t) (text : IsContainedText t) where
       elim (cases_eq (x + 4) (end_of t)) as (λ _. IsPlace t (x + 4)) [
         | inl e ↦
             let at : last.at ≡ x = omega arith in
-            let same : last.last ≡ i = same_instr t x last.last i (subst (λ y. Stands t y last.last) at last.stands) s in
+            let same : last.last ≡ i =
+            same_instr t x last.last i (subst (λ y. Stands t y last.last) at last.stands) s in
             absurd (both_ways (is_plain_jump i) stays (sym (ap (λ j. is_plain_jump j) same) ∙ last.plain))
         | inr other ↦ record { from = omega arith; below = omega arith; even = omega arith }
       ]
@@ -55,7 +58,8 @@ module _ (t : Text) (well : LiesWell t) (text : IsContainedText t) where
       let follows = text.numbered (x + 4) call in
       let next = follows.next in
       let at : follows.before ≡ x = omega arith in
-      let same : follows.sets ≡ i = same_instr t x follows.sets i (subst (λ y. Stands t y follows.sets) at follows.stands) s in
+      let same : follows.sets ≡ i =
+      same_instr t x follows.sets i (subst (λ y. Stands t y follows.sets) at follows.stands) s in
       both_ways (sets_service i) none (sym (ap (λ j. sets_service j) same) ∙ follows.service)
 
   -- where a sentry leads is a place, and no `ecall`

@@ -11,7 +11,8 @@ use Rattle.cap_machine.specs.ContainedText.{Text}
 use Rattle.cap_machine.specs.Containment.{IsConfined, IsContainedRegisters}
 
 -- what holds of an element holds after one was set to a value of which it holds
-pub set_each : {X : Type 0} (P : X → Type 0) (xs : List X) (i : ℕ) (x d : X) (k : ℕ) → P x → P (slice_index_or xs k d) → P (slice_index_or (slice_set xs i x) k d)
+pub set_each : {X : Type 0} (P : X → Type 0) (xs : List X) (i : ℕ) (x d : X) (k : ℕ) → P x → P (slice_index_or xs k d) →
+    P (slice_index_or (slice_set xs i x) k d)
 set_each P xs i x d k new old = elim (cases_eq k i) as (λ _. P (slice_index_or (slice_set xs i x) k d)) [
   | inl e ↦ elim (cases_lt i (length xs)) as (λ _. P (slice_index_or (slice_set xs i x) k d)) [
     | inl within ↦ rw e (rw (get_or-set_same xs i x d within) new)
@@ -24,7 +25,8 @@ set_each P xs i x d k new old = elim (cases_eq k i) as (λ _. P (slice_index_or 
 pub same_registers : (t : Text) (m n : Machine) → m.regs ≡ n.regs → IsContainedRegisters t m → IsContainedRegisters t n
 same_registers t m n e has = record {
   count = sym (ap length e) ∙ has.count;
-  held = λ r. subst (λ regs. IsConfined t (cond (nat_eq r 0) (null_at 0) (slice_index_or regs r (null_at 0)))) e (has.held r);
+  held = λ r. subst (λ regs. IsConfined t (cond (nat_eq r 0) (null_at 0) (slice_index_or regs r (null_at 0)))) e
+      (has.held r);
 }
 
 -- a write leaves counter and memory
@@ -40,12 +42,17 @@ with_register-mem m r c = by (nat_eq r 0) where
   by true = refl
   by false = refl
 
-written_confined : (t : Text) (m : Machine) (r q : ℕ) (c : Cap) → IsConfined t c → IsContainedRegisters t m → (b : Bool) → nat_eq q 0 ≡ b → IsConfined t (cond b (null_at 0) (slice_index_or (slice_set m.regs r c) q (null_at 0)))
+written_confined : (t : Text) (m : Machine) (r q : ℕ) (c : Cap) → IsConfined t c → IsContainedRegisters t m →
+    (b : Bool) → nat_eq q 0 ≡ b →
+    IsConfined t (cond b (null_at 0) (slice_index_or (slice_set m.regs r c) q (null_at 0)))
 written_confined t m r q c new has true e = has.held 0
-written_confined t m r q c new has false e = set_each (IsConfined t) m.regs r c (null_at 0) q new (subst (λ b. IsConfined t (cond b (null_at 0) (slice_index_or m.regs q (null_at 0)))) e (has.held q))
+written_confined t m r q c new has false e =
+    set_each (IsConfined t) m.regs r c (null_at 0) q new
+    (subst (λ b. IsConfined t (cond b (null_at 0) (slice_index_or m.regs q (null_at 0)))) e (has.held q))
 
 -- what is written is confined; what is written to register 0 is dropped
-pub with_register_has : (t : Text) (m : Machine) (r : ℕ) (c : Cap) → (nat_eq r 0 ≡ false → IsConfined t c) → IsContainedRegisters t m → IsContainedRegisters t (with_register m r c)
+pub with_register_has : (t : Text) (m : Machine) (r : ℕ) (c : Cap) → (nat_eq r 0 ≡ false → IsConfined t c) →
+    IsContainedRegisters t m → IsContainedRegisters t (with_register m r c)
 with_register_has t m r c new has = by (nat_eq r 0) refl where
   by : (b : Bool) → nat_eq r 0 ≡ b → IsContainedRegisters t (cond b m (record m { regs = slice_set m.regs r c }))
   by true e = has

@@ -1,5 +1,6 @@
 -- Contained text: rules on the words of a text by which no run leaves it. `Containment` says what a run then keeps.
-use Rattle.std.specs.Prelude.{◌≡◌, ℕ, ◌+◌, ◌-◌, ◌%◌, ◌^◌, ◌<◌, ◌≤◌, ◌==◌, ◌&&◌, not, nat_le, Bool, true, false, List, length, take, drop, Option, Some, None, All, Contains}
+use Rattle.std.specs.Prelude.{◌≡◌, ℕ, ◌+◌, ◌-◌, ◌%◌, ◌^◌, ◌<◌, ◌≤◌, ◌==◌, ◌&&◌, not, nat_le, Bool, true, false, List}
+use Rattle.std.specs.Prelude.{length, take, drop, Option, Some, None, All, Contains}
 use Rattle.rv_instr.specs.declared.instr.Instr.{Instr}
 use Rattle.rv_instr.specs.declared.instr.Instr.TheVariants.{Upper, Cjal, Cjalr, Branch, Imm, Ecall, Ebreak, CapGet}
 use Rattle.rv_instr.specs.declared.ops.UpperOp.TheVariants.{Auipcc}
@@ -10,7 +11,8 @@ use Rattle.tag_mem.specs.Numbers.{little_number}
 use Rattle.cap_machine.specs.Integers.{extended}
 use Rattle.cap_machine.specs.Rows.{plus}
 
--- the bytes of a text from its base on, and its entry places: where a run begins, and where the sentries lead that are there from the start
+-- the bytes of a text from its base on, and its entry places: where a run begins, and where the sentries lead that are
+-- there from the start
 pub record Text : Type 0 where
   pub base : ℕ
   pub bytes : List ℕ

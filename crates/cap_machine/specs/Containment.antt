@@ -1,5 +1,6 @@
 -- Containment: what holds of each state of a run whose text is contained, from its first state up to its end.
-use Rattle.std.specs.Prelude.{◌≡◌, ℕ, ◌-◌, ◌%◌, ◌^◌, ◌<◌, ◌≤◌, ◌⊎◌, true, false, List, length, slice_index, Option, Some, All, Contains, IfSome}
+use Rattle.std.specs.Prelude.{◌≡◌, ℕ, ◌-◌, ◌%◌, ◌^◌, ◌<◌, ◌≤◌, ◌⊎◌, true, false, List, length, slice_index, Option}
+use Rattle.std.specs.Prelude.{Some, All, Contains, IfSome}
 use Rattle.ck_base.specs.World.{World}
 use Rattle.ck_base.specs.Runs.{Act, Goes, Puts, Reads, Ends, outcome, state_and_ending}
 use Rattle.cap_ops.specs.declared.capability.Cap.{Cap}
@@ -56,7 +57,8 @@ pub record IsContainedMemory (t : Text) (mem : List Area) : Type 0 where
   pub memory : IsMemory mem
   pub text : (x : ℕ) → t.base ≤ x → x < end_of t → byte_at mem x ≡ Some (slice_index t.bytes (x - t.base))
   pub untagged : (x : ℕ) → t.base ≤ x → x < end_of t → tag_at mem x ≡ Some false
-  pub held : (x bits : ℕ) → x % 16 ≡ 0 → capability_at mem x ≡ Some (bits, true) → IsConfined t (record { tag = true; fields = from_memory bits })
+  pub held : (x bits : ℕ) → x % 16 ≡ 0 → capability_at mem x ≡ Some (bits, true) →
+      IsConfined t (record { tag = true; fields = from_memory bits })
 
 -- the number of an environment call
 abbrev pub IsService : ℕ → Type 0

@@ -1,11 +1,13 @@
 -- One row per instruction: how the step ends, and the state after it. A state that ends is left as it was.
-use Rattle.std.specs.Prelude.{ℕ, ◌+◌, ◌-◌, ◌%◌, ◌^◌, ◌&&◌, ℤ, pos, ◌==◌, nat_lt, Bool, true, false, Option, Some, None, Result, Ok, Err, bit_xor, min, if◌then◌else◌}
+use Rattle.std.specs.Prelude.{ℕ, ◌+◌, ◌-◌, ◌%◌, ◌^◌, ◌&&◌, ℤ, pos, ◌==◌, nat_lt, Bool, true, false, Option, Some, None}
+use Rattle.std.specs.Prelude.{Result, Ok, Err, bit_xor, min, if◌then◌else◌}
 use Rattle.cap_concentrate.specs.declared.fields.Fields.{Fields}
 use Rattle.cap_concentrate.specs.declared.packing.TheConstants.{NULL_BITS}
 use Rattle.cap_concentrate.specs.Packing.{bits_of, fields_of}
 use Rattle.cap_concentrate.specs.Rounding.{owned, alignment}
 use Rattle.cap_ops.specs.declared.capability.Cap.{Cap}
-use Rattle.cap_ops.specs.Capability.{base, top, with_otype, null_at, cleared, moved, added, narrowed, narrowed_exactly, masked, permits, sealed}
+use Rattle.cap_ops.specs.Capability.{base, top, with_otype, null_at, cleared, moved, added, narrowed, narrowed_exactly}
+use Rattle.cap_ops.specs.Capability.{masked, permits, sealed}
 use Rattle.cap_ops.specs.declared.capability.TheConstants.{UNSEALED, SENTRY, LOAD_CAPABILITY}
 use Rattle.cap_ops.specs.Access.{checked}
 use Rattle.cap_ops.specs.declared.access.Access.TheVariants as access
@@ -13,7 +15,8 @@ use Rattle.cap_ops.specs.declared.access.Cause.{Cause}
 use Rattle.cap_ops.specs.declared.access.Cause.TheVariants as cause
 use Rattle.ck_int.specs.Kinds.{wrapped}
 use Rattle.rv_instr.specs.declared.instr.Instr.{Instr}
-use Rattle.rv_instr.specs.declared.instr.Instr.TheVariants.{Upper, Cjal, Cjalr, Branch, Load, Store, Clc, Imm, Shift, Op, Ecall, Ebreak, CapImm, CapReg, CapGet}
+use Rattle.rv_instr.specs.declared.instr.Instr.TheVariants.{Upper, Cjal, Cjalr, Branch, Load, Store, Clc, Imm, Shift}
+use Rattle.rv_instr.specs.declared.instr.Instr.TheVariants.{Op, Ecall, Ebreak, CapImm, CapReg, CapGet}
 use Rattle.rv_instr.specs.declared.ops.UpperOp.{UpperOp}
 use Rattle.rv_instr.specs.declared.ops.UpperOp.TheVariants.{Lui, Auipcc}
 use Rattle.rv_instr.specs.declared.ops.BranchOp.{BranchOp}
@@ -26,9 +29,11 @@ use Rattle.rv_instr.specs.declared.ops.RegOp.{RegOp}
 use Rattle.rv_instr.specs.declared.ops.CapImmOp.{CapImmOp}
 use Rattle.rv_instr.specs.declared.ops.CapImmOp.TheVariants.{Cincoffsetimm, Csetboundsimm}
 use Rattle.rv_instr.specs.declared.ops.CapRegOp.{CapRegOp}
-use Rattle.rv_instr.specs.declared.ops.CapRegOp.TheVariants.{Csetbounds, Csetboundsexact, Candperm, Csetaddr, Cincoffset, Csetequalexact}
+use Rattle.rv_instr.specs.declared.ops.CapRegOp.TheVariants.{Csetbounds, Csetboundsexact, Candperm, Csetaddr}
+use Rattle.rv_instr.specs.declared.ops.CapRegOp.TheVariants.{Cincoffset, Csetequalexact}
 use Rattle.rv_instr.specs.declared.ops.CapGetOp.{CapGetOp}
-use Rattle.rv_instr.specs.declared.ops.CapGetOp.TheVariants.{Cgetperm, Cgetbase, Cgetlen, Cgettag, Cgetoffset, Crrl, Cram, Cmove, Ccleartag, Cgetaddr, Csealentry}
+use Rattle.rv_instr.specs.declared.ops.CapGetOp.TheVariants.{Cgetperm, Cgetbase, Cgetlen, Cgettag, Cgetoffset, Crrl}
+use Rattle.rv_instr.specs.declared.ops.CapGetOp.TheVariants.{Cram, Cmove, Ccleartag, Cgetaddr, Csealentry}
 use Rattle.tag_mem.specs.Areas.{is_inside}
 use Rattle.tag_mem.specs.Memory.{number_at, capability_at, written}
 use Rattle.tag_mem.specs.Numbers.{little_bytes}
@@ -36,7 +41,8 @@ use Rattle.cap_machine.specs.declared.machine.Machine.{Machine}
 use Rattle.cap_machine.specs.declared.end.End.TheVariants.{Trap, Break, Illegal}
 use Rattle.cap_machine.specs.declared.end.Step.{Step}
 use Rattle.cap_machine.specs.declared.end.Step.TheVariants.{Next, Ended}
-use Rattle.cap_machine.specs.Integers.{result_of, immediate_op, shift_op, is_taken, extended, upper, one_where, loaded_kind, loaded_bytes, stored_bytes}
+use Rattle.cap_machine.specs.Integers.{result_of, immediate_op, shift_op, is_taken, extended, upper, one_where}
+use Rattle.cap_machine.specs.Integers.{loaded_kind, loaded_bytes, stored_bytes}
 use Rattle.cap_machine.specs.State.{register, integer, with_register, next, counter}
 
 -- an address moved by an immediate, modulo 2^64
@@ -80,7 +86,8 @@ unfoldable pub shift_row : Machine → ShiftOp → ℕ → ℕ → ℕ → Step 
 shift_row m op rd rs1 n = set_integer m rd (result_of (shift_op op) (integer m rs1) n)
 
 unfoldable pub branch_row : Machine → BranchOp → ℕ → ℕ → ℤ → Step × Machine
-branch_row m op rs1 rs2 z = (Next, record m { pc = added m.pc (if is_taken op (integer m rs1) (integer m rs2) then extended z else 4) })
+branch_row m op rs1 rs2 z =
+    (Next, record m { pc = added m.pc (if is_taken op (integer m rs1) (integer m rs2) then extended z else 4) })
 
 unfoldable pub cjal_row : Machine → ℕ → ℤ → Step × Machine
 cjal_row m rd z = jump m rd (added m.pc (extended z))
@@ -141,12 +148,14 @@ store_row m Csc rs2 rs1 z =
     store_checked m 16 (memory_bits v.fields) v.tag (checked c (plus c.fields.address z) (access.StoreCap v.tag))
 store_row m op rs2 rs1 z =
     let c = register m rs1 in
-    store_checked m (stored_bytes op) (integer m rs2) false (checked c (plus c.fields.address z) (access.Store (stored_bytes op)))
+    store_checked m (stored_bytes op) (integer m rs2) false
+    (checked c (plus c.fields.address z) (access.Store (stored_bytes op)))
 
 -- a capability is loaded with its tag where the authority has Load_Capability
 abbrev pub cap_loaded : Machine → ℕ → Cap → Option (ℕ × Bool) → Step × Machine
 cap_loaded m rd c None = trap m cause.Bounds
-cap_loaded m rd c (Some v) = set m rd (record { tag = v.1 && permits c.fields.perms LOAD_CAPABILITY; fields = from_memory v.0 })
+cap_loaded m rd c (Some v) =
+    set m rd (record { tag = v.1 && permits c.fields.perms LOAD_CAPABILITY; fields = from_memory v.0 })
 
 abbrev pub clc_checked : Machine → ℕ → Cap → Result ℕ Cause → Step × Machine
 clc_checked m rd c (Err e) = trap m e

@@ -1,5 +1,6 @@
 -- One step: the counter is checked, a word is read and decoded, and its row is done.
-use Rattle.std.specs.Prelude.{ℕ, ◌-◌, ◌%◌, ◌^◌, ◌==◌, Bool, true, false, Option, Some, None, Result, Ok, Err, if◌then◌else◌}
+use Rattle.std.specs.Prelude.{ℕ, ◌-◌, ◌%◌, ◌^◌, ◌==◌, Bool, true, false, Option, Some, None, Result, Ok, Err}
+use Rattle.std.specs.Prelude.{if◌then◌else◌}
 use Rattle.ck_base.specs.Runs.{Act, Goes, Puts, Reads, Ends, Limits}
 use Rattle.cap_ops.specs.Capability.{null_at}
 use Rattle.cap_ops.specs.Access.{checked}

@@ -1,6 +1,7 @@
 //! The rows of the integer instructions, branches and jumps.
 ghost use Rattle.std.specs.Prelude.{◌≡◌, ℕ};
-ghost use Rattle.cap_machine.specs.Rows.{plus, unsealed, entered, upper_row, op_row, imm_row, shift_row, branch_row, cjal_row, cjalr_row};
+ghost use Rattle.cap_machine.specs.Rows.{plus, unsealed, entered, upper_row, op_row, imm_row, shift_row, branch_row};
+ghost use Rattle.cap_machine.specs.Rows.{cjal_row, cjalr_row};
 
 use crate::end::Step;
 use crate::integers::{extended, immediate_op, is_taken, result_of, shift_op, upper};

@@ -1,6 +1,7 @@
 //! The results of the integer instructions.
 ghost use Rattle.std.specs.Prelude.{◌≡◌, ℕ, ◌<◌, ◌≤◌, ◌^◌, ◌*◌};
-ghost use Rattle.cap_machine.specs.Integers.{result_of, immediate_op, shift_op, is_taken, extended, upper, word, loaded_kind, loaded_bytes, one_where};
+ghost use Rattle.cap_machine.specs.Integers.{result_of, immediate_op, shift_op, is_taken, extended, upper, word};
+ghost use Rattle.cap_machine.specs.Integers.{loaded_kind, loaded_bytes, one_where};
 
 use ck_int::{CmpOp, IntKind, IntOp, binary, compare, convert};
 use rv_instr::{BranchOp, ImmOp, LoadOp, RegOp, ShiftOp};

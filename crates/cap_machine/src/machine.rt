@@ -3,8 +3,8 @@
 use cap_ops::Cap;
 use tag_mem::Mem;
 
-/// A machine: 32 registers and the program counter, each a capability, and the memory. Register 0 reads as null whatever
-/// `regs` holds there, and a register's integer is its capability's address.
+/// A machine: 32 registers and the program counter, each a capability, and the memory. Register 0 reads as null
+/// whatever `regs` holds there, and a register's integer is its capability's address.
 #[derive(Drop)]
 pub struct Machine {
     pub regs: [Cap; 32],

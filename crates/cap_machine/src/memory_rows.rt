@@ -92,7 +92,8 @@ impl Machine {
 
     /// A capability is stored with its tag.
     fn store_capability(&mut self, kept: &mut Reach, rs1: Reg, at: u64, v: Cap) -> Step
-        ensures { (result, self.new) ≡ store_checked self.old 16 (memory_bits v.fields) v.tag (checked (register self.old rs1) at (access.StoreCap v.tag)) }
+        ensures { (result, self.new) ≡ store_checked self.old 16 (memory_bits v.fields) v.tag
+            (checked (register self.old rs1) at (access.StoreCap v.tag)) }
     {
         match self.check_by(&mut kept.bounds, rs1, at, Access::StoreCap(v.tag)) {
             Err(cause) => self.trap(cause),
@@ -114,7 +115,8 @@ impl Machine {
     #[inline(always)]
     fn store_integer(&mut self, kept: &mut Reach, rs1: Reg, at: u64, n: u8, v: u64) -> Step
         requires { IsAccess (access.Store n) }
-        ensures { (result, self.new) ≡ store_checked self.old n v false (checked (register self.old rs1) at (access.Store n)) }
+        ensures { (result, self.new) ≡ store_checked self.old n v false
+            (checked (register self.old rs1) at (access.Store n)) }
     {
         match self.check_by(&mut kept.bounds, rs1, at, Access::Store(n)) {
             Err(cause) => self.trap(cause),

@@ -5,7 +5,8 @@ ghost use Rattle.ck_base.specs.Calls.{seen, Acted, IsRun, Counted};
 ghost use Rattle.cap_machine.specs.Rows.{row};
 ghost use Rattle.cap_machine.specs.ContainedText.{Text};
 ghost use Rattle.cap_machine.specs.Containment.{IsContained, Keeps, LeavesContained, StaysContained};
-ghost use Rattle.cap_machine.specs.Step.{fetched, low_byte, answered, read_value, call, is_call, act, limits, ending_of};
+ghost use Rattle.cap_machine.specs.Step.{fetched, low_byte, answered, read_value, call, is_call, act, limits};
+ghost use Rattle.cap_machine.specs.Step.{ending_of};
 
 use crate::end::{End, Step};
 use crate::kept::{Kept, check};
@@ -81,8 +82,13 @@ impl Machine {
 
     /// Environment call 1: the low byte of register 10 is put.
     fn put_byte<O: Sink>(&mut self, out: &mut O) -> Step
-        ensures acted { (left : Option (List ℕ)) (faults : ℕ) → Acted limits (Puts (low_byte self.old) (answered self.old (low_byte self.old))) (seen left faults (O.held out.old) (O.faults out.old)) (seen left faults (O.held out.new) (O.faults out.new)) self.old self.new (ending_of result) }
-        ensures contained { (t : Text) → IsContained t self.old → Keeps t (Puts (low_byte self.old) (answered self.old (low_byte self.old))) → LeavesContained t self.new (ending_of result) }
+        ensures acted { (left : Option (List ℕ)) (faults : ℕ) →
+            Acted limits (Puts (low_byte self.old) (answered self.old (low_byte self.old)))
+            (seen left faults (O.held out.old) (O.faults out.old))
+            (seen left faults (O.held out.new) (O.faults out.new)) self.old self.new (ending_of result) }
+        ensures contained { (t : Text) → IsContained t self.old →
+            Keeps t (Puts (low_byte self.old) (answered self.old (low_byte self.old))) →
+            LeavesContained t self.new (ending_of result) }
     {
         let byte = self.low_byte();
         match out.put(&[byte]) {
@@ -96,8 +102,13 @@ impl Machine {
 
     /// Environment call 2: register 10 is set to the next input byte, or to -1 at the end.
     fn read_byte<I: Source>(&mut self, input: &mut I) -> Step
-        ensures acted { (held : Option (List ℕ)) (faults : ℕ) → Acted limits (Reads (λ byte. answered self.old (read_value byte))) (seen (I.left input.old) (I.faults input.old) held faults) (seen (I.left input.new) (I.faults input.new) held faults) self.old self.new (ending_of result) }
-        ensures contained { (t : Text) → IsContained t self.old → Keeps t (Reads (λ byte. answered self.old (read_value byte))) → LeavesContained t self.new (ending_of result) }
+        ensures acted { (held : Option (List ℕ)) (faults : ℕ) →
+            Acted limits (Reads (λ byte. answered self.old (read_value byte)))
+            (seen (I.left input.old) (I.faults input.old) held faults)
+            (seen (I.left input.new) (I.faults input.new) held faults) self.old self.new (ending_of result) }
+        ensures contained { (t : Text) → IsContained t self.old →
+            Keeps t (Reads (λ byte. answered self.old (read_value byte))) →
+            LeavesContained t self.new (ending_of result) }
     {
         match input.next() {
             Ok(Some(byte)) => {
@@ -114,8 +125,12 @@ impl Machine {
 
     /// An environment call, by the integer of register 17.
     fn call<I: Source, O: Sink>(&mut self, input: &mut I, out: &mut O) -> Step
-        ensures acted { Acted limits (call self.old) (seen (I.left input.old) (I.faults input.old) (O.held out.old) (O.faults out.old)) (seen (I.left input.new) (I.faults input.new) (O.held out.new) (O.faults out.new)) self.old self.new (ending_of result) }
-        ensures contained { (t : Text) → IsContained t self.old → Keeps t (call self.old) → LeavesContained t self.new (ending_of result) }
+        ensures acted { Acted limits (call self.old)
+            (seen (I.left input.old) (I.faults input.old) (O.held out.old) (O.faults out.old))
+            (seen (I.left input.new) (I.faults input.new) (O.held out.new) (O.faults out.new)) self.old self.new
+            (ending_of result) }
+        ensures contained { (t : Text) → IsContained t self.old → Keeps t (call self.old) →
+            LeavesContained t self.new (ending_of result) }
     {
         let number = self.integer(Reg::SERVICE);
         if number == 1 {
@@ -132,7 +147,10 @@ impl Machine {
     /// One instruction, by what the steps before it kept.
     #[inline(always)]
     fn next_step<I: Source, O: Sink>(&mut self, kept: &mut Kept, input: &mut I, out: &mut O) -> Step
-        ensures acted { Acted limits (act self.old) (seen (I.left input.old) (I.faults input.old) (O.held out.old) (O.faults out.old)) (seen (I.left input.new) (I.faults input.new) (O.held out.new) (O.faults out.new)) self.old self.new (ending_of result) }
+        ensures acted { Acted limits (act self.old)
+            (seen (I.left input.old) (I.faults input.old) (O.held out.old) (O.faults out.old))
+            (seen (I.left input.new) (I.faults input.new) (O.held out.new) (O.faults out.new)) self.old self.new
+            (ending_of result) }
         ensures contained { StaysContained self.old self.new (ending_of result) }
     {
         match self.fetch(kept) {
@@ -149,20 +167,27 @@ impl Machine {
 
     /// One instruction. A fault of the input or the output, a trap and every other end leave the machine as it was.
     pub fn step<I: Source, O: Sink>(&mut self, input: &mut I, out: &mut O) -> Step
-        ensures acted { Acted limits (act self.old) (seen (I.left input.old) (I.faults input.old) (O.held out.old) (O.faults out.old)) (seen (I.left input.new) (I.faults input.new) (O.held out.new) (O.faults out.new)) self.old self.new (ending_of result) }
+        ensures acted { Acted limits (act self.old)
+            (seen (I.left input.old) (I.faults input.old) (O.held out.old) (O.faults out.old))
+            (seen (I.left input.new) (I.faults input.new) (O.held out.new) (O.faults out.new)) self.old self.new
+            (ending_of result) }
         ensures contained { StaysContained self.old self.new (ending_of result) }
     {
         let mut kept = Kept::new();
         self.next_step(&mut kept, input, out)
     }
 
-    /// At most so many instructions: a run over the world of the call, where the source tells its bytes. It ends by `Steps`
-    /// exactly where all of them were done and none ended.
+    /// At most so many instructions: a run over the world of the call, where the source tells its bytes. It ends by
+    /// `Steps` exactly where all of them were done and none ended.
     pub fn run<I: Source, O: Sink>(&mut self, steps: u64, input: &mut I, out: &mut O) -> End
         requires source_room { I.faults input.old < 2 ^ 64 - 1 }
         requires sink_room { O.faults out.old < 2 ^ 64 - 1 }
-        ensures run { IsRun (outcome limits act state_and_ending self.old steps) (seen (I.left input.old) (I.faults input.old) (O.held out.old) (O.faults out.old)) (seen (I.left input.new) (I.faults input.new) (O.held out.new) (O.faults out.new)) (self.new, result) }
-        ensures counted { Counted limits (seen (I.left input.old) (I.faults input.old) (O.held out.old) (O.faults out.old)) (seen (I.left input.new) (I.faults input.new) (O.held out.new) (O.faults out.new)) result }
+        ensures run { IsRun (outcome limits act state_and_ending self.old steps)
+            (seen (I.left input.old) (I.faults input.old) (O.held out.old) (O.faults out.old))
+            (seen (I.left input.new) (I.faults input.new) (O.held out.new) (O.faults out.new)) (self.new, result) }
+        ensures counted { Counted limits (seen (I.left input.old) (I.faults input.old) (O.held out.old)
+            (O.faults out.old)) (seen (I.left input.new) (I.faults input.new) (O.held out.new) (O.faults out.new))
+            result }
         ensures contained { StaysContained self.old self.new (Some result) }
     {
         let mut kept = Kept::new();

@@ -1,5 +1,6 @@
 -- Why an access through a capability fails.
-use Rattle.std.specs.Prelude.{ℕ, ◌≡◌, ◌+◌, ◌%◌, ◌⊎◌, Bool, true, false, not, ◌&&◌, ◌||◌, ◌==◌, nat_lt, List, [], ◌∷◌, find, Option, Some, None, Result, Ok, Err}
+use Rattle.std.specs.Prelude.{ℕ, ◌≡◌, ◌+◌, ◌%◌, ◌⊎◌, Bool, true, false, not, ◌&&◌, ◌||◌, ◌==◌, nat_lt, List, [], ◌∷◌}
+use Rattle.std.specs.Prelude.{find, Option, Some, None, Result, Ok, Err}
 use Rattle.cap_ops.specs.declared.capability.Cap.{Cap}
 use Rattle.cap_ops.specs.declared.capability.TheConstants.{UNSEALED, EXECUTE, LOAD, STORE, STORE_CAPABILITY}
 use Rattle.cap_ops.specs.declared.access.Access.{Access}

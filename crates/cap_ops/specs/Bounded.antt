@@ -27,4 +27,5 @@ plain_fields perms otype address = record {
 }
 
 abbrev pub bounded : ℕ → ℕ → ℕ → ℕ → ℕ → Cap
-bounded low high perms otype address = record { tag = true; fields = with_bounds (plain_fields perms otype address) low high }
+bounded low high perms otype address =
+    record { tag = true; fields = with_bounds (plain_fields perms otype address) low high }

@@ -1,6 +1,7 @@
--- Capabilities with their tag, and the operations on them as functions (CHERI ISAv9). Which operations clear the tag, and where, is this
--- project's profile: none of them traps.
-use Rattle.std.specs.Prelude.{ℕ, ◌≡◌, ◌+◌, ◌/◌, ◌%◌, ◌^◌, ◌<◌, ◌≤◌, ◌==◌, ◌&&◌, nat_le, Bool, false, not, IsTrue, if◌then◌else◌, bit_and}
+-- Capabilities with their tag, and the operations on them as functions (CHERI ISAv9). Which operations clear the tag,
+-- and where, is this project's profile: none of them traps.
+use Rattle.std.specs.Prelude.{ℕ, ◌≡◌, ◌+◌, ◌/◌, ◌%◌, ◌^◌, ◌<◌, ◌≤◌, ◌==◌, ◌&&◌, nat_le, Bool, false, not, IsTrue}
+use Rattle.std.specs.Prelude.{if◌then◌else◌, bit_and}
 use Rattle.std.proofs.Common.{lit<, arith}
 use Rattle.std.proofs.lemmas.Nat.{and_le_l, mod_below}
 use Rattle.cap_concentrate.specs.declared.packing.TheConstants.{NULL_BITS}
@@ -77,7 +78,8 @@ request_top c length = least_top c.fields.address (c.fields.address + length)
 -- whether they lie inside the capability's own
 unfoldable pub fits : Cap → ℕ → Bool
 fits c length =
-    nat_le (c.fields.address + length) (2 ^ 64) && nat_le (base c) (request_base c length) && nat_le (request_top c length) (top c)
+    nat_le (c.fields.address + length) (2 ^ 64) && nat_le (base c) (request_base c length)
+    && nat_le (request_top c length) (top c)
 
 -- whether they are the request itself, so that nothing has to be rounded
 unfoldable pub is_exact : Cap → ℕ → Bool
@@ -93,7 +95,8 @@ narrowed c length = (if usable c && fits c length then with_request c length els
 
 -- and exactly where, moreover, nothing has to be rounded
 unfoldable pub narrowed_exactly : Cap → ℕ → Cap
-narrowed_exactly c length = (if usable c && fits c length && is_exact c length then with_request c length else cleared c)
+narrowed_exactly c length =
+    (if usable c && fits c length && is_exact c length then with_request c length else cleared c)
 
 -- masking the permissions: exactly where the capability is usable
 unfoldable pub masked : Cap → ℕ → Cap
@@ -106,7 +109,8 @@ sealed c =
 
 -- ---- no operation widens
 
--- a tagged result comes from a tagged operand and has its bounds inside the operand's; and no result has a permission that the operand lacks
+-- a tagged result comes from a tagged operand and has its bounds inside the operand's; and no result has a permission
+-- that the operand lacks
 pub record IsInside (c r : Cap) : Type 0 where
   pub tagged : IsTrue r.tag → IsTrue c.tag
   pub low : IsTrue r.tag → base c ≤ base r

@@ -2,7 +2,9 @@
 ghost use Rattle.std.specs.Prelude.{◌≡◌, ◌+◌, ◌^◌, ◌&&◌, IsTrue, is_some, IfSome};
 ghost use Rattle.cap_concentrate.specs.Encoding.{AreEncoded};
 ghost use Rattle.cap_concentrate.specs.Rounding.{IsLeastBounds};
-ghost use Rattle.cap_ops.specs.Capability.{base, top, usable, permits, request_base, request_top, fits, is_exact, null_at, cleared, moved, added, narrowed, narrowed_exactly, masked, sealed, IsInside};
+ghost use Rattle.cap_ops.specs.Capability.{base, top, usable, permits, request_base, request_top, fits, is_exact};
+ghost use Rattle.cap_ops.specs.Capability.{null_at, cleared, moved, added, narrowed, narrowed_exactly, masked, sealed};
+ghost use Rattle.cap_ops.specs.Capability.{IsInside};
 
 use super::{Cap, EXECUTE, SENTRY, UNSEALED, fields};
 use cap_concentrate::{Bounds, NULL_BITS, bounds_of, keeps_bounds, set_bounds, unpack};

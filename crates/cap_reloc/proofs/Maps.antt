@@ -1,5 +1,6 @@
 -- A legal map, and for each condition of a legal map one that breaks it.
-use Rattle.std.proofs.Common.{◌≡◌, ℕ, zero, suc, ◌+◌, ◌*◌, ◌/◌, ◌%◌, ◌^◌, ◌<◌, ◌≤◌, [], ◌∷◌, length, Some, None, false, cond, subst, refl, sym, ap, ◌∙◌, arith, inl, inr}
+use Rattle.std.proofs.Common.{◌≡◌, ℕ, zero, suc, ◌+◌, ◌*◌, ◌/◌, ◌%◌, ◌^◌, ◌<◌, ◌≤◌, [], ◌∷◌, length, Some, None, false}
+use Rattle.std.proofs.Common.{cond, subst, refl, sym, ap, ◌∙◌, arith, inl, inr}
 use Rattle.std.specs.Prelude.{slice_get, ◌⊎◌, ◌==◌}
 use Rattle.std.proofs.lemmas.Bool.Decides.{nat_tests}
 use Rattle.std.proofs.lemmas.Nat.{pow-add, div-add-mod'}
@@ -51,7 +52,13 @@ map = record {
 
 is_slot : IsSlot local_need frame slot
 unfolding local_need object frame slot owned alignment
-is_slot = record { length = refl; aligned = refl; alignment = omega arith; past_saved = omega arith; within = omega arith }
+is_slot = record {
+  length = refl;
+  aligned = refl;
+  alignment = omega arith;
+  past_saved = omega arith;
+  within = omega arith;
+}
 
 only_slot : (var : ℕ) (s : Slot) → slot_of frame var ≡ Some s → var ≡ 0
 unfolding frame slot
@@ -96,8 +103,12 @@ is_bare = record {
 
 each_in_text : (f entry : ℕ) → slice_get map.entries f ≡ Some entry → IsEntry map.text entry
 unfolding map
-each_in_text zero entry e = let s : 65536 ≡ entry = cc in subst (IsEntry (65536, 64)) s (record { multiple = refl; from = omega arith; below = omega arith })
-each_in_text (suc zero) entry e = let s : 65564 ≡ entry = cc in subst (IsEntry (65536, 64)) s (record { multiple = refl; from = omega arith; below = omega arith })
+each_in_text zero entry e =
+    let s : 65536 ≡ entry = cc in
+    subst (IsEntry (65536, 64)) s (record { multiple = refl; from = omega arith; below = omega arith })
+each_in_text (suc zero) entry e =
+    let s : 65564 ≡ entry = cc in
+    subst (IsEntry (65536, 64)) s (record { multiple = refl; from = omega arith; below = omega arith })
 each_in_text (suc (suc f)) entry e = absurd cc
 
 both_are : (a b entry : ℕ) → Some a ≡ Some entry → Some b ≡ Some entry → a ≡ b
@@ -123,7 +134,19 @@ legal = record {
   frames = (is_frame, (is_bare, tt));
   globals = (refl, tt);
   literals = (refl, tt);
-  in_range = (omega arith, omega arith, (omega arith, omega arith, (omega arith, omega arith, (omega arith, omega arith, (omega arith, omega arith, (omega arith, omega arith, tt))))));
+  in_range = (
+    omega arith,
+    omega arith,
+    (
+      omega arith,
+      omega arith,
+      (
+        omega arith,
+        omega arith,
+        (omega arith, omega arith, (omega arith, omega arith, (omega arith, omega arith, tt))),
+      ),
+    ),
+  );
   apart = (
     (inl (omega arith), (inl (omega arith), (inl (omega arith), (inl (omega arith), (inl (omega arith), tt))))),
     (
@@ -312,7 +335,9 @@ power_below zero e = absurd (omega arith)
 power_below (suc zero) e = absurd (omega arith)
 power_below (suc (suc zero)) e = absurd (omega arith)
 power_below (suc (suc (suc zero))) e = absurd (omega arith)
-power_below (suc (suc (suc (suc k)))) e = let p : 2 ^ (k + 4) ≡ 2 ^ k * 2 ^ 4 = pow-add 2 k 4 in let q : suc (suc (suc (suc k))) ≡ k + 4 = omega arith in let r = ap (λ v. 2 ^ v) q in absurd (omega arith)
+power_below (suc (suc (suc (suc k)))) e =
+    let p : 2 ^ (k + 4) ≡ 2 ^ k * 2 ^ 4 = pow-add 2 k 4 in let q : suc (suc (suc (suc k))) ≡ k + 4 = omega arith in
+    let r = ap (λ v. 2 ^ v) q in absurd (omega arith)
 
 no_power : Spoils (record frame { align = 24; size = 120 })
 unfolding with_local frame
@@ -364,6 +389,8 @@ unfolding local_need object frame slot owned alignment
 low_frame s = let e = s.alignment in absurd (omega arith)
 
 -- two slots with bytes in common
-slots_over : IsFrame (record with_local { locals = local_need ∷ local_need ∷ [] }) (record frame { size = 208; slots = slot ∷ record slot { var = 1; at = 100 } ∷ [] }) → ⊥
+slots_over : IsFrame (record with_local { locals = local_need ∷ local_need ∷ [] })
+    (record frame { size = 208; slots = slot ∷ record slot { var = 1; at = 100 } ∷ [] }) → ⊥
 unfolding frame slot
-slots_over f = both_below _ _ _ _ (f.apart 0 1 slot (record slot { var = 1; at = 100 }) refl refl (λ e. absurd (omega arith))) (omega arith) (omega arith)
+slots_over f = both_below _ _ _ _ (f.apart 0 1 slot (record slot { var = 1; at = 100 }) refl refl
+    (λ e. absurd (omega arith))) (omega arith) (omega arith)

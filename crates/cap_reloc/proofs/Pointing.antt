@@ -1,5 +1,6 @@
 -- Each relocation of a sound program under a legal map can be stored, and points to an entry or off the text.
-use Rattle.std.proofs.Common.{◌≡◌, ℕ, zero, suc, ◌+◌, ◌-◌, ◌%◌, ◌^◌, ◌<◌, ◌≤◌, Bool, true, false, List, [], ◌∷◌, ◌++◌, length, get_or, map, Option, Some, None, refl, sym, ap, ◌∙◌, subst, arith, inl, inr}
+use Rattle.std.proofs.Common.{◌≡◌, ℕ, zero, suc, ◌+◌, ◌-◌, ◌%◌, ◌^◌, ◌<◌, ◌≤◌, Bool, true, false, List, [], ◌∷◌, ◌++◌}
+use Rattle.std.proofs.Common.{length, get_or, map, Option, Some, None, refl, sym, ap, ◌∙◌, subst, arith, inl, inr}
 use Rattle.std.specs.Prelude.{slice_get, if◌then◌else◌}
 use Rattle.std.specs.List.{All, zip, flat_map}
 use Rattle.std.proofs.lemmas.Bool.{cases_lt, and_parts, eqb-true}
@@ -32,12 +33,15 @@ use Rattle.obj_mem.proofs.Fitting.{part_encodable}
 use Rattle.obj_mem.proofs.Spread.{objects_are_exact_law}
 use Rattle.cap_reloc.specs.declared.pointers.Pointer.{Pointer}
 use Rattle.cap_reloc.specs.Begins.{asked_by}
-use Rattle.cap_reloc.specs.Pointers.{whole, global_pointer, literal_pointer, object_pointers, sentry, heap, table_pointers, entries, entry_of, linked, narrowed, pointer_at, no_pointer, link_reloc, link_relocs, stored}
+use Rattle.cap_reloc.specs.Pointers.{whole, global_pointer, literal_pointer, object_pointers, sentry, heap}
+use Rattle.cap_reloc.specs.Pointers.{table_pointers, entries, entry_of, linked, narrowed, pointer_at, no_pointer}
+use Rattle.cap_reloc.specs.Pointers.{link_reloc, link_relocs, stored}
 use Rattle.cap_reloc.specs.Stored.{IsDataWord, IsPointer}
 use Rattle.cap_reloc.proofs.Fitted.{encodable_fit, near_address}
 use Rattle.cap_reloc.proofs.Inside.{all_map, all_pairs}
 use Rattle.cap_reloc.proofs.Pairs.{exact_at}
-use Rattle.cap_reloc.proofs.Under.{need_permissions, size_is, objects_length, functions_count, globals_length, literals_length, front_at, global_object, literal_object, function_at}
+use Rattle.cap_reloc.proofs.Under.{need_permissions, size_is, objects_length, functions_count, globals_length}
+use Rattle.cap_reloc.proofs.Under.{literals_length, front_at, global_object, literal_object, function_at}
 
 -- ---- pointers at any place
 
@@ -299,7 +303,8 @@ module _ (p : Typed) (q : Program) (shows : Shows p q) (w : WellTyped p) (m : Ma
       let there = objects_length p m legal in
       let c = front_at p m legal k no_pointer (omega arith) ∙ global_object p m legal k g no_pointer e in
       let a = exact_at (global_need p.types) p.globals m.globals k g exact.0 e in
-      let off = apart_at (global_need p.types) m.text p.globals m.globals k g globals_off (globals_length p m legal) e in
+      let off = apart_at (global_need p.types) m.text p.globals m.globals k g globals_off
+      (globals_length p m legal) e in
       let n = global_need p.types g in
       let inside : l.low + l.length ≤ owned_of n = omega (arith, is, owned_is k g x e h) in
       subst (λ v. Points m (narrowed v l)) (sym c)

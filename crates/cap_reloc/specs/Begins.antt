@@ -1,5 +1,6 @@
 -- Where the pointers of a program begin, and which capability a relocation stores there.
-use Rattle.std.specs.Prelude.{ℕ, ◌≡◌, ◌+◌, ◌-◌, ◌%◌, ◌^◌, ◌≤◌, nat_le, List, [], ◌∷◌, ◌++◌, map, slice_index, if◌then◌else◌}
+use Rattle.std.specs.Prelude.{ℕ, ◌≡◌, ◌+◌, ◌-◌, ◌%◌, ◌^◌, ◌≤◌, nat_le, List, [], ◌∷◌, ◌++◌, map, slice_index}
+use Rattle.std.specs.Prelude.{if◌then◌else◌}
 use Rattle.std.specs.List.{zip, flat_map}
 use Rattle.cap_ops.specs.declared.capability.Cap.{Cap}
 use Rattle.cap_ops.specs.declared.capability.TheConstants.{UNSEALED, SENTRY}
@@ -13,7 +14,8 @@ use Rattle.obj_mem.specs.declared.map.Map.{Map}
 use Rattle.obj_mem.specs.Legal.{Needs}
 use Rattle.obj_mem.specs.Needs.{needs_of, weight_in}
 use Rattle.obj_mem.specs.Values.{Live, Fun}
-use Rattle.obj_mem.specs.Table.{Start, Holds, WholeHeap, table_starts, start_of, start_capability, addresses_of, object_base}
+use Rattle.obj_mem.specs.Table.{Start, Holds, WholeHeap, table_starts, start_of, start_capability, addresses_of}
+use Rattle.obj_mem.specs.Table.{object_base}
 
 -- what a program asks of its map
 abbrev pub asked_by : Typed → Needs
@@ -40,19 +42,37 @@ links_begun n g = map (link_begun n g.1) g.0.links
 
 -- the table's entries, and then the links of the globals in their order
 abbrev pub beginning : Typed → Map → List Begun
-beginning p m = entries_from m.table.0 (table_starts (asked_by p)) ++ flat_map (links_begun (asked_by p)) (zip p.globals m.globals)
+beginning p m = entries_from m.table.0 (table_starts (asked_by p))
+    ++ flat_map (links_begun (asked_by p)) (zip p.globals m.globals)
 
 -- ---- what a relocation stores
 
--- the capability of its bounds at its address, with bits 0 to 6 of the word as permissions; bit 63 says that it is a sentry
+-- the capability of its bounds at its address, with bits 0 to 6 of the word as permissions; bit 63 says that it is a
+-- sentry
 abbrev pub stored_by : Reloc → Cap
-stored_by r = bounded r.base (r.base + r.length) (r.perms % 128) (if nat_le (2 ^ 63) r.perms then SENTRY else UNSEALED) ((r.base + r.offset) % 2 ^ 64)
+stored_by r = bounded r.base (r.base + r.length) (r.perms % 128) (if nat_le (2 ^ 63) r.perms then SENTRY else UNSEALED)
+    ((r.base + r.offset) % 2 ^ 64)
 
 -- its bounds, its address counted from their base, and the word
 unfoldable pub relocation_of : Map → ℕ → Start → Reloc
-relocation_of m place (Holds (Live object low high offset permissions)) = record { place = place; base = object_base m object + low; offset = (offset + 2 ^ 64 - low) % 2 ^ 64; length = high - low; perms = permissions }
-relocation_of m place (Holds (Fun f)) = record { place = place; base = m.text.0; offset = slice_index m.entries f - m.text.0; length = m.text.1; perms = 2 ^ 63 + code_permissions }
-relocation_of m place WholeHeap = record { place = place; base = m.heap.0; offset = 0; length = m.heap.1; perms = data_permissions }
+relocation_of m place (Holds (Live object low high offset permissions)) =
+    record {
+      place = place;
+      base = object_base m object + low;
+      offset = (offset + 2 ^ 64 - low) % 2 ^ 64;
+      length = high - low;
+      perms = permissions;
+    }
+relocation_of m place (Holds (Fun f)) =
+    record {
+      place = place;
+      base = m.text.0;
+      offset = slice_index m.entries f - m.text.0;
+      length = m.text.1;
+      perms = 2 ^ 63 + code_permissions;
+    }
+relocation_of m place WholeHeap =
+    record { place = place; base = m.heap.0; offset = 0; length = m.heap.1; perms = data_permissions }
 -- nothing begins as an integer, or as a capability without a tag
 relocation_of m place (Holds v) = record { place = place; base = 0; offset = 0; length = 0; perms = 0 }
 

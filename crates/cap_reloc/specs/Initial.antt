@@ -1,5 +1,6 @@
 -- The bytes with which the table, the globals and the literals of a program begin.
-use Rattle.std.specs.Prelude.{ℕ, ◌≡◌, ◌+◌, ◌-◌, ◌<◌, ◌≤◌, ◌&&◌, nat_le, nat_lt, min, max, List, [], ◌∷◌, ◌++◌, length, map, Some, slice_get, slice_index, if◌then◌else◌}
+use Rattle.std.specs.Prelude.{ℕ, ◌≡◌, ◌+◌, ◌-◌, ◌<◌, ◌≤◌, ◌&&◌, nat_le, nat_lt, min, max, List, [], ◌∷◌, ◌++◌, length}
+use Rattle.std.specs.Prelude.{map, Some, slice_get, slice_index, if◌then◌else◌}
 use Rattle.std.specs.List.{zip}
 use Rattle.cap_concentrate.specs.Rounding.{rounded_up}
 use Rattle.c_tree.specs.declared.typed.Typed.{Typed}
@@ -51,8 +52,8 @@ unfoldable pub highest : ℕ → List (ℕ × ℕ) → ℕ
 highest end [] = end
 highest end (e ∷ es) = highest (max end (e.0 + e.1)) es
 
--- The bytes from the lowest base of the table, the globals and the literals up to their highest end, filled to whole granules: those of
--- the globals and literals at their places, and else zeros
+-- The bytes from the lowest base of the table, the globals and the literals up to their highest end, filled to whole
+-- granules: those of the globals and literals at their places, and else zeros
 pub record AreInitial (p : Typed) (m : Map) (base : ℕ) (bytes : List ℕ) : Type 0 where
   pub from : base ≡ lowest m.table.0 (objects_of (asked_by p) m)
   pub to : base + length bytes ≡ rounded_up (highest (m.table.0 + m.table.1) (objects_of (asked_by p) m)) 16
@@ -60,7 +61,8 @@ pub record AreInitial (p : Typed) (m : Map) (base : ℕ) (bytes : List ℕ) : Ty
 
 -- ---- each object
 
--- The owned bytes of an object lie in the bytes from an address on, and are those with which it begins, and behind these zeros
+-- The owned bytes of an object lie in the bytes from an address on, and are those with which it begins, and behind
+-- these zeros
 pub record BeginsAs (from : ℕ) (all : List ℕ) (base owns : ℕ) (bytes : List ℕ) : Type 0 where
   pub above : from ≤ base
   pub below : base + owns ≤ from + length all
@@ -68,6 +70,8 @@ pub record BeginsAs (from : ℕ) (all : List ℕ) (base owns : ℕ) (bytes : Lis
 
 -- each global and each literal begins so, and the table begins with zeros, to which its relocations come
 pub record ObjectsBegin (p : Typed) (m : Map) (from : ℕ) (all : List ℕ) : Type 0 where
-  pub globals : (k : ℕ) (g : GlobalDef) → slice_get p.globals k ≡ Some g → BeginsAs from all (slice_index m.globals k) (owned_of (global_need p.types g)) g.bytes
-  pub literals : (k : ℕ) (l : Literal) → slice_get p.literals k ≡ Some l → BeginsAs from all (slice_index m.literals k) (owned_of (literal_need l)) l.bytes
+  pub globals : (k : ℕ) (g : GlobalDef) → slice_get p.globals k ≡ Some g →
+      BeginsAs from all (slice_index m.globals k) (owned_of (global_need p.types g)) g.bytes
+  pub literals : (k : ℕ) (l : Literal) → slice_get p.literals k ≡ Some l →
+      BeginsAs from all (slice_index m.literals k) (owned_of (literal_need l)) l.bytes
   pub table : BeginsAs from all m.table.0 m.table.1 []

@@ -1,5 +1,6 @@
 -- Pointers as relocations have them, but for their places.
-use Rattle.std.specs.Prelude.{ℕ, ◌+◌, ◌-◌, ◌%◌, ◌^◌, ◌<◌, ◌≤◌, List, [], ◌∷◌, ◌++◌, length, map, slice_index, slice_index_or}
+use Rattle.std.specs.Prelude.{ℕ, ◌+◌, ◌-◌, ◌%◌, ◌^◌, ◌<◌, ◌≤◌, List, [], ◌∷◌, ◌++◌, length, map, slice_index}
+use Rattle.std.specs.Prelude.{slice_index_or}
 use Rattle.std.specs.List.{zip}
 use Rattle.ck_int.specs.Kinds.{kept_of}
 use Rattle.cap_ops.specs.Permissions.{data_permissions}
@@ -29,14 +30,20 @@ literal_pointer l = whole (literal_need l.0) l.1
 
 -- of the globals and then of the literals
 unfoldable pub object_pointers : Typed → Map → List Pointer
-object_pointers p m = map (global_pointer p.types) (zip p.globals m.globals) ++ map literal_pointer (zip p.literals m.literals)
+object_pointers p m = map (global_pointer p.types) (zip p.globals m.globals)
+    ++ map literal_pointer (zip p.literals m.literals)
 
 -- the word of a sentry has bit 63 set, beside Global and Execute
 abbrev pub sentry_word : ℕ
 sentry_word = 9223372036854775811
 
 abbrev pub sentry : Map → ℕ → Pointer
-sentry m entry = record { base = m.text.0; offset = (entry + 2 ^ 64 - m.text.0) % 2 ^ 64; length = m.text.1; perms = sentry_word }
+sentry m entry = record {
+  base = m.text.0;
+  offset = (entry + 2 ^ 64 - m.text.0) % 2 ^ 64;
+  length = m.text.1;
+  perms = sentry_word;
+}
 
 abbrev pub heap : Map → Pointer
 heap m = record { base = m.heap.0; offset = 0; length = m.heap.1; perms = data_permissions }
@@ -67,7 +74,12 @@ entry_of p (target.Fun f) = length p.globals + length p.literals + f
 
 -- a pointer to a part of what the pointer to its target points to; a function has no parts
 abbrev pub narrowed : Pointer → Link → Pointer
-narrowed c l = record { base = (c.base + l.low) % 2 ^ 64; offset = (kept_of l.offset + 2 ^ 64 - l.low) % 2 ^ 64; length = l.length; perms = c.perms }
+narrowed c l = record {
+  base = (c.base + l.low) % 2 ^ 64;
+  offset = (kept_of l.offset + 2 ^ 64 - l.low) % 2 ^ 64;
+  length = l.length;
+  perms = c.perms;
+}
 
 abbrev pub linked : Pointer → Link → Target → Pointer
 linked c l (target.Global g) = narrowed c l
@@ -95,7 +107,9 @@ pub record LieIn (from size base count : ℕ) : Type 0 where
 
 -- the bytes of objects at their bases do
 abbrev pub GlobalsLieIn : (from size : ℕ) → List GlobalDef → List ℕ → Type 0
-GlobalsLieIn from size gs bs = (k : ℕ) (d : GlobalDef) → k < length gs → LieIn from size (slice_index bs k) (length (slice_index_or gs k d).bytes)
+GlobalsLieIn from size gs bs =
+    (k : ℕ) (d : GlobalDef) → k < length gs → LieIn from size (slice_index bs k) (length (slice_index_or gs k d).bytes)
 
 abbrev pub LiteralsLieIn : (from size : ℕ) → List Literal → List ℕ → Type 0
-LiteralsLieIn from size ls bs = (k : ℕ) (d : Literal) → k < length ls → LieIn from size (slice_index bs k) (length (slice_index_or ls k d).bytes)
+LiteralsLieIn from size ls bs =
+    (k : ℕ) (d : Literal) → k < length ls → LieIn from size (slice_index bs k) (length (slice_index_or ls k d).bytes)

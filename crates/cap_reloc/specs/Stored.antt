@@ -1,5 +1,5 @@
--- What holds of each relocation under a legal map: a machine can store it as it is, and it gives no way into the text but
--- an entry.
+-- What holds of each relocation under a legal map: a machine can store it as it is, and it gives no way into the text
+-- but an entry.
 use Rattle.std.specs.Prelude.{ℕ, ◌≡◌, ◌+◌, ◌%◌, ◌^◌, ◌<◌, ◌≤◌, ◌⊎◌, Some, slice_get}
 use Rattle.cap_concentrate.specs.Rounding.{Encodable}
 use Rattle.cap_ops.specs.Permissions.{data_permissions, const_permissions, code_permissions}

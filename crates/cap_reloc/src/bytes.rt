@@ -2,7 +2,8 @@
 ghost use Rattle.std.specs.Prelude.{◌≡◌, ℕ, ◌+◌, ◌-◌, ◌%◌, ◌^◌, ◌<◌, ◌≤◌, length, map, slice_index, OnOk, IfOk};
 ghost use Rattle.std.specs.List.{All};
 ghost use Rattle.cap_concentrate.specs.Rounding.{rounded_up};
-ghost use Rattle.cap_reloc.specs.Initial.{byte_in, byte_of, global_contents, literal_contents, contents, lowest, highest};
+ghost use Rattle.cap_reloc.specs.Initial.{byte_in, byte_of, global_contents, literal_contents, contents, lowest};
+ghost use Rattle.cap_reloc.specs.Initial.{highest};
 ghost use Rattle.cap_reloc.specs.Pointers.{extent_of, LieIn, GlobalsLieIn, LiteralsLieIn};
 ghost use Rattle.cap_reloc.specs.declared.pointers.Pointer.{Pointer};
 
@@ -43,7 +44,8 @@ pub fn stretch_of(table: (u64, u64), objects: &[Pointer]) -> Stretch
 pub fn put(bytes: &mut [u8], from: u64, at: u64, part: &[u8])
     requires { LieIn from (length bytes.old) at (length part.now) }
     ensures length { length bytes.new ≡ length bytes.old }
-    ensures each { (k : ℕ) → k < length bytes.old → slice_index bytes.new k ≡ byte_in (slice_index bytes.old k) (at, part.now) (from + k) }
+    ensures each { (k : ℕ) → k < length bytes.old →
+        slice_index bytes.new k ≡ byte_in (slice_index bytes.old k) (at, part.now) (from + k) }
 {
     let start = (at - from) as usize;
     bytes[start..start + part.len()].copy_from_slice(part);
@@ -54,7 +56,8 @@ fn put_globals(bytes: &mut [u8], from: u64, m: &Map, p: &Typed)
     requires bases { length m.now.globals ≡ length p.now.globals }
     requires lie { GlobalsLieIn from (length bytes.old) p.now.globals m.now.globals }
     ensures length { length bytes.new ≡ length bytes.old }
-    ensures each { (k : ℕ) → k < length bytes.old → slice_index bytes.new k ≡ byte_of (slice_index bytes.old k) (global_contents p.now m.now) (from + k) }
+    ensures each { (k : ℕ) → k < length bytes.old →
+        slice_index bytes.new k ≡ byte_of (slice_index bytes.old k) (global_contents p.now m.now) (from + k) }
 {
     let globals = p.globals.as_slice();
     let bases = m.globals.as_slice();
@@ -68,7 +71,8 @@ fn put_literals(bytes: &mut [u8], from: u64, m: &Map, p: &Typed)
     requires bases { length m.now.literals ≡ length p.now.literals }
     requires lie { LiteralsLieIn from (length bytes.old) p.now.literals m.now.literals }
     ensures length { length bytes.new ≡ length bytes.old }
-    ensures each { (k : ℕ) → k < length bytes.old → slice_index bytes.new k ≡ byte_of (slice_index bytes.old k) (literal_contents p.now m.now) (from + k) }
+    ensures each { (k : ℕ) → k < length bytes.old →
+        slice_index bytes.new k ≡ byte_of (slice_index bytes.old k) (literal_contents p.now m.now) (from + k) }
 {
     let literals = p.literals.as_slice();
     let bases = m.literals.as_slice();
@@ -85,7 +89,8 @@ fn put_all(bytes: &mut [u8], from: u64, m: &Map, p: &Typed)
     requires globals { GlobalsLieIn from (length bytes.old) p.now.globals m.now.globals }
     requires literals { LiteralsLieIn from (length bytes.old) p.now.literals m.now.literals }
     ensures length { length bytes.new ≡ length bytes.old }
-    ensures each { (k : ℕ) → k < length bytes.old → slice_index bytes.new k ≡ byte_of (slice_index bytes.old k) (contents p.now m.now) (from + k) }
+    ensures each { (k : ℕ) → k < length bytes.old →
+        slice_index bytes.new k ≡ byte_of (slice_index bytes.old k) (contents p.now m.now) (from + k) }
 {
     put_globals(bytes, from, m, p);
     put_literals(bytes, from, m, p);
@@ -98,7 +103,8 @@ pub fn initial_bytes(alloc: Global, m: &Map, p: &Typed, s: Stretch) -> Result<Ve
     requires globals { GlobalsLieIn s.base s.length p.now.globals m.now.globals }
     requires literals { LiteralsLieIn s.base s.length p.now.literals m.now.literals }
     ensures length { IfOk result (λ bytes. length bytes.items ≡ s.length) }
-    ensures each { IfOk result (λ bytes. (k : ℕ) → k < s.length → slice_index bytes.items k ≡ byte_of 0 (contents p.now m.now) (s.base + k)) }
+    ensures each { IfOk result (λ bytes. (k : ℕ) → k < s.length →
+        slice_index bytes.items k ≡ byte_of 0 (contents p.now m.now) (s.base + k)) }
 {
     let mut bytes = vec![in alloc; 0; s.length as usize]?;
     put_all(&mut bytes, s.base, m, p);

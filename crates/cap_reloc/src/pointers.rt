@@ -1,11 +1,13 @@
 //! The pointers to objects and functions.
-ghost use Rattle.std.specs.Prelude.{◌≡◌, ℕ, ◌+◌, ◌-◌, ◌%◌, ◌^◌, ◌<◌, ◌++◌, ◌∷◌, [], map, length, slice_get, IfOk, OnOk, Bool, Some};
+ghost use Rattle.std.specs.Prelude.{◌≡◌, ℕ, ◌+◌, ◌-◌, ◌%◌, ◌^◌, ◌<◌, ◌++◌, ◌∷◌, [], map, length, slice_get, IfOk, OnOk};
+ghost use Rattle.std.specs.Prelude.{Bool, Some};
 ghost use Rattle.std.specs.List.{zip};
 ghost use Rattle.cap_concentrate.specs.Rounding.{owned};
 ghost use Rattle.cap_layout.specs.Kept.{AreLayoutsOf};
 ghost use Rattle.obj_mem.specs.Needs.{need_of, global_need, literal_need, is_const, is_const_of};
 ghost use Rattle.cap_reloc.specs.Levels.{const_by};
-ghost use Rattle.cap_reloc.specs.Pointers.{whole, global_pointer, literal_pointer, object_pointers, sentry, heap, table_pointers};
+ghost use Rattle.cap_reloc.specs.Pointers.{whole, global_pointer, literal_pointer, object_pointers, sentry, heap};
+ghost use Rattle.cap_reloc.specs.Pointers.{table_pointers};
 
 use c_tree::{CType, GlobalDef, Literal, Typed};
 use cap_concentrate::rounded_length;
@@ -201,7 +203,8 @@ fn put_sentries(pointers: &mut Vec<Pointer>, m: &Map) -> Result<(), AllocError>
 /// Puts what stands in the table behind the pointers to objects: the sentries of the functions, and the heap.
 #[tactic(auto, unfolding(crate::specs::Pointers::table_pointers))]
 pub fn put_functions(pointers: &mut Vec<Pointer>, m: &Map, p: &Typed) -> Result<(), AllocError>
-    ensures { OnOk result (pointers.old.items ≡ object_pointers p.now m.now → pointers.new.items ≡ table_pointers p.now m.now) }
+    ensures { OnOk result (pointers.old.items ≡ object_pointers p.now m.now →
+        pointers.new.items ≡ table_pointers p.now m.now) }
 {
     put_sentries(pointers, m)?;
     pointers.push(heap(m))?;

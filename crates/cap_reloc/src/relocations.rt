@@ -4,7 +4,8 @@ ghost use Rattle.std.specs.List.{All, zip, flat_map};
 ghost use Rattle.ck_int.specs.Kinds.{kept_of};
 ghost use Rattle.c_tree.specs.declared.typed.GlobalDef.{GlobalDef};
 ghost use Rattle.c_tree.specs.declared.typed.Link.{Link};
-ghost use Rattle.cap_reloc.specs.Pointers.{stored, entries, entry_of, narrowed, linked, pointer_at, link_reloc, link_relocs};
+ghost use Rattle.cap_reloc.specs.Pointers.{stored, entries, entry_of, narrowed, linked, pointer_at, link_reloc};
+ghost use Rattle.cap_reloc.specs.Pointers.{link_relocs};
 
 use crate::pointers::Pointer;
 use c_tree::{Link, Target, Typed};
@@ -48,8 +49,8 @@ fn word(n: i64) -> u64
     n.cast_unsigned()
 }
 
-// A pointer to a part of what the pointer to the link's target points to. No base passes 2^64 where the map is legal; the address may
-// stand before the part, and is then counted modulo 2^64.
+// A pointer to a part of what the pointer to the link's target points to. No base passes 2^64 where the map is legal;
+// the address may stand before the part, and is then counted modulo 2^64.
 fn narrowed(c: Pointer, l: &Link) -> Pointer
     ensures { result ≡ narrowed c l.now }
 {
@@ -127,8 +128,10 @@ fn put_all_links(
 ) -> Result<(), AllocError>
     requires few { length p.now.globals + length p.now.literals ≤ 2 ^ 40 }
     requires bases { length m.now.globals ≡ length p.now.globals }
-    requires there { All (λ (g : GlobalDef). All (λ (l : Link). entry_of p.now l.target < length pointers.now) g.links) p.now.globals }
-    ensures { OnOk result (relocs.new.items ≡ relocs.old.items ++ flat_map (link_relocs p.now pointers.now) (zip p.now.globals m.now.globals)) }
+    requires there { All (λ (g : GlobalDef). All (λ (l : Link). entry_of p.now l.target < length pointers.now) g.links)
+        p.now.globals }
+    ensures { OnOk result (relocs.new.items ≡ relocs.old.items
+        ++ flat_map (link_relocs p.now pointers.now) (zip p.now.globals m.now.globals)) }
 {
     let globals = p.globals.as_slice();
     let bases = m.globals.as_slice();
@@ -148,8 +151,10 @@ pub fn relocations(
     requires table { m.now.table.0 + 16 * length pointers.now ≤ 2 ^ 63 }
     requires few { length p.now.globals + length p.now.literals ≤ 2 ^ 40 }
     requires bases { length m.now.globals ≡ length p.now.globals }
-    requires there { All (λ (g : GlobalDef). All (λ (l : Link). entry_of p.now l.target < length pointers.now) g.links) p.now.globals }
-    ensures { IfOk result (λ rs. rs.items ≡ entries m.now.table.0 pointers.now ++ flat_map (link_relocs p.now pointers.now) (zip p.now.globals m.now.globals)) }
+    requires there { All (λ (g : GlobalDef). All (λ (l : Link). entry_of p.now l.target < length pointers.now) g.links)
+        p.now.globals }
+    ensures { IfOk result (λ rs. rs.items ≡ entries m.now.table.0 pointers.now
+        ++ flat_map (link_relocs p.now pointers.now) (zip p.now.globals m.now.globals)) }
 {
     let mut relocs = Vec::new(alloc);
     put_entries(&mut relocs, m.table.0, pointers)?;

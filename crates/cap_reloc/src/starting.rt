@@ -20,10 +20,10 @@ use std::alloc::Global;
 
 /// The relocations of a program that typing gives, under a legal map, and the bytes of its initial data.
 ///
-/// The table has 16 bytes for each global, each literal and each function, for the heap and for the allocator's own state. Each of
-/// its relocations is the pointer to a whole object, the sentry of a function, or the capability of the whole heap; each of a
-/// global's is one of the pointers with which it begins. The bytes reach from the lowest base of the table, the globals and the
-/// literals to their highest end, filled to a multiple of 16.
+/// The table has 16 bytes for each global, each literal and each function, for the heap and for the allocator's own
+/// state. Each of its relocations is the pointer to a whole object, the sentry of a function, or the capability of the
+/// whole heap; each of a global's is one of the pointers with which it begins. The bytes reach from the lowest base of
+/// the table, the globals and the literals to their highest end, filled to a multiple of 16.
 pub fn table(alloc: Global, m: &Map, p: &Typed) -> Result<Table, NoMemory>
     requires sound { Sound p.now }
     requires legal { Legal p.now m.now }
@@ -33,7 +33,8 @@ pub fn table(alloc: Global, m: &Map, p: &Typed) -> Result<Table, NoMemory>
     ensures relocs { IfOk result (λ t. Paired (IsRelocation m.now) (beginning p.now m.now) t.relocs.items) }
     ensures places { IfOk result (λ t. All (IsInside t.base (length t.bytes.items)) t.relocs.items) }
 
-    // A machine can store it as it is; it is the sentry of an entry, or a pointer without Execute whose bounds lie off the text.
+    // A machine can store it as it is; it is the sentry of an entry, or a pointer without Execute whose bounds lie off
+    // the text.
     ensures pointers { IfOk result (λ t. All (IsPointer m.now) t.relocs.items) }
     ensures bytes { IfOk result (λ t. AreInitial p.now m.now t.base t.bytes.items) }
 

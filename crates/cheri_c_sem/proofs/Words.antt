@@ -9,7 +9,9 @@ use Rattle.obj_mem.specs.declared.ending.Ending.{Ending}
 use Rattle.obj_mem.specs.declared.map.Map.{Map}
 use Rattle.obj_mem.specs.declared.map.Frame.{Frame}
 use Rattle.cheri_c_sem.specs.Kinds.{Kind, Plain, Capability}
-use Rattle.cheri_c_sem.specs.Tree.{Program, Fun, Parameter, At_end, Gives_zero, St, Do, Block, Return, Sts, Seq, End, Ex, Exs, Nil, Cons, Number, Load, Variable, Local, Library, Put_char, Binary, Whole, Moved, Compare, Deref, Pointer_to}
+use Rattle.cheri_c_sem.specs.Tree.{Program, Fun, Parameter, At_end, Gives_zero, St, Do, Block, Return, Sts, Seq, End}
+use Rattle.cheri_c_sem.specs.Tree.{Ex, Exs, Nil, Cons, Number, Load, Variable, Local, Library, Put_char, Binary, Whole}
+use Rattle.cheri_c_sem.specs.Tree.{Moved, Compare, Deref, Pointer_to}
 
 -- column n of the first line
 abbrev pub at : ℕ → Pos
@@ -76,7 +78,8 @@ element p size a i = Deref (at p) (Binary (at p) (Moved size false false i32) a 
 
 -- a function, its result and its parameters
 abbrev pub function : ℕ → List Parameter → ℕ → List ℕ → At_end → St → Fun
-function p params vars objects at_end body = record { name = at p; params = params; vars = vars; objects = objects; at_end = at_end; body = body }
+function p params vars objects at_end body =
+    record { name = at p; params = params; vars = vars; objects = objects; at_end = at_end; body = body }
 
 abbrev pub of_functions : List Fun → Program
 of_functions funs = record { globals = []; literals = []; funs = funs; main = 0 }
@@ -87,10 +90,26 @@ main vars objects ss = of_functions (function 5 [] vars objects Gives_zero (bloc
 
 -- a map: every frame has 128 bytes, with slots at 16, 64 and 96; the stack has room for so many
 abbrev frame : Frame
-frame = record { size = 128; align = 16; saved = 16; slots = record { var = 0; at = 16; length = 40 } ∷ record { var = 1; at = 64; length = 16 } ∷ record { var = 2; at = 96; length = 16 } ∷ [] }
+frame = record {
+  size = 128;
+  align = 16;
+  saved = 16;
+  slots = record { var = 0; at = 16; length = 40 } ∷ record { var = 1; at = 64; length = 16 }
+      ∷ record { var = 2; at = 96; length = 16 } ∷ [];
+}
 
 abbrev pub map : Map
-map = record { text = (65536, 1024); entries = 65536 ∷ 65600 ∷ []; globals = 131072 ∷ 131136 ∷ []; literals = 131200 ∷ []; table = (196608, 256); heap = (16777216, 16777216); stack = (1048576, 65536); frames = frame ∷ frame ∷ [] }
+map = record {
+  text = (65536, 1024);
+  entries = 65536 ∷ 65600 ∷ [];
+  globals = 131072 ∷ 131136 ∷ [];
+  literals = 131200 ∷ [];
+  table = (196608, 256);
+  heap = (16777216, 16777216);
+  stack = (1048576, 65536);
+  frames =
+      frame ∷ frame ∷ [];
+}
 
 -- one whose stack has room for three frames
 abbrev pub small_stack : Map

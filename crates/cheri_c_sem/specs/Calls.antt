@@ -1,5 +1,6 @@
 -- What calls mean, and programs.
-use Rattle.std.specs.Prelude.{ℕ, zero, suc, ◌+◌, ◌-◌, ◌%◌, List, [], ◌∷◌, ◌++◌, length, replicate, Option, Some, None, Result, Ok, Err, slice_get}
+use Rattle.std.specs.Prelude.{ℕ, zero, suc, ◌+◌, ◌-◌, ◌%◌, List, [], ◌∷◌, ◌++◌, length, replicate, Option, Some, None}
+use Rattle.std.specs.Prelude.{Result, Ok, Err, slice_get}
 use Rattle.ck_base.specs.World.{World, Outcome, nothing_done}
 use Rattle.ck_base.specs.declared.positions.Pos.{Pos}
 use Rattle.cap_ops.specs.Permissions.{data_permissions}
@@ -10,8 +11,10 @@ use Rattle.obj_mem.specs.declared.ending.Ending.{Ending}
 use Rattle.obj_mem.specs.declared.ending.Ending.TheVariants as ending
 use Rattle.cheri_c_sem.specs.Kinds.{nothing, number_of}
 use Rattle.cheri_c_sem.specs.Operations.{Operations}
-use Rattle.cheri_c_sem.specs.Steps.{State, Fate, Then, ◌>>=◌, ◌>>◌, give, over, ends, answer, change_memory, set_variable, outcome_of}
-use Rattle.cheri_c_sem.specs.Tree.{Parameter, In_variable, In_object, At_end, Gives_nothing, Gives_zero, Lacks, Fun, Starting, Global, Program}
+use Rattle.cheri_c_sem.specs.Steps.{State, Fate, Then, ◌>>=◌, ◌>>◌, give, over, ends, answer, change_memory}
+use Rattle.cheri_c_sem.specs.Steps.{set_variable, outcome_of}
+use Rattle.cheri_c_sem.specs.Tree.{Parameter, In_variable, In_object, At_end, Gives_nothing, Gives_zero, Lacks, Fun}
+use Rattle.cheri_c_sem.specs.Tree.{Starting, Global, Program}
 use Rattle.cheri_c_sem.specs.Meaning.{At, store, further}
 use Rattle.cheri_c_sem.specs.Statements.{Flow, Goes, Breaks, Continues, Returns, exec}
 
@@ -84,7 +87,13 @@ module _ {M : Type 0} (ops : Operations M) where
     -- a fresh frame, where there is room for it
     abbrev pub frame : Option ℕ → ℕ → Fun → Then M (Unit {0})
     frame None n f = ends (ending.Stack f.name)
-    frame (Some address) n f = λ s k. k tt (record s { vars = replicate f.vars None; first = ops.count s.mem; mem = add_locals s.mem address n 0 f.objects; frame = address })
+    frame (Some address) n f =
+        λ s k. k tt (record s {
+          vars = replicate f.vars None;
+          first = ops.count s.mem;
+          mem = add_locals s.mem address n 0 f.objects;
+          frame = address;
+        })
 
     -- An argument comes into a variable, or into an object, which is then zero bytes first
     abbrev pub pass_one : Pos → Parameter → Value → Then M (Unit {0})
@@ -141,11 +150,19 @@ module _ {M : Type 0} (ops : Operations M) where
   -- ---- programs
 
   abbrev pub first_state : Program → ℕ → State M
-  first_state p turns = record { vars = []; first = 0; mem = start p; frame = ops.stack_top; left = turns; done = nothing_done }
+  first_state p turns = record {
+    vars = [];
+    first = 0;
+    mem = start p;
+    frame = ops.stack_top;
+    left = turns;
+    done = nothing_done;
+  }
 
   -- what a program's run comes to: `main` is called, with so many turns, and its value is the exit
   unfoldable pub fate : Program → World → ℕ → Fate
-  fate p w turns = calls w p.funs (suc turns) p.main [] (first_state p turns) (λ v. over (ending.Exit (number_of v % 256)))
+  fate p w turns = calls w p.funs (suc turns) p.main [] (first_state p turns)
+      (λ v. over (ending.Exit (number_of v % 256)))
 
   abbrev pub meant : Program → World → ℕ → Outcome Ending
   meant p w turns = outcome_of w (fate p w turns)

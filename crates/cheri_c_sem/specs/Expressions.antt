@@ -1,5 +1,7 @@
--- The expressions of a typed program as trees: the tree of a node is made of those of its operands, which have smaller numbers.
-use Rattle.std.specs.Prelude.{ℕ, zero, suc, ◌+◌, not, Bool, true, false, List, [], ◌∷◌, length, map, Option, Some, None, slice_get, if◌then◌else◌}
+-- The expressions of a typed program as trees: the tree of a node is made of those of its operands, which have smaller
+-- numbers.
+use Rattle.std.specs.Prelude.{ℕ, zero, suc, ◌+◌, not, Bool, true, false, List, [], ◌∷◌, length, map, Option, Some, None}
+use Rattle.std.specs.Prelude.{slice_get, if◌then◌else◌}
 use Rattle.ck_base.specs.declared.positions.Pos.{Pos}
 use Rattle.ck_int.specs.declared.kinds.IntKind.TheVariants as int
 use Rattle.ck_int.specs.declared.kinds.IntOp.{IntOp}
@@ -18,10 +20,16 @@ use Rattle.c_tree.specs.declared.typed.VarDef.{VarDef}
 use Rattle.obj_mem.specs.Needs.{is_const}
 use Rattle.cheri_c_sem.specs.Compatible.{compatible}
 use Rattle.cheri_c_sem.specs.Kinds.{Kind, Plain, Capability, int_kind}
-use Rattle.cheri_c_sem.specs.Tree.{Operation, Whole, Derived, Moved, Apart, Positive, Negative, Complement, Narrowing, Ex, Number, Null, Load, Aggregate, Pointer_to, Convert, Discard, Unary, Not, Binary, Compare, And, Or, Conditional, Comma, Assign, Copy, Compound, Call, Library, Variable, Local, Object, Function, Deref, Member, Exs, Nil, Cons}
-use Rattle.cheri_c_sem.specs.Types.{size_in, align_in, offset_in, scalar_of, kind_of, is_record, is_signed_capability, is_void, is_plain, is_pointer, pointee_of, unit_of, narrowing_to, promoted, takes_away, adds_or_takes, derived, service_of, objects_before, is_simple}
+use Rattle.cheri_c_sem.specs.Tree.{Operation, Whole, Derived, Moved, Apart, Positive, Negative, Complement, Narrowing}
+use Rattle.cheri_c_sem.specs.Tree.{Ex, Number, Null, Load, Aggregate, Pointer_to, Convert, Discard, Unary, Not, Binary}
+use Rattle.cheri_c_sem.specs.Tree.{Compare, And, Or, Conditional, Comma, Assign, Copy, Compound, Call, Library}
+use Rattle.cheri_c_sem.specs.Tree.{Variable, Local, Object, Function, Deref, Member, Exs, Nil, Cons}
+use Rattle.cheri_c_sem.specs.Types.{size_in, align_in, offset_in, scalar_of, kind_of, is_record, is_signed_capability}
+use Rattle.cheri_c_sem.specs.Types.{is_void, is_plain, is_pointer, pointee_of, unit_of, narrowing_to, promoted}
+use Rattle.cheri_c_sem.specs.Types.{takes_away, adds_or_takes, derived, service_of, objects_before, is_simple}
 
--- whether a tree is a conversion that makes a capability integer from a plain one, perhaps through other capability integers
+-- whether a tree is a conversion that makes a capability integer from a plain one, perhaps through other capability
+-- integers
 abbrev pub from_plain : Ex → Bool
 from_plain (Convert p old new plain e) = plain
 from_plain e = false
@@ -87,19 +95,24 @@ module _ (p : Typed) (vars : List VarDef) where
   conversion_by pos old new plain e = e
 
   abbrev pub conversion : Pos → Option CType → Option CType → Ex → Ex
-  conversion pos old new e = if is_void new then Discard e else conversion_by pos (scalar_of old) (scalar_of new) (makes_from_plain old new e) e
+  conversion pos old new e =
+      if is_void new then Discard e
+      else conversion_by pos (scalar_of old) (scalar_of new) (makes_from_plain old new e) e
 
   abbrev pub sum : Pos → Bool → ℕ → ℕ → Ex → Ex → Ex
   sum pos minus a b x y =
-      if is_pointer (bare_type a) then Binary pos (Moved (element_size a) minus false (kind_at b)) x y else Binary pos (Moved (element_size b) minus true (kind_at a)) x y
+      if is_pointer (bare_type a) then Binary pos (Moved (element_size a) minus false (kind_at b)) x y
+      else Binary pos (Moved (element_size b) minus true (kind_at a)) x y
 
   abbrev pub assignment : Pos → ℕ → ℕ → Ex → Ex → Ex
-  assignment pos t a x y = if is_record (bare p.types t) then Copy pos (size_in p.types t) (unit_of (align_in p.types t)) x y else Assign (kind_at a) x y
+  assignment pos t a x y = if is_record (bare p.types t)
+      then Copy pos (size_in p.types t) (unit_of (align_in p.types t)) x y else Assign (kind_at a) x y
 
   -- the operation of a compound assignment, computed in a type
   abbrev pub compound_by : IntOp → Option CType → ℕ → ℕ → Ex → Operation
   compound_by op (Some (types.Pointer t)) a b y = Moved (size_in p.types t) (takes_away op) false (kind_at b)
-  compound_by op (Some (types.Cap signed)) a b y = derived op signed (kind_at b) (is_plain (bare_type a)) (if is_plain (bare_type b) then true else from_plain y)
+  compound_by op (Some (types.Cap signed)) a b y =
+      derived op signed (kind_at b) (is_plain (bare_type a)) (if is_plain (bare_type b) then true else from_plain y)
   compound_by op t a b y = Whole op (int_kind (kind_of t)) (kind_at b)
 
   -- a place moved by one is computed in its promoted type (C11 6.5.2.4, 6.5.3.1)
@@ -124,16 +137,19 @@ module _ (p : Typed) (vars : List VarDef) where
   kind_tree t of pos (exprs.Var x) = variable pos x
   kind_tree t of pos (exprs.Global g) = Object pos g (permissions_of (slice_get p.globals g))
   kind_tree t of pos (exprs.Fun f) = Function pos f
-  kind_tree t of pos (exprs.Load a) = if is_record (bare p.types of) then Aggregate (t a) else Load (kind_of (bare p.types of)) (t a)
+  kind_tree t of pos (exprs.Load a) =
+      if is_record (bare p.types of) then Aggregate (t a) else Load (kind_of (bare p.types of)) (t a)
   kind_tree t of pos (exprs.Decay a) = Pointer_to pos (narrowing_of (slice_get p.exprs a)) (t a)
   kind_tree t of pos (exprs.Deref a) = Deref pos (t a)
   kind_tree t of pos (exprs.Member a m) = Member pos (offset_in p.types (type_of (slice_get p.exprs a)) m) (t a)
   kind_tree t of pos (exprs.Address a) = Pointer_to pos (narrowing_of (slice_get p.exprs a)) (t a)
   kind_tree t of pos (exprs.Convert a) = conversion pos (bare_type a) (bare p.types of) (t a)
   kind_tree t of pos (exprs.Unary op a) = sign_of pos (kind_at a) (t a) op
-  kind_tree t of pos (exprs.Int op a b) = Binary pos (Whole op (int_kind (kind_of (bare p.types of))) (kind_at b)) (t a) (t b)
+  kind_tree t of pos (exprs.Int op a b) =
+      Binary pos (Whole op (int_kind (kind_of (bare p.types of))) (kind_at b)) (t a) (t b)
   kind_tree t of pos (exprs.Capability op a b right) =
-      Binary pos (Derived op (is_signed_capability (bare p.types of)) (kind_at b) right (from_plain (if right then t a else t b))) (t a) (t b)
+      Binary pos (Derived op (is_signed_capability (bare p.types of)) (kind_at b) right
+      (from_plain (if right then t a else t b))) (t a) (t b)
   kind_tree t of pos (exprs.Plus a b minus) = sum pos minus a b (t a) (t b)
   kind_tree t of pos (exprs.Difference a b) = Binary pos (Apart (element_size a)) (t a) (t b)
   kind_tree t of pos (exprs.Compare op a b) = Compare pos op (kind_at a) (t a) (t b)
@@ -143,8 +159,10 @@ module _ (p : Typed) (vars : List VarDef) where
   kind_tree t of pos (exprs.Comma a b) = Comma (t a) (t b)
   kind_tree t of pos (exprs.Assign a b) = assignment pos of a (t a) (t b)
   kind_tree t of pos (exprs.Compound op a b computed) =
-      Compound pos (compound_by op (bare p.types computed) a b (t b)) (kind_at a) (kind_of (bare p.types computed)) false (t a) (t b)
-  kind_tree t of pos (exprs.Step a adds front) = Compound pos (step_operation adds (bare_type a)) (kind_at a) (step_kind (kind_at a)) (not front) (t a) (Number 1)
+      Compound pos (compound_by op (bare p.types computed) a b (t b)) (kind_at a)
+      (kind_of (bare p.types computed)) false (t a) (t b)
+  kind_tree t of pos (exprs.Step a adds front) =
+      Compound pos (step_operation adds (bare_type a)) (kind_at a) (step_kind (kind_at a)) (not front) (t a) (Number 1)
   kind_tree t of pos (exprs.Call f args) = Call pos (fits (pointee_of (bare_type f))) (t f) (arguments t args)
   kind_tree t of pos (exprs.Library n args) = Library pos (service_of n) (arguments t args)
 

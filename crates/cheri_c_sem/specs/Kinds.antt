@@ -5,8 +5,8 @@ use Rattle.ck_int.specs.declared.kinds.IntKind.TheVariants as int
 use Rattle.ck_int.specs.Kinds.{wrapped}
 use Rattle.obj_mem.specs.Values.{Value, Int, Live, Fun, Raw}
 
--- A plain integer of a kind; or a capability, which is a pointer or a capability integer. The truth value of a capability says
--- that its address counts as a signed number, as that of an `__intcap_t` does.
+-- A plain integer of a kind; or a capability, which is a pointer or a capability integer. The truth value of a
+-- capability says that its address counts as a signed number, as that of an `__intcap_t` does.
 pub data Kind : Type 0 where
   Plain : IntKind → Kind
   Capability : Bool → Kind
@@ -63,8 +63,8 @@ abbrev pub truth : Bool → Value
 truth true = Int 1
 truth false = Int 0
 
--- A value as memory gives it, read at a kind: the bytes of a plain integer are extended by its sign, and those of a `_Bool` are
--- reduced to 0 or 1
+-- A value as memory gives it, read at a kind: the bytes of a plain integer are extended by its sign, and those of a
+-- `_Bool` are reduced to 0 or 1
 abbrev pub read_as : Kind → Value → Value
 read_as (Plain k) v = Int (wrapped k (pos (number_of v)))
 read_as (Capability signed) v = v

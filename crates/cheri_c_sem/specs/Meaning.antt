@@ -1,5 +1,6 @@
 -- What expressions mean: values and places.
-use Rattle.std.specs.Prelude.{ℕ, zero, suc, ◌+◌, ◌-◌, ◌/◌, ◌%◌, ◌^◌, Bool, true, false, not, List, [], ◌∷◌, Option, Some, None, Result, Ok, if◌then◌else◌, slice_get, slice_index_or}
+use Rattle.std.specs.Prelude.{ℕ, zero, suc, ◌+◌, ◌-◌, ◌/◌, ◌%◌, ◌^◌, Bool, true, false, not, List, [], ◌∷◌, Option}
+use Rattle.std.specs.Prelude.{Some, None, Result, Ok, if◌then◌else◌, slice_get, slice_index_or}
 use Rattle.ck_base.specs.World.{World}
 use Rattle.ck_base.specs.declared.positions.Pos.{Pos}
 use Rattle.ck_int.specs.declared.kinds.IntOp.TheVariants.{Sub, Xor}
@@ -10,9 +11,15 @@ use Rattle.obj_mem.specs.Values as value
 use Rattle.obj_mem.specs.declared.ending.Ending.TheVariants as ending
 use Rattle.obj_mem.specs.declared.ending.Fault.{Fault}
 use Rattle.cheri_c_sem.specs.Kinds.{Kind, Plain, Capability, bytes_of, null_at, nothing, number_of, truth, read_as}
-use Rattle.cheri_c_sem.specs.Operations.{Operations, on_ok, compare_by, is_true, convert_by, int_by, capability_by, derive_by, plus_by, difference_by}
-use Rattle.cheri_c_sem.specs.Steps.{Then, ◌>>=◌, ◌>>◌, give, ends, answer, unit_answer, ask, choose, turn, set_memory, change_memory, set_variable, put, get, byte_or_end}
-use Rattle.cheri_c_sem.specs.Tree.{Operation, Whole, Derived, Moved, Apart, Sign, Positive, Negative, Complement, Narrowing, Service, Put_char, Get_char, Malloc, Exit, Address, Bounds, Works, Ex, Number, Null, Load, Aggregate, Pointer_to, Convert, Discard, Unary, Not, Binary, Compare, And, Or, Conditional, Comma, Assign, Copy, Compound, Call, Library, Variable, Local, Object, Function, Deref, Member, Exs, Nil, Cons}
+use Rattle.cheri_c_sem.specs.Operations.{Operations, on_ok, compare_by, is_true, convert_by, int_by, capability_by}
+use Rattle.cheri_c_sem.specs.Operations.{derive_by, plus_by, difference_by}
+use Rattle.cheri_c_sem.specs.Steps.{Then, ◌>>=◌, ◌>>◌, give, ends, answer, unit_answer, ask, choose, turn, set_memory}
+use Rattle.cheri_c_sem.specs.Steps.{change_memory, set_variable, put, get, byte_or_end}
+use Rattle.cheri_c_sem.specs.Tree.{Operation, Whole, Derived, Moved, Apart, Sign, Positive, Negative, Complement}
+use Rattle.cheri_c_sem.specs.Tree.{Narrowing, Service, Put_char, Get_char, Malloc, Exit, Address, Bounds, Works, Ex}
+use Rattle.cheri_c_sem.specs.Tree.{Number, Null, Load, Aggregate, Pointer_to, Convert, Discard, Unary, Not, Binary}
+use Rattle.cheri_c_sem.specs.Tree.{Compare, And, Or, Conditional, Comma, Assign, Copy, Compound, Call, Library}
+use Rattle.cheri_c_sem.specs.Tree.{Variable, Local, Object, Function, Deref, Member, Exs, Nil, Cons}
 
 -- A place, with the position of the node that designates it: a variable, by its number, or what a capability points to.
 pub data Place : Type 0 where
@@ -34,7 +41,8 @@ nowhere = At (record { line = 0; col = 0 }) (null_at 0)
 
 -- the pointer a number of bytes further on in what it points to
 abbrev pub further : Value → ℕ → Value
-further (value.Live object low high offset permissions) n = value.Live object low high ((offset + n) % 2 ^ 64) permissions
+further (value.Live object low high offset permissions) n =
+    value.Live object low high ((offset + n) % 2 ^ 64) permissions
 further (value.Int v) n = value.Int v
 further (value.Fun f) n = value.Fun f
 further (value.Raw address upper) n = value.Raw address upper
@@ -72,7 +80,8 @@ module _ {M : Type 0} (ops : Operations M) (w : World) where
   abbrev pub copy_units : ℕ → (unit at : ℕ) → Place → Place → Then M (Unit {0})
   copy_units zero unit at from to = give tt
   copy_units (suc n) unit at from to = do
-    m ← λ s. unit_answer (position_of from) (position_of to) (ops.copy_unit s.mem (further (capability_of from) at) (further (capability_of to) at) unit) s
+    m ← λ s. unit_answer (position_of from) (position_of to)
+        (ops.copy_unit s.mem (further (capability_of from) at) (further (capability_of to) at) unit) s
     set_memory m
     copy_units n unit (at + unit) from to
 
@@ -100,7 +109,8 @@ module _ {M : Type 0} (ops : Operations M) (w : World) where
   sign_by Complement (Plain k) m x = int_by ops m Xor k (Plain k) (value.Int (2 ^ 64 - 1)) x
   sign_by Positive (Capability signed) m x = derive_by ops m Xor signed (Capability signed) true (null_at 0) x
   sign_by Negative (Capability signed) m x = derive_by ops m Sub signed (Capability signed) true (null_at 0) x
-  sign_by Complement (Capability signed) m x = derive_by ops m Xor signed (Capability signed) true (null_at (2 ^ 64 - 1)) x
+  sign_by Complement (Capability signed) m x =
+      derive_by ops m Xor signed (Capability signed) true (null_at (2 ^ 64 - 1)) x
 
   -- the pointer to a place; the one to a member is narrowed, and its length is noted
   abbrev pub point_to : Pos → Option Narrowing → Place → Then M Value

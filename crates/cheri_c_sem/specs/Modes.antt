@@ -1,5 +1,7 @@
 -- The operations of the placed meaning under a map, and those of the strict meaning, which knows no addresses.
-use Rattle.std.specs.Prelude.{ℕ, ◌+◌, ◌-◌, ◌*◌, ◌/◌, ◌%◌, ◌^◌, ◌==◌, ◌&&◌, ◌||◌, nat_lt, not, Bool, false, length, Option, Some, None, Result, Ok, Err, if◌then◌else◌, slice_get, slice_index_or, ℤ, pos, ◌+ℤ◌, ◌-ℤ◌, ◌*ℤ◌, int_div, int_lt, int_le}
+use Rattle.std.specs.Prelude.{ℕ, ◌+◌, ◌-◌, ◌*◌, ◌/◌, ◌%◌, ◌^◌, ◌==◌, ◌&&◌, ◌||◌, nat_lt, not, Bool, false, length}
+use Rattle.std.specs.Prelude.{Option, Some, None, Result, Ok, Err, if◌then◌else◌, slice_get, slice_index_or, ℤ, pos}
+use Rattle.std.specs.Prelude.{◌+ℤ◌, ◌-ℤ◌, ◌*ℤ◌, int_div, int_lt, int_le}
 use Rattle.std.specs.Ordering.{int_eq}
 use Rattle.ck_int.specs.declared.kinds.IntKind.{IntKind}
 use Rattle.ck_int.specs.declared.kinds.IntOp.{IntOp}
@@ -15,15 +17,18 @@ use Rattle.obj_mem.specs.declared.map.Map.{Map}
 use Rattle.obj_mem.specs.declared.map.Frame.{Frame}
 use Rattle.obj_mem.specs.declared.map.Slot.{Slot}
 use Rattle.obj_mem.specs.Values.{Value, Int, Live}
-use Rattle.obj_mem.specs.Objects.{Memory, Mode, Placed, Strict, is_strict, no_objects, add, rest, end, leave, zero_object, whole_pointer, note_member}
+use Rattle.obj_mem.specs.Objects.{Memory, Mode, Placed, Strict, is_strict, no_objects, add, rest, end, leave}
+use Rattle.obj_mem.specs.Objects.{zero_object, whole_pointer, note_member}
 use Rattle.obj_mem.specs.Access.{unspecified, onward, load, store, copy_unit}
-use Rattle.obj_mem.specs.Pointers.{move, narrow, clear, mask, get_address, set_address, get_tag, get_permissions, get_base, get_length, get_offset}
+use Rattle.obj_mem.specs.Pointers.{move, narrow, clear, mask, get_address, set_address, get_tag, get_permissions}
+use Rattle.obj_mem.specs.Pointers.{get_base, get_length, get_offset}
 use Rattle.obj_mem.specs.Comparisons.{compare, distance, identical, less_by}
 use Rattle.obj_mem.specs.Heap.{heap_start, Allocation, allocate}
 use Rattle.obj_mem.specs.Legal.{slot_of}
 use Rattle.obj_mem.specs.Table.{addresses_of}
 use Rattle.cheri_c_sem.specs.Kinds.{Kind, zero_of, number_of, truth}
-use Rattle.cheri_c_sem.specs.Operations.{Operations, Work, Base, Offset, Length, Tag, Perms, Clear, Set_address, And_perms, Equal_exact, Rounded, Mask}
+use Rattle.cheri_c_sem.specs.Operations.{Operations, Work, Base, Offset, Length, Tag, Perms, Clear, Set_address}
+use Rattle.cheri_c_sem.specs.Operations.{And_perms, Equal_exact, Rounded, Mask}
 
 -- ---- integers
 
@@ -54,7 +59,9 @@ is_undefined Shr k x y = is_outside k y
 
 abbrev pub int_of : Mode → IntOp → IntKind → IntKind → ℕ → ℕ → Result ℕ Fault
 int_of (Placed a) op k count x y = Ok (binary_of op k x y)
-int_of Strict op k count x y = if is_undefined op k (value_of k x) (value_of count y) then unspecified reason.Undefined else Ok (binary_of op k x y)
+int_of Strict op k count x y =
+    if is_undefined op k (value_of k x) (value_of count y) then unspecified reason.Undefined
+    else Ok (binary_of op k x y)
 
 -- where C leaves open which value there is, the placed meaning takes 0 or null
 abbrev pub open_value : Mode → Reason → Kind → Result Value Fault
@@ -92,7 +99,8 @@ work_of d s Mask v x = Ok (Int (2 ^ 64 - alignment (number_of v)))
 
 -- so many bytes at two places of one object, which have some in common and not all
 abbrev pub laps : Value → Value → ℕ → Bool
-laps (Live o low high at p) (Live o' low' high' at' p') bytes = o == o' && not (at == at') && (nat_lt (less_by at at') bytes || nat_lt (less_by at' at) bytes)
+laps (Live o low high at p) (Live o' low' high' at' p') bytes =
+    o == o' && not (at == at') && (nat_lt (less_by at at') bytes || nat_lt (less_by at' at) bytes)
 laps v w bytes = false
 
 abbrev pub overlap_of : Mode → Value → Value → ℕ → Result (Unit {0}) Fault
@@ -169,7 +177,8 @@ below address f = (address - f.size) / f.align * f.align
 -- it is not below the stack's base, as a whole number
 abbrev pub frame_within : ℕ → ℕ → Option Frame → Option ℕ
 frame_within base address None = None
-frame_within base address (Some f) = if nat_lt address f.size || nat_lt (below address f) base then None else Some (below address f)
+frame_within base address (Some f) =
+    if nat_lt address f.size || nat_lt (below address f) base then None else Some (below address f)
 
 abbrev pub slot_offset : Option Slot → ℕ
 slot_offset None = 0

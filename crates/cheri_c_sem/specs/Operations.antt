@@ -1,5 +1,6 @@
--- The operations on values and memory that the meaning of programs stands on, as a record: the placed and the strict meaning are
--- one definition over two such records. M is memory with all that a run keeps beside it: the objects, where they stand, the heap.
+-- The operations on values and memory that the meaning of programs stands on, as a record: the placed and the strict
+-- meaning are one definition over two such records. M is memory with all that a run keeps beside it: the objects, where
+-- they stand, the heap.
 use Rattle.std.specs.Prelude.{ℕ, ◌-◌, ◌*◌, ◌%◌, ◌^◌, Bool, true, false, Option, Result, Ok, Err, pos, if◌then◌else◌}
 use Rattle.ck_int.specs.declared.kinds.IntKind.{IntKind}
 use Rattle.ck_int.specs.declared.kinds.IntKind.TheVariants as int
@@ -13,10 +14,11 @@ use Rattle.obj_mem.specs.Values.{Value}
 use Rattle.obj_mem.specs.Values as value
 use Rattle.obj_mem.specs.declared.ending.Fault.{Fault}
 use Rattle.obj_mem.specs.declared.ending.UnitFault.{UnitFault}
-use Rattle.cheri_c_sem.specs.Kinds.{Kind, Plain, Capability, address_kind, int_kind, null_at, number_of, truth, pointer, zero_of}
+use Rattle.cheri_c_sem.specs.Kinds.{Kind, Plain, Capability, address_kind, int_kind, null_at, number_of, truth, pointer}
+use Rattle.cheri_c_sem.specs.Kinds.{zero_of}
 
--- What is asked of a capability, or made of it (CHERI C/C++ Programming Guide, UCAM-CL-TR-947, 7.3). Set_address, And_perms and
--- Equal_exact have a second operand; Rounded and Mask are of a length.
+-- What is asked of a capability, or made of it (CHERI C/C++ Programming Guide, UCAM-CL-TR-947, 7.3). Set_address,
+-- And_perms and Equal_exact have a second operand; Rounded and Mask are of a length.
 pub data Work : Type 0 where
   Base : Work
   Offset : Work
@@ -98,8 +100,8 @@ module _ {M : Type 0} (ops : Operations M) where
   to_int m int.Bool x = on_ok (λ b. Ok (truth b)) (is_true m pointer x)
   to_int m k x = on_ok (λ a. Ok (value.Int (wrapped k (pos a)))) (ops.address m x)
 
-  -- A plain integer becomes null with that address, and a capability a plain integer by its address; capabilities turn into each
-  -- other unchanged
+  -- A plain integer becomes null with that address, and a capability a plain integer by its address; capabilities turn
+  -- into each other unchanged
   abbrev pub convert_by : M → Kind → Kind → Value → Result Value Fault
   convert_by m (Plain j) (Plain k) x = Ok (value.Int (converted j k (number_of x)))
   convert_by m (Plain j) (Capability signed) x = Ok (null_at (number_of x))
@@ -114,12 +116,14 @@ module _ {M : Type 0} (ops : Operations M) where
   -- ---- operations
 
   abbrev pub int_by : M → IntOp → IntKind → Kind → Value → Value → Result Value Fault
-  int_by m op k count x y = on_ok (λ b. on_ok (λ n. Ok (value.Int n)) (ops.int op k (int_kind count) (number_of x) b)) (number_by m count y)
+  int_by m op k count x y =
+      on_ok (λ b. on_ok (λ n. Ok (value.Int n)) (ops.int op k (int_kind count) (number_of x) b)) (number_by m count y)
 
   -- What derives from a capability is that capability with the computed address
   abbrev pub derive_by : M → IntOp → Bool → Kind → Bool → Value → Value → Result Value Fault
   derive_by m op signed count right x y =
-      on_ok (λ a. on_ok (λ b. on_ok (λ n. ops.work m Set_address (if right then y else x) (value.Int n)) (ops.int op (address_kind signed) (int_kind count) a b)) (number_by m count y)) (ops.address m x)
+      on_ok (λ a. on_ok (λ b. on_ok (λ n. ops.work m Set_address (if right then y else x) (value.Int n))
+      (ops.int op (address_kind signed) (int_kind count) a b)) (number_by m count y)) (ops.address m x)
 
   -- a number of bytes to move by, or back by, modulo 2 ^ 64
   abbrev pub steps_of : Bool → ℕ → ℕ
@@ -136,12 +140,16 @@ module _ {M : Type 0} (ops : Operations M) where
   is_live (value.Fun f) = false
   is_live (value.Raw address upper) = false
 
-  -- An operation on capability integers, from whose left or right operand the result derives. Where a plain integer is added to a
-  -- pointer to an object, or taken from it, the pointer moves; `plain` says that the other operand was converted from a plain integer
+  -- An operation on capability integers, from whose left or right operand the result derives. Where a plain integer is
+  -- added to a pointer to an object, or taken from it, the pointer moves; `plain` says that the other operand was
+  -- converted from a plain integer
   abbrev pub capability_by : M → IntOp → Bool → Kind → Bool → Bool → Value → Value → Result Value Fault
-  capability_by m Add signed count false true x y = if is_live x then on_ok (move_by m false x) (number_by m count y) else derive_by m Add signed count false x y
-  capability_by m Add signed count true true x y = if is_live y then on_ok (move_by m false y) (ops.address m x) else derive_by m Add signed count true x y
-  capability_by m Sub signed count false true x y = if is_live x then on_ok (move_by m true x) (number_by m count y) else derive_by m Sub signed count false x y
+  capability_by m Add signed count false true x y =
+      if is_live x then on_ok (move_by m false x) (number_by m count y) else derive_by m Add signed count false x y
+  capability_by m Add signed count true true x y =
+      if is_live y then on_ok (move_by m false y) (ops.address m x) else derive_by m Add signed count true x y
+  capability_by m Sub signed count false true x y =
+      if is_live x then on_ok (move_by m true x) (number_by m count y) else derive_by m Sub signed count false x y
   capability_by m op signed count right plain x y = derive_by m op signed count right x y
 
   -- a pointer moved by a number of elements of a size, up or down

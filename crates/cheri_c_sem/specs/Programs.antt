@@ -1,5 +1,6 @@
 -- A typed program as a tree.
-use Rattle.std.specs.Prelude.{ℕ, zero, suc, ◌+◌, ◌==◌, List, [], ◌∷◌, length, map, Option, Some, None, slice_get, if◌then◌else◌}
+use Rattle.std.specs.Prelude.{ℕ, zero, suc, ◌+◌, ◌==◌, List, [], ◌∷◌, length, map, Option, Some, None, slice_get}
+use Rattle.std.specs.Prelude.{if◌then◌else◌}
 use Rattle.ck_base.specs.declared.positions.Pos.{Pos}
 use Rattle.ck_int.specs.Kinds.{kept_of}
 use Rattle.cap_ops.specs.Permissions.{const_permissions}
@@ -19,8 +20,12 @@ use Rattle.c_tree.specs.declared.typed.Typed.{Typed}
 use Rattle.c_tree.specs.declared.typed.VarDef.{VarDef}
 use Rattle.obj_mem.specs.Values as value
 use Rattle.cheri_c_sem.specs.Kinds.{Kind}
-use Rattle.cheri_c_sem.specs.Tree.{Ex, Declared, Simple, Objects, Label, Case, Default, St, Do, Give, Init, Fill, Block, If, While, Do_while, For, Switch, Break, Continue, Return, Empty, Sts, End, Seq, Parameter, In_variable, In_object, At_end, Gives_nothing, Gives_zero, Lacks, Fun, Global, Program}
-use Rattle.cheri_c_sem.specs.Types.{size_in, align_in, kind_of, is_record, is_void, result_type_of, unit_of, objects_before, is_simple, type_of_var}
+use Rattle.cheri_c_sem.specs.Tree.{Ex, Declared, Simple, Objects, Label, Case, Default, St, Do, Give, Init, Fill, Block}
+use Rattle.cheri_c_sem.specs.Tree.{If, While, Do_while, For, Switch, Break, Continue, Return, Empty, Sts, End, Seq}
+use Rattle.cheri_c_sem.specs.Tree.{Parameter, In_variable, In_object, At_end, Gives_nothing, Gives_zero, Lacks, Fun}
+use Rattle.cheri_c_sem.specs.Tree.{Global, Program}
+use Rattle.cheri_c_sem.specs.Types.{size_in, align_in, kind_of, is_record, is_void, result_type_of, unit_of}
+use Rattle.cheri_c_sem.specs.Types.{objects_before, is_simple, type_of_var}
 use Rattle.cheri_c_sem.specs.Expressions.{type_of, permissions_of, kind_at, expr_tree}
 
 abbrev pub statements : (ℕ → St) → List ℕ → Sts
@@ -55,7 +60,8 @@ module _ (p : Typed) where
     abbrev pub initialisation : Pos → ℕ → ℕ → ℕ → Ex → St
     initialisation pos x offset t v =
         if is_simple (slice_get vars x) then Give x v
-        else if is_record (bare p.types t) then Fill pos (objects_before vars x) offset (size_in p.types t) (unit_of (align_in p.types t)) v
+        else if is_record (bare p.types t)
+        then Fill pos (objects_before vars x) offset (size_in p.types t) (unit_of (align_in p.types t)) v
         else Init pos (objects_before vars x) offset (kind_of (bare p.types t)) v
 
     -- the tree of a statement, where e and t have those of the expressions and statements in it
@@ -66,9 +72,11 @@ module _ (p : Typed) where
     stmt_kind_tree e t pos (stmts.If c a b) = If pos (kind_at p vars c) (e c) (t a) (statement_or_empty t b)
     stmt_kind_tree e t pos (stmts.While c a) = While pos (kind_at p vars c) (e c) (t a)
     stmt_kind_tree e t pos (stmts.Do a c) = Do_while pos (kind_at p vars c) (t a) (e c)
-    stmt_kind_tree e t pos (stmts.For xs first test step a) = For (map declared xs) (statements t first) (test_in pos e test) (expression_of e step) (t a)
+    stmt_kind_tree e t pos (stmts.For xs first test step a) =
+        For (map declared xs) (statements t first) (test_in pos e test) (expression_of e step) (t a)
     stmt_kind_tree e t pos (stmts.Switch on xs labels ks) =
-        Switch pos (kind_at p vars on) (e on) (map declared xs) (map (λ (s : SwitchLabel). label_of s.value s.before) labels) (statements t ks)
+        Switch pos (kind_at p vars on) (e on) (map declared xs)
+        (map (λ (s : SwitchLabel). label_of s.value s.before) labels) (statements t ks)
     stmt_kind_tree e t pos stmts.Break = Break
     stmt_kind_tree e t pos stmts.Continue = Continue
     stmt_kind_tree e t pos (stmts.Return a) = Return (expression_of e a)
@@ -132,7 +140,11 @@ module _ (p : Typed) where
   value_at k (target.Fun f) = value.Fun f
 
   abbrev pub global_tree : GlobalDef → Global
-  global_tree g = record { length = size_in p.types g.of; bytes = g.bytes; links = map (λ (k : Link). record { at = k.at; value = value_at k k.target }) g.links }
+  global_tree g = record {
+    length = size_in p.types g.of;
+    bytes = g.bytes;
+    links = map (λ (k : Link). record { at = k.at; value = value_at k k.target }) g.links;
+  }
 
   -- ---- the program
 

@@ -10,7 +10,8 @@ use Rattle.obj_mem.specs.declared.ending.Ending.TheVariants as ending
 use Rattle.cheri_c_sem.specs.Kinds.{Kind, Plain, Capability, null_at, nothing}
 use Rattle.cheri_c_sem.specs.Operations.{Operations, compare_by}
 use Rattle.cheri_c_sem.specs.Steps.{Then, ◌>>=◌, ◌>>◌, give, ends, ask, choose, turn, set_variable}
-use Rattle.cheri_c_sem.specs.Tree.{Ex, Declared, Simple, Objects, Label, Case, Default, St, Do, Give, Init, Fill, Block, If, While, Do_while, For, Switch, Break, Continue, Return, Empty, Sts, End, Seq}
+use Rattle.cheri_c_sem.specs.Tree.{Ex, Declared, Simple, Objects, Label, Case, Default, St, Do, Give, Init, Fill, Block}
+use Rattle.cheri_c_sem.specs.Tree.{If, While, Do_while, For, Switch, Break, Continue, Return, Empty, Sts, End, Seq}
 use Rattle.cheri_c_sem.specs.Meaning.{Place, At, test, store, copy, value_of, place_of}
 
 -- where a statement was left: at its end, or by a jump (C11 6.8.6)

@@ -1,5 +1,6 @@
 -- Runs in parts: what a part of a program does with a state, and then what follows it.
-use Rattle.std.specs.Prelude.{ℕ, zero, suc, ◌-◌, ◌^◌, min, Bool, true, false, List, length, Option, Some, None, Result, Ok, Err, slice_get, slice_set}
+use Rattle.std.specs.Prelude.{ℕ, zero, suc, ◌-◌, ◌^◌, min, Bool, true, false, List, length, Option, Some, None, Result}
+use Rattle.std.specs.Prelude.{Ok, Err, slice_get, slice_set}
 use Rattle.ck_base.specs.World.{World, Done, Outcome, fails_after}
 use Rattle.ck_base.specs.Runs.{with_put, with_read}
 use Rattle.ck_base.specs.declared.positions.Pos.{Pos}
@@ -14,9 +15,10 @@ use Rattle.obj_mem.specs.declared.ending.Ending.TheVariants as ending
 
 infixl 10 ◌>>=◌
 infixl 10 ◌>>◌
--- What a run has between two of its parts: the values of the current call's variables, where one was given since the block of the
--- variable was entered; the number of the first of the call's objects; memory; the address of the call's frame; the turns that are
--- left; and what was done with the outside. The states of the calls in progress are kept by what follows.
+-- What a run has between two of its parts: the values of the current call's variables, where one was given since the
+-- block of the variable was entered; the number of the first of the call's objects; memory; the address of the call's
+-- frame; the turns that are left; and what was done with the outside. The states of the calls in progress are kept by
+-- what follows.
 pub record State (M : Type 0) : Type 0 where
   pub vars : List (Option Value)
   pub first : ℕ
@@ -74,7 +76,8 @@ module _ {M : Type 0} where
   answer pos (Ok x) = give x
   answer pos (Err f) = ends (fault_end f pos)
 
-  -- the answer of one unit of a struct copy, with the positions of the place that is read and of the place that is written
+  -- the answer of one unit of a struct copy, with the positions of the place that is read and of the place that is
+  -- written
   abbrev pub unit_answer : {A : Type 0} → Pos → Pos → Result A UnitFault → Then M A
   unit_answer from to (Ok x) = give x
   unit_answer from to (Err f) = ends (unit_end f from to)
@@ -113,8 +116,10 @@ module _ {M : Type 0} where
   module _ (w : World) where
     -- one byte is put
     abbrev pub put : ℕ → Then M (Unit {0})
-    put b = λ s. choose (fails_after w.failing_put (length s.done.output)) (ends ending.WriteFault) (λ t k. k tt (record t { done = with_put t.done b })) s
+    put b = λ s. choose (fails_after w.failing_put (length s.done.output)) (ends ending.WriteFault)
+        (λ t k. k tt (record t { done = with_put t.done b })) s
 
     -- one byte is taken, or the end
     abbrev pub get : Then M (Option ℕ)
-    get = λ s. choose (fails_after w.failing_read s.done.reads) (ends ending.ReadFault) (λ t k. k (slice_get w.bytes t.done.reads) (record t { done = with_read t.done })) s
+    get = λ s. choose (fails_after w.failing_read s.done.reads) (ends ending.ReadFault)
+        (λ t k. k (slice_get w.bytes t.done.reads) (record t { done = with_read t.done })) s

@@ -12,11 +12,11 @@ use Rattle.cheri_c_sem.specs.Operations.{Work}
 pub data Operation : Type 0 where
   -- of integers of a kind; the kind of the right operand
   Whole : IntOp → IntKind → Kind → Operation
-  -- of capability integers, signed or not; the kind of the right operand; whether the result derives from the right operand, and
-  -- whether the other operand was converted from a plain integer
+  -- of capability integers, signed or not; the kind of the right operand; whether the result derives from the right
+  -- operand, and whether the other operand was converted from a plain integer
   Derived : IntOp → Bool → Kind → Bool → Bool → Operation
-  -- a pointer and an integer: the size of an element, whether the integer is taken away, whether it stands left of the pointer,
-  -- and its kind
+  -- a pointer and an integer: the size of an element, whether the integer is taken away, whether it stands left of the
+  -- pointer, and its kind
   Moved : ℕ → Bool → Bool → Kind → Operation
   -- the difference of two pointers to elements of a size
   Apart : ℕ → Operation
@@ -56,7 +56,8 @@ mutual
     Aggregate : Ex → Ex
     -- a place, an array or a function as a pointer; a member is narrowed to
     Pointer_to : Pos → Option Narrowing → Ex → Ex
-    -- a conversion from a kind to a kind; whether it makes a capability integer from a plain integer, perhaps through others
+    -- a conversion from a kind to a kind; whether it makes a capability integer from a plain integer, perhaps through
+    -- others
     Convert : Pos → Kind → Kind → (plain : Bool) → Ex → Ex
     -- a conversion to void
     Discard : Ex → Ex
@@ -136,7 +137,8 @@ pub data At_end : Type 0 where
   Gives_zero : At_end
   Lacks : Kind → At_end
 
--- A function: the position of its name, its parameters, how many variables it has, the lengths of those that are objects, and its body
+-- A function: the position of its name, its parameters, how many variables it has, the lengths of those that are
+-- objects, and its body
 pub record Fun : Type 0 where
   pub name : Pos
   pub params : List Parameter

@@ -1,5 +1,6 @@
 -- What the meaning asks of the types of a program.
-use Rattle.std.specs.Prelude.{ℕ, zero, suc, ◌+◌, min, ◌&&◌, not, Bool, true, false, List, [], ◌∷◌, Option, Some, None, slice_index_or, if◌then◌else◌}
+use Rattle.std.specs.Prelude.{ℕ, zero, suc, ◌+◌, min, ◌&&◌, not, Bool, true, false, List, [], ◌∷◌, Option, Some, None}
+use Rattle.std.specs.Prelude.{slice_index_or, if◌then◌else◌}
 use Rattle.ck_int.specs.declared.kinds.IntKind.{IntKind}
 use Rattle.ck_int.specs.declared.kinds.IntKind.TheVariants as int
 use Rattle.ck_int.specs.declared.kinds.IntOp.{IntOp}
@@ -10,10 +11,12 @@ use Rattle.c_tree.specs.declared.typed.CType.{CType}
 use Rattle.c_tree.specs.declared.typed.CType.TheVariants as types
 use Rattle.c_tree.specs.declared.typed.VarDef.{VarDef}
 use Rattle.cheri_c_sem.specs.Kinds.{Kind, Plain, Capability}
-use Rattle.cheri_c_sem.specs.Tree.{Operation, Derived, Narrowing, Service, Put_char, Get_char, Malloc, Exit, Address, Bounds, Works}
+use Rattle.cheri_c_sem.specs.Tree.{Operation, Derived, Narrowing, Service, Put_char, Get_char, Malloc, Exit, Address}
+use Rattle.cheri_c_sem.specs.Tree.{Bounds, Works}
 use Rattle.cheri_c_sem.specs.Operations as work
 
--- ---- layout, of types by their numbers. A type that is not complete has none; no object of a program whose types fit has one
+-- ---- layout, of types by their numbers. A type that is not complete has none; no object of a program whose types fit
+-- has one
 
 abbrev pub size_of_extent : Option Extent → ℕ
 size_of_extent None = 0
@@ -117,20 +120,23 @@ abbrev pub adds_or_takes : Bool → IntOp
 adds_or_takes true = Add
 adds_or_takes false = Sub
 
--- On capability integers, where it is known which operand was converted from a plain integer: the result derives from the one
--- that wasn't, and from the left one where both were or neither was, or in a shift
+-- On capability integers, where it is known which operand was converted from a plain integer: the result derives from
+-- the one that wasn't, and from the left one where both were or neither was, or in a shift
 abbrev pub derives_right : IntOp → Bool → Bool → Bool
 derives_right op left_plain right_plain = not (is_shift op) && (left_plain && not right_plain)
 
 abbrev pub derived : IntOp → Bool → Kind → Bool → Bool → Operation
 derived op signed count left_plain right_plain =
-    let right = derives_right op left_plain right_plain in Derived op signed count right (if right then left_plain else right_plain)
+    let right = derives_right op left_plain right_plain in
+    Derived op signed count right (if right then left_plain else right_plain)
 
 -- the library functions, and then the intrinsics, by their numbers
 abbrev pub services : List Service
 services =
-    Put_char ∷ Get_char ∷ Malloc ∷ Exit ∷ Address ∷ Works work.Base ∷ Works work.Offset ∷ Works work.Length ∷ Works work.Tag ∷ Works work.Perms
-    ∷ Works work.Set_address ∷ Works work.Clear ∷ Bounds false ∷ Bounds true ∷ Works work.And_perms ∷ Works work.Equal_exact ∷ Works work.Rounded ∷ Works work.Mask ∷ []
+    Put_char ∷ Get_char ∷ Malloc ∷ Exit ∷ Address ∷ Works work.Base ∷ Works work.Offset ∷ Works work.Length
+    ∷ Works work.Tag ∷ Works work.Perms
+    ∷ Works work.Set_address ∷ Works work.Clear ∷ Bounds false ∷ Bounds true ∷ Works work.And_perms
+    ∷ Works work.Equal_exact ∷ Works work.Rounded ∷ Works work.Mask ∷ []
 
 abbrev pub service_of : ℕ → Service
 service_of n = slice_index_or services n Exit

@@ -1,5 +1,5 @@
--- What calls and loops are over calls as deep as the turns allow: no count of calls or of rounds ends a run, but the turns alone. And what
--- the tree of a node is.
+-- What calls and loops are over calls as deep as the turns allow: no count of calls or of rounds ends a run, but the
+-- turns alone. And what the tree of a node is.
 use Rattle.std.specs.Prelude.{◌≡◌, ℕ, suc, ◌<◌, Bool, List, Option, Some, slice_get}
 use Rattle.ck_base.specs.World.{World}
 use Rattle.ck_base.specs.declared.positions.Pos.{Pos}
@@ -36,15 +36,26 @@ module _ (ops : Operations Store) (w : World) (funs : List Fun) where
 
   pub record TurnsAlone : Type 0 where
     -- calls to any depth that the turns don't exceed are calls as deep as they allow
-    pub enough : (a f : ℕ) (vs : List Value) (s : State Store) (k : Value → State Store → Fate) → s.left < a → calls ops w funs a f vs s k ≡ call f vs s k
+    pub enough : (a f : ℕ) (vs : List Value) (s : State Store) (k : Value → State Store → Fate) → s.left < a →
+        calls ops w funs a f vs s k ≡ call f vs s k
     -- a call is the body of its function, in a frame, over such calls
-    pub calls : (f : ℕ) (vs : List Value) (s : State Store) (k : Value → State Store → Fate) → call f vs s k ≡ in_frame ops w funs call f (slice_get funs f) vs s k
+    pub calls : (f : ℕ) (vs : List Value) (s : State Store) (k : Value → State Store → Fate) →
+        call f vs s k ≡ in_frame ops w funs call f (slice_get funs f) vs s k
     -- a loop is one round of it, and then the loop
-    pub whiles : (p : Pos) (j : Kind) (e : Ex) (b : St) (s : State Store) (k : Flow → State Store → Fate) → exec ops w call (While p j e b) s k ≡ round (test_of ops w call (Some (p, j, e))) (exec ops w call b) (give tt) (exec ops w call (While p j e b)) s k
-    pub dos : (p : Pos) (j : Kind) (b : St) (e : Ex) (s : State Store) (k : Flow → State Store → Fate) → exec ops w call (Do_while p j b e) s k ≡ round_of_do (exec ops w call b) (test_of ops w call (Some (p, j, e))) (exec ops w call (Do_while p j b e)) s k
-    pub fors : (t : Option (Pos × Kind × Ex)) (u : Option Ex) (b : St) (s : State Store) (k : Flow → State Store → Fate) → for_loop t u b s k ≡ round (test_of ops w call t) (exec ops w call b) (step_of ops w call u) (for_loop t u b) s k
+    pub whiles : (p : Pos) (j : Kind) (e : Ex) (b : St) (s : State Store) (k : Flow → State Store → Fate) →
+        exec ops w call (While p j e b) s k ≡ round (test_of ops w call (Some (p, j, e))) (exec ops w call b) (give tt)
+        (exec ops w call (While p j e b)) s k
+    pub dos : (p : Pos) (j : Kind) (b : St) (e : Ex) (s : State Store) (k : Flow → State Store → Fate) →
+        exec ops w call (Do_while p j b e) s k ≡ round_of_do (exec ops w call b) (test_of ops w call (Some (p, j, e)))
+        (exec ops w call (Do_while p j b e)) s k
+    pub fors : (t : Option (Pos × Kind × Ex)) (u : Option Ex) (b : St) (s : State Store)
+        (k : Flow → State Store → Fate) →
+        for_loop t u b s k ≡ round (test_of ops w call t) (exec ops w call b) (step_of ops w call u)
+        (for_loop t u b) s k
 
 -- A node's tree is made of those of its operands, and a statement's of those of its parts
 pub record TreesOfOperands (p : Typed) (vars : List VarDef) : Type 0 where
-  pub expressions : (k : ℕ) (e : Expr) → slice_get p.exprs k ≡ Some e → expr_tree p vars k ≡ kind_tree p vars (expr_tree p vars) e.of e.pos e.kind
-  pub statements : (k : ℕ) (s : Stmt) → slice_get p.stmts k ≡ Some s → stmt_tree p vars k ≡ stmt_kind_tree p vars (expr_tree p vars) (stmt_tree p vars) s.pos s.kind
+  pub expressions : (k : ℕ) (e : Expr) → slice_get p.exprs k ≡ Some e →
+      expr_tree p vars k ≡ kind_tree p vars (expr_tree p vars) e.of e.pos e.kind
+  pub statements : (k : ℕ) (s : Stmt) → slice_get p.stmts k ≡ Some s →
+      stmt_tree p vars k ≡ stmt_kind_tree p vars (expr_tree p vars) (stmt_tree p vars) s.pos s.kind

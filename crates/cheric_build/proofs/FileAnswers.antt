@@ -45,13 +45,16 @@ module _ (file : List ℕ) (once : OneFile file) (p : Typed) (t : IsTyped file p
   pub heavy : exceeds p ≡ false → weight_limit < weight p → Refused file 142 start
   heavy w h = files.too_heavy t.tokens t.syntax p t.reads t.types (has_room p t.syntax t.types s w) h
 
-  each : (elf : List ℕ) (m : Map) (count : ℕ) → IsBuilt p elf m count → Accepts file p → (q : Typed) → Accepts file q → is_integer_form q ≡ true → IsBuilt q elf m count
+  each : (elf : List ℕ) (m : Map) (count : ℕ) → IsBuilt p elf m count → Accepts file p → (q : Typed) → Accepts file q →
+      is_integer_form q ≡ true → IsBuilt q elf m count
   each elf m count h a q b g =
       let both = once.accepted p q a b in
       let same = same_form p q both.program t.types.ordered b.types.ordered both.first both.second in
       built_same p q both.program t.types.ordered b.types.ordered (same ∙ g) g both.first both.second elf m count h
 
-  pub built_of : (r : Result Built Refusal) → IfOk r (λ b. IsBuilt p b.elf.items b.map b.count) → OnOk r (exceeds p ≡ false) → OnOk r (weight p ≤ weight_limit) → IfOk r (λ b. IsBuiltFrom file b.elf.items b.map b.count)
+  pub built_of : (r : Result Built Refusal) → IfOk r (λ b. IsBuilt p b.elf.items b.map b.count) →
+      OnOk r (exceeds p ≡ false) → OnOk r (weight p ≤ weight_limit) →
+      IfOk r (λ b. IsBuiltFrom file b.elf.items b.map b.count)
   built_of (Ok b) h w light =
       let a = accepted w light in
       record { program = p; accepted = a; built = h; each = each b.elf.items b.map b.count h a }

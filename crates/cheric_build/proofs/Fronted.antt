@@ -24,7 +24,8 @@ are_bytes file h k b e = subst (λ n. n < 256) (get_or_from_slice_get file k b 0
 
 -- ---- the parser's refusals
 
-broken : (file : List ℕ) (code : ℕ) (place : Pos) → length file ≤ file_limit → IsRefused file code place → (rule : Refused file code place) × IsBeforeLimits rule
+broken : (file : List ℕ) (code : ℕ) (place : Pos) → length file ≤ file_limit → IsRefused file code place →
+    (rule : Refused file code place) × IsBeforeLimits rule
 broken file code place short (parsed.lexical r) = (files.lexical short r, tt)
 broken file code place short (parsed.brackets ts l e) = (files.brackets ts short l e, tt)
 broken file code place short (parsed.no_tree ts c h w) = (files.no_tree ts c h w, tt)
@@ -48,7 +49,11 @@ module _ (file : List ℕ) (tree : Tree) (t : IsTreeOf file tree) where
   typed (Err e) h = tt
 
   pub sound : AreBytes file → (r : Result Typed Refusal) → Elaborated t.parses.syntax r → IfOk r Sound
-  sound bytes (Ok p) e = record { tree = tree; bytes = file; types = record { syntax = t.parses.syntax; reads = reads bytes; types = e } }
+  sound bytes (Ok p) e = record {
+    tree = tree;
+    bytes = file;
+    types = record { syntax = t.parses.syntax; reads = reads bytes; types = e };
+  }
   sound bytes (Err e) h = tt
 
   pub refused : (r : Result Typed Refusal) → Elaborated t.parses.syntax r → IfErr r (IsBroken file)

@@ -6,4 +6,9 @@ use Rattle.c_tree.specs.File.{OneFile}
 use Rattle.c_tree.proofs.OneFile as files
 
 pub once : (file : List ℕ) → OneFile file
-once file = files.one_file file (record { tokens = one_lexing file; unrefused = lexing_no_refusal file; refused = one_refusal file; syntax = λ a x y d e. one_tree d e })
+once file = files.one_file file (record {
+  tokens = one_lexing file;
+  unrefused = lexing_no_refusal file;
+  refused = one_refusal file;
+  syntax = λ a x y d e. one_tree d e;
+})

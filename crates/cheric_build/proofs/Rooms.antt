@@ -1,5 +1,6 @@
 -- The room of a program is what its objects need, since each has a complete type within the limit of sizes.
-use Rattle.std.proofs.Common.{◌≡◌, ℕ, zero, suc, ◌+◌, ◌<◌, ◌≤◌, Bool, true, false, List, [], ◌∷◌, length, map, Option, Some, refl, sym, ap, ◌∙◌, arith}
+use Rattle.std.proofs.Common.{◌≡◌, ℕ, zero, suc, ◌+◌, ◌<◌, ◌≤◌, Bool, true, false, List, [], ◌∷◌, length, map, Option}
+use Rattle.std.proofs.Common.{Some, refl, sym, ap, ◌∙◌, arith}
 use Rattle.std.specs.Prelude.{slice_get, sum_by, nat_lt, ◌||◌, if◌then◌else◌}
 use Rattle.std.specs.List.{filter, list_any}
 use Rattle.std.proofs.lemmas.Bool.{false≢true, le-leb, le-ltb, ltb-false}
@@ -31,14 +32,18 @@ use Rattle.bounds_place.specs.Placing.{locals_exceed, data_room, exceeds}
 abbrev HasSize : List CType → ℕ → Type 0
 HasSize types t = (x : Extent) × (extent types t ≡ Some x) × (x.size ≤ size_limit)
 
-need_room : (o : Option Extent) (x : Extent) (permissions : ℕ) → o ≡ Some x → x.size ≤ size_limit → owned_of (need_by o permissions) + alignment_of (need_by o permissions) ≡ object_room o
+need_room : (o : Option Extent) (x : Extent) (permissions : ℕ) → o ≡ Some x → x.size ≤ size_limit →
+    owned_of (need_by o permissions) + alignment_of (need_by o permissions) ≡ object_room o
 need_room o x permissions e h = rw e (rw (le-leb x.size size_limit h) refl)
 
-globals_room : (types : List CType) (gs : List GlobalDef) → ((k : ℕ) (g : GlobalDef) → slice_get gs k ≡ Some g → HasSize types g.of) → sum_by (global_room types) gs ≡ room_of (map (global_need types) gs)
+globals_room : (types : List CType) (gs : List GlobalDef) →
+    ((k : ℕ) (g : GlobalDef) → slice_get gs k ≡ Some g → HasSize types g.of) →
+    sum_by (global_room types) gs ≡ room_of (map (global_need types) gs)
 globals_room types [] h = refl
 globals_room types (g ∷ gs) h =
     let a = h 0 g refl in
-    let one = need_room (extent types g.of) a.0 (if is_const types g.of then const_permissions else data_permissions) a.1 a.2 in
+    let one = need_room (extent types g.of) a.0
+    (if is_const types g.of then const_permissions else data_permissions) a.1 a.2 in
     omega (arith, sum_by-cons (global_room types) g gs, one, globals_room types gs (λ k. h (suc k)))
 
 literals_room : (ls : List Literal) → sum_by literal_room ls ≡ room_of (map literal_need ls)
@@ -47,12 +52,16 @@ literals_room (l ∷ ls) =
     let one : literal_room l ≡ owned_of (literal_need l) + alignment_of (literal_need l) = refl in
     omega (arith, sum_by-cons literal_room l ls, one, literals_room ls)
 
-locals_room : (types : List CType) (vs : List VarDef) → ((k : ℕ) (v : VarDef) → slice_get vs k ≡ Some v → HasSize types v.of) → sum_by (var_room types) vs ≡ room_of (map (local_need types) (filter is_object vs))
+locals_room : (types : List CType) (vs : List VarDef) →
+    ((k : ℕ) (v : VarDef) → slice_get vs k ≡ Some v → HasSize types v.of) →
+    sum_by (var_room types) vs ≡ room_of (map (local_need types) (filter is_object vs))
 locals_room types [] h = refl
 locals_room types (v ∷ vs) h =
     sum_by-cons (var_room types) v vs ∙ go v.simple refl (locals_room types vs (λ k. h (suc k)))
   where
-    go : (b : Bool) → v.simple ≡ b → sum_by (var_room types) vs ≡ room_of (map (local_need types) (filter is_object vs)) → var_room types v + sum_by (var_room types) vs ≡ room_of (map (local_need types) (filter is_object (v ∷ vs)))
+    go : (b : Bool) → v.simple ≡ b →
+        sum_by (var_room types) vs ≡ room_of (map (local_need types) (filter is_object vs)) →
+        var_room types v + sum_by (var_room types) vs ≡ room_of (map (local_need types) (filter is_object (v ∷ vs)))
     go true e r = rw e (omega (arith, r))
     go false e r =
         let a = h 0 v refl in
@@ -68,14 +77,16 @@ or_none : (a b : Bool) → (a || b) ≡ false → (a ≡ false) × (b ≡ false)
 or_none true b e = absurd (false≢true (sym e))
 or_none false b e = (refl, e)
 
-any_none : {X : Type 0} (test : X → Bool) (xs : List X) → list_any test xs ≡ false → (k : ℕ) (x : X) → slice_get xs k ≡ Some x → test x ≡ false
+any_none : {X : Type 0} (test : X → Bool) (xs : List X) → list_any test xs ≡ false → (k : ℕ) (x : X) →
+    slice_get xs k ≡ Some x → test x ≡ false
 any_none test [] e k x g = absurd cc
 any_none test (y ∷ ys) e zero x g =
     let s : y ≡ x = cc in
     ap test (sym s) ∙ (or_none (test y) (list_any test ys) e).0
 any_none test (y ∷ ys) e (suc k) x g = any_none test ys (or_none (test y) (list_any test ys) e).1 k x g
 
-none_any : {X : Type 0} (test : X → Bool) (xs : List X) → ((k : ℕ) (x : X) → slice_get xs k ≡ Some x → test x ≡ false) → list_any test xs ≡ false
+none_any : {X : Type 0} (test : X → Bool) (xs : List X) → ((k : ℕ) (x : X) → slice_get xs k ≡ Some x → test x ≡ false) →
+    list_any test xs ≡ false
 none_any test [] h = refl
 none_any test (y ∷ ys) h = or_both (test y) (list_any test ys) (h 0 y refl) (none_any test ys (λ k. h (suc k)))
 
@@ -91,24 +102,33 @@ module _ (p : Typed) (q : Program) (o : IsOrdered p) (s : Shows p q) (w : WellTy
 
   statics : static_room p ≡ data_room p
   statics =
-      let a = globals_room p.types p.globals (λ k g e. let f = w.globals k g e in (f.extent, f.own, f.complete.within)) in
+      let a = globals_room p.types p.globals (λ k g e. let f = w.globals k g e in (f.extent, f.own, f.complete.within))
+      in
       omega (arith, a, literals_room p.literals)
 
   locals : (k : ℕ) (f : FunDef) → slice_get p.funs k ≡ Some f → local_room p.types f ≡ room_of (local_needs p.types f)
-  locals k f e = locals_room p.types f.vars (λ j v g. own_extent v.of (o.vars k j f v e g) ((w.funs k f e).vars_complete j v g))
+  locals k f e = locals_room p.types f.vars (λ j v g.
+      own_extent v.of (o.vars k j f v e g) ((w.funs k f e).vars_complete j v g))
 
   room_within : exceeds p ≡ false → HasRoom p
   room_within e =
       let r = or_none (nat_lt size_limit (data_room p)) (list_any (locals_exceed p.types) p.funs) e in
       record {
         statics = omega (arith, statics, ltb-false size_limit (data_room p) r.0);
-        locals = λ f k g. omega (arith, locals k f g, ltb-false size_limit (room_of (local_needs p.types f)) (any_none (locals_exceed p.types) p.funs r.1 k f g));
+        locals = λ f k g. omega (
+          arith,
+          locals k f g,
+          ltb-false size_limit (room_of (local_needs p.types f))
+              (any_none (locals_exceed p.types) p.funs r.1 k f g),
+        );
       }
 
   within_room : HasRoom p → exceeds p ≡ false
   within_room h =
       or_both _ _ (le-ltb size_limit (data_room p) (omega (arith, statics, h.statics)))
-      (none_any (locals_exceed p.types) p.funs (λ k f g. le-ltb size_limit (room_of (local_needs p.types f)) (omega (arith, locals k f g, h.locals f k g))))
+      (none_any (locals_exceed p.types) p.funs
+      (λ k f g. le-ltb size_limit (room_of (local_needs p.types f))
+      (omega (arith, locals k f g, h.locals f k g))))
 
 -- a program that is within the limit has room, and one that exceeds it has none
 pub has_room : (p : Typed) (x : Syn) → TypesSyntax x p → Sound p → exceeds p ≡ false → HasRoom p

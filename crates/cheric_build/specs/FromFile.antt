@@ -10,8 +10,8 @@ use Rattle.typed_build.specs.Built.{IsBuilt}
 
 -- ---- built
 
--- What is built of a file: it is accepted as a program of which it is built; and where a program as which it is accepted is over integers,
--- it is built of each such one
+-- What is built of a file: it is accepted as a program of which it is built; and where a program as which it is
+-- accepted is over integers, it is built of each such one
 pub record IsBuiltFrom (source : List ℕ) (file : List ℕ) (map : Map) (count : ℕ) : Type 0 where
   pub program : Typed
   pub accepted : Accepts source program

@@ -15,8 +15,8 @@ use typed_build::START;
 /// The most weight of a program.
 const MOST_WEIGHT: u64 = 7_780;
 
-/// The typed program as which a C file is accepted, or the first rule that the file breaks: as `front` says; then, at the
-/// start of the file, 141 where its objects exceed their limit, and 142 where its weight does.
+/// The typed program as which a C file is accepted, or the first rule that the file breaks: as `front` says; then, at
+/// the start of the file, 141 where its objects exceed their limit, and 142 where its weight does.
 pub fn accepted(alloc: Global, file: &[u8]) -> Result<Typed, Refusal>
     ensures accepted { IfOk result (Accepts file.now) }
     ensures sound { IfOk result Sound }

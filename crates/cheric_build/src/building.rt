@@ -9,8 +9,9 @@ use ck_base::Refusal;
 use std::alloc::Global;
 use typed_build::{Built, build_typed};
 
-/// Builds a C file. Where it answers a build, the file is accepted, and the bytes, the map and the count are built of a typed program as
-/// which it is accepted. A file is refused by the first rule that it breaks. The heap has 16,777,216 bytes and the stack 1,048,576.
+/// Builds a C file. Where it answers a build, the file is accepted, and the bytes, the map and the count are built of a
+/// typed program as which it is accepted. A file is refused by the first rule that it breaks. The heap has 16,777,216
+/// bytes and the stack 1,048,576.
 pub fn build(alloc: Global, file: &[u8]) -> Result<Built, Refusal>
     ensures built { IfOk result (λ b. IsBuiltFrom file.now b.elf.items b.map b.count) }
     ensures sized { IfOk result (λ b. HasSizes usual b.map) }

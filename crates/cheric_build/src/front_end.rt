@@ -16,9 +16,9 @@ const START: Pos = Pos { line: 1, col: 1 };
 /// The most bytes of a file.
 const MOST_BYTES: usize = 4_194_304;
 
-/// The typed program of a C file (C11 6.4 to 6.9), or the first rule that the file breaks: 143 at its start, where it has more than
-/// 4,194,304 bytes; 100 to 104, as its tokens are; 121 and 120, as its brackets and its tree are; 130 to 134, 136 and 140, as its types are.
-/// The room of its objects and its weight are not looked at.
+/// The typed program of a C file (C11 6.4 to 6.9), or the first rule that the file breaks: 143 at its start, where it
+/// has more than 4,194,304 bytes; 100 to 104, as its tokens are; 121 and 120, as its brackets and its tree are; 130 to
+/// 134, 136 and 140, as its types are. The room of its objects and its weight are not looked at.
 pub fn front(alloc: Global, file: &[u8]) -> Result<Typed, Refusal>
     ensures typed { IfOk result (IsTyped file.now) }
     ensures sound { IfOk result Sound }

@@ -40,17 +40,25 @@ is_frame w = record {
   most = omega arith;
 }
 
-are_frames : (p : Typed) (d : FunDef) (w : ℕ → ℕ) → p.funs ≡ d ∷ [] → d.vars ≡ [] → AreFrames (function_needs p.types w 0 p.funs) (frame ∷ [])
+are_frames : (p : Typed) (d : FunDef) (w : ℕ → ℕ) → p.funs ≡ d ∷ [] → d.vars ≡ [] →
+    AreFrames (function_needs p.types w 0 p.funs) (frame ∷ [])
 are_frames p d w e f =
-    let one : IsFrame (record { locals = local_needs p.types d; weight = w 0 }) frame = subst (λ (vs : List VarDef). IsFrame (record { locals = local_needs p.types (record d { vars = vs }); weight = w 0 }) frame) (sym f) (is_frame (w 0)) in
+    let one : IsFrame (record { locals = local_needs p.types d; weight = w 0 }) frame =
+    subst (λ (vs : List VarDef). IsFrame (record
+    { locals = local_needs p.types (record d { vars = vs }); weight = w 0 }) frame) (sym f)
+    (is_frame (w 0)) in
     subst (λ fs. AreFrames (function_needs p.types w 0 fs) (frame ∷ [])) (sym e) (one, tt)
 
-pub legal_of : (p : Typed) (d : FunDef) (m : Map) (frames : List Frame) (entries : List ℕ) (text : ℕ) {sizes : Sizes} → p.funs ≡ d ∷ [] → d.vars ≡ [] → frames ≡ frame ∷ [] → IsPlacing p frames entries text sizes m → Legal p m
+pub legal_of : (p : Typed) (d : FunDef) (m : Map) (frames : List Frame) (entries : List ℕ) (text : ℕ) {sizes : Sizes} →
+    p.funs ≡ d ∷ [] → d.vars ≡ [] → frames ≡ frame ∷ [] → IsPlacing p frames entries text sizes m → Legal p m
 legal_of p d m frames entries text e f g h =
-    h.legal (weight_in p) (subst (λ fs. AreFrames (function_needs p.types (weight_in p) 0 p.funs) fs) (sym g) (are_frames p d (weight_in p) e f))
+    h.legal (weight_in p) (subst (λ fs. AreFrames (function_needs p.types (weight_in p) 0 p.funs) fs) (sym g)
+    (are_frames p d (weight_in p) e f))
 
-pub table_of : (p : Typed) (d : FunDef) (m : Map) (frames : List Frame) (entries : List ℕ) (text : ℕ) {sizes : Sizes} → p.funs ≡ d ∷ [] → IsPlacing p frames entries text sizes m → m.table.1 ≡ table_length (asked_by p)
+pub table_of : (p : Typed) (d : FunDef) (m : Map) (frames : List Frame) (entries : List ℕ) (text : ℕ) {sizes : Sizes} →
+    p.funs ≡ d ∷ [] → IsPlacing p frames entries text sizes m → m.table.1 ≡ table_length (asked_by p)
 table_of p d m frames entries text e h =
-    let same : length (function_needs p.types (λ f. 0) 0 p.funs) ≡ length (function_needs p.types (weight_in p) 0 p.funs) = rw e refl in
+    let same : length (function_needs p.types (λ f. 0) 0 p.funs)
+    ≡ length (function_needs p.types (weight_in p) 0 p.funs) = rw e refl in
     let count : entry_count (weightless p) ≡ entry_count (asked_by p) = omega (arith, same) in
     h.table_is ∙ ap (λ n. owned (16 * n)) count

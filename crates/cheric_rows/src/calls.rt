@@ -79,8 +79,8 @@ pub struct Answer<'a> {
     pub line: &'a str,
 }
 
-/// Whether the command answers these words so, without input, where the calls of the output and the notes with these numbers fail
-/// (0: none).
+/// Whether the command answers these words so, without input, where the calls of the output and the notes with these
+/// numbers fail (0: none).
 pub fn answers<F: Files>(
     alloc: Global,
     files: &mut F,
@@ -93,8 +93,8 @@ pub fn answers<F: Files>(
     answers_input(alloc, files, words, (b"", 0), failing, answer)
 }
 
-/// Whether the command answers these words so on an input, where the calls of the input, the output and the notes with these numbers
-/// fail (0: none).
+/// Whether the command answers these words so on an input, where the calls of the input, the output and the notes with
+/// these numbers fail (0: none).
 pub fn answers_input<F: Files>(
     alloc: Global,
     files: &mut F,

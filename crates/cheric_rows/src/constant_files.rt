@@ -1,7 +1,7 @@
 //! Sizes, values of constant expressions, literals and addresses (C11 6.4.4, 6.5.3.4, 6.6).
 
-/// Files, and what the front end says of them: `typed`, or the code and the place of the first rule that they break. A remark
-/// stands before each.
+/// Files, and what the front end says of them: `typed`, or the code and the place of the first rule that they break. A
+/// remark stands before each.
 pub(super) const FIRST: [(&str, &str); 26] = [
     // nine parameters in a cast
     (

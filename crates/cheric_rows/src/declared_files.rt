@@ -1,7 +1,7 @@
 //! Declarations: words, tags, types, scopes, and what waits for the end of the file (C11 6.2, 6.7).
 
-/// Files, and what the front end says of them: `typed`, or the code and the place of the first rule that they break. A remark
-/// stands before each.
+/// Files, and what the front end says of them: `typed`, or the code and the place of the first rule that they break. A
+/// remark stands before each.
 pub(super) const FIRST: [(&str, &str); 36] = [
     // type, storage and qualifier words in any order
     (

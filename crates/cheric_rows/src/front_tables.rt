@@ -1,5 +1,5 @@
-//! Files, and what the front end says of them: `typed`, or the code and mostly the place of the first rule that they break, worked out by
-//! hand from the rules. A remark stands before each.
+//! Files, and what the front end says of them: `typed`, or the code and mostly the place of the first rule that they
+//! break, worked out by hand from the rules. A remark stands before each.
 
 /// Words of types and storage, kinds of tags, and the names that stand before a file (C11 6.7.1 to 6.7.3).
 pub(super) const WORDS: [(&str, &str); 16] = [

@@ -1,4 +1,5 @@
-//! A hostile outside: each read and each put fails in turn, the notes fail in each mode, and brackets nest up to the limits.
+//! A hostile outside: each read and each put fails in turn, the notes fail in each mode, and brackets nest up to the
+//! limits.
 
 use crate::calls::{Answer, answers, answers_input, built_file, sure_file};
 use cheric_build::build;

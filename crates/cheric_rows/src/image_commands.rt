@@ -74,7 +74,8 @@ const LINES: [(&str, [u64; 2], Answer); 7] = [
     ),
 ];
 
-/// The first words that are answered otherwise, or the name of a file that has other bytes, where `a.c` is built to `elf`.
+/// The first words that are answered otherwise, or the name of a file that has other bytes, where `a.c` is built to
+/// `elf`.
 fn answered_otherwise(
     alloc: Global,
     files: &mut SureFiles,
@@ -147,7 +148,8 @@ fn a_relocation_without_a_place_is_refused(rt: HostRuntime) -> Result<(), Fail> 
     Ok(())
 }
 
-/// Words, a C file, the failing call of the files and of the notes, with the status and line of an answer that puts no name.
+/// Words, a C file, the failing call of the files and of the notes, with the status and line of an answer that puts no
+/// name.
 const UNPUT: [(&str, &str, u64, u64, u8, &str); 7] = [
     (
         "cheric build a.c",
@@ -278,7 +280,8 @@ fn a_built_file_says_its_version_and_its_count(rt: HostRuntime) -> Result<(), Fa
     Ok(())
 }
 
-/// Words, the failing call of the files and of the notes, with the status and line of an audit of a file that is audited by a yes.
+/// Words, the failing call of the files and of the notes, with the status and line of an audit of a file that is
+/// audited by a yes.
 const AUDITS: [(&str, u64, u64, u8, &str); 5] = [
     ("cheric audit b", 0, 0, 0, "audit yes\n"),
     ("cheric audit b --steps 9 --out c", 0, 0, 0, "audit yes\n"),

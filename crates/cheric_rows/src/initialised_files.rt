@@ -1,7 +1,7 @@
 //! Initialisers, statements and `main` (C11 6.7.9, 6.8, 5.1.2.2.1).
 
-/// Files, and what the front end says of them: `typed`, or the code and the place of the first rule that they break. A remark
-/// stands before each.
+/// Files, and what the front end says of them: `typed`, or the code and the place of the first rule that they break. A
+/// remark stands before each.
 pub(super) const FIRST: [(&str, &str); 38] = [
     // inner braces are not left out: 3 does not convert to an array
     (

@@ -55,7 +55,8 @@ fn a_file_over_integers_is_lowered_and_built(rt: HostRuntime) -> Result<(), Fail
     Ok(())
 }
 
-/// Files that are typed to programs that are not over integers alone, and the code at their start by which they are not built (0: none).
+/// Files that are typed to programs that are not over integers alone, and the code at their start by which they are not
+/// built (0: none).
 const OTHERS: [(&str, u16); 5] = [
     ("int g;int main(void){return 0;}", 0),
     ("int main(void){int *p=0;return !p;}", 0),
@@ -107,7 +108,8 @@ fn one_entry(alloc: Global) -> Result<Vec<u32>, NoMemory>
     Ok(vec![in alloc; 0]?)
 }
 
-/// The map of a program whose one function has no locals, with its pointers and initial bytes; none for another program.
+/// The map of a program whose one function has no locals, with its pointers and initial bytes; none for another
+/// program.
 fn placed(alloc: Global, p: &Typed) -> Result<Option<(Map, Table)>, Refusal>
     requires sound { Sound p.now }
 {

@@ -157,7 +157,8 @@ const FAULTS: [([u64; 3], u8, &str, &str); 5] = [
     ([0, 0, 1], 22, "Hi", ""),
 ];
 
-/// Whether running the file is answered so, where the calls of the files, the output and the notes with these numbers fail (0: none).
+/// Whether running the file is answered so, where the calls of the files, the output and the notes with these numbers
+/// fail (0: none).
 fn runs(
     alloc: Global,
     file: &str,

@@ -14,8 +14,8 @@ const HI: &str = "int main(void){putchar(72);putchar(105);return 0;}";
 const PARTS: &str =
     "int g[10];\nint f(int n){int a[2];a[1]=n;return a[1];}\nint main(void){return f(g[9])+\"hi\"[1];}";
 
-/// The lines of its map, in order, up to what depends on the code. Lengths are owned lengths; the table has 16 bytes for
-/// each global, literal and function and 32 more, and the globals and literals stand behind it.
+/// The lines of its map, in order, up to what depends on the code. Lengths are owned lengths; the table has 16 bytes
+/// for each global, literal and function and 32 more, and the globals and literals stand behind it.
 const PARTS_MAP: [&str; 11] = [
     "text 1073741824 ",
     "function f 1073741",
@@ -176,8 +176,8 @@ fn few_values_stand_in_registers(rt: HostRuntime) -> Result<(), Fail> {
     Ok(())
 }
 
-/// The generated file of 64 functions has two lines for each and for `main`, one for the array in each, and four more in its
-/// map, and its image is contained.
+/// The generated file of 64 functions has two lines for each and for `main`, one for the array in each, and four more
+/// in its map, and its image is contained.
 #[test]
 fn a_large_file_is_mapped_and_audited(rt: HostRuntime) -> Result<(), Fail> {
     let alloc = rt.alloc();

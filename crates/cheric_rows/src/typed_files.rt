@@ -1,7 +1,7 @@
 //! Calls, conversions and operators (C11 6.3, 6.5).
 
-/// Files, and what the front end says of them: `typed`, or the code and the place of the first rule that they break. A remark
-/// stands before each.
+/// Files, and what the front end says of them: `typed`, or the code and the place of the first rule that they break. A
+/// remark stands before each.
 pub(super) const FIRST: [(&str, &str); 39] = [
     // a library function other than in a direct call is 133 at its name
     ("int main(void){return (putchar,1);}", "133 1:24"),

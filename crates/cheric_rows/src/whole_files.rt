@@ -104,7 +104,8 @@ fn pointers(alloc: Global, count: u32) -> Result<String, Fail> {
     Ok(file)
 }
 
-/// So many unions, each with two members of the one before, and an array of one element if the last is as large as `int`.
+/// So many unions, each with two members of the one before, and an array of one element if the last is as large as
+/// `int`.
 fn unions(alloc: Global, count: u32) -> Result<String, Fail> {
     let mut file = String::from_str(alloc, "union U0{int a;};")?;
     let mut last = 0;

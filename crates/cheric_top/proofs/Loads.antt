@@ -23,6 +23,7 @@ unfolding loading
 not_read file e read = ap after_reading read
 
 -- and no image that is not judged fine
-pub not_judged : (file : List ℕ) (i : Image) (e : LoadRefusal) → reading file ≡ Ok i → judged i ≡ Err e → loading file ≡ Err (load_number e)
+pub not_judged : (file : List ℕ) (i : Image) (e : LoadRefusal) → reading file ≡ Ok i → judged i ≡ Err e →
+    loading file ≡ Err (load_number e)
 unfolding loading
 not_judged file i e read refused = ap after_reading read ∙ ap (loaded_as i) refused

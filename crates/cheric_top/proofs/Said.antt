@@ -21,11 +21,13 @@ use Rattle.ck_base.specs.declared.refusal.Refusal.TheVariants.{Code, NoMemory}
 use Rattle.bounds_place.specs.declared.sizes.Sizes.{Sizes}
 use Rattle.cheric_build.specs.FromFile.{IsFileRefusal}
 use Rattle.cheric_top.specs.Answers.{not_built, refused_as}
-use Rattle.cheric_top.specs.Command.{FilesSeen, HasRead, IsReadable, IsUnreadable, ExecStopped, MeanStopped, NotBuilt, BuildSays, files_seen}
+use Rattle.cheric_top.specs.Command.{FilesSeen, HasRead, IsReadable, IsUnreadable, ExecStopped, MeanStopped, NotBuilt}
+use Rattle.cheric_top.specs.Command.{BuildSays, files_seen}
 
 -- ---- files
 
-pub gets_file : (told : Option FileMap) (faults : ℕ) (name : List ℕ) (v : Vec ℕ Global) → Gets told name (Ok v) → HasRead (files_seen told faults) name v.items
+pub gets_file : (told : Option FileMap) (faults : ℕ) (name : List ℕ) (v : Vec ℕ Global) → Gets told name (Ok v) →
+    HasRead (files_seen told faults) name v.items
 gets_file None faults name v h = (tt, h)
 gets_file (Some files) faults name v h = (h.1, h.0)
 
@@ -54,7 +56,8 @@ mean_stopped s file (Code code place) h = (refl, h)
 mean_stopped s file NoMemory h = tt
 
 -- and puts no name
-pub not_put : (s : FilesSeen) (file elf : List ℕ) (sizes : Sizes) (r : Refusal) → IsFileRefusal file r → BuildSays s s file elf sizes (not_built r)
+pub not_put : (s : FilesSeen) (file elf : List ℕ) (sizes : Sizes) (r : Refusal) → IsFileRefusal file r →
+    BuildSays s s file elf sizes (not_built r)
 not_put s file elf sizes (Code code pos) h = (refl, h)
 not_put s file elf sizes NoMemory h = refl
 
@@ -73,18 +76,21 @@ loaded_from i (Ok fine) l h = (sym (ap (λ r. or_image r i) h), sym (ap (λ r. o
     or_machine (Err e) d = d
 loaded_from i (Err e) l h = cc
 
-read_from : (r : Result Image ElfRefusal) (l : Loaded) → after_reading r ≡ Ok l → (r ≡ Ok l.image) × (l.machine ≡ machine_of l.image)
+read_from : (r : Result Image ElfRefusal) (l : Loaded) → after_reading r ≡ Ok l →
+    (r ≡ Ok l.image) × (l.machine ≡ machine_of l.image)
 read_from (Ok i) l h =
     let p = loaded_from i (judged i) l h in
     (ap Ok (sym p.0), p.1 ∙ ap machine_of (sym p.0))
 read_from (Err e) l h = cc
 
-pub image_read : (file : List ℕ) (l : Loaded) → loading file ≡ Ok l → (reading file ≡ Ok l.image) × (l.machine ≡ machine_of l.image)
+pub image_read : (file : List ℕ) (l : Loaded) → loading file ≡ Ok l →
+    (reading file ≡ Ok l.image) × (l.machine ≡ machine_of l.image)
 unfolding loading
 image_read file l h = read_from (reading file) l h
 
 -- what is said of a file whose load was refused
-pub not_loaded : (before after : Seen) (file : List ℕ) (i : Image) (e : LoadRefusal) → after ≡ before → reading file ≡ Ok i → Loads i (Err e) → ExecStopped before after file (refused_as e)
+pub not_loaded : (before after : Seen) (file : List ℕ) (i : Image) (e : LoadRefusal) → after ≡ before →
+    reading file ≡ Ok i → Loads i (Err e) → ExecStopped before after file (refused_as e)
 unfolding loading
 not_loaded before after file i refusal.Segment kept read h = (kept, ap after_reading read ∙ ap (loaded_as i) h)
 not_loaded before after file i refusal.Overlap kept read h = (kept, ap after_reading read ∙ ap (loaded_as i) h)

@@ -1,5 +1,6 @@
 -- What the command answers: the status and the line of each answer.
-use Rattle.std.specs.Prelude.{◌≡◌, ℕ, zero, suc, ◌<◌, ◌≤◌, Bool, true, false, if◌then◌else◌, List, [], ◌∷◌, ◌++◌, Option, Some, None, codes, decimal}
+use Rattle.std.specs.Prelude.{◌≡◌, ℕ, zero, suc, ◌<◌, ◌≤◌, Bool, true, false, if◌then◌else◌, List, [], ◌∷◌, ◌++◌}
+use Rattle.std.specs.Prelude.{Option, Some, None, codes, decimal}
 use Rattle.std.specs.Io.KnownBytes.{Appends}
 use Rattle.ck_base.specs.Outside.{AppendsPart}
 use Rattle.ck_base.specs.declared.positions.Pos.{Pos}
@@ -23,7 +24,9 @@ use Rattle.obj_mem.specs.declared.ending.Ending.{Ending}
 use Rattle.obj_mem.specs.declared.ending.Ending.TheVariants as ending
 use Rattle.obj_mem.specs.declared.ending.Reason.{Reason}
 use Rattle.obj_mem.specs.declared.ending.Reason.TheVariants as reason
-use Rattle.cheric_top.specs.declared.answer.Answer.TheVariants.{Exit, Built, Shown, Trap, TrapAt, Stack, Steps, Turns, Unspecified, Outside, Break, Illegal, Audited, Refused, Words, NotLoaded, File, Input, Output, Memory}
+use Rattle.cheric_top.specs.declared.answer.Answer.TheVariants.{Exit, Built, Shown, Trap, TrapAt, Stack, Steps, Turns}
+use Rattle.cheric_top.specs.declared.answer.Answer.TheVariants.{Unspecified, Outside, Break, Illegal, Audited, Refused}
+use Rattle.cheric_top.specs.declared.answer.Answer.TheVariants.{Words, NotLoaded, File, Input, Output, Memory}
 
 -- ---- the answer of a run
 
@@ -157,8 +160,11 @@ is_silent answer = false
 abbrev pub line_of : Answer → List ℕ
 line_of answer = if is_silent answer then [] else text_of answer ++ 10 ∷ []
 
--- The answer was said: its line was put and its status is given; or the notes failed, after a front of the line, and it is 22.
-pub record IsSaid (answer : Answer) (status : ℕ) (held_before held_after : Option (List ℕ)) (faults_before faults_after : ℕ) : Type 0 where
+-- The answer was said: its line was put and its status is given; or the notes failed, after a front of the line, and it
+-- is 22.
+pub record IsSaid (answer : Answer) (status : ℕ) (held_before held_after : Option (List ℕ))
+    (faults_before faults_after : ℕ) : Type 0 where
   pub no_less : faults_before ≤ faults_after
-  pub whole : faults_after ≡ faults_before → (status ≡ status_of answer) × Appends held_before held_after (line_of answer)
+  pub whole : faults_after ≡ faults_before →
+      (status ≡ status_of answer) × Appends held_before held_after (line_of answer)
   pub part : faults_before < faults_after → (status ≡ 22) × AppendsPart held_before held_after (line_of answer)

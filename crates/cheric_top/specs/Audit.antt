@@ -9,7 +9,8 @@ use Rattle.image_load.specs.Loading.{Loaded, loading}
 use Rattle.cheric_top.specs.declared.answer.Answer.{Answer}
 use Rattle.cheric_top.specs.declared.answer.Answer.TheVariants.{Audited, NotLoaded, Memory}
 
--- the verdict on an image: Yes exactly where no run of it leaves its text, or else the first word or relocation that breaks a rule
+-- the verdict on an image: Yes exactly where no run of it leaves its text, or else the first word or relocation that
+-- breaks a rule
 pub record IsVerdict (image : Image) (verdict : Verdict) : Type 0 where
   pub answers : Answers image verdict
   pub yes : Contained image → verdict ≡ Yes

@@ -19,7 +19,8 @@ use Rattle.cheric_build.specs.FromFile.{IsBuiltFrom, IsFileRefusal}
 use Rattle.build_text.specs.Listing.{listing_text}
 use Rattle.build_text.specs.Map.{map_text}
 use Rattle.generator.specs.Generated.{generated}
-use Rattle.command_line.specs.Lines.{Mode, Run, Build, Exec, Audit, Mean, ShowMap, ShowListing, Line, OfFile, Generate, IsLine}
+use Rattle.command_line.specs.Lines.{Mode, Run, Build, Exec, Audit, Mean, ShowMap, ShowListing, Line, OfFile, Generate}
+use Rattle.command_line.specs.Lines.{IsLine}
 use Rattle.cheric_top.specs.Answers.{answer_of, meant, IsSaid}
 use Rattle.cheric_top.specs.Audit.{AuditSays}
 use Rattle.cheric_top.specs.Shown.{IsProgramOf, PutSays, summary}
@@ -44,7 +45,8 @@ pub record Around : Type 0 where
   pub after : Seen
 
 abbrev pub around : FilesSeen → FilesSeen → Seen → Seen → Around
-around files_before files_after before after = record { files_before = files_before; files_after = files_after; before = before; after = after }
+around files_before files_after before after =
+    record { files_before = files_before; files_after = files_after; before = before; after = after }
 
 -- nothing was put to the output or taken from the input
 abbrev pub Untouched : Around → Type 0
@@ -62,7 +64,8 @@ HasRead files name file = HasFile files.told name file × (length file ≤ 26843
 
 -- where the files are told: the file isn't there, or is too long
 abbrev pub IsUnreadable : Option FileMap → List ℕ → Type 0
-IsUnreadable told name = (files : FileMap) × (told ≡ Some files) × ((files name ≡ None) ⊎ ((file : List ℕ) × (files name ≡ Some file) × (268435456 < length file)))
+IsUnreadable told name = (files : FileMap) × (told ≡ Some files) ×
+    ((files name ≡ None) ⊎ ((file : List ℕ) × (files name ≡ Some file) × (268435456 < length file)))
 
 -- where the files are told: the file is there, and not too long
 abbrev pub IsReadable : Option FileMap → List ℕ → Type 0
@@ -112,7 +115,9 @@ NotBuilt before after file answer = ⊥
 
 -- the file was refused, or there was no memory; or the bytes that were built of it were loaded and run
 abbrev pub RunSays : Seen → Seen → List ℕ → ℕ → Sizes → Answer → Type 0
-RunSays before after file steps sizes answer = NotBuilt before after file answer ⊎ ((compiled : Compiled file sizes) × RanLoaded before after (loaded_of compiled) steps answer)
+RunSays before after file steps sizes answer =
+    NotBuilt before after file answer ⊎
+    ((compiled : Compiled file sizes) × RanLoaded before after (loaded_of compiled) steps answer)
 
 -- ---- mode `exec`
 
@@ -123,12 +128,14 @@ ExecStopped before after file answer = ⊥
 
 -- loading refused the file, or did not and there was no memory; or it was loaded and run
 abbrev pub ExecSays : Seen → Seen → List ℕ → ℕ → Answer → Type 0
-ExecSays before after file steps answer = ExecStopped before after file answer ⊎ ((loaded : Loaded) × (loading file ≡ Ok loaded) × RanLoaded before after loaded steps answer)
+ExecSays before after file steps answer =
+    ExecStopped before after file answer ⊎
+    ((loaded : Loaded) × (loading file ≡ Ok loaded) × RanLoaded before after loaded steps answer)
 
 -- ---- mode `mean`
 
--- the file is accepted, and an ending is answered of a run of its strict meaning: which one that is, and what the run puts
--- and takes, is not said here
+-- the file is accepted, and an ending is answered of a run of its strict meaning: which one that is, and what the run
+-- puts and takes, is not said here
 pub record RanStrict (file : List ℕ) (answer : Answer) : Type 0 where
   pub program : Typed
   pub accepted : Accepts file program
@@ -158,7 +165,8 @@ pub record FailedToPut (before after : FilesSeen) (name : List ℕ) : Type 0 whe
   pub counted : before.faults < after.faults
 
 abbrev pub BuildSays : FilesSeen → FilesSeen → List ℕ → List ℕ → Sizes → Answer → Type 0
-BuildSays before after file elf sizes (Built n) = (compiled : Compiled file sizes) × HasPut before after elf compiled.elf × (n ≡ length compiled.elf)
+BuildSays before after file elf sizes (Built n) =
+    (compiled : Compiled file sizes) × HasPut before after elf compiled.elf × (n ≡ length compiled.elf)
 BuildSays before after file elf sizes (Refused code pos) = (after ≡ before) × IsFileRefusal file (Code code pos)
 BuildSays before after file elf sizes File = Compiled file sizes × FailedToPut before after elf
 BuildSays before after file elf sizes Memory = after ≡ before
@@ -170,7 +178,9 @@ BuildSays before after file elf sizes answer = ⊥
 abbrev pub MapSays : Seen → Seen → List ℕ → Sizes → Answer → Type 0
 MapSays before after file sizes answer =
     NotBuilt before after file answer
-    ⊎ ((program : Typed) × (compiled : Compiled file sizes) × IsProgramOf file program compiled.elf compiled.map compiled.count × PutSays before after (map_text file program compiled.map) answer)
+    ⊎ ((program : Typed) × (compiled : Compiled file sizes) ×
+    IsProgramOf file program compiled.elf compiled.map compiled.count ×
+    PutSays before after (map_text file program compiled.map) answer)
 
 -- ---- mode `list`
 
@@ -180,7 +190,9 @@ listing_in loaded = listing_text loaded.image.text_base loaded.image.text
 
 -- the file was refused, or there was no memory; or it was built, and the listing of its text was put
 abbrev pub ListingSays : Seen → Seen → List ℕ → Sizes → Answer → Type 0
-ListingSays before after file sizes answer = NotBuilt before after file answer ⊎ ((compiled : Compiled file sizes) × PutSays before after (listing_in (loaded_of compiled)) answer)
+ListingSays before after file sizes answer =
+    NotBuilt before after file answer ⊎
+    ((compiled : Compiled file sizes) × PutSays before after (listing_in (loaded_of compiled)) answer)
 
 -- ---- mode `gen`
 
@@ -199,7 +211,8 @@ pub record RanGenerated (file : List ℕ) (steps : ℕ) (sizes : Sizes) (ran : A
 abbrev pub GenerateSays : Seen → Seen → ℕ → ℕ → Sizes → Answer → Type 0
 GenerateSays before after functions steps sizes answer =
     ((answer ≡ Memory) × (after ≡ before))
-    ⊎ ((ran : Answer) × RanGenerated (generated functions) steps sizes ran × PutSays before after (summary functions (length (generated functions)) ran) answer)
+    ⊎ ((ran : Answer) × RanGenerated (generated functions) steps sizes ran ×
+    PutSays before after (summary functions (length (generated functions)) ran) answer)
 
 -- ---- all modes
 
@@ -215,12 +228,15 @@ ModeSays a file (ShowListing sizes) answer = FilesKept a × ListingSays a.before
 
 -- the file of this name was not read, and nothing was put or taken; or it was, and so on by the mode
 abbrev pub FileSays : Around → List ℕ → Mode → Answer → Type 0
-FileSays a name mode answer = (NotRead a.files_before a.files_after name answer × Untouched a) ⊎ ((file : List ℕ) × HasRead a.files_before name file × ModeSays a file mode answer)
+FileSays a name mode answer =
+    (NotRead a.files_before a.files_after name answer × Untouched a) ⊎
+    ((file : List ℕ) × HasRead a.files_before name file × ModeSays a file mode answer)
 
 -- what each answer says of a line
 abbrev pub LineSays : Around → Line → Answer → Type 0
 LineSays a (OfFile name mode) answer = FileSays a name mode answer
-LineSays a (Generate functions steps sizes) answer = FilesKept a × GenerateSays a.before a.after functions steps sizes answer
+LineSays a (Generate functions steps sizes) answer =
+    FilesKept a × GenerateSays a.before a.after functions steps sizes answer
 
 -- the words are no line, or there was no memory to read them; nothing else was done
 abbrev pub NoLineSays : Around → List (List ℕ) → Answer → Type 0
@@ -233,7 +249,8 @@ abbrev pub Says : Around → List (List ℕ) → Answer → Type 0
 Says a words answer = NoLineSays a words answer ⊎ ((line : Line) × IsLine words line × LineSays a line answer)
 
 -- What the call did: an answer, which says how the outside was used, and was said to the notes with its status.
-pub record IsDone (a : Around) (words : List (List ℕ)) (status : ℕ) (notes_before notes_after : Option (List ℕ)) (notes_faults_before notes_faults_after : ℕ) : Type 0 where
+pub record IsDone (a : Around) (words : List (List ℕ)) (status : ℕ) (notes_before notes_after : Option (List ℕ))
+    (notes_faults_before notes_faults_after : ℕ) : Type 0 where
   pub answer : Answer
   pub says : Says a words answer
   pub said : IsSaid answer status notes_before notes_after notes_faults_before notes_faults_after

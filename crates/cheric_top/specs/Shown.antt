@@ -23,10 +23,13 @@ pub record SameInput (before after : Seen) : Type 0 where
 
 -- the text was put; or the output failed after a front of it
 abbrev pub PutSays : Seen → Seen → List ℕ → Answer → Type 0
-PutSays before after text Shown = SameInput before after × Appends before.held after.held text × (after.sink_faults ≡ before.sink_faults)
-PutSays before after text Output = SameInput before after × AppendsPart before.held after.held text × (before.sink_faults < after.sink_faults)
+PutSays before after text Shown =
+    SameInput before after × Appends before.held after.held text × (after.sink_faults ≡ before.sink_faults)
+PutSays before after text Output =
+    SameInput before after × AppendsPart before.held after.held text × (before.sink_faults < after.sink_faults)
 PutSays before after text answer = ⊥
 
 -- the summary of a generated file: how many functions and bytes it has, and the line that its run answers
 abbrev pub summary : (functions bytes : ℕ) → Answer → List ℕ
-summary functions bytes ran = codes "functions " ++ decimal functions ++ codes "\nsource " ++ decimal bytes ++ codes "\n" ++ line_of ran
+summary functions bytes ran =
+    codes "functions " ++ decimal functions ++ codes "\nsource " ++ decimal bytes ++ codes "\n" ++ line_of ran

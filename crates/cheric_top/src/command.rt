@@ -6,7 +6,8 @@ ghost use Rattle.ck_base.specs.Calls.{seen};
 ghost use Rattle.command_line.specs.Lines.{Build};
 ghost use Rattle.command_line.specs.Asked.{mode_of, IsInRange};
 ghost use Rattle.command_line.specs.declared.line.Mode.TheVariants as modes;
-ghost use Rattle.cheric_top.specs.Command.{files_seen, around, HasRead, NotRead, BuildSays, ModeSays, FileSays, Says, IsDone};
+ghost use Rattle.cheric_top.specs.Command.{files_seen, around, HasRead, NotRead, BuildSays, ModeSays, FileSays, Says};
+ghost use Rattle.cheric_top.specs.Command.{IsDone};
 
 use crate::answer::Answer;
 use crate::auditing::audit_file;
@@ -26,8 +27,11 @@ fn read<F: Files>(alloc: Global, files: &mut F, name: &str) -> Result<Vec<u8>, A
     requires { F.faults files.old < 2 ^ 64 - 1 }
     ensures { MatchResult
         result
-        (λ file. ((files_seen (F.told files.new) (F.faults files.new)) ≡ (files_seen (F.told files.old) (F.faults files.old))) × HasRead (files_seen (F.told files.old) (F.faults files.old)) name.now file.items)
-        (λ answer. NotRead (files_seen (F.told files.old) (F.faults files.old)) (files_seen (F.told files.new) (F.faults files.new)) name.now answer) }
+        (λ file. ((files_seen (F.told files.new) (F.faults files.new))
+        ≡ (files_seen (F.told files.old) (F.faults files.old))) ×
+        HasRead (files_seen (F.told files.old) (F.faults files.old)) name.now file.items)
+        (λ answer. NotRead (files_seen (F.told files.old) (F.faults files.old))
+        (files_seen (F.told files.new) (F.faults files.new)) name.now answer) }
 {
     match files.get(alloc, name) {
         Ok(file) => Ok(file),
@@ -38,7 +42,8 @@ fn read<F: Files>(alloc: Global, files: &mut F, name: &str) -> Result<Vec<u8>, A
 
 /// The name under which a built file is put.
 fn elf_name(alloc: Global, name: &str, elf: Option<&str>) -> Result<String, NoMemory>
-    ensures { IfOk result (λ s. (sizes : SizesOf) → mode_of name.now (modes.Build elf.entry sizes) ≡ Build (string_bytes s) sizes) }
+    ensures { IfOk result (λ s. (sizes : SizesOf) →
+        mode_of name.now (modes.Build elf.entry sizes) ≡ Build (string_bytes s) sizes) }
 {
     if let Some(elf) = elf {
         return Ok(String::from_str(alloc, elf)?);
@@ -58,7 +63,8 @@ fn build_file<F: Files>(
 ) -> Answer
     requires files_room { F.faults files.old < 2 ^ 64 - 1 }
     requires sizes { in_range sizes ≡ true }
-    ensures { BuildSays (files_seen (F.told files.old) (F.faults files.old)) (files_seen (F.told files.new) (F.faults files.new)) file.now elf.now sizes result }
+    ensures { BuildSays (files_seen (F.told files.old) (F.faults files.old))
+        (files_seen (F.told files.new) (F.faults files.new)) file.now elf.now sizes result }
 {
     let built = match build_sized(alloc, file, sizes) {
         Ok(built) => built,
@@ -85,7 +91,11 @@ fn work_on<F: Files, I: Source, O: Sink>(
     requires source_room { I.faults input.old < 2 ^ 64 - 1 }
     requires sink_room { O.faults out.old < 2 ^ 64 - 1 }
     requires ranged { IsInRange mode }
-    ensures { ModeSays (around (files_seen (F.told files.old) (F.faults files.old)) (files_seen (F.told files.new) (F.faults files.new)) (seen (I.left input.old) (I.faults input.old) (O.held out.old) (O.faults out.old)) (seen (I.left input.new) (I.faults input.new) (O.held out.new) (O.faults out.new))) file.now (mode_of name.now mode.entry) result }
+    ensures { ModeSays (around (files_seen (F.told files.old) (F.faults files.old))
+        (files_seen (F.told files.new) (F.faults files.new))
+        (seen (I.left input.old) (I.faults input.old) (O.held out.old) (O.faults out.old))
+        (seen (I.left input.new) (I.faults input.new) (O.held out.new) (O.faults out.new))) file.now
+        (mode_of name.now mode.entry) result }
 {
     match mode {
         Mode::Run(steps, sizes) => run_file(alloc, file, (steps, sizes), input, out),
@@ -114,7 +124,11 @@ fn work_on_name<F: Files, I: Source, O: Sink>(
     requires source_room { I.faults input.old < 2 ^ 64 - 1 }
     requires sink_room { O.faults out.old < 2 ^ 64 - 1 }
     requires ranged { IsInRange mode }
-    ensures { FileSays (around (files_seen (F.told files.old) (F.faults files.old)) (files_seen (F.told files.new) (F.faults files.new)) (seen (I.left input.old) (I.faults input.old) (O.held out.old) (O.faults out.old)) (seen (I.left input.new) (I.faults input.new) (O.held out.new) (O.faults out.new))) name.now (mode_of name.now mode.entry) result }
+    ensures { FileSays (around (files_seen (F.told files.old) (F.faults files.old))
+        (files_seen (F.told files.new) (F.faults files.new))
+        (seen (I.left input.old) (I.faults input.old) (O.held out.old) (O.faults out.old))
+        (seen (I.left input.new) (I.faults input.new) (O.held out.new) (O.faults out.new))) name.now
+        (mode_of name.now mode.entry) result }
 {
     match read(alloc, files, name) {
         Ok(file) => work_on(alloc, name, mode, &file, files, input, out),
@@ -133,7 +147,11 @@ fn work<F: Files, I: Source, O: Sink>(
     requires files_room { F.faults files.old < 2 ^ 64 - 1 }
     requires source_room { I.faults input.old < 2 ^ 64 - 1 }
     requires sink_room { O.faults out.old < 2 ^ 64 - 1 }
-    ensures { Says (around (files_seen (F.told files.old) (F.faults files.old)) (files_seen (F.told files.new) (F.faults files.new)) (seen (I.left input.old) (I.faults input.old) (O.held out.old) (O.faults out.old)) (seen (I.left input.new) (I.faults input.new) (O.held out.new) (O.faults out.new))) (map (λ s. string_bytes s) words.now.items) result }
+    ensures { Says (around (files_seen (F.told files.old) (F.faults files.old))
+        (files_seen (F.told files.new) (F.faults files.new))
+        (seen (I.left input.old) (I.faults input.old) (O.held out.old) (O.faults out.old))
+        (seen (I.left input.new) (I.faults input.new) (O.held out.new) (O.faults out.new)))
+        (map (λ s. string_bytes s) words.now.items) result }
 {
     match line_of(alloc, words.as_slice()) {
         Ok(Some(Line::OfFile(name, mode))) => work_on_name(alloc, name, mode, files, input, out),
@@ -147,14 +165,14 @@ fn work<F: Files, I: Source, O: Sink>(
 
 /// Does all that the program does, and gives the status with which it ends.
 ///
-/// `words` begins with the program's name. The lines are `run FILE`, `build FILE`, `exec FILE`, `audit FILE`, `mean FILE`,
-/// `map FILE`, `list FILE` and `gen N`, with the options `--steps N`, `--turns N`, `--out NAME`, `--heap N` and `--stack N`, in any
-/// order and each at most once; an option that a mode does not use has no effect. `run` builds a C file, loads the bytes
-/// and runs them over `input` and `out`; `build` puts them under NAME, or under FILE followed by `.elf`; `exec` loads and
-/// runs such a file, and `audit` says whether a run of it can leave its text, or which word or relocation first breaks a
-/// rule. `map` and `list` put to `out` where the parts of a C file's program stand, and the listing of its text. `gen`
-/// generates a C file of N functions, runs it and puts a summary to `out`. But for these three where they succeed, one
-/// line of text on the outcome goes to `notes`.
+/// `words` begins with the program's name. The lines are `run FILE`, `build FILE`, `exec FILE`, `audit FILE`, `mean
+/// FILE`, `map FILE`, `list FILE` and `gen N`, with the options `--steps N`, `--turns N`, `--out NAME`, `--heap N` and
+/// `--stack N`, in any order and each at most once; an option that a mode does not use has no effect. `run` builds a C
+/// file, loads the bytes and runs them over `input` and `out`; `build` puts them under NAME, or under FILE followed by
+/// `.elf`; `exec` loads and runs such a file, and `audit` says whether a run of it can leave its text, or which word or
+/// relocation first breaks a rule. `map` and `list` put to `out` where the parts of a C file's program stand, and the
+/// listing of its text. `gen` generates a C file of N functions, runs it and puts a summary to `out`. But for these
+/// three where they succeed, one line of text on the outcome goes to `notes`.
 pub fn cheric<F: Files, I: Source, O: Sink, N: Sink>(
     alloc: Global,
     words: &Vec<String>,
@@ -167,7 +185,12 @@ pub fn cheric<F: Files, I: Source, O: Sink, N: Sink>(
     requires source_room { I.faults input.old < 2 ^ 64 - 1 }
     requires sink_room { O.faults out.old < 2 ^ 64 - 1 }
     requires notes_room { N.faults notes.old < 2 ^ 64 - 1 }
-    ensures { IsDone (around (files_seen (F.told files.old) (F.faults files.old)) (files_seen (F.told files.new) (F.faults files.new)) (seen (I.left input.old) (I.faults input.old) (O.held out.old) (O.faults out.old)) (seen (I.left input.new) (I.faults input.new) (O.held out.new) (O.faults out.new))) (map (λ s. string_bytes s) words.now.items) result (N.held notes.old) (N.held notes.new) (N.faults notes.old) (N.faults notes.new) }
+    ensures { IsDone (around (files_seen (F.told files.old) (F.faults files.old))
+        (files_seen (F.told files.new) (F.faults files.new))
+        (seen (I.left input.old) (I.faults input.old) (O.held out.old) (O.faults out.old))
+        (seen (I.left input.new) (I.faults input.new) (O.held out.new) (O.faults out.new)))
+        (map (λ s. string_bytes s) words.now.items) result (N.held notes.old) (N.held notes.new) (N.faults notes.old)
+        (N.faults notes.new) }
 {
     let answer = work(alloc, words, files, input, out);
     say(answer, notes)

@@ -1,5 +1,6 @@
 //! Generating a C file, and running it.
-ghost use Rattle.std.specs.Prelude.{◌≡◌, ℕ, List, Option, [], Some, ◌++◌, ◌<◌, ◌≤◌, ◌-◌, ◌^◌, length, true, IfOk, decimal, string_bytes};
+ghost use Rattle.std.specs.Prelude.{◌≡◌, ℕ, List, Option, [], Some, ◌++◌, ◌<◌, ◌≤◌, ◌-◌, ◌^◌, length, true, IfOk};
+ghost use Rattle.std.specs.Prelude.{decimal, string_bytes};
 ghost use Rattle.bounds_place.specs.Sizes.{in_range};
 ghost use Rattle.ck_base.specs.Calls.{seen};
 ghost use Rattle.cheric_top.specs.Command.{GenerateSays};
@@ -38,7 +39,9 @@ pub fn show_generated<O: Sink>(
     requires sink_room { O.faults out.old < 2 ^ 64 - 1 }
     requires few { functions ≤ 64 }
     requires sizes { in_range limit.1 ≡ true }
-    ensures { (left : Option (List ℕ)) (faults : ℕ) → GenerateSays (seen left faults (O.held out.old) (O.faults out.old)) (seen left faults (O.held out.new) (O.faults out.new)) functions limit.0 limit.1 result }
+    ensures { (left : Option (List ℕ)) (faults : ℕ) →
+        GenerateSays (seen left faults (O.held out.old) (O.faults out.old))
+        (seen left faults (O.held out.new) (O.faults out.new)) functions limit.0 limit.1 result }
 {
     let Ok(file) = generate(alloc, functions) else {
         return Answer::Memory;

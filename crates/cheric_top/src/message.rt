@@ -1,7 +1,8 @@
 //! The line and the status of an answer.
 ghost use Rattle.std.specs.Prelude.{◌≡◌, ◌++◌, ◌≤◌, ◌<◌, ◌+◌, ◌-◌, ◌^◌, ℕ, [], length, decimal, codes};
 ghost use Rattle.arrayvec.specs.ArrayString.{array_string_len};
-ghost use Rattle.cheric_top.specs.Answers.{audit_status, status_of, is_silent, line_of, cause_text, reason_text, pos_text, audit_text, text_of, IsSaid};
+ghost use Rattle.cheric_top.specs.Answers.{audit_status, status_of, is_silent, line_of, cause_text, reason_text};
+ghost use Rattle.cheric_top.specs.Answers.{pos_text, audit_text, text_of, IsSaid};
 ghost use Rattle.cheric_top.specs.declared.answer.Answer.TheVariants as answers;
 
 use crate::answer::Answer;
@@ -262,8 +263,8 @@ pub fn line_of(answer: Answer) -> Line
     line
 }
 
-/// Says an answer: puts its line to the notes, and gives its status, or that of a failed output where the notes fail. It
-/// takes no memory.
+/// Says an answer: puts its line to the notes, and gives its status, or that of a failed output where the notes fail.
+/// It takes no memory.
 pub fn say<N: Sink>(answer: Answer, notes: &mut N) -> u8
     requires { N.faults notes.old < 2 ^ 64 - 1 }
     ensures { IsSaid answer result (N.held notes.old) (N.held notes.new) (N.faults notes.old) (N.faults notes.new) }

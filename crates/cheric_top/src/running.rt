@@ -86,8 +86,13 @@ fn run_image<I: Source, O: Sink>(
     requires sink_room { O.faults out.old < 2 ^ 64 - 1 }
     ensures { MatchResult
         result
-        (λ answer. (judged view.now ≡ Ok tt) × RanLoaded (seen (I.left input.old) (I.faults input.old) (O.held out.old) (O.faults out.old)) (seen (I.left input.new) (I.faults input.new) (O.held out.new) (O.faults out.new)) (record { image = view.now; machine = machine_of view.now }) steps answer)
-        (λ refusal. ((seen (I.left input.new) (I.faults input.new) (O.held out.new) (O.faults out.new)) ≡ (seen (I.left input.old) (I.faults input.old) (O.held out.old) (O.faults out.old))) × Loads view.now (Err refusal)) }
+        (λ answer. (judged view.now ≡ Ok tt) ×
+        RanLoaded (seen (I.left input.old) (I.faults input.old) (O.held out.old) (O.faults out.old))
+        (seen (I.left input.new) (I.faults input.new) (O.held out.new) (O.faults out.new))
+        (record { image = view.now; machine = machine_of view.now }) steps answer)
+        (λ refusal. ((seen (I.left input.new) (I.faults input.new) (O.held out.new) (O.faults out.new))
+        ≡ (seen (I.left input.old) (I.faults input.old) (O.held out.old) (O.faults out.old))) ×
+        Loads view.now (Err refusal)) }
 {
     let mut machine = load(alloc, view)?;
     let end = machine.run(steps, input, out);
@@ -105,7 +110,9 @@ pub fn run_file<I: Source, O: Sink>(
     requires source_room { I.faults input.old < 2 ^ 64 - 1 }
     requires sink_room { O.faults out.old < 2 ^ 64 - 1 }
     requires sizes { in_range limit.1 ≡ true }
-    ensures { RunSays (seen (I.left input.old) (I.faults input.old) (O.held out.old) (O.faults out.old)) (seen (I.left input.new) (I.faults input.new) (O.held out.new) (O.faults out.new)) file.now limit.0 limit.1 result }
+    ensures { RunSays (seen (I.left input.old) (I.faults input.old) (O.held out.old) (O.faults out.old))
+        (seen (I.left input.new) (I.faults input.new) (O.held out.new) (O.faults out.new)) file.now limit.0 limit.1
+        result }
 {
     let (steps, sizes) = limit;
     let built = match build_sized(alloc, file, sizes) {
@@ -131,7 +138,8 @@ pub fn exec_file<I: Source, O: Sink>(
 ) -> Answer
     requires source_room { I.faults input.old < 2 ^ 64 - 1 }
     requires sink_room { O.faults out.old < 2 ^ 64 - 1 }
-    ensures { ExecSays (seen (I.left input.old) (I.faults input.old) (O.held out.old) (O.faults out.old)) (seen (I.left input.new) (I.faults input.new) (O.held out.new) (O.faults out.new)) file.now steps result }
+    ensures { ExecSays (seen (I.left input.old) (I.faults input.old) (O.held out.old) (O.faults out.old))
+        (seen (I.left input.new) (I.faults input.new) (O.held out.new) (O.faults out.new)) file.now steps result }
 {
     let view = match View::read(file) {
         Ok(view) => view,

@@ -19,7 +19,9 @@ use std::alloc::Global;
 /// Puts a text to the output.
 pub fn put<O: Sink>(out: &mut O, text: &[u8]) -> Answer
     requires { O.faults out.old < 2 ^ 64 - 1 }
-    ensures { (left : Option (List ℕ)) (faults : ℕ) → PutSays (seen left faults (O.held out.old) (O.faults out.old)) (seen left faults (O.held out.new) (O.faults out.new)) text.now result }
+    ensures { (left : Option (List ℕ)) (faults : ℕ) →
+        PutSays (seen left faults (O.held out.old) (O.faults out.old))
+        (seen left faults (O.held out.new) (O.faults out.new)) text.now result }
 {
     match out.put(text) {
         Ok(()) => Answer::Shown,
@@ -44,7 +46,9 @@ fn build_program(alloc: Global, file: &[u8], sizes: Sizes) -> Result<(Typed, Bui
 pub fn show_map<O: Sink>(alloc: Global, file: &[u8], sizes: Sizes, out: &mut O) -> Answer
     requires sink_room { O.faults out.old < 2 ^ 64 - 1 }
     requires sizes { in_range sizes ≡ true }
-    ensures { (left : Option (List ℕ)) (faults : ℕ) → MapSays (seen left faults (O.held out.old) (O.faults out.old)) (seen left faults (O.held out.new) (O.faults out.new)) file.now sizes result }
+    ensures { (left : Option (List ℕ)) (faults : ℕ) →
+        MapSays (seen left faults (O.held out.old) (O.faults out.old))
+        (seen left faults (O.held out.new) (O.faults out.new)) file.now sizes result }
 {
     let (p, built) = match build_program(alloc, file, sizes) {
         Ok(made) => made,
@@ -60,7 +64,9 @@ pub fn show_map<O: Sink>(alloc: Global, file: &[u8], sizes: Sizes, out: &mut O) 
 pub fn show_listing<O: Sink>(alloc: Global, file: &[u8], sizes: Sizes, out: &mut O) -> Answer
     requires sink_room { O.faults out.old < 2 ^ 64 - 1 }
     requires sizes { in_range sizes ≡ true }
-    ensures { (left : Option (List ℕ)) (faults : ℕ) → ListingSays (seen left faults (O.held out.old) (O.faults out.old)) (seen left faults (O.held out.new) (O.faults out.new)) file.now sizes result }
+    ensures { (left : Option (List ℕ)) (faults : ℕ) →
+        ListingSays (seen left faults (O.held out.old) (O.faults out.old))
+        (seen left faults (O.held out.new) (O.faults out.new)) file.now sizes result }
 {
     let built = match build_sized(alloc, file, sizes) {
         Ok(built) => built,

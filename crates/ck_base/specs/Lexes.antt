@@ -1,5 +1,7 @@
--- How a file is cut into tokens (C11 6.4, 5.1.1.2), and the first place that breaks the rules. A file is a list of bytes; places in it count from 0.
-use Rattle.std.specs.Prelude.{◌≡◌, ℕ, ◌+◌, ◌-◌, ◌<◌, ◌≤◌, Bool, true, false, not, ◌&&◌, ◌||◌, ◌==◌, List, [], ◌∷◌, length, take, drop, count_by, take_while, bytes_eq, codes, slice_range, IsTrue, IsFalse}
+-- How a file is cut into tokens (C11 6.4, 5.1.1.2), and the first place that breaks the rules. A file is a list of
+-- bytes; places in it count from 0.
+use Rattle.std.specs.Prelude.{◌≡◌, ℕ, ◌+◌, ◌-◌, ◌<◌, ◌≤◌, Bool, true, false, not, ◌&&◌, ◌||◌, ◌==◌, List, [], ◌∷◌}
+use Rattle.std.specs.Prelude.{length, take, drop, count_by, take_while, bytes_eq, codes, slice_range, IsTrue, IsFalse}
 use Rattle.std.specs.Int.{is_in_range}
 use Rattle.std.specs.List.{list_all, prefix_len, position_or_len, after_last, starts_with}
 use Rattle.std.specs.Prelude.{nat_eq}
@@ -53,7 +55,8 @@ NeverCloses bytes = (n : ℕ) → IsFalse (begins_with (codes "*/") (drop n byte
 -- The bytes begin with a comment of n bytes: `//` and the rest of the line, or `/*` up to the first `*/` behind it.
 pub data BeginsWithComment (bytes : List ℕ) : ℕ → Type 0 where
   line : IsTrue (begins_with (codes "//") bytes) → BeginsWithComment bytes (line_length bytes)
-  block : {n : ℕ} → IsTrue (begins_with (codes "/*") bytes) → ClosesBehind (drop 2 bytes) n → BeginsWithComment bytes (n + 4)
+  block : {n : ℕ} → IsTrue (begins_with (codes "/*") bytes) → ClosesBehind (drop 2 bytes) n →
+      BeginsWithComment bytes (n + 4)
 
 abbrev pub starts_comment : List ℕ → Bool
 starts_comment bytes = begins_with (codes "//") bytes || begins_with (codes "/*") bytes
@@ -96,8 +99,8 @@ begins_pack (b ∷ bs) = b == byte "#" && is_pack bs
 
 -- What separates tokens
 
--- n bytes at the front of the bytes are a whole blank, comment or skipped directive line. `first` says that only spaces and tabs stand before
--- them on their line.
+-- n bytes at the front of the bytes are a whole blank, comment or skipped directive line. `first` says that only spaces
+-- and tabs stand before them on their line.
 pub data Separates (first : Bool) (bytes : List ℕ) : ℕ → Type 0 where
   blank : (b : ℕ) (rest : List ℕ) → bytes ≡ b ∷ rest → IsTrue (is_blank b) → Separates first bytes 1
   comment : {n : ℕ} → BeginsWithComment bytes n → Separates first bytes n
@@ -154,25 +157,32 @@ is_literal _ = false
 -- what breaks the rules at the front of the bytes, and its code
 pub data Breaks (first : Bool) (bytes : List ℕ) : ℕ → Type 0 where
   -- a byte that begins no token, no separator, and no directive that has a refusal of its own
-  stray : (b : ℕ) (rest : List ℕ) → bytes ≡ b ∷ rest → IsFalse (is_blank b) → IsFalse (is_quote b) → IsFalse (first && (begins_skipped bytes || begins_pack bytes)) → BeginsNoToken bytes → Breaks first bytes 100
+  stray : (b : ℕ) (rest : List ℕ) → bytes ≡ b ∷ rest → IsFalse (is_blank b) → IsFalse (is_quote b) →
+      IsFalse (first && (begins_skipped bytes || begins_pack bytes)) → BeginsNoToken bytes → Breaks first bytes 100
   -- a quote or a comment that is not closed
-  quote : (b : ℕ) (rest : List ℕ) → bytes ≡ b ∷ rest → IsTrue (is_quote b) → BeginsNoToken bytes → Breaks first bytes 101
+  quote : (b : ℕ) (rest : List ℕ) → bytes ≡ b ∷ rest → IsTrue (is_quote b) → BeginsNoToken bytes →
+      Breaks first bytes 101
   comment : IsTrue (begins_with (codes "/*") bytes) → NeverCloses (drop 2 bytes) → Breaks first bytes 101
   -- a literal that has no value
-  literal : {kind : TokenKind} {n : ℕ} → IsLongest bytes kind n → IsTrue (is_literal kind) → (IsAccepted kind (take n bytes) → ⊥) → Breaks first bytes 102
+  literal : {kind : TokenKind} {n : ℕ} → IsLongest bytes kind n → IsTrue (is_literal kind) →
+      (IsAccepted kind (take n bytes) → ⊥) → Breaks first bytes 102
   -- a word or punctuator that the language leaves out
-  word : {kind : TokenKind} {n : ℕ} → IsLongest bytes kind n → IsTrue (is_among left_out (take n bytes)) → Breaks first bytes 103
+  word : {kind : TokenKind} {n : ℕ} → IsLongest bytes kind n → IsTrue (is_among left_out (take n bytes)) →
+      Breaks first bytes 103
   -- `#pragma pack`
   pack : IsTrue first → IsTrue (begins_pack bytes) → Breaks first bytes 104
 
 -- A whole file
 
--- behind a place of the file, and behind separators alone, stands this token; what breaks the rules, with its code and position; the end
+-- behind a place of the file, and behind separators alone, stands this token; what breaks the rules, with its code and
+-- position; the end
 abbrev pub NextToken : List ℕ → ℕ → Lexeme → Type 0
 NextToken file i token = Gap file i token.span.start × IsTokenOf file token
 
 abbrev pub NextRefusal : List ℕ → ℕ → ℕ → Pos → Type 0
-NextRefusal file i code pos = (k : ℕ) × Gap file i k × Breaks (begins_line (take k file)) (drop k file) code × (pos ≡ position_after (take k file))
+NextRefusal file i code pos =
+    (k : ℕ) × Gap file i k × Breaks (begins_line (take k file)) (drop k file) code ×
+    (pos ≡ position_after (take k file))
 
 abbrev pub NextEnd : List ℕ → ℕ → Type 0
 NextEnd file i = Gap file i (length file)

@@ -1,5 +1,6 @@
 -- What is known of the outside in memory.
-use Rattle.std.specs.Prelude.{◌≡◌, ◌≢◌, ℕ, ◌+◌, ◌-◌, ◌^◌, List, min, map, position, slice_get, option_and_then, bytes_eq, string_bytes, Option, Some, String, Vec}
+use Rattle.std.specs.Prelude.{◌≡◌, ◌≢◌, ℕ, ◌+◌, ◌-◌, ◌^◌, List, min, map, position, slice_get, option_and_then}
+use Rattle.std.specs.Prelude.{bytes_eq, string_bytes, Option, Some, String, Vec}
 use Rattle.std.specs.declared.alloc.Global.{Global}
 use Rattle.ck_base.specs.Files.{FileMap}
 

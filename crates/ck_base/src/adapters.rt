@@ -1,5 +1,5 @@
-//! The outside over the system: standard input, output and error, and the file system. They tell nothing of what they read
-//! and write, so no contract speaks of its bytes: this file is trusted, and shown by tests.
+//! The outside over the system: standard input, output and error, and the file system. They tell nothing of what they
+//! read and write, so no contract speaks of its bytes: this file is trusted, and shown by tests.
 ghost use Rattle.std.specs.Prelude.{◌≡◌, None};
 
 use crate::outside::{Failed, FileError, Files, PutError, Sink, Source};

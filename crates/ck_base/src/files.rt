@@ -1,7 +1,9 @@
 //! Files in memory.
-ghost use Rattle.std.specs.Prelude.{◌≡◌, ◌<◌, ◌↔◌, [], ◌∷◌, ◌++◌, Some, length, position, bytes_eq, slice_set, option_map, string_bytes, Contains, IsTrue, OnOk, OnErr, IsErrOf, vec_len};
+ghost use Rattle.std.specs.Prelude.{◌≡◌, ◌<◌, ◌↔◌, [], ◌∷◌, ◌++◌, Some, length, position, bytes_eq, slice_set};
+ghost use Rattle.std.specs.Prelude.{option_map, string_bytes, Contains, IsTrue, OnOk, OnErr, IsErrOf, vec_len};
 ghost use Rattle.ck_base.specs.Files.{Gets, HasFile, SameOthers, FileCounted};
-ghost use Rattle.ck_base.specs.Memory.{NamedBytes, FilesInMemory, PutsFile, named_bytes, place_of, file_named, one_more};
+ghost use Rattle.ck_base.specs.Memory.{NamedBytes, FilesInMemory, PutsFile, named_bytes, place_of, file_named};
+ghost use Rattle.ck_base.specs.Memory.{one_more};
 
 use crate::adapters::LONGEST_FILE;
 use crate::outside::{FileError, Files, PutError};
@@ -85,7 +87,10 @@ impl Table {
     }
 
     fn add(&mut self, name: String, bytes: Vec<u8>) -> Result<(), AllocError>
-        ensures added { OnOk result (self.new ≡ record { names = self.old.names ++ string_bytes name ∷ []; contents = self.old.contents ++ bytes.items ∷ [] }) }
+        ensures added { OnOk result (self.new ≡ record {
+          names = self.old.names ++ string_bytes name ∷ [];
+          contents = self.old.contents ++ bytes.items ∷ [];
+        }) }
         ensures kept { OnErr result (self.new ≡ self.old) }
     {
         self.names.reserve(1)?;
@@ -112,11 +117,16 @@ impl Model for MemFiles {
 }
 
 impl MemFiles {
-    /// Files of these names with the contents at the same places, whose calls with these numbers fail. Of equal names the
-    /// first counts.
+    /// Files of these names with the contents at the same places, whose calls with these numbers fail. Of equal names
+    /// the first counts.
     pub fn new(names: Vec<String>, contents: Vec<Vec<u8>>, fails: Vec<u64>) -> MemFiles
         requires { vec_len names ≡ vec_len contents }
-        ensures { result ≡ record { files = named_bytes names.items contents.items; fails = fails.items; calls = 0; faults = 0 } }
+        ensures { result ≡ record {
+          files = named_bytes names.items contents.items;
+          fails = fails.items;
+          calls = 0;
+          faults = 0;
+        } }
     {
         MemFiles {
             files: Table { names, contents },
@@ -172,7 +182,8 @@ impl Files for MemFiles {
     fn put(&mut self, alloc: Global, name: &str, bytes: &[u8]) -> Result<(), PutError>
         ensures done { OnOk result (HasFile (Some (file_named self.new.files)) name.now bytes.now) }
         ensures others { SameOthers (Some (file_named self.old.files)) (Some (file_named self.new.files)) name.now }
-        ensures no_memory { IsErrOf result PutError.NoMemory → Some (file_named self.new.files) ≡ Some (file_named self.old.files) }
+        ensures no_memory { IsErrOf result PutError.NoMemory →
+            Some (file_named self.new.files) ≡ Some (file_named self.old.files) }
         ensures counted { FileCounted self.old.faults self.new.faults (IsErrOf result PutError.Failed) }
         ensures nothing { OnErr result (self.new.files ≡ self.old.files) }
         ensures fails { IsErrOf result PutError.Failed ↔ Contains self.old.fails (one_more self.old.calls) }

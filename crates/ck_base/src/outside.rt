@@ -74,8 +74,8 @@ pub trait Files {
         ensures gives { Gets (told self.old) name.now result }
         ensures counted { FileCounted (faults self.old) (faults self.new) (IsErrOf result FileError.Failed) };
 
-    /// Puts the bytes under the name. Other names stay as they were; want of memory leaves all as it was, and a call that
-    /// fails may leave anything under the name itself.
+    /// Puts the bytes under the name. Other names stay as they were; want of memory leaves all as it was, and a call
+    /// that fails may leave anything under the name itself.
     fn put(&mut self, alloc: Global, name: &str, bytes: &[u8]) -> Result<(), PutError>
         ensures done { OnOk result (HasFile (told self.new) name.now bytes.now) }
         ensures others { SameOthers (told self.old) (told self.new) name.now }

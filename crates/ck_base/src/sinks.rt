@@ -1,5 +1,6 @@
 //! Sinks in memory.
-ghost use Rattle.std.specs.Prelude.{◌≡◌, ℕ, ◌+◌, ◌<◌, ◌≤◌, ◌-◌, ◌^◌, ◌⊎◌, Option, Some, None, List, [], length, Contains, IsErr, ◌↔◌, IfOk, OnOk, OnErr, vec_len, vec_capacity};
+ghost use Rattle.std.specs.Prelude.{◌≡◌, ℕ, ◌+◌, ◌<◌, ◌≤◌, ◌-◌, ◌^◌, ◌⊎◌, Option, Some, None, List, [], length};
+ghost use Rattle.std.specs.Prelude.{Contains, IsErr, ◌↔◌, IfOk, OnOk, OnErr, vec_len, vec_capacity};
 ghost use Rattle.std.specs.Io.KnownBytes.{Appends};
 ghost use Rattle.ck_base.specs.Outside.{AppendsPart, Rises};
 ghost use Rattle.ck_base.specs.Memory.{SinkInMemory, one_more};
@@ -9,7 +10,8 @@ use crate::refusal::NoMemory;
 use std::alloc::Global;
 use std::marker::Model;
 
-/// Bytes in memory up to a room that was taken when it was made, and the numbers of the calls that fail, counted from 1.
+/// Bytes in memory up to a room that was taken when it was made, and the numbers of the calls that fail, counted from
+/// 1.
 #[derive(Drop)]
 pub struct MemSink {
     bytes: Vec<u8>,
@@ -22,7 +24,13 @@ pub struct MemSink {
 impl Model for MemSink {
     ghost Value = { SinkInMemory };
 
-    ghost view = { λ s. record { held = s.bytes.items; room = s.room; fails = s.fails.items; calls = s.calls; faults = s.faults } };
+    ghost view = { λ s. record {
+      held = s.bytes.items;
+      room = s.room;
+      fails = s.fails.items;
+      calls = s.calls;
+      faults = s.faults;
+    } };
 
     ghost invariant = { λ s. (vec_len s.bytes ≤ s.room) × (s.room ≤ vec_capacity s.bytes) };
 }
@@ -30,7 +38,13 @@ impl Model for MemSink {
 impl MemSink {
     /// An empty sink with room for so many bytes, whose calls with these numbers fail.
     pub fn new(alloc: Global, room: u64, fails: Vec<u64>) -> Result<MemSink, NoMemory>
-        ensures { IfOk result (λ sink. sink ≡ record { held = []; room = room; fails = fails.items; calls = 0; faults = 0 }) }
+        ensures { IfOk result (λ sink. sink ≡ record {
+          held = [];
+          room = room;
+          fails = fails.items;
+          calls = 0;
+          faults = 0;
+        }) }
     {
         let bytes = Vec::with_capacity(alloc, room as usize)?;
         Ok(MemSink {
@@ -62,7 +76,9 @@ impl Sink for MemSink {
         ensures same_count { OnOk result (self.new.faults ≡ self.old.faults) }
         ensures counted { OnErr result (Rises self.old.faults self.new.faults) }
         ensures nothing { OnErr result (self.new.held ≡ self.old.held) }
-        ensures fails { IsErr result ↔ (Contains self.old.fails (one_more self.old.calls) ⊎ (self.old.room < length self.old.held + length piece.now)) }
+        ensures fails { IsErr result ↔
+            (Contains self.old.fails (one_more self.old.calls) ⊎
+            (self.old.room < length self.old.held + length piece.now)) }
         ensures calls { self.new.calls ≡ one_more self.old.calls }
         ensures same_fails { self.new.fails ≡ self.old.fails }
         ensures same_room { self.new.room ≡ self.old.room }

@@ -1,5 +1,6 @@
 //! Sources over bytes in memory.
-ghost use Rattle.std.specs.Prelude.{◌≡◌, ℕ, ◌+◌, ◌<◌, ◌≤◌, ◌-◌, ◌^◌, Option, Some, None, List, drop, length, Contains, IsErr, ◌↔◌, IfOk, OnOk, OnErr};
+ghost use Rattle.std.specs.Prelude.{◌≡◌, ℕ, ◌+◌, ◌<◌, ◌≤◌, ◌-◌, ◌^◌, Option, Some, None, List, drop, length, Contains};
+ghost use Rattle.std.specs.Prelude.{IsErr, ◌↔◌, IfOk, OnOk, OnErr};
 ghost use Rattle.std.specs.Io.KnownBytes.{Keeps};
 ghost use Rattle.ck_base.specs.Outside.{Takes, Rises};
 ghost use Rattle.ck_base.specs.Memory.{SourceInMemory, one_more};
@@ -20,7 +21,12 @@ pub struct MemSource {
 impl Model for MemSource {
     ghost Value = { SourceInMemory };
 
-    ghost view = { λ s. record { left = drop s.taken s.bytes.items; fails = s.fails.items; calls = s.calls; faults = s.faults } };
+    ghost view = { λ s. record {
+      left = drop s.taken s.bytes.items;
+      fails = s.fails.items;
+      calls = s.calls;
+      faults = s.faults;
+    } };
 }
 
 impl MemSource {

@@ -1,5 +1,6 @@
 -- What each form of number keeps in 64 bits, and what its bits say.
-use Rattle.std.proofs.Common.{◌≡◌, ◌≢◌, ℕ, zero, suc, ◌+◌, ◌-◌, ◌*◌, ◌%◌, ◌^◌, ◌<◌, ◌≤◌, ℤ, pos, negsuc, ◌≤ℤ◌, arith, sym, ap, ◌∙◌, refl, subst, lit<, lit≤, true, false, ⊎_elim}
+use Rattle.std.proofs.Common.{◌≡◌, ◌≢◌, ℕ, zero, suc, ◌+◌, ◌-◌, ◌*◌, ◌%◌, ◌^◌, ◌<◌, ◌≤◌, ℤ, pos, negsuc, ◌≤ℤ◌, arith}
+use Rattle.std.proofs.Common.{sym, ap, ◌∙◌, refl, subst, lit<, lit≤, true, false, ⊎_elim}
 use Rattle.std.proofs.Math.Nat.{mod-eq_of_lt, mod-le, lt_of_le_of_lt, le-mul_of_pos_right}
 use Rattle.std.proofs.lemmas.Bool.{cases_lt, lt-ltb, le-ltb, cond-true, cond-false, false≢true}
 use Rattle.std.proofs.lemmas.Int.{ints}
@@ -7,7 +8,8 @@ use Rattle.std.proofs.lemmas.Nat.{pow_pos}
 use Rattle.std.specs.Prelude.{if◌then◌else◌, ◌==◌}
 use Rattle.ck_int.specs.declared.kinds.IntKind.{IntKind}
 use Rattle.ck_int.specs.declared.kinds.IntKind.TheVariants as kind
-use Rattle.ck_int.specs.Kinds.{Form, truth, unsigned, signed, form_of, is_signed, modulo, twos_complement, truth_of, converted_to, least_of, greatest_of, width_of}
+use Rattle.ck_int.specs.Kinds.{Form, truth, unsigned, signed, form_of, is_signed, modulo, twos_complement, truth_of}
+use Rattle.ck_int.specs.Kinds.{converted_to, least_of, greatest_of, width_of}
 use Rattle.ck_int.specs.Words.{word_of}
 use Rattle.ck_int.proofs.Modulo.{modulo-below, modulo-low, pow-split}
 
@@ -68,7 +70,8 @@ modulo-twos_complement w n h =
     (cases_lt n (2 ^ (w - 1)))
 
 -- a number of w bits in two's complement, extended to 64 bits and read there
-pub twos_complement-extended : (w n : ℕ) → IsWidth w → n < 2 ^ w → twos_complement 64 (modulo (twos_complement w n) (2 ^ 64)) ≡ twos_complement w n
+pub twos_complement-extended : (w n : ℕ) → IsWidth w → n < 2 ^ w →
+    twos_complement 64 (modulo (twos_complement w n) (2 ^ 64)) ≡ twos_complement w n
 twos_complement-extended w n width h =
     let whole : 2 ^ w ≤ 2 ^ 64 = within_word w width in
     let double : 2 ^ (w - 1) + 2 ^ (w - 1) ≡ 2 ^ w = halves w width in
@@ -106,7 +109,8 @@ word_of-kept (unsigned w) z h =
 word_of-kept (signed w) z h = twos_complement-extended w (modulo z (2 ^ w)) h (modulo-below z (2 ^ w) (pow_pos w))
 
 -- and converting its 64 bits gives it again
-pub converted_to-kept : (f : Form) (z : ℤ) → IsForm f → converted_to f (pos (modulo (converted_to f z) (2 ^ 64))) ≡ converted_to f z
+pub converted_to-kept : (f : Form) (z : ℤ) → IsForm f →
+    converted_to f (pos (modulo (converted_to f z) (2 ^ 64))) ≡ converted_to f z
 unfolding IsForm
 converted_to-kept truth z h =
     let b : truth_of z < 2 = truth_of-below z in
@@ -120,7 +124,8 @@ converted_to-kept (signed w) z h =
     (modulo-low (twos_complement w (modulo z (2 ^ w))) w 64 h.most ∙ modulo-twos_complement w (modulo z (2 ^ w)) b)
 
 -- a form without a sign keeps the numbers of its width as they are, and no others
-pub kept-unsigned : (f : Form) (v : ℕ) → IsForm f → is_signed f ≡ false → v < 2 ^ width_of f → modulo (converted_to f (pos v)) (2 ^ 64) ≡ v
+pub kept-unsigned : (f : Form) (v : ℕ) → IsForm f → is_signed f ≡ false → v < 2 ^ width_of f →
+    modulo (converted_to f (pos v)) (2 ^ 64) ≡ v
 unfolding IsForm
 kept-unsigned truth v h s below = ap (λ n. n % 2 ^ 64) (truth_of-pos v below) ∙ mod-eq_of_lt (omega arith)
 kept-unsigned (unsigned w) v h s below =
@@ -188,24 +193,28 @@ converted_to-itself (signed w) (negsuc n) h low high =
 -- ---- the low bits of a conversion
 
 -- the bits of a converted number are those of the number
-pub modulo-converted_to : (f : Form) (z : ℤ) → 1 < width_of f → modulo (converted_to f z) (2 ^ width_of f) ≡ modulo z (2 ^ width_of f)
+pub modulo-converted_to : (f : Form) (z : ℤ) → 1 < width_of f →
+    modulo (converted_to f z) (2 ^ width_of f) ≡ modulo z (2 ^ width_of f)
 modulo-converted_to truth z h = absurd (omega arith)
 modulo-converted_to (unsigned w) z h = mod-eq_of_lt (modulo-below z (2 ^ w) (pow_pos w))
 modulo-converted_to (signed w) z h = modulo-twos_complement w (modulo z (2 ^ w)) (modulo-below z (2 ^ w) (pow_pos w))
 
-modulo-narrower : (f : Form) (z : ℤ) (v : ℕ) → 1 < width_of f → v ≤ width_of f → modulo (converted_to f z) (2 ^ v) ≡ modulo z (2 ^ v)
+modulo-narrower : (f : Form) (z : ℤ) (v : ℕ) → 1 < width_of f → v ≤ width_of f →
+    modulo (converted_to f z) (2 ^ v) ≡ modulo z (2 ^ v)
 modulo-narrower f z v h le =
     sym (modulo-low (converted_to f z) v (width_of f) le) ∙ ap (λ n. modulo (pos n) (2 ^ v)) (modulo-converted_to f z h)
     ∙ modulo-low z v (width_of f) le
 
 -- a conversion to a form that is no wider than one before it
-pub converted_to-narrower : (f g : Form) (z : ℤ) → 1 < width_of g → width_of g ≤ width_of f → converted_to g (converted_to f z) ≡ converted_to g z
+pub converted_to-narrower : (f g : Form) (z : ℤ) → 1 < width_of g → width_of g ≤ width_of f →
+    converted_to g (converted_to f z) ≡ converted_to g z
 converted_to-narrower f truth z h le = absurd (omega arith)
 converted_to-narrower f (unsigned v) z h le = ap pos (modulo-narrower f z v (omega arith) le)
 converted_to-narrower f (signed v) z h le = ap (twos_complement v) (modulo-narrower f z v (omega arith) le)
 
 -- numbers with the same bits are converted to one number
-pub converted_to-same : (f : Form) (x y : ℤ) → 1 < width_of f → modulo x (2 ^ width_of f) ≡ modulo y (2 ^ width_of f) → converted_to f x ≡ converted_to f y
+pub converted_to-same : (f : Form) (x y : ℤ) → 1 < width_of f → modulo x (2 ^ width_of f) ≡ modulo y (2 ^ width_of f) →
+    converted_to f x ≡ converted_to f y
 converted_to-same truth x y h e = absurd (omega arith)
 converted_to-same (unsigned w) x y h e = ap pos e
 converted_to-same (signed w) x y h e = ap (twos_complement w) e

@@ -2,10 +2,13 @@
 use Rattle.std.proofs.Common.{◌≡◌, ℕ, ◌^◌, ◌<◌, ◌≤◌, ℤ, pos, ap, ◌∙◌, lit<, subst, false}
 use Rattle.ck_int.specs.declared.kinds.IntKind.{IntKind}
 use Rattle.ck_int.specs.declared.kinds.IntOp.{IntOp}
-use Rattle.ck_int.specs.Kinds.{unsigned, modulo, form_of, width_of, is_signed, Represents, IsKept, reduced, kept_of, wrapped, value_of, converted}
+use Rattle.ck_int.specs.Kinds.{unsigned, modulo, form_of, width_of, is_signed, Represents, IsKept, reduced, kept_of}
+use Rattle.ck_int.specs.Kinds.{wrapped, value_of, converted}
 use Rattle.ck_int.specs.Arithmetic.{binary_of}
 use Rattle.ck_int.proofs.Modulo.{modulo-below}
-use Rattle.ck_int.proofs.Forms.{kept-unsigned, kept-unsigned_below, form_of-IsForm, converted_to-kept, converted_to-itself, least-converted_to, converted_to-greatest, converted_to-narrower, modulo-converted_to, width_of-IsForm}
+use Rattle.ck_int.proofs.Forms.{kept-unsigned, kept-unsigned_below, form_of-IsForm, converted_to-kept}
+use Rattle.ck_int.proofs.Forms.{converted_to-itself, least-converted_to, converted_to-greatest, converted_to-narrower}
+use Rattle.ck_int.proofs.Forms.{modulo-converted_to, width_of-IsForm}
 
 -- ---- numbers of a kind
 
@@ -27,7 +30,8 @@ unfolding reduced
 reduced-represented k z h = converted_to-itself (form_of k) z (form_of-IsForm k) h.low h.high
 
 -- and another differs from what it is reduced to by a multiple of 2 ^ width (C11 6.3.1.3p2)
-pub modulo-reduced : (k : IntKind) (z : ℤ) → 1 < width_of (form_of k) → modulo (reduced k z) (2 ^ width_of (form_of k)) ≡ modulo z (2 ^ width_of (form_of k))
+pub modulo-reduced : (k : IntKind) (z : ℤ) → 1 < width_of (form_of k) →
+    modulo (reduced k z) (2 ^ width_of (form_of k)) ≡ modulo z (2 ^ width_of (form_of k))
 unfolding reduced
 modulo-reduced k z h = modulo-converted_to (form_of k) z h
 
@@ -78,9 +82,11 @@ pub IsKept-unsigned : (k : IntKind) (v : ℕ) → is_signed (form_of k) ≡ fals
 unfolding wrapped reduced kept_of
 IsKept-unsigned k v s h = record { kept = kept-unsigned (form_of k) v (form_of-IsForm k) s h }
 
-pub IsKept-unsigned_below : (k : IntKind) (v : ℕ) → is_signed (form_of k) ≡ false → IsKept k v → v < 2 ^ width_of (form_of k)
+pub IsKept-unsigned_below : (k : IntKind) (v : ℕ) → is_signed (form_of k) ≡ false → IsKept k v →
+    v < 2 ^ width_of (form_of k)
 unfolding wrapped reduced kept_of
-IsKept-unsigned_below k v s h = subst (λ n. n < 2 ^ width_of (form_of k)) h.kept (kept-unsigned_below (form_of k) (pos v) s)
+IsKept-unsigned_below k v s h =
+    subst (λ n. n < 2 ^ width_of (form_of k)) h.kept (kept-unsigned_below (form_of k) (pos v) s)
 
 -- ---- conversions
 
@@ -98,16 +104,19 @@ unfolding converted
 converted-same k v h = wrapped-kept k v h
 
 -- a conversion through a kind that has the number
-pub converted-through : (from by to : IntKind) (v : ℕ) → Represents by (value_of from v) → converted by to (converted from by v) ≡ converted from to v
+pub converted-through : (from by to : IntKind) (v : ℕ) → Represents by (value_of from v) →
+    converted by to (converted from by v) ≡ converted from to v
 unfolding converted
 converted-through from by to v h = ap (wrapped to) (value_of-represented by (value_of from v) h)
 
 -- a conversion to a kind that is no wider than the one before it
-pub reduced-narrower : (by to : IntKind) (z : ℤ) → 1 < width_of (form_of to) → width_of (form_of to) ≤ width_of (form_of by) → reduced to (reduced by z) ≡ reduced to z
+pub reduced-narrower : (by to : IntKind) (z : ℤ) → 1 < width_of (form_of to) →
+    width_of (form_of to) ≤ width_of (form_of by) → reduced to (reduced by z) ≡ reduced to z
 unfolding reduced
 reduced-narrower by to z h le = converted_to-narrower (form_of by) (form_of to) z h le
 
-pub converted-narrower : (from by to : IntKind) (v : ℕ) → 1 < width_of (form_of to) → width_of (form_of to) ≤ width_of (form_of by) → converted by to (converted from by v) ≡ converted from to v
+pub converted-narrower : (from by to : IntKind) (v : ℕ) → 1 < width_of (form_of to) →
+    width_of (form_of to) ≤ width_of (form_of by) → converted by to (converted from by v) ≡ converted from to v
 unfolding converted wrapped
 converted-narrower from by to v h le =
     ap (wrapped to) (value_of-wrapped by (value_of from v)) ∙ ap kept_of (reduced-narrower by to (value_of from v) h le)
@@ -115,4 +124,5 @@ converted-narrower from by to v h le =
 -- the low 64 bits of a number are enough to reduce it to a kind other than `_Bool`
 pub wrapped-kept_of : (k : IntKind) (z : ℤ) → 1 < width_of (form_of k) → wrapped k (pos (kept_of z)) ≡ wrapped k z
 unfolding wrapped reduced kept_of
-wrapped-kept_of k z h = ap kept_of (converted_to-narrower (unsigned 64) (form_of k) z h (width_of-IsForm (form_of k) (form_of-IsForm k)))
+wrapped-kept_of k z h = ap kept_of (converted_to-narrower (unsigned 64) (form_of k) z h
+    (width_of-IsForm (form_of k) (form_of-IsForm k)))

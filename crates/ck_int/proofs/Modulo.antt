@@ -49,7 +49,8 @@ int_wrap-modulo w (pos n) = refl
 int_wrap-modulo w (negsuc n) = refl
 
 -- bits that are read as what is left of z are the bits of z
-pub modulo-from_int_wrap : (w : Width) (z : ℤ) (n : ℕ) → n < 2 ^ bits w → cast_signed w n ≡ int_wrap w z → modulo z (2 ^ bits w) ≡ n
+pub modulo-from_int_wrap : (w : Width) (z : ℤ) (n : ℕ) → n < 2 ^ bits w → cast_signed w n ≡ int_wrap w z →
+    modulo z (2 ^ bits w) ≡ n
 modulo-from_int_wrap w z n h e =
     sym (of_z-to_z w (modulo z (2 ^ bits w)) (modulo-below z (2 ^ bits w) (pow_pos (bits w))))
     ∙ ap (cast_unsigned w) (sym (int_wrap-modulo w z) ∙ sym e) ∙ of_z-to_z w n h

@@ -1,9 +1,11 @@
 -- Laws of the operations and the comparisons, for the crates above.
-use Rattle.std.proofs.Common.{◌≡◌, ℕ, ◌+◌, ◌-◌, ◌*◌, ◌%◌, ◌^◌, ◌<◌, ◌≤◌, ℤ, pos, negsuc, ◌+ℤ◌, ◌-ℤ◌, ◌*ℤ◌, neg_ℤ, arith, sym, ap, ◌∙◌, refl, lit<, lit≤, Bool, true, false, not, max}
+use Rattle.std.proofs.Common.{◌≡◌, ℕ, ◌+◌, ◌-◌, ◌*◌, ◌%◌, ◌^◌, ◌<◌, ◌≤◌, ℤ, pos, negsuc, ◌+ℤ◌, ◌-ℤ◌, ◌*ℤ◌, neg_ℤ, arith}
+use Rattle.std.proofs.Common.{sym, ap, ◌∙◌, refl, lit<, lit≤, Bool, true, false, not, max}
 use Rattle.std.proofs.Math.Nat.{mod-eq_of_lt, lt_trans}
 use Rattle.std.proofs.lemmas.Bool.Decides.{Decides-int_eq, nat_tests}
 use Rattle.std.specs.Ordering.{int_eq}
-use Rattle.std.proofs.lemmas.Int.{int_wrap-add_left, int_wrap-add_right, int_wrap-sub_right, int_wrap-mul_left, int_wrap-mul_right}
+use Rattle.std.proofs.lemmas.Int.{int_wrap-add_left, int_wrap-add_right, int_wrap-sub_right, int_wrap-mul_left}
+use Rattle.std.proofs.lemmas.Int.{int_wrap-mul_right}
 use Rattle.std.proofs.lemmas.Nat.{and_mod, or_mod, xor_mod, pow_pos}
 use Rattle.std.specs.Int.{Width, w8, w16, w32, w64, cast_signed, int_wrap}
 use mir.Val.{bits}
@@ -16,12 +18,15 @@ use Rattle.ck_int.specs.declared.kinds.IntOp.TheVariants.{Add, Sub, Mul, Div, Re
 use Rattle.ck_int.specs.declared.kinds.CmpOp.{CmpOp}
 use Rattle.ck_int.specs.declared.kinds.CmpOp.TheVariants.{Lt, Le, Gt, Ge, Eq, Ne}
 use Rattle.ck_int.specs.Arithmetic.{result_of, promoted_width_of, binary_of, comparison_of, compare_of}
-use Rattle.ck_int.specs.Kinds.{Form, truth, unsigned, signed, form_of, width_of, modulo, twos_complement, truth_of, IsKept, reduced, kept_of, wrapped, value_of, converted}
+use Rattle.ck_int.specs.Kinds.{Form, truth, unsigned, signed, form_of, width_of, modulo, twos_complement, truth_of}
+use Rattle.ck_int.specs.Kinds.{IsKept, reduced, kept_of, wrapped, value_of, converted}
 use Rattle.ck_int.specs.Words.{word_of, word_result_of}
 use Rattle.ck_int.proofs.Forms.{truth_of-below, converted_to-same}
 use Rattle.ck_int.proofs.Laws.{modulo-reduced, value_of-wrapped, reduced-narrower, kept_of-below, IsKept-below}
 use Rattle.ck_int.proofs.Modulo.{modulo-below, modulo-low, int_wrap-modulo, modulo-from_int_wrap}
-use Rattle.ck_int.proofs.WordLaws.{binary_of-word, value_of-word, word_result_of-Add, word_result_of-Sub, word_result_of-Mul, word_result_of-And, word_result_of-Or, word_result_of-Xor, word_result_of-Shl, not-int_lt, kept_of-pos, compare_of-Eq}
+use Rattle.ck_int.proofs.WordLaws.{binary_of-word, value_of-word, word_result_of-Add, word_result_of-Sub}
+use Rattle.ck_int.proofs.WordLaws.{word_result_of-Mul, word_result_of-And, word_result_of-Or, word_result_of-Xor}
+use Rattle.ck_int.proofs.WordLaws.{word_result_of-Shl, not-int_lt, kept_of-pos, compare_of-Eq}
 
 -- ---- sums, differences, products, bits and left shifts: the low bits of the operands are enough
 
@@ -46,18 +51,23 @@ module _ (w : Width) (op : ℤ → ℤ → ℤ)
   both : (x y : ℤ) → int_wrap w (op (int_wrap w x) (int_wrap w y)) ≡ int_wrap w (op x y)
   both x y = right (int_wrap w x) y ∙ left x y
 
-  SameBits-op : (x x' y y' : ℤ) → SameBits (bits w) x x' → SameBits (bits w) y y' → SameBits (bits w) (op x y) (op x' y')
+  SameBits-op : (x x' y y' : ℤ) → SameBits (bits w) x x' → SameBits (bits w) y y' →
+      SameBits (bits w) (op x y) (op x' y')
   SameBits-op x x' y y' e f =
       SameBits-from_int_wrap w (op x y) (op x' y')
-      (sym (both x y) ∙ (λ i. int_wrap w (op (int_wrap-SameBits w x x' e i) (int_wrap-SameBits w y y' f i))) ∙ both x' y')
+      (sym (both x y) ∙ (λ i. int_wrap w (op (int_wrap-SameBits w x x' e i) (int_wrap-SameBits w y y' f i)))
+      ∙ both x' y')
 
-SameBits-add : (w : Width) (x x' y y' : ℤ) → SameBits (bits w) x x' → SameBits (bits w) y y' → SameBits (bits w) (x +ℤ y) (x' +ℤ y')
+SameBits-add : (w : Width) (x x' y y' : ℤ) → SameBits (bits w) x x' → SameBits (bits w) y y' →
+    SameBits (bits w) (x +ℤ y) (x' +ℤ y')
 SameBits-add w = SameBits-op w (λ x y. x +ℤ y) (int_wrap-add_left w) (int_wrap-add_right w)
 
-SameBits-sub : (w : Width) (x x' y y' : ℤ) → SameBits (bits w) x x' → SameBits (bits w) y y' → SameBits (bits w) (x -ℤ y) (x' -ℤ y')
+SameBits-sub : (w : Width) (x x' y y' : ℤ) → SameBits (bits w) x x' → SameBits (bits w) y y' →
+    SameBits (bits w) (x -ℤ y) (x' -ℤ y')
 SameBits-sub w = SameBits-op w (λ x y. x -ℤ y) (λ x y. int_wrap-add_left w x (neg_ℤ y)) (int_wrap-sub_right w)
 
-SameBits-mul : (w : Width) (x x' y y' : ℤ) → SameBits (bits w) x x' → SameBits (bits w) y y' → SameBits (bits w) (x *ℤ y) (x' *ℤ y')
+SameBits-mul : (w : Width) (x x' y y' : ℤ) → SameBits (bits w) x x' → SameBits (bits w) y y' →
+    SameBits (bits w) (x *ℤ y) (x' *ℤ y')
 SameBits-mul w = SameBits-op w (λ x y. x *ℤ y) (int_wrap-mul_left w) (int_wrap-mul_right w)
 
 -- the low bits of the 64 bits
@@ -67,7 +77,8 @@ kept_of-low w x h = modulo-low x w 64 h
 
 -- a bitwise operation whose low bits are those of its operands' low bits
 SameBits-bitwise : (op : ℕ → ℕ → ℕ) → ((a b k : ℕ) → op a b % 2 ^ k ≡ op (a % 2 ^ k) (b % 2 ^ k))
-    → (w : ℕ) → w ≤ 64 → (x x' y y' : ℤ) → SameBits w x x' → SameBits w y y' → SameBits w (pos (op (kept_of x) (kept_of y))) (pos (op (kept_of x') (kept_of y')))
+    → (w : ℕ) → w ≤ 64 → (x x' y y' : ℤ) → SameBits w x x' → SameBits w y y' →
+    SameBits w (pos (op (kept_of x) (kept_of y))) (pos (op (kept_of x') (kept_of y')))
 unfolding SameBits
 SameBits-bitwise op low w h x x' y y' e f =
     let bits_of : (u v : ℤ) → op (kept_of u) (kept_of v) % 2 ^ w ≡ op (modulo u (2 ^ w)) (modulo v (2 ^ w)) =
@@ -109,7 +120,8 @@ module _ (w : Width) (count : ℕ) (few : count ≤ bits w) (whole : bits w ≤ 
 
 SameBits-at : (op : IntOp) (k : IntKind) → IsModular op → 1 < width_of (form_of k) → (x x' y y' : ℤ)
     → SameBits (width_of (form_of k)) x x' → SameBits (width_of (form_of k)) y y'
-    → SameBits (width_of (form_of k)) (result_of op (promoted_width_of k) x y) (result_of op (promoted_width_of k) x' y')
+    → SameBits (width_of (form_of k)) (result_of op (promoted_width_of k) x y)
+    (result_of op (promoted_width_of k) x' y')
 SameBits-at op kind.Bool m h = absurd (omega arith)
 SameBits-at op kind.I8 m h = SameBits-result_of w8 5 (lit≤ tt) (lit≤ tt) op m
 SameBits-at op kind.U8 m h = SameBits-result_of w8 5 (lit≤ tt) (lit≤ tt) op m
@@ -120,11 +132,13 @@ SameBits-at op kind.U32 m h = SameBits-result_of w32 5 (lit≤ tt) (lit≤ tt) o
 SameBits-at op kind.I64 m h = SameBits-result_of w64 6 (lit≤ tt) (lit≤ tt) op m
 SameBits-at op kind.U64 m h = SameBits-result_of w64 6 (lit≤ tt) (lit≤ tt) op m
 
-SameBits-value_of : (k : IntKind) (a : ℕ) → 1 < width_of (form_of k) → SameBits (width_of (form_of k)) (value_of k a) (pos a)
+SameBits-value_of : (k : IntKind) (a : ℕ) → 1 < width_of (form_of k) →
+    SameBits (width_of (form_of k)) (value_of k a) (pos a)
 unfolding SameBits value_of
 SameBits-value_of k a h = modulo-reduced k (pos a) h
 
-wrapped-SameBits : (k : IntKind) (x y : ℤ) → 1 < width_of (form_of k) → SameBits (width_of (form_of k)) x y → wrapped k x ≡ wrapped k y
+wrapped-SameBits : (k : IntKind) (x y : ℤ) → 1 < width_of (form_of k) → SameBits (width_of (form_of k)) x y →
+    wrapped k x ≡ wrapped k y
 unfolding SameBits wrapped reduced
 wrapped-SameBits k x y h e = ap kept_of (converted_to-same (form_of k) x y h e)
 
@@ -134,11 +148,13 @@ pub binary_of-modular : (op : IntOp) (k : IntKind) (a b : ℕ) → IsModular op 
 unfolding binary_of
 binary_of-modular op k a b m h =
     wrapped-SameBits k _ _ h
-    (SameBits-at op k m h (value_of k a) (pos a) (value_of k b) (pos b) (SameBits-value_of k a h) (SameBits-value_of k b h))
+    (SameBits-at op k m h (value_of k a) (pos a) (value_of k b) (pos b) (SameBits-value_of k a h)
+    (SameBits-value_of k b h))
 
--- An operation at one kind, converted to a kind that is no wider, is the operation there. The last premise is `refl` at two kinds
--- that are known, for a left shift at kinds whose promoted widths are equal
-pub binary_of-narrower : (op : IntOp) (j k : IntKind) (a b : ℕ) → IsModular op → 1 < width_of (form_of k) → width_of (form_of k) ≤ width_of (form_of j)
+-- An operation at one kind, converted to a kind that is no wider, is the operation there. The last premise is `refl` at
+-- two kinds that are known, for a left shift at kinds whose promoted widths are equal
+pub binary_of-narrower : (op : IntOp) (j k : IntKind) (a b : ℕ) → IsModular op → 1 < width_of (form_of k) →
+    width_of (form_of k) ≤ width_of (form_of j)
     → result_of op (promoted_width_of j) (pos a) (pos b) ≡ result_of op (promoted_width_of k) (pos a) (pos b)
     → converted j k (binary_of op j a b) ≡ binary_of op k a b
 unfolding converted wrapped
@@ -209,10 +225,12 @@ value_of-word_kind (signed w) a h = ap (twos_complement 64) (mod-eq_of_lt h)
 -- a kept number is the same number at 64 bits
 pub value_of-kept : (k : IntKind) (a : ℕ) → IsKept k a → value_of (word_kind (form_of k)) a ≡ value_of k a
 value_of-kept k a h =
-    value_of-word_kind (form_of k) a (IsKept-below k a h) ∙ ap (word_of (form_of k)) (sym h.kept) ∙ sym (value_of-word k a)
+    value_of-word_kind (form_of k) a (IsKept-below k a h) ∙ ap (word_of (form_of k)) (sym h.kept)
+    ∙ sym (value_of-word k a)
 
 -- kept numbers are compared at 64 bits
-pub compare_of-kept : (op : CmpOp) (k : IntKind) (a b : ℕ) → IsKept k a → IsKept k b → compare_of op (word_kind (form_of k)) a b ≡ compare_of op k a b
+pub compare_of-kept : (op : CmpOp) (k : IntKind) (a b : ℕ) → IsKept k a → IsKept k b →
+    compare_of op (word_kind (form_of k)) a b ≡ compare_of op k a b
 unfolding compare_of
 compare_of-kept op k a b h j = λ i. comparison_of op (value_of-kept k a h i) (value_of-kept k b j i)
 

@@ -1,5 +1,6 @@
 -- The binary operations and the comparisons, on whole numbers.
-use Rattle.std.specs.Prelude.{ℕ, ◌^◌, max, Bool, not, if◌then◌else◌, ℤ, pos, negsuc, ◌+ℤ◌, ◌-ℤ◌, ◌*ℤ◌, int_div, int_rem, int_lt, int_le, bit_and, bit_or, bit_xor}
+use Rattle.std.specs.Prelude.{ℕ, ◌^◌, max, Bool, not, if◌then◌else◌, ℤ, pos, negsuc, ◌+ℤ◌, ◌-ℤ◌, ◌*ℤ◌, int_div, int_rem}
+use Rattle.std.specs.Prelude.{int_lt, int_le, bit_and, bit_or, bit_xor}
 use Rattle.std.specs.Int.{int_div_euclid}
 use Rattle.std.specs.Ordering.{int_eq}
 use Rattle.ck_int.specs.declared.kinds.IntKind.{IntKind}
@@ -21,7 +22,8 @@ remainder x y = (if int_eq y (pos 0) then x else int_rem x y)
 abbrev pub promoted_width_of : IntKind → ℕ
 promoted_width_of k = max 32 (width_of (form_of k))
 
--- What an operation gives before it is reduced to its kind. The last argument but two is the width of the promoted left operand
+-- What an operation gives before it is reduced to its kind. The last argument but two is the width of the promoted left
+-- operand
 abbrev pub result_of : IntOp → ℕ → ℤ → ℤ → ℤ
 result_of Add w x y = x +ℤ y
 result_of Sub w x y = x -ℤ y

@@ -1,11 +1,12 @@
--- The kinds of integers: the whole numbers that each has, the conversion to it, and the 64 bits in which a number is kept.
--- A whole number is a ℤ: `pos n` is n, and `negsuc n` is -1 - n.
-use Rattle.std.specs.Prelude.{◌≡◌, ℕ, ◌-◌, ◌%◌, ◌^◌, Bool, true, false, if◌then◌else◌, nat_lt, ◌==◌, ℤ, pos, negsuc, ◌-ℤ◌, ◌≤ℤ◌, neg_ℤ}
+-- The kinds of integers: the whole numbers that each has, the conversion to it, and the 64 bits in which a number is
+-- kept. A whole number is a ℤ: `pos n` is n, and `negsuc n` is -1 - n.
+use Rattle.std.specs.Prelude.{◌≡◌, ℕ, ◌-◌, ◌%◌, ◌^◌, Bool, true, false, if◌then◌else◌, nat_lt, ◌==◌, ℤ, pos, negsuc}
+use Rattle.std.specs.Prelude.{◌-ℤ◌, ◌≤ℤ◌, neg_ℤ}
 use Rattle.ck_int.specs.declared.kinds.IntKind.{IntKind}
 use Rattle.ck_int.specs.declared.kinds.IntKind.TheVariants as kind
 
--- What a kind has (C11 6.2.5, 6.2.6.2): the truth values 0 and 1; the numbers of w bits without a sign, from 0 to 2^w - 1;
--- or those of w bits in two's complement, from -2^(w-1) to 2^(w-1) - 1
+-- What a kind has (C11 6.2.5, 6.2.6.2): the truth values 0 and 1; the numbers of w bits without a sign, from 0 to 2^w -
+-- 1; or those of w bits in two's complement, from -2^(w-1) to 2^(w-1) - 1
 pub data Form : Type 0 where
   truth : Form
   unsigned : ℕ → Form
@@ -84,7 +85,8 @@ kept_of z = modulo z (2 ^ 64)
 unfoldable pub wrapped : IntKind → ℤ → ℕ
 wrapped k z = kept_of (reduced k z)
 
--- the number that 64 bits v stand for as an operand of a kind. Where they don't keep a number of the kind, v is first reduced to it
+-- the number that 64 bits v stand for as an operand of a kind. Where they don't keep a number of the kind, v is first
+-- reduced to it
 unfoldable pub value_of : IntKind → ℕ → ℤ
 value_of k v = reduced k (pos v)
 

@@ -9,9 +9,10 @@ use super::kinds::{IntKind, IntOp};
 
 /// An operation on the values that `a` and `b` keep at a kind, the result reduced to the kind.
 ///
-/// Each operation is defined for all operands: sums, differences, products and left shifts wrap; a quotient by zero is all
-/// ones, and the remainder by zero is the dividend; the least number divided by -1 is itself, with the remainder 0; and a
-/// shift count is taken modulo the width of the promoted left operand, which is 64 at `I64` and `U64` and otherwise 32.
+/// Each operation is defined for all operands: sums, differences, products and left shifts wrap; a quotient by zero is
+/// all ones, and the remainder by zero is the dividend; the least number divided by -1 is itself, with the remainder 0;
+/// and a shift count is taken modulo the width of the promoted left operand, which is 64 at `I64` and `U64` and
+/// otherwise 32.
 pub fn binary(op: IntOp, kind: IntKind, a: u64, b: u64) -> u64
     ensures value { result ≡ binary_of op kind a b }
     ensures kept { IsKept kind result }

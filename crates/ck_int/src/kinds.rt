@@ -1,8 +1,8 @@
 ghost use Rattle.std.specs.Prelude.{◌≡◌};
 ghost use Rattle.ck_int.specs.Kinds.{form_of, is_signed};
 
-/// The kinds of integers: C11's `_Bool`, and for 8, 16, 32 and 64 bits the kind in two's complement and the kind without
-/// a sign (C11 6.2.5, 6.2.6.2).
+/// The kinds of integers: C11's `_Bool`, and for 8, 16, 32 and 64 bits the kind in two's complement and the kind
+/// without a sign (C11 6.2.5, 6.2.6.2).
 #[derive(Clone, Copy, PartialEq, Eq, Debug)]
 pub enum IntKind {
     /// 0 and 1.

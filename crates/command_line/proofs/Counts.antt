@@ -8,7 +8,8 @@ use Rattle.std.specs.Str.Parse.{ParsesUnsigned}
 use Rattle.command_line.specs.Lines.{IsCount}
 
 -- is read as that number
-pub count_read : {E : Type 0} (word : List ℕ) (n : ℕ) (r : Result ℕ E) → ParsesUnsigned 32 10 word r → IsCount word n → r ≡ Ok n
+pub count_read : {E : Type 0} (word : List ℕ) (n : ℕ) (r : Result ℕ E) → ParsesUnsigned 32 10 word r → IsCount word n →
+    r ≡ Ok n
 count_read word n r parsed count =
     let small = count.at_most in
     parse-decimal 32 n word r (omega arith) (omega arith) count.is parsed

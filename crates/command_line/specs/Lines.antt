@@ -18,7 +18,8 @@ pub data Mode : Type 0 where
   ShowMap : (sizes : Sizes) → Mode
   ShowListing : (sizes : Sizes) → Mode
 
--- What a line of words asks for: a mode with the file of a name, or to generate a C file of so many functions and run it
+-- What a line of words asks for: a mode with the file of a name, or to generate a C file of so many functions and run
+-- it
 pub data Line : Type 0 where
   OfFile : (name : List ℕ) → (mode : Mode) → Line
   Generate : (functions : ℕ) → (steps : ℕ) → (sizes : Sizes) → Line
@@ -137,7 +138,8 @@ AsksMode word name o (ShowListing sizes) = (word ≡ codes "list") × (sizes ≡
 -- the words MODE and FILE ask for a line
 abbrev pub Asks : Text → Text → Options → Line → Type 0
 Asks word file o (OfFile name mode) = (name ≡ file) × AsksMode word file o mode
-Asks word file o (Generate n steps sizes) = (word ≡ codes "gen") × IsCount file n × (steps ≡ steps_of o) × (sizes ≡ sizes_of o)
+Asks word file o (Generate n steps sizes) =
+    (word ≡ codes "gen") × IsCount file n × (steps ≡ steps_of o) × (sizes ≡ sizes_of o)
 
 -- what is given is a line: the numbers are numbers, the sizes are in range, and the words MODE and FILE ask for it
 pub record IsGiven (given : Text → Option Text) (line : Line) : Type 0 where
@@ -149,6 +151,7 @@ pub record IsGiven (given : Text → Option Text) (line : Line) : Type 0 where
   pub file : given (codes "file") ≡ Some name
   pub asks : Asks word name (options_in given) line
 
--- The words are the line: behind the program's name stand the mode, the file's name, and options anywhere, as `clap` takes them
+-- The words are the line: behind the program's name stand the mode, the file's name, and options anywhere, as `clap`
+-- takes them
 abbrev pub IsLine : List Text → Line → Type 0
 IsLine words line = Takes words × IsGiven (given_in words) line

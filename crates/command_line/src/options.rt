@@ -45,7 +45,8 @@ fn number(word: &str) -> Option<u64>
 
 /// The number of an option, if it is there; none where it is there and its value is no number.
 fn number_of(word: Option<&str>) -> Option<Option<u64>>
-    ensures { MatchOption result (IsNumberIfGiven (text_in word.entry) → ⊥) (λ n. IsNumberIfGiven (text_in word.entry) × (n ≡ number_in (text_in word.entry))) }
+    ensures { MatchOption result (IsNumberIfGiven (text_in word.entry) → ⊥)
+        (λ n. IsNumberIfGiven (text_in word.entry) × (n ≡ number_in (text_in word.entry))) }
 {
     match word {
         None => Some(None),

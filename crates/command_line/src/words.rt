@@ -45,7 +45,8 @@ fn command<'a>(alloc: Global) -> Result<Command<'a>, NoMemory>
 /// What the words give under each name; none where the command doesn't take them.
 fn matches_of<'a>(alloc: Global, words: &'a [String]) -> Result<Option<ArgMatches<'a>>, NoMemory>
     ensures { let words = map (λ s. string_bytes s) words.entry.now in
-        IfOk result (λ found. MatchOption found (Takes words → ⊥) (λ m. Takes words × ((id : List ℕ) → first_value (found_of m) id ≡ given_in words id))) }
+        IfOk result (λ found. MatchOption found (Takes words → ⊥)
+        (λ m. Takes words × ((id : List ℕ) → first_value (found_of m) id ≡ given_in words id))) }
 {
     match command(alloc)?.try_get_matches_from(words) {
         Ok(matches) => Ok(Some(matches)),
@@ -57,7 +58,8 @@ fn matches_of<'a>(alloc: Global, words: &'a [String]) -> Result<Option<ArgMatche
 /// The line that the words are, if they are one. They begin with the program's name.
 pub fn line_of<'a>(alloc: Global, words: &'a [String]) -> Result<Option<Line<'a>>, NoMemory>
     ensures is { let words = map (λ s. string_bytes s) words.entry.now in
-        IfOk result (λ found. MatchOption found ((line : LineOf) → IsLine words line → ⊥) (λ line. IsLine words (line_of line))) }
+        IfOk result (λ found. MatchOption found ((line : LineOf) → IsLine words line → ⊥)
+        (λ line. IsLine words (line_of line))) }
     // The sizes of a line and the number of functions that it asks for are in range.
     ensures ranged { IfOk result (λ found. IfSome found IsLineInRange) }
 {

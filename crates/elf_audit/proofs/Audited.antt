@@ -1,13 +1,19 @@
 -- A text of whole granules is contained exactly where no word of it breaks a rule.
-use Rattle.std.proofs.Common.{◌≡◌, ℕ, zero, suc, ◌+◌, ◌-◌, ◌*◌, ◌/◌, ◌%◌, ◌<◌, ◌&&◌, ◌||◌, ◌==◌, inl, inr, Bool, true, false, cond, List, [], ◌∷◌, length, Option, Some, None, refl, sym, ap, ◌∙◌, subst, arith}
+use Rattle.std.proofs.Common.{◌≡◌, ℕ, zero, suc, ◌+◌, ◌-◌, ◌*◌, ◌/◌, ◌%◌, ◌<◌, ◌&&◌, ◌||◌, ◌==◌, inl, inr, Bool, true}
+use Rattle.std.proofs.Common.{false, cond, List, [], ◌∷◌, length, Option, Some, None, refl, sym, ap, ◌∙◌, subst, arith}
 use Rattle.std.specs.Prelude.{not, nat_le, nat_lt, Contains, slice_index_or}
-use Rattle.std.proofs.lemmas.Bool.{false≢true, both_ways, cases_Bool, cases_lt, and_parts, and_from, and_left, and_right, or_from, or_cases, or_left, or_right, leb-true, ltb-true, eqb-true, le-leb, lt-ltb, eq-eqb, not-false, not_from_true, false_from_ne_true}
+use Rattle.std.proofs.lemmas.Bool.{false≢true, both_ways, cases_Bool, cases_lt, and_parts, and_from, and_left}
+use Rattle.std.proofs.lemmas.Bool.{and_right, or_from, or_cases, or_left, or_right, leb-true, ltb-true, eqb-true}
+use Rattle.std.proofs.lemmas.Bool.{le-leb, lt-ltb, eq-eqb, not-false, not_from_true, false_from_ne_true}
 use Rattle.std.proofs.lemmas.Option.{same_Some}
 use Rattle.rv_instr.specs.declared.instr.Instr.{Instr}
-use Rattle.rv_instr.specs.declared.instr.Instr.TheVariants.{Upper, Cjal, Cjalr, Branch, Load, Store, Clc, Imm, Shift, Op, Ecall, Ebreak, CapImm, CapReg, CapGet}
+use Rattle.rv_instr.specs.declared.instr.Instr.TheVariants.{Upper, Cjal, Cjalr, Branch, Load, Store, Clc, Imm, Shift}
+use Rattle.rv_instr.specs.declared.instr.Instr.TheVariants.{Op, Ecall, Ebreak, CapImm, CapReg, CapGet}
 use Rattle.cap_machine.specs.Step.{is_call}
-use Rattle.cap_machine.specs.ContainedText.{Text, end_of, IsPlace, instr_at, Stands, is_allowed, target, is_plain_jump, sets_service, IsContainedText}
-use Rattle.elf_audit.specs.Audit.{holds, is_place, leads_inside, leads_to, is_target, is_among, follows_service, reason_by, NoWord}
+use Rattle.cap_machine.specs.ContainedText.{Text, end_of, IsPlace, instr_at, Stands, is_allowed, target, is_plain_jump}
+use Rattle.cap_machine.specs.ContainedText.{sets_service, IsContainedText}
+use Rattle.elf_audit.specs.Audit.{holds, is_place, leads_inside, leads_to, is_target, is_among, follows_service}
+use Rattle.elf_audit.specs.Audit.{reason_by, NoWord}
 
 call_is : (i : Instr) → is_call i ≡ true → i ≡ Ecall
 call_is Ecall h = refl
@@ -35,9 +41,11 @@ place_true t x h =
     record { from = leb-true _ _ b.0; below = ltb-true _ _ b.1; even = eqb-true _ _ a.1 }
 
 pub place_from : (t : Text) (x : ℕ) → IsPlace t x → is_place t x ≡ true
-place_from t x p = and_from _ _ (and_from _ _ (le-leb t.base x p.from) (lt-ltb x (end_of t) p.below)) (eq-eqb (x % 4) 0 p.even)
+place_from t x p = and_from _ _ (and_from _ _ (le-leb t.base x p.from) (lt-ltb x (end_of t) p.below))
+    (eq-eqb (x % 4) 0 p.even)
 
-holds_true : (test : Instr → Bool) (o : Option Instr) → holds test o ≡ true → (i : Instr) × (o ≡ Some i) × (test i ≡ true)
+holds_true : (test : Instr → Bool) (o : Option Instr) → holds test o ≡ true →
+    (i : Instr) × (o ≡ Some i) × (test i ≡ true)
 holds_true test None h = absurd (false≢true h)
 holds_true test (Some i) h = (i, refl, h)
 
@@ -69,22 +77,28 @@ record Led (t : Text) (n y : ℕ) : Type 0 where
 led_true : (t : Text) (n y : ℕ) → is_target t n y ≡ true → Led t n y
 unfolding is_target
 led_true t zero y h = absurd (false≢true h)
-led_true t (suc k) y h = elim (or_cases (holds (λ i. leads_to (target i (t.base + 4 * k)) y) (instr_at t (t.base + 4 * k))) (is_target t k y) h) as (λ _. Led t (suc k) y) [
-  | inl here ↦
-      let f = holds_true (λ i. leads_to (target i (t.base + 4 * k)) y) (instr_at t (t.base + 4 * k)) here in
-      record { at = k; below = omega arith; by = f.0; is = f.1; to = to_true (target f.0 (t.base + 4 * k)) y f.2 }
-  | inr there ↦ let l = led_true t k y there in let lt = l.below in record { at = l.at; below = omega arith; by = l.by; is = l.is; to = l.to }
-]
+led_true t (suc k) y h = elim (or_cases (holds (λ i. leads_to (target i (t.base + 4 * k)) y)
+    (instr_at t (t.base + 4 * k))) (is_target t k y) h) as (λ _. Led t (suc k) y) [
+      | inl here ↦
+          let f = holds_true (λ i. leads_to (target i (t.base + 4 * k)) y) (instr_at t (t.base + 4 * k)) here in
+          record { at = k; below = omega arith; by = f.0; is = f.1; to = to_true (target f.0 (t.base + 4 * k)) y f.2 }
+      | inr there ↦ let l = led_true t k y there in let lt = l.below in
+          record { at = l.at; below = omega arith; by = l.by; is = l.is; to = l.to }
+    ]
 
-led_from : (t : Text) (n y k : ℕ) (i : Instr) → k < n → instr_at t (t.base + 4 * k) ≡ Some i → target i (t.base + 4 * k) ≡ Some y → is_target t n y ≡ true
+led_from : (t : Text) (n y k : ℕ) (i : Instr) → k < n → instr_at t (t.base + 4 * k) ≡ Some i →
+    target i (t.base + 4 * k) ≡ Some y → is_target t n y ≡ true
 unfolding is_target
 led_from t zero y k i lt is to = absurd (omega arith)
 led_from t (suc n) y k i lt is to = elim (cases_lt k n) as (λ _. is_target t (suc n) y ≡ true) [
   | inl less ↦ or_right _ (is_target t n y) (led_from t n y k i less is to)
   | inr more ↦
       let e : k ≡ n = omega arith in
-      let here : holds (λ i. leads_to (target i (t.base + 4 * k)) y) (instr_at t (t.base + 4 * k)) ≡ true = ap (holds (λ i. leads_to (target i (t.base + 4 * k)) y)) is ∙ ap (λ o. leads_to o y) to ∙ eq-eqb y y refl in
-      or_left (holds (λ i. leads_to (target i (t.base + 4 * n)) y) (instr_at t (t.base + 4 * n))) (is_target t n y) (subst (λ m. holds (λ i. leads_to (target i (t.base + 4 * m)) y) (instr_at t (t.base + 4 * m)) ≡ true) e here)
+      let here : holds (λ i. leads_to (target i (t.base + 4 * k)) y) (instr_at t (t.base + 4 * k)) ≡ true =
+      ap (holds (λ i. leads_to (target i (t.base + 4 * k)) y)) is ∙ ap (λ o. leads_to o y) to
+      ∙ eq-eqb y y refl in
+      or_left (holds (λ i. leads_to (target i (t.base + 4 * n)) y) (instr_at t (t.base + 4 * n))) (is_target t n y)
+      (subst (λ m. holds (λ i. leads_to (target i (t.base + 4 * m)) y) (instr_at t (t.base + 4 * m)) ≡ true) e here)
 ]
 
 -- ---- a word that breaks no rule
@@ -132,7 +146,8 @@ module _ (t : Text) (base : t.base % 16 ≡ 0) (size : length t.bytes % 16 ≡ 0
 
     ends : (x : ℕ) (i : Instr) → x + 4 ≡ end_of t → IsFine t x i → is_plain_jump i ≡ true
     ends x i end f =
-        let last : (true && not (is_plain_jump i)) ≡ false = sym (ap (λ b. b && not (is_plain_jump i)) (eq-eqb (x + 4) (end_of t) end)) ∙ f.last in
+        let last : (true && not (is_plain_jump i)) ≡ false =
+        sym (ap (λ b. b && not (is_plain_jump i)) (eq-eqb (x + 4) (end_of t) end)) ∙ f.last in
         not-false (is_plain_jump i) last
 
     pub audited : IsContainedText t
@@ -142,23 +157,43 @@ module _ (t : Text) (base : t.base % 16 ≡ 0) (size : length t.bytes % 16 ≡ 0
       targets = λ x y i s e. goes (target i x) y (fine x i s).inside e;
       no_target = λ x y i s e call.
           let k = index x s.place in
-          let led : is_target t (length t.bytes / 4) y ≡ true = led_from t (length t.bytes / 4) y k.0 i k.1 (ap (instr_at t) (sym k.2) ∙ s.is) (ap (target i) (sym k.2) ∙ e) in
-          both_ways (is_target t (length t.bytes / 4) y || is_among t.entries y) (fine y Ecall call).unled (or_left (is_target t (length t.bytes / 4) y) (is_among t.entries y) led);
+          let led : is_target t (length t.bytes / 4) y ≡ true =
+          led_from t (length t.bytes / 4) y k.0 i k.1 (ap (instr_at t) (sym k.2) ∙ s.is)
+          (ap (target i) (sym k.2) ∙ e) in
+          both_ways (is_target t (length t.bytes / 4) y || is_among t.entries y) (fine y Ecall call).unled
+          (or_left (is_target t (length t.bytes / 4) y) (is_among t.entries y) led);
       numbered = λ x call.
-          let a = and_parts (nat_le (t.base + 4) x) (holds sets_service (instr_at t (x - 4))) (not-false (follows_service t x) (fine x Ecall call).follows) in
+          let a = and_parts (nat_le (t.base + 4) x) (holds sets_service (instr_at t (x - 4)))
+          (not-false (follows_service t x) (fine x Ecall call).follows) in
           let low = leb-true (t.base + 4) x a.0 in
           let f = holds_true sets_service (instr_at t (x - 4)) a.1 in
           let below = call.place.below in
           let even = call.place.even in
-          record { sets = f.0; service = f.2; before = x - 4; next = omega arith; stands = record { place = record { from = omega arith; below = omega arith; even = omega arith }; is = f.1 } };
+          record {
+            sets = f.0;
+            service = f.2;
+            before = x - 4;
+            next = omega arith;
+            stands = record {
+              place = record { from = omega arith; below = omega arith; even = omega arith };
+              is = f.1;
+            };
+          };
       no_entry = λ x h call.
           both_ways (is_target t (length t.bytes / 4) x || is_among t.entries x) (fine x Ecall call).unled
           (or_right (is_target t (length t.bytes / 4) x) (is_among t.entries x) (among_from t.entries x h.0 h.1 h.2));
       last =
-          let place : IsPlace t (end_of t - 4) = record { from = omega arith; below = omega arith; even = omega arith } in
+          let place : IsPlace t (end_of t - 4) =
+          record { from = omega arith; below = omega arith; even = omega arith } in
           let f = fine_by t (end_of t - 4) (instr_at t (end_of t - 4)) (none (end_of t - 4) place) in
           let end : end_of t - 4 + 4 ≡ end_of t = omega arith in
-          record { last = f.0; plain = ends (end_of t - 4) f.0 end f.2; at = end_of t - 4; end = end; stands = record { place = place; is = f.1 } };
+          record {
+            last = f.0;
+            plain = ends (end_of t - 4) f.0 end f.2;
+            at = end_of t - 4;
+            end = end;
+            stands = record { place = place; is = f.1 };
+          };
     }
 
   -- ---- and back
@@ -182,7 +217,9 @@ module _ (t : Text) (base : t.base % 16 ≡ 0) (size : length t.bytes % 16 ≡ 0
         (false_from_ne_true (is_target t (length t.bytes / 4) x) (λ h.
         let l = led_true t (length t.bytes / 4) x h in
         let lt = l.below in
-        text.no_target (t.base + 4 * l.at) x l.by (record { place = record { from = omega arith; below = omega arith; even = omega arith }; is = l.is }) l.to call))
+        text.no_target (t.base + 4 * l.at) x l.by
+        (record { place = record { from = omega arith; below = omega arith; even = omega arith }; is = l.is }) l.to
+        call))
         (false_from_ne_true (is_among t.entries x) (λ h. text.no_entry x (among_true t.entries x h) call))
 
     unless_call : (i : Instr) (b : Bool) → (is_call i ≡ true → b ≡ false) → (is_call i && b) ≡ false
@@ -210,7 +247,9 @@ module _ (t : Text) (base : t.base % 16 ≡ 0) (size : length t.bytes % 16 ≡ 0
         ap (reason_by t x) found.1 ∙ reason_of_fine t x i (record {
           allowed = text.allowed x i s;
           inside = inside_from (target i x) (λ y e. text.targets x y i s e);
-          follows = unless_call i (not (follows_service t x)) (λ h. not_from_true (follows_service t x) (follows_from x (at_call h)));
-          unled = unless_call i (is_target t (length t.bytes / 4) x || is_among t.entries x) (λ h. unled_from x (at_call h));
+          follows = unless_call i (not (follows_service t x))
+              (λ h. not_from_true (follows_service t x) (follows_from x (at_call h)));
+          unled = unless_call i (is_target t (length t.bytes / 4) x || is_among t.entries x)
+              (λ h. unled_from x (at_call h));
           last = last;
         })

@@ -1,11 +1,14 @@
 -- The audit of an image: why a word or a relocation breaks a rule of contained images, and the first that does.
-use Rattle.std.specs.Prelude.{◌≡◌, ℕ, zero, suc, ◌+◌, ◌-◌, ◌*◌, ◌/◌, ◌%◌, ◌<◌, ◌==◌, ◌&&◌, ◌||◌, not, nat_le, nat_lt, Bool, true, false, List, [], ◌∷◌, length, take, slice_get, Option, Some, None, All, if◌then◌else◌}
+use Rattle.std.specs.Prelude.{◌≡◌, ℕ, zero, suc, ◌+◌, ◌-◌, ◌*◌, ◌/◌, ◌%◌, ◌<◌, ◌==◌, ◌&&◌, ◌||◌, not, nat_le, nat_lt}
+use Rattle.std.specs.Prelude.{Bool, true, false, List, [], ◌∷◌, length, take, slice_get, Option, Some, None, All}
+use Rattle.std.specs.Prelude.{if◌then◌else◌}
 use Rattle.std.specs.Option.{option_map}
 use Rattle.rv_instr.specs.declared.instr.Instr.{Instr}
 use Rattle.elf_file.specs.declared.image.Image.{Image}
 use Rattle.elf_file.specs.declared.image.Reloc.{Reloc}
 use Rattle.cap_machine.specs.Step.{is_call}
-use Rattle.cap_machine.specs.ContainedText.{Text, end_of, IsPlace, instr_at, is_allowed, target, is_plain_jump, sets_service}
+use Rattle.cap_machine.specs.ContainedText.{Text, end_of, IsPlace, instr_at, is_allowed, target, is_plain_jump}
+use Rattle.cap_machine.specs.ContainedText.{sets_service}
 use Rattle.image_load.specs.Judging.{is_sentry, address_of, overlap}
 use Rattle.image_load.specs.Contained.{executes, text_in, Contained}
 use Rattle.elf_audit.specs.declared.verdict.Verdict.{Verdict}
@@ -32,7 +35,8 @@ leads_to (Some z) y = z == y
 -- a branch or `cjal` among the first n words leads to y
 unfoldable pub is_target : Text → ℕ → ℕ → Bool
 is_target t zero y = false
-is_target t (suc n) y = holds (λ i. leads_to (target i (t.base + 4 * n)) y) (instr_at t (t.base + 4 * n)) || is_target t n y
+is_target t (suc n) y = holds (λ i. leads_to (target i (t.base + 4 * n)) y) (instr_at t (t.base + 4 * n))
+    || is_target t n y
 
 unfoldable pub is_among : List ℕ → ℕ → Bool
 is_among [] x = false

@@ -1,10 +1,12 @@
 //! The audit.
 
-ghost use Rattle.std.specs.Prelude.{◌≡◌, ℕ, ◌+◌, ◌*◌, ◌/◌, ◌<◌, false, Ok, IfOk, MatchOption, All, length, slice_index_or};
+ghost use Rattle.std.specs.Prelude.{◌≡◌, ℕ, ◌+◌, ◌*◌, ◌/◌, ◌<◌, false, Ok, IfOk, MatchOption, All, length};
+ghost use Rattle.std.specs.Prelude.{slice_index_or};
 ghost use Rattle.cap_machine.specs.ContainedText.{target};
 ghost use Rattle.image_load.specs.Judging.{judged, is_sentry, overlap};
 ghost use Rattle.image_load.specs.Contained.{text_in, Contained};
-ghost use Rattle.elf_audit.specs.Audit.{leads_inside, follows_service, is_reached, reason_at, is_entry_reloc, reloc_reason, IsFirstWord, NoWord, IsFirstReloc, Answers};
+ghost use Rattle.elf_audit.specs.Audit.{leads_inside, follows_service, is_reached, reason_at, is_entry_reloc};
+ghost use Rattle.elf_audit.specs.Audit.{reloc_reason, IsFirstWord, NoWord, IsFirstReloc, Answers};
 ghost use Rattle.elf_audit.specs.declared.verdict.Verdict.TheVariants.{Yes};
 
 use crate::reached::{address_of, executes, reached};
@@ -71,7 +73,8 @@ fn word_reason(view: &View<'_>, reached: &[bool], k: usize) -> u8
 fn first_word(view: &View<'_>, reached: &[bool]) -> Option<(u64, u8)>
     requires fine { judged view.now ≡ Ok tt }
     requires count { length reached.now ≡ length view.now.text / 4 }
-    requires reached { (k : ℕ) → k < length view.now.text / 4 → slice_index_or reached.now k false ≡ is_reached (text_in view.now) (view.now.text_base + 4 * k) }
+    requires reached { (k : ℕ) → k < length view.now.text / 4 →
+        slice_index_or reached.now k false ≡ is_reached (text_in view.now) (view.now.text_base + 4 * k) }
     ensures { MatchOption result (NoWord (text_in view.now)) (λ w. IsFirstWord (text_in view.now) w.0 w.1) }
 {
     for k in 0..word_count(view) {
@@ -124,7 +127,8 @@ fn reloc_reason(view: &View<'_>, r: Reloc) -> u8
 fn first_reloc(view: &View<'_>) -> Option<(u64, u8)>
     requires fine { judged view.now ≡ Ok tt }
     requires words { NoWord (text_in view.now) }
-    ensures { MatchOption result (All (λ r. reloc_reason (text_in view.now) r ≡ 0) view.now.relocs) (λ f. IsFirstReloc view.now f.0 f.1) }
+    ensures { MatchOption result (All (λ r. reloc_reason (text_in view.now) r ≡ 0) view.now.relocs)
+        (λ f. IsFirstReloc view.now f.0 f.1) }
 {
     let mut k = 0;
     while let Some(r) = view.reloc(k) {

@@ -18,12 +18,16 @@ module _ {X : Type 0} (size : ℕ) (bytes : X → List ℕ) (of : List ℕ → X
   length_all [] = omega arith
   length_all (x ∷ xs) = omega (arith, length-append (bytes x) (flat_map bytes xs), long x, length_all xs)
 
-  all_again : (fits : X → Type 0) (again : (x : X) → fits x → of (bytes x) ≡ x) (xs : List X) → All fits xs → map of (first_chunks size (length xs) (flat_map bytes xs)) ≡ xs
+  all_again : (fits : X → Type 0) (again : (x : X) → fits x → of (bytes x) ≡ x) (xs : List X) → All fits xs →
+      map of (first_chunks size (length xs) (flat_map bytes xs)) ≡ xs
   all_again fits again [] h = refl
   all_again fits again (x ∷ xs) h =
-      ap (λ (b : List ℕ). of b ∷ map of (first_chunks size (length xs) (drop size (bytes x ++ flat_map bytes xs)))) (take_at (bytes x) (flat_map bytes xs) size (long x))
-      ∙ ap (λ (y : X). y ∷ map of (first_chunks size (length xs) (drop size (bytes x ++ flat_map bytes xs)))) (again x (All-head fits x xs h))
-      ∙ ap (λ (b : List ℕ). x ∷ map of (first_chunks size (length xs) b)) (drop_at (bytes x) (flat_map bytes xs) size (long x))
+      ap (λ (b : List ℕ). of b ∷ map of (first_chunks size (length xs) (drop size (bytes x ++ flat_map bytes xs))))
+      (take_at (bytes x) (flat_map bytes xs) size (long x))
+      ∙ ap (λ (y : X). y ∷ map of (first_chunks size (length xs) (drop size (bytes x ++ flat_map bytes xs))))
+      (again x (All-head fits x xs h))
+      ∙ ap (λ (b : List ℕ). x ∷ map of (first_chunks size (length xs) b))
+      (drop_at (bytes x) (flat_map bytes xs) size (long x))
       ∙ ap (λ (ys : List X). x ∷ ys) (all_again fits again xs (All-tail fits x xs h))
 
 -- ---- relocations
@@ -52,10 +56,13 @@ reloc_again r h =
 pub length-relocs_bytes : (rs : List Reloc) → length (relocs_bytes rs) ≡ 40 * length rs
 length-relocs_bytes rs = length_all 40 (λ r. spelled (reloc_fields r)) reloc_of length_reloc rs
 
-pub relocs_again : (rs : List Reloc) → All (λ r. Fit (reloc_fields r)) rs → map reloc_of (records 40 (relocs_bytes rs)) ≡ rs
+pub relocs_again : (rs : List Reloc) → All (λ r. Fit (reloc_fields r)) rs →
+    map reloc_of (records 40 (relocs_bytes rs)) ≡ rs
 relocs_again rs h =
     let count : length (relocs_bytes rs) / 40 ≡ length rs = omega (arith, length-relocs_bytes rs) in
-    ap (λ (n : ℕ). map reloc_of (first_chunks 40 n (relocs_bytes rs))) count ∙ all_again 40 (λ r. spelled (reloc_fields r)) reloc_of length_reloc (λ r. Fit (reloc_fields r)) reloc_again rs h
+    ap (λ (n : ℕ). map reloc_of (first_chunks 40 n (relocs_bytes rs))) count
+    ∙ all_again 40 (λ r. spelled (reloc_fields r)) reloc_of length_reloc
+    (λ r. Fit (reloc_fields r)) reloc_again rs h
 
 -- ---- lines
 
@@ -84,4 +91,5 @@ length-lines_bytes ls = length_all 16 (λ l. spelled (line_fields l)) line_of le
 pub lines_again : (ls : List Line) → All (λ l. Fit (line_fields l)) ls → map line_of (records 16 (lines_bytes ls)) ≡ ls
 lines_again ls h =
     let count : length (lines_bytes ls) / 16 ≡ length ls = omega (arith, length-lines_bytes ls) in
-    ap (λ (n : ℕ). map line_of (first_chunks 16 n (lines_bytes ls))) count ∙ all_again 16 (λ l. spelled (line_fields l)) line_of length_line (λ l. Fit (line_fields l)) line_again ls h
+    ap (λ (n : ℕ). map line_of (first_chunks 16 n (lines_bytes ls))) count
+    ∙ all_again 16 (λ l. spelled (line_fields l)) line_of length_line (λ l. Fit (line_fields l)) line_again ls h

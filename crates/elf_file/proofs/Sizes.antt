@@ -21,7 +21,8 @@ unfolding size_of image_words
 size_of_image_words version table h = refl
 
 -- the words with the count, or without it
-pub size_of_words : (version : ℕ) (table : ℕ × ℕ) (h : Headers) (counted : Bool) (count : ℕ) → size_of (image_words version table h ++ count_words counted count) ≡ words_size counted
+pub size_of_words : (version : ℕ) (table : ℕ × ℕ) (h : Headers) (counted : Bool) (count : ℕ) →
+    size_of (image_words version table h ++ count_words counted count) ≡ words_size counted
 unfolding size_of image_words count_words
 size_of_words version table h true count = refl
 size_of_words version table h false count = refl

@@ -1,5 +1,5 @@
--- The numbers of a file, each little endian: half words, words and extended words, as ELF64 calls them. Its addresses and
--- offsets are extended words too.
+-- The numbers of a file, each little endian: half words, words and extended words, as ELF64 calls them. Its addresses
+-- and offsets are extended words too.
 use Rattle.std.specs.Prelude.{ℕ, ◌+◌, ◌<◌, ◌^◌, ◌==◌, ◌&&◌, Bool, true, List, [], ◌∷◌, drop}
 use Rattle.std.specs.List.{flat_map}
 use Rattle.byteorder.specs.Endian.{little_number, little_bytes}

@@ -7,7 +7,8 @@ use Rattle.elf_file.specs.declared.image.Image.{Image}
 use Rattle.elf_file.specs.declared.image.Line.{Line}
 use Rattle.elf_file.specs.declared.image.Reloc.{Reloc}
 use Rattle.elf_file.specs.Fields.{spelled, Fit}
-use Rattle.elf_file.specs.Headers.{rounded, e_ident, section_names, words_size, file_header, program_headers, section_headers, image_words, count_words}
+use Rattle.elf_file.specs.Headers.{rounded, e_ident, section_names, words_size, file_header, program_headers}
+use Rattle.elf_file.specs.Headers.{section_headers, image_words, count_words}
 use Rattle.elf_file.specs.Image.{reloc_fields, line_fields, has_count}
 
 -- the headers that its file has
@@ -39,8 +40,8 @@ lines_bytes ls = flat_map (λ l. spelled (line_fields l)) ls
 abbrev pub gap_behind : ℕ → ℕ
 gap_behind size = rounded size - size
 
--- what the format leaves open: the flags of the file header, the bytes in the five gaps between the parts, and those after the
--- last part
+-- what the format leaves open: the flags of the file header, the bytes in the five gaps between the parts, and those
+-- after the last part
 pub record Rest : Type 0 where
   pub flags : ℕ
   pub text_gap : List ℕ

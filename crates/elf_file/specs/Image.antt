@@ -1,5 +1,6 @@
 -- What an image says, and the rules that it keeps.
-use Rattle.std.specs.Prelude.{◌≡◌, ℕ, ◌+◌, ◌%◌, ◌<◌, ◌==◌, ◌&&◌, ◌⊎◌, nat_le, nat_lt, Bool, true, List, [], ◌∷◌, ◌++◌, length, map, Option, if◌then◌else◌}
+use Rattle.std.specs.Prelude.{◌≡◌, ℕ, ◌+◌, ◌%◌, ◌<◌, ◌==◌, ◌&&◌, ◌⊎◌, nat_le, nat_lt, Bool, true, List, [], ◌∷◌, ◌++◌}
+use Rattle.std.specs.Prelude.{length, map, Option, if◌then◌else◌}
 use Rattle.std.specs.List.{All, find}
 use Rattle.std.specs.List.Sorted.{IsStrictlyIncreasing}
 use Rattle.elf_file.specs.declared.field.Field.{Field}
@@ -40,7 +41,8 @@ line_of bytes = record {
 abbrev pub has_count : Image → Bool
 has_count i = i.version == 2
 
--- the words of .ck_image: version, entry, then base and length of text, data, table, heap and stack; and in version 2 the count
+-- the words of .ck_image: version, entry, then base and length of text, data, table, heap and stack; and in version 2
+-- the count
 abbrev pub words_of : Image → List ℕ
 words_of i =
     (i.version ∷ i.entry ∷ i.text_base ∷ length i.text ∷ i.initial_base ∷ length i.initial

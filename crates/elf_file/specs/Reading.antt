@@ -1,6 +1,7 @@
--- What a reader of a file is given: the image, or the first refusal. Bytes between the parts and after them are not looked
--- at. The names e_entry, p_vaddr, sh_size and so on are those of ELF64.
-use Rattle.std.specs.Prelude.{ℕ, ◌+◌, ◌*◌, ◌/◌, ◌%◌, ◌==◌, ◌&&◌, nat_le, Bool, true, List, length, map, take, drop, Result, Ok, Err, if◌then◌else◌}
+-- What a reader of a file is given: the image, or the first refusal. Bytes between the parts and after them are not
+-- looked at. The names e_entry, p_vaddr, sh_size and so on are those of ELF64.
+use Rattle.std.specs.Prelude.{ℕ, ◌+◌, ◌*◌, ◌/◌, ◌%◌, ◌==◌, ◌&&◌, nat_le, Bool, true, List, length, map, take, drop}
+use Rattle.std.specs.Prelude.{Result, Ok, Err, if◌then◌else◌}
 use Rattle.std.specs.Simd.{first_chunks}
 use Rattle.std.specs.Str.{bytes_eq}
 use Rattle.elf_file.specs.declared.headers.Headers.{Headers}
@@ -8,7 +9,8 @@ use Rattle.elf_file.specs.declared.image.Image.{Image}
 use Rattle.elf_file.specs.declared.refusal.ElfRefusal.{ElfRefusal}
 use Rattle.elf_file.specs.declared.refusal.ElfRefusal.TheVariants as refusal
 use Rattle.elf_file.specs.Fields.{half_at, word_at, xword_at, meets}
-use Rattle.elf_file.specs.Headers.{text_at, initial_at, relocs_at, lines_at, words_at, words_size, names_at, end_of, e_ident, section_names, file_header, program_headers, section_headers, image_words}
+use Rattle.elf_file.specs.Headers.{text_at, initial_at, relocs_at, lines_at, words_at, words_size, names_at, end_of}
+use Rattle.elf_file.specs.Headers.{e_ident, section_names, file_header, program_headers, section_headers, image_words}
 use Rattle.elf_file.specs.Image.{reloc_of, line_of, lines_ok}
 
 -- ---- the fields that an image chooses
@@ -86,8 +88,8 @@ has_file_header file = meets (file_header (e_entry file) (e_flags file)) (drop 1
 abbrev pub sizes_ok : Headers → Bool
 sizes_ok h = h.text_size % 4 == 0 && h.relocs_size % 40 == 0 && h.lines_size % 16 == 0
 
--- all else in the tables is what the format says for these numbers, so that segments agree with their sections, and .ck_image
--- has the twelve words, or these and the count
+-- all else in the tables is what the format says for these numbers, so that segments agree with their sections, and
+-- .ck_image has the twelve words, or these and the count
 unfoldable pub has_tables : Headers → List ℕ → Bool
 has_tables h file = sizes_ok h && meets (program_headers h) (drop 64 file) && meets (section_headers h) (drop 288 file)
 
@@ -95,12 +97,13 @@ has_tables h file = sizes_ok h && meets (program_headers h) (drop 64 file) && me
 abbrev pub version_fits : Bool → ℕ → Bool
 version_fits counted version = if counted then version == 2 else version == 1
 
--- the names are the format's, the lines keep their rules, and the words of .ck_image, whose version, table and count may be any
--- here, agree with the headers
+-- the names are the format's, the lines keep their rules, and the words of .ck_image, whose version, table and count
+-- may be any here, agree with the headers
 unfoldable pub has_contents : Headers → List ℕ → Bool
 has_contents h file =
     let i = image_in h file in
-    bytes_eq (part (names_at h) 54 file) section_names && lines_ok 0 h.text_size i.lines && meets (image_words i.version i.table h) (drop (words_at h) file)
+    bytes_eq (part (names_at h) 54 file) section_names && lines_ok 0 h.text_size i.lines
+    && meets (image_words i.version i.table h) (drop (words_at h) file)
 
 -- ---- the reading
 

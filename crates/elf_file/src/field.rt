@@ -1,7 +1,8 @@
 //! Numbers of stated widths, little endian, as an ELF64 file has them.
 
 ghost use Rattle.std.specs.Prelude.{◌≡◌, ◌+◌, ◌++◌, ◌≤◌, ◌==◌, length, OnOk};
-ghost use Rattle.elf_file.specs.Fields.{width_of, value_of, bytes_of, number, half_at, word_at, xword_at, meets, spelled, size_of};
+ghost use Rattle.elf_file.specs.Fields.{width_of, value_of, bytes_of, number, half_at, word_at, xword_at, meets};
+ghost use Rattle.elf_file.specs.Fields.{spelled, size_of};
 
 use byteorder::{ByteOrder, LittleEndian};
 use std::alloc::AllocError;

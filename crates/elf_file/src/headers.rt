@@ -3,7 +3,9 @@
 ghost use Rattle.std.specs.Prelude.{◌≡◌, ◌+◌, ◌<◌, ◌^◌};
 ghost use Rattle.std.specs.List.{flat_map};
 ghost use Rattle.elf_file.specs.Fields.{Fit};
-ghost use Rattle.elf_file.specs.Headers.{rounded, program_header, section_header, initial_at, relocs_at, lines_at, words_at, words_size, names_at, end_of, file_header, program_headers, section_headers, image_words};
+ghost use Rattle.elf_file.specs.Headers.{rounded, program_header, section_header, initial_at, relocs_at, lines_at};
+ghost use Rattle.elf_file.specs.Headers.{words_at, words_size, names_at, end_of, file_header, program_headers};
+ghost use Rattle.elf_file.specs.Headers.{section_headers, image_words};
 
 use crate::field::Field;
 use crate::field::Field::{Half, Word, Xword};

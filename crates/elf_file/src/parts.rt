@@ -98,8 +98,8 @@ impl<'a> Parts<'a> {
         if self.version == 2 { 13 } else { 12 }
     }
 
-    /// The words of the image: version, entry, then base and length of text, data, table, heap and stack; and the count, which
-    /// only version 2 has.
+    /// The words of the image: version, entry, then base and length of text, data, table, heap and stack; and the
+    /// count, which only version 2 has.
     pub fn words(&self) -> [u64; 13]
         ensures { take (length (words_of (image_of self.now))) result ≡ words_of (image_of self.now) }
     {

@@ -5,7 +5,8 @@ ghost use Rattle.elf_file.specs.Fields.{meets};
 ghost use Rattle.elf_file.specs.Headers.{end_of, words_at, program_headers, section_headers, image_words};
 ghost use Rattle.elf_file.specs.Parts.{image_of};
 ghost use Rattle.elf_file.specs.Image.{line_of, lines_ok};
-ghost use Rattle.elf_file.specs.Reading.{p_vaddr, p_memsz, sh_size, headers_in, has_ident, has_file_header, sizes_ok, has_tables, image_in, version_fits, has_contents, reading_parts, reading};
+ghost use Rattle.elf_file.specs.Reading.{p_vaddr, p_memsz, sh_size, headers_in, has_ident, has_file_header, sizes_ok};
+ghost use Rattle.elf_file.specs.Reading.{has_tables, image_in, version_fits, has_contents, reading_parts, reading};
 
 use crate::field::{half_at, meets, word_at, xword_at};
 use crate::headers::{

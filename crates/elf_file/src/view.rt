@@ -77,8 +77,8 @@ impl<'a> View<'a> {
             .copied()
     }
 
-    /// The line at an address: the one whose offset in the text is the address less the text's base. None exactly where there
-    /// is none.
+    /// The line at an address: the one whose offset in the text is the address less the text's base. None exactly where
+    /// there is none.
     pub fn position(&self, pc: u64) -> Option<Line>
         ensures { result ≡ position_of self.now pc }
     {
@@ -88,7 +88,8 @@ impl<'a> View<'a> {
 
 /// The line at an address, among lines that ascend.
 fn line_in(lines: &[[u8; 16]], base: u64, pc: u64) -> Option<Line>
-    ensures { (size : ℕ) → IsTrue (lines_ok 0 size (map line_of lines.now)) → result ≡ find (λ l. base + l.at == pc) (map line_of lines.now) }
+    ensures { (size : ℕ) → IsTrue (lines_ok 0 size (map line_of lines.now)) →
+        result ≡ find (λ l. base + l.at == pc) (map line_of lines.now) }
 {
     if pc < base {
         return None;

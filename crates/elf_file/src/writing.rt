@@ -1,10 +1,12 @@
 //! Writing the file of an image.
 
 ghost use Rattle.std.specs.Prelude.{◌≡◌, ◌<◌, ◌^◌, ◌*◌, ◌++◌, length, All, OnOk, IfOk, Ok};
-ghost use Rattle.elf_file.specs.Headers.{e_ident, section_names, words_size, file_header, program_headers, section_headers, count_words};
+ghost use Rattle.elf_file.specs.Headers.{e_ident, section_names, words_size, file_header, program_headers};
+ghost use Rattle.elf_file.specs.Headers.{section_headers, count_words};
 ghost use Rattle.elf_file.specs.Fields.{spelled, Fit};
 ghost use Rattle.elf_file.specs.Image.{reloc_fields, line_fields, KeepsRules};
-ghost use Rattle.elf_file.specs.File.{headers_of, words_fields, relocs_bytes, lines_bytes, padding, file_of, FitsFields};
+ghost use Rattle.elf_file.specs.File.{headers_of, words_fields, relocs_bytes, lines_bytes, padding, file_of};
+ghost use Rattle.elf_file.specs.File.{FitsFields};
 ghost use Rattle.elf_file.specs.Reading.{reading};
 
 use crate::field::Field::{Word, Xword};
@@ -112,7 +114,8 @@ fn put_names(out: &mut Vec<u8>) -> Result<(), AllocError>
 }
 
 fn put_headers(out: &mut Vec<u8>, h: Headers) -> Result<(), AllocError>
-    ensures { OnOk result (out.new.items ≡ out.old.items ++ e_ident ++ spelled (file_header h.entry 0) ++ spelled (program_headers h) ++ spelled (section_headers h)) }
+    ensures { OnOk result (out.new.items ≡ out.old.items ++ e_ident ++ spelled (file_header h.entry 0)
+        ++ spelled (program_headers h) ++ spelled (section_headers h)) }
 {
     put_ident(out)?;
     put(out, &file_header(h.entry, 0))?;
@@ -121,8 +124,11 @@ fn put_headers(out: &mut Vec<u8>, h: Headers) -> Result<(), AllocError>
 }
 
 fn put_parts(out: &mut Vec<u8>, h: Headers, i: &Image) -> Result<(), AllocError>
-    ensures fits { OnOk result (All (λ r. Fit (reloc_fields r)) i.now.relocs × All (λ l. Fit (line_fields l)) i.now.lines) }
-    ensures bytes { OnOk result (out.new.items ≡ out.old.items ++ i.now.text ++ padding h.text_size ++ i.now.initial ++ padding h.initial_size ++ relocs_bytes i.now.relocs ++ padding h.relocs_size ++ lines_bytes i.now.lines ++ padding h.lines_size) }
+    ensures fits { OnOk result (All (λ r. Fit (reloc_fields r)) i.now.relocs ×
+        All (λ l. Fit (line_fields l)) i.now.lines) }
+    ensures bytes { OnOk result (out.new.items
+        ≡ out.old.items ++ i.now.text ++ padding h.text_size ++ i.now.initial ++ padding h.initial_size
+        ++ relocs_bytes i.now.relocs ++ padding h.relocs_size ++ lines_bytes i.now.lines ++ padding h.lines_size) }
 {
     out.extend_from_slice(i.text.as_slice())?;
     put_padding(out, h.text_size)?;
@@ -149,7 +155,8 @@ fn put_count(out: &mut Vec<u8>, counted: bool, count: u64) -> Result<(), AllocEr
 /// Appends the image's words, and the zero bytes behind them.
 #[tactic(auto, using(crate::proofs::Runs::spelled_both, crate::proofs::Runs::fit_both))]
 fn put_words(out: &mut Vec<u8>, i: &Image) -> Result<(), AllocError>
-    ensures bytes { OnOk result (out.new.items ≡ out.old.items ++ spelled (words_fields i.now) ++ padding (words_size (headers_of i.now).counted)) }
+    ensures bytes { OnOk result (out.new.items
+        ≡ out.old.items ++ spelled (words_fields i.now) ++ padding (words_size (headers_of i.now).counted)) }
     ensures fits { OnOk result (Fit (words_fields i.now)) }
 {
     let h = headers_of(i);

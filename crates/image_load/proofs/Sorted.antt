@@ -1,5 +1,6 @@
 -- The regions of an image that is not refused ascend and do not meet.
-use Rattle.std.proofs.Common.{◌≡◌, ◌≢◌, ℕ, zero, suc, ◌+◌, ◌%◌, ◌<◌, ◌≤◌, ◌^◌, ◌⊎◌, inl, inr, Bool, true, false, cond, eqb, List, [], ◌∷◌, length, Ok, Err, refl, sym, ap, ◌∙◌, subst, arith}
+use Rattle.std.proofs.Common.{◌≡◌, ◌≢◌, ℕ, zero, suc, ◌+◌, ◌%◌, ◌<◌, ◌≤◌, ◌^◌, ◌⊎◌, inl, inr, Bool, true, false, cond}
+use Rattle.std.proofs.Common.{eqb, List, [], ◌∷◌, length, Ok, Err, refl, sym, ap, ◌∙◌, subst, arith}
 use Rattle.std.specs.Prelude.{◌&&◌, ◌||◌, not, nat_lt}
 use Rattle.std.specs.List.{insert, prefix_len}
 use Rattle.std.proofs.lemmas.Bool.{eqb-true, leb-true, lt-ltb, ltb-true, ltb-false, false≢true}
@@ -9,7 +10,9 @@ use Rattle.elf_file.specs.declared.image.Image.{Image}
 use Rattle.elf_file.specs.declared.image.Reloc.{Reloc}
 use Rattle.image_load.specs.declared.refusal.LoadRefusal.{LoadRefusal}
 use Rattle.image_load.specs.declared.refusal.LoadRefusal.TheVariants as refusal
-use Rattle.image_load.specs.Judging.{Extent, Judged, end_of, text_of, initial_of, segments_of, lies_well, segments_fit, overlap, some_overlap, lies_inside, is_entry, is_exact, is_place, is_capability, guard, judged_relocs, then_judged, judged}
+use Rattle.image_load.specs.Judging.{Extent, Judged, end_of, text_of, initial_of, segments_of, lies_well, segments_fit}
+use Rattle.image_load.specs.Judging.{overlap, some_overlap, lies_inside, is_entry, is_exact, is_place, is_capability}
+use Rattle.image_load.specs.Judging.{guard, judged_relocs, then_judged, judged}
 use Rattle.image_load.specs.Loading.{Loads}
 use Rattle.image_load.specs.State.{region_of, with_region, regions_of}
 use Rattle.image_load.proofs.Walk.{and_both, passed}
@@ -33,7 +36,8 @@ lies_well_is e h =
 abbrev pub Apart : Extent → ℕ → ℕ → Type 0
 Apart a base length = (end_of a ≤ base) ⊎ (base + length ≤ a.0)
 
-overlap_by : (a b : Extent) → nat_lt 0 a.1 ≡ true → nat_lt 0 b.1 ≡ true → nat_lt a.0 (end_of b) ≡ true → nat_lt b.0 (end_of a) ≡ true → overlap a b ≡ true
+overlap_by : (a b : Extent) → nat_lt 0 a.1 ≡ true → nat_lt 0 b.1 ≡ true → nat_lt a.0 (end_of b) ≡ true →
+    nat_lt b.0 (end_of a) ≡ true → overlap a b ≡ true
 unfolding overlap
 overlap_by a b w x y z = rw (w, x, y, z) refl
 
@@ -52,7 +56,8 @@ abbrev pub AllApart : Extent → List Region → Type 0
 AllApart e [] = Unit {0}
 AllApart e (r ∷ rs) = Apart e r.base r.length × (0 < r.length) × AllApart e rs
 
-apart_inserted : (t : Extent) (rs : List Region) (n : ℕ) (x : Region) → AllApart t rs → Apart t x.base x.length → 0 < x.length → AllApart t (insert rs n x)
+apart_inserted : (t : Extent) (rs : List Region) (n : ℕ) (x : Region) → AllApart t rs → Apart t x.base x.length →
+    0 < x.length → AllApart t (insert rs n x)
 apart_inserted t rs zero x all one two = (one, two, all)
 apart_inserted t [] (suc n) x all one two = (one, two, tt)
 apart_inserted t (r ∷ rs) (suc n) x all one two = (all.0, all.1, apart_inserted t rs n x all.2 one two)
@@ -60,41 +65,58 @@ apart_inserted t (r ∷ rs) (suc n) x all one two = (all.0, all.1, apart_inserte
 region_is : (e : Extent) → LiesWell e → IsRegion (region_of e)
 region_is e w = record { base = w.base; length = w.length; end = w.end }
 
-inserted : (low : ℕ) (e : Extent) (rs : List Region) → 0 < e.1 → LiesWell e → low ≤ e.0 → LieFrom low rs → AllApart e rs → LieFrom low (insert rs (prefix_len (λ r. nat_lt r.base e.0) rs) (region_of e))
+inserted : (low : ℕ) (e : Extent) (rs : List Region) → 0 < e.1 → LiesWell e → low ≤ e.0 → LieFrom low rs →
+    AllApart e rs → LieFrom low (insert rs (prefix_len (λ r. nat_lt r.base e.0) rs) (region_of e))
 inserted low e [] some well from lie all = (from, region_is e well, tt)
-inserted low e (r ∷ rs) some well from lie all = by_test (nat_lt r.base e.0) refl (λ behind. inserted (r.base + r.length) e rs some well behind lie.2 all.2)
+inserted low e (r ∷ rs) some well from lie all =
+    by_test (nat_lt r.base e.0) refl (λ behind. inserted (r.base + r.length) e rs some well behind lie.2 all.2)
   where
-    by_test : (b : Bool) → nat_lt r.base e.0 ≡ b → (r.base + r.length ≤ e.0 → LieFrom (r.base + r.length) (insert rs (prefix_len (λ r. nat_lt r.base e.0) rs) (region_of e))) → LieFrom low (insert (r ∷ rs) (cond (nat_lt r.base e.0) (1 + prefix_len (λ r. nat_lt r.base e.0) rs) 0) (region_of e))
+    by_test : (b : Bool) → nat_lt r.base e.0 ≡ b →
+        (r.base + r.length ≤ e.0 →
+        LieFrom (r.base + r.length) (insert rs (prefix_len (λ r. nat_lt r.base e.0) rs) (region_of e))) →
+        LieFrom low (insert (r ∷ rs) (cond (nat_lt r.base e.0) (1 + prefix_len (λ r. nat_lt r.base e.0) rs) 0)
+        (region_of e))
     by_test true h again =
         let less = ltb-true r.base e.0 h in
-        let place : cond (nat_lt r.base e.0) (1 + prefix_len (λ r. nat_lt r.base e.0) rs) 0 ≡ suc (prefix_len (λ r. nat_lt r.base e.0) rs) = ap (λ b. cond b (1 + prefix_len (λ r. nat_lt r.base e.0) rs) 0) h ∙ omega arith in
+        let place : cond (nat_lt r.base e.0) (1 + prefix_len (λ r. nat_lt r.base e.0) rs) 0
+        ≡ suc (prefix_len (λ r. nat_lt r.base e.0) rs) =
+        ap (λ b. cond b (1 + prefix_len (λ r. nat_lt r.base e.0) rs) 0) h ∙ omega arith in
         let behind : r.base + r.length ≤ e.0 = elim all.0 [ inl l ↦ omega (arith, l, less) | inr l ↦ l ] in
         subst (λ n. LieFrom low (insert (r ∷ rs) n (region_of e))) (sym place) (lie.0, lie.1, again behind)
     by_test false h again =
         let less = ltb-false r.base e.0 h in
-        let place : cond (nat_lt r.base e.0) (1 + prefix_len (λ r. nat_lt r.base e.0) rs) 0 ≡ 0 = ap (λ b. cond b (1 + prefix_len (λ r. nat_lt r.base e.0) rs) 0) h in
+        let place : cond (nat_lt r.base e.0) (1 + prefix_len (λ r. nat_lt r.base e.0) rs) 0 ≡ 0 =
+        ap (λ b. cond b (1 + prefix_len (λ r. nat_lt r.base e.0) rs) 0) h in
         let ahead : end_of e ≤ r.base = elim all.0 [ inl l ↦ l | inr l ↦ let n = all.1 in omega (arith, l, n, less) ] in
-        subst (λ n. LieFrom low (insert (r ∷ rs) n (region_of e))) (sym place) (from, region_is e well, (ahead, lie.1, lie.2))
+        subst (λ n. LieFrom low (insert (r ∷ rs) n (region_of e))) (sym place)
+        (from, region_is e well, (ahead, lie.1, lie.2))
 
 -- ---- an extent is added, or it is empty
 
-with_by : (e : Extent) (rs : List Region) (P : List Region → Type 0) → (e.1 ≡ 0 → P rs) → (0 < e.1 → P (insert rs (prefix_len (λ r. nat_lt r.base e.0) rs) (region_of e))) → P (with_region e rs)
+with_by : (e : Extent) (rs : List Region) (P : List Region → Type 0) → (e.1 ≡ 0 → P rs) →
+    (0 < e.1 → P (insert rs (prefix_len (λ r. nat_lt r.base e.0) rs) (region_of e))) → P (with_region e rs)
 unfolding with_region
 with_by e rs P none some = by_test (eqb e.1 0) refl
   where
-    by_test : (b : Bool) → eqb e.1 0 ≡ b → P (cond (eqb e.1 0) rs (insert rs (prefix_len (λ r. nat_lt r.base e.0) rs) (region_of e)))
-    by_test true h = subst (λ b. P (cond b rs (insert rs (prefix_len (λ r. nat_lt r.base e.0) rs) (region_of e)))) (sym h) (none (eqb-true e.1 0 h))
-    by_test false h = subst (λ b. P (cond b rs (insert rs (prefix_len (λ r. nat_lt r.base e.0) rs) (region_of e)))) (sym h) (some (not_zero e.1 h))
+    by_test : (b : Bool) → eqb e.1 0 ≡ b →
+        P (cond (eqb e.1 0) rs (insert rs (prefix_len (λ r. nat_lt r.base e.0) rs) (region_of e)))
+    by_test true h = subst (λ b. P (cond b rs (insert rs (prefix_len (λ r. nat_lt r.base e.0) rs) (region_of e))))
+        (sym h) (none (eqb-true e.1 0 h))
+    by_test false h = subst (λ b. P (cond b rs (insert rs (prefix_len (λ r. nat_lt r.base e.0) rs) (region_of e))))
+        (sym h) (some (not_zero e.1 h))
       where
         not_zero : (n : ℕ) → eqb n 0 ≡ false → 0 < n
         not_zero zero g = absurd (false≢true (sym g))
         not_zero (suc n) g = omega arith
 
-lie_with : (e : Extent) (rs : List Region) → LiesWell e → LieFrom 0 rs → (0 < e.1 → AllApart e rs) → LieFrom 0 (with_region e rs)
+lie_with : (e : Extent) (rs : List Region) → LiesWell e → LieFrom 0 rs → (0 < e.1 → AllApart e rs) →
+    LieFrom 0 (with_region e rs)
 lie_with e rs well lie all = with_by e rs (LieFrom 0) (λ h. lie) (λ h. inserted 0 e rs h well (omega arith) lie (all h))
 
-apart_with : (t e : Extent) (rs : List Region) → 0 < t.1 → overlap t e ≡ false → AllApart t rs → AllApart t (with_region e rs)
-apart_with t e rs some free all = with_by e rs (AllApart t) (λ h. all) (λ h. apart_inserted t rs _ (region_of e) all (apart t e free some h) h)
+apart_with : (t e : Extent) (rs : List Region) → 0 < t.1 → overlap t e ≡ false → AllApart t rs →
+    AllApart t (with_region e rs)
+apart_with t e rs some free all =
+    with_by e rs (AllApart t) (λ h. all) (λ h. apart_inserted t rs _ (region_of e) all (apart t e free some h) h)
 
 pub record IsSpread (t d h s : Extent) : Type 0 where
   pub text : LiesWell t
@@ -183,16 +205,19 @@ regions_lie i h = lie_all (text_of i) (initial_of i) i.heap i.stack (judged_well
 
 -- ---- want of memory is no part of judging
 
-own_guard : (b : Bool) (e : LoadRefusal) (rest : Judged) → e ≢ refusal.NoMemory → rest ≢ Err refusal.NoMemory → guard b e rest ≢ Err refusal.NoMemory
+own_guard : (b : Bool) (e : LoadRefusal) (rest : Judged) → e ≢ refusal.NoMemory → rest ≢ Err refusal.NoMemory →
+    guard b e rest ≢ Err refusal.NoMemory
 own_guard true e rest own later = later
 own_guard false e rest own later = λ h. own (let g : ◌≡◌ {A = Judged} (Err e) (Err refusal.NoMemory) = h in cc)
 
 own_relocs : (i : Extent) (rs : List Reloc) → judged_relocs i rs (Ok tt) ≢ Err refusal.NoMemory
 unfolding judged_relocs
 own_relocs i [] = λ h. let g : ◌≡◌ {A = Judged} (Ok tt) (Err refusal.NoMemory) = h in cc
-own_relocs i (r ∷ rs) = own_guard (is_place r.place i) refusal.Place _ (λ h. cc) (own_guard (is_capability r) refusal.Bounds _ (λ h. cc) (own_relocs i rs))
+own_relocs i (r ∷ rs) = own_guard (is_place r.place i) refusal.Place _ (λ h. cc)
+    (own_guard (is_capability r) refusal.Bounds _ (λ h. cc) (own_relocs i rs))
 
-own_then : (a rest : Judged) → a ≢ Err refusal.NoMemory → rest ≢ Err refusal.NoMemory → then_judged a rest ≢ Err refusal.NoMemory
+own_then : (a rest : Judged) → a ≢ Err refusal.NoMemory → rest ≢ Err refusal.NoMemory →
+    then_judged a rest ≢ Err refusal.NoMemory
 own_then (Ok u) rest own later = later
 own_then (Err e) rest own later = own
 

@@ -1,5 +1,6 @@
 -- Which images are refused, and by which refusal: the tests in their order, the first that fails decides.
-use Rattle.std.specs.Prelude.{ℕ, ◌+◌, ◌/◌, ◌%◌, ◌^◌, ◌==◌, ◌&&◌, ◌||◌, not, nat_lt, nat_le, nat_eq, Bool, List, [], ◌∷◌, length, Result, Ok, Err, if◌then◌else◌}
+use Rattle.std.specs.Prelude.{ℕ, ◌+◌, ◌/◌, ◌%◌, ◌^◌, ◌==◌, ◌&&◌, ◌||◌, not, nat_lt, nat_le, nat_eq, Bool, List, [], ◌∷◌}
+use Rattle.std.specs.Prelude.{length, Result, Ok, Err, if◌then◌else◌}
 use Rattle.cap_concentrate.specs.Rounding.{least_base, least_top}
 use Rattle.cap_ops.specs.declared.capability.Cap.{Cap}
 use Rattle.cap_ops.specs.declared.capability.TheConstants.{UNSEALED, SENTRY}
@@ -45,7 +46,8 @@ overlap a b = nat_lt 0 a.1 && nat_lt 0 b.1 && nat_lt a.0 (end_of b) && nat_lt b.
 -- some address lies in two of them
 unfoldable pub some_overlap : Extent → Extent → Extent → Extent → Bool
 some_overlap text initial heap stack =
-    overlap text initial || overlap text heap || overlap text stack || overlap initial heap || overlap initial stack || overlap heap stack
+    overlap text initial || overlap text heap || overlap text stack || overlap initial heap || overlap initial stack
+    || overlap heap stack
 
 -- the first lies inside the second
 unfoldable pub lies_inside : Extent → Extent → Bool
@@ -59,7 +61,8 @@ is_entry at text = nat_le text.0 at && nat_lt at (end_of text) && at % 4 == 0
 
 -- the bounds can be encoded as they are: they are the least bounds of themselves
 unfoldable pub is_exact : Extent → Bool
-is_exact e = nat_le (end_of e) (2 ^ 64) && nat_eq (least_base e.0 (end_of e)) e.0 && nat_eq (least_top e.0 (end_of e)) (end_of e)
+is_exact e = nat_le (end_of e) (2 ^ 64) && nat_eq (least_base e.0 (end_of e)) e.0
+    && nat_eq (least_top e.0 (end_of e)) (end_of e)
 
 -- the permission word: bits 0 to 6 are permissions, bit 63 says sentry, and the others are 0; a sentry has Execute
 abbrev pub is_sentry : ℕ → Bool
@@ -74,7 +77,8 @@ address_of r = (r.base + r.offset) % 2 ^ 64
 
 -- the capability that a relocation stores
 abbrev pub capability_of : Reloc → Cap
-capability_of r = bounded r.base (r.base + r.length) (r.perms % 128) (if is_sentry r.perms then SENTRY else UNSEALED) (address_of r)
+capability_of r = bounded r.base (r.base + r.length) (r.perms % 128) (if is_sentry r.perms then SENTRY else UNSEALED)
+    (address_of r)
 
 -- it has the bounds of the relocation at its address
 unfoldable pub keeps_extent : Reloc → Bool
@@ -98,7 +102,9 @@ guard test refused rest = if test then rest else Err refused
 -- relocation by relocation, its place and then its capability
 unfoldable pub judged_relocs : Extent → List Reloc → Judged → Judged
 judged_relocs initial [] rest = rest
-judged_relocs initial (r ∷ rs) rest = guard (is_place r.place initial) refusal.Place (guard (is_capability r) refusal.Bounds (judged_relocs initial rs rest))
+judged_relocs initial (r ∷ rs) rest =
+    guard (is_place r.place initial) refusal.Place
+    (guard (is_capability r) refusal.Bounds (judged_relocs initial rs rest))
 
 abbrev pub then_judged : Judged → Judged → Judged
 then_judged (Ok fine) rest = rest

@@ -1,4 +1,5 @@
--- Loading: from the bytes of a file to the state of a machine and the image with its positions, or to a refusal and its number.
+-- Loading: from the bytes of a file to the state of a machine and the image with its positions, or to a refusal and its
+-- number.
 use Rattle.std.specs.Prelude.{◌≡◌, ℕ, List, Result, Ok, Err}
 use Rattle.elf_file.specs.declared.image.Image.{Image}
 use Rattle.elf_file.specs.declared.refusal.ElfRefusal.{ElfRefusal}

@@ -38,7 +38,8 @@ relocated m (r ∷ rs) = relocated (written m r.place (little_bytes 16 (memory_b
 
 -- zeros, but for text and initial data; then the relocations
 unfoldable pub memory_of : Image → List Area
-memory_of i = relocated (written (written (fresh (regions_of (segments_of i))) i.text_base i.text false) i.initial_base i.initial false) i.relocs
+memory_of i = relocated (written (written (fresh (regions_of (segments_of i))) i.text_base i.text false) i.initial_base
+    i.initial false) i.relocs
 
 -- ---- registers
 
@@ -48,7 +49,8 @@ of_extent e perms at = bounded e.0 (end_of e) perms UNSEALED at
 
 -- c2 has the stack, with its top as address, c3 the table, with its base as address, and the others null
 abbrev pub registers_of : Image → List Cap
-registers_of i = slice_set (slice_set (replicate 32 (null_at 0)) 2 (of_extent i.stack data_permissions (end_of i.stack))) 3 (of_extent i.table data_permissions i.table.0)
+registers_of i = slice_set (slice_set (replicate 32 (null_at 0)) 2
+    (of_extent i.stack data_permissions (end_of i.stack))) 3 (of_extent i.table data_permissions i.table.0)
 
 -- the counter has the text, at the entry
 unfoldable pub machine_of : Image → Machine

@@ -1,6 +1,7 @@
 //! Extents, and the tests of a loader on them.
 ghost use Rattle.std.specs.Prelude.{◌≡◌, ◌+◌, ◌<◌, ◌≤◌, ◌^◌, true};
-ghost use Rattle.image_load.specs.Judging.{end_of, lies_well, segments_fit, overlap, some_overlap, lies_inside, is_entry, is_exact, is_place, is_permission_word, is_sentry};
+ghost use Rattle.image_load.specs.Judging.{end_of, lies_well, segments_fit, overlap, some_overlap, lies_inside};
+ghost use Rattle.image_load.specs.Judging.{is_entry, is_exact, is_place, is_permission_word, is_sentry};
 ghost use Rattle.cap_ops.specs.Bounded.{bounded};
 
 use cap_concentrate::{Fields, set_bounds};

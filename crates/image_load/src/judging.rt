@@ -1,6 +1,7 @@
 //! Which images are refused.
 ghost use Rattle.std.specs.Prelude.{◌≡◌, ◌+◌, ◌<◌, true, Ok, Some, slice_get};
-ghost use Rattle.image_load.specs.Judging.{Extent as ExtentOf, text_of, initial_of, address_of, capability_of, keeps_extent, is_capability, is_exact, judged_relocs, judged};
+ghost use Rattle.image_load.specs.Judging.{Extent as ExtentOf, text_of, initial_of, address_of, capability_of};
+ghost use Rattle.image_load.specs.Judging.{keeps_extent, is_capability, is_exact, judged_relocs, judged};
 ghost use Rattle.cap_ops.specs.Capability.{base, top};
 ghost use Rattle.elf_file.specs.Image.{words_of};
 

@@ -3,7 +3,8 @@ ghost use Rattle.std.specs.Prelude.{All, ◌≡◌, ◌%◌, ◌≤◌, ◌<◌,
 ghost use Rattle.std.specs.List.{prefix_len};
 ghost use Rattle.cap_concentrate.specs.declared.fields.Fields.{Fields as FieldsOf};
 ghost use Rattle.image_load.specs.Judging.{end_of, segments_of, text_of, initial_of, judged, is_exact};
-ghost use Rattle.image_load.specs.State.{with_region, regions_of, relocated, memory_of, of_extent, machine_of, registers_of};
+ghost use Rattle.image_load.specs.State.{with_region, regions_of, relocated, memory_of, of_extent, machine_of};
+ghost use Rattle.image_load.specs.State.{registers_of};
 ghost use Rattle.image_load.specs.Loading.{Loads};
 ghost use Rattle.image_load.specs.Contained.{text_in, Contained};
 ghost use Rattle.cap_machine.specs.Containment.{IsContained, RunsContained};
@@ -139,9 +140,9 @@ fn counter_of(view: &View<'_>) -> Cap
     bounded(text_of(view), TEXT, UNSEALED, entry_of(view))
 }
 
-/// Loads an image: the machine that it describes, or the first refusal. All the memory of a run is taken here; want of it
-/// comes only where the image is not refused, and a refused image leaves nothing.
-/// The machine of a contained image is contained, and so is each state of its runs.
+/// Loads an image: the machine that it describes, or the first refusal. All the memory of a run is taken here; want of
+/// it comes only where the image is not refused, and a refused image leaves nothing. The machine of a contained image
+/// is contained, and so is each state of its runs.
 #[tactic(auto, unfolding(crate::specs::State::machine_of))]
 pub fn load(alloc: Global, view: &View<'_>) -> Result<Machine, LoadRefusal>
     ensures value { Loads view.now result }

@@ -20,9 +20,11 @@ pub record IsAlone (p : Typed) : Type 0 where
   pub no_globals : p.globals ≡ []
   pub no_literals : p.literals ≡ []
 
-one_item : (p : Typed) (fs : List FunDef) → p.funs ≡ fs → (length fs == 1) ≡ true → list_all (is_form_function p.types) fs ≡ true → p.globals ≡ [] → p.literals ≡ [] → IsAlone p
+one_item : (p : Typed) (fs : List FunDef) → p.funs ≡ fs → (length fs == 1) ≡ true →
+    list_all (is_form_function p.types) fs ≡ true → p.globals ≡ [] → p.literals ≡ [] → IsAlone p
 one_item p [] is e h a b = absurd cc
-one_item p (d ∷ []) is e h a b = record { d = d; only = is; simple = (and_both _ _ h).0; no_globals = a; no_literals = b }
+one_item p (d ∷ []) is e h a b =
+    record { d = d; only = is; simple = (and_both _ _ h).0; no_globals = a; no_literals = b }
 one_item p (d ∷ f ∷ fs) is e h a b = absurd (let q : length (d ∷ f ∷ fs) ≡ 1 = grind (arith, nat_tests) in omega arith)
 
 pub alone : (p : Typed) → is_integer_form p ≡ true → IsAlone p

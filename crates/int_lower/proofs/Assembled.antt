@@ -1,5 +1,6 @@
 -- The code of a program of the form: it is well formed, within the program, and means the same.
-use Rattle.std.proofs.Common.{◌≡◌, ℕ, zero, suc, ◌+◌, ◌*◌, ◌≤◌, true, List, [], ◌∷◌, ◌++◌, length, Some, None, refl, sym, ap, ◌∙◌, subst, arith, length-append}
+use Rattle.std.proofs.Common.{◌≡◌, ℕ, zero, suc, ◌+◌, ◌*◌, ◌≤◌, true, List, [], ◌∷◌, ◌++◌, length, Some, None, refl}
+use Rattle.std.proofs.Common.{sym, ap, ◌∙◌, subst, arith, length-append}
 use Rattle.std.specs.Prelude.{slice_get, sum_by, ◌==◌}
 use Rattle.std.proofs.lemmas.List.Sums.{sum_by-cons}
 use Rattle.std.proofs.lemmas.Bool.{leb-true}
@@ -52,16 +53,35 @@ module _ (p : Typed) (d : FunDef) (typed : IsTyped p d) where
 
   main_cost : sum_by cost (main_code p d).code ≤ 8 * length d.vars + 32 * statement_size body + 32
   main_cost =
-      omega (arith, code_cost (main_piece ks body) 0 [], first_cost ks p d.vars 0, statement_cost ks body (length ks) typed.fits, typed.declared)
+      omega (
+        arith,
+        code_cost (main_piece ks body) 0 [],
+        first_cost ks p d.vars 0,
+        statement_cost ks body (length ks) typed.fits,
+        typed.declared,
+      )
 
   main_room : length (main_temps ks body) ≤ length d.vars + 2 * statement_size body + 1
   main_room =
-      omega (arith, length-append (ks ++ statement_temps ks body) (kind.Int int.I32 ∷ []), length-append ks (statement_temps ks body), statement_count ks body, statement_room ks body typed.fits, length_map (variable_kind p) d.vars)
+      omega (
+        arith,
+        length-append (ks ++ statement_temps ks body) (kind.Int int.I32 ∷ []),
+        length-append ks (statement_temps ks body),
+        statement_count ks body,
+        statement_room ks body typed.fits,
+        length_map (variable_kind p) d.vars,
+      )
 
   function_costs : FunctionCosts (weight_in p 0) (main_code p d)
   function_costs = record {
     cost = omega (arith, weight_is, main_cost, typed.weight);
-    temps = omega (arith, weight_is, main_room, typed.weight, quiet_calls (main_code p d).code (quiet_main p d typed.fits));
+    temps = omega (
+      arith,
+      weight_is,
+      main_room,
+      typed.weight,
+      quiet_calls (main_code p d).code (quiet_main p d typed.fits),
+    );
   }
 
   function_within : FunctionWithin (main_code p d)
@@ -75,7 +95,11 @@ module _ (p : Typed) (d : FunDef) (typed : IsTyped p d) where
   within = record {
     costs = record { functions = λ k f h. costs_by k f h };
     functions = λ k f h. by k f h;
-    copies = omega (arith, sum_by-cons function_copies (main_code p d) [], quiet_copies (main_code p d).code (quiet_main p d typed.fits));
+    copies = omega (
+      arith,
+      sum_by-cons function_copies (main_code p d) [],
+      quiet_copies (main_code p d).code (quiet_main p d typed.fits),
+    );
   }
     where
       costs_by : (k : ℕ) (f : TacFun) → slice_get (main_code p d ∷ []) k ≡ Some f → FunctionCosts (weight_in p k) f
@@ -95,11 +119,13 @@ module _ (p : Typed) (d : FunDef) (typed : IsTyped p d) where
   -- a light program's code is of the form that machine code is selected for
   integer_fun : weight p ≤ 100 → weight p ≡ weight_in p 0 → IsIntegerFun (main_code p d)
   integer_fun light same =
-      is_integer_fun p d (main_pieces p d typed.no_params typed.gives_int typed.fits typed.steady) (plain_zeros_from p 0 d.vars, (plain_statement ks body (length ks) typed.fits, (refl, refl)))
+      is_integer_fun p d (main_pieces p d typed.no_params typed.gives_int typed.fits typed.steady)
+      (plain_zeros_from p 0 d.vars, (plain_statement ks body (length ks) typed.fits, (refl, refl)))
       (subst (λ n. FunctionCosts n (main_code p d)) (sym same) function_costs) light
 
   -- of any record that has this code
-  pub lowered_selectable : weight p ≤ 100 → weight p ≡ weight_in p 0 → (t : Tac) → t.funs ≡ main_code p d ∷ [] → IsIntegerCode t
+  pub lowered_selectable : weight p ≤ 100 → weight p ≡ weight_in p 0 → (t : Tac) → t.funs ≡ main_code p d ∷ [] →
+      IsIntegerCode t
   lowered_selectable light same t e = (main_code p d, e, integer_fun light same)
 
   pub lowered_formed : (t : Tac) → t.funs ≡ main_code p d ∷ [] → is_well_formed t p ≡ true
@@ -108,13 +134,16 @@ module _ (p : Typed) (d : FunDef) (typed : IsTyped p d) where
   pub lowered_within : (t : Tac) → t.funs ≡ main_code p d ∷ [] → Within t p
   lowered_within t e = subst (λ fs. Within (record { funs = fs }) p) (sym e) within
 
-  pub lowered_same : (t : Tac) → t.funs ≡ main_code p d ∷ [] → (m : Map) (w : World) (n : ℕ) → tac t p m w n ≡ placed p m w n
-  lowered_same t e m w n = subst (λ fs. tac (record { funs = fs }) p m w n ≡ placed p m w n) (sym e) (same_meaning m w n)
+  pub lowered_same : (t : Tac) → t.funs ≡ main_code p d ∷ [] → (m : Map) (w : World) (n : ℕ) →
+      tac t p m w n ≡ placed p m w n
+  lowered_same t e m w n = subst (λ fs. tac (record { funs = fs }) p m w n ≡ placed p m w n) (sym e)
+      (same_meaning m w n)
 
 -- the weight of a program of one function
 pub weight_of_one : (p : Typed) (d : FunDef) → IsOrdered p → p.funs ≡ d ∷ [] → weight p ≡ weight_in p 0
 weight_of_one p d o only =
-    weight_of_functions p o ∙ ap (sum_by (function_weight p)) only ∙ sum_by-cons (function_weight p) d [] ∙ (let q : function_weight p d + 0 ≡ function_weight p d = omega arith in q)
+    weight_of_functions p o ∙ ap (sum_by (function_weight p)) only ∙ sum_by-cons (function_weight p) d []
+    ∙ (let q : function_weight p d + 0 ≡ function_weight p d = omega arith in q)
     ∙ sym (ap (λ ds. weight_by p (slice_get ds 0)) only)
 
 -- the parts of the form
@@ -128,7 +157,8 @@ pub form_statements : (p : Typed) → is_integer_form p ≡ true → list_all is
 form_statements p h = (and_both _ _ (and_both _ _ h).0).1
 
 pub form_has_main : (p : Typed) → is_integer_form p ≡ true → slice_get p.funs 0 ≡ None → ⊥
-form_has_main p h none = by p.funs (and_both _ _ (and_both _ _ (and_both _ _ (and_both _ _ (and_both _ _ (and_both _ _ (and_both _ _ h).0).0).0).0).0).0).1 none
+form_has_main p h none = by p.funs (and_both _ _
+    (and_both _ _ (and_both _ _ (and_both _ _ (and_both _ _ (and_both _ _ (and_both _ _ h).0).0).0).0).0).0).1 none
   where
     by : (fs : List FunDef) → (length fs == 1) ≡ true → slice_get fs 0 ≡ None → ⊥
     by [] e n = cc

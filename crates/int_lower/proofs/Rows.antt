@@ -36,7 +36,14 @@ abbrev step : ℕ → StmtKind → Stmt
 step n k = record { kind = k; pos = at n }
 
 abbrev main : FunDef
-main = record { name = unnamed; pos = at 5; of = 1; params = []; vars = record { name = unnamed; pos = at 20; of = 0; simple = true } ∷ []; body = 4 }
+main = record {
+  name = unnamed;
+  pos = at 5;
+  of = 1;
+  params = [];
+  vars = record { name = unnamed; pos = at 20; of = 0; simple = true } ∷ [];
+  body = 4;
+}
 
 abbrev counts : Typed
 counts = record {
@@ -44,9 +51,11 @@ counts = record {
   globals = [];
   literals = [];
   funs = main ∷ [];
-  exprs = node 22 (exprs.Constant 3) ∷ node 30 (exprs.Var 0) ∷ node 30 (exprs.Load 1) ∷ node 34 (exprs.Var 0) ∷ node 34 (exprs.Load 3) ∷ node 36 (exprs.Constant 1) ∷ node 35 (exprs.Int op.Sub 4 5) ∷ node 32 (exprs.Var 0)
+  exprs = node 22 (exprs.Constant 3) ∷ node 30 (exprs.Var 0) ∷ node 30 (exprs.Load 1) ∷ node 34 (exprs.Var 0)
+      ∷ node 34 (exprs.Load 3) ∷ node 36 (exprs.Constant 1) ∷ node 35 (exprs.Int op.Sub 4 5) ∷ node 32 (exprs.Var 0)
       ∷ node 33 (exprs.Assign 7 6) ∷ node 45 (exprs.Constant 0) ∷ [];
-  stmts = step 20 (stmts.Init 0 0 0) ∷ step 32 (stmts.Expr 8) ∷ step 24 (stmts.While 2 1) ∷ step 38 (stmts.Return (Some 9)) ∷ step 15 (stmts.Block (0 ∷ []) (0 ∷ 2 ∷ 3 ∷ [])) ∷ [];
+  stmts = step 20 (stmts.Init 0 0 0) ∷ step 32 (stmts.Expr 8) ∷ step 24 (stmts.While 2 1)
+      ∷ step 38 (stmts.Return (Some 9)) ∷ step 15 (stmts.Block (0 ∷ []) (0 ∷ 2 ∷ 3 ∷ [])) ∷ [];
   main = 0;
 }
 
@@ -58,7 +67,10 @@ unfolding weight
 has_form = refl
 
 lowered : (main_code counts main).code ≡
-    instr.Const 0 i32 0 ∷ instr.Const 0 i32 0 ∷ instr.Const 1 i32 3 ∷ instr.Copy 0 1 ∷ instr.Label 0 ∷ instr.Copy 2 0 ∷ instr.Branch 2 false 1 ∷ instr.Copy 3 0 ∷ instr.Const 4 i32 1 ∷ instr.Int op.Sub int.I32 5 3 4 ∷ instr.Copy 0 5
-    ∷ instr.Turn ∷ instr.Jump 0 ∷ instr.Label 1 ∷ instr.Const 6 i32 0 ∷ instr.Return (Some 6) ∷ instr.Const 7 i32 0 ∷ instr.Return (Some 7) ∷ []
+    instr.Const 0 i32 0 ∷ instr.Const 0 i32 0 ∷ instr.Const 1 i32 3 ∷ instr.Copy 0 1 ∷ instr.Label 0 ∷ instr.Copy 2 0
+    ∷ instr.Branch 2 false 1 ∷ instr.Copy 3 0 ∷ instr.Const 4 i32 1 ∷ instr.Int op.Sub int.I32 5 3 4
+    ∷ instr.Copy 0 5
+    ∷ instr.Turn ∷ instr.Jump 0 ∷ instr.Label 1 ∷ instr.Const 6 i32 0 ∷ instr.Return (Some 6) ∷ instr.Const 7 i32 0
+    ∷ instr.Return (Some 7) ∷ []
 unfolding stmt_tree expr_tree bare_within
 lowered = refl

@@ -1,5 +1,6 @@
 -- Programs that stand for one program are of the form together.
-use Rattle.std.proofs.Common.{◌≡◌, ℕ, suc, ◌+◌, ◌<◌, ◌≤◌, Bool, true, false, List, [], ◌∷◌, length, get_or, map, eq-eqb, Some, refl, sym, ap, ◌∙◌, arith, if◌then◌else◌}
+use Rattle.std.proofs.Common.{◌≡◌, ℕ, suc, ◌+◌, ◌<◌, ◌≤◌, Bool, true, false, List, [], ◌∷◌, length, get_or, map, eq-eqb}
+use Rattle.std.proofs.Common.{Some, refl, sym, ap, ◌∙◌, arith, if◌then◌else◌}
 use Rattle.std.specs.Prelude.{slice_get, sum_by, ◌==◌, ◌&&◌, ◌||◌}
 use Rattle.std.specs.List.{list_all}
 use Rattle.std.proofs.lemmas.Bool.{le-leb, leb-true, eqb-true}
@@ -16,17 +17,22 @@ use Rattle.c_tree.specs.declared.typed.Stmt.{Stmt}
 use Rattle.c_tree.specs.declared.typed.StmtKind.{StmtKind}
 use Rattle.c_tree.specs.declared.typed.StmtKind.TheVariants as stmts
 use Rattle.c_tree.specs.declared.typed.Typed.{Typed}
-use Rattle.c_tree.specs.Terms.{Shape, Term, term, Terms, no_terms, with_term, Form, Action, action, Variable, Routine, Program}
+use Rattle.c_tree.specs.Terms.{Shape, Term, term, Terms, no_terms, with_term, Form, Action, action, Variable, Routine}
+use Rattle.c_tree.specs.Terms.{Program}
 use Rattle.c_tree.specs.Terms as tree
 use Rattle.c_tree.specs.TreeWeight.{program_weight}
 use Rattle.c_tree.specs.Types.{Ty}
 use Rattle.c_tree.specs.Types as ty
-use Rattle.c_tree.specs.Views.{type_from, types_of, type_at, kind_term, expr_from, no_term, terms_of, term_at, kind_action, stmt_from, no_action, actions_of, action_at, operands, object_of, text_of, variable_of, routine_of, Shows, IsOrdered}
+use Rattle.c_tree.specs.Views.{type_from, types_of, type_at, kind_term, expr_from, no_term, terms_of, term_at}
+use Rattle.c_tree.specs.Views.{kind_action, stmt_from, no_action, actions_of, action_at, operands, object_of, text_of}
+use Rattle.c_tree.specs.Views.{variable_of, routine_of, Shows, IsOrdered}
 use Rattle.c_tree.specs.Weight.{weight}
 use Rattle.c_tree.proofs.Forest.{forest_reads}
 use Rattle.c_tree.proofs.Weighed.{weight_of_program}
 use Rattle.cheri_c_sem.specs.Expressions.{type_of}
-use Rattle.int_lower.specs.Form.{is_int, is_plain_type, is_plain, is_void_type, is_form_kind, is_converted, is_form_expression, is_form_statement_kind, is_form_statement, is_form_variable, is_form_function, is_integer_form}
+use Rattle.int_lower.specs.Form.{is_int, is_plain_type, is_plain, is_void_type, is_form_kind, is_converted}
+use Rattle.int_lower.specs.Form.{is_form_expression, is_form_statement_kind, is_form_statement, is_form_variable}
+use Rattle.int_lower.specs.Form.{is_form_function, is_integer_form}
 use Rattle.int_lower.proofs.Formed.{and_true}
 use Rattle.int_lower.proofs.Trees.{and_both}
 use Rattle.int_lower.proofs.Totals.{action_total, total_is}
@@ -91,7 +97,8 @@ is_form_routine r = list_all is_form_tree_variable r.vars
 abbrev misfit : Bool → ℕ
 misfit b = if b then 0 else 1
 
-none_misfits : {A : Type 0} (test : A → Bool) (xs : List A) → list_all test xs ≡ true → sum_by (λ x. misfit (test x)) xs ≡ 0
+none_misfits : {A : Type 0} (test : A → Bool) (xs : List A) → list_all test xs ≡ true →
+    sum_by (λ x. misfit (test x)) xs ≡ 0
 none_misfits test [] h = refl
 none_misfits test (x ∷ xs) h =
     let b = and_both (test x) (list_all test xs) h in
@@ -108,7 +115,8 @@ all_fit test (x ∷ xs) h =
     let c = sum_by-cons (λ y. misfit (test y)) x xs in
     and_true (test x) (list_all test xs) (fits_of (test x) (omega arith)) (all_fit test xs (omega arith))
 
-all_mapped : {A B : Type 0} (test : A → Bool) (other : B → Bool) (f : A → B) (xs : List A) → ((k : ℕ) (x : A) → slice_get xs k ≡ Some x → test x ≡ other (f x)) → list_all test xs ≡ list_all other (map f xs)
+all_mapped : {A B : Type 0} (test : A → Bool) (other : B → Bool) (f : A → B) (xs : List A) →
+    ((k : ℕ) (x : A) → slice_get xs k ≡ Some x → test x ≡ other (f x)) → list_all test xs ≡ list_all other (map f xs)
 all_mapped test other f [] h = refl
 all_mapped test other f (x ∷ xs) h =
     let a = h 0 x refl in
@@ -136,7 +144,8 @@ module _ (p : Typed) (o : IsOrdered p) where
       let r = forest_reads type_from ty.Void p.types t c e in
       rw (e, r.is) (int_level c (λ j. get_or r.seen j ty.Void))
 
-  plain_level : (t : ℕ) (c : CType) (go : ℕ → Ty) → slice_get p.types t ≡ Some c → t < length p.types → ((j : ℕ) → j < t → go j ≡ type_at ts j) → is_plain_type p.types (Some c) ≡ is_plain_tree (type_from c go)
+  plain_level : (t : ℕ) (c : CType) (go : ℕ → Ty) → slice_get p.types t ≡ Some c → t < length p.types →
+      ((j : ℕ) → j < t → go j ≡ type_at ts j) → is_plain_type p.types (Some c) ≡ is_plain_tree (type_from c go)
   plain_level t (ctypes.Const u) go e lt b =
       let l = o.types t (ctypes.Const u) e in
       int_is u (omega arith) ∙ ap is_int_tree (sym (b u l))
@@ -166,16 +175,25 @@ module _ (p : Typed) (o : IsOrdered p) where
   type_of_kind k t q go = refl
 
   -- the type of an operand
-  pub operand_type : (a : ℕ) → a < length p.exprs → (of : ℕ) × (type_of (slice_get p.exprs a) ≡ of) × (of < length p.types) × (tree.type_of (term_at (terms_of p) a) ≡ type_at ts of)
+  pub operand_type : (a : ℕ) → a < length p.exprs →
+      (of : ℕ) × (type_of (slice_get p.exprs a) ≡ of) × (of < length p.types) ×
+      (tree.type_of (term_at (terms_of p) a) ≡ type_at ts of)
   operand_type a lt =
       let none : Expr = record { kind = exprs.Constant 0; of = 0; pos = record { line = 0; col = 0 } } in
       let e = get_or p.exprs a none in
       let g = slice_get-get_or p.exprs a none lt in
-      let r = forest_reads (expr_from ts) no_term p.exprs a e g in
-      (e.of, ap type_of g, o.typed a e g, ap tree.type_of r.is ∙ type_of_kind e.kind (type_at ts e.of) e.pos (λ j. get_or r.seen j no_term))
+      let r = forest_reads (expr_from ts) no_term p.exprs a e g in (
+        e.of,
+        ap type_of g,
+        o.typed a e g,
+        ap tree.type_of r.is
+            ∙ type_of_kind e.kind (type_at ts e.of) e.pos (λ j. get_or r.seen j no_term),
+      )
 
   -- an expression that is no conversion is of the form by its kind and its type
-  by_kind : (k : ExprKind) (t : ℕ) (q : Pos) (go : ℕ → Term) → is_plain p.types t ≡ is_plain_tree (type_at ts t) → ((a : ℕ) → k ≡ exprs.Convert a → ⊥) → (is_form_kind k && is_converted p k t) ≡ is_form_term (kind_term ts k (type_at ts t) q go)
+  by_kind : (k : ExprKind) (t : ℕ) (q : Pos) (go : ℕ → Term) → is_plain p.types t ≡ is_plain_tree (type_at ts t) →
+      ((a : ℕ) → k ≡ exprs.Convert a → ⊥) →
+      (is_form_kind k && is_converted p k t) ≡ is_form_term (kind_term ts k (type_at ts t) q go)
   by_kind (exprs.Convert a) t q go e other = absurd (other a refl)
   by_kind (exprs.Constant n) t q go e other = e
   by_kind (exprs.Var x) t q go e other = e
@@ -189,35 +207,46 @@ module _ (p : Typed) (o : IsOrdered p) where
   by_kind (exprs.Library n xs) t q go e other = ap (λ b. (n == 0 || n == 1) && b) e
   by_kind k t q go e other = refl
 
-  expr_form : (k : ℕ) (e : Expr) → slice_get p.exprs k ≡ Some e → is_form_expression p e ≡ is_form_term (term_at (terms_of p) k)
+  expr_form : (k : ℕ) (e : Expr) → slice_get p.exprs k ≡ Some e →
+      is_form_expression p e ≡ is_form_term (term_at (terms_of p) k)
   expr_form k e g =
       let r = forest_reads (expr_from ts) no_term p.exprs k e g in
       let go : ℕ → Term = λ j. get_or r.seen j no_term in
       by e.kind refl go r.before ∙ sym (ap is_form_term r.is)
     where
-      by : (kind : ExprKind) → e.kind ≡ kind → (go : ℕ → Term) → ((j : ℕ) → j < k → go j ≡ term_at (terms_of p) j) → is_form_expression p e ≡ is_form_term (kind_term ts e.kind (type_at ts e.of) e.pos go)
+      by : (kind : ExprKind) → e.kind ≡ kind → (go : ℕ → Term) → ((j : ℕ) → j < k → go j ≡ term_at (terms_of p) j) →
+          is_form_expression p e ≡ is_form_term (kind_term ts e.kind (type_at ts e.of) e.pos go)
       by (exprs.Convert a) i go b =
           let before : a < k = o.operands_before k 0 a e g (ap (λ z. slice_get (operands z) 0) i) in
           let within = slice_get_within p.exprs k e g in
           let of = operand_type a (omega arith) in
           let here = o.typed k e g in
-          let inner : is_plain p.types (type_of (slice_get p.exprs a)) ≡ is_plain_tree (tree.type_of (go a)) = ap (is_plain p.types) of.1 ∙ plain_is of.0 of.2 ∙ ap is_plain_tree (sym (ap tree.type_of (b a before) ∙ of.3)) in
+          let inner : is_plain p.types (type_of (slice_get p.exprs a)) ≡ is_plain_tree (tree.type_of (go a)) =
+          ap (is_plain p.types) of.1 ∙ plain_is of.0 of.2
+          ∙ ap is_plain_tree (sym (ap tree.type_of (b a before) ∙ of.3)) in
           let outer = plain_is e.of here in
           let void = void_is e.of here in
-          rw i (ap (λ x. x || is_plain p.types e.of && is_plain p.types (type_of (slice_get p.exprs a))) void ∙ ap (λ x. is_void_tree (type_at ts e.of) || x && is_plain p.types (type_of (slice_get p.exprs a))) outer ∙ ap (λ x. is_void_tree (type_at ts e.of) || is_plain_tree (type_at ts e.of) && x) inner)
-      by kind i go b = by_kind e.kind e.of e.pos go (plain_is e.of (o.typed k e g)) (λ a j. let q : kind ≡ exprs.Convert a = sym i ∙ j in cc)
+          rw i (ap (λ x. x || is_plain p.types e.of && is_plain p.types (type_of (slice_get p.exprs a))) void
+          ∙ ap (λ x. is_void_tree (type_at ts e.of) || x && is_plain p.types (type_of (slice_get p.exprs a)))
+          outer ∙ ap (λ x. is_void_tree (type_at ts e.of) || is_plain_tree (type_at ts e.of) && x) inner)
+      by kind i go b = by_kind e.kind e.of e.pos go (plain_is e.of (o.typed k e g))
+          (λ a j. let q : kind ≡ exprs.Convert a = sym i ∙ j in cc)
 
-  stmt_form : (k : ℕ) (s : Stmt) → slice_get p.stmts k ≡ Some s → is_form_statement s ≡ is_form_action (action_at (actions_of p) k)
+  stmt_form : (k : ℕ) (s : Stmt) → slice_get p.stmts k ≡ Some s →
+      is_form_statement s ≡ is_form_action (action_at (actions_of p) k)
   stmt_form k s g =
       let r = forest_reads (stmt_from (terms_of p)) no_action p.stmts k s g in
       by s.kind s.pos (λ j. get_or r.seen j no_action) ∙ sym (ap is_form_action r.is)
     where
-      by : (kind : StmtKind) (q : Pos) (go : ℕ → Action) → is_form_statement_kind kind ≡ is_form_action (kind_action (terms_of p) kind q go)
+      by : (kind : StmtKind) (q : Pos) (go : ℕ → Action) →
+          is_form_statement_kind kind ≡ is_form_action (kind_action (terms_of p) kind q go)
       by (stmts.Expr a) q go = refl
       by kind q go = refl
 
-  routine_form : (k : ℕ) (d : FunDef) → slice_get p.funs k ≡ Some d → is_form_function p.types d ≡ is_form_routine (routine_of ts (actions_of p) d)
-  routine_form k d g = all_mapped (is_form_variable p.types) is_form_tree_variable (variable_of ts) d.vars (λ j v e. ap (λ b. v.simple && b) (plain_is v.of (o.vars k j d v g e)))
+  routine_form : (k : ℕ) (d : FunDef) → slice_get p.funs k ≡ Some d →
+      is_form_function p.types d ≡ is_form_routine (routine_of ts (actions_of p) d)
+  routine_form k d g = all_mapped (is_form_variable p.types) is_form_tree_variable (variable_of ts) d.vars
+      (λ j v e. ap (λ b. v.simple && b) (plain_is v.of (o.vars k j d v g e)))
 
 -- ---- the program
 
@@ -237,13 +266,18 @@ record IsFormProgram (q : Program) : Type 0 where
   light : program_weight q ≤ 100
 
 module _ (p : Typed) (o : IsOrdered p) (q : Program) (s : Shows p q) where
-  misfits : sum_by (λ e. misfit (is_form_expression p e)) p.exprs + sum_by (λ x. misfit (is_form_statement x)) p.stmts ≡ sum_by (λ (r : Routine). action_total term_misfit action_misfit r.body) q.routines
+  misfits : sum_by (λ e. misfit (is_form_expression p e)) p.exprs + sum_by (λ x. misfit (is_form_statement x)) p.stmts
+      ≡ sum_by (λ (r : Routine). action_total term_misfit action_misfit r.body) q.routines
   unfolding term_misfit action_misfit
   misfits =
-      total_is term_misfit action_misfit p o (λ e. misfit (is_form_expression p e)) (λ k e g. ap misfit (expr_form p o k e g)) (λ x. misfit (is_form_statement x)) (λ k x g. ap misfit (stmt_form p o k x g)) q s
+      total_is term_misfit action_misfit p o (λ e. misfit (is_form_expression p e))
+      (λ k e g. ap misfit (expr_form p o k e g)) (λ x. misfit (is_form_statement x))
+      (λ k x g. ap misfit (stmt_form p o k x g)) q s
 
   funs_form : list_all (is_form_function p.types) p.funs ≡ list_all is_form_routine q.routines
-  funs_form = all_mapped (is_form_function p.types) is_form_routine (routine_of (types_of p.types) (actions_of p)) p.funs (routine_form p o) ∙ ap (list_all is_form_routine) s.routines
+  funs_form = all_mapped (is_form_function p.types) is_form_routine
+      (routine_of (types_of p.types) (actions_of p)) p.funs (routine_form p o)
+      ∙ ap (list_all is_form_routine) s.routines
 
   of_form : is_integer_form p ≡ true → IsFormProgram q
   of_form h =
@@ -258,23 +292,33 @@ module _ (p : Typed) (o : IsOrdered p) (q : Program) (s : Shows p q) where
       let t = none_misfits is_form_statement p.stmts stmts.1 in
       record {
         main = sym s.main ∙ eqb-true p.main 0 one.0;
-        one = ap length (sym s.routines) ∙ mapped_length (routine_of (types_of p.types) (actions_of p)) p.funs ∙ eqb-true (length p.funs) 1 one.1;
-        no_objects = ap length (sym s.objects) ∙ mapped_length (object_of (types_of p.types)) p.globals ∙ eqb-true (length p.globals) 0 globals.1;
-        no_texts = ap length (sym s.texts) ∙ mapped_length text_of p.literals ∙ eqb-true (length p.literals) 0 literals.1;
+        one = ap length (sym s.routines) ∙ mapped_length (routine_of (types_of p.types) (actions_of p)) p.funs
+            ∙ eqb-true (length p.funs) 1 one.1;
+        no_objects = ap length (sym s.objects) ∙ mapped_length (object_of (types_of p.types)) p.globals
+            ∙ eqb-true (length p.globals) 0 globals.1;
+        no_texts = ap length (sym s.texts) ∙ mapped_length text_of p.literals
+            ∙ eqb-true (length p.literals) 0 literals.1;
         routines = sym funs_form ∙ funs.1;
-        nodes = sym misfits ∙ (let z : sum_by (λ e. misfit (is_form_expression p e)) p.exprs + sum_by (λ x. misfit (is_form_statement x)) p.stmts ≡ 0 = omega (arith, e, t) in z);
+        nodes = sym misfits
+            ∙ (let z : sum_by (λ e. misfit (is_form_expression p e)) p.exprs + sum_by (λ x. misfit (is_form_statement x)) p.stmts ≡ 0 = omega (arith, e, t) in z);
         light = omega (arith, leb-true (weight p) 100 light.1, weight_of_program p q o s);
       }
 
   to_form : IsFormProgram q → is_integer_form p ≡ true
   to_form f =
-      let one = sym (mapped_length (routine_of (types_of p.types) (actions_of p)) p.funs) ∙ ap length s.routines ∙ f.one in
+      let one = sym (mapped_length (routine_of (types_of p.types) (actions_of p)) p.funs) ∙ ap length s.routines
+      ∙ f.one in
       let globals = sym (mapped_length (object_of (types_of p.types)) p.globals) ∙ ap length s.objects ∙ f.no_objects in
       let literals = sym (mapped_length text_of p.literals) ∙ ap length s.texts ∙ f.no_texts in
       let sum = misfits ∙ f.nodes in
       let e : sum_by (λ e. misfit (is_form_expression p e)) p.exprs ≡ 0 = omega (arith, sum) in
       let t : sum_by (λ x. misfit (is_form_statement x)) p.stmts ≡ 0 = omega (arith, sum) in
-      and_true _ _ (and_true _ _ (and_true _ _ (and_true _ _ (and_true _ _ (and_true _ _ (and_true _ _ (eq-eqb p.main 0 (s.main ∙ f.main)) (eq-eqb (length p.funs) 1 one)) (eq-eqb (length p.globals) 0 globals)) (eq-eqb (length p.literals) 0 literals)) (funs_form ∙ f.routines)) (all_fit (is_form_expression p) p.exprs e)) (all_fit is_form_statement p.stmts t))
+      and_true _ _ (and_true _ _ (and_true _ _
+      (and_true _ _ (and_true _ _ (and_true _ _
+      (and_true _ _ (eq-eqb p.main 0 (s.main ∙ f.main)) (eq-eqb (length p.funs) 1 one))
+      (eq-eqb (length p.globals) 0 globals)) (eq-eqb (length p.literals) 0 literals))
+      (funs_form ∙ f.routines)) (all_fit (is_form_expression p) p.exprs e))
+      (all_fit is_form_statement p.stmts t))
       (le-leb (weight p) 100 (omega (arith, f.light, weight_of_program p q o s)))
 
 same_bool : (a b : Bool) → (a ≡ true → b ≡ true) → (b ≡ true → a ≡ true) → a ≡ b
@@ -283,5 +327,7 @@ same_bool false true f g = g refl
 same_bool false false f g = refl
 
 -- programs that stand for one program are of the form together
-pub same_form : (p r : Typed) (q : Program) → IsOrdered p → IsOrdered r → Shows p q → Shows r q → is_integer_form p ≡ is_integer_form r
-same_form p r q o u s t = same_bool _ _ (λ h. to_form r u q t (of_form p o q s h)) (λ h. to_form p o q s (of_form r u q t h))
+pub same_form : (p r : Typed) (q : Program) → IsOrdered p → IsOrdered r → Shows p q → Shows r q →
+    is_integer_form p ≡ is_integer_form r
+same_form p r q o u s t =
+    same_bool _ _ (λ h. to_form r u q t (of_form p o q s h)) (λ h. to_form p o q s (of_form r u q t h))

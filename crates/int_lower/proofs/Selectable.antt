@@ -1,5 +1,6 @@
 -- Machine code is selected for the code of a program of the form.
-use Rattle.std.proofs.Common.{◌≡◌, ℕ, ◌+◌, ◌≤◌, ◌<◌, Bool, true, false, List, [], ◌∷◌, ◌++◌, length, map, Option, Some, None, refl, arith}
+use Rattle.std.proofs.Common.{◌≡◌, ℕ, ◌+◌, ◌≤◌, ◌<◌, Bool, true, false, List, [], ◌∷◌, ◌++◌, length, map, Option, Some}
+use Rattle.std.proofs.Common.{None, refl, arith}
 use Rattle.std.specs.Prelude.{◌&&◌, sum_by, if◌then◌else◌}
 use Rattle.std.proofs.lemmas.Bool.{ltb-true}
 use Rattle.std.proofs.lemmas.List.Sums.{sum_by-cons}
@@ -11,11 +12,14 @@ use Rattle.c_tree.specs.declared.typed.Typed.{Typed}
 use Rattle.c_tree.specs.declared.typed.VarDef.{VarDef}
 use Rattle.cheri_c_sem.specs.Kinds.{Kind, Plain, int_kind}
 use Rattle.cheri_c_sem.specs.Programs.{stmt_tree}
-use Rattle.cheri_c_sem.specs.Tree.{Sign, Positive, Negative, Complement, Ex, Number, Load, Convert, Discard, Unary, Not, Binary, Compare, And, Or, Assign, Library, Variable, Nil, Cons, St, Do, Give, Block, If, While, Return, Sts, End, Seq}
+use Rattle.cheri_c_sem.specs.Tree.{Sign, Positive, Negative, Complement, Ex, Number, Load, Convert, Discard, Unary, Not}
+use Rattle.cheri_c_sem.specs.Tree.{Binary, Compare, And, Or, Assign, Library, Variable, Nil, Cons, St, Do, Give, Block}
+use Rattle.cheri_c_sem.specs.Tree.{If, While, Return, Sts, End, Seq}
 use Rattle.tac_ir.specs.Costs.{cost, operation_cost, is_wide, conversion_cost}
 use Rattle.tac_ir.specs.Effects.{kind_at}
 use Rattle.tac_ir.specs.Temps.{names}
-use Rattle.tac_ir.specs.WellFormed.{Signature, is_temp, has, has_int, same_kind, all_have, int_result, instruction_fits, return_fits, return_by, signature_of}
+use Rattle.tac_ir.specs.WellFormed.{Signature, is_temp, has, has_int, same_kind, all_have, int_result, instruction_fits}
+use Rattle.tac_ir.specs.WellFormed.{return_fits, return_by, signature_of}
 use Rattle.tac_ir.specs.Within.{FunctionCosts}
 use Rattle.tac_ir.specs.declared.code.LibOp.TheVariants as lib
 use Rattle.tac_ir.specs.declared.code.TacFun.{TacFun}
@@ -25,7 +29,8 @@ use Rattle.tac_ir.specs.declared.code.TacKind.{TacKind}
 use Rattle.tac_ir.specs.declared.code.TacKind.TheVariants as kind
 use Rattle.int_select.specs.Form.{AllBelow, AllIntegers, ArePlain, AreNamed, IsIntegerFun, labels_of}
 use Rattle.int_lower.specs.Pieces.{Piece, Nothing, One, Both, Unless, Either, Loop, labels, code}
-use Rattle.int_lower.specs.Compiled.{sign_kinds, temps, statement_temps, statements_temps, main_temps, main_code, main_piece, variable_kind, variable_kinds}
+use Rattle.int_lower.specs.Compiled.{sign_kinds, temps, statement_temps, statements_temps, main_temps, main_code}
+use Rattle.int_lower.specs.Compiled.{main_piece, variable_kind, variable_kinds}
 use Rattle.int_lower.proofs.Does.{plain, IsPlain}
 use Rattle.int_lower.proofs.Formed.{PieceFits}
 use Rattle.int_lower.proofs.Trees.{and_both}
@@ -45,11 +50,13 @@ module _ (p : Typed) (d : FunDef) (kinds : List TacKind) (whole : List TacInstr)
   of_kind : (t : ℕ) (k : Kind) → has p d kinds whole t k ≡ true → t < length kinds
   of_kind t k h = there t (and_both (is_temp p d kinds whole t) (same_kind (kind_at kinds t) k) h).0
 
-  count_there : (b : ℕ) (k : Kind) (s : Bool) → (if s then has_int p d kinds whole b else has p d kinds whole b k) ≡ true → b < length kinds
+  count_there : (b : ℕ) (k : Kind) (s : Bool) →
+      (if s then has_int p d kinds whole b else has p d kinds whole b k) ≡ true → b < length kinds
   count_there b k true h = there b (and_both _ _ h).0
   count_there b k false h = of_kind b k h
 
-  one_there : (args : List ℕ) (k : Kind) → all_have (has p d kinds whole) args (k ∷ []) ≡ true → AllBelow (length kinds) args
+  one_there : (args : List ℕ) (k : Kind) → all_have (has p d kinds whole) args (k ∷ []) ≡ true →
+      AllBelow (length kinds) args
   one_there [] k h = absurd cc
   one_there (a ∷ []) k h = (of_kind a k (and_both _ _ h).0, tt)
   one_there (a ∷ b ∷ rest) k h = let q : false ≡ true = (and_both (has p d kinds whole a k) false h).1 in absurd (no q)
@@ -78,9 +85,12 @@ module _ (p : Typed) (d : FunDef) (kinds : List TacKind) (whole : List TacInstr)
       let x = and_both _ _ h in
       let y = and_both _ _ x.0 in
       (of_kind to int_result y.0, (of_kind a _ y.1, (of_kind b _ x.1, tt)))
-  names_there (instr.Convert to from old new) h q = let a = and_both _ _ h in (of_kind to _ a.0, (of_kind from _ a.1, tt))
-  names_there (instr.Lib lib.PutChar (Some to) args) h q = let a = and_both _ _ h in (of_kind to int_result a.1, one_there args int_result a.0)
-  names_there (instr.Lib lib.GetChar (Some to) args) h q = let a = and_both _ _ h in (of_kind to int_result a.1, none_there args a.0)
+  names_there (instr.Convert to from old new) h q =
+      let a = and_both _ _ h in (of_kind to _ a.0, (of_kind from _ a.1, tt))
+  names_there (instr.Lib lib.PutChar (Some to) args) h q =
+      let a = and_both _ _ h in (of_kind to int_result a.1, one_there args int_result a.0)
+  names_there (instr.Lib lib.GetChar (Some to) args) h q =
+      let a = and_both _ _ h in (of_kind to int_result a.1, none_there args a.0)
   names_there (instr.Return (Some v)) h q = (returned_there (signature_of p d.of) v h, tt)
   names_there i h q = absurd cc
 
@@ -92,40 +102,67 @@ module _ (p : Typed) (d : FunDef) (kinds : List TacKind) (whole : List TacInstr)
 
   -- ---- the code of a piece
 
-  pub plain_code : (f : Piece) (l : ℕ) (rest : List TacInstr) → PieceFits p d kinds whole f → ArePlain kinds rest → ArePlain kinds (code f l rest)
+  pub plain_code : (f : Piece) (l : ℕ) (rest : List TacInstr) → PieceFits p d kinds whole f → ArePlain kinds rest →
+      ArePlain kinds (code f l rest)
   plain_code Nothing l rest fits r = r
   plain_code (One i) l rest fits r = (fits.1, r)
-  plain_code (Both f g) l rest fits r = plain_code f l (code g (l + labels f) rest) fits.0 (plain_code g (l + labels f) rest fits.1 r)
+  plain_code (Both f g) l rest fits r =
+      plain_code f l (code g (l + labels f) rest) fits.0 (plain_code g (l + labels f) rest fits.1 r)
   plain_code (Unless on when f) l rest fits r = (tt, plain_code f (l + 1) (instr.Label l ∷ rest) fits.1 (tt, r))
-  plain_code (Either on f g) l rest fits r =
-      (tt, plain_code f (l + 2) (instr.Jump (l + 1) ∷ instr.Label l ∷ code g (l + 2 + labels f) (instr.Label (l + 1) ∷ rest)) fits.1 (tt, (tt, plain_code g (l + 2 + labels f) (instr.Label (l + 1) ∷ rest) fits.2 (tt, r))))
+  plain_code (Either on f g) l rest fits r = (
+    tt,
+    plain_code f (l + 2) (instr.Jump (l + 1) ∷ instr.Label l
+        ∷ code g (l + 2 + labels f) (instr.Label (l + 1) ∷ rest)) fits.1
+        (tt, (tt, plain_code g (l + 2 + labels f) (instr.Label (l + 1) ∷ rest) fits.2 (tt, r))),
+  )
   plain_code (Loop f on g) l rest fits r = (
     tt,
-    plain_code f (l + 2) (instr.Branch on false (l + 1) ∷ code g (l + 2 + labels f) (instr.Turn ∷ instr.Jump l ∷ instr.Label (l + 1) ∷ rest)) fits.1
-        (tt, plain_code g (l + 2 + labels f) (instr.Turn ∷ instr.Jump l ∷ instr.Label (l + 1) ∷ rest) fits.2 (tt, (tt, (tt, r)))),
+    plain_code f (l + 2) (instr.Branch on false (l + 1)
+        ∷ code g (l + 2 + labels f) (instr.Turn ∷ instr.Jump l ∷ instr.Label (l + 1) ∷ rest)) fits.1 (
+          tt,
+          plain_code g (l + 2 + labels f) (instr.Turn ∷ instr.Jump l ∷ instr.Label (l + 1) ∷ rest) fits.2
+              (tt, (tt, (tt, r))),
+        ),
   )
 
-  pub named_code : (n : ℕ) (f : Piece) (l : ℕ) (rest : List TacInstr) → PieceFits p d kinds whole f → IsPlain f → l + labels f ≤ n → AreNamed (length kinds) n rest → AreNamed (length kinds) n (code f l rest)
+  pub named_code : (n : ℕ) (f : Piece) (l : ℕ) (rest : List TacInstr) → PieceFits p d kinds whole f → IsPlain f →
+      l + labels f ≤ n → AreNamed (length kinds) n rest → AreNamed (length kinds) n (code f l rest)
   named_code n Nothing l rest fits q le r = r
   named_code n (One i) l rest fits q le r = (names_there i fits.0 q, no_labels n i q, r)
-  named_code n (Both f g) l rest fits q le r = named_code n f l (code g (l + labels f) rest) fits.0 q.0 (omega arith) (named_code n g (l + labels f) rest fits.1 q.1 (omega arith) r)
-  named_code n (Unless on when f) l rest fits q le r =
-      ((there on fits.0, tt), (omega arith, tt), named_code n f (l + 1) (instr.Label l ∷ rest) fits.1 q (omega arith) (tt, (omega arith, tt), r))
+  named_code n (Both f g) l rest fits q le r =
+      named_code n f l (code g (l + labels f) rest) fits.0 q.0 (omega arith)
+      (named_code n g (l + labels f) rest fits.1 q.1 (omega arith) r)
+  named_code n (Unless on when f) l rest fits q le r = (
+    (there on fits.0, tt),
+    (omega arith, tt),
+    named_code n f (l + 1) (instr.Label l ∷ rest) fits.1 q (omega arith) (tt, (omega arith, tt), r),
+  )
   named_code n (Either on f g) l rest fits q le r = (
     (there on fits.0, tt),
     (omega arith, tt),
-    named_code n f (l + 2) (instr.Jump (l + 1) ∷ instr.Label l ∷ code g (l + 2 + labels f) (instr.Label (l + 1) ∷ rest)) fits.1 q.0 (omega arith)
-        (tt, (omega arith, tt), (tt, (omega arith, tt), named_code n g (l + 2 + labels f) (instr.Label (l + 1) ∷ rest) fits.2 q.1 (omega arith) (tt, (omega arith, tt), r))),
+    named_code n f (l + 2) (instr.Jump (l + 1) ∷ instr.Label l ∷ code g (l + 2 + labels f) (instr.Label (l + 1) ∷ rest))
+        fits.1 q.0 (omega arith) (
+          tt,
+          (omega arith, tt),
+          (
+            tt,
+            (omega arith, tt),
+            named_code n g (l + 2 + labels f) (instr.Label (l + 1) ∷ rest) fits.2 q.1 (omega arith)
+                (tt, (omega arith, tt), r),
+          ),
+        ),
   )
   named_code n (Loop f on g) l rest fits q le r = (
     tt,
     (omega arith, tt),
-    named_code n f (l + 2) (instr.Branch on false (l + 1) ∷ code g (l + 2 + labels f) (instr.Turn ∷ instr.Jump l ∷ instr.Label (l + 1) ∷ rest)) fits.1 q.0 (omega arith) (
-      (there on fits.0, tt),
-      (omega arith, tt),
-      named_code n g (l + 2 + labels f) (instr.Turn ∷ instr.Jump l ∷ instr.Label (l + 1) ∷ rest) fits.2 q.1 (omega arith)
-          (tt, tt, (tt, (omega arith, tt), (tt, (omega arith, tt), r))),
-    ),
+    named_code n f (l + 2) (instr.Branch on false (l + 1)
+        ∷ code g (l + 2 + labels f) (instr.Turn ∷ instr.Jump l ∷ instr.Label (l + 1) ∷ rest)) fits.1 q.0 (omega arith) (
+          (there on fits.0, tt),
+          (omega arith, tt),
+          named_code n g (l + 2 + labels f) (instr.Turn ∷ instr.Jump l ∷ instr.Label (l + 1) ∷ rest) fits.2 q.1
+              (omega arith)
+              (tt, tt, (tt, (omega arith, tt), (tt, (omega arith, tt), r))),
+        ),
   )
 
 -- ---- lengths
@@ -160,12 +197,19 @@ costs_some (instr.Return (Some v)) q = omega arith
 costs_some i q = absurd cc
 
 -- a piece has no more instructions than it costs
-length_le : (f : Piece) (l : ℕ) (rest : List TacInstr) → IsPlain f → length (code f l rest) + sum_by cost rest ≤ sum_by cost (code f l rest) + length rest
+length_le : (f : Piece) (l : ℕ) (rest : List TacInstr) → IsPlain f →
+    length (code f l rest) + sum_by cost rest ≤ sum_by cost (code f l rest) + length rest
 length_le Nothing l rest q = omega arith
 length_le (One i) l rest q = omega (arith, sum_by-cons cost i rest, costs_some i q)
-length_le (Both f g) l rest q = omega (arith, length_le f l (code g (l + labels f) rest) q.0, length_le g (l + labels f) rest q.1)
+length_le (Both f g) l rest q =
+    omega (arith, length_le f l (code g (l + labels f) rest) q.0, length_le g (l + labels f) rest q.1)
 length_le (Unless on when f) l rest q =
-    omega (arith, sum_by-cons cost (instr.Branch on when l) (code f (l + 1) (instr.Label l ∷ rest)), length_le f (l + 1) (instr.Label l ∷ rest) q, sum_by-cons cost (instr.Label l) rest)
+    omega (
+      arith,
+      sum_by-cons cost (instr.Branch on when l) (code f (l + 1) (instr.Label l ∷ rest)),
+      length_le f (l + 1) (instr.Label l ∷ rest) q,
+      sum_by-cons cost (instr.Label l) rest,
+    )
 length_le (Either on f g) l rest q =
     let last = instr.Label (l + 1) ∷ rest in
     let later = code g (l + 2 + labels f) last in
@@ -225,19 +269,33 @@ expression_integers : (e : Ex) (of : IntKind) → AllIntegers (temps of e)
 expression_integers (Number n) of = (tt, tt)
 expression_integers (Variable p x) of = (tt, tt)
 expression_integers (Load k e) of = (tt, tt)
-expression_integers (Convert p j k plain e) of = integers_both (temps (int_kind j) e) (kind.Int (int_kind k) ∷ []) (expression_integers e (int_kind j)) (tt, tt)
-expression_integers (Discard e) of = integers_both (temps int.U64 e) (kind.Int int.I32 ∷ []) (expression_integers e int.U64) (tt, tt)
-expression_integers (Unary p sign k e) of = integers_both (temps (int_kind k) e) (sign_kinds (int_kind k) sign) (expression_integers e (int_kind k)) (sign_integers sign (int_kind k))
-expression_integers (Not p k e) of = integers_both (temps (int_kind k) e) (kind.Int (int_kind k) ∷ kind.Int int.I32 ∷ []) (expression_integers e (int_kind k)) (tt, (tt, tt))
+expression_integers (Convert p j k plain e) of =
+    integers_both (temps (int_kind j) e) (kind.Int (int_kind k) ∷ []) (expression_integers e (int_kind j)) (tt, tt)
+expression_integers (Discard e) of =
+    integers_both (temps int.U64 e) (kind.Int int.I32 ∷ []) (expression_integers e int.U64) (tt, tt)
+expression_integers (Unary p sign k e) of =
+    integers_both (temps (int_kind k) e) (sign_kinds (int_kind k) sign) (expression_integers e (int_kind k))
+    (sign_integers sign (int_kind k))
+expression_integers (Not p k e) of =
+    integers_both (temps (int_kind k) e) (kind.Int (int_kind k) ∷ kind.Int int.I32 ∷ [])
+    (expression_integers e (int_kind k)) (tt, (tt, tt))
 expression_integers (Binary p op a b) of =
-    integers_both (temps _ a ++ temps _ b) (kind.Int _ ∷ []) (integers_both (temps _ a) (temps _ b) (expression_integers a _) (expression_integers b _)) (tt, tt)
+    integers_both (temps _ a ++ temps _ b) (kind.Int _ ∷ [])
+    (integers_both (temps _ a) (temps _ b) (expression_integers a _) (expression_integers b _)) (tt, tt)
 expression_integers (Compare p op k a b) of =
-    integers_both (temps (int_kind k) a ++ temps (int_kind k) b) (kind.Int int.I32 ∷ []) (integers_both (temps (int_kind k) a) (temps (int_kind k) b) (expression_integers a (int_kind k)) (expression_integers b (int_kind k))) (tt, tt)
-expression_integers (And p j k a b) of = integers_both (temps (int_kind j) a) (kind.Int int.I32 ∷ temps (int_kind k) b) (expression_integers a (int_kind j)) (tt, expression_integers b (int_kind k))
-expression_integers (Or p j k a b) of = integers_both (temps (int_kind j) a) (kind.Int int.I32 ∷ temps (int_kind k) b) (expression_integers a (int_kind j)) (tt, expression_integers b (int_kind k))
+    integers_both (temps (int_kind k) a ++ temps (int_kind k) b) (kind.Int int.I32 ∷ [])
+    (integers_both (temps (int_kind k) a) (temps (int_kind k) b) (expression_integers a (int_kind k))
+    (expression_integers b (int_kind k))) (tt, tt)
+expression_integers (And p j k a b) of =
+    integers_both (temps (int_kind j) a) (kind.Int int.I32 ∷ temps (int_kind k) b) (expression_integers a (int_kind j))
+    (tt, expression_integers b (int_kind k))
+expression_integers (Or p j k a b) of =
+    integers_both (temps (int_kind j) a) (kind.Int int.I32 ∷ temps (int_kind k) b) (expression_integers a (int_kind j))
+    (tt, expression_integers b (int_kind k))
 expression_integers (Assign k a b) of = expression_integers b (int_kind k)
 expression_integers (Library p service Nil) of = (tt, tt)
-expression_integers (Library p service (Cons e es)) of = integers_both (temps int.I32 e) (kind.Int int.I32 ∷ []) (expression_integers e int.I32) (tt, tt)
+expression_integers (Library p service (Cons e es)) of =
+    integers_both (temps int.I32 e) (kind.Int int.I32 ∷ []) (expression_integers e int.I32) (tt, tt)
 expression_integers e of = tt
 
 module _ (kinds : List TacKind) where
@@ -247,15 +305,21 @@ module _ (kinds : List TacKind) where
     statement_integers (Give x e) = expression_integers e _
     statement_integers (Block ds ss) = statements_integers ss
     statement_integers (If p k e a b) =
-        integers_both (temps (int_kind k) e ++ statement_temps kinds a) (statement_temps kinds b) (integers_both (temps (int_kind k) e) (statement_temps kinds a) (expression_integers e (int_kind k)) (statement_integers a)) (statement_integers b)
-    statement_integers (While p k e b) = integers_both (temps (int_kind k) e) (statement_temps kinds b) (expression_integers e (int_kind k)) (statement_integers b)
+        integers_both (temps (int_kind k) e ++ statement_temps kinds a) (statement_temps kinds b)
+        (integers_both (temps (int_kind k) e) (statement_temps kinds a) (expression_integers e (int_kind k))
+        (statement_integers a)) (statement_integers b)
+    statement_integers (While p k e b) =
+        integers_both (temps (int_kind k) e) (statement_temps kinds b) (expression_integers e (int_kind k))
+        (statement_integers b)
     statement_integers (Return None) = (tt, tt)
     statement_integers (Return (Some e)) = expression_integers e int.I32
     statement_integers c = tt
 
     statements_integers : (ss : Sts) → AllIntegers (statements_temps kinds ss)
     statements_integers End = tt
-    statements_integers (Seq c ss) = integers_both (statement_temps kinds c) (statements_temps kinds ss) (statement_integers c) (statements_integers ss)
+    statements_integers (Seq c ss) =
+        integers_both (statement_temps kinds c) (statements_temps kinds ss) (statement_integers c)
+        (statements_integers ss)
 
 variable_integers : (p : Typed) (vs : List VarDef) → AllIntegers (map (variable_kind p) vs)
 variable_integers p [] = tt
@@ -263,8 +327,11 @@ variable_integers p (v ∷ vs) = (tt, variable_integers p vs)
 
 -- ---- `main`
 
-module _ (p : Typed) (d : FunDef) (pieces : PieceFits p d (main_temps (variable_kinds p d) (stmt_tree p d.vars d.body)) (main_code p d).code (main_piece (variable_kinds p d) (stmt_tree p d.vars d.body)))
-    (stands : IsPlain (main_piece (variable_kinds p d) (stmt_tree p d.vars d.body))) (within : FunctionCosts (weight p) (main_code p d)) (light : weight p ≤ 100) where
+module _ (p : Typed) (d : FunDef) (pieces :
+    PieceFits p d (main_temps (variable_kinds p d) (stmt_tree p d.vars d.body)) (main_code p d).code
+    (main_piece (variable_kinds p d) (stmt_tree p d.vars d.body)))
+    (stands : IsPlain (main_piece (variable_kinds p d) (stmt_tree p d.vars d.body)))
+    (within : FunctionCosts (weight p) (main_code p d)) (light : weight p ≤ 100) where
   abbrev ks : List TacKind
   ks = variable_kinds p d
 
@@ -282,7 +349,9 @@ module _ (p : Typed) (d : FunDef) (pieces : PieceFits p d (main_temps (variable_
     no_parameters = refl;
     few = omega (arith, within.temps);
     short = omega (arith, short);
-    integers = integers_both (ks ++ statement_temps ks body) (kind.Int int.I32 ∷ []) (integers_both ks (statement_temps ks body) (variable_integers p d.vars) (statement_integers ks body)) (tt, tt);
-    named = named_code p d f.kinds f.code (length f.code) (main_piece ks body) 0 [] pieces stands (omega (arith, labels_le (main_piece ks body) 0 [])) tt;
+    integers = integers_both (ks ++ statement_temps ks body) (kind.Int int.I32 ∷ [])
+        (integers_both ks (statement_temps ks body) (variable_integers p d.vars) (statement_integers ks body)) (tt, tt);
+    named = named_code p d f.kinds f.code (length f.code) (main_piece ks body) 0 [] pieces stands
+        (omega (arith, labels_le (main_piece ks body) 0 [])) tt;
     plain = plain_code p d f.kinds f.code (main_piece ks body) 0 [] pieces tt;
   }

@@ -1,5 +1,7 @@
--- The code of expressions and statements. Each value comes into a temp of its own, and those of the variables are the first temps.
-use Rattle.std.specs.Prelude.{◌≡◌, ℕ, ◌+◌, ◌^◌, ◌-◌, ◌⊎◌, pos, true, false, List, [], ◌∷◌, ◌++◌, length, map, Some, None, slice_get, slice_index_or}
+-- The code of expressions and statements. Each value comes into a temp of its own, and those of the variables are the
+-- first temps.
+use Rattle.std.specs.Prelude.{◌≡◌, ℕ, ◌+◌, ◌^◌, ◌-◌, ◌⊎◌, pos, true, false, List, [], ◌∷◌, ◌++◌, length, map, Some}
+use Rattle.std.specs.Prelude.{None, slice_get, slice_index_or}
 use Rattle.ck_int.specs.declared.kinds.IntKind.{IntKind}
 use Rattle.ck_int.specs.declared.kinds.IntKind.TheVariants as int
 use Rattle.ck_int.specs.Kinds.{wrapped}
@@ -12,7 +14,10 @@ use Rattle.c_tree.specs.declared.typed.VarDef.{VarDef}
 use Rattle.cheri_c_sem.specs.Kinds.{Plain, int_kind}
 use Rattle.cheri_c_sem.specs.Types.{is_shift}
 use Rattle.cheri_c_sem.specs.Programs.{stmt_tree}
-use Rattle.cheri_c_sem.specs.Tree.{Operation, Whole, Sign, Positive, Negative, Complement, Service, Put_char, Get_char, Ex, Number, Load, Convert, Discard, Unary, Not, Binary, Compare, And, Or, Assign, Library, Variable, Nil, Cons, Declared, Simple, Objects, St, Do, Give, Block, If, While, Return, Empty, Sts, End, Seq}
+use Rattle.cheri_c_sem.specs.Tree.{Operation, Whole, Sign, Positive, Negative, Complement, Service, Put_char, Get_char}
+use Rattle.cheri_c_sem.specs.Tree.{Ex, Number, Load, Convert, Discard, Unary, Not, Binary, Compare, And, Or, Assign}
+use Rattle.cheri_c_sem.specs.Tree.{Library, Variable, Nil, Cons, Declared, Simple, Objects, St, Do, Give, Block, If}
+use Rattle.cheri_c_sem.specs.Tree.{While, Return, Empty, Sts, End, Seq}
 use Rattle.tac_ir.specs.declared.code.LibOp.{LibOp}
 use Rattle.tac_ir.specs.declared.code.LibOp.TheVariants as lib
 use Rattle.tac_ir.specs.declared.code.TacFun.{TacFun}
@@ -128,7 +133,8 @@ all_ones k = wrapped k (pos (2 ^ 64 - 1))
 abbrev pub sign_piece : Sign → IntKind → (from to : ℕ) → Piece
 sign_piece Positive k from to = Nothing
 sign_piece Negative k from to = Both (One (instr.Const to (kind.Int k) 0)) (One (instr.Int Sub k to to from))
-sign_piece Complement k from to = Both (One (instr.Const to (kind.Int k) (all_ones k))) (One (instr.Int Xor k to to from))
+sign_piece Complement k from to =
+    Both (One (instr.Const to (kind.Int k) (all_ones k))) (One (instr.Int Xor k to to from))
 
 abbrev pub operation_piece : Operation → (to a b : ℕ) → Piece
 operation_piece (Whole op k count) to a b = One (instr.Int op k to a b)
@@ -138,31 +144,43 @@ abbrev pub library_of : Service → LibOp
 library_of Put_char = lib.PutChar
 library_of service = lib.GetChar
 
--- The code of an expression, whose value comes into its temp; a constant has the given kind. A value that isn't used has that of 64 bits
--- without a sign, which has each constant. (A place that is not read has no value; the
--- meaning gives 0 there.)
+-- The code of an expression, whose value comes into its temp; a constant has the given kind. A value that isn't used
+-- has that of 64 bits without a sign, which has each constant. (A place that is not read has no value; the meaning
+-- gives 0 there.)
 abbrev pub piece : IntKind → ℕ → Ex → Piece
 piece of next (Number n) = One (instr.Const next (kind.Int of) n)
 piece of next (Variable p x) = One (instr.Const next (kind.Int of) 0)
 piece of next (Load k e) = One (instr.Copy next (variable_in e))
-piece of next (Convert p j k plain e) = Both (piece (int_kind j) next e) (One (instr.Convert (next + used e) (result next e) (kind.Int (int_kind j)) (kind.Int (int_kind k))))
+piece of next (Convert p j k plain e) =
+    Both (piece (int_kind j) next e) (One (instr.Convert (next + used e) (result next e) (kind.Int (int_kind j))
+    (kind.Int (int_kind k))))
 piece of next (Discard e) = Both (piece int.U64 next e) (One (instr.Const (next + used e) (kind.Int int.I32) 0))
-piece of next (Unary p sign k e) = Both (piece (int_kind k) next e) (sign_piece sign (int_kind k) (result next e) (next + used e))
+piece of next (Unary p sign k e) =
+    Both (piece (int_kind k) next e) (sign_piece sign (int_kind k) (result next e) (next + used e))
 piece of next (Not p k e) =
-    Both (piece (int_kind k) next e) (Both (One (instr.Const (next + used e) (kind.Int (int_kind k)) 0)) (One (instr.Cmp Eq (kind.Int (int_kind k)) (next + used e + 1) (result next e) (next + used e))))
+    Both (piece (int_kind k) next e) (Both (One (instr.Const (next + used e) (kind.Int (int_kind k)) 0))
+    (One (instr.Cmp Eq (kind.Int (int_kind k)) (next + used e + 1) (result next e) (next + used e))))
 piece of next (Binary p op a b) =
-    Both (piece (whole_kind op) next a) (Both (piece (count_kind op) (next + used a) b) (operation_piece op (next + used a + used b) (result next a) (result (next + used a) b)))
+    Both (piece (whole_kind op) next a) (Both (piece (count_kind op) (next + used a) b)
+    (operation_piece op (next + used a + used b) (result next a) (result (next + used a) b)))
 piece of next (Compare p op k a b) =
-    Both (piece (int_kind k) next a) (Both (piece (int_kind k) (next + used a) b) (One (instr.Cmp op (kind.Int (int_kind k)) (next + used a + used b) (result next a) (result (next + used a) b))))
+    Both (piece (int_kind k) next a) (Both (piece (int_kind k) (next + used a) b)
+    (One (instr.Cmp op (kind.Int (int_kind k)) (next + used a + used b) (result next a)
+    (result (next + used a) b))))
 piece of next (And p j k a b) =
-    Both (piece (int_kind j) next a) (Both (One (instr.Const (next + used a) (kind.Int int.I32) 0)) (Unless (result next a) false
-    (Both (piece (int_kind k) (next + used a + 1) b) (Unless (result (next + used a + 1) b) false (One (instr.Const (next + used a) (kind.Int int.I32) 1))))))
+    Both (piece (int_kind j) next a) (Both (One (instr.Const (next + used a) (kind.Int int.I32) 0))
+    (Unless (result next a) false
+    (Both (piece (int_kind k) (next + used a + 1) b)
+    (Unless (result (next + used a + 1) b) false (One (instr.Const (next + used a) (kind.Int int.I32) 1))))))
 piece of next (Or p j k a b) =
-    Both (piece (int_kind j) next a) (Both (One (instr.Const (next + used a) (kind.Int int.I32) 1)) (Unless (result next a) true
-    (Both (piece (int_kind k) (next + used a + 1) b) (Unless (result (next + used a + 1) b) true (One (instr.Const (next + used a) (kind.Int int.I32) 0))))))
+    Both (piece (int_kind j) next a) (Both (One (instr.Const (next + used a) (kind.Int int.I32) 1))
+    (Unless (result next a) true
+    (Both (piece (int_kind k) (next + used a + 1) b)
+    (Unless (result (next + used a + 1) b) true (One (instr.Const (next + used a) (kind.Int int.I32) 0))))))
 piece of next (Assign k a b) = Both (piece (int_kind k) next b) (One (instr.Copy (variable_in a) (result next b)))
 piece of next (Library p service Nil) = One (instr.Lib (library_of service) (Some next) [])
-piece of next (Library p service (Cons e es)) = Both (piece int.I32 next e) (One (instr.Lib (library_of service) (Some (next + used e)) (result next e ∷ [])))
+piece of next (Library p service (Cons e es)) =
+    Both (piece int.I32 next e) (One (instr.Lib (library_of service) (Some (next + used e)) (result next e ∷ [])))
 piece of next e = Nothing
 
 -- ---- the code of statements, over the kinds of the variables
@@ -217,12 +235,16 @@ module _ (kinds : List TacKind) where
   abbrev mutual
     pub statement_piece : ℕ → St → Piece
     statement_piece next (Do e) = piece int.U64 next e
-    statement_piece next (Give x e) = Both (piece (kind_of_variable kinds x) next e) (One (instr.Copy x (result next e)))
+    statement_piece next (Give x e) =
+        Both (piece (kind_of_variable kinds x) next e) (One (instr.Copy x (result next e)))
     statement_piece next (Block ds ss) = Both (zeros ds) (statements_piece next ss)
     statement_piece next (If p k e a b) =
-        Both (piece (int_kind k) next e) (Either (result next e) (statement_piece (next + used e) a) (statement_piece (next + used e + statement_used a) b))
-    statement_piece next (While p k e b) = Loop (piece (int_kind k) next e) (result next e) (statement_piece (next + used e) b)
-    statement_piece next (Return None) = Both (One (instr.Const next (kind.Int int.I32) 0)) (One (instr.Return (Some next)))
+        Both (piece (int_kind k) next e) (Either (result next e) (statement_piece (next + used e) a)
+        (statement_piece (next + used e + statement_used a) b))
+    statement_piece next (While p k e b) =
+        Loop (piece (int_kind k) next e) (result next e) (statement_piece (next + used e) b)
+    statement_piece next (Return None) =
+        Both (One (instr.Const next (kind.Int int.I32) 0)) (One (instr.Return (Some next)))
     statement_piece next (Return (Some e)) = Both (piece int.I32 next e) (One (instr.Return (Some (result next e))))
     statement_piece next s = Nothing
 
@@ -241,7 +263,8 @@ zeros_from x (k ∷ ks) = Both (One (instr.Const x k 0)) (zeros_from (x + 1) ks)
 abbrev pub main_piece : List TacKind → St → Piece
 main_piece kinds s =
     let end = length kinds + statement_used kinds s in
-    Both (zeros_from 0 kinds) (Both (statement_piece kinds (length kinds) s) (Both (One (instr.Const end (kind.Int int.I32) 0)) (One (instr.Return (Some end)))))
+    Both (zeros_from 0 kinds) (Both (statement_piece kinds (length kinds) s)
+    (Both (One (instr.Const end (kind.Int int.I32) 0)) (One (instr.Return (Some end)))))
 
 abbrev pub main_temps : List TacKind → St → List TacKind
 main_temps kinds s = kinds ++ statement_temps kinds s ++ kind.Int int.I32 ∷ []
@@ -282,7 +305,8 @@ module _ (kinds : List TacKind) where
   Fits (Discard e) = Fits e
   Fits (Unary p sign (Plain k) e) = Fits e × (kind_in k e ≡ k)
   Fits (Not p (Plain k) e) = Fits e × (kind_in k e ≡ k)
-  Fits (Binary p (Whole op k (Plain c)) a b) = Fits a × Fits b × (kind_in k a ≡ k) × (kind_in c b ≡ c) × ((c ≡ k) ⊎ IsShift op)
+  Fits (Binary p (Whole op k (Plain c)) a b) =
+      Fits a × Fits b × (kind_in k a ≡ k) × (kind_in c b ≡ c) × ((c ≡ k) ⊎ IsShift op)
   Fits (Compare p op (Plain k) a b) = Fits a × Fits b × (kind_in k a ≡ k) × (kind_in k b ≡ k)
   Fits (And p (Plain j) (Plain k) a b) = Fits a × Fits b × (kind_in j a ≡ j) × (kind_in k b ≡ k)
   Fits (Or p (Plain j) (Plain k) a b) = Fits a × Fits b × (kind_in j a ≡ j) × (kind_in k b ≡ k)

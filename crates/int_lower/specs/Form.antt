@@ -64,7 +64,8 @@ is_form_kind kind = false
 
 -- a conversion is from an integer type, or to void; every other expression has an integer type
 abbrev pub is_converted : Typed → ExprKind → ℕ → Bool
-is_converted p (exprs.Convert a) t = is_void_type (slice_get p.types t) || is_plain p.types t && is_plain p.types (type_of (slice_get p.exprs a))
+is_converted p (exprs.Convert a) t =
+    is_void_type (slice_get p.types t) || is_plain p.types t && is_plain p.types (type_of (slice_get p.exprs a))
 is_converted p kind t = is_plain p.types t
 
 abbrev pub is_form_expression : Typed → Expr → Bool
@@ -94,4 +95,5 @@ is_form_function all f = list_all (is_form_variable all) f.vars
 abbrev pub is_integer_form : Typed → Bool
 is_integer_form p =
     p.main == 0 && length p.funs == 1 && length p.globals == 0 && length p.literals == 0
-    && list_all (is_form_function p.types) p.funs && list_all (is_form_expression p) p.exprs && list_all is_form_statement p.stmts && nat_le (weight p) 100
+    && list_all (is_form_function p.types) p.funs && list_all (is_form_expression p) p.exprs
+    && list_all is_form_statement p.stmts && nat_le (weight p) 100

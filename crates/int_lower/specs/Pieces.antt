@@ -30,6 +30,8 @@ code (One i) l rest = i ∷ rest
 code (Both f g) l rest = code f l (code g (l + labels f) rest)
 code (Unless on when f) l rest = instr.Branch on when l ∷ code f (l + 1) (instr.Label l ∷ rest)
 code (Either on f g) l rest =
-    instr.Branch on false l ∷ code f (l + 2) (instr.Jump (l + 1) ∷ instr.Label l ∷ code g (l + 2 + labels f) (instr.Label (l + 1) ∷ rest))
+    instr.Branch on false l ∷ code f (l + 2) (instr.Jump (l + 1) ∷ instr.Label l
+    ∷ code g (l + 2 + labels f) (instr.Label (l + 1) ∷ rest))
 code (Loop f on g) l rest =
-    instr.Label l ∷ code f (l + 2) (instr.Branch on false (l + 1) ∷ code g (l + 2 + labels f) (instr.Turn ∷ instr.Jump l ∷ instr.Label (l + 1) ∷ rest))
+    instr.Label l ∷ code f (l + 2) (instr.Branch on false (l + 1)
+    ∷ code g (l + 2 + labels f) (instr.Turn ∷ instr.Jump l ∷ instr.Label (l + 1) ∷ rest))

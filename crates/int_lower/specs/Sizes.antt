@@ -11,7 +11,8 @@ use Rattle.c_tree.specs.declared.typed.FunDef.{FunDef}
 use Rattle.c_tree.specs.declared.typed.Typed.{Typed}
 use Rattle.cheri_c_sem.specs.Order.{Ordered}
 use Rattle.cheri_c_sem.specs.Programs.{stmt_tree}
-use Rattle.cheri_c_sem.specs.Tree.{Ex, Number, Load, Convert, Discard, Unary, Not, Binary, Compare, And, Or, Assign, Library, Variable, Nil, Cons, St, Do, Give, Block, If, While, Return, Sts, End, Seq}
+use Rattle.cheri_c_sem.specs.Tree.{Ex, Number, Load, Convert, Discard, Unary, Not, Binary, Compare, And, Or, Assign}
+use Rattle.cheri_c_sem.specs.Tree.{Library, Variable, Nil, Cons, St, Do, Give, Block, If, While, Return, Sts, End, Seq}
 use Rattle.tac_ir.specs.WellFormed.{int_result, signature_of}
 use Rattle.int_lower.specs.Compiled.{whole_kind, count_kind, kind_of_variable, variable_kinds, StatementFits}
 use Rattle.int_lower.specs.Emitted.{ValuesThere}
@@ -64,14 +65,16 @@ abbrev mutual
 
 -- ---- constants and operations
 
--- Constants are kept in the kinds that they have, where a constant has a given one, and operations are at promoted kinds
+-- Constants are kept in the kinds that they have, where a constant has a given one, and operations are at promoted
+-- kinds
 abbrev pub Steady : IntKind → Ex → Type 0
 Steady of (Number n) = IsKept of n
 Steady of (Convert p j k plain e) = Steady (int_kind j) e
 Steady of (Discard e) = Steady int.U64 e
 Steady of (Unary p sign k e) = IsPromoted (int_kind k) × Steady (int_kind k) e
 Steady of (Not p k e) = Steady (int_kind k) e
-Steady of (Binary p op a b) = IsPromoted (whole_kind op) × IsPromoted (count_kind op) × Steady (whole_kind op) a × Steady (count_kind op) b
+Steady of (Binary p op a b) =
+    IsPromoted (whole_kind op) × IsPromoted (count_kind op) × Steady (whole_kind op) a × Steady (count_kind op) b
 Steady of (Compare p op k a b) = Steady (int_kind k) a × Steady (int_kind k) b
 Steady of (And p j k a b) = Steady (int_kind j) a × Steady (int_kind k) b
 Steady of (Or p j k a b) = Steady (int_kind j) a × Steady (int_kind k) b

@@ -72,7 +72,8 @@ pub fn test_loop(out: &mut Emitter, on: u32, label: u32) -> Result<(), NoMemory>
 #[tactic(auto, using(crate::proofs::Emitting::adds_one, crate::proofs::Emitting::adds_next))]
 pub fn end_loop(out: &mut Emitter, label: u32) -> Result<(), NoMemory>
     requires { label < 2 ^ 31 }
-    ensures { IfOk result (λ _. Adds out.old out.new 0 (instrs.Turn ∷ instrs.Jump label ∷ instrs.Label (label + 1) ∷ [])) }
+    ensures { IfOk result (λ _. Adds out.old out.new 0
+        (instrs.Turn ∷ instrs.Jump label ∷ instrs.Label (label + 1) ∷ [])) }
 {
     out.push(TacInstr::Turn)?;
     turn_back(out, label)

@@ -3,7 +3,9 @@
 ghost use Rattle.std.specs.Prelude.{◌≡◌, slice_get};
 ghost use Rattle.std.specs.List.{list_all};
 ghost use Rattle.cheri_c_sem.specs.Expressions.{type_of};
-ghost use Rattle.int_lower.specs.Form.{is_int, is_plain, is_void_type, is_form_kind, is_converted, is_form_expression, is_form_statement, is_form_variable, is_form_function, is_integer_form, kind_of_int, plain_kind};
+ghost use Rattle.int_lower.specs.Form.{is_int, is_plain, is_void_type, is_form_kind, is_converted, is_form_expression};
+ghost use Rattle.int_lower.specs.Form.{is_form_statement, is_form_variable, is_form_function, is_integer_form};
+ghost use Rattle.int_lower.specs.Form.{kind_of_int, plain_kind};
 
 use c_tree::{CType, Expr, ExprKind, FunDef, Stmt, StmtKind, Typed, VarDef, weight};
 use ck_int::IntKind;
@@ -65,8 +67,8 @@ pub fn type_of(p: &Typed, a: u32) -> u32
     }
 }
 
-// Whether an expression of a kind with type `t` is a conversion between integer types or to void, or no conversion and of an
-// integer type.
+// Whether an expression of a kind with type `t` is a conversion between integer types or to void, or no conversion and
+// of an integer type.
 fn is_converted(p: &Typed, kind: &ExprKind, t: u32) -> bool
     ensures { result ≡ is_converted p.now kind.now t }
 {
@@ -177,11 +179,11 @@ fn are_form_functions(types: &[CType], funs: &[FunDef]) -> bool
     true
 }
 
-/// Whether a typed program is of the form that is built. It has one function, `main`, and no globals and no string literals.
-/// Every local has an integer type, perhaps const, and its address is never taken. Its statements are blocks, empty statements,
-/// expressions, initialisations, `if`, `while` and `return`. Its expressions are constants, locals, their values, conversions
-/// between integer types or to void, unary operations, operations on integers, comparisons, `&&`, `||`, assignments, and calls
-/// of `putchar` and `getchar`. Its weight is at most 100.
+/// Whether a typed program is of the form that is built. It has one function, `main`, and no globals and no string
+/// literals. Every local has an integer type, perhaps const, and its address is never taken. Its statements are blocks,
+/// empty statements, expressions, initialisations, `if`, `while` and `return`. Its expressions are constants, locals,
+/// their values, conversions between integer types or to void, unary operations, operations on integers, comparisons,
+/// `&&`, `||`, assignments, and calls of `putchar` and `getchar`. Its weight is at most 100.
 #[tactic(auto, using(std::proofs::lemmas::Grind::common_steps))]
 pub fn is_integer_form(p: &Typed) -> bool
     ensures { result ≡ is_integer_form p.now }

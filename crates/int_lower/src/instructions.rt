@@ -166,7 +166,8 @@ fn computed_with(
     b: u32,
 ) -> Result<u32, NoMemory>
     ensures temp { IfOk result (λ t. t ≡ next_temp out.old) }
-    ensures emits { IfOk result (λ t. Emits out.old out.new (Both (One (instrs.Const t (kinds.Int kind) value)) (One (instrs.Int op kind t t b))) (kinds.Int kind ∷ [])) }
+    ensures emits { IfOk result (λ t. Emits out.old out.new
+        (Both (One (instrs.Const t (kinds.Int kind) value)) (One (instrs.Int op kind t t b))) (kinds.Int kind ∷ [])) }
 {
     let to = constant(out, kind, value)?;
     out.push(TacInstr::Int {
@@ -195,8 +196,8 @@ pub struct Pending {
     pub end: u32,
 }
 
-/// The first operand of `&&` (`when` is false) or `||` (`when` is true) is in a temp. The result is that truth value, and the code of
-/// the second operand is passed over, where the temp has it.
+/// The first operand of `&&` (`when` is false) or `||` (`when` is true) is in a temp. The result is that truth value,
+/// and the code of the second operand is passed over, where the temp has it.
 #[tactic(auto, using(crate::proofs::Emitting::opened))]
 pub fn open(out: &mut Emitter, when: bool, on: u32) -> Result<Pending, NoMemory>
     ensures { IfOk result (λ o. Opened out.old out.new when on o.result o.end) }

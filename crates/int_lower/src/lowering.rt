@@ -42,8 +42,8 @@ fn program(alloc: Global, p: &Typed, d: &FunDef) -> Result<Tac, NoMemory>
     })
 }
 
-/// The three-address code of a typed program of the form. It is well formed and no larger than the program allows, and under every
-/// legal map, in every world and with every number of turns, it does what the program means.
+/// The three-address code of a typed program of the form. It is well formed and no larger than the program allows, and
+/// under every legal map, in every world and with every number of turns, it does what the program means.
 pub fn lower(alloc: Global, p: &Typed) -> Result<Tac, NoMemory>
     requires form { is_integer_form p.now ≡ true }
     requires typed { WellTyped p.now }
@@ -51,7 +51,8 @@ pub fn lower(alloc: Global, p: &Typed) -> Result<Tac, NoMemory>
     ensures within { IfOk result (λ t. Within t p.now) }
     // and it is of the form that machine code is selected for
     ensures selectable { IfOk result IsIntegerCode }
-    ensures same { IfOk result (λ t. (m : Map) (w : World) (n : ℕ) → Legal p.now m → tac t p.now m w n ≡ placed p.now m w n) }
+    ensures same { IfOk result (λ t. (m : Map) (w : World) (n : ℕ) → Legal p.now m →
+        tac t p.now m w n ≡ placed p.now m w n) }
 {
     match first(p) {
         Some(d) => program(alloc, p, d),

@@ -7,7 +7,8 @@ ghost use Rattle.cheri_c_sem.specs.Programs.{stmt_tree, statements, statement_or
 ghost use Rattle.cheri_c_sem.specs.Expressions.{expr_tree};
 ghost use Rattle.cheri_c_sem.specs.Tree as tree;
 ghost use Rattle.int_lower.specs.Form.{is_form_expression, is_form_statement};
-ghost use Rattle.int_lower.specs.Compiled.{kind_of_variable, variable_kinds, AreVariables, StatementFits, StatementsFit};
+ghost use Rattle.int_lower.specs.Compiled.{kind_of_variable, variable_kinds, AreVariables, StatementFits};
+ghost use Rattle.int_lower.specs.Compiled.{StatementsFit};
 ghost use Rattle.int_lower.specs.Emitted.{AreZeros, IsList, Makes, ValuesThere};
 
 use crate::branches::{begin_choice, begin_loop, end_choice, end_loop, test_loop, turn_choice};
@@ -49,7 +50,8 @@ fn variable_kind(p: &Typed, d: &FunDef, x: u32) -> IntKind
 // The variables of a block are 0 where it is entered.
 fn zeros(p: &Typed, d: &FunDef, vars: &[u32], out: &mut Emitter) -> Result<(), NoMemory>
     requires { AreVariables (variable_kinds p.now d.now) (map (declared p.now d.now.vars) vars.now) }
-    ensures { IfOk result (λ _. AreZeros (variable_kinds p.now d.now) (declared p.now d.now.vars) out.old out.new vars.now) }
+    ensures { IfOk result (λ _. AreZeros (variable_kinds p.now d.now)
+        (declared p.now d.now.vars) out.old out.new vars.now) }
 {
     for x in vars {
         let kind = variable_kind(p, d, *x);
@@ -73,8 +75,10 @@ fn leave(
 ) -> Result<(), NoMemory>
     requires ordered { Ordered p.now }
     requires form { list_all (is_form_expression p.now) p.now.exprs ≡ true }
-    requires fits { StatementFits (variable_kinds p.now d.now) (tree.Return (expression_of (expr_tree p.now d.now.vars) a)) }
-    ensures { IfOk result (λ _. Makes (variable_kinds p.now d.now) out.old out.new (tree.Return (expression_of (expr_tree p.now d.now.vars) a))) }
+    requires fits { StatementFits (variable_kinds p.now d.now)
+        (tree.Return (expression_of (expr_tree p.now d.now.vars) a)) }
+    ensures { IfOk result (λ _. Makes (variable_kinds p.now d.now) out.old out.new
+        (tree.Return (expression_of (expr_tree p.now d.now.vars) a))) }
 {
     match a {
         Some(v) => {
@@ -160,7 +164,8 @@ fn otherwise(
     requires statements { list_all is_form_statement p.now.stmts ≡ true }
     requires fits { StatementFits (variable_kinds p.now d.now) (statement_or_empty (stmt_tree p.now d.now.vars) b) }
     requires before { IsBefore k b }
-    ensures { IfOk result (λ _. Makes (variable_kinds p.now d.now) out.old out.new (statement_or_empty (stmt_tree p.now d.now.vars) b)) }
+    ensures { IfOk result (λ _. Makes (variable_kinds p.now d.now) out.old out.new
+        (statement_or_empty (stmt_tree p.now d.now.vars) b)) }
 {
     match b {
         Some(s) => statement(alloc, p, d, s, out),
@@ -184,7 +189,8 @@ fn block(
     requires statements { list_all is_form_statement p.now.stmts ≡ true }
     requires fits { StatementsFit (variable_kinds p.now d.now) (statements (stmt_tree p.now d.now.vars) body.now) }
     requires before { AllByRecursion (λ c. c < k) body.now }
-    ensures { IfOk result (λ _. IsList (variable_kinds p.now d.now) (stmt_tree p.now d.now.vars) out.old out.new body.now) }
+    ensures { IfOk result (λ _. IsList (variable_kinds p.now d.now)
+        (stmt_tree p.now d.now.vars) out.old out.new body.now) }
 {
     for s in body {
         statement(alloc, p, d, *s, out)?;

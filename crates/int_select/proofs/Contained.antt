@@ -1,5 +1,6 @@
 -- The code of a function obeys the rules of contained code.
-use Rattle.std.proofs.Common.{◌≡◌, ℕ, zero, suc, ◌+◌, ◌≤◌, ℤ, pos, Bool, true, false, List, [], ◌∷◌, ◌++◌, length, Option, Some, None, if◌then◌else◌, refl, sym, ◌∙◌, subst, arith, append_assoc}
+use Rattle.std.proofs.Common.{◌≡◌, ℕ, zero, suc, ◌+◌, ◌≤◌, ℤ, pos, Bool, true, false, List, [], ◌∷◌, ◌++◌, length}
+use Rattle.std.proofs.Common.{Option, Some, None, if◌then◌else◌, refl, sym, ◌∙◌, subst, arith, append_assoc}
 use Rattle.std.specs.Prelude.{◌&&◌, slice_get}
 use Rattle.std.proofs.lemmas.Bool.{and_parts}
 use Rattle.std.proofs.lemmas.Int.{ints}
@@ -12,7 +13,8 @@ use Rattle.ck_int.specs.declared.kinds.CmpOp.{CmpOp}
 use Rattle.ck_int.specs.declared.kinds.CmpOp.TheVariants as test
 use Rattle.ck_int.specs.Kinds.{twos_complement, form_of, is_signed}
 use Rattle.rv_instr.specs.declared.instr.Instr.{Instr}
-use Rattle.rv_instr.specs.declared.instr.Instr.TheVariants.{Upper, Cjal, Branch, Load, Store, Imm, Shift, Op, Ecall, CapImm}
+use Rattle.rv_instr.specs.declared.instr.Instr.TheVariants.{Upper, Cjal, Branch, Load, Store, Imm, Shift, Op, Ecall}
+use Rattle.rv_instr.specs.declared.instr.Instr.TheVariants.{CapImm}
 use Rattle.rv_instr.specs.declared.ops.BranchOp.{BranchOp}
 use Rattle.rv_instr.specs.declared.ops.ImmOp.TheVariants.{Addi, Addiw}
 use Rattle.rv_instr.specs.declared.ops.UpperOp.TheVariants.{Lui}
@@ -26,7 +28,10 @@ use Rattle.tac_ir.specs.declared.code.TacFun.{TacFun}
 use Rattle.tac_ir.specs.declared.code.TacInstr.{TacInstr}
 use Rattle.tac_ir.specs.declared.code.TacInstr.TheVariants as instr
 use Rattle.tac_ir.specs.declared.code.TacKind.TheVariants as kind
-use Rattle.int_select.specs.Code.{load, store, is_short, long_code, number_code, reduce_code, compare_code, call_code, result_code, service_code, const_code, int_code, cmp_code, convert_code, return_code, hop, words, instr_code, list_code, place_by, place_last, prologue, label_place, function_code}
+use Rattle.int_select.specs.Code.{load, store, is_short, long_code, number_code, reduce_code, compare_code, call_code}
+use Rattle.int_select.specs.Code.{result_code, service_code, const_code, int_code, cmp_code, convert_code, return_code}
+use Rattle.int_select.specs.Code.{hop, words, instr_code, list_code, place_by, place_last, prologue, label_place}
+use Rattle.int_select.specs.Code.{function_code}
 use Rattle.int_select.proofs.Places.{HasAt, has_front, has_back, has_all, code_words}
 
 -- ---- words
@@ -64,7 +69,8 @@ module _ (code : List Instr) where
   obeys_quiet : (k : ℕ) (i : Instr) → is_quiet i ≡ true → Obeys code k i
   obeys_quiet k (Upper Lui to n) h = record { allowed = refl; leads = λ z e. absurd cc; numbered = λ e. absurd cc }
   obeys_quiet k (Load op to base y) h = record { allowed = refl; leads = λ z e. absurd cc; numbered = λ e. absurd cc }
-  obeys_quiet k (Store op from base y) h = record { allowed = refl; leads = λ z e. absurd cc; numbered = λ e. absurd cc }
+  obeys_quiet k (Store op from base y) h =
+      record { allowed = refl; leads = λ z e. absurd cc; numbered = λ e. absurd cc }
   obeys_quiet k (Imm op to a y) h = record { allowed = refl; leads = λ z e. absurd cc; numbered = λ e. absurd cc }
   obeys_quiet k (Shift op to a n) h = record { allowed = refl; leads = λ z e. absurd cc; numbered = λ e. absurd cc }
   obeys_quiet k (Op op to a b) h = record { allowed = refl; leads = λ z e. absurd cc; numbered = λ e. absurd cc }
@@ -76,13 +82,15 @@ module _ (code : List Instr) where
   obey_quiet k (i ∷ is) h =
       let both = and_parts (is_quiet i) (are_quiet is) h in (obeys_quiet k i both.0, obey_quiet (k + 1) is both.1)
 
-  obey_both : (k n : ℕ) (a b : List Instr) → length a ≡ n → ObeyAt code k a → ObeyAt code (k + n) b → ObeyAt code k (a ++ b)
+  obey_both : (k n : ℕ) (a b : List Instr) → length a ≡ n → ObeyAt code k a → ObeyAt code (k + n) b →
+      ObeyAt code k (a ++ b)
   obey_both k n [] b e h j = let q : k + n ≡ k = omega arith in subst (λ m. ObeyAt code m b) q j
   obey_both k n (i ∷ a) b e h j =
       let q : k + n ≡ k + 1 + length a = omega arith in
       (h.0, obey_both (k + 1) (length a) a b refl h.1 (subst (λ m. ObeyAt code m b) q j))
 
-  obey_get : (at : ℕ) (is : List Instr) → ObeyAt code at is → (k : ℕ) (i : Instr) → slice_get is k ≡ Some i → Obeys code (at + k) i
+  obey_get : (at : ℕ) (is : List Instr) → ObeyAt code at is → (k : ℕ) (i : Instr) → slice_get is k ≡ Some i →
+      Obeys code (at + k) i
   obey_get at [] h k i e = absurd cc
   obey_get at (x ∷ is) h zero i e =
       let q : at ≡ at + 0 = omega arith in
@@ -129,7 +137,8 @@ module _ (code : List Instr) where
   quiet_number : (v to : ℕ) → are_quiet (number_code v ++ (store 5 to ∷ [])) ≡ true
   quiet_number v to = by (is_short v)
     where
-      by : (b : Bool) → are_quiet ((if b then Imm Addi 5 0 (twos_complement 64 v) ∷ [] else long_code v) ++ (store 5 to ∷ [])) ≡ true
+      by : (b : Bool) → are_quiet ((if b then Imm Addi 5 0 (twos_complement 64 v) ∷ [] else long_code v)
+          ++ (store 5 to ∷ [])) ≡ true
       by true = refl
       by false = refl
 
@@ -157,13 +166,21 @@ module _ (code : List Instr) where
   quiet_result (Some t) = refl
 
   -- a call of the environment, and what stands behind it
-  obey_service : (k n : ℕ) (is : List Instr) → 1 ≤ n → n ≤ 3 → are_quiet is ≡ true → HasAt code k (call_code n ++ is) → ObeyAt code k (call_code n ++ is)
+  obey_service : (k n : ℕ) (is : List Instr) → 1 ≤ n → n ≤ 3 → are_quiet is ≡ true → HasAt code k (call_code n ++ is) →
+      ObeyAt code k (call_code n ++ is)
   obey_service k n is h j quiet has =
-      obey_both k 2 (call_code n) is refl (obey_call k n h j (has_front code k (call_code n) is has)) (obey_quiet (k + 2) is quiet)
+      obey_both k 2 (call_code n) is refl (obey_call k n h j (has_front code k (call_code n) is has))
+      (obey_quiet (k + 2) is quiet)
 
-  obey_lib : (k : ℕ) (o : LibOp) (to : Option ℕ) (args : List ℕ) → HasAt code k (service_code o to args) → ObeyAt code k (service_code o to args)
-  obey_lib k lib.PutChar to (a ∷ []) has = (obeys_quiet k _ refl, obey_service (k + 1) 1 (result_code to) (omega arith) (omega arith) (quiet_result to) has.1)
-  obey_lib k lib.GetChar to [] has = obey_service k 2 (Imm Addiw 10 10 (pos 0) ∷ result_code to) (omega arith) (omega arith) (quiet_result to) has
+  obey_lib : (k : ℕ) (o : LibOp) (to : Option ℕ) (args : List ℕ) → HasAt code k (service_code o to args) →
+      ObeyAt code k (service_code o to args)
+  obey_lib k lib.PutChar to (a ∷ []) has = (
+    obeys_quiet k _ refl,
+    obey_service (k + 1) 1 (result_code to) (omega arith) (omega arith)
+        (quiet_result to) has.1,
+  )
+  obey_lib k lib.GetChar to [] has =
+      obey_service k 2 (Imm Addiw 10 10 (pos 0) ∷ result_code to) (omega arith) (omega arith) (quiet_result to) has
   obey_lib k lib.Exit to (a ∷ []) has = (obeys_quiet k _ refl, obey_call (k + 1) 3 (omega arith) (omega arith) has.1)
   obey_lib k o to args has = tt
 
@@ -172,7 +189,8 @@ module _ (code : List Instr) where
   obey_return k (Some a) has = (obeys_quiet k _ refl, obey_call (k + 1) 3 (omega arith) (omega arith) has.1)
 
   module _ (lab : ℕ → ℕ) where
-    obey_branch : (k : ℕ) (on : ℕ) (when : Bool) (l : ℕ) → IsPlace (lab l) → IsPlace (k + 3) → ObeyAt code k (instr_code lab k (instr.Branch on when l))
+    obey_branch : (k : ℕ) (on : ℕ) (when : Bool) (l : ℕ) → IsPlace (lab l) → IsPlace (k + 3) →
+        ObeyAt code k (instr_code lab k (instr.Branch on when l))
     obey_branch k on when l t next =
         let over : k + 3 ≡ k + 1 + 2 = omega arith in
         let far : k + 2 ≡ k + 1 + 1 = omega arith in (
@@ -183,12 +201,15 @@ module _ (code : List Instr) where
           ),
         )
 
-    obey_instr : (k : ℕ) (i : TacInstr) → ((l : ℕ) → IsPlace (lab l)) → IsPlace (k + words i) → HasAt code k (instr_code lab k i) → ObeyAt code k (instr_code lab k i)
+    obey_instr : (k : ℕ) (i : TacInstr) → ((l : ℕ) → IsPlace (lab l)) → IsPlace (k + words i) →
+        HasAt code k (instr_code lab k i) → ObeyAt code k (instr_code lab k i)
     obey_instr k (instr.Const to (kind.Int j) v) t next has = obey_quiet k (const_code to v) (quiet_number v to)
     obey_instr k (instr.Copy to from) t next has = obey_quiet k (load 5 from ∷ store 5 to ∷ []) refl
     obey_instr k (instr.Int o j to a b) t next has = obey_quiet k (int_code o j to a b) (quiet_reduce j to)
-    obey_instr k (instr.Cmp o (kind.Int j) to a b) t next has = obey_quiet k (cmp_code o j to a b) (quiet_compare o (is_signed (form_of j)) to)
-    obey_instr k (instr.Convert to from (kind.Int i) (kind.Int j)) t next has = obey_quiet k (convert_code to from j) (quiet_reduce j to)
+    obey_instr k (instr.Cmp o (kind.Int j) to a b) t next has =
+        obey_quiet k (cmp_code o j to a b) (quiet_compare o (is_signed (form_of j)) to)
+    obey_instr k (instr.Convert to from (kind.Int i) (kind.Int j)) t next has =
+        obey_quiet k (convert_code to from j) (quiet_reduce j to)
     obey_instr k (instr.Jump l) t next has = (obeys_jump k (lab l) (t l), tt)
     obey_instr k (instr.Branch on when l) t next has = obey_branch k on when l (t l) next
     obey_instr k (instr.Lib o to args) t next has = obey_lib k o to args has
@@ -205,7 +226,8 @@ module _ (code : List Instr) where
     first_word : (k : ℕ) (i : TacInstr) → slice_get (instr_code lab k i) 0 ≡ Some Ecall → ⊥
     first_word k (instr.Const to (kind.Int j) v) e = by (is_short v) e
       where
-        by : (b : Bool) → slice_get ((if b then Imm Addi 5 0 (twos_complement 64 v) ∷ [] else long_code v) ++ (store 5 to ∷ [])) 0 ≡ Some Ecall → ⊥
+        by : (b : Bool) → slice_get ((if b then Imm Addi 5 0 (twos_complement 64 v) ∷ [] else long_code v)
+            ++ (store 5 to ∷ [])) 0 ≡ Some Ecall → ⊥
         by true e = absurd cc
         by false e = absurd cc
     first_word k (instr.Copy to from) e = absurd cc
@@ -226,36 +248,46 @@ module _ (code : List Instr) where
 
     rest_parts : (k : ℕ) (i : TacInstr) (is : List TacInstr) → Rest k (i ∷ is)
         → HasAt code k (instr_code lab k i ++ (list_code lab (k + words i) is ++ (Cjal 0 (pos 0) ∷ [])))
-    rest_parts k i is h = subst (HasAt code k) (append_assoc (instr_code lab k i) (list_code lab (k + words i) is) (Cjal 0 (pos 0) ∷ [])) h
+    rest_parts k i is h = subst (HasAt code k)
+        (append_assoc (instr_code lab k i) (list_code lab (k + words i) is) (Cjal 0 (pos 0) ∷ [])) h
 
     rest_next : (k : ℕ) (i : TacInstr) (is : List TacInstr) → Rest k (i ∷ is) → Rest (k + words i) is
     rest_next k i is h = has_back code k (words i) (instr_code lab k i) _ (code_words lab k i) (rest_parts k i is h)
 
-    begins_place : (k : ℕ) (a b : List Instr) → (slice_get a 0 ≡ Some Ecall → ⊥) → (length a ≡ 0 → IsPlace k) → HasAt code k (a ++ b) → IsPlace k
+    begins_place : (k : ℕ) (a b : List Instr) → (slice_get a 0 ≡ Some Ecall → ⊥) → (length a ≡ 0 → IsPlace k) →
+        HasAt code k (a ++ b) → IsPlace k
     begins_place k [] b n e h = e refl
     begins_place k (x ∷ a) b n e h = record { below = slice_get_within code k x h.0; no_call = λ c. n (sym h.0 ∙ c) }
 
     rest_place : (k : ℕ) (is : List TacInstr) → Rest k is → IsPlace k
-    rest_place k [] h = record { below = slice_get_within code k _ h.0; no_call = λ c. let e = sym h.0 ∙ c in absurd cc }
+    rest_place k [] h = record {
+      below = slice_get_within code k _ h.0;
+      no_call = λ c. let e = sym h.0 ∙ c in
+          absurd cc;
+    }
     rest_place k (i ∷ is) h =
         let rest = rest_place (k + words i) is (rest_next k i is h) in
         begins_place k (instr_code lab k i) _ (first_word k i)
-        (λ e. let q : k + words i ≡ k = omega (arith, e, code_words lab k i) in subst IsPlace q rest) (rest_parts k i is h)
+        (λ e. let q : k + words i ≡ k = omega (arith, e, code_words lab k i) in subst IsPlace q rest)
+        (rest_parts k i is h)
 
     label_there : (d l k : ℕ) (is : List TacInstr) → IsPlace d → Rest k is → IsPlace (place_last d l k is)
     label_there d l k [] p h = p
-    label_there d l k (i ∷ is) p h = label_there (place_by d l k i) l (k + words i) is (by (is_label i l)) (rest_next k i is h)
+    label_there d l k (i ∷ is) p h =
+        label_there (place_by d l k i) l (k + words i) is (by (is_label i l)) (rest_next k i is h)
       where
         by : (b : Bool) → IsPlace (if b then k else d)
         by true = rest_place k (i ∷ is) h
         by false = p
 
-    obey_list : ((l : ℕ) → IsPlace (lab l)) → (k : ℕ) (is : List TacInstr) → Rest k is → ObeyAt code k (list_code lab k is)
+    obey_list : ((l : ℕ) → IsPlace (lab l)) → (k : ℕ) (is : List TacInstr) → Rest k is →
+        ObeyAt code k (list_code lab k is)
     obey_list t k [] h = tt
     obey_list t k (i ∷ is) h =
         let next = rest_next k i is h in
         obey_both k (words i) (instr_code lab k i) (list_code lab (k + words i) is) (code_words lab k i)
-        (obey_instr k i t (rest_place (k + words i) is next) (has_front code k (instr_code lab k i) _ (rest_parts k i is h)))
+        (obey_instr k i t (rest_place (k + words i) is next)
+        (has_front code k (instr_code lab k i) _ (rest_parts k i is h)))
         (obey_list t (k + words i) is next)
 
 -- ---- a function

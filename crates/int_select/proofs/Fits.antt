@@ -85,7 +85,8 @@ kind_in g t = int_kind (kind_at g.kinds t)
 
 -- the code's words are in memory
 abbrev pub HasText : Plan → List Area → Type 0
-HasText g m = (k : ℕ) (i : Instr) → slice_get g.code k ≡ Some i → number_at m (place g k) 4 ≡ Some (word_of (fields_of i))
+HasText g m = (k : ℕ) (i : Instr) → slice_get g.code k ≡ Some i →
+    number_at m (place g k) 4 ≡ Some (word_of (fields_of i))
 
 -- the memory of a machine that goes through the code: the text is as loaded, and the stack is there
 pub record IsSound (g : Plan) (m : List Area) : Type 0 where
@@ -99,8 +100,8 @@ pub record HasFrame (g : Plan) (a : ℕ) : Type 0 where
   pub to : a + frame_size (length g.kinds) ≤ g.high
   pub aligned : a % 16 ≡ 0
 
--- The machine's state stands for t, where the temps that are still to be read are the live ones. The counter belongs to the place in
--- the code
+-- The machine's state stands for t, where the temps that are still to be read are the live ones. The counter belongs to
+-- the place in the code
 pub record Fits (g : Plan) (live : ℕ → Type 0) (t : State Store) (m : Moment Machine) : Type 0 where
   pub done : m.done ≡ t.done
   pub registers : length m.state.regs ≡ 32
@@ -108,4 +109,5 @@ pub record Fits (g : Plan) (live : ℕ → Type 0) (t : State Store) (m : Moment
   pub frame : HasFrame g t.frame
   pub sound : IsSound g m.state.mem
   pub temps : length t.vars ≡ length g.kinds
-  pub values : (k : ℕ) → live k → k < length g.kinds → Holds (home_of k) t.frame m.state (kept_value (kind_in g k) (temp_in t k))
+  pub values : (k : ℕ) → live k → k < length g.kinds →
+      Holds (home_of k) t.frame m.state (kept_value (kind_in g k) (temp_in t k))

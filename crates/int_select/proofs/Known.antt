@@ -40,7 +40,8 @@ kind_again int.I64 = refl
 kind_again int.U64 = refl
 
 pub same_plain : (k : Kind) (j : IntKind) → same_kind k (Plain j) ≡ true → k ≡ Plain j
-same_plain (Plain k) j h = ap Plain (sym (kind_again k) ∙ ap kind_by (eqb-true (kind_number k) (kind_number j) h) ∙ kind_again j)
+same_plain (Plain k) j h =
+    ap Plain (sym (kind_again k) ∙ ap kind_by (eqb-true (kind_number k) (kind_number j) h) ∙ kind_again j)
 same_plain (Capability s) j h = cc
 
 -- each temp has a kind of integer
@@ -56,7 +57,8 @@ module _ (p : Typed) (d : FunDef) (kinds : List TacKind) (code : List TacInstr) 
   pub is_there : (t : ℕ) → is_temp p d kinds code t ≡ true → t < length kinds
   is_there t h = ltb-true t (length kinds) h
 
-  pub has_plain : (t : ℕ) (j : IntKind) → has p d kinds code t (Plain j) ≡ true → (t < length kinds) × (kind_at kinds t ≡ Plain j)
+  pub has_plain : (t : ℕ) (j : IntKind) → has p d kinds code t (Plain j) ≡ true →
+      (t < length kinds) × (kind_at kinds t ≡ Plain j)
   has_plain t j h =
       let parts = and_parts (is_temp p d kinds code t) (same_kind (kind_at kinds t) (Plain j)) h in
       (is_there t parts.0, same_plain (kind_at kinds t) j parts.1)

@@ -1,5 +1,6 @@
 -- What the machine does for one instruction of three-address code.
-use Rattle.std.proofs.Common.{◌≡◌, ◌≢◌, ℕ, zero, suc, ◌+◌, ◌%◌, ◌<◌, Bool, true, false, List, [], ◌∷◌, length, Option, Some, None, refl, sym, ap, arith}
+use Rattle.std.proofs.Common.{◌≡◌, ◌≢◌, ℕ, zero, suc, ◌+◌, ◌%◌, ◌<◌, Bool, true, false, List, [], ◌∷◌, length, Option}
+use Rattle.std.proofs.Common.{Some, None, refl, sym, ap, arith}
 use Rattle.std.specs.Prelude.{slice_get}
 use Rattle.ck_base.specs.World.{Done}
 use Rattle.ck_int.proofs.Laws.{wrapped-below}
@@ -73,17 +74,21 @@ no_names k h = let e : ◌≡◌ {A = Option ℕ} None (Some k) = h.1 in cc
 over_turn : (whole is : List TacInstr) (k : ℕ) → Live whole is k → Live whole (instr.Turn ∷ is) k
 over_turn whole is k h = onward refl (no_names k) h
 
-pub live_before : (whole : List TacInstr) (b : Bool) (is : List TacInstr) (k : ℕ) → Live whole is k → LiveAt whole b is k
+pub live_before : (whole : List TacInstr) (b : Bool) (is : List TacInstr) (k : ℕ) → Live whole is k →
+    LiveAt whole b is k
 live_before whole true is k h = over_turn whole is k h
 live_before whole false is k h = h
 
-pub live_read : (whole : List TacInstr) (b : Bool) (i : TacInstr) (is : List TacInstr) (k : ℕ) → IsIn k (reads i) → LiveAt whole b (i ∷ is) k
+pub live_read : (whole : List TacInstr) (b : Bool) (i : TacInstr) (is : List TacInstr) (k : ℕ) → IsIn k (reads i) →
+    LiveAt whole b (i ∷ is) k
 live_read whole b i is k h = live_before whole b (i ∷ is) k (now h)
 
-pub live_next : (whole : List TacInstr) (b : Bool) (i : TacInstr) (is : List TacInstr) (k : ℕ) → falls i ≡ true → (IsIn k (writes i) → ⊥) → Live whole is k → LiveAt whole b (i ∷ is) k
+pub live_next : (whole : List TacInstr) (b : Bool) (i : TacInstr) (is : List TacInstr) (k : ℕ) → falls i ≡ true →
+    (IsIn k (writes i) → ⊥) → Live whole is k → LiveAt whole b (i ∷ is) k
 live_next whole b i is k f w h = live_before whole b (i ∷ is) k (onward f w h)
 
-pub live_there : (whole : List TacInstr) (b : Bool) (i : TacInstr) (is : List TacInstr) (l k : ℕ) → IsIn l (goes_to i) → LiveThere whole b l is k → LiveAt whole b (i ∷ is) k
+pub live_there : (whole : List TacInstr) (b : Bool) (i : TacInstr) (is : List TacInstr) (l k : ℕ) → IsIn l (goes_to i) →
+    LiveThere whole b l is k → LiveAt whole b (i ∷ is) k
 live_there whole true i is l k j h = back l j h
 live_there whole false i is l k j h = ahead l j h
 
@@ -94,7 +99,8 @@ only_other k to ne (suc j, e) = let f : ◌≡◌ {A = Option ℕ} None (Some k)
 -- ---- what the machine does
 
 -- the machine ends, and reports this
-pub record Stops (g : Plan) (report : End → Option Ending) (hi : ℕ) (s : Moment Machine) (e : Ending) (d : Done) : Type 0 where
+pub record Stops (g : Plan) (report : End → Option Ending) (hi : ℕ) (s : Moment Machine) (e : Ending) (d : Done) :
+    Type 0 where
   pub count : ℕ
   pub to : Moment Machine
   pub end : End
@@ -111,23 +117,28 @@ least false = 0
 module _ (g : Plan) (report : End → Option Ending) (whole : List TacInstr) (lab : ℕ → ℕ) where
   -- for instruction i at a place, which is comes after it, and before which b says that a Turn stands
   abbrev pub Does : Bool → TacInstr → ℕ → List TacInstr → Moment Machine → Move → Type 0
-  Does b i at is s (Onward t) = Arrives g (Live whole is) (least b) (cost i) s t (at + words i) × (is_turn i ≡ false) × (ends_there i ≡ false)
+  Does b i at is s (Onward t) =
+      Arrives g (Live whole is) (least b) (cost i) s t (at + words i) × (is_turn i ≡ false) × (ends_there i ≡ false)
   Does b i at is s (Jumps l t) = Arrives g (LiveThere whole b l is) 1 (cost i) s t (lab l) × IsIn l (goes_to i)
   Does b i at is s (Pauses t) = Fits g (LiveAt whole b (i ∷ is)) t s × (i ≡ instr.Turn) × (b ≡ false)
   Does b i at is s (Leaves v t) = Stops g report (cost i) s (ending.Exit (number_of v % 256)) t.done × (b ≡ false)
-  Does b i at is s (Over e t) = Stops g report (cost i) s e t.done × (course_by t.done e ≡ Finished t.done e) × (b ≡ false)
+  Does b i at is s (Over e t) =
+      Stops g report (cost i) s e t.done × (course_by t.done e ≡ Finished t.done e) × (b ≡ false)
 
   -- The instruction leads somewhere, and the machine does the same
-  pub record Done_so (map : Map) (p : Typed) (b : Bool) (i : TacInstr) (at : ℕ) (is : List TacInstr) (t : State Store) (s : Moment Machine) : Type 0 where
+  pub record Done_so (map : Map) (p : Typed) (b : Bool) (i : TacInstr) (at : ℕ) (is : List TacInstr) (t : State Store)
+      (s : Moment Machine) : Type 0 where
     pub move : Move
-    pub is_move : (k : Next → State Store → Fate) → effect (operations (placed_plan map)) g.world p g.kinds i t k ≡ by_move k move
+    pub is_move : (k : Next → State Store → Fate) →
+        effect (operations (placed_plan map)) g.world p g.kinds i t k ≡ by_move k move
     pub does : Does b i at is s move
     -- behind a Turn the outside is not spoken with
     pub quiet : b ≡ true → done_of t.done move ≡ t.done
 
 -- ---- the first steps of an instruction
 
-module _ (g : Plan) (laid : Laid g) (live : ℕ → Type 0) (t : State Store) (s : Moment Machine) (fits : Fits g live t s) where
+module _ (g : Plan) (laid : Laid g) (live : ℕ → Type 0) (t : State Store) (s : Moment Machine)
+    (fits : Fits g live t s) where
   abbrev pub Here : ℕ → ℕ → (ℕ → ℕ) → Type 0
   Here n at x = Going g laid s t.done t.frame s.state.mem n at x
 
@@ -143,7 +154,9 @@ module _ (g : Plan) (laid : Laid g) (live : ℕ → Type 0) (t : State Store) (s
   }
 
   -- a temp is loaded
-  pub loads : (n at : ℕ) (x : ℕ → ℕ) (r k : ℕ) (h : Here n at x) → slice_get g.code at ≡ Some (load r k) → 2 < r → r < 32 → live k → k < length g.kinds → Here (n + 1) (at + 1) (put x r (kept_value (kind_in g k) (temp_in t k)))
+  pub loads : (n at : ℕ) (x : ℕ → ℕ) (r k : ℕ) (h : Here n at x) → slice_get g.code at ≡ Some (load r k) → 2 < r →
+      r < 32 → live k → k < length g.kinds → Here (n + 1) (at + 1) (put x r (kept_value (kind_in g k) (temp_in t k)))
   loads n at x r k h has some below alive k_lt =
       let from = fits.frame.from in let to = fits.frame.to in
-      do_load g laid s t.done t.frame s.state.mem fits.sound.text n at x r k _ h has some below from (omega arith) fits.frame.aligned (fits.values k alive k_lt) (wrapped-below (kind_in g k) _)
+      do_load g laid s t.done t.frame s.state.mem fits.sound.text n at x r k _ h has some below from
+      (omega arith) fits.frame.aligned (fits.values k alive k_lt) (wrapped-below (kind_in g k) _)

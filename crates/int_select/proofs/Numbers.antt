@@ -1,5 +1,6 @@
 -- What the registers hold after the code for integers, in words of the arithmetic of kinds.
-use Rattle.std.proofs.Common.{◌≡◌, ℕ, ◌+◌, ◌-◌, ◌*◌, ◌/◌, ◌%◌, ◌^◌, ◌<◌, ◌≤◌, ◌⊎◌, inl, inr, ℤ, pos, negsuc, ◌*ℤ◌, Bool, true, false, not, refl, sym, ap, ◌∙◌, arith, ⊎_elim, if◌then◌else◌}
+use Rattle.std.proofs.Common.{◌≡◌, ℕ, ◌+◌, ◌-◌, ◌*◌, ◌/◌, ◌%◌, ◌^◌, ◌<◌, ◌≤◌, ◌⊎◌, inl, inr, ℤ, pos, negsuc, ◌*ℤ◌, Bool}
+use Rattle.std.proofs.Common.{true, false, not, refl, sym, ap, ◌∙◌, arith, ⊎_elim, if◌then◌else◌}
 use Rattle.std.specs.Prelude.{◌==◌}
 use Rattle.std.specs.Int.{int_div_euclid}
 use Rattle.std.proofs.Math.Nat.{mod-eq_of_lt}
@@ -13,11 +14,15 @@ use Rattle.ck_int.specs.declared.kinds.CmpOp.{CmpOp}
 use Rattle.ck_int.specs.declared.kinds.CmpOp.TheVariants as test
 use Rattle.ck_int.specs.Arithmetic.{binary_of, compare_of, promoted_width_of}
 use Rattle.ck_int.specs.Arithmetic as arithmetic
-use Rattle.ck_int.specs.Kinds.{form_of, width_of, is_signed, modulo, twos_complement, IsKept, reduced, kept_of, wrapped, value_of, converted}
+use Rattle.ck_int.specs.Kinds.{form_of, width_of, is_signed, modulo, twos_complement, IsKept, reduced, kept_of, wrapped}
+use Rattle.ck_int.specs.Kinds.{value_of, converted}
 use Rattle.ck_int.proofs.Forms.{twos_complement-low, twos_complement-high, modulo-twos_complement}
 use Rattle.ck_int.proofs.Modulo.{modulo-low}
-use Rattle.ck_int.proofs.Laws.{value_of-wrapped, IsKept-binary_of, IsKept-converted, IsKept-below, converted-below, converted-narrower, converted-same, wrapped-kept_of, wrapped-below, modulo-reduced}
-use Rattle.ck_int.proofs.OperationLaws.{IsModular, binary_of-modular, binary_of-narrower, wrapped-64, binary_of-Add, binary_of-Sub, binary_of-Shl, compare_of-kept, word_kind, compare_of-Ne, compare_of-Eq_kept}
+use Rattle.ck_int.proofs.Laws.{value_of-wrapped, IsKept-binary_of, IsKept-converted, IsKept-below, converted-below}
+use Rattle.ck_int.proofs.Laws.{converted-narrower, converted-same, wrapped-kept_of, wrapped-below, modulo-reduced}
+use Rattle.ck_int.proofs.OperationLaws.{IsModular, binary_of-modular, binary_of-narrower, wrapped-64, binary_of-Add}
+use Rattle.ck_int.proofs.OperationLaws.{binary_of-Sub, binary_of-Shl, compare_of-kept, word_kind, compare_of-Ne}
+use Rattle.ck_int.proofs.OperationLaws.{compare_of-Eq_kept}
 use Rattle.cheri_c_sem.specs.Types.{is_shift}
 use Rattle.rv_instr.specs.declared.ops.RegOp.{RegOp}
 use Rattle.rv_instr.specs.declared.ops.RegOp.TheVariants as regs
@@ -81,12 +86,16 @@ result_below regs.Remw a b = binary_below op.Rem kind.I32 a b
 
 -- ---- a register is reduced to a kind by two shifts
 
-srl_is : (a : ℕ) → (result_of Srl a 56 ≡ a % 2 ^ 64 / 2 ^ 56) × (result_of Srl a 48 ≡ a % 2 ^ 64 / 2 ^ 48) × (result_of Srl a 32 ≡ a % 2 ^ 64 / 2 ^ 32)
+srl_is : (a : ℕ) → (result_of Srl a 56 ≡ a % 2 ^ 64 / 2 ^ 56) × (result_of Srl a 48 ≡ a % 2 ^ 64 / 2 ^ 48) ×
+    (result_of Srl a 32 ≡ a % 2 ^ 64 / 2 ^ 32)
 unfolding result_of binary_of wrapped reduced value_of kept_of
 srl_is a = (omega arith, omega arith, omega arith)
 
 -- the sign bit is copied in
-sra_by : (a : ℕ) (z : ℤ) → value_of kind.I64 a ≡ z → (result_of Sra a 56 ≡ kept_of (int_div_euclid z (pos (2 ^ 56)))) × (result_of Sra a 48 ≡ kept_of (int_div_euclid z (pos (2 ^ 48)))) × (result_of Sra a 32 ≡ kept_of (int_div_euclid z (pos (2 ^ 32))))
+sra_by : (a : ℕ) (z : ℤ) → value_of kind.I64 a ≡ z →
+    (result_of Sra a 56 ≡ kept_of (int_div_euclid z (pos (2 ^ 56)))) ×
+    (result_of Sra a 48 ≡ kept_of (int_div_euclid z (pos (2 ^ 48)))) ×
+    (result_of Sra a 32 ≡ kept_of (int_div_euclid z (pos (2 ^ 32))))
 unfolding result_of binary_of value_of reduced
 sra_by a z e = (
   ap (λ y. wrapped kind.I64 (int_div_euclid y (pos (2 ^ 56)))) e ∙ wrapped-64 kind.I64 _ refl,
@@ -94,7 +103,8 @@ sra_by a z e = (
   ap (λ y. wrapped kind.I64 (int_div_euclid y (pos (2 ^ 32)))) e ∙ wrapped-64 kind.I64 _ refl,
 )
 
-sra_low : (a : ℕ) → a < 2 ^ 63 → (result_of Sra a 56 ≡ a / 2 ^ 56) × (result_of Sra a 48 ≡ a / 2 ^ 48) × (result_of Sra a 32 ≡ a / 2 ^ 32)
+sra_low : (a : ℕ) → a < 2 ^ 63 →
+    (result_of Sra a 56 ≡ a / 2 ^ 56) × (result_of Sra a 48 ≡ a / 2 ^ 48) × (result_of Sra a 32 ≡ a / 2 ^ 32)
 unfolding value_of reduced kept_of
 sra_low a h =
     let small : a % 2 ^ 64 ≡ a = omega arith in
@@ -102,11 +112,15 @@ sra_low a h =
     let s = sra_by a (pos a) z in
     (s.0 ∙ omega arith, s.1 ∙ omega arith, s.2 ∙ omega arith)
 
-sra_high : (a : ℕ) → 2 ^ 63 ≤ a → a < 2 ^ 64 → (result_of Sra a 56 ≡ 2 ^ 64 - 1 - (2 ^ 64 - 1 - a) / 2 ^ 56) × (result_of Sra a 48 ≡ 2 ^ 64 - 1 - (2 ^ 64 - 1 - a) / 2 ^ 48) × (result_of Sra a 32 ≡ 2 ^ 64 - 1 - (2 ^ 64 - 1 - a) / 2 ^ 32)
+sra_high : (a : ℕ) → 2 ^ 63 ≤ a → a < 2 ^ 64 →
+    (result_of Sra a 56 ≡ 2 ^ 64 - 1 - (2 ^ 64 - 1 - a) / 2 ^ 56) ×
+    (result_of Sra a 48 ≡ 2 ^ 64 - 1 - (2 ^ 64 - 1 - a) / 2 ^ 48) ×
+    (result_of Sra a 32 ≡ 2 ^ 64 - 1 - (2 ^ 64 - 1 - a) / 2 ^ 32)
 unfolding value_of reduced kept_of
 sra_high a h j =
     let small : a % 2 ^ 64 ≡ a = omega arith in
-    let z : value_of kind.I64 a ≡ negsuc (2 ^ 64 - 1 - a) = ap (twos_complement 64) small ∙ twos_complement-high 64 a h j in
+    let z : value_of kind.I64 a ≡ negsuc (2 ^ 64 - 1 - a) =
+    ap (twos_complement 64) small ∙ twos_complement-high 64 a h j in
     let s = sra_by a (negsuc (2 ^ 64 - 1 - a)) z in
     (s.0 ∙ omega arith, s.1 ∙ omega arith, s.2 ∙ omega arith)
 
@@ -114,7 +128,9 @@ upper_below : (u : ℕ) → upper u < 2 ^ 64
 upper_below u = converted-below kind.U32 kind.I32 (u * 4096)
 
 -- the bits of a kind without a sign
-unsigned_kept : (v : ℕ) → (wrapped kind.U8 (pos v) ≡ v % 2 ^ 8) × (wrapped kind.U16 (pos v) ≡ v % 2 ^ 16) × (wrapped kind.U32 (pos v) ≡ v % 2 ^ 32)
+unsigned_kept : (v : ℕ) →
+    (wrapped kind.U8 (pos v) ≡ v % 2 ^ 8) × (wrapped kind.U16 (pos v) ≡ v % 2 ^ 16) ×
+    (wrapped kind.U32 (pos v) ≡ v % 2 ^ 32)
 unfolding wrapped reduced kept_of
 unsigned_kept v = (omega arith, omega arith, omega arith)
 
@@ -125,17 +141,25 @@ low_kept : (w n : ℕ) → n < 2 ^ (w - 1) → n < 2 ^ 64 → kept_of (twos_comp
 unfolding kept_of
 low_kept w n h j = signed_by w n (pos n) (twos_complement-low w n h) ∙ mod-eq_of_lt j
 
-high_kept : (w n : ℕ) → 2 ^ (w - 1) ≤ n → n < 2 ^ w → 2 ^ w ≤ 2 ^ 64 → kept_of (twos_complement w n) ≡ 2 ^ 64 - 1 - (2 ^ w - 1 - n)
+high_kept : (w n : ℕ) → 2 ^ (w - 1) ≤ n → n < 2 ^ w → 2 ^ w ≤ 2 ^ 64 →
+    kept_of (twos_complement w n) ≡ 2 ^ 64 - 1 - (2 ^ w - 1 - n)
 unfolding kept_of
-high_kept w n h j k = signed_by w n (negsuc (2 ^ w - 1 - n)) (twos_complement-high w n h j) ∙ ap (λ x. 2 ^ 64 - 1 - x) (mod-eq_of_lt (omega arith))
+high_kept w n h j k = signed_by w n (negsuc (2 ^ w - 1 - n)) (twos_complement-high w n h j)
+    ∙ ap (λ x. 2 ^ 64 - 1 - x) (mod-eq_of_lt (omega arith))
 
 -- what the two shifts leave
-pub reduce_unsigned : (v : ℕ) → v < 2 ^ 64 → (result_of Srl (result_of Sll v 56) 56 ≡ wrapped kind.U8 (pos v)) × (result_of Srl (result_of Sll v 48) 48 ≡ wrapped kind.U16 (pos v)) × (result_of Srl (result_of Sll v 32) 32 ≡ wrapped kind.U32 (pos v))
+pub reduce_unsigned : (v : ℕ) → v < 2 ^ 64 →
+    (result_of Srl (result_of Sll v 56) 56 ≡ wrapped kind.U8 (pos v)) ×
+    (result_of Srl (result_of Sll v 48) 48 ≡ wrapped kind.U16 (pos v)) ×
+    (result_of Srl (result_of Sll v 32) 32 ≡ wrapped kind.U32 (pos v))
 reduce_unsigned v h =
     let k = unsigned_kept v in (
-      ap (λ x. result_of Srl x 56) (sll_is v 56 h (omega arith)) ∙ (srl_is (v * 2 ^ (56 % 64) % 2 ^ 64)).0 ∙ omega arith ∙ sym k.0,
-      ap (λ x. result_of Srl x 48) (sll_is v 48 h (omega arith)) ∙ (srl_is (v * 2 ^ (48 % 64) % 2 ^ 64)).1 ∙ omega arith ∙ sym k.1,
-      ap (λ x. result_of Srl x 32) (sll_is v 32 h (omega arith)) ∙ (srl_is (v * 2 ^ (32 % 64) % 2 ^ 64)).2 ∙ omega arith ∙ sym k.2,
+      ap (λ x. result_of Srl x 56) (sll_is v 56 h (omega arith)) ∙ (srl_is (v * 2 ^ (56 % 64) % 2 ^ 64)).0 ∙ omega arith
+          ∙ sym k.0,
+      ap (λ x. result_of Srl x 48) (sll_is v 48 h (omega arith)) ∙ (srl_is (v * 2 ^ (48 % 64) % 2 ^ 64)).1 ∙ omega arith
+          ∙ sym k.1,
+      ap (λ x. result_of Srl x 32) (sll_is v 32 h (omega arith)) ∙ (srl_is (v * 2 ^ (32 % 64) % 2 ^ 64)).2 ∙ omega arith
+          ∙ sym k.2,
     )
 
 pub reduce_8 : (v : ℕ) → v < 2 ^ 64 → result_of Sra (result_of Sll v 56) 56 ≡ wrapped kind.I8 (pos v)
@@ -143,8 +167,10 @@ unfolding wrapped reduced
 reduce_8 v h =
     ap (λ x. result_of Sra x 56) (sll_is v 56 h (omega arith))
     ∙ ⊎_elim
-    (λ low. (sra_low (v * 2 ^ (56 % 64) % 2 ^ 64) (omega arith)).0 ∙ omega arith ∙ sym (low_kept 8 (v % 2 ^ 8) low (omega arith)))
-    (λ high. (sra_high (v * 2 ^ (56 % 64) % 2 ^ 64) (omega arith) (omega arith)).0 ∙ omega arith ∙ sym (high_kept 8 (v % 2 ^ 8) high (omega arith) (omega arith)))
+    (λ low. (sra_low (v * 2 ^ (56 % 64) % 2 ^ 64) (omega arith)).0 ∙ omega arith
+    ∙ sym (low_kept 8 (v % 2 ^ 8) low (omega arith)))
+    (λ high. (sra_high (v * 2 ^ (56 % 64) % 2 ^ 64) (omega arith) (omega arith)).0 ∙ omega arith
+    ∙ sym (high_kept 8 (v % 2 ^ 8) high (omega arith) (omega arith)))
     (cases_lt (v % 2 ^ 8) (2 ^ 7))
 
 pub reduce_16 : (v : ℕ) → v < 2 ^ 64 → result_of Sra (result_of Sll v 48) 48 ≡ wrapped kind.I16 (pos v)
@@ -152,8 +178,10 @@ unfolding wrapped reduced
 reduce_16 v h =
     ap (λ x. result_of Sra x 48) (sll_is v 48 h (omega arith))
     ∙ ⊎_elim
-    (λ low. (sra_low (v * 2 ^ (48 % 64) % 2 ^ 64) (omega arith)).1 ∙ omega arith ∙ sym (low_kept 16 (v % 2 ^ 16) low (omega arith)))
-    (λ high. (sra_high (v * 2 ^ (48 % 64) % 2 ^ 64) (omega arith) (omega arith)).1 ∙ omega arith ∙ sym (high_kept 16 (v % 2 ^ 16) high (omega arith) (omega arith)))
+    (λ low. (sra_low (v * 2 ^ (48 % 64) % 2 ^ 64) (omega arith)).1 ∙ omega arith
+    ∙ sym (low_kept 16 (v % 2 ^ 16) low (omega arith)))
+    (λ high. (sra_high (v * 2 ^ (48 % 64) % 2 ^ 64) (omega arith) (omega arith)).1 ∙ omega arith
+    ∙ sym (high_kept 16 (v % 2 ^ 16) high (omega arith) (omega arith)))
     (cases_lt (v % 2 ^ 16) (2 ^ 15))
 
 pub reduce_32 : (v : ℕ) → v < 2 ^ 64 → result_of Sra (result_of Sll v 32) 32 ≡ wrapped kind.I32 (pos v)
@@ -161,8 +189,10 @@ unfolding wrapped reduced
 reduce_32 v h =
     ap (λ x. result_of Sra x 32) (sll_is v 32 h (omega arith))
     ∙ ⊎_elim
-    (λ low. (sra_low (v * 2 ^ (32 % 64) % 2 ^ 64) (omega arith)).2 ∙ omega arith ∙ sym (low_kept 32 (v % 2 ^ 32) low (omega arith)))
-    (λ high. (sra_high (v * 2 ^ (32 % 64) % 2 ^ 64) (omega arith) (omega arith)).2 ∙ omega arith ∙ sym (high_kept 32 (v % 2 ^ 32) high (omega arith) (omega arith)))
+    (λ low. (sra_low (v * 2 ^ (32 % 64) % 2 ^ 64) (omega arith)).2 ∙ omega arith
+    ∙ sym (low_kept 32 (v % 2 ^ 32) low (omega arith)))
+    (λ high. (sra_high (v * 2 ^ (32 % 64) % 2 ^ 64) (omega arith) (omega arith)).2 ∙ omega arith
+    ∙ sym (high_kept 32 (v % 2 ^ 32) high (omega arith) (omega arith)))
     (cases_lt (v % 2 ^ 32) (2 ^ 31))
 
 -- ---- comparisons with 0 and 1
@@ -192,15 +222,20 @@ reduced_again j k x h some =
     let same : kept_of (reduced j (pos x)) ≡ x = kept_is j x h in
     ap (λ y. wrapped k (pos y)) (sym same) ∙ wrapped-kept_of k (reduced j (pos x)) some
 
-narrow : (o : IntOp) (j k : IntKind) (a b : ℕ) → IsModular o → 1 < width_of (form_of k) → width_of (form_of k) ≤ width_of (form_of j)
-    → arithmetic.result_of o (promoted_width_of j) (pos a) (pos b) ≡ arithmetic.result_of o (promoted_width_of k) (pos a) (pos b)
+narrow : (o : IntOp) (j k : IntKind) (a b : ℕ) → IsModular o → 1 < width_of (form_of k) →
+    width_of (form_of k) ≤ width_of (form_of j)
+    → arithmetic.result_of o (promoted_width_of j) (pos a) (pos b)
+    ≡ arithmetic.result_of o (promoted_width_of k) (pos a) (pos b)
     → wrapped k (pos (binary_of o j a b)) ≡ binary_of o k a b
-narrow o j k a b modular some le same = reduced_again j k (binary_of o j a b) (IsKept-binary_of o j a b) some ∙ binary_of-narrower o j k a b modular some le same
+narrow o j k a b modular some le same =
+    reduced_again j k (binary_of o j a b) (IsKept-binary_of o j a b) some
+    ∙ binary_of-narrower o j k a b modular some le same
 
 kept : (o : IntOp) (k : IntKind) (a b : ℕ) → wrapped k (pos (binary_of o k a b)) ≡ binary_of o k a b
 kept o k a b = (IsKept-binary_of o k a b).kept
 
-extended_word : (o : IntOp) (a b : ℕ) → wrapped kind.U32 (pos (word (binary_of o kind.U32 a b))) ≡ binary_of o kind.U32 a b
+extended_word : (o : IntOp) (a b : ℕ) →
+    wrapped kind.U32 (pos (word (binary_of o kind.U32 a b))) ≡ binary_of o kind.U32 a b
 extended_word o a b =
     let v = binary_of o kind.U32 a b in
     reduced_again kind.I32 kind.U32 (word v) (IsKept-converted kind.U32 kind.I32 v) (omega arith)
@@ -220,7 +255,8 @@ op_I32 op.Rem a b = kept op.Rem kind.I32 a b
 op_I32 op.Shl a b = kept op.Shl kind.I32 a b
 op_I32 op.Shr a b = kept op.Shr kind.I32 a b
 
-op_U32 : (o : IntOp) (a b : ℕ) → wrapped kind.U32 (pos (result_of (unsigned_op (short_op o)) a b)) ≡ binary_of o kind.U32 a b
+op_U32 : (o : IntOp) (a b : ℕ) →
+    wrapped kind.U32 (pos (result_of (unsigned_op (short_op o)) a b)) ≡ binary_of o kind.U32 a b
 unfolding result_of
 op_U32 op.And a b = narrow op.And kind.I64 kind.U32 a b tt (omega arith) (omega arith) refl
 op_U32 op.Or a b = narrow op.Or kind.I64 kind.U32 a b tt (omega arith) (omega arith) refl
@@ -246,7 +282,8 @@ op_I64 op.Xor a b = kept op.Xor kind.I64 a b
 op_I64 op.Shl a b = kept op.Shl kind.I64 a b
 op_I64 op.Shr a b = kept op.Shr kind.I64 a b
 
-op_U64 : (o : IntOp) (a b : ℕ) → wrapped kind.U64 (pos (result_of (unsigned_op (long_op o)) a b)) ≡ binary_of o kind.U64 a b
+op_U64 : (o : IntOp) (a b : ℕ) →
+    wrapped kind.U64 (pos (result_of (unsigned_op (long_op o)) a b)) ≡ binary_of o kind.U64 a b
 unfolding result_of
 op_U64 op.Add a b = narrow op.Add kind.I64 kind.U64 a b tt (omega arith) (omega arith) refl
 op_U64 op.Sub a b = narrow op.Sub kind.I64 kind.U64 a b tt (omega arith) (omega arith) refl
@@ -260,7 +297,8 @@ op_U64 op.Rem a b = kept op.Rem kind.U64 a b
 op_U64 op.Shr a b = kept op.Shr kind.U64 a b
 
 -- the operation, reduced to its kind
-pub op_is : (o : IntOp) (k : IntKind) (a b : ℕ) → IsPromoted k → wrapped k (pos (result_of (reg_op k o) a b)) ≡ binary_of o k a b
+pub op_is : (o : IntOp) (k : IntKind) (a b : ℕ) → IsPromoted k →
+    wrapped k (pos (result_of (reg_op k o) a b)) ≡ binary_of o k a b
 op_is o kind.I32 a b p = op_I32 o a b
 op_is o kind.U32 a b p = op_U32 o a b
 op_is o kind.I64 a b p = op_I64 o a b
@@ -274,12 +312,15 @@ value_again : (k : IntKind) (v : ℕ) → value_of k (wrapped k (pos v)) ≡ val
 unfolding value_of
 value_again k v = value_of-wrapped k (pos v)
 
-pub operands_kept : (o : IntOp) (k : IntKind) (a b : ℕ) → binary_of o k (wrapped k (pos a)) (wrapped k (pos b)) ≡ binary_of o k a b
+pub operands_kept : (o : IntOp) (k : IntKind) (a b : ℕ) →
+    binary_of o k (wrapped k (pos a)) (wrapped k (pos b)) ≡ binary_of o k a b
 unfolding binary_of
-operands_kept o k a b = λ i. wrapped k (arithmetic.result_of o (promoted_width_of k) (value_again k a i) (value_again k b i))
+operands_kept o k a b = λ i. wrapped k (arithmetic.result_of o (promoted_width_of k) (value_again k a i)
+    (value_again k b i))
 
 -- the low bits of a count are enough, and a promoted kind keeps them
-count_low : (k : IntKind) (v w : ℕ) → w ≤ width_of (form_of k) → 1 < width_of (form_of k) → modulo (value_of k v) (2 ^ w) ≡ v % 2 ^ w
+count_low : (k : IntKind) (v w : ℕ) → w ≤ width_of (form_of k) → 1 < width_of (form_of k) →
+    modulo (value_of k v) (2 ^ w) ≡ v % 2 ^ w
 unfolding value_of
 count_low k v w le some =
     sym (modulo-low (reduced k (pos v)) w (width_of (form_of k)) le)
@@ -305,28 +346,34 @@ kept_low j v w le p =
         ∙ ap (λ n. n % 2 ^ w) (modulo-reduced j (pos v) (omega arith))
         ∙ modulo-low (pos v) w (width_of (form_of j)) (omega arith)
 
-same_count : (j k : IntKind) (v : ℕ) → IsPromoted j → IsPromoted k → modulo (value_of k (wrapped j (pos v))) (promoted_width_of k) ≡ modulo (value_of k v) (promoted_width_of k)
+same_count : (j k : IntKind) (v : ℕ) → IsPromoted j → IsPromoted k →
+    modulo (value_of k (wrapped j (pos v))) (promoted_width_of k) ≡ modulo (value_of k v) (promoted_width_of k)
 same_count j k v p q =
     let bits = promoted_bits k q in
     let le : bits.0 ≤ width_of (form_of k) = omega (arith, bits.2) in
     ap (modulo (value_of k (wrapped j (pos v)))) bits.1
-    ∙ count_low k (wrapped j (pos v)) bits.0 le (omega arith) ∙ kept_low j v bits.0 (omega (arith, bits.2)) p ∙ sym (count_low k v bits.0 le (omega arith))
+    ∙ count_low k (wrapped j (pos v)) bits.0 le (omega arith) ∙ kept_low j v bits.0 (omega (arith, bits.2)) p
+    ∙ sym (count_low k v bits.0 le (omega arith))
     ∙ sym (ap (modulo (value_of k v)) bits.1)
 
 -- the right operand of a shift may be of another promoted kind
-pub shift_operands : (o : IntOp) (j k : IntKind) (a b : ℕ) → is_shift o ≡ true → IsPromoted j → IsPromoted k → binary_of o k (wrapped k (pos a)) (wrapped j (pos b)) ≡ binary_of o k a b
+pub shift_operands : (o : IntOp) (j k : IntKind) (a b : ℕ) → is_shift o ≡ true → IsPromoted j → IsPromoted k →
+    binary_of o k (wrapped k (pos a)) (wrapped j (pos b)) ≡ binary_of o k a b
 unfolding binary_of
 shift_operands op.Shl j k a b s p q = λ i. wrapped k (value_again k a i *ℤ pos (2 ^ same_count j k b p q i))
-shift_operands op.Shr j k a b s p q = λ i. wrapped k (int_div_euclid (value_again k a i) (pos (2 ^ same_count j k b p q i)))
+shift_operands op.Shr j k a b s p q =
+    λ i. wrapped k (int_div_euclid (value_again k a i) (pos (2 ^ same_count j k b p q i)))
 shift_operands o j k a b s p q = cc
 
-pub compared_kept : (o : CmpOp) (k : IntKind) (a b : ℕ) → compare_of o k (wrapped k (pos a)) (wrapped k (pos b)) ≡ compare_of o k a b
+pub compared_kept : (o : CmpOp) (k : IntKind) (a b : ℕ) →
+    compare_of o k (wrapped k (pos a)) (wrapped k (pos b)) ≡ compare_of o k a b
 unfolding compare_of
 compared_kept o k a b = λ i. arithmetic.comparison_of o (value_again k a i) (value_again k b i)
 
 -- ---- comparisons
 
-less_word : (k : IntKind) (a b : ℕ) → result_of (less (is_signed (form_of k))) a b ≡ one_where (compare_of test.Lt (word_kind (form_of k)) a b)
+less_word : (k : IntKind) (a b : ℕ) →
+    result_of (less (is_signed (form_of k))) a b ≡ one_where (compare_of test.Lt (word_kind (form_of k)) a b)
 unfolding result_of
 less_word kind.Bool a b = refl
 less_word kind.I8 a b = refl
@@ -338,7 +385,8 @@ less_word kind.U32 a b = refl
 less_word kind.I64 a b = refl
 less_word kind.U64 a b = refl
 
-pub less_is : (k : IntKind) (a b : ℕ) → IsKept k a → IsKept k b → result_of (less (is_signed (form_of k))) a b ≡ one_where (compare_of test.Lt k a b)
+pub less_is : (k : IntKind) (a b : ℕ) → IsKept k a → IsKept k b →
+    result_of (less (is_signed (form_of k))) a b ≡ one_where (compare_of test.Lt k a b)
 less_is k a b h j = less_word k a b ∙ ap one_where (compare_of-kept test.Lt k a b h j)
 
 pub turned_round : (b : Bool) → result_of Xor (one_where b) 1 ≡ one_where (not b)
@@ -354,7 +402,8 @@ pub one_extended : extended (pos 1) ≡ 1
 one_extended = small_extended 1 (omega arith)
 
 -- the difference is 0 where they are equal
-pub equal_is : (k : IntKind) (a b : ℕ) → IsKept k a → IsKept k b → result_of Sltu (result_of Sub a b) 1 ≡ one_where (compare_of test.Eq k a b)
+pub equal_is : (k : IntKind) (a b : ℕ) → IsKept k a → IsKept k b →
+    result_of Sltu (result_of Sub a b) 1 ≡ one_where (compare_of test.Eq k a b)
 equal_is k a b h j =
     let x = IsKept-below k a h in let y = IsKept-below k b j in
     is_none (result_of Sub a b) (result_below Sub a b)
@@ -362,10 +411,12 @@ equal_is k a b h j =
     ∙ equal_by a b x y
     ∙ ap one_where (sym (compare_of-Eq_kept k a b h j))
   where
-    equal_by : (a b : ℕ) → a < 2 ^ 64 → b < 2 ^ 64 → (if (a + (2 ^ 64 - b)) % 2 ^ 64 == 0 then 1 else 0) ≡ one_where (a == b)
+    equal_by : (a b : ℕ) → a < 2 ^ 64 → b < 2 ^ 64 →
+        (if (a + (2 ^ 64 - b)) % 2 ^ 64 == 0 then 1 else 0) ≡ one_where (a == b)
     equal_by a b h j = grind (arith, nat_tests)
 
-pub unequal_is : (k : IntKind) (a b : ℕ) → IsKept k a → IsKept k b → result_of Sltu 0 (result_of Sub a b) ≡ one_where (compare_of test.Ne k a b)
+pub unequal_is : (k : IntKind) (a b : ℕ) → IsKept k a → IsKept k b →
+    result_of Sltu 0 (result_of Sub a b) ≡ one_where (compare_of test.Ne k a b)
 unequal_is k a b h j =
     let x = IsKept-below k a h in let y = IsKept-below k b j in
     is_some (result_of Sub a b) (result_below Sub a b)
@@ -374,7 +425,8 @@ unequal_is k a b h j =
     ∙ ap (λ c. one_where (not c)) (sym (compare_of-Eq_kept k a b h j))
     ∙ ap one_where (sym (compare_of-Ne k a b))
   where
-    unequal_by : (a b : ℕ) → a < 2 ^ 64 → b < 2 ^ 64 → (if (a + (2 ^ 64 - b)) % 2 ^ 64 == 0 then 0 else 1) ≡ one_where (not (a == b))
+    unequal_by : (a b : ℕ) → a < 2 ^ 64 → b < 2 ^ 64 →
+        (if (a + (2 ^ 64 - b)) % 2 ^ 64 == 0 then 0 else 1) ≡ one_where (not (a == b))
     unequal_by a b h j = grind (arith, nat_tests)
 
 -- ---- constants
@@ -395,39 +447,50 @@ upper_low u =
     ∙ modulo-reduced kind.U32 (pos (u * 4096)) (omega arith)
 
 -- 12 signed bits, as 64 bits
-signed_bits : (m : ℕ) → m < 4096 → ((m < 2048) × (extended (twos_complement 12 m) ≡ m)) ⊎ ((2048 ≤ m) × (extended (twos_complement 12 m) ≡ 2 ^ 64 - (4096 - m)))
+signed_bits : (m : ℕ) → m < 4096 →
+    ((m < 2048) × (extended (twos_complement 12 m) ≡ m)) ⊎
+    ((2048 ≤ m) × (extended (twos_complement 12 m) ≡ 2 ^ 64 - (4096 - m)))
 signed_bits m h = ⊎_elim
     (λ low. inl (low, low_kept 12 m low (omega arith)))
     (λ high. inr (high, high_kept 12 m high h (omega arith) ∙ omega arith))
     (cases_lt m 2048)
 
 -- the upper 32 bits are there, behind what is shifted out
-top_part : (n : ℕ) → n < 2 ^ 64 → result_of Add (upper (upper_part n)) (extended (twos_complement 12 (n / 2 ^ 32 % 4096))) % 2 ^ 32 ≡ n / 2 ^ 32
+top_part : (n : ℕ) → n < 2 ^ 64 →
+    result_of Add (upper (upper_part n)) (extended (twos_complement 12 (n / 2 ^ 32 % 4096))) % 2 ^ 32 ≡ n / 2 ^ 32
 top_part n h =
     let low = upper_low (upper_part n) in
     let m = n / 2 ^ 32 % 4096 in
     let below = upper_below (upper_part n) in
     ⊎_elim
-    (λ s. ap (λ x. x % 2 ^ 32) (ap (result_of Add (upper (upper_part n))) s.1 ∙ add_is (upper (upper_part n)) m below (omega arith)) ∙ omega (arith, low, s.0))
-    (λ s. ap (λ x. x % 2 ^ 32) (ap (result_of Add (upper (upper_part n))) s.1 ∙ add_is (upper (upper_part n)) (2 ^ 64 - (4096 - m)) below (omega arith)) ∙ omega (arith, low, s.0))
+    (λ s. ap (λ x. x % 2 ^ 32) (ap (result_of Add (upper (upper_part n))) s.1
+    ∙ add_is (upper (upper_part n)) m below (omega arith)) ∙ omega (arith, low, s.0))
+    (λ s. ap (λ x. x % 2 ^ 32) (ap (result_of Add (upper (upper_part n))) s.1
+    ∙ add_is (upper (upper_part n)) (2 ^ 64 - (4096 - m)) below (omega arith)) ∙ omega (arith, low, s.0))
     (signed_bits m (omega arith))
 
 abbrev shifted_in : (v n p : ℕ) → ℕ
 shifted_in v n p = result_of Add (result_of Sll v n) p
 
-shift_in : (v p : ℕ) → v < 2 ^ 64 → p < 2048 → (shifted_in v 11 p ≡ (v * 2048 % 2 ^ 64 + p) % 2 ^ 64) × (shifted_in v 10 p ≡ (v * 1024 % 2 ^ 64 + p) % 2 ^ 64)
+shift_in : (v p : ℕ) → v < 2 ^ 64 → p < 2048 →
+    (shifted_in v 11 p ≡ (v * 2048 % 2 ^ 64 + p) % 2 ^ 64) × (shifted_in v 10 p ≡ (v * 1024 % 2 ^ 64 + p) % 2 ^ 64)
 shift_in v p h j = (
-  add_is (result_of Sll v 11) p (result_below Sll v 11) (omega arith) ∙ ap (λ x. (x + p) % 2 ^ 64) (sll_is v 11 h (omega arith)),
-  add_is (result_of Sll v 10) p (result_below Sll v 10) (omega arith) ∙ ap (λ x. (x + p) % 2 ^ 64) (sll_is v 10 h (omega arith)),
+  add_is (result_of Sll v 11) p (result_below Sll v 11) (omega arith)
+      ∙ ap (λ x. (x + p) % 2 ^ 64) (sll_is v 11 h (omega arith)),
+  add_is (result_of Sll v 10) p (result_below Sll v 10) (omega arith)
+      ∙ ap (λ x. (x + p) % 2 ^ 64) (sll_is v 10 h (omega arith)),
 )
 
 -- the value after the eight words
 abbrev pub long_value : ℕ → ℕ
 long_value n =
-    shifted_in (shifted_in (shifted_in (result_of Add (upper (upper_part n)) (extended (twos_complement 12 (n / 2 ^ 32 % 4096)))) 11 (extended (pos (n / 2 ^ 21 % 2048)))) 11 (extended (pos (n / 2 ^ 10 % 2048)))) 10 (extended (pos (n % 1024)))
+    shifted_in (shifted_in (shifted_in (result_of Add (upper (upper_part n))
+    (extended (twos_complement 12 (n / 2 ^ 32 % 4096)))) 11 (extended (pos (n / 2 ^ 21 % 2048)))) 11
+    (extended (pos (n / 2 ^ 10 % 2048)))) 10 (extended (pos (n % 1024)))
 
 assembled : (n v v1 v2 v3 : ℕ) → v % 2 ^ 32 ≡ n / 2 ^ 32 → n < 2 ^ 64
-    → v1 ≡ (v * 2048 % 2 ^ 64 + n / 2 ^ 21 % 2048) % 2 ^ 64 → v2 ≡ (v1 * 2048 % 2 ^ 64 + n / 2 ^ 10 % 2048) % 2 ^ 64 → v3 ≡ (v2 * 1024 % 2 ^ 64 + n % 1024) % 2 ^ 64 → v3 ≡ n
+    → v1 ≡ (v * 2048 % 2 ^ 64 + n / 2 ^ 21 % 2048) % 2 ^ 64 → v2 ≡ (v1 * 2048 % 2 ^ 64 + n / 2 ^ 10 % 2048) % 2 ^ 64 →
+    v3 ≡ (v2 * 1024 % 2 ^ 64 + n % 1024) % 2 ^ 64 → v3 ≡ n
 assembled n v v1 v2 v3 top h e1 e2 e3 =
     let one : v1 % 2 ^ 43 ≡ n / 2 ^ 21 = omega arith in
     let two : v2 % 2 ^ 54 ≡ n / 2 ^ 10 = omega arith in
@@ -440,9 +503,12 @@ long_is n h =
     let v2 = shifted_in v1 11 (extended (pos (n / 2 ^ 10 % 2048))) in
     let v3 = shifted_in v2 10 (extended (pos (n % 1024))) in
     assembled n v v1 v2 v3 (top_part n h) h
-    (ap (λ p. shifted_in v 11 p) (small_extended (n / 2 ^ 21 % 2048) (omega arith)) ∙ (shift_in v (n / 2 ^ 21 % 2048) (result_below Add _ _) (omega arith)).0)
-    (ap (λ p. shifted_in v1 11 p) (small_extended (n / 2 ^ 10 % 2048) (omega arith)) ∙ (shift_in v1 (n / 2 ^ 10 % 2048) (result_below Add _ _) (omega arith)).0)
-    (ap (λ p. shifted_in v2 10 p) (small_extended (n % 1024) (omega arith)) ∙ (shift_in v2 (n % 1024) (result_below Add _ _) (omega arith)).1)
+    (ap (λ p. shifted_in v 11 p) (small_extended (n / 2 ^ 21 % 2048) (omega arith))
+    ∙ (shift_in v (n / 2 ^ 21 % 2048) (result_below Add _ _) (omega arith)).0)
+    (ap (λ p. shifted_in v1 11 p) (small_extended (n / 2 ^ 10 % 2048) (omega arith))
+    ∙ (shift_in v1 (n / 2 ^ 10 % 2048) (result_below Add _ _) (omega arith)).0)
+    (ap (λ p. shifted_in v2 10 p) (small_extended (n % 1024) (omega arith))
+    ∙ (shift_in v2 (n % 1024) (result_below Add _ _) (omega arith)).1)
 
 -- a small number goes to a register
 pub small_sum : (n : ℕ) → n < 2048 → result_of Add 0 (extended (pos n)) ≡ n

@@ -1,5 +1,7 @@
 -- Each instruction of the code has a word.
-use Rattle.std.proofs.Common.{◌≡◌, ℕ, zero, suc, ◌+◌, ◌-◌, ◌*◌, ◌/◌, ◌%◌, ◌^◌, ◌<◌, ◌≤◌, pos, negsuc, neg_ℤ, Bool, true, false, List, [], ◌∷◌, ◌++◌, length, Option, Some, None, refl, sym, ap, ◌∙◌, subst, arith, ⊎_elim, if◌then◌else◌}
+use Rattle.std.proofs.Common.{◌≡◌, ℕ, zero, suc, ◌+◌, ◌-◌, ◌*◌, ◌/◌, ◌%◌, ◌^◌, ◌<◌, ◌≤◌, pos, negsuc, neg_ℤ, Bool, true}
+use Rattle.std.proofs.Common.{false, List, [], ◌∷◌, ◌++◌, length, Option, Some, None, refl, sym, ap, ◌∙◌, subst, arith}
+use Rattle.std.proofs.Common.{⊎_elim, if◌then◌else◌}
 use Rattle.std.specs.Prelude.{slice_get, int_rem}
 use Rattle.std.proofs.lemmas.Bool.{cases_lt}
 use Rattle.std.proofs.lemmas.Bool.Decides.{nat_tests}
@@ -30,7 +32,9 @@ use Rattle.tac_ir.specs.declared.code.TacInstr.TheVariants as instr
 use Rattle.tac_ir.specs.declared.code.TacKind.{TacKind}
 use Rattle.tac_ir.specs.declared.code.TacKind.TheVariants as kind
 use Rattle.int_select.specs.Form.{AllBelow, IsPlain, ArePlain, AreNamed, IsIntegerFun}
-use Rattle.int_select.specs.Code.{slot, load, store, is_short, upper_part, long_code, number_code, reduce_code, compare_code, call_code, result_code, service_code, words, instr_code, list_code, place_by, place_last, hop, prologue, label_place, function_code}
+use Rattle.int_select.specs.Code.{slot, load, store, is_short, upper_part, long_code, number_code, reduce_code}
+use Rattle.int_select.specs.Code.{compare_code, call_code, result_code, service_code, words, instr_code, list_code}
+use Rattle.int_select.specs.Code.{place_by, place_last, hop, prologue, label_place, function_code}
 use Rattle.int_select.proofs.Places.{code_words}
 
 abbrev pub AllIn : List Instr → Type 0
@@ -64,7 +68,9 @@ fits_low m h = ⊎_elim
 fits_short : (n : ℕ) → n < 2 ^ 64 → is_short n ≡ true → FitsBits 12 (twos_complement 64 n)
 fits_short n small h = ⊎_elim
     (λ low. subst (FitsBits 12) (sym (twos_complement-low 64 n (omega arith))) (fits_pos n low))
-    (λ high. let top : 2 ^ 64 - 2048 ≤ n = grind (arith, nat_tests) in subst (FitsBits 12) (sym (twos_complement-high 64 n (omega arith) small)) (fits_negsuc (2 ^ 64 - 1 - n) (omega arith)))
+    (λ high. let top : 2 ^ 64 - 2048 ≤ n = grind (arith, nat_tests) in
+    subst (FitsBits 12) (sym (twos_complement-high 64 n (omega arith) small))
+    (fits_negsuc (2 ^ 64 - 1 - n) (omega arith)))
     (cases_lt n 2048)
 
 -- ---- instructions
@@ -105,11 +111,13 @@ r_upper : (n : ℕ) → n < 2 ^ 20 → InRange (Upper Lui 5 n)
 unfolding InRange
 r_upper n h = (omega arith, h)
 
-r_low : (m : ℕ) → m < 4096 → (a : ℕ) → a < 32 → InRange (Imm Rattle.rv_instr.specs.declared.ops.ImmOp.TheVariants.Addi 5 a (twos_complement 12 m))
+r_low : (m : ℕ) → m < 4096 → (a : ℕ) → a < 32 →
+    InRange (Imm Rattle.rv_instr.specs.declared.ops.ImmOp.TheVariants.Addi 5 a (twos_complement 12 m))
 unfolding InRange
 r_low m h a j = (omega arith, j, fits_low m h)
 
-r_short : (n : ℕ) → n < 2 ^ 64 → is_short n ≡ true → InRange (Imm Rattle.rv_instr.specs.declared.ops.ImmOp.TheVariants.Addi 5 0 (twos_complement 64 n))
+r_short : (n : ℕ) → n < 2 ^ 64 → is_short n ≡ true →
+    InRange (Imm Rattle.rv_instr.specs.declared.ops.ImmOp.TheVariants.Addi 5 0 (twos_complement 64 n))
 unfolding InRange
 r_short n small h = (omega arith, omega arith, fits_short n small h)
 
@@ -191,10 +199,22 @@ reduce_in int.U64 = tt
 compare_in : (o : CmpOp) (signed : Bool) → AllIn (compare_code o signed)
 compare_in test.Lt signed = (r_op _ 5 5 6 (omega arith) (omega arith) (omega arith), tt)
 compare_in test.Gt signed = (r_op _ 5 6 5 (omega arith) (omega arith) (omega arith), tt)
-compare_in test.Le signed = (r_op _ 5 6 5 (omega arith) (omega arith) (omega arith), (r_imm _ 5 5 1 (omega arith) (omega arith) (omega arith), tt))
-compare_in test.Ge signed = (r_op _ 5 5 6 (omega arith) (omega arith) (omega arith), (r_imm _ 5 5 1 (omega arith) (omega arith) (omega arith), tt))
-compare_in test.Eq signed = (r_op _ 5 5 6 (omega arith) (omega arith) (omega arith), (r_imm _ 5 5 1 (omega arith) (omega arith) (omega arith), tt))
-compare_in test.Ne signed = (r_op _ 5 5 6 (omega arith) (omega arith) (omega arith), (r_op _ 5 0 5 (omega arith) (omega arith) (omega arith), tt))
+compare_in test.Le signed = (
+  r_op _ 5 6 5 (omega arith) (omega arith) (omega arith),
+  (r_imm _ 5 5 1 (omega arith) (omega arith) (omega arith), tt),
+)
+compare_in test.Ge signed = (
+  r_op _ 5 5 6 (omega arith) (omega arith) (omega arith),
+  (r_imm _ 5 5 1 (omega arith) (omega arith) (omega arith), tt),
+)
+compare_in test.Eq signed = (
+  r_op _ 5 5 6 (omega arith) (omega arith) (omega arith),
+  (r_imm _ 5 5 1 (omega arith) (omega arith) (omega arith), tt),
+)
+compare_in test.Ne signed = (
+  r_op _ 5 5 6 (omega arith) (omega arith) (omega arith),
+  (r_op _ 5 0 5 (omega arith) (omega arith) (omega arith), tt),
+)
 
 call_in : (n : ℕ) → n < 2048 → AllIn (call_code n)
 call_in n h = (r_imm _ 17 0 n (omega arith) (omega arith) h, (r_ecall, tt))
@@ -207,17 +227,26 @@ below_front : (n : ℕ) (a b : List ℕ) → AllBelow n (a ++ b) → AllBelow n 
 below_front n [] b h = (tt, h)
 below_front n (k ∷ a) b h = let r = below_front n a b h.1 in ((h.0, r.0), r.1)
 
-service_in : (o : LibOp) (to : Option ℕ) (args : List ℕ) → AllBelow 200 (Rattle.tac_ir.specs.Temps.in_option to ++ args) → AllIn (service_code o to args)
+service_in : (o : LibOp) (to : Option ℕ) (args : List ℕ) →
+    AllBelow 200 (Rattle.tac_ir.specs.Temps.in_option to ++ args) → AllIn (service_code o to args)
 service_in lib.PutChar to [] h = tt
-service_in lib.PutChar to (a ∷ []) h = let b = below_front 200 (Rattle.tac_ir.specs.Temps.in_option to) (a ∷ []) h in (r_load 10 a (omega arith) b.1.0, in_both (call_code 1) (result_code to) (call_in 1 (omega arith)) (result_in to b.0))
+service_in lib.PutChar to (a ∷ []) h =
+    let b = below_front 200 (Rattle.tac_ir.specs.Temps.in_option to) (a ∷ []) h in (
+      r_load 10 a (omega arith) b.1.0,
+      in_both (call_code 1) (result_code to) (call_in 1 (omega arith)) (result_in to b.0),
+    )
 service_in lib.PutChar to (a ∷ c ∷ rest) h = tt
 service_in lib.GetChar to [] h =
     let b = below_front 200 (Rattle.tac_ir.specs.Temps.in_option to) [] h in
-    let l : AllIn (Imm Rattle.rv_instr.specs.declared.ops.ImmOp.TheVariants.Addiw 10 10 (pos 0) ∷ result_code to) = (r_imm _ 10 10 0 (omega arith) (omega arith) (omega arith), result_in to b.0) in
-    in_both (call_code 2) (Imm Rattle.rv_instr.specs.declared.ops.ImmOp.TheVariants.Addiw 10 10 (pos 0) ∷ result_code to) (call_in 2 (omega arith)) l
+    let l : AllIn (Imm Rattle.rv_instr.specs.declared.ops.ImmOp.TheVariants.Addiw 10 10 (pos 0) ∷ result_code to) =
+    (r_imm _ 10 10 0 (omega arith) (omega arith) (omega arith), result_in to b.0) in
+    in_both (call_code 2) (Imm Rattle.rv_instr.specs.declared.ops.ImmOp.TheVariants.Addiw 10 10 (pos 0)
+    ∷ result_code to) (call_in 2 (omega arith)) l
 service_in lib.GetChar to (a ∷ rest) h = tt
 service_in lib.Exit to [] h = tt
-service_in lib.Exit to (a ∷ []) h = let b = below_front 200 (Rattle.tac_ir.specs.Temps.in_option to) (a ∷ []) h in (r_load 10 a (omega arith) b.1.0, call_in 3 (omega arith))
+service_in lib.Exit to (a ∷ []) h =
+    let b = below_front 200 (Rattle.tac_ir.specs.Temps.in_option to) (a ∷ []) h in
+    (r_load 10 a (omega arith) b.1.0, call_in 3 (omega arith))
 service_in lib.Exit to (a ∷ c ∷ rest) h = tt
 service_in lib.Malloc to args h = tt
 
@@ -229,7 +258,8 @@ total (i ∷ is) = words i + total is
 
 pub total_length : (lab : ℕ → ℕ) (at : ℕ) (is : List TacInstr) → length (list_code lab at is) ≡ total is
 total_length lab at [] = refl
-total_length lab at (i ∷ is) = length-append (instr_code lab at i) _ ∙ (λ j. code_words lab at i j + total_length lab (at + words i) is j)
+total_length lab at (i ∷ is) =
+    length-append (instr_code lab at i) _ ∙ (λ j. code_words lab at i j + total_length lab (at + words i) is j)
 
 -- a label's place lies in the code
 pub last_le : (d l at : ℕ) (is : List TacInstr) → d ≤ at → place_last d l at is ≤ at + total is
@@ -241,25 +271,51 @@ last_le d l at (i ∷ is) h = let r = last_le (place_by d l at i) l (at + words 
     by false = omega arith
 
 module _ (kinds : List TacKind) (lab : ℕ → ℕ) (near : (l : ℕ) → lab l ≤ 260000) where
-  instr_in : (at : ℕ) (i : TacInstr) → at + 2 ≤ 260000 → AllBelow 200 (names i) → IsPlain kinds i → AllIn (instr_code lab at i)
-  instr_in at (instr.Const to (kind.Int k) v) room named plain = in_both (number_code v) _ (number_in v (IsKept-below k v plain)) (r_store 5 to (omega arith) named.0, tt)
-  instr_in at (instr.Copy to from) room named plain = (r_load 5 from (omega arith) named.1.0, (r_store 5 to (omega arith) named.0, tt))
-  instr_in at (instr.Int o k to a b) room named plain = (r_load 5 a (omega arith) named.1.0, (r_load 6 b (omega arith) named.1.1.0, (r_op _ 5 5 6 (omega arith) (omega arith) (omega arith), in_both (reduce_code k) _ (reduce_in k) (r_store 5 to (omega arith) named.0, tt))))
-  instr_in at (instr.Cmp o (kind.Int k) to a b) room named plain = (r_load 5 a (omega arith) named.1.0, (r_load 6 b (omega arith) named.1.1.0, in_both (compare_code o (is_signed (form_of k))) _ (compare_in o (is_signed (form_of k))) (r_store 5 to (omega arith) named.0, tt)))
-  instr_in at (instr.Convert to from (kind.Int j) (kind.Int k)) room named plain = (r_load 5 from (omega arith) named.1.0, in_both (reduce_code k) _ (reduce_in k) (r_store 5 to (omega arith) named.0, tt))
+  instr_in : (at : ℕ) (i : TacInstr) → at + 2 ≤ 260000 → AllBelow 200 (names i) → IsPlain kinds i →
+      AllIn (instr_code lab at i)
+  instr_in at (instr.Const to (kind.Int k) v) room named plain =
+      in_both (number_code v) _ (number_in v (IsKept-below k v plain)) (r_store 5 to (omega arith) named.0, tt)
+  instr_in at (instr.Copy to from) room named plain =
+      (r_load 5 from (omega arith) named.1.0, (r_store 5 to (omega arith) named.0, tt))
+  instr_in at (instr.Int o k to a b) room named plain = (
+    r_load 5 a (omega arith) named.1.0,
+    (
+      r_load 6 b (omega arith) named.1.1.0,
+      (
+        r_op _ 5 5 6 (omega arith) (omega arith) (omega arith),
+        in_both (reduce_code k) _ (reduce_in k) (r_store 5 to (omega arith) named.0, tt),
+      ),
+    ),
+  )
+  instr_in at (instr.Cmp o (kind.Int k) to a b) room named plain = (
+    r_load 5 a (omega arith) named.1.0,
+    (
+      r_load 6 b (omega arith) named.1.1.0,
+      in_both (compare_code o (is_signed (form_of k))) _ (compare_in o (is_signed (form_of k)))
+          (r_store 5 to (omega arith) named.0, tt),
+    ),
+  )
+  instr_in at (instr.Convert to from (kind.Int j) (kind.Int k)) room named plain = (
+    r_load 5 from (omega arith) named.1.0,
+    in_both (reduce_code k) _ (reduce_in k) (r_store 5 to (omega arith) named.0, tt),
+  )
   instr_in at (instr.Label l) room named plain = tt
   instr_in at (instr.Jump l) room named plain = (r_jump at (lab l) (omega arith) (near l), tt)
-  instr_in at (instr.Branch on when l) room named plain = (r_load 5 on (omega arith) named.0, (r_branch _, (r_jump (at + 2) (lab l) room (near l), tt)))
+  instr_in at (instr.Branch on when l) room named plain =
+      (r_load 5 on (omega arith) named.0, (r_branch _, (r_jump (at + 2) (lab l) room (near l), tt)))
   instr_in at (instr.Lib o to args) room named plain = service_in o to args named
   instr_in at instr.Turn room named plain = tt
-  instr_in at (instr.Return None) room named plain = (r_imm _ 10 0 0 (omega arith) (omega arith) (omega arith), call_in 3 (omega arith))
+  instr_in at (instr.Return None) room named plain =
+      (r_imm _ 10 0 0 (omega arith) (omega arith) (omega arith), call_in 3 (omega arith))
   instr_in at (instr.Return (Some a)) room named plain = (r_load 10 a (omega arith) named.0, call_in 3 (omega arith))
   instr_in at i room named plain = absurd plain
 
-  list_in : (labels at : ℕ) (is : List TacInstr) → at + total is + 2 ≤ 260000 → AreNamed 200 labels is → ArePlain kinds is → AllIn (list_code lab at is)
+  list_in : (labels at : ℕ) (is : List TacInstr) → at + total is + 2 ≤ 260000 → AreNamed 200 labels is →
+      ArePlain kinds is → AllIn (list_code lab at is)
   list_in labels at [] room named plain = tt
   list_in labels at (i ∷ is) room named plain =
-      in_both (instr_code lab at i) _ (instr_in at i (omega arith) named.0 plain.0) (list_in labels (at + words i) is (omega arith) named.2 plain.1)
+      in_both (instr_code lab at i) _ (instr_in at i (omega arith) named.0 plain.0)
+      (list_in labels (at + words i) is (omega arith) named.2 plain.1)
 
 below_more : (m n : ℕ) (ks : List ℕ) → m ≤ n → AllBelow m ks → AllBelow n ks
 below_more m n [] le h = tt
@@ -270,12 +326,18 @@ named_more m n labels [] le h = tt
 named_more m n labels (i ∷ is) le h = (below_more m n (names i) le h.0, h.1, named_more m n labels is le h.2)
 
 pub code_length : (f : TacFun) → length (function_code f) ≡ total f.code + 2
-code_length f = omega (arith, length-append (list_code (label_place f.code) 1 f.code) (Cjal 0 (pos 0) ∷ []), total_length (label_place f.code) 1 f.code)
+code_length f = omega (
+  arith,
+  length-append (list_code (label_place f.code) 1 f.code) (Cjal 0 (pos 0) ∷ []),
+  total_length (label_place f.code) 1 f.code,
+)
 
 pub code_in : (f : TacFun) → IsIntegerFun f → 4 * length (function_code f) ≤ 1000000 → AllIn (function_code f)
 code_in f fine short =
     let long = code_length f in
     let near : (l : ℕ) → label_place f.code l ≤ 260000 = λ l. omega (arith, last_le 0 l 1 f.code (omega arith)) in (
       r_prologue f.temps fine.few,
-      in_both (list_code (label_place f.code) 1 f.code) _ (list_in f.kinds (label_place f.code) near (length f.code) 1 f.code (omega arith) (named_more f.temps 200 (length f.code) f.code fine.few fine.named) fine.plain) (r_stop, tt),
+      in_both (list_code (label_place f.code) 1 f.code) _
+          (list_in f.kinds (label_place f.code) near (length f.code) 1 f.code (omega arith)
+          (named_more f.temps 200 (length f.code) f.code fine.few fine.named) fine.plain) (r_stop, tt),
     )

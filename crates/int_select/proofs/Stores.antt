@@ -1,5 +1,6 @@
 -- What a store to a slot of the frame changes, and what it leaves as it was.
-use Rattle.std.proofs.Common.{◌≡◌, ◌≢◌, ℕ, zero, suc, ◌+◌, ◌%◌, ◌<◌, ◌≤◌, ◌⊎◌, inl, inr, pos, false, List, [], ◌∷◌, length, Some, refl, sym, ap, ◌∙◌, subst, arith, ⊎_elim}
+use Rattle.std.proofs.Common.{◌≡◌, ◌≢◌, ℕ, zero, suc, ◌+◌, ◌%◌, ◌<◌, ◌≤◌, ◌⊎◌, inl, inr, pos, false, List, [], ◌∷◌}
+use Rattle.std.proofs.Common.{length, Some, refl, sym, ap, ◌∙◌, subst, arith, ⊎_elim}
 use Rattle.std.specs.Prelude.{slice_get, slice_set}
 use Rattle.std.proofs.lemmas.Bool.{cases_eq}
 use Rattle.std.proofs.lemmas.List.{length-set}
@@ -43,7 +44,8 @@ got_other (x ∷ xs) (suc k) zero v h = refl
 got_other (x ∷ xs) (suc k) (suc j) v h = got_other xs k j v (λ e. h (ap suc e))
 
 -- the machine comes to a state that stands for t, at a place, in at least and at most so many steps
-pub record Arrives (g : Plan) (live : ℕ → Type 0) (lo hi : ℕ) (s : Moment Machine) (t : State modes.Store) (at : ℕ) : Type 0 where
+pub record Arrives (g : Plan) (live : ℕ → Type 0) (lo hi : ℕ) (s : Moment Machine) (t : State modes.Store) (at : ℕ) :
+    Type 0 where
   pub count : ℕ
   pub to : Moment Machine
   pub ge : lo ≤ count
@@ -56,7 +58,8 @@ pub record Arrives (g : Plan) (live : ℕ → Type 0) (lo hi : ℕ) (s : Moment 
 abbrev after_store : List Area → (a v : ℕ) → List Area
 after_store m a v = written m a (little_bytes 8 v) false
 
-number_other : (m : List Area) (a v x n : ℕ) → IsMemory m → x % 16 + n ≤ 16 → 0 < n → (x + n ≤ a) ⊎ (a + 8 ≤ x) → number_at (after_store m a v) x n ≡ number_at m x n
+number_other : (m : List Area) (a v x n : ℕ) → IsMemory m → x % 16 + n ≤ 16 → 0 < n → (x + n ≤ a) ⊎ (a + 8 ≤ x) →
+    number_at (after_store m a v) x n ≡ number_at m x n
 number_other m a v x n memory granule some out =
     let long = length-little_bytes 8 v in
     number_at-written_other m a (little_bytes 8 v) false x n memory (small-little_bytes 8 v) granule some
@@ -68,14 +71,16 @@ module _ (g : Plan) (laid : Laid g) where
     memory = IsMemory-written m a (little_bytes 8 v) false sound.memory (small-little_bytes 8 v);
     text = λ k i has.
         let within = slice_get_within g.code k i has in let room = laid.text_room in let aligned = laid.text_aligned in
-        number_other m a v (place g k) 4 sound.memory (omega arith) (omega arith) (⊎_elim (λ above. inl (omega arith)) (λ below. inr (omega arith)) laid.apart)
+        number_other m a v (place g k) 4 sound.memory (omega arith) (omega arith)
+        (⊎_elim (λ above. inl (omega arith)) (λ below. inr (omega arith)) laid.apart)
         ∙ sound.text k i has;
     there = λ x lo hi. is_inside-written m a (little_bytes 8 v) false x ∙ sound.there x lo hi;
   }
 
   module _ (live onward : ℕ → Type 0) (t : State modes.Store) (s : Moment Machine) (fits : Fits g live t s) where
     -- where nothing is stored, the machine stands for the same values
-    pub settled : (d : Done) (lo hi n at : ℕ) (x : ℕ → ℕ) (h : Going g laid s d t.frame s.state.mem n at x) → ((k : ℕ) → onward k → live k) → lo ≤ n → n ≤ hi → Arrives g onward lo hi s (record t { done = d }) at
+    pub settled : (d : Done) (lo hi n at : ℕ) (x : ℕ → ℕ) (h : Going g laid s d t.frame s.state.mem n at x) →
+        ((k : ℕ) → onward k → live k) → lo ≤ n → n ≤ hi → Arrives g onward lo hi s (record t { done = d }) at
     settled d lo hi n at x h fewer ge le = record {
       count = n;
       to = moment h.to d;
@@ -90,11 +95,14 @@ module _ (g : Plan) (laid : Laid g) where
         frame = fits.frame;
         sound = subst (IsSound g) (sym h.mem_is) fits.sound;
         temps = fits.temps;
-        values = λ k after k_lt. ap (λ m. number_at m (t.frame + slot k) 8) h.mem_is ∙ fits.values k (fewer k after) k_lt;
+        values = λ k after k_lt. ap (λ m. number_at m (t.frame + slot k) 8) h.mem_is
+            ∙ fits.values k (fewer k after) k_lt;
       };
     }
 
-    module _ (d : Done) (n at : ℕ) (x : ℕ → ℕ) (h : Going g laid s d t.frame s.state.mem n at x) (r to : ℕ) (val : Value) (has : slice_get g.code at ≡ Some (store r to)) (to_lt : to < length g.kinds) (is : x r ≡ kept_value (kind_in g to) val) where
+    module _ (d : Done) (n at : ℕ) (x : ℕ → ℕ) (h : Going g laid s d t.frame s.state.mem n at x) (r to : ℕ)
+        (val : Value) (has : slice_get g.code at ≡ Some (store r to)) (to_lt : to < length g.kinds)
+        (is : x r ≡ kept_value (kind_in g to) val) where
       abbrev a : ℕ
       a = t.frame + slot to
 
@@ -108,7 +116,8 @@ module _ (g : Plan) (laid : Laid g) where
       then = record { regs = h.to.regs; pc = counter_at g (at + 1); mem = memory }
 
       inside : (g.low ≤ a) × (a + 8 ≤ g.high) × (a % 8 ≡ 0)
-      inside = let from = fits.frame.from in let end = fits.frame.to in let aligned = fits.frame.aligned in (omega arith, omega arith, omega arith)
+      inside = let from = fits.frame.from in let end = fits.frame.to in let aligned = fits.frame.aligned in
+          (omega arith, omega arith, omega arith)
 
       goes : act h.to ≡ Goes then
       unfolding row store_row
@@ -118,37 +127,50 @@ module _ (g : Plan) (laid : Laid g) where
           let from = fits.frame.from in let end = fits.frame.to in
           let within = slice_get_within g.code at (store r to) has in
           act_there g laid s d t.frame s.state.mem fits.sound.text n at x (store r to) h has
-          ∙ ap (λ c. act_of (store_checked m 8 (integer m r) false (checked c (plus c.fields.address (pos (slot to))) (access.Store 8)))) h.stack
-          ∙ ap (λ b. act_of (store_checked m 8 (integer m r) false (checked (stack_at g t.frame) b (access.Store 8)))) (plus_is g laid s d t.frame s.state.mem fits.sound.text to (omega (arith, inside.1)))
-          ∙ ap (λ q. act_of (store_checked m 8 (integer m r) false q)) (store_checked_is g laid s d t.frame s.state.mem fits.sound.text a from (omega arith) inside.0 inside.1 inside.2)
-          ∙ ap (λ b. act_of (stored m a 8 (integer m r) false b)) (ap (λ y. is_inside y a) h.mem_is ∙ fits.sound.there a inside.0 (omega (arith, inside.1)))
+          ∙ ap (λ c. act_of (store_checked m 8 (integer m r) false
+          (checked c (plus c.fields.address (pos (slot to))) (access.Store 8)))) h.stack
+          ∙ ap (λ b. act_of (store_checked m 8 (integer m r) false (checked (stack_at g t.frame) b (access.Store 8))))
+          (plus_is g laid s d t.frame s.state.mem fits.sound.text to (omega (arith, inside.1)))
+          ∙ ap (λ q. act_of (store_checked m 8 (integer m r) false q))
+          (store_checked_is g laid s d t.frame s.state.mem fits.sound.text a from
+          (omega arith) inside.0 inside.1 inside.2)
+          ∙ ap (λ b. act_of (stored m a 8 (integer m r) false b))
+          (ap (λ y. is_inside y a) h.mem_is ∙ fits.sound.there a inside.0 (omega (arith, inside.1)))
           ∙ ap (λ y. Goes (next (record m { mem = written y a (little_bytes 8 (integer m r)) false }))) h.mem_is
           ∙ ap (λ y. Goes (next (record m { mem = written s.state.mem a (little_bytes 8 y) false }))) (h.ints r ∙ is)
           ∙ ap Goes (next_is g laid (record m { mem = memory }) at h.pc within)
 
-      values : ((k : ℕ) → k ≢ to → onward k → live k) → (k : ℕ) → onward k → k < length g.kinds → number_at memory (t.frame + slot k) 8 ≡ Some (kept_value (kind_in g k) (held (slice_get (slice_set t.vars to (Some val)) k)))
+      values : ((k : ℕ) → k ≢ to → onward k → live k) → (k : ℕ) → onward k → k < length g.kinds →
+          number_at memory (t.frame + slot k) 8 ≡ Some
+          (kept_value (kind_in g k) (held (slice_get (slice_set t.vars to (Some val)) k)))
       values fewer k after k_lt =
           let aligned = fits.frame.aligned in
           let long = fits.temps in
           ⊎_elim
           (λ e.
           ap (λ j. number_at memory (t.frame + slot j) 8) e
-          ∙ number_at-written s.state.mem a 8 v false fits.sound.memory (fits.sound.there a inside.0 (omega (arith, inside.1))) (omega arith) (omega arith) (wrapped-below (kind_in g to) _)
-          ∙ sym (ap (λ j. Some (kept_value (kind_in g j) (held (slice_get (slice_set t.vars to (Some val)) j)))) e ∙ ap (λ o. Some (kept_value (kind_in g to) (held o))) (got_same t.vars to (Some val) (omega arith))))
+          ∙ number_at-written s.state.mem a 8 v false fits.sound.memory
+          (fits.sound.there a inside.0 (omega (arith, inside.1))) (omega arith) (omega arith)
+          (wrapped-below (kind_in g to) _)
+          ∙ sym (ap (λ j. Some (kept_value (kind_in g j) (held (slice_get (slice_set t.vars to (Some val)) j)))) e
+          ∙ ap (λ o. Some (kept_value (kind_in g to) (held o))) (got_same t.vars to (Some val) (omega arith))))
           (λ ne.
-          number_other s.state.mem a v (t.frame + slot k) 8 fits.sound.memory (omega arith) (omega arith) (apart_slots k ne)
+          number_other s.state.mem a v (t.frame + slot k) 8 fits.sound.memory (omega arith) (omega arith)
+          (apart_slots k ne)
           ∙ fits.values k (fewer k ne after) k_lt
           ∙ sym (ap (λ o. Some (kept_value (kind_in g k) (held o))) (got_other t.vars to k (Some val) ne)))
           (cases_eq k to)
         where
           apart_slots : (k : ℕ) → k ≢ to → (t.frame + slot k + 8 ≤ a) ⊎ (a + 8 ≤ t.frame + slot k)
-          apart_slots k ne = ⊎_elim (λ lt. inl (omega arith)) (λ ge. inr (by ne (omega arith))) (Rattle.std.proofs.lemmas.Bool.cases_lt k to)
+          apart_slots k ne = ⊎_elim (λ lt. inl (omega arith)) (λ ge. inr (by ne (omega arith)))
+              (Rattle.std.proofs.lemmas.Bool.cases_lt k to)
             where
               by : k ≢ to → to ≤ k → a + 8 ≤ t.frame + slot k
               by ne le = let lt : to < k = omega arith in omega arith
 
       -- one store after these steps
-      pub stores : (lo hi : ℕ) → ((k : ℕ) → k ≢ to → onward k → live k) → lo ≤ n + 1 → n + 1 ≤ hi → Arrives g onward lo hi s (record t { done = d; vars = slice_set t.vars to (Some val) }) (at + 1)
+      pub stores : (lo hi : ℕ) → ((k : ℕ) → k ≢ to → onward k → live k) → lo ≤ n + 1 → n + 1 ≤ hi →
+          Arrives g onward lo hi s (record t { done = d; vars = slice_set t.vars to (Some val) }) (at + 1)
       stores lo hi fewer ge le = record {
         count = n + 1;
         to = moment then d;

@@ -1,5 +1,7 @@
--- The machine's code for three-address code on integers. Each temp stands in the frame. x5 and x6 hold operands; results come from x5.
-use Rattle.std.specs.Prelude.{ℕ, ◌+◌, ◌-◌, ◌*◌, ◌/◌, ◌%◌, ◌^◌, ◌||◌, nat_lt, nat_le, ℤ, pos, ◌-ℤ◌, neg_ℤ, Bool, true, false, List, [], ◌∷◌, ◌++◌, Option, Some, None, if◌then◌else◌}
+-- The machine's code for three-address code on integers. Each temp stands in the frame. x5 and x6 hold operands;
+-- results come from x5.
+use Rattle.std.specs.Prelude.{ℕ, ◌+◌, ◌-◌, ◌*◌, ◌/◌, ◌%◌, ◌^◌, ◌||◌, nat_lt, nat_le, ℤ, pos, ◌-ℤ◌, neg_ℤ, Bool, true}
+use Rattle.std.specs.Prelude.{false, List, [], ◌∷◌, ◌++◌, Option, Some, None, if◌then◌else◌}
 use Rattle.ck_int.specs.declared.kinds.IntKind.{IntKind}
 use Rattle.ck_int.specs.declared.kinds.IntKind.TheVariants as int
 use Rattle.ck_int.specs.declared.kinds.IntOp.{IntOp}
@@ -8,7 +10,8 @@ use Rattle.ck_int.specs.declared.kinds.CmpOp.{CmpOp}
 use Rattle.ck_int.specs.declared.kinds.CmpOp.TheVariants as test
 use Rattle.ck_int.specs.Kinds.{twos_complement, form_of, is_signed}
 use Rattle.rv_instr.specs.declared.instr.Instr.{Instr}
-use Rattle.rv_instr.specs.declared.instr.Instr.TheVariants.{Upper, Cjal, Branch, Load, Store, Imm, Shift, Op, Ecall, CapImm}
+use Rattle.rv_instr.specs.declared.instr.Instr.TheVariants.{Upper, Cjal, Branch, Load, Store, Imm, Shift, Op, Ecall}
+use Rattle.rv_instr.specs.declared.instr.Instr.TheVariants.{CapImm}
 use Rattle.rv_instr.specs.declared.ops.UpperOp.TheVariants.{Lui}
 use Rattle.rv_instr.specs.declared.ops.BranchOp.{BranchOp}
 use Rattle.rv_instr.specs.declared.ops.BranchOp.TheVariants.{Beq, Bne}
@@ -18,7 +21,9 @@ use Rattle.rv_instr.specs.declared.ops.ImmOp.TheVariants.{Addi, Sltiu, Xori, Add
 use Rattle.rv_instr.specs.declared.ops.ShiftOp.{ShiftOp}
 use Rattle.rv_instr.specs.declared.ops.ShiftOp.TheVariants.{Slli, Srli, Srai}
 use Rattle.rv_instr.specs.declared.ops.RegOp.{RegOp}
-use Rattle.rv_instr.specs.declared.ops.RegOp.TheVariants.{Add, Sub, Mul, Div, Divu, Rem, Remu, And, Or, Xor, Sll, Srl, Sra, Slt, Sltu, Addw, Subw, Mulw, Divw, Divuw, Remw, Remuw, Sllw, Srlw, Sraw}
+use Rattle.rv_instr.specs.declared.ops.RegOp.TheVariants.{Add, Sub, Mul, Div, Divu, Rem, Remu, And, Or, Xor, Sll, Srl}
+use Rattle.rv_instr.specs.declared.ops.RegOp.TheVariants.{Sra, Slt, Sltu, Addw, Subw, Mulw, Divw, Divuw, Remw, Remuw}
+use Rattle.rv_instr.specs.declared.ops.RegOp.TheVariants.{Sllw, Srlw, Sraw}
 use Rattle.rv_instr.specs.declared.ops.CapImmOp.TheVariants.{Cincoffsetimm}
 use Rattle.tac_ir.specs.Meaning.{is_label}
 use Rattle.tac_ir.specs.declared.code.LibOp.{LibOp}

@@ -34,8 +34,8 @@ abbrev pub AllIntegers : List TacKind → Type 0
 AllIntegers [] = Unit {0}
 AllIntegers (k ∷ ks) = IsInteger k × AllIntegers ks
 
--- An instruction on integers, over temps of these kinds. A constant is kept in its kind; the operands of an operation, and what is
--- returned, are promoted
+-- An instruction on integers, over temps of these kinds. A constant is kept in its kind; the operands of an operation,
+-- and what is returned, are promoted
 abbrev pub IsPlain : List TacKind → TacInstr → Type 0
 IsPlain kinds (instr.Const to (kind.Int k) v) = IsKept k v
 IsPlain kinds (instr.Copy to from) = Unit {0}
@@ -67,8 +67,8 @@ abbrev pub AreNamed : (temps labels : ℕ) → List TacInstr → Type 0
 AreNamed temps labels [] = Unit {0}
 AreNamed temps labels (i ∷ is) = AllBelow temps (names i) × AllBelow labels (labels_of i) × AreNamed temps labels is
 
--- The code of one function without parameters, of at most 200 temps, so that its frame is within the 12 bits of an offset. Labels are
--- numbered below the number of instructions
+-- The code of one function without parameters, of at most 200 temps, so that its frame is within the 12 bits of an
+-- offset. Labels are numbered below the number of instructions
 pub record IsIntegerFun (f : TacFun) : Type 0 where
   pub no_parameters : f.params ≡ 0
   pub few : f.temps ≤ 200

@@ -1,5 +1,6 @@
 -- What is promised of selected code.
-use Rattle.std.specs.Prelude.{◌≡◌, ℕ, ◌+◌, ◌*◌, ◌^◌, ◌<◌, ◌≤◌, true, List, [], ◌∷◌, length, Option, Some, None, slice_get}
+use Rattle.std.specs.Prelude.{◌≡◌, ℕ, ◌+◌, ◌*◌, ◌^◌, ◌<◌, ◌≤◌, true, List, [], ◌∷◌, length, Option, Some, None}
+use Rattle.std.specs.Prelude.{slice_get}
 use Rattle.ck_base.specs.Runs.{outcome, ending_alone}
 use Rattle.ck_base.specs.Agreement.{Sides, DoesWhatIsMeant, KeepsToOutside, DoesAllThatIsMeant}
 use Rattle.cap_ops.specs.declared.capability.TheConstants.{UNSEALED}
@@ -35,17 +36,19 @@ use Rattle.int_select.specs.Code.{frame_size}
 
 -- ---- the first state of a run
 
--- The code stands as the text of a map, and the machine is at its start, as loading leaves it: c2 has the stack, with its top as
--- address, and c3 the table, with its base as address.
+-- The code stands as the text of a map, and the machine is at its start, as loading leaves it: c2 has the stack, with
+-- its top as address, and c3 the table, with its base as address.
 pub record First (code : List Instr) (start : ℕ) (map : Map) (m : Machine) : Type 0 where
   pub registers : length m.regs ≡ 32
   pub counter : m.pc ≡ bounded map.text.0 (map.text.0 + map.text.1) code_permissions UNSEALED (map.text.0 + start)
-  pub stack : register m 2 ≡ bounded map.stack.0 (map.stack.0 + map.stack.1) data_permissions UNSEALED (map.stack.0 + map.stack.1)
+  pub stack : register m 2 ≡ bounded map.stack.0 (map.stack.0 + map.stack.1) data_permissions UNSEALED
+      (map.stack.0 + map.stack.1)
   pub table : register m 3 ≡ bounded map.table.0 (map.table.0 + map.table.1) data_permissions UNSEALED map.table.0
   pub memory : IsMemory m.mem
   pub stack_there : (x : ℕ) → map.stack.0 ≤ x → x < map.stack.0 + map.stack.1 → is_inside m.mem x ≡ true
   pub room : 4 * length code ≤ map.text.1
-  pub text : (k : ℕ) (i : Instr) → slice_get code k ≡ Some i → number_at m.mem (map.text.0 + 4 * k) 4 ≡ Some (word_of (fields_of i))
+  pub text : (k : ℕ) (i : Instr) → slice_get code k ≡ Some i →
+      number_at m.mem (map.text.0 + 4 * k) 4 ≡ Some (word_of (fields_of i))
 
 -- ---- the map
 
@@ -76,18 +79,21 @@ sides_of t p map report m = record {
 }
 
 -- the machine's runs are those of three-address code, in both directions
-pub record Matches (t : Tac) (p : Typed) (map : Map) (report : End → Option Ending) (count : ℕ) (m : Machine) : Type 0 where
+pub record Matches (t : Tac) (p : Typed) (map : Map) (report : End → Option Ending) (count : ℕ) (m : Machine) :
+    Type 0 where
   pub does_what : DoesWhatIsMeant (sides_of t p map report m)
   pub keeps : KeepsToOutside (sides_of t p map report m)
   pub does_all : DoesAllThatIsMeant (sides_of t p map report m) count
 
--- The code of t, which is well formed for p and within it: its size, and its runs from each first state under a legal map with its
--- frames, where the code has at most 1,000,000 bytes.
+-- The code of t, which is well formed for p and within it: its size, and its runs from each first state under a legal
+-- map with its frames, where the code has at most 1,000,000 bytes.
 pub record IsSelected (t : Tac) (code : List Instr) (start : ℕ) (p : Typed) : Type 0 where
   pub size : 4 * length code ≤ 128 * weight p + 4096
   -- each instruction has a word
   pub in_range : 4 * length code ≤ 1000000 → (k : ℕ) (i : Instr) → slice_get code k ≡ Some i → InRange i
-  pub runs : (map : Map) → Legal p map → map.frames ≡ frames_of t → 4 * length code ≤ 1000000 → (report : End → Option Ending) → IsReport report → (m : Machine) → First code start map m → Matches t p map report (count_of p) m
+  pub runs : (map : Map) → Legal p map → map.frames ≡ frames_of t → 4 * length code ≤ 1000000 →
+      (report : End → Option Ending) → IsReport report → (m : Machine) → First code start map m →
+      Matches t p map report (count_of p) m
 
 -- for every program for which t is well formed and within which it is
 abbrev pub Selects : Tac → List Instr → ℕ → Type 0

@@ -1,9 +1,13 @@
 // The second pass: the instructions of one three-address instruction.
-ghost use Rattle.std.specs.Prelude.{◌≡◌, ℕ, ◌+◌, ◌*◌, ◌/◌, ◌%◌, ◌^◌, ◌<◌, ◌≤◌, ◌++◌, List, [], ◌∷◌, pos, neg_ℤ, true, OnOk, slice_index, length};
+ghost use Rattle.std.specs.Prelude.{◌≡◌, ℕ, ◌+◌, ◌*◌, ◌/◌, ◌%◌, ◌^◌, ◌<◌, ◌≤◌, ◌++◌, List, [], ◌∷◌, pos, neg_ℤ, true};
+ghost use Rattle.std.specs.Prelude.{OnOk, slice_index, length};
 ghost use Rattle.ck_int.specs.Kinds.{twos_complement};
 ghost use Rattle.rv_instr.specs.declared.instr.Instr.TheVariants.{Shift};
 ghost use Rattle.rv_instr.specs.declared.ops.ShiftOp.TheVariants.{Slli};
-ghost use Rattle.int_select.specs.Code.{slot, frame_size, load, store, is_short, upper_part, shifted_in, long_code, number_code, shifts, reduce_code, compare_code, less, turn_round, call_code, result_code, service_code, hop, inverted, int_code, cmp_code, convert_code, jump_code, branch_code, return_code, instr_code, prologue};
+ghost use Rattle.int_select.specs.Code.{slot, frame_size, load, store, is_short, upper_part, shifted_in, long_code};
+ghost use Rattle.int_select.specs.Code.{number_code, shifts, reduce_code, compare_code, less, turn_round, call_code};
+ghost use Rattle.int_select.specs.Code.{result_code, service_code, hop, inverted, int_code, cmp_code, convert_code};
+ghost use Rattle.int_select.specs.Code.{jump_code, branch_code, return_code, instr_code, prologue};
 ghost use Rattle.int_select.specs.Form.{AllBelow, labels_of};
 ghost use Rattle.tac_ir.specs.Temps.{names, in_option};
 

@@ -12,7 +12,8 @@ pub fn label_places(alloc: Global, code: &[TacInstr]) -> Result<Vec<u32>, AllocE
     requires named { AreNamed 200 (length code.now) code.now }
     requires short { length code.now < 2 ^ 20 }
     ensures len { IfOk result (λ places. vec_len places ≡ length code.now) }
-    ensures places { IfOk result (λ places. (l : ℕ) → l < length code.now → slice_index places.items l ≡ place_last 0 l 1 code.now) }
+    ensures places { IfOk result (λ places. (l : ℕ) → l < length code.now →
+        slice_index places.items l ≡ place_last 0 l 1 code.now) }
     ensures near { IfOk result (λ places. (l : ℕ) → l < length code.now → slice_index places.items l < 2 ^ 25) }
 {
     let mut places = vec![in alloc; 0u32; code.len()]?;

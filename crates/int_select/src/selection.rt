@@ -1,5 +1,6 @@
 //! Selection: the text of a program's code.
-ghost use Rattle.std.specs.Prelude.{◌≡◌, ℕ, ◌*◌, ◌%◌, ◌^◌, ◌<◌, ◌≤◌, ◌++◌, List, [], ◌∷◌, pos, OnOk, IfOk, slice_index, length};
+ghost use Rattle.std.specs.Prelude.{◌≡◌, ℕ, ◌*◌, ◌%◌, ◌^◌, ◌<◌, ◌≤◌, ◌++◌, List, [], ◌∷◌, pos, OnOk, IfOk, slice_index};
+ghost use Rattle.std.specs.Prelude.{length};
 ghost use Rattle.rv_instr.specs.declared.instr.Instr.TheVariants.{Cjal};
 ghost use Rattle.int_select.specs.Code.{prologue, list_code, label_place, function_code};
 ghost use Rattle.int_select.specs.Form.{AreNamed, IsIntegerFun, IsIntegerCode};
@@ -62,10 +63,10 @@ fn select_function(alloc: Global, f: &TacFun) -> Result<Vec<Instr>, AllocError>
     Ok(made)
 }
 
-/// The code of a program of one function over integers. Where that is well formed for a program and within it, the code has at most
-/// 128 bytes for each unit of the program's weight and 4,096 more; and run from its start under a legal map, it does what the
-/// three-address code means, all of it within the program's count of steps for each turn. Whatever the code does, no run of it leaves
-/// its text. It refuses nothing but for want of memory.
+/// The code of a program of one function over integers. Where that is well formed for a program and within it, the code
+/// has at most 128 bytes for each unit of the program's weight and 4,096 more; and run from its start under a legal
+/// map, it does what the three-address code means, all of it within the program's count of steps for each turn.
+/// Whatever the code does, no run of it leaves its text. It refuses nothing but for want of memory.
 pub fn select(alloc: Global, t: &Tac) -> Result<Items, NoMemory>
     requires form { IsIntegerCode t.now }
     ensures selects { IfOk result (λ items. Selects t.now items.code.items items.start) }

@@ -1,5 +1,6 @@
 -- Assignments.
-use Rattle.std.proofs.Common.{◌≡◌, ◌≢◌, ℕ, ◌+◌, ◌≤◌, ◌<◌, Bool, true, false, not, List, [], ◌∷◌, length, Option, Some, None, Result, Ok, Err, refl, sym, ap, subst, ◌∙◌, arith, if◌then◌else◌}
+use Rattle.std.proofs.Common.{◌≡◌, ◌≢◌, ℕ, ◌+◌, ◌≤◌, ◌<◌, Bool, true, false, not, List, [], ◌∷◌, length, Option, Some}
+use Rattle.std.proofs.Common.{None, Result, Ok, Err, refl, sym, ap, subst, ◌∙◌, arith, if◌then◌else◌}
 use Rattle.std.specs.Prelude.{slice_get, slice_set, ◌&&◌, ◌==◌}
 use Rattle.std.proofs.lemmas.Bool.Decides.{nat_tests}
 use Rattle.ck_base.specs.World.{World}
@@ -11,10 +12,13 @@ use Rattle.obj_mem.specs.Values as value
 use Rattle.obj_mem.specs.declared.ending.Fault.{Fault}
 use Rattle.cheri_c_sem.specs.Expressions.{permissions_of}
 use Rattle.cheri_c_sem.specs.Kinds.{Kind, Plain, zero_of, nothing, truth, bytes_of, read_as}
-use Rattle.cheri_c_sem.specs.Meaning.{Place, In, At, capability_of, given, value_of, place_of, point_to, test, load, store}
+use Rattle.cheri_c_sem.specs.Meaning.{Place, In, At, capability_of, given, value_of, place_of, point_to, test, load}
+use Rattle.cheri_c_sem.specs.Meaning.{store}
 use Rattle.cheri_c_sem.specs.Operations.{Operations, convert_by}
 use Rattle.cheri_c_sem.specs.Steps.{State, Fate, Then, ◌>>=◌, answer, give, choose}
-use Rattle.cheri_c_sem.specs.Tree.{Ex, Exs, Nil, Cons, Narrowing, Number, Null, Load, Aggregate, Pointer_to, Convert, Discard, And, Or, Conditional, Comma, Assign, Variable, Local, Object, Function, Deref, Member}
+use Rattle.cheri_c_sem.specs.Tree.{Ex, Exs, Nil, Cons, Narrowing, Number, Null, Load, Aggregate, Pointer_to, Convert}
+use Rattle.cheri_c_sem.specs.Tree.{Discard, And, Or, Conditional, Comma, Assign, Variable, Local, Object, Function}
+use Rattle.cheri_c_sem.specs.Tree.{Deref, Member}
 use Rattle.tac_ir.specs.Effects.{kind_of, held, no_position}
 use Rattle.tac_ir.specs.Meaning.{Running, Runs, turns}
 use Rattle.tac_ir.specs.Temps.{behind}
@@ -27,17 +31,25 @@ use Rattle.lower_runs.specs.States.{Home, Scene, IsScene, IsOf, IsApart, IsOnwar
 use Rattle.lower_runs.specs.Operating.{Code, transfer}
 use Rattle.lower_runs.specs.Operating as operating
 use Rattle.lower_runs.specs.Expressions as code
-use Rattle.lower_runs.specs.Expressions.{Mark, more, labelled, spares, spare, position_in, int_kind, pointer_kind, is_still, is_still_place, is_variable, same, choice_code, guarded_code, IsBase, IsOwn}
+use Rattle.lower_runs.specs.Expressions.{Mark, more, labelled, spares, spare, position_in, int_kind, pointer_kind}
+use Rattle.lower_runs.specs.Expressions.{is_still, is_still_place, is_variable, same, choice_code, guarded_code, IsBase}
+use Rattle.lower_runs.specs.Expressions.{IsOwn}
 use Rattle.lower_runs.specs.Simulation as stay
-use Rattle.lower_runs.specs.Simulation.{IsPiece, HasRoom, IsTarget, IsTargetIfAny, Stays, Done, Valued, Held, Reached, Pointed, Assigned, ValueRuns, OperandRuns, PairRuns, EffectRuns, PlaceEffectRuns, ConditionRuns, PlaceRuns, PointerRuns, AssignmentRuns, goes, kinds}
-use Rattle.lower_runs.proofs.Agreement.{and_left, and_right, get_set_same, get_set_other, free_own, agrees_any, agrees_own, agrees_memory, agrees_variable, went_less, went_memory, went_then, stays, done_start, done_less, done_then, done_valued, done_labelled}
+use Rattle.lower_runs.specs.Simulation.{IsPiece, HasRoom, IsTarget, IsTargetIfAny, Stays, Done, Valued, Held, Reached}
+use Rattle.lower_runs.specs.Simulation.{Pointed, Assigned, ValueRuns, OperandRuns, PairRuns, EffectRuns}
+use Rattle.lower_runs.specs.Simulation.{PlaceEffectRuns, ConditionRuns, PlaceRuns, PointerRuns, AssignmentRuns, goes}
+use Rattle.lower_runs.specs.Simulation.{kinds}
+use Rattle.lower_runs.proofs.Agreement.{and_left, and_right, get_set_same, get_set_other, free_own, agrees_any}
+use Rattle.lower_runs.proofs.Agreement.{agrees_own, agrees_memory, agrees_variable, went_less, went_memory, went_then}
+use Rattle.lower_runs.proofs.Agreement.{stays, done_start, done_less, done_then, done_valued, done_labelled}
 use Rattle.lower_runs.proofs.Labels.{nothing_own, both_own, then_own, choice_own, guarded_own, found_label}
 use Rattle.lower_runs.proofs.Steps.{read_is_of, same_answer, compares, converts, held_is, transfer_runs, lands}
 use Rattle.lower_runs.proofs.Operations.{transfer_plain}
 use Rattle.lower_runs.proofs.Operands.{in_place, in_place_stays}
 use Rattle.lower_runs.proofs.Conditions.{chosen}
 
-module _ {M : Type 0} (ops : Operations M) (placed : IsPlaced ops) (w : World) (t : Tac) (p : Typed) (objects : ℕ → List ℕ) (r : Running) (call : ℕ → List Value → Then M Value) (g : Scene) (scene : IsScene g) where
+module _ {M : Type 0} (ops : Operations M) (placed : IsPlaced ops) (w : World) (t : Tac) (p : Typed)
+    (objects : ℕ → List ℕ) (r : Running) (call : ℕ → List Value → Then M Value) (g : Scene) (scene : IsScene g) where
   abbrev run : List TacInstr → State M → List (Option Value) → Fate
   run = goes ops w t p objects r call g
 
@@ -67,11 +79,16 @@ module _ {M : Type 0} (ops : Operations M) (placed : IsPlaced ops) (w : World) (
 
   -- ---- the value is given out, where it is asked for
 
-  given_out : (k : TacKind) (e : Ex) (to : Option ℕ) (at : ℕ) (m n : Mark) (s u : State M) (ts us : List (Option Value)) (v : Value) (rest : List TacInstr) (l : Value → State M → Fate) → IsTargetIfAny g m to → HasRoom g m n → m.temps ≤ n.temps → IsOf (kind_of k) v
-      → Done ops g (λ x. spares x e) m s ts u us → slice_get us at ≡ Some (Some v) → ((z : Value) (y : State M) (ys : List (Option Value)) → Assigned ops g k e to m s ts z y ys → l z y ≡ run rest y ys) → l v u ≡ run (operating.give to at rest) u us
+  given_out : (k : TacKind) (e : Ex) (to : Option ℕ) (at : ℕ) (m n : Mark) (s u : State M) (ts us : List (Option Value))
+      (v : Value) (rest : List TacInstr) (l : Value → State M → Fate) → IsTargetIfAny g m to → HasRoom g m n →
+      m.temps ≤ n.temps → IsOf (kind_of k) v
+      → Done ops g (λ x. spares x e) m s ts u us → slice_get us at ≡ Some (Some v) →
+      ((z : Value) (y : State M) (ys : List (Option Value)) → Assigned ops g k e to m s ts z y ys →
+      l z y ≡ run rest y ys) → l v u ≡ run (operating.give to at rest) u us
   given_out k e None at m n s u ts us v rest l target room le typed done is go = go v u us done
   given_out k e (Some to) at m n s u ts us v rest l target room le typed done is go =
-      go v u (slice_set us to (Some v)) (lands ops w t p objects r call g scene k (λ x. spares x e) (λ x. spares x e) to m n s u ts us v (λ x z. z) target room le typed done)
+      go v u (slice_set us to (Some v)) (lands ops w t p objects r call g scene k (λ x. spares x e)
+      (λ x. spares x e) to m n s u ts us v (λ x z. z) target room le typed done)
       ∙ sym (transfer_runs ops w t p objects r call g scene to at rest u us v is)
 
   give_plain : (to : Option ℕ) (at o : ℕ) (rest : List TacInstr) → behind o (operating.give to at rest) ≡ behind o rest
@@ -88,8 +105,11 @@ module _ {M : Type 0} (ops : Operations M) (placed : IsPlaced ops) (w : World) (
       no false i j = cc
 
   -- a variable gets the value that was computed into its home
-  pub variable_done : (x : ℕ) (h : Home) (f k : ℕ → Bool) (m : Mark) (s u : State M) (ts us : List (Option Value)) (v : Value) → g.home x ≡ Some h → g.fixed ≤ m.temps → ((i : ℕ) → k i ≡ true → f i ≡ true) → ((i : ℕ) → k i ≡ true → i ≢ x)
-      → Valued ops g h.kind f h.temp m s ts v u us → Done ops g k m s ts (record u { vars = slice_set u.vars x (Some v) }) us
+  pub variable_done : (x : ℕ) (h : Home) (f k : ℕ → Bool) (m : Mark) (s u : State M) (ts us : List (Option Value))
+      (v : Value) → g.home x ≡ Some h → g.fixed ≤ m.temps → ((i : ℕ) → k i ≡ true → f i ≡ true) →
+      ((i : ℕ) → k i ≡ true → i ≢ x)
+      → Valued ops g h.kind f h.temp m s ts v u us →
+      Done ops g k m s ts (record u { vars = slice_set u.vars x (Some v) }) us
   variable_done x h f k m s u ts us v home low kf away a = record {
     agrees = agrees_variable ops g scene x h u us v home a.value a.typed a.agrees;
     went = record {
@@ -103,16 +123,23 @@ module _ {M : Type 0} (ops : Operations M) (placed : IsPlaced ops) (w : World) (
   }
 
   pub home_target : (x : ℕ) (h : Home) (m : Mark) → g.home x ≡ Some h → g.fixed ≤ m.temps → IsTarget g m h.temp
-  home_target x h m home low = record { there = let lt = scene.home_below x h home in omega arith; free = λ n s e. scene.apart x n s h home e }
+  home_target x h m home low =
+      record { there = let lt = scene.home_below x h home in omega arith; free = λ n s e. scene.apart x n s h home e }
 
-  pub variable_assignment : (k : TacKind) (b : Ex) (x at : ℕ) (to : Option ℕ) (q : Pos) (m n : Mark) (c : Code) → g.home x ≡ Some (record { temp = at; kind = k }) → Value_runs k b at m n c → Assignment_runs k (Assign (kind_of k) (Variable q x) b) to m n (λ rest. c (operating.give to at rest))
+  pub variable_assignment : (k : TacKind) (b : Ex) (x at : ℕ) (to : Option ℕ) (q : Pos) (m n : Mark) (c : Code) →
+      g.home x ≡ Some (record { temp = at; kind = k }) → Value_runs k b at m n c →
+      Assignment_runs k (Assign (kind_of k) (Variable q x) b) to m n (λ rest. c (operating.give to at rest))
   variable_assignment k b x at to q m n c home h = record {
     piece = then_own m n n c (operating.give to at) (omega arith) refl (λ o rest. give_plain to at o rest) h.piece;
     runs = λ s ts l rest room target ag go.
         let place : Home = record { temp = at; kind = k } in
-        h.runs s ts (λ v u. l v (record u { vars = slice_set u.vars x (Some v) })) (operating.give to at rest) room (home_target x place m home room.low) ag
-        (λ v u us a. given_out k (Assign (kind_of k) (Variable q x) b) to at m n s (record u { vars = slice_set u.vars x (Some v) }) ts us v rest l target room h.piece.temps a.typed
-        (variable_done x place (λ i. spares i b) (λ i. spares i (Assign (kind_of k) (Variable q x) b)) m s u ts us v home room.low (λ i e. and_right (not (i == x)) (spares i b) e)
+        h.runs s ts (λ v u. l v (record u { vars = slice_set u.vars x (Some v) })) (operating.give to at rest) room
+        (home_target x place m home room.low) ag
+        (λ v u us a. given_out k (Assign (kind_of k) (Variable q x) b) to at m n s
+        (record u { vars = slice_set u.vars x (Some v) }) ts us v rest l target room h.piece.temps a.typed
+        (variable_done x place (λ i. spares i b)
+        (λ i. spares i (Assign (kind_of k) (Variable q x) b)) m s u ts us v home room.low
+        (λ i e. and_right (not (i == x)) (spares i b) e)
         (λ i e. other_variable i x (swap i x (and_left (not (i == x)) (spares i b) e))) a) a.value go);
   }
     where
@@ -125,70 +152,118 @@ module _ {M : Type 0} (ops : Operations M) (placed : IsPlaced ops) (w : World) (
   -- ---- objects
 
   -- what is stored at a place where the memory takes it
-  pub stored : (k : TacKind) (at from : ℕ) (o q : Pos) (to v : Value) (u : State M) (us : List (Option Value)) (rest : List TacInstr) (next : State M → Fate) → o ≡ q → slice_get us at ≡ Some (Some to) → slice_get us from ≡ Some (Some v)
-      → ((m : M) → IsOnward ops u.mem m → next (record u { mem = m }) ≡ run rest (record u { mem = m }) us) → store ops w (kind_of k) (At o to) v u (λ z y. next y) ≡ run (instr.Store at from k q ∷ rest) u us
+  pub stored : (k : TacKind) (at from : ℕ) (o q : Pos) (to v : Value) (u : State M) (us : List (Option Value))
+      (rest : List TacInstr) (next : State M → Fate) → o ≡ q → slice_get us at ≡ Some (Some to) →
+      slice_get us from ≡ Some (Some v)
+      → ((m : M) → IsOnward ops u.mem m → next (record u { mem = m }) ≡ run rest (record u { mem = m }) us) →
+      store ops w (kind_of k) (At o to) v u (λ z y. next y) ≡ run (instr.Store at from k q ∷ rest) u us
   stored k at from o q to v u us rest next same_place hat hfrom go =
-      let after : Value → Value → Fate = λ x y. store ops w (kind_of k) (At q x) y (record u { vars = us }) (λ z s. turns ops w t p objects u.left rest Runs r s) in
+      let after : Value → Value → Fate =
+      λ x y. store ops w (kind_of k) (At q x) y (record u { vars = us })
+      (λ z s. turns ops w t p objects u.left rest Runs r s) in
       ap (λ z. store ops w (kind_of k) (At z to) v u (λ z2 y. next y)) same_place
-      ∙ same_answer q (ops.store u.mem to (bytes_of (kind_of k)) v) u us (λ m y. next (record y { mem = m })) (λ m y. turns ops w t p objects u.left rest Runs r (record y { mem = m }))
+      ∙ same_answer q (ops.store u.mem to (bytes_of (kind_of k)) v) u us (λ m y. next (record y { mem = m }))
+      (λ m y. turns ops w t p objects u.left rest Runs r (record y { mem = m }))
       (λ m is. go m (placed.store u.mem m to v (bytes_of (kind_of k)) is))
-      ∙ ap (λ z. after z v) (sym (held_is ops w t p objects r call g scene us at to hat)) ∙ ap (after (held (slice_get us at))) (sym (held_is ops w t p objects r call g scene us from v hfrom))
+      ∙ ap (λ z. after z v) (sym (held_is ops w t p objects r call g scene us at to hat))
+      ∙ ap (after (held (slice_get us at))) (sym (held_is ops w t p objects r call g scene us from v hfrom))
 
   -- memory goes on
-  pub done_memory : (f : ℕ → Bool) (m : Mark) (s u : State M) (ts us : List (Option Value)) (z : M) → IsOnward ops u.mem z → Done ops g f m s ts u us → Done ops g f m s ts (record u { mem = z }) us
-  done_memory f m s u ts us z on a = record { agrees = agrees_memory ops g scene None u us z on a.agrees; went = went_memory ops g scene f m.temps None s u ts us z on a.went }
+  pub done_memory : (f : ℕ → Bool) (m : Mark) (s u : State M) (ts us : List (Option Value)) (z : M) →
+      IsOnward ops u.mem z → Done ops g f m s ts u us → Done ops g f m s ts (record u { mem = z }) us
+  done_memory f m s u ts us z on a =
+      record {
+        agrees = agrees_memory ops g scene None u us z on a.agrees;
+        went = went_memory ops g scene f m.temps None s u ts us z on a.went;
+      }
 
-  pub object_assignment : (k : TacKind) (a b : Ex) (at from : ℕ) (q : Pos) (l m n : Mark) (c d : Code) → position_in a ≡ Some q → Pointer_runs (Cons b Nil) a at l m c → Operand_runs Nil k b from m n d
+  pub object_assignment : (k : TacKind) (a b : Ex) (at from : ℕ) (q : Pos) (l m n : Mark) (c d : Code) →
+      position_in a ≡ Some q → Pointer_runs (Cons b Nil) a at l m c → Operand_runs Nil k b from m n d
       → Assignment_runs k (Assign (kind_of k) a b) None l n (λ rest. c (d (instr.Store at from k q ∷ rest)))
   object_assignment k a b at from q l m n c d position f h = record {
-    piece = both_own l m n c (λ rest. d (instr.Store at from k q ∷ rest)) f.piece (then_own m n n d (λ rest. instr.Store at from k q ∷ rest) (omega arith) refl (λ o rest. refl) h.piece);
+    piece = both_own l m n c (λ rest. d (instr.Store at from k q ∷ rest)) f.piece
+        (then_own m n n d (λ rest. instr.Store at from k q ∷ rest) (omega arith) refl (λ o rest. refl) h.piece);
     runs = λ s ts next rest room target ag go.
         let low = room.low in let high = room.high in let lm = f.piece.temps in let mn = h.piece.temps in
-        f.runs s ts (λ pl u. value_of ops w call b u (λ v z. store ops w (kind_of k) pl v z (λ i y. next v y))) (d (instr.Store at from k q ∷ rest)) (record { low = low; high = omega arith }) ag
-        (λ o to u us one. h.runs u us (λ v z. store ops w (kind_of k) (At o to) v z (λ i y. next v y)) (instr.Store at from k q ∷ rest) (record { low = omega arith; high = high }) one.done.agrees
+        f.runs s ts (λ pl u. value_of ops w call b u (λ v z. store ops w (kind_of k) pl v z (λ i y. next v y)))
+        (d (instr.Store at from k q ∷ rest)) (record { low = low; high = omega arith }) ag
+        (λ o to u us one. h.runs u us (λ v z. store ops w (kind_of k) (At o to) v z (λ i y. next v y))
+        (instr.Store at from k q ∷ rest) (record { low = omega arith; high = high }) one.done.agrees
         (λ v z zs two.
         let done = done_then ops g scene (λ i. spares i a) (λ i. spares i b) (λ i. spares i (Assign (kind_of k) a b)) l m s u z ts us zs
-        (λ i e. and_left (spares i a) (spares i b) (and_right (not (is_variable i a)) (spares i a && spares i b) e)) (λ i e. and_right (spares i a) (spares i b) (and_right (not (is_variable i a)) (spares i a && spares i b) e)) lm one.done two.done in
+        (λ i e. and_left (spares i a) (spares i b) (and_right (not (is_variable i a)) (spares i a && spares i b) e))
+        (λ i e. and_right (spares i a) (spares i b)
+        (and_right (not (is_variable i a)) (spares i a && spares i b) e)) lm one.done two.done in
         stored k at from o q to v z zs rest (next v) (one.position q position)
-        (stays ops g scene (Cons b Nil) (λ i. spares i b) l.temps m.temps at None u z us zs to low one.stays (λ i e. and_left (spares i b) true e) (λ i e k. tt) one.done.agrees two.done.agrees two.done.went one.value) two.value
-        (λ mem on. go v (record z { mem = mem }) zs (done_memory (λ i. spares i (Assign (kind_of k) a b)) l s z ts zs mem on done))));
+        (stays ops g scene (Cons b Nil) (λ i. spares i b) l.temps m.temps at None u z us zs to low one.stays
+        (λ i e. and_left (spares i b) true e) (λ i e k. tt) one.done.agrees two.done.agrees two.done.went
+        one.value) two.value
+        (λ mem on. go v (record z { mem = mem }) zs
+        (done_memory (λ i. spares i (Assign (kind_of k) a b)) l s z ts zs mem on done))));
   }
 
   -- ---- a temp of an expression's own
 
-  pub own_temp : (to : Option ℕ) (at : ℕ) (m n : Mark) → IsOwn g to at m n → (l : Mark) → l.temps ≤ m.temps → g.fixed ≤ l.temps → IsTargetIfAny g l to → (g.fixed ≤ at) × (at < n.temps) × (m.temps ≤ n.temps) × (m.labels ≡ n.labels) × ((i : ℕ) → l.temps ≤ i → i < m.temps → i ≢ at)
-  own_temp to at m n (code.given {t = at2} ge) l le low target = (ge, (let lt = target.there in omega arith), omega arith, refl, λ i a b e. let lt = target.there in absurd (omega arith))
-  own_temp to at m n (code.fresh {m = m2}) l le low target = (omega arith, omega arith, omega arith, refl, λ i a b e. absurd (omega arith))
+  pub own_temp : (to : Option ℕ) (at : ℕ) (m n : Mark) → IsOwn g to at m n → (l : Mark) → l.temps ≤ m.temps →
+      g.fixed ≤ l.temps → IsTargetIfAny g l to →
+      (g.fixed ≤ at) × (at < n.temps) × (m.temps ≤ n.temps) × (m.labels ≡ n.labels) ×
+      ((i : ℕ) → l.temps ≤ i → i < m.temps → i ≢ at)
+  own_temp to at m n (code.given {t = at2} ge) l le low target = (
+    ge,
+    (let lt = target.there in omega arith),
+    omega arith,
+    refl,
+    λ i a b e. let lt = target.there in
+        absurd (omega arith),
+  )
+  own_temp to at m n (code.fresh {m = m2}) l le low target =
+      (omega arith, omega arith, omega arith, refl, λ i a b e. absurd (omega arith))
 
-  own_apart : (to at : ℕ) (m n : Mark) → IsOwn g (Some to) at m n → (l : Mark) → l.temps ≤ m.temps → (i : ℕ) → i < l.temps → i ≢ to → i ≢ at
+  own_apart : (to at : ℕ) (m n : Mark) → IsOwn g (Some to) at m n → (l : Mark) → l.temps ≤ m.temps → (i : ℕ) →
+      i < l.temps → i ≢ to → i ≢ at
   own_apart to at m n (code.given {t = at2} ge) l le i lt ne = ne
   own_apart to at m n (code.fresh {m = m2}) l le i lt ne = λ e. absurd (omega arith)
 
   -- the value of an assignment to an object, where it is asked for
-  pub object_value_assignment : (k : TacKind) (a b : Ex) (at from to : ℕ) (q : Pos) (l m n o : Mark) (c d : Code) → position_in a ≡ Some q → Pointer_runs (Cons b Nil) a at l m c → IsOwn g (Some to) from m n → Value_runs k b from n o d
-      → Assignment_runs k (Assign (kind_of k) a b) (Some to) l o (λ rest. c (d (instr.Store at from k q ∷ transfer to from rest)))
+  pub object_value_assignment : (k : TacKind) (a b : Ex) (at from to : ℕ) (q : Pos) (l m n o : Mark) (c d : Code) →
+      position_in a ≡ Some q → Pointer_runs (Cons b Nil) a at l m c → IsOwn g (Some to) from m n →
+      Value_runs k b from n o d
+      → Assignment_runs k (Assign (kind_of k) a b) (Some to) l o
+      (λ rest. c (d (instr.Store at from k q ∷ transfer to from rest)))
   object_value_assignment k a b at from to q l m n o c d position f own h = record {
     piece = both_own l m o c (λ rest. d (instr.Store at from k q ∷ transfer to from rest)) f.piece
         (both_own m n o (λ rest. rest) (λ rest. d (instr.Store at from k q ∷ transfer to from rest)) (own_piece own)
-        (then_own n o o d (λ rest. instr.Store at from k q ∷ transfer to from rest) (omega arith) refl (λ i rest. transfer_plain to from i rest) h.piece));
+        (then_own n o o d (λ rest. instr.Store at from k q ∷ transfer to from rest) (omega arith) refl
+        (λ i rest. transfer_plain to from i rest) h.piece));
     runs = λ s ts next rest room target ag go.
         let low = room.low in let high = room.high in let lm = f.piece.temps in let no = h.piece.temps in
         let mine = own_temp (Some to) from m n own l lm low target in
         let ge = mine.0 in let lt = mine.1 in let mn = mine.2 in
-        f.runs s ts (λ pl u. value_of ops w call b u (λ v z. store ops w (kind_of k) pl v z (λ i y. next v y))) (d (instr.Store at from k q ∷ transfer to from rest)) (record { low = low; high = omega arith }) ag
-        (λ pos to2 u us one. h.runs u us (λ v z. store ops w (kind_of k) (At pos to2) v z (λ i y. next v y)) (instr.Store at from k q ∷ transfer to from rest) (record { low = omega arith; high = high }) (record { there = lt; free = free_own ops g scene from ge }) one.done.agrees
+        f.runs s ts (λ pl u. value_of ops w call b u (λ v z. store ops w (kind_of k) pl v z (λ i y. next v y)))
+        (d (instr.Store at from k q ∷ transfer to from rest)) (record { low = low; high = omega arith }) ag
+        (λ pos to2 u us one. h.runs u us (λ v z. store ops w (kind_of k) (At pos to2) v z (λ i y. next v y))
+        (instr.Store at from k q ∷ transfer to from rest) (record { low = omega arith; high = high })
+        (record { there = lt; free = free_own ops g scene from ge }) one.done.agrees
         (λ v z zs two.
         let agrees = agrees_own ops g scene from z zs ge two.agrees in
         let went = went_then ops g scene (λ i. spares i a) (λ i. spares i b) (λ i. spares i (Assign (kind_of k) a b)) l.temps n.temps (Some from) s u z ts us zs
-        (λ i e. and_left (spares i a) (spares i b) (and_right (not (is_variable i a)) (spares i a && spares i b) e)) (λ i e. and_right (spares i a) (spares i b) (and_right (not (is_variable i a)) (spares i a && spares i b) e)) (omega arith) one.done.went two.went in
+        (λ i e. and_left (spares i a) (spares i b) (and_right (not (is_variable i a)) (spares i a && spares i b) e))
+        (λ i e. and_right (spares i a) (spares i b)
+        (and_right (not (is_variable i a)) (spares i a && spares i b) e)) (omega arith) one.done.went two.went in
         let here = stays ops g scene (Cons b Nil) (λ i. spares i b) l.temps m.temps at (Some from) u z us zs to2 low one.stays (λ i e. and_left (spares i b) true e) mine.4 one.done.agrees agrees
-        (went_less ops g scene (λ i. spares i b) (λ i. spares i b) m.temps n.temps (Some from) (Some from) u z us zs (λ i e. e) mn (λ i e j. j) two.went) one.value in
+        (went_less ops g scene (λ i. spares i b) (λ i. spares i b) m.temps n.temps (Some from) (Some from) u z us zs
+        (λ i e. e) mn (λ i e j. j) two.went) one.value in
         stored k at from pos q to2 v z zs (transfer to from rest) (next v) (one.position q position) here two.value
         (λ mem on. let y = record z { mem = mem } in
         go v y (slice_set zs to (Some v)) (record {
-          agrees = Rattle.lower_runs.proofs.Agreement.agrees_set ops g scene None (Some to) y zs to (Some v) target.free (λ x i e j. (tt, j)) (agrees_memory ops g scene None z zs mem on agrees);
-          went = Rattle.lower_runs.proofs.Agreement.went_set ops g scene (λ i. spares i (Assign (kind_of k) a b)) (λ i. spares i (Assign (kind_of k) a b)) l.temps l.temps (Some from) (Some to) s y ts zs to (Some v) (λ i e. e) (omega arith)
-              (λ i lt2 j. (own_apart to from m n own l lm i lt2 j, j)) (went_memory ops g scene (λ i. spares i (Assign (kind_of k) a b)) l.temps (Some from) s z ts zs mem on went);
+          agrees = Rattle.lower_runs.proofs.Agreement.agrees_set ops g scene None (Some to) y zs to (Some v) target.free
+              (λ x i e j. (tt, j)) (agrees_memory ops g scene None z zs mem on agrees);
+          went = Rattle.lower_runs.proofs.Agreement.went_set ops g scene (λ i. spares i (Assign (kind_of k) a b))
+              (λ i. spares i (Assign (kind_of k) a b)) l.temps l.temps (Some from) (Some to) s y ts zs to (Some v)
+              (λ i e. e) (omega arith)
+              (λ i lt2 j. (own_apart to from m n own l lm i lt2 j, j))
+              (went_memory ops g scene (λ i. spares i (Assign (kind_of k) a b)) l.temps
+              (Some from) s z ts zs mem on went);
           value = get_set_same zs to (Some v) (let is = agrees.room in let there = target.there in omega arith);
           typed = two.typed;
         }) ∙ sym (transfer_runs ops w t p objects r call g scene to from rest y zs v two.value))));

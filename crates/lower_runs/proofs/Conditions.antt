@@ -1,5 +1,6 @@
 -- Conditions, and choices by them.
-use Rattle.std.proofs.Common.{◌≡◌, ◌≢◌, ℕ, ◌+◌, ◌≤◌, ◌<◌, Bool, true, false, not, List, [], ◌∷◌, length, Option, Some, None, Result, Ok, Err, refl, sym, ap, ◌∙◌, arith, if◌then◌else◌}
+use Rattle.std.proofs.Common.{◌≡◌, ◌≢◌, ℕ, ◌+◌, ◌≤◌, ◌<◌, Bool, true, false, not, List, [], ◌∷◌, length, Option, Some}
+use Rattle.std.proofs.Common.{None, Result, Ok, Err, refl, sym, ap, ◌∙◌, arith, if◌then◌else◌}
 use Rattle.std.specs.Prelude.{slice_get, slice_set, ◌&&◌, ◌==◌}
 use Rattle.std.proofs.Math.Path.{fun_ext}
 use Rattle.ck_base.specs.World.{World}
@@ -27,12 +28,15 @@ use Rattle.tac_ir.specs.declared.code.TacKind.{TacKind}
 use Rattle.lower_runs.specs.States.{Scene, IsScene, IsPlaced, Agrees}
 use Rattle.lower_runs.specs.Operating.{Code}
 use Rattle.lower_runs.specs.Expressions.{Mark, labelled, spares, int_kind, same, is_junction, choice_code, guarded_code}
-use Rattle.lower_runs.specs.Simulation.{IsPiece, HasRoom, IsTarget, Done, Valued, OperandRuns, ConditionRuns, ValueRuns, goes, kinds}
+use Rattle.lower_runs.specs.Simulation.{IsPiece, HasRoom, IsTarget, Done, Valued, OperandRuns, ConditionRuns, ValueRuns}
+use Rattle.lower_runs.specs.Simulation.{goes, kinds}
 use Rattle.lower_runs.proofs.Agreement.{and_left, and_right, done_less, done_then, done_valued, done_labelled}
-use Rattle.lower_runs.proofs.Labels.{pass_label, found_label, both_own, then_own, choice_own, guarded_own, to_other, to_end, seeks, jumps}
+use Rattle.lower_runs.proofs.Labels.{pass_label, found_label, both_own, then_own, choice_own, guarded_own, to_other}
+use Rattle.lower_runs.proofs.Labels.{to_end, seeks, jumps}
 use Rattle.lower_runs.proofs.Steps.{compares, held_is}
 
-module _ {M : Type 0} (ops : Operations M) (placed : IsPlaced ops) (w : World) (t : Tac) (p : Typed) (objects : ℕ → List ℕ) (r : Running) (call : ℕ → List Value → Then M Value) (g : Scene) (scene : IsScene g) where
+module _ {M : Type 0} (ops : Operations M) (placed : IsPlaced ops) (w : World) (t : Tac) (p : Typed)
+    (objects : ℕ → List ℕ) (r : Running) (call : ℕ → List Value → Then M Value) (g : Scene) (scene : IsScene g) where
   abbrev run : List TacInstr → State M → List (Option Value) → Fate
   run = goes ops w t p objects r call g
 
@@ -45,41 +49,55 @@ module _ {M : Type 0} (ops : Operations M) (placed : IsPlaced ops) (w : World) (
   abbrev Truths : Then M Value → Then M Bool → Type 0
   Truths c d = (s : State M) (l : Value → State M → Fate) → c s l ≡ d s (λ b. l (truth b))
 
-  truth_test : (q : Pos) (b : Bool) (s : State M) (l : Bool → State M → Fate) → test ops w q (kind_of int_kind) (truth b) s l ≡ l b s
+  truth_test : (q : Pos) (b : Bool) (s : State M) (l : Bool → State M → Fate) →
+      test ops w q (kind_of int_kind) (truth b) s l ≡ l b s
   unfolding compare_of value_of_kind Rattle.ck_int.specs.Kinds.reduced
   truth_test q true s l = refl
   truth_test q false s l = refl
 
-  tested : (q : Pos) (c : Then M Value) (d : Then M Bool) → Truths c d → (s : State M) (l : Bool → State M → Fate) → (c >>= test ops w q (kind_of int_kind)) s l ≡ d s l
-  tested q c d h s l = h s (λ v u. test ops w q (kind_of int_kind) v u l) ∙ ap (d s) (fun_ext (λ b. fun_ext (λ u. truth_test q b u l)))
+  tested : (q : Pos) (c : Then M Value) (d : Then M Bool) → Truths c d → (s : State M) (l : Bool → State M → Fate) →
+      (c >>= test ops w q (kind_of int_kind)) s l ≡ d s l
+  tested q c d h s l = h s (λ v u. test ops w q (kind_of int_kind) v u l)
+      ∙ ap (d s) (fun_ext (λ b. fun_ext (λ u. truth_test q b u l)))
 
   -- both operands are true; one of them is
   abbrev both : Pos → Kind → Kind → Ex → Ex → Then M Bool
-  both q j k a b = value_of ops w call a >>= test ops w q j >>= (λ c. choose c (value_of ops w call b >>= test ops w q k) (give false))
+  both q j k a b = value_of ops w call a >>= test ops w q j
+      >>= (λ c. choose c (value_of ops w call b >>= test ops w q k) (give false))
 
   abbrev either : Pos → Kind → Kind → Ex → Ex → Then M Bool
-  either q j k a b = value_of ops w call a >>= test ops w q j >>= (λ c. choose c (give true) (value_of ops w call b >>= test ops w q k))
+  either q j k a b = value_of ops w call a >>= test ops w q j
+      >>= (λ c. choose c (give true) (value_of ops w call b >>= test ops w q k))
 
   both_truths : (q : Pos) (j k : Kind) (a b : Ex) → Truths (value_of ops w call (And q j k a b)) (both q j k a b)
-  both_truths q j k a b s l = ap (value_of ops w call a s) (fun_ext (λ x. fun_ext (λ u. ap (test ops w q j x u) (fun_ext (λ c. fun_ext (λ z. by c z))))))
+  both_truths q j k a b s l =
+      ap (value_of ops w call a s) (fun_ext (λ x.
+      fun_ext (λ u. ap (test ops w q j x u) (fun_ext (λ c. fun_ext (λ z. by c z))))))
     where
       by : (c : Bool) (z : State M)
-          → choose c (value_of ops w call b >>= λ y. test ops w q k y >>= λ d. give (truth d)) (give (truth false)) z l ≡ choose c (value_of ops w call b >>= test ops w q k) (give false) z (λ d. l (truth d))
+          → choose c (value_of ops w call b >>= λ y. test ops w q k y >>= λ d. give (truth d)) (give (truth false)) z l
+          ≡ choose c (value_of ops w call b >>= test ops w q k) (give false) z (λ d. l (truth d))
       by true z = refl
       by false z = refl
 
   either_truths : (q : Pos) (j k : Kind) (a b : Ex) → Truths (value_of ops w call (Or q j k a b)) (either q j k a b)
-  either_truths q j k a b s l = ap (value_of ops w call a s) (fun_ext (λ x. fun_ext (λ u. ap (test ops w q j x u) (fun_ext (λ c. fun_ext (λ z. by c z))))))
+  either_truths q j k a b s l =
+      ap (value_of ops w call a s) (fun_ext (λ x.
+      fun_ext (λ u. ap (test ops w q j x u) (fun_ext (λ c. fun_ext (λ z. by c z))))))
     where
       by : (c : Bool) (z : State M)
-          → choose c (give (truth true)) (value_of ops w call b >>= λ y. test ops w q k y >>= λ d. give (truth d)) z l ≡ choose c (give true) (value_of ops w call b >>= test ops w q k) z (λ d. l (truth d))
+          → choose c (give (truth true)) (value_of ops w call b >>= λ y. test ops w q k y >>= λ d. give (truth d)) z l
+          ≡ choose c (give true) (value_of ops w call b >>= test ops w q k) z (λ d. l (truth d))
       by true z = refl
       by false z = refl
 
   -- what the value of `&&` or `||` comes to is what its truth comes to
-  pub junction_truth : (q : Pos) (e : Ex) → is_junction e ≡ true → (s : State M) (l : Value → State M → Fate) → value_of ops w call e s l ≡ (value_of ops w call e >>= test ops w q (kind_of int_kind)) s (λ b. l (truth b))
-  junction_truth q (And o j k a b) h s l = both_truths o j k a b s l ∙ sym (tested q _ (both o j k a b) (both_truths o j k a b) s (λ d. l (truth d)))
-  junction_truth q (Or o j k a b) h s l = either_truths o j k a b s l ∙ sym (tested q _ (either o j k a b) (either_truths o j k a b) s (λ d. l (truth d)))
+  pub junction_truth : (q : Pos) (e : Ex) → is_junction e ≡ true → (s : State M) (l : Value → State M → Fate) →
+      value_of ops w call e s l ≡ (value_of ops w call e >>= test ops w q (kind_of int_kind)) s (λ b. l (truth b))
+  junction_truth q (And o j k a b) h s l =
+      both_truths o j k a b s l ∙ sym (tested q _ (both o j k a b) (both_truths o j k a b) s (λ d. l (truth d)))
+  junction_truth q (Or o j k a b) h s l =
+      either_truths o j k a b s l ∙ sym (tested q _ (either o j k a b) (either_truths o j k a b) s (λ d. l (truth d)))
   junction_truth q e h s l = absurd cc
 
   -- ---- branches
@@ -87,13 +105,19 @@ module _ {M : Type 0} (ops : Operations M) (placed : IsPlaced ops) (w : World) (
   -- a branch whose truth is known goes on behind the label, or on
   went_by : (when b : Bool) (label : ℕ) (rest : List TacInstr) (u : State M) (us : List (Option Value))
       → run (if same when b then behind label rest else rest) u us
-      ≡ follow ops w t p objects (behind_turn ops w t p objects u.left) (pass ops w t p objects (behind_turn ops w t p objects u.left) rest) rest r (way ops w p (effects.same ops w p when b) label) (record u { vars = us })
-  went_by true true label rest u us = sym (seeks ops w t p objects (behind_turn ops w t p objects u.left) rest label r (record u { vars = us }))
+      ≡ follow ops w t p objects (behind_turn ops w t p objects u.left)
+      (pass ops w t p objects (behind_turn ops w t p objects u.left) rest) rest r
+      (way ops w p (effects.same ops w p when b) label) (record u { vars = us })
+  went_by true true label rest u us =
+      sym (seeks ops w t p objects (behind_turn ops w t p objects u.left) rest label r (record u { vars = us }))
   went_by true false label rest u us = refl
   went_by false true label rest u us = refl
-  went_by false false label rest u us = sym (seeks ops w t p objects (behind_turn ops w t p objects u.left) rest label r (record u { vars = us }))
+  went_by false false label rest u us =
+      sym (seeks ops w t p objects (behind_turn ops w t p objects u.left) rest label r (record u { vars = us }))
 
-  pub branch_condition : (k : TacKind) (e : Ex) (at : ℕ) (when : Bool) (label : ℕ) (m n : Mark) (c : Code) → OperandRuns ops w t p objects r call g Nil k e at m n c → kind_at (kinds ops w t p objects r call g) at ≡ kind_of k
+  pub branch_condition : (k : TacKind) (e : Ex) (at : ℕ) (when : Bool) (label : ℕ) (m n : Mark) (c : Code) →
+      OperandRuns ops w t p objects r call g Nil k e at m n c →
+      kind_at (kinds ops w t p objects r call g) at ≡ kind_of k
       → Condition_runs k e when label m n (λ rest. c (instr.Branch at when label ∷ rest))
   branch_condition k e at when label m n c h hk = record {
     piece = then_own m n n c (λ rest. instr.Branch at when label ∷ rest) (omega arith) refl (λ o rest. refl) h.piece;
@@ -102,9 +126,13 @@ module _ {M : Type 0} (ops : Operations M) (placed : IsPlaced ops) (w : World) (
         (λ v u us a.
         let o = compares ops placed u.mem Ne (kind_of k) v (Rattle.cheri_c_sem.specs.Kinds.zero_of (kind_of k)) in
         let after : Result Bool Fault → Fate = λ z. answer no_position z (record u { vars = us })
-        (λ b. follow ops w t p objects (behind_turn ops w t p objects u.left) (pass ops w t p objects (behind_turn ops w t p objects u.left) rest) rest r (way ops w p (effects.same ops w p when b) label)) in
+        (λ b. follow ops w t p objects (behind_turn ops w t p objects u.left)
+        (pass ops w t p objects (behind_turn ops w t p objects u.left) rest) rest r
+        (way ops w p (effects.same ops w p when b) label)) in
         ap (λ z. answer q z u l) o.1 ∙ go o.0 u us a.done ∙ went_by when o.0 label rest u us
-        ∙ sym (ap after (ap (λ i. is_true ops u.mem i (held (slice_get us at))) hk ∙ ap (is_true ops u.mem (kind_of k)) (held_is ops w t p objects r call g scene us at v a.value) ∙ o.1)));
+        ∙ sym (ap after (ap (λ i. is_true ops u.mem i (held (slice_get us at))) hk
+        ∙ ap (is_true ops u.mem (kind_of k)) (held_is ops w t p objects r call g scene us at v a.value)
+        ∙ o.1)));
   }
 
   -- ---- `!`
@@ -114,12 +142,17 @@ module _ {M : Type 0} (ops : Operations M) (placed : IsPlaced ops) (w : World) (
   turned false true = refl
   turned false false = refl
 
-  pub opposite_condition : (q : Pos) (k : TacKind) (e : Ex) (when : Bool) (label : ℕ) (m n : Mark) (c : Code) → Condition_runs k e (not when) label m n c → Condition_runs int_kind (Not q (kind_of k) e) when label m n c
+  pub opposite_condition : (q : Pos) (k : TacKind) (e : Ex) (when : Bool) (label : ℕ) (m n : Mark) (c : Code) →
+      Condition_runs k e (not when) label m n c → Condition_runs int_kind (Not q (kind_of k) e) when label m n c
   opposite_condition q k e when label m n c h = record {
     piece = h.piece;
     runs = λ o s ts l rest room lt ag go.
-        ap (value_of ops w call e s) (fun_ext (λ v. fun_ext (λ u. ap (test ops w q (kind_of k) v u) (fun_ext (λ b. fun_ext (λ z. truth_test o (not b) z l))))))
-        ∙ h.runs q s ts (λ b. l (not b)) rest room lt ag (λ b u us d. go (not b) u us d ∙ ap (λ z. run (if z then behind label rest else rest) u us) (turned when b));
+        ap (value_of ops w call e s) (fun_ext (λ v.
+        fun_ext (λ u. ap (test ops w q (kind_of k) v u)
+        (fun_ext (λ b. fun_ext (λ z. truth_test o (not b) z l))))))
+        ∙ h.runs q s ts (λ b. l (not b)) rest room lt ag
+        (λ b u us d. go (not b) u us d
+        ∙ ap (λ z. run (if z then behind label rest else rest) u us) (turned when b));
   }
 
   -- ---- `&&` and `||`
@@ -129,109 +162,167 @@ module _ {M : Type 0} (ops : Operations M) (placed : IsPlaced ops) (w : World) (
     keeps i = spares i a && spares i b
 
     -- behind the first operand; behind both
-    first : (s u : State M) (ts us : List (Option Value)) → Done ops g (λ i. spares i a) l s ts u us → Done ops g keeps l s ts u us
-    first s u ts us h = done_less ops g scene (λ i. spares i a) keeps l l s u ts us (λ i e. and_left (spares i a) (spares i b) e) (omega arith) h
+    first : (s u : State M) (ts us : List (Option Value)) → Done ops g (λ i. spares i a) l s ts u us →
+        Done ops g keeps l s ts u us
+    first s u ts us h = done_less ops g scene (λ i. spares i a) keeps l l s u ts us
+        (λ i e. and_left (spares i a) (spares i b) e) (omega arith) h
 
-    second : (s u v : State M) (ts us vs : List (Option Value)) → l.temps ≤ m.temps → Done ops g (λ i. spares i a) l s ts u us → Done ops g (λ i. spares i b) m u us v vs → Done ops g keeps l s ts v vs
+    second : (s u v : State M) (ts us vs : List (Option Value)) → l.temps ≤ m.temps →
+        Done ops g (λ i. spares i a) l s ts u us → Done ops g (λ i. spares i b) m u us v vs →
+        Done ops g keeps l s ts v vs
     second s u v ts us vs le h i =
-        done_then ops g scene (λ i. spares i a) (λ i. spares i b) keeps l m s u v ts us vs (λ i e. and_left (spares i a) (spares i b) e) (λ i e. and_right (spares i a) (spares i b) e) le h i
+        done_then ops g scene (λ i. spares i a) (λ i. spares i b) keeps l m s u v ts us vs
+        (λ i e. and_left (spares i a) (spares i b) e) (λ i e. and_right (spares i a) (spares i b) e) le h i
 
     -- both operands lead to the label
-    pub both_condition : Condition_runs j a false label l m c → Condition_runs k b false label m n d → Condition_runs int_kind (And q (kind_of j) (kind_of k) a b) false label l n (λ rest. c (d rest))
+    pub both_condition : Condition_runs j a false label l m c → Condition_runs k b false label m n d →
+        Condition_runs int_kind (And q (kind_of j) (kind_of k) a b) false label l n (λ rest. c (d rest))
     both_condition f h = record {
       piece = both_own l m n c d f.piece h.piece;
       runs = λ o s ts next rest room lt ag go.
-          let low = room.low in let high = room.high in let lm = f.piece.temps in let mn = h.piece.temps in let lbl = f.piece.labels in
+          let low = room.low in let high = room.high in let lm = f.piece.temps in let mn = h.piece.temps in
+          let lbl = f.piece.labels in
           tested o _ (both q (kind_of j) (kind_of k) a b) (both_truths q (kind_of j) (kind_of k) a b) s next
-          ∙ f.runs q s ts (λ x z. choose x (value_of ops w call b >>= test ops w q (kind_of k)) (give false) z next) (d rest) (record { low = low; high = omega arith }) lt ag (λ x u us one.
+          ∙ f.runs q s ts (λ x z. choose x (value_of ops w call b >>= test ops w q (kind_of k)) (give false) z next)
+          (d rest) (record { low = low; high = omega arith }) lt ag (λ x u us one.
           let by : (x : Bool) → choose x (value_of ops w call b >>= test ops w q (kind_of k)) (give false) u next ≡ run (if same false x then behind label (d rest) else d rest) u us = elim [
-            | true ↦ h.runs q u us next rest (record { low = omega arith; high = high }) (omega arith) one.agrees (λ y v vs two. go y v vs (second s u v ts us vs lm one two))
-            | false ↦ go false u us (first s u ts us one) ∙ ap (λ z. run z u us) (sym (h.piece.own label rest (λ le. absurd (omega arith))))
+            | true ↦ h.runs q u us next rest (record { low = omega arith; high = high }) (omega arith) one.agrees
+                (λ y v vs two. go y v vs (second s u v ts us vs lm one two))
+            | false ↦ go false u us (first s u ts us one)
+                ∙ ap (λ z. run z u us) (sym (h.piece.own label rest (λ le. absurd (omega arith))))
           ] in by x);
     }
 
-    pub either_condition : Condition_runs j a true label l m c → Condition_runs k b true label m n d → Condition_runs int_kind (Or q (kind_of j) (kind_of k) a b) true label l n (λ rest. c (d rest))
+    pub either_condition : Condition_runs j a true label l m c → Condition_runs k b true label m n d →
+        Condition_runs int_kind (Or q (kind_of j) (kind_of k) a b) true label l n (λ rest. c (d rest))
     either_condition f h = record {
       piece = both_own l m n c d f.piece h.piece;
       runs = λ o s ts next rest room lt ag go.
-          let low = room.low in let high = room.high in let lm = f.piece.temps in let mn = h.piece.temps in let lbl = f.piece.labels in
+          let low = room.low in let high = room.high in let lm = f.piece.temps in let mn = h.piece.temps in
+          let lbl = f.piece.labels in
           tested o _ (either q (kind_of j) (kind_of k) a b) (either_truths q (kind_of j) (kind_of k) a b) s next
-          ∙ f.runs q s ts (λ x z. choose x (give true) (value_of ops w call b >>= test ops w q (kind_of k)) z next) (d rest) (record { low = low; high = omega arith }) lt ag (λ x u us one.
+          ∙ f.runs q s ts (λ x z. choose x (give true) (value_of ops w call b >>= test ops w q (kind_of k)) z next)
+          (d rest) (record { low = low; high = omega arith }) lt ag (λ x u us one.
           let by : (x : Bool) → choose x (give true) (value_of ops w call b >>= test ops w q (kind_of k)) u next ≡ run (if same true x then behind label (d rest) else d rest) u us = elim [
-            | true ↦ go true u us (first s u ts us one) ∙ ap (λ z. run z u us) (sym (h.piece.own label rest (λ le. absurd (omega arith))))
-            | false ↦ h.runs q u us next rest (record { low = omega arith; high = high }) (omega arith) one.agrees (λ y v vs two. go y v vs (second s u v ts us vs lm one two))
+            | true ↦ go true u us (first s u ts us one)
+                ∙ ap (λ z. run z u us) (sym (h.piece.own label rest (λ le. absurd (omega arith))))
+            | false ↦ h.runs q u us next rest (record { low = omega arith; high = high }) (omega arith) one.agrees
+                (λ y v vs two. go y v vs (second s u v ts us vs lm one two))
           ] in by x);
     }
 
     -- the first one leads around the second
-    around : (when y : Bool) (rest : List TacInstr) (v : State M) (vs : List (Option Value)) → label < l.labels → run (if same when y then behind label rest else rest) v vs ≡ run (if same when y then behind label (instr.Label l.labels ∷ rest) else instr.Label l.labels ∷ rest) v vs
+    around : (when y : Bool) (rest : List TacInstr) (v : State M) (vs : List (Option Value)) → label < l.labels →
+        run (if same when y then behind label rest else rest) v vs
+        ≡ run (if same when y then behind label (instr.Label l.labels ∷ rest) else instr.Label l.labels ∷ rest) v vs
     around when y rest v vs lt = by (same when y)
       where
-        by : (z : Bool) → run (if z then behind label rest else rest) v vs ≡ run (if z then behind label (instr.Label l.labels ∷ rest) else instr.Label l.labels ∷ rest) v vs
+        by : (z : Bool) → run (if z then behind label rest else rest) v vs
+            ≡ run (if z then behind label (instr.Label l.labels ∷ rest) else instr.Label l.labels ∷ rest) v vs
         by true = ap (λ z. run z v vs) (sym (pass_label l.labels label rest (λ e. absurd (omega arith))))
         by false = refl
 
-    over : IsPiece m n d → l.labels + 1 ≤ m.labels → (rest : List TacInstr) → behind l.labels (d (instr.Label l.labels ∷ rest)) ≡ rest
-    over h le rest = h.own l.labels (instr.Label l.labels ∷ rest) (λ z. absurd (omega arith)) ∙ found_label l.labels rest
+    over : IsPiece m n d → l.labels + 1 ≤ m.labels → (rest : List TacInstr) →
+        behind l.labels (d (instr.Label l.labels ∷ rest)) ≡ rest
+    over h le rest = h.own l.labels (instr.Label l.labels ∷ rest) (λ z. absurd (omega arith))
+        ∙ found_label l.labels rest
 
-    pub both_around : Condition_runs j a false l.labels (labelled 1 l) m c → Condition_runs k b true label m n d → Condition_runs int_kind (And q (kind_of j) (kind_of k) a b) true label l n (guarded_code l.labels c d)
+    pub both_around : Condition_runs j a false l.labels (labelled 1 l) m c → Condition_runs k b true label m n d →
+        Condition_runs int_kind (And q (kind_of j) (kind_of k) a b) true label l n (guarded_code l.labels c d)
     both_around f h = record {
       piece = guarded_own l m n c d f.piece h.piece;
       runs = λ o s ts next rest room lt ag go.
-          let low = room.low in let high = room.high in let lm = f.piece.temps in let mn = h.piece.temps in let lbl = f.piece.labels in
+          let low = room.low in let high = room.high in let lm = f.piece.temps in let mn = h.piece.temps in
+          let lbl = f.piece.labels in
           tested o _ (both q (kind_of j) (kind_of k) a b) (both_truths q (kind_of j) (kind_of k) a b) s next
-          ∙ f.runs q s ts (λ x z. choose x (value_of ops w call b >>= test ops w q (kind_of k)) (give false) z next) (d (instr.Label l.labels ∷ rest)) (record { low = low; high = omega arith }) (omega arith) ag (λ x u us one.
+          ∙ f.runs q s ts (λ x z. choose x (value_of ops w call b >>= test ops w q (kind_of k)) (give false) z next)
+          (d (instr.Label l.labels ∷ rest)) (record { low = low; high = omega arith }) (omega arith) ag
+          (λ x u us one.
           let by : (x : Bool) → choose x (value_of ops w call b >>= test ops w q (kind_of k)) (give false) u next ≡ run (if same false x then behind l.labels (d (instr.Label l.labels ∷ rest)) else d (instr.Label l.labels ∷ rest)) u us = elim [
-            | true ↦ h.runs q u us next (instr.Label l.labels ∷ rest) (record { low = omega arith; high = high }) (omega arith) one.agrees
-                (λ y v vs two. go y v vs (second s u v ts us vs lm (done_labelled ops g scene (λ i. spares i a) 1 l s u ts us one) two) ∙ around true y rest v vs lt)
-            | false ↦ go false u us (first s u ts us (done_labelled ops g scene (λ i. spares i a) 1 l s u ts us one)) ∙ ap (λ z. run z u us) (sym (over h.piece (omega arith) rest))
+            | true ↦ h.runs q u us next (instr.Label l.labels ∷ rest) (record { low = omega arith; high = high })
+                (omega arith) one.agrees
+                (λ y v vs two. go y v vs (second s u v ts us vs lm
+                (done_labelled ops g scene (λ i. spares i a) 1 l s u ts us one) two)
+                ∙ around true y rest v vs lt)
+            | false ↦ go false u us (first s u ts us (done_labelled ops g scene (λ i. spares i a) 1 l s u ts us one))
+                ∙ ap (λ z. run z u us) (sym (over h.piece (omega arith) rest))
           ] in by x);
     }
 
-    pub either_around : Condition_runs j a true l.labels (labelled 1 l) m c → Condition_runs k b false label m n d → Condition_runs int_kind (Or q (kind_of j) (kind_of k) a b) false label l n (guarded_code l.labels c d)
+    pub either_around : Condition_runs j a true l.labels (labelled 1 l) m c → Condition_runs k b false label m n d →
+        Condition_runs int_kind (Or q (kind_of j) (kind_of k) a b) false label l n (guarded_code l.labels c d)
     either_around f h = record {
       piece = guarded_own l m n c d f.piece h.piece;
       runs = λ o s ts next rest room lt ag go.
-          let low = room.low in let high = room.high in let lm = f.piece.temps in let mn = h.piece.temps in let lbl = f.piece.labels in
+          let low = room.low in let high = room.high in let lm = f.piece.temps in let mn = h.piece.temps in
+          let lbl = f.piece.labels in
           tested o _ (either q (kind_of j) (kind_of k) a b) (either_truths q (kind_of j) (kind_of k) a b) s next
-          ∙ f.runs q s ts (λ x z. choose x (give true) (value_of ops w call b >>= test ops w q (kind_of k)) z next) (d (instr.Label l.labels ∷ rest)) (record { low = low; high = omega arith }) (omega arith) ag (λ x u us one.
+          ∙ f.runs q s ts (λ x z. choose x (give true) (value_of ops w call b >>= test ops w q (kind_of k)) z next)
+          (d (instr.Label l.labels ∷ rest)) (record { low = low; high = omega arith }) (omega arith) ag
+          (λ x u us one.
           let by : (x : Bool) → choose x (give true) (value_of ops w call b >>= test ops w q (kind_of k)) u next ≡ run (if same true x then behind l.labels (d (instr.Label l.labels ∷ rest)) else d (instr.Label l.labels ∷ rest)) u us = elim [
-            | true ↦ go true u us (first s u ts us (done_labelled ops g scene (λ i. spares i a) 1 l s u ts us one)) ∙ ap (λ z. run z u us) (sym (over h.piece (omega arith) rest))
-            | false ↦ h.runs q u us next (instr.Label l.labels ∷ rest) (record { low = omega arith; high = high }) (omega arith) one.agrees
-                (λ y v vs two. go y v vs (second s u v ts us vs lm (done_labelled ops g scene (λ i. spares i a) 1 l s u ts us one) two) ∙ around false y rest v vs lt)
+            | true ↦ go true u us (first s u ts us (done_labelled ops g scene (λ i. spares i a) 1 l s u ts us one))
+                ∙ ap (λ z. run z u us) (sym (over h.piece (omega arith) rest))
+            | false ↦ h.runs q u us next (instr.Label l.labels ∷ rest) (record { low = omega arith; high = high })
+                (omega arith) one.agrees
+                (λ y v vs two. go y v vs (second s u v ts us vs lm
+                (done_labelled ops g scene (λ i. spares i a) 1 l s u ts us one) two)
+                ∙ around false y rest v vs lt)
           ] in by x);
     }
 
   -- ---- choices: of two parts that do the same with a state, given that they go on alike
 
   -- what a choice comes to, where its ways do the same as their code
-  pub chosen : {A : Type 0} (j : TacKind) (q : Pos) (e : Ex) (x y : Then M A) (l m n o : Mark) (c d f : Code) → Condition_runs j e false l.labels (labelled 2 l) m c → IsPiece m n d → IsPiece n o f
-      → (s : State M) (ts : List (Option Value)) (next : A → State M → Fate) (rest : List TacInstr) → HasRoom g l o → Agrees ops g None s ts
-      → ((u : State M) (us : List (Option Value)) (after : List TacInstr) → Done ops g (λ i. spares i e) l s ts u us → ((v : State M) (vs : List (Option Value)) → run after v vs ≡ run rest v vs) → x u next ≡ run (d after) u us)
-      → ((u : State M) (us : List (Option Value)) (after : List TacInstr) → Done ops g (λ i. spares i e) l s ts u us → ((v : State M) (vs : List (Option Value)) → run after v vs ≡ run rest v vs) → y u next ≡ run (f after) u us)
-      → (value_of ops w call e >>= test ops w q (kind_of j)) s (λ b z. choose b x y z next) ≡ run (choice_code l.labels c d f rest) s ts
+  pub chosen : {A : Type 0} (j : TacKind) (q : Pos) (e : Ex) (x y : Then M A) (l m n o : Mark) (c d f : Code) →
+      Condition_runs j e false l.labels (labelled 2 l) m c → IsPiece m n d → IsPiece n o f
+      → (s : State M) (ts : List (Option Value)) (next : A → State M → Fate) (rest : List TacInstr) → HasRoom g l o →
+      Agrees ops g None s ts
+      → ((u : State M) (us : List (Option Value)) (after : List TacInstr) → Done ops g (λ i. spares i e) l s ts u us →
+      ((v : State M) (vs : List (Option Value)) → run after v vs ≡ run rest v vs) → x u next ≡ run (d after) u us)
+      → ((u : State M) (us : List (Option Value)) (after : List TacInstr) → Done ops g (λ i. spares i e) l s ts u us →
+      ((v : State M) (vs : List (Option Value)) → run after v vs ≡ run rest v vs) → y u next ≡ run (f after) u us)
+      → (value_of ops w call e >>= test ops w q (kind_of j)) s (λ b z. choose b x y z next)
+      ≡ run (choice_code l.labels c d f rest) s ts
   chosen j q e x y l m n o c d f h pd pf s ts next rest room ag first second =
-      let low = room.low in let high = room.high in let lm = h.piece.temps in let mn = pd.temps in let no = pf.temps in let lbl = h.piece.labels in let dlbl = pd.labels in
+      let low = room.low in let high = room.high in let lm = h.piece.temps in let mn = pd.temps in let no = pf.temps in
+      let lbl = h.piece.labels in let dlbl = pd.labels in
       let last = instr.Label (l.labels + 1) ∷ rest in
       let way_one = instr.Jump (l.labels + 1) ∷ instr.Label l.labels ∷ f last in
-      h.runs q s ts (λ b z. choose b x y z next) (d way_one) (record { low = low; high = omega arith }) (omega arith) ag (λ b u us one.
+      h.runs q s ts (λ b z. choose b x y z next) (d way_one) (record { low = low; high = omega arith }) (omega arith) ag
+      (λ b u us one.
       let done = done_labelled ops g scene (λ i. spares i e) 2 l s u ts us one in
       let by : (b : Bool) → choose b x y u next ≡ run (if same false b then behind l.labels (d way_one) else d way_one) u us = elim [
-        | true ↦ first u us way_one done (λ v vs. jumps ops w t p objects r call g (l.labels + 1) (instr.Label l.labels ∷ f last) v vs ∙ ap (λ z. run z v vs) (to_end l n o f rest (omega arith) pf))
-        | false ↦ second u us last done (λ v vs. refl) ∙ ap (λ z. run z u us) (sym (to_other l m n o d f rest (omega arith) pd))
+        | true ↦ first u us way_one done (λ v vs.
+            jumps ops w t p objects r call g (l.labels + 1) (instr.Label l.labels ∷ f last) v vs
+            ∙ ap (λ z. run z v vs) (to_end l n o f rest (omega arith) pf))
+        | false ↦ second u us last done (λ v vs. refl)
+            ∙ ap (λ z. run z u us) (sym (to_other l m n o d f rest (omega arith) pd))
       ] in by b)
 
-  pub chosen_value : (q : Pos) (j k : TacKind) (e a b : Ex) (to : ℕ) (l m n o : Mark) (c d f : Code) → Condition_runs j e false l.labels (labelled 2 l) m c → ValueRuns ops w t p objects r call g k a to m n d → ValueRuns ops w t p objects r call g k b to n o f
+  pub chosen_value : (q : Pos) (j k : TacKind) (e a b : Ex) (to : ℕ) (l m n o : Mark) (c d f : Code) →
+      Condition_runs j e false l.labels (labelled 2 l) m c → ValueRuns ops w t p objects r call g k a to m n d →
+      ValueRuns ops w t p objects r call g k b to n o f
       → ValueRuns ops w t p objects r call g k (Conditional q (kind_of j) e a b) to l o (choice_code l.labels c d f)
   chosen_value q j k e a b to l m n o c d f h x y = record {
     piece = choice_own l m n o c d f h.piece x.piece y.piece;
     runs = λ s ts next rest room target ag go.
-        let low = room.low in let high = room.high in let lm = h.piece.temps in let mn = x.piece.temps in let no = y.piece.temps in let lt = target.there in
-        chosen j q e (value_of ops w call a) (value_of ops w call b) l m n o c d f h x.piece y.piece s ts next rest room ag
-        (λ u us after one same_way. x.runs u us next after (record { low = omega arith; high = omega arith }) (record { there = omega arith; free = target.free }) one.agrees
-        (λ v z zs two. go v z zs (done_valued ops g scene k (λ i. spares i e) (λ i. spares i a) (λ i. spares i e && (spares i a && spares i b)) to l m s u z ts us zs v
-        (λ i w2. and_left (spares i e) (spares i a && spares i b) w2) (λ i w2. and_left (spares i a) (spares i b) (and_right (spares i e) (spares i a && spares i b) w2)) lm one two) ∙ sym (same_way z zs)))
-        (λ u us after one same_way. y.runs u us next after (record { low = omega arith; high = omega arith }) (record { there = omega arith; free = target.free }) one.agrees
-        (λ v z zs two. go v z zs (done_valued ops g scene k (λ i. spares i e) (λ i. spares i b) (λ i. spares i e && (spares i a && spares i b)) to l n s u z ts us zs v
-        (λ i w2. and_left (spares i e) (spares i a && spares i b) w2) (λ i w2. and_right (spares i a) (spares i b) (and_right (spares i e) (spares i a && spares i b) w2)) (omega arith) one two) ∙ sym (same_way z zs)));
+        let low = room.low in let high = room.high in let lm = h.piece.temps in let mn = x.piece.temps in
+        let no = y.piece.temps in let lt = target.there in
+        chosen j q e (value_of ops w call a) (value_of ops w call b) l m n o c d f h x.piece y.piece s ts next rest room
+        ag
+        (λ u us after one same_way. x.runs u us next after (record { low = omega arith; high = omega arith })
+        (record { there = omega arith; free = target.free }) one.agrees
+        (λ v z zs two. go v z zs (done_valued ops g scene k (λ i. spares i e) (λ i. spares i a)
+        (λ i. spares i e && (spares i a && spares i b)) to l m s u z ts us zs v
+        (λ i w2. and_left (spares i e) (spares i a && spares i b) w2)
+        (λ i w2. and_left (spares i a) (spares i b) (and_right (spares i e) (spares i a && spares i b) w2)) lm one
+        two) ∙ sym (same_way z zs)))
+        (λ u us after one same_way. y.runs u us next after (record { low = omega arith; high = omega arith })
+        (record { there = omega arith; free = target.free }) one.agrees
+        (λ v z zs two. go v z zs (done_valued ops g scene k (λ i. spares i e) (λ i. spares i b)
+        (λ i. spares i e && (spares i a && spares i b)) to l n s u z ts us zs v
+        (λ i w2. and_left (spares i e) (spares i a && spares i b) w2)
+        (λ i w2. and_right (spares i a) (spares i b) (and_right (spares i e) (spares i a && spares i b) w2))
+        (omega arith) one two) ∙ sym (same_way z zs)));
   }

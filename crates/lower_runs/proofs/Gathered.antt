@@ -3,12 +3,22 @@ use Rattle.std.specs.Prelude.{ℕ}
 use Rattle.lower_runs.specs.Expressions.{Signature}
 use Rattle.lower_runs.specs.StatementLaws.{CallRules}
 use Rattle.lower_runs.proofs.Calls.{no_arguments, one_argument, named_call, value_call}
-use Rattle.lower_runs.specs.Laws.{Everywhere, OperandRules, ValueRules, LoadRules, PlaceRules, ConditionRules, EffectRules, AssignmentRules}
+use Rattle.lower_runs.specs.Laws.{Everywhere, OperandRules, ValueRules, LoadRules, PlaceRules, ConditionRules}
+use Rattle.lower_runs.specs.Laws.{EffectRules, AssignmentRules}
 use Rattle.lower_runs.proofs.Operands.{operand_in_place, operand_fresh, operand_in_place_of, operand_there, pair}
-use Rattle.lower_runs.proofs.Values.{number_value, null_value, variable_value, kept_value, converted_value, discarded_value, opposite_value, sign_value, whole_value, compare_value, truth_value, comma_value}
-use Rattle.lower_runs.proofs.Conditions.{chosen_value, branch_condition, opposite_condition, both_condition, either_condition, both_around, either_around}
-use Rattle.lower_runs.proofs.Places.{load_value, address_value, narrowed_value, local_place, global_place, literal_place, function_place, deref_place, member_of_place, member_place, aggregate_place, comma_place, choice_place, deref_pointer, local_pointer, aggregate_pointer, fresh_pointer}
-use Rattle.lower_runs.proofs.Effects.{still_effect, convert_effect, discard_effect, comma_effect, choice_effect, both_effect, either_effect, deref_effect, member_effect, aggregate_effect, value_effect, still_place_effect, deref_place_effect, member_place_effect, aggregate_place_effect, comma_place_effect, choice_place_effect}
+use Rattle.lower_runs.proofs.Values.{number_value, null_value, variable_value, kept_value, converted_value}
+use Rattle.lower_runs.proofs.Values.{discarded_value, opposite_value, sign_value, whole_value, compare_value}
+use Rattle.lower_runs.proofs.Values.{truth_value, comma_value}
+use Rattle.lower_runs.proofs.Conditions.{chosen_value, branch_condition, opposite_condition, both_condition}
+use Rattle.lower_runs.proofs.Conditions.{either_condition, both_around, either_around}
+use Rattle.lower_runs.proofs.Places.{load_value, address_value, narrowed_value, local_place, global_place}
+use Rattle.lower_runs.proofs.Places.{literal_place, function_place, deref_place, member_of_place, member_place}
+use Rattle.lower_runs.proofs.Places.{aggregate_place, comma_place, choice_place, deref_pointer, local_pointer}
+use Rattle.lower_runs.proofs.Places.{aggregate_pointer, fresh_pointer}
+use Rattle.lower_runs.proofs.Effects.{still_effect, convert_effect, discard_effect, comma_effect, choice_effect}
+use Rattle.lower_runs.proofs.Effects.{both_effect, either_effect, deref_effect, member_effect, aggregate_effect}
+use Rattle.lower_runs.proofs.Effects.{value_effect, still_place_effect, deref_place_effect, member_place_effect}
+use Rattle.lower_runs.proofs.Effects.{aggregate_place_effect, comma_place_effect, choice_place_effect}
 use Rattle.lower_runs.proofs.Assignments.{variable_assignment, object_assignment, object_value_assignment}
 
 pub operands_law : Everywhere OperandRules
@@ -100,7 +110,8 @@ assignments_law ops placed w t p objects r call g scene = record {
   object_value = object_value_assignment ops placed w t p objects r call g scene;
 }
 
-pub calls_law : (signs : ℕ → Signature) → Everywhere (λ ops w t p objects r call g. CallRules ops w t p objects r call g signs)
+pub calls_law : (signs : ℕ → Signature) →
+    Everywhere (λ ops w t p objects r call g. CallRules ops w t p objects r call g signs)
 calls_law signs ops placed w t p objects r call g scene = record {
   no_arguments = no_arguments ops placed w t p objects call signs r g scene;
   one_argument = one_argument ops placed w t p objects call signs r g scene;

@@ -1,7 +1,11 @@
 -- The laws of statements, from the lemmas on each rule.
 use Rattle.lower_runs.specs.StatementLaws.{InEachFunction, StatementRules, BlockRules, LoopRules}
-use Rattle.lower_runs.proofs.Statements.{end_statements, seq_statements, evaluated_statement, variable_statement, choice_statement, guarded_statement, break_statement, continue_statement, return_statement, return_nothing_statement, return_value_statement, empty_statement}
-use Rattle.lower_runs.proofs.Loops.{object_statement, block_statement, enter_none, enter_simple, enter_object, no_test, some_test, no_step, some_step, while_statement, do_statement, for_statement}
+use Rattle.lower_runs.proofs.Statements.{end_statements, seq_statements, evaluated_statement, variable_statement}
+use Rattle.lower_runs.proofs.Statements.{choice_statement, guarded_statement, break_statement, continue_statement}
+use Rattle.lower_runs.proofs.Statements.{return_statement, return_nothing_statement, return_value_statement}
+use Rattle.lower_runs.proofs.Statements.{empty_statement}
+use Rattle.lower_runs.proofs.Loops.{object_statement, block_statement, enter_none, enter_simple, enter_object, no_test}
+use Rattle.lower_runs.proofs.Loops.{some_test, no_step, some_step, while_statement, do_statement, for_statement}
 
 pub statements_law : InEachFunction StatementRules
 statements_law ops placed w t p objects r call result = record {

@@ -1,5 +1,6 @@
 -- What single instructions do between states that agree.
-use Rattle.std.proofs.Common.{◌≡◌, ◌≢◌, ℕ, ◌+◌, ◌≤◌, ◌<◌, Bool, true, false, not, List, [], ◌∷◌, length, Option, Some, None, Result, Ok, Err, refl, sym, ap, ◌∙◌, arith, if◌then◌else◌}
+use Rattle.std.proofs.Common.{◌≡◌, ◌≢◌, ℕ, ◌+◌, ◌≤◌, ◌<◌, Bool, true, false, not, List, [], ◌∷◌, length, Option, Some}
+use Rattle.std.proofs.Common.{None, Result, Ok, Err, refl, sym, ap, ◌∙◌, arith, if◌then◌else◌}
 use Rattle.std.specs.Prelude.{slice_get, slice_set, ◌==◌, pos}
 use Rattle.std.proofs.lemmas.Bool.Decides.{nat_tests}
 use Rattle.ck_base.specs.World.{World}
@@ -29,11 +30,13 @@ use Rattle.tac_ir.specs.declared.code.TacInstr.{TacInstr}
 use Rattle.tac_ir.specs.declared.code.TacInstr.TheVariants as instr
 use Rattle.tac_ir.specs.declared.code.TacKind.{TacKind}
 use Rattle.tac_ir.specs.declared.code.TacKind.TheVariants as kind
-use Rattle.lower_runs.specs.States.{Home, Scene, IsScene, IsFree, IsOf, IsApart, Agrees, Went, IsPlaced, IsAnswered, or_zero}
+use Rattle.lower_runs.specs.States.{Home, Scene, IsScene, IsFree, IsOf, IsApart, Agrees, Went, IsPlaced, IsAnswered}
+use Rattle.lower_runs.specs.States.{or_zero}
 use Rattle.lower_runs.specs.Operating.{transfer}
 use Rattle.lower_runs.specs.Expressions.{Mark}
 use Rattle.lower_runs.specs.Simulation.{HasRoom, IsTarget, Done, Valued, goes}
-use Rattle.lower_runs.proofs.Agreement.{get_set_same, get_set_other, set_there, agrees_any, agrees_set, agrees_scratch, went_set, went_less}
+use Rattle.lower_runs.proofs.Agreement.{get_set_same, get_set_other, set_there, agrees_any, agrees_set, agrees_scratch}
+use Rattle.lower_runs.proofs.Agreement.{went_set, went_less}
 
 -- ---- values of kinds
 
@@ -82,13 +85,15 @@ same_truth a b x e f = cc
 -- ---- answers
 
 -- the same answer at one position
-pub same_answer : {M A : Type 0} (q : Pos) (a : Result A Fault) (s : State M) (ts : List (Option Value)) (k l : A → State M → Fate) → ((x : A) → a ≡ Ok x → k x s ≡ l x (record s { vars = ts }))
+pub same_answer : {M A : Type 0} (q : Pos) (a : Result A Fault) (s : State M) (ts : List (Option Value))
+    (k l : A → State M → Fate) → ((x : A) → a ≡ Ok x → k x s ≡ l x (record s { vars = ts }))
     → answer q a s k ≡ answer q a (record s { vars = ts }) l
 same_answer q (Ok x) s ts k l h = h x refl
 same_answer q (Err f) s ts k l h = refl
 
 -- an operation answers, at any position
-pub answers : {M A : Type 0} (p q : Pos) (a b : Result A Fault) (s u : State M) (k l : A → State M → Fate) → a ≡ b → (o : IsAnswered a) → (k o.0 s ≡ l o.0 u) → answer p a s k ≡ answer q b u l
+pub answers : {M A : Type 0} (p q : Pos) (a b : Result A Fault) (s u : State M) (k l : A → State M → Fate) → a ≡ b →
+    (o : IsAnswered a) → (k o.0 s ≡ l o.0 u) → answer p a s k ≡ answer q b u l
 answers p q a b s u k l e o h = ap (λ z. answer p z s k) o.1 ∙ h ∙ sym (ap (λ z. answer q z u l) (sym e ∙ o.1))
 
 module _ {M : Type 0} (ops : Operations M) (placed : IsPlaced ops) where
@@ -103,27 +108,39 @@ module _ {M : Type 0} (ops : Operations M) (placed : IsPlaced ops) where
   converts m (Capability s) (Plain k) x = by k
     where
       by : (k : IntKind) → (y : Value) × (to_int ops m k x ≡ Ok y) × IsOf (Plain k) y
-      by int.Bool = let c = placed.compare m Ne false x (null_at 0) in (truth c.0, ap (on_ok ops (λ b. Ok (truth b))) c.1, bool_is_of c.0)
-      by k = let a = placed.address m x in (value.Int (wrapped k (pos a.0)), ap (on_ok ops (λ n. Ok (value.Int (wrapped k (pos n))))) a.1, (_, refl, IsKept-wrapped k _))
+      by int.Bool = let c = placed.compare m Ne false x (null_at 0) in
+          (truth c.0, ap (on_ok ops (λ b. Ok (truth b))) c.1, bool_is_of c.0)
+      by k = let a = placed.address m x in (
+        value.Int (wrapped k (pos a.0)),
+        ap (on_ok ops (λ n. Ok (value.Int (wrapped k (pos n))))) a.1,
+        (_, refl, IsKept-wrapped k _),
+      )
   converts m (Capability s) (Capability z) x = (x, refl, tt)
 
   pub converts_same : (m : M) (k : Kind) (x : Value) → IsOf k x → convert_by ops m k k x ≡ Ok x
-  converts_same m (Plain k) x h = ap (λ z. Ok (value.Int (converted k k (number_of z)))) h.1 ∙ ap (λ z. Ok (value.Int z)) (converted-same k h.0 h.2) ∙ ap Ok (sym h.1)
+  converts_same m (Plain k) x h =
+      ap (λ z. Ok (value.Int (converted k k (number_of z)))) h.1 ∙ ap (λ z. Ok (value.Int z)) (converted-same k h.0 h.2)
+      ∙ ap Ok (sym h.1)
   converts_same m (Capability s) x h = refl
 
-  pub opposite_truth : (m : M) (k : Kind) (x : Value) (b : Bool) → compare_by ops m Ne k x (zero_of k) ≡ Ok b → compare_by ops m Eq k x (zero_of k) ≡ Ok (not b)
+  pub opposite_truth : (m : M) (k : Kind) (x : Value) (b : Bool) → compare_by ops m Ne k x (zero_of k) ≡ Ok b →
+      compare_by ops m Eq k x (zero_of k) ≡ Ok (not b)
   opposite_truth m (Plain k) x b e = ap Ok (equal_or_not k (number_of x) ∙ ap not (same_truth _ b _ refl e))
   opposite_truth m (Capability s) x b e = placed.opposite m s b x (null_at 0) e
 
   -- an operation on integers, whatever integer kind its right operand has
-  pub computes : (m : M) (op : IntOp) (i : IntKind) (k : Kind) (x y : Value) → is_int k ≡ true → int_by ops m op i k x y ≡ Ok (value.Int (binary_of op i (number_of x) (number_of y)))
-  computes m op i (Plain k) x y h = ap (on_ok ops (λ n. Ok (value.Int n))) (placed.int op i k (number_of x) (number_of y))
+  pub computes : (m : M) (op : IntOp) (i : IntKind) (k : Kind) (x y : Value) → is_int k ≡ true →
+      int_by ops m op i k x y ≡ Ok (value.Int (binary_of op i (number_of x) (number_of y)))
+  computes m op i (Plain k) x y h =
+      ap (on_ok ops (λ n. Ok (value.Int n))) (placed.int op i k (number_of x) (number_of y))
   computes m op i (Capability s) x y h = absurd cc
 
   -- or one whose right operand is a capability, by its address
-  pub computes_address : (m : M) (op : IntOp) (i : IntKind) (s : Bool) (x y : Value) (a : ℕ) → ops.address m y ≡ Ok a → int_by ops m op i (Capability s) x y ≡ Ok (value.Int (binary_of op i (number_of x) a))
+  pub computes_address : (m : M) (op : IntOp) (i : IntKind) (s : Bool) (x y : Value) (a : ℕ) → ops.address m y ≡ Ok a →
+      int_by ops m op i (Capability s) x y ≡ Ok (value.Int (binary_of op i (number_of x) a))
   computes_address m op i s x y a e =
-      ap (on_ok ops (λ b. on_ok ops (λ n. Ok (value.Int n)) (ops.int op i (int_kind (Capability s)) (number_of x) b))) e ∙ ap (on_ok ops (λ n. Ok (value.Int n))) (placed.int op i (int_kind (Capability s)) (number_of x) a)
+      ap (on_ok ops (λ b. on_ok ops (λ n. Ok (value.Int n)) (ops.int op i (int_kind (Capability s)) (number_of x) b))) e
+      ∙ ap (on_ok ops (λ n. Ok (value.Int n))) (placed.int op i (int_kind (Capability s)) (number_of x) a)
 
   pub computed_is_of : (op : IntOp) (i : IntKind) (a b : ℕ) → IsOf (Plain i) (value.Int (binary_of op i a b))
   computed_is_of op i a b = (_, refl, IsKept-binary_of op i a b)
@@ -139,32 +156,42 @@ pub constant_zero : (k : TacKind) → constant k 0 ≡ zero_of (kind_of k)
 constant_zero (kind.Int k) = refl
 constant_zero (kind.Cap s) = refl
 
-module _ {M : Type 0} (ops : Operations M) (w : World) (t : Tac) (p : Typed) (objects : ℕ → List ℕ) (r : Running) (call : ℕ → List Value → Then M Value) (g : Scene) (scene : IsScene g) where
+module _ {M : Type 0} (ops : Operations M) (w : World) (t : Tac) (p : Typed) (objects : ℕ → List ℕ) (r : Running)
+    (call : ℕ → List Value → Then M Value) (g : Scene) (scene : IsScene g) where
   abbrev run : List TacInstr → State M → List (Option Value) → Fate
   run = goes ops w t p objects r call g
 
-  pub constant_runs : (k : TacKind) (to v : ℕ) (rest : List TacInstr) (s : State M) (ts : List (Option Value)) → run (instr.Const to k v ∷ rest) s ts ≡ run rest s (slice_set ts to (Some (constant k v)))
+  pub constant_runs : (k : TacKind) (to v : ℕ) (rest : List TacInstr) (s : State M) (ts : List (Option Value)) →
+      run (instr.Const to k v ∷ rest) s ts ≡ run rest s (slice_set ts to (Some (constant k v)))
   constant_runs (kind.Int k) to v rest s ts = refl
   constant_runs (kind.Cap z) to v rest s ts = refl
 
-  pub held_is : (ts : List (Option Value)) (at : ℕ) (v : Value) → slice_get ts at ≡ Some (Some v) → held (slice_get ts at) ≡ v
+  pub held_is : (ts : List (Option Value)) (at : ℕ) (v : Value) → slice_get ts at ≡ Some (Some v) →
+      held (slice_get ts at) ≡ v
   held_is ts at v e = ap held e
 
   -- ---- the last step: a value comes into the temp that was given
 
-  pub lands : (k : TacKind) (f h : ℕ → Bool) (to : ℕ) (m n : Mark) (s u : State M) (ts us : List (Option Value)) (v : Value) → ((x : ℕ) → h x ≡ true → f x ≡ true) → IsTarget g m to → HasRoom g m n → m.temps ≤ n.temps → IsOf (kind_of k) v
+  pub lands : (k : TacKind) (f h : ℕ → Bool) (to : ℕ) (m n : Mark) (s u : State M) (ts us : List (Option Value))
+      (v : Value) → ((x : ℕ) → h x ≡ true → f x ≡ true) → IsTarget g m to → HasRoom g m n → m.temps ≤ n.temps →
+      IsOf (kind_of k) v
       → Done ops g f m s ts u us → Valued ops g k h to m s ts v u (slice_set us to (Some v))
   lands k f h to m n s u ts us v hf target room le typed done = record {
     agrees = agrees_set ops g scene None (Some to) u us to (Some v) target.free (λ x i e z. (tt, z)) done.agrees;
-    went = went_set ops g scene f h m.temps m.temps None (Some to) s u ts us to (Some v) hf (omega arith) (λ i lt z. (tt, z)) done.went;
-    value = get_set_same us to (Some v) (let is = done.agrees.room in let lt = target.there in let high = room.high in omega arith);
+    went = went_set ops g scene f h m.temps m.temps None (Some to) s u ts us to (Some v) hf (omega arith)
+        (λ i lt z. (tt, z)) done.went;
+    value = get_set_same us to (Some v) (let is = done.agrees.room in let lt = target.there in let high = room.high in
+        omega arith);
     typed = typed;
   }
 
   -- a copy of a value, unless it is there
-  pub transfer_runs : (to from : ℕ) (rest : List TacInstr) (u : State M) (us : List (Option Value)) (v : Value) → slice_get us from ≡ Some (Some v) → run (transfer to from rest) u us ≡ run rest u (slice_set us to (Some v))
+  pub transfer_runs : (to from : ℕ) (rest : List TacInstr) (u : State M) (us : List (Option Value)) (v : Value) →
+      slice_get us from ≡ Some (Some v) → run (transfer to from rest) u us ≡ run rest u (slice_set us to (Some v))
   transfer_runs to from rest u us v e = by (to == from) refl
     where
-      by : (b : Bool) → (to == from) ≡ b → run (if b then rest else instr.Copy to from ∷ rest) u us ≡ run rest u (slice_set us to (Some v))
-      by true q = let is : to ≡ from = grind (arith, nat_tests) in ap (run rest u) (sym (set_there us to (Some v) (ap (slice_get us) is ∙ e)))
+      by : (b : Bool) → (to == from) ≡ b →
+          run (if b then rest else instr.Copy to from ∷ rest) u us ≡ run rest u (slice_set us to (Some v))
+      by true q = let is : to ≡ from = grind (arith, nat_tests) in
+          ap (run rest u) (sym (set_there us to (Some v) (ap (slice_get us) is ∙ e)))
       by false q = ap (λ z. run rest u (slice_set us to (Some z))) (held_is us from v e)

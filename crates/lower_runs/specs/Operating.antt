@@ -1,6 +1,7 @@
--- The relation, for operations on values that are in temps: the code of each, by where the operands, the result and the next temp are, and
--- how many temps it takes. Each function of the lowering's operations has its mirror here.
-use Rattle.std.specs.Prelude.{◌≡◌, ℕ, ◌+◌, ◌-◌, ◌*◌, ◌%◌, ◌^◌, ◌==◌, ◌&&◌, not, Bool, true, false, List, [], ◌∷◌, Option, Some, None, pos, if◌then◌else◌}
+-- The relation, for operations on values that are in temps: the code of each, by where the operands, the result and the
+-- next temp are, and how many temps it takes. Each function of the lowering's operations has its mirror here.
+use Rattle.std.specs.Prelude.{◌≡◌, ℕ, ◌+◌, ◌-◌, ◌*◌, ◌%◌, ◌^◌, ◌==◌, ◌&&◌, not, Bool, true, false, List, [], ◌∷◌}
+use Rattle.std.specs.Prelude.{Option, Some, None, pos, if◌then◌else◌}
 use Rattle.ck_int.specs.Kinds.{wrapped}
 use Rattle.ck_int.specs.declared.kinds.CmpOp.TheVariants.{Eq}
 use Rattle.ck_int.specs.declared.kinds.IntKind.{IntKind}
@@ -68,7 +69,9 @@ sign_temps Complement = 1
 
 abbrev pub signed : Sign → TacKind → (to x n : ℕ) → Code
 signed sign (kind.Int k) to x n rest = signed_integer sign k to x n rest
-signed sign (kind.Cap s) to x n rest = instr.Convert n x (kind.Cap s) word ∷ signed_integer sign int.U64 n n (n + 1) (instr.Cap SetAddress to x (Some n) ∷ rest)
+signed sign (kind.Cap s) to x n rest =
+    instr.Convert n x (kind.Cap s) word ∷ signed_integer sign int.U64 n n (n + 1)
+    (instr.Cap SetAddress to x (Some n) ∷ rest)
 
 abbrev pub signed_temps : Sign → TacKind → ℕ
 signed_temps sign (kind.Int k) = sign_temps sign
@@ -113,7 +116,8 @@ address_temp op k y n = if keeps_count op k then y else n
 abbrev pub computed_address : IntOp → Bool → (j k : TacKind) → (x y n : ℕ) → Code
 computed_address op signed j k x y n rest =
     let i = address_kind op signed in
-    instr.Convert n x j (kind.Int i) ∷ address_operand op i k y (n + 1) (instr.Int op i n n (address_temp op k y (n + 1)) ∷ rest)
+    instr.Convert n x j (kind.Int i) ∷ address_operand op i k y (n + 1)
+    (instr.Int op i n n (address_temp op k y (n + 1)) ∷ rest)
 
 abbrev pub address_temps : IntOp → TacKind → ℕ
 address_temps op k = if keeps_count op k then 1 else 2
@@ -122,7 +126,9 @@ abbrev pub origin : Bool → (j k : TacKind) → (x y : ℕ) → ℕ
 origin right j k x y = if right && same_kind (kind_of k) (kind_of j) then y else x
 
 abbrev pub derived : IntOp → Bool → Bool → TacKind → (to x y n : ℕ) → Code
-derived op s right k to x y n rest = computed_address op s (kind.Cap s) k x y n (instr.Cap SetAddress to (origin right (kind.Cap s) k x y) (Some n) ∷ rest)
+derived op s right k to x y n rest =
+    computed_address op s (kind.Cap s) k x y n
+    (instr.Cap SetAddress to (origin right (kind.Cap s) k x y) (Some n) ∷ rest)
 
 -- ---- pointers
 
@@ -146,7 +152,8 @@ stride size true = (2 ^ 64 - size % 2 ^ 64) % 2 ^ 64
 abbrev pub scaled : TacKind → (by i n : ℕ) → Code
 scaled k by i n rest =
     if is_wide k then instr.Const n (kind.Int (wide_kind k)) by ∷ instr.Int Mul (wide_kind k) (n + 1) i n ∷ rest
-    else instr.Convert n i k (kind.Int (wide_kind k)) ∷ instr.Const (n + 1) (kind.Int (wide_kind k)) by ∷ instr.Int Mul (wide_kind k) n n (n + 1) ∷ rest
+    else instr.Convert n i k (kind.Int (wide_kind k)) ∷ instr.Const (n + 1) (kind.Int (wide_kind k)) by
+    ∷ instr.Int Mul (wide_kind k) n n (n + 1) ∷ rest
 
 abbrev pub scaled_temp : TacKind → ℕ → ℕ
 scaled_temp k n = if is_wide k then n + 1 else n
@@ -154,7 +161,8 @@ scaled_temp k n = if is_wide k then n + 1 else n
 -- a pointer moved by so many elements of a number of bytes
 abbrev pub moved : TacKind → (by to base i n : ℕ) → Code
 moved k by to base i n rest =
-    if by == 1 then (if is_capability k then instr.Convert n i k word ∷ instr.Offset to base (amount.Temp n) ∷ rest else instr.Offset to base (amount.Temp i) ∷ rest)
+    if by == 1 then (if is_capability k then instr.Convert n i k word ∷ instr.Offset to base (amount.Temp n) ∷ rest
+    else instr.Offset to base (amount.Temp i) ∷ rest)
     else scaled k by i n (instr.Offset to base (amount.Temp (scaled_temp k n)) ∷ rest)
 
 abbrev pub moved_temps : TacKind → ℕ → ℕ
@@ -173,11 +181,13 @@ changed_whole op i j k to x y n rest =
     let m = n + right_temps op k in
     right_operand op k y n
     (if same_kind (kind_of j) (kind_of (kind.Int i)) then instr.Int op i to x (right_temp op k y n) ∷ rest
-    else instr.Convert m x j (kind.Int i) ∷ instr.Int op i m m (right_temp op k y n) ∷ instr.Convert to m (kind.Int i) j ∷ rest)
+    else instr.Convert m x j (kind.Int i) ∷ instr.Int op i m m (right_temp op k y n) ∷ instr.Convert to m (kind.Int i) j
+    ∷ rest)
 
 abbrev pub changed_capability : IntOp → Bool → (j k : TacKind) → (to x y n : ℕ) → Code
 changed_capability op s j k to x y n rest =
-    computed_address op s j k x y n (if is_capability j then instr.Cap SetAddress to x (Some n) ∷ rest else instr.Convert to n (kind.Int (address_kind op s)) j ∷ rest)
+    computed_address op s j k x y n (if is_capability j then instr.Cap SetAddress to x (Some n) ∷ rest
+    else instr.Convert to n (kind.Int (address_kind op s)) j ∷ rest)
 
 abbrev pub changed : Operation → (j k : TacKind) → (to x y n : ℕ) → Code
 changed (Whole op i count) j k to x y n rest = changed_whole op i j k to x y n rest
@@ -186,7 +196,8 @@ changed (Moved size minus left count) j k to x y n rest = moved k (stride size m
 changed (Apart size) j k to x y n rest = rest
 
 abbrev pub changed_temps : Operation → (j k : TacKind) → ℕ
-changed_temps (Whole op i count) j k = right_temps op k + (if same_kind (kind_of j) (kind_of (kind.Int i)) then 0 else 1)
+changed_temps (Whole op i count) j k =
+    right_temps op k + (if same_kind (kind_of j) (kind_of (kind.Int i)) then 0 else 1)
 changed_temps (Derived op s count right plain) j k = address_temps op k
 changed_temps (Moved size minus left count) j k = moved_temps k (stride size minus)
 changed_temps (Apart size) j k = 0

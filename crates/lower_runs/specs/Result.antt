@@ -17,20 +17,29 @@ use Rattle.lower_runs.specs.Simulation.{ValueRuns, OperandRuns, EffectRuns, Cond
 use Rattle.lower_runs.specs.Calling.{CallsRun}
 use Rattle.lower_runs.specs.Left.{RulesLeft}
 
-module _ (ops : Operations Store) (w : World) (t : Tac) (p : Typed) (objects : ℕ → List ℕ) (r : Running) (call : ℕ → List Value → Then Store Value) (signs : ℕ → Signature) (g : Scene) where
+module _ (ops : Operations Store) (w : World) (t : Tac) (p : Typed) (objects : ℕ → List ℕ) (r : Running)
+    (call : ℕ → List Value → Then Store Value) (signs : ℕ → Signature) (g : Scene) where
   abbrev temps : List TacKind
   temps = kinds ops w t p objects r call g
 
   -- values, operands, effects, conditions and places
   pub record Runs : Type 0 where
-    pub value : (k : TacKind) (e : Ex) (to : ℕ) (m n : Mark) (c : Code) → IsValue p signs temps g k e to m n c → ValueRuns ops w t p objects r call g k e to m n c
-    pub operand : (later : Exs) (k : TacKind) (e : Ex) (at : ℕ) (m n : Mark) (c : Code) → IsOperand p signs temps g later k e at m n c → OperandRuns ops w t p objects r call g later k e at m n c
-    pub effect : (e : Ex) (m n : Mark) (c : Code) → IsEffect p signs temps g e m n c → EffectRuns ops w t p objects r call g e m n c
-    pub condition : (k : TacKind) (e : Ex) (when : Bool) (label : ℕ) (m n : Mark) (c : Code) → IsCondition p signs temps g k e when label m n c → ConditionRuns ops w t p objects r call g k e when label m n c
-    pub place : (e : Ex) (to : ℕ) (m n : Mark) (c : Code) → IsPlace p signs temps g e to m n c → PlaceRuns ops w t p objects r call g e to m n c
+    pub value : (k : TacKind) (e : Ex) (to : ℕ) (m n : Mark) (c : Code) → IsValue p signs temps g k e to m n c →
+        ValueRuns ops w t p objects r call g k e to m n c
+    pub operand : (later : Exs) (k : TacKind) (e : Ex) (at : ℕ) (m n : Mark) (c : Code) →
+        IsOperand p signs temps g later k e at m n c → OperandRuns ops w t p objects r call g later k e at m n c
+    pub effect : (e : Ex) (m n : Mark) (c : Code) → IsEffect p signs temps g e m n c →
+        EffectRuns ops w t p objects r call g e m n c
+    pub condition : (k : TacKind) (e : Ex) (when : Bool) (label : ℕ) (m n : Mark) (c : Code) →
+        IsCondition p signs temps g k e when label m n c → ConditionRuns ops w t p objects r call g k e when label m n c
+    pub place : (e : Ex) (to : ℕ) (m n : Mark) (c : Code) → IsPlace p signs temps g e to m n c →
+        PlaceRuns ops w t p objects r call g e to m n c
 
 -- given calls, and the rules that are left
 abbrev pub ExpressionsRun : Type 0
 ExpressionsRun =
-    (ops : Operations Store) → IsPlaced ops → (w : World) (t : Tac) (p : Typed) (objects : ℕ → List ℕ) (r : Running) (call : ℕ → List Value → Then Store Value) (signs : ℕ → Signature) (g : Scene) → IsScene g
-    → CallsRun ops w t p objects call signs g.limit → RulesLeft ops w t p objects r call signs g → Runs ops w t p objects r call signs g
+    (ops : Operations Store) → IsPlaced ops →
+    (w : World) (t : Tac) (p : Typed) (objects : ℕ → List ℕ) (r : Running)
+    (call : ℕ → List Value → Then Store Value) (signs : ℕ → Signature) (g : Scene) → IsScene g
+    → CallsRun ops w t p objects call signs g.limit → RulesLeft ops w t p objects r call signs g →
+    Runs ops w t p objects r call signs g

@@ -1,6 +1,8 @@
--- The relation of states. The meaning of a function and its code go through the same states, but that the code's variables are its temps:
--- those of the function's variables, those that have the pointers to its objects, and behind these the temps of expressions.
-use Rattle.std.specs.Prelude.{◌≡◌, ◌≢◌, ℕ, ◌+◌, ◌^◌, ◌≤◌, ◌<◌, not, Bool, true, List, length, Option, Some, None, Result, Ok, slice_get}
+-- The relation of states. The meaning of a function and its code go through the same states, but that the code's
+-- variables are its temps: those of the function's variables, those that have the pointers to its objects, and behind
+-- these the temps of expressions.
+use Rattle.std.specs.Prelude.{◌≡◌, ◌≢◌, ℕ, ◌+◌, ◌^◌, ◌≤◌, ◌<◌, not, Bool, true, List, length, Option, Some, None}
+use Rattle.std.specs.Prelude.{Result, Ok, slice_get}
 use Rattle.ck_int.specs.Arithmetic.{binary_of}
 use Rattle.ck_int.specs.Kinds.{IsKept}
 use Rattle.ck_int.specs.declared.kinds.CmpOp.{CmpOp}
@@ -25,8 +27,9 @@ pub record Home : Type 0 where
   pub temp : ℕ
   pub kind : TacKind
 
--- A function at a place in its text: how many temps it has, how many of them do not belong to expressions, how many variables, and how
--- many of these are objects, and how many turns are left at most; the home of each variable that is no object; and the temp with the pointer to each object, by its number, whose block has been entered
+-- A function at a place in its text: how many temps it has, how many of them do not belong to expressions, how many
+-- variables, and how many of these are objects, and how many turns are left at most; the home of each variable that is
+-- no object; and the temp with the pointer to each object, by its number, whose block has been entered
 pub record Scene : Type 0 where
   pub size : ℕ
   pub fixed : ℕ
@@ -73,24 +76,29 @@ module _ {M : Type 0} (ops : Operations M) where
   -- a memory has the objects of an older one, where they were
   pub record IsOnward (old new : M) : Type 0 where
     pub count : ops.count old ≤ ops.count new
-    pub whole : (object permissions : ℕ) → object < ops.count old → ops.whole new object permissions ≡ ops.whole old object permissions
+    pub whole : (object permissions : ℕ) → object < ops.count old →
+        ops.whole new object permissions ≡ ops.whole old object permissions
 
   module _ (g : Scene) where
-    -- The temps agree with a state: each variable's value is in its home, but for one temp that may be left out; and the pointers to
-    -- objects are in their temps
+    -- The temps agree with a state: each variable's value is in its home, but for one temp that may be left out; and
+    -- the pointers to objects are in their temps
     pub record Agrees (but : Option ℕ) (s : State M) (temps : List (Option Value)) : Type 0 where
       pub room : length temps ≡ g.size
       pub count : length s.vars ≡ g.count
-      pub variable : (x : ℕ) (h : Home) → g.home x ≡ Some h → IsApart but h.temp → (o : Option Value) → slice_get s.vars x ≡ Some o
+      pub variable : (x : ℕ) (h : Home) → g.home x ≡ Some h → IsApart but h.temp → (o : Option Value) →
+          slice_get s.vars x ≡ Some o
           → slice_get temps h.temp ≡ Some (Some (or_zero h.kind o))
-      pub typed : (x : ℕ) (h : Home) → g.home x ≡ Some h → (v : Value) → slice_get s.vars x ≡ Some (Some v) → IsOf (kind_of h.kind) v
-      pub object : (n t : ℕ) → g.spot n ≡ Some t → slice_get temps t ≡ Some (Some (ops.whole s.mem (s.first + n) data_permissions))
+      pub typed : (x : ℕ) (h : Home) → g.home x ≡ Some h → (v : Value) → slice_get s.vars x ≡ Some (Some v) →
+          IsOf (kind_of h.kind) v
+      pub object : (n t : ℕ) → g.spot n ≡ Some t →
+          slice_get temps t ≡ Some (Some (ops.whole s.mem (s.first + n) data_permissions))
       pub there : s.first + g.objects ≤ ops.count s.mem
       pub within : s.left ≤ g.limit
 
-    -- What a part of an expression leaves as it is on the way from one state to another: the call, the objects, the variables that it
-    -- spares, and the temps of expressions below its own, but for one that may be left out
-    pub record Went (spares : ℕ → Bool) (below : ℕ) (but : Option ℕ) (s : State M) (temps : List (Option Value)) (u : State M) (now : List (Option Value)) : Type 0 where
+    -- What a part of an expression leaves as it is on the way from one state to another: the call, the objects, the
+    -- variables that it spares, and the temps of expressions below its own, but for one that may be left out
+    pub record Went (spares : ℕ → Bool) (below : ℕ) (but : Option ℕ) (s : State M) (temps : List (Option Value))
+        (u : State M) (now : List (Option Value)) : Type 0 where
       pub left : u.left ≤ s.left
       pub first : u.first ≡ s.first
       pub frame : u.frame ≡ s.frame
@@ -103,15 +111,18 @@ module _ {M : Type 0} (ops : Operations M) where
 abbrev pub IsAnswered : {A E : Type 0} → Result A E → Type 0
 IsAnswered {A} {E} r = (x : A) × (r ≡ Ok x)
 
--- What the code asks of operations, as it has no positions for most of them: under a map they answer, and those on memory keep its objects
+-- What the code asks of operations, as it has no positions for most of them: under a map they answer, and those on
+-- memory keep its objects
 pub record IsPlaced {M : Type 0} (ops : Operations M) : Type 0 where
   pub int : (op : IntOp) (k count : IntKind) (x y : ℕ) → ops.int op k count x y ≡ Ok (binary_of op k x y)
   pub address : (m : M) (v : Value) → (a : ℕ) × (ops.address m v ≡ Ok a) × (a < 2 ^ 64)
   pub compare : (m : M) (op : CmpOp) (signed : Bool) (x y : Value) → IsAnswered (ops.compare m op signed x y)
-  pub opposite : (m : M) (signed b : Bool) (x y : Value) → ops.compare m Ne signed x y ≡ Ok b → ops.compare m Eq signed x y ≡ Ok (not b)
+  pub opposite : (m : M) (signed b : Bool) (x y : Value) → ops.compare m Ne signed x y ≡ Ok b →
+      ops.compare m Eq signed x y ≡ Ok (not b)
   pub difference : (m : M) (x y : Value) → IsAnswered (ops.difference m x y)
   pub offset : (m : M) (v : Value) (n : ℕ) → IsAnswered (ops.offset m v n)
-  pub offset_none : (m : M) (object permissions : ℕ) → ops.offset m (ops.whole m object permissions) 0 ≡ Ok (ops.whole m object permissions)
+  pub offset_none : (m : M) (object permissions : ℕ) →
+      ops.offset m (ops.whole m object permissions) 0 ≡ Ok (ops.whole m object permissions)
   pub narrow : (m : M) (v : Value) (n : ℕ) (exact : Bool) → IsAnswered (ops.narrow m v n exact)
   pub work : (m : M) (o : Work) (x y : Value) → IsAnswered (ops.work m o x y)
   pub unset : (k : Kind) → ops.unset k ≡ Ok (zero_of k)

@@ -1,11 +1,12 @@
-//! Laws of lowered code, one for each group of rules of the relation: where the codes of the parts do what the parts mean, so does the
-//! code that a rule makes of them.
+//! Laws of lowered code, one for each group of rules of the relation: where the codes of the parts do what the parts
+//! mean, so does the code that a rule makes of them.
 
 ghost use Rattle.std.specs.Prelude.{ℕ};
 ghost use Rattle.lower_runs.specs.Expressions.{Signature};
 ghost use Rattle.lower_runs.specs.StatementLaws.{CallRules, InEachFunction, StatementRules, BlockRules, LoopRules};
 ghost use Rattle.lower_runs.specs.Result.{ExpressionsRun};
-ghost use Rattle.lower_runs.specs.Laws.{Everywhere, OperandRules, ValueRules, LoadRules, PlaceRules, ConditionRules, EffectRules, AssignmentRules};
+ghost use Rattle.lower_runs.specs.Laws.{Everywhere, OperandRules, ValueRules, LoadRules, PlaceRules, ConditionRules};
+ghost use Rattle.lower_runs.specs.Laws.{EffectRules, AssignmentRules};
 
 /// Operands: values that stand in a temp already, and those that come into a new one.
 #[tactic(auto, using(crate::proofs::Gathered::operands_law))]
@@ -70,7 +71,8 @@ pub fn loops_run()
 /// Arguments and calls, where further calls do what the code of their functions does, with fewer turns.
 #[tactic(auto, using(crate::proofs::Gathered::calls_law))]
 pub fn calls_run()
-    ensures { (signs : ℕ → Signature) → Everywhere (λ ops w t p objects r call g. CallRules ops w t p objects r call g signs) }
+    ensures { (signs : ℕ → Signature) →
+        Everywhere (λ ops w t p objects r call g. CallRules ops w t p objects r call g signs) }
 {}
 
 /// Code that the relation makes of expressions does what they mean, given calls and the rules that are left.

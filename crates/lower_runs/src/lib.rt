@@ -1,10 +1,10 @@
 //! What lowered code does: what the program means.
 //!
-//! Promise: laws, for each rule by which lowering makes code: where the codes of the parts do what the parts mean, so does the whole,
-//! over all operations, in every world, and whatever follows.
-//! Definitions (`specs/`): the relation of trees and code in `Expressions`, `Statements` and `Operating`; the relation of states in
-//! `States`; the simulation in `Simulation`, `Following` and `Calling`; the results in `Laws`, `StatementLaws` and `Result`.
-//! Main lemmas (`proofs/`): `Agreement`, `Operands`, `Conditions`, `Places`.
+//! Promise: laws, for each rule by which lowering makes code: where the codes of the parts do what the parts mean, so
+//! does the whole, over all operations, in every world, and whatever follows. Definitions (`specs/`): the relation of
+//! trees and code in `Expressions`, `Statements` and `Operating`; the relation of states in `States`; the simulation in
+//! `Simulation`, `Following` and `Calling`; the results in `Laws`, `StatementLaws` and `Result`. Main lemmas
+//! (`proofs/`): `Agreement`, `Operands`, `Conditions`, `Places`.
 #![tactic(auto)]
 
 mod laws;

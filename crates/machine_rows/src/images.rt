@@ -1,4 +1,5 @@
-//! An image and its files of both versions, written by hand from the format. The files are in words of eight bytes, little endian.
+//! An image and its files of both versions, written by hand from the format. The files are in words of eight bytes,
+//! little endian.
 
 use ck_base::NoMemory;
 use elf_file::{ElfRefusal, Image, Line, Reloc, Sequence, View, write};
@@ -23,7 +24,8 @@ const FILE_HEADER: [u64; 8] = [
     0x0006_0007_0040_0004,
 ];
 
-/// Each with p_type and p_flags, p_offset, p_vaddr, p_paddr, p_filesz, p_memsz and p_align: text, initial data, heap and stack.
+/// Each with p_type and p_flags, p_offset, p_vaddr, p_paddr, p_filesz, p_memsz and p_align: text, initial data, heap
+/// and stack.
 const PROGRAM_HEADERS: [[u64; 7]; 4] = [
     [0x5_0000_0001, 736, 0x1_0000, 0x1_0000, 12, 12, 16],
     [0x6_0000_0001, 752, 0x10_0000, 0x10_0000, 20, 20, 16],
@@ -31,8 +33,8 @@ const PROGRAM_HEADERS: [[u64; 7]; 4] = [
     [0x6_0000_0001, 0, 0x40_0000, 0x40_0000, 0, 0x2_0000, 16],
 ];
 
-/// Each with sh_name and sh_type, sh_flags, sh_addr, sh_offset, sh_size, sh_link and sh_info, sh_addralign and sh_entsize: none,
-/// text, data, relocations and lines.
+/// Each with sh_name and sh_type, sh_flags, sh_addr, sh_offset, sh_size, sh_link and sh_info, sh_addralign and
+/// sh_entsize: none, text, data, relocations and lines.
 const SECTION_HEADERS: [[u64; 8]; 5] = [
     [0, 0, 0, 0, 0, 0, 0, 0],
     [0x1_0000_0001, 6, 0x1_0000, 736, 12, 0, 16, 0],
@@ -269,7 +271,8 @@ fn refusal_at(form: &Form, place: usize) -> Option<ElfRefusal> {
         960..976 if form.version == 2 => None,
         // The identification and the machine.
         0..16 | 18..20 => Some(ElfRefusal::Ident),
-        // The flags, the text and initial bytes, what stands behind them, the relocation, and the table's base and length.
+        // The flags, the text and initial bytes, what stands behind them, the relocation, and the table's base and
+        // length.
         48..52 | 736..832 | 912..928 => None,
         864..872 => Some(ElfRefusal::Version),
         // The lines and columns.
@@ -278,7 +281,8 @@ fn refusal_at(form: &Form, place: usize) -> Option<ElfRefusal> {
     }
 }
 
-/// The place of the second line in the text, with that line's refusal: lines that do not ascend, and one behind the text.
+/// The place of the second line in the text, with that line's refusal: lines that do not ascend, and one behind the
+/// text.
 const SECOND_LINES: [(u8, Option<ElfRefusal>); 4] = [
     (0, Some(ElfRefusal::Field)),
     (1, None),

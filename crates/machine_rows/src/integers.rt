@@ -100,8 +100,8 @@ const CONVERTED: [(IntKind, IntKind, u64, u64); 30] = [
     (U8, U64, 0x1ff, 0xff),
 ];
 
-// Values of an independent model: quotients first, with the cases of RISC-V's M extension, then shifts, wrapping, bits and
-// operands that aren't kept.
+// Values of an independent model: quotients first, with the cases of RISC-V's M extension, then shifts, wrapping, bits
+// and operands that aren't kept.
 const RESULTS: [(IntOp, IntKind, u64, u64, u64); 126] = [
     (Div, I64, 7, 0, 0xffff_ffff_ffff_ffff),
     (Div, I64, 0xffff_ffff_ffff_fff9, 0, 0xffff_ffff_ffff_ffff),

@@ -81,7 +81,8 @@ fn set_both(mem: &mut Mem, bits: u128) -> bool {
     mem.set_cap(65_552, bits, true) && set_second(mem, bits, true)
 }
 
-// The capability with permissions 125 and bounds 65,536 to 65,576, in memory form (exclusive-or with null), at its base.
+// The capability with permissions 125 and bounds 65,536 to 65,576, in memory form (exclusive-or with null), at its
+// base.
 const BITS: u128 = 0x007d_0000_040b_8004_0000_0000_0001_0000;
 
 fn assert_tags(rt: &impl Abort, mem: &mut Mem) {

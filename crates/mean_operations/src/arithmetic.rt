@@ -1,7 +1,8 @@
 //! Operations on values (C11 6.3, 6.5; CHERI C/C++ Programming Guide, UCAM-CL-TR-947).
 ghost use Rattle.std.specs.Prelude.{◌≡◌, true, false};
 ghost use Rattle.obj_mem.specs.Values.{value_of};
-ghost use Rattle.cheri_c_sem.specs.Operations.{on_ok, compare_by, is_true, to_int, convert_by, number_by, int_by, derive_by, steps_of, move_by, capability_by, plus_by, difference_by};
+ghost use Rattle.cheri_c_sem.specs.Operations.{on_ok, compare_by, is_true, to_int, convert_by, number_by, int_by};
+ghost use Rattle.cheri_c_sem.specs.Operations.{derive_by, steps_of, move_by, capability_by, plus_by, difference_by};
 ghost use Rattle.mean_types.specs.Views.{kind_of};
 ghost use Rattle.cheri_c_sem.specs.Meaning.{operate_by};
 ghost use Rattle.cheri_c_sem.specs.Modes.{Store};
@@ -145,7 +146,8 @@ pub(crate) fn derive<B: Operations>(
     x: Value,
     y: Value,
 ) -> Result<Value, Fault>
-    ensures { seen result ≡ derive_by (B.meaning m.now) (B.held m.now) op signed (kind_of count) right (value_of x) (value_of y) }
+    ensures { seen result ≡ derive_by (B.meaning m.now) (B.held m.now) op signed (kind_of count) right (value_of x)
+        (value_of y) }
 {
     let a = match m.address(x) {
         Err(e) => return Err(e),
@@ -182,7 +184,8 @@ fn move_by_operand<B: Operations>(
     count: Kind,
     y: Value,
 ) -> Result<Value, Fault>
-    ensures { seen result ≡ on_ok (B.meaning m.now) (move_by (B.meaning m.now) (B.held m.now) minus (value_of x)) (number_by (B.meaning m.now) (B.held m.now) (kind_of count) (value_of y)) }
+    ensures { seen result ≡ on_ok (B.meaning m.now) (move_by (B.meaning m.now) (B.held m.now) minus (value_of x))
+        (number_by (B.meaning m.now) (B.held m.now) (kind_of count) (value_of y)) }
 {
     match number(m, count, y) {
         Err(e) => Err(e),
@@ -192,7 +195,8 @@ fn move_by_operand<B: Operations>(
 
 /// The right operand, a pointer, moved by the address of the left one.
 fn move_right<B: Operations>(m: &B, x: Value, y: Value) -> Result<Value, Fault>
-    ensures { seen result ≡ on_ok (B.meaning m.now) (move_by (B.meaning m.now) (B.held m.now) false (value_of y)) ((B.meaning m.now).address (B.held m.now) (value_of x)) }
+    ensures { seen result ≡ on_ok (B.meaning m.now) (move_by (B.meaning m.now) (B.held m.now) false (value_of y))
+        ((B.meaning m.now).address (B.held m.now) (value_of x)) }
 {
     match m.address(x) {
         Err(e) => Err(e),
@@ -208,7 +212,8 @@ fn added_left<B: Operations>(
     x: Value,
     y: Value,
 ) -> Result<Value, Fault>
-    ensures { seen result ≡ capability_by (B.meaning m.now) (B.held m.now) IntOp.Add signed (kind_of count) false true (value_of x) (value_of y) }
+    ensures { seen result ≡ capability_by (B.meaning m.now) (B.held m.now) IntOp.Add signed (kind_of count) false true
+        (value_of x) (value_of y) }
 {
     match x {
         Value::Live(_, _, _, _, _) => move_by_operand(m, false, x, count, y),
@@ -232,7 +237,8 @@ fn added_right<B: Operations>(
     x: Value,
     y: Value,
 ) -> Result<Value, Fault>
-    ensures { seen result ≡ capability_by (B.meaning m.now) (B.held m.now) IntOp.Add signed (kind_of count) true true (value_of x) (value_of y) }
+    ensures { seen result ≡ capability_by (B.meaning m.now) (B.held m.now) IntOp.Add signed (kind_of count) true true
+        (value_of x) (value_of y) }
 {
     match y {
         Value::Live(_, _, _, _, _) => move_right(m, x, y),
@@ -256,7 +262,8 @@ fn taken_left<B: Operations>(
     x: Value,
     y: Value,
 ) -> Result<Value, Fault>
-    ensures { seen result ≡ capability_by (B.meaning m.now) (B.held m.now) IntOp.Sub signed (kind_of count) false true (value_of x) (value_of y) }
+    ensures { seen result ≡ capability_by (B.meaning m.now) (B.held m.now) IntOp.Sub signed (kind_of count) false true
+        (value_of x) (value_of y) }
 {
     match x {
         Value::Live(_, _, _, _, _) => move_by_operand(m, true, x, count, y),
@@ -273,7 +280,8 @@ fn taken_left<B: Operations>(
 }
 
 fn added<B: Operations>(m: &B, d: Derived, x: Value, y: Value) -> Result<Value, Fault>
-    ensures { seen result ≡ capability_by (B.meaning m.now) (B.held m.now) IntOp.Add d.signed (kind_of d.count) d.right d.plain (value_of x) (value_of y) }
+    ensures { seen result ≡ capability_by (B.meaning m.now) (B.held m.now) IntOp.Add d.signed
+        (kind_of d.count) d.right d.plain (value_of x) (value_of y) }
 {
     if d.right {
         if d.plain {
@@ -289,7 +297,8 @@ fn added<B: Operations>(m: &B, d: Derived, x: Value, y: Value) -> Result<Value, 
 }
 
 fn taken<B: Operations>(m: &B, d: Derived, x: Value, y: Value) -> Result<Value, Fault>
-    ensures { seen result ≡ capability_by (B.meaning m.now) (B.held m.now) IntOp.Sub d.signed (kind_of d.count) d.right d.plain (value_of x) (value_of y) }
+    ensures { seen result ≡ capability_by (B.meaning m.now) (B.held m.now) IntOp.Sub d.signed
+        (kind_of d.count) d.right d.plain (value_of x) (value_of y) }
 {
     if d.right {
         derive(m, IntOp::Sub, d.signed, d.count, true, x, y)
@@ -302,7 +311,8 @@ fn taken<B: Operations>(m: &B, d: Derived, x: Value, y: Value) -> Result<Value, 
 
 /// Where a plain integer is added to a pointer to an object, or taken from it, the pointer moves.
 fn capability<B: Operations>(m: &B, d: Derived, x: Value, y: Value) -> Result<Value, Fault>
-    ensures { seen result ≡ capability_by (B.meaning m.now) (B.held m.now) d.op d.signed (kind_of d.count) d.right d.plain (value_of x) (value_of y) }
+    ensures { seen result ≡ capability_by (B.meaning m.now) (B.held m.now) d.op d.signed
+        (kind_of d.count) d.right d.plain (value_of x) (value_of y) }
 {
     match d.op {
         IntOp::Add => added(m, d, x, y),
@@ -327,7 +337,8 @@ fn plus<B: Operations>(
     x: Value,
     y: Value,
 ) -> Result<Value, Fault>
-    ensures { seen result ≡ plus_by (B.meaning m.now) (B.held m.now) size minus (kind_of index) (value_of x) (value_of y) }
+    ensures { seen result ≡ plus_by (B.meaning m.now) (B.held m.now) size minus (kind_of index) (value_of x)
+        (value_of y) }
 {
     match number(m, index, y) {
         Err(e) => Err(e),
@@ -347,7 +358,8 @@ fn difference<B: Operations>(m: &B, size: u64, x: Value, y: Value) -> Result<Val
 
 /// A binary operation.
 pub fn operated<B: Operations>(m: &B, op: Operation, x: Value, y: Value) -> Result<Value, Fault>
-    ensures { seen result ≡ operate_by (B.meaning m.now) no_world (operation_of op) (B.held m.now) (value_of x) (value_of y) }
+    ensures { seen result ≡ operate_by (B.meaning m.now) no_world (operation_of op) (B.held m.now) (value_of x)
+        (value_of y) }
 {
     match op {
         Operation::Whole(op, k, count) => whole(m, op, k, count, x, y),

@@ -83,13 +83,15 @@ pub trait Operations {
     /// A value in the 1, 2, 4, 8 or 16 bytes at a pointer.
     fn store(&mut self, p: Value, n: u8, v: Value) -> Result<(), Fault>
         requires { IsAccess n }
-        ensures changes { Changes ((meaning self.old).store (held self.old) (value_of p) n (value_of v)) (held self.old) (held self.new) result }
+        ensures changes { Changes ((meaning self.old).store (held self.old) (value_of p) n (value_of v)) (held self.old)
+            (held self.new) result }
         ensures same { meaning self.new ≡ meaning self.old };
 
     /// The first unit of a struct copy, of a number of bytes.
     fn copy_unit(&mut self, from: Value, to: Value, n: u8) -> Result<(), UnitFault>
         requires { IsAccess n }
-        ensures changes { Changes ((meaning self.old).copy_unit (held self.old) (value_of from) (value_of to) n) (held self.old) (held self.new) result }
+        ensures changes { Changes ((meaning self.old).copy_unit (held self.old) (value_of from) (value_of to) n)
+            (held self.old) (held self.new) result }
         ensures same { meaning self.new ≡ meaning self.old };
 
     /// Whether so many bytes may be copied from one place to another.

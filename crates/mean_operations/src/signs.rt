@@ -16,7 +16,8 @@ use mean_types::{Kind, NOTHING, null_at, truth};
 use obj_mem::{Fault, Value};
 
 fn negated<B: Operations>(m: &B, kind: Kind, x: Value) -> Result<Value, Fault>
-    ensures { seen result ≡ on_ok (B.meaning m.now) (λ b. Ok (truth (not b))) (is_true (B.meaning m.now) (B.held m.now) (kind_of kind) (value_of x)) }
+    ensures { seen result ≡ on_ok (B.meaning m.now) (λ b. Ok (truth (not b)))
+        (is_true (B.meaning m.now) (B.held m.now) (kind_of kind) (value_of x)) }
 {
     match is_true(m, kind, x) {
         Err(e) => Err(e),

@@ -74,5 +74,8 @@ capability_type (Some (types.Incomplete tag)) = refl
 pub plain_by : (k : Option Kind) (o : Option CType) → option_map kind_of k ≡ scalar_of o → is_kept_plain k ≡ is_plain o
 plain_by k o h = kept_plain k ∙ ap plain_kind h ∙ plain_type o
 
-pub capability_by : (k : Option Kind) (o : Option CType) (b : Bool) → option_map kind_of k ≡ scalar_of o → b ≡ is_pointer o → (not b && is_kept_capability k) ≡ is_capability_integer o
-capability_by k o b h e = ap (λ c. not c && is_kept_capability k) e ∙ ap (λ c. not (is_pointer o) && c) (kept_capability k ∙ ap capability_kind h) ∙ capability_type o
+pub capability_by : (k : Option Kind) (o : Option CType) (b : Bool) → option_map kind_of k ≡ scalar_of o →
+    b ≡ is_pointer o → (not b && is_kept_capability k) ≡ is_capability_integer o
+capability_by k o b h e =
+    ap (λ c. not c && is_kept_capability k) e
+    ∙ ap (λ c. not (is_pointer o) && c) (kept_capability k ∙ ap capability_kind h) ∙ capability_type o

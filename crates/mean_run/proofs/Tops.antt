@@ -7,7 +7,8 @@ pub map_behind : {A B : Type 0} (f : A → B) (xs : List A) → map f (behind xs
 map_behind f [] = refl
 map_behind f (x ∷ xs) = refl
 
-pub map_set : {A B : Type 0} (f : A → B) (xs : List A) (k : ℕ) (x : A) → map f (slice_set xs k x) ≡ slice_set (map f xs) k (f x)
+pub map_set : {A B : Type 0} (f : A → B) (xs : List A) (k : ℕ) (x : A) →
+    map f (slice_set xs k x) ≡ slice_set (map f xs) k (f x)
 map_set f [] k x = refl
 map_set f (y ∷ ys) zero x = refl
 map_set f (y ∷ ys) (suc k) x = ap (λ l. f y ∷ l) (map_set f ys k x)

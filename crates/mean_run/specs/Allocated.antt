@@ -6,8 +6,10 @@ use Rattle.obj_mem.specs.Values.{Value, value_of}
 use Rattle.mean_run.specs.declared.storage.AllocateFault as refused
 use Rattle.mean_run.specs.declared.storage.AllocateFault.TheVariants as refusal
 
--- the value and the memory that are meant; or the fault that is meant, with memory as it was; for want of memory nothing is said
-abbrev pub Allocated : {M : Type 0} → Result (Value × M) Fault → M → M → Result public.Value refused.AllocateFault → Type 0
+-- the value and the memory that are meant; or the fault that is meant, with memory as it was; for want of memory
+-- nothing is said
+abbrev pub Allocated : {M : Type 0} → Result (Value × M) Fault → M → M → Result public.Value refused.AllocateFault →
+    Type 0
 Allocated r old new (Ok v) = r ≡ Ok (value_of v, new)
 Allocated r old new (Err (refusal.Fault f)) = (r ≡ Err f) × (new ≡ old)
 Allocated r old new (Err refusal.NoMemory) = Unit {0}

@@ -27,4 +27,5 @@ is_binary e = false
 
 abbrev pub IsBinaryBy : Typed → List VarDef → Expr → Option Operation → Type 0
 IsBinaryBy p vars e None = is_binary e.kind ≡ false
-IsBinaryBy p vars e (Some o) = (x : Ex) × (y : Ex) × (kind_tree p vars (expr_tree p vars) e.of e.pos e.kind ≡ Binary e.pos (operation_of o) x y)
+IsBinaryBy p vars e (Some o) =
+    (x : Ex) × (y : Ex) × (kind_tree p vars (expr_tree p vars) e.of e.pos e.kind ≡ Binary e.pos (operation_of o) x y)

@@ -16,7 +16,9 @@ use Rattle.mean_run.specs.Views.{vars_at, item_of, declared_of, fun_of}
 -- an item over which each jump goes
 abbrev pub IsPassed : Item → Type 0
 IsPassed i = (ops : Operations Store) (funs : List Fun) (is : List Item) (m : Moment Store) →
-    (jumped ops funs Breaks (i ∷ is) m ≡ jumped ops funs Breaks is m) × (jumped ops funs Continues (i ∷ is) m ≡ jumped ops funs Continues is m) × ((v : Value) → jumped ops funs (Returns v) (i ∷ is) m ≡ jumped ops funs (Returns v) is m)
+    (jumped ops funs Breaks (i ∷ is) m ≡ jumped ops funs Breaks is m) ×
+    (jumped ops funs Continues (i ∷ is) m ≡ jumped ops funs Continues is m) ×
+    ((v : Value) → jumped ops funs (Returns v) (i ∷ is) m ≡ jumped ops funs (Returns v) is m)
 
 abbrev pub IsMet : Typed → Work → Met → Type 0
 IsMet p w (met.Block f k) = item_of p w ≡ Leave (declared_of (stmt_tree p (vars_at p f) k))

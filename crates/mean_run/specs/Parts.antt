@@ -26,8 +26,11 @@ Gives c view n (Err (stop.Ended e)) = c ≡ Over e
 Gives c view n (Err stop.NoMemory) = Unit {0}
 
 -- A part was done: it gave this, and changed what it says and nothing beside it; or the run ends so
-abbrev pub Did : {A B : Type 0} → Part Store A → (B → A) → Typed → State → State → Store → Store → Result B Stop → Type 0
-Did c view p old new held left (Ok x) = (c (now_of old held) ≡ On (view x) (now_of new left)) × (moment_of p new left ≡ record (moment_of p old held) { now = now_of new left })
+abbrev pub Did : {A B : Type 0} → Part Store A → (B → A) → Typed → State → State → Store → Store → Result B Stop →
+    Type 0
+Did c view p old new held left (Ok x) =
+    (c (now_of old held) ≡ On (view x) (now_of new left)) ×
+    (moment_of p new left ≡ record (moment_of p old held) { now = now_of new left })
 Did c view p old new held left (Err (stop.Ended e)) = c (now_of old held) ≡ Over e
 Did c view p old new held left (Err stop.NoMemory) = Unit {0}
 

@@ -14,8 +14,8 @@ use Rattle.mean_types.specs.Facts.{AreTypesOf}
 use Rattle.mean_run.specs.declared.state.Source.{Source}
 use Rattle.mean_run.specs.Steps.{IsPeeled}
 
--- A program that typing gives: operands and parts of statements stand before what has them, no conversion is one of a struct or union to
--- its own type, no type is larger than an object may be
+-- A program that typing gives: operands and parts of statements stand before what has them, no conversion is one of a
+-- struct or union to its own type, no type is larger than an object may be
 pub record IsFit (p : Typed) : Type 0 where
   pub order : Ordered p
   pub peeled : (vars : List VarDef) (k : ℕ) (e : Expr) → slice_get p.exprs k ≡ Some e → IsPeeled p vars e
@@ -30,4 +30,5 @@ abbrev pub IsNode : Typed → ℕ → Expr → Type 0
 IsNode p k e = (vars : List VarDef) → expr_tree p vars k ≡ kind_tree p vars (expr_tree p vars) e.of e.pos e.kind
 
 abbrev pub IsStatement : Typed → ℕ → Stmt → Type 0
-IsStatement p k a = (vars : List VarDef) → stmt_tree p vars k ≡ stmt_kind_tree p vars (expr_tree p vars) (stmt_tree p vars) a.pos a.kind
+IsStatement p k a = (vars : List VarDef) →
+    stmt_tree p vars k ≡ stmt_kind_tree p vars (expr_tree p vars) (stmt_tree p vars) a.pos a.kind

@@ -19,7 +19,8 @@ use Rattle.mean_run.specs.declared.state.State.{State}
 
 -- the first step of an expression, whatever the operations on memory are
 abbrev pub Evaluates : Typed → Ex → State → State → Type 0
-Evaluates p e old new = (ops : Operations Store) (funs : List Fun) (held : Store) → evaluate ops funs e (moment_of p old held) ≡ Goes (moment_of p new held)
+Evaluates p e old new = (ops : Operations Store) (funs : List Fun) (held : Store) →
+    evaluate ops funs e (moment_of p old held) ≡ Goes (moment_of p new held)
 
 -- a conversion is a node of its own: to void, or of a scalar to a scalar
 abbrev pub is_kept : Option CType → Option CType → Bool
@@ -31,14 +32,18 @@ IsPeeled p vars e = (a : ℕ) → e.kind ≡ exprs.Convert a → is_kept (bare_t
 
 -- the first step of a statement, and of statements one after another
 abbrev pub Executes : Typed → St → State → State → Type 0
-Executes p a old new = (ops : Operations Store) (funs : List Fun) (held : Store) → execute ops funs a (moment_of p old held) ≡ Goes (moment_of p new held)
+Executes p a old new = (ops : Operations Store) (funs : List Fun) (held : Store) →
+    execute ops funs a (moment_of p old held) ≡ Goes (moment_of p new held)
 
 abbrev pub Proceeds : Typed → Sts → State → State → Type 0
-Proceeds p ss old new = (ops : Operations Store) (funs : List Fun) (held : Store) → proceed ops funs ss (moment_of p old held) ≡ Goes (moment_of p new held)
+Proceeds p ss old new = (ops : Operations Store) (funs : List Fun) (held : Store) →
+    proceed ops funs ss (moment_of p old held) ≡ Goes (moment_of p new held)
 
 -- a loop at its test
 abbrev pub ComesToTest : Typed → Loop → State → State → Type 0
-ComesToTest p l old new = (ops : Operations Store) (funs : List Fun) (held : Store) → at_test ops funs l (moment_of p old held) ≡ Goes (moment_of p new held)
+ComesToTest p l old new =
+    (ops : Operations Store) (funs : List Fun) (held : Store) →
+    at_test ops funs l (moment_of p old held) ≡ Goes (moment_of p new held)
 
 -- calls of functions, library functions and intrinsics
 abbrev pub is_call : ExprKind → Bool

@@ -8,7 +8,8 @@ use Rattle.cheri_c_sem.specs.Expressions.{expr_tree}
 use Rattle.cheri_c_sem.specs.Meaning as meaning
 use Rattle.cheri_c_sem.specs.Modes.{Store}
 use Rattle.cheri_c_sem.specs.Programs.{function_tree, function_trees, stmt_tree}
-use Rattle.cheri_c_sem.specs.Tree.{Number, Declared, St, Block, While, Do_while, For, Switch, Empty, Sts, End, Gives_nothing, Fun}
+use Rattle.cheri_c_sem.specs.Tree.{Number, Declared, St, Block, While, Do_while, For, Switch, Empty, Sts, End}
+use Rattle.cheri_c_sem.specs.Tree.{Gives_nothing, Fun}
 use Rattle.mean_steps.specs.Machine as machine
 use Rattle.mean_steps.specs.Parts.{Now}
 use Rattle.mean_run.specs.declared.call.Call.{Call}
@@ -47,7 +48,14 @@ declared_of a = []
 
 -- a function, and what stands for one that is not there
 abbrev pub fun_of : Typed → ℕ → Option FunDef → Fun
-fun_of p f None = record { name = record { line = 0; col = 0 }; params = []; vars = 0; objects = []; at_end = Gives_nothing; body = Empty }
+fun_of p f None = record {
+  name = record { line = 0; col = 0 };
+  params = [];
+  vars = 0;
+  objects = [];
+  at_end = Gives_nothing;
+  body = Empty;
+}
 fun_of p f (Some d) = function_tree p f d
 
 module _ (p : Typed) where
@@ -87,7 +95,13 @@ funs_of p = function_trees p 0 p.funs
 
 -- the current call, with what is held of memory
 abbrev pub now_of : State → Store → Now Store
-now_of s held = record { vars = map (option_map value_of) s.call.variables.items; first = s.call.first; mem = held; frame = s.call.frame; left = s.left }
+now_of s held = record {
+  vars = map (option_map value_of) s.call.variables.items;
+  first = s.call.first;
+  mem = held;
+  frame = s.call.frame;
+  left = s.left;
+}
 
 -- the whole state
 abbrev pub moment_of : Typed → State → Store → machine.Moment Store

@@ -31,8 +31,8 @@ fn aligned(end: u64, align: u64) -> u64 {
     end.div_ceil(align).wrapping_mul(align)
 }
 
-/// A member begins at the least multiple of its alignment and of that of its length that is not below the end of what the one
-/// before owns (C11 6.7.2.1).
+/// A member begins at the least multiple of its alignment and of that of its length that is not below the end of what
+/// the one before owns (C11 6.7.2.1).
 fn of_struct(
     alloc: Global,
     layouts: &Layouts,

@@ -5,7 +5,8 @@ ghost use Rattle.c_tree.specs.Layout.{bare};
 ghost use Rattle.c_tree.specs.declared.typed.Typed.{Typed};
 ghost use Rattle.c_tree.specs.declared.typed.VarDef.{VarDef};
 ghost use Rattle.cheri_c_sem.specs.Types.{is_shift, adds_or_takes, is_plain};
-ghost use Rattle.cheri_c_sem.specs.Expressions.{type_of, bare_type, element_size, from_plain, expr_tree, compound_by, step_operation, step_kind};
+ghost use Rattle.cheri_c_sem.specs.Expressions.{type_of, bare_type, element_size, from_plain, expr_tree, compound_by};
+ghost use Rattle.cheri_c_sem.specs.Expressions.{step_operation, step_kind};
 ghost use Rattle.mean_types.specs.Facts.{AreFactsOf};
 ghost use Rattle.mean_types.specs.Views.{kind_of};
 ghost use Rattle.mean_operations.specs.Views.{operation_of};
@@ -20,7 +21,8 @@ use ck_int::{IntKind, IntOp};
 use mean_operations::{Derived, Moved, Operation};
 use mean_types::{Kind, POINTER, TypeFacts, Types, int_kind, promoted};
 
-/// What a compound assignment or a step computes: its operation, the kind of the place, and the kind of the computation.
+/// What a compound assignment or a step computes: its operation, the kind of the place, and the kind of the
+/// computation.
 #[derive(Clone, Copy)]
 pub struct Change {
     pub operation: Operation,
@@ -102,8 +104,8 @@ pub fn from_plain(s: &Source<'_>, k: u32) -> bool
     false
 }
 
-/// On capability integers the result derives from the operand that was not converted from a plain integer, and from the left
-/// one where both were or neither was, or in a shift.
+/// On capability integers the result derives from the operand that was not converted from a plain integer, and from the
+/// left one where both were or neither was, or in a shift.
 fn derived(s: &Source<'_>, op: IntOp, signed: bool, a: u32, b: u32) -> Derived
     requires { IsSource s.now }
 {

@@ -68,7 +68,8 @@ pub fn global_permissions(p: &Typed, types: &Types, g: u32) -> u16
 
 impl State {
     fn load_variable<B: Operations>(&self, m: &B, kind: Kind, x: u32) -> Result<Value, Fault>
-        ensures { seen result ≡ variable_at (B.meaning m.now) (kind_of kind) (slice_get (map (option_map value_of) self.now.call.variables.items) x) }
+        ensures { seen result ≡ variable_at (B.meaning m.now) (kind_of kind)
+            (slice_get (map (option_map value_of) self.now.call.variables.items) x) }
     {
         match self.call.variables.get(x as usize) {
             None => m.unset(kind),
@@ -79,7 +80,8 @@ impl State {
 
     /// The value at a place.
     pub fn load<B: Operations>(&self, m: &B, kind: Kind, place: Place) -> Result<Value, Stop>
-        ensures { Gives (load (B.meaning m.now) (kind_of kind) (place_of place) (now_of self.now (B.held m.now))) value_of (now_of self.now (B.held m.now)) result }
+        ensures { Gives (load (B.meaning m.now) (kind_of kind) (place_of place) (now_of self.now (B.held m.now)))
+            value_of (now_of self.now (B.held m.now)) result }
     {
         match place {
             Place::In(pos, x) => match self.load_variable(m, kind, x) {

@@ -1,4 +1,5 @@
-//! Library functions (C11 7.21.7, 7.22) and the intrinsics on capabilities (CHERI C/C++ Programming Guide, UCAM-CL-TR-947, 7.3).
+//! Library functions (C11 7.21.7, 7.22) and the intrinsics on capabilities (CHERI C/C++ Programming Guide,
+//! UCAM-CL-TR-947, 7.3).
 
 ghost use Rattle.std.specs.Prelude.{◌≡◌};
 

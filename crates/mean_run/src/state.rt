@@ -30,8 +30,8 @@ pub struct Source<'a> {
     pub locals: &'a Locals,
 }
 
-/// The work that is left, the values and places that stand ready for it, the callers, and the current call; and the turns
-/// that are left.
+/// The work that is left, the values and places that stand ready for it, the callers, and the current call; and the
+/// turns that are left.
 #[derive(Drop)]
 pub struct State {
     pub work: Stack<Work>,
@@ -142,7 +142,8 @@ impl State {
     /// A variable of the current call gets a value, or has none.
     #[tactic(auto, using(crate::proofs::Tops::map_set))]
     pub fn set_variable(&mut self, x: u32, v: Option<Value>)
-        ensures { Becomes self.old self.new (λ p m. record m { now = record m.now { vars = slice_set m.now.vars x (option_map value_of v) } }) }
+        ensures { Becomes self.old self.new (λ p m.
+            record m { now = record m.now { vars = slice_set m.now.vars x (option_map value_of v) } }) }
     {
         let at = x as usize;
         if at < self.call.variables.len() {

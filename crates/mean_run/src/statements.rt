@@ -5,7 +5,8 @@ ghost use Rattle.cheri_c_sem.specs.Modes.{Store};
 ghost use Rattle.cheri_c_sem.specs.Operations.{Operations};
 ghost use Rattle.cheri_c_sem.specs.Tree.{Fun};
 ghost use Rattle.cheri_c_sem.specs.Programs.{stmt_tree, statements};
-ghost use Rattle.mean_steps.specs.Machine.{execute, initialize, branch, tested, again, choose_label, turned_to, execs_behind, Test};
+ghost use Rattle.mean_steps.specs.Machine.{execute, initialize, branch, tested, again, choose_label, turned_to};
+ghost use Rattle.mean_steps.specs.Machine.{execs_behind, Test};
 ghost use Rattle.mean_steps.specs.Parts.{leave, On};
 ghost use Rattle.cheri_c_sem.specs.Order.{Ordered};
 ghost use Rattle.mean_run.specs.Views.{now_of, moment_of, vars_at, loop_of, parts_of, declared_of, funs_of};
@@ -360,8 +361,8 @@ impl State {
 
     // ---- `switch` (C11 6.8.4.2)
 
-    /// What a `switch` is on stands on top. Its block is entered before the labels are compared, and left whether or not one
-    /// matches.
+    /// What a `switch` is on stands on top. Its block is entered before the labels are compared, and left whether or
+    /// not one matches.
     pub fn switch<B: Operations>(
         &mut self,
         m: &mut B,

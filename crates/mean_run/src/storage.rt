@@ -22,29 +22,34 @@ pub enum AllocateFault {
 pub trait Storage: Operations {
     /// The pointer, just narrowed to a member, is to one of this length.
     fn note_member(&mut self, p: Value, own: u64) -> Result<(), NoMemory>
-        ensures changes { OnOk result (Self.held self.new ≡ (Self.meaning self.old).note_member (Self.held self.old) (value_of p) own) }
+        ensures changes { OnOk result (Self.held self.new
+            ≡ (Self.meaning self.old).note_member (Self.held self.old) (value_of p) own) }
         ensures same { Self.meaning self.new ≡ Self.meaning self.old };
 
     /// The base of the bounds of a capability, where it is a number of 64 bits.
     fn base_of(&self, v: Value) -> Result<u64, Fault>
-        ensures { IsWord ((Self.meaning self.now).work (Self.held self.now) sem.Base (value_of v) nothing) → number_seen result ≡ (Self.meaning self.now).work (Self.held self.now) sem.Base (value_of v) nothing };
+        ensures { IsWord ((Self.meaning self.now).work (Self.held self.now) sem.Base (value_of v) nothing) →
+            number_seen result ≡ (Self.meaning self.now).work (Self.held self.now) sem.Base (value_of v) nothing };
 
     /// The next object: global or literal k, of a length.
     fn add_global(&mut self, k: u64, length: u64) -> Result<(), NoMemory>
         requires { length ≤ 67108864 }
-        ensures changes { OnOk result (Self.held self.new ≡ (Self.meaning self.old).add_global (Self.held self.old) k length) }
+        ensures changes { OnOk result (Self.held self.new
+            ≡ (Self.meaning self.old).add_global (Self.held self.old) k length) }
         ensures same { Self.meaning self.new ≡ Self.meaning self.old };
 
     fn add_literal(&mut self, k: u64, length: u64) -> Result<(), NoMemory>
         requires { length ≤ 67108864 }
-        ensures changes { OnOk result (Self.held self.new ≡ (Self.meaning self.old).add_literal (Self.held self.old) k length) }
+        ensures changes { OnOk result (Self.held self.new
+            ≡ (Self.meaning self.old).add_literal (Self.held self.old) k length) }
         ensures same { Self.meaning self.new ≡ Self.meaning self.old };
 
     /// The next object: local `n` of function `f` whose frame, which was entered below an address, has this one; of a
     /// length; it is dead.
     fn add_local(&mut self, frame: u64, f: u32, n: u64, length: u64) -> Result<(), NoMemory>
         requires { length ≤ 67108864 }
-        ensures changes { OnOk result (Self.held self.new ≡ (Self.meaning self.old).add_local (Self.held self.old) frame f n length) }
+        ensures changes { OnOk result (Self.held self.new
+            ≡ (Self.meaning self.old).add_local (Self.held self.old) frame f n length) }
         ensures same { Self.meaning self.new ≡ Self.meaning self.old };
 
     /// How many objects there are: the number of the next one.
@@ -53,7 +58,8 @@ pub trait Storage: Operations {
 
     /// An allocation of a number of bytes.
     fn allocate(&mut self, n: u64) -> Result<Value, AllocateFault>
-        ensures changes { Allocated ((Self.meaning self.old).allocate (Self.held self.old) n) (Self.held self.old) (Self.held self.new) result }
+        ensures changes { Allocated ((Self.meaning self.old).allocate (Self.held self.old) n) (Self.held self.old)
+            (Self.held self.new) result }
         ensures same { Self.meaning self.new ≡ Self.meaning self.old };
 
     /// The stack's top.

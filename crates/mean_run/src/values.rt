@@ -28,8 +28,12 @@ impl State {
         b: u32,
     ) -> Result<(), NoMemory>
         requires { IsSource s.now }
-        ensures copies { is_record (bare s.now.p.now.types of) ≡ true → OnOk result (self.new ≡ record self.old { work = Work.Place f a ∷ Work.Place f b ∷ Work.Finish f k ∷ self.old.work }) }
-        ensures assigns { is_record (bare s.now.p.now.types of) ≡ false → OnOk result (self.new ≡ record self.old { work = Work.Place f a ∷ Work.Value f b ∷ Work.Finish f k ∷ self.old.work }) }
+        ensures copies { is_record (bare s.now.p.now.types of) ≡ true →
+            OnOk result (self.new ≡ record self.old
+            { work = Work.Place f a ∷ Work.Place f b ∷ Work.Finish f k ∷ self.old.work }) }
+        ensures assigns { is_record (bare s.now.p.now.types of) ≡ false →
+            OnOk result (self.new ≡ record self.old
+            { work = Work.Place f a ∷ Work.Value f b ∷ Work.Finish f k ∷ self.old.work }) }
     {
         if s.types.facts(s.p, of).record {
             self.both(Work::Place(f, a), Work::Place(f, b), Work::Finish(f, k))

@@ -134,7 +134,8 @@ pub fn fault_end(fault: Fault, pos: Pos) -> Ending
     }
 }
 
-/// How a run ends at a unit of a struct copy, with the positions of the place that is read and of the one that is written.
+/// How a run ends at a unit of a struct copy, with the positions of the place that is read and of the one that is
+/// written.
 pub fn unit_end(fault: UnitFault, from: Pos, to: Pos) -> Ending
     ensures { result ≡ unit_end fault from to }
 {

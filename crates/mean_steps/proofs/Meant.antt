@@ -10,13 +10,21 @@ use Rattle.obj_mem.specs.declared.ending.Ending.TheVariants as ending
 use Rattle.cheri_c_sem.specs.Kinds.{Kind, nothing, number_of, truth}
 use Rattle.cheri_c_sem.specs.Operations.{Operations, convert_by, compare_by}
 use Rattle.cheri_c_sem.specs.Steps.{State, Fate, Then, ◌>>=◌, ◌>>◌, give, over, ask, choose, turn, set_variable}
-use Rattle.cheri_c_sem.specs.Tree.{Ex, Load, Pointer_to, Convert, Unary, Not, Binary, Compare, And, Or, Conditional, Assign, Copy, Compound, Call, Library, Deref, Member, St, Give, Init, Fill, If, Switch, Fun}
-use Rattle.cheri_c_sem.specs.Meaning.{Place, At, capability_of, nowhere, first_of, second_of, operate_by, sign_by, load, store, copy, point_to, test, called, serve, value_of, place_of}
-use Rattle.cheri_c_sem.specs.Statements.{Flow, Breaks, Continues, Returns, after_body, loop, repeat, part_of_local, leave, switch_on, test_of, step_of, exec, execs, execs_from}
+use Rattle.cheri_c_sem.specs.Tree.{Ex, Load, Pointer_to, Convert, Unary, Not, Binary, Compare, And, Or, Conditional}
+use Rattle.cheri_c_sem.specs.Tree.{Assign, Copy, Compound, Call, Library, Deref, Member, St, Give, Init, Fill, If}
+use Rattle.cheri_c_sem.specs.Tree.{Switch, Fun}
+use Rattle.cheri_c_sem.specs.Meaning.{Place, At, capability_of, nowhere, first_of, second_of, operate_by, sign_by, load}
+use Rattle.cheri_c_sem.specs.Meaning.{store, copy, point_to, test, called, serve, value_of, place_of}
+use Rattle.cheri_c_sem.specs.Statements.{Flow, Breaks, Continues, Returns, after_body, loop, repeat, part_of_local}
+use Rattle.cheri_c_sem.specs.Statements.{leave, switch_on, test_of, step_of, exec, execs, execs_from}
 use Rattle.cheri_c_sem.specs.Statements as flow
 use Rattle.cheri_c_sem.specs.Calls.{at_end, close}
 use Rattle.cheri_c_sem.specs.Depth.{deep}
-use Rattle.mean_steps.specs.Machine.{Loop, Before, Behind, Item, Evaluate, Designate, Drop, Finish, Finish_place, Choose, Choose_place, Decide, Begin, Leave_function, Execute, Rest, Initialize, Branch, Test, Tested, Again, Turn, Choose_label, Switch_end, Leave, Give_back, Caller, Moment, behind, first_place, turned, beyond, count_of, values_behind, places_behind}
+use Rattle.mean_steps.specs.Machine.{Loop, Before, Behind, Item, Evaluate, Designate, Drop, Finish, Finish_place}
+use Rattle.mean_steps.specs.Machine.{Choose, Choose_place, Decide, Begin, Leave_function, Execute, Rest, Initialize}
+use Rattle.mean_steps.specs.Machine.{Branch, Test, Tested, Again, Turn, Choose_label, Switch_end, Leave, Give_back}
+use Rattle.mean_steps.specs.Machine.{Caller, Moment, behind, first_place, turned, beyond, count_of, values_behind}
+use Rattle.mean_steps.specs.Machine.{places_behind}
 use Rattle.mean_steps.proofs.Alike.{state_of}
 
 module _ {M : Type 0} (ops : Operations M) (w : World) (funs : List Fun) where
@@ -148,7 +156,8 @@ module _ {M : Type 0} (ops : Operations M) (w : World) (funs : List Fun) where
   branch_meant _ v = give flow.Goes
 
   abbrev pub for_loop : Option (Pos × Kind × Ex) → Option Ex → St → Then M Flow
-  for_loop t u b = λ s. loop (suc s.left) (test_of ops w meant_call t) (exec ops w meant_call b) (step_of ops w meant_call u) s
+  for_loop t u b = λ s. loop (suc s.left) (test_of ops w meant_call t) (exec ops w meant_call b)
+      (step_of ops w meant_call u) s
 
   abbrev pub do_loop : Pos → Kind → Ex → St → Then M Flow
   do_loop p k e b = λ s. repeat (suc s.left) (exec ops w meant_call b) (test_of ops w meant_call (Some (p, k, e))) s
@@ -215,16 +224,21 @@ module _ {M : Type 0} (ops : Operations M) (w : World) (funs : List Fun) where
   onward (Evaluate e) r vs ps cs s = value_of ops w meant_call e s (λ v t. r.onward (v ∷ vs) ps cs t)
   onward (Designate e) r vs ps cs s = place_of ops w meant_call e s (λ p t. r.onward vs (p ∷ ps) cs t)
   onward Drop r vs ps cs s = r.onward (behind vs) ps cs s
-  onward (Finish e) r vs ps cs s = finish_meant e vs ps s (λ v t. r.onward (v ∷ values_left e vs) (places_behind ops funs e ps) cs t)
-  onward (Finish_place e) r vs ps cs s = place_meant e vs ps s (λ p t. r.onward (place_values e vs) (p ∷ place_places e ps) cs t)
+  onward (Finish e) r vs ps cs s =
+      finish_meant e vs ps s (λ v t. r.onward (v ∷ values_left e vs) (places_behind ops funs e ps) cs t)
+  onward (Finish_place e) r vs ps cs s =
+      place_meant e vs ps s (λ p t. r.onward (place_values e vs) (p ∷ place_places e ps) cs t)
   onward (Choose e) r vs ps cs s = choose_meant e (first_of vs) s (λ v t. r.onward (v ∷ behind vs) ps cs t)
-  onward (Choose_place e) r vs ps cs s = choose_place_meant e (first_of vs) s (λ p t. r.onward (behind vs) (p ∷ ps) cs t)
+  onward (Choose_place e) r vs ps cs s =
+      choose_place_meant e (first_of vs) s (λ p t. r.onward (behind vs) (p ∷ ps) cs t)
   onward (Decide e) r vs ps cs s = decide_meant e (first_of vs) s (λ v t. r.onward (v ∷ behind vs) ps cs t)
   onward (Begin f) r vs ps cs s = meant_call f [] s (λ v t. r.onward (v ∷ vs) ps cs t)
-  onward (Leave_function first g) r vs ps cs s = at_end ops w g.name g.at_end s (λ v t. closing first g cs (λ c u. r.onward (v ∷ vs) ps c u) t)
+  onward (Leave_function first g) r vs ps cs s =
+      at_end ops w g.name g.at_end s (λ v t. closing first g cs (λ c u. r.onward (v ∷ vs) ps c u) t)
   onward (Execute a) r vs ps cs s = exec ops w meant_call a s (λ f t. way r f vs ps cs t)
   onward (Rest ss) r vs ps cs s = execs ops w meant_call ss s (λ f t. way r f vs ps cs t)
-  onward (Initialize a) r vs ps cs s = initialize_meant a vs ps s (λ _ t. r.onward (initialize_values a vs) (initialize_places a ps) cs t)
+  onward (Initialize a) r vs ps cs s =
+      initialize_meant a vs ps s (λ _ t. r.onward (initialize_values a vs) (initialize_places a ps) cs t)
   onward (Branch a) r vs ps cs s = branch_meant a (first_of vs) s (λ f t. way r f (behind vs) ps cs t)
   onward (Test l) r vs ps cs s = test_meant l s (λ f t. way r f vs ps cs t)
   onward (Tested l) r vs ps cs s = tested_meant l (first_of vs) s (λ f t. way r f (behind vs) ps cs t)
@@ -259,7 +273,12 @@ module _ {M : Type 0} (ops : Operations M) (w : World) (funs : List Fun) where
 
   abbrev pub ways : List Item → Ways
   ways [] = record { onward = exit; breaks = exit; continues = exit; returns = λ v. exit }
-  ways (i ∷ is) = record { onward = onward i (ways is); breaks = breaks i (ways is); continues = continues i (ways is); returns = returns i (ways is) }
+  ways (i ∷ is) = record {
+    onward = onward i (ways is);
+    breaks = breaks i (ways is);
+    continues = continues i (ways is);
+    returns = returns i (ways is);
+  }
 
   -- what a moment comes to
   abbrev pub meant_of : Moment M → Done → Fate
@@ -268,6 +287,8 @@ module _ {M : Type 0} (ops : Operations M) (w : World) (funs : List Fun) where
   -- what an act comes to
   abbrev pub acted : Done → Act (Moment M) Ending → Fate
   acted d (Goes m) = meant_of m d
-  acted d (Puts b m) = if fails_after w.failing_put (length d.output) then record { done = d; ending = ending.WriteFault } else meant_of m (with_put d b)
-  acted d (Reads to) = if fails_after w.failing_read d.reads then record { done = d; ending = ending.ReadFault } else meant_of (to (slice_get w.bytes d.reads)) (with_read d)
+  acted d (Puts b m) = if fails_after w.failing_put (length d.output)
+      then record { done = d; ending = ending.WriteFault } else meant_of m (with_put d b)
+  acted d (Reads to) = if fails_after w.failing_read d.reads then record { done = d; ending = ending.ReadFault }
+      else meant_of (to (slice_get w.bytes d.reads)) (with_read d)
   acted d (Ends e) = record { done = d; ending = e }

@@ -1,6 +1,7 @@
--- The meaning of programs as a machine with a small step. It keeps a list of the work that is left, the values and the places that stand ready
--- for it, and the calls in progress.
-use Rattle.std.specs.Prelude.{ℕ, zero, suc, ◌+◌, ◌%◌, not, Bool, true, false, List, [], ◌∷◌, Option, Some, None, Ok, if◌then◌else◌, slice_get}
+-- The meaning of programs as a machine with a small step. It keeps a list of the work that is left, the values and the
+-- places that stand ready for it, and the calls in progress.
+use Rattle.std.specs.Prelude.{ℕ, zero, suc, ◌+◌, ◌%◌, not, Bool, true, false, List, [], ◌∷◌, Option, Some, None, Ok}
+use Rattle.std.specs.Prelude.{if◌then◌else◌, slice_get}
 use Rattle.ck_base.specs.World.{World}
 use Rattle.ck_base.specs.Runs.{Act, Goes, Puts, Reads, Ends, Limits}
 use Rattle.ck_base.specs.declared.positions.Pos.{Pos}
@@ -12,12 +13,19 @@ use Rattle.obj_mem.specs.declared.ending.Ending.TheVariants as ending
 use Rattle.cheri_c_sem.specs.Kinds.{Kind, null_at, nothing, number_of, truth}
 use Rattle.cheri_c_sem.specs.Operations.{Operations, on_ok, convert_by, compare_by}
 use Rattle.cheri_c_sem.specs.Steps.{byte_or_end}
-use Rattle.cheri_c_sem.specs.Tree.{Service, Put_char, Get_char, Malloc, Exit, Address, Bounds, Works, Ex, Number, Null, Load, Aggregate, Pointer_to, Convert, Discard, Unary, Not, Binary, Compare, And, Or, Conditional, Comma, Assign, Copy, Compound, Call, Library, Variable, Local, Object, Function, Deref, Member, Exs, Nil, Cons, Declared, St, Do, Give, Init, Fill, Block, If, While, Do_while, For, Switch, Break, Continue, Return, Empty, Sts, End, Seq, Fun, Program}
+use Rattle.cheri_c_sem.specs.Tree.{Service, Put_char, Get_char, Malloc, Exit, Address, Bounds, Works, Ex, Number, Null}
+use Rattle.cheri_c_sem.specs.Tree.{Load, Aggregate, Pointer_to, Convert, Discard, Unary, Not, Binary, Compare, And, Or}
+use Rattle.cheri_c_sem.specs.Tree.{Conditional, Comma, Assign, Copy, Compound, Call, Library, Variable, Local, Object}
+use Rattle.cheri_c_sem.specs.Tree.{Function, Deref, Member, Exs, Nil, Cons, Declared, St, Do, Give, Init, Fill, Block}
+use Rattle.cheri_c_sem.specs.Tree.{If, While, Do_while, For, Switch, Break, Continue, Return, Empty, Sts, End, Seq, Fun}
+use Rattle.cheri_c_sem.specs.Tree.{Program}
 use Rattle.cheri_c_sem.specs.Meaning.{Place, In, At, capability_of, nowhere, first_of, second_of, operate_by, sign_by}
 use Rattle.cheri_c_sem.specs.Statements as flow
 use Rattle.cheri_c_sem.specs.Statements.{Flow, default_of}
 use Rattle.cheri_c_sem.specs.Calls.{start}
-use Rattle.mean_steps.specs.Parts.{Now, Came, On, Over, Part, ◌>>=◌, ◌>>◌, give, turn, ask, set_variable, load, store, copy, point_to, part_of_local, test, allocate, enter, leave, find_label, called, frame, pass, at_end, close}
+use Rattle.mean_steps.specs.Parts.{Now, Came, On, Over, Part, ◌>>=◌, ◌>>◌, give, turn, ask, set_variable, load, store}
+use Rattle.mean_steps.specs.Parts.{copy, point_to, part_of_local, test, allocate, enter, leave, find_label, called}
+use Rattle.mean_steps.specs.Parts.{frame, pass, at_end, close}
 
 -- A loop whose test, if it has one, stands before its body, and its step; and a `do` loop.
 pub data Loop : Type 0 where
@@ -139,7 +147,8 @@ module _ {M : Type 0} where
   less_place m = record m { places = behind m.places }
 
   -- what follows a part
-  abbrev pub done_in : {A : Type 0} → Moment M → (A → Moment M → Act (Moment M) Ending) → Came M A → Act (Moment M) Ending
+  abbrev pub done_in : {A : Type 0} → Moment M → (A → Moment M → Act (Moment M) Ending) → Came M A →
+      Act (Moment M) Ending
   done_in m k (On x n) = k x (record m { now = n })
   done_in m k (Over e) = Ends e
 
@@ -180,9 +189,12 @@ module _ {M : Type 0} (ops : Operations M) (funs : List Fun) where
   evaluate (Comma a b) m = Goes (three (Evaluate a) Drop (Evaluate b) m)
   evaluate (Assign k a b) m = Goes (three (Designate a) (Evaluate b) (Finish (Assign k a b)) m)
   evaluate (Copy p bytes unit a b) m = Goes (three (Designate a) (Designate b) (Finish (Copy p bytes unit a b)) m)
-  evaluate (Compound p op kind computed old a b) m = Goes (three (Designate a) (Evaluate b) (Finish (Compound p op kind computed old a b)) m)
-  evaluate (Call p fits e args) m = Goes (record m { work = Evaluate e ∷ before_arguments args (Finish (Call p fits e args) ∷ m.work) })
-  evaluate (Library p service args) m = Goes (record m { work = before_arguments args (Finish (Library p service args) ∷ m.work) })
+  evaluate (Compound p op kind computed old a b) m =
+      Goes (three (Designate a) (Evaluate b) (Finish (Compound p op kind computed old a b)) m)
+  evaluate (Call p fits e args) m =
+      Goes (record m { work = Evaluate e ∷ before_arguments args (Finish (Call p fits e args) ∷ m.work) })
+  evaluate (Library p service args) m =
+      Goes (record m { work = before_arguments args (Finish (Library p service args) ∷ m.work) })
   evaluate (Variable p x) m = Goes (with_value nothing m)
   evaluate (Local p n) m = Goes (with_value nothing m)
   evaluate (Object p object permissions) m = Goes (with_value nothing m)
@@ -200,7 +212,8 @@ module _ {M : Type 0} (ops : Operations M) (funs : List Fun) where
   designate (Aggregate e) m = Goes (one (Designate e) m)
   designate (Conditional p k c a b) m = Goes (two (Evaluate c) (Choose_place (Conditional p k c a b)) m)
   designate (Comma a b) m = Goes (three (Evaluate a) Drop (Designate b) m)
-  designate (Copy p bytes unit a b) m = Goes (three (Designate a) (Designate b) (Finish_place (Copy p bytes unit a b)) m)
+  designate (Copy p bytes unit a b) m =
+      Goes (three (Designate a) (Designate b) (Finish_place (Copy p bytes unit a b)) m)
   designate _ m = Goes (with_place nowhere m)
 
   -- the value that an operation gives whose operands are these, the last one on top
@@ -255,7 +268,8 @@ module _ {M : Type 0} (ops : Operations M) (funs : List Fun) where
   places_behind _ ps = ps
 
   abbrev pub finished : Ex → Moment M → Act (Moment M) Ending
-  finished e m = doing (finish e m.values m.places) (record m { values = values_behind e m.values; places = places_behind e m.places }) (λ v t. Goes (with_value v t))
+  finished e m = doing (finish e m.values m.places)
+      (record m { values = values_behind e m.values; places = places_behind e m.places }) (λ v t. Goes (with_value v t))
 
   -- ---- calls and library functions
 
@@ -263,39 +277,49 @@ module _ {M : Type 0} (ops : Operations M) (funs : List Fun) where
   abbrev pub opened : (first : Bool) → ℕ → Option Fun → List Value → Moment M → Act (Moment M) Ending
   opened first f None vs m = doing (turn_behind first) m (λ _ t. Goes (with_value nothing t))
   opened first f (Some g) vs m =
-      doing (frame ops (ops.enter f m.now.frame) f g >> pass ops g.name g.params vs) (record m { callers = caller_of m.now ∷ m.callers })
+      doing (frame ops (ops.enter f m.now.frame) f g >> pass ops g.name g.params vs)
+      (record m { callers = caller_of m.now ∷ m.callers })
       (λ _ t. Goes (two (Execute g.body) (Leave_function first g) t))
 
   abbrev pub call : Pos → List Bool → ℕ → Moment M → Act (Moment M) Ending
   call p fits count m =
-      doing (called ops p fits (first_of (beyond count m.values)) >>= λ f. turn >> give f) (record m { values = behind (beyond count m.values) })
+      doing (called ops p fits (first_of (beyond count m.values)) >>= λ f. turn >> give f)
+      (record m { values = behind (beyond count m.values) })
       (λ f t. opened false f (slice_get funs f) (turned count m.values []) t)
 
   -- a function's locals end, its caller goes on, and a turn is used
   abbrev pub closed : (first : Bool) → Fun → Value → List Caller → Moment M → Act (Moment M) Ending
   closed first g v [] m = doing (close ops g >> turn_behind first) m (λ _ t. Goes (with_value v t))
-  closed first g v (c ∷ cs) m = doing (close ops g >> (back c >> turn_behind first)) (record m { callers = cs }) (λ _ t. Goes (with_value v t))
+  closed first g v (c ∷ cs) m =
+      doing (close ops g >> (back c >> turn_behind first)) (record m { callers = cs }) (λ _ t. Goes (with_value v t))
 
   abbrev pub serve : Pos → Service → List Value → Moment M → Act (Moment M) Ending
-  serve p Put_char vs m = Puts (number_of (first_of vs) % 256) (with_value (value.Int (number_of (first_of vs) % 256)) m)
+  serve p Put_char vs m = Puts (number_of (first_of vs) % 256)
+      (with_value (value.Int (number_of (first_of vs) % 256)) m)
   serve p Get_char vs m = Reads (λ b. with_value (byte_or_end b) m)
   serve p Malloc vs m = doing (allocate ops p (number_of (first_of vs))) m (λ v t. Goes (with_value v t))
   serve p Exit vs m = Ends (ending.Exit (number_of (first_of vs) % 256))
-  serve p Address vs m = doing (ask p (λ s. on_ok ops (λ a. Ok (value.Int a)) (ops.address s (first_of vs)))) m (λ v t. Goes (with_value v t))
-  serve p (Bounds exact) vs m = doing (ask p (λ s. ops.narrow s (first_of vs) (number_of (second_of vs)) exact)) m (λ v t. Goes (with_value v t))
-  serve p (Works work) vs m = doing (ask p (λ s. ops.work s work (first_of vs) (second_of vs))) m (λ v t. Goes (with_value v t))
+  serve p Address vs m = doing (ask p (λ s. on_ok ops (λ a. Ok (value.Int a)) (ops.address s (first_of vs)))) m
+      (λ v t. Goes (with_value v t))
+  serve p (Bounds exact) vs m =
+      doing (ask p (λ s. ops.narrow s (first_of vs) (number_of (second_of vs)) exact)) m (λ v t. Goes (with_value v t))
+  serve p (Works work) vs m =
+      doing (ask p (λ s. ops.work s work (first_of vs) (second_of vs))) m (λ v t. Goes (with_value v t))
 
   abbrev pub finish_item : Ex → Moment M → Act (Moment M) Ending
   finish_item (Call p fits e args) m = call p fits (count_of args) m
-  finish_item (Library p service args) m = serve p service (turned (count_of args) m.values []) (record m { values = beyond (count_of args) m.values })
+  finish_item (Library p service args) m =
+      serve p service (turned (count_of args) m.values []) (record m { values = beyond (count_of args) m.values })
   finish_item e m = finished e m
 
   abbrev pub finish_place : Ex → Moment M → Act (Moment M) Ending
   finish_place (Deref p e) m = Goes (with_place (At p (first_of m.values)) (less_value m))
   finish_place (Member p offset e) m =
-      doing (ask p (λ s. ops.offset s (capability_of (first_place m.places)) offset)) (less_place m) (λ v t. Goes (with_place (At p v) t))
+      doing (ask p (λ s. ops.offset s (capability_of (first_place m.places)) offset)) (less_place m)
+      (λ v t. Goes (with_place (At p v) t))
   finish_place (Copy p bytes unit a b) m =
-      doing (copy ops p bytes unit (first_place m.places) (first_place (behind m.places))) (less_place (less_place m)) (λ _ t. Goes (with_place (first_place (behind m.places)) t))
+      doing (copy ops p bytes unit (first_place m.places) (first_place (behind m.places))) (less_place (less_place m))
+      (λ _ t. Goes (with_place (first_place (behind m.places)) t))
   finish_place _ m = Goes (with_place nowhere m)
 
   abbrev pub chosen : Ex → Bool → Moment M → Moment M
@@ -308,18 +332,25 @@ module _ {M : Type 0} (ops : Operations M) (funs : List Fun) where
   chosen _ c m = with_value nothing m
 
   abbrev pub choose_item : Ex → Moment M → Act (Moment M) Ending
-  choose_item (And p j k a b) m = doing (test ops p j (first_of m.values)) (less_value m) (λ c t. Goes (chosen (And p j k a b) c t))
-  choose_item (Or p j k a b) m = doing (test ops p j (first_of m.values)) (less_value m) (λ c t. Goes (chosen (Or p j k a b) c t))
-  choose_item (Conditional p k c a b) m = doing (test ops p k (first_of m.values)) (less_value m) (λ d t. Goes (chosen (Conditional p k c a b) d t))
+  choose_item (And p j k a b) m =
+      doing (test ops p j (first_of m.values)) (less_value m) (λ c t. Goes (chosen (And p j k a b) c t))
+  choose_item (Or p j k a b) m =
+      doing (test ops p j (first_of m.values)) (less_value m) (λ c t. Goes (chosen (Or p j k a b) c t))
+  choose_item (Conditional p k c a b) m =
+      doing (test ops p k (first_of m.values)) (less_value m) (λ d t. Goes (chosen (Conditional p k c a b) d t))
   choose_item _ m = Goes (with_value nothing (less_value m))
 
   abbrev pub choose_place : Ex → Moment M → Act (Moment M) Ending
-  choose_place (Conditional p k c a b) m = doing (test ops p k (first_of m.values)) (less_value m) (λ d t. Goes (if d then one (Designate a) t else one (Designate b) t))
+  choose_place (Conditional p k c a b) m =
+      doing (test ops p k (first_of m.values)) (less_value m)
+      (λ d t. Goes (if d then one (Designate a) t else one (Designate b) t))
   choose_place _ m = Goes (with_place nowhere (less_value m))
 
   abbrev pub decide : Ex → Moment M → Act (Moment M) Ending
-  decide (And p j k a b) m = doing (test ops p k (first_of m.values)) (less_value m) (λ d t. Goes (with_value (truth d) t))
-  decide (Or p j k a b) m = doing (test ops p k (first_of m.values)) (less_value m) (λ d t. Goes (with_value (truth d) t))
+  decide (And p j k a b) m =
+      doing (test ops p k (first_of m.values)) (less_value m) (λ d t. Goes (with_value (truth d) t))
+  decide (Or p j k a b) m =
+      doing (test ops p k (first_of m.values)) (less_value m) (λ d t. Goes (with_value (truth d) t))
   decide _ m = Goes (with_value nothing (less_value m))
 
   -- ---- statements
@@ -341,12 +372,14 @@ module _ {M : Type 0} (ops : Operations M) (funs : List Fun) where
   execute (Do e) m = Goes (two (Evaluate e) Drop m)
   execute (Give x e) m = Goes (two (Evaluate e) (Initialize (Give x e)) m)
   execute (Init p local offset k e) m = Goes (two (Evaluate e) (Initialize (Init p local offset k e)) m)
-  execute (Fill p local offset bytes unit e) m = Goes (two (Designate e) (Initialize (Fill p local offset bytes unit e)) m)
+  execute (Fill p local offset bytes unit e) m =
+      Goes (two (Designate e) (Initialize (Fill p local offset bytes unit e)) m)
   execute (Block ds ss) m = doing (enter ops ds) m (λ _ t. Goes (two (Rest ss) (Leave ds) t))
   execute (If p k e a b) m = Goes (two (Evaluate e) (Branch (If p k e a b)) m)
   execute (While p k e b) m = Goes (one (Test (Before (Some (p, k, e)) None b)) m)
   execute (Do_while p k b e) m = Goes (two (Execute b) (Again (Behind p k e b)) m)
-  execute (For ds first t step b) m = doing (enter ops ds) m (λ _ r. Goes (three (Rest first) (Test (Before t step b)) (Leave ds) r))
+  execute (For ds first t step b) m =
+      doing (enter ops ds) m (λ _ r. Goes (three (Rest first) (Test (Before t step b)) (Leave ds) r))
   execute (Switch p k e ds ls ss) m = Goes (two (Evaluate e) (Choose_label (Switch p k e ds ls ss)) m)
   execute Break m = jumped flow.Breaks m.work m
   execute Continue m = jumped flow.Continues m.work m
@@ -361,13 +394,17 @@ module _ {M : Type 0} (ops : Operations M) (funs : List Fun) where
   abbrev pub initialize : St → Moment M → Act (Moment M) Ending
   initialize (Give x e) m = doing (set_variable x (Some (first_of m.values))) (less_value m) (λ _ t. Goes t)
   initialize (Init p local offset k e) m =
-      doing (part_of_local ops p local offset >>= λ to. store ops k to (first_of m.values)) (less_value m) (λ _ t. Goes t)
+      doing (part_of_local ops p local offset >>= λ to. store ops k to (first_of m.values)) (less_value m)
+      (λ _ t. Goes t)
   initialize (Fill p local offset bytes unit e) m =
-      doing (part_of_local ops p local offset >>= λ to. copy ops p bytes unit (first_place m.places) to) (less_place m) (λ _ t. Goes t)
+      doing (part_of_local ops p local offset >>= λ to. copy ops p bytes unit (first_place m.places) to) (less_place m)
+      (λ _ t. Goes t)
   initialize _ m = Goes m
 
   abbrev pub branch : St → Moment M → Act (Moment M) Ending
-  branch (If p k e a b) m = doing (test ops p k (first_of m.values)) (less_value m) (λ c t. Goes (if c then one (Execute a) t else one (Execute b) t))
+  branch (If p k e a b) m =
+      doing (test ops p k (first_of m.values)) (less_value m)
+      (λ c t. Goes (if c then one (Execute a) t else one (Execute b) t))
   branch _ m = Goes (less_value m)
 
   abbrev pub at_test : Loop → Moment M → Act (Moment M) Ending
@@ -382,9 +419,11 @@ module _ {M : Type 0} (ops : Operations M) (funs : List Fun) where
   abbrev pub tested : Loop → Moment M → Act (Moment M) Ending
   tested (Before None u b) m = Goes (two (Execute b) (Again (Before None u b)) (less_value m))
   tested (Before (Some t) u b) m =
-      doing (test ops t.0 t.1 (first_of m.values)) (less_value m) (λ c r. Goes (if c then two (Execute b) (Again (Before (Some t) u b)) r else r))
+      doing (test ops t.0 t.1 (first_of m.values)) (less_value m)
+      (λ c r. Goes (if c then two (Execute b) (Again (Before (Some t) u b)) r else r))
   tested (Behind p k e b) m =
-      doing (test ops p k (first_of m.values)) (less_value m) (λ c r. if c then turned_to (Execute b ∷ Again (Behind p k e b) ∷ r.work) r else Goes r)
+      doing (test ops p k (first_of m.values)) (less_value m)
+      (λ c r. if c then turned_to (Execute b ∷ Again (Behind p k e b) ∷ r.work) r else Goes r)
 
   abbrev pub again : Loop → Moment M → Act (Moment M) Ending
   again (Before t None b) m = turned_to (Test (Before t None b) ∷ m.work) m
@@ -397,7 +436,8 @@ module _ {M : Type 0} (ops : Operations M) (funs : List Fun) where
 
   abbrev pub choose_label : St → Moment M → Act (Moment M) Ending
   choose_label (Switch p k e ds ls ss) m =
-      doing (enter ops ds >> find_label ops p k (first_of m.values) ls (default_of ls)) (less_value m) (λ o t. Goes (to_label ss ds o t))
+      doing (enter ops ds >> find_label ops p k (first_of m.values) ls (default_of ls)) (less_value m)
+      (λ o t. Goes (to_label ss ds o t))
   choose_label _ m = Goes (less_value m)
 
   -- ---- acts

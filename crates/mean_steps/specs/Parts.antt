@@ -1,5 +1,6 @@
 -- What the parts of a run do that neither read nor put: each gives a value and a state to go on from, or the run ends.
-use Rattle.std.specs.Prelude.{ℕ, zero, suc, ◌+◌, ◌/◌, Bool, true, false, List, [], ◌∷◌, replicate, Option, Some, None, Result, Ok, Err, slice_get, slice_set, slice_index_or}
+use Rattle.std.specs.Prelude.{ℕ, zero, suc, ◌+◌, ◌/◌, Bool, true, false, List, [], ◌∷◌, replicate, Option, Some, None}
+use Rattle.std.specs.Prelude.{Result, Ok, Err, slice_get, slice_set, slice_index_or}
 use Rattle.ck_base.specs.declared.positions.Pos.{Pos}
 use Rattle.ck_int.specs.declared.kinds.CmpOp.TheVariants.{Eq}
 use Rattle.cap_ops.specs.Permissions.{data_permissions}
@@ -13,7 +14,8 @@ use Rattle.obj_mem.specs.declared.ending.UnitFault.{UnitFault}
 use Rattle.cheri_c_sem.specs.Kinds.{Kind, bytes_of, read_as, nothing}
 use Rattle.cheri_c_sem.specs.Operations.{Operations, compare_by, is_true}
 use Rattle.cheri_c_sem.specs.Steps.{fault_end, unit_end}
-use Rattle.cheri_c_sem.specs.Tree.{Narrowing, Declared, Simple, Objects, Label, Case, Default, Parameter, In_variable, In_object, At_end, Gives_nothing, Gives_zero, Lacks, Fun}
+use Rattle.cheri_c_sem.specs.Tree.{Narrowing, Declared, Simple, Objects, Label, Case, Default, Parameter, In_variable}
+use Rattle.cheri_c_sem.specs.Tree.{In_object, At_end, Gives_nothing, Gives_zero, Lacks, Fun}
 use Rattle.cheri_c_sem.specs.Meaning.{Place, In, At, position_of, capability_of, further}
 use Rattle.cheri_c_sem.specs.Statements.{label_value}
 use Rattle.cheri_c_sem.specs.Calls.{add_locals, end_locals}
@@ -108,7 +110,8 @@ module _ {M : Type 0} (ops : Operations M) where
   abbrev pub copy_units : ℕ → (unit at : ℕ) → Place → Place → Part M (Unit {0})
   copy_units zero unit at from to = give tt
   copy_units (suc j) unit at from to = do
-    m ← λ n. unit_answer (position_of from) (position_of to) (ops.copy_unit n.mem (further (capability_of from) at) (further (capability_of to) at) unit) n
+    m ← λ n. unit_answer (position_of from) (position_of to)
+        (ops.copy_unit n.mem (further (capability_of from) at) (further (capability_of to) at) unit) n
     set_memory m
     copy_units j unit (at + unit) from to
 
@@ -183,7 +186,13 @@ module _ {M : Type 0} (ops : Operations M) where
 
   abbrev pub frame : Option ℕ → ℕ → Fun → Part M (Unit {0})
   frame None j f = ends (ending.Stack f.name)
-  frame (Some address) j f = λ n. On tt (record n { vars = replicate f.vars None; first = ops.count n.mem; mem = add_locals ops n.mem address j 0 f.objects; frame = address })
+  frame (Some address) j f =
+      λ n. On tt (record n {
+        vars = replicate f.vars None;
+        first = ops.count n.mem;
+        mem = add_locals ops n.mem address j 0 f.objects;
+        frame = address;
+      })
 
   abbrev pub pass_one : Pos → Parameter → Value → Part M (Unit {0})
   pass_one p (In_variable x) v = set_variable x (Some v)

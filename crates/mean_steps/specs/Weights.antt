@@ -2,8 +2,12 @@
 use Rattle.std.specs.Prelude.{ℕ, zero, suc, ◌+◌, List, [], ◌∷◌, Option, Some, None}
 use Rattle.ck_base.specs.declared.positions.Pos.{Pos}
 use Rattle.cheri_c_sem.specs.Kinds.{Kind}
-use Rattle.cheri_c_sem.specs.Tree.{Ex, Load, Aggregate, Pointer_to, Convert, Discard, Unary, Not, Binary, Compare, And, Or, Conditional, Comma, Assign, Copy, Compound, Call, Library, Deref, Member, Exs, Nil, Cons, St, Do, Give, Init, Fill, Block, If, While, Do_while, For, Switch, Break, Continue, Return, Empty, Sts, End, Seq, Fun}
-use Rattle.mean_steps.specs.Machine.{Loop, Before, Behind, Item, Evaluate, Designate, Choose, Choose_place, Begin, Execute, Rest, Branch, Test, Tested, Again, Choose_label, Moment}
+use Rattle.cheri_c_sem.specs.Tree.{Ex, Load, Aggregate, Pointer_to, Convert, Discard, Unary, Not, Binary, Compare, And}
+use Rattle.cheri_c_sem.specs.Tree.{Or, Conditional, Comma, Assign, Copy, Compound, Call, Library, Deref, Member, Exs}
+use Rattle.cheri_c_sem.specs.Tree.{Nil, Cons, St, Do, Give, Init, Fill, Block, If, While, Do_while, For, Switch, Break}
+use Rattle.cheri_c_sem.specs.Tree.{Continue, Return, Empty, Sts, End, Seq, Fun}
+use Rattle.mean_steps.specs.Machine.{Loop, Before, Behind, Item, Evaluate, Designate, Choose, Choose_place, Begin}
+use Rattle.mean_steps.specs.Machine.{Execute, Rest, Branch, Test, Tested, Again, Choose_label, Moment}
 
 -- ---- trees
 

@@ -1,5 +1,6 @@
 -- Types that are const, and types that are not there.
-use Rattle.std.proofs.Common.{◌≡◌, ℕ, zero, suc, ◌+◌, ◌-◌, ◌%◌, ◌^◌, ◌<◌, ◌≤◌, [], ◌∷◌, ◌++◌, true, false, ltb, List, length, get_or, Option, Some, None, refl, sym, ap, subst, ◌⊎◌, inl, inr, ◌∙◌, arith}
+use Rattle.std.proofs.Common.{◌≡◌, ℕ, zero, suc, ◌+◌, ◌-◌, ◌%◌, ◌^◌, ◌<◌, ◌≤◌, [], ◌∷◌, ◌++◌, true, false, ltb, List}
+use Rattle.std.proofs.Common.{length, get_or, Option, Some, None, refl, sym, ap, subst, ◌⊎◌, inl, inr, ◌∙◌, arith}
 use Rattle.std.specs.Prelude.{slice_get}
 use Rattle.std.proofs.lemmas.Bool.{ltb-true, ltb-false}
 use Rattle.std.proofs.lemmas.Option.{slice_get-get_or, slice_get_past, same_Some}
@@ -11,7 +12,8 @@ use Rattle.mean_types.specs.declared.types.TypeFacts.{TypeFacts}
 use Rattle.mean_types.specs.Facts.{AreOwn, AreFactsOf, AreTypesOf}
 use Rattle.std.proofs.lemmas.List.{length_push}
 
-pub const_step : (types : List CType) (d t : ℕ) → 0 < d → is_const_within d types t ≡ is_const_of (slice_get types t) (is_const_within (d - 1) types)
+pub const_step : (types : List CType) (d t : ℕ) → 0 < d →
+    is_const_within d types t ≡ is_const_of (slice_get types t) (is_const_within (d - 1) types)
 unfolding is_const_within
 const_step types zero t h = absurd (omega arith)
 const_step types (suc d) t h = let e : suc d - 1 ≡ d = omega arith in rw e refl
@@ -21,7 +23,8 @@ unfolding is_const_within
 const_zero types zero t h = refl
 const_zero types (suc d) t h = absurd (omega arith)
 
-pub there : {A : Type 0} (xs : List A) (k : ℕ) (x : A) → true ≡ ltb k (length xs) → x ≡ get_or xs k x → slice_get xs k ≡ Some x
+pub there : {A : Type 0} (xs : List A) (k : ℕ) (x : A) → true ≡ ltb k (length xs) → x ≡ get_or xs k x →
+    slice_get xs k ≡ Some x
 there xs k x lt e = slice_get-get_or xs k x (ltb-true k (length xs) (sym lt)) ∙ ap Some (sym e)
 
 pub past : {A : Type 0} (xs : List A) (k : ℕ) → false ≡ ltb k (length xs) → slice_get xs k ≡ None
@@ -48,7 +51,8 @@ own_none : (o : Option CType) (f : TypeFacts) → o ≡ None → AreOwn None f �
 own_none o f e h = rw e h
 
 -- what is known of a type that is not there
-pub facts_nowhere : (types : List CType) (t : ℕ) (f : TypeFacts) → slice_get types t ≡ None → AreOwn None f → f.constant ≡ false → f.size ≡ 0 → f.align ≡ 1 → AreFactsOf types t f
+pub facts_nowhere : (types : List CType) (t : ℕ) (f : TypeFacts) → slice_get types t ≡ None → AreOwn None f →
+    f.constant ≡ false → f.size ≡ 0 → f.align ≡ 1 → AreFactsOf types t f
 facts_nowhere types t f none own constant size align = record {
   own = own_none (bare types t) f (bare_nowhere (length types) types t none) own;
   constant = constant ∙ sym (const_nowhere (length types) types t none);
@@ -58,22 +62,26 @@ facts_nowhere types t f none own constant size align = record {
 
 -- ---- the table
 
-pub facts_missing : (types : List CType) (facts : List TypeFacts) (t : ℕ) (f : TypeFacts) → AreTypesOf types facts → false ≡ ltb t (length facts) → AreOwn None f → f.constant ≡ false → f.size ≡ 0 → f.align ≡ 1 → AreFactsOf types t f
+pub facts_missing : (types : List CType) (facts : List TypeFacts) (t : ℕ) (f : TypeFacts) → AreTypesOf types facts →
+    false ≡ ltb t (length facts) → AreOwn None f → f.constant ≡ false → f.size ≡ 0 → f.align ≡ 1 → AreFactsOf types t f
 facts_missing types facts t f all lt own constant size align =
     let e = all.count in
     let le = ltb-false t (length facts) (sym lt) in
     facts_nowhere types t f (slice_get_past types t (omega arith)) own constant size align
 
-pub facts_found : (types : List CType) (facts : List TypeFacts) (t : ℕ) (f : TypeFacts) → AreTypesOf types facts → t < 2 ^ 32 → true ≡ ltb t (length facts) → f ≡ get_or facts t f → AreFactsOf types t f
+pub facts_found : (types : List CType) (facts : List TypeFacts) (t : ℕ) (f : TypeFacts) → AreTypesOf types facts →
+    t < 2 ^ 32 → true ≡ ltb t (length facts) → f ≡ get_or facts t f → AreFactsOf types t f
 facts_found types facts t f all small lt e = all.each t f small (there facts t f lt e)
 
-get_push : {A : Type 0} (xs : List A) (x : A) (k : ℕ) (y : A) → slice_get (xs ++ x ∷ []) k ≡ Some y → (slice_get xs k ≡ Some y) ⊎ ((k ≡ length xs) × (y ≡ x))
+get_push : {A : Type 0} (xs : List A) (x : A) (k : ℕ) (y : A) → slice_get (xs ++ x ∷ []) k ≡ Some y →
+    (slice_get xs k ≡ Some y) ⊎ ((k ≡ length xs) × (y ≡ x))
 get_push [] x zero y e = inr (refl, sym (same_Some x y e))
 get_push [] x (suc k) y e = inl e
 get_push (z ∷ xs) x zero y e = inl e
 get_push (z ∷ xs) x (suc k) y e = behind_first (get_push xs x k y e)
   where
-    behind_first : (slice_get xs k ≡ Some y) ⊎ ((k ≡ length xs) × (y ≡ x)) → (slice_get xs k ≡ Some y) ⊎ ((suc k ≡ suc (length xs)) × (y ≡ x))
+    behind_first : (slice_get xs k ≡ Some y) ⊎ ((k ≡ length xs) × (y ≡ x)) →
+        (slice_get xs k ≡ Some y) ⊎ ((suc k ≡ suc (length xs)) × (y ≡ x))
     behind_first (inl q) = inl q
     behind_first (inr q) = inr (ap suc q.0, q.1)
 
@@ -85,10 +93,13 @@ pub record IsBegun (types : List CType) (facts : List TypeFacts) (n : ℕ) : Typ
 pub begun_none : (types : List CType) → IsBegun types [] 0
 begun_none types = record { count = refl; each = λ t f h e. absurd (let g : None ≡ Some f = e in cc) }
 
-pub begun_all : (types : List CType) (facts : List TypeFacts) (n : ℕ) → IsBegun types facts n → n ≡ length types → AreTypesOf types facts
+pub begun_all : (types : List CType) (facts : List TypeFacts) (n : ℕ) → IsBegun types facts n → n ≡ length types →
+    AreTypesOf types facts
 begun_all types facts n b e = record { count = b.count ∙ e; each = b.each }
 
-pushed_each : (types : List CType) (facts : List TypeFacts) (n : ℕ) (g : TypeFacts) → IsBegun types facts n → AreFactsOf types (n % 2 ^ 32) g → (t : ℕ) (f : TypeFacts) → t < 2 ^ 32 → slice_get (facts ++ g ∷ []) t ≡ Some f → AreFactsOf types t f
+pushed_each : (types : List CType) (facts : List TypeFacts) (n : ℕ) (g : TypeFacts) → IsBegun types facts n →
+    AreFactsOf types (n % 2 ^ 32) g → (t : ℕ) (f : TypeFacts) → t < 2 ^ 32 → slice_get (facts ++ g ∷ []) t ≡ Some f →
+    AreFactsOf types t f
 pushed_each types facts n g b h t f small e = by_place (get_push facts g t f e)
   where
     by_place : (slice_get facts t ≡ Some f) ⊎ ((t ≡ length facts) × (f ≡ g)) → AreFactsOf types t f
@@ -99,5 +110,7 @@ pushed_each types facts n g b h t f small e = by_place (get_push facts g t f e)
         let m : n % 2 ^ 32 ≡ t = omega arith in
         subst (λ x. AreFactsOf types t x) (sym q.1) (subst (λ x. AreFactsOf types x g) m h)
 
-pub begun_more : (types : List CType) (facts : List TypeFacts) (n : ℕ) (g : TypeFacts) → IsBegun types facts n → AreFactsOf types (n % 2 ^ 32) g → IsBegun types (facts ++ g ∷ []) (n + 1)
-begun_more types facts n g b h = record { count = length_push facts g ∙ ap (λ k. k + 1) b.count; each = pushed_each types facts n g b h }
+pub begun_more : (types : List CType) (facts : List TypeFacts) (n : ℕ) (g : TypeFacts) → IsBegun types facts n →
+    AreFactsOf types (n % 2 ^ 32) g → IsBegun types (facts ++ g ∷ []) (n + 1)
+begun_more types facts n g b h =
+    record { count = length_push facts g ∙ ap (λ k. k + 1) b.count; each = pushed_each types facts n g b h }

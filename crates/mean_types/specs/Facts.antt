@@ -3,7 +3,8 @@ use Rattle.std.specs.Prelude.{◌≡◌, ℕ, ◌<◌, ◌≤◌, ◌^◌, List,
 use Rattle.c_tree.specs.Layout.{bare, size_limit}
 use Rattle.c_tree.specs.declared.typed.CType.{CType}
 use Rattle.obj_mem.specs.Needs.{is_const}
-use Rattle.cheri_c_sem.specs.Types.{size_in, align_in, scalar_of, is_record, is_void, is_pointer, pointee_of, result_type_of}
+use Rattle.cheri_c_sem.specs.Types.{size_in, align_in, scalar_of, is_record, is_void, is_pointer, pointee_of}
+use Rattle.cheri_c_sem.specs.Types.{result_type_of}
 use Rattle.mean_types.specs.Views.{kind_of}
 use Rattle.mean_types.specs.declared.types.TypeFacts.{TypeFacts}
 

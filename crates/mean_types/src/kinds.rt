@@ -1,7 +1,8 @@
 //! How the scalars of a program are kept, and what is done with them apart from memory (C11 6.2.5, 6.3).
 ghost use Rattle.std.specs.Prelude.{◌≡◌, Some, option_map};
 ghost use Rattle.obj_mem.specs.Values.{value_of};
-ghost use Rattle.cheri_c_sem.specs.Kinds.{int_bytes, bytes_of, address_kind, int_kind, null_at, zero_of, number_of, truth, read_as};
+ghost use Rattle.cheri_c_sem.specs.Kinds.{int_bytes, bytes_of, address_kind, int_kind, null_at, zero_of, number_of};
+ghost use Rattle.cheri_c_sem.specs.Kinds.{truth, read_as};
 ghost use Rattle.cheri_c_sem.specs.Statements.{label_value};
 ghost use Rattle.cheri_c_sem.specs.Types.{scalar_of, promoted};
 ghost use Rattle.mean_types.specs.Views.{kind_of};

@@ -84,7 +84,8 @@ fn bytes_that_were_not_written(rt: HostRuntime) {
     );
 }
 
-// A stored pointer keeps its tag; a byte of it that is stored over itself clears it, and has no number without addresses.
+// A stored pointer keeps its tag; a byte of it that is stored over itself clears it, and has no number without
+// addresses.
 #[test]
 fn pointers_in_memory(rt: HostRuntime) {
     let map = map(rt.alloc()).expect(&rt, "an answer");

@@ -21,7 +21,8 @@ use Rattle.obj_mem.proofs.Identity.{identical_agrees_law}
 negated_same : (r q : Result Bool Fault) → Answers ◌≡◌ r q → Answers ◌≡◌ (negated r) (negated q)
 negated_same r q h = onward_both ◌≡◌ ◌≡◌ r q _ _ h (λ x y e. ap not e)
 
-module _ (s t : List Shape) (functions : ℕ) (a : Addresses) (same : Paired SameShape s t) (sp : IsSpread t functions a) where
+module _ (s t : List Shape) (functions : ℕ) (a : Addresses) (same : Paired SameShape s t)
+    (sp : IsSpread t functions a) where
   clears : (v : Value) → Answers ◌≡◌ (clear Strict s v) (clear (Placed a) t v)
   clears (Int n) = refl
   clears (Raw x u) = refl
@@ -64,13 +65,16 @@ module _ (s t : List Shape) (functions : ℕ) (a : Addresses) (same : Paired Sam
   offsets (Fun f) = tt
   offsets (Live o l h at p) = refl
 
-  equalities : (v w : Value) → IsGood s functions v → IsGood s functions w → Answers ◌≡◌ (equal Strict s v w) (equal (Placed a) t v w)
+  equalities : (v w : Value) → IsGood s functions v → IsGood s functions w →
+      Answers ◌≡◌ (equal Strict s v w) (equal (Placed a) t v w)
   equalities = equal_agrees_law s t functions a same sp
 
-  orders : (signed : Bool) (v w : Value) → IsGood s functions v → IsGood s functions w → Answers ◌≡◌ (less Strict s signed v w) (less (Placed a) t signed v w)
+  orders : (signed : Bool) (v w : Value) → IsGood s functions v → IsGood s functions w →
+      Answers ◌≡◌ (less Strict s signed v w) (less (Placed a) t signed v w)
   orders = less_agrees_law s t functions a same sp
 
-  comparisons : (signed : Bool) (o : CmpOp) (v w : Value) → IsGood s functions v → IsGood s functions w → Answers ◌≡◌ (compare Strict s signed o v w) (compare (Placed a) t signed o v w)
+  comparisons : (signed : Bool) (o : CmpOp) (v w : Value) → IsGood s functions v → IsGood s functions w →
+      Answers ◌≡◌ (compare Strict s signed o v w) (compare (Placed a) t signed o v w)
   comparisons signed Lt v w g h = orders signed v w g h
   comparisons signed Le v w g h = negated_same _ _ (orders signed w v h g)
   comparisons signed Gt v w g h = orders signed w v h g
@@ -78,10 +82,12 @@ module _ (s t : List Shape) (functions : ℕ) (a : Addresses) (same : Paired Sam
   comparisons signed Eq v w g h = equalities v w g h
   comparisons signed Ne v w g h = negated_same _ _ (equalities v w g h)
 
-  differences : (size : ℕ) (v w : Value) → IsGood s functions v → IsGood s functions w → Answers ◌≡◌ (difference Strict s size v w) (difference (Placed a) t size v w)
+  differences : (size : ℕ) (v w : Value) → IsGood s functions v → IsGood s functions w →
+      Answers ◌≡◌ (difference Strict s size v w) (difference (Placed a) t size v w)
   differences size v w g h =
       let f : ℕ → Result ℕ Fault = λ n. Ok (binary_of op.Div kind.I64 n size) in
-      onward_both ◌≡◌ ◌≡◌ (distance Strict s v w) (distance (Placed a) t v w) f f (distance_agrees_law s t functions a same sp v w g h) (λ x y e. ap (λ n. binary_of op.Div kind.I64 n size) e)
+      onward_both ◌≡◌ ◌≡◌ (distance Strict s v w) (distance (Placed a) t v w) f f
+      (distance_agrees_law s t functions a same sp v w g h) (λ x y e. ap (λ n. binary_of op.Div kind.I64 n size) e)
 
   conditions : (v : Value) → IsGood s functions v → Answers ◌≡◌ (is_true Strict s v) (is_true (Placed a) t v)
   conditions v g = let z : 0 < 2 ^ 64 = omega arith in negated_same _ _ (equalities v (Raw 0 0) g (z, z))

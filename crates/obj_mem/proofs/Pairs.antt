@@ -4,13 +4,15 @@ use Rattle.std.specs.Prelude.{slice_get, slice_set}
 use Rattle.obj_mem.specs.Agreement.{Paired}
 
 module _ {A B : Type 0} (R : A → B → Type 0) where
-  pub join_both : (xs : List A) (ys : List B) (us : List A) (vs : List B) → Paired R xs ys → Paired R us vs → Paired R (xs ++ us) (ys ++ vs)
+  pub join_both : (xs : List A) (ys : List B) (us : List A) (vs : List B) → Paired R xs ys → Paired R us vs →
+      Paired R (xs ++ us) (ys ++ vs)
   join_both [] [] us vs h k = k
   join_both [] (y ∷ ys) us vs h k = absurd h
   join_both (x ∷ xs) [] us vs h k = absurd h
   join_both (x ∷ xs) (y ∷ ys) us vs h k = (h.0, join_both xs ys us vs h.1 k)
 
-  pub set_both : (i : ℕ) (xs : List A) (ys : List B) (x : A) (y : B) → Paired R xs ys → R x y → Paired R (slice_set xs i x) (slice_set ys i y)
+  pub set_both : (i : ℕ) (xs : List A) (ys : List B) (x : A) (y : B) → Paired R xs ys → R x y →
+      Paired R (slice_set xs i x) (slice_set ys i y)
   set_both i [] [] x y h r = tt
   set_both i [] (b ∷ ys) x y h r = absurd h
   set_both i (a ∷ xs) [] x y h r = absurd h

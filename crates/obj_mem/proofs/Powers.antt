@@ -1,5 +1,6 @@
 -- Alignments are powers of two, so that a multiple of an object's alignment is one of its length's.
-use Rattle.std.proofs.Common.{◌≡◌, ℕ, zero, suc, ◌+◌, ◌-◌, ◌*◌, ◌/◌, ◌%◌, ◌^◌, ◌≤◌, max, Bool, true, false, List, [], ◌∷◌, length, Option, Some, None, refl, sym, ap, ◌∙◌, arith, subst, inl, inr}
+use Rattle.std.proofs.Common.{◌≡◌, ℕ, zero, suc, ◌+◌, ◌-◌, ◌*◌, ◌/◌, ◌%◌, ◌^◌, ◌≤◌, max, Bool, true, false, List, []}
+use Rattle.std.proofs.Common.{◌∷◌, length, Option, Some, None, refl, sym, ap, ◌∙◌, arith, subst, inl, inr}
 use Rattle.std.specs.Prelude.{slice_get, nat_le, if◌then◌else◌}
 use Rattle.std.proofs.lemmas.Bool.{cases_lt}
 use Rattle.std.proofs.lemmas.Nat.{pow-add, div-add-mod'}
@@ -12,7 +13,8 @@ use Rattle.cap_concentrate.proofs.Owned.{alignment_power}
 use Rattle.c_tree.specs.declared.typed.CType.{CType}
 use Rattle.c_tree.specs.declared.typed.CType.TheVariants as types
 use Rattle.c_tree.specs.declared.typed.Member.{Member}
-use Rattle.c_tree.specs.Layout.{Extent, size_limit, bytes_of, scalar, with_extent, behind, beside, no_members, members, whole, times, extent_of, extent_within, extent}
+use Rattle.c_tree.specs.Layout.{Extent, size_limit, bytes_of, scalar, with_extent, behind, beside, no_members, members}
+use Rattle.c_tree.specs.Layout.{whole, times, extent_of, extent_within, extent}
 use Rattle.obj_mem.specs.Legal.{ObjectNeed, alignment_of}
 use Rattle.obj_mem.specs.Needs.{need_by, need_of}
 
@@ -59,30 +61,41 @@ abbrev KeepsPower : (Extent → Extent → Extent) → Type 0
 KeepsPower place = (x before : Extent) → IsPower x.align → IsPower before.align → IsPower (place x before).align
 
 behind_power : KeepsPower behind
-behind_power x before p q = power_max before.align (max x.align (alignment x.size)) q (power_max x.align (alignment x.size) p (power_alignment x.size))
+behind_power x before p q =
+    power_max before.align (max x.align (alignment x.size)) q
+    (power_max x.align (alignment x.size) p (power_alignment x.size))
 
 beside_power : KeepsPower beside
-beside_power x before p q = power_max before.align (max x.align (alignment x.size)) q (power_max x.align (alignment x.size) p (power_alignment x.size))
+beside_power x before p q =
+    power_max before.align (max x.align (alignment x.size)) q
+    (power_max x.align (alignment x.size) p (power_alignment x.size))
 
-members_power : (place : Extent → Extent → Extent) → KeepsPower place → (go : ℕ → Option Extent) → AllPowers go → (ms : List Member) (before y : Extent) → IsPower before.align → members place go ms before ≡ Some y → IsPower y.align
+members_power : (place : Extent → Extent → Extent) → KeepsPower place → (go : ℕ → Option Extent) → AllPowers go →
+    (ms : List Member) (before y : Extent) → IsPower before.align → members place go ms before ≡ Some y →
+    IsPower y.align
 unfolding members
 members_power place k go g [] before y p e = let q : before ≡ y = cc in subst (λ x. IsPower x.align) q p
-members_power place k go g (m ∷ ms) before y p e = by (go m.of) refl e (λ x q. members_power place k go g ms (place x before) y (k x before (g m.of x q) p))
+members_power place k go g (m ∷ ms) before y p e =
+    by (go m.of) refl e (λ x q. members_power place k go g ms (place x before) y (k x before (g m.of x q) p))
   where
     by : (o : Option Extent) → go m.of ≡ o → with_extent o (λ x. members place go ms (place x before)) ≡ Some y
-        → ((x : Extent) → go m.of ≡ Some x → members place go ms (place x before) ≡ Some y → IsPower y.align) → IsPower y.align
+        → ((x : Extent) → go m.of ≡ Some x → members place go ms (place x before) ≡ Some y → IsPower y.align) →
+        IsPower y.align
     by None q e f = absurd cc
     by (Some x) q e f = f x q e
 
-whole_power : (o : Option Extent) (y : Extent) → ((x : Extent) → o ≡ Some x → IsPower x.align) → with_extent o whole ≡ Some y → IsPower y.align
+whole_power : (o : Option Extent) (y : Extent) → ((x : Extent) → o ≡ Some x → IsPower x.align) →
+    with_extent o whole ≡ Some y → IsPower y.align
 whole_power None y f e = absurd cc
-whole_power (Some x) y f e = let q : (whole x) ≡ Some y = e in let a : x.align ≡ y.align = ap (λ z. align_of z) q in subst IsPower a (f x refl)
+whole_power (Some x) y f e =
+    let q : (whole x) ≡ Some y = e in let a : x.align ≡ y.align = ap (λ z. align_of z) q in subst IsPower a (f x refl)
   where
     align_of : Option Extent → ℕ
     align_of None = 0
     align_of (Some z) = z.align
 
-times_power : (n : ℕ) (o : Option Extent) (y : Extent) → ((x : Extent) → o ≡ Some x → IsPower x.align) → with_extent o (times n) ≡ Some y → IsPower y.align
+times_power : (n : ℕ) (o : Option Extent) (y : Extent) → ((x : Extent) → o ≡ Some x → IsPower x.align) →
+    with_extent o (times n) ≡ Some y → IsPower y.align
 times_power n None y f e = absurd cc
 times_power zero (Some x) y f e = absurd cc
 times_power (suc k) (Some x) y f e = let a : x.align ≡ y.align = ap (λ z. align_of z) e in subst IsPower a (f x refl)
@@ -94,15 +107,18 @@ times_power (suc k) (Some x) y f e = let a : x.align ≡ y.align = ap (λ z. ali
 scalar_power : (n : ℕ) (y : Extent) → IsPower n → Some (scalar n) ≡ Some y → IsPower y.align
 scalar_power n y p e = let q : scalar n ≡ y = cc in subst (λ x. IsPower x.align) q p
 
-one_level : (c : Option CType) (go : ℕ → Option Extent) → AllPowers go → (y : Extent) → extent_of c go ≡ Some y → IsPower y.align
+one_level : (c : Option CType) (go : ℕ → Option Extent) → AllPowers go → (y : Extent) → extent_of c go ≡ Some y →
+    IsPower y.align
 one_level None go g y e = absurd cc
 one_level (Some types.Void) go g y e = absurd cc
 one_level (Some (types.Int k n)) go g y e = scalar_power (bytes_of k) y (power_bytes k) e
 one_level (Some (types.Cap s)) go g y e = scalar_power 16 y power_sixteen e
 one_level (Some (types.Pointer t)) go g y e = scalar_power 16 y power_sixteen e
 one_level (Some (types.Array t n)) go g y e = times_power n (go t) y (g t) e
-one_level (Some (types.Struct tag ms)) go g y e = whole_power _ y (λ x q. members_power behind behind_power go g ms no_members x power_one q) e
-one_level (Some (types.Union tag ms)) go g y e = whole_power _ y (λ x q. members_power beside beside_power go g ms no_members x power_one q) e
+one_level (Some (types.Struct tag ms)) go g y e =
+    whole_power _ y (λ x q. members_power behind behind_power go g ms no_members x power_one q) e
+one_level (Some (types.Union tag ms)) go g y e =
+    whole_power _ y (λ x q. members_power beside beside_power go g ms no_members x power_one q) e
 one_level (Some (types.Function t ps)) go g y e = absurd cc
 one_level (Some (types.Const t)) go g y e = g t y e
 one_level (Some (types.Incomplete tag)) go g y e = absurd cc
@@ -139,17 +155,21 @@ divides_max a b c p q e = elim (cases_lt b c) as (λ _. a % c ≡ 0) [
 ]
 
 -- a multiple of the object's alignment is one of its length's
-pub length_aligned : (n : ObjectNeed) → IsPower n.align → (base : ℕ) → base % alignment_of n ≡ 0 → base % alignment n.length ≡ 0
+pub length_aligned : (n : ObjectNeed) → IsPower n.align → (base : ℕ) → base % alignment_of n ≡ 0 →
+    base % alignment n.length ≡ 0
 length_aligned n p base e =
     divides_max base n.align (alignment n.length) p (power_alignment n.length)
-    (divides_max base 16 (max n.align (alignment n.length)) power_sixteen (power_max n.align (alignment n.length) p (power_alignment n.length)) e)
+    (divides_max base 16 (max n.align (alignment n.length)) power_sixteen
+    (power_max n.align (alignment n.length) p (power_alignment n.length)) e)
 
-need_by_power : (ts : List CType) (t permissions : ℕ) (o : Option Extent) → extent ts t ≡ o → IsPower (need_by o permissions).align
+need_by_power : (ts : List CType) (t permissions : ℕ) (o : Option Extent) → extent ts t ≡ o →
+    IsPower (need_by o permissions).align
 need_by_power ts t permissions None e = power_one
 need_by_power ts t permissions (Some x) e = by (nat_le x.size size_limit)
   where
     choice : Bool → ObjectNeed
-    choice b = if b then record { length = x.size; align = x.align; permissions = permissions } else record { length = 0; align = 1; permissions = permissions }
+    choice b = if b then record { length = x.size; align = x.align; permissions = permissions }
+        else record { length = 0; align = 1; permissions = permissions }
 
     by : (b : Bool) → IsPower (choice b).align
     by true = extent_power ts t x e

@@ -71,11 +71,14 @@ abbrev read_again : Mode → Result Value Fault
 read_again d = onward (overwritten d) (λ m. load d m (p 16) 16)
 
 address_stays : onward (read_again (Placed map)) (λ v. get_address (Placed map) [] v) ≡ Ok 131120
-unfolding store load owned alignment first_from bits capability_of bits_of with_bounds encoded_internal encoded_t encoded_b length_exponent
+unfolding store load owned alignment first_from bits capability_of bits_of with_bounds encoded_internal encoded_t
+    encoded_b length_exponent
 address_stays = refl
 
-tag_goes : onward (read_again (Placed map)) (λ v. onward (with_pointer (Placed map)) (λ m. load (Placed map) m v 4)) ≡ Err (F.Cause C.Tag)
-unfolding store load owned alignment first_from bits capability_of bits_of with_bounds encoded_internal encoded_t encoded_b length_exponent
+tag_goes : onward (read_again (Placed map)) (λ v. onward (with_pointer (Placed map)) (λ m. load (Placed map) m v 4))
+    ≡ Err (F.Cause C.Tag)
+unfolding store load owned alignment first_from bits capability_of bits_of with_bounds encoded_internal encoded_t
+    encoded_b length_exponent
 tag_goes = refl
 
 byte_of_pointer : overwritten Strict ≡ Err (F.Unspecified R.Address)
@@ -91,7 +94,8 @@ unfolding store load owned alignment first_from
 half_is_address = refl
 
 -- copies: 16 bytes keep the pointer, and bytes that were not written are carried on
-copied : onward (with_pointer Strict) (λ m. onward (store Strict m (a 0) 8 (Int 3)) (λ n. load Strict n (p 16) 16)) ≡ Ok x
+copied : onward (with_pointer Strict) (λ m. onward (store Strict m (a 0) 8 (Int 3)) (λ n. load Strict n (p 16) 16))
+    ≡ Ok x
 unfolding store load owned alignment first_from
 copied = refl
 
@@ -126,13 +130,18 @@ near = refl
 far : move Strict [] (a 0) 1064 ≡ Err (F.Unspecified R.Excursion)
 far = refl
 
-back : onward (move (Placed map) (start (Placed map)).shapes (a 0) 400) (λ v. move (Placed map) (start (Placed map)).shapes v (2 ^ 64 - 400)) ≡ Ok (a 0)
-unfolding keeps owned alignment first_from encoded_internal encoded_t encoded_b length_exponent base_of top_of placed corrected exponent mantissa whole_top high
+back : onward (move (Placed map) (start (Placed map)).shapes (a 0) 400)
+    (λ v. move (Placed map) (start (Placed map)).shapes v (2 ^ 64 - 400)) ≡ Ok (a 0)
+unfolding keeps owned alignment first_from encoded_internal encoded_t encoded_b length_exponent base_of top_of placed
+    corrected exponent mantissa whole_top high
 back = refl
 
 -- 20000 bytes away the tag is lost; the address comes back, and the tag doesn't
-lost : onward (move (Placed map) (start (Placed map)).shapes (a 0) 20000) (λ v. onward (move (Placed map) (start (Placed map)).shapes v (2 ^ 64 - 20000)) (λ w. load (Placed map) (start (Placed map)) w 1)) ≡ Err (F.Cause C.Tag)
-unfolding load keeps owned alignment first_from bits capability_of bits_of with_bounds encoded_internal encoded_t encoded_b length_exponent base_of top_of placed corrected exponent mantissa whole_top high
+lost : onward (move (Placed map) (start (Placed map)).shapes (a 0) 20000)
+    (λ v. onward (move (Placed map) (start (Placed map)).shapes v (2 ^ 64 - 20000))
+    (λ w. load (Placed map) (start (Placed map)) w 1)) ≡ Err (F.Cause C.Tag)
+unfolding load keeps owned alignment first_from bits capability_of bits_of with_bounds encoded_internal encoded_t
+    encoded_b length_exponent base_of top_of placed corrected exponent mantissa whole_top high
 lost = refl
 
 -- ---- narrowing to a member
@@ -175,7 +184,8 @@ unfolding load owned alignment first_from
 left_block = refl
 
 -- ---- the heap: null where the owned length doesn't fit in the rest
-too_large : onward (allocate (Placed map) no_objects (heap_start (Placed map)) 16777217) (λ r. Ok r.pointer) ≡ Ok (Raw 0 0)
+too_large : onward (allocate (Placed map) no_objects (heap_start (Placed map)) 16777217) (λ r. Ok r.pointer)
+    ≡ Ok (Raw 0 0)
 unfolding owned alignment first_from
 too_large = refl
 
@@ -183,6 +193,7 @@ all_of_it : onward (allocate (Placed map) no_objects (heap_start (Placed map)) 1
 unfolding owned alignment first_from
 all_of_it = refl
 
-strict_sum : onward (allocate Strict no_objects (heap_start Strict) 16777216) (λ r. Ok r.heap) ≡ Err (F.Unspecified R.Heap)
+strict_sum : onward (allocate Strict no_objects (heap_start Strict) 16777216) (λ r. Ok r.heap)
+    ≡ Err (F.Unspecified R.Heap)
 unfolding owned alignment first_from
 strict_sum = refl

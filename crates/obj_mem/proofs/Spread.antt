@@ -29,20 +29,29 @@ range_last : (xs ys : List (ℕ × ℕ)) → AllInRange (xs ++ ys) → AllInRang
 range_last [] ys h = h
 range_last (x ∷ xs) ys h = range_last xs ys h.2
 
-all_exact : (ns : List ObjectNeed) (bs : List ℕ) → AllPower ns → AreAligned ns bs → AllInRange (placed_at ns bs) → AreExact ns bs
+all_exact : (ns : List ObjectNeed) (bs : List ℕ) → AllPower ns → AreAligned ns bs → AllInRange (placed_at ns bs) →
+    AreExact ns bs
 all_exact [] [] p a r = tt
 all_exact [] (b ∷ bs) p a r = absurd a
 all_exact (n ∷ ns) [] p a r = absurd a
 all_exact (n ∷ ns) (b ∷ bs) p a r =
     let al = length_aligned n p.0 b a.0 in
-    let e = owned_exact b n.length (omega (arith, r.1)) al in
-    (record { based = record { from = r.0; to = r.1; owned_is = refl; aligned = al }; base_exact = e.0; top_exact = e.1 }, all_exact ns bs p.1 a.1 r.2)
+    let e = owned_exact b n.length (omega (arith, r.1)) al in (
+      record {
+        based = record { from = r.0; to = r.1; owned_is = refl; aligned = al };
+        base_exact = e.0;
+        top_exact = e.1;
+      },
+      all_exact ns bs p.1 a.1 r.2,
+    )
 
 pub objects_are_exact_law : ObjectsAreExact
 objects_are_exact_law weight p m l =
     let r = l.in_range in
     let objects = r.2.2.2.2 in
     let n = needs_of weight p in (
-      all_exact n.globals m.globals (globals_power p.types p.globals) l.globals (range_first (placed_at n.globals m.globals) (placed_at n.literals m.literals) objects),
-      all_exact n.literals m.literals (literals_power p.literals) l.literals (range_last (placed_at n.globals m.globals) (placed_at n.literals m.literals) objects),
+      all_exact n.globals m.globals (globals_power p.types p.globals) l.globals
+          (range_first (placed_at n.globals m.globals) (placed_at n.literals m.literals) objects),
+      all_exact n.literals m.literals (literals_power p.literals) l.literals
+          (range_last (placed_at n.globals m.globals) (placed_at n.literals m.literals) objects),
     )

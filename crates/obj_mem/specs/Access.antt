@@ -1,7 +1,9 @@
--- Loads, stores and copies through a value (CHERI ISAv9, capability checks; CHERI C). What fails comes in this order: a cause of the
--- access, which looks at no memory; an object that is not active; and in the strict mode a byte of padding, one that was not written,
--- and one of a stored pointer.
-use Rattle.std.specs.Prelude.{ℕ, zero, suc, ◌+◌, ◌*◌, ◌/◌, ◌%◌, ◌==◌, ◌&&◌, ◌||◌, not, nat_lt, Bool, true, false, List, [], ◌∷◌, ◌++◌, take, drop, find, Option, Some, None, Result, Ok, Err, slice_get, slice_set, if◌then◌else◌}
+-- Loads, stores and copies through a value (CHERI ISAv9, capability checks; CHERI C). What fails comes in this order: a
+-- cause of the access, which looks at no memory; an object that is not active; and in the strict mode a byte of
+-- padding, one that was not written, and one of a stored pointer.
+use Rattle.std.specs.Prelude.{ℕ, zero, suc, ◌+◌, ◌*◌, ◌/◌, ◌%◌, ◌==◌, ◌&&◌, ◌||◌, not, nat_lt, Bool, true, false, List}
+use Rattle.std.specs.Prelude.{[], ◌∷◌, ◌++◌, take, drop, find, Option, Some, None, Result, Ok, Err, slice_get}
+use Rattle.std.specs.Prelude.{slice_set, if◌then◌else◌}
 use Rattle.cap_ops.specs.declared.access.Access.{Access}
 use Rattle.cap_ops.specs.declared.access.Access.TheVariants as A
 use Rattle.cap_ops.specs.declared.access.Cause.{Cause}
@@ -16,7 +18,8 @@ use Rattle.obj_mem.specs.declared.ending.Fault.TheVariants as F
 use Rattle.obj_mem.specs.declared.ending.UnitFault.{UnitFault}
 use Rattle.obj_mem.specs.declared.ending.UnitFault.TheVariants as U
 use Rattle.obj_mem.specs.Values.{Value, Int, Live, Fun, Raw}
-use Rattle.obj_mem.specs.Objects.{Cell, Byte, Unwritten, PartOf, Life, Active, Inactive, Returned, Shape, Content, Note, Memory, Mode, is_strict, value_at, bytes_at, with_bytes, with_value, is_note_of}
+use Rattle.obj_mem.specs.Objects.{Cell, Byte, Unwritten, PartOf, Life, Active, Inactive, Returned, Shape, Content, Note}
+use Rattle.obj_mem.specs.Objects.{Memory, Mode, is_strict, value_at, bytes_at, with_bytes, with_value, is_note_of}
 
 -- ---- answers
 
@@ -62,7 +65,13 @@ reach a (Raw address upper) = trap C.Tag
 reach a (Fun f) = trap C.Sealed
 reach a (Live object low high offset permissions) =
     unless (find (misses low high offset permissions a) in_order)
-    (Ok (record { object = object; low = low; high = high; at = offset; carries = permits permissions LOAD_CAPABILITY }))
+    (Ok (record {
+      object = object;
+      low = low;
+      high = high;
+      at = offset;
+      carries = permits permissions LOAD_CAPABILITY;
+    }))
 
 abbrev pub outside_unless_active : {A : Type 0} → Life → Result A Fault → Result A Fault
 outside_unless_active Active r = r
@@ -83,8 +92,10 @@ abbrev pub padding_where : {A : Type 0} → Bool → Result A Fault → Result A
 padding_where true r = unspecified R.Padding
 padding_where false r = r
 
-abbrev pub at_place : {A : Type 0} → Mode → Memory → Spot → ℕ → Option Shape → Option Content → (Content → Result A Fault) → Result A Fault
-at_place d m s n (Some o) (Some c) f = outside_unless_active o.life (padding_where (is_strict d && takes_padding m.notes o s n) (f c))
+abbrev pub at_place : {A : Type 0} → Mode → Memory → Spot → ℕ → Option Shape → Option Content →
+    (Content → Result A Fault) → Result A Fault
+at_place d m s n (Some o) (Some c) f =
+    outside_unless_active o.life (padding_where (is_strict d && takes_padding m.notes o s n) (f c))
 at_place d m s n (Some o) None f = Err F.Outside
 at_place d m s n None c f = Err F.Outside
 
@@ -112,7 +123,8 @@ piece_of d m c s n (Some v) = if s.carries && n == 16 then Tagged v else Plain (
 piece_of d m c s n None = Plain (bytes_at d m.shapes c s.at n)
 
 abbrev pub fetch : Mode → Memory → Value → ℕ → Result Piece Fault
-fetch d m p n = onward (reach (load_access n) p) (λ s. at_spot d m s n (λ c. Ok (piece_of d m c s n (value_at c (s.at / 16)))))
+fetch d m p n = onward (reach (load_access n) p)
+    (λ s. at_spot d m s n (λ c. Ok (piece_of d m c s n (value_at c (s.at / 16)))))
 
 abbrev pub with_piece : Mode → List Shape → Content → ℕ → Piece → Content
 with_piece d shapes c i (Tagged v) = with_value c i v
@@ -121,7 +133,10 @@ with_piece d shapes c i (Plain cs) = with_bytes d shapes c i cs
 abbrev pub put : Mode → Memory → Value → ℕ → Piece → Result Memory Fault
 put d m p n u =
     onward (reach (store_access n u) p)
-    (λ s. at_spot d m s n (λ c. Ok (record m { contents = slice_set m.contents s.object (with_piece d m.shapes c s.at u) })))
+    (λ s. at_spot d m s n (λ c. Ok (record m {
+      contents = slice_set m.contents s.object
+          (with_piece d m.shapes c s.at u);
+    })))
 
 -- ---- load
 

@@ -1,12 +1,13 @@
--- Where the strict mode answers, the placed one answers alike, whatever the addresses: loads, stores, copies, and objects that come and
--- go.
+-- Where the strict mode answers, the placed one answers alike, whatever the addresses: loads, stores, copies, and
+-- objects that come and go.
 use Rattle.std.specs.Prelude.{◌≡◌, ℕ, List, [], ◌∷◌, Some, Result, Ok, Err, slice_get}
 use Rattle.obj_mem.specs.declared.ending.Fault.{Fault}
 use Rattle.obj_mem.specs.declared.ending.Fault.TheVariants as F
 use Rattle.obj_mem.specs.declared.ending.UnitFault.{UnitFault}
 use Rattle.obj_mem.specs.declared.ending.UnitFault.TheVariants as U
 use Rattle.obj_mem.specs.Values.{Value, Addresses}
-use Rattle.obj_mem.specs.Objects.{Cell, Byte, Unwritten, PartOf, Life, Active, Inactive, Returned, Shape, Content, Memory, Placed, Strict, add, end, rest, leave, zero_object, note_member}
+use Rattle.obj_mem.specs.Objects.{Cell, Byte, Unwritten, PartOf, Life, Active, Inactive, Returned, Shape, Content}
+use Rattle.obj_mem.specs.Objects.{Memory, Placed, Strict, add, end, rest, leave, zero_object, note_member}
 use Rattle.obj_mem.specs.Access.{load, store, copy_unit}
 
 -- ---- memories
@@ -81,12 +82,19 @@ abbrev pub Stands : Memory → ℕ → Type 0
 Stands m k = (s : Shape) → slice_get m.shapes k ≡ Some s → IsNotReturned s.life
 
 pub record MemoryAgrees (a : Addresses) : Type 0 where
-  pub loads : (m n : Memory) → SameMemory m n → (p : Value) (k : ℕ) → Answers ◌≡◌ (load Strict m p k) (load (Placed a) n p k)
-  pub stores : (m n : Memory) → SameMemory m n → (p : Value) (k : ℕ) (v : Value) → Answers SameMemory (store Strict m p k v) (store (Placed a) n p k v)
-  pub copies : (m n : Memory) → SameMemory m n → (p q : Value) (k : ℕ) → CopyAnswers SameMemory (copy_unit Strict m p q k) (copy_unit (Placed a) n p q k)
-  pub adds : (m n : Memory) → SameMemory m n → (length base base' : ℕ) → SameMemory (add Strict m length base) (add (Placed a) n length base')
-  pub zeros : (m n : Memory) → SameMemory m n → (k : ℕ) → SameMemory (zero_object Strict m k) (zero_object (Placed a) n k)
+  pub loads : (m n : Memory) → SameMemory m n → (p : Value) (k : ℕ) →
+      Answers ◌≡◌ (load Strict m p k) (load (Placed a) n p k)
+  pub stores : (m n : Memory) → SameMemory m n → (p : Value) (k : ℕ) (v : Value) →
+      Answers SameMemory (store Strict m p k v) (store (Placed a) n p k v)
+  pub copies : (m n : Memory) → SameMemory m n → (p q : Value) (k : ℕ) →
+      CopyAnswers SameMemory (copy_unit Strict m p q k) (copy_unit (Placed a) n p q k)
+  pub adds : (m n : Memory) → SameMemory m n → (length base base' : ℕ) →
+      SameMemory (add Strict m length base) (add (Placed a) n length base')
+  pub zeros : (m n : Memory) → SameMemory m n → (k : ℕ) →
+      SameMemory (zero_object Strict m k) (zero_object (Placed a) n k)
   pub rests : (m n : Memory) → SameMemory m n → (k : ℕ) → SameMemory (rest m k) (rest n k)
-  pub leaves : (m n : Memory) → SameMemory m n → (k : ℕ) → Stands n k → SameMemory (leave Strict m k) (leave (Placed a) n k)
+  pub leaves : (m n : Memory) → SameMemory m n → (k : ℕ) → Stands n k →
+      SameMemory (leave Strict m k) (leave (Placed a) n k)
   pub ends : (m n : Memory) → SameMemory m n → (k : ℕ) → SameMemory (end m k) (end n k)
-  pub notes : (m n : Memory) → SameMemory m n → (v : Value) (own : ℕ) → SameMemory (note_member Strict m v own) (note_member (Placed a) n v own)
+  pub notes : (m n : Memory) → SameMemory m n → (v : Value) (own : ℕ) →
+      SameMemory (note_member Strict m v own) (note_member (Placed a) n v own)

@@ -1,5 +1,7 @@
--- Operations on two pointers or capability integers, and calls through a value (C11 6.5.6, 6.5.8, 6.5.9, 6.5.2.2; CHERI C).
-use Rattle.std.specs.Prelude.{ℕ, ◌+◌, ◌-◌, ◌%◌, ◌^◌, ◌==◌, ◌&&◌, not, nat_lt, Bool, true, false, List, Option, Some, None, Result, Ok, Err, slice_get, if◌then◌else◌}
+-- Operations on two pointers or capability integers, and calls through a value (C11 6.5.6, 6.5.8, 6.5.9, 6.5.2.2; CHERI
+-- C).
+use Rattle.std.specs.Prelude.{ℕ, ◌+◌, ◌-◌, ◌%◌, ◌^◌, ◌==◌, ◌&&◌, not, nat_lt, Bool, true, false, List, Option, Some}
+use Rattle.std.specs.Prelude.{None, Result, Ok, Err, slice_get, if◌then◌else◌}
 use Rattle.ck_int.specs.declared.kinds.CmpOp.{CmpOp}
 use Rattle.ck_int.specs.declared.kinds.CmpOp.TheVariants.{Lt, Le, Gt, Ge, Eq, Ne}
 use Rattle.ck_int.specs.declared.kinds.IntKind.TheVariants as kind
@@ -41,7 +43,8 @@ unequal_where false = unspecified R.Address
 -- one object is compared by offsets, also when it has ended
 abbrev pub strict_equal : List Shape → Value → Value → Result Bool Fault
 strict_equal shapes (Live o low high at p) (Live o' low' high' at' p') =
-    if o == o' then Ok (at == at') else unequal_where (is_distinct (slice_get shapes o) at && is_distinct (slice_get shapes o') at')
+    if o == o' then Ok (at == at')
+    else unequal_where (is_distinct (slice_get shapes o) at && is_distinct (slice_get shapes o') at')
 strict_equal shapes (Live o low high at p) (Fun f) = unequal_where (is_inside (slice_get shapes o) at)
 strict_equal shapes (Fun f) (Live o low high at p) = unequal_where (is_inside (slice_get shapes o) at)
 strict_equal shapes (Fun f) (Fun g) = Ok (f == g)
@@ -86,7 +89,8 @@ strict_less signed v w = unspecified R.Address
 
 -- `<`: addresses are compared, as signed numbers where the common type is `__intcap_t`
 abbrev pub less : Mode → List Shape → Bool → Value → Value → Result Bool Fault
-less (Placed a) shapes signed v w = Ok (less_word signed (address_of a (base_in shapes) v) (address_of a (base_in shapes) w))
+less (Placed a) shapes signed v w =
+    Ok (less_word signed (address_of a (base_in shapes) v) (address_of a (base_in shapes) w))
 less Strict shapes signed v w = strict_less signed v w
 
 abbrev pub compare : Mode → List Shape → Bool → CmpOp → Value → Value → Result Bool Fault
@@ -103,7 +107,8 @@ abbrev pub less_by : ℕ → ℕ → ℕ
 less_by x y = (x + 2 ^ 64 - y) % 2 ^ 64
 
 abbrev pub strict_distance : Value → Value → Result ℕ Fault
-strict_distance (Live o low high at p) (Live o' low' high' at' p') = if o == o' then Ok (less_by at at') else unspecified R.Address
+strict_distance (Live o low high at p) (Live o' low' high' at' p') =
+    if o == o' then Ok (less_by at at') else unspecified R.Address
 strict_distance (Fun f) (Fun g) = if f == g then Ok 0 else unspecified R.Address
 strict_distance (Raw address upper) (Raw address' upper') = Ok (less_by address address')
 strict_distance v w = unspecified R.Address
@@ -136,7 +141,8 @@ strict_identical shapes v (Int n) = unspecified R.Address
 strict_identical shapes v w = Ok false
 
 abbrev pub identical : Mode → List Shape → Value → Value → Result Bool Fault
-identical (Placed a) shapes v w = Ok (same_tag (is_tagged v) (is_tagged w) && bits a (base_in shapes) v == bits a (base_in shapes) w)
+identical (Placed a) shapes v w =
+    Ok (same_tag (is_tagged v) (is_tagged w) && bits a (base_in shapes) v == bits a (base_in shapes) w)
 identical Strict shapes v w = strict_identical shapes v w
 
 -- ---- calls

@@ -8,8 +8,8 @@ use Rattle.obj_mem.specs.Values.{Value, Live, Addresses, null_with}
 use Rattle.obj_mem.specs.Objects.{Memory, Mode, Placed, Strict, object_alignment, add}
 use Rattle.obj_mem.specs.Access.{unspecified}
 
--- What a run knows of its heap is one number: in the placed mode the next free address; in the strict one the sum over all
--- allocations of owned length and object's alignment, which bounds what any map needs for them
+-- What a run knows of its heap is one number: in the placed mode the next free address; in the strict one the sum over
+-- all allocations of owned length and object's alignment, which bounds what any map needs for them
 abbrev pub heap_start : Mode → ℕ
 heap_start (Placed a) = a.heap
 heap_start Strict = 0
@@ -38,7 +38,8 @@ allocated d m n base heap = record {
 abbrev pub refused : Memory → ℕ → Allocation
 refused m heap = record { pointer = null_with 0; memory = m; heap = heap }
 
--- at the next suitably aligned address; null exactly where n exceeds the heap or the owned length doesn't fit in the rest
+-- at the next suitably aligned address; null exactly where n exceeds the heap or the owned length doesn't fit in the
+-- rest
 abbrev pub placed_allocate : Addresses → Memory → ℕ → ℕ → Allocation
 placed_allocate a m next n =
     let start = rounded_up next (allocation_alignment n) in

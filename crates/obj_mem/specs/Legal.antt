@@ -1,6 +1,7 @@
--- Which maps are legal for a program: where its parts may stand, so that each object has exact bounds of its own and none takes a byte
--- of another.
-use Rattle.std.specs.Prelude.{ℕ, ◌≡◌, ◌+◌, ◌*◌, ◌%◌, ◌^◌, ◌<◌, ◌≤◌, ◌⊎◌, ◌==◌, List, [], ◌∷◌, ◌++◌, length, find, Option, Some, slice_get}
+-- Which maps are legal for a program: where its parts may stand, so that each object has exact bounds of its own and
+-- none takes a byte of another.
+use Rattle.std.specs.Prelude.{ℕ, ◌≡◌, ◌+◌, ◌*◌, ◌%◌, ◌^◌, ◌<◌, ◌≤◌, ◌⊎◌, ◌==◌, List, [], ◌∷◌, ◌++◌, length, find}
+use Rattle.std.specs.Prelude.{Option, Some, slice_get}
 use Rattle.cap_concentrate.specs.Rounding.{Encodable, owned}
 use Rattle.obj_mem.specs.declared.map.Map.{Map}
 use Rattle.obj_mem.specs.declared.map.Frame.{Frame}
@@ -102,7 +103,8 @@ pub record IsFrame (n : FunctionNeed) (f : Frame) : Type 0 where
   pub slots : length f.slots ≡ length n.locals
   pub has_slot : (var : ℕ) (o : ObjectNeed) → slice_get n.locals var ≡ Some o → HasSlot o f var
   -- no two slots have a byte in common
-  pub apart : (var var' : ℕ) (s s' : Slot) → slot_of f var ≡ Some s → slot_of f var' ≡ Some s' → (var ≡ var' → ⊥) → Apart s.at s.length s'.at s'.length
+  pub apart : (var var' : ℕ) (s s' : Slot) → slot_of f var ≡ Some s → slot_of f var' ≡ Some s' → (var ≡ var' → ⊥) →
+      Apart s.at s.length s'.at s'.length
   -- a power of two, at least 16, of which the size is a multiple
   pub power : (k : ℕ) × (f.align ≡ 2 ^ k)
   pub align : 16 ≤ f.align

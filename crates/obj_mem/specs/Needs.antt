@@ -1,5 +1,6 @@
 -- What a program asks of its map: its objects and functions, with the sizes and alignments of their types.
-use Rattle.std.specs.Prelude.{ℕ, zero, suc, List, [], ◌∷◌, length, map, nat_le, Bool, true, false, not, Option, Some, None, slice_get, if◌then◌else◌}
+use Rattle.std.specs.Prelude.{ℕ, zero, suc, List, [], ◌∷◌, length, map, nat_le, Bool, true, false, not, Option, Some}
+use Rattle.std.specs.Prelude.{None, slice_get, if◌then◌else◌}
 use Rattle.std.specs.List.{filter}
 use Rattle.cap_ops.specs.Permissions.{data_permissions, const_permissions}
 use Rattle.c_tree.specs.Layout.{Extent, extent, size_limit}
@@ -16,7 +17,8 @@ use Rattle.obj_mem.specs.Legal.{ObjectNeed, FunctionNeed, Needs, IsLegal}
 
 -- ---- const types
 
--- A type whose objects are not written: a const one, or an array of such elements. (A struct with a const member is none.)
+-- A type whose objects are not written: a const one, or an array of such elements. (A struct with a const member is
+-- none.)
 abbrev pub is_const_of : Option CType → (ℕ → Bool) → Bool
 is_const_of (Some (types.Const t)) go = true
 is_const_of (Some (types.Array t n)) go = go t
@@ -38,7 +40,8 @@ nothing_of permissions = record { length = 0; align = 1; permissions = permissio
 abbrev pub need_by : Option Extent → ℕ → ObjectNeed
 need_by None permissions = nothing_of permissions
 need_by (Some x) permissions =
-    if nat_le x.size size_limit then record { length = x.size; align = x.align; permissions = permissions } else nothing_of permissions
+    if nat_le x.size size_limit then record { length = x.size; align = x.align; permissions = permissions }
+    else nothing_of permissions
 
 -- an object of a type
 abbrev pub need_of : List CType → ℕ → ℕ → ObjectNeed
@@ -66,7 +69,8 @@ local_needs types f = map (local_need types) (filter is_object f.vars)
 -- functions from number f on, of the weights that `weight` gives them
 abbrev pub function_needs : List CType → (ℕ → ℕ) → ℕ → List FunDef → List FunctionNeed
 function_needs types weight f [] = []
-function_needs types weight f (d ∷ ds) = record { locals = local_needs types d; weight = weight f } ∷ function_needs types weight (suc f) ds
+function_needs types weight f (d ∷ ds) =
+    record { locals = local_needs types d; weight = weight f } ∷ function_needs types weight (suc f) ds
 
 -- of a program whose functions have these weights
 abbrev pub needs_of : (ℕ → ℕ) → Typed → Needs

@@ -1,31 +1,33 @@
 -- Memory as separate objects, in the placed mode and in the strict one (CHERI C: objects; C11 6.2.4, 6.2.6).
-use Rattle.std.specs.Prelude.{ℕ, zero, suc, ◌+◌, ◌*◌, ◌/◌, ◌%◌, ◌==◌, ◌&&◌, max, Bool, true, false, List, [], ◌∷◌, ◌++◌, replicate, Option, Some, None, slice_get, slice_set, if◌then◌else◌}
+use Rattle.std.specs.Prelude.{ℕ, zero, suc, ◌+◌, ◌*◌, ◌/◌, ◌%◌, ◌==◌, ◌&&◌, max, Bool, true, false, List, [], ◌∷◌, ◌++◌}
+use Rattle.std.specs.Prelude.{replicate, Option, Some, None, slice_get, slice_set, if◌then◌else◌}
 use Rattle.cap_concentrate.specs.Rounding.{alignment, owned}
 use Rattle.obj_mem.specs.Values.{Value, Live, Addresses, memory_bits}
 
--- A byte. In the strict mode it may also be one that was not written, or byte k of a stored pointer, whose number is not known
+-- A byte. In the strict mode it may also be one that was not written, or byte k of a stored pointer, whose number is
+-- not known
 pub data Cell : Type 0 where
   Byte : ℕ → Cell
   Unwritten : Cell
   PartOf : Value → ℕ → Cell
 
--- Whether an object may be accessed: it is active; it is a local whose block is not active, as each is before its block is first
--- entered; or it is a local of a function that has returned. Only the strict mode tells when a block is left
+-- Whether an object may be accessed: it is active; it is a local whose block is not active, as each is before its block
+-- is first entered; or it is a local of a function that has returned. Only the strict mode tells when a block is left
 pub data Life : Type 0 where
   Active : Life
   Inactive : Life
   Returned : Life
 
--- What an object is, apart from what stands in it: its length and its owned length in bytes, its life, and in the placed mode its
--- base
+-- What an object is, apart from what stands in it: its length and its owned length in bytes, its life, and in the
+-- placed mode its base
 pub record Shape : Type 0 where
   pub length : ℕ
   pub owned : ℕ
   pub life : Life
   pub base : ℕ
 
--- What stands in it: a cell for each owned byte, and for each granule of 16 bytes the tagged value that it holds, or none. The cells
--- of a granule that holds a value are not looked at
+-- What stands in it: a cell for each owned byte, and for each granule of 16 bytes the tagged value that it holds, or
+-- none. The cells of a granule that holds a value are not looked at
 pub record Content : Type 0 where
   pub cells : List Cell
   pub values : List (Option Value)
@@ -116,7 +118,8 @@ parts d shapes v k (suc n) = part d shapes v k ∷ parts d shapes v (suc k) n
 -- a value that granule g holds becomes its bytes
 abbrev pub opened_by : Mode → List Shape → Content → ℕ → Option Value → Content
 opened_by d shapes c g None = c
-opened_by d shapes c g (Some v) = record { cells = put_at c.cells (16 * g) (parts d shapes v 0 16); values = slice_set c.values g None }
+opened_by d shapes c g (Some v) =
+    record { cells = put_at c.cells (16 * g) (parts d shapes v 0 16); values = slice_set c.values g None }
 
 abbrev pub opened : Mode → List Shape → Content → ℕ → Content
 opened d shapes c g = opened_by d shapes c g (value_at c g)
@@ -201,5 +204,6 @@ noted (r ∷ rs) object low high own =
 
 -- for the object and the bounds of a pointer the greatest length is kept
 abbrev pub note_member : Mode → Memory → Value → ℕ → Memory
-note_member Strict m (Live object low high offset permissions) own = record m { notes = noted m.notes object low high own }
+note_member Strict m (Live object low high offset permissions) own =
+    record m { notes = noted m.notes object low high own }
 note_member d m v own = m

@@ -1,6 +1,7 @@
--- Operations on one pointer or capability integer, in both modes (CHERI C; CHERI ISAv9). In the placed mode addresses are a map's, and
--- what can't keep its tag loses it; the strict mode ends where the number of an address is needed.
-use Rattle.std.specs.Prelude.{ℕ, ◌+◌, ◌-◌, ◌*◌, ◌%◌, ◌^◌, ◌==◌, ◌&&◌, ◌||◌, not, nat_lt, nat_le, min, bit_and, Bool, List, Result, Ok, if◌then◌else◌}
+-- Operations on one pointer or capability integer, in both modes (CHERI C; CHERI ISAv9). In the placed mode addresses
+-- are a map's, and what can't keep its tag loses it; the strict mode ends where the number of an address is needed.
+use Rattle.std.specs.Prelude.{ℕ, ◌+◌, ◌-◌, ◌*◌, ◌%◌, ◌^◌, ◌==◌, ◌&&◌, ◌||◌, not, nat_lt, nat_le, min, bit_and, Bool}
+use Rattle.std.specs.Prelude.{List, Result, Ok, if◌then◌else◌}
 use Rattle.cap_concentrate.specs.Decoding.{base_of, top_of, base_at, top_at}
 use Rattle.cap_concentrate.specs.Encoding.{encoded_internal, encoded_t, encoded_b}
 use Rattle.cap_concentrate.specs.Packing.{fields_of, flipped}
@@ -55,8 +56,10 @@ move Strict shapes v by = strict_move v by
 
 -- ---- narrowing
 
--- the least bounds from b to t of a request, where they lie inside the old ones and, in the exact form, equal the request
-abbrev pub narrowed_to : Addresses → (ℕ → ℕ) → (object low high offset permissions : ℕ) → (start length b t : ℕ) → Bool → Value
+-- the least bounds from b to t of a request, where they lie inside the old ones and, in the exact form, equal the
+-- request
+abbrev pub narrowed_to : Addresses → (ℕ → ℕ) → (object low high offset permissions : ℕ) → (start length b t : ℕ) →
+    Bool → Value
 narrowed_to a base object low high offset permissions start length b t exact =
     if nat_le (start + length) (2 ^ 64) && nat_le (base object + low) b && nat_le t (base object + high)
     && (not exact || (b == start && t == start + length))
@@ -72,8 +75,8 @@ placed_narrow a base (Live object low high offset permissions) length exact =
     narrowed_to a base object low high offset permissions start length
     (least_base start (start + length)) (least_top start (start + length)) exact
 
--- Whether the narrowing is exact depends on the address: the offset isn't a multiple of the length's alignment, or the length isn't
--- its own owned length, which lengths up to 4095 are
+-- Whether the narrowing is exact depends on the address: the offset isn't a multiple of the length's alignment, or the
+-- length isn't its own owned length, which lengths up to 4095 are
 abbrev pub is_rounding : (offset length : ℕ) → Bool
 is_rounding offset length = nat_lt 4095 length && not (offset % alignment length == 0 && owned length == length)
 
@@ -83,7 +86,8 @@ strict_narrow (Int n) length = Ok (Int n)
 strict_narrow (Raw address upper) length = Ok (Raw address upper)
 strict_narrow (Fun f) length = unspecified R.Address
 strict_narrow (Live object low high offset permissions) length =
-    if nat_lt (least_base offset (offset + length)) low || nat_lt high (least_top offset (offset + length)) then unspecified R.Address
+    if nat_lt (least_base offset (offset + length)) low || nat_lt high (least_top offset (offset + length))
+    then unspecified R.Address
     else if is_rounding offset length then unspecified R.Rounding
     else Ok (Live object offset (offset + length) offset permissions)
 
@@ -103,7 +107,8 @@ clear Strict shapes v = unspecified R.Address
 
 -- a value with those of its permissions that a mask has. A sentry loses its tag and keeps its permissions
 abbrev pub mask : Mode → List Shape → Value → ℕ → Result Value Fault
-mask d shapes (Live object low high offset permissions) bits = Ok (Live object low high offset (bit_and permissions bits))
+mask d shapes (Live object low high offset permissions) bits =
+    Ok (Live object low high offset (bit_and permissions bits))
 mask d shapes v bits = clear d shapes v
 
 -- ---- addresses

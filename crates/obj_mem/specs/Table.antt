@@ -1,5 +1,6 @@
 -- The table of pointers with which a program begins, and the pointers in its initial data.
-use Rattle.std.specs.Prelude.{ℕ, zero, suc, ◌+◌, ◌*◌, List, [], ◌∷◌, ◌++◌, length, Option, Some, None, slice_get, slice_index_or}
+use Rattle.std.specs.Prelude.{ℕ, zero, suc, ◌+◌, ◌*◌, List, [], ◌∷◌, ◌++◌, length, Option, Some, None, slice_get}
+use Rattle.std.specs.Prelude.{slice_index_or}
 use Rattle.ck_int.specs.Kinds.{kept_of}
 use Rattle.cap_concentrate.specs.Rounding.{owned}
 use Rattle.cap_ops.specs.declared.capability.Cap.{Cap}
@@ -13,7 +14,8 @@ use Rattle.obj_mem.specs.declared.map.Map.{Map}
 use Rattle.obj_mem.specs.Values.{Value, Live, Fun, Addresses, capability_of}
 use Rattle.obj_mem.specs.Legal.{ObjectNeed, Needs, owned_of}
 
--- ---- the table: 16 bytes for each global, each literal and each function, for the heap and for the allocator's own state
+-- ---- the table: 16 bytes for each global, each literal and each function, for the heap and for the allocator's own
+-- state
 
 abbrev pub entry_count : Needs → ℕ
 entry_count n = length n.globals + length n.literals + length n.functions + 2
@@ -77,7 +79,8 @@ sentries_from (suc k) f = Holds (Fun f) ∷ sentries_from k (suc f)
 -- the entries of the table that don't begin as zeros
 abbrev pub table_starts : Needs → List Start
 table_starts n =
-    pointers_to n.globals 0 ++ pointers_to n.literals (length n.globals) ++ sentries_from (length n.functions) 0 ++ WholeHeap ∷ []
+    pointers_to n.globals 0 ++ pointers_to n.literals (length n.globals) ++ sentries_from (length n.functions) 0
+    ++ WholeHeap ∷ []
 
 -- the permissions of an object's pointers
 abbrev pub permissions_of : Option ObjectNeed → ℕ

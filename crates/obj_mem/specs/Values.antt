@@ -1,4 +1,5 @@
--- Values, and the capabilities that they are where objects, text and functions have addresses (CHERI C: objects, provenance and tags).
+-- Values, and the capabilities that they are where objects, text and functions have addresses (CHERI C: objects,
+-- provenance and tags).
 use Rattle.std.specs.Prelude.{ℕ, ◌+◌, ◌*◌, ◌/◌, ◌%◌, ◌^◌, Bool, true, false}
 use Rattle.ck_int.specs.Kinds.{kept_of, twos_complement}
 use Rattle.cap_concentrate.specs.Packing.{bits_of, fields_of, flipped}
@@ -10,10 +11,10 @@ use Rattle.cap_ops.specs.Permissions.{code_permissions}
 use Rattle.obj_mem.specs.declared.value.Value as public
 use Rattle.obj_mem.specs.declared.value.Value.TheVariants as given
 
--- An integer; a tagged capability of an object, with its bounds, its address and its permissions; the sentry of a function; or a
--- capability without a tag, by its address and its upper 64 bits as they stand in memory.
--- Bounds and address are counted in bytes from the object's base, the address modulo 2 ^ 64: a place before the base has an
--- offset near 2 ^ 64, and a move is a sum modulo 2 ^ 64.
+-- An integer; a tagged capability of an object, with its bounds, its address and its permissions; the sentry of a
+-- function; or a capability without a tag, by its address and its upper 64 bits as they stand in memory. Bounds and
+-- address are counted in bytes from the object's base, the address modulo 2 ^ 64: a place before the base has an offset
+-- near 2 ^ 64, and a move is a sum modulo 2 ^ 64.
 pub data Value : Type 0 where
   Int : ℕ → Value
   Live : (object low high offset permissions : ℕ) → Value
@@ -62,7 +63,8 @@ capability_of a base (Int n) = null_at n
 capability_of a base (Live object low high offset permissions) =
     bounded (base object + low) (base object + high) permissions UNSEALED ((base object + offset) % 2 ^ 64)
 capability_of a base (Fun f) = bounded a.text a.text_end code_permissions SENTRY (a.entry f)
-capability_of a base (Raw address upper) = record { tag = false; fields = fields_of (flipped (upper * 2 ^ 64 + address)) }
+capability_of a base (Raw address upper) =
+    record { tag = false; fields = fields_of (flipped (upper * 2 ^ 64 + address)) }
 
 -- its 128 bits, and these bits as they stand in memory
 unfoldable pub bits : Addresses → (ℕ → ℕ) → Value → ℕ

@@ -13,8 +13,8 @@ pub struct Slot {
     pub length: u64,
 }
 
-/// The frame of a function: its size and alignment in bytes, the places of its locals, and at its start `saved` bytes for
-/// registers, spilled values and arguments.
+/// The frame of a function: its size and alignment in bytes, the places of its locals, and at its start `saved` bytes
+/// for registers, spilled values and arguments.
 #[derive(Debug, Drop)]
 pub struct Frame {
     pub size: u64,

@@ -5,8 +5,8 @@
 pub enum Value {
     /// An integer, kept in the 64 bits of its sign extension or zero extension.
     Int(u64),
-    /// A tagged, unsealed capability: the object, its bounds from `low` to before `high`, the offset of its address, all three
-    /// counted in bytes from the object's base, and the permissions.
+    /// A tagged, unsealed capability: the object, its bounds from `low` to before `high`, the offset of its address,
+    /// all three counted in bytes from the object's base, and the permissions.
     Live(u64, u64, u64, i64, u16),
     /// The sentry of a function.
     Fun(u32),

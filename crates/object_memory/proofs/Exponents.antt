@@ -11,11 +11,13 @@ unfolding first_from
 first_stops test k e h = rw h refl
 
 -- a number that doesn't pass
-pub first_more : (test : ℕ → Bool) (n e : ℕ) → e < n → test e ≡ false → first_from test (n - (e + 1)) (e + 1) ≡ first_from test (n - e) e
+pub first_more : (test : ℕ → Bool) (n e : ℕ) → e < n → test e ≡ false →
+    first_from test (n - (e + 1)) (e + 1) ≡ first_from test (n - e) e
 first_more test n e l h =
     let k : n - e ≡ suc (n - (e + 1)) = omega arith in
     let one : e + 1 ≡ suc e = omega arith in
-    ap (first_from test (n - (e + 1))) one ∙ sym (first_skips test (n - (e + 1)) e h) ∙ ap (λ (j : ℕ). first_from test j e) (sym k)
+    ap (first_from test (n - (e + 1))) one ∙ sym (first_skips test (n - (e + 1)) e h)
+    ∙ ap (λ (j : ℕ). first_from test j e) (sym k)
 
 -- one that does
 pub first_here : (test : ℕ → Bool) (n e : ℕ) → e < n → test e ≡ true → first_from test (n - e) e ≡ e

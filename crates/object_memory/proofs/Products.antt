@@ -33,6 +33,9 @@ kept_fits m h = omega (arith, ints, h)
 -- a quotient is no greater than its dividend
 pub quotient_fits : (x y : ℤ) → IsWord x → FitsSigned w128 (int_div x y)
 quotient_fits (pos a) (pos b) w = let h = w.high in kept_fits (a / b) (omega (arith, ints, h, div-le_self a b))
-quotient_fits (pos a) (negsuc b) w = let h = w.high in negated_fits (a / suc b) (omega (arith, ints, h, div-le_self a (suc b)))
-quotient_fits (negsuc a) (pos b) w = let h = w.low in negated_fits (suc a / b) (omega (arith, ints, h, div-le_self (suc a) b))
-quotient_fits (negsuc a) (negsuc b) w = let h = w.low in kept_fits (suc a / suc b) (omega (arith, ints, h, div-le_self (suc a) (suc b)))
+quotient_fits (pos a) (negsuc b) w =
+    let h = w.high in negated_fits (a / suc b) (omega (arith, ints, h, div-le_self a (suc b)))
+quotient_fits (negsuc a) (pos b) w =
+    let h = w.low in negated_fits (suc a / b) (omega (arith, ints, h, div-le_self (suc a) b))
+quotient_fits (negsuc a) (negsuc b) w =
+    let h = w.low in kept_fits (suc a / suc b) (omega (arith, ints, h, div-le_self (suc a) (suc b)))

@@ -25,13 +25,15 @@ owned_kept n h = elim (cases_lt (owned n) (2 ^ 64)) [
   | inr g ↦
       let near = owned_near n in
       let below = alignment_below n in
-      ne_eqb (owned n % 2 ^ 64) n (λ e. omega (arith, e, g, h, near, below)) ∙ sym (ne_eqb (owned n) n (λ e. omega (arith, e, g, h)))
+      ne_eqb (owned n % 2 ^ 64) n (λ e. omega (arith, e, g, h, near, below))
+      ∙ sym (ne_eqb (owned n) n (λ e. omega (arith, e, g, h)))
 ]
 
 pub top_from : (start end : ℕ) → end ≤ least_top start end
 unfolding least_top
 top_from start end =
-    cond_both (nat_le (end - start) 4095) end (rounded_up end (2 ^ (bounds_exponent start end + 3))) (λ v. end ≤ v) (λ _. omega arith) (λ _. rounded_up_ge end _ (pow_pos _))
+    cond_both (nat_le (end - start) 4095) end (rounded_up end (2 ^ (bounds_exponent start end + 3))) (λ v. end ≤ v)
+    (λ _. omega arith) (λ _. rounded_up_ge end _ (pow_pos _))
 
 -- and the mask, from the alignment
 pub masked : (n mask : ℕ) → mask + alignment n ≡ 2 ^ 64 → mask ≡ 2 ^ 64 - alignment n

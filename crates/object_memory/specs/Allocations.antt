@@ -13,9 +13,10 @@ abbrev pub HasHeap : Mode → Type 0
 HasHeap (Placed a) = a.heap_end < 2 ^ 63
 HasHeap Strict = Unit {0}
 
--- Memory and heap, against an allocation that is meant: as it leaves them; as they were, with the fault that is meant; or as they were,
--- for want of memory
-abbrev pub Allocates : Result Allocation Fault → Memory → ℕ → Result public.Value refused.AllocateFault → Memory → ℕ → Type 0
+-- Memory and heap, against an allocation that is meant: as it leaves them; as they were, with the fault that is meant;
+-- or as they were, for want of memory
+abbrev pub Allocates : Result Allocation Fault → Memory → ℕ → Result public.Value refused.AllocateFault → Memory → ℕ →
+    Type 0
 Allocates (Ok a) before heap (Ok v) after heap' = (value_of v ≡ a.pointer) × (after ≡ a.memory) × (heap' ≡ a.heap)
 Allocates (Ok a) before heap (Err refusal.NoMemory) after heap' = (after ≡ before) × (heap' ≡ heap)
 Allocates (Ok a) before heap (Err (refusal.Fault f)) after heap' = ⊥

@@ -2,7 +2,8 @@
 use Rattle.std.specs.Prelude.{◌≡◌, ℕ, ◌/◌, ◌≤◌, ◌⊎◌, List, map, Result, Ok, Err, slice_set}
 use Rattle.obj_mem.specs.declared.ending.Fault.{Fault}
 use Rattle.obj_mem.specs.Objects.{Cell, Content, Memory, Mode, value_at}
-use Rattle.obj_mem.specs.Access.{Spot, Piece, Tagged, Plain, at_spot, with_piece, has_unwritten, has_part, number_of, onward, loaded, piece_of as piece_at}
+use Rattle.obj_mem.specs.Access.{Spot, Piece, Tagged, Plain, at_spot, with_piece, has_unwritten, has_part, number_of}
+use Rattle.obj_mem.specs.Access.{onward, loaded, piece_of as piece_at}
 use Rattle.obj_mem.specs.Values.{Value, value_of}
 use Rattle.object_memory.specs.declared.access.Piece as kept
 use Rattle.object_memory.specs.declared.access.Piece.TheVariants as piece
@@ -13,10 +14,11 @@ use Rattle.object_memory.specs.Answers.{shapes_of, contents_of, plain_cells}
 use Rattle.object_memory.specs.Notes.{note_of}
 
 abbrev pub memory_at : List ObjectView → List noted.Note → Memory
-memory_at objects notes = record { shapes = shapes_of objects; contents = contents_of objects; notes = map note_of notes }
+memory_at objects notes =
+    record { shapes = shapes_of objects; contents = contents_of objects; notes = map note_of notes }
 
--- What a call that changes memory answers and leaves, against what is meant: the memory that is meant; or the fault that is meant, and
--- the memory from before
+-- What a call that changes memory answers and leaves, against what is meant: the memory that is meant; or the fault
+-- that is meant, and the memory from before
 abbrev pub Leaves : {U E : Type 0} → Result Memory E → Memory → Result U E → Memory → Type 0
 Leaves (Ok m) before (Ok u) after = after ≡ m
 Leaves (Err e) before (Err f) after = (f ≡ e) × (after ≡ before)

@@ -1,7 +1,8 @@
 -- What the parts of memory are that the code keeps, as the definitions say them.
 use Rattle.std.specs.Prelude.{ℕ, ◌+◌, ◌*◌, ◌/◌, List, replicate, Option, Some, None, slice_set}
 use Rattle.obj_mem.specs.Values.{value_of}
-use Rattle.obj_mem.specs.Objects.{Cell, Byte, Unwritten, PartOf, Life, Active, Inactive, Returned, Shape, Content, put_at}
+use Rattle.obj_mem.specs.Objects.{Cell, Byte, Unwritten, PartOf, Life, Active, Inactive, Returned, Shape, Content}
+use Rattle.obj_mem.specs.Objects.{put_at}
 use Rattle.object_memory.specs.declared.object.Cell as kept
 use Rattle.object_memory.specs.declared.object.Cell.TheVariants as cell
 use Rattle.object_memory.specs.declared.object.Life as state
@@ -31,4 +32,5 @@ filled c owns = record { cells = replicate owns c; values = replicate ((owns + 1
 -- cells put in place, over those of the value that their granule held
 abbrev pub put_over : Option (List Cell) → Content → ℕ → List Cell → Content
 put_over None c at cs = record c { cells = put_at c.cells at cs }
-put_over (Some parts) c at cs = record { cells = put_at (put_at c.cells (16 * (at / 16)) parts) at cs; values = slice_set c.values (at / 16) None }
+put_over (Some parts) c at cs =
+    record { cells = put_at (put_at c.cells (16 * (at / 16)) parts) at cs; values = slice_set c.values (at / 16) None }

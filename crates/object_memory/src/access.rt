@@ -1,12 +1,19 @@
 //! Loads, stores and copies of units.
 
-ghost use Rattle.std.specs.Prelude.{◌≡◌, ℕ, ◌+◌, ◌*◌, ◌/◌, ◌^◌, ◌<◌, ◌≤◌, List, ◌∷◌, ◌&&◌, ◌||◌, ◌==◌, map, None, Ok, Some, IfNone, IfOk, IfSome, if◌then◌else◌, length, option_map, slice_get, true};
+ghost use Rattle.std.specs.Prelude.{◌≡◌, ℕ, ◌+◌, ◌*◌, ◌/◌, ◌^◌, ◌<◌, ◌≤◌, List, ◌∷◌, ◌&&◌, ◌||◌, ◌==◌, map, None, Ok};
+ghost use Rattle.std.specs.Prelude.{Some, IfNone, IfOk, IfSome, if◌then◌else◌, length, option_map, slice_get, true};
 ghost use Rattle.obj_mem.specs.declared.ending.Reason.TheVariants as R;
-ghost use Rattle.obj_mem.specs.Access.{Plain, Tagged, carried as carried_of, copy_unit as copy_unit_of, fetch, has_part, onward, put as put_of, store_access as store_access_of, stored_piece as stored_piece_of, with_piece, known as known_of, load as load_of, load_access as load_access_of, loaded, takes_padding as takes_padding_of};
-ghost use Rattle.obj_mem.specs.Objects.{Cell as CellMeant, byte_of as byte_in, byte_at as byte_in_object, bytes_at, part as part_of, parts as parts_of, value_at};
+ghost use Rattle.obj_mem.specs.Access.{Plain, Tagged, carried as carried_of, copy_unit as copy_unit_of, fetch};
+ghost use Rattle.obj_mem.specs.Access.{has_part, onward, put as put_of, store_access as store_access_of};
+ghost use Rattle.obj_mem.specs.Access.{stored_piece as stored_piece_of, with_piece, known as known_of, load as load_of};
+ghost use Rattle.obj_mem.specs.Access.{load_access as load_access_of, loaded, takes_padding as takes_padding_of};
+ghost use Rattle.obj_mem.specs.Objects.{Cell as CellMeant, byte_of as byte_in, byte_at as byte_in_object, bytes_at};
+ghost use Rattle.obj_mem.specs.Objects.{part as part_of, parts as parts_of, value_at};
 ghost use Rattle.obj_mem.specs.Values.{value_of};
-ghost use Rattle.object_memory.specs.Answers.{cells_of, mapped, mode_of, plain_cell, seen, shapes_of, spot_of, value_seen};
-ghost use Rattle.object_memory.specs.Memories.{IsFew, IsSize, IsSum, Leaves, loaded_at, memory_at, piece_of, put_there, reached, with_content};
+ghost use Rattle.object_memory.specs.Answers.{cells_of, mapped, mode_of, plain_cell, seen, shapes_of, spot_of};
+ghost use Rattle.object_memory.specs.Answers.{value_seen};
+ghost use Rattle.object_memory.specs.Memories.{IsFew, IsSize, IsSum, Leaves, loaded_at, memory_at, piece_of, put_there};
+ghost use Rattle.object_memory.specs.Memories.{reached, with_content};
 ghost use Rattle.object_memory.specs.Copies.{carried_at as carried_there, plain_piece};
 ghost use Rattle.object_memory.specs.declared.notes.Note.{Note as NoteKept};
 ghost use Rattle.object_memory.specs.Notes.{note_of};
@@ -167,7 +174,8 @@ fn either(a: bool, b: bool) -> bool
 #[tactic(auto, using(crate::proofs::Loads::loaded_pair))]
 fn read_pair(mode: Mode<'_>, objects: &[Object], o: &Object, at: u64) -> Result<Value, Fault>
     requires { at + 16 < 2 ^ 64 }
-    ensures { seen result ≡ loaded 16 (Plain (bytes_at (mode_of mode.entry) (shapes_of objects.now) o.now.content at 16)) }
+    ensures { seen result ≡ loaded 16 (Plain (bytes_at (mode_of mode.entry)
+        (shapes_of objects.now) o.now.content at 16)) }
 {
     let low = sum_at(mode, objects, o, at, 8);
     let high = sum_at(mode, objects, o, at + 8, 8);
@@ -190,7 +198,8 @@ fn read(mode: Mode<'_>, objects: &[Object], o: &Object, at: u64, n: u8) -> Resul
     }
 }
 
-/// Whether `n` bytes take one at or past the object's length, or the own length of the member that is noted for the bounds.
+/// Whether `n` bytes take one at or past the object's length, or the own length of the member that is noted for the
+/// bounds.
 fn takes_padding(notes: &[Note], o: &Object, s: Spot, n: u8) -> bool
     ensures { result ≡ takes_padding_of (map note_of notes.now) o.now.shape (spot_of s) n }
 {
@@ -212,7 +221,8 @@ fn object_at<'o>(
     s: Spot,
     n: u8,
 ) -> Result<&'o Object, Fault>
-    ensures value { mapped (λ o. o.now.content) result ≡ reached (mode_of mode.entry) (memory_at objects.now notes.now) (spot_of s) n }
+    ensures value { mapped (λ o. o.now.content) result
+        ≡ reached (mode_of mode.entry) (memory_at objects.now notes.now) (spot_of s) n }
     ensures there { IfOk result (λ o. slice_get objects.now s.object ≡ Some o.now) }
 {
     match objects.get(s.object as usize) {
@@ -324,7 +334,8 @@ pub(crate) fn stored_piece(n: u8, v: Value) -> Piece
 
 /// The bytes of the value that the granule of a place holds, where it holds one.
 fn held_parts(mode: Mode<'_>, objects: &[Object], o: &Object, at: u64) -> Option<[Cell; 16]>
-    ensures { option_map cells_of result ≡ option_map (λ v. parts_of (mode_of mode.entry) (shapes_of objects.now) v 0 16) (value_at o.now.content (at / 16)) }
+    ensures { option_map cells_of result ≡ option_map
+        (λ v. parts_of (mode_of mode.entry) (shapes_of objects.now) v 0 16) (value_at o.now.content (at / 16)) }
 {
     match o.value(at) {
         None => None,
@@ -336,7 +347,9 @@ fn held_parts(mode: Mode<'_>, objects: &[Object], o: &Object, at: u64) -> Option
 fn put_piece(mode: Mode<'_>, objects: &mut Vec<Object>, k: usize, at: u64, piece: &Piece)
     requires place { k < length objects.old.items }
     requires few { IsFew piece.now }
-    ensures { (notes : List NoteKept) (o : ObjectView) → slice_get objects.old.items k ≡ Some o → memory_at objects.new.items notes ≡ with_content (memory_at objects.old.items notes) k (with_piece (mode_of mode.entry) (shapes_of objects.old.items) o.content at (piece_of piece.now)) }
+    ensures { (notes : List NoteKept) (o : ObjectView) → slice_get objects.old.items k ≡ Some o →
+        memory_at objects.new.items notes ≡ with_content (memory_at objects.old.items notes) k
+        (with_piece (mode_of mode.entry) (shapes_of objects.old.items) o.content at (piece_of piece.now)) }
 {
     match piece {
         Piece::Tagged(v) => objects[k].put_value(at, *v),
@@ -357,7 +370,9 @@ fn put_at_spot(
     piece: &Piece,
 ) -> Result<(), Fault>
     requires { IsFew piece.now }
-    ensures { Leaves (put_there (mode_of mode.entry) (memory_at objects.old.items notes.now) (spot_of s) n (piece_of piece.now)) (memory_at objects.old.items notes.now) result (memory_at objects.new.items notes.now) }
+    ensures { Leaves (put_there (mode_of mode.entry) (memory_at objects.old.items notes.now) (spot_of s) n
+        (piece_of piece.now)) (memory_at objects.old.items notes.now) result
+        (memory_at objects.new.items notes.now) }
 {
     match object_at(mode, objects.as_slice(), notes, s, n) {
         Err(e) => Err(e),
@@ -379,7 +394,9 @@ pub(crate) fn put(
 ) -> Result<(), Fault>
     requires size { IsSize n }
     requires few { IsFew piece.now }
-    ensures { Leaves (put_of (mode_of mode.entry) (memory_at objects.old.items notes.now) (value_of p) n (piece_of piece.now)) (memory_at objects.old.items notes.now) result (memory_at objects.new.items notes.now) }
+    ensures { Leaves (put_of (mode_of mode.entry) (memory_at objects.old.items notes.now) (value_of p) n
+        (piece_of piece.now)) (memory_at objects.old.items notes.now) result
+        (memory_at objects.new.items notes.now) }
 {
     match reach(store_access(n, piece), p) {
         Err(e) => Err(e),
@@ -409,7 +426,8 @@ fn carried_bytes(
 ) -> Result<Bytes, Fault>
     requires few { n ≤ 16 }
     requires within { at + n < 2 ^ 64 }
-    ensures value { mapped plain_piece result ≡ carried_of (Plain (bytes_at (mode_of mode.entry) (shapes_of objects.now) o.now.content at n)) }
+    ensures value { mapped plain_piece result
+        ≡ carried_of (Plain (bytes_at (mode_of mode.entry) (shapes_of objects.now) o.now.content at n)) }
     ensures count { IfOk result (λ b. b.count ≡ n) }
 {
     let mut items = [None; 16];
@@ -435,7 +453,8 @@ fn carried_at(
 ) -> Result<Piece, Fault>
     requires few { n ≤ 16 }
     requires within { s.at + n < 2 ^ 64 }
-    ensures value { mapped piece_of result ≡ carried_there (mode_of mode.entry) (memory_at objects.now notes.now) (spot_of s) n }
+    ensures value { mapped piece_of result ≡ carried_there (mode_of mode.entry) (memory_at objects.now notes.now)
+        (spot_of s) n }
     ensures few { IfOk result IsFew }
 {
     match object_at(mode, objects, notes, s, n) {
@@ -459,7 +478,8 @@ fn carried(
     n: u8,
 ) -> Result<Piece, Fault>
     requires { IsSize n }
-    ensures value { mapped piece_of result ≡ onward (fetch (mode_of mode.entry) (memory_at objects.now notes.now) (value_of p) n) carried_of }
+    ensures value { mapped piece_of result ≡ onward
+        (fetch (mode_of mode.entry) (memory_at objects.now notes.now) (value_of p) n) carried_of }
     ensures few { IfOk result IsFew }
 {
     match reach(load_access(n), p) {
@@ -478,7 +498,8 @@ pub(crate) fn copy_unit(
     n: u8,
 ) -> Result<(), UnitFault>
     requires { IsSize n }
-    ensures { Leaves (copy_unit_of (mode_of mode.entry) (memory_at objects.old.items notes.now) (value_of from) (value_of to) n) (memory_at objects.old.items notes.now) result (memory_at objects.new.items notes.now) }
+    ensures { Leaves (copy_unit_of (mode_of mode.entry) (memory_at objects.old.items notes.now) (value_of from)
+        (value_of to) n) (memory_at objects.old.items notes.now) result (memory_at objects.new.items notes.now) }
 {
     match carried(mode, objects.as_slice(), notes, from, n) {
         Err(e) => Err(UnitFault::Load(e)),

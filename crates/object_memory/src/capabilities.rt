@@ -6,7 +6,8 @@ ghost use Rattle.cap_ops.specs.Bounded.{plain_fields};
 ghost use Rattle.obj_mem.specs.Objects.{base_in as base_of};
 ghost use Rattle.obj_mem.specs.Pointers.{keeps as keeps_at};
 ghost use Rattle.obj_mem.specs.Table.{addresses_of};
-ghost use Rattle.obj_mem.specs.Values.{value_of, address_of as address_at, bits, memory_bits as memory_bits_of, untagged as untagged_at, cleared as cleared_of};
+ghost use Rattle.obj_mem.specs.Values.{value_of, address_of as address_at, bits, memory_bits as memory_bits_of};
+ghost use Rattle.obj_mem.specs.Values.{untagged as untagged_at, cleared as cleared_of};
 ghost use Rattle.object_memory.specs.Answers.{shapes_of};
 
 use crate::object::Object;

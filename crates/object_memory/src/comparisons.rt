@@ -2,7 +2,14 @@
 
 ghost use Rattle.std.specs.Prelude.{◌≡◌, ℕ, List, slice_get};
 ghost use Rattle.cheri_c_sem.specs.Modes.{laps as laps_of};
-ghost use Rattle.obj_mem.specs.Comparisons.{is_inside as is_inside_of, is_distinct as is_distinct_of, is_low as is_low_address, unequal_where as unequal_if, strict_equal as equal_strictly, equal as equal_of, negated as negation_of, is_true as is_true_of, less_word as less_of_words, strict_less as less_strictly, less as less_of, compare as compare_of, strict_distance as distance_strictly, distance as distance_of, strict_identical as identical_strictly, identical as identical_of, callee as callee_of};
+ghost use Rattle.obj_mem.specs.Comparisons.{is_inside as is_inside_of, is_distinct as is_distinct_of};
+ghost use Rattle.obj_mem.specs.Comparisons.{is_low as is_low_address, unequal_where as unequal_if};
+ghost use Rattle.obj_mem.specs.Comparisons.{strict_equal as equal_strictly, equal as equal_of, negated as negation_of};
+ghost use Rattle.obj_mem.specs.Comparisons.{is_true as is_true_of, less_word as less_of_words};
+ghost use Rattle.obj_mem.specs.Comparisons.{strict_less as less_strictly, less as less_of, compare as compare_of};
+ghost use Rattle.obj_mem.specs.Comparisons.{strict_distance as distance_strictly, distance as distance_of};
+ghost use Rattle.obj_mem.specs.Comparisons.{strict_identical as identical_strictly, identical as identical_of};
+ghost use Rattle.obj_mem.specs.Comparisons.{callee as callee_of};
 ghost use Rattle.obj_mem.specs.Objects.{Shape};
 ghost use Rattle.obj_mem.specs.Values.{Live, Fun, Raw, value_of};
 ghost use Rattle.object_memory.specs.Answers.{mode_of, shapes_of};
@@ -56,7 +63,8 @@ fn unequal_where(known: bool) -> Result<bool, Fault>
 
 /// Whether the address of a pointer to an object, at an offset, is that of a value.
 fn equals_live(objects: &[Object], object: u64, at: u64, w: Value) -> Result<bool, Fault>
-    ensures { (low high permissions : ℕ) → result ≡ equal_strictly (shapes_of objects.now) (Live object low high at permissions) (value_of w) }
+    ensures { (low high permissions : ℕ) →
+        result ≡ equal_strictly (shapes_of objects.now) (Live object low high at permissions) (value_of w) }
 {
     match w {
         Value::Int(_) => unspecified(Reason::Address),

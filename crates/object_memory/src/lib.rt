@@ -1,10 +1,9 @@
 //! Memory as separate objects, and the operations on values, as code: with the addresses of a map, or with none.
 //!
-//! Promise: each call is its definition, in both modes and with its refusals exactly; `NoMemory` is answered by the calls
-//! alone that make room.
-//! Definitions (`specs/`): `Views`, `Answers`, `Memories`, `Allocations`; the meaning of each call is one of `obj_mem`, and of
-//! integers one of `cheri_c_sem`.
-//! Main lemmas (`proofs/`): `Loads`, `Puts`, `Copies`, `Changed`.
+//! Promise: each call is its definition, in both modes and with its refusals exactly; `NoMemory` is answered by the
+//! calls alone that make room. Definitions (`specs/`): `Views`, `Answers`, `Memories`, `Allocations`; the meaning of
+//! each call is one of `obj_mem`, and of integers one of `cheri_c_sem`. Main lemmas (`proofs/`): `Loads`, `Puts`,
+//! `Copies`, `Changed`.
 #![tactic(auto)]
 
 mod access;

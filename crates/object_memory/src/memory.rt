@@ -4,10 +4,16 @@ ghost use Rattle.std.specs.Prelude.{◌≡◌, ◌+◌, ◌^◌, ◌<◌, ◌≤
 ghost use Rattle.cap_concentrate.specs.Rounding.{owned, rounded_up};
 ghost use Rattle.cheri_c_sem.specs.Modes.{int_of, overlap_of};
 ghost use Rattle.obj_mem.specs.Access.{copy_unit as copy_unit_of, load as load_of, store as store_of};
-ghost use Rattle.obj_mem.specs.Comparisons.{compare as compare_of, is_true as is_true_of, distance as distance_of, identical as identical_of};
-ghost use Rattle.obj_mem.specs.Heap.{allocate as allocate_of, allocated as allocated_of, allocation_alignment as alignment_of_allocation, heap_start, placed_allocate as placed_allocate_of, strict_allocate as strict_allocate_of};
-ghost use Rattle.obj_mem.specs.Objects.{Placed, Strict, add as added, end as ended, fresh as fresh_of, leave as left, no_objects, note_member as member_noted, owned_of_shape, rest as rested, with_life, whole_pointer, zero_object};
-ghost use Rattle.obj_mem.specs.Pointers.{move, narrow as narrow_of, clear as clear_of, mask as mask_of, set_address as set_address_of, get_address, get_base, get_length, get_offset};
+ghost use Rattle.obj_mem.specs.Comparisons.{compare as compare_of, is_true as is_true_of, distance as distance_of};
+ghost use Rattle.obj_mem.specs.Comparisons.{identical as identical_of};
+ghost use Rattle.obj_mem.specs.Heap.{allocate as allocate_of, allocated as allocated_of};
+ghost use Rattle.obj_mem.specs.Heap.{allocation_alignment as alignment_of_allocation, heap_start};
+ghost use Rattle.obj_mem.specs.Heap.{placed_allocate as placed_allocate_of, strict_allocate as strict_allocate_of};
+ghost use Rattle.obj_mem.specs.Objects.{Placed, Strict, add as added, end as ended, fresh as fresh_of, leave as left};
+ghost use Rattle.obj_mem.specs.Objects.{no_objects, note_member as member_noted, owned_of_shape, rest as rested};
+ghost use Rattle.obj_mem.specs.Objects.{with_life, whole_pointer, zero_object};
+ghost use Rattle.obj_mem.specs.Pointers.{move, narrow as narrow_of, clear as clear_of, mask as mask_of};
+ghost use Rattle.obj_mem.specs.Pointers.{set_address as set_address_of, get_address, get_base, get_length, get_offset};
 ghost use Rattle.obj_mem.specs.Table.{addresses_of};
 ghost use Rattle.obj_mem.specs.Values.{value_of};
 ghost use Rattle.object_memory.specs.Answers.{HasBase, mode_of, seen, shapes_of};
@@ -137,7 +143,8 @@ impl<'a> Memory<'a> {
     #[tactic(auto, using(crate::proofs::Changed::pushes, cap_concentrate::proofs::Owned::owned_ge))]
     fn push_object(&mut self, length: u64, base: u64) -> Result<u64, NoMemory>
         requires { owned length < 2 ^ 63 }
-        ensures memory { OnOk result (memory_of self.new ≡ added (mode_of self.old.mode) (memory_of self.old) length base) }
+        ensures memory { OnOk result (memory_of self.new
+            ≡ added (mode_of self.old.mode) (memory_of self.old) length base) }
         ensures number { IfOk result (λ k. k ≡ count_of (memory_of self.old)) }
         ensures err { OnErr result (memory_of self.new ≡ memory_of self.old) }
         ensures beside { SameBeside self.old self.new }
@@ -154,12 +161,13 @@ impl<'a> Memory<'a> {
         Ok(number)
     }
 
-    /// Adds an active object of so many bytes, of which nothing is written, and gives its number. A base counts in the placed
-    /// mode.
+    /// Adds an active object of so many bytes, of which nothing is written, and gives its number. A base counts in the
+    /// placed mode.
     #[tactic(auto, using(crate::proofs::Changed::owned_bound))]
     pub fn add(&mut self, length: u64, base: Option<u64>) -> Result<u64, NoMemory>
         requires { length ≤ 67108864 }
-        ensures memory { OnOk result (memory_of self.new ≡ added (mode_of self.old.mode) (memory_of self.old) length (base_or base)) }
+        ensures memory { OnOk result (memory_of self.new
+            ≡ added (mode_of self.old.mode) (memory_of self.old) length (base_or base)) }
         ensures number { IfOk result (λ k. k ≡ count_of (memory_of self.old)) }
         ensures err { OnErr result (memory_of self.new ≡ memory_of self.old) }
         ensures beside { SameBeside self.old self.new }
@@ -228,7 +236,8 @@ impl<'a> Memory<'a> {
 
     /// A pointer was narrowed to a member of this length, which only the strict mode notes.
     pub fn note_member(&mut self, p: Value, own: u64) -> Result<(), NoMemory>
-        ensures memory { OnOk result (memory_of self.new ≡ member_noted (mode_of self.old.mode) (memory_of self.old) (value_of p) own) }
+        ensures memory { OnOk result (memory_of self.new
+            ≡ member_noted (mode_of self.old.mode) (memory_of self.old) (value_of p) own) }
         ensures err { OnErr result (memory_of self.new ≡ memory_of self.old) }
         ensures beside { SameBeside self.old self.new }
     {
@@ -258,7 +267,8 @@ impl<'a> Memory<'a> {
     #[tactic(auto, unfolding(obj_mem::specs::Access::store))]
     pub fn store(&mut self, p: Value, n: u8, v: Value) -> Result<(), Fault>
         requires { IsSize n }
-        ensures memory { Leaves (store_of (mode_of self.old.mode) (memory_of self.old) (value_of p) n (value_of v)) (memory_of self.old) result (memory_of self.new) }
+        ensures memory { Leaves (store_of (mode_of self.old.mode) (memory_of self.old) (value_of p) n (value_of v))
+            (memory_of self.old) result (memory_of self.new) }
         ensures beside { SameBeside self.old self.new }
     {
         let piece = access::stored_piece(n, v);
@@ -272,11 +282,12 @@ impl<'a> Memory<'a> {
         )
     }
 
-    /// One unit of a struct copy, of `n` bytes: as a load and then a store, but bytes that were not written are carried on.
-    /// Where it fails, memory is as it was.
+    /// One unit of a struct copy, of `n` bytes: as a load and then a store, but bytes that were not written are carried
+    /// on. Where it fails, memory is as it was.
     pub fn copy_unit(&mut self, from: Value, to: Value, n: u8) -> Result<(), UnitFault>
         requires { IsSize n }
-        ensures memory { Leaves (copy_unit_of (mode_of self.old.mode) (memory_of self.old) (value_of from) (value_of to) n) (memory_of self.old) result (memory_of self.new) }
+        ensures memory { Leaves (copy_unit_of (mode_of self.old.mode) (memory_of self.old) (value_of from)
+            (value_of to) n) (memory_of self.old) result (memory_of self.new) }
         ensures beside { SameBeside self.old self.new }
     {
         access::copy_unit(
@@ -307,7 +318,8 @@ impl<'a> Memory<'a> {
     #[tactic(auto, using(cap_concentrate::proofs::Owned::owned_ge))]
     fn allocated(&mut self, n: u64, base: u64, heap: u64) -> Result<Value, AllocateFault>
         requires { owned n < 2 ^ 63 }
-        ensures memory { Allocates (Ok (allocated_of (mode_of self.old.mode) (memory_of self.old) n base heap)) (memory_of self.old) self.old.heap result (memory_of self.new) self.new.heap }
+        ensures memory { Allocates (Ok (allocated_of (mode_of self.old.mode) (memory_of self.old) n base heap))
+            (memory_of self.old) self.old.heap result (memory_of self.new) self.new.heap }
         ensures mode { self.new.mode ≡ self.old.mode }
     {
         match self.push_object(n, base) {
@@ -322,7 +334,8 @@ impl<'a> Memory<'a> {
     fn placed_allocate(&mut self, map: &Map, n: u64) -> Result<Value, AllocateFault>
         requires heap { (addresses_of map.now).heap_end < 2 ^ 63 }
         requires mode { mode_of self.old.mode ≡ Placed (addresses_of map.now) }
-        ensures memory { Allocates (Ok (placed_allocate_of (addresses_of map.now) (memory_of self.old) self.old.heap n)) (memory_of self.old) self.old.heap result (memory_of self.new) self.new.heap }
+        ensures memory { Allocates (Ok (placed_allocate_of (addresses_of map.now) (memory_of self.old) self.old.heap n))
+            (memory_of self.old) self.old.heap result (memory_of self.new) self.new.heap }
         ensures mode { self.new.mode ≡ self.old.mode }
     {
         let (heap_base, heap_length) = map.heap;
@@ -340,7 +353,8 @@ impl<'a> Memory<'a> {
     #[tactic(auto, using(cap_concentrate::proofs::Owned::owned_ge))]
     fn strict_allocate(&mut self, n: u64) -> Result<Value, AllocateFault>
         requires { mode_of self.old.mode ≡ Strict }
-        ensures memory { Allocates (strict_allocate_of (memory_of self.old) self.old.heap n) (memory_of self.old) self.old.heap result (memory_of self.new) self.new.heap }
+        ensures memory { Allocates (strict_allocate_of (memory_of self.old) self.old.heap n)
+            (memory_of self.old) self.old.heap result (memory_of self.new) self.new.heap }
         ensures mode { self.new.mode ≡ self.old.mode }
     {
         if STRICT_HEAP < n {
@@ -354,11 +368,12 @@ impl<'a> Memory<'a> {
         self.allocated(n, 0, total as u64)
     }
 
-    /// `malloc(n)`: the pointer to a new object, or null where the heap has no room. In the strict mode the heap is the least
-    /// that a map may have.
+    /// `malloc(n)`: the pointer to a new object, or null where the heap has no room. In the strict mode the heap is the
+    /// least that a map may have.
     pub fn allocate(&mut self, n: u64) -> Result<Value, AllocateFault>
         requires { HasHeap (mode_of self.old.mode) }
-        ensures memory { Allocates (allocate_of (mode_of self.old.mode) (memory_of self.old) self.old.heap n) (memory_of self.old) self.old.heap result (memory_of self.new) self.new.heap }
+        ensures memory { Allocates (allocate_of (mode_of self.old.mode) (memory_of self.old) self.old.heap n)
+            (memory_of self.old) self.old.heap result (memory_of self.new) self.new.heap }
         ensures mode { self.new.mode ≡ self.old.mode }
     {
         match self.mode {
@@ -376,7 +391,8 @@ impl<'a> Memory<'a> {
 
     /// A value narrowed to a length from its address on. In the strict mode both forms are the same.
     pub fn narrow(&self, v: Value, length: u64, exact: bool) -> Result<Value, Fault>
-        ensures { seen result ≡ narrow_of (mode_of self.now.mode) (memory_of self.now).shapes (value_of v) length exact }
+        ensures { seen result ≡ narrow_of (mode_of self.now.mode) (memory_of self.now).shapes
+            (value_of v) length exact }
     {
         pointers::narrowed(self.mode, self.objects.as_slice(), v, length, exact)
     }
@@ -433,7 +449,8 @@ impl<'a> Memory<'a> {
 
     /// A comparison of addresses, which count as signed numbers or as unsigned ones.
     pub fn compare(&self, signed: bool, op: CmpOp, v: Value, w: Value) -> Result<bool, Fault>
-        ensures { result ≡ compare_of (mode_of self.now.mode) (memory_of self.now).shapes signed op (value_of v) (value_of w) }
+        ensures { result ≡ compare_of (mode_of self.now.mode) (memory_of self.now).shapes signed op (value_of v)
+            (value_of w) }
     {
         comparisons::compare(self.mode, self.objects.as_slice(), signed, op, v, w)
     }

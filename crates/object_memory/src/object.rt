@@ -1,6 +1,7 @@
 //! One object: what it is, its bytes, and a value or none for each granule of 16 bytes.
 
-ghost use Rattle.std.specs.Prelude.{◌≡◌, ◌<◌, ◌≤◌, ◌+◌, ◌-◌, ◌*◌, ◌/◌, ◌^◌, length, replicate, None, IfOk, option_map, slice_get, slice_set};
+ghost use Rattle.std.specs.Prelude.{◌≡◌, ◌<◌, ◌≤◌, ◌+◌, ◌-◌, ◌*◌, ◌/◌, ◌^◌, length, replicate, None, IfOk, option_map};
+ghost use Rattle.std.specs.Prelude.{slice_get, slice_set};
 ghost use Rattle.obj_mem.specs.Values.{value_of};
 ghost use Rattle.obj_mem.specs.Objects.{Active, cell_or, put_at, value_at, with_value};
 ghost use Rattle.object_memory.specs.Answers.{value_seen, cells_of, plain_cell, plain_cells};
@@ -87,7 +88,11 @@ impl Object {
         each: Cell,
     ) -> Result<Object, NoMemory>
         requires { owned < 2 ^ 63 }
-        ensures { IfOk result (λ o. o ≡ record { shape = record { length = len; owned = owned; life = Active; base = base }; content = filled (cell_of each) owned }) }
+        ensures { IfOk result (λ o. o ≡ record {
+          shape = record { length = len; owned = owned; life = Active; base = base };
+          content =
+              filled (cell_of each) owned;
+        }) }
     {
         let cells = vec![in alloc; each; owned as usize]?;
         let values = vec![in alloc; None; (owned as usize + 15) / 16]?;
@@ -142,7 +147,10 @@ impl Object {
 
     /// It is active, and each byte is the same from here on.
     pub(crate) fn begin(&mut self, each: Cell)
-        ensures { self.new ≡ record { shape = record self.old.shape { life = Active }; content = filled (cell_of each) self.old.shape.owned } }
+        ensures { self.new ≡ record {
+          shape = record self.old.shape { life = Active };
+          content = filled (cell_of each) self.old.shape.owned;
+        } }
     {
         self.set_life(Life::Active);
         self.fill(each);
@@ -183,7 +191,10 @@ impl Object {
     /// The granule of a place holds no value from here on.
     #[tactic(auto, using(crate::proofs::Puts::changes))]
     fn drop_value(&mut self, at: u64)
-        ensures { self.new ≡ record self.old { content = record self.old.content { values = slice_set self.old.content.values (at / 16) None } } }
+        ensures { self.new ≡ record self.old {
+          content = record self.old.content
+              { values = slice_set self.old.content.values (at / 16) None };
+        } }
     {
         let granule = (at / 16) as usize;
         if granule >= self.values.len() {
@@ -194,7 +205,10 @@ impl Object {
 
     #[tactic(auto, using(crate::proofs::Puts::changes))]
     fn put_cell(&mut self, at: u128, cell: Cell)
-        ensures { self.new ≡ record self.old { content = record self.old.content { cells = slice_set self.old.content.cells at (cell_of cell) } } }
+        ensures { self.new ≡ record self.old {
+          content = record self.old.content
+              { cells = slice_set self.old.content.cells at (cell_of cell) };
+        } }
     {
         if at >= self.cells.len() as u128 {
             return;
@@ -206,7 +220,10 @@ impl Object {
     #[tactic(auto, using(crate::proofs::Puts::put_more, crate::proofs::Puts::put_all))]
     fn put_cells(&mut self, at: u64, cells: &[Cell])
         requires { length cells.now ≤ 16 }
-        ensures { self.new ≡ record self.old { content = record self.old.content { cells = put_at self.old.content.cells at (cells_of cells.now) } } }
+        ensures { self.new ≡ record self.old {
+          content = record self.old.content
+              { cells = put_at self.old.content.cells at (cells_of cells.now) };
+        } }
     {
         for k in 0..cells.len() {
             self.put_cell(u128::from(at) + k as u128, cells[k]);
@@ -215,7 +232,13 @@ impl Object {
 
     /// Sixteen cells stand in the granule of a place from here on, and no value.
     fn open(&mut self, at: u64, parts: &[Cell; 16])
-        ensures { self.new ≡ record self.old { content = record { cells = put_at self.old.content.cells (16 * (at / 16)) (cells_of parts.now); values = slice_set self.old.content.values (at / 16) None } } }
+        ensures { self.new ≡ record self.old {
+          content = record {
+            cells = put_at self.old.content.cells (16 * (at / 16))
+                (cells_of parts.now);
+            values = slice_set self.old.content.values (at / 16) None;
+          };
+        } }
     {
         self.put_cells(at / 16 * 16, parts);
         self.drop_value(at);
@@ -225,7 +248,10 @@ impl Object {
     #[tactic(auto, using(crate::proofs::Puts::put_more, crate::proofs::Puts::put_all))]
     fn put_bytes(&mut self, at: u64, bytes: &Bytes)
         requires { bytes.now.count ≤ 16 }
-        ensures { self.new ≡ record self.old { content = record self.old.content { cells = put_at self.old.content.cells at (plain_cells bytes.now) } } }
+        ensures { self.new ≡ record self.old {
+          content = record self.old.content
+              { cells = put_at self.old.content.cells at (plain_cells bytes.now) };
+        } }
     {
         let items = &bytes.items[..bytes.count];
         for k in 0..items.len() {
@@ -236,7 +262,10 @@ impl Object {
     /// These bytes stand from a place on, and no value in its granule: the bytes of the one that it held do.
     pub(crate) fn write(&mut self, at: u64, held: &Option<[Cell; 16]>, bytes: &Bytes)
         requires { bytes.now.count ≤ 16 }
-        ensures { self.new ≡ record self.old { content = put_over (option_map cells_of held.now) self.old.content at (plain_cells bytes.now) } }
+        ensures { self.new ≡ record self.old {
+          content = put_over (option_map cells_of held.now) self.old.content at
+              (plain_cells bytes.now);
+        } }
     {
         if let Some(cells) = held {
             self.open(at, cells);

@@ -3,7 +3,12 @@
 ghost use Rattle.std.specs.Prelude.{◌≡◌, ◌+◌, ◌^◌, ◌<◌, ◌≤◌, ◌==◌, ◌||◌, not, nat_lt, IsTrue, List};
 ghost use Rattle.obj_mem.specs.Access.{unspecified as says_nothing};
 ghost use Rattle.obj_mem.specs.Objects.{Shape, base_in as base_of};
-ghost use Rattle.obj_mem.specs.Pointers.{is_near as is_near_to, placed_move as placed_moved, strict_move as strict_moved, move, is_rounding as rounds, placed_narrow as placed_narrowed, strict_narrow as strict_narrowed, narrow, clear as clear_of, mask, get_address, placed_at_address as placed_with, set_address, length_between as length_from, get_tag, get_permissions, get_base, get_length, get_offset, raw_fields, raw_base, raw_top};
+ghost use Rattle.obj_mem.specs.Pointers.{is_near as is_near_to, placed_move as placed_moved};
+ghost use Rattle.obj_mem.specs.Pointers.{strict_move as strict_moved, move, is_rounding as rounds};
+ghost use Rattle.obj_mem.specs.Pointers.{placed_narrow as placed_narrowed, strict_narrow as strict_narrowed, narrow};
+ghost use Rattle.obj_mem.specs.Pointers.{clear as clear_of, mask, get_address, placed_at_address as placed_with};
+ghost use Rattle.obj_mem.specs.Pointers.{set_address, length_between as length_from, get_tag, get_permissions};
+ghost use Rattle.obj_mem.specs.Pointers.{get_base, get_length, get_offset, raw_fields, raw_base, raw_top};
 ghost use Rattle.cap_concentrate.specs.Rounding.{alignment, owned, least_base, least_top};
 ghost use Rattle.obj_mem.specs.Table.{addresses_of};
 ghost use Rattle.obj_mem.specs.Values.{value_of};
@@ -98,7 +103,8 @@ pub(crate) fn moved(mode: Mode<'_>, objects: &[Object], v: Value, by: u64) -> Re
 }
 
 fn placed_narrow(map: &Map, objects: &[Object], v: Value, length: u64, exact: bool) -> Value
-    ensures { value_of result ≡ placed_narrowed (addresses_of map.now) (base_of (shapes_of objects.now)) (value_of v) length exact }
+    ensures { value_of result ≡ placed_narrowed (addresses_of map.now) (base_of (shapes_of objects.now))
+        (value_of v) length exact }
 {
     match v {
         Value::Int(_) | Value::Raw(_, _) => v,
@@ -159,7 +165,8 @@ fn is_rounding(offset: u64, length: u64) -> bool
 /// Whether the least bounds of a request, taken on offsets, lie inside bounds.
 #[tactic(auto, using(crate::proofs::Roundings::top_from))]
 fn lies_inside(low: u64, high: u64, offset: u64, length: u64) -> bool
-    ensures inside { result ≡ not (nat_lt (least_base offset (offset + length)) low || nat_lt high (least_top offset (offset + length))) }
+    ensures inside { result ≡ not (nat_lt (least_base offset (offset + length)) low
+        || nat_lt high (least_top offset (offset + length))) }
     ensures within { IsTrue result → offset + length ≤ high }
 {
     if u128::from(offset) + u128::from(length) > 1 << 64 {

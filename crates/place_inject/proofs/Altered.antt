@@ -1,5 +1,6 @@
 -- What stands in frames stands there still where objects get other lives, of those that have not returned.
-use Rattle.std.proofs.Common.{◌≡◌, ◌⊎◌, ℕ, ◌+◌, ◌-◌, ◌<◌, ◌≤◌, length, inl, inr, List, [], ◌∷◌, sym, ap, ◌∙◌, Option, Some}
+use Rattle.std.proofs.Common.{◌≡◌, ◌⊎◌, ℕ, ◌+◌, ◌-◌, ◌<◌, ◌≤◌, length, inl, inr, List, [], ◌∷◌, sym, ap, ◌∙◌, Option}
+use Rattle.std.proofs.Common.{Some}
 use Rattle.std.specs.Prelude.{slice_get}
 use Rattle.tag_mem.specs.Areas.{Area}
 use Rattle.obj_mem.specs.Legal.{Apart, ObjectNeed}
@@ -9,7 +10,9 @@ use Rattle.obj_mem.specs.Values.{Value}
 use Rattle.placement.proofs.Shapes.{Alters, apart_as, clear_same, from_kept}
 use Rattle.reg_alloc.specs.declared.places.Home.{Home}
 use Rattle.tac_ir.specs.Meaning.{Caller}
-use Rattle.place_inject.specs.Frames.{Setting, Registers, IsAlone, locals_by, IsAt, GlobalsFit, LocalsFit, HomesFit, FrameFits, FramesFit, Waits, functions_of, homes_of, slots_from, stack_top, behind_return}
+use Rattle.place_inject.specs.Frames.{Setting, Registers, IsAlone, locals_by, IsAt, GlobalsFit, LocalsFit, HomesFit}
+use Rattle.place_inject.specs.Frames.{FrameFits, FramesFit, Waits, functions_of, homes_of, slots_from, stack_top}
+use Rattle.place_inject.specs.Frames.{behind_return}
 use Rattle.place_inject.proofs.Reshaped.{Same, known_later, capability_later}
 
 module _ (s : Setting) (old new : List Shape) (alters : Alters old new) where
@@ -51,7 +54,8 @@ module _ (s : Setting) (old new : List Shape) (alters : Alters old new) where
     by i g h p q (inr own) = inr own
 
   module _ (memory : List Area) where
-    pub homes_altered : (registers : Registers) (homes : List Home) (numbers : ℕ → Option ℕ) (slots : ℕ) (live : ℕ → Type 0)
+    pub homes_altered : (registers : Registers) (homes : List Home) (numbers : ℕ → Option ℕ) (slots : ℕ)
+        (live : ℕ → Type 0)
         (temps : List (Option Value))
         → HomesFit (functions_of s) (addresses_of s.map) old memory registers homes numbers slots live temps
         → HomesFit (functions_of s) (addresses_of s.map) new memory registers homes numbers slots live temps

@@ -1,5 +1,6 @@
 -- Calls through values.
-use Rattle.std.proofs.Common.{◌≡◌, ℕ, ◌+◌, ◌%◌, ◌^◌, ◌≤◌, ◌==◌, ◌&&◌, ◌||◌, true, false, not, ltb, refl, ap, ◌∙◌, arith, Some}
+use Rattle.std.proofs.Common.{◌≡◌, ℕ, ◌+◌, ◌%◌, ◌^◌, ◌≤◌, ◌==◌, ◌&&◌, ◌||◌, true, false, not, ltb, refl, ap, ◌∙◌, arith}
+use Rattle.std.proofs.Common.{Some}
 use Rattle.std.specs.Prelude.{find, ℤ, pos, Ok}
 use Rattle.std.proofs.lemmas.Bool.{cond_both, le-ltb, eq-eqb, or_from}
 use Rattle.ck_int.specs.Kinds.{kept_of}
@@ -60,7 +61,8 @@ module _ (a : Addresses) (f : ℕ) (enc : Encodable a.text a.text_end) (from : a
       or_from _ _ (le-ltb (a.entry f) (base code) (let e = q.0 in omega (arith, e, from)))
       (le-ltb (top code) (a.entry f + 4) (let e = q.1 in omega (arith, e, to))) in
       let align : not (a.entry f % 4 == 0) ≡ false = ap not (eq-eqb (a.entry f % 4) 0 aligned) in
-      ap (answer (a.entry f)) (none_fails (fails code (a.entry f) A.Jump) refl not_sealed refl refl refl may_execute bounds
+      ap (answer (a.entry f)) (none_fails (fails code (a.entry f) A.Jump) refl not_sealed refl refl refl may_execute
+      bounds
       align)
 
   sentry_called : (m : Machine) (link rs : ℕ) (at : ℕ → ℕ) → register m rs ≡ capability_of a at (Fun f)
@@ -133,8 +135,10 @@ callees_fit_law functions a objects m fit lie link rs (Int n) k holds =
 callees_fit_law functions a objects m fit lie link rs (Raw address upper) k holds =
     untagged_called m link rs _ holds (raw_tag a (base_in objects.shapes) address upper)
 callees_fit_law functions a objects m fit lie link rs (Fun f) k holds =
-    sentry_called a f lie.exact (fit.spread.in_text f k).0 (lie.within f k) (lie.aligned f k) fit.spread.text_to m link rs
+    sentry_called a f lie.exact (fit.spread.in_text f k).0 (lie.within f k)
+    (lie.aligned f k) fit.spread.text_to m link rs
     (base_in objects.shapes) holds
 callees_fit_law functions a objects m fit lie link rs (Live o low high at perms) k holds =
-    pointer_called k.shape.base low high at perms (points functions a objects m.mem fit o low high at perms k) k.no_execute
+    pointer_called k.shape.base low high at perms
+    (points functions a objects m.mem fit o low high at perms k) k.no_execute
     m link rs (holds ∙ pointer_is a objects.shapes o low high at perms k.shape k.there)

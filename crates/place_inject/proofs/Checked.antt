@@ -1,7 +1,9 @@
 -- The machine's check of the capability that a value is answers as the meaning's check of the value.
-use Rattle.std.proofs.Common.{◌≡◌, ℕ, zero, suc, ◌+◌, ◌%◌, ◌^◌, ◌<◌, ◌≤◌, ◌==◌, ◌⊎◌, Bool, true, false, not, ◌&&◌, ◌||◌, List, [], ◌∷◌, cond, eqb, ltb, refl, sym, ap, ◌∙◌, arith, Some, None, inl, inr}
+use Rattle.std.proofs.Common.{◌≡◌, ℕ, zero, suc, ◌+◌, ◌%◌, ◌^◌, ◌<◌, ◌≤◌, ◌==◌, ◌⊎◌, Bool, true, false, not, ◌&&◌, ◌||◌}
+use Rattle.std.proofs.Common.{List, [], ◌∷◌, cond, eqb, ltb, refl, sym, ap, ◌∙◌, arith, Some, None, inl, inr}
 use Rattle.std.specs.Prelude.{find, slice_get, Err}
-use Rattle.std.proofs.lemmas.Bool.{cases_lt, cases_Bool, lt-ltb, le-ltb, eqb-true, ltb-false, and_parts, or_parts, or_left, or_right, not-false}
+use Rattle.std.proofs.lemmas.Bool.{cases_lt, cases_Bool, lt-ltb, le-ltb, eqb-true, ltb-false, and_parts, or_parts}
+use Rattle.std.proofs.lemmas.Bool.{or_left, or_right, not-false}
 use Rattle.std.proofs.Math.Nat.{mod-eq_of_lt}
 use Rattle.cap_concentrate.specs.Encoding.{encoded_internal, encoded_t, encoded_b, with_bounds}
 use Rattle.cap_concentrate.specs.Decoding.{base_of, top_of}

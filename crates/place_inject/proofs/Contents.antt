@@ -1,10 +1,13 @@
 -- What stands in an object behind a store, by place.
-use Rattle.std.proofs.Common.{◌≡◌, ℕ, zero, suc, ◌+◌, ◌*◌, ◌/◌, ◌%◌, ◌<◌, ◌≤◌, List, [], ◌∷◌, length, refl, sym, ap, ◌∙◌, arith, Option, Some, None, inl, inr, ◌⊎◌}
+use Rattle.std.proofs.Common.{◌≡◌, ℕ, zero, suc, ◌+◌, ◌*◌, ◌/◌, ◌%◌, ◌<◌, ◌≤◌, List, [], ◌∷◌, length, refl, sym, ap}
+use Rattle.std.proofs.Common.{◌∙◌, arith, Option, Some, None, inl, inr, ◌⊎◌}
 use Rattle.std.specs.Prelude.{slice_get, slice_set}
 use Rattle.std.proofs.lemmas.Bool.{cases_eq}
 use Rattle.obj_mem.specs.Values.{Value}
-use Rattle.obj_mem.specs.Objects.{Cell, Shape, Content, Mode, held, value_at, cell_or, seen_through, byte_at, part, parts, put_at, opened_by, opened, with_bytes, with_value}
-use Rattle.place_inject.proofs.Puts.{get_here, get_there, set_length, cell_at, put_length, put_outside, put_inside, parts_length, parts_get}
+use Rattle.obj_mem.specs.Objects.{Cell, Shape, Content, Mode, held, value_at, cell_or, seen_through, byte_at, part}
+use Rattle.obj_mem.specs.Objects.{parts, put_at, opened_by, opened, with_bytes, with_value}
+use Rattle.place_inject.proofs.Puts.{get_here, get_there, set_length, cell_at, put_length, put_outside, put_inside}
+use Rattle.place_inject.proofs.Puts.{parts_length, parts_get}
 
 -- a granule that gets no value holds none
 pub emptied : (xs : List (Option Value)) (g : ℕ) → held (slice_get (slice_set xs g None) g) ≡ None

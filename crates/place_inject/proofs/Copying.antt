@@ -1,5 +1,6 @@
 -- A unit of a copy is a load and then a store.
-use Rattle.std.proofs.Common.{◌≡◌, ℕ, zero, suc, ◌+◌, ◌*◌, ◌/◌, ◌%◌, ◌<◌, ◌==◌, ◌&&◌, Bool, true, false, cond, List, ◌∷◌, ◌++◌, take, drop, refl, sym, ap, ◌∙◌, subst, arith, Option, Some, None, inl, inr}
+use Rattle.std.proofs.Common.{◌≡◌, ℕ, zero, suc, ◌+◌, ◌*◌, ◌/◌, ◌%◌, ◌<◌, ◌==◌, ◌&&◌, Bool, true, false, cond, List}
+use Rattle.std.proofs.Common.{◌∷◌, ◌++◌, take, drop, refl, sym, ap, ◌∙◌, subst, arith, Option, Some, None, inl, inr}
 use Rattle.std.specs.Prelude.{Result, Ok}
 use Rattle.std.proofs.lemmas.Bool.{and_right, cond-false}
 use Rattle.cap_ops.specs.declared.access.Access.TheVariants as A
@@ -9,8 +10,10 @@ use Rattle.cap_machine.specs.declared.machine.Machine.{Machine}
 use Rattle.cap_machine.specs.Rows.{load_checked}
 use Rattle.obj_mem.specs.declared.ending.Fault.{Fault}
 use Rattle.obj_mem.specs.Values.{Value, Int, Live, Fun, Raw, Addresses, is_tagged}
-use Rattle.obj_mem.specs.Objects.{Cell, Byte, Unwritten, PartOf, Shape, Content, Memory, Mode, Placed, value_at, byte_at, bytes_at}
-use Rattle.obj_mem.specs.Access.{Spot, onward, Piece, Tagged, Plain, piece_of, number_of, read_as, loaded, load, bytes_of, stored_piece, store, carried, as_load, then_put, copy_unit}
+use Rattle.obj_mem.specs.Objects.{Cell, Byte, Unwritten, PartOf, Shape, Content, Memory, Mode, Placed, value_at}
+use Rattle.obj_mem.specs.Objects.{byte_at, bytes_at}
+use Rattle.obj_mem.specs.Access.{Spot, onward, Piece, Tagged, Plain, piece_of, number_of, read_as, loaded, load}
+use Rattle.obj_mem.specs.Access.{bytes_of, stored_piece, store, carried, as_load, then_put, copy_unit}
 use Rattle.place_inject.specs.Values.{IsKnown}
 use Rattle.place_inject.specs.Objects.{IsByte, ObjectsFit}
 use Rattle.place_inject.specs.Copies.{then_stored, IsUnit, CopiesFit}

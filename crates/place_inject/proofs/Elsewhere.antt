@@ -1,4 +1,5 @@
--- What changes in an object leaves the parts of memory that belong to no object, and what stands in the frames, as it was.
+-- What changes in an object leaves the parts of memory that belong to no object, and what stands in the frames, as it
+-- was.
 use Rattle.std.proofs.Common.{◌≡◌, ℕ, ◌+◌, ◌-◌, ◌*◌, ◌%◌, ◌≤◌, List, sym, ap, ◌∙◌, arith, Some, inl, inr}
 use Rattle.std.specs.Prelude.{slice_get}
 use Rattle.std.specs.Option.{option_map}

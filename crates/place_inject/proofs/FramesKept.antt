@@ -1,5 +1,6 @@
 -- What stands in frames stays where an object changes.
-use Rattle.std.proofs.Common.{◌≡◌, ℕ, ◌+◌, ◌*◌, ◌%◌, ◌<◌, ◌≤◌, ◌==◌, Bool, List, [], ◌∷◌, length, refl, sym, ap, ◌∙◌, arith, Option, Some, None}
+use Rattle.std.proofs.Common.{◌≡◌, ℕ, ◌+◌, ◌*◌, ◌%◌, ◌<◌, ◌≤◌, ◌==◌, Bool, List, [], ◌∷◌, length, refl, sym, ap, ◌∙◌}
+use Rattle.std.proofs.Common.{arith, Option, Some, None}
 use Rattle.std.specs.Prelude.{slice_get, position, nat_lt}
 use Rattle.std.specs.Option.{option_map}
 use Rattle.std.specs.List.{position_or_len}
@@ -11,11 +12,13 @@ use Rattle.obj_mem.specs.Objects.{Shape}
 use Rattle.obj_mem.specs.Table.{addresses_of}
 use Rattle.reg_alloc.specs.declared.places.Home.{Home}
 use Rattle.reg_alloc.specs.declared.places.Home.TheVariants.{Register, Slot}
-use Rattle.purecap_abi.specs.Saving.{kept_homes, stack_bytes, keeps_stack, slot_count, registers_at, behind_registers, stack_at, slots_at}
+use Rattle.purecap_abi.specs.Saving.{kept_homes, stack_bytes, keeps_stack, slot_count, registers_at, behind_registers}
+use Rattle.purecap_abi.specs.Saving.{stack_at, slots_at}
 use Rattle.purecap_abi.proofs.Counts.{slot_count_each}
 use Rattle.tac_ir.specs.Meaning.{Caller}
 use Rattle.place_inject.specs.Parts.{Unchanged, kept_at}
-use Rattle.place_inject.specs.Frames.{Setting, Registers, homes_of, functions_of, stack_top, slots_from, at_home, HomesFit, Waits, from_place, behind_return, FrameFits, FramesFit}
+use Rattle.place_inject.specs.Frames.{Setting, Registers, homes_of, functions_of, stack_top, slots_from, at_home}
+use Rattle.place_inject.specs.Frames.{HomesFit, Waits, from_place, behind_return, FrameFits, FramesFit}
 use Rattle.place_inject.proofs.Elsewhere.{kept_same}
 use Rattle.place_inject.proofs.Lying.{within}
 
@@ -44,8 +47,8 @@ pub all_use : (s : Setting) (Used : ℕ → Type 0)
 all_use s Used h [] = tt
 all_use s Used h (c ∷ cs) = (λ t r l e. h c.fun t r e, all_use s Used h cs)
 
--- between two memories in which the saved parts are alike from an address on, and for registers that are alike where a home or a register of a
--- caller may be
+-- between two memories in which the saved parts are alike from an address on, and for registers that are alike where a
+-- home or a register of a caller may be
 module _ (s : Setting) (shapes : List Shape) (old new : List Area) (h : IsMemory old) (h' : IsMemory new)
     (lowest : ℕ) (unchanged : (fun first at above link : ℕ) (f : FrameFits s shapes old fun first at above link)
     → lowest ≤ at → Unchanged at f.frame.saved old new)
@@ -132,7 +135,8 @@ module _ (s : Setting) (shapes : List Shape) (old new : List Area) (h : IsMemory
           (homes_of s fun) f.frame = ap (λ x. slots_from x (homes_of s fun) at) f.is in
           record {
             one_each = q.one_each;
-            kept = λ t home l n e. ap (λ x. at_home new registers' x home) slots ∙ home_same t home e (λ r g. used t r l g)
+            kept = λ t home l n e. ap (λ x. at_home new registers' x home) slots
+                ∙ home_same t home e (λ r g. used t r l g)
                 ∙ sym (ap (λ x. at_home old registers x home) slots) ∙ q.kept t home l n e;
             numbered = q.numbered;
             known = q.known;
@@ -171,7 +175,8 @@ module _ (s : Setting) (shapes : List Shape) (old new : List Area) (h : IsMemory
       let above = rises fun first at c.frame (s.back c.fun c.rest) f.0 up in (
         frame_kept fun first at c.frame (s.back c.fun c.rest) f.0 up,
         f.1,
-        homes_kept c.fun c.first c.frame own.above own.link own.frame above now now' behind (functions_of s) (addresses_of s.map)
+        homes_kept c.fun c.first c.frame own.above own.link own.frame above now now' behind (functions_of s)
+            (addresses_of s.map)
             (Waits s c) c.vars used.0 f.2,
         frames_behind now now' c.fun c.first c.frame above cs
             (registers_kept c.fun c.first c.frame own.above own.link own.frame above now now' behind) used.1 f.3,
@@ -189,7 +194,8 @@ module _ (s : Setting) (shapes : List Shape) (old new : List Area) (h : IsMemory
       × FramesFit s shapes new registers' fun first at cs
   calls_kept registers registers' alike fun first at up cs functions a live temps own_use used q f =
       let own = newest registers fun first at cs f in (
-        homes_kept fun first at own.above own.link own.frame up registers registers' alike functions a live temps own_use q,
+        homes_kept fun first at own.above own.link own.frame up registers registers' alike functions a live temps
+            own_use q,
         frames_behind registers registers' fun first at up cs
             (registers_kept fun first at own.above own.link own.frame up registers registers' alike) used f,
       )

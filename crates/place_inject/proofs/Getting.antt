@@ -1,5 +1,6 @@
 -- The numbers of capabilities.
-use Rattle.std.proofs.Common.{◌≡◌, ℕ, ◌+◌, ◌-◌, ◌*◌, ◌%◌, ◌^◌, ◌<◌, ◌≤◌, ◌==◌, ◌&&◌, Bool, true, false, nat_lt, List, refl, sym, ap, ◌∙◌, arith}
+use Rattle.std.proofs.Common.{◌≡◌, ℕ, ◌+◌, ◌-◌, ◌*◌, ◌%◌, ◌^◌, ◌<◌, ◌≤◌, ◌==◌, ◌&&◌, Bool, true, false, nat_lt, List}
+use Rattle.std.proofs.Common.{refl, sym, ap, ◌∙◌, arith}
 use Rattle.std.specs.Prelude.{Result, Ok}
 use Rattle.std.proofs.lemmas.Bool.{le-ltb}
 use Rattle.cap_concentrate.specs.Decoding.{base_of, base_at, top_at, one_where}
@@ -53,7 +54,8 @@ module _ (a : Addresses) (shapes : List Shape) (o low high at perms : ℕ) (s : 
   unfolding capability_of
   live_tag = refl
 
-  live_gets : GettersFit a shapes (Live o low high at perms) (capability_of a (base_in shapes) (Live o low high at perms))
+  live_gets : GettersFit a shapes (Live o low high at perms)
+      (capability_of a (base_in shapes) (Live o low high at perms))
   live_gets =
       let c = capability_of a (base_in shapes) (Live o low high at perms) in
       let address : c.fields.address ≡ (base_in shapes o + at) % 2 ^ 64 =
@@ -112,7 +114,8 @@ module _ (a : Addresses) (shapes : List Shape) (f : ℕ) (enc : Encodable a.text
         lengths = number _ _ (sym
             (ap (λ b. length_between b (top c)) sentry_bounds.0 ∙ ap (length_between a.text) sentry_bounds.1));
         offsets = number _ _ (sym (ap (λ x. (x + (2 ^ 64 - base c)) % 2 ^ 64) sentry_address
-            ∙ ap (λ b. (a.entry f + (2 ^ 64 - b)) % 2 ^ 64) sentry_bounds.0 ∙ less_it (a.entry f) a.text (omega (arith, from, below, to))));
+            ∙ ap (λ b. (a.entry f + (2 ^ 64 - b)) % 2 ^ 64) sentry_bounds.0
+            ∙ less_it (a.entry f) a.text (omega (arith, from, below, to))));
       }
     where
       less_it : (x b : ℕ) → b ≤ 2 ^ 64 → (x + (2 ^ 64 - b)) % 2 ^ 64 ≡ (x + 2 ^ 64 - b) % 2 ^ 64
@@ -124,7 +127,8 @@ base_word : (internal : Bool) (t b address : ℕ) → base_of internal t b addre
 unfolding base_of
 base_word internal t b address = omega arith
 
-module _ (a : Addresses) (shapes : List Shape) (address upper : ℕ) (small : address < 2 ^ 64) (word : upper < 2 ^ 64) where
+module _ (a : Addresses) (shapes : List Shape) (address upper : ℕ) (small : address < 2 ^ 64)
+    (word : upper < 2 ^ 64) where
   raw_address : (fields_of (flipped (upper * 2 ^ 64 + address))).address ≡ address
   raw_address = ap (λ (f : Fields). f.address) (raw_moved address upper address small word small)
 
@@ -187,7 +191,8 @@ module _ (functions : ℕ) (a : Addresses) (m : Memory) (memory : List Area) (f 
         orders = λ signed. rw (x, y) refl;
         distances = rw (x, y) refl;
         identities = truth _ _ (ap (λ b. b && (bits a (base_in m.shapes) v == bits a (base_in m.shapes) w))
-            (ap (λ b. same_tag b (is_tagged w)) (gets v k).tags ∙ ap (same_tag c.tag) (gets w l).tags ∙ tags_alike c.tag d.tag));
+            (ap (λ b. same_tag b (is_tagged w)) (gets v k).tags ∙ ap (same_tag c.tag) (gets w l).tags
+            ∙ tags_alike c.tag d.tag));
       }
 
 pub getting_fits_law : GettingFitsWhereObjectsDo

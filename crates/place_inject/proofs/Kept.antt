@@ -1,11 +1,13 @@
 -- Stores that keep an object at its place in the memory of the machine.
-use Rattle.std.proofs.Common.{◌≡◌, ℕ, ◌+◌, ◌-◌, ◌/◌, ◌%◌, ◌<◌, ◌≤◌, Bool, true, false, List, length, sym, ap, ◌∙◌, arith, Option, Some, None, inl, inr}
+use Rattle.std.proofs.Common.{◌≡◌, ℕ, ◌+◌, ◌-◌, ◌/◌, ◌%◌, ◌<◌, ◌≤◌, Bool, true, false, List, length, sym, ap, ◌∙◌}
+use Rattle.std.proofs.Common.{arith, Option, Some, None, inl, inr}
 use Rattle.std.specs.Prelude.{is_some}
 use Rattle.std.proofs.lemmas.Bool.{cases_lt, cases_eq}
 use Rattle.tag_mem.specs.Areas.{Area, byte_at, tag_at}
 use Rattle.obj_mem.specs.Values.{Value, Addresses, memory_bits}
 use Rattle.obj_mem.specs.Objects as object
-use Rattle.obj_mem.specs.Objects.{Cell, Byte, Shape, Content, Placed, value_at, cell_or, seen_through, byte_of, base_in, with_bytes, with_value}
+use Rattle.obj_mem.specs.Objects.{Cell, Byte, Shape, Content, Placed, value_at, cell_or, seen_through, byte_of, base_in}
+use Rattle.obj_mem.specs.Objects.{with_bytes, with_value}
 use Rattle.obj_mem.specs.Access.{bytes_of}
 use Rattle.obj_mem.specs.Legal.{Apart}
 use Rattle.place_inject.specs.Objects.{Stands, SameOutside, number_in}

@@ -1,5 +1,6 @@
 -- A load of the meaning and a load of the machine.
-use Rattle.std.proofs.Common.{◌≡◌, ℕ, ◌+◌, ◌*◌, ◌/◌, ◌^◌, ◌==◌, ◌&&◌, Bool, true, false, List, take, drop, refl, sym, ap, ◌∙◌, arith, Option, Some, None, inl, inr}
+use Rattle.std.proofs.Common.{◌≡◌, ℕ, ◌+◌, ◌*◌, ◌/◌, ◌^◌, ◌==◌, ◌&&◌, Bool, true, false, List, take, drop, refl, sym}
+use Rattle.std.proofs.Common.{ap, ◌∙◌, arith, Option, Some, None, inl, inr}
 use Rattle.std.specs.Prelude.{pos, Result, Ok}
 use Rattle.std.proofs.lemmas.Bool.{and_right, cond-false}
 use Rattle.cap_concentrate.specs.Packing.{bits_of, fields_of, flipped}
@@ -29,7 +30,8 @@ use Rattle.place_inject.proofs.Bits.{flipped_small, fields_back}
 use Rattle.place_inject.proofs.Checked.{size_is, in_granule, perms_same}
 use Rattle.place_inject.proofs.Kept.{tag_of}
 use Rattle.place_inject.proofs.Known.{points, pointer_is, capability_word, capability_tag}
-use Rattle.place_inject.proofs.Numbered.{Numbered, number_here, number_read, number_split, bytes_take, bytes_drop, value_read}
+use Rattle.place_inject.proofs.Numbered.{Numbered, number_here, number_read, number_split, bytes_take, bytes_drop}
+use Rattle.place_inject.proofs.Numbered.{value_read}
 use Rattle.place_inject.proofs.Reached.{Reached, spot_of, through}
 
 no_sixteen : (op : LoadOp) → (loaded_bytes op == 16) ≡ false

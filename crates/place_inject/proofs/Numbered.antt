@@ -1,5 +1,6 @@
 -- The number that the bytes of an object are.
-use Rattle.std.proofs.Common.{◌≡◌, ℕ, zero, suc, ◌+◌, ◌*◌, ◌/◌, ◌%◌, ◌^◌, ◌<◌, ◌≤◌, false, List, [], ◌∷◌, refl, sym, ap, ◌∙◌, subst, arith, Some, take, drop}
+use Rattle.std.proofs.Common.{◌≡◌, ℕ, zero, suc, ◌+◌, ◌*◌, ◌/◌, ◌%◌, ◌^◌, ◌<◌, ◌≤◌, false, List, [], ◌∷◌, refl, sym, ap}
+use Rattle.std.proofs.Common.{◌∙◌, subst, arith, Some, take, drop}
 use Rattle.std.proofs.Math.Nat.{pow-succ'}
 use Rattle.std.proofs.Math.Nat.{mul_assoc}
 use Rattle.tag_mem.specs.Areas.{Area, IsMemory}
@@ -8,7 +9,8 @@ use Rattle.tag_mem.specs.Memory.{number_at, Spells}
 use Rattle.tag_mem.proofs.Reading.{number_at-Spells}
 use Rattle.std.specs.Prelude.{slice_get}
 use Rattle.obj_mem.specs.Values.{Value, Addresses, memory_bits}
-use Rattle.obj_mem.specs.Objects.{Cell, Byte, Unwritten, PartOf, Shape, Content, Mode, Placed, byte_at, bytes_at, byte_of, value_at, base_in, seen_through, cell_or}
+use Rattle.obj_mem.specs.Objects.{Cell, Byte, Unwritten, PartOf, Shape, Content, Mode, Placed, byte_at, bytes_at}
+use Rattle.obj_mem.specs.Objects.{byte_of, value_at, base_in, seen_through, cell_or}
 use Rattle.obj_mem.specs.Access.{has_unwritten, has_part, number_of}
 use Rattle.place_inject.specs.Objects.{IsByte, IsSound, Stands, number_in}
 use Rattle.place_inject.proofs.Puts.{byte_of_is}

@@ -1,5 +1,6 @@
 -- Moves, narrowing and cleared tags of values, and those of their capabilities.
-use Rattle.std.proofs.Common.{◌≡◌, ℕ, ◌+◌, ◌-◌, ◌*◌, ◌/◌, ◌%◌, ◌^◌, ◌<◌, ◌≤◌, ◌==◌, ◌&&◌, Bool, true, false, not, nat_le, cond, List, refl, sym, ap, ◌∙◌, subst, arith, inl, inr}
+use Rattle.std.proofs.Common.{◌≡◌, ℕ, ◌+◌, ◌-◌, ◌*◌, ◌/◌, ◌%◌, ◌^◌, ◌<◌, ◌≤◌, ◌==◌, ◌&&◌, Bool, true, false, not}
+use Rattle.std.proofs.Common.{nat_le, cond, List, refl, sym, ap, ◌∙◌, subst, arith, inl, inr}
 use Rattle.std.specs.Prelude.{Ok, if◌then◌else◌}
 use Rattle.std.proofs.lemmas.Bool.{cond-false, and_parts, and_from, and_left, leb-true, eqb-true, eq-eqb, cases_lt}
 use Rattle.cap_concentrate.specs.declared.fields.Fields.{Fields}
@@ -16,9 +17,11 @@ use Rattle.cap_ops.proofs.Laws.{bounded_masked}
 use Rattle.cap_ops.specs.declared.capability.Cap.{Cap}
 use Rattle.cap_ops.specs.declared.capability.TheConstants.{UNSEALED, EXECUTE}
 use Rattle.cap_ops.specs.Bounded.{bounded, plain_fields}
-use Rattle.cap_ops.specs.Capability.{base, top, usable, with_address, moved, added, fits, is_exact, with_request, narrowed, narrowed_exactly, with_mask, masked, cleared, lacks}
+use Rattle.cap_ops.specs.Capability.{base, top, usable, with_address, moved, added, fits, is_exact, with_request}
+use Rattle.cap_ops.specs.Capability.{narrowed, narrowed_exactly, with_mask, masked, cleared, lacks}
 use Rattle.obj_mem.specs.Values as value
-use Rattle.obj_mem.specs.Values.{Value, Int, Live, Fun, Raw, Addresses, capability_of, bits, memory_bits, untagged, is_tagged}
+use Rattle.obj_mem.specs.Values.{Value, Int, Live, Fun, Raw, Addresses, capability_of, bits, memory_bits, untagged}
+use Rattle.obj_mem.specs.Values.{is_tagged}
 use Rattle.obj_mem.specs.Objects.{Shape, Placed, base_in}
 use Rattle.obj_mem.specs.Pointers.{keeps, at_offset, move, narrow, mask, clear, set_address}
 use Rattle.obj_mem.specs.Standing.{IsSpread}

@@ -17,7 +17,8 @@ use Rattle.obj_mem.specs.Access.{Spot, misses, unless, onward, reach, outside_un
 use Rattle.place_inject.specs.Values.{IsHeld, IsKnown}
 use Rattle.place_inject.specs.Objects.{ObjectsFit}
 use Rattle.place_inject.proofs.Checked.{pointer_checked, passed, untagged_checked, sealed_checked}
-use Rattle.place_inject.proofs.Known.{points, pointer_is, base_is, plus_zero, integer_tag, raw_tag, sentry_tag, sentry_sealed, live_address}
+use Rattle.place_inject.proofs.Known.{points, pointer_is, base_is, plus_zero, integer_tag, raw_tag, sentry_tag}
+use Rattle.place_inject.proofs.Known.{sentry_sealed, live_address}
 
 -- what both reach: n bytes in an active object, at a multiple of n
 pub record Reached (objects : Memory) (n : ℕ) (p : Spot) (s : Shape) (c : Content) : Type 0 where

@@ -3,7 +3,8 @@ use Rattle.std.proofs.Common.{◌≡◌, ℕ, ◌+◌, ◌*◌, ◌/◌, ◌%◌
 use Rattle.std.proofs.lemmas.Bool.{cond_both, cases_lt, and_parts, eqb-true}
 use Rattle.std.proofs.lemmas.Nat.{pow_pos}
 use Rattle.std.proofs.Math.Nat.{mul-le-mul_right}
-use Rattle.cap_concentrate.specs.Encoding.{encoded_internal, encoded_t, encoded_b, encoded_t_below, encoded_b_below, with_bounds}
+use Rattle.cap_concentrate.specs.Encoding.{encoded_internal, encoded_t, encoded_b, encoded_t_below, encoded_b_below}
+use Rattle.cap_concentrate.specs.Encoding.{with_bounds}
 use Rattle.cap_concentrate.specs.Decoding.{one_where, base_of, top_of}
 use Rattle.cap_concentrate.specs.Rounding.{Encodable}
 use Rattle.cap_concentrate.proofs.Decoded.{IsSpan, decoded_base, decoded_top}

@@ -1,5 +1,6 @@
 -- A value that was spilled is read back.
-use Rattle.std.proofs.Common.{◌≡◌, ℕ, ◌+◌, ◌*◌, ◌%◌, ◌<◌, ◌≤◌, ◌==◌, ◌&&◌, ◌||◌, ℤ, Bool, true, false, not, ltb, List, [], ◌∷◌, refl, ap, ◌∙◌, arith, Option, Some, None}
+use Rattle.std.proofs.Common.{◌≡◌, ℕ, ◌+◌, ◌*◌, ◌%◌, ◌<◌, ◌≤◌, ◌==◌, ◌&&◌, ◌||◌, ℤ, Bool, true, false, not, ltb, List}
+use Rattle.std.proofs.Common.{[], ◌∷◌, refl, ap, ◌∙◌, arith, Option, Some, None}
 use Rattle.std.specs.Prelude.{find, slice_get, Ok}
 use Rattle.std.specs.Option.{option_map}
 use Rattle.std.proofs.lemmas.Bool.{le-ltb, eq-eqb, or_from}
@@ -26,7 +27,8 @@ use Rattle.purecap_abi.specs.Saving.{slot_count, slots_at}
 use Rattle.purecap_abi.proofs.Counts.{slot_count_each}
 use Rattle.tac_ir.specs.Meaning.{Caller}
 use Rattle.place_inject.specs.Parts.{capability_in, kept_at}
-use Rattle.place_inject.specs.Frames.{Setting, Registers, homes_of, slots_from, stack_top, behind_return, FrameFits, FramesFit}
+use Rattle.place_inject.specs.Frames.{Setting, Registers, homes_of, slots_from, stack_top, behind_return, FrameFits}
+use Rattle.place_inject.specs.Frames.{FramesFit}
 use Rattle.place_inject.specs.Fits.{registers_in}
 use Rattle.place_inject.specs.Slots.{SlotsReadBack}
 use Rattle.place_inject.proofs.FramesKept.{stack_multiple}

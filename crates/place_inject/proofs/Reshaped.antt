@@ -1,5 +1,6 @@
 -- An object gets another life: what stands in objects stays what it is.
-use Rattle.std.proofs.Common.{◌≡◌, ℕ, zero, suc, ◌+◌, ◌*◌, ◌/◌, ◌%◌, ◌^◌, ◌<◌, true, false, List, length, replicate, refl, sym, ap, ◌∙◌, subst, arith, Option, Some, None, inl, inr}
+use Rattle.std.proofs.Common.{◌≡◌, ℕ, zero, suc, ◌+◌, ◌*◌, ◌/◌, ◌%◌, ◌^◌, ◌<◌, true, false, List, length, replicate}
+use Rattle.std.proofs.Common.{refl, sym, ap, ◌∙◌, subst, arith, Option, Some, None, inl, inr}
 use Rattle.std.specs.Prelude.{slice_get, slice_set}
 use Rattle.std.proofs.lemmas.Bool.{cases_eq}
 use Rattle.std.proofs.lemmas.Option.{same_Some, slice_get_within}
@@ -11,7 +12,9 @@ use Rattle.cap_concentrate.specs.Packing.{bits_of, flipped}
 use Rattle.tag_mem.specs.Areas.{Area, IsMemory, byte_at, tag_at}
 use Rattle.obj_mem.specs.Values.{Value, Int, Live, Fun, Raw, Addresses, capability_of, bits, memory_bits}
 use Rattle.obj_mem.specs.Objects as object
-use Rattle.obj_mem.specs.Objects.{Life, Active, Inactive, Returned, Shape, Content, Memory, Cell, Byte, Placed, value_at, held, cell_or, seen_through, byte_of, base_in, base_of_shape, blank, with_life_by, zero_object, rest, end}
+use Rattle.obj_mem.specs.Objects.{Life, Active, Inactive, Returned, Shape, Content, Memory, Cell, Byte, Placed}
+use Rattle.obj_mem.specs.Objects.{value_at, held, cell_or, seen_through, byte_of, base_in, base_of_shape, blank}
+use Rattle.obj_mem.specs.Objects.{with_life_by, zero_object, rest, end}
 use Rattle.obj_mem.specs.Agreement.{IsNotReturned}
 use Rattle.obj_mem.specs.Legal.{Apart}
 use Rattle.obj_mem.specs.Pointers.{keeps}

@@ -1,5 +1,6 @@
 -- A result in the register of its temp.
-use Rattle.std.proofs.Common.{◌≡◌, ◌⊎◌, ℕ, zero, suc, ◌+◌, ◌-◌, ◌*◌, ◌<◌, ◌==◌, ◌||◌, Bool, true, false, not, List, [], ◌∷◌, length, refl, sym, ap, ◌∙◌, subst, arith, Option, Some, None, inl, inr}
+use Rattle.std.proofs.Common.{◌≡◌, ◌⊎◌, ℕ, zero, suc, ◌+◌, ◌-◌, ◌*◌, ◌<◌, ◌==◌, ◌||◌, Bool, true, false, not, List, []}
+use Rattle.std.proofs.Common.{◌∷◌, length, refl, sym, ap, ◌∙◌, subst, arith, Option, Some, None, inl, inr}
 use Rattle.std.specs.Prelude.{slice_get, slice_set, position, nat_lt, if◌then◌else◌}
 use Rattle.std.specs.Option.{option_map}
 use Rattle.std.specs.List.{filter, position_or_len}
@@ -22,9 +23,11 @@ use Rattle.tac_ir.specs.Effects.{held}
 use Rattle.tac_ir.specs.Meaning.{Caller}
 use Rattle.placement.proofs.Shapes.{same_place}
 use Rattle.place_inject.specs.Values.{IsKnown}
-use Rattle.place_inject.specs.Frames.{Setting, Point, IsLive, homes_of, functions_of, stack_top, slots_from, at_home, HomesFit, from_place, behind_return, FrameFits, FramesFit}
+use Rattle.place_inject.specs.Frames.{Setting, Point, IsLive, homes_of, functions_of, stack_top, slots_from, at_home}
+use Rattle.place_inject.specs.Frames.{HomesFit, from_place, behind_return, FrameFits, FramesFit}
 use Rattle.place_inject.specs.Fits.{Fits, HomesAreUsable, registers_in}
-use Rattle.place_inject.specs.Homes.{CallersKeep, HomeIsFree, onward, ReadsNoMore, HasResult, ResultsFit, NumbersFit, MovesOnFit, NumbersReadBack, RegistersReadBack}
+use Rattle.place_inject.specs.Homes.{CallersKeep, HomeIsFree, onward, ReadsNoMore, HasResult, ResultsFit, NumbersFit}
+use Rattle.place_inject.specs.Homes.{MovesOnFit, NumbersReadBack, RegistersReadBack}
 use Rattle.place_inject.proofs.FramesKept.{CallersUseOnly, frames_behind}
 use Rattle.place_inject.proofs.StoresKeep.{same_memory}
 
@@ -98,12 +101,14 @@ saved homes t r e k none =
 
 -- ---- temps
 
-pub set_same : {A : Type 0} (xs : List A) (i : ℕ) (x y : A) → slice_get xs i ≡ Some y → slice_get (slice_set xs i x) i ≡ Some x
+pub set_same : {A : Type 0} (xs : List A) (i : ℕ) (x y : A) → slice_get xs i ≡ Some y →
+    slice_get (slice_set xs i x) i ≡ Some x
 set_same [] i x y e = absurd (none-some y e)
 set_same (z ∷ xs) zero x y e = refl
 set_same (z ∷ xs) (suc i) x y e = set_same xs i x y e
 
-pub set_apart : {A : Type 0} (xs : List A) (i k : ℕ) (x : A) → (k ≡ i → ⊥) → slice_get (slice_set xs i x) k ≡ slice_get xs k
+pub set_apart : {A : Type 0} (xs : List A) (i k : ℕ) (x : A) → (k ≡ i → ⊥) →
+    slice_get (slice_set xs i x) k ≡ slice_get xs k
 set_apart [] i k x d = refl
 set_apart (z ∷ xs) zero zero x d = absurd (d refl)
 set_apart (z ∷ xs) zero (suc k) x d = refl
@@ -115,7 +120,8 @@ set_length [] i x = refl
 set_length (z ∷ xs) zero x = refl
 set_length (z ∷ xs) (suc i) x = ap suc (set_length xs i x)
 
-pub there_too : {A B : Type 0} (xs : List A) (ys : List B) (i : ℕ) (x : A) → length xs ≡ length ys → slice_get xs i ≡ Some x
+pub there_too : {A B : Type 0} (xs : List A) (ys : List B) (i : ℕ) (x : A) → length xs ≡ length ys →
+    slice_get xs i ≡ Some x
     → (y : B) × (slice_get ys i ≡ Some y)
 there_too [] ys i x l e = absurd (none-some x e)
 there_too (a ∷ xs) [] i x l e = absurd (omega (arith, l))
@@ -125,7 +131,8 @@ there_too (a ∷ xs) (b ∷ ys) (suc i) x l e = let d : length xs ≡ length ys 
 -- ---- the state behind the result
 
 module _ (s : Setting) (usable : HomesAreUsable s) (p : Point) (t : State Store) (m : Machine) (f : Fits s (Some p) t m)
-    (rest : List TacInstr) (temp r : ℕ) (free : HomeIsFree s (onward p rest) temp r) (reads : ReadsNoMore s p rest temp) (v : Value)
+    (rest : List TacInstr) (temp r : ℕ) (free : HomeIsFree s (onward p rest) temp r) (reads : ReadsNoMore s p rest temp)
+    (v : Value)
     (known : IsKnown t.mem.memory.shapes (functions_of s) v) (after : Machine) (has : HasResult m after s t r v) where
   abbrev homes : List Home
   homes = homes_of s p.running.fun
@@ -177,7 +184,8 @@ module _ (s : Setting) (usable : HomesAreUsable s) (p : Point) (t : State Store)
   known_in : (k : ℕ) → IsLive s (onward p rest) k → ((k ≡ temp) ⊎ (k ≡ temp → ⊥))
       → IsKnown t.mem.memory.shapes (functions_of s) (held (slice_get vars k))
   known_in k l (inl q) =
-      subst (IsKnown t.mem.memory.shapes (functions_of s)) (sym own_value ∙ ap (λ x. held (slice_get vars x)) (sym q)) known
+      subst (IsKnown t.mem.memory.shapes (functions_of s))
+      (sym own_value ∙ ap (λ x. held (slice_get vars x)) (sym q)) known
   known_in k l (inr d) =
       subst (IsKnown t.mem.memory.shapes (functions_of s)) (sym (other_value k d)) (f.calls.1.known k (reads k l d))
 
@@ -204,7 +212,8 @@ module _ (s : Setting) (usable : HomesAreUsable s) (p : Point) (t : State Store)
         ≡ from_place m.mem (option_map (λ j. t.frame + registers_at homes g.frame + 16 * j) w) (registers_in m x)
     by_place x k (Some j) e = refl
     by_place x k None e = alike x k
-        (λ q. saved homes temp r free.home (subst IsKept q k) (subst (λ z. position (λ y. y == z) (kept_homes homes) ≡ None) q e))
+        (λ q. saved homes temp r free.home (subst IsKept q k)
+        (subst (λ z. position (λ y. y == z) (kept_homes homes) ≡ None) q e))
 
     behind : (x : ℕ) → IsKept x
         → behind_return s m.mem p.running.fun t.frame (registers_in after) x
@@ -223,10 +232,12 @@ module _ (s : Setting) (usable : HomesAreUsable s) (p : Point) (t : State Store)
   callers_use [] k = tt
   callers_use (c ∷ cs) k = (k.0, callers_use cs k.1)
 
-  frames_fit : FramesFit s t.mem.memory.shapes m.mem (registers_in after) p.running.fun t.first t.frame p.running.callers
+  frames_fit : FramesFit s t.mem.memory.shapes m.mem
+      (registers_in after) p.running.fun t.first t.frame p.running.callers
   frames_fit =
       frames_behind s t.mem.memory.shapes m.mem m.mem f.objects.areas f.objects.areas
-      0 (λ fun first at above link g up. same_memory at g.frame.saved m.mem) IsKept (registers_in m) (registers_in after)
+      0 (λ fun first at above link g up. same_memory at g.frame.saved m.mem) IsKept (registers_in m)
+      (registers_in after)
       p.running.fun t.first t.frame (omega arith) p.running.callers (newest_behind p.running.callers f.calls.2)
       (callers_use p.running.callers free.callers) f.calls.2
 

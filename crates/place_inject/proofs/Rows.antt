@@ -42,15 +42,18 @@ memory = written empty 131104 (little_bytes 16 (memory_bits map (base_in shapes)
 
 -- the byte of the address is that of the meaning, and the others are zero
 address_byte : byte_at memory 131104 ≡ number_in (object.byte_at (Placed map) shapes content 16)
-unfolding byte_at written little_bytes bits capability_of bits_of with_bounds encoded_internal encoded_t encoded_b length_exponent first_from
+unfolding byte_at written little_bytes bits capability_of bits_of with_bounds encoded_internal encoded_t encoded_b
+    length_exponent first_from
 address_byte = refl
 
 address_is : byte_at memory 131104 ≡ Some 4
-unfolding byte_at written little_bytes bits capability_of bits_of with_bounds encoded_internal encoded_t encoded_b length_exponent first_from
+unfolding byte_at written little_bytes bits capability_of bits_of with_bounds encoded_internal encoded_t encoded_b
+    length_exponent first_from
 address_is = refl
 
 upper_byte : byte_at memory 131119 ≡ number_in (object.byte_at (Placed map) shapes content 31)
-unfolding byte_at written little_bytes bits capability_of bits_of with_bounds encoded_internal encoded_t encoded_b length_exponent first_from
+unfolding byte_at written little_bytes bits capability_of bits_of with_bounds encoded_internal encoded_t encoded_b
+    length_exponent first_from
 upper_byte = refl
 
 zero_byte : byte_at memory 131090 ≡ number_in (object.byte_at (Placed map) shapes content 2)
@@ -68,7 +71,8 @@ untagged = refl
 
 -- what `clc` reads: the pointer's bits, and its tag
 read_back : capability_at memory 131104 ≡ Some (memory_bits map (base_in shapes) pointer, true)
-unfolding capability_at written little_bytes bits capability_of bits_of with_bounds encoded_internal encoded_t encoded_b length_exponent first_from
+unfolding capability_at written little_bytes bits capability_of bits_of with_bounds encoded_internal encoded_t encoded_b
+    length_exponent first_from
 read_back = refl
 
 -- a byte stored over the pointer clears the tag, and the other bytes stay its bytes
@@ -86,5 +90,6 @@ byte_there = refl
 
 byte_beside : byte_at over 131104 ≡ number_in (object.byte_at (Placed map) shapes
     (with_bytes (Placed map) shapes content 17 (bytes_of 1 7)) 16)
-unfolding byte_at written little_bytes bits capability_of bits_of with_bounds encoded_internal encoded_t encoded_b length_exponent first_from
+unfolding byte_at written little_bytes bits capability_of bits_of with_bounds encoded_internal encoded_t encoded_b
+    length_exponent first_from
 byte_beside = refl

@@ -1,12 +1,15 @@
 -- What stands in an object stays sound.
-use Rattle.std.proofs.Common.{◌≡◌, ℕ, zero, suc, ◌+◌, ◌-◌, ◌*◌, ◌/◌, ◌%◌, ◌<◌, true, List, length, sym, ◌∙◌, subst, arith, Option, Some, None, inl, inr}
+use Rattle.std.proofs.Common.{◌≡◌, ℕ, zero, suc, ◌+◌, ◌-◌, ◌*◌, ◌/◌, ◌%◌, ◌<◌, true, List, length, sym, ◌∙◌, subst}
+use Rattle.std.proofs.Common.{arith, Option, Some, None, inl, inr}
 use Rattle.std.proofs.lemmas.Bool.{cases_lt}
 use Rattle.obj_mem.specs.Values.{Value, Addresses, is_tagged, memory_bits}
-use Rattle.obj_mem.specs.Objects.{Cell, Shape, Content, Placed, value_at, seen_through, byte_at, byte_of, base_in, put_at, parts, opened_by, opened, with_bytes, with_value}
+use Rattle.obj_mem.specs.Objects.{Cell, Shape, Content, Placed, value_at, seen_through, byte_at, byte_of, base_in}
+use Rattle.obj_mem.specs.Objects.{put_at, parts, opened_by, opened, with_bytes, with_value}
 use Rattle.obj_mem.specs.Access.{bytes_of}
 use Rattle.place_inject.specs.Values.{IsKnown}
 use Rattle.place_inject.specs.Objects.{IsByte, IsSound}
-use Rattle.place_inject.proofs.Puts.{cell_at, set_length, put_length, put_outside, put_inside, parts_length, parts_get, bytes_length, bytes_get}
+use Rattle.place_inject.proofs.Puts.{cell_at, set_length, put_length, put_outside, put_inside, parts_length, parts_get}
+use Rattle.place_inject.proofs.Puts.{bytes_length, bytes_get}
 use Rattle.place_inject.proofs.Contents.{bytes_cells, bytes_granules, bytes_held, value_held}
 
 pub byte_small : (v k : ℕ) → byte_of v k < 256

@@ -1,5 +1,7 @@
 -- A value that is spilled to the slot of its temp keeps the injection.
-use Rattle.std.proofs.Common.{◌≡◌, ◌⊎◌, ℕ, ◌+◌, ◌-◌, ◌*◌, ◌%◌, ◌^◌, ◌<◌, ◌≤◌, ◌==◌, ◌||◌, ℤ, Bool, true, false, not, ltb, List, [], ◌∷◌, length, refl, sym, ap, ◌∙◌, subst, arith, ⊎_elim, Option, Some, None, inl, inr}
+use Rattle.std.proofs.Common.{◌≡◌, ◌⊎◌, ℕ, ◌+◌, ◌-◌, ◌*◌, ◌%◌, ◌^◌, ◌<◌, ◌≤◌, ◌==◌, ◌||◌, ℤ, Bool, true, false, not}
+use Rattle.std.proofs.Common.{ltb, List, [], ◌∷◌, length, refl, sym, ap, ◌∙◌, subst, arith, ⊎_elim, Option, Some, None}
+use Rattle.std.proofs.Common.{inl, inr}
 use Rattle.std.specs.Prelude.{slice_get, slice_set, position, Ok}
 use Rattle.std.specs.Option.{option_map}
 use Rattle.std.proofs.lemmas.Bool.{cases_lt, le-ltb, eq-eqb, or_from}
@@ -35,7 +37,8 @@ use Rattle.cheri_c_sem.specs.Steps.{State}
 use Rattle.placement.proofs.Shapes.{same_place}
 use Rattle.reg_alloc.specs.declared.places.Home.{Home}
 use Rattle.reg_alloc.specs.declared.places.Home.TheVariants.{Register, Slot}
-use Rattle.purecap_abi.specs.Saving.{kept_homes, slot_count, stack_bytes, keeps_stack, registers_at, behind_registers, stack_at, slots_at}
+use Rattle.purecap_abi.specs.Saving.{kept_homes, slot_count, stack_bytes, keeps_stack, registers_at, behind_registers}
+use Rattle.purecap_abi.specs.Saving.{stack_at, slots_at}
 use Rattle.purecap_abi.proofs.Counts.{slot_count_each}
 use Rattle.tac_ir.specs.declared.code.TacInstr.{TacInstr}
 use Rattle.tac_ir.specs.Effects.{held}
@@ -43,7 +46,9 @@ use Rattle.tac_ir.specs.Meaning.{Caller}
 use Rattle.place_inject.specs.Values.{IsKnown}
 use Rattle.place_inject.specs.Objects.{SameOutside, ObjectsFit}
 use Rattle.place_inject.specs.Parts.{Unchanged, capability_in, kept_at, HeapFits, TableFits}
-use Rattle.place_inject.specs.Frames.{Setting, Point, IsLive, Waits, homes_of, functions_of, slots_from, stack_top, stack_pointer, at_home, HomesFit, kept_place, from_place, behind_return, FrameFits, FramesFit}
+use Rattle.place_inject.specs.Frames.{Setting, Point, IsLive, Waits, homes_of, functions_of, slots_from, stack_top}
+use Rattle.place_inject.specs.Frames.{stack_pointer, at_home, HomesFit, kept_place, from_place, behind_return}
+use Rattle.place_inject.specs.Frames.{FrameFits, FramesFit}
 use Rattle.place_inject.specs.Fits.{Fits, registers_in}
 use Rattle.place_inject.specs.Homes.{onward, ReadsNoMore}
 use Rattle.place_inject.specs.Spills.{SlotIsFree, StackIsThere, SpillsFit}
@@ -95,7 +100,8 @@ stack_stores low high y at tag kept from to aligned =
 abbrev tagged_by : Bool → Fields → Option Cap
 tagged_by tag fields = Some (record { tag = tag; fields = fields })
 
-raw_small : (a : Addresses) (base : ℕ → ℕ) (address upper : ℕ) → (capability_of a base (Raw address upper)).fields.address < 2 ^ 64
+raw_small : (a : Addresses) (base : ℕ → ℕ) (address upper : ℕ) →
+    (capability_of a base (Raw address upper)).fields.address < 2 ^ 64
 unfolding capability_of fields_of
 raw_small a base address upper = omega arith
 
@@ -108,7 +114,8 @@ apart_granules at place y z ne = ⊎_elim
     (λ high. inl (omega (arith, high, y, z, ne)))
     (cases_lt place at)
 
-module _ (s : Setting) (legal : IsLegal s.needs s.map) (stack : StackIsThere s) (p : Point) (t : State Store) (m : Machine)
+module _ (s : Setting) (legal : IsLegal s.needs s.map) (stack : StackIsThere s) (p : Point) (t : State Store)
+    (m : Machine)
     (f : Fits s (Some p) t m) (rest : List TacInstr) (temp slot : ℕ) (free : SlotIsFree s (onward p rest) temp slot)
     (reads : ReadsNoMore s p rest temp) (v : Value) (known : IsKnown t.mem.memory.shapes (functions_of s) v) where
   abbrev homes : List Home
@@ -131,13 +138,15 @@ module _ (s : Setting) (legal : IsLegal s.needs s.map) (stack : StackIsThere s) 
       by (Int n) k = subst (λ x. x < 2 ^ 64) (sym (integer_address (addresses_of s.map) (base_in shapes) n)) k
       by (Raw address upper) k = raw_small (addresses_of s.map) (base_in shapes) address upper
       by (Live o low high offset permissions) k =
-          capability_word (functions_of s) (addresses_of s.map) t.mem.memory m.mem f.objects (Live o low high offset permissions) refl k
+          capability_word (functions_of s) (addresses_of s.map) t.mem.memory m.mem f.objects
+          (Live o low high offset permissions) refl k
       by (Fun g) k = capability_word (functions_of s) (addresses_of s.map) t.mem.memory m.mem f.objects (Fun g) refl k
 
   abbrev new : List Area
   new = written m.mem at (little_bytes 16 (memory_bits (bits v).fields)) (bits v).tag
 
-  module _ (above link : ℕ) (g : FrameFits s shapes m.mem p.running.fun t.first t.frame above link) (top_is : above ≤ stack_top s) where
+  module _ (above link : ℕ) (g : FrameFits s shapes m.mem p.running.fun t.first t.frame above link)
+      (top_is : above ≤ stack_top s) where
     -- the slot lies in the saved part, behind the rest of it
     record Lying : Type 0 where
       is : at ≡ t.frame + slots_at homes g.frame + 16 * slot
@@ -209,7 +218,8 @@ module _ (s : Setting) (legal : IsLegal s.needs s.map) (stack : StackIsThere s) 
           (off_object h.base h.owned (g.clear.clear k h e (active_stays h.life l))) same (f.objects.stands k h x e q l);
     }
 
-    part_still : (base long : ℕ) → base % 16 ≡ 0 → Apart base long s.map.stack.0 s.map.stack.1 → Unchanged base long m.mem new
+    part_still : (base long : ℕ) → base % 16 ≡ 0 → Apart base long s.map.stack.0 s.map.stack.1 →
+        Unchanged base long m.mem new
     part_still base long z apart = elsewhere at 16 base long m.mem new lying.aligned z (off_part base long apart) same
 
     table_still : TableFits s.needs s.map t.mem.heap shapes s.loaded.mem new
@@ -220,12 +230,15 @@ module _ (s : Setting) (legal : IsLegal s.needs s.map) (stack : StackIsThere s) 
         record {
           room = room;
           before = twice s.map.table.0 (16 * heap_entry s.needs) s.loaded.mem m.mem new f.table.before
-              (part_of s.map.table.0 s.map.table.1 s.map.table.0 (16 * heap_entry s.needs) m.mem new (omega arith) (omega arith) all);
-          behind = twice (s.map.table.0 + 16 * entry_count s.needs) (s.map.table.1 - 16 * entry_count s.needs) s.loaded.mem m.mem new
+              (part_of s.map.table.0 s.map.table.1 s.map.table.0 (16 * heap_entry s.needs) m.mem new (omega arith)
+              (omega arith) all);
+          behind = twice (s.map.table.0 + 16 * entry_count s.needs)
+              (s.map.table.1 - 16 * entry_count s.needs) s.loaded.mem m.mem new
               f.table.behind
               (part_of s.map.table.0 s.map.table.1 (s.map.table.0 + 16 * entry_count s.needs)
               (s.map.table.1 - 16 * entry_count s.needs) m.mem new (omega arith) (omega arith) all);
-          heap = kept_same s.map.table.0 s.map.table.1 (s.map.table.0 + 16 * heap_entry s.needs) m.mem new f.objects.areas w.areas all
+          heap = kept_same s.map.table.0 s.map.table.1
+              (s.map.table.0 + 16 * heap_entry s.needs) m.mem new f.objects.areas w.areas all
               (omega arith) (omega arith) (omega arith) ∙ f.table.heap;
           clear = f.table.clear;
         }
@@ -244,7 +257,8 @@ module _ (s : Setting) (legal : IsLegal s.needs s.map) (stack : StackIsThere s) 
           clear = f.heap.clear;
         }
       where
-        beyond : (x : ℕ) → Apart at 16 s.map.heap.0 s.map.heap.1 → s.map.heap.0 ≤ x → x < s.map.heap.0 + s.map.heap.1 → at ≤ x
+        beyond : (x : ℕ) → Apart at 16 s.map.heap.0 s.map.heap.1 → s.map.heap.0 ≤ x → x < s.map.heap.0 + s.map.heap.1 →
+            at ≤ x
             → at + 16 ≤ x
         beyond x (inl before) low high q = omega arith
         beyond x (inr behind) low high q = absurd (omega arith)
@@ -259,7 +273,8 @@ module _ (s : Setting) (legal : IsLegal s.needs s.map) (stack : StackIsThere s) 
 
     read_back : kept_at new at ≡ Some (bits v)
     read_back =
-        ap (option_map capability_in) (capability_at-written m.mem at (memory_bits (bits v).fields) (bits v).tag f.objects.areas
+        ap (option_map capability_in) (capability_at-written m.mem at (memory_bits (bits v).fields)
+        (bits v).tag f.objects.areas
         inside lying.aligned (flipped_small (bits_of (bits v).fields) (bits_of_below (bits v).fields small)))
         ∙ ap (tagged_by (bits v).tag) (fields_back (bits v).fields small)
 
@@ -278,7 +293,8 @@ module _ (s : Setting) (legal : IsLegal s.needs s.map) (stack : StackIsThere s) 
           alone = g.alone;
         }
       where
-        stack_still : (place : ℕ) → stack_at homes g.frame ≡ Some place → kept_at new (t.frame + place) ≡ kept_at m.mem (t.frame + place)
+        stack_still : (place : ℕ) → stack_at homes g.frame ≡ Some place →
+            kept_at new (t.frame + place) ≡ kept_at m.mem (t.frame + place)
         stack_still place e =
             let c = cond_some (keeps_stack g.frame.align) (behind_registers homes g.frame) place e in
             let sixteen : stack_bytes g.frame.align ≡ 16 = rw c.0 refl in
@@ -299,11 +315,13 @@ module _ (s : Setting) (legal : IsLegal s.needs s.map) (stack : StackIsThere s) 
         kept_other (t.frame + registers_at homes g.frame + 16 * j) (omega arith) (λ d. absurd (omega (arith, d)))
 
     behind_same : (r : ℕ) → Unit {0}
-        → behind_return s new p.running.fun t.frame (registers_in m) r ≡ behind_return s m.mem p.running.fun t.frame (registers_in m) r
+        → behind_return s new p.running.fun t.frame (registers_in m) r
+        ≡ behind_return s m.mem p.running.fun t.frame (registers_in m) r
     behind_same r u =
         let k = position (λ x. x == r) (kept_homes homes) in
         let place : kept_place (slice_get s.map.frames p.running.fun) homes t.frame r
-        ≡ option_map (λ j. t.frame + registers_at homes g.frame + 16 * j) k = ap (λ o. kept_place o homes t.frame r) g.is in
+        ≡ option_map (λ j. t.frame + registers_at homes g.frame + 16 * j) k =
+        ap (λ o. kept_place o homes t.frame r) g.is in
         ap (λ o. from_place new o (registers_in m r)) place ∙ by_place r k refl
         ∙ sym (ap (λ o. from_place m.mem o (registers_in m r)) place)
 
@@ -332,7 +350,8 @@ module _ (s : Setting) (legal : IsLegal s.needs s.map) (stack : StackIsThere s) 
         kept_other (slots + 16 * j) (omega (arith, slots_are))
         (λ q. free.alone k l d (e ∙ ap (λ i. Some (Slot i)) (let same : j ≡ slot = omega (arith, q) in same)))
 
-    homes_still : HomesFit (functions_of s) (addresses_of s.map) shapes new (registers_in m) homes (s.numbers p.running.fun) slots
+    homes_still : HomesFit (functions_of s) (addresses_of s.map) shapes new (registers_in m) homes
+        (s.numbers p.running.fun) slots
         (IsLive s (onward p rest)) vars
     homes_still = record {
       one_each = f.calls.1.one_each ∙ sym (set_length t.vars temp (Some v));
@@ -341,14 +360,16 @@ module _ (s : Setting) (legal : IsLegal s.needs s.map) (stack : StackIsThere s) 
       known = λ k l. known_by k l (same_place k temp);
     }
       where
-        kept_by : (k : ℕ) (h : Home) → IsLive s (onward p rest) k → s.numbers p.running.fun k ≡ None → slice_get homes k ≡ Some h
+        kept_by : (k : ℕ) (h : Home) → IsLive s (onward p rest) k → s.numbers p.running.fun k ≡ None →
+            slice_get homes k ≡ Some h
             → ((k ≡ temp) ⊎ (k ≡ temp → ⊥))
             → at_home new (registers_in m) slots h ≡ Some (bits (held (slice_get vars k)))
         kept_by k h l n e (inl q) =
             let own : h ≡ Slot slot = same_Some h (Slot slot) (sym e ∙ ap (slice_get homes) q ∙ free.home) in
             ap (at_home new (registers_in m) slots) own ∙ read_back ∙ ap (λ x. Some (bits x)) (sym (own_value k q))
         kept_by k h l n e (inr d) =
-            other_slot k h l d e ∙ f.calls.1.kept k h (reads k l d) n e ∙ ap (λ x. Some (bits x)) (sym (other_value k d))
+            other_slot k h l d e ∙ f.calls.1.kept k h (reads k l d) n e
+            ∙ ap (λ x. Some (bits x)) (sym (other_value k d))
 
         numbered_by : (k n : ℕ) → IsLive s (onward p rest) k → s.numbers p.running.fun k ≡ Some n
             → ((k ≡ temp) ⊎ (k ≡ temp → ⊥)) → bits (held (slice_get vars k)) ≡ null_at n
@@ -358,7 +379,8 @@ module _ (s : Setting) (legal : IsLegal s.needs s.map) (stack : StackIsThere s) 
         known_by : (k : ℕ) → IsLive s (onward p rest) k → ((k ≡ temp) ⊎ (k ≡ temp → ⊥))
             → IsKnown shapes (functions_of s) (held (slice_get vars k))
         known_by k l (inl q) = subst (IsKnown shapes (functions_of s)) (sym (own_value k q)) known
-        known_by k l (inr d) = subst (IsKnown shapes (functions_of s)) (sym (other_value k d)) (f.calls.1.known k (reads k l d))
+        known_by k l (inr d) = subst (IsKnown shapes (functions_of s)) (sym (other_value k d))
+            (f.calls.1.known k (reads k l d))
 
     -- ---- all of it
 
@@ -384,15 +406,19 @@ module _ (s : Setting) (legal : IsLegal s.needs s.map) (stack : StackIsThere s) 
     does_store from base y z is holds keep place =
         let q = lying.is in let r = lying.room in let l = lying.low in let h = lying.high in
         let d : Cap = stack_pointer s y in
-        let address : plus d.fields.address z ≡ at = ap (λ x. plus x z) (address_of s.map.stack.0 (stack_top s) y) ∙ place in
-        let check = stack_stores s.map.stack.0 (stack_top s) y at (bits v).tag keep (omega arith) (omega arith) lying.aligned in
-        rw (holds, is) (ap (λ x. store_checked m 16 (memory_bits (bits v).fields) (bits v).tag (checked d x (A.StoreCap (bits v).tag))) address
+        let address : plus d.fields.address z ≡ at =
+        ap (λ x. plus x z) (address_of s.map.stack.0 (stack_top s) y) ∙ place in
+        let check = stack_stores s.map.stack.0 (stack_top s) y at (bits v).tag keep (omega arith)
+        (omega arith) lying.aligned in
+        rw (holds, is) (ap (λ x. store_checked m 16 (memory_bits (bits v).fields) (bits v).tag
+        (checked d x (A.StoreCap (bits v).tag))) address
         ∙ ap (store_checked m 16 (memory_bits (bits v).fields) (bits v).tag) check
         ∙ ap (stored m at 16 (memory_bits (bits v).fields) (bits v).tag) inside)
 
   -- the callers' frames lie above
   frames_still : (cs : List Caller) → FramesFit s shapes m.mem (registers_in m) p.running.fun t.first t.frame cs
-      → (above : ℕ) × (link : ℕ) × FrameFits s shapes m.mem p.running.fun t.first t.frame above link × (above ≤ stack_top s)
+      → (above : ℕ) × (link : ℕ) × FrameFits s shapes m.mem p.running.fun t.first t.frame above link ×
+      (above ≤ stack_top s)
       × FramesFit s shapes new (registers_in m) p.running.fun t.first t.frame cs
   frames_still [] g = (stack_top s, s.stub, g, omega arith, frame_still (stack_top s) s.stub g (omega arith))
   frames_still (c ∷ cs) g =
@@ -406,7 +432,8 @@ module _ (s : Setting) (legal : IsLegal s.needs s.map) (stack : StackIsThere s) 
       (λ fun first at' above link' k up. elsewhere at 16 at' k.frame.saved m.mem new place.aligned k.aligned
       (inl (omega arith)) (same c.frame link g.0 top_is))
       (λ r. Unit {0}) now now' (behind_same c.frame link g.0 top_is) c.fun c.first c.frame (omega arith) cs
-      (functions_of s) (addresses_of s.map) (Waits s c) c.vars (λ u r l e. tt) (all_use s (λ r. Unit {0}) (λ fun u r e. tt) cs) g.2 g.3 in
+      (functions_of s) (addresses_of s.map) (Waits s c) c.vars (λ u r l e. tt)
+      (all_use s (λ r. Unit {0}) (λ fun u r e. tt) cs) g.2 g.3 in
       (c.frame, link, g.0, top_is, (frame_still c.frame link g.0 top_is, g.1, tail.0, tail.1))
 
 pub spills_fit_law : SpillsFit
@@ -414,6 +441,7 @@ spills_fit_law s legal stack p t m f rest temp slot free reads v known from base
     let k = frames_still s legal stack p t m f rest temp slot free reads v known p.running.callers f.calls.2 in
     record {
       memory = new s legal stack p t m f rest temp slot free reads v known;
-      goes = does_store s legal stack p t m f rest temp slot free reads v known k.0 k.1 k.2 k.3 from base y z is holds keep place;
+      goes = does_store s legal stack p t m f rest temp slot free reads v known k.0 k.1 k.2 k.3 from base y z is holds
+          keep place;
       fits = still_fits s legal stack p t m f rest temp slot free reads v known k.0 k.1 k.2 k.3 k.4;
     }

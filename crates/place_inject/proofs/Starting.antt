@@ -1,5 +1,6 @@
 -- The objects with which a program begins, by the meaning.
-use Rattle.std.proofs.Common.{◌≡◌, ℕ, zero, suc, List, [], ◌∷◌, ◌++◌, length, map, Option, Some, None, Result, Ok, Err, refl, sym, ap, ◌∙◌}
+use Rattle.std.proofs.Common.{◌≡◌, ℕ, zero, suc, List, [], ◌∷◌, ◌++◌, length, map, Option, Some, None, Result, Ok, Err}
+use Rattle.std.proofs.Common.{refl, sym, ap, ◌∙◌}
 use Rattle.std.specs.Prelude.{slice_set}
 use Rattle.obj_mem.specs.declared.map.Map.{Map}
 use Rattle.obj_mem.specs.declared.ending.Fault.{Fault}
@@ -7,7 +8,8 @@ use Rattle.obj_mem.specs.Values.{Value, Int}
 use Rattle.obj_mem.specs.Objects.{Shape, Content, Memory, Mode, Placed, no_objects}
 use Rattle.obj_mem.specs.Access.{Spot, reach, onward, at_place, store_access, stored_piece, store}
 use Rattle.obj_mem.specs.Table.{addresses_of}
-use Rattle.cheri_c_sem.specs.Calls.{start, add_globals, add_literals, memory_or, written, with_bytes, with_links, all_bytes, fill_globals, link_globals, fill_literals}
+use Rattle.cheri_c_sem.specs.Calls.{start, add_globals, add_literals, memory_or, written, with_bytes, with_links}
+use Rattle.cheri_c_sem.specs.Calls.{all_bytes, fill_globals, link_globals, fill_literals}
 use Rattle.cheri_c_sem.specs.Modes.{Store, stored, operations, placed_plan}
 use Rattle.cheri_c_sem.specs.Tree.{Global, Starting, Program}
 use Rattle.placement.proofs.Good.{WhereOk}

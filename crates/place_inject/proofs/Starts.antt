@@ -1,5 +1,6 @@
 -- The first state fits the machine as it was loaded.
-use Rattle.std.proofs.Common.{◌≡◌, ℕ, zero, suc, ◌+◌, List, [], ◌∷◌, ◌++◌, length, map, Some, None, refl, sym, ap, ◌∙◌, subst, arith}
+use Rattle.std.proofs.Common.{◌≡◌, ℕ, zero, suc, ◌+◌, List, [], ◌∷◌, ◌++◌, length, map, Some, None, refl, sym, ap, ◌∙◌}
+use Rattle.std.proofs.Common.{subst, arith}
 use Rattle.std.specs.Prelude.{slice_get, slice_index_or}
 use Rattle.obj_mem.specs.Objects.{Shape}
 use Rattle.obj_mem.specs.Legal.{ObjectNeed, owned_of, AreApart, IsApartFrom, placed_at, AreAligned, objects_of}
@@ -25,7 +26,8 @@ objects_at [] bs = []
 objects_at (n ∷ ns) [] = []
 objects_at (n ∷ ns) (b ∷ bs) = object_shape n.length b ∷ objects_at ns bs
 
-from_base : (ns : List ObjectNeed) (bs : List ℕ) (base : ℕ → ℕ) (j : ℕ) → ((i : ℕ) → base (j + i) ≡ slice_index_or bs i 0)
+from_base : (ns : List ObjectNeed) (bs : List ℕ) (base : ℕ → ℕ) (j : ℕ) →
+    ((i : ℕ) → base (j + i) ≡ slice_index_or bs i 0)
     → AreAligned ns bs → shapes_from base j (map length_needed ns) ≡ objects_at ns bs
 unfolding objects_at
 from_base [] bs base j h al = refl

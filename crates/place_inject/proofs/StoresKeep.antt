@@ -21,7 +21,8 @@ use Rattle.place_inject.specs.Objects.{ChangedInside, ObjectsFit}
 use Rattle.place_inject.specs.Steps.{StoreAnswers}
 use Rattle.place_inject.specs.Parts.{Unchanged}
 use Rattle.place_inject.specs.Frames.{Setting, Point, IsLive, functions_of}
-use Rattle.place_inject.specs.Fits.{Fits, CallsFit, registers_in, StoreKeeps, StoresKeepFits, HomesAreUsable, ScratchKeepsFits}
+use Rattle.place_inject.specs.Fits.{Fits, CallsFit, registers_in, StoreKeeps, StoresKeepFits, HomesAreUsable}
+use Rattle.place_inject.specs.Fits.{ScratchKeepsFits}
 use Rattle.place_inject.proofs.Changed.{active_stays}
 use Rattle.place_inject.proofs.Elsewhere.{twice, elsewhere, clear_same, heap_kept, table_kept}
 use Rattle.place_inject.proofs.FramesKept.{all_use, calls_kept}
@@ -53,10 +54,12 @@ module _ (s : Setting) (legal : IsLegal s.needs s.map) (p : Option Point) (t : S
   calls_same None c = c
   calls_same (Some q) c =
       let c' = calls_kept s t.mem.memory.shapes m.mem new f.objects.areas fit.areas
-      0 (λ fun first at above link g up. clear_same t.mem.memory.shapes inside.shape.base inside.shape.owned aligned off m.mem new
+      0 (λ fun first at above link g up. clear_same t.mem.memory.shapes inside.shape.base inside.shape.owned aligned off
+      m.mem new
       inside.same f.objects.areas fit.areas at g.frame.saved g.aligned g.clear)
       (λ r. Unit {0}) (registers_in m) (registers_in m) (λ r u. refl)
-      q.running.fun t.first t.frame (omega arith) q.running.callers (functions_of s) (addresses_of s.map) (IsLive s q) t.vars
+      q.running.fun t.first t.frame (omega arith) q.running.callers (functions_of s) (addresses_of s.map)
+      (IsLive s q) t.vars
       (λ u r l e. tt) (all_use s (λ r. Unit {0}) (λ fun u r e. tt) q.running.callers) c.1 c.2 in
       rw shapes (c.0, c'.0, c'.1)
 
@@ -66,7 +69,8 @@ module _ (s : Setting) (legal : IsLegal s.needs s.map) (p : Option Point) (t : S
     objects = fit;
     globals = rw shapes f.globals;
     text = twice s.map.text.0 s.map.text.1 s.loaded.mem m.mem new f.text text_same;
-    table = rw shapes (table_kept t.mem.memory.shapes inside.shape.base inside.shape.owned aligned off m.mem new inside.same
+    table = rw shapes (table_kept t.mem.memory.shapes inside.shape.base inside.shape.owned aligned off m.mem new
+        inside.same
         f.objects.areas fit.areas s.needs s.map t.mem.heap s.loaded.mem legal.table_aligned f.table);
     heap = rw shapes (heap_kept t.mem.memory.shapes inside.object inside.shape inside.there stays m.mem new inside.same
         (addresses_of s.map) t.mem.heap f.heap);
@@ -109,7 +113,8 @@ module _ (s : Setting) (usable : HomesAreUsable s) (p : Option Point) (t : State
       let c' = calls_kept s t.mem.memory.shapes m.mem m.mem f.objects.areas f.objects.areas
       0 (λ fun first at above link g up. same_memory at g.frame.saved m.mem) (λ r. r < 28) (registers_in m)
       (registers_in after)
-      (λ r u. ap (λ c. Some c) (alike r u)) q.running.fun t.first t.frame (omega arith) q.running.callers (functions_of s)
+      (λ r u. ap (λ c. Some c) (alike r u)) q.running.fun t.first t.frame (omega arith) q.running.callers
+      (functions_of s)
       (addresses_of s.map)
       (IsLive s q) t.vars (λ u r l e. usable q.running.fun u r e) (all_use s (λ r. r < 28) usable q.running.callers)
       c.1 c.2 in

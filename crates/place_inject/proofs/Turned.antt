@@ -23,7 +23,8 @@ turned_back : (n : ℕ) → bit_xor (bit_xor n null_upper) null_upper ≡ n
 turned_back n = xor_assoc n null_upper null_upper ∙ ap (bit_xor n) (xor_self null_upper) ∙ xor_zero_r n
 
 upper_of : Fields → ℕ
-upper_of f = f.b + 2 ^ 14 * f.t + 2 ^ 26 * one_where f.internal + 2 ^ 27 * f.otype + 2 ^ 45 * one_where f.flag + 2 ^ 46 * f.reserved + 2 ^ 48 * f.perms + 2 ^ 60 * f.user
+upper_of f = f.b + 2 ^ 14 * f.t + 2 ^ 26 * one_where f.internal + 2 ^ 27 * f.otype + 2 ^ 45 * one_where f.flag
+    + 2 ^ 46 * f.reserved + 2 ^ 48 * f.perms + 2 ^ 60 * f.user
 
 split : (f : Fields) → bits_of f ≡ upper_of f * 2 ^ 64 + f.address
 unfolding bits_of upper_of

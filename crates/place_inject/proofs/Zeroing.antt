@@ -1,5 +1,6 @@
 -- A local whose block is entered: the whole injection stays.
-use Rattle.std.proofs.Common.{◌≡◌, ℕ, ◌+◌, ◌-◌, ◌*◌, ◌/◌, ◌%◌, ◌<◌, false, List, refl, ap, ◌∙◌, subst, arith, Option, Some, None, inl, inr}
+use Rattle.std.proofs.Common.{◌≡◌, ℕ, ◌+◌, ◌-◌, ◌*◌, ◌/◌, ◌%◌, ◌<◌, false, List, refl, ap, ◌∙◌, subst, arith, Option}
+use Rattle.std.proofs.Common.{Some, None, inl, inr}
 use Rattle.std.specs.Prelude.{slice_get}
 use Rattle.std.proofs.lemmas.Bool.{cases_lt}
 use Rattle.tag_mem.specs.Areas.{Area, byte_at, tag_at}
@@ -79,7 +80,8 @@ module _ (s : Setting) (legal : IsLegal s.needs s.map) (usable : HomesAreUsable 
   text_same : Unchanged s.map.text.0 s.map.text.1 m.mem after.mem
   text_same =
       let long : s.map.text.0 + s.map.text.1 - s.map.text.0 ≡ s.map.text.1 = omega arith in
-      elsewhere.elsewhere g.base (16 * granules_of g) s.map.text.0 s.map.text.1 m.mem after.mem aligned legal.text_aligned
+      elsewhere.elsewhere g.base (16 * granules_of g) s.map.text.0 s.map.text.1 m.mem after.mem aligned
+      legal.text_aligned
       (widen g.base g.owned s.map.text.0 s.map.text.1 aligned legal.text_aligned
       (subst (λ n. Apart g.base g.owned s.map.text.0 n) long (f.objects.spread.off_text k g there))) z.memory.same
 
@@ -100,7 +102,8 @@ module _ (s : Setting) (legal : IsLegal s.needs s.map) (usable : HomesAreUsable 
     from = f.heap.from;
     to = f.heap.to;
     zeros = λ x l h. zero_still g.base (granules_of g) aligned m.mem after.mem z.memory x (f.heap.zeros x l h);
-    untagged = λ x l h. untagged_still g.base (granules_of g) aligned m.mem after.mem z.memory x (f.heap.untagged x l h);
+    untagged = λ x l h. untagged_still g.base (granules_of g) aligned m.mem after.mem z.memory x
+        (f.heap.untagged x l h);
     clear = clear_still _ _ f.heap.clear;
   }
 
@@ -109,7 +112,8 @@ module _ (s : Setting) (legal : IsLegal s.needs s.map) (usable : HomesAreUsable 
   calls_still None c = c
   calls_still (Some q) c =
       let c' = calls_kept s shapes m.mem after.mem f.objects.areas z.memory.areas
-      0 (λ fun first at above link h up. elsewhere.clear_same shapes g.base (16 * granules_of g) aligned off m.mem after.mem
+      0 (λ fun first at above link h up. elsewhere.clear_same shapes g.base
+      (16 * granules_of g) aligned off m.mem after.mem
       z.memory.same f.objects.areas z.memory.areas at h.frame.saved h.aligned h.clear) (λ r. r < 28)
       (registers_in m) (registers_in after) (λ r u. ap (λ c. Some c) (z.alike r u)) q.running.fun t.first t.frame
       (omega arith) q.running.callers (functions_of s) (addresses_of s.map) (IsLive s q) t.vars
@@ -123,7 +127,8 @@ module _ (s : Setting) (legal : IsLegal s.needs s.map) (usable : HomesAreUsable 
   zero_keeps : Fits s p (record t { mem = with_memory t.mem zeroed }) after
   zero_keeps = record {
     registers = z.registers;
-    objects = (come_and_go_law (functions_of s) (addresses_of s.map) t.mem.memory m.mem f.objects).zeroes k g there stays
+    objects = (come_and_go_law (functions_of s) (addresses_of s.map) t.mem.memory m.mem f.objects).zeroes k g there
+        stays
         after.mem z.memory;
     globals = globals_altered s shapes zeroed.shapes alters f.globals;
     text = elsewhere.twice s.map.text.0 s.map.text.1 s.loaded.mem m.mem after.mem f.text text_same;

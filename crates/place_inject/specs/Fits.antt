@@ -23,14 +23,15 @@ use Rattle.place_inject.specs.Values.{IsKnown}
 use Rattle.place_inject.specs.Steps.{is_integer, stores_integer}
 use Rattle.place_inject.specs.Objects.{ObjectsFit}
 use Rattle.place_inject.specs.Parts.{Unchanged, HeapFits, TableFits}
-use Rattle.place_inject.specs.Frames.{Setting, Point, IsLive, Registers, functions_of, stack_top, stack_pointer, homes_of, slots_from, GlobalsFit, LocalsFit, HomesFit, FramesFit}
+use Rattle.place_inject.specs.Frames.{Setting, Point, IsLive, Registers, functions_of, stack_top, stack_pointer}
+use Rattle.place_inject.specs.Frames.{homes_of, slots_from, GlobalsFit, LocalsFit, HomesFit, FramesFit}
 
 -- what the registers of a machine hold
 abbrev pub registers_in : Machine → Registers
 registers_in m r = Some (register m r)
 
--- c2 is the stack at the address of the newest frame, or at its top before the first, and c3 is as loaded. No object has a
--- byte of the stack below
+-- c2 is the stack at the address of the newest frame, or at its top before the first, and c3 is as loaded. No object
+-- has a byte of the stack below
 pub record StackFits (s : Setting) (t : State Store) (m : Machine) : Type 0 where
   pub stack : register m 2 ≡ stack_pointer s t.frame
   pub table : register m 3 ≡ register s.loaded 3

@@ -1,5 +1,6 @@
 -- Where the values of the calls in progress are: each function's temps in their homes, and in its frame what it saved.
-use Rattle.std.specs.Prelude.{◌≡◌, ◌⊎◌, ℕ, ◌+◌, ◌-◌, ◌*◌, ◌<◌, ◌≤◌, ◌%◌, ◌==◌, List, [], ◌∷◌, ◌++◌, length, position, Option, Some, None, slice_get, slice_index_or}
+use Rattle.std.specs.Prelude.{◌≡◌, ◌⊎◌, ℕ, ◌+◌, ◌-◌, ◌*◌, ◌<◌, ◌≤◌, ◌%◌, ◌==◌, List, [], ◌∷◌, ◌++◌, length, position}
+use Rattle.std.specs.Prelude.{Option, Some, None, slice_get, slice_index_or}
 use Rattle.std.specs.Option.{option_map}
 use Rattle.cap_ops.specs.declared.capability.Cap.{Cap}
 use Rattle.cap_ops.specs.declared.capability.TheConstants.{UNSEALED, SENTRY}
@@ -66,7 +67,8 @@ abbrev pub locals_by : Option FunctionNeed → List ObjectNeed
 locals_by None = []
 locals_by (Some f) = f.locals
 
--- the object with a number is one for that need, stands at that base, and is not a local of a function that has returned
+-- the object with a number is one for that need, stands at that base, and is not a local of a function that has
+-- returned
 pub record IsAt (shapes : List Shape) (object : ℕ) (need : ObjectNeed) (base : ℕ) : Type 0 where
   pub shape : Shape
   pub there : slice_get shapes object ≡ Some shape
@@ -100,7 +102,8 @@ at_home memory registers slots (Register r) = registers r
 at_home memory registers slots (Slot k) = kept_at memory (slots + 16 * k)
 
 -- Each temp that is still to be read is in its home: an integer as null with that address, any other value as its
--- capability, with its tag exactly where it is a pointer or a function. One that is a number stands nowhere, and holds it
+-- capability, with its tag exactly where it is a pointer or a function. One that is a number stands nowhere, and holds
+-- it
 pub record HomesFit (functions : ℕ) (a : Addresses) (shapes : List Shape) (memory : List Area) (registers : Registers)
     (homes : List Home) (numbers : ℕ → Option ℕ) (slots : ℕ) (live : ℕ → Type 0)
     (temps : List (Option Value)) : Type 0 where
@@ -142,8 +145,8 @@ behind_return s memory fun at registers r =
 
 -- ---- frames
 
--- Between two addresses lie so many objects from a number on, and no other: one that has no byte from the bottom up to the
--- first address has none up to the second. Nothing is said of locals of functions that have returned
+-- Between two addresses lie so many objects from a number on, and no other: one that has no byte from the bottom up to
+-- the first address has none up to the second. Nothing is said of locals of functions that have returned
 pub record IsAlone (shapes : List Shape) (first count bottom at above : ℕ) : Type 0 where
   pub others : (i : ℕ) (g : Shape) → slice_get shapes i ≡ Some g → IsNotReturned g.life
       → Apart g.base g.owned bottom (at - bottom)
@@ -152,7 +155,8 @@ pub record IsAlone (shapes : List Shape) (first count bottom at above : ℕ) : T
 -- The frame of a function below an address: in its saved part stand the link, by which it returns, and, where its
 -- alignment asks for it, the caller's stack. No object has a byte of that part, and none but the call's own locals, the
 -- first of which has this number, has one between the frame and the address
-pub record FrameFits (s : Setting) (shapes : List Shape) (memory : List Area) (fun first at above link : ℕ) : Type 0 where
+pub record FrameFits (s : Setting) (shapes : List Shape) (memory : List Area) (fun first at above link : ℕ) :
+    Type 0 where
   pub frame : Frame
   pub is : slice_get s.map.frames fun ≡ Some frame
   pub for_homes : IsFor (homes_of s fun) frame

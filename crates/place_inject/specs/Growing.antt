@@ -19,7 +19,8 @@ pub record HeapLies (a : Addresses) : Type 0 where
   pub aligned : a.heap_end % 16 ≡ 0
   pub off_text : Apart a.heap (a.heap_end - a.heap) a.text (a.text_end - a.text)
 
--- What `malloc` gives: the objects stand as before, the new one by the zeros of the heap, and the rest of the heap is zero
+-- What `malloc` gives: the objects stand as before, the new one by the zeros of the heap, and the rest of the heap is
+-- zero
 pub record Allocated (functions : ℕ) (a : Addresses) (memory : List Area) (r : Allocation) : Type 0 where
   pub objects : ObjectsFit functions a r.memory memory
   pub heap : HeapFits a r.heap r.memory.shapes memory

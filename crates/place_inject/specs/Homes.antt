@@ -25,8 +25,8 @@ CallersKeep s [] = Unit {0}
 CallersKeep s (c ∷ cs) =
     ((t r : ℕ) → Waits s c t → slice_get (homes_of s c.fun) t ≡ Some (Register r) → IsKept r) × CallersKeep s cs
 
--- A register that is a temp's home is free for it at a point: it is one for homes, no other temp that is to be read from
--- there on stands in it, and callers need it only where functions keep it
+-- A register that is a temp's home is free for it at a point: it is one for homes, no other temp that is to be read
+-- from there on stands in it, and callers need it only where functions keep it
 pub record HomeIsFree (s : Setting) (p : Point) (temp r : ℕ) : Type 0 where
   pub home : slice_get (homes_of s p.running.fun) temp ≡ Some (Register r)
   pub stands : s.numbers p.running.fun temp ≡ None

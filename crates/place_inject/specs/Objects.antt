@@ -1,9 +1,11 @@
 -- When memory as separate objects and the memory of the machine stand for one another.
-use Rattle.std.specs.Prelude.{◌≡◌, ℕ, ◌+◌, ◌/◌, ◌%◌, ◌<◌, ◌≤◌, true, List, length, Option, Some, None, is_some, slice_get}
+use Rattle.std.specs.Prelude.{◌≡◌, ℕ, ◌+◌, ◌/◌, ◌%◌, ◌<◌, ◌≤◌, true, List, length, Option, Some, None, is_some}
+use Rattle.std.specs.Prelude.{slice_get}
 use Rattle.tag_mem.specs.Areas.{Area, IsMemory, is_inside, byte_at, tag_at}
 use Rattle.obj_mem.specs.Values.{Value, Addresses, is_tagged}
 use Rattle.obj_mem.specs.Objects as object
-use Rattle.obj_mem.specs.Objects.{Cell, Byte, Unwritten, PartOf, Life, Active, Shape, Content, Memory, Placed, cell_or, value_at}
+use Rattle.obj_mem.specs.Objects.{Cell, Byte, Unwritten, PartOf, Life, Active, Shape, Content, Memory, Placed, cell_or}
+use Rattle.obj_mem.specs.Objects.{value_at}
 use Rattle.obj_mem.specs.Standing.{IsSpread}
 use Rattle.place_inject.specs.Values.{IsKnown}
 
@@ -30,8 +32,8 @@ number_in (Byte b) = Some b
 number_in Unwritten = None
 number_in (PartOf v k) = None
 
--- An object's bytes are the machine's at its base, those of a value that a granule holds among them, and a granule is tagged
--- exactly where it holds a value
+-- An object's bytes are the machine's at its base, those of a value that a granule holds among them, and a granule is
+-- tagged exactly where it holds a value
 pub record Stands (a : Addresses) (shapes : List Shape) (s : Shape) (c : Content) (memory : List Area) : Type 0 where
   pub bytes : (i : ℕ) → i < s.owned → byte_at memory (s.base + i) ≡ number_in (object.byte_at (Placed a) shapes c i)
   pub tags : (i : ℕ) → i < s.owned → tag_at memory (s.base + i) ≡ Some (is_some (value_at c (i / 16)))
@@ -50,8 +52,8 @@ pub record ChangedInside (shapes : List Shape) (old new : List Area) : Type 0 wh
   pub active : shape.life ≡ Active
   pub same : SameOutside shape.base shape.owned old new
 
--- Each active object stands in the machine's memory. Of one that is not active, as a local before its block is entered or behind its
--- function's return, nothing is said but that it has its place
+-- Each active object stands in the machine's memory. Of one that is not active, as a local before its block is entered
+-- or behind its function's return, nothing is said but that it has its place
 pub record ObjectsFit (functions : ℕ) (a : Addresses) (m : Memory) (memory : List Area) : Type 0 where
   pub areas : IsMemory memory
   -- extents are apart from one another, but for those of returned functions, and from the text

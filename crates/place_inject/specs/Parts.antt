@@ -1,4 +1,5 @@
--- The parts of the machine's memory that belong to no object: the text, the table of pointers, and the rest of the heap.
+-- The parts of the machine's memory that belong to no object: the text, the table of pointers, and the rest of the
+-- heap.
 use Rattle.std.specs.Prelude.{◌≡◌, ℕ, ◌+◌, ◌-◌, ◌*◌, ◌<◌, ◌≤◌, Bool, false, List, Option, Some}
 use Rattle.std.specs.Option.{option_map}
 use Rattle.cap_ops.specs.declared.capability.Cap.{Cap}
@@ -36,7 +37,8 @@ kept_at memory at = option_map capability_in (capability_at memory at)
 abbrev pub heap_pointer : Addresses → ℕ → Cap
 heap_pointer a next = bounded a.heap a.heap_end data_permissions UNSEALED next
 
--- The bytes from the next free address on are zero, and no granule that lies in them is tagged. No object has one of them
+-- The bytes from the next free address on are zero, and no granule that lies in them is tagged. No object has one of
+-- them
 pub record HeapFits (a : Addresses) (next : ℕ) (shapes : List Shape) (memory : List Area) : Type 0 where
   pub from : a.heap ≤ next
   pub to : next ≤ a.heap_end
@@ -46,8 +48,8 @@ pub record HeapFits (a : Addresses) (next : ℕ) (shapes : List Shape) (memory :
 
 -- ---- the table
 
--- All is as loaded but for the heap's entry and the allocator's own state behind it. The heap's entry keeps its tag, bounds
--- and permissions, and its address is the next free one
+-- All is as loaded but for the heap's entry and the allocator's own state behind it. The heap's entry keeps its tag,
+-- bounds and permissions, and its address is the next free one
 pub record TableFits (n : Needs) (m : Map) (next : ℕ) (shapes : List Shape) (loaded memory : List Area) : Type 0 where
   pub room : 16 * entry_count n ≤ m.table.1
   pub before : Unchanged m.table.0 (16 * heap_entry n) loaded memory

@@ -16,7 +16,8 @@ IsCapabilityOf functions a shapes c (Ok v) =
     (is_integer v ≡ false) × IsKnown shapes functions v × (c ≡ capability_of a (base_in shapes) v)
 IsCapabilityOf functions a shapes c (Err e) = ⊥
 
--- Moves keep the tag exactly where the bounds stay, and narrowing exactly where the least bounds of the request lie inside
+-- Moves keep the tag exactly where the bounds stay, and narrowing exactly where the least bounds of the request lie
+-- inside
 pub record PointersFit (functions : ℕ) (a : Addresses) (shapes : List Shape) (v : Value) : Type 0 where
   pub moves : (by : ℕ) → IsCapabilityOf functions a shapes (added (capability_of a (base_in shapes) v) by)
       (move (Placed a) shapes v by)

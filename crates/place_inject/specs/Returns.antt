@@ -14,8 +14,8 @@ abbrev pub above_newest : Setting → List Caller → ℕ
 above_newest s [] = stack_top s
 above_newest s (c ∷ cs) = c.frame
 
--- The locals of the function that runs end, as many as the map was made for: then no object has a byte below its caller's
--- frame
+-- The locals of the function that runs end, as many as the map was made for: then no object has a byte below its
+-- caller's frame
 abbrev pub ReturnsClear : Type 0
 ReturnsClear = (s : Setting) (p : Point) (t : State Store) (m : Machine) → Fits s (Some p) t m
     → (lengths : List ℕ) → length lengths ≡ length (locals_by (slice_get s.needs.functions p.running.fun))

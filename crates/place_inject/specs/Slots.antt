@@ -15,15 +15,15 @@ use Rattle.tac_ir.specs.Effects.{temp_in}
 use Rattle.place_inject.specs.Frames.{Setting, Point, IsLive, homes_of, slots_from, stack_top, stack_pointer}
 use Rattle.place_inject.specs.Fits.{Fits}
 
--- The stack's bounds are kept by its addresses, and by those up to 4096 bytes past its top, where a far place is reached
--- from
+-- The stack's bounds are kept by its addresses, and by those up to 4096 bytes past its top, where a far place is
+-- reached from
 abbrev pub StackReaches : Type 0
 StackReaches = (s : Setting) → IsLegal s.needs s.map → (y : ℕ) → s.map.stack.0 ≤ y → y < stack_top s + 4096
     → keeps s.map.stack.0 (stack_top s) y ≡ true
 
--- A temp that is still to be read and whose home is a slot: `clc` there, through the stack's capability at any address that
--- keeps the stack's bounds, gives the capability of its value, with its tag exactly where it is a pointer or a function; and so
--- it does in a machine whose memory is the same, whatever its registers are
+-- A temp that is still to be read and whose home is a slot: `clc` there, through the stack's capability at any address
+-- that keeps the stack's bounds, gives the capability of its value, with its tag exactly where it is a pointer or a
+-- function; and so it does in a machine whose memory is the same, whatever its registers are
 abbrev pub SlotsReadBack : Type 0
 SlotsReadBack = (s : Setting) → IsLegal s.needs s.map → (p : Point) (t : State Store) (m : Machine)
     → Fits s (Some p) t m

@@ -17,7 +17,8 @@ use Rattle.cheri_c_sem.specs.Steps.{State}
 use Rattle.reg_alloc.specs.declared.places.Home.TheVariants.{Slot}
 use Rattle.tac_ir.specs.declared.code.TacInstr.{TacInstr}
 use Rattle.place_inject.specs.Values.{IsKnown}
-use Rattle.place_inject.specs.Frames.{Setting, Point, IsLive, homes_of, slots_from, stack_top, stack_pointer, functions_of}
+use Rattle.place_inject.specs.Frames.{Setting, Point, IsLive, homes_of, slots_from, stack_top, stack_pointer}
+use Rattle.place_inject.specs.Frames.{functions_of}
 use Rattle.place_inject.specs.Homes.{onward, ReadsNoMore}
 use Rattle.place_inject.specs.Fits.{Fits}
 
@@ -39,8 +40,8 @@ pub record Spilled (s : Setting) (p : Point) (t : State Store) (m : Machine) (te
   pub goes : step ≡ (Next, next (record m { mem = memory }))
   pub fits : Fits s (Some p) (record t { vars = slice_set t.vars temp (Some v) }) (next (record m { mem = memory }))
 
--- A value comes into its temp: `csc` of a register that has its capability to the temp's slot, through the stack's capability at
--- any address that keeps the stack's bounds
+-- A value comes into its temp: `csc` of a register that has its capability to the temp's slot, through the stack's
+-- capability at any address that keeps the stack's bounds
 abbrev pub SpillsFit : Type 0
 SpillsFit = (s : Setting) → IsLegal s.needs s.map → StackIsThere s → (p : Point) (t : State Store) (m : Machine)
     → Fits s (Some p) t m

@@ -16,8 +16,8 @@ use Rattle.place_inject.specs.Fits.{Fits}
 
 -- ---- what is asked of the map
 
--- The objects that the map was made for are those with which the program begins. They have bounds of their own, and stand at
--- multiples of 16; and the table has room for its entries
+-- The objects that the map was made for are those with which the program begins. They have bounds of their own, and
+-- stand at multiples of 16; and the table has room for its entries
 pub record IsMapOf (s : Setting) (p : Program) : Type 0 where
   pub legal : IsLegal s.needs s.map
   pub exact_globals : AreExact s.needs.globals s.map.globals
@@ -29,8 +29,8 @@ pub record IsMapOf (s : Setting) (p : Program) : Type 0 where
 
 -- ---- what is asked of the machine that was loaded
 
--- c2 is the stack at its top; the heap is zero and without tags, and the heap's entry of the table is its capability; and
--- in each object stands what it begins with. Loading gives c3, whatever it is, and the text
+-- c2 is the stack at its top; the heap is zero and without tags, and the heap's entry of the table is its capability;
+-- and in each object stands what it begins with. Loading gives c3, whatever it is, and the text
 pub record IsLoaded (s : Setting) (m : Memory) : Type 0 where
   pub registers : length s.loaded.regs ≡ 32
   pub areas : IsMemory s.loaded.mem

@@ -11,8 +11,8 @@ use Rattle.obj_mem.specs.Standing.{IsSpread}
 use Rattle.place_inject.specs.Values.{IsKnown}
 
 -- A capability with exact bounds, as of the stack or the heap, that holds the object: moved to the object's base and
--- narrowed exactly to its owned length it is the pointer to the whole object, wherever it pointed that keeps its bounds. So
--- the bounds that are set for an object are exact
+-- narrowed exactly to its owned length it is the pointer to the whole object, wherever it pointed that keeps its
+-- bounds. So the bounds that are set for an object are exact
 pub record WholeFits (functions : ℕ) (a : Addresses) (shapes : List Shape) (object : ℕ) (s : Shape)
     (perms : ℕ) : Type 0 where
   pub known : IsKnown shapes functions (whole_pointer shapes object perms)

@@ -1,12 +1,14 @@
 -- Operations that change memories keep them standing for one another.
-use Rattle.std.proofs.Common.{◌≡◌, ℕ, ◌+◌, ◌-◌, ◌<◌, List, [], ◌∷◌, Option, Some, None, Result, Ok, Err, refl, sym, subst}
+use Rattle.std.proofs.Common.{◌≡◌, ℕ, ◌+◌, ◌-◌, ◌<◌, List, [], ◌∷◌, Option, Some, None, Result, Ok, Err, refl, sym}
+use Rattle.std.proofs.Common.{subst}
 use Rattle.std.specs.Prelude.{slice_get}
 use Rattle.obj_mem.specs.declared.ending.Fault.{Fault}
 use Rattle.obj_mem.specs.declared.ending.Fault.TheVariants as F
 use Rattle.obj_mem.specs.declared.ending.UnitFault.{UnitFault}
 use Rattle.obj_mem.specs.declared.ending.UnitFault.TheVariants as U
 use Rattle.obj_mem.specs.Values.{Value, Int, Live, Fun, Raw, Addresses}
-use Rattle.obj_mem.specs.Objects.{Life, Active, Inactive, Returned, Shape, Content, Memory, Mode, Placed, Strict, with_life_by, leave, zero_object, note_member}
+use Rattle.obj_mem.specs.Objects.{Life, Active, Inactive, Returned, Shape, Content, Memory, Mode, Placed, Strict}
+use Rattle.obj_mem.specs.Objects.{with_life_by, leave, zero_object, note_member}
 use Rattle.obj_mem.specs.Access.{store, copy_unit}
 use Rattle.obj_mem.specs.Agreement.{Paired, IsNotReturned, SameLife, SameShape, SameMemory, Answers, CopyAnswers}
 use Rattle.obj_mem.specs.Standing.{IsGood}
@@ -16,9 +18,11 @@ use Rattle.cheri_c_sem.specs.Modes.{Store, with_memory, stored, copied}
 use Rattle.placement.specs.Relations.{Moved}
 use Rattle.placement.specs.Memories.{KeepsShapes, IsAlive, ValuesGood, ContentsGood, Stand, memories}
 use Rattle.placement.proofs.Lists.{some_same}
-use Rattle.placement.proofs.Shapes.{Alters, alters_same, alters_life, KeepsOwned, owned_kept, good_owned, there_later, alive_later, clear_same, spread_same, stack_altered}
+use Rattle.placement.proofs.Shapes.{Alters, alters_same, alters_life, KeepsOwned, owned_kept, good_owned, there_later}
+use Rattle.placement.proofs.Shapes.{alive_later, clear_same, spread_same, stack_altered}
 use Rattle.placement.proofs.Good.{WhereOk}
-use Rattle.placement.proofs.Stored.{WhereUnitOk, blank_content, content_set, store_good, copy_good, store_shapes, copy_shapes}
+use Rattle.placement.proofs.Stored.{WhereUnitOk, blank_content, content_set, store_good, copy_good, store_shapes}
+use Rattle.placement.proofs.Stored.{copy_shapes}
 
 -- ---- goodness as a run goes on
 

@@ -1,5 +1,7 @@
 -- A call takes a frame.
-use Rattle.std.proofs.Common.{◌≡◌, ◌⊎◌, ℕ, zero, suc, ◌+◌, ◌-◌, ◌*◌, ◌/◌, ◌%◌, ◌<◌, ◌≤◌, Bool, true, false, ◌||◌, nat_lt, List, [], ◌∷◌, ◌++◌, length, Option, Some, None, refl, sym, ap, ◌∙◌, subst, inl, inr, arith}
+use Rattle.std.proofs.Common.{◌≡◌, ◌⊎◌, ℕ, zero, suc, ◌+◌, ◌-◌, ◌*◌, ◌/◌, ◌%◌, ◌<◌, ◌≤◌, Bool, true, false, ◌||◌}
+use Rattle.std.proofs.Common.{nat_lt, List, [], ◌∷◌, ◌++◌, length, Option, Some, None, refl, sym, ap, ◌∙◌, subst, inl}
+use Rattle.std.proofs.Common.{inr, arith}
 use Rattle.std.specs.Prelude.{slice_get, slice_set, if◌then◌else◌}
 use Rattle.std.proofs.lemmas.Nat.{div-add-mod'}
 use Rattle.std.proofs.lemmas.Bool.Decides.{nat_tests}
@@ -14,11 +16,15 @@ use Rattle.obj_mem.specs.Table.{addresses_of}
 use Rattle.obj_mem.specs.Agreement.{SameMemory, IsNotReturned}
 use Rattle.obj_mem.specs.Standing.{IsBased, IsSpread}
 use Rattle.obj_mem.proofs.Units.{memory_agrees_law}
-use Rattle.cheri_c_sem.specs.Modes.{Store, with_local, operations, below, frame_within, local_offset, placed_plan, strict_plan}
+use Rattle.cheri_c_sem.specs.Modes.{Store, with_local, operations, below, frame_within, local_offset, placed_plan}
+use Rattle.cheri_c_sem.specs.Modes.{strict_plan}
 use Rattle.cheri_c_sem.specs.Calls.{add_locals, end_locals}
 use Rattle.placement.specs.Relations.{Moved, Entry}
-use Rattle.placement.specs.Memories.{KeepsShapes, KeepsStack, IsClear, IsLaid, IsThere, IsAlive, ContentsGood, Stand, Later, memories, local_at, FrameFits}
-use Rattle.placement.proofs.Shapes.{IsFrom, AreFrom, swap, smaller, apart_as, keeps_same, keeps_twice, there_later, alive_later, good_later, good_owned, clear_part, clear_same, clear_later, spread_same}
+use Rattle.placement.specs.Memories.{KeepsShapes, KeepsStack, IsClear, IsLaid, IsThere, IsAlive, ContentsGood, Stand}
+use Rattle.placement.specs.Memories.{Later, memories, local_at, FrameFits}
+use Rattle.placement.proofs.Shapes.{IsFrom, AreFrom, swap, smaller, apart_as, keeps_same, keeps_twice, there_later}
+use Rattle.placement.proofs.Shapes.{alive_later, good_later, good_owned, clear_part, clear_same, clear_later}
+use Rattle.placement.proofs.Shapes.{spread_same}
 use Rattle.placement.proofs.Stored.{blank_content, content_more}
 use Rattle.placement.proofs.Changes.{contents_owned, contents_later}
 use Rattle.placement.proofs.Added.{last_is, as_long, keeps_more, spread_add, clear_add}

@@ -1,5 +1,7 @@
 -- What stands in the objects with which a program begins.
-use Rattle.std.proofs.Common.{◌≡◌, ℕ, zero, suc, ◌+◌, ◌-◌, ◌%◌, ◌^◌, ◌<◌, ◌≤◌, Bool, false, ◌||◌, nat_lt, List, [], ◌∷◌, ◌++◌, length, replicate, Option, Some, None, Result, Ok, Err, refl, sym, ap, ◌∙◌, subst, arith}
+use Rattle.std.proofs.Common.{◌≡◌, ℕ, zero, suc, ◌+◌, ◌-◌, ◌%◌, ◌^◌, ◌<◌, ◌≤◌, Bool, false, ◌||◌, nat_lt, List, [], ◌∷◌}
+use Rattle.std.proofs.Common.{◌++◌, length, replicate, Option, Some, None, Result, Ok, Err, refl, sym, ap, ◌∙◌, subst}
+use Rattle.std.proofs.Common.{arith}
 use Rattle.std.specs.Prelude.{slice_get, slice_set, find}
 use Rattle.std.proofs.lemmas.Bool.Decides.{nat_tests}
 use Rattle.std.proofs.Common.{length-append}
@@ -11,14 +13,16 @@ use Rattle.obj_mem.specs.declared.ending.Fault.{Fault}
 use Rattle.obj_mem.specs.declared.ending.Fault.TheVariants as F
 use Rattle.obj_mem.specs.Values.{Value, Int, Live, Addresses}
 use Rattle.obj_mem.specs.Objects.{Life, Active, Shape, Content, Note, Memory, Mode, Placed, Strict, owned_of_shape}
-use Rattle.obj_mem.specs.Access.{Spot, misses, unless, reach, onward, outside_unless_active, takes_padding, padding_where, at_place, at_spot, Piece, store_access, put, stored_piece, store}
+use Rattle.obj_mem.specs.Access.{Spot, misses, unless, reach, onward, outside_unless_active, takes_padding}
+use Rattle.obj_mem.specs.Access.{padding_where, at_place, at_spot, Piece, store_access, put, stored_piece, store}
 use Rattle.obj_mem.specs.Table.{addresses_of}
 use Rattle.obj_mem.specs.Agreement.{SameShape, SameMemory, Answers}
 use Rattle.obj_mem.proofs.Pairs.{Both, neither, both, get_both}
 use Rattle.obj_mem.proofs.Units.{memory_agrees_law}
 use Rattle.cheri_c_sem.specs.Modes.{Store, stored, operations, placed_plan, strict_plan}
 use Rattle.cheri_c_sem.specs.Tree.{Global, Starting}
-use Rattle.cheri_c_sem.specs.Calls.{memory_or, written, with_bytes, with_links, all_bytes, fill_globals, link_globals, fill_literals}
+use Rattle.cheri_c_sem.specs.Calls.{memory_or, written, with_bytes, with_links, all_bytes, fill_globals, link_globals}
+use Rattle.cheri_c_sem.specs.Calls.{fill_literals}
 use Rattle.obj_mem.specs.Standing.{IsGood}
 use Rattle.placement.specs.Memories.{ContentsGood}
 use Rattle.placement.proofs.Good.{WhereOk}

@@ -1,5 +1,6 @@
 -- The trees of expressions that are well typed fit.
-use Rattle.std.proofs.Common.{◌≡◌, ℕ, zero, suc, ◌+◌, ◌<◌, ◌^◌, Bool, true, false, List, [], ◌∷◌, length, map, get_or, Option, Some, None, refl, sym, subst, arith}
+use Rattle.std.proofs.Common.{◌≡◌, ℕ, zero, suc, ◌+◌, ◌<◌, ◌^◌, Bool, true, false, List, [], ◌∷◌, length, map, get_or}
+use Rattle.std.proofs.Common.{Option, Some, None, refl, sym, subst, arith}
 use Rattle.std.specs.Prelude.{slice_get, if◌then◌else◌}
 use Rattle.std.proofs.lemmas.Option.{slice_get_within, slice_get-get_or}
 use Rattle.ck_base.specs.declared.positions.Pos.{Pos}
@@ -23,8 +24,10 @@ use Rattle.c_tree.specs.WellTyped.{Frame, TermFits, TermsFit, ConstantFits}
 use Rattle.c_tree.proofs.Forest.{forest_reads}
 use Rattle.obj_mem.specs.Needs.{is_const}
 use Rattle.cheri_c_sem.specs.Kinds.{Kind, Plain, Capability}
-use Rattle.cheri_c_sem.specs.Types.{size_in, is_simple, objects_before, is_record, is_void, is_pointer, kind_of, scalar_of}
-use Rattle.cheri_c_sem.specs.Expressions.{constant, sign_of, arguments, bare_type, permissions_of, variable, conversion_by, conversion, makes_from_plain, kind_tree, expr_tree}
+use Rattle.cheri_c_sem.specs.Types.{size_in, is_simple, objects_before, is_record, is_void, is_pointer, kind_of}
+use Rattle.cheri_c_sem.specs.Types.{scalar_of}
+use Rattle.cheri_c_sem.specs.Expressions.{constant, sign_of, arguments, bare_type, permissions_of, variable}
+use Rattle.cheri_c_sem.specs.Expressions.{conversion_by, conversion, makes_from_plain, kind_tree, expr_tree}
 use Rattle.cheri_c_sem.specs.Programs.{lengths_of}
 use Rattle.cheri_c_sem.specs.Tree.{Ex, Load, Aggregate, Discard, Variable, Local}
 use Rattle.cheri_c_sem.proofs.Unfold.{expression_node}

@@ -1,5 +1,6 @@
 -- The trees of statements and functions that are well typed fit.
-use Rattle.std.proofs.Common.{◌≡◌, ℕ, zero, suc, ◌<◌, Bool, true, false, List, [], ◌∷◌, ◌++◌, length, map, get_or, Some, None, refl, sym, subst, arith}
+use Rattle.std.proofs.Common.{◌≡◌, ℕ, zero, suc, ◌<◌, Bool, true, false, List, [], ◌∷◌, ◌++◌, length, map, get_or, Some}
+use Rattle.std.proofs.Common.{None, refl, sym, subst, arith}
 use Rattle.std.specs.Prelude.{slice_get, if◌then◌else◌}
 use Rattle.std.proofs.lemmas.Option.{slice_get-get_or}
 use Rattle.ck_base.specs.declared.positions.Pos.{Pos}
@@ -11,10 +12,12 @@ use Rattle.c_tree.specs.declared.typed.VarDef.{VarDef}
 use Rattle.c_tree.specs.Layout as layout
 use Rattle.c_tree.specs.Types.{Ty}
 use Rattle.c_tree.specs.Terms.{Action, actions}
-use Rattle.c_tree.specs.Views.{terms_of, term_at, kind_action, stmt_from, no_action, actions_of, action_at, values, parts, IsOrdered}
+use Rattle.c_tree.specs.Views.{terms_of, term_at, kind_action, stmt_from, no_action, actions_of, action_at, values}
+use Rattle.c_tree.specs.Views.{parts, IsOrdered}
 use Rattle.c_tree.specs.WellTyped.{Inside, TermFits, ActionFits, ActionsFit}
 use Rattle.c_tree.proofs.Forest.{forest_reads}
-use Rattle.cheri_c_sem.specs.Types.{size_in, align_in, is_simple, objects_before, is_record, kind_of, unit_of, type_of_var}
+use Rattle.cheri_c_sem.specs.Types.{size_in, align_in, is_simple, objects_before, is_record, kind_of, unit_of}
+use Rattle.cheri_c_sem.specs.Types.{type_of_var}
 use Rattle.cheri_c_sem.specs.Expressions.{type_of, expr_tree}
 use Rattle.cheri_c_sem.specs.Programs.{statements, declared, initialisation, stmt_kind_tree, stmt_tree, parameter_of}
 use Rattle.cheri_c_sem.specs.Tree.{Ex, St, Sts, Give, Init, Fill, Simple, Objects, In_variable, In_object}

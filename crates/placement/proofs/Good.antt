@@ -1,5 +1,6 @@
 -- The values that a strict run makes are good.
-use Rattle.std.proofs.Common.{◌≡◌, ℕ, ◌+◌, ◌-◌, ◌*◌, ◌%◌, ◌^◌, ◌<◌, ◌≤◌, ◌||◌, Bool, true, false, List, Some, Result, Ok, Err, refl, sym, arith, subst}
+use Rattle.std.proofs.Common.{◌≡◌, ℕ, ◌+◌, ◌-◌, ◌*◌, ◌%◌, ◌^◌, ◌<◌, ◌≤◌, ◌||◌, Bool, true, false, List, Some, Result}
+use Rattle.std.proofs.Common.{Ok, Err, refl, sym, arith, subst}
 use Rattle.std.specs.Prelude.{nat_lt, nat_le, min, slice_get, if◌then◌else◌}
 use Rattle.std.proofs.lemmas.Bool.Decides.{nat_tests}
 use Rattle.cap_concentrate.specs.Rounding.{alignment, owned, bounds_exponent, rounded_up, least_base, least_top}
@@ -17,7 +18,9 @@ use Rattle.obj_mem.specs.Values.{Value, Int, Live, Fun, Raw}
 use Rattle.obj_mem.specs.Objects.{Shape, Strict}
 use Rattle.obj_mem.specs.Agreement.{Answers}
 use Rattle.obj_mem.specs.Access.{unspecified, onward}
-use Rattle.obj_mem.specs.Pointers.{is_near, strict_move, is_rounding, strict_narrow, clear, mask, get_address, set_address, get_base, get_length, get_offset, get_permissions, raw_fields, raw_base, raw_top, length_between}
+use Rattle.obj_mem.specs.Pointers.{is_near, strict_move, is_rounding, strict_narrow, clear, mask, get_address}
+use Rattle.obj_mem.specs.Pointers.{set_address, get_base, get_length, get_offset, get_permissions, raw_fields, raw_base}
+use Rattle.obj_mem.specs.Pointers.{raw_top, length_between}
 use Rattle.obj_mem.specs.Standing.{IsGood}
 use Rattle.obj_mem.proofs.Fitting.{not_rounding}
 use Rattle.placement.specs.Relations.{IsWord, Both}

@@ -1,6 +1,7 @@
 -- The pointers with which objects begin have bounds that have an encoding wherever their object is aligned, and are
 -- near them.
-use Rattle.std.proofs.Common.{◌≡◌, ℕ, ◌+◌, ◌-◌, ◌*◌, ◌/◌, ◌%◌, ◌^◌, ◌<◌, ◌≤◌, ◌==◌, true, sym, ap, ◌∙◌, subst, inl, inr, arith}
+use Rattle.std.proofs.Common.{◌≡◌, ℕ, ◌+◌, ◌-◌, ◌*◌, ◌/◌, ◌%◌, ◌^◌, ◌<◌, ◌≤◌, ◌==◌, true, sym, ap, ◌∙◌, subst, inl, inr}
+use Rattle.std.proofs.Common.{arith}
 use Rattle.std.specs.Prelude.{ℤ, pos, negsuc, ◌+ℤ◌, int_lt}
 use Rattle.std.proofs.lemmas.Bool.{cases_lt, and_parts, eqb-true}
 use Rattle.std.proofs.lemmas.Bool.Decides.{nat_tests}
@@ -8,7 +9,8 @@ use Rattle.std.proofs.lemmas.Int.{ints}
 use Rattle.std.proofs.lemmas.Nat.{pow_pos}
 use Rattle.std.proofs.Math.Nat.{mul-mod_left, mod-add-mod}
 use Rattle.ck_int.specs.Kinds.{kept_of}
-use Rattle.cap_concentrate.specs.Rounding.{FitsExponent, Encodable, bounds_exponent, rounded_up, alignment, owned, least_base, least_top}
+use Rattle.cap_concentrate.specs.Rounding.{FitsExponent, Encodable, bounds_exponent, rounded_up, alignment, owned}
+use Rattle.cap_concentrate.specs.Rounding.{least_base, least_top}
 use Rattle.cap_concentrate.proofs.Least.{finer, rounded_up_multiple, least_functions}
 use Rattle.cap_concentrate.proofs.Owned.{alignment_short, alignment_long, owned_short}
 use Rattle.c_tree.specs.Statics.{is_exact, is_near}

@@ -1,5 +1,6 @@
 -- The operations of the strict meaning and those under a map keep memories standing for one another.
-use Rattle.std.proofs.Common.{◌≡◌, ℕ, ◌+◌, ◌-◌, ◌%◌, ◌^◌, ◌<◌, ◌≤◌, Bool, true, false, List, length, Option, Some, Result, Ok, Err, refl, sym, ap, ◌∙◌, subst, inl, inr, arith}
+use Rattle.std.proofs.Common.{◌≡◌, ℕ, ◌+◌, ◌-◌, ◌%◌, ◌^◌, ◌<◌, ◌≤◌, Bool, true, false, List, length, Option, Some}
+use Rattle.std.proofs.Common.{Result, Ok, Err, refl, sym, ap, ◌∙◌, subst, inl, inr, arith}
 use Rattle.std.specs.Prelude.{slice_get, if◌then◌else◌}
 use Rattle.std.proofs.lemmas.Bool.{cases_lt}
 use Rattle.std.proofs.lemmas.Bool.Decides.{nat_tests}
@@ -27,13 +28,16 @@ use Rattle.obj_mem.proofs.Pairs.{neither, both, get_both}
 use Rattle.obj_mem.proofs.Agree.{pointers_agree_law}
 use Rattle.obj_mem.proofs.Units.{memory_agrees_law}
 use Rattle.cheri_c_sem.specs.Kinds.{number_of, truth, null_at}
-use Rattle.cheri_c_sem.specs.Operations.{Work, Base, Offset, Length, Tag, Perms, Clear, Set_address, And_perms, Equal_exact, Rounded, Mask}
-use Rattle.cheri_c_sem.specs.Modes.{Store, int_of, is_undefined, work_of, overlap_of, laps, operations, placed_plan, strict_plan}
+use Rattle.cheri_c_sem.specs.Operations.{Work, Base, Offset, Length, Tag, Perms, Clear, Set_address, And_perms}
+use Rattle.cheri_c_sem.specs.Operations.{Equal_exact, Rounded, Mask}
+use Rattle.cheri_c_sem.specs.Modes.{Store, int_of, is_undefined, work_of, overlap_of, laps, operations, placed_plan}
+use Rattle.cheri_c_sem.specs.Modes.{strict_plan}
 use Rattle.cheri_c_sem.specs.Tree.{Fun as Function}
 use Rattle.placement.specs.Relations.{IsWord, Both, Order, Keeps}
 use Rattle.placement.specs.Memories.{IsThere, IsLaid, Stand, memories, FramesFit}
 use Rattle.placement.proofs.Shapes.{keeps_same, keeps_twice, stack_same, stack_twice, good_later}
-use Rattle.placement.proofs.Good.{WhereOk, both_ways, move_good, narrow_good, clear_good, mask_good, address_good, set_good, base_good, length_good, offset_good, permissions_good, whole_good}
+use Rattle.placement.proofs.Good.{WhereOk, both_ways, move_good, narrow_good, clear_good, mask_good, address_good}
+use Rattle.placement.proofs.Good.{set_good, base_good, length_good, offset_good, permissions_good, whole_good}
 use Rattle.placement.proofs.Stored.{load_good}
 use Rattle.placement.proofs.Changes as changes
 use Rattle.placement.proofs.Added.{allocations}

@@ -1,11 +1,13 @@
 -- What a legal map gives the objects with which a program begins.
-use Rattle.std.proofs.Common.{◌≡◌, ℕ, zero, suc, ◌+◌, ◌-◌, ◌<◌, List, [], ◌∷◌, ◌++◌, length, map, Some, refl, sym, ap, ◌∙◌, subst, arith}
+use Rattle.std.proofs.Common.{◌≡◌, ℕ, zero, suc, ◌+◌, ◌-◌, ◌<◌, List, [], ◌∷◌, ◌++◌, length, map, Some, refl, sym, ap}
+use Rattle.std.proofs.Common.{◌∙◌, subst, arith}
 use Rattle.std.specs.Prelude.{slice_get, slice_index_or}
 use Rattle.cap_concentrate.specs.Rounding.{owned}
 use Rattle.obj_mem.specs.declared.map.Map.{Map}
 use Rattle.obj_mem.specs.Values.{Addresses}
 use Rattle.obj_mem.specs.Objects.{Shape}
-use Rattle.obj_mem.specs.Legal.{ObjectNeed, Needs, owned_of, Apart, AreApart, IsApartFrom, AllApart, placed_at, AreAligned, objects_of, parts_of, IsLegal}
+use Rattle.obj_mem.specs.Legal.{ObjectNeed, Needs, owned_of, Apart, AreApart, IsApartFrom, AllApart, placed_at}
+use Rattle.obj_mem.specs.Legal.{AreAligned, objects_of, parts_of, IsLegal}
 use Rattle.obj_mem.specs.Table.{addresses_of}
 use Rattle.obj_mem.specs.Standing.{IsBased, IsSpread, AreExact}
 use Rattle.placement.specs.Memories.{IsClear, IsLaid}

@@ -1,5 +1,6 @@
 -- The objects with which a program begins.
-use Rattle.std.proofs.Common.{◌≡◌, ℕ, suc, List, [], ◌∷◌, ◌++◌, length, map, refl, sym, ap, ◌∙◌, subst, arith, append_assoc}
+use Rattle.std.proofs.Common.{◌≡◌, ℕ, suc, List, [], ◌∷◌, ◌++◌, length, map, refl, sym, ap, ◌∙◌, subst, arith}
+use Rattle.std.proofs.Common.{append_assoc}
 use Rattle.cap_concentrate.specs.Rounding.{owned}
 use Rattle.obj_mem.specs.Values.{Addresses}
 use Rattle.obj_mem.specs.Objects.{Active, Shape, Placed, Strict, add, blank}

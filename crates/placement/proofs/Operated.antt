@@ -13,8 +13,11 @@ use Rattle.obj_mem.specs.Values.{Value, Int}
 use Rattle.obj_mem.specs.declared.ending.Fault.{Fault}
 use Rattle.obj_mem.specs.declared.ending.Fault.TheVariants as F
 use Rattle.obj_mem.specs.Agreement.{Answers}
-use Rattle.cheri_c_sem.specs.Kinds.{Kind, Plain, Capability, pointer, zero_of, nothing, truth, number_of, null_at, read_as, address_kind, int_kind}
-use Rattle.cheri_c_sem.specs.Operations.{Operations, Set_address, on_ok, compare_by, is_true, to_int, convert_by, number_by, int_by, derive_by, move_by, is_live, steps_of, capability_by, plus_by, difference_by}
+use Rattle.cheri_c_sem.specs.Kinds.{Kind, Plain, Capability, pointer, zero_of, nothing, truth, number_of, null_at}
+use Rattle.cheri_c_sem.specs.Kinds.{read_as, address_kind, int_kind}
+use Rattle.cheri_c_sem.specs.Operations.{Operations, Set_address, on_ok, compare_by, is_true, to_int, convert_by}
+use Rattle.cheri_c_sem.specs.Operations.{number_by, int_by, derive_by, move_by, is_live, steps_of, capability_by}
+use Rattle.cheri_c_sem.specs.Operations.{plus_by, difference_by}
 use Rattle.cheri_c_sem.specs.Tree.{Operation, Whole, Derived, Moved, Apart, Sign, Positive, Negative, Complement}
 use Rattle.cheri_c_sem.specs.Tree as tree
 use Rattle.cheri_c_sem.specs.Meaning.{operate_by, sign_by}

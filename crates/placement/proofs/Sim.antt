@@ -1,5 +1,6 @@
 -- Parts of two runs that agree, over memories that stand for one another.
-use Rattle.std.proofs.Common.{◌≡◌, ℕ, zero, suc, Bool, true, false, List, [], ◌∷◌, ◌++◌, length, Option, Some, None, Result, Ok, Err, refl, sym, ◌∙◌, subst, inl, inr}
+use Rattle.std.proofs.Common.{◌≡◌, ℕ, zero, suc, Bool, true, false, List, [], ◌∷◌, ◌++◌, length, Option, Some, None}
+use Rattle.std.proofs.Common.{Result, Ok, Err, refl, sym, ◌∙◌, subst, inl, inr}
 use Rattle.std.specs.Prelude.{slice_get, slice_set}
 use Rattle.ck_base.specs.World.{World, fails_after}
 use Rattle.ck_base.specs.Runs.{with_put, with_read}
@@ -12,7 +13,8 @@ use Rattle.obj_mem.specs.declared.ending.Ending.{Ending}
 use Rattle.obj_mem.specs.declared.ending.Ending.TheVariants as ending
 use Rattle.obj_mem.specs.Values.{Value}
 use Rattle.obj_mem.specs.Agreement.{Answers, CopyAnswers}
-use Rattle.cheri_c_sem.specs.Steps.{State, Fate, Then, ◌>>=◌, ◌>>◌, give, over, ends, fault_end, unit_end, answer, unit_answer, ask, choose, turn_from, turn, set_memory, set_variable, put, get}
+use Rattle.cheri_c_sem.specs.Steps.{State, Fate, Then, ◌>>=◌, ◌>>◌, give, over, ends, fault_end, unit_end, answer}
+use Rattle.cheri_c_sem.specs.Steps.{unit_answer, ask, choose, turn_from, turn, set_memory, set_variable, put, get}
 use Rattle.placement.specs.Endings.{Begins, Agrees}
 use Rattle.placement.specs.Runs.{twin}
 use Rattle.placement.specs.Relations.{Both, Relation, Order, AllGood, VarsGood, Moved}

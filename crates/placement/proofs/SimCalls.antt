@@ -1,5 +1,6 @@
 -- Calls agree, and so do programs.
-use Rattle.std.proofs.Common.{◌≡◌, ℕ, zero, suc, ◌+◌, ◌<◌, List, [], ◌∷◌, ◌++◌, length, replicate, Option, Some, None, refl, sym, subst, inl, inr}
+use Rattle.std.proofs.Common.{◌≡◌, ℕ, zero, suc, ◌+◌, ◌<◌, List, [], ◌∷◌, ◌++◌, length, replicate, Option, Some, None}
+use Rattle.std.proofs.Common.{refl, sym, subst, inl, inr}
 use Rattle.std.specs.Prelude.{slice_get}
 use Rattle.std.specs.List.{AllByRecursion}
 use Rattle.ck_base.specs.World.{World}
@@ -13,13 +14,15 @@ use Rattle.cheri_c_sem.specs.Tree.{Parameter, In_variable, In_object, At_end, Gi
 use Rattle.cheri_c_sem.specs.Meaning.{At, store}
 use Rattle.cheri_c_sem.specs.Statements.{Flow, Goes, Breaks, Continues, Returns, exec}
 use Rattle.cheri_c_sem.specs.Calls as parts
-use Rattle.cheri_c_sem.specs.Calls.{add_locals, end_locals, pass_one, pass, at_end, result_of, close, back, in_frame, calls}
+use Rattle.cheri_c_sem.specs.Calls.{add_locals, end_locals, pass_one, pass, at_end, result_of, close, back, in_frame}
+use Rattle.cheri_c_sem.specs.Calls.{calls}
 use Rattle.placement.specs.Endings.{Begins, Agrees}
 use Rattle.placement.specs.Runs.{twin, exits}
 use Rattle.placement.specs.Relations.{IsWord, Relation, AllGood, VarsGood, Keeps, Entry}
 use Rattle.placement.specs.Trees.{ParameterFit, ParametersFit, FunctionFit, FunctionsFit}
 use Rattle.placement.proofs.Growing.{begins_same}
-use Rattle.placement.proofs.Sim.{Grows, no_values, itself, Stands, Onward, Sim, vars_climb, sim_give, sim_ends, sim_bind, sim_then, sim_answer, sim_set_variable, sim_change}
+use Rattle.placement.proofs.Sim.{Grows, no_values, itself, Stands, Onward, Sim, vars_climb, sim_give, sim_ends}
+use Rattle.placement.proofs.Sim.{sim_bind, sim_then, sim_answer, sim_set_variable, sim_change}
 use Rattle.placement.proofs.Operated.{nothing_good}
 use Rattle.placement.proofs.SimExpressions.{alone, sim_store}
 use Rattle.placement.proofs.SimStatements.{in_flow, sim_exec}

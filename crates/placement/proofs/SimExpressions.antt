@@ -1,5 +1,6 @@
 -- Expressions agree, over calls that do.
-use Rattle.std.proofs.Common.{◌≡◌, ℕ, zero, suc, ◌+◌, ◌%◌, Bool, true, false, List, [], ◌∷◌, ◌++◌, Option, Some, None, Result, Ok, Err, refl, subst, arith}
+use Rattle.std.proofs.Common.{◌≡◌, ℕ, zero, suc, ◌+◌, ◌%◌, Bool, true, false, List, [], ◌∷◌, ◌++◌, Option, Some, None}
+use Rattle.std.proofs.Common.{Result, Ok, Err, refl, subst, arith}
 use Rattle.std.specs.Prelude.{slice_get, slice_index_or, ◌/◌}
 use Rattle.std.specs.List.{AllByRecursion}
 use Rattle.ck_base.specs.World.{World}
@@ -13,13 +14,20 @@ use Rattle.obj_mem.specs.Agreement.{Answers}
 use Rattle.cheri_c_sem.specs.Kinds.{Kind, bytes_of, nothing, number_of, read_as}
 use Rattle.cheri_c_sem.specs.Operations.{Operations}
 use Rattle.cheri_c_sem.specs.Steps.{State, Fate, Then, ◌>>=◌, ◌>>◌, give, unit_answer, set_memory, byte_or_end}
-use Rattle.cheri_c_sem.specs.Tree.{Service, Put_char, Get_char, Malloc, Exit, Address, Bounds, Works, Narrowing, Ex, Number, Null, Load, Aggregate, Pointer_to, Convert, Discard, Unary, Not, Binary, Compare, And, Or, Conditional, Comma, Assign, Copy, Compound, Call, Library, Variable, Local, Object, Function, Deref, Member, Exs, Nil, Cons}
+use Rattle.cheri_c_sem.specs.Tree.{Service, Put_char, Get_char, Malloc, Exit, Address, Bounds, Works, Narrowing, Ex}
+use Rattle.cheri_c_sem.specs.Tree.{Number, Null, Load, Aggregate, Pointer_to, Convert, Discard, Unary, Not, Binary}
+use Rattle.cheri_c_sem.specs.Tree.{Compare, And, Or, Conditional, Comma, Assign, Copy, Compound, Call, Library}
+use Rattle.cheri_c_sem.specs.Tree.{Variable, Local, Object, Function, Deref, Member, Exs, Nil, Cons}
 use Rattle.cheri_c_sem.specs.Tree as tree
-use Rattle.cheri_c_sem.specs.Meaning.{Place, In, At, position_of, capability_of, further, first_of, second_of, nowhere, given, load, store, copy_units, copy, test, point_to, called, allocate, serve}
+use Rattle.cheri_c_sem.specs.Meaning.{Place, In, At, position_of, capability_of, further, first_of, second_of, nowhere}
+use Rattle.cheri_c_sem.specs.Meaning.{given, load, store, copy_units, copy, test, point_to, called, allocate, serve}
 use Rattle.placement.specs.Endings.{Agrees}
 use Rattle.placement.specs.Runs.{twin}
 use Rattle.placement.specs.Relations.{IsWord, Both, Relation, AllGood, VarsGood, Moved, Keeps}
-use Rattle.placement.proofs.Sim.{KeepsOutput, no_values, itself, Stands, Onward, Sim, here, onward, all_climb, changed, grows_answer, grows_unit, answered, unit_answered, sim_give, sim_ends, sim_bind, sim_then, sim_choose, sim_answer, sim_ask, sim_set_variable, sim_change, sim_memory, sim_put, sim_get}
+use Rattle.placement.proofs.Sim.{KeepsOutput, no_values, itself, Stands, Onward, Sim, here, onward, all_climb, changed}
+use Rattle.placement.proofs.Sim.{grows_answer, grows_unit, answered, unit_answered, sim_give, sim_ends, sim_bind}
+use Rattle.placement.proofs.Sim.{sim_then, sim_choose, sim_answer, sim_ask, sim_set_variable, sim_change, sim_memory}
+use Rattle.placement.proofs.Sim.{sim_put, sim_get}
 use Rattle.placement.proofs.Operated.{on_both, unasked, nothing_good, tested, read_good}
 
 -- the value in a place

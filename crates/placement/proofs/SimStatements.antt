@@ -1,5 +1,6 @@
 -- Statements agree, over calls that do.
-use Rattle.std.proofs.Common.{◌≡◌, ℕ, zero, suc, ◌+◌, ◌<◌, Bool, true, List, [], ◌∷◌, ◌++◌, Option, Some, None, refl, subst}
+use Rattle.std.proofs.Common.{◌≡◌, ℕ, zero, suc, ◌+◌, ◌<◌, Bool, true, List, [], ◌∷◌, ◌++◌, Option, Some, None, refl}
+use Rattle.std.proofs.Common.{subst}
 use Rattle.std.specs.List.{AllByRecursion}
 use Rattle.ck_base.specs.World.{World}
 use Rattle.ck_base.specs.declared.positions.Pos.{Pos}
@@ -10,13 +11,18 @@ use Rattle.obj_mem.specs.Agreement.{Answers}
 use Rattle.cheri_c_sem.specs.Kinds.{Kind, Plain, Capability, nothing}
 use Rattle.cheri_c_sem.specs.Operations.{Operations, compare_by}
 use Rattle.cheri_c_sem.specs.Steps.{State, Then, give}
-use Rattle.cheri_c_sem.specs.Tree.{Ex, Declared, Simple, Objects, Label, Case, Default, St, Do, Give, Init, Fill, Block, If, While, Do_while, For, Switch, Break, Continue, Return, Empty, Sts, End, Seq}
+use Rattle.cheri_c_sem.specs.Tree.{Ex, Declared, Simple, Objects, Label, Case, Default, St, Do, Give, Init, Fill, Block}
+use Rattle.cheri_c_sem.specs.Tree.{If, While, Do_while, For, Switch, Break, Continue, Return, Empty, Sts, End, Seq}
 use Rattle.cheri_c_sem.specs.Tree as tree
 use Rattle.cheri_c_sem.specs.Meaning.{At, value_of}
-use Rattle.cheri_c_sem.specs.Statements.{Flow, Goes, Breaks, Continues, Returns, after, after_body, after_switch, loop, repeat, default_of, label_value, enter_one, enter, leave_one, leave, in_block, find_label, switch_on, jump, part_of_local, test_of, step_of, exec, execs, execs_from}
+use Rattle.cheri_c_sem.specs.Statements.{Flow, Goes, Breaks, Continues, Returns, after, after_body, after_switch, loop}
+use Rattle.cheri_c_sem.specs.Statements.{repeat, default_of, label_value, enter_one, enter, leave_one, leave, in_block}
+use Rattle.cheri_c_sem.specs.Statements.{find_label, switch_on, jump, part_of_local, test_of, step_of, exec, execs}
+use Rattle.cheri_c_sem.specs.Statements.{execs_from}
 use Rattle.placement.specs.Relations.{IsWord, Both, Relation, AllGood, Keeps}
 use Rattle.placement.specs.Trees.{IsFit, DeclaredFit, AllDeclaredFit, TestFit, StepFit, DoesFit, DoFit}
-use Rattle.placement.proofs.Sim.{no_values, itself, Stands, Sim, sim_give, sim_ends, sim_bind, sim_then, sim_choose, sim_ask, sim_state, sim_turn, sim_set_variable, sim_unset_variable, sim_change}
+use Rattle.placement.proofs.Sim.{no_values, itself, Stands, Sim, sim_give, sim_ends, sim_bind, sim_then, sim_choose}
+use Rattle.placement.proofs.Sim.{sim_ask, sim_state, sim_turn, sim_set_variable, sim_unset_variable, sim_change}
 use Rattle.placement.proofs.Operated.{unasked, nothing_good}
 use Rattle.placement.proofs.SimExpressions.{in_place, alone, sim_store, sim_copy, sim_test, all_left}
 use Rattle.placement.proofs.SimValues.{sim_value, sim_place}

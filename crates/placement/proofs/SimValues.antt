@@ -8,14 +8,19 @@ use Rattle.obj_mem.specs.Values.{Value, Int, Fun}
 use Rattle.cheri_c_sem.specs.Kinds.{Kind, null_at, truth}
 use Rattle.cheri_c_sem.specs.Operations.{Operations, convert_by}
 use Rattle.cheri_c_sem.specs.Steps.{Then, give, ask}
-use Rattle.cheri_c_sem.specs.Tree.{Ex, Number, Null, Load, Aggregate, Pointer_to, Convert, Discard, Unary, Not, Binary, Compare, And, Or, Conditional, Comma, Assign, Copy, Compound, Call, Library, Variable, Local, Object, Function, Deref, Member, Exs, Nil, Cons}
+use Rattle.cheri_c_sem.specs.Tree.{Ex, Number, Null, Load, Aggregate, Pointer_to, Convert, Discard, Unary, Not, Binary}
+use Rattle.cheri_c_sem.specs.Tree.{Compare, And, Or, Conditional, Comma, Assign, Copy, Compound, Call, Library}
+use Rattle.cheri_c_sem.specs.Tree.{Variable, Local, Object, Function, Deref, Member, Exs, Nil, Cons}
 use Rattle.cheri_c_sem.specs.Tree as tree
 use Rattle.cheri_c_sem.specs.Meaning.{In, At, capability_of, operate_by, value_of, place_of, values_of}
 use Rattle.placement.specs.Relations.{IsWord, Relation, AllGood, Keeps}
 use Rattle.placement.specs.Trees.{IsFit, AreFit}
-use Rattle.placement.proofs.Sim.{no_values, itself, Sim, sim_give, sim_bind, sim_then, sim_known, sim_choose, sim_ask, sim_turn}
+use Rattle.placement.proofs.Sim.{no_values, itself, Sim, sim_give, sim_bind, sim_then, sim_known, sim_choose, sim_ask}
+use Rattle.placement.proofs.Sim.{sim_turn}
 use Rattle.placement.proofs.Operated.{unasked, truth_good, compared, converts, operates, signs}
-use Rattle.placement.proofs.SimExpressions.{in_place, all_of, alone, sim_load, sim_store, sim_copy, sim_test, sim_point_to, sim_called, sim_serve, all_left, all_right, sim_nothing, sim_nowhere, sim_whole}
+use Rattle.placement.proofs.SimExpressions.{in_place, all_of, alone, sim_load, sim_store, sim_copy, sim_test}
+use Rattle.placement.proofs.SimExpressions.{sim_point_to, sim_called, sim_serve, all_left, all_right, sim_nothing}
+use Rattle.placement.proofs.SimExpressions.{sim_nowhere, sim_whole}
 
 module _ {M N : Type 0} {r : Relation M N} {ops : Operations M} {pops : Operations N} {globals functions : ℕ}
     {funs : List tree.Fun} (k : Keeps r ops pops globals functions funs)

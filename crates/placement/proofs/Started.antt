@@ -1,5 +1,6 @@
 -- Memories stand for one another at the start of a program, and so its runs agree.
-use Rattle.std.proofs.Common.{◌≡◌, ℕ, suc, ◌+◌, ◌-◌, ◌^◌, ◌<◌, ◌≤◌, true, List, [], ◌∷◌, ◌++◌, length, map, Some, refl, sym, ap, ◌∙◌, subst, inl, inr, arith, length-append}
+use Rattle.std.proofs.Common.{◌≡◌, ℕ, suc, ◌+◌, ◌-◌, ◌^◌, ◌<◌, ◌≤◌, true, List, [], ◌∷◌, ◌++◌, length, map, Some, refl}
+use Rattle.std.proofs.Common.{sym, ap, ◌∙◌, subst, inl, inr, arith, length-append}
 use Rattle.std.specs.Prelude.{slice_get, slice_index_or}
 use Rattle.std.specs.List.{AllByRecursion}
 use Rattle.cap_concentrate.specs.Rounding.{owned}
@@ -25,8 +26,10 @@ use Rattle.placement.specs.Memories.{IsThere, IsClear, ContentsGood, FramesFit, 
 use Rattle.placement.proofs.Lists.{map_get, map_from, map_join, map_length, front_get, back_get, below_get}
 use Rattle.placement.proofs.SimCalls.{runs_agree}
 use Rattle.placement.proofs.Instance.{keeps}
-use Rattle.placement.proofs.Objects.{object_shape, shapes_from, length_of, globals_added, literals_added, globals_same, literals_same, globals_blank, literals_blank}
-use Rattle.placement.proofs.Filled.{Ready, IsOf, LinksFit, GlobalsFit, LiteralsFit, globals_filled, literals_filled, globals_linked}
+use Rattle.placement.proofs.Objects.{object_shape, shapes_from, length_of, globals_added, literals_added, globals_same}
+use Rattle.placement.proofs.Objects.{literals_same, globals_blank, literals_blank}
+use Rattle.placement.proofs.Filled.{Ready, IsOf, LinksFit, GlobalsFit, LiteralsFit, globals_filled, literals_filled}
+use Rattle.placement.proofs.Filled.{globals_linked}
 use Rattle.placement.proofs.Lawful.{length_needed, placed_shapes, laid, spread, heap_clear, stack_clear}
 
 -- ---- what a program's initial data asks

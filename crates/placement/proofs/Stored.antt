@@ -1,5 +1,7 @@
 -- What a strict run keeps in memory is good.
-use Rattle.std.proofs.Common.{◌≡◌, ℕ, zero, suc, ◌+◌, ◌*◌, ◌/◌, ◌%◌, ◌^◌, ◌<◌, ◌≤◌, ◌==◌, ◌&&◌, Bool, true, false, List, [], ◌∷◌, ◌++◌, take, drop, length, replicate, Option, Some, None, Result, Ok, Err, refl, ap, arith, subst}
+use Rattle.std.proofs.Common.{◌≡◌, ℕ, zero, suc, ◌+◌, ◌*◌, ◌/◌, ◌%◌, ◌^◌, ◌<◌, ◌≤◌, ◌==◌, ◌&&◌, Bool, true, false, List}
+use Rattle.std.proofs.Common.{[], ◌∷◌, ◌++◌, take, drop, length, replicate, Option, Some, None, Result, Ok, Err, refl}
+use Rattle.std.proofs.Common.{ap, arith, subst}
 use Rattle.std.specs.Prelude.{slice_get, slice_set, if◌then◌else◌}
 use Rattle.std.proofs.Math.Nat.{pow-succ'}
 use Rattle.std.proofs.lemmas.List.{length-take, length-drop}
@@ -9,8 +11,13 @@ use Rattle.obj_mem.specs.declared.ending.UnitFault.{UnitFault}
 use Rattle.obj_mem.specs.declared.ending.Reason.{Reason}
 use Rattle.obj_mem.specs.declared.ending.Reason.TheVariants as R
 use Rattle.obj_mem.specs.Values.{Value, Int, Live, Fun, Raw}
-use Rattle.obj_mem.specs.Objects.{Cell, Byte, Unwritten, PartOf, Life, Active, Inactive, Returned, Shape, Content, Memory, Mode, Strict, held, value_at, cell_or, seen_through, bytes_at, put_at, parts, opened_by, opened, blank}
-use Rattle.obj_mem.specs.Access.{Spot, reach, onward, outside_unless_active, padding_where, at_place, at_spot, Piece, Tagged, Plain, load_access, store_access, piece_of, fetch, with_piece, put, has_unwritten, has_part, number_of, read_as, known, loaded, load, bytes_of, stored_piece, store, carried, as_load, as_store, then_put, copy_unit}
+use Rattle.obj_mem.specs.Objects.{Cell, Byte, Unwritten, PartOf, Life, Active, Inactive, Returned, Shape, Content}
+use Rattle.obj_mem.specs.Objects.{Memory, Mode, Strict, held, value_at, cell_or, seen_through, bytes_at, put_at, parts}
+use Rattle.obj_mem.specs.Objects.{opened_by, opened, blank}
+use Rattle.obj_mem.specs.Access.{Spot, reach, onward, outside_unless_active, padding_where, at_place, at_spot, Piece}
+use Rattle.obj_mem.specs.Access.{Tagged, Plain, load_access, store_access, piece_of, fetch, with_piece, put}
+use Rattle.obj_mem.specs.Access.{has_unwritten, has_part, number_of, read_as, known, loaded, load, bytes_of}
+use Rattle.obj_mem.specs.Access.{stored_piece, store, carried, as_load, as_store, then_put, copy_unit}
 use Rattle.obj_mem.specs.Standing.{IsGood}
 use Rattle.cheri_c_sem.specs.Kinds as kinds
 use Rattle.cheri_c_sem.specs.Kinds.{Kind, Plain, Capability}

@@ -1,5 +1,6 @@
 -- What a typed program and a legal map for it give.
-use Rattle.std.proofs.Common.{◌≡◌, ℕ, zero, suc, ◌+◌, ◌-◌, ◌%◌, ◌^◌, ◌<◌, ◌≤◌, Bool, true, false, List, [], ◌∷◌, length, map, Option, Some, refl, sym, ap, ◌∙◌, subst, inl, inr, arith}
+use Rattle.std.proofs.Common.{◌≡◌, ℕ, zero, suc, ◌+◌, ◌-◌, ◌%◌, ◌^◌, ◌<◌, ◌≤◌, Bool, true, false, List, [], ◌∷◌, length}
+use Rattle.std.proofs.Common.{map, Option, Some, refl, sym, ap, ◌∙◌, subst, inl, inr, arith}
 use Rattle.std.specs.Prelude.{slice_get, if◌then◌else◌}
 use Rattle.std.specs.List.{filter}
 use Rattle.std.proofs.lemmas.Bool.{cases_lt, le-leb}
@@ -25,7 +26,8 @@ use Rattle.obj_mem.specs.declared.map.Map.{Map}
 use Rattle.obj_mem.specs.declared.map.Frame.{Frame}
 use Rattle.obj_mem.specs.declared.map.Slot.{Slot}
 use Rattle.obj_mem.specs.Legal.{Apart, slot_of, IsSlot, IsFrame, AreFrames, IsLegal}
-use Rattle.obj_mem.specs.Needs.{is_const, need_by, global_need, literal_need, local_need, is_object, function_needs, needs_of}
+use Rattle.obj_mem.specs.Needs.{is_const, need_by, global_need, literal_need, local_need, is_object, function_needs}
+use Rattle.obj_mem.specs.Needs.{needs_of}
 use Rattle.obj_mem.proofs.Powers.{length_aligned, need_power}
 use Rattle.cheri_c_sem.specs.Types.{size_of_extent, size_in}
 use Rattle.cheri_c_sem.specs.Modes.{slot_offset}

@@ -1,6 +1,10 @@
 -- Trees whose constants are words, and whose objects and functions are there.
 use Rattle.std.specs.Prelude.{◌≡◌, ℕ, ◌<◌, ◌^◌, List, [], ◌∷◌, length, Option, Some, None, slice_get}
-use Rattle.cheri_c_sem.specs.Tree.{Ex, Number, Null, Load, Aggregate, Pointer_to, Convert, Discard, Unary, Not, Binary, Compare, And, Or, Conditional, Comma, Assign, Copy, Compound, Call, Library, Variable, Local, Object, Function, Deref, Member, Exs, Nil, Cons, Declared, Simple, Objects, St, Do, Give, Init, Fill, Block, If, While, Do_while, For, Switch, Break, Continue, Return, Empty, Sts, End, Seq, Parameter, In_variable, In_object, Fun}
+use Rattle.cheri_c_sem.specs.Tree.{Ex, Number, Null, Load, Aggregate, Pointer_to, Convert, Discard, Unary, Not, Binary}
+use Rattle.cheri_c_sem.specs.Tree.{Compare, And, Or, Conditional, Comma, Assign, Copy, Compound, Call, Library}
+use Rattle.cheri_c_sem.specs.Tree.{Variable, Local, Object, Function, Deref, Member, Exs, Nil, Cons, Declared, Simple}
+use Rattle.cheri_c_sem.specs.Tree.{Objects, St, Do, Give, Init, Fill, Block, If, While, Do_while, For, Switch, Break}
+use Rattle.cheri_c_sem.specs.Tree.{Continue, Return, Empty, Sts, End, Seq, Parameter, In_variable, In_object, Fun}
 use Rattle.cheri_c_sem.specs.Kinds.{Kind}
 use Rattle.ck_base.specs.declared.positions.Pos.{Pos}
 

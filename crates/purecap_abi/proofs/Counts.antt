@@ -1,5 +1,6 @@
 -- Counts of homes, as far as a loop has come.
-use Rattle.std.proofs.Common.{◌≡◌, ℕ, zero, suc, ◌+◌, ◌<◌, ◌≤◌, max, List, [], ◌∷◌, length, take, get_or, Option, Some, None, refl, ap, arith}
+use Rattle.std.proofs.Common.{◌≡◌, ℕ, zero, suc, ◌+◌, ◌<◌, ◌≤◌, max, List, [], ◌∷◌, length, take, get_or, Option, Some}
+use Rattle.std.proofs.Common.{None, refl, ap, arith}
 use Rattle.std.specs.Prelude.{slice_get}
 use Rattle.std.specs.List.{All}
 use Rattle.std.proofs.lemmas.Option.{same_Some}
@@ -7,11 +8,14 @@ use Rattle.reg_alloc.specs.declared.places.Home.{Home}
 use Rattle.reg_alloc.specs.declared.places.Home.TheVariants.{Register, Slot}
 use Rattle.purecap_abi.specs.Saving.{slots_to, slot_count, IsSlotBelow}
 
-pub slot_count_more : (hs : List Home) (i : ℕ) (d : Home) → i < length hs → slot_count (take (i + 1) hs) ≡ max (slot_count (take i hs)) (slots_to (get_or hs i d))
+pub slot_count_more : (hs : List Home) (i : ℕ) (d : Home) → i < length hs →
+    slot_count (take (i + 1) hs) ≡ max (slot_count (take i hs)) (slots_to (get_or hs i d))
 unfolding slot_count
 slot_count_more [] i d h = absurd (omega arith)
 slot_count_more (x ∷ hs) zero d h = omega arith
-slot_count_more (x ∷ hs) (suc i) d h = let r = slot_count_more hs i d (omega arith) in let e : suc i + 1 ≡ suc (i + 1) = omega arith in rw e (omega (arith, r))
+slot_count_more (x ∷ hs) (suc i) d h =
+    let r = slot_count_more hs i d (omega arith) in let e : suc i + 1 ≡ suc (i + 1) = omega arith in
+    rw e (omega (arith, r))
 
 pub slot_count_none : slot_count [] ≡ 0
 unfolding slot_count
@@ -31,5 +35,6 @@ slot_count_most n (x ∷ hs) h = by x (h zero x (omega arith)) (slot_count_most 
 pub slot_count_each : (hs : List Home) (k s : ℕ) → slice_get hs k ≡ Some (Slot s) → s < slot_count hs
 unfolding slot_count
 slot_count_each [] k s e = let f : ◌≡◌ {A = Option Home} None (Some (Slot s)) = e in absurd cc
-slot_count_each (x ∷ hs) zero s e = let f : x ≡ Slot s = same_Some x (Slot s) e in let g : slots_to x ≡ s + 1 = ap (λ h. slots_to h) f in omega arith
+slot_count_each (x ∷ hs) zero s e =
+    let f : x ≡ Slot s = same_Some x (Slot s) e in let g : slots_to x ≡ s + 1 = ap (λ h. slots_to h) f in omega arith
 slot_count_each (x ∷ hs) (suc k) s e = let r = slot_count_each hs k s e in omega arith

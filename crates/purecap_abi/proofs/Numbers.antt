@@ -1,5 +1,6 @@
 -- What the words for a number make of a register.
-use Rattle.std.proofs.Common.{◌≡◌, ℕ, zero, suc, ◌+◌, ◌-◌, ◌*◌, ◌%◌, ◌^◌, ◌<◌, ◌≤◌, ◌⊎◌, pos, negsuc, ◌-ℤ◌, Bool, true, false, List, [], ◌∷◌, ◌++◌, refl, ap, ◌∙◌, arith, if◌then◌else◌, inl, inr, append_assoc}
+use Rattle.std.proofs.Common.{◌≡◌, ℕ, zero, suc, ◌+◌, ◌-◌, ◌*◌, ◌%◌, ◌^◌, ◌<◌, ◌≤◌, ◌⊎◌, pos, negsuc, ◌-ℤ◌, Bool, true}
+use Rattle.std.proofs.Common.{false, List, [], ◌∷◌, ◌++◌, refl, ap, ◌∙◌, arith, if◌then◌else◌, inl, inr, append_assoc}
 use Rattle.std.specs.Prelude.{nat_lt, ◌==◌}
 use Rattle.std.specs.List.{All}
 use Rattle.std.proofs.lemmas.Bool.{cases_lt}
@@ -77,7 +78,8 @@ signed_same k = elim (cases_lt (k % 2 ^ 32) (2 ^ 31)) as (λ _. signed_word k % 
 pub word_whole : (n : ℕ) → n < 2 ^ 64 → is_word n ≡ true → n % 4096 ≡ 0 → signed_word (high n % 2 ^ 20 * 4096) ≡ n
 word_whole n h w z = signed_made (high n % 2 ^ 20 * 4096) n h w (omega arith)
 
-pub word_made : (n : ℕ) → n < 2 ^ 64 → is_word n ≡ true → signed_word (plus (signed_word (high n % 2 ^ 20 * 4096)) (low n)) ≡ n
+pub word_made : (n : ℕ) → n < 2 ^ 64 → is_word n ≡ true →
+    signed_word (plus (signed_word (high n % 2 ^ 20 * 4096)) (low n)) ≡ n
 word_made n h w =
     let k = high n % 2 ^ 20 * 4096 in
     let s = signed_same k in
@@ -112,7 +114,8 @@ other : (to x : ℕ) → 0 < to → (if to == 0 then 0 else x) ≡ x
 other to x h = grind (arith, nat_tests)
 
 -- the low bits on top of the high ones
-low_added : (to n x : ℕ) → 0 < to → (n % 4096 ≡ 0 → x ≡ n) → plus x (low n) ≡ n → number_after (low_code Addi to n) x ≡ n
+low_added : (to n x : ℕ) → 0 < to → (n % 4096 ≡ 0 → x ≡ n) → plus x (low n) ≡ n →
+    number_after (low_code Addi to n) x ≡ n
 unfolding number_after
 low_added to n x h z m = by (nat_lt 0 (n % 4096)) refl
   where
@@ -120,7 +123,8 @@ low_added to n x h z m = by (nat_lt 0 (n % 4096)) refl
     by true e = ap (λ y. plus y (low n)) (other to x h) ∙ m
     by false e = z (grind (arith, nat_tests))
 
-low_word_added : (to n x : ℕ) → 0 < to → (n % 4096 ≡ 0 → x ≡ n) → signed_word (plus x (low n)) ≡ n → number_after (low_code Addiw to n) x ≡ n
+low_word_added : (to n x : ℕ) → 0 < to → (n % 4096 ≡ 0 → x ≡ n) → signed_word (plus x (low n)) ≡ n →
+    number_after (low_code Addiw to n) x ≡ n
 unfolding number_after
 low_word_added to n x h z m = by (nat_lt 0 (n % 4096)) refl
   where
@@ -128,7 +132,8 @@ low_word_added to n x h z m = by (nat_lt 0 (n % 4096)) refl
     by true e = ap (λ y. signed_word (plus y (low n))) (other to x h) ∙ m
     by false e = z (grind (arith, nat_tests))
 
-pub makes_short : (to n : ℕ) (old new : List Instr) → n < 2 ^ 64 → is_short n ≡ true → new ≡ old ++ Imm Addi to 0 (low n) ∷ [] → Makes to n old new
+pub makes_short : (to n : ℕ) (old new : List Instr) → n < 2 ^ 64 → is_short n ≡ true →
+    new ≡ old ++ Imm Addi to 0 (low n) ∷ [] → Makes to n old new
 unfolding number_after
 makes_short to n old new h s e = record {
   added = Imm Addi to 0 (low n) ∷ [];
@@ -137,16 +142,20 @@ makes_short to n old new h s e = record {
   made = λ x p. short_made n h s;
 }
 
-pub makes_word : (to n : ℕ) (old mid new : List Instr) (i : Instr) → n < 2 ^ 64 → is_word n ≡ true → i ≡ upper to n → mid ≡ old ++ i ∷ [] → new ≡ mid ++ low_code Addiw to n → Makes to n old new
+pub makes_word : (to n : ℕ) (old mid new : List Instr) (i : Instr) → n < 2 ^ 64 → is_word n ≡ true → i ≡ upper to n →
+    mid ≡ old ++ i ∷ [] → new ≡ mid ++ low_code Addiw to n → Makes to n old new
 unfolding number_after
 makes_word to n old mid new i h w u e f = record {
   added = upper to n ∷ [] ++ low_code Addiw to n;
-  is = f ∙ ap (λ v. v ++ low_code Addiw to n) (e ∙ ap (λ x. old ++ x ∷ []) u) ∙ append_assoc old (upper to n ∷ []) (low_code Addiw to n);
-  own = All-append (SetsOnly to) (upper to n ∷ []) (low_code Addiw to n) (own_cons to (upper to n) [] refl (own_none to)) (own_low Addiw to n);
+  is = f ∙ ap (λ v. v ++ low_code Addiw to n) (e ∙ ap (λ x. old ++ x ∷ []) u)
+      ∙ append_assoc old (upper to n ∷ []) (low_code Addiw to n);
+  own = All-append (SetsOnly to) (upper to n ∷ []) (low_code Addiw to n)
+      (own_cons to (upper to n) [] refl (own_none to)) (own_low Addiw to n);
   made = λ x p. low_word_added to n (signed_word (high n % 2 ^ 20 * 4096)) p (word_whole n h w) (word_made n h w);
 }
 
-pub makes_wide : (to n : ℕ) (old mid next new : List Instr) → n < 2 ^ 64 → Makes to (high n) old mid → next ≡ mid ++ Shift Slli to to 12 ∷ [] → new ≡ next ++ low_code Addi to n → Makes to n old new
+pub makes_wide : (to n : ℕ) (old mid next new : List Instr) → n < 2 ^ 64 → Makes to (high n) old mid →
+    next ≡ mid ++ Shift Slli to to 12 ∷ [] → new ≡ next ++ low_code Addi to n → Makes to n old new
 unfolding number_after
 makes_wide to n old mid next new h m e f =
     let rest = Shift Slli to to 12 ∷ low_code Addi to n in
@@ -155,7 +164,8 @@ makes_wide to n old mid next new h m e f =
       is =
           f ∙ ap (λ v. v ++ low_code Addi to n) e ∙ append_assoc mid (Shift Slli to to 12 ∷ []) (low_code Addi to n)
           ∙ ap (λ v. v ++ rest) m.is ∙ append_assoc old m.added rest;
-      own = All-append (SetsOnly to) m.added rest m.own (own_cons to (Shift Slli to to 12) (low_code Addi to n) (refl, refl) (own_low Addi to n));
+      own = All-append (SetsOnly to) m.added rest m.own
+          (own_cons to (Shift Slli to to 12) (low_code Addi to n) (refl, refl) (own_low Addi to n));
       made = λ x p.
           after_append m.added rest x
           ∙ ap (λ y. number_after (low_code Addi to n) ((y * 2 ^ 12) % 2 ^ 64)) (m.made x p)

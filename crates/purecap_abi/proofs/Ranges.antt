@@ -1,5 +1,7 @@
 -- Each word that is appended is plain.
-use Rattle.std.proofs.Common.{◌≡◌, ℕ, zero, suc, ◌+◌, ◌%◌, ◌^◌, ◌<◌, ◌≤◌, ℤ, pos, ◌-ℤ◌, Bool, true, false, List, [], ◌∷◌, ◌++◌, length, refl, sym, ap, ◌∙◌, subst, arith, if◌then◌else◌, inl, inr, append_assoc}
+use Rattle.std.proofs.Common.{◌≡◌, ℕ, zero, suc, ◌+◌, ◌%◌, ◌^◌, ◌<◌, ◌≤◌, ℤ, pos, ◌-ℤ◌, Bool, true, false, List, []}
+use Rattle.std.proofs.Common.{◌∷◌, ◌++◌, length, refl, sym, ap, ◌∙◌, subst, arith, if◌then◌else◌, inl, inr}
+use Rattle.std.proofs.Common.{append_assoc}
 use Rattle.std.specs.Prelude.{nat_lt, Result, Ok, Err, OnOk}
 use Rattle.std.specs.List.{All}
 use Rattle.std.proofs.lemmas.Bool.{cases_lt}
@@ -17,7 +19,8 @@ use Rattle.rv_instr.specs.declared.ops.CapRegOp.{CapRegOp}
 use Rattle.rv_instr.specs.declared.ops.CapRegOp.TheVariants.{Cincoffset}
 use Rattle.rv_instr.specs.declared.ops.ShiftOp.TheVariants.{Slli}
 use Rattle.rv_instr.specs.Range.{InRange, FitsBits}
-use Rattle.purecap_abi.specs.Words.{IsPlainWord, Appends, low, high, is_short, is_word, most_words, upper, wide_code, near_code, load_code, store_code, low_code, low_move, moved_code}
+use Rattle.purecap_abi.specs.Words.{IsPlainWord, Appends, low, high, is_short, is_word, most_words, upper, wide_code}
+use Rattle.purecap_abi.specs.Words.{near_code, load_code, store_code, low_code, low_move, moved_code}
 
 -- ---- lists
 
@@ -33,7 +36,8 @@ all_one i h = all_cons i [] h all_none
 
 -- ---- what was appended
 
-pub appends_code : (most : ℕ) (old new code : List Instr) → new ≡ old ++ code → length code ≤ most → All IsPlainWord code → Appends most old new
+pub appends_code : (most : ℕ) (old new code : List Instr) → new ≡ old ++ code → length code ≤ most →
+    All IsPlainWord code → Appends most old new
 appends_code most old new code e h r = record { added = code; is = e; few = h; plain = r }
 
 pub appends_one : (old new : List Instr) (i : Instr) → new ≡ old ++ i ∷ [] → IsPlainWord i → Appends 1 old new
@@ -61,8 +65,10 @@ fits_pos n h = (omega (arith, ints), omega (arith, ints))
 
 pub fits_low : (n : ℕ) → FitsBits 12 (low n)
 fits_low n = elim (cases_lt (n % 4096) 2048) as (λ _. FitsBits 12 (low n)) [
-  | inl less ↦ let e : low n ≡ pos (n % 4096) = grind (arith, nat_tests) in subst (FitsBits 12) (sym e) (fits_pos (n % 4096) less)
-  | inr more ↦ let e : low n ≡ pos (n % 4096) -ℤ pos 4096 = grind (arith, nat_tests) in subst (FitsBits 12) (sym e) (omega (arith, ints), omega (arith, ints))
+  | inl less ↦ let e : low n ≡ pos (n % 4096) = grind (arith, nat_tests) in
+      subst (FitsBits 12) (sym e) (fits_pos (n % 4096) less)
+  | inr more ↦ let e : low n ≡ pos (n % 4096) -ℤ pos 4096 = grind (arith, nat_tests) in
+      subst (FitsBits 12) (sym e) (omega (arith, ints), omega (arith, ints))
 ]
 
 -- ---- instructions
@@ -98,39 +104,55 @@ r_move to base z h j k = record { in_range = (h, j, k); anywhere = refl }
 -- ---- the words of this crate
 
 pub r_wide : (to n : ℕ) → to < 32 → All IsPlainWord (wide_code to n)
-r_wide to n h = all_cons (upper to n) (Imm Addiw to to (low n) ∷ []) (r_upper to n h) (all_one (Imm Addiw to to (low n)) (r_imm Addiw to to n h h))
+r_wide to n h = all_cons (upper to n) (Imm Addiw to to (low n) ∷ []) (r_upper to n h)
+    (all_one (Imm Addiw to to (low n)) (r_imm Addiw to to n h h))
 
 pub r_near : (to base offset : ℕ) → to < 32 → base < 32 → All IsPlainWord (near_code to base offset)
-r_near to base offset h j = all_cons (upper to offset) (CapReg Cincoffset to base to ∷ []) (r_upper to offset h) (all_one (CapReg Cincoffset to base to) (r_register Cincoffset to base to h j h))
+r_near to base offset h j =
+    all_cons (upper to offset) (CapReg Cincoffset to base to ∷ []) (r_upper to offset h)
+    (all_one (CapReg Cincoffset to base to) (r_register Cincoffset to base to h j h))
 
 -- one word, or at most three
 pub record AreFew (near : Bool) (code : List Instr) : Type 0 where
   pub few : length code ≤ (if near then 1 else 3)
   pub plain : All IsPlainWord code
 
-pub appends_few : (near : Bool) (old new code : List Instr) → new ≡ old ++ code → AreFew near code → Appends (if near then 1 else 3) old new
+pub appends_few : (near : Bool) (old new code : List Instr) → new ≡ old ++ code → AreFew near code →
+    Appends (if near then 1 else 3) old new
 appends_few near old new code e f = appends_code _ old new code e f.few f.plain
 
-pub load_few : (to base offset scratch : ℕ) → to < 32 → base < 32 → scratch < 32 → AreFew (nat_lt offset 2048) (load_code to base offset scratch)
+pub load_few : (to base offset scratch : ℕ) → to < 32 → base < 32 → scratch < 32 →
+    AreFew (nat_lt offset 2048) (load_code to base offset scratch)
 load_few to base offset scratch h j k = by (nat_lt offset 2048) refl
   where
     by : (b : Bool) → nat_lt offset 2048 ≡ b
-        → AreFew b (if b then Clc to base (pos offset) ∷ [] else near_code scratch base offset ++ Clc to scratch (low offset) ∷ [])
-    by true e = record { few = omega arith; plain = all_one _ (r_clc to base (pos offset) h j (fits_pos offset (grind (arith, nat_tests)))) }
+        → AreFew b (if b then Clc to base (pos offset) ∷ []
+        else near_code scratch base offset ++ Clc to scratch (low offset) ∷ [])
+    by true e = record {
+      few = omega arith;
+      plain = all_one _ (r_clc to base (pos offset) h j (fits_pos offset (grind (arith, nat_tests))));
+    }
     by false e = record {
       few = omega arith;
-      plain = All-append IsPlainWord (near_code scratch base offset) (Clc to scratch (low offset) ∷ []) (r_near scratch base offset k j) (all_one _ (r_clc to scratch (low offset) h k (fits_low offset)));
+      plain = All-append IsPlainWord (near_code scratch base offset) (Clc to scratch (low offset) ∷ [])
+          (r_near scratch base offset k j) (all_one _ (r_clc to scratch (low offset) h k (fits_low offset)));
     }
 
-pub store_few : (from base offset scratch : ℕ) → from < 32 → base < 32 → scratch < 32 → AreFew (nat_lt offset 2048) (store_code from base offset scratch)
+pub store_few : (from base offset scratch : ℕ) → from < 32 → base < 32 → scratch < 32 →
+    AreFew (nat_lt offset 2048) (store_code from base offset scratch)
 store_few from base offset scratch h j k = by (nat_lt offset 2048) refl
   where
     by : (b : Bool) → nat_lt offset 2048 ≡ b
-        → AreFew b (if b then Store Csc from base (pos offset) ∷ [] else near_code scratch base offset ++ Store Csc from scratch (low offset) ∷ [])
-    by true e = record { few = omega arith; plain = all_one _ (r_csc from base (pos offset) h j (fits_pos offset (grind (arith, nat_tests)))) }
+        → AreFew b (if b then Store Csc from base (pos offset) ∷ []
+        else near_code scratch base offset ++ Store Csc from scratch (low offset) ∷ [])
+    by true e = record {
+      few = omega arith;
+      plain = all_one _ (r_csc from base (pos offset) h j (fits_pos offset (grind (arith, nat_tests))));
+    }
     by false e = record {
       few = omega arith;
-      plain = All-append IsPlainWord (near_code scratch base offset) (Store Csc from scratch (low offset) ∷ []) (r_near scratch base offset k j) (all_one _ (r_csc from scratch (low offset) h k (fits_low offset)));
+      plain = All-append IsPlainWord (near_code scratch base offset) (Store Csc from scratch (low offset) ∷ [])
+          (r_near scratch base offset k j) (all_one _ (r_csc from scratch (low offset) h k (fits_low offset)));
     }
 
 pub record AreAtMost (most : ℕ) (code : List Instr) : Type 0 where
@@ -148,13 +170,18 @@ pub moved_few : (to base offset : ℕ) → to < 32 → base < 32 → AreFew (nat
 moved_few to base offset h j = by (nat_lt offset 2048) refl
   where
     by : (b : Bool) → nat_lt offset 2048 ≡ b
-        → AreFew b (if b then CapImm Cincoffsetimm to base (pos offset) ∷ [] else near_code to base offset ++ low_move to offset)
-    by true e = record { few = omega arith; plain = all_one _ (r_move to base (pos offset) h j (fits_pos offset (grind (arith, nat_tests)))) }
+        → AreFew b (if b then CapImm Cincoffsetimm to base (pos offset) ∷ []
+        else near_code to base offset ++ low_move to offset)
+    by true e = record {
+      few = omega arith;
+      plain = all_one _ (r_move to base (pos offset) h j (fits_pos offset (grind (arith, nat_tests))));
+    }
     by false e =
         let l = low_move_few to offset h in
         record {
           few = let f = l.few in omega (arith, length-append (near_code to base offset) (low_move to offset));
-          plain = All-append IsPlainWord (near_code to base offset) (low_move to offset) (r_near to base offset h j) l.plain;
+          plain = All-append IsPlainWord (near_code to base offset) (low_move to offset)
+              (r_near to base offset h j) l.plain;
         }
 
 -- ---- numbers
@@ -166,7 +193,8 @@ low_few op to n h = by (nat_lt 0 (n % 4096))
     by true = record { few = omega arith; plain = all_one (Imm op to to (low n)) (r_imm op to to n h h) }
     by false = record { few = omega arith; plain = all_none }
 
-pub appends_most : (most : ℕ) (old new code : List Instr) → new ≡ old ++ code → AreAtMost most code → Appends most old new
+pub appends_most : (most : ℕ) (old new code : List Instr) → new ≡ old ++ code → AreAtMost most code →
+    Appends most old new
 appends_most most old new code e a = appends_code most old new code e a.few a.plain
 
 -- a number of more than 32 bits takes two words more than what is left over its low 12

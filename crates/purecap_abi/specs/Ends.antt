@@ -1,5 +1,7 @@
--- How a function begins and ends. c1 is the link and c2 the stack; c28 has the caller's stack, and c29 and c30 are scratch.
-use Rattle.std.specs.Prelude.{ℕ, ◌≡◌, ◌+◌, ◌-◌, ◌^◌, nat_lt, nat_le, pos, neg_ℤ, Bool, true, false, List, [], ◌∷◌, ◌++◌, take, Option, Some, None, slice_get, if◌then◌else◌}
+-- How a function begins and ends. c1 is the link and c2 the stack; c28 has the caller's stack, and c29 and c30 are
+-- scratch.
+use Rattle.std.specs.Prelude.{ℕ, ◌≡◌, ◌+◌, ◌-◌, ◌^◌, nat_lt, nat_le, pos, neg_ℤ, Bool, true, false, List, [], ◌∷◌, ◌++◌}
+use Rattle.std.specs.Prelude.{take, Option, Some, None, slice_get, if◌then◌else◌}
 use Rattle.std.specs.List.{All}
 use Rattle.rv_instr.specs.declared.instr.Instr.{Instr}
 use Rattle.rv_instr.specs.declared.instr.Instr.TheVariants.{Cjalr, Store, Clc, Op, CapImm, CapReg, CapGet}
@@ -24,12 +26,14 @@ negative n = 2 ^ 64 - n
 -- the stack is moved down by the size
 abbrev pub take_plain : ℕ → List Instr
 take_plain size =
-    if nat_le size 2048 then CapImm Cincoffsetimm 2 2 (neg_ℤ (pos size)) ∷ [] else wide_code 29 (negative size) ++ CapReg Cincoffset 2 2 29 ∷ []
+    if nat_le size 2048 then CapImm Cincoffsetimm 2 2 (neg_ℤ (pos size)) ∷ []
+    else wide_code 29 (negative size) ++ CapReg Cincoffset 2 2 29 ∷ []
 
 -- and its address is rounded down to the alignment
 abbrev pub take_aligned : (size align : ℕ) → List Instr
 take_aligned size align =
-    wide_code 29 size ++ Op Sub 29 28 29 ∷ wide_code 30 (negative align) ++ Op And 29 29 30 ∷ CapReg Csetaddr 2 2 29 ∷ []
+    wide_code 29 size ++ Op Sub 29 28 29 ∷ wide_code 30 (negative align) ++ Op And 29 29 30 ∷ CapReg Csetaddr 2 2 29
+    ∷ []
 
 abbrev pub take_code : Frame → List Instr
 take_code f = if keeps_stack f.align then take_aligned f.size f.align else take_plain f.size
@@ -37,7 +41,8 @@ take_code f = if keeps_stack f.align then take_aligned f.size f.align else take_
 -- back up by the size
 abbrev pub give_plain : ℕ → List Instr
 give_plain size =
-    if nat_lt size 2048 then CapImm Cincoffsetimm 2 2 (pos size) ∷ [] else wide_code 29 size ++ CapReg Cincoffset 2 2 29 ∷ []
+    if nat_lt size 2048 then CapImm Cincoffsetimm 2 2 (pos size) ∷ []
+    else wide_code 29 size ++ CapReg Cincoffset 2 2 29 ∷ []
 
 -- or from the frame, where it keeps the caller's stack
 abbrev pub give_code : Option ℕ → ℕ → List Instr
@@ -78,11 +83,13 @@ abbrev pub link_store : Instr
 link_store = Store Csc 1 2 (pos 0)
 
 abbrev pub prologue_code : List Home → Frame → List Instr
-prologue_code homes f = before_store f ++ link_store ∷ [] ++ stack_code (stack_at homes f) ++ keep_code ToFrame (registers_at homes f) (kept_homes homes)
+prologue_code homes f = before_store f ++ link_store ∷ [] ++ stack_code (stack_at homes f)
+    ++ keep_code ToFrame (registers_at homes f) (kept_homes homes)
 
 abbrev pub epilogue_code : List Home → Frame → List Instr
 epilogue_code homes f =
-    keep_code FromFrame (registers_at homes f) (kept_homes homes) ++ Clc 1 2 (pos 0) ∷ [] ++ give_code (stack_at homes f) f.size ++ Cjalr 0 1 (pos 0) ∷ []
+    keep_code FromFrame (registers_at homes f) (kept_homes homes) ++ Clc 1 2 (pos 0) ∷ []
+    ++ give_code (stack_at homes f) f.size ++ Cjalr 0 1 (pos 0) ∷ []
 
 abbrev pub is_store : Instr → Bool
 is_store (Store op from base offset) = true

@@ -11,7 +11,8 @@ use Rattle.purecap_abi.specs.Placing.{greatest_of}
 
 -- ---- what is given
 
--- the owned length and the alignment of a local: a power of two, at least 16, which divides the length where it is above 16
+-- the owned length and the alignment of a local: a power of two, at least 16, which divides the length where it is
+-- above 16
 pub record IsLocal (o : Owned) : Type 0 where
   pub power : (k : ℕ) × (o.align ≡ 2 ^ k)
   pub least : 16 ≤ o.align
@@ -32,7 +33,8 @@ pub record AreLocals (locals : List Owned) : Type 0 where
 abbrev pub asked : ObjectNeed → Owned
 asked n = record { length = owned_of n; align = alignment_of n }
 
--- a frame that a legal map may have, for each function with such locals whose weight allows the homes and the outgoing arguments
+-- a frame that a legal map may have, for each function with such locals whose weight allows the homes and the outgoing
+-- arguments
 abbrev pub IsLegalFrame : List Owned → (room : ℕ) → Frame → Type 0
 IsLegalFrame locals room f = (n : FunctionNeed) → map asked n.locals ≡ locals → room ≤ 32 * n.weight → IsFrame n f
 

@@ -1,5 +1,6 @@
 -- What stands in the saved bytes of a frame.
-use Rattle.std.specs.Prelude.{ℕ, ◌≡◌, ◌+◌, ◌-◌, ◌*◌, ◌%◌, ◌^◌, ◌<◌, ◌≤◌, ◌==◌, nat_lt, max, Bool, false, List, [], ◌∷◌, length, if◌then◌else◌, Option, Some, None}
+use Rattle.std.specs.Prelude.{ℕ, ◌≡◌, ◌+◌, ◌-◌, ◌*◌, ◌%◌, ◌^◌, ◌<◌, ◌≤◌, ◌==◌, nat_lt, max, Bool, false, List, [], ◌∷◌}
+use Rattle.std.specs.Prelude.{length, if◌then◌else◌, Option, Some, None}
 use Rattle.std.specs.List.{All, filter, list_any}
 use Rattle.reg_alloc.specs.declared.places.Home.{Home}
 use Rattle.reg_alloc.specs.declared.places.Home.TheVariants.{Register, Slot}
@@ -64,7 +65,8 @@ saved_bytes outgoing align homes = 16 + 16 * outgoing + kept_bytes align homes
 abbrev pub most_outgoing : ℕ
 most_outgoing = 4194304
 
--- A frame for these homes: what it saves, a size that `lui` and a word behind it reach, and an alignment that is a power of two
+-- A frame for these homes: what it saves, a size that `lui` and a word behind it reach, and an alignment that is a
+-- power of two
 pub record IsFor (homes : List Home) (f : Frame) : Type 0 where
   pub outgoing : ℕ
   pub few : outgoing ≤ most_outgoing

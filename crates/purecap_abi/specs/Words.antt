@@ -1,8 +1,10 @@
 -- The words that selection appends, and what they are. Registers stand by their numbers.
-use Rattle.std.specs.Prelude.{ℕ, ◌≡◌, ◌+◌, ◌-◌, ◌/◌, ◌%◌, ◌^◌, ◌≤◌, ◌||◌, nat_lt, nat_le, ℤ, pos, ◌-ℤ◌, Bool, true, false, List, [], ◌∷◌, ◌++◌, length, if◌then◌else◌}
+use Rattle.std.specs.Prelude.{ℕ, ◌≡◌, ◌+◌, ◌-◌, ◌/◌, ◌%◌, ◌^◌, ◌≤◌, ◌||◌, nat_lt, nat_le, ℤ, pos, ◌-ℤ◌, Bool, true}
+use Rattle.std.specs.Prelude.{false, List, [], ◌∷◌, ◌++◌, length, if◌then◌else◌}
 use Rattle.std.specs.List.{All}
 use Rattle.rv_instr.specs.declared.instr.Instr.{Instr}
-use Rattle.rv_instr.specs.declared.instr.Instr.TheVariants.{Upper, Cjal, Branch, Store, Clc, Imm, Ecall, Ebreak, CapImm, CapReg, CapGet}
+use Rattle.rv_instr.specs.declared.instr.Instr.TheVariants.{Upper, Cjal, Branch, Store, Clc, Imm, Ecall, Ebreak, CapImm}
+use Rattle.rv_instr.specs.declared.instr.Instr.TheVariants.{CapReg, CapGet}
 use Rattle.rv_instr.specs.declared.ops.UpperOp.TheVariants.{Lui, Auipcc}
 use Rattle.rv_instr.specs.declared.ops.ImmOp.{ImmOp}
 use Rattle.rv_instr.specs.declared.ops.ImmOp.TheVariants.{Addiw}
@@ -12,7 +14,8 @@ use Rattle.rv_instr.specs.declared.ops.CapRegOp.TheVariants.{Cincoffset}
 use Rattle.rv_instr.specs.declared.ops.CapGetOp.TheVariants.{Csealentry}
 use Rattle.rv_instr.specs.Range.{InRange}
 
--- It leads nowhere by an offset, asks nothing of the environment, and makes no pointer to code: so it may stand anywhere in a text
+-- It leads nowhere by an offset, asks nothing of the environment, and makes no pointer to code: so it may stand
+-- anywhere in a text
 abbrev pub stands_anywhere : Instr → Bool
 stands_anywhere (Upper Auipcc to field) = false
 stands_anywhere (Cjal link offset) = false
@@ -52,7 +55,8 @@ is_word n = nat_lt n (2 ^ 31) || nat_le (2 ^ 64 - 2 ^ 31) n
 
 -- the words of a number: at most two for 32 bits, and two more for each further 12
 unfoldable pub most_words : ℕ → ℕ
-most_words n = if is_short n then 1 else (if is_word n then 2 else (if nat_le n (2 ^ 40) then 4 else (if nat_le n (2 ^ 52) then 6 else 8)))
+most_words n = if is_short n then 1
+    else (if is_word n then 2 else (if nat_le n (2 ^ 40) then 4 else (if nat_le n (2 ^ 52) then 6 else 8)))
 
 -- the upper 20 of 32 bits, and with them the low 12
 abbrev pub upper : (to n : ℕ) → Instr
@@ -73,7 +77,8 @@ near_code to base offset = upper to offset ∷ CapReg Cincoffset to base to ∷ 
 
 abbrev pub load_code : (to base offset scratch : ℕ) → List Instr
 load_code to base offset scratch =
-    if nat_lt offset 2048 then Clc to base (pos offset) ∷ [] else near_code scratch base offset ++ Clc to scratch (low offset) ∷ []
+    if nat_lt offset 2048 then Clc to base (pos offset) ∷ []
+    else near_code scratch base offset ++ Clc to scratch (low offset) ∷ []
 
 abbrev pub store_code : (from base offset scratch : ℕ) → List Instr
 store_code from base offset scratch =
@@ -85,4 +90,5 @@ low_move to offset = if nat_lt 0 (offset % 4096) then CapImm Cincoffsetimm to to
 
 abbrev pub moved_code : (to base offset : ℕ) → List Instr
 moved_code to base offset =
-    if nat_lt offset 2048 then CapImm Cincoffsetimm to base (pos offset) ∷ [] else near_code to base offset ++ low_move to offset
+    if nat_lt offset 2048 then CapImm Cincoffsetimm to base (pos offset) ∷ []
+    else near_code to base offset ++ low_move to offset

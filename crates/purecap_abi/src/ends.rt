@@ -1,5 +1,6 @@
 //! How a function begins and ends.
-ghost use Rattle.std.specs.Prelude.{◌≡◌, ℕ, ◌+◌, ◌-◌, ◌*◌, ◌^◌, ◌<◌, ◌≤◌, ◌++◌, [], ◌∷◌, length, pos, neg_ℤ, OnOk, IfOk, if◌then◌else◌};
+ghost use Rattle.std.specs.Prelude.{◌≡◌, ℕ, ◌+◌, ◌-◌, ◌*◌, ◌^◌, ◌<◌, ◌≤◌, ◌++◌, [], ◌∷◌, length, pos, neg_ℤ, OnOk};
+ghost use Rattle.std.specs.Prelude.{IfOk, if◌then◌else◌};
 ghost use Rattle.std.specs.Option.{ForSome};
 ghost use Rattle.std.specs.List.{All};
 ghost use Rattle.rv_instr.specs.declared.instr.Instr.TheVariants.{CapImm, CapReg};
@@ -7,7 +8,9 @@ ghost use Rattle.rv_instr.specs.declared.ops.CapImmOp.TheVariants.{Cincoffsetimm
 ghost use Rattle.purecap_abi.specs.Saving.{kept_here, kept_homes, IsFor};
 ghost use Rattle.rv_instr.specs.declared.ops.CapRegOp.TheVariants.{Cincoffset};
 ghost use Rattle.purecap_abi.specs.Words.{wide_code, IsPlainWord};
-ghost use Rattle.purecap_abi.specs.Ends.{take_plain, take_aligned, take_code, give_plain, give_code, stack_code, keep, keep_from, keep_code, before_store, prologue_code, epilogue_code, StoresLinkFirst};
+ghost use Rattle.purecap_abi.specs.Ends.{take_plain, take_aligned, take_code, give_plain, give_code, stack_code, keep};
+ghost use Rattle.purecap_abi.specs.Ends.{keep_from, keep_code, before_store, prologue_code, epilogue_code};
+ghost use Rattle.purecap_abi.specs.Ends.{StoresLinkFirst};
 
 use crate::offsets::Saved;
 use crate::saving::{KEPT, is_home, keeps_stack, saved};
@@ -156,7 +159,8 @@ fn keep_next(
     requires register { register < 32 }
     requires near { at < 2048 }
     ensures next { IfOk result (λ next. next ≡ at + 16 * length (kept_here places.now.homes register)) }
-    ensures code { OnOk result (code.new.items ≡ code.old.items ++ keep_from way base at (kept_here places.now.homes register)) }
+    ensures code { OnOk result (code.new.items
+        ≡ code.old.items ++ keep_from way base at (kept_here places.now.homes register)) }
 {
     if is_home(places, register) {
         put(code, keep(way, Reg::numbered(register), base, at))?;
@@ -188,7 +192,8 @@ fn keep_from(
 fn keep_all(code: &mut Vec<Instr>, places: &Places, way: Way, s: &Saved) -> Result<(), NoMemory>
     requires registers { s.now.registers ≡ length (kept_homes places.now.homes) }
     requires near { s.now.registers_at ≤ 67108880 }
-    ensures { OnOk result (code.new.items ≡ code.old.items ++ keep_code way s.now.registers_at (kept_homes places.now.homes)) }
+    ensures { OnOk result (code.new.items ≡ code.old.items
+        ++ keep_code way s.now.registers_at (kept_homes places.now.homes)) }
 {
     if s.registers == 0 {
         return Ok(());
@@ -200,9 +205,10 @@ fn keep_all(code: &mut Vec<Instr>, places: &Places, way: Way, s: &Saved) -> Resu
     keep_from(code, places, way, scratch(), 0)
 }
 
-/// The words with which a function begins, at most 27. They take its frame, store the link at the frame's lowest address before
-/// all else, and then the caller's stack, where the frame keeps it, and the kept registers that are homes. Behind them c28 holds
-/// the caller's stack, from which stack arguments are read. They change c2, c28, c29 and c30 alone.
+/// The words with which a function begins, at most 27. They take its frame, store the link at the frame's lowest
+/// address before all else, and then the caller's stack, where the frame keeps it, and the kept registers that are
+/// homes. Behind them c28 holds the caller's stack, from which stack arguments are read. They change c2, c28, c29 and
+/// c30 alone.
 pub fn prologue(alloc: Global, f: &Frame, places: &Places) -> Result<Vec<Instr>, NoMemory>
     requires { IsFor places.now.homes f.now }
     ensures code { IfOk result (λ code. code.items ≡ prologue_code places.now.homes f.now) }
@@ -239,8 +245,8 @@ pub fn first_store(f: &Frame) -> u32
     }
 }
 
-/// The words with which a function ends, at most 20. They load the kept registers that are homes, the link and the caller's
-/// stack, and jump to the link. They change these and c29 alone.
+/// The words with which a function ends, at most 20. They load the kept registers that are homes, the link and the
+/// caller's stack, and jump to the link. They change these and c29 alone.
 pub fn epilogue(alloc: Global, f: &Frame, places: &Places) -> Result<Vec<Instr>, NoMemory>
     requires { IsFor places.now.homes f.now }
     ensures code { IfOk result (λ code. code.items ≡ epilogue_code places.now.homes f.now) }

@@ -37,7 +37,8 @@ fn greatest(locals: &[Owned]) -> u64
     greatest
 }
 
-// Places all objects from an offset on, those of a lesser alignment first. The answer is the end, a multiple of the greatest.
+// Places all objects from an offset on, those of a lesser alignment first. The answer is the end, a multiple of the
+// greatest.
 fn place(starts: &mut Vec<u64>, locals: &[Owned], from: u64) -> u64
     requires starts { length starts.old.items ≡ length locals.now }
     requires locals { AreLocals locals.now }
@@ -94,9 +95,10 @@ fn slots_at(alloc: Global, locals: &[Owned], starts: &[u64]) -> Result<Vec<Slot>
     Ok(slots)
 }
 
-/// The frame of function `_f`, with these locals that are objects and these homes, and `outgoing` places for the arguments past
-/// eight of its calls. From its lowest address on stand the link, those places, the kept registers that are homes, the caller's
-/// stack where the alignment is above 16, the slots, and then the objects in ascending alignment.
+/// The frame of function `_f`, with these locals that are objects and these homes, and `outgoing` places for the
+/// arguments past eight of its calls. From its lowest address on stand the link, those places, the kept registers that
+/// are homes, the caller's stack where the alignment is above 16, the slots, and then the objects in ascending
+/// alignment.
 pub fn frame(
     alloc: Global,
     _f: u32,

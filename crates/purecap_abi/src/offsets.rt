@@ -1,8 +1,8 @@
 //! Offsets in the saved bytes of a frame.
 ghost use Rattle.std.specs.Prelude.{◌≡◌, ◌+◌, ◌*◌, ◌^◌, ◌<◌};
 
-/// How the saved bytes of a frame are used: offsets from its lowest address, in bytes, each the start of places of 16 bytes. The
-/// link stands at 0, and the outgoing arguments from 16 on.
+/// How the saved bytes of a frame are used: offsets from its lowest address, in bytes, each the start of places of 16
+/// bytes. The link stands at 0, and the outgoing arguments from 16 on.
 #[derive(Clone, Copy, Debug, PartialEq, Eq)]
 pub struct Saved {
     /// The kept registers that are homes, in ascending order.

@@ -1,9 +1,11 @@
 //! Words for numbers, and for places that may be far from a base.
 
-ghost use Rattle.std.specs.Prelude.{◌≡◌, ℕ, ◌+◌, ◌-◌, ◌*◌, ◌/◌, ◌%◌, ◌^◌, ◌<◌, ◌≤◌, ◌++◌, [], ◌∷◌, pos, nat_lt, OnOk, if◌then◌else◌};
+ghost use Rattle.std.specs.Prelude.{◌≡◌, ℕ, ◌+◌, ◌-◌, ◌*◌, ◌/◌, ◌%◌, ◌^◌, ◌<◌, ◌≤◌, ◌++◌, [], ◌∷◌, pos, nat_lt, OnOk};
+ghost use Rattle.std.specs.Prelude.{if◌then◌else◌};
 ghost use Rattle.rv_instr.specs.Range.{InRange};
 ghost use Rattle.rv_instr.specs.declared.instr.Instr.TheVariants.{Imm};
-ghost use Rattle.purecap_abi.specs.Words.{Appends, low, high, is_short, is_word, most_words, upper, wide_code, low_code, near_code, load_code, store_code, moved_code};
+ghost use Rattle.purecap_abi.specs.Words.{Appends, low, high, is_short, is_word, most_words, upper, wide_code};
+ghost use Rattle.purecap_abi.specs.Words.{low_code, near_code, load_code, store_code, moved_code};
 ghost use Rattle.purecap_abi.specs.Numbers.{Makes};
 ghost use Rattle.purecap_abi.specs.Ends.{negative};
 
@@ -98,8 +100,8 @@ pub fn wide(code: &mut Vec<Instr>, to: Reg, value: u64) -> Result<(), NoMemory>
     put(code, with_low(ImmOp::Addiw, to, to, value))
 }
 
-/// Appends words that set a register to a number: one where 12 bits of two's complement hold it, at most two where 32 do, and
-/// at most eight for the others.
+/// Appends words that set a register to a number: one where 12 bits of two's complement hold it, at most two where 32
+/// do, and at most eight for the others.
 pub fn number(code: &mut Vec<Instr>, to: Reg, value: u64) -> Result<(), NoMemory>
     ensures words { OnOk result (Appends (most_words value) code.old.items code.new.items) }
     ensures value { OnOk result (Makes to value code.old.items code.new.items) }
@@ -144,8 +146,8 @@ fn load_words(
     put(code, Instr::Clc(to, scratch, low(offset)))
 }
 
-/// Appends words that load a capability from an offset behind a base: one where the offset is below 2048, else three, by a
-/// scratch register that is not the base.
+/// Appends words that load a capability from an offset behind a base: one where the offset is below 2048, else three,
+/// by a scratch register that is not the base.
 pub fn load_capability(
     code: &mut Vec<Instr>,
     to: Reg,
@@ -181,8 +183,8 @@ fn store_words(
     put(code, Instr::Store(StoreOp::Csc, from, scratch, low(offset)))
 }
 
-/// Appends words that store a capability at an offset behind a base: one where the offset is below 2048, else three, by a
-/// scratch register that is neither the base nor what is stored.
+/// Appends words that store a capability at an offset behind a base: one where the offset is below 2048, else three, by
+/// a scratch register that is neither the base nor what is stored.
 pub fn store_capability(
     code: &mut Vec<Instr>,
     from: Reg,
@@ -221,8 +223,8 @@ fn move_base_words(code: &mut Vec<Instr>, to: Reg, base: Reg, offset: u64) -> Re
     )
 }
 
-/// Appends words that set a register to a base moved by an offset: one where the offset is below 2048, else at most three. The
-/// register is not the base.
+/// Appends words that set a register to a base moved by an offset: one where the offset is below 2048, else at most
+/// three. The register is not the base.
 pub fn moved(code: &mut Vec<Instr>, to: Reg, base: Reg, offset: u64) -> Result<(), NoMemory>
     requires { offset < 2 ^ 31 - 2048 }
     ensures code { OnOk result (code.new.items ≡ code.old.items ++ moved_code to base offset) }

@@ -34,21 +34,27 @@ rank_high r g = grind (arith, nat_tests)
 
 -- the three parts of the ranks
 Parts : ℕ → Type 0
-Parts k = ((k < 8) × (register_of k ≡ 17 - k)) ⊎ (((8 ≤ k) × (k < 13) × (register_of k ≡ k - 3)) ⊎ ((13 ≤ k) × (register_of k ≡ k + 5)))
+Parts k = ((k < 8) × (register_of k ≡ 17 - k)) ⊎
+    (((8 ≤ k) × (k < 13) × (register_of k ≡ k - 3)) ⊎ ((13 ≤ k) × (register_of k ≡ k + 5)))
 
 parts : (k : ℕ) → Parts k
 unfolding Parts
 parts k =
     elim (cases_lt k 8) [
       | inl l ↦ inl (l, register_low k l)
-      | inr g ↦ elim (cases_lt k 13) [ inl l ↦ inr (inl (g, l, register_middle k g l)) | inr h ↦ inr (inr (h, register_high k h)) ]
+      | inr g ↦ elim (cases_lt k 13) [
+        | inl l ↦ inr (inl (g, l, register_middle k g l))
+        | inr h ↦ inr
+            (inr (h, register_high k h))
+      ]
     ]
 
 pub rank-register : (k : ℕ) → k < 23 → rank_of (register_of k) ≡ k
 unfolding Parts
 rank-register k l =
     elim (parts k) [
-      | inl p ↦ rank_middle (register_of k) (omega (arith, p.0, p.1)) (omega (arith, p.0, p.1)) ∙ omega (arith, p.0, p.1)
+      | inl p ↦ rank_middle (register_of k) (omega (arith, p.0, p.1)) (omega (arith, p.0, p.1))
+          ∙ omega (arith, p.0, p.1)
       | inr q ↦ elim q [
         | inl p ↦ rank_low (register_of k) (omega (arith, p.0, p.1, p.2)) ∙ omega (arith, p.0, p.1, p.2)
         | inr p ↦ rank_high (register_of k) (omega (arith, p.0, p.1)) ∙ omega (arith, p.0, p.1)
@@ -60,7 +66,11 @@ unfolding Parts
 usable k l =
     elim (parts k) [
       | inl p ↦ (omega (arith, p.0, p.1), omega (arith, p.0, p.1))
-      | inr q ↦ elim q [ inl p ↦ (omega (arith, p.0, p.1, p.2), omega (arith, p.0, p.1, p.2)) | inr p ↦ (omega (arith, p.0, p.1), omega (arith, p.0, p.1)) ]
+      | inr q ↦ elim q [
+        | inl p ↦ (omega (arith, p.0, p.1, p.2), omega (arith, p.0, p.1, p.2))
+        | inr p ↦
+            (omega (arith, p.0, p.1), omega (arith, p.0, p.1))
+      ]
     ]
 
 kept : (k : ℕ) → 11 ≤ k → k < 23 → IsKept (register_of k)
@@ -69,7 +79,11 @@ kept k g l =
     elim (parts k) [
       | inl p ↦ absurd (omega (arith, p.0))
       | inr q ↦ elim q [
-        | inl p ↦ elim (cases_lt k 12) [ inl m ↦ inl (omega (arith, p.2)) | inr m ↦ inr (inl (omega (arith, p.1, p.2))) ]
+        | inl p ↦ elim (cases_lt k 12) [
+          | inl m ↦ inl (omega (arith, p.2))
+          | inr m ↦ inr
+              (inl (omega (arith, p.1, p.2)))
+        ]
         | inr p ↦ inr (inr (omega (arith, p.0, p.1), omega (arith, p.0, p.1)))
       ]
     ]
@@ -83,7 +97,8 @@ no_argument k g low high =
       | inr q ↦ elim q [ inl p ↦ omega (arith, p.0, p.1, p.2) | inr p ↦ omega (arith, p.0, p.1) ]
     ]
 
-pub own_choice : (calls : List ℕ) (i : ℕ) (v : Interval) (free_from : List ℕ) (k : ℕ) → IsOwnRank calls v i k → slice_index free_from k ≤ v.first → IsChoice calls i v free_from k
+pub own_choice : (calls : List ℕ) (i : ℕ) (v : Interval) (free_from : List ℕ) (k : ℕ) → IsOwnRank calls v i k →
+    slice_index free_from k ≤ v.first → IsChoice calls i v free_from k
 own_choice calls i v free_from k own free =
     let sum = own.rank in
     record {
@@ -95,7 +110,9 @@ own_choice calls i v free_from k own free =
       );
     }
 
-pub rank_choice : (calls : List ℕ) (i : ℕ) (v : Interval) (free_from : List ℕ) (low k : ℕ) → (IsCrossed calls v → 11 ≤ low) → (IsPassed calls v → 8 ≤ low) → (low ≤ k) × (k < 23) → slice_index free_from k ≤ v.first → IsChoice calls i v free_from k
+pub rank_choice : (calls : List ℕ) (i : ℕ) (v : Interval) (free_from : List ℕ) (low k : ℕ) →
+    (IsCrossed calls v → 11 ≤ low) → (IsPassed calls v → 8 ≤ low) → (low ≤ k) × (k < 23) →
+    slice_index free_from k ≤ v.first → IsChoice calls i v free_from k
 rank_choice calls i v free_from low k crossed passed within free =
     record {
       within = within.1;
@@ -106,6 +123,9 @@ rank_choice calls i v free_from low k crossed passed within free =
       );
     }
 
-pub first_choice : (calls : List ℕ) (i : ℕ) (v : Interval) (free_from : List ℕ) (low : ℕ) (r : Option ℕ) → (IsCrossed calls v → 11 ≤ low) → (IsPassed calls v → 8 ≤ low) → IfSome r (λ k. (low ≤ k) × (k < 23)) → IfSome r (λ k. slice_index free_from k ≤ v.first) → IfSome r (IsChoice calls i v free_from)
+pub first_choice : (calls : List ℕ) (i : ℕ) (v : Interval) (free_from : List ℕ) (low : ℕ) (r : Option ℕ) →
+    (IsCrossed calls v → 11 ≤ low) → (IsPassed calls v → 8 ≤ low) → IfSome r (λ k. (low ≤ k) × (k < 23)) →
+    IfSome r (λ k. slice_index free_from k ≤ v.first) → IfSome r (IsChoice calls i v free_from)
 first_choice calls i v free_from low None crossed passed within free = tt
-first_choice calls i v free_from low (Some k) crossed passed within free = rank_choice calls i v free_from low k crossed passed within free
+first_choice calls i v free_from low (Some k) crossed passed within free =
+    rank_choice calls i v free_from low k crossed passed within free

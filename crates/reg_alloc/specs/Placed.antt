@@ -1,5 +1,6 @@
 -- Homes that keep live intervals apart.
-use Rattle.std.specs.Prelude.{ℕ, ◌≡◌, ◌≢◌, ◌+◌, ◌<◌, ◌≤◌, ◌⊎◌, Bool, ◌&&◌, nat_le, List, length, slice_get, Some, Contains, count_by}
+use Rattle.std.specs.Prelude.{ℕ, ◌≡◌, ◌≢◌, ◌+◌, ◌<◌, ◌≤◌, ◌⊎◌, Bool, ◌&&◌, nat_le, List, length, slice_get, Some}
+use Rattle.std.specs.Prelude.{Contains, count_by}
 use Rattle.reg_alloc.specs.declared.places.Interval.{Interval}
 use Rattle.reg_alloc.specs.declared.places.Home.{Home}
 use Rattle.reg_alloc.specs.declared.places.Home.TheVariants.{Register, Slot}
@@ -32,11 +33,13 @@ Fits calls v (Register r) = IsUsable r × (IsCrossed calls v → IsKept r)
 Fits calls v (Slot s) = Unit {0}
 
 abbrev pub FitsAt : List Interval → List ℕ → List Home → ℕ → Type 0
-FitsAt live calls homes i = (v : Interval) (h : Home) → slice_get live i ≡ Some v → slice_get homes i ≡ Some h → Fits calls v h
+FitsAt live calls homes i =
+    (v : Interval) (h : Home) → slice_get live i ≡ Some v → slice_get homes i ≡ Some h → Fits calls v h
 
 -- two intervals that hold a common instruction have different homes
 abbrev pub ApartAt : List Interval → List Home → ℕ → ℕ → Type 0
-ApartAt live homes i j = (v w : Interval) → slice_get live i ≡ Some v → slice_get live j ≡ Some w → Meet v w → slice_get homes i ≢ slice_get homes j
+ApartAt live homes i j = (v w : Interval) → slice_get live i ≡ Some v → slice_get live j ≡ Some w → Meet v w →
+    slice_get homes i ≢ slice_get homes j
 
 -- one home for each interval, in which it may stand, and which it shares with none that holds a common instruction
 pub record IsPlaced (live : List Interval) (calls : List ℕ) (homes : List Home) : Type 0 where
@@ -67,11 +70,13 @@ pub record IsRelaxed (live : List Interval) (calls : List ℕ) : Type 0 where
 abbrev pub IsPassed : List ℕ → Interval → Type 0
 IsPassed calls v = (v.first ≡ 0) ⊎ Contains calls v.last
 
--- interval i, if it is one of those, is in the register of an argument only as the parameter that arrives there and does not end
--- at a call
+-- interval i, if it is one of those, is in the register of an argument only as the parameter that arrives there and
+-- does not end at a call
 abbrev pub StaysClear : List ℕ → ℕ → Interval → Home → Type 0
-StaysClear calls i v (Register r) = IsPassed calls v → 10 ≤ r → r ≤ 17 → (r ≡ 10 + i) × (v.first ≡ 0) × (Contains calls v.last → ⊥)
+StaysClear calls i v (Register r) =
+    IsPassed calls v → 10 ≤ r → r ≤ 17 → (r ≡ 10 + i) × (v.first ≡ 0) × (Contains calls v.last → ⊥)
 StaysClear calls i v (Slot s) = Unit {0}
 
 abbrev pub StaysClearAt : List Interval → List ℕ → List Home → ℕ → Type 0
-StaysClearAt live calls homes i = (v : Interval) (h : Home) → slice_get live i ≡ Some v → slice_get homes i ≡ Some h → StaysClear calls i v h
+StaysClearAt live calls homes i =
+    (v : Interval) (h : Home) → slice_get live i ≡ Some v → slice_get homes i ≡ Some h → StaysClear calls i v h

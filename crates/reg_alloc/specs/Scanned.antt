@@ -1,5 +1,6 @@
 -- What the scan keeps.
-use Rattle.std.specs.Prelude.{ℕ, ◌≡◌, ◌≢◌, ◌+◌, ◌<◌, ◌≤◌, nat_lt, List, [], ◌∷◌, ◌++◌, length, slice_get, slice_index, Some, Contains, All, count_by}
+use Rattle.std.specs.Prelude.{ℕ, ◌≡◌, ◌≢◌, ◌+◌, ◌<◌, ◌≤◌, nat_lt, List, [], ◌∷◌, ◌++◌, length, slice_get, slice_index}
+use Rattle.std.specs.Prelude.{Some, Contains, All, count_by}
 use Rattle.std.specs.List.Sorted.{IsNonDecreasingBy}
 use Rattle.reg_alloc.specs.declared.places.Interval.{Interval}
 use Rattle.reg_alloc.specs.declared.places.Home.{Home}
@@ -54,14 +55,18 @@ AreTaken free_from lowest n = (k : ℕ) → lowest ≤ k → k < 23 → n < slic
 abbrev pub IsDone : List Entry → ℕ → Type 0
 IsDone done i = (e : Entry) × Contains done e × (e.index ≡ i)
 
--- what holds of the homes, of where each register is free from, and of the number of slots, behind the entries that are done
-pub record IsScanned (live : List Interval) (calls : List ℕ) (done : List Entry) (homes : List Home) (free_from : List ℕ) (slots : ℕ) : Type 0 where
+-- what holds of the homes, of where each register is free from, and of the number of slots, behind the entries that are
+-- done
+pub record IsScanned (live : List Interval) (calls : List ℕ) (done : List Entry) (homes : List Home)
+    (free_from : List ℕ) (slots : ℕ) : Type 0 where
   pub one_each : length homes ≡ length live
   pub ranks : length free_from ≡ 23
-  pub suits : (i : ℕ) (v : Interval) (h : Home) → IsDone done i → slice_get live i ≡ Some v → slice_get homes i ≡ Some h → Suits calls i v h
+  pub suits : (i : ℕ) (v : Interval) (h : Home) → IsDone done i → slice_get live i ≡ Some v →
+      slice_get homes i ≡ Some h → Suits calls i v h
   pub apart : (i j : ℕ) → IsDone done i → IsDone done j → i ≢ j → ApartAt live homes i j
   -- a register is taken up to the last instruction of each interval in it
-  pub taken : (i r : ℕ) (v : Interval) → IsDone done i → slice_get live i ≡ Some v → v.first ≤ v.last → slice_get homes i ≡ Some (Register r) → v.last < slice_index free_from (rank_of r)
+  pub taken : (i r : ℕ) (v : Interval) → IsDone done i → slice_get live i ≡ Some v → v.first ≤ v.last →
+      slice_get homes i ≡ Some (Register r) → v.last < slice_index free_from (rank_of r)
   -- at an instruction that none of the entries begins behind, no more registers are taken than entries hold it
   pub pressure : (n : ℕ) → All (λ d. d.interval.first ≤ n) done → count_by (nat_lt n) free_from ≤ held n done
   pub slots_below : (i k : ℕ) → IsDone done i → slice_get homes i ≡ Some (Slot k) → k < slots

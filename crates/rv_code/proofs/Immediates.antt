@@ -1,5 +1,6 @@
 -- Immediates in two's complement: what the formats take apart is put together again, and the other way round.
-use Rattle.std.proofs.Common.{◌≡◌, ℕ, zero, suc, ◌+◌, ◌-◌, ◌*◌, ◌%◌, ◌^◌, ◌<◌, ◌≤◌, cond, ltb, refl, ap, ◌∙◌, arith, inl, inr}
+use Rattle.std.proofs.Common.{◌≡◌, ℕ, zero, suc, ◌+◌, ◌-◌, ◌*◌, ◌%◌, ◌^◌, ◌<◌, ◌≤◌, cond, ltb, refl, ap, ◌∙◌, arith}
+use Rattle.std.proofs.Common.{inl, inr}
 use Rattle.std.specs.Prelude.{ℤ, pos, negsuc, neg_ℤ, ◌≤ℤ◌, ◌<ℤ◌}
 use Rattle.std.specs.Int.{w32, cast_unsigned}
 use Rattle.std.proofs.lemmas.Bool.{cases_lt, le-ltb, lt-ltb}
@@ -86,7 +87,8 @@ taken13 n below =
       | inr high ↦ rw (le-ltb n 4096 high) (omega arith, omega arith)
     ]
 
-taken21 : (n : ℕ) → n < 2097152 → Within 1048576 (signed 1048576 n) × (cast_unsigned w32 (signed 1048576 n) % 2097152 ≡ n)
+taken21 : (n : ℕ) → n < 2097152 →
+    Within 1048576 (signed 1048576 n) × (cast_unsigned w32 (signed 1048576 n) % 2097152 ≡ n)
 taken21 n below =
     elim (cases_lt n 1048576) [
       | inl low ↦ rw (lt-ltb n 1048576 low) (low, omega arith)
@@ -101,7 +103,8 @@ i_joined upper lower = upper * 2 ^ 5 + lower
 i-low : (u : ℕ) → i_joined (bits u 11 5) (bits u 4 0) ≡ u % 4096
 i-low u = omega arith
 
-i-parts : (u upper lower : ℕ) → upper < 2 ^ 7 → lower < 2 ^ 5 → u % 4096 ≡ i_joined upper lower → (bits u 11 5 ≡ upper) × (bits u 4 0 ≡ lower)
+i-parts : (u upper lower : ℕ) → upper < 2 ^ 7 → lower < 2 ^ 5 → u % 4096 ≡ i_joined upper lower →
+    (bits u 11 5 ≡ upper) × (bits u 4 0 ≡ lower)
 i-parts u upper lower a b e = (omega arith, omega arith)
 
 pub i-again : (z : ℤ) → FitsBits 12 z → sign_extended 12 (i_joined (imm_bits z 11 5) (imm_bits z 4 0)) ≡ z
@@ -109,7 +112,8 @@ i-again z f =
     let w = within 2047 z f in
     ap (sign_extended 12) (i-low (cast_unsigned w32 z) ∙ low12 z w) ∙ signed-twos 2048 z w
 
-pub i-taken : (upper lower : ℕ) → upper < 2 ^ 7 → lower < 2 ^ 5 → let z = sign_extended 12 (i_joined upper lower) in FitsBits 12 z × (imm_bits z 11 5 ≡ upper) × (imm_bits z 4 0 ≡ lower)
+pub i-taken : (upper lower : ℕ) → upper < 2 ^ 7 → lower < 2 ^ 5 → let z = sign_extended 12 (i_joined upper lower) in
+    FitsBits 12 z × (imm_bits z 11 5 ≡ upper) × (imm_bits z 4 0 ≡ lower)
 i-taken upper lower a b =
     let t = taken12 (i_joined upper lower) (omega arith) in
     let p = i-parts _ upper lower a b t.1 in
@@ -129,15 +133,18 @@ b_joined upper lower = bits upper 6 6 * 2 ^ 12 + bits lower 0 0 * 2 ^ 11 + bits 
 b-low : (u : ℕ) → u % 2 ≡ 0 → b_joined (b_upper u) (b_lower u) ≡ u % 8192
 b-low u e = omega arith
 
-b-parts : (u upper lower : ℕ) → upper < 2 ^ 7 → lower < 2 ^ 5 → u % 8192 ≡ b_joined upper lower → (b_upper u ≡ upper) × (b_lower u ≡ lower)
+b-parts : (u upper lower : ℕ) → upper < 2 ^ 7 → lower < 2 ^ 5 → u % 8192 ≡ b_joined upper lower →
+    (b_upper u ≡ upper) × (b_lower u ≡ lower)
 b-parts u upper lower a b e = (omega arith, omega arith)
 
-pub b-again : (z : ℤ) → FitsBits 13 z → IsEven z → let u = cast_unsigned w32 z in sign_extended 13 (b_joined (b_upper u) (b_lower u)) ≡ z
+pub b-again : (z : ℤ) → FitsBits 13 z → IsEven z → let u = cast_unsigned w32 z in
+    sign_extended 13 (b_joined (b_upper u) (b_lower u)) ≡ z
 b-again z f even =
     let w = within 4095 z f in
     ap (sign_extended 13) (b-low (cast_unsigned w32 z) (parity z even) ∙ low13 z w) ∙ signed-twos 4096 z w
 
-pub b-taken : (upper lower : ℕ) → upper < 2 ^ 7 → lower < 2 ^ 5 → let z = sign_extended 13 (b_joined upper lower) in FitsBits 13 z × IsEven z × (b_upper (cast_unsigned w32 z) ≡ upper) × (b_lower (cast_unsigned w32 z) ≡ lower)
+pub b-taken : (upper lower : ℕ) → upper < 2 ^ 7 → lower < 2 ^ 5 → let z = sign_extended 13 (b_joined upper lower) in
+    FitsBits 13 z × IsEven z × (b_upper (cast_unsigned w32 z) ≡ upper) × (b_lower (cast_unsigned w32 z) ≡ lower)
 b-taken upper lower a b =
     let below : b_joined upper lower < 8192 = omega arith in
     let t = taken13 (b_joined upper lower) below in
@@ -150,16 +157,20 @@ abbrev j_upper : ℕ → ℕ
 j_upper u = bits u 20 20 * 2 ^ 6 + bits u 10 5
 
 abbrev j_joined : ℕ → ℕ → ℕ → ℕ → ℕ
-j_joined funct7 rs2 rs1 funct3 = bits funct7 6 6 * 2 ^ 20 + rs1 * 2 ^ 15 + funct3 * 2 ^ 12 + bits rs2 0 0 * 2 ^ 11 + bits funct7 5 0 * 2 ^ 5 + bits rs2 4 1 * 2
+j_joined funct7 rs2 rs1 funct3 =
+    bits funct7 6 6 * 2 ^ 20 + rs1 * 2 ^ 15 + funct3 * 2 ^ 12 + bits rs2 0 0 * 2 ^ 11 + bits funct7 5 0 * 2 ^ 5
+    + bits rs2 4 1 * 2
 
 j-low : (u : ℕ) → u % 2 ≡ 0 → j_joined (j_upper u) (b_lower u) (bits u 19 15) (bits u 14 12) ≡ u % 2097152
 j-low u e = omega arith
 
-j-parts : (u funct7 rs2 rs1 funct3 : ℕ) → funct7 < 2 ^ 7 → rs2 < 2 ^ 5 → rs1 < 2 ^ 5 → funct3 < 2 ^ 3 → u % 2097152 ≡ j_joined funct7 rs2 rs1 funct3
+j-parts : (u funct7 rs2 rs1 funct3 : ℕ) → funct7 < 2 ^ 7 → rs2 < 2 ^ 5 → rs1 < 2 ^ 5 → funct3 < 2 ^ 3 →
+    u % 2097152 ≡ j_joined funct7 rs2 rs1 funct3
     → (j_upper u ≡ funct7) × (b_lower u ≡ rs2) × (bits u 19 15 ≡ rs1) × (bits u 14 12 ≡ funct3)
 j-parts u funct7 rs2 rs1 funct3 a b c d e = (omega arith, omega arith, omega arith, omega arith)
 
-pub j-again : (z : ℤ) → FitsBits 21 z → IsEven z → let u = cast_unsigned w32 z in sign_extended 21 (j_joined (j_upper u) (b_lower u) (bits u 19 15) (bits u 14 12)) ≡ z
+pub j-again : (z : ℤ) → FitsBits 21 z → IsEven z → let u = cast_unsigned w32 z in
+    sign_extended 21 (j_joined (j_upper u) (b_lower u) (bits u 19 15) (bits u 14 12)) ≡ z
 j-again z f even =
     let w = within 1048575 z f in
     ap (sign_extended 21) (j-low (cast_unsigned w32 z) (parity z even) ∙ low21 z w) ∙ signed-twos 1048576 z w
@@ -182,5 +193,6 @@ abbrev u_joined : ℕ → ℕ → ℕ → ℕ → ℕ
 u_joined funct7 rs2 rs1 funct3 = funct7 * 2 ^ 13 + rs2 * 2 ^ 8 + rs1 * 2 ^ 3 + funct3
 
 pub u-taken : (funct7 rs2 rs1 funct3 : ℕ) → funct7 < 2 ^ 7 → rs2 < 2 ^ 5 → rs1 < 2 ^ 5 → funct3 < 2 ^ 3
-    → let n = u_joined funct7 rs2 rs1 funct3 in (n < 2 ^ 20) × (bits n 19 13 ≡ funct7) × (bits n 12 8 ≡ rs2) × (bits n 7 3 ≡ rs1) × (bits n 2 0 ≡ funct3)
+    → let n = u_joined funct7 rs2 rs1 funct3 in
+    (n < 2 ^ 20) × (bits n 19 13 ≡ funct7) × (bits n 12 8 ≡ rs2) × (bits n 7 3 ≡ rs1) × (bits n 2 0 ≡ funct3)
 u-taken funct7 rs2 rs1 funct3 a b c d = (omega arith, omega arith, omega arith, omega arith, omega arith)

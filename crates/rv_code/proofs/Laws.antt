@@ -21,14 +21,16 @@ fitting_word f p = omega (arith, p.opcode, p.rd, p.funct3, p.rs1, p.rs2, p.funct
 
 -- A word that encodes an instruction has 32 bits.
 pub Encodes-below : (w : ℕ) (i : Instr) → Encodes w i → w < 2 ^ 32
-Encodes-below w i h = subst (λ (n : ℕ). n < 2 ^ 32) (sym h.word) (fitting_word (fields_of i) (FitsWord-fields_of i h.in_range))
+Encodes-below w i h = subst (λ (n : ℕ). n < 2 ^ 32) (sym h.word)
+    (fitting_word (fields_of i) (FitsWord-fields_of i h.in_range))
 
 -- An instruction that a word encodes is the word's instruction.
 pub decode_of-encoded : (w : ℕ) (i : Instr) → Encodes w i → decode_of w ≡ Some i
 unfolding decode_of
 decode_of-encoded w i h =
     let whole = word_of-split_of w (Encodes-below w i h) in
-    let same = word_of-injective (split_of w) (fields_of i) (FitsWord-split_of w) (FitsWord-fields_of i h.in_range) (whole ∙ h.word) in
+    let same = word_of-injective (split_of w) (fields_of i) (FitsWord-split_of w) (FitsWord-fields_of i h.in_range)
+    (whole ∙ h.word) in
     ap instr_at same ∙ instr_at-fields_of i h.in_range
 
 registers_below : (i : Instr) → InRange i → AllByRecursion IsRegister (registers_of i)
@@ -55,7 +57,11 @@ pub Encodes-decode_of : (w : ℕ) (i : Instr) → w < 2 ^ 32 → decode_of w ≡
 unfolding decode_of
 Encodes-decode_of w i below e =
     let s = Spells-instr_at (split_of w) i (FitsWord-split_of w) e in
-    record { in_range = s.in_range; word = sym (word_of-split_of w below) ∙ ap (λ (f : Fields). word_of f) (sym s.fields) }
+    record {
+      in_range = s.in_range;
+      word = sym (word_of-split_of w below)
+          ∙ ap (λ (f : Fields). word_of f) (sym s.fields);
+    }
 
 -- `decode_of` is Encoding, read from the word.
 pub decode_of-cases : (w : ℕ) (i : Instr) → w < 2 ^ 32 → (decode_of w ≡ Some i) ↔ Encodes w i
@@ -71,8 +77,10 @@ not-none (Some j) n i e = cc
 
 -- It gives None exactly outside Encoding.
 pub decode_of-none : (w : ℕ) → w < 2 ^ 32 → IsNone (decode_of w) ↔ ((i : Instr) → ¬ Encodes w i)
-decode_of-none w below =
-    (λ n i h. not-none (decode_of w) n i (decode_of-encoded w i h), λ h. none-unless (decode_of w) (λ i e. h i (Encodes-decode_of w i below e)))
+decode_of-none w below = (
+  λ n i h. not-none (decode_of w) n i (decode_of-encoded w i h),
+  λ h. none-unless (decode_of w) (λ i e. h i (Encodes-decode_of w i below e)),
+)
 
 -- A word encodes at most one instruction.
 pub same_instr : (w : ℕ) (i j : Instr) → Encodes w i → Encodes w j → i ≡ j

@@ -13,8 +13,12 @@ use Rattle.rv_instr.specs.declared.ops.RegOp.{RegOp}
 use Rattle.rv_instr.specs.declared.ops.CapImmOp.{CapImmOp}
 use Rattle.rv_instr.specs.declared.ops.CapRegOp.{CapRegOp}
 use Rattle.rv_instr.specs.declared.ops.CapGetOp.{CapGetOp}
-use Rattle.rv_code.specs.Table.{upper_opcode, branch_funct3, load_funct3, store_funct3, imm_opcode, imm_funct3, shift_opcode, shift_high, shift_funct3, reg_opcode, reg_funct7, reg_funct3, cap_imm_funct3, cap_reg_funct7, cap_get_rs2}
-use Rattle.rv_code.specs.Lookup.{upper_ops, upper_named, branch_ops, branch_named, load_ops, load_named, store_ops, store_named, imm_ops, imm_named, shift_ops, shift_named, reg_ops, reg_named, cap_imm_ops, cap_imm_named, cap_reg_ops, cap_reg_named, cap_get_ops, cap_get_named}
+use Rattle.rv_code.specs.Table.{upper_opcode, branch_funct3, load_funct3, store_funct3, imm_opcode, imm_funct3}
+use Rattle.rv_code.specs.Table.{shift_opcode, shift_high, shift_funct3, reg_opcode, reg_funct7, reg_funct3}
+use Rattle.rv_code.specs.Table.{cap_imm_funct3, cap_reg_funct7, cap_get_rs2}
+use Rattle.rv_code.specs.Lookup.{upper_ops, upper_named, branch_ops, branch_named, load_ops, load_named, store_ops}
+use Rattle.rv_code.specs.Lookup.{store_named, imm_ops, imm_named, shift_ops, shift_named, reg_ops, reg_named}
+use Rattle.rv_code.specs.Lookup.{cap_imm_ops, cap_imm_named, cap_reg_ops, cap_reg_named, cap_get_ops, cap_get_named}
 
 -- ---- what is found passes the test
 
@@ -27,7 +31,8 @@ found_passes : {A : Type 0} (test : A → Bool) (xs : List A) (x : A) → find t
 found_passes test [] x e = absurd cc
 found_passes test (y ∷ ys) x e = choice_passes test y (find test ys) x (λ h. found_passes test ys x h) (test y) refl e
 
-field_of : {A : Type 0} (field : A → ℕ) (ops : List A) (n : ℕ) (op : A) → find (λ o. eqb (field o) n) ops ≡ Some op → field op ≡ n
+field_of : {A : Type 0} (field : A → ℕ) (ops : List A) (n : ℕ) (op : A) → find (λ o. eqb (field o) n) ops ≡ Some op →
+    field op ≡ n
 field_of field ops n op e = eqb-true _ _ (found_passes (λ o. eqb (field o) n) ops op e)
 
 -- ---- one field
@@ -55,21 +60,25 @@ cap_get-named rs2 op e = field_of cap_get_rs2 cap_get_ops rs2 op e
 
 -- ---- two fields and three
 
-pub imm-named : (opcode funct3 : ℕ) (op : ImmOp) → imm_named opcode funct3 ≡ Some op → (imm_opcode op ≡ opcode) × (imm_funct3 op ≡ funct3)
+pub imm-named : (opcode funct3 : ℕ) (op : ImmOp) → imm_named opcode funct3 ≡ Some op →
+    (imm_opcode op ≡ opcode) × (imm_funct3 op ≡ funct3)
 imm-named opcode funct3 op e =
-    let t = and_parts _ _ (found_passes (λ (o : ImmOp). eqb (imm_opcode o) opcode && eqb (imm_funct3 o) funct3) imm_ops op e) in
+    let t = and_parts _ _ (found_passes (λ (o : ImmOp). eqb (imm_opcode o) opcode && eqb (imm_funct3 o) funct3) imm_ops
+    op e) in
     (eqb-true _ _ t.0, eqb-true _ _ t.1)
 
 pub shift-named : (opcode high funct3 : ℕ) (op : ShiftOp) → shift_named opcode high funct3 ≡ Some op
     → (shift_opcode op ≡ opcode) × (shift_high op ≡ high) × (shift_funct3 op ≡ funct3)
 shift-named opcode high funct3 op e =
-    let t = and_parts _ _ (found_passes (λ (o : ShiftOp). eqb (shift_opcode o) opcode && eqb (shift_high o) high && eqb (shift_funct3 o) funct3) shift_ops op e) in
+    let t = and_parts _ _ (found_passes (λ (o : ShiftOp). eqb (shift_opcode o) opcode && eqb (shift_high o) high
+    && eqb (shift_funct3 o) funct3) shift_ops op e) in
     let u = and_parts _ _ t.0 in
     (eqb-true _ _ u.0, eqb-true _ _ u.1, eqb-true _ _ t.1)
 
 pub reg-named : (opcode funct7 funct3 : ℕ) (op : RegOp) → reg_named opcode funct7 funct3 ≡ Some op
     → (reg_opcode op ≡ opcode) × (reg_funct7 op ≡ funct7) × (reg_funct3 op ≡ funct3)
 reg-named opcode funct7 funct3 op e =
-    let t = and_parts _ _ (found_passes (λ (o : RegOp). eqb (reg_opcode o) opcode && eqb (reg_funct7 o) funct7 && eqb (reg_funct3 o) funct3) reg_ops op e) in
+    let t = and_parts _ _ (found_passes (λ (o : RegOp). eqb (reg_opcode o) opcode && eqb (reg_funct7 o) funct7
+    && eqb (reg_funct3 o) funct3) reg_ops op e) in
     let u = and_parts _ _ t.0 in
     (eqb-true _ _ u.0, eqb-true _ _ u.1, eqb-true _ _ t.1)

@@ -1,14 +1,17 @@
--- The instruction of a word as a function, for definitions that go from words to instructions, as a machine's step does.
--- It is Encoding read from the word: `decode` ensures so, and `proofs/Laws` has it as lemmas.
-use Rattle.std.specs.Prelude.{ℕ, ℤ, pos, negsuc, suc, ◌+◌, ◌-◌, ◌*◌, ◌^◌, ◌==◌, ◌||◌, ◌&&◌, nat_lt, Option, Some, None, if◌then◌else◌}
+-- The instruction of a word as a function, for definitions that go from words to instructions, as a machine's step
+-- does. It is Encoding read from the word: `decode` ensures so, and `proofs/Laws` has it as lemmas.
+use Rattle.std.specs.Prelude.{ℕ, ℤ, pos, negsuc, suc, ◌+◌, ◌-◌, ◌*◌, ◌^◌, ◌==◌, ◌||◌, ◌&&◌, nat_lt, Option, Some, None}
+use Rattle.std.specs.Prelude.{if◌then◌else◌}
 use Rattle.std.specs.Option.{option_map}
 use Rattle.rv_instr.specs.declared.instr.Instr.{Instr}
-use Rattle.rv_instr.specs.declared.instr.Instr.TheVariants.{Upper, Cjal, Cjalr, Branch, Load, Store, Clc, Imm, Shift, Op, Ecall, Ebreak, CapImm, CapReg, CapGet}
+use Rattle.rv_instr.specs.declared.instr.Instr.TheVariants.{Upper, Cjal, Cjalr, Branch, Load, Store, Clc, Imm, Shift}
+use Rattle.rv_instr.specs.declared.instr.Instr.TheVariants.{Op, Ecall, Ebreak, CapImm, CapReg, CapGet}
 use Rattle.rv_instr.specs.declared.ops.CapImmOp.{CapImmOp}
 use Rattle.rv_instr.specs.declared.ops.CapImmOp.TheVariants.{Cincoffsetimm, Csetboundsimm}
 use Rattle.rv_code.specs.declared.fields.Fields.{Fields}
 use Rattle.rv_code.specs.Formats.{bits}
-use Rattle.rv_code.specs.Lookup.{upper_named, branch_named, load_named, store_named, imm_named, shift_named, reg_named, cap_imm_named, cap_reg_named, cap_get_named}
+use Rattle.rv_code.specs.Lookup.{upper_named, branch_named, load_named, store_named, imm_named, shift_named, reg_named}
+use Rattle.rv_code.specs.Lookup.{cap_imm_named, cap_reg_named, cap_get_named}
 
 -- the number whose two's complement in so many bits is n
 abbrev pub sign_extended : ℕ → ℕ → ℤ
@@ -28,7 +31,8 @@ abbrev pub u_bits : Fields → ℕ
 u_bits f = f.funct7 * 2 ^ 13 + f.rs2 * 2 ^ 8 + f.rs1 * 2 ^ 3 + f.funct3
 
 abbrev pub j_bits : Fields → ℕ
-j_bits f = bits f.funct7 6 6 * 2 ^ 20 + f.rs1 * 2 ^ 15 + f.funct3 * 2 ^ 12 + bits f.rs2 0 0 * 2 ^ 11 + bits f.funct7 5 0 * 2 ^ 5 + bits f.rs2 4 1 * 2
+j_bits f = bits f.funct7 6 6 * 2 ^ 20 + f.rs1 * 2 ^ 15 + f.funct3 * 2 ^ 12 + bits f.rs2 0 0 * 2 ^ 11
+    + bits f.funct7 5 0 * 2 ^ 5 + bits f.rs2 4 1 * 2
 
 -- the instruction that fields make under each opcode
 unfoldable pub upper_at : Fields → Option Instr
@@ -57,7 +61,8 @@ imm_at f = option_map (λ op. Imm op f.rd f.rs1 (sign_extended 12 (i_bits f))) (
 
 -- a count of six bits
 unfoldable pub long_shift_at : Fields → Option Instr
-long_shift_at f = option_map (λ op. Shift op f.rd f.rs1 (bits f.funct7 0 0 * 2 ^ 5 + f.rs2)) (shift_named f.opcode (bits f.funct7 6 1) f.funct3)
+long_shift_at f = option_map (λ op. Shift op f.rd f.rs1 (bits f.funct7 0 0 * 2 ^ 5 + f.rs2))
+    (shift_named f.opcode (bits f.funct7 6 1) f.funct3)
 
 -- a count of five bits
 unfoldable pub word_shift_at : Fields → Option Instr
@@ -112,7 +117,14 @@ instr_at f =
 
 -- the fields of a word
 abbrev pub split_of : ℕ → Fields
-split_of w = record { opcode = bits w 6 0; rd = bits w 11 7; funct3 = bits w 14 12; rs1 = bits w 19 15; rs2 = bits w 24 20; funct7 = bits w 31 25 }
+split_of w = record {
+  opcode = bits w 6 0;
+  rd = bits w 11 7;
+  funct3 = bits w 14 12;
+  rs1 = bits w 19 15;
+  rs2 = bits w 24 20;
+  funct7 = bits w 31 25;
+}
 
 -- the instruction of a word, and None where the table has none
 unfoldable pub decode_of : ℕ → Option Instr

@@ -14,14 +14,20 @@ use Rattle.rv_instr.specs.declared.ops.ImmOp.TheVariants.{Addi, Slti, Sltiu, Xor
 use Rattle.rv_instr.specs.declared.ops.ShiftOp.{ShiftOp}
 use Rattle.rv_instr.specs.declared.ops.ShiftOp.TheVariants.{Slli, Srli, Srai, Slliw, Srliw, Sraiw}
 use Rattle.rv_instr.specs.declared.ops.RegOp.{RegOp}
-use Rattle.rv_instr.specs.declared.ops.RegOp.TheVariants.{Add, Sll, Slt, Sltu, Xor, Srl, Or, And, Sub, Sra, Mul, Div, Divu, Rem, Remu, Addw, Sllw, Srlw, Subw, Sraw, Mulw, Divw, Divuw, Remw, Remuw}
+use Rattle.rv_instr.specs.declared.ops.RegOp.TheVariants.{Add, Sll, Slt, Sltu, Xor, Srl, Or, And, Sub, Sra, Mul, Div}
+use Rattle.rv_instr.specs.declared.ops.RegOp.TheVariants.{Divu, Rem, Remu, Addw, Sllw, Srlw, Subw, Sraw, Mulw, Divw}
+use Rattle.rv_instr.specs.declared.ops.RegOp.TheVariants.{Divuw, Remw, Remuw}
 use Rattle.rv_instr.specs.declared.ops.CapImmOp.{CapImmOp}
 use Rattle.rv_instr.specs.declared.ops.CapImmOp.TheVariants.{Cincoffsetimm, Csetboundsimm}
 use Rattle.rv_instr.specs.declared.ops.CapRegOp.{CapRegOp}
-use Rattle.rv_instr.specs.declared.ops.CapRegOp.TheVariants.{Csetbounds, Csetboundsexact, Candperm, Csetaddr, Cincoffset, Csetequalexact}
+use Rattle.rv_instr.specs.declared.ops.CapRegOp.TheVariants.{Csetbounds, Csetboundsexact, Candperm, Csetaddr}
+use Rattle.rv_instr.specs.declared.ops.CapRegOp.TheVariants.{Cincoffset, Csetequalexact}
 use Rattle.rv_instr.specs.declared.ops.CapGetOp.{CapGetOp}
-use Rattle.rv_instr.specs.declared.ops.CapGetOp.TheVariants.{Cgetperm, Cgetbase, Cgetlen, Cgettag, Cgetoffset, Crrl, Cram, Cmove, Ccleartag, Cgetaddr, Csealentry}
-use Rattle.rv_code.specs.Table.{upper_opcode, branch_funct3, load_funct3, store_funct3, imm_opcode, imm_funct3, shift_opcode, shift_high, shift_funct3, reg_opcode, reg_funct7, reg_funct3, cap_imm_funct3, cap_reg_funct7, cap_get_rs2}
+use Rattle.rv_instr.specs.declared.ops.CapGetOp.TheVariants.{Cgetperm, Cgetbase, Cgetlen, Cgettag, Cgetoffset, Crrl}
+use Rattle.rv_instr.specs.declared.ops.CapGetOp.TheVariants.{Cram, Cmove, Ccleartag, Cgetaddr, Csealentry}
+use Rattle.rv_code.specs.Table.{upper_opcode, branch_funct3, load_funct3, store_funct3, imm_opcode, imm_funct3}
+use Rattle.rv_code.specs.Table.{shift_opcode, shift_high, shift_funct3, reg_opcode, reg_funct7, reg_funct3}
+use Rattle.rv_code.specs.Table.{cap_imm_funct3, cap_reg_funct7, cap_get_rs2}
 
 abbrev pub upper_ops : List UpperOp
 upper_ops = Lui ∷ Auipcc ∷ []
@@ -57,13 +63,16 @@ abbrev pub shift_ops : List ShiftOp
 shift_ops = Slli ∷ Srli ∷ Srai ∷ Slliw ∷ Srliw ∷ Sraiw ∷ []
 
 abbrev pub shift_named : ℕ → ℕ → ℕ → Option ShiftOp
-shift_named opcode high funct3 = find (λ op. (shift_opcode op == opcode) && (shift_high op == high) && (shift_funct3 op == funct3)) shift_ops
+shift_named opcode high funct3 =
+    find (λ op. (shift_opcode op == opcode) && (shift_high op == high) && (shift_funct3 op == funct3)) shift_ops
 
 abbrev pub reg_ops : List RegOp
-reg_ops = Add ∷ Sll ∷ Slt ∷ Sltu ∷ Xor ∷ Srl ∷ Or ∷ And ∷ Sub ∷ Sra ∷ Mul ∷ Div ∷ Divu ∷ Rem ∷ Remu ∷ Addw ∷ Sllw ∷ Srlw ∷ Subw ∷ Sraw ∷ Mulw ∷ Divw ∷ Divuw ∷ Remw ∷ Remuw ∷ []
+reg_ops = Add ∷ Sll ∷ Slt ∷ Sltu ∷ Xor ∷ Srl ∷ Or ∷ And ∷ Sub ∷ Sra ∷ Mul ∷ Div ∷ Divu ∷ Rem ∷ Remu ∷ Addw ∷ Sllw ∷ Srlw
+    ∷ Subw ∷ Sraw ∷ Mulw ∷ Divw ∷ Divuw ∷ Remw ∷ Remuw ∷ []
 
 abbrev pub reg_named : ℕ → ℕ → ℕ → Option RegOp
-reg_named opcode funct7 funct3 = find (λ op. (reg_opcode op == opcode) && (reg_funct7 op == funct7) && (reg_funct3 op == funct3)) reg_ops
+reg_named opcode funct7 funct3 =
+    find (λ op. (reg_opcode op == opcode) && (reg_funct7 op == funct7) && (reg_funct3 op == funct3)) reg_ops
 
 abbrev pub cap_imm_ops : List CapImmOp
 cap_imm_ops = Cincoffsetimm ∷ Csetboundsimm ∷ []
@@ -78,7 +87,8 @@ abbrev pub cap_reg_named : ℕ → Option CapRegOp
 cap_reg_named funct7 = find (λ op. cap_reg_funct7 op == funct7) cap_reg_ops
 
 abbrev pub cap_get_ops : List CapGetOp
-cap_get_ops = Cgetperm ∷ Cgetbase ∷ Cgetlen ∷ Cgettag ∷ Cgetoffset ∷ Crrl ∷ Cram ∷ Cmove ∷ Ccleartag ∷ Cgetaddr ∷ Csealentry ∷ []
+cap_get_ops = Cgetperm ∷ Cgetbase ∷ Cgetlen ∷ Cgettag ∷ Cgetoffset ∷ Crrl ∷ Cram ∷ Cmove ∷ Ccleartag ∷ Cgetaddr
+    ∷ Csealentry ∷ []
 
 abbrev pub cap_get_named : ℕ → Option CapGetOp
 cap_get_named rs2 = find (λ op. cap_get_rs2 op == rs2) cap_get_ops

@@ -1,5 +1,5 @@
--- The fixed fields of each row of the instruction table (RISC-V unprivileged ISA, "RV32/64G Instruction Set Listings"; CHERI ISAv9, CHERI-RISC-V
--- instruction encodings).
+-- The fixed fields of each row of the instruction table (RISC-V unprivileged ISA, "RV32/64G Instruction Set Listings";
+-- CHERI ISAv9, CHERI-RISC-V instruction encodings).
 use Rattle.std.specs.Prelude.{ℕ}
 use Rattle.rv_instr.specs.declared.ops.UpperOp.{UpperOp}
 use Rattle.rv_instr.specs.declared.ops.UpperOp.TheVariants.{Lui, Auipcc}
@@ -14,13 +14,17 @@ use Rattle.rv_instr.specs.declared.ops.ImmOp.TheVariants.{Addi, Slti, Sltiu, Xor
 use Rattle.rv_instr.specs.declared.ops.ShiftOp.{ShiftOp}
 use Rattle.rv_instr.specs.declared.ops.ShiftOp.TheVariants.{Slli, Srli, Srai, Slliw, Srliw, Sraiw}
 use Rattle.rv_instr.specs.declared.ops.RegOp.{RegOp}
-use Rattle.rv_instr.specs.declared.ops.RegOp.TheVariants.{Add, Sll, Slt, Sltu, Xor, Srl, Or, And, Sub, Sra, Mul, Div, Divu, Rem, Remu, Addw, Sllw, Srlw, Subw, Sraw, Mulw, Divw, Divuw, Remw, Remuw}
+use Rattle.rv_instr.specs.declared.ops.RegOp.TheVariants.{Add, Sll, Slt, Sltu, Xor, Srl, Or, And, Sub, Sra, Mul, Div}
+use Rattle.rv_instr.specs.declared.ops.RegOp.TheVariants.{Divu, Rem, Remu, Addw, Sllw, Srlw, Subw, Sraw, Mulw, Divw}
+use Rattle.rv_instr.specs.declared.ops.RegOp.TheVariants.{Divuw, Remw, Remuw}
 use Rattle.rv_instr.specs.declared.ops.CapImmOp.{CapImmOp}
 use Rattle.rv_instr.specs.declared.ops.CapImmOp.TheVariants.{Cincoffsetimm, Csetboundsimm}
 use Rattle.rv_instr.specs.declared.ops.CapRegOp.{CapRegOp}
-use Rattle.rv_instr.specs.declared.ops.CapRegOp.TheVariants.{Csetbounds, Csetboundsexact, Candperm, Csetaddr, Cincoffset, Csetequalexact}
+use Rattle.rv_instr.specs.declared.ops.CapRegOp.TheVariants.{Csetbounds, Csetboundsexact, Candperm, Csetaddr}
+use Rattle.rv_instr.specs.declared.ops.CapRegOp.TheVariants.{Cincoffset, Csetequalexact}
 use Rattle.rv_instr.specs.declared.ops.CapGetOp.{CapGetOp}
-use Rattle.rv_instr.specs.declared.ops.CapGetOp.TheVariants.{Cgetperm, Cgetbase, Cgetlen, Cgettag, Cgetoffset, Crrl, Cram, Cmove, Ccleartag, Cgetaddr, Csealentry}
+use Rattle.rv_instr.specs.declared.ops.CapGetOp.TheVariants.{Cgetperm, Cgetbase, Cgetlen, Cgettag, Cgetoffset, Crrl}
+use Rattle.rv_instr.specs.declared.ops.CapGetOp.TheVariants.{Cram, Cmove, Ccleartag, Cgetaddr, Csealentry}
 
 -- format U: the opcode
 abbrev pub upper_opcode : UpperOp → ℕ

@@ -1,8 +1,10 @@
 //! The rows of the instruction table: the fixed fields of each instruction's word, and back.
 
 ghost use Rattle.std.specs.Prelude.{◌≡◌};
-ghost use Rattle.rv_code.specs.Table.{upper_opcode, branch_funct3, load_funct3, store_funct3, imm_row, shift_row, reg_row, cap_imm_funct3, cap_reg_funct7, cap_get_rs2};
-ghost use Rattle.rv_code.specs.Lookup.{upper_named, branch_named, load_named, store_named, imm_named, shift_named, reg_named, cap_imm_named, cap_reg_named, cap_get_named};
+ghost use Rattle.rv_code.specs.Table.{upper_opcode, branch_funct3, load_funct3, store_funct3, imm_row, shift_row};
+ghost use Rattle.rv_code.specs.Table.{reg_row, cap_imm_funct3, cap_reg_funct7, cap_get_rs2};
+ghost use Rattle.rv_code.specs.Lookup.{upper_named, branch_named, load_named, store_named, imm_named, shift_named};
+ghost use Rattle.rv_code.specs.Lookup.{reg_named, cap_imm_named, cap_reg_named, cap_get_named};
 
 use rv_instr::{
     BranchOp, CapGetOp, CapImmOp, CapRegOp, ImmOp, LoadOp, RegOp, ShiftOp, StoreOp, UpperOp,

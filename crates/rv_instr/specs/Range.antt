@@ -1,8 +1,10 @@
 -- What the fields of an instruction can hold: the widths of registers, immediates and counts in an instruction word
--- (RISC-V unprivileged ISA, RV32I "Base Instruction Formats" and "Immediate Encoding Variants", RV64I "Integer Register-Immediate Instructions").
+-- (RISC-V unprivileged ISA, RV32I "Base Instruction Formats" and "Immediate Encoding Variants", RV64I "Integer
+-- Register-Immediate Instructions").
 use Rattle.std.specs.Prelude.{◌≡◌, ℕ, ℤ, pos, ◌-◌, ◌^◌, ◌<◌, ◌≤ℤ◌, ◌<ℤ◌, neg_ℤ, int_rem, List, [], ◌∷◌}
 use Rattle.rv_instr.specs.declared.instr.Instr.{Instr}
-use Rattle.rv_instr.specs.declared.instr.Instr.TheVariants.{Upper, Cjal, Cjalr, Branch, Load, Store, Clc, Imm, Shift, Op, Ecall, Ebreak, CapImm, CapReg, CapGet}
+use Rattle.rv_instr.specs.declared.instr.Instr.TheVariants.{Upper, Cjal, Cjalr, Branch, Load, Store, Clc, Imm, Shift}
+use Rattle.rv_instr.specs.declared.instr.Instr.TheVariants.{Op, Ecall, Ebreak, CapImm, CapReg, CapGet}
 use Rattle.rv_instr.specs.declared.ops.ShiftOp.{ShiftOp}
 use Rattle.rv_instr.specs.declared.ops.ShiftOp.TheVariants.{Slli, Srli, Srai, Slliw, Srliw, Sraiw}
 use Rattle.rv_instr.specs.declared.ops.CapImmOp.{CapImmOp}

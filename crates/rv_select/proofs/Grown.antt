@@ -1,6 +1,7 @@
 -- The code stays what it is as words, lines, labels and entries are added and jumps are led.
 use mir.Val.{SFits}
-use Rattle.std.proofs.Common.{◌≡◌, ℕ, zero, suc, ◌+◌, ◌*◌, ◌/◌, ◌<◌, ◌≤◌, ℤ, pos, negsuc, true, List, [], ◌∷◌, ◌++◌, length, get_or, to_z, of_z, w32, Some, refl, sym, ap, ◌∙◌, subst, arith}
+use Rattle.std.proofs.Common.{◌≡◌, ℕ, zero, suc, ◌+◌, ◌*◌, ◌/◌, ◌<◌, ◌≤◌, ℤ, pos, negsuc, true, List, [], ◌∷◌, ◌++◌}
+use Rattle.std.proofs.Common.{length, get_or, to_z, of_z, w32, Some, refl, sym, ap, ◌∙◌, subst, arith}
 use Rattle.std.specs.Prelude.{◌+ℤ◌, slice_get}
 use Rattle.std.specs.List.{All}
 use Rattle.std.proofs.lemmas.Int.{ints, to_z-of_z}
@@ -19,8 +20,10 @@ use Rattle.purecap_abi.specs.Words.{IsPlainWord}
 use Rattle.rv_select.specs.declared.jumps.Mark.{Mark}
 use Rattle.rv_select.specs.ContainedCode.{offset_of, IsTarget, IsEntry, AreContained, IsContainedCode}
 use Rattle.rv_select.specs.Growing.{IsText, AreEntries}
-use Rattle.rv_select.specs.Leading.{AreSound, IsSoFar, AreMarks, AreEntered, AreTargets, IsGrowing, IsStill, IsLed, IsMarked, AreLed}
-use Rattle.rv_select.proofs.Contained.{all_get, contained_plain, contained_still, contained_service, sets_one, contained_append, contained_led, no_first, target_left, target_led}
+use Rattle.rv_select.specs.Leading.{AreSound, IsSoFar, AreMarks, AreEntered, AreTargets, IsGrowing, IsStill, IsLed}
+use Rattle.rv_select.specs.Leading.{IsMarked, AreLed}
+use Rattle.rv_select.proofs.Contained.{all_get, contained_plain, contained_still, contained_service, sets_one}
+use Rattle.rv_select.proofs.Contained.{contained_append, contained_led, no_first, target_left, target_led}
 use Rattle.rv_select.proofs.Entries.{entries_more, entries_push}
 use Rattle.rv_select.proofs.Texts.{lines_more, lines_add}
 

@@ -34,7 +34,8 @@ struct Placed {
 
 /// How one of the first eight arguments comes to its register.
 fn place_argument(f: &Function<'_>, all: &mut Placed, to: Reg, temp: u32) -> Result<(), NoMemory>
-    ensures { OnOk result (vec_len all.new.moves + vec_len all.new.others ≡ vec_len all.old.moves + vec_len all.old.others + 1) }
+    ensures { OnOk result (vec_len all.new.moves + vec_len all.new.others
+        ≡ vec_len all.old.moves + vec_len all.old.others + 1) }
 {
     match f.place(temp) {
         Place::Register(from) if is_argument(from) => all.moves.push(Move {

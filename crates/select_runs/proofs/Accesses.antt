@@ -1,5 +1,6 @@
 -- Loads and stores: what they mean, the machine does.
-use Rattle.std.proofs.Common.{◌≡◌, ℕ, zero, suc, ◌+◌, ◌^◌, ◌<◌, ◌≤◌, pos, Bool, true, false, List, [], ◌∷◌, ◌++◌, length, Some, refl, sym, ap, ◌∙◌, subst, arith}
+use Rattle.std.proofs.Common.{◌≡◌, ℕ, zero, suc, ◌+◌, ◌^◌, ◌<◌, ◌≤◌, pos, Bool, true, false, List, [], ◌∷◌, ◌++◌}
+use Rattle.std.proofs.Common.{length, Some, refl, sym, ap, ◌∙◌, subst, arith}
 use Rattle.std.specs.Prelude.{slice_get, slice_set, Result, Ok, Err}
 use Rattle.std.proofs.lemmas.Bool.{and_parts}
 use Rattle.std.proofs.lemmas.List.{length-append}
@@ -59,7 +60,8 @@ use Rattle.place_inject.proofs.Loading.{loads_fit_law}
 use Rattle.place_inject.proofs.Results.{moves_on_law}
 use Rattle.place_inject.proofs.StoresKeep.{stores_keep_law}
 use Rattle.select_runs.specs.Acts.{HasAt, Leads, counter_at, place}
-use Rattle.select_runs.specs.Accesses.{load_op, store_op, load_words, Loads, StoreWords, AccessesRun, Accesses, Goes, Stops, Leaves}
+use Rattle.select_runs.specs.Accesses.{load_op, store_op, load_words, Loads, StoreWords, AccessesRun, Accesses, Goes}
+use Rattle.select_runs.specs.Accesses.{Stops, Leaves}
 use Rattle.select_runs.specs.Forms.{OfOne}
 use Rattle.select_runs.specs.Kinds.{IsOfKind, AreOfKinds}
 use Rattle.select_runs.specs.Operands.{ground_of, IsText, IsAtPoint}

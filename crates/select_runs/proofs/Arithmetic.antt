@@ -1,8 +1,10 @@
 -- What single instructions compute, in words of the arithmetic of kinds.
-use Rattle.std.proofs.Common.{◌≡◌, ℕ, ◌+◌, ◌-◌, ◌*◌, ◌/◌, ◌%◌, ◌^◌, ◌<◌, ◌≤◌, ◌⊎◌, inl, inr, pos, Bool, true, false, Option, Some, None, refl, sym, ap, ◌∙◌, subst, arith, ⊎_elim}
+use Rattle.std.proofs.Common.{◌≡◌, ℕ, ◌+◌, ◌-◌, ◌*◌, ◌/◌, ◌%◌, ◌^◌, ◌<◌, ◌≤◌, ◌⊎◌, inl, inr, pos, Bool, true, false}
+use Rattle.std.proofs.Common.{Option, Some, None, refl, sym, ap, ◌∙◌, subst, arith, ⊎_elim}
 use Rattle.std.specs.Prelude.{bit_and, bit_or, bit_xor}
 use Rattle.std.proofs.lemmas.Bool.{cases_lt, cases_eq}
-use Rattle.std.proofs.lemmas.Nat.{and_shr, or_shr, xor_shr, and_le_l, and_comm, or_comm, xor_comm, and_mask, or_lt, xor_lt}
+use Rattle.std.proofs.lemmas.Nat.{and_shr, or_shr, xor_shr, and_le_l, and_comm, or_comm, xor_comm, and_mask, or_lt}
+use Rattle.std.proofs.lemmas.Nat.{xor_lt}
 use Rattle.std.proofs.Math.Nat.{mod-lt, mod-le, div-le_self, mul_comm}
 use Rattle.std.proofs.Math.Pow.{pow-lt}
 use Rattle.std.specs.Int.{int_div_euclid}
@@ -14,8 +16,11 @@ use Rattle.ck_int.specs.Arithmetic.{binary_of, promoted_width_of}
 use Rattle.ck_int.specs.Kinds.{form_of, width_of, unsigned, IsKept, reduced, kept_of, wrapped, converted}
 use Rattle.ck_int.specs.Words.{word_of, word_result_of}
 use Rattle.ck_int.proofs.Laws.{IsKept-below, IsKept-unsigned, IsKept-unsigned_below, wrapped-below}
-use Rattle.ck_int.proofs.OperationLaws.{binary_of-narrower, binary_of-Add, binary_of-Sub, binary_of-Mul, binary_of-Shl, IsKept-64}
-use Rattle.ck_int.proofs.WordLaws.{binary_of-word, word_result_of-Add, word_result_of-Mul, word_result_of-And, word_result_of-Or, word_result_of-Xor, word_result_of-Shl, word_result_of-Shr, word_result_of-Rem, unsigned_remainder, remainder-zero, unsigned_shift, kept_of-pos}
+use Rattle.ck_int.proofs.OperationLaws.{binary_of-narrower, binary_of-Add, binary_of-Sub, binary_of-Mul, binary_of-Shl}
+use Rattle.ck_int.proofs.OperationLaws.{IsKept-64}
+use Rattle.ck_int.proofs.WordLaws.{binary_of-word, word_result_of-Add, word_result_of-Mul, word_result_of-And}
+use Rattle.ck_int.proofs.WordLaws.{word_result_of-Or, word_result_of-Xor, word_result_of-Shl, word_result_of-Shr}
+use Rattle.ck_int.proofs.WordLaws.{word_result_of-Rem, unsigned_remainder, remainder-zero, unsigned_shift, kept_of-pos}
 use Rattle.rv_instr.specs.declared.ops.RegOp.{RegOp}
 use Rattle.rv_instr.specs.declared.ops.RegOp.TheVariants as regs
 use Rattle.rv_instr.specs.declared.ops.ImmOp.{ImmOp}

@@ -1,5 +1,7 @@
 -- Comparisons: what they mean, the machine computes.
-use Rattle.std.proofs.Common.{◌≡◌, ℕ, zero, suc, ◌+◌, ◌-◌, ◌%◌, ◌^◌, ◌<◌, ◌≤◌, ◌⊎◌, inl, inr, ℤ, pos, negsuc, Bool, true, false, not, ◌&&◌, List, [], ◌∷◌, length, Option, Some, None, refl, sym, ap, ◌∙◌, subst, arith, ⊎_elim, if◌then◌else◌}
+use Rattle.std.proofs.Common.{◌≡◌, ℕ, zero, suc, ◌+◌, ◌-◌, ◌%◌, ◌^◌, ◌<◌, ◌≤◌, ◌⊎◌, inl, inr, ℤ, pos, negsuc, Bool}
+use Rattle.std.proofs.Common.{true, false, not, ◌&&◌, List, [], ◌∷◌, length, Option, Some, None, refl, sym, ap, ◌∙◌}
+use Rattle.std.proofs.Common.{subst, arith, ⊎_elim, if◌then◌else◌}
 use Rattle.std.specs.Prelude.{slice_set, ◌==◌, bit_xor, Ok}
 use Rattle.std.specs.Int.Bits.{xor_assoc, xor_self, xor_zero_r}
 use Rattle.std.proofs.lemmas.Bool.{and_parts, cases_lt, eq-eqb, ne_eqb, cases_eq}
@@ -14,7 +16,8 @@ use Rattle.ck_int.specs.declared.kinds.CmpOp.TheVariants as test
 use Rattle.ck_int.specs.Arithmetic.{compare_of}
 use Rattle.ck_int.specs.Kinds.{form_of, is_signed, twos_complement, IsKept, kept_of, reduced, value_of, wrapped}
 use Rattle.ck_int.proofs.Forms.{twos_complement-low, twos_complement-high}
-use Rattle.ck_int.proofs.OperationLaws.{compare_of-kept, compare_of-Eq_kept, compare_of-Gt, compare_of-Ge, compare_of-Le, compare_of-Ne, word_kind}
+use Rattle.ck_int.proofs.OperationLaws.{compare_of-kept, compare_of-Eq_kept, compare_of-Gt, compare_of-Ge}
+use Rattle.ck_int.proofs.OperationLaws.{compare_of-Le, compare_of-Ne, word_kind}
 use Rattle.cap_ops.specs.declared.capability.Cap.{Cap}
 use Rattle.cap_ops.specs.Capability.{null_at}
 use Rattle.rv_instr.specs.declared.instr.Instr.{Instr}
@@ -54,7 +57,8 @@ use Rattle.select_runs.specs.Emitted.{IsNumber}
 use Rattle.select_runs.specs.Forms.{Other}
 use Rattle.select_runs.specs.Instructions.{ComparisonsRun}
 use Rattle.select_runs.specs.Kinds.{IsOfKind, AreOfKinds}
-use Rattle.select_runs.specs.Operations.{compares_signed, compare_code, compare_number, compare_zero, less_number, turn_round, ComparisonWords, Both, Number, Zero}
+use Rattle.select_runs.specs.Operations.{compares_signed, compare_code, compare_number, compare_zero, less_number}
+use Rattle.select_runs.specs.Operations.{turn_round, ComparisonWords, Both, Number, Zero}
 use Rattle.select_runs.specs.Operations as forms
 use Rattle.select_runs.specs.Operands.{IsText, IsAtPoint}
 use Rattle.select_runs.specs.Results.{Computed, Arrives, before, behind, kinds_in, code_in, IsSelectable}

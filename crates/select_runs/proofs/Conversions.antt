@@ -1,12 +1,14 @@
 -- Conversions between kinds: what they mean, the machine computes.
-use Rattle.std.proofs.Common.{◌≡◌, ℕ, zero, ◌+◌, ◌^◌, ◌<◌, ◌≤◌, ℤ, pos, Bool, true, false, not, ◌&&◌, List, [], ◌∷◌, length, Some, refl, sym, ap, ◌∙◌, subst, arith, if◌then◌else◌}
+use Rattle.std.proofs.Common.{◌≡◌, ℕ, zero, ◌+◌, ◌^◌, ◌<◌, ◌≤◌, ℤ, pos, Bool, true, false, not, ◌&&◌, List, [], ◌∷◌}
+use Rattle.std.proofs.Common.{length, Some, refl, sym, ap, ◌∙◌, subst, arith, if◌then◌else◌}
 use Rattle.std.specs.Prelude.{slice_get, slice_set, ◌==◌, Ok}
 use Rattle.std.proofs.lemmas.Bool.{and_parts}
 use Rattle.std.proofs.lemmas.Int.{ints}
 use Rattle.ck_int.specs.declared.kinds.IntKind.{IntKind}
 use Rattle.ck_int.specs.declared.kinds.IntKind.TheVariants as int
 use Rattle.ck_int.specs.Kinds.{form_of, width_of, Represents, IsKept, kept_of, reduced, value_of, wrapped, converted}
-use Rattle.ck_int.proofs.Laws.{Represents-value_of, reduced-represented, IsKept-below, IsKept-converted, IsKept-wrapped, wrapped-below, wrapped-kept_of}
+use Rattle.ck_int.proofs.Laws.{Represents-value_of, reduced-represented, IsKept-below, IsKept-converted, IsKept-wrapped}
+use Rattle.ck_int.proofs.Laws.{wrapped-below, wrapped-kept_of}
 use Rattle.ck_int.proofs.OperationLaws.{IsKept-64, compare_of-Eq_kept, converted-Bool}
 use Rattle.cap_ops.specs.declared.capability.Cap.{Cap}
 use Rattle.cap_ops.specs.Capability.{null_at}
@@ -29,7 +31,8 @@ use Rattle.cheri_c_sem.specs.Modes as modes
 use Rattle.cheri_c_sem.specs.Modes.{operations, placed_plan}
 use Rattle.cheri_c_sem.specs.Operations.{convert_by}
 use Rattle.cheri_c_sem.specs.Steps.{State, answer}
-use Rattle.int_select.proofs.Numbers.{is_some, small_extended, word_reduced, reduce_8, reduce_16, reduce_unsigned, reduce_truth}
+use Rattle.int_select.proofs.Numbers.{is_some, small_extended, word_reduced, reduce_8, reduce_16, reduce_unsigned}
+use Rattle.int_select.proofs.Numbers.{reduce_truth}
 use Rattle.tac_ir.specs.Costs.{conversion_cost, is_wide}
 use Rattle.tac_ir.specs.Effects.{kind_of, kind_at, temp_in, no_position, set as set_temp}
 use Rattle.tac_ir.specs.Meaning.{Running}

@@ -1,5 +1,6 @@
 -- Operations on integers: what they mean, the machine computes.
-use Rattle.std.proofs.Common.{◌≡◌, ℕ, zero, suc, ◌+◌, ◌%◌, ◌^◌, ◌<◌, ◌≤◌, Bool, true, false, ◌&&◌, List, [], ◌∷◌, length, Some, refl, sym, ap, ◌∙◌, subst, arith, if◌then◌else◌}
+use Rattle.std.proofs.Common.{◌≡◌, ℕ, zero, suc, ◌+◌, ◌%◌, ◌^◌, ◌<◌, ◌≤◌, Bool, true, false, ◌&&◌, List, [], ◌∷◌}
+use Rattle.std.proofs.Common.{length, Some, refl, sym, ap, ◌∙◌, subst, arith, if◌then◌else◌}
 use Rattle.std.specs.Prelude.{slice_set, Ok}
 use Rattle.std.proofs.lemmas.Bool.{and_parts, ltb-true}
 use Rattle.ck_base.specs.World.{World}
@@ -49,14 +50,18 @@ use Rattle.select_runs.specs.Emitted.{IsNumber}
 use Rattle.select_runs.specs.Forms.{OfOne, Other}
 use Rattle.select_runs.specs.Instructions.{OperationsRun}
 use Rattle.select_runs.specs.Kinds.{IsOfKind, AreOfKinds}
-use Rattle.select_runs.specs.Operations.{is_exact, finish_code, selected_op, add_op, shift_by, OneThen, TwoThen, IntegerWords, Registers, WithNumber, NumberWith, LessNumber, Shifted, Times, TimesFirst}
+use Rattle.select_runs.specs.Operations.{is_exact, finish_code, selected_op, add_op, shift_by, OneThen, TwoThen}
+use Rattle.select_runs.specs.Operations.{IntegerWords, Registers, WithNumber, NumberWith, LessNumber, Shifted, Times}
+use Rattle.select_runs.specs.Operations.{TimesFirst}
 use Rattle.select_runs.specs.Operands.{IsText, IsAtPoint}
 use Rattle.select_runs.specs.Results.{Computed, Arrives, before, behind, kinds_in, code_in, IsSelectable}
-use Rattle.select_runs.proofs.Arithmetic.{Gives, registers_give, immediate_is, no_shift, commutes, less_is, shift_gives, times_is, product_turns}
+use Rattle.select_runs.proofs.Arithmetic.{Gives, registers_give, immediate_is, no_shift, commutes, less_is, shift_gives}
+use Rattle.select_runs.proofs.Arithmetic.{times_is, product_turns}
 use Rattle.select_runs.proofs.Kinded.{kind_passes, same_turned, kinded_set, has_kind}
 use Rattle.select_runs.proofs.Numbers.{null_address}
 use Rattle.select_runs.proofs.Intrinsics.{same_int}
-use Rattle.select_runs.proofs.Working.{integer_of, integer_bits, first_word, next_word, within, of_one, of_two, other_comes}
+use Rattle.select_runs.proofs.Working.{integer_of, integer_bits, first_word, next_word, within, of_one, of_two}
+use Rattle.select_runs.proofs.Working.{other_comes}
 
 -- ---- integers in registers
 

@@ -1,5 +1,6 @@
 -- What is asked of capabilities and lengths, and made of them: the machine does it.
-use Rattle.std.proofs.Common.{◌≡◌, ℕ, zero, suc, ◌+◌, ◌-◌, ◌%◌, ◌^◌, ◌<◌, ◌≤◌, Bool, true, false, ◌||◌, List, ◌∷◌, length, Option, Some, None, refl, sym, ap, ◌∙◌, subst, arith, inl, inr, ◌⊎◌, ⊎_elim}
+use Rattle.std.proofs.Common.{◌≡◌, ℕ, zero, suc, ◌+◌, ◌-◌, ◌%◌, ◌^◌, ◌<◌, ◌≤◌, Bool, true, false, ◌||◌, List, ◌∷◌}
+use Rattle.std.proofs.Common.{length, Option, Some, None, refl, sym, ap, ◌∙◌, subst, arith, inl, inr, ◌⊎◌, ⊎_elim}
 use Rattle.std.specs.Prelude.{slice_set, Result, Ok, Err}
 use Rattle.std.proofs.lemmas.Bool.{and_parts, ltb-true}
 use Rattle.ck_base.specs.World.{World}
@@ -17,7 +18,8 @@ use Rattle.rv_instr.specs.declared.instr.Instr.TheVariants.{CapReg, CapGet}
 use Rattle.rv_instr.specs.declared.ops.CapRegOp.{CapRegOp}
 use Rattle.rv_instr.specs.declared.ops.CapRegOp.TheVariants.{Candperm, Csetaddr, Csetequalexact}
 use Rattle.rv_instr.specs.declared.ops.CapGetOp.{CapGetOp}
-use Rattle.rv_instr.specs.declared.ops.CapGetOp.TheVariants.{Cgetperm, Cgetbase, Cgetlen, Cgettag, Cgetoffset, Crrl, Cram, Ccleartag}
+use Rattle.rv_instr.specs.declared.ops.CapGetOp.TheVariants.{Cgetperm, Cgetbase, Cgetlen, Cgettag, Cgetoffset, Crrl}
+use Rattle.rv_instr.specs.declared.ops.CapGetOp.TheVariants.{Cram, Ccleartag}
 use Rattle.cap_machine.specs.declared.machine.Machine.{Machine}
 use Rattle.cap_machine.specs.Integers.{one_where}
 use Rattle.cap_machine.specs.State.{register, integer}

@@ -1,5 +1,6 @@
 -- Temps stay of their kinds.
-use Rattle.std.proofs.Common.{◌≡◌, ℕ, zero, suc, ◌^◌, ◌<◌, true, false, List, [], ◌∷◌, length, Option, Some, refl, sym, ap, ◌∙◌, subst, arith, inl, inr}
+use Rattle.std.proofs.Common.{◌≡◌, ℕ, zero, suc, ◌^◌, ◌<◌, true, false, List, [], ◌∷◌, length, Option, Some, refl, sym}
+use Rattle.std.proofs.Common.{ap, ◌∙◌, subst, arith, inl, inr}
 use Rattle.std.specs.Prelude.{slice_get, slice_set}
 use Rattle.std.proofs.lemmas.Bool.{and_parts, eqb-true, eq-eqb, ltb-true, cases_eq}
 use Rattle.std.proofs.lemmas.List.{length-set}
@@ -102,7 +103,8 @@ kinded_set kinds vars to v h below own =
           (Some v)) t))) [
             | inl e ↦ subst (λ i. IsOfKind (kind_at kinds i) (held (slice_get (slice_set vars to (Some v)) i))) (sym e)
                 (subst (λ o. IsOfKind (kind_at kinds to) (held o)) (sym (got_same vars to (Some v) (omega arith))) own)
-            | inr ne ↦ subst (λ o. IsOfKind (kind_at kinds t) (held o)) (sym (got_other vars to t (Some v) ne)) (h.each t l)
+            | inr ne ↦ subst (λ o. IsOfKind (kind_at kinds t) (held o)) (sym (got_other vars to t (Some v) ne))
+                (h.each t l)
           ];
     }
 

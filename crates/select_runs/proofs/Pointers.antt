@@ -1,6 +1,8 @@
 -- Pointers to objects and functions: what they are in the meaning, the machine makes of the stack's capability or
 -- reads from the table.
-use Rattle.std.proofs.Common.{◌≡◌, ℕ, zero, suc, ◌+◌, ◌-◌, ◌*◌, ◌%◌, ◌^◌, ◌<◌, ◌≤◌, ℤ, pos, Bool, true, false, List, [], ◌∷◌, ◌++◌, length, map, Option, Some, None, refl, sym, ap, ◌∙◌, subst, arith, inl, if◌then◌else◌}
+use Rattle.std.proofs.Common.{◌≡◌, ℕ, zero, suc, ◌+◌, ◌-◌, ◌*◌, ◌%◌, ◌^◌, ◌<◌, ◌≤◌, ℤ, pos, Bool, true, false, List, []}
+use Rattle.std.proofs.Common.{◌∷◌, ◌++◌, length, map, Option, Some, None, refl, sym, ap, ◌∙◌, subst, arith, inl}
+use Rattle.std.proofs.Common.{if◌then◌else◌}
 use Rattle.std.specs.Prelude.{slice_get, slice_set, nat_lt, get_or}
 use Rattle.std.specs.List.{filter}
 use Rattle.std.specs.Option.{option_map}
@@ -29,7 +31,8 @@ use Rattle.c_tree.specs.declared.typed.CType.{CType}
 use Rattle.c_tree.specs.Layout.{Extent, extent}
 use Rattle.obj_mem.specs.declared.map.Frame.{Frame}
 use Rattle.obj_mem.specs.Legal.{ObjectNeed, FunctionNeed, IsFrame, IsSlot, AreFrames, slot_of, owned_of}
-use Rattle.obj_mem.specs.Needs.{is_const, need_by, need_of, global_need, literal_need, local_need, local_needs, is_object, function_needs, needs_of}
+use Rattle.obj_mem.specs.Needs.{is_const, need_by, need_of, global_need, literal_need, local_need, local_needs}
+use Rattle.obj_mem.specs.Needs.{is_object, function_needs, needs_of}
 use Rattle.obj_mem.specs.Objects.{base_in, whole_pointer}
 use Rattle.obj_mem.specs.Pointers.{keeps}
 use Rattle.obj_mem.specs.Table.{addresses_of, object_base, literal_entry, function_entry}

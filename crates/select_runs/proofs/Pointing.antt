@@ -1,5 +1,6 @@
 -- Capabilities that are moved and narrowed: what they become in the meaning, the machine makes of them.
-use Rattle.std.proofs.Common.{◌≡◌, ℕ, zero, suc, ◌+◌, ◌<◌, ◌≤◌, Bool, true, false, ◌&&◌, List, ◌∷◌, length, Some, refl, sym, ap, ◌∙◌, subst, arith}
+use Rattle.std.proofs.Common.{◌≡◌, ℕ, zero, suc, ◌+◌, ◌<◌, ◌≤◌, Bool, true, false, ◌&&◌, List, ◌∷◌, length, Some, refl}
+use Rattle.std.proofs.Common.{sym, ap, ◌∙◌, subst, arith}
 use Rattle.std.specs.Prelude.{slice_set}
 use Rattle.std.proofs.lemmas.Bool.{and_parts, ltb-true}
 use Rattle.cap_ops.specs.declared.capability.Cap.{Cap}
@@ -47,7 +48,8 @@ use Rattle.select_runs.specs.Results.{Arrives, before, behind, kinds_in, code_in
 use Rattle.select_runs.specs.Instructions.{NarrowsRun, OffsetsRun}
 use Rattle.select_runs.proofs.Numbers.{null_address}
 use Rattle.select_runs.proofs.Kinded.{kinded_set, has_kind}
-use Rattle.select_runs.proofs.Working.{integer_of, integer_bits, one_only, within, of_one, of_two, amount_in, amount_words, amount_comes}
+use Rattle.select_runs.proofs.Working.{integer_of, integer_bits, one_only, within, of_one, of_two, amount_in}
+use Rattle.select_runs.proofs.Working.{amount_words, amount_comes}
 
 -- ---- values by their kinds
 

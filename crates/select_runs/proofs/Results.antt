@@ -1,5 +1,6 @@
 -- A value that was computed in the register for it comes into its temp.
-use Rattle.std.proofs.Common.{◌≡◌, ◌≢◌, ℕ, zero, suc, ◌+◌, ◌*◌, ◌%◌, ◌^◌, ◌<◌, ◌≤◌, inl, inr, pos, Bool, true, false, List, [], ◌∷◌, length, Some, refl, sym, ap, ◌∙◌, subst, arith, if◌then◌else◌}
+use Rattle.std.proofs.Common.{◌≡◌, ◌≢◌, ℕ, zero, suc, ◌+◌, ◌*◌, ◌%◌, ◌^◌, ◌<◌, ◌≤◌, inl, inr, pos, Bool, true, false}
+use Rattle.std.proofs.Common.{List, [], ◌∷◌, length, Some, refl, sym, ap, ◌∙◌, subst, arith, if◌then◌else◌}
 use Rattle.std.specs.Prelude.{nat_lt, slice_get, slice_set}
 use Rattle.std.proofs.lemmas.Option.{same_Some, none-some, slice_get_within}
 use Rattle.ck_base.specs.Runs.{Goes}
@@ -27,7 +28,8 @@ use Rattle.tac_ir.specs.Temps.{writes, falls, onward as further, IsIn as IsAmong
 use Rattle.tac_ir.specs.Meaning.{Running}
 use Rattle.tac_ir.specs.declared.code.TacInstr.{TacInstr}
 use Rattle.place_inject.specs.Values.{IsKnown}
-use Rattle.place_inject.specs.Frames.{Setting, Point, IsLive, functions_of, homes_of, slots_from, stack_pointer, stack_top}
+use Rattle.place_inject.specs.Frames.{Setting, Point, IsLive, functions_of, homes_of, slots_from, stack_pointer}
+use Rattle.place_inject.specs.Frames.{stack_top}
 use Rattle.place_inject.specs.Fits.{Fits}
 use Rattle.place_inject.specs.Homes.{onward, ReadsNoMore}
 use Rattle.place_inject.specs.Spills.{StackIsThere}

@@ -1,5 +1,6 @@
 -- Constants, copies and labels: what they mean, the machine does.
-use Rattle.std.proofs.Common.{◌≡◌, ◌≢◌, ℕ, zero, ◌+◌, ◌%◌, ◌^◌, ◌<◌, ◌≤◌, pos, Bool, true, false, List, [], ◌∷◌, length, Option, Some, None, refl, sym, ap, ◌∙◌, subst, arith, inl, inr, if◌then◌else◌}
+use Rattle.std.proofs.Common.{◌≡◌, ◌≢◌, ℕ, zero, ◌+◌, ◌%◌, ◌^◌, ◌<◌, ◌≤◌, pos, Bool, true, false, List, [], ◌∷◌, length}
+use Rattle.std.proofs.Common.{Option, Some, None, refl, sym, ap, ◌∙◌, subst, arith, inl, inr, if◌then◌else◌}
 use Rattle.std.specs.Prelude.{nat_lt, slice_get, slice_set, ◌++◌}
 use Rattle.std.proofs.lemmas.Bool.{and_parts, eqb-true, ltb-true, cases_eq}
 use Rattle.std.proofs.lemmas.List.{length-append}
@@ -41,7 +42,8 @@ use Rattle.select_runs.specs.Emitted as emitted
 use Rattle.select_runs.specs.Emitted.{IsSpilled, Operand, Target, Keep}
 use Rattle.select_runs.specs.Kinds.{IsOfKind, AreOfKinds}
 use Rattle.select_runs.specs.Operands.{ground_of, IsText, IsAtPoint}
-use Rattle.select_runs.specs.Results.{MayChange, MayTake, Arrives, before, behind, kinds_in, code_in, IsConstant, IsSelectable}
+use Rattle.select_runs.specs.Results.{MayChange, MayTake, Arrives, before, behind, kinds_in, code_in, IsConstant}
+use Rattle.select_runs.specs.Results.{IsSelectable}
 use Rattle.select_runs.specs.Words.{Constant, Bring, Copied}
 use Rattle.select_runs.specs.Words as words
 use Rattle.select_runs.specs.Instructions.{ConstantsRun, CopiesRun, LabelsRun}

@@ -1,5 +1,6 @@
 -- Operands come to registers, words compute of them, and the result goes home.
-use Rattle.std.proofs.Common.{◌≡◌, ◌≢◌, ℕ, ◌+◌, ◌<◌, ◌≤◌, ◌⊎◌, true, false, List, [], ◌∷◌, ◌++◌, length, Some, refl, sym, ap, ◌∙◌, subst, arith, inl, inr}
+use Rattle.std.proofs.Common.{◌≡◌, ◌≢◌, ℕ, ◌+◌, ◌<◌, ◌≤◌, ◌⊎◌, true, false, List, [], ◌∷◌, ◌++◌, length, Some, refl}
+use Rattle.std.proofs.Common.{sym, ap, ◌∙◌, subst, arith, inl, inr}
 use Rattle.std.specs.Prelude.{slice_get, slice_set}
 use Rattle.std.proofs.lemmas.Bool.{and_parts, ltb-true}
 use Rattle.std.proofs.lemmas.List.{length-append}
@@ -35,7 +36,8 @@ use Rattle.select_runs.specs.Emitted.{Operand, Target, Keep}
 use Rattle.select_runs.specs.Forms.{Makes, OfOne, OfTwo, Other, Amounts, Temps, Numbers}
 use Rattle.select_runs.specs.Kinds.{IsOfKind, AreOfKinds}
 use Rattle.select_runs.specs.Operands.{ground_of, IsText, IsAtPoint}
-use Rattle.select_runs.specs.Results.{Computed, MayTake, Arrives, before, behind, kinds_in, code_in, IsConstant, IsSelectable}
+use Rattle.select_runs.specs.Results.{Computed, MayTake, Arrives, before, behind, kinds_in, code_in, IsConstant}
+use Rattle.select_runs.specs.Results.{IsSelectable}
 use Rattle.select_runs.proofs.Acts.{has_front, has_back, one_set, join}
 use Rattle.select_runs.proofs.Numbers.{numbers_are_made_law}
 use Rattle.select_runs.proofs.Points.{laid, there, text_there, scratched}

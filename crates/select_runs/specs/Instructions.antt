@@ -9,8 +9,10 @@ use Rattle.place_inject.specs.Spills.{StackIsThere}
 use Rattle.place_inject.specs.Tables.{TableIsThere}
 use Rattle.select_runs.specs.Operands.{IsText}
 use Rattle.select_runs.specs.Results.{GoOn, EachGoesOn}
-use Rattle.select_runs.specs.Capabilities.{IsNarrow, NarrowWords, IsOffset, OffsetWords, IsIntrinsic, CapWords, IsPointing, PointingWords}
-use Rattle.select_runs.specs.Operations.{IsOperation, OperationWords, IsComparison, CompareWords, IsConversion, ConversionWords}
+use Rattle.select_runs.specs.Capabilities.{IsNarrow, NarrowWords, IsOffset, OffsetWords, IsIntrinsic, CapWords}
+use Rattle.select_runs.specs.Capabilities.{IsPointing, PointingWords}
+use Rattle.select_runs.specs.Operations.{IsOperation, OperationWords, IsComparison, CompareWords, IsConversion}
+use Rattle.select_runs.specs.Operations.{ConversionWords}
 use Rattle.select_runs.specs.Words.{IsConst, ConstantWords, IsCopy, CopyWords, IsPassed, NoWords}
 
 abbrev pub ConstantsRun : Type 0

@@ -1,5 +1,6 @@
 -- A result goes home, and an instruction of three-address code that goes on to the next.
-use Rattle.std.specs.Prelude.{◌≡◌, ◌≢◌, ◌⊎◌, ℕ, ◌+◌, ◌<◌, ◌≤◌, true, List, ◌∷◌, length, Some, None, slice_get, slice_set}
+use Rattle.std.specs.Prelude.{◌≡◌, ◌≢◌, ◌⊎◌, ℕ, ◌+◌, ◌<◌, ◌≤◌, true, List, ◌∷◌, length, Some, None, slice_get}
+use Rattle.std.specs.Prelude.{slice_set}
 use Rattle.ck_base.specs.World.{World}
 use Rattle.cap_ops.specs.declared.capability.Cap.{Cap}
 use Rattle.rv_instr.specs.declared.instr.Instr.{Instr}

@@ -1,7 +1,9 @@
 //! Laws of selected code: what the words that stand for an instruction do on the machine.
 
 ghost use Rattle.select_runs.specs.Numbers.{NumbersAreMade};
-ghost use Rattle.select_runs.specs.Instructions.{ComparisonsRun, ConstantsRun, ConversionsRun, CopiesRun, IntrinsicsRun, LabelsRun, NarrowsRun, OffsetsRun, OperationsRun, PointersRun};
+ghost use Rattle.select_runs.specs.Instructions.{ComparisonsRun, ConstantsRun, ConversionsRun, CopiesRun};
+ghost use Rattle.select_runs.specs.Instructions.{IntrinsicsRun, LabelsRun, NarrowsRun, OffsetsRun, OperationsRun};
+ghost use Rattle.select_runs.specs.Instructions.{PointersRun};
 ghost use Rattle.select_runs.specs.Jumps.{BranchesRun, JumpsRun};
 ghost use Rattle.select_runs.specs.Operands.{OperandsCome};
 ghost use Rattle.select_runs.specs.Results.{ResultsGoHome};

@@ -52,7 +52,8 @@ out output e = record { output = output; taken = 0; ending = e }
 abbrev i32 : TacKind
 i32 = kind.Int int.I32
 
--- ---- programs: type 0 is `int`, type 1 `int(void)`, type 2 `int(int)` and type 3 `int[2]`; their bodies don't matter here
+-- ---- programs: type 0 is `int`, type 1 `int(void)`, type 2 `int(int)` and type 3 `int[2]`; their bodies don't matter
+-- here
 abbrev def : ℕ → ℕ → List ℕ → List VarDef → FunDef
 def pos of params vars = record { name = unnamed; pos = at pos; of = of; params = params; vars = vars; body = 0 }
 
@@ -63,23 +64,43 @@ abbrev array_var : VarDef
 array_var = record { name = unnamed; pos = at 0; of = 3; simple = false }
 
 abbrev of_funs : List FunDef → Typed
-of_funs fs = record { types = types.Int int.I32 0 ∷ types.Function 0 [] ∷ types.Function 0 (0 ∷ []) ∷ types.Array 0 2 ∷ []; globals = []; literals = []; funs = fs; exprs = []; stmts = []; main = 0 }
+of_funs fs = record {
+  types = types.Int int.I32 0 ∷ types.Function 0 [] ∷ types.Function 0 (0 ∷ []) ∷ types.Array 0 2
+      ∷ [];
+  globals = [];
+  literals = [];
+  funs = fs;
+  exprs = [];
+  stmts = [];
+  main = 0;
+}
 
 abbrev alone : Typed
 alone = of_funs (def 5 1 [] [] ∷ [])
 
 abbrev main_code : ℕ → List TacKind → List TacInstr → Tac
-main_code temps kinds code = record { funs = record { name = at 5; params = 0; temps = temps; kinds = kinds; code = code } ∷ [] }
+main_code temps kinds code =
+    record { funs = record { name = at 5; params = 0; temps = temps; kinds = kinds; code = code } ∷ [] }
 
 abbrev frame : Frame
 frame = record { size = 128; align = 16; saved = 16; slots = record { var = 0; at = 16; length = 8 } ∷ [] }
 
 abbrev map : Map
-map = record { text = (65536, 1024); entries = 65536 ∷ 65600 ∷ []; globals = []; literals = []; table = (196608, 256); heap = (16777216, 16777216); stack = (1048576, 400); frames = frame ∷ frame ∷ [] }
+map = record {
+  text = (65536, 1024);
+  entries = 65536 ∷ 65600 ∷ [];
+  globals = [];
+  literals = [];
+  table = (196608, 256);
+  heap = (16777216, 16777216);
+  stack = (1048576, 400);
+  frames = frame ∷ frame ∷ [];
+}
 
 -- putchar(72);putchar(105);return 0;
 abbrev greets : Tac
-greets = main_code 1 (i32 ∷ []) (instr.Const 0 i32 72 ∷ instr.Lib lib.PutChar None (0 ∷ []) ∷ instr.Const 0 i32 105 ∷ instr.Lib lib.PutChar None (0 ∷ []) ∷ instr.Const 0 i32 0 ∷ instr.Return (Some 0) ∷ [])
+greets = main_code 1 (i32 ∷ []) (instr.Const 0 i32 72 ∷ instr.Lib lib.PutChar None (0 ∷ []) ∷ instr.Const 0 i32 105
+    ∷ instr.Lib lib.PutChar None (0 ∷ []) ∷ instr.Const 0 i32 0 ∷ instr.Return (Some 0) ∷ [])
 
 greets_runs : tac greets alone map quiet 0 ≡ out (72 ∷ 105 ∷ []) (ending.Exit 0)
 unfolding fate start operations program_tree stmt_tree expr_tree bare_within
@@ -91,16 +112,21 @@ greets_fits = refl
 
 -- for(i=0;i<3;i=i+1)putchar(65+i); a branch ahead, and a turn before the jump back
 abbrev counts : Tac
-counts = main_code 4 (i32 ∷ i32 ∷ i32 ∷ i32 ∷ []) (instr.Const 0 i32 0 ∷ instr.Const 1 i32 1 ∷ instr.Label 0 ∷ instr.Const 2 i32 3 ∷ instr.Cmp cmp.Lt i32 2 0 2 ∷ instr.Branch 2 false 1
-    ∷ instr.Const 3 i32 65 ∷ instr.Int op.Add int.I32 3 3 0 ∷ instr.Lib lib.PutChar (Some 3) (3 ∷ []) ∷ instr.Int op.Add int.I32 0 0 1 ∷ instr.Turn ∷ instr.Jump 0
+counts = main_code 4 (i32 ∷ i32 ∷ i32 ∷ i32 ∷ [])
+    (instr.Const 0 i32 0 ∷ instr.Const 1 i32 1 ∷ instr.Label 0 ∷ instr.Const 2 i32 3 ∷ instr.Cmp cmp.Lt i32 2 0 2
+    ∷ instr.Branch 2 false 1
+    ∷ instr.Const 3 i32 65 ∷ instr.Int op.Add int.I32 3 3 0 ∷ instr.Lib lib.PutChar (Some 3) (3 ∷ [])
+    ∷ instr.Int op.Add int.I32 0 0 1 ∷ instr.Turn ∷ instr.Jump 0
     ∷ instr.Label 1 ∷ instr.Const 2 i32 0 ∷ instr.Return (Some 2) ∷ [])
 
 counts_runs : tac counts alone map quiet 3 ≡ out (65 ∷ 66 ∷ 67 ∷ []) (ending.Exit 0)
-unfolding fate start operations program_tree stmt_tree expr_tree bare_within binary_of compare_of wrapped value_of reduced kept_of
+unfolding fate start operations program_tree stmt_tree expr_tree bare_within binary_of compare_of wrapped value_of
+    reduced kept_of
 counts_runs = refl
 
 counts_turns : tac counts alone map quiet 2 ≡ out (65 ∷ 66 ∷ 67 ∷ []) ending.Turns
-unfolding fate start operations program_tree stmt_tree expr_tree bare_within binary_of compare_of wrapped value_of reduced kept_of
+unfolding fate start operations program_tree stmt_tree expr_tree bare_within binary_of compare_of wrapped value_of
+    reduced kept_of
 counts_turns = refl
 
 counts_fits : is_well_formed counts alone ≡ true
@@ -116,8 +142,21 @@ no_turn = refl
 abbrev deep : Tac
 deep = record {
   funs =
-      record { name = at 5; params = 0; temps = 1; kinds = i32 ∷ []; code = instr.Const 0 i32 0 ∷ instr.Call (Some 0) 1 (0 ∷ []) ∷ instr.Return (Some 0) ∷ [] }
-      ∷ record { name = at 7; params = 1; temps = 2; kinds = i32 ∷ i32 ∷ []; code = instr.Const 1 i32 46 ∷ instr.Lib lib.PutChar None (1 ∷ []) ∷ instr.Call (Some 0) 1 (0 ∷ []) ∷ instr.Return (Some 0) ∷ [] }
+      record {
+        name = at 5;
+        params = 0;
+        temps = 1;
+        kinds = i32 ∷ [];
+        code = instr.Const 0 i32 0 ∷ instr.Call (Some 0) 1 (0 ∷ []) ∷ instr.Return (Some 0) ∷ [];
+      }
+      ∷ record {
+        name = at 7;
+        params = 1;
+        temps = 2;
+        kinds = i32 ∷ i32 ∷ [];
+        code = instr.Const 1 i32 46 ∷ instr.Lib lib.PutChar None (1 ∷ []) ∷ instr.Call (Some 0) 1 (0 ∷ [])
+            ∷ instr.Return (Some 0) ∷ [];
+      }
       ∷ [];
 }
 
@@ -143,13 +182,18 @@ abbrev cap : TacKind
 cap = kind.Cap false
 
 abbrev array : Tac
-array = main_code 4 (cap ∷ cap ∷ i32 ∷ cap ∷ []) (instr.Zero 0 ∷ instr.Local 0 0 ∷ instr.Offset 1 0 (amount.Number 4) ∷ instr.Const 2 i32 7 ∷ instr.Store 1 2 i32 (at 20) ∷ instr.Load 2 1 i32 (at 30) ∷ instr.Lib lib.PutChar None (2 ∷ []) ∷ instr.Offset 3 0 (amount.Number 8) ∷ instr.Load 2 3 i32 (at 40) ∷ instr.Return (Some 2) ∷ [])
+array = main_code 4 (cap ∷ cap ∷ i32 ∷ cap ∷ [])
+    (instr.Zero 0 ∷ instr.Local 0 0 ∷ instr.Offset 1 0 (amount.Number 4) ∷ instr.Const 2 i32 7
+    ∷ instr.Store 1 2 i32 (at 20) ∷ instr.Load 2 1 i32 (at 30) ∷ instr.Lib lib.PutChar None (2 ∷ [])
+    ∷ instr.Offset 3 0 (amount.Number 8) ∷ instr.Load 2 3 i32 (at 40) ∷ instr.Return (Some 2) ∷ [])
 
 abbrev with_array : Typed
 with_array = of_funs (def 5 1 [] (array_var ∷ []) ∷ [])
 
 array_runs : tac array with_array map quiet 0 ≡ out (7 ∷ []) (ending.Trap cause.Bounds (at 40))
-unfolding fate start operations program_tree stmt_tree expr_tree bare_within extent_within members load store owned alignment first_from wrapped value_of reduced kept_of keeps encoded_internal encoded_t encoded_b length_exponent base_of top_of placed corrected exponent mantissa whole_top high
+unfolding fate start operations program_tree stmt_tree expr_tree bare_within extent_within members load store owned
+    alignment first_from wrapped value_of reduced kept_of keeps encoded_internal encoded_t encoded_b length_exponent
+    base_of top_of placed corrected exponent mantissa whole_top high
 array_runs = refl
 
 array_fits : is_well_formed array with_array ≡ true

@@ -25,4 +25,5 @@ all_have_in b = wf.all_have (in_body wf.has b)
 
 -- the answer for a call, by what was found of the function type
 abbrev pub CallFits : Body → Option Signature → Option ℕ → List ℕ → Bool → Type 0
-CallFits b found to args r = (s : Option wf.Signature) → Signs b.program.now.types s found → r ≡ in_body wf.call_fits b s to args
+CallFits b found to args r =
+    (s : Option wf.Signature) → Signs b.program.now.types s found → r ≡ in_body wf.call_fits b s to args

@@ -1,6 +1,7 @@
--- What instructions cost at most: in words of machine code, and in steps of a machine that goes through these words once. A temp that stands in
--- the frame is read and written in three words at any distance.
-use Rattle.std.specs.Prelude.{ℕ, ◌+◌, ◌-◌, ◌*◌, ◌^◌, ◌&&◌, ◌||◌, Bool, true, false, List, [], ◌∷◌, max, min, nat_lt, nat_le, length, if◌then◌else◌}
+-- What instructions cost at most: in words of machine code, and in steps of a machine that goes through these words
+-- once. A temp that stands in the frame is read and written in three words at any distance.
+use Rattle.std.specs.Prelude.{ℕ, ◌+◌, ◌-◌, ◌*◌, ◌^◌, ◌&&◌, ◌||◌, Bool, true, false, List, [], ◌∷◌, max, min, nat_lt}
+use Rattle.std.specs.Prelude.{nat_le, length, if◌then◌else◌}
 use Rattle.std.specs.List.{sum_by}
 use Rattle.ck_int.specs.declared.kinds.IntKind.{IntKind}
 use Rattle.ck_int.specs.declared.kinds.IntKind.TheVariants as int

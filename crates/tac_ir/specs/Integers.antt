@@ -1,5 +1,6 @@
 -- Code over integers alone, as a machine with a small step.
-use Rattle.std.specs.Prelude.{ℕ, zero, suc, ◌+◌, ◌-◌, ◌*◌, ◌%◌, ◌^◌, ◌&&◌, Bool, true, false, List, [], ◌∷◌, length, drop, replicate, Option, Some, None, slice_get, slice_set, slice_index_or, if◌then◌else◌}
+use Rattle.std.specs.Prelude.{ℕ, zero, suc, ◌+◌, ◌-◌, ◌*◌, ◌%◌, ◌^◌, ◌&&◌, Bool, true, false, List, [], ◌∷◌, length}
+use Rattle.std.specs.Prelude.{drop, replicate, Option, Some, None, slice_get, slice_set, slice_index_or, if◌then◌else◌}
 use Rattle.ck_base.specs.Runs.{Act, Goes, Puts, Reads, Ends, Limits}
 use Rattle.ck_int.specs.declared.kinds.CmpOp.TheVariants.{Ne}
 use Rattle.ck_int.specs.Kinds.{converted}
@@ -55,7 +56,8 @@ runs_over_integers t p = function_over_integers (slice_get t.funs p.main)
 
 -- ---- moments
 
--- The values of the temps, the number of the next instruction, whether a Turn was just passed, and the turns that are left.
+-- The values of the temps, the number of the next instruction, whether a Turn was just passed, and the turns that are
+-- left.
 pub record Moment : Type 0 where
   pub values : List ℕ
   pub at : ℕ
@@ -146,8 +148,10 @@ module _ (kinds : List TacKind) (code : List TacInstr) where
   act_on s (instr.Const to k v) = Goes (onward code (with_value s to v))
   act_on s (instr.Copy to from) = Goes (onward code (with_value s to (value s from)))
   act_on s (instr.Int op k to a b) = Goes (onward code (with_value s to (binary_of op k (value s a) (value s b))))
-  act_on s (instr.Cmp op k to a b) = Goes (onward code (with_value s to (truth_number (compare_of op (int_kind (kind_of k)) (value s a) (value s b)))))
-  act_on s (instr.Convert to from old new) = Goes (onward code (with_value s to (converted (int_kind (kind_of old)) (int_kind (kind_of new)) (value s from))))
+  act_on s (instr.Cmp op k to a b) =
+      Goes (onward code (with_value s to (truth_number (compare_of op (int_kind (kind_of k)) (value s a) (value s b)))))
+  act_on s (instr.Convert to from old new) =
+      Goes (onward code (with_value s to (converted (int_kind (kind_of old)) (int_kind (kind_of new)) (value s from))))
   act_on s (instr.Label l) = Goes (onward code s)
   act_on s (instr.Jump l) = Goes (jumped code s l)
   act_on s (instr.Branch on when l) = Goes (if same_bool when (is_nonzero s on) then jumped code s l else onward code s)

@@ -32,19 +32,21 @@ pub record IsLoop (code : List TacInstr) (from to : ℕ) : Type 0 where
   pub jumps : IsIn label (goes_to jump)
   pub ordered : from ≤ to
 
--- A temp that isn't a parameter, that no instruction reads unless an earlier one names it, and with no label, jump or branch strictly between
--- two instructions that name it
+-- A temp that isn't a parameter, that no instruction reads unless an earlier one names it, and with no label, jump or
+-- branch strictly between two instructions that name it
 pub record IsStraight (f : TacFun) (t : ℕ) : Type 0 where
   pub no_parameter : f.params ≤ t
   pub written_first : (n : ℕ) → ReadsAt f.code t n → (m : ℕ) × (m < n) × NamesAt f.code t m
-  pub undivided : (m n to : ℕ) (i : TacInstr) → NamesAt f.code t m → NamesAt f.code t to → m < n → n < to → IsAt f.code n i → is_control i ≡ false
+  pub undivided : (m n to : ℕ) (i : TacInstr) → NamesAt f.code t m → NamesAt f.code t to → m < n → n < to →
+      IsAt f.code n i → is_control i ≡ false
 
--- A range that holds each instruction that names a temp, begins at entry for a parameter, and holds every loop that it meets unless the temp is
--- straight
+-- A range that holds each instruction that names a temp, begins at entry for a parameter, and holds every loop that it
+-- meets unless the temp is straight
 pub record Covers (f : TacFun) (t : ℕ) (first last : ℕ) : Type 0 where
   pub at_entry : t < f.params → first ≡ 0
   pub named : (n : ℕ) → NamesAt f.code t n → (first ≤ n) × (n ≤ last)
-  pub loops : (IsStraight f t → ⊥) → (from to : ℕ) → IsLoop f.code from to → from ≤ last → first ≤ to → (first ≤ from) × (to ≤ last)
+  pub loops : (IsStraight f t → ⊥) → (from to : ℕ) → IsLoop f.code from to → from ≤ last → first ≤ to →
+      (first ≤ from) × (to ≤ last)
 
 -- a temp that no instruction names, and that isn't a parameter
 pub record IsUnused (f : TacFun) (t : ℕ) : Type 0 where

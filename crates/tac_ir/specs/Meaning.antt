@@ -1,6 +1,7 @@
--- What three-address code means. It is gone through from the front; turns are the one bound, and between two turns a list of instructions
--- is followed to its end at most once.
-use Rattle.std.specs.Prelude.{ℕ, zero, suc, ◌%◌, ◌==◌, Bool, true, false, List, [], ◌∷◌, ◌++◌, length, drop, map, Option, Some, None, slice_get, slice_set}
+-- What three-address code means. It is gone through from the front; turns are the one bound, and between two turns a
+-- list of instructions is followed to its end at most once.
+use Rattle.std.specs.Prelude.{ℕ, zero, suc, ◌%◌, ◌==◌, Bool, true, false, List, [], ◌∷◌, ◌++◌, length, drop, map}
+use Rattle.std.specs.Prelude.{Option, Some, None, slice_get, slice_set}
 use Rattle.ck_base.specs.World.{World, Outcome, nothing_done}
 use Rattle.ck_base.specs.declared.positions.Pos.{Pos}
 use Rattle.c_tree.specs.declared.typed.Typed.{Typed}
@@ -22,7 +23,8 @@ use Rattle.tac_ir.specs.declared.code.TacInstr.{TacInstr}
 use Rattle.tac_ir.specs.declared.code.TacInstr.TheVariants as instr
 use Rattle.tac_ir.specs.declared.code.TacKind.{TacKind}
 
--- a call in progress: the caller, its temps, objects and frame, the instructions that it goes on with, and the temp for the result
+-- a call in progress: the caller, its temps, objects and frame, the instructions that it goes on with, and the temp for
+-- the result
 pub record Caller : Type 0 where
   pub fun : ℕ
   pub vars : List (Option Value)
@@ -36,8 +38,8 @@ pub record Running : Type 0 where
   pub fun : ℕ
   pub callers : List Caller
 
--- How a list of instructions is gone through: it runs; a label is looked for; a Turn was just passed; or the frame doesn't fit, and this is
--- the function that was called.
+-- How a list of instructions is gone through: it runs; a label is looked for; a Turn was just passed; or the frame
+-- doesn't fit, and this is the function that was called.
 pub data Going : Type 0 where
   Runs : Going
   Seeks : ℕ → Going
@@ -89,7 +91,13 @@ module _ {M : Type 0} (ops : Operations M) (w : World) (t : Tac) (p : Typed) (ob
 
   -- a function's frame at an address, with its objects and temps
   abbrev pub in_frame : ℕ → ℕ → List Value → State M → State M
-  in_frame address f vs s = record s { vars = entry_temps (kinds_of (slice_get t.funs f)) vs; first = ops.count s.mem; mem = add_locals ops s.mem address f 0 (objects f); frame = address }
+  in_frame address f vs s =
+      record s {
+        vars = entry_temps (kinds_of (slice_get t.funs f)) vs;
+        first = ops.count s.mem;
+        mem = add_locals ops s.mem address f 0 (objects f);
+        frame = address;
+      }
 
   -- A call uses its turn, and then takes the frame, where there is room
   abbrev pub enters : Again → Option ℕ → ℕ → List Value → Running → State M → Fate
@@ -98,14 +106,29 @@ module _ {M : Type 0} (ops : Operations M) (w : World) (t : Tac) (p : Typed) (ob
 
   abbrev pub into : Again → List TacInstr → ℕ → List Value → Option ℕ → Running → State M → Fate
   into again rest f vs to r s =
-      enters again (ops.enter f s.frame) f vs (record { fun = f; callers = record { fun = r.fun; vars = s.vars; first = s.first; frame = s.frame; rest = rest; to = to } ∷ r.callers }) s
+      enters again (ops.enter f s.frame) f vs (record {
+        fun = f;
+        callers = record {
+          fun = r.fun;
+          vars = s.vars;
+          first = s.first;
+          frame = s.frame;
+          rest = rest;
+          to = to;
+        } ∷ r.callers;
+      }) s
 
   -- A return: the locals end, and behind a turn the caller has the result. The last return ends the run
   abbrev pub back : Again → Value → ℕ → List Caller → State M → Fate
   back again v f [] s = over (ending.Exit (number_of v % 256)) s
   back again v f (c ∷ cs) s =
       again c.rest Runs (record { fun = c.fun; callers = cs })
-      (record s { vars = with_result c.vars c.to v; first = c.first; mem = end_locals ops s.mem s.first (objects f); frame = c.frame })
+      (record s {
+        vars = with_result c.vars c.to v;
+        first = c.first;
+        mem = end_locals ops s.mem s.first (objects f);
+        frame = c.frame;
+      })
 
   -- ---- one way through a list, up to the next turn. Code that runs off its end has no meaning of its own
 
@@ -129,7 +152,8 @@ module _ {M : Type 0} (ops : Operations M) (w : World) (t : Tac) (p : Typed) (ob
   pass again [] Runs r s = over ending.Turns s
   pass again [] (Seeks l) r s = over ending.Turns s
   pass again [] Turned r s = over ending.Turns s
-  pass again (i ∷ is) Runs r s = effect ops w p (kinds_of (slice_get t.funs r.fun)) i s (follow again (pass again is) is r)
+  pass again (i ∷ is) Runs r s =
+      effect ops w p (kinds_of (slice_get t.funs r.fun)) i s (follow again (pass again is) is r)
   pass again (i ∷ is) (Seeks l) r s = pass again is (seek (is_label i l) l) r s
   pass again (i ∷ is) Turned r s = effect ops w p (kinds_of (slice_get t.funs r.fun)) i s (turned again is r)
 
@@ -145,10 +169,18 @@ module _ {M : Type 0} (ops : Operations M) (w : World) (t : Tac) (p : Typed) (ob
   -- the first entry uses no turn
   abbrev pub first_entry : ℕ → Option ℕ → ℕ → State M → Fate
   first_entry m None f s = over (ending.Stack (name_of (slice_get t.funs f))) s
-  first_entry m (Some address) f s = turns m (code_at f) Runs (record { fun = f; callers = [] }) (in_frame address f [] s)
+  first_entry m (Some address) f s =
+      turns m (code_at f) Runs (record { fun = f; callers = [] }) (in_frame address f [] s)
 
   abbrev pub first_state : Program → ℕ → State M
-  first_state program m = record { vars = []; first = 0; mem = start ops program; frame = ops.stack_top; left = m; done = nothing_done }
+  first_state program m = record {
+    vars = [];
+    first = 0;
+    mem = start ops program;
+    frame = ops.stack_top;
+    left = m;
+    done = nothing_done;
+  }
 
   unfoldable pub fate : Program → ℕ → Fate
   fate program m = first_entry m (ops.enter program.main ops.stack_top) program.main (first_state program m)

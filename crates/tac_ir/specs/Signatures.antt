@@ -14,7 +14,10 @@ IsConst c (Some t) = (go : ℕ → Option CType) → bare_of (Some c) go ≡ go 
 
 -- a function type of a list of types
 abbrev pub meant : List CType → Signature → wf.Signature
-meant types s = record { gives = option_map kind_of s.gives; params = map (λ q. wf.kind_or_int (scalar_of (bare types q))) s.params.now }
+meant types s = record {
+  gives = option_map kind_of s.gives;
+  params = map (λ q. wf.kind_or_int (scalar_of (bare types q))) s.params.now;
+}
 
 abbrev pub Signs : List CType → Option wf.Signature → Option Signature → Type 0
 Signs types o None = o ≡ None

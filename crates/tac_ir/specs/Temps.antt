@@ -1,5 +1,6 @@
 -- What instructions of three-address code name, and where they lead.
-use Rattle.std.specs.Prelude.{◌≡◌, ℕ, ◌<◌, Bool, true, false, List, [], ◌∷◌, ◌++◌, Option, Some, None, slice_get, if◌then◌else◌}
+use Rattle.std.specs.Prelude.{◌≡◌, ℕ, ◌<◌, Bool, true, false, List, [], ◌∷◌, ◌++◌, Option, Some, None, slice_get}
+use Rattle.std.specs.Prelude.{if◌then◌else◌}
 use Rattle.tac_ir.specs.Meaning.{is_label}
 use Rattle.tac_ir.specs.declared.code.Amount.{Amount}
 use Rattle.tac_ir.specs.declared.code.Amount.TheVariants as amount
@@ -88,9 +89,12 @@ behind l (i ∷ is) = if is_label i l then is else behind l is
 -- A name is read on some way through the code, from a place in it on, before it is written
 pub data Awaits (read written : TacInstr → List ℕ) (whole : List TacInstr) : List TacInstr → ℕ → Type 0 where
   now : {i : TacInstr} {is : List TacInstr} {k : ℕ} → IsIn k (read i) → Awaits read written whole (i ∷ is) k
-  onward : {i : TacInstr} {is : List TacInstr} {k : ℕ} → falls i ≡ true → (IsIn k (written i) → ⊥) → Awaits read written whole is k → Awaits read written whole (i ∷ is) k
-  ahead : {i : TacInstr} {is : List TacInstr} {k : ℕ} → (l : ℕ) → IsIn l (goes_to i) → Awaits read written whole (behind l is) k → Awaits read written whole (i ∷ is) k
-  back : {i : TacInstr} {is : List TacInstr} {k : ℕ} → (l : ℕ) → IsIn l (goes_to i) → Awaits read written whole (behind l whole) k → Awaits read written whole (instr.Turn ∷ i ∷ is) k
+  onward : {i : TacInstr} {is : List TacInstr} {k : ℕ} → falls i ≡ true → (IsIn k (written i) → ⊥) →
+      Awaits read written whole is k → Awaits read written whole (i ∷ is) k
+  ahead : {i : TacInstr} {is : List TacInstr} {k : ℕ} → (l : ℕ) → IsIn l (goes_to i) →
+      Awaits read written whole (behind l is) k → Awaits read written whole (i ∷ is) k
+  back : {i : TacInstr} {is : List TacInstr} {k : ℕ} → (l : ℕ) → IsIn l (goes_to i) →
+      Awaits read written whole (behind l whole) k → Awaits read written whole (instr.Turn ∷ i ∷ is) k
 
 -- a temp that isn't a parameter is written before it is read
 abbrev pub WritesFirst : TacFun → Type 0

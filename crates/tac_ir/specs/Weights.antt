@@ -16,6 +16,7 @@ expression_weight p k = term_weight (term_at (terms_of p) k)
 unfoldable pub statement_weight : Typed → ℕ → ℕ
 statement_weight p k = action_weight (action_at (actions_of p) k)
 
--- An operand or a part stands before what names it. Where a number names what does not, it stands for nothing, which weighs 1
+-- An operand or a part stands before what names it. Where a number names what does not, it stands for nothing, which
+-- weighs 1
 abbrev pub before : (ℕ → ℕ) → (limit k : ℕ) → ℕ
 before weight limit k = if nat_lt k limit then weight k else 1

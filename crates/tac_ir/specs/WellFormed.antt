@@ -1,5 +1,6 @@
 -- Which three-address code is well formed for a program.
-use Rattle.std.specs.Prelude.{ℕ, ◌%◌, ◌==◌, ◌&&◌, ◌||◌, pos, not, nat_lt, nat_le, Bool, true, false, List, [], ◌∷◌, length, map, Option, Some, None, slice_get, if◌then◌else◌}
+use Rattle.std.specs.Prelude.{ℕ, ◌%◌, ◌==◌, ◌&&◌, ◌||◌, pos, not, nat_lt, nat_le, Bool, true, false, List, [], ◌∷◌}
+use Rattle.std.specs.Prelude.{length, map, Option, Some, None, slice_get, if◌then◌else◌}
 use Rattle.ck_int.specs.Kinds.{wrapped}
 use Rattle.ck_int.specs.declared.kinds.IntKind.TheVariants as int
 use Rattle.c_tree.specs.Layout.{bare}
@@ -79,7 +80,8 @@ kind_or_int None = int_result
 kind_or_int (Some k) = k
 
 abbrev pub signature_by : List CType → Option CType → Option Signature
-signature_by all (Some (types.Function t ps)) = Some (record { gives = scalar_of (bare all t); params = map (λ q. kind_or_int (scalar_of (bare all q))) ps })
+signature_by all (Some (types.Function t ps)) =
+    Some (record { gives = scalar_of (bare all t); params = map (λ q. kind_or_int (scalar_of (bare all q))) ps })
 signature_by all t = None
 
 abbrev pub signature_of : Typed → ℕ → Option Signature
@@ -185,23 +187,28 @@ module _ (p : Typed) (d : FunDef) (kinds : List TacKind) (code : List TacInstr) 
   abbrev pub is_local : ℕ → Bool
   is_local v = nat_lt v (length (lengths_of p d.vars))
 
-  -- each temp, label, function, global, literal and local that it names is there, the kinds agree, constants are kept and copies are whole units
+  -- each temp, label, function, global, literal and local that it names is there, the kinds agree, constants are kept
+  -- and copies are whole units
   abbrev pub instruction_fits : TacInstr → Bool
   instruction_fits (instr.Const to k v) = has to (kind_of k) && constant_fits k v
   instruction_fits (instr.Copy to from) = has to (kind_at kinds from) && is_temp from
-  instruction_fits (instr.Int op k to a b) = has to (Plain k) && has a (Plain k) && (if is_shift op then has_int b else has b (Plain k))
+  instruction_fits (instr.Int op k to a b) =
+      has to (Plain k) && has a (Plain k) && (if is_shift op then has_int b else has b (Plain k))
   instruction_fits (instr.Cmp op k to a b) = has to int_result && has a (kind_of k) && has b (kind_of k)
   instruction_fits (instr.Convert to from old new) = has to (kind_of new) && has from (kind_of old)
   instruction_fits (instr.Cap op to a b) = work_fits op to a b
   instruction_fits (instr.Offset to base by) = has to (kind_at kinds base) && has_capability base && amount_fits by
-  instruction_fits (instr.Narrow to base length exact) = has to (kind_at kinds base) && has_capability base && amount_fits length
+  instruction_fits (instr.Narrow to base length exact) =
+      has to (kind_at kinds base) && has_capability base && amount_fits length
   instruction_fits (instr.Load to from k place) = has to (kind_of k) && has_capability from
   instruction_fits (instr.Store at v k place) = has_capability at && has v (kind_of k)
   instruction_fits (instr.Local to var) = has to pointer && is_local var
-  instruction_fits (instr.Global to number literal) = has to pointer && nat_lt number (if literal then length p.literals else length p.globals)
+  instruction_fits (instr.Global to number literal) =
+      has to pointer && nat_lt number (if literal then length p.literals else length p.globals)
   instruction_fits (instr.Function to fun) = has to pointer && nat_lt fun (length p.funs)
   instruction_fits (instr.Zero var) = is_local var
-  instruction_fits (instr.CopyUnits from to bytes unit from_pos to_pos) = has_capability from && has_capability to && units_fit bytes unit
+  instruction_fits (instr.CopyUnits from to bytes unit from_pos to_pos) =
+      has_capability from && has_capability to && units_fit bytes unit
   instruction_fits (instr.Label l) = true
   instruction_fits (instr.Jump l) = has_label code l
   instruction_fits (instr.Branch on when l) = is_temp on && has_label code l
@@ -265,8 +272,10 @@ begins_with (j ∷ js) (k ∷ ks) = same_kind (kind_of j) k && begins_with js ks
 
 abbrev pub function_fits : Typed → FunDef → TacFun → Bool
 function_fits p d f =
-    f.params == length d.params && nat_le f.params f.temps && length f.kinds == f.temps && begins_with f.kinds (param_kinds p d)
-    && all_of (instruction_fits p d f.kinds f.code) f.code && labels_differ f.code && ends_well f.code && turns_fit false f.code
+    f.params == length d.params && nat_le f.params f.temps && length f.kinds == f.temps
+    && begins_with f.kinds (param_kinds p d)
+    && all_of (instruction_fits p d f.kinds f.code) f.code && labels_differ f.code && ends_well f.code
+    && turns_fit false f.code
 
 -- the program's functions in their order
 abbrev pub functions_fit : Typed → List FunDef → List TacFun → Bool

@@ -4,7 +4,10 @@ ghost use Rattle.c_tree.specs.Layout.{bare};
 ghost use Rattle.cheri_c_sem.specs.Types.{is_shift, scalar_of};
 ghost use Rattle.tac_ir.specs.Effects.{kind_of, kind_at};
 ghost use Rattle.tac_ir.specs.Bodies.{in_body, all_have_in, CallFits, HasCounted};
-ghost use Rattle.tac_ir.specs.WellFormed.{kind_or_int, is_temp, has, has_int, has_capability, amount_fits, result_fits, second_is, second_is_address, second_is_capability, work_fits, service_fits, return_fits, is_local, constant_fits, is_unit, units_fit, instruction_fits, signature_of};
+ghost use Rattle.tac_ir.specs.WellFormed.{kind_or_int, is_temp, has, has_int, has_capability, amount_fits, result_fits};
+ghost use Rattle.tac_ir.specs.WellFormed.{second_is, second_is_address, second_is_capability, work_fits, service_fits};
+ghost use Rattle.tac_ir.specs.WellFormed.{return_fits, is_local, constant_fits, is_unit, units_fit, instruction_fits};
+ghost use Rattle.tac_ir.specs.WellFormed.{signature_of};
 
 use crate::code::{Amount, CapWork, LibOp, TacInstr, TacKind};
 use crate::kinds::{
@@ -197,7 +200,8 @@ impl<'a> Body<'a> {
 
     /// Whether there are as many arguments as parameters, each of the kind of its parameter's type.
     fn args_fit(&self, args: &[u32], params: &[u32]) -> bool
-        ensures { result ≡ all_have_in self.now args.now (map (λ q. kind_or_int (scalar_of (bare self.now.program.now.types q))) params.now) }
+        ensures { result ≡ all_have_in self.now args.now
+            (map (λ q. kind_or_int (scalar_of (bare self.now.program.now.types q))) params.now) }
     {
         let types = self.program.types.as_slice();
         let mut left = args;
@@ -251,7 +255,8 @@ impl<'a> Body<'a> {
     }
 
     fn int_fits(&self, op: IntOp, k: TacKind, a: u32, b: u32) -> bool
-        ensures { result ≡ (in_body has self.now a (kind_of k) && (if is_shift op then in_body has_int self.now b else in_body has self.now b (kind_of k))) }
+        ensures { result ≡ (in_body has self.now a (kind_of k)
+            && (if is_shift op then in_body has_int self.now b else in_body has self.now b (kind_of k))) }
     {
         self.has(a, k)
             && if is_shift(op) {
@@ -262,7 +267,8 @@ impl<'a> Body<'a> {
     }
 
     fn global_fits(&self, number: u32, literal: bool) -> bool
-        ensures { result ≡ nat_lt number (if literal then length self.now.program.now.literals else length self.now.program.now.globals) }
+        ensures { result ≡ nat_lt number (if literal then length self.now.program.now.literals
+            else length self.now.program.now.globals) }
     {
         let count = if literal {
             self.program.literals.as_slice().len()
@@ -272,8 +278,8 @@ impl<'a> Body<'a> {
         (number as usize) < count
     }
 
-    /// Whether each temp, label, function, global, literal and local that an instruction names is there, the kinds agree, a constant
-    /// keeps a number of its kind, and what is copied is whole units.
+    /// Whether each temp, label, function, global, literal and local that an instruction names is there, the kinds
+    /// agree, a constant keeps a number of its kind, and what is copied is whole units.
     pub fn instruction_fits(&self, i: &TacInstr) -> bool
         requires { HasCounted self.now }
         ensures { result ≡ in_body instruction_fits self.now i.now }
@@ -351,7 +357,8 @@ impl<'a> Body<'a> {
 
     /// Whether a capability of the base's kind, moved or narrowed by an amount, fits a temp.
     fn moves_fit(&self, to: u32, base: u32, amount: Amount) -> bool
-        ensures { result ≡ (in_body has self.now to (kind_at self.now.kinds.now base) && in_body has_capability self.now base && in_body amount_fits self.now amount) }
+        ensures { result ≡ (in_body has self.now to (kind_at self.now.kinds.now base)
+            && in_body has_capability self.now base && in_body amount_fits self.now amount) }
     {
         self.has_kind_of(to, base) && self.has_capability(base) && self.amount_fits(amount)
     }

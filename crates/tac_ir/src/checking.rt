@@ -1,7 +1,8 @@
 // Which three-address code is well formed for a program.
 ghost use Rattle.std.specs.Prelude.{◌≡◌};
 ghost use Rattle.tac_ir.specs.Bodies.{in_body, HasCounted};
-ghost use Rattle.tac_ir.specs.WellFormed.{param_kinds, begins_with, all_of, instruction_fits, function_fits, functions_fit, is_well_formed};
+ghost use Rattle.tac_ir.specs.WellFormed.{param_kinds, begins_with, all_of, instruction_fits, function_fits};
+ghost use Rattle.tac_ir.specs.WellFormed.{functions_fit, is_well_formed};
 
 use crate::body::{Body, objects};
 use crate::code::{Tac, TacFun, TacKind};
@@ -91,10 +92,12 @@ fn functions_fit(p: &Typed, defs: &[FunDef], funs: &[TacFun]) -> bool
     }
 }
 
-/// Whether three-address code is well formed for a program: it has the program's functions in their order; in each function,
-/// each temp, label, function, global, literal and local that an instruction names is there, the kinds agree, a constant of an
-/// integer kind keeps a number of it, a copy is of whole units of 1, 2, 4, 8 or 16 bytes, each label stands once, a Turn stands directly before each jump or branch to a label that is not later and nowhere else, and the last
-/// instruction is a Return or a Jump. It takes no memory: for each label, jump and branch it goes through the function's code.
+/// Whether three-address code is well formed for a program: it has the program's functions in their order; in each
+/// function, each temp, label, function, global, literal and local that an instruction names is there, the kinds agree,
+/// a constant of an integer kind keeps a number of it, a copy is of whole units of 1, 2, 4, 8 or 16 bytes, each label
+/// stands once, a Turn stands directly before each jump or branch to a label that is not later and nowhere else, and
+/// the last instruction is a Return or a Jump. It takes no memory: for each label, jump and branch it goes through the
+/// function's code.
 #[tactic(auto, unfolding(crate::specs::WellFormed::is_well_formed))]
 pub fn well_formed(t: &Tac, p: &Typed) -> bool
     ensures { result ≡ is_well_formed t.now p.now }

@@ -1,7 +1,9 @@
 // What instructions and functions cost.
 ghost use Rattle.std.specs.Prelude.{◌≡◌, ◌-◌, ◌*◌, ◌^◌, ◌<◌, ◌≤◌, length};
 ghost use Rattle.std.specs.List.{sum_by};
-ghost use Rattle.tac_ir.specs.Costs.{number_cost, amount_cost, operation_cost, is_wide, conversion_cost, load_cost, places_cost, service_cost, cost, prologue_cost, function_cost, outgoing_by, outgoing};
+ghost use Rattle.tac_ir.specs.Costs.{number_cost, amount_cost, operation_cost, is_wide, conversion_cost, load_cost};
+ghost use Rattle.tac_ir.specs.Costs.{places_cost, service_cost, cost, prologue_cost, function_cost, outgoing_by};
+ghost use Rattle.tac_ir.specs.Costs.{outgoing};
 
 use crate::code::{Amount, LibOp, TacFun, TacInstr, TacKind};
 use crate::slices::first_and_rest;
@@ -80,8 +82,8 @@ fn service_cost(op: LibOp) -> u64
     }
 }
 
-/// What an instruction costs at most, in words of machine code and in steps: the steps in the loops of a Zero and of a CopyUnits are
-/// counted apart.
+/// What an instruction costs at most, in words of machine code and in steps: the steps in the loops of a Zero and of a
+/// CopyUnits are counted apart.
 pub fn cost(i: &TacInstr) -> u64
     ensures { result ≡ cost i.now }
 {
@@ -125,7 +127,8 @@ fn code_cost(code: &[TacInstr]) -> u128
     total
 }
 
-/// What a function costs: its prologue, by the number of its parameters, and its code. It is below 2^128 whatever the function.
+/// What a function costs: its prologue, by the number of its parameters, and its code. It is below 2^128 whatever the
+/// function.
 pub fn function_cost(f: &TacFun) -> u128
     ensures { result ≡ function_cost f.now }
 {

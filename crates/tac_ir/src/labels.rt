@@ -2,7 +2,8 @@
 ghost use Rattle.std.specs.Prelude.{◌≡◌, false};
 ghost use Rattle.cheri_c_sem.specs.Compatible.{same_bool};
 ghost use Rattle.tac_ir.specs.Meaning.{is_label};
-ghost use Rattle.tac_ir.specs.WellFormed.{has_label, label_is_new, labels_differ, ends_there, ends_well, is_turn, turn_fits, turns_fit};
+ghost use Rattle.tac_ir.specs.WellFormed.{has_label, label_is_new, labels_differ, ends_there, ends_well, is_turn};
+ghost use Rattle.tac_ir.specs.WellFormed.{turn_fits, turns_fit};
 
 use crate::code::TacInstr;
 use crate::slices::first_and_rest;

@@ -1,5 +1,6 @@
 // Code over integers as it runs.
-ghost use Rattle.std.specs.Prelude.{◌≡◌, [], ℕ, ◌+◌, ◌-◌, ◌*◌, ◌^◌, ◌<◌, ◌%◌, true, false, None, Option, List, Some, length, drop, if◌then◌else◌};
+ghost use Rattle.std.specs.Prelude.{◌≡◌, [], ℕ, ◌+◌, ◌-◌, ◌*◌, ◌^◌, ◌<◌, ◌%◌, true, false, None, Option, List, Some};
+ghost use Rattle.std.specs.Prelude.{length, drop, if◌then◌else◌};
 ghost use Rattle.ck_base.specs.Calls.{seen, Acted, IsRun, Counted};
 ghost use Rattle.ck_base.specs.Runs.{outcome, ending_alone};
 ghost use Rattle.ck_int.specs.Arithmetic.{compare_of};
@@ -7,7 +8,10 @@ ghost use Rattle.cheri_c_sem.specs.Kinds.{int_kind};
 ghost use Rattle.cheri_c_sem.specs.Compatible.{same_bool};
 ghost use Rattle.tac_ir.specs.Effects.{kind_of, kind_at};
 ghost use Rattle.tac_ir.specs.WellFormed.{all_of};
-ghost use Rattle.tac_ir.specs.Integers.{service_over_integers, over_integers, function_over_integers, value, value_or_zero, first_value, with_value, with_result, truth_number, up_to, arrived, onward, place_of, jumped, paused, serves, returned, is_nonzero, act_on, act, limits, acts_left};
+ghost use Rattle.tac_ir.specs.Integers.{service_over_integers, over_integers, function_over_integers, value};
+ghost use Rattle.tac_ir.specs.Integers.{value_or_zero, first_value, with_value, with_result, truth_number, up_to};
+ghost use Rattle.tac_ir.specs.Integers.{arrived, onward, place_of, jumped, paused, serves, returned, is_nonzero};
+ghost use Rattle.tac_ir.specs.Integers.{act_on, act, limits, acts_left};
 
 use crate::code::{LibOp, TacFun, TacInstr, TacKind};
 use crate::kinds::kind_at;
@@ -117,8 +121,8 @@ impl Moment {
         }
     }
 
-    /// Goes on at an instruction. Where a Turn was just passed, this uses its turn; where none is left, it goes on behind the last
-    /// instruction, where the run ends.
+    /// Goes on at an instruction. Where a Turn was just passed, this uses its turn; where none is left, it goes on
+    /// behind the last instruction, where the run ends.
     fn arrive(&mut self, code: &[TacInstr], at: usize)
         ensures { self.new ≡ arrived code.now self.old.turned at self.old }
     {
@@ -154,7 +158,8 @@ impl Moment {
 
     fn branch(&mut self, kinds: &[TacKind], code: &[TacInstr], on: u32, when: bool, label: u32)
         requires { self.old.at < length code.now }
-        ensures { self.new ≡ (if same_bool when (is_nonzero kinds.now code.now self.old on) then jumped code.now self.old label else onward code.now self.old) }
+        ensures { self.new ≡ (if same_bool when (is_nonzero kinds.now code.now self.old on)
+            then jumped code.now self.old label else onward code.now self.old) }
     {
         let kind = int_kind(kind_at(kinds, on));
         if same(when, compare(CmpOp::Ne, kind, self.value(on), 0)) {
@@ -196,7 +201,10 @@ impl Moment {
         out: &mut O,
     ) -> Option<Ending>
         requires { self.old.at < length code.now }
-        ensures { (left : Option (List ℕ)) (faults : ℕ) → Acted limits (serves code.now self.old LibOp.PutChar to args.now) (seen left faults (O.held out.old) (O.faults out.old)) (seen left faults (O.held out.new) (O.faults out.new)) self.old self.new result }
+        ensures { (left : Option (List ℕ)) (faults : ℕ) →
+            Acted limits (serves code.now self.old LibOp.PutChar to args.now)
+            (seen left faults (O.held out.old) (O.faults out.old))
+            (seen left faults (O.held out.new) (O.faults out.new)) self.old self.new result }
     {
         let byte = self.first_byte(args);
         match out.put(&[byte]) {
@@ -216,7 +224,10 @@ impl Moment {
         input: &mut I,
     ) -> Option<Ending>
         requires { self.old.at < length code.now }
-        ensures { (held : Option (List ℕ)) (faults : ℕ) → Acted limits (serves code.now self.old LibOp.GetChar to []) (seen (I.left input.old) (I.faults input.old) held faults) (seen (I.left input.new) (I.faults input.new) held faults) self.old self.new result }
+        ensures { (held : Option (List ℕ)) (faults : ℕ) →
+            Acted limits (serves code.now self.old LibOp.GetChar to [])
+            (seen (I.left input.old) (I.faults input.old) held faults)
+            (seen (I.left input.new) (I.faults input.new) held faults) self.old self.new result }
     {
         match input.next() {
             Ok(Some(byte)) => {
@@ -245,7 +256,10 @@ impl Moment {
     ) -> Option<Ending>
         requires inside { self.old.at < length code.now }
         requires integers { service_over_integers op ≡ true }
-        ensures { Acted limits (serves code.now self.old op to args.now) (seen (I.left input.old) (I.faults input.old) (O.held out.old) (O.faults out.old)) (seen (I.left input.new) (I.faults input.new) (O.held out.new) (O.faults out.new)) self.old self.new result }
+        ensures { Acted limits (serves code.now self.old op to args.now)
+            (seen (I.left input.old) (I.faults input.old) (O.held out.old) (O.faults out.old))
+            (seen (I.left input.new) (I.faults input.new) (O.held out.new) (O.faults out.new)) self.old self.new
+            result }
     {
         match op {
             LibOp::PutChar => self.put_char(code, to, args, out),
@@ -276,7 +290,10 @@ impl Moment {
     ) -> Option<Ending>
         requires inside { self.old.at < length code.now }
         requires integers { over_integers i.now ≡ true }
-        ensures { Acted limits (act_on kinds.now code.now self.old i.now) (seen (I.left input.old) (I.faults input.old) (O.held out.old) (O.faults out.old)) (seen (I.left input.new) (I.faults input.new) (O.held out.new) (O.faults out.new)) self.old self.new result }
+        ensures { Acted limits (act_on kinds.now code.now self.old i.now)
+            (seen (I.left input.old) (I.faults input.old) (O.held out.old) (O.faults out.old))
+            (seen (I.left input.new) (I.faults input.new) (O.held out.new) (O.faults out.new)) self.old self.new
+            result }
     {
         match i {
             TacInstr::Const { to, value, .. } => self.assign(code, *to, *value),
@@ -325,7 +342,10 @@ impl Moment {
     /// The next instruction, or the end of the code.
     fn step<I: Source, O: Sink>(&mut self, f: &TacFun, input: &mut I, out: &mut O) -> Option<Ending>
         requires { function_over_integers (Some f.now) ≡ true }
-        ensures { Acted limits (act f.now.kinds f.now.code self.old) (seen (I.left input.old) (I.faults input.old) (O.held out.old) (O.faults out.old)) (seen (I.left input.new) (I.faults input.new) (O.held out.new) (O.faults out.new)) self.old self.new result }
+        ensures { Acted limits (act f.now.kinds f.now.code self.old)
+            (seen (I.left input.old) (I.faults input.old) (O.held out.old) (O.faults out.old))
+            (seen (I.left input.new) (I.faults input.new) (O.held out.new) (O.faults out.new)) self.old self.new
+            result }
     {
         let code = f.code.as_slice();
         match code.get(self.at) {
@@ -339,8 +359,13 @@ impl Moment {
         requires integers { function_over_integers (Some f.now) ≡ true }
         requires source_room { I.faults input.old < 2 ^ 64 - 1 }
         requires sink_room { O.faults out.old < 2 ^ 64 - 1 }
-        ensures run { IsRun (outcome limits (act f.now.kinds f.now.code) ending_alone self (acts_left f.now.code self + 1)) (seen (I.left input.old) (I.faults input.old) (O.held out.old) (O.faults out.old)) (seen (I.left input.new) (I.faults input.new) (O.held out.new) (O.faults out.new)) result }
-        ensures counted { Counted limits (seen (I.left input.old) (I.faults input.old) (O.held out.old) (O.faults out.old)) (seen (I.left input.new) (I.faults input.new) (O.held out.new) (O.faults out.new)) result }
+        ensures run { IsRun (outcome limits (act f.now.kinds f.now.code) ending_alone self
+            (acts_left f.now.code self + 1)) (seen (I.left input.old) (I.faults input.old) (O.held out.old)
+            (O.faults out.old)) (seen (I.left input.new) (I.faults input.new) (O.held out.new) (O.faults out.new))
+            result }
+        ensures counted { Counted limits (seen (I.left input.old) (I.faults input.old) (O.held out.old)
+            (O.faults out.old)) (seen (I.left input.new) (I.faults input.new) (O.held out.new) (O.faults out.new))
+            result }
     {
         'acts: loop {
             match self.step(f, input, out) {

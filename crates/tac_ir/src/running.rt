@@ -3,7 +3,8 @@ ghost use Rattle.std.specs.Prelude.{◌≡◌, ℕ, ◌+◌, ◌-◌, ◌*◌, �
 ghost use Rattle.ck_base.specs.Calls.{seen, IsRun, Counted};
 ghost use Rattle.ck_base.specs.Runs.{outcome, ending_alone};
 ghost use Rattle.cheri_c_sem.specs.Modes.{frame_within};
-ghost use Rattle.tac_ir.specs.Integers.{is_int_kind, service_over_integers, over_integers, function_over_integers, runs_over_integers, act, limits, first_moment, first_acts};
+ghost use Rattle.tac_ir.specs.Integers.{is_int_kind, service_over_integers, over_integers, function_over_integers};
+ghost use Rattle.tac_ir.specs.Integers.{runs_over_integers, act, limits, first_moment, first_acts};
 ghost use Rattle.tac_ir.specs.Meaning.{tac};
 ghost use Rattle.tac_ir.specs.WellFormed.{all_of};
 
@@ -102,9 +103,9 @@ fn code_is_over_integers(code: &[TacInstr]) -> bool
     true
 }
 
-/// Whether code runs over integers alone: its function `main` is there, each temp of that function holds an integer, and each
-/// instruction is a constant, a copy, an operation, a comparison or a conversion of integers, a label, a jump, a branch, a turn, a
-/// return, or a call of `putchar`, `getchar` or `exit`.
+/// Whether code runs over integers alone: its function `main` is there, each temp of that function holds an integer,
+/// and each instruction is a constant, a copy, an operation, a comparison or a conversion of integers, a label, a jump,
+/// a branch, a turn, a return, or a call of `putchar`, `getchar` or `exit`.
 #[tactic(auto, unfolding(crate::specs::Integers::runs_over_integers))]
 pub fn runs_over_integers(t: &Tac, p: &Typed) -> bool
     ensures { result ≡ runs_over_integers t.now p.now }
@@ -126,16 +127,22 @@ fn run_main<I: Source, O: Sink>(
     requires integers { function_over_integers (Some f.now) ≡ true }
     requires source_room { I.faults input.old < 2 ^ 64 - 1 }
     requires sink_room { O.faults out.old < 2 ^ 64 - 1 }
-    ensures run { IfOk result (λ e. IsRun (outcome limits (act f.now.kinds f.now.code) ending_alone (first_moment f.now.kinds turns) (first_acts f.now.kinds f.now.code turns)) (seen (I.left input.old) (I.faults input.old) (O.held out.old) (O.faults out.old)) (seen (I.left input.new) (I.faults input.new) (O.held out.new) (O.faults out.new)) e) }
-    ensures counted { IfOk result (λ e. Counted limits (seen (I.left input.old) (I.faults input.old) (O.held out.old) (O.faults out.old)) (seen (I.left input.new) (I.faults input.new) (O.held out.new) (O.faults out.new)) e) }
-    ensures no_memory { OnErr result (seen (I.left input.new) (I.faults input.new) (O.held out.new) (O.faults out.new) ≡ seen (I.left input.old) (I.faults input.old) (O.held out.old) (O.faults out.old)) }
+    ensures run { IfOk result (λ e. IsRun (outcome limits (act f.now.kinds f.now.code) ending_alone
+        (first_moment f.now.kinds turns) (first_acts f.now.kinds f.now.code turns))
+        (seen (I.left input.old) (I.faults input.old) (O.held out.old) (O.faults out.old))
+        (seen (I.left input.new) (I.faults input.new) (O.held out.new) (O.faults out.new)) e) }
+    ensures counted { IfOk result (λ e. Counted limits
+        (seen (I.left input.old) (I.faults input.old) (O.held out.old) (O.faults out.old))
+        (seen (I.left input.new) (I.faults input.new) (O.held out.new) (O.faults out.new)) e) }
+    ensures no_memory { OnErr result (seen (I.left input.new) (I.faults input.new) (O.held out.new) (O.faults out.new)
+        ≡ seen (I.left input.old) (I.faults input.old) (O.held out.old) (O.faults out.old)) }
 {
     let temps = vec![in alloc; 0; f.kinds.as_slice().len()]?;
     Ok(Moment::first(temps, turns).run(f, input, out))
 }
 
-/// Runs code that is over integers alone, well formed or not, with so many turns, as its meaning says: under the map, whether
-/// it is legal or not, in the world of the call. Where there is no memory, nothing was read or put.
+/// Runs code that is over integers alone, well formed or not, with so many turns, as its meaning says: under the map,
+/// whether it is legal or not, in the world of the call. Where there is no memory, nothing was read or put.
 pub fn run_tac<I: Source, O: Sink>(
     alloc: Global,
     t: &Tac,
@@ -148,9 +155,14 @@ pub fn run_tac<I: Source, O: Sink>(
     requires integers { runs_over_integers t.now p.now ≡ true }
     requires source_room { I.faults input.old < 2 ^ 64 - 1 }
     requires sink_room { O.faults out.old < 2 ^ 64 - 1 }
-    ensures run { IfOk result (λ e. IsRun (λ w. tac t.now p.now m.now w turns) (seen (I.left input.old) (I.faults input.old) (O.held out.old) (O.faults out.old)) (seen (I.left input.new) (I.faults input.new) (O.held out.new) (O.faults out.new)) e) }
-    ensures counted { IfOk result (λ e. Counted limits (seen (I.left input.old) (I.faults input.old) (O.held out.old) (O.faults out.old)) (seen (I.left input.new) (I.faults input.new) (O.held out.new) (O.faults out.new)) e) }
-    ensures no_memory { OnErr result (seen (I.left input.new) (I.faults input.new) (O.held out.new) (O.faults out.new) ≡ seen (I.left input.old) (I.faults input.old) (O.held out.old) (O.faults out.old)) }
+    ensures run { IfOk result (λ e. IsRun (λ w. tac t.now p.now m.now w turns)
+        (seen (I.left input.old) (I.faults input.old) (O.held out.old) (O.faults out.old))
+        (seen (I.left input.new) (I.faults input.new) (O.held out.new) (O.faults out.new)) e) }
+    ensures counted { IfOk result (λ e. Counted limits
+        (seen (I.left input.old) (I.faults input.old) (O.held out.old) (O.faults out.old))
+        (seen (I.left input.new) (I.faults input.new) (O.held out.new) (O.faults out.new)) e) }
+    ensures no_memory { OnErr result (seen (I.left input.new) (I.faults input.new) (O.held out.new) (O.faults out.new)
+        ≡ seen (I.left input.old) (I.faults input.old) (O.held out.old) (O.faults out.old)) }
 {
     match t.funs.as_slice().get(p.main as usize) {
         None => unreachable!(),

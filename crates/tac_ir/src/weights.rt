@@ -131,7 +131,8 @@ fn expression_at(p: &Typed, k: usize) -> Option<&Expr>
     p.exprs.as_slice().get(k)
 }
 
-/// The weight of expression `k` with its operands, where it stands before number `limit`. The calls are as deep as its tree.
+/// The weight of expression `k` with its operands, where it stands before number `limit`. The calls are as deep as its
+/// tree.
 fn expression_weight(p: &Typed, k: usize, limit: usize) -> u128
     ensures { result ≡ capped (before (expression_weight p.now) limit k) }
 {
@@ -273,8 +274,8 @@ fn statement_at(p: &Typed, k: usize) -> Option<&Stmt>
     p.stmts.as_slice().get(k)
 }
 
-/// The weight of statement `k` with its expressions and parts, where it stands before number `limit`. The calls are as deep as its
-/// tree.
+/// The weight of statement `k` with its expressions and parts, where it stands before number `limit`. The calls are as
+/// deep as its tree.
 fn statement_weight(p: &Typed, k: usize, limit: usize) -> u128
     ensures { result ≡ capped (before (statement_weight p.now) limit k) }
 {
@@ -294,8 +295,8 @@ fn statement_weight(p: &Typed, k: usize, limit: usize) -> u128
     }
 }
 
-/// The weight of a function of a program; one of 2^128 or more is 2^128 - 1 here. Each expression and statement of its body is
-/// looked at once. The calls are as deep as the body's tree.
+/// The weight of a function of a program; one of 2^128 or more is 2^128 - 1 here. Each expression and statement of its
+/// body is looked at once. The calls are as deep as the body's tree.
 pub fn function_weight(p: &Typed, f: &FunDef) -> u128
     ensures { result ≡ capped (function_weight p.now f.now) }
 {

@@ -17,9 +17,10 @@ fn is_within(f: &TacFun, weight: u128) -> bool
     function_cost(f) <= weight.saturating_mul(32) && temps <= weight.saturating_mul(2)
 }
 
-/// Whether each function of some code costs at most 32 times the weight of that function of the program, and its temps and the
-/// argument places past eight of its largest call are at most twice that weight. It takes no memory. It looks once at each
-/// instruction, and at each expression and statement of a program; its calls are as deep as the program's trees.
+/// Whether each function of some code costs at most 32 times the weight of that function of the program, and its temps
+/// and the argument places past eight of its largest call are at most twice that weight. It takes no memory. It looks
+/// once at each instruction, and at each expression and statement of a program; its calls are as deep as the program's
+/// trees.
 pub fn is_within_costs(t: &Tac, p: &Typed) -> bool
     ensures { IsTrue result ↔ WithinCosts t.now p.now }
 {

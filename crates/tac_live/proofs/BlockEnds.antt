@@ -1,11 +1,13 @@
 -- The first and the last instruction of a block, from how far loops reach.
-use Rattle.std.proofs.Common.{◌≡◌, ℕ, zero, suc, ◌+◌, ◌-◌, ◌<◌, ◌≤◌, max, List, length, inl, inr, refl, sym, subst, arith}
+use Rattle.std.proofs.Common.{◌≡◌, ℕ, zero, suc, ◌+◌, ◌-◌, ◌<◌, ◌≤◌, max, List, length, inl, inr, refl, sym, subst}
+use Rattle.std.proofs.Common.{arith}
 use Rattle.std.specs.Prelude.{slice_index}
 use Rattle.std.proofs.lemmas.Bool.{cases_eq, cases_lt}
 use Rattle.tac_ir.specs.Intervals.{IsLoop}
 use Rattle.tac_ir.specs.declared.code.TacInstr.{TacInstr}
 use Rattle.tac_live.proofs.Numbers.{at_within}
-use Rattle.tac_live.specs.Loops.{AreReaches, IsTop, AreTops, IsStart, IsEnd, IsClosed, IsBlock, AreStarts, AreEnds, AreBlocks}
+use Rattle.tac_live.specs.Loops.{AreReaches, IsTop, AreTops, IsStart, IsEnd, IsClosed, IsBlock, AreStarts, AreEnds}
+use Rattle.tac_live.specs.Loops.{AreBlocks}
 
 -- ---- how far loops reach
 
@@ -20,7 +22,8 @@ top_below_first reach = record { none = λ e. refl; some = λ m e. absurd (omega
 module _ (reach : List ℕ) (top : ℕ) where
   top_start : (n : ℕ) → n ≡ 0 → top ≡ 0 → IsTop reach n (max top (slice_index reach n))
   top_start n e z = record {
-    above = λ m le. let s : m ≡ n = omega arith in subst (λ k. slice_index reach k ≤ max top (slice_index reach n)) (sym s) (omega arith);
+    above = λ m le. let s : m ≡ n = omega arith in
+        subst (λ k. slice_index reach k ≤ max top (slice_index reach n)) (sym s) (omega arith);
     reached = (n, omega arith, omega arith);
   }
 
@@ -41,7 +44,12 @@ module _ (reach : List ℕ) (top : ℕ) where
   top_here (suc m) h = top_next m (suc m) refl (h.some m refl)
 
 pub top_below : (reach : List ℕ) (n next top : ℕ) → next ≡ suc n → IsTop reach n top → IsTopBelow reach next top
-top_below reach n next top s h = record { none = λ e. absurd (omega arith); some = λ m e. let q : n ≡ m = omega arith in subst (λ k. IsTop reach k top) q h }
+top_below reach n next top s h =
+    record {
+      none = λ e. absurd (omega arith);
+      some = λ m e. let q : n ≡ m = omega arith in
+          subst (λ k. IsTop reach k top) q h;
+    }
 
 -- ---- the first of a block
 
@@ -53,10 +61,12 @@ pub record IsStartBelow (tops : List ℕ) (n first top : ℕ) : Type 0 where
 pub start_below_first : (tops : List ℕ) → IsStartBelow tops 0 0 0
 start_below_first tops = record { none = λ e. (refl, refl); some = λ m e. absurd (omega arith) }
 
-pub start_below : (tops : List ℕ) (n next first top : ℕ) → next ≡ suc n → IsStart tops n first → top ≡ slice_index tops n → IsStartBelow tops next first top
+pub start_below : (tops : List ℕ) (n next first top : ℕ) → next ≡ suc n → IsStart tops n first →
+    top ≡ slice_index tops n → IsStartBelow tops next first top
 start_below tops n next first top up h e = record {
   none = λ z. absurd (omega arith);
-  some = λ m s. let q : n ≡ m = omega arith in (subst (λ k. IsStart tops k first) q h, subst (λ k. top ≡ slice_index tops k) q e);
+  some = λ m s. let q : n ≡ m = omega arith in
+      (subst (λ k. IsStart tops k first) q h, subst (λ k. top ≡ slice_index tops k) q e);
 }
 
 -- no loop goes on to a number
@@ -87,9 +97,11 @@ start_on tops (suc m) first top h on =
 -- ---- the last of a block
 
 pub end_here : (tops : List ℕ) (n : ℕ) → n < length tops → slice_index tops n ≤ n → IsEnd tops n n
-end_here tops n within cut = record { from = omega arith; within = within; cut = cut; joined = λ k a b. absurd (omega arith) }
+end_here tops n within cut =
+    record { from = omega arith; within = within; cut = cut; joined = λ k a b. absurd (omega arith) }
 
-pub end_back : (tops : List ℕ) (n m last : ℕ) → suc m ≡ n → IsEnd tops n last → m < slice_index tops m → IsEnd tops m last
+pub end_back : (tops : List ℕ) (n m last : ℕ) → suc m ≡ n → IsEnd tops n last → m < slice_index tops m →
+    IsEnd tops m last
 end_back tops n m last e h on = record {
   from = let f = h.from in omega arith;
   within = h.within;
@@ -102,9 +114,11 @@ end_back tops n m last e h on = record {
 
 -- ---- blocks
 
-module _ (code : List TacInstr) (reach tops : List ℕ) (r : AreReaches code (length code) reach) (same : length tops ≡ length reach) (t : AreTops reach tops) where
+module _ (code : List TacInstr) (reach tops : List ℕ) (r : AreReaches code (length code) reach)
+    (same : length tops ≡ length reach) (t : AreTops reach tops) where
   -- a loop that goes on behind an instruction
-  crossing : (k : ℕ) → k < length tops → k < slice_index tops k → (m : ℕ) × (m ≤ k) × IsLoop code m (slice_index reach m) × (k < slice_index reach m)
+  crossing : (k : ℕ) → k < length tops → k < slice_index tops k →
+      (m : ℕ) × (m ≤ k) × IsLoop code m (slice_index reach m) × (k < slice_index reach m)
   crossing k within on =
       let x = (t k within).reached in
       let m_below = x.1 in
@@ -116,7 +130,8 @@ module _ (code : List TacInstr) (reach tops : List ℕ) (r : AreReaches code (le
   long : (from to : ℕ) → IsLoop code from to → to ≤ slice_index reach from
   long from to l = r.longest from to l (at_within code to l.jump l.ends)
 
-  module _ (n first last a b : ℕ) (s : IsStart tops n first) (e : IsEnd tops n last) (closed : IsClosed code a b) (low : a ≤ n) (high : n ≤ b) where
+  module _ (n first last a b : ℕ) (s : IsStart tops n first) (e : IsEnd tops n last) (closed : IsClosed code a b)
+      (low : a ≤ n) (high : n ≤ b) where
     least_first : (d k : ℕ) → k + d ≡ n → first ≤ k → a ≤ k
     least_first zero k eq f = omega arith
     least_first (suc d) k eq f =
@@ -145,8 +160,10 @@ module _ (code : List TacInstr) (reach tops : List ℕ) (r : AreReaches code (le
     least_both : (a ≤ first) × (last ≤ b)
     least_both =
         let u = s.upto in
-        let f = e.from in
-        (least_first (n - first) first (omega arith) (omega arith), least_last (last - n) last (omega arith) (omega arith))
+        let f = e.from in (
+          least_first (n - first) first (omega arith) (omega arith),
+          least_last (last - n) last (omega arith) (omega arith),
+        )
 
   -- no loop passes a cut
   at_cut : (k from to : ℕ) → k < length tops → slice_index tops k ≤ k → IsLoop code from to → from ≤ k → to ≤ k
@@ -155,7 +172,8 @@ module _ (code : List TacInstr) (reach tops : List ℕ) (r : AreReaches code (le
       let above = (t k within).above from below in
       omega arith
 
-  enters : (n first : ℕ) → n < length tops → IsStart tops n first → (from to : ℕ) → IsLoop code from to → first ≤ to → first ≤ from
+  enters : (n first : ℕ) → n < length tops → IsStart tops n first → (from to : ℕ) → IsLoop code from to → first ≤ to →
+      first ≤ from
   enters n zero within s from to l below = omega arith
   enters n (suc k) within s from to l below =
       let u = s.upto in
@@ -182,7 +200,8 @@ module _ (code : List TacInstr) (reach tops : List ℕ) (r : AreReaches code (le
       let q = x.2 in
       omega arith
 
-  pub all_blocks : (starts ends : List ℕ) → length starts ≡ length tops → length ends ≡ length tops → AreStarts tops starts → AreEnds tops ends → AreBlocks code starts ends
+  pub all_blocks : (starts ends : List ℕ) → length starts ≡ length tops → length ends ≡ length tops →
+      AreStarts tops starts → AreEnds tops ends → AreBlocks code starts ends
   all_blocks starts ends sl el ss es =
       let l = r.len in
       record {

@@ -1,5 +1,6 @@
 -- One more instruction for the calls of some code.
-use Rattle.std.proofs.Common.{◌≡◌, ℕ, suc, ◌+◌, ◌<◌, ◌≤◌, max, true, false, List, [], ◌∷◌, ◌++◌, length, get_or, drop, ◌⊎◌, inl, inr, sym, ap, subst, ◌∙◌, arith}
+use Rattle.std.proofs.Common.{◌≡◌, ℕ, suc, ◌+◌, ◌<◌, ◌≤◌, max, true, false, List, [], ◌∷◌, ◌++◌, length, get_or, drop}
+use Rattle.std.proofs.Common.{◌⊎◌, inl, inr, sym, ap, subst, ◌∙◌, arith}
 use Rattle.std.specs.Prelude.{slice_index, Contains}
 use Rattle.std.specs.List.Sorted.{IsStrictlyIncreasing}
 use Rattle.std.proofs.lemmas.Bool.{cases_eq, cases_lt, both_ways}
@@ -44,14 +45,16 @@ pushed_cases xs y n (k, lt, e) = elim (cases_lt k (length xs)) [
   | inr above ↦ let q : length xs ≡ k = omega (arith, length_push xs y) in inr (sym e ∙ get_or_push xs y n k q)
 ]
 
-module _ (code : List TacInstr) (upto at : ℕ) (calls : List ℕ) (i : TacInstr) (next : at ≡ suc upto) (here : IsAt code at i) (h : CallsUpto code upto calls) where
+module _ (code : List TacInstr) (upto at : ℕ) (calls : List ℕ) (i : TacInstr) (next : at ≡ suc upto)
+    (here : IsAt code at i) (h : CallsUpto code upto calls) where
   pub calls_same : is_call i ≡ false → CallsUpto code at calls
   calls_same e = record {
     ascending = h.ascending;
     bound = λ n c. let b = h.bound n c in omega arith;
     sound = h.sound;
     complete = λ n a le. elim (cases_eq n at) [
-      | inl s ↦ absurd (both_ways (is_call i) e (subst (λ j. is_call j ≡ true) (same_at code at a.0 i (subst (λ m. IsAt code m a.0) s a.1) here) a.2))
+      | inl s ↦ absurd (both_ways (is_call i) e
+          (subst (λ j. is_call j ≡ true) (same_at code at a.0 i (subst (λ m. IsAt code m a.0) s a.1) here) a.2))
       | inr ne ↦ h.complete n a (omega arith)
     ];
   }
@@ -68,11 +71,17 @@ module _ (code : List TacInstr) (upto at : ℕ) (calls : List ℕ) (i : TacInstr
           let q : length calls ≡ k + 1 = omega (arith, length_push calls at) in
           let a = get_or_append_left calls (at ∷ []) 0 k (omega arith) in
           let b = get_or_push calls at 0 (k + 1) q in
-          let m = h.bound (slice_index calls k) (k, omega arith, get_or_default calls k (slice_index calls k) 0 (omega arith)) in
+          let m = h.bound (slice_index calls k) (
+            k,
+            omega arith,
+            get_or_default calls k (slice_index calls k) 0 (omega arith),
+          ) in
           omega arith
     ];
-    bound = λ n c. elim (pushed_cases calls at n c) [ inl o ↦ let b = h.bound n o in omega arith | inr s ↦ omega arith ];
-    sound = λ n c. elim (pushed_cases calls at n c) [ inl o ↦ h.sound n o | inr s ↦ subst (λ m. IsCallAt code m) (sym s) (i, here, e) ];
+    bound = λ n c. elim (pushed_cases calls at n c)
+        [ inl o ↦ let b = h.bound n o in omega arith | inr s ↦ omega arith ];
+    sound = λ n c. elim (pushed_cases calls at n c)
+        [ inl o ↦ h.sound n o | inr s ↦ subst (λ m. IsCallAt code m) (sym s) (i, here, e) ];
     complete = λ n a le. elim (cases_eq n at) [
       | inl s ↦ subst (λ m. Contains (calls ++ at ∷ []) m) (sym s) (Contains-push calls at)
       | inr ne ↦ pushed_in calls at n (h.complete n a (omega arith))
@@ -82,5 +91,7 @@ module _ (code : List TacInstr) (upto at : ℕ) (calls : List ℕ) (i : TacInstr
 -- ---- argument places
 
 -- the most that what is left uses is the next instruction's or that of the others
-pub most_next : (code : List TacInstr) (k : ℕ) (i : TacInstr) → k < length code → i ≡ get_or code k i → most_places (drop k code) ≡ max (places_past_eight i) (most_places (drop (k + 1) code))
-most_next code k i lt e = at_drop_more most_places code k i lt ∙ ap (λ j. max (places_past_eight j) (most_places (drop (k + 1) code))) (sym e)
+pub most_next : (code : List TacInstr) (k : ℕ) (i : TacInstr) → k < length code → i ≡ get_or code k i →
+    most_places (drop k code) ≡ max (places_past_eight i) (most_places (drop (k + 1) code))
+most_next code k i lt e =
+    at_drop_more most_places code k i lt ∙ ap (λ j. max (places_past_eight j) (most_places (drop (k + 1) code))) (sym e)

@@ -52,12 +52,22 @@ module _ (f : TacFun) (t : ℕ) where
     is_straight local e = record {
       no_parameter = local;
       written_first = λ n r.
-          let b = (named_between n (r.0, r.1, is_in_right t (writes r.0) (reads r.0) r.2)).0 in
-          (u.first, omega (arith, λ (s : u.first ≡ n). h.written_first e (subst (λ m. ReadsAt f.code t m) (sym s) r)), h.first);
+          let b = (named_between n (r.0, r.1, is_in_right t (writes r.0) (reads r.0) r.2)).0 in (
+            u.first,
+            omega (arith, λ (s : u.first ≡ n). h.written_first e (subst (λ m. ReadsAt f.code t m) (sym s) r)),
+            h.first,
+          );
       undivided = λ m n to i a b c d e'. false_from_ne_true (is_control i) (λ v.
           let l = (named_between m a).0 in
           let r = (named_between to b).1 in
-          h.undivided e (record { at = n; control = i; stands = e'; divides = v; behind = omega arith; before = omega arith }));
+          h.undivided e (record {
+            at = n;
+            control = i;
+            stands = e';
+            divides = v;
+            behind = omega arith;
+            before = omega arith;
+          }));
     }
 
     not_straight : u.straight ≡ false → IsStraight f t → ⊥
@@ -67,7 +77,8 @@ module _ (f : TacFun) (t : ℕ) where
           let b = (named_between earlier.0 earlier.2).0 in
           let l = earlier.1 in
           omega arith
-      | inr d ↦ both_ways (is_control d.control) (s.undivided u.first d.at u.last d.control h.first h.last d.behind d.before d.stands) d.divides
+      | inr d ↦ both_ways (is_control d.control)
+          (s.undivided u.first d.at u.last d.control h.first h.last d.behind d.before d.stands) d.divides
     ]
 
     pub straight_temp : f.params ≤ t → u.straight ≡ true → IsLive f t u.first u.last
@@ -103,17 +114,21 @@ module _ (f : TacFun) (t : ℕ) where
         unused = λ n. absurd (is_used n);
       }
 
-      pub bent_temp : f.params ≤ t → u.straight ≡ false → IsLive f t (slice_index starts u.first) (slice_index ends u.last)
+      pub bent_temp : f.params ≤ t → u.straight ≡ false →
+          IsLive f t (slice_index starts u.first) (slice_index ends u.last)
       bent_temp local e = record {
         covers = record {
           at_entry = λ p. absurd (omega arith);
-          named = λ n a. let b = named_between n a in let x = start_block.starts in let y = end_block.ends in (let b0 = b.0 in omega arith, let b1 = b.1 in omega arith);
+          named = λ n a. let b = named_between n a in let x = start_block.starts in let y = end_block.ends in
+              (let b0 = b.0 in omega arith, let b1 = b.1 in omega arith);
           loops = λ bent from to l below above. (start_block.enters from to l above, end_block.leaves from to l below);
         };
         least = λ used first' last' c.
             let bent = not_straight e in
             let m = c.named u.first h.first in
-            let n = c.named u.last h.last in
-            ((start_block.least first' last' (c.loops bent) m.0 m.1).0, (end_block.least first' last' (c.loops bent) n.0 n.1).1);
+            let n = c.named u.last h.last in (
+              (start_block.least first' last' (c.loops bent) m.0 m.1).0,
+              (end_block.least first' last' (c.loops bent) n.0 n.1).1,
+            );
         unused = λ n. absurd (is_used n);
       }

@@ -1,5 +1,6 @@
 -- Instructions by their numbers.
-use Rattle.std.proofs.Common.{◌≡◌, ℕ, zero, suc, ◌+◌, ◌<◌, ◌≤◌, List, [], ◌∷◌, ◌++◌, length, get_or, All, Some, ◌⊎◌, inl, inr, sym, ap, ◌∙◌, subst, arith}
+use Rattle.std.proofs.Common.{◌≡◌, ℕ, zero, suc, ◌+◌, ◌<◌, ◌≤◌, List, [], ◌∷◌, ◌++◌, length, get_or, All, Some, ◌⊎◌}
+use Rattle.std.proofs.Common.{inl, inr, sym, ap, ◌∙◌, subst, arith}
 use Rattle.std.proofs.lemmas.Bool.{cases_eq}
 use Rattle.std.proofs.lemmas.List.{get_or-append-add, length-append}
 use Rattle.std.proofs.lemmas.Option.{slice_get_within, slice_get-get_or}
@@ -31,7 +32,8 @@ is_in_right t (x ∷ xs) ys h = let r = is_in_right t xs ys h in (suc r.0, r.1)
 pub is_in_append : (t : ℕ) (xs ys : List ℕ) → IsIn t (xs ++ ys) → IsIn t xs ⊎ IsIn t ys
 is_in_append t [] ys h = inr h
 is_in_append t (x ∷ xs) ys (zero, h) = inl (zero, h)
-is_in_append t (x ∷ xs) ys (suc j, h) = elim (is_in_append t xs ys (j, h)) [ inl l ↦ inl (suc l.0, l.1) | inr r ↦ inr r ]
+is_in_append t (x ∷ xs) ys (suc j, h) =
+    elim (is_in_append t xs ys (j, h)) [ inl l ↦ inl (suc l.0, l.1) | inr r ↦ inr r ]
 
 pub is_in_cases : (t : ℕ) (xs : List ℕ) → IsIn t xs ⊎ (IsIn t xs → ⊥)
 is_in_cases t [] = inr none
@@ -52,8 +54,10 @@ pub all_from_in : (P : ℕ → Type 0) (xs : List ℕ) → ((t : ℕ) → IsIn t
 all_from_in P xs h = λ k d lt. h (get_or xs k d) (k, slice_get-get_or xs k d lt)
 
 pub all_right : (P : ℕ → Type 0) (xs ys : List ℕ) → All P (xs ++ ys) → All P ys
-all_right P xs ys h = λ k d lt. subst P (get_or-append-add xs ys k d) (h (length xs + k) d (omega (arith, length-append xs ys)))
+all_right P xs ys h = λ k d lt. subst P (get_or-append-add xs ys k d)
+    (h (length xs + k) d (omega (arith, length-append xs ys)))
 
 -- the instruction that a loop over some code is at
-pub at_item : (code : List TacInstr) (k : ℕ) (i : TacInstr) (n : ℕ) → k < length code → i ≡ get_or code k i → n ≡ k + 1 → IsAt code n i
+pub at_item : (code : List TacInstr) (k : ℕ) (i : TacInstr) (n : ℕ) → k < length code → i ≡ get_or code k i →
+    n ≡ k + 1 → IsAt code n i
 at_item code k i n lt e s = (k, omega arith, slice_get-get_or code k i lt ∙ ap Some (sym e))

@@ -28,8 +28,8 @@ arguments (instr.CallValue to v of args pos) = args
 arguments (instr.Lib op to args) = args
 arguments i = []
 
--- the argument places past eight that an instruction uses, and the most that one of some code uses; a call of the library has at most one
--- argument
+-- the argument places past eight that an instruction uses, and the most that one of some code uses; a call of the
+-- library has at most one argument
 abbrev pub places_past_eight : TacInstr → ℕ
 places_past_eight (instr.Call to fun args) = length args - 8
 places_past_eight (instr.CallValue to v of args pos) = length args - 8

@@ -54,7 +54,8 @@ pub record IsBlock (code : List TacInstr) (n first last : ℕ) : Type 0 where
   pub ends : n ≤ last
   pub enters : (from to : ℕ) → IsLoop code from to → first ≤ to → first ≤ from
   pub leaves : (from to : ℕ) → IsLoop code from to → from ≤ last → to ≤ last
-  pub least : (first' last' : ℕ) → IsClosed code first' last' → first' ≤ n → n ≤ last' → (first' ≤ first) × (last ≤ last')
+  pub least : (first' last' : ℕ) → IsClosed code first' last' → first' ≤ n → n ≤ last' →
+      (first' ≤ first) × (last ≤ last')
 
 -- the blocks around the instructions
 pub record AreBlocks (code : List TacInstr) (starts ends : List ℕ) : Type 0 where

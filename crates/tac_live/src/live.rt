@@ -37,8 +37,8 @@ fn interval(f: &TacFun, t: u32, uses: Option<Uses>, blocks: &Blocks) -> Interval
     }
 }
 
-/// The live interval of each temp of a function, in the order of the temps. A parameter's begins at the entry; that of a
-/// temp that no instruction names, and that is no parameter, holds no instruction. The work is that of a sort of the
+/// The live interval of each temp of a function, in the order of the temps. A parameter's begins at the entry; that of
+/// a temp that no instruction names, and that is no parameter, holds no instruction. The work is that of a sort of the
 /// labels, and linear in the code beside. It refuses nothing but for want of memory.
 pub fn intervals(alloc: Global, f: &TacFun) -> Result<Vec<Interval>, NoMemory>
     requires numbered { is_numbered f.now ≡ true }

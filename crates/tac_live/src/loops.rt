@@ -2,7 +2,8 @@
 ghost use Rattle.std.specs.BTreeMap.{get};
 ghost use Rattle.std.specs.Option.{ForSome};
 ghost use Rattle.std.specs.Ordering.{nat_cmp};
-ghost use Rattle.std.specs.Prelude.{◌≡◌, ℕ, suc, ◌^◌, ◌<◌, ◌≤◌, true, IfOk, MatchOption, length, slice_index, slice_set, vec_len};
+ghost use Rattle.std.specs.Prelude.{◌≡◌, ℕ, suc, ◌^◌, ◌<◌, ◌≤◌, true, IfOk, MatchOption, length, slice_index};
+ghost use Rattle.std.specs.Prelude.{slice_set, vec_len};
 ghost use Rattle.tac_ir.specs.WellFormed.{labels_differ};
 ghost use Rattle.tac_live.specs.Loops.{AreReaches, AreTops, AreStarts, AreEnds, AreBlocks};
 
@@ -22,7 +23,8 @@ pub struct Blocks {
 // Where a label stands to which instruction number `at` jumps back, a loop begins that reaches to it.
 fn note_jump(reach: &mut [u32], places: &BTreeMap<u32, u32>, label: u32, at: u32)
     requires { ForSome (get nat_cmp places.now label) (λ from. from < length reach.old) }
-    ensures { MatchOption (get nat_cmp places.now label) (reach.new ≡ reach.old) (λ from. reach.new ≡ slice_set reach.old from at) }
+    ensures { MatchOption (get nat_cmp places.now label) (reach.new ≡ reach.old)
+        (λ from. reach.new ≡ slice_set reach.old from at) }
 {
     if let Some(from) = places.get(&label) {
         reach[*from as usize] = at;

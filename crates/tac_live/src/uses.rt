@@ -1,5 +1,6 @@
 // Which instructions name each temp.
-ghost use Rattle.std.specs.Prelude.{◌≡◌, ℕ, ◌^◌, ◌<◌, true, false, None, Some, All, IfOk, length, slice_index_or, slice_set, vec_len};
+ghost use Rattle.std.specs.Prelude.{◌≡◌, ℕ, ◌^◌, ◌<◌, true, false, None, Some, All, IfOk, length, slice_index_or};
+ghost use Rattle.std.specs.Prelude.{slice_set, vec_len};
 ghost use Rattle.tac_ir.specs.Intervals.{NamesAt};
 ghost use Rattle.tac_ir.specs.Temps.{in_option, reads, writes};
 ghost use Rattle.tac_live.specs.Uses.{MatchUses, noted, with_use};
@@ -56,7 +57,8 @@ fn note(uses: &mut [Option<Uses>], t: u32, place: Place, writes: bool)
 // An instruction may name a temp.
 fn note_option(uses: &mut [Option<Uses>], t: Option<u32>, place: Place, writes: bool)
     requires { All (λ k. k < length uses.old) (in_option t) }
-    ensures { (k : ℕ) → k < length uses.old → slice_index_or uses.new k None ≡ noted place writes (in_option t) k (slice_index_or uses.old k None) }
+    ensures { (k : ℕ) → k < length uses.old →
+        slice_index_or uses.new k None ≡ noted place writes (in_option t) k (slice_index_or uses.old k None) }
 {
     if let Some(t) = t {
         note(uses, t, place, writes);
@@ -67,7 +69,9 @@ fn note_option(uses: &mut [Option<Uses>], t: Option<u32>, place: Place, writes: 
 fn note_instruction(uses: &mut [Option<Uses>], i: &TacInstr, place: Place)
     requires reads { All (λ k. k < length uses.old) (reads i.now) }
     requires writes { All (λ k. k < length uses.old) (writes i.now) }
-    ensures { (k : ℕ) → k < length uses.old → slice_index_or uses.new k None ≡ noted place true (writes i.now) k (noted place false (reads i.now) k (slice_index_or uses.old k None)) }
+    ensures { (k : ℕ) → k < length uses.old →
+        slice_index_or uses.new k None ≡ noted place true (writes i.now) k
+        (noted place false (reads i.now) k (slice_index_or uses.old k None)) }
 {
     let (a, b) = read(i);
     note_option(uses, a, place, false);
@@ -95,7 +99,8 @@ pub fn uses_of(alloc: Global, temps: u32, code: &[TacInstr]) -> Result<Vec<Optio
     requires named { (t n : ℕ) → NamesAt code.now t n → t < temps }
     requires short { length code.now < 2 ^ 32 }
     ensures len { IfOk result (λ v. vec_len v ≡ temps) }
-    ensures uses { IfOk result (λ v. (t : ℕ) → t < temps → MatchUses code.now (length code.now) t (slice_index_or v.items t None)) }
+    ensures uses { IfOk result (λ v. (t : ℕ) → t < temps →
+        MatchUses code.now (length code.now) t (slice_index_or v.items t None)) }
 {
     let mut uses = no_uses(alloc, temps)?;
     let mut place = Place { at: 0, control: 0 };

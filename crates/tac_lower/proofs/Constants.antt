@@ -64,7 +64,8 @@ address_fits s n = refl
 
 -- ---- counts
 
-pub count_fits : (e : Emitter) (shift : Bool) (k : IntKind) (t : ℕ) → (shift ≡ true → HasInt e t) → (shift ≡ false → HasKind e t (kind.Int k)) → CountFits e shift k t
+pub count_fits : (e : Emitter) (shift : Bool) (k : IntKind) (t : ℕ) → (shift ≡ true → HasInt e t) →
+    (shift ≡ false → HasKind e t (kind.Int k)) → CountFits e shift k t
 count_fits e true k t f g = f refl
 count_fits e false k t f g = g refl
 
@@ -80,7 +81,8 @@ wide_is (kind.Int int.U32) = tt
 wide_is (kind.Int int.U64) = tt
 wide_is (kind.Cap s) = tt
 
-pub kept_count : (a b : Emitter) (shift : Bool) (k : IntKind) (t : ℕ) → CountFits a shift k t → Grown a b → CountFits b shift k t
+pub kept_count : (a b : Emitter) (shift : Bool) (k : IntKind) (t : ℕ) → CountFits a shift k t → Grown a b →
+    CountFits b shift k t
 kept_count a b true k t h g = kept_int a b t h g
 kept_count a b false k t h g = kept a b t (kind.Int k) h g
 

@@ -1,5 +1,6 @@
 -- What functions cost, one after another.
-use Rattle.std.proofs.Common.{◌≡◌, ℕ, zero, suc, ◌+◌, ◌<◌, List, [], ◌∷◌, ◌++◌, length, Some, refl, sym, ap, ◌∙◌, subst, arith, length-append}
+use Rattle.std.proofs.Common.{◌≡◌, ℕ, zero, suc, ◌+◌, ◌<◌, List, [], ◌∷◌, ◌++◌, length, Some, refl, sym, ap, ◌∙◌, subst}
+use Rattle.std.proofs.Common.{arith, length-append}
 use Rattle.std.specs.Prelude.{slice_get}
 use Rattle.c_tree.specs.TreeWeight.{function_weight}
 use Rattle.c_tree.specs.declared.typed.FunDef.{FunDef}
@@ -16,17 +17,20 @@ pub record CostsTo (p : Typed) (fs : List TacFun) (i : ℕ) : Type 0 where
 pub costs_none : (p : Typed) → CostsTo p [] 0
 costs_none p = record { count = refl; each = λ k f e. absurd cc }
 
-pushed : (xs : List TacFun) (y : TacFun) (P : ℕ → TacFun → Type 0) → ((k : ℕ) (f : TacFun) → slice_get xs k ≡ Some f → P k f)
+pushed : (xs : List TacFun) (y : TacFun) (P : ℕ → TacFun → Type 0) →
+    ((k : ℕ) (f : TacFun) → slice_get xs k ≡ Some f → P k f)
     → P (length xs) y → (k : ℕ) (f : TacFun) → slice_get (xs ++ y ∷ []) k ≡ Some f → P k f
 pushed [] y P h q zero f e = let z : y ≡ f = cc in subst (λ v. P zero v) z q
 pushed [] y P h q (suc k) f e = absurd cc
 pushed (x ∷ xs) y P h q zero f e = h zero f e
 pushed (x ∷ xs) y P h q (suc k) f e = pushed xs y (λ n. P (suc n)) (λ n. h (suc n)) q k f e
 
-pub costs_more : (p : Typed) (d : FunDef) (fs : List TacFun) (f : TacFun) (i : ℕ) → CostsTo p fs i → slice_get p.funs i ≡ Some d
+pub costs_more : (p : Typed) (d : FunDef) (fs : List TacFun) (f : TacFun) (i : ℕ) → CostsTo p fs i →
+    slice_get p.funs i ≡ Some d
     → FunctionCosts (function_weight p d) f → CostsTo p (fs ++ f ∷ []) (i + 1)
 costs_more p d fs f i h there q = record {
   count = omega (arith, h.count, length-append fs (f ∷ []));
   each = pushed fs f (λ k g. FunctionCosts (weight_in p k) g) h.each
-      (subst (λ z. FunctionCosts (weight_by p (slice_get p.funs z)) f) (sym h.count) (subst (λ z. FunctionCosts (weight_by p z) f) (sym there) q));
+      (subst (λ z. FunctionCosts (weight_by p (slice_get p.funs z)) f) (sym h.count)
+      (subst (λ z. FunctionCosts (weight_by p z) f) (sym there) q));
 }

@@ -1,5 +1,6 @@
 -- The variables that blocks enter, and what is spent at a function's begin and end.
-use Rattle.std.proofs.Common.{◌≡◌, ℕ, zero, suc, ◌+◌, ◌-◌, ◌*◌, ◌<◌, ◌≤◌, Bool, true, false, List, [], ◌∷◌, ◌++◌, length, take, get_or, refl, sym, ap, ◌⊎◌, ⊎_elim, inl, inr, ◌∙◌, subst, arith}
+use Rattle.std.proofs.Common.{◌≡◌, ℕ, zero, suc, ◌+◌, ◌-◌, ◌*◌, ◌<◌, ◌≤◌, Bool, true, false, List, [], ◌∷◌, ◌++◌}
+use Rattle.std.proofs.Common.{length, take, get_or, refl, sym, ap, ◌⊎◌, ⊎_elim, inl, inr, ◌∙◌, subst, arith}
 use Rattle.std.specs.Prelude.{nat_lt, ◌==◌, if◌then◌else◌}
 use Rattle.std.specs.List.{sum_by}
 use Rattle.std.proofs.lemmas.Bool.{cases_lt}
@@ -26,11 +27,13 @@ entered_one d x past lt =
     let f = is_entered (length d.params) (length d.vars) in
     let no : nat_lt x (length d.params) ≡ false = grind (arith, nat_tests) in
     let yes : nat_lt x (length d.vars) ≡ true = grind (arith, nat_tests) in
-    let one : f x ≡ 1 = ap (λ b. if b then 0 else (if nat_lt x (length d.vars) then 1 else 0)) no ∙ ap (λ b. if b then 1 else 0) yes in
+    let one : f x ≡ 1 = ap (λ b. if b then 0 else (if nat_lt x (length d.vars) then 1 else 0)) no
+    ∙ ap (λ b. if b then 1 else 0) yes in
     let none : sum_by f [] ≡ 0 = refl in
     sum_by-cons f x [] ∙ omega (arith, one, none)
 
-pub entered_next : (d : FunDef) (xs : List ℕ) (i : ℕ) → i < length xs → entered d (take (i + 1) xs) ≡ entered d (take i xs) + entered d (get_or xs i 0 ∷ [])
+pub entered_next : (d : FunDef) (xs : List ℕ) (i : ℕ) → i < length xs →
+    entered d (take (i + 1) xs) ≡ entered d (take i xs) + entered d (get_or xs i 0 ∷ [])
 entered_next d xs i lt =
     let f = is_entered (length d.params) (length d.vars) in
     omega (arith, sum_by_more f xs i 0 lt, sum_by-cons f (get_or xs i 0) [])
@@ -42,7 +45,8 @@ pub all_entered_next : (p : Typed) (d : FunDef) (ks : List ℕ) (i : ℕ) → i 
     → all_entered_in p d (take (i + 1) ks) ≡ all_entered_in p d (take i ks) + entered_in p d (get_or ks i 0)
 all_entered_next p d ks i lt = sum_by_more (λ k. entered_in p d k) ks i 0 lt
 
-pub all_entered_taken : (p : Typed) (d : FunDef) (ks : List ℕ) (i : ℕ) → all_entered_in p d (take i ks) ≤ all_entered_in p d ks
+pub all_entered_taken : (p : Typed) (d : FunDef) (ks : List ℕ) (i : ℕ) →
+    all_entered_in p d (take i ks) ≤ all_entered_in p d ks
 all_entered_taken p d ks i = sum_by-take-le (λ k. entered_in p d k) ks i
 
 -- a statement weighs 1 at least
@@ -56,10 +60,18 @@ hefty (action f xs ys p) = by f (terms_weight xs) (actions_weight ys)
 -- ---- each variable that is no parameter is entered once
 
 -- one number more is entered as often as it stands there
-entered_wider : (n m : ℕ) (xs : List ℕ) → n ≤ m → sum_by (is_entered n (m + 1)) xs ≡ sum_by (is_entered n m) xs + times_in m xs
+entered_wider : (n m : ℕ) (xs : List ℕ) → n ≤ m →
+    sum_by (is_entered n (m + 1)) xs ≡ sum_by (is_entered n m) xs + times_in m xs
 entered_wider n m [] h = omega arith
 entered_wider n m (x ∷ xs) h =
-    omega (arith, sum_by-cons (is_entered n (m + 1)) x xs, sum_by-cons (is_entered n m) x xs, sum_by-cons (λ j. if j == m then 1 else 0) x xs, one (cases_lt x n), entered_wider n m xs h)
+    omega (
+      arith,
+      sum_by-cons (is_entered n (m + 1)) x xs,
+      sum_by-cons (is_entered n m) x xs,
+      sum_by-cons (λ j. if j == m then 1 else 0) x xs,
+      one (cases_lt x n),
+      entered_wider n m xs h,
+    )
   where
     -- below n, from n to m, m itself, and above
     one : (x < n) ⊎ (n ≤ x) → is_entered n (m + 1) x ≡ is_entered n m x + (if x == m then 1 else 0)
@@ -96,9 +108,11 @@ nothing_twice false = refl
 
 none_entered : (n : ℕ) (xs : List ℕ) → sum_by (is_entered n n) xs ≡ 0
 none_entered n [] = refl
-none_entered n (x ∷ xs) = omega (arith, sum_by-cons (is_entered n n) x xs, nothing_twice (nat_lt x n), none_entered n xs)
+none_entered n (x ∷ xs) =
+    omega (arith, sum_by-cons (is_entered n n) x xs, nothing_twice (nat_lt x n), none_entered n xs)
 
-entered_once : (n k m : ℕ) (xs : List ℕ) → ((j : ℕ) → n ≤ j → j < m → times_in j xs ≡ 1) → n + k ≤ m → sum_by (is_entered n (n + k)) xs ≡ k
+entered_once : (n k m : ℕ) (xs : List ℕ) → ((j : ℕ) → n ≤ j → j < m → times_in j xs ≡ 1) → n + k ≤ m →
+    sum_by (is_entered n (n + k)) xs ≡ k
 entered_once n zero m xs once h =
     let e : n ≡ n + zero = omega arith in
     subst (λ z. sum_by (is_entered n z) xs ≡ zero) e (none_entered n xs)
@@ -109,11 +123,14 @@ entered_once n (suc k) m xs once h =
     let same : n + k + 1 ≡ n + suc k = omega arith in
     subst (λ z. sum_by (is_entered n z) xs ≡ suc k) same (omega (arith, e, before, last))
 
-pub entered_few : {p : Typed} {d : FunDef} → FunctionFits p d → length d.params ≤ length d.vars → entered_in p d d.body + length d.params ≡ length d.vars
+pub entered_few : {p : Typed} {d : FunDef} → FunctionFits p d → length d.params ≤ length d.vars →
+    entered_in p d d.body + length d.params ≡ length d.vars
 entered_few {p = p} {d = d} h few =
     let n = length d.params in
     let k = length d.vars - length d.params in
-    let all : sum_by (is_entered n (n + k)) (declared (action_at (actions_of p) d.body)) ≡ k = entered_once n k (length d.vars) (declared (action_at (actions_of p) d.body)) h.declared_once (omega arith) in
+    let all : sum_by (is_entered n (n + k)) (declared (action_at (actions_of p) d.body)) ≡ k =
+    entered_once n k (length d.vars) (declared (action_at (actions_of p) d.body)) h.declared_once
+    (omega arith) in
     let same : n + k ≡ length d.vars = omega arith in
     omega (arith, subst (λ z. sum_by (is_entered n z) (declared (action_at (actions_of p) d.body)) ≡ k) same all)
 

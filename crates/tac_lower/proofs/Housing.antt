@@ -21,7 +21,8 @@ there (v ∷ vs) zero lt = (v, refl)
 there (v ∷ vs) (suc x) lt = there vs x (omega arith)
 
 -- the pointer to an object
-pub pointer_home : (p : Typed) (d : FunDef) (homes : List Home) (e : Emitter) (x n t : ℕ) → Housed p d homes e → slice_get homes x ≡ Some (home.Object n t) → HasKind e t (kinds.Cap false)
+pub pointer_home : (p : Typed) (d : FunDef) (homes : List Home) (e : Emitter) (x n t : ℕ) → Housed p d homes e →
+    slice_get homes x ≡ Some (home.Object n t) → HasKind e t (kinds.Cap false)
 pointer_home p d homes e x n t h is =
     let lt = slice_get_within homes x (home.Object n t) is in
     let m = h.many in
@@ -29,6 +30,8 @@ pointer_home p d homes e x n t h is =
     (h.stand x (home.Object n t) v.0 is v.1).0
 
 -- the value of a variable
-pub value_home : (p : Typed) (d : FunDef) (homes : List Home) (e : Emitter) (x t : ℕ) (k : TacKind) (v : VarDef) → Housed p d homes e → slice_get homes x ≡ Some (home.Temp t k) → slice_get d.vars x ≡ Some v
+pub value_home : (p : Typed) (d : FunDef) (homes : List Home) (e : Emitter) (x t : ℕ) (k : TacKind) (v : VarDef) →
+    Housed p d homes e → slice_get homes x ≡ Some (home.Temp t k) → slice_get d.vars x ≡ Some v
     → HasKind e t (or_int (kept_as (type_in p v.of)))
-value_home p d homes e x t k v h is at = let f = h.stand x (home.Temp t k) v is at in subst (λ z. HasKind e t z) (sym f.1) f.0
+value_home p d homes e x t k v h is at =
+    let f = h.stand x (home.Temp t k) v is at in subst (λ z. HasKind e t z) (sym f.1) f.0

@@ -1,5 +1,6 @@
 -- Code whose last instruction is a Return.
-use Rattle.std.proofs.Common.{◌≡◌, ℕ, ◌<◌, ◌≤◌, Bool, true, false, not, List, [], ◌∷◌, ◌++◌, length, get_or, Option, Some, None, refl, sym, ap, ◌∙◌, subst, arith, length-append, ⊎_elim}
+use Rattle.std.proofs.Common.{◌≡◌, ℕ, ◌<◌, ◌≤◌, Bool, true, false, not, List, [], ◌∷◌, ◌++◌, length, get_or, Option}
+use Rattle.std.proofs.Common.{Some, None, refl, sym, ap, ◌∙◌, subst, arith, length-append, ⊎_elim}
 use Rattle.std.specs.Prelude.{nat_lt, ◌&&◌, ◌||◌, slice_get}
 use Rattle.std.proofs.lemmas.Bool.{cases_lt}
 use Rattle.std.proofs.lemmas.Bool.Decides.{nat_tests}
@@ -12,7 +13,9 @@ use Rattle.c_tree.specs.declared.typed.Typed.{Typed}
 use Rattle.cheri_c_sem.specs.Compatible.{same_bool}
 use Rattle.tac_ir.specs.Effects.{kind_of, kind_at}
 use Rattle.tac_ir.specs.Meaning.{is_label}
-use Rattle.tac_ir.specs.WellFormed.{Signature, all_of, has, has_label, same_kind, instruction_fits, label_is_new, labels_differ, ends_well, is_turn, turn_fits, turns_fit, return_by, return_fits, signature_of}
+use Rattle.tac_ir.specs.WellFormed.{Signature, all_of, has, has_label, same_kind, instruction_fits, label_is_new}
+use Rattle.tac_ir.specs.WellFormed.{labels_differ, ends_well, is_turn, turn_fits, turns_fit, return_by, return_fits}
+use Rattle.tac_ir.specs.WellFormed.{signature_of}
 use Rattle.tac_ir.specs.declared.code.TacInstr.{TacInstr}
 use Rattle.tac_ir.specs.declared.code.TacInstr.TheVariants as instr
 use Rattle.tac_ir.specs.declared.code.TacKind.{TacKind}

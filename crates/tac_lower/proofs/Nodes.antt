@@ -1,5 +1,6 @@
 -- What typing gives of each expression of a function.
-use Rattle.std.proofs.Common.{◌≡◌, ℕ, zero, suc, ◌+◌, Bool, true, false, List, [], ◌∷◌, map, length, get_or, Some, refl, sym, ap, ◌∙◌, subst, arith, ⊎_elim, inl, inr, ◌⊎◌}
+use Rattle.std.proofs.Common.{◌≡◌, ℕ, zero, suc, ◌+◌, Bool, true, false, List, [], ◌∷◌, map, length, get_or, Some, refl}
+use Rattle.std.proofs.Common.{sym, ap, ◌∙◌, subst, arith, ⊎_elim, inl, inr, ◌⊎◌}
 use Rattle.std.specs.Prelude.{slice_get, sum_by, ◌==◌, ◌||◌}
 use Rattle.std.proofs.lemmas.Option.{slice_get_within}
 use Rattle.std.proofs.lemmas.List.Sums.{sum_by-cons}
@@ -23,12 +24,17 @@ use Rattle.c_tree.specs.TreeWeight.{shape_weight, term_weight, terms_weight}
 use Rattle.c_tree.specs.Types as ty
 use Rattle.c_tree.specs.Types.{Ty}
 use Rattle.c_tree.specs.Views.{types_of, kind_term, expr_from, no_term, terms_of, term_at, operands, IsOrdered}
-use Rattle.c_tree.specs.WellTyped.{Frame, type_in, TermFits, TermsFit, ShapeFits, OperandsFit, ConstantFits, UnaryFits, Decays, PointsToComplete, holds}
+use Rattle.c_tree.specs.WellTyped.{Frame, type_in, TermFits, TermsFit, ShapeFits, OperandsFit, ConstantFits, UnaryFits}
+use Rattle.c_tree.specs.WellTyped.{Decays, PointsToComplete, holds}
 use Rattle.c_tree.proofs.Forest.{forest_reads}
 use Rattle.tac_ir.specs.declared.code.TacKind.{TacKind}
 use Rattle.tac_ir.specs.declared.code.TacKind.TheVariants as kind
 use Rattle.tac_lower.specs.Emitted.{RightFits, ComputedFits}
-use Rattle.tac_lower.specs.Nodes.{kept_as, points, or_int, expression, IsTyped, IsScalar, HasOne, HasTwo, HasThree, ConstantNode, IntNode, CapabilityNode, SameNode, NotNode, AddressNode, DerefNode, SumNode, CompareNode, TruthNode, DifferenceNode, CommaNode, AssignNode, CompoundNode, StepNode, ConditionalNode, NameNode, VarNode, FunNode, CallNode, LibraryNode, NodeFits}
+use Rattle.tac_lower.specs.Nodes.{kept_as, points, or_int, expression, IsTyped, IsScalar, HasOne, HasTwo, HasThree}
+use Rattle.tac_lower.specs.Nodes.{ConstantNode, IntNode, CapabilityNode, SameNode, NotNode, AddressNode, DerefNode}
+use Rattle.tac_lower.specs.Nodes.{SumNode, CompareNode, TruthNode, DifferenceNode, CommaNode, AssignNode, CompoundNode}
+use Rattle.tac_lower.specs.Nodes.{StepNode, ConditionalNode, NameNode, VarNode, FunNode, CallNode, LibraryNode}
+use Rattle.tac_lower.specs.Nodes.{NodeFits}
 use Rattle.tac_lower.proofs.Constants.{kept_fits}
 use Rattle.tac_lower.proofs.Wells.{and_both}
 
@@ -37,9 +43,11 @@ use Rattle.tac_lower.proofs.Wells.{and_both}
 -- a node is made of its operands
 map_same : (f g : ℕ → Term) (xs : List ℕ) → ((j a : ℕ) → slice_get xs j ≡ Some a → f a ≡ g a) → map f xs ≡ map g xs
 map_same f g [] h = refl
-map_same f g (x ∷ xs) h = ap (λ z. z ∷ map f xs) (h 0 x refl) ∙ ap (λ z. g x ∷ z) (map_same f g xs (λ j a e. h (suc j) a e))
+map_same f g (x ∷ xs) h =
+    ap (λ z. z ∷ map f xs) (h 0 x refl) ∙ ap (λ z. g x ∷ z) (map_same f g xs (λ j a e. h (suc j) a e))
 
-kind_same : (ts : List Ty) (k : ExprKind) (t : Ty) (q : Pos) (f g : ℕ → Term) → ((j a : ℕ) → slice_get (operands k) j ≡ Some a → f a ≡ g a) → kind_term ts k t q f ≡ kind_term ts k t q g
+kind_same : (ts : List Ty) (k : ExprKind) (t : Ty) (q : Pos) (f g : ℕ → Term) →
+    ((j a : ℕ) → slice_get (operands k) j ≡ Some a → f a ≡ g a) → kind_term ts k t q f ≡ kind_term ts k t q g
 kind_same ts (exprs.Constant n) t q f g h = refl
 kind_same ts (exprs.Literal n) t q f g h = refl
 kind_same ts (exprs.Var n) t q f g h = refl
@@ -52,21 +60,36 @@ kind_same ts (exprs.Member a k) t q f g h = ap (λ z. term.step (term.Member k) 
 kind_same ts (exprs.Address a) t q f g h = ap (λ z. term.step term.Address z t q) (h 0 a refl)
 kind_same ts (exprs.Convert a) t q f g h = ap (λ z. term.step term.Convert z t q) (h 0 a refl)
 kind_same ts (exprs.Unary o a) t q f g h = ap (λ z. term.step (term.Unary o) z t q) (h 0 a refl)
-kind_same ts (exprs.Int o a b) t q f g h = ap (λ z. term.join (term.Arithmetic o) z (f b) t q) (h 0 a refl) ∙ ap (λ z. term.join (term.Arithmetic o) (g a) z t q) (h 1 b refl)
-kind_same ts (exprs.Capability o a b r) t q f g h = ap (λ z. term.join (term.Capability o r) z (f b) t q) (h 0 a refl) ∙ ap (λ z. term.join (term.Capability o r) (g a) z t q) (h 1 b refl)
-kind_same ts (exprs.Plus a b m) t q f g h = ap (λ z. term.join (term.Plus m) z (f b) t q) (h 0 a refl) ∙ ap (λ z. term.join (term.Plus m) (g a) z t q) (h 1 b refl)
-kind_same ts (exprs.Difference a b) t q f g h = ap (λ z. term.join term.Difference z (f b) t q) (h 0 a refl) ∙ ap (λ z. term.join term.Difference (g a) z t q) (h 1 b refl)
-kind_same ts (exprs.Compare o a b) t q f g h = ap (λ z. term.join (term.Compare o) z (f b) t q) (h 0 a refl) ∙ ap (λ z. term.join (term.Compare o) (g a) z t q) (h 1 b refl)
-kind_same ts (exprs.And a b) t q f g h = ap (λ z. term.join term.And z (f b) t q) (h 0 a refl) ∙ ap (λ z. term.join term.And (g a) z t q) (h 1 b refl)
-kind_same ts (exprs.Or a b) t q f g h = ap (λ z. term.join term.Or z (f b) t q) (h 0 a refl) ∙ ap (λ z. term.join term.Or (g a) z t q) (h 1 b refl)
-kind_same ts (exprs.Comma a b) t q f g h = ap (λ z. term.join term.Comma z (f b) t q) (h 0 a refl) ∙ ap (λ z. term.join term.Comma (g a) z t q) (h 1 b refl)
-kind_same ts (exprs.Assign a b) t q f g h = ap (λ z. term.join term.Assign z (f b) t q) (h 0 a refl) ∙ ap (λ z. term.join term.Assign (g a) z t q) (h 1 b refl)
+kind_same ts (exprs.Int o a b) t q f g h =
+    ap (λ z. term.join (term.Arithmetic o) z (f b) t q) (h 0 a refl)
+    ∙ ap (λ z. term.join (term.Arithmetic o) (g a) z t q) (h 1 b refl)
+kind_same ts (exprs.Capability o a b r) t q f g h =
+    ap (λ z. term.join (term.Capability o r) z (f b) t q) (h 0 a refl)
+    ∙ ap (λ z. term.join (term.Capability o r) (g a) z t q) (h 1 b refl)
+kind_same ts (exprs.Plus a b m) t q f g h =
+    ap (λ z. term.join (term.Plus m) z (f b) t q) (h 0 a refl)
+    ∙ ap (λ z. term.join (term.Plus m) (g a) z t q) (h 1 b refl)
+kind_same ts (exprs.Difference a b) t q f g h =
+    ap (λ z. term.join term.Difference z (f b) t q) (h 0 a refl)
+    ∙ ap (λ z. term.join term.Difference (g a) z t q) (h 1 b refl)
+kind_same ts (exprs.Compare o a b) t q f g h =
+    ap (λ z. term.join (term.Compare o) z (f b) t q) (h 0 a refl)
+    ∙ ap (λ z. term.join (term.Compare o) (g a) z t q) (h 1 b refl)
+kind_same ts (exprs.And a b) t q f g h =
+    ap (λ z. term.join term.And z (f b) t q) (h 0 a refl) ∙ ap (λ z. term.join term.And (g a) z t q) (h 1 b refl)
+kind_same ts (exprs.Or a b) t q f g h =
+    ap (λ z. term.join term.Or z (f b) t q) (h 0 a refl) ∙ ap (λ z. term.join term.Or (g a) z t q) (h 1 b refl)
+kind_same ts (exprs.Comma a b) t q f g h =
+    ap (λ z. term.join term.Comma z (f b) t q) (h 0 a refl) ∙ ap (λ z. term.join term.Comma (g a) z t q) (h 1 b refl)
+kind_same ts (exprs.Assign a b) t q f g h =
+    ap (λ z. term.join term.Assign z (f b) t q) (h 0 a refl) ∙ ap (λ z. term.join term.Assign (g a) z t q) (h 1 b refl)
 kind_same ts (exprs.Compound o a b of) t q f g h =
     let s = term.Compound o (Rattle.c_tree.specs.Views.type_at ts of) in
     ap (λ z. term.join s z (f b) t q) (h 0 a refl) ∙ ap (λ z. term.join s (g a) z t q) (h 1 b refl)
 kind_same ts (exprs.Step a adds front) t q f g h = ap (λ z. term.step (term.Step adds front) z t q) (h 0 a refl)
 kind_same ts (exprs.Conditional a b c) t q f g h =
-    ap (λ z. term.join_three term.Conditional z (f b) (f c) t q) (h 0 a refl) ∙ ap (λ z. term.join_three term.Conditional (g a) z (f c) t q) (h 1 b refl)
+    ap (λ z. term.join_three term.Conditional z (f b) (f c) t q) (h 0 a refl)
+    ∙ ap (λ z. term.join_three term.Conditional (g a) z (f c) t q) (h 1 b refl)
     ∙ ap (λ z. term.join_three term.Conditional (g a) (g b) z t q) (h 2 c refl)
 kind_same ts (exprs.Call a xs) t q f g h =
     ap (λ z. term.term term.Call (with_term z (terms (map f xs))) t q) (h 0 a refl)
@@ -75,13 +98,17 @@ kind_same ts (exprs.Library n xs) t q f g h = ap (λ z. term.term (term.Library 
 
 module _ (p : Typed) (o : IsOrdered p) where
   -- an expression as a term, by its kind
-  pub expression_is : (k : ℕ) (e : Expr) → slice_get p.exprs k ≡ Some e → expression p k ≡ kind_term (types_of p.types) e.kind (type_in p e.of) e.pos (expression p)
+  pub expression_is : (k : ℕ) (e : Expr) → slice_get p.exprs k ≡ Some e →
+      expression p k ≡ kind_term (types_of p.types) e.kind (type_in p e.of) e.pos (expression p)
   expression_is k e h =
       let r = forest_reads (expr_from (types_of p.types)) no_term p.exprs k e h in
-      r.is ∙ kind_same (types_of p.types) e.kind (type_in p e.of) e.pos (λ j. get_or r.seen j no_term) (expression p) (λ j a s. r.before a (o.operands_before k j a e h s))
+      r.is ∙ kind_same (types_of p.types) e.kind (type_in p e.of) e.pos (λ j. get_or r.seen j no_term) (expression p)
+      (λ j a s. r.before a (o.operands_before k j a e h s))
 
-  pub expression_by : (k : ℕ) (e : Expr) (of : ExprKind) → slice_get p.exprs k ≡ Some e → e.kind ≡ of → expression p k ≡ kind_term (types_of p.types) of (type_in p e.of) e.pos (expression p)
-  expression_by k e of h is = expression_is k e h ∙ ap (λ z. kind_term (types_of p.types) z (type_in p e.of) e.pos (expression p)) is
+  pub expression_by : (k : ℕ) (e : Expr) (of : ExprKind) → slice_get p.exprs k ≡ Some e → e.kind ≡ of →
+      expression p k ≡ kind_term (types_of p.types) of (type_in p e.of) e.pos (expression p)
+  expression_by k e of h is =
+      expression_is k e h ∙ ap (λ z. kind_term (types_of p.types) z (type_in p e.of) e.pos (expression p)) is
 
 -- ---- what a type's fitting says of kinds
 
@@ -112,7 +139,8 @@ truth_same false true h = absurd cc
 
 pub agree_kept : (lengths : ℕ → ℕ → Bool) (s t : Ty) → ty.agree lengths s t ≡ true → kept_as s ≡ kept_as t
 agree_kept l ty.Void ty.Void h = refl
-agree_kept l (ty.Int j m) (ty.Int k n) h = ap (λ z. Some (kind.Int z)) (int_same j k (and_both (ty.same_kind j k) (m == n) h).0)
+agree_kept l (ty.Int j m) (ty.Int k n) h =
+    ap (λ z. Some (kind.Int z)) (int_same j k (and_both (ty.same_kind j k) (m == n) h).0)
 agree_kept l (ty.Cap a) (ty.Cap b) h = ap (λ z. Some (kind.Cap z)) (truth_same a b h)
 agree_kept l (ty.Pointer s) (ty.Pointer t) h = refl
 agree_kept l (ty.Array s m) (ty.Array t n) h = refl
@@ -128,18 +156,22 @@ module _ (f : Frame) (o : IsOrdered f.program) where
   abbrev t : ℕ → Ty
   t j = type_of (x j)
 
-  typed : (k : ℕ) (e : Expr) (of : ExprKind) → slice_get f.program.exprs k ≡ Some e → e.kind ≡ of → IsTyped f k → TermFits f (kind_term (types_of f.program.types) of (type_in f.program e.of) e.pos x)
+  typed : (k : ℕ) (e : Expr) (of : ExprKind) → slice_get f.program.exprs k ≡ Some e → e.kind ≡ of → IsTyped f k →
+      TermFits f (kind_term (types_of f.program.types) of (type_in f.program e.of) e.pos x)
   typed k e of h is w = subst (λ z. TermFits f z) (expression_by f.program o k e of h is) w.fits
 
-  of_one : (n : Shape) (a : Term) (s : Ty) (q : Pos) → TermFits f (term.step n a s q) → TermFits f a × ShapeFits f n (with_term a no_terms) s
+  of_one : (n : Shape) (a : Term) (s : Ty) (q : Pos) → TermFits f (term.step n a s q) →
+      TermFits f a × ShapeFits f n (with_term a no_terms) s
   unfolding TermFits
   of_one n a s q h = (h.0.0, h.1)
 
-  of_two : (n : Shape) (a b : Term) (s : Ty) (q : Pos) → TermFits f (term.join n a b s q) → TermFits f a × TermFits f b × ShapeFits f n (with_term a (with_term b no_terms)) s
+  of_two : (n : Shape) (a b : Term) (s : Ty) (q : Pos) → TermFits f (term.join n a b s q) →
+      TermFits f a × TermFits f b × ShapeFits f n (with_term a (with_term b no_terms)) s
   unfolding TermFits
   of_two n a b s q h = (h.0.0, h.0.1.0, h.1)
 
-  of_three : (n : Shape) (a b c : Term) (s : Ty) (q : Pos) → TermFits f (term.join_three n a b c s q) → TermFits f a × TermFits f b × TermFits f c × ShapeFits f n (with_term a (with_term b (with_term c no_terms))) s
+  of_three : (n : Shape) (a b c : Term) (s : Ty) (q : Pos) → TermFits f (term.join_three n a b c s q) →
+      TermFits f a × TermFits f b × TermFits f c × ShapeFits f n (with_term a (with_term b (with_term c no_terms))) s
   unfolding TermFits
   of_three n a b c s q h = (h.0.0, h.0.1.0, h.0.1.1.0, h.1)
 
@@ -160,14 +192,22 @@ module _ (f : Frame) (o : IsOrdered f.program) where
     two : (n : Shape) (a b : ℕ) → shape_weight n ≡ 1 → x k ≡ term.join n (x a) (x b) of e.pos → HasTwo f k a b
     two n a b light is =
         let h = of_two n (x a) (x b) of e.pos (subst (λ z. TermFits f z) is w.fits) in
-        let q : term_weight (x k) ≡ shape_weight n + (term_weight (x a) + (term_weight (x b) + 0)) = ap term_weight is in
+        let q : term_weight (x k) ≡ shape_weight n + (term_weight (x a) + (term_weight (x b) + 0)) =
+        ap term_weight is in
         record { left = record { fits = h.0 }; right = record { fits = h.1 }; weight = omega (arith, q, light) }
 
-    three : (n : Shape) (a b c : ℕ) → shape_weight n ≡ 1 → x k ≡ term.join_three n (x a) (x b) (x c) of e.pos → HasThree f k a b c
+    three : (n : Shape) (a b c : ℕ) → shape_weight n ≡ 1 → x k ≡ term.join_three n (x a) (x b) (x c) of e.pos →
+        HasThree f k a b c
     three n a b c light is =
         let h = of_three n (x a) (x b) (x c) of e.pos (subst (λ z. TermFits f z) is w.fits) in
-        let q : term_weight (x k) ≡ shape_weight n + (term_weight (x a) + (term_weight (x b) + (term_weight (x c) + 0))) = ap term_weight is in
-        record { first = record { fits = h.0 }; second = record { fits = h.1 }; third = record { fits = h.2 }; weight = omega (arith, q, light) }
+        let q : term_weight (x k) ≡ shape_weight n
+        + (term_weight (x a) + (term_weight (x b) + (term_weight (x c) + 0))) = ap term_weight is in
+        record {
+          first = record { fits = h.0 };
+          second = record { fits = h.1 };
+          third = record { fits = h.2 };
+          weight = omega (arith, q, light);
+        }
 
     abbrev Is : ExprKind → Type 0
     Is kd = e.kind ≡ kd
@@ -204,15 +244,21 @@ module _ (f : Frame) (o : IsOrdered f.program) where
     pub load_node : (a : ℕ) → Is (exprs.Load a) → SameNode f k a
     load_node a is =
         let h = of_one term.Load (x a) of e.pos (fits (exprs.Load a) is) in
-        record { operands = one term.Load a refl (same (exprs.Load a) is); same = sym (bare_kept (t a)) ∙ sym (ap kept_as h.1.1) ∙ sym (ap kept_as of_is) }
+        record {
+          operands = one term.Load a refl (same (exprs.Load a) is);
+          same = sym (bare_kept (t a))
+              ∙ sym (ap kept_as h.1.1) ∙ sym (ap kept_as of_is);
+        }
 
     pub decay_node : (a : ℕ) → Is (exprs.Decay a) → AddressNode f k a
     decay_node a is =
         let h = of_one term.Decay (x a) of e.pos (fits (exprs.Decay a) is) in
         record {
           operands = one term.Decay a refl (same (exprs.Decay a) is);
-          is = ⊎_elim (λ (d : (u : Ty) × (n : ℕ) × (t a ≡ ty.Array u n) × (of ≡ ty.Pointer u)). scalar (ty.Pointer d.0) (kind.Cap false) (of_is ∙ d.3) refl)
-              (λ (d : holds (ty.is_function (t a)) × (of ≡ ty.Pointer (t a))). scalar (ty.Pointer (t a)) (kind.Cap false) (of_is ∙ d.1) refl) h.1;
+          is = ⊎_elim (λ (d : (u : Ty) × (n : ℕ) × (t a ≡ ty.Array u n) × (of ≡ ty.Pointer u)).
+              scalar (ty.Pointer d.0) (kind.Cap false) (of_is ∙ d.3) refl)
+              (λ (d : holds (ty.is_function (t a)) × (of ≡ ty.Pointer (t a))).
+              scalar (ty.Pointer (t a)) (kind.Cap false) (of_is ∙ d.1) refl) h.1;
         }
 
     pub decays : (a : ℕ) → Is (exprs.Decay a) → Decays (t a) (t k)
@@ -221,12 +267,18 @@ module _ (f : Frame) (o : IsOrdered f.program) where
     pub address_node : (a : ℕ) → Is (exprs.Address a) → AddressNode f k a
     address_node a is =
         let h = of_one term.Address (x a) of e.pos (fits (exprs.Address a) is) in
-        record { operands = one term.Address a refl (same (exprs.Address a) is); is = scalar (ty.Pointer (t a)) (kind.Cap false) (of_is ∙ h.1.1) refl }
+        record {
+          operands = one term.Address a refl (same (exprs.Address a) is);
+          is = scalar (ty.Pointer (t a)) (kind.Cap false) (of_is ∙ h.1.1) refl;
+        }
 
     pub deref_node : (a : ℕ) → Is (exprs.Deref a) → DerefNode f k a
     deref_node a is =
         let h = of_one term.Deref (x a) of e.pos (fits (exprs.Deref a) is) in
-        record { operands = one term.Deref a refl (same (exprs.Deref a) is); operand = as_scalar a (ty.Pointer of) (kind.Cap false) h.1.0 refl }
+        record {
+          operands = one term.Deref a refl (same (exprs.Deref a) is);
+          operand = as_scalar a (ty.Pointer of) (kind.Cap false) h.1.0 refl;
+        }
 
     pub member_node : (a m : ℕ) → Is (exprs.Member a m) → HasOne f k a
     member_node a m is = one (term.Member m) a refl (same (exprs.Member a m) is)
@@ -237,12 +289,18 @@ module _ (f : Frame) (o : IsOrdered f.program) where
     pub not_node : (a : ℕ) → Is (exprs.Unary unary.LogicalNot a) → NotNode f k a
     not_node a is =
         let h = of_one (term.Unary unary.LogicalNot) (x a) of e.pos (fits (exprs.Unary unary.LogicalNot a) is) in
-        record { operands = one (term.Unary unary.LogicalNot) a refl (same (exprs.Unary unary.LogicalNot a) is); is = scalar ty.int (kind.Int int.I32) (of_is ∙ h.1.1) refl }
+        record {
+          operands = one (term.Unary unary.LogicalNot) a refl (same (exprs.Unary unary.LogicalNot a) is);
+          is = scalar ty.int (kind.Int int.I32) (of_is ∙ h.1.1) refl;
+        }
 
     pub unary_node : (u : UnaryOp) (a : ℕ) → (u ≡ unary.LogicalNot → ⊥) → Is (exprs.Unary u a) → SameNode f k a
     unary_node u a other is =
         let h = of_one (term.Unary u) (x a) of e.pos (fits (exprs.Unary u a) is) in
-        record { operands = one (term.Unary u) a refl (same (exprs.Unary u a) is); same = ap kept_as (by u other h.1 ∙ sym of_is) }
+        record {
+          operands = one (term.Unary u) a refl (same (exprs.Unary u a) is);
+          same = ap kept_as (by u other h.1 ∙ sym of_is);
+        }
       where
         by : (u : UnaryOp) → (u ≡ unary.LogicalNot → ⊥) → UnaryFits u (t a) of → t a ≡ of
         by unary.LogicalNot n g = absurd (n refl)
@@ -260,8 +318,11 @@ module _ (f : Frame) (o : IsOrdered f.program) where
     integer_kept (ty.Cap s) h = (kind.Cap s, refl)
     integer_kept s h = absurd cc
 
-    right_by : (q : IntOp) (j : IntKind) (n : ℕ) (s u : Ty) (c : TacKind) → s ≡ ty.Int j n → kept_as u ≡ Some c → (u ≡ s) ⊎ holds (typing.is_shift q) → RightFits (is_shift q) j c
-    right_by q j n s u c e g h = ⊎_elim (λ (d : u ≡ s). not_shift (is_shift q) (some_same (sym g ∙ ap kept_as (d ∙ e)))) (λ (d : holds (typing.is_shift q)). shifts (is_shift q) (sym (shift_same q) ∙ d)) h
+    right_by : (q : IntOp) (j : IntKind) (n : ℕ) (s u : Ty) (c : TacKind) → s ≡ ty.Int j n → kept_as u ≡ Some c →
+        (u ≡ s) ⊎ holds (typing.is_shift q) → RightFits (is_shift q) j c
+    right_by q j n s u c e g h =
+        ⊎_elim (λ (d : u ≡ s). not_shift (is_shift q) (some_same (sym g ∙ ap kept_as (d ∙ e))))
+        (λ (d : holds (typing.is_shift q)). shifts (is_shift q) (sym (shift_same q) ∙ d)) h
       where
         some_same : Some c ≡ Some (kind.Int j) → c ≡ kind.Int j
         some_same z = cc
@@ -316,8 +377,10 @@ module _ (f : Frame) (o : IsOrdered f.program) where
           operands = two (term.Plus m) a b refl (same (exprs.Plus a b m) is);
           is = scalar (ty.Pointer h.0.0) (kind.Cap false) (of_is ∙ p) refl;
           pointer =
-              ⊎_elim (λ (d : (t a ≡ of) × holds (ty.is_integer (t b))). inl (ap points (d.0 ∙ p), as_scalar a (ty.Pointer h.0.0) (kind.Cap false) (d.0 ∙ p) refl))
-              (λ (d : (m ≡ false) × holds (ty.is_integer (t a)) × (t b ≡ of)). inr (not_pointer (t a) d.1, as_scalar b (ty.Pointer h.0.0) (kind.Cap false) (d.2 ∙ p) refl)) h.1;
+              ⊎_elim (λ (d : (t a ≡ of) × holds (ty.is_integer (t b))).
+              inl (ap points (d.0 ∙ p), as_scalar a (ty.Pointer h.0.0) (kind.Cap false) (d.0 ∙ p) refl))
+              (λ (d : (m ≡ false) × holds (ty.is_integer (t a)) × (t b ≡ of)).
+              inr (not_pointer (t a) d.1, as_scalar b (ty.Pointer h.0.0) (kind.Cap false) (d.2 ∙ p) refl)) h.1;
         }
 
     pub difference_node : (a b : ℕ) → Is (exprs.Difference a b) → DifferenceNode f k a b
@@ -342,23 +405,33 @@ module _ (f : Frame) (o : IsOrdered f.program) where
           is = scalar ty.int (kind.Int int.I32) (of_is ∙ h.0) refl;
           same =
               ⊎_elim (λ (d : holds (ty.is_integer (t a)) × (t a ≡ t b)). ap kept_as d.1)
-              (λ (d : holds (ty.is_pointer (t a)) × holds (ty.is_pointer (t b))). pointer_kept (t a) d.0 ∙ sym (pointer_kept (t b) d.1)) h.1;
+              (λ (d : holds (ty.is_pointer (t a)) × holds (ty.is_pointer (t b))). pointer_kept (t a) d.0
+              ∙ sym (pointer_kept (t b) d.1)) h.1;
         }
 
     pub and_node : (a b : ℕ) → Is (exprs.And a b) → TruthNode f k a b
     and_node a b is =
         let h = (of_two term.And (x a) (x b) of e.pos (fits (exprs.And a b) is)).2 in
-        record { operands = two term.And a b refl (same (exprs.And a b) is); is = scalar ty.int (kind.Int int.I32) (of_is ∙ h.0) refl }
+        record {
+          operands = two term.And a b refl (same (exprs.And a b) is);
+          is = scalar ty.int (kind.Int int.I32) (of_is ∙ h.0) refl;
+        }
 
     pub or_node : (a b : ℕ) → Is (exprs.Or a b) → TruthNode f k a b
     or_node a b is =
         let h = (of_two term.Or (x a) (x b) of e.pos (fits (exprs.Or a b) is)).2 in
-        record { operands = two term.Or a b refl (same (exprs.Or a b) is); is = scalar ty.int (kind.Int int.I32) (of_is ∙ h.0) refl }
+        record {
+          operands = two term.Or a b refl (same (exprs.Or a b) is);
+          is = scalar ty.int (kind.Int int.I32) (of_is ∙ h.0) refl;
+        }
 
     pub comma_node : (a b : ℕ) → Is (exprs.Comma a b) → CommaNode f k a b
     comma_node a b is =
         let h = (of_two term.Comma (x a) (x b) of e.pos (fits (exprs.Comma a b) is)).2 in
-        record { operands = two term.Comma a b refl (same (exprs.Comma a b) is); right = ap kept_as (sym h ∙ sym of_is) }
+        record {
+          operands = two term.Comma a b refl (same (exprs.Comma a b) is);
+          right = ap kept_as (sym h ∙ sym of_is);
+        }
 
     pub assign_node : (a b : ℕ) → Is (exprs.Assign a b) → AssignNode f k a b
     assign_node a b is =
@@ -381,7 +454,9 @@ module _ (f : Frame) (o : IsOrdered f.program) where
     pub step_node : (a : ℕ) (adds front : Bool) → Is (exprs.Step a adds front) → StepNode f k a
     step_node a adds front is =
         let h = (of_one (term.Step adds front) (x a) of e.pos (fits (exprs.Step a adds front) is)).1 in
-        let j = ⊎_elim (λ (d : holds (ty.is_integer of)). integer_kept of d) (λ (d : (u : Ty) × (of ≡ ty.Pointer u) × Rattle.c_tree.specs.WellTyped.IsComplete f.program u). (kind.Cap false, ap kept_as d.1)) h.2 in
+        let j = ⊎_elim (λ (d : holds (ty.is_integer of)). integer_kept of d)
+        (λ (d : (u : Ty) × (of ≡ ty.Pointer u) × Rattle.c_tree.specs.WellTyped.IsComplete f.program u).
+        (kind.Cap false, ap kept_as d.1)) h.2 in
         record {
           operands = one (term.Step adds front) a refl (same (exprs.Step a adds front) is);
           kind = j.0;
@@ -389,39 +464,59 @@ module _ (f : Frame) (o : IsOrdered f.program) where
           left = sym (bare_kept (t a)) ∙ sym (ap kept_as h.1) ∙ sym (ap kept_as of_is);
         }
 
-    computed_by : (q : IntOp) (s u : Ty) → holds (ty.is_integer s) → (u ≡ s) ⊎ holds (typing.is_shift q) → holds (ty.is_integer u) → ComputedFits q (or_int (kept_as s)) (or_int (kept_as u))
-    computed_by q (ty.Int j n) u i h g = let c = integer_kept u g in subst (λ z. RightFits (is_shift q) j (or_int z)) (sym c.1) (right_by q j n (ty.Int j n) u c.0 refl c.1 h)
+    computed_by : (q : IntOp) (s u : Ty) → holds (ty.is_integer s) → (u ≡ s) ⊎ holds (typing.is_shift q) →
+        holds (ty.is_integer u) → ComputedFits q (or_int (kept_as s)) (or_int (kept_as u))
+    computed_by q (ty.Int j n) u i h g =
+        let c = integer_kept u g in
+        subst (λ z. RightFits (is_shift q) j (or_int z)) (sym c.1) (right_by q j n (ty.Int j n) u c.0 refl c.1 h)
     computed_by q (ty.Cap s) u i h g = tt
     computed_by q s u i h g = absurd cc
 
     pub compound_node : (q : IntOp) (a b s : ℕ) → Is (exprs.Compound q a b s) → CompoundNode f k q a b s
     compound_node q a b s is =
-        let h = (of_two (term.Compound q (type_in f.program s)) (x a) (x b) of e.pos (fits (exprs.Compound q a b s) is)).2 in
+        let h = (of_two (term.Compound q (type_in f.program s)) (x a) (x b) of e.pos
+        (fits (exprs.Compound q a b s) is)).2 in
         let left = sym (bare_kept (t a)) ∙ sym (ap kept_as h.1) ∙ sym (ap kept_as of_is) in
         record {
           operands = two (term.Compound q (type_in f.program s)) a b refl (same (exprs.Compound q a b s) is);
           left = left;
           fits =
               ⊎_elim (λ (d : PointsToComplete f.program of × (type_in f.program s ≡ of) × holds (ty.is_integer (t b))).
-              inl (ap points (d.1 ∙ d.0.1), record { is = sym (bare_kept (t a)) ∙ sym (ap kept_as h.1) ∙ ap kept_as d.0.1 }))
-              (λ (d : holds (ty.is_integer of) × OperandsFit q (type_in f.program s) (t b) (type_in f.program s) × holds (ty.is_integer (type_in f.program s))).
-              inr (not_pointer (type_in f.program s) d.2, computed_by q (type_in f.program s) (t b) d.2 d.1.2 d.1.1)) h.2;
+              inl (
+                ap points (d.1 ∙ d.0.1),
+                record { is = sym (bare_kept (t a)) ∙ sym (ap kept_as h.1) ∙ ap kept_as d.0.1 },
+              ))
+              (λ (d : holds (ty.is_integer of) × OperandsFit q (type_in f.program s) (t b) (type_in f.program s) ×
+              holds (ty.is_integer (type_in f.program s))).
+              inr (not_pointer (type_in f.program s) d.2, computed_by q (type_in f.program s) (t b) d.2 d.1.2 d.1.1))
+              h.2;
         }
 
     pub global_node : (n : ℕ) → Is (exprs.Global n) → NameNode f k n (length f.program.globals)
     global_node n is =
         let h = of_none (term.Global n) of e.pos (fits (exprs.Global n) is) in
-        record { there = slice_get_within f.program.globals n h.0 h.1; weight = ap term_weight (same (exprs.Global n) is) }
+        record {
+          there = slice_get_within f.program.globals n h.0 h.1;
+          weight = ap term_weight (same (exprs.Global n) is);
+        }
 
     pub literal_node : (n : ℕ) → Is (exprs.Literal n) → NameNode f k n (length f.program.literals)
     literal_node n is =
         let h = of_none (term.Literal n) of e.pos (fits (exprs.Literal n) is) in
-        record { there = slice_get_within f.program.literals n h.0 h.1; weight = ap term_weight (same (exprs.Literal n) is) }
+        record {
+          there = slice_get_within f.program.literals n h.0 h.1;
+          weight = ap term_weight (same (exprs.Literal n) is);
+        }
 
     pub fun_node : (n : ℕ) → Is (exprs.Fun n) → FunNode f k n
     fun_node n is =
         let h = of_none (term.Fun n) of e.pos (fits (exprs.Fun n) is) in
-        record { fun = h.0; there = h.1; agrees = ap (λ z. ty.compatible z (type_in f.program h.0.of)) of_is ∙ h.2; weight = ap term_weight (same (exprs.Fun n) is) }
+        record {
+          fun = h.0;
+          there = h.1;
+          agrees = ap (λ z. ty.compatible z (type_in f.program h.0.of)) of_is ∙ h.2;
+          weight = ap term_weight (same (exprs.Fun n) is);
+        }
 
     pub var_node : (n : ℕ) → Is (exprs.Var n) → VarNode f k n
     var_node n is =
@@ -443,18 +538,21 @@ module _ (f : Frame) (o : IsOrdered f.program) where
     weights [] = refl
     weights (y ∷ ys) = omega (arith, sum_by-cons (λ j. term_weight (x j)) y ys, weights ys)
 
-    of_call : (g : Term) (ys : Terms) → TermFits f (term.term term.Call (with_term g ys) of e.pos) → TermFits f g × TermsFit f ys × ShapeFits f term.Call (with_term g ys) of
+    of_call : (g : Term) (ys : Terms) → TermFits f (term.term term.Call (with_term g ys) of e.pos) →
+        TermFits f g × TermsFit f ys × ShapeFits f term.Call (with_term g ys) of
     unfolding TermFits
     of_call g ys h = (h.0.0, h.0.1, h.1)
 
-    of_library : (n : ℕ) (ys : Terms) → TermFits f (term.term (term.Library n) ys of e.pos) → TermsFit f ys × ShapeFits f (term.Library n) ys of
+    of_library : (n : ℕ) (ys : Terms) → TermFits f (term.term (term.Library n) ys of e.pos) →
+        TermsFit f ys × ShapeFits f (term.Library n) ys of
     unfolding TermFits
     of_library n ys h = (h.0, h.1)
 
     pub call_node : (g : ℕ) (xs : List ℕ) → Is (exprs.Call g xs) → CallNode f k g xs
     call_node g xs is =
         let h = of_call (x g) (terms (map x xs)) (fits (exprs.Call g xs) is) in
-        let q : term_weight (x k) ≡ 4 + (term_weight (x g) + terms_weight (terms (map x xs))) = ap term_weight (same (exprs.Call g xs) is) in
+        let q : term_weight (x k) ≡ 4 + (term_weight (x g) + terms_weight (terms (map x xs))) =
+        ap term_weight (same (exprs.Call g xs) is) in
         record {
           called = record { fits = h.0 };
           arguments = record { each = each_typed xs h.1 };
@@ -469,7 +567,8 @@ module _ (f : Frame) (o : IsOrdered f.program) where
     pub library_node : (n : ℕ) (xs : List ℕ) → Is (exprs.Library n xs) → LibraryNode f k n xs
     library_node n xs is =
         let h = of_library n (terms (map x xs)) (fits (exprs.Library n xs) is) in
-        let q : term_weight (x k) ≡ 4 + terms_weight (terms (map x xs)) = ap term_weight (same (exprs.Library n xs) is) in
+        let q : term_weight (x k) ≡ 4 + terms_weight (terms (map x xs)) =
+        ap term_weight (same (exprs.Library n xs) is) in
         record {
           arguments = record { each = each_typed xs h.0 };
           weight = omega (arith, q, weights xs);

@@ -1,5 +1,6 @@
 -- The parts of statements, wherever these stand, and code for them.
-use Rattle.std.proofs.Common.{◌≡◌, ℕ, ◌+◌, ◌<◌, ◌≤◌, List, length, take, get_or, Option, Some, None, Result, Ok, Err, IfOk, subst}
+use Rattle.std.proofs.Common.{◌≡◌, ℕ, ◌+◌, ◌<◌, ◌≤◌, List, length, take, get_or, Option, Some, None, Result, Ok, Err}
+use Rattle.std.proofs.Common.{IfOk, subst}
 use Rattle.std.specs.Prelude.{slice_get}
 use Rattle.std.proofs.lemmas.Option.{slice_get-get_or}
 use Rattle.std.proofs.lemmas.List.Sums.{sum_by_more, sum_by_more_le, sum_by-take-le}
@@ -17,7 +18,8 @@ use Rattle.tac_lower.specs.declared.statements.Exits.{Exits}
 use Rattle.tac_lower.specs.declared.types.TypeFacts.{TypeFacts}
 use Rattle.tac_lower.specs.Emitted.{IsOpen}
 use Rattle.tac_lower.specs.Nodes.{IsTyped}
-use Rattle.tac_lower.specs.Parts.{heft_in, hefts_in, PartFits, ArePlaced, EvaluatePart, InitPart, BlockPart, IfPart, LoopPart, ForPart, SwitchPart, ReturnPart}
+use Rattle.tac_lower.specs.Parts.{heft_in, hefts_in, PartFits, ArePlaced, EvaluatePart, InitPart, BlockPart, IfPart}
+use Rattle.tac_lower.specs.Parts.{LoopPart, ForPart, SwitchPart, ReturnPart}
 use Rattle.tac_lower.specs.Scenes.{Lowered, Opened}
 use Rattle.tac_lower.specs.Statements.{IsPart, AreParts, IsTypedIfAny, IsExit, AreExits}
 use Rattle.tac_lower.proofs.Parts.{part_fits}

@@ -1,5 +1,7 @@
 -- What code that is added takes, added up.
-use Rattle.std.proofs.Common.{◌≡◌, ℕ, zero, suc, ◌+◌, ◌-◌, ◌*◌, ◌<◌, ◌≤◌, Bool, true, false, List, [], ◌∷◌, ◌++◌, length, max, Option, Some, None, IfSome, Result, Ok, Err, IfOk, ◌⊎◌, ⊎_elim, inl, inr, refl, sym, ap, ◌∙◌, subst, arith, length-append}
+use Rattle.std.proofs.Common.{◌≡◌, ℕ, zero, suc, ◌+◌, ◌-◌, ◌*◌, ◌<◌, ◌≤◌, Bool, true, false, List, [], ◌∷◌, ◌++◌}
+use Rattle.std.proofs.Common.{length, max, Option, Some, None, IfSome, Result, Ok, Err, IfOk, ◌⊎◌, ⊎_elim, inl, inr}
+use Rattle.std.proofs.Common.{refl, sym, ap, ◌∙◌, subst, arith, length-append}
 use Rattle.std.specs.Prelude.{nat_lt, if◌then◌else◌}
 use Rattle.std.proofs.lemmas.Bool.Decides.{nat_tests}
 use Rattle.std.specs.List.{sum_by}
@@ -21,7 +23,8 @@ max_more a b c d h = omega (arith, h)
 
 outgoing_push : (is : List TacInstr) (i : TacInstr) → outgoing (is ++ i ∷ []) ≤ outgoing is + outgoing_by i
 outgoing_push [] i = omega arith
-outgoing_push (j ∷ js) i = max_more (outgoing_by j) (outgoing (js ++ i ∷ [])) (outgoing js) (outgoing_by i) (outgoing_push js i)
+outgoing_push (j ∷ js) i =
+    max_more (outgoing_by j) (outgoing (js ++ i ∷ [])) (outgoing js) (outgoing_by i) (outgoing_push js i)
 
 pub pushed_spent : (a b : Emitter) (i : TacInstr) → Pushed a b i → Spent a b (outgoing_by i) (cost i)
 unfolding places words
@@ -68,7 +71,8 @@ forked_spent h = spent_then (labelled_spent h.first) (labelled_spent h.second)
 -- a loop begins
 pub begun_spent : {a b : Emitter} {c : Circle} → Begun a b c → Spent a b 0 0
 begun_spent h =
-    spent_within (spent_then (spent_then (labelled_spent h.top) (pushed_spent _ _ _ h.stands)) (forked_spent h.others)) (omega arith) (omega arith)
+    spent_within (spent_then (spent_then (labelled_spent h.top) (pushed_spent _ _ _ h.stands)) (forked_spent h.others))
+    (omega arith) (omega arith)
 
 -- ---- in a function whose first temps belong to its variables
 
@@ -136,10 +140,12 @@ module _ {f : ℕ} where
 
   -- ---- a temp for a value that is changed in steps
 
-  pub owned : {a b c : Emitter} {to : Option ℕ} {t m n : ℕ} → Spends f a b m n → Owns f to b c t → Spends f a c (m + extra f to) n
+  pub owned : {a b c : Emitter} {to : Option ℕ} {t m n : ℕ} → Spends f a b m n → Owns f to b c t →
+      Spends f a c (m + extra f to) n
   owned g h = record {
     spent = λ s.
-        spent_within (spent_then (g.spent s) (h.spent (omega (arith, s, (g.spent s).grows)))) (omega arith) (omega arith);
+        spent_within (spent_then (g.spent s) (h.spent (omega (arith, s, (g.spent s).grows)))) (omega arith)
+        (omega arith);
   }
 
   pub in_own : {a b c : Emitter} {to : Option ℕ} {t n : ℕ} (m : ℕ) → Owns f to a b t
@@ -148,7 +154,8 @@ module _ {f : ℕ} where
     spent = λ s.
         let none : extra f (Some t) ≡ 0 = g.own s in
         let mine = g.spent s in
-        spent_within (spent_then mine (h.spent (omega (arith, s, mine.grows)))) (omega (arith, none)) (omega (arith, none));
+        spent_within (spent_then mine (h.spent (omega (arith, s, mine.grows)))) (omega (arith, none))
+        (omega (arith, none));
   }
 
   pub other : (t : ℕ) → t < f → extra f (Some t) ≡ 1
@@ -162,7 +169,8 @@ module _ {f : ℕ} where
     given = inr e;
   }
 
-  pub own_new : {a b : Emitter} {to : Option ℕ} {t : ℕ} → extra f to ≡ 1 → t ≡ length a.kinds.items → Spent a b 1 0 → Owns f to a b t
+  pub own_new : {a b : Emitter} {to : Option ℕ} {t : ℕ} → extra f to ≡ 1 → t ≡ length a.kinds.items → Spent a b 1 0 →
+      Owns f to a b t
   own_new {t = t} e next h = record {
     spent = λ s. spent_within h (omega (arith, e)) (omega arith);
     own = λ s. fresh t (omega (arith, s, next));
@@ -172,10 +180,12 @@ module _ {f : ℕ} where
   -- the value is handed on to where it is asked for
   pub last_given : {T E : Type 0} {a b d g : Emitter} {to : Option ℕ} {t m n k l : ℕ} (c : Emitter) (r : Result T E)
       → Owns f to d g t → Spends f a b m n → IfOk r (λ _. Spent b c 0 6)
-      → (IfSome to (λ u. u ≡ t) → IfOk r (λ _. Spent b c 0 0)) → m ≤ k → n + 6 * extra f to ≤ l → IfOk r (λ _. Spends f a c k l)
+      → (IfSome to (λ u. u ≡ t) → IfOk r (λ _. Spent b c 0 0)) → m ≤ k → n + 6 * extra f to ≤ l →
+      IfOk r (λ _. Spends f a c k l)
   last_given {to = to} {t = t} c (Ok x) o g h there i j =
       ⊎_elim (λ (e : extra f to ≡ 1). within (and g h) (omega (arith, i)) (omega (arith, e, j)))
-      (λ (e : to ≡ Some t). within (and g (there (subst (λ z. IfSome z (λ u. u ≡ t)) (sym e) refl))) (omega (arith, i)) (omega (arith, j))) o.given
+      (λ (e : to ≡ Some t). within (and g (there (subst (λ z. IfSome z (λ u. u ≡ t)) (sym e) refl))) (omega (arith, i))
+      (omega (arith, j))) o.given
   last_given c (Err x) o g h there i j = tt
 
 module _ (f : ℕ) {T : Type 0} (a b : Emitter) {to : Option ℕ} where
@@ -190,7 +200,8 @@ module _ (f : ℕ) {T : Type 0} (a b : Emitter) {to : Option ℕ} where
   own_other (Err x) u e lt next h = tt
 
 -- the last call has its value in a new temp
-pub last_fresh : {T E : Type 0} {a b : Emitter} {t n k l : ℕ} (f m : ℕ) (c : Emitter) (r : Result T E) → t ≡ length a.kinds.items
+pub last_fresh : {T E : Type 0} {a b : Emitter} {t n k l : ℕ} (f m : ℕ) (c : Emitter) (r : Result T E) →
+    t ≡ length a.kinds.items
     → Spent a b 1 0 → IfOk r (λ _. Spends f b c (m + extra f (Some t)) (n + 6 * extra f (Some t))) → m + 1 ≤ k → n ≤ l
     → IfOk r (λ _. Spends f a c k l)
 last_fresh f m c (Ok x) e g h i j = within (in_fresh m e g h) i j

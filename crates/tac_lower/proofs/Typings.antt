@@ -1,5 +1,6 @@
 -- The types of a program by their numbers and as trees.
-use Rattle.std.proofs.Common.{◌≡◌, ℕ, zero, suc, ◌+◌, ◌<◌, ◌≤◌, false, List, [], ◌∷◌, ◌++◌, length, get_or, Option, Some, None, refl, sym, ap, ◌∙◌, subst, arith, length-append}
+use Rattle.std.proofs.Common.{◌≡◌, ℕ, zero, suc, ◌+◌, ◌<◌, ◌≤◌, false, List, [], ◌∷◌, ◌++◌, length, get_or, Option}
+use Rattle.std.proofs.Common.{Some, None, refl, sym, ap, ◌∙◌, subst, arith, length-append}
 use Rattle.std.specs.Prelude.{slice_get, slice_index_or}
 use Rattle.std.proofs.lemmas.Option.{slice_get_within, slice_get_past, slice_get-get_or}
 use Rattle.c_tree.specs.Layout.{bare, bare_of, bare_within}
@@ -30,7 +31,8 @@ none_by all (suc d) t h = ap (λ z. bare_of z (bare_within d all)) h
 pub bare_past : (all : List CType) (t : ℕ) → length all ≤ t → bare all t ≡ None
 bare_past all t h = none_by all (length all) t (slice_get_past all t h)
 
-grow_length : {N T : Type 0} (make : N → (ℕ → T) → T) (bad : T) (ns : List N) (ts : List T) → length (grow make bad ns ts) ≡ length ts + length ns
+grow_length : {N T : Type 0} (make : N → (ℕ → T) → T) (bad : T) (ns : List N) (ts : List T) →
+    length (grow make bad ns ts) ≡ length ts + length ns
 unfolding grow
 grow_length make bad [] ts = omega arith
 grow_length make bad (n ∷ ns) ts =
@@ -52,15 +54,18 @@ same_to : (c : Option CType) (s t : Ty) → s ≡ t → Same c s → Same c t
 same_to c s t e h = subst (λ z. Same c z) e h
 
 module _ (p : Typed) (o : IsOrdered p) where
-  start : (d t : ℕ) (c : CType) → slice_get p.types t ≡ Some c → Same (bare_of (Some c) (bare_within d p.types)) (type_in p t) → Same (bare_within (suc d) p.types t) (type_in p t)
+  start : (d t : ℕ) (c : CType) → slice_get p.types t ≡ Some c →
+      Same (bare_of (Some c) (bare_within d p.types)) (type_in p t) → Same (bare_within (suc d) p.types t) (type_in p t)
   unfolding bare_within
   start d t c h s = subst (λ z. Same (bare_of z (bare_within d p.types)) (type_in p t)) (sym h) s
 
-  module _ (d t : ℕ) (deep : (u : ℕ) (w : CType) → u < t → slice_get p.types u ≡ Some w → Same (bare_within d p.types u) (type_in p u)) where
+  module _ (d t : ℕ) (deep : (u : ℕ) (w : CType) → u < t → slice_get p.types u ≡ Some w →
+      Same (bare_within d p.types u) (type_in p u)) where
     there : (u : ℕ) → u < length p.types → (w : CType) × (slice_get p.types u ≡ Some w)
     there u less = (get_or p.types u types.Void, slice_get-get_or p.types u types.Void less)
 
-    by_node : (w : CType) → slice_get p.types t ≡ Some w → (go : ℕ → Ty) → type_in p t ≡ type_from w go → ((j : ℕ) → j < t → go j ≡ type_in p j) → Same (bare_of (Some w) (bare_within d p.types)) (type_in p t)
+    by_node : (w : CType) → slice_get p.types t ≡ Some w → (go : ℕ → Ty) → type_in p t ≡ type_from w go →
+        ((j : ℕ) → j < t → go j ≡ type_in p j) → Same (bare_of (Some w) (bare_within d p.types)) (type_in p t)
     by_node types.Void g go is before = record { kept = sym (ap kept_as is); target = sym (ap points is) }
     by_node (types.Int k n) g go is before = record { kept = sym (ap kept_as is); target = sym (ap points is) }
     by_node (types.Cap s) g go is before = record { kept = sym (ap kept_as is); target = sym (ap points is) }
@@ -82,7 +87,8 @@ module _ (p : Typed) (o : IsOrdered p) where
   within zero t lt c h = absurd (omega arith)
   within (suc d) t lt c h =
       let r = forest_reads type_from ty.Void p.types t c h in
-      start d t c h (by_node d t (λ u w less g. within d u (omega arith) w g) c h (λ j. get_or r.seen j ty.Void) r.is r.before)
+      start d t c h (by_node d t (λ u w less g. within d u (omega arith) w g) c h
+      (λ j. get_or r.seen j ty.Void) r.is r.before)
 
   past_from : (cs : List CType) (t : ℕ) → slice_get cs t ≡ None → length cs ≤ t
   past_from [] t h = omega arith
@@ -102,7 +108,11 @@ module _ (p : Typed) (o : IsOrdered p) where
       by None h =
           let e : bare p.types t ≡ None = none_by p.types (length p.types) t h in
           let v = type_past t h in
-          record { kept = ap kept_by e ∙ sym (ap kept_as v); target = ap (λ z. is_some (target_by z)) e ∙ sym (ap points v) }
+          record {
+            kept = ap kept_by e ∙ sym (ap kept_as v);
+            target = ap (λ z. is_some (target_by z)) e
+                ∙ sym (ap points v);
+          }
 
   pub kept_is : (t : ℕ) → kept_by (bare p.types t) ≡ kept_as (type_in p t)
   kept_is t = (same_type t).kept
@@ -125,16 +135,19 @@ module _ (p : Typed) (o : IsOrdered p) where
   pub expression_type : (k : ℕ) (e : Expr) → slice_get p.exprs k ≡ Some e → type_of (expression p k) ≡ type_in p e.of
   expression_type k e h = ap type_of (expression_is p o k e h) ∙ by e.kind
     where
-      by : (kd : ExprKind) → type_of (kind_term (types_of p.types) kd (type_in p e.of) e.pos (expression p)) ≡ type_in p e.of
+      by : (kd : ExprKind) → type_of (kind_term (types_of p.types) kd (type_in p e.of) e.pos (expression p))
+          ≡ type_in p e.of
       by (exprs.Constant n) = refl
       by kd = refl
 
   -- ---- an expression's facts
 
-  pub facts_kept : (k : ℕ) (e : Expr) (kd : Option TacKind) → slice_get p.exprs k ≡ Some e → kd ≡ kept_by (bare p.types e.of) → kd ≡ scalar_in p k
+  pub facts_kept : (k : ℕ) (e : Expr) (kd : Option TacKind) → slice_get p.exprs k ≡ Some e →
+      kd ≡ kept_by (bare p.types e.of) → kd ≡ scalar_in p k
   facts_kept k e kd h q = q ∙ kept_is e.of ∙ sym (ap kept_as (expression_type k e h))
 
-  pub facts_point : (k : ℕ) (e : Expr) (target : Option ℕ) → slice_get p.exprs k ≡ Some e → target ≡ target_by (bare p.types e.of) → is_some target ≡ points (type_of (expression p k))
+  pub facts_point : (k : ℕ) (e : Expr) (target : Option ℕ) → slice_get p.exprs k ≡ Some e →
+      target ≡ target_by (bare p.types e.of) → is_some target ≡ points (type_of (expression p k))
   facts_point k e target h q = ap is_some q ∙ points_is e.of ∙ sym (ap points (expression_type k e h))
 
   pub none_kept : (k : ℕ) → slice_get p.exprs k ≡ None → scalar_in p k ≡ None

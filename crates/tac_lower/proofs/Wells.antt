@@ -1,17 +1,21 @@
 -- Code stays well formed where an instruction is added.
-use Rattle.std.proofs.Common.{◌≡◌, ℕ, zero, suc, ◌<◌, Bool, true, false, not, List, [], ◌∷◌, ◌++◌, length, Some, refl, sym, ap, ◌∙◌, subst, arith, append_assoc, length-append}
+use Rattle.std.proofs.Common.{◌≡◌, ℕ, zero, suc, ◌<◌, Bool, true, false, not, List, [], ◌∷◌, ◌++◌, length, Some, refl}
+use Rattle.std.proofs.Common.{sym, ap, ◌∙◌, subst, arith, append_assoc, length-append}
 use Rattle.std.specs.Prelude.{◌==◌, ◌&&◌, ◌||◌, nat_lt, slice_get}
 use Rattle.std.proofs.lemmas.Bool.Decides.{nat_tests}
 use Rattle.c_tree.specs.declared.typed.FunDef.{FunDef}
 use Rattle.c_tree.specs.declared.typed.Typed.{Typed}
 use Rattle.cheri_c_sem.specs.Compatible.{same_bool}
 use Rattle.tac_ir.specs.Meaning.{is_label}
-use Rattle.tac_ir.specs.WellFormed.{all_of, has_label, is_temp, instruction_fits, labels_differ, label_is_new, ends_well, turns_fit, turn_fits}
+use Rattle.tac_ir.specs.WellFormed.{all_of, has_label, is_temp, instruction_fits, labels_differ, label_is_new}
+use Rattle.tac_ir.specs.WellFormed.{ends_well, turns_fit, turn_fits}
 use Rattle.tac_ir.specs.declared.code.TacInstr.{TacInstr}
 use Rattle.tac_ir.specs.declared.code.TacInstr.TheVariants as instr
 use Rattle.tac_ir.specs.declared.code.TacKind.{TacKind}
 use Rattle.tac_lower.specs.declared.emitter.Emitter.{Emitter}
-use Rattle.tac_lower.specs.Emitted.{HasKind, is_capability, HasInt, HasCapability, Keeps, open_labels, Stands, WellListed, Follows, Ends, IsWell, Built, Grown, Made, Pushed, Adds, SameKind, SameCapability, IsTemp}
+use Rattle.tac_lower.specs.Emitted.{HasKind, is_capability, HasInt, HasCapability, Keeps, open_labels, Stands}
+use Rattle.tac_lower.specs.Emitted.{WellListed, Follows, Ends, IsWell, Built, Grown, Made, Pushed, Adds, SameKind}
+use Rattle.tac_lower.specs.Emitted.{SameCapability, IsTemp}
 
 -- ---- truth values
 
@@ -42,7 +46,8 @@ or_assoc false b c = refl
 
 pub has_append : (xs ys : List TacInstr) (l : ℕ) → has_label (xs ++ ys) l ≡ (has_label xs l || has_label ys l)
 has_append [] ys l = refl
-has_append (x ∷ xs) ys l = ap (λ b. is_label x l || b) (has_append xs ys l) ∙ sym (or_assoc (is_label x l) (has_label xs l) (has_label ys l))
+has_append (x ∷ xs) ys l =
+    ap (λ b. is_label x l || b) (has_append xs ys l) ∙ sym (or_assoc (is_label x l) (has_label xs l) (has_label ys l))
 
 -- ---- an instruction before well-formed code
 
@@ -73,7 +78,8 @@ module _ (p : Typed) (d : FunDef) (kinds : List TacKind) (whole : List TacInstr)
   plain_new (instr.Label l) is h = absurd cc
   plain_new i is h = refl
 
-  plain_turns : (i : TacInstr) (is : List TacInstr) → is_plain i ≡ true → turns_fit false is ≡ true → turns_fit false (i ∷ is) ≡ true
+  plain_turns : (i : TacInstr) (is : List TacInstr) → is_plain i ≡ true → turns_fit false is ≡ true →
+      turns_fit false (i ∷ is) ≡ true
   plain_turns (instr.Label l) is h t = absurd cc
   plain_turns (instr.Jump l) is h t = absurd cc
   plain_turns (instr.Branch on when l) is h t = absurd cc
@@ -96,28 +102,35 @@ module _ (p : Typed) (d : FunDef) (kinds : List TacKind) (whole : List TacInstr)
     turns = r.turns;
   }
 
-  pub well_branch : (on : ℕ) (when : Bool) (l : ℕ) (is : List TacInstr) → is_temp p d kinds whole on ≡ true → has_label whole l ≡ true → has_label is l ≡ true → Well is → Well (instr.Branch on when l ∷ is)
+  pub well_branch : (on : ℕ) (when : Bool) (l : ℕ) (is : List TacInstr) → is_temp p d kinds whole on ≡ true →
+      has_label whole l ≡ true → has_label is l ≡ true → Well is → Well (instr.Branch on when l ∷ is)
   well_branch on when l is temp known later r = record {
-    fits = and_true (is_temp p d kinds whole on && has_label whole l) (all_of fit is) (and_true (is_temp p d kinds whole on) (has_label whole l) temp known) r.fits;
+    fits = and_true (is_temp p d kinds whole on && has_label whole l) (all_of fit is)
+        (and_true (is_temp p d kinds whole on) (has_label whole l) temp known) r.fits;
     differ = r.differ;
     ends = ends_cons (instr.Branch on when l) is r.ends;
-    turns = and_true (turn_fits false (instr.Branch on when l) is) (turns_fit false is) (ap (λ b. same_bool false (not b)) later) r.turns;
+    turns = and_true (turn_fits false (instr.Branch on when l) is) (turns_fit false is)
+        (ap (λ b. same_bool false (not b)) later) r.turns;
   }
 
-  pub well_jump : (l : ℕ) (is : List TacInstr) → has_label whole l ≡ true → has_label is l ≡ true → Well is → Well (instr.Jump l ∷ is)
+  pub well_jump : (l : ℕ) (is : List TacInstr) → has_label whole l ≡ true → has_label is l ≡ true → Well is →
+      Well (instr.Jump l ∷ is)
   well_jump l is known later r = record {
     fits = and_true (has_label whole l) (all_of fit is) known r.fits;
     differ = r.differ;
     ends = ends_cons (instr.Jump l) is r.ends;
-    turns = and_true (turn_fits false (instr.Jump l) is) (turns_fit false is) (ap (λ b. same_bool false (not b)) later) r.turns;
+    turns = and_true (turn_fits false (instr.Jump l) is) (turns_fit false is)
+        (ap (λ b. same_bool false (not b)) later) r.turns;
   }
 
-  pub well_back : (l : ℕ) (is : List TacInstr) → has_label whole l ≡ true → has_label is l ≡ false → Well is → Well (instr.Turn ∷ instr.Jump l ∷ is)
+  pub well_back : (l : ℕ) (is : List TacInstr) → has_label whole l ≡ true → has_label is l ≡ false → Well is →
+      Well (instr.Turn ∷ instr.Jump l ∷ is)
   well_back l is known later r = record {
     fits = and_true (has_label whole l) (all_of fit is) known r.fits;
     differ = r.differ;
     ends = ends_cons (instr.Turn) (instr.Jump l ∷ is) (ends_cons (instr.Jump l) is r.ends);
-    turns = and_true (turn_fits true (instr.Jump l) is) (turns_fit false is) (ap (λ b. same_bool true (not b)) later) r.turns;
+    turns = and_true (turn_fits true (instr.Jump l) is) (turns_fit false is)
+        (ap (λ b. same_bool true (not b)) later) r.turns;
   }
 
 -- ---- what is kept
@@ -128,7 +141,8 @@ keeps_same xs ys e = record { kept = λ t k h. subst (λ z. slice_get z t ≡ So
 pub keeps_then : (xs ys zs : List TacKind) → Keeps xs ys → Keeps ys zs → Keeps xs zs
 keeps_then xs ys zs f g = record { kept = λ t k h. g.kept t k (f.kept t k h) }
 
-get_more : (xs : List TacKind) (y : TacKind) (t : ℕ) (k : TacKind) → slice_get xs t ≡ Some k → slice_get (xs ++ y ∷ []) t ≡ Some k
+get_more : (xs : List TacKind) (y : TacKind) (t : ℕ) (k : TacKind) → slice_get xs t ≡ Some k →
+    slice_get (xs ++ y ∷ []) t ≡ Some k
 get_more [] y t k h = absurd cc
 get_more (x ∷ xs) y zero k h = h
 get_more (x ∷ xs) y (suc t) k h = get_more xs y t k h
@@ -148,12 +162,14 @@ extensional f g h = λ i l. h l i
 -- an instruction fits now and whatever temps and labels are made later
 pub record Lasts (p : Typed) (d : FunDef) (e : Emitter) (i : TacInstr) : Type 0 where
   pub plain : is_plain i ≡ true
-  pub fits : (kinds : List TacKind) (whole : List TacInstr) → Keeps e.kinds.items kinds → instruction_fits p d kinds whole i ≡ true
+  pub fits : (kinds : List TacKind) (whole : List TacInstr) → Keeps e.kinds.items kinds →
+      instruction_fits p d kinds whole i ≡ true
 
 -- and so it does in each function
 pub record LastsAnywhere (e : Emitter) (i : TacInstr) : Type 0 where
   pub plain : is_plain i ≡ true
-  pub fits : (p : Typed) (d : FunDef) (kinds : List TacKind) (whole : List TacInstr) → Keeps e.kinds.items kinds → instruction_fits p d kinds whole i ≡ true
+  pub fits : (p : Typed) (d : FunDef) (kinds : List TacKind) (whole : List TacInstr) → Keeps e.kinds.items kinds →
+      instruction_fits p d kinds whole i ≡ true
 
 module _ (a b : Emitter) (i : TacInstr) (h : Pushed a b i) where
   pub pushed_has : (l : ℕ) → has_label b.code.items l ≡ (has_label a.code.items l || (is_label i l || false))
@@ -168,26 +184,37 @@ module _ (a b : Emitter) (i : TacInstr) (h : Pushed a b i) where
 
   module _ (plain : is_plain i ≡ true) where
     pub plain_has : (l : ℕ) → has_label b.code.items l ≡ has_label a.code.items l
-    plain_has l = pushed_has l ∙ ap (λ z. has_label a.code.items l || (z || false)) (no_label i l plain) ∙ or_none (has_label a.code.items l)
+    plain_has l = pushed_has l ∙ ap (λ z. has_label a.code.items l || (z || false)) (no_label i l plain)
+        ∙ or_none (has_label a.code.items l)
 
     pub plain_opens : open_labels b ≡ open_labels a
     unfolding open_labels
-    plain_opens = extensional (open_labels b) (open_labels a) (λ l. ap (λ z. nat_lt l z && not (has_label b.code.items l)) h.labels ∙ ap (λ z. nat_lt l a.labels && not z) (plain_has l))
+    plain_opens = extensional (open_labels b) (open_labels a)
+        (λ l. ap (λ z. nat_lt l z && not (has_label b.code.items l)) h.labels
+        ∙ ap (λ z. nat_lt l a.labels && not z) (plain_has l))
 
     pub plain_well : (p : Typed) (d : FunDef) → Lasts p d a i → IsWell p d a → IsWell p d b
     plain_well p d lasts w = record {
       made = λ l s. subst (λ z. l < z) (sym h.labels) (w.made l (record { is = sym (plain_has l) ∙ s.is }));
       completes = λ kinds whole rest ends follows well.
-          let keeps : Keeps a.kinds.items kinds = keeps_then a.kinds.items b.kinds.items kinds (keeps_same a.kinds.items b.kinds.items h.kinds) ends.keeps in
-          let mine : Ends a kinds whole = record { keeps = keeps; stand = λ l lt. ends.stand l (subst (λ z. l < z) (sym h.labels) lt) } in
+          let keeps : Keeps a.kinds.items kinds =
+          keeps_then a.kinds.items b.kinds.items kinds
+          (keeps_same a.kinds.items b.kinds.items h.kinds) ends.keeps in
+          let mine : Ends a kinds whole =
+          record { keeps = keeps; stand = λ l lt. ends.stand l (subst (λ z. l < z) (sym h.labels) lt) } in
           let after : Follows a (i ∷ rest) = record {
-            opens = λ l o. or_right (is_label i l) (has_label rest l) (follows.opens l (record { is = ap (λ z. z l) plain_opens ∙ o.is }));
-            once = λ l s. ap (λ z. z || has_label rest l) (no_label i l plain) ∙ follows.once l (record { is = plain_has l ∙ s.is });
+            opens = λ l o. or_right (is_label i l) (has_label rest l)
+                (follows.opens l (record { is = ap (λ z. z l) plain_opens ∙ o.is }));
+            once = λ l s. ap (λ z. z || has_label rest l) (no_label i l plain)
+                ∙ follows.once l (record { is = plain_has l ∙ s.is });
           } in
-          subst (λ z. WellListed p d kinds whole z) (sym (pushed_rest rest)) (w.completes kinds whole (i ∷ rest) mine after (well_plain p d kinds whole i rest plain (lasts.fits kinds whole keeps) well));
+          subst (λ z. WellListed p d kinds whole z) (sym (pushed_rest rest))
+          (w.completes kinds whole (i ∷ rest) mine after
+          (well_plain p d kinds whole i rest plain (lasts.fits kinds whole keeps) well));
     }
 
-pub pushed_built : (p : Typed) (d : FunDef) (a b : Emitter) (i : TacInstr) → IsWell p d a → Pushed a b i → Lasts p d a i → Built p d a b
+pub pushed_built : (p : Typed) (d : FunDef) (a b : Emitter) (i : TacInstr) → IsWell p d a → Pushed a b i →
+    Lasts p d a i → Built p d a b
 pushed_built p d a b i w h lasts = record {
   keeps = keeps_same a.kinds.items b.kinds.items h.kinds;
   stands = λ l s. record { is = plain_has a b i h lasts.plain l ∙ s.is };
@@ -228,7 +255,12 @@ grown_then a b c f g = record {
 }
 
 pub grown_same : (a : Emitter) → Grown a a
-grown_same a = record { keeps = keeps_same a.kinds.items a.kinds.items refl; stands = λ l s. s; opens = refl; well = λ p d w. w }
+grown_same a = record {
+  keeps = keeps_same a.kinds.items a.kinds.items refl;
+  stands = λ l s. s;
+  opens = refl;
+  well = λ p d w. w;
+}
 
 pub kept : (a b : Emitter) (t : ℕ) (k : TacKind) → HasKind a t k → Grown a b → HasKind b t k
 kept a b t k h g = record { there = g.keeps.kept t k h.there }
@@ -253,7 +285,9 @@ module _ (a b : Emitter) (k : TacKind) (h : Made a b k) where
 
   made_opens : open_labels b ≡ open_labels a
   unfolding open_labels
-  made_opens = extensional (open_labels b) (open_labels a) (λ l. ap (λ z. nat_lt l z && not (has_label b.code.items l)) h.labels ∙ ap (λ z. nat_lt l a.labels && not (has_label z l)) h.code)
+  made_opens = extensional (open_labels b) (open_labels a)
+      (λ l. ap (λ z. nat_lt l z && not (has_label b.code.items l)) h.labels
+      ∙ ap (λ z. nat_lt l a.labels && not (has_label z l)) h.code)
 
   made_stands : (l : ℕ) → Stands b l → Stands a l
   made_stands l s = record { is = ap (λ z. has_label z l) (sym h.code) ∙ s.is }
@@ -274,13 +308,26 @@ module _ (a b : Emitter) (k : TacKind) (h : Made a b k) where
   }
 
 pub made_grown : (a b : Emitter) (k : TacKind) → Made a b k → Grown a b
-made_grown a b k h = record { keeps = made_keeps a b k h; stands = λ l s. record { is = ap (λ z. has_label z l) h.code ∙ s.is }; opens = made_opens a b k h; well = made_well a b k h }
+made_grown a b k h = record {
+  keeps = made_keeps a b k h;
+  stands = λ l s. record { is = ap (λ z. has_label z l) h.code ∙ s.is };
+  opens = made_opens a b k h;
+  well =
+      made_well a b k h;
+}
 
 pub made_has : (a b : Emitter) (k : TacKind) → Made a b k → HasKind b (length a.kinds.items) k
-made_has a b k h = record { there = subst (λ z. slice_get z (length a.kinds.items) ≡ Some k) (sym h.kinds) (get_last a.kinds.items k) }
+made_has a b k h = record {
+  there = subst (λ z. slice_get z (length a.kinds.items) ≡ Some k) (sym h.kinds)
+      (get_last a.kinds.items k);
+}
 
 pub made_adds : (a b : Emitter) (k : TacKind) → Made a b k → Adds a b 1 0
-made_adds a b k h = record { temps = let e = h.kinds in omega (arith, ap length e, length-append a.kinds.items (k ∷ [])); labels = let e = h.labels in omega arith }
+made_adds a b k h = record {
+  temps = let e = h.kinds in
+      omega (arith, ap length e, length-append a.kinds.items (k ∷ []));
+  labels = let e = h.labels in omega arith;
+}
 
 pub adds_same : (a : Emitter) → Adds a a 0 0
 adds_same a = record { temps = omega arith; labels = omega arith }
@@ -291,5 +338,6 @@ as_same a t u k h g = record { kind = k; to = h; from = g }
 pub as_temp : (a : Emitter) (t : ℕ) (k : TacKind) → HasKind a t k → IsTemp a t
 as_temp a t k h = record { kind = k; has = h }
 
-pub as_same_capability : (a : Emitter) (t u : ℕ) (k : TacKind) → HasKind a t k → HasKind a u k → is_capability k ≡ true → SameCapability a t u
+pub as_same_capability : (a : Emitter) (t u : ℕ) (k : TacKind) → HasKind a t k → HasKind a u k →
+    is_capability k ≡ true → SameCapability a t u
 as_same_capability a t u k h g e = record { kind = k; to = h; from = g; is = e }

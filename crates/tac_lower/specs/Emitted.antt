@@ -1,5 +1,6 @@
 -- What emitting functions do to the code of a function while it is made.
-use Rattle.std.specs.Prelude.{◌≡◌, ℕ, ◌+◌, ◌^◌, ◌<◌, ◌≤◌, ◌&&◌, ◌||◌, ◌==◌, nat_lt, Bool, true, false, not, List, [], ◌∷◌, ◌++◌, length, Option, Some, None, slice_get}
+use Rattle.std.specs.Prelude.{◌≡◌, ℕ, ◌+◌, ◌^◌, ◌<◌, ◌≤◌, ◌&&◌, ◌||◌, ◌==◌, nat_lt, Bool, true, false, not, List, []}
+use Rattle.std.specs.Prelude.{◌∷◌, ◌++◌, length, Option, Some, None, slice_get}
 use Rattle.ck_int.specs.declared.kinds.IntKind.{IntKind}
 use Rattle.ck_int.specs.declared.kinds.IntKind.TheVariants as int
 use Rattle.ck_int.specs.declared.kinds.IntOp.{IntOp}
@@ -163,7 +164,8 @@ pub record Ends (e : Emitter) (kinds : List TacKind) (whole : List TacInstr) : T
 pub record IsWell (p : Typed) (d : FunDef) (e : Emitter) : Type 0 where
   pub made : (l : ℕ) → Stands e l → l < e.labels
   pub completes :
-      (kinds : List TacKind) (whole rest : List TacInstr) → Ends e kinds whole → Follows e rest → WellListed p d kinds whole rest
+      (kinds : List TacKind) (whole rest : List TacInstr) → Ends e kinds whole → Follows e rest →
+      WellListed p d kinds whole rest
       → WellListed p d kinds whole (e.code.items ++ rest)
 
 -- ---- what is added

@@ -1,5 +1,7 @@
--- The expressions of a function of a typed program: how their values are kept, and what is known of each and its operands.
-use Rattle.std.specs.Prelude.{◌≡◌, ℕ, ◌+◌, ◌<◌, ◌⊎◌, Bool, true, false, Option, Some, None, List, length, map, sum_by, slice_get}
+-- The expressions of a function of a typed program: how their values are kept, and what is known of each and its
+-- operands.
+use Rattle.std.specs.Prelude.{◌≡◌, ℕ, ◌+◌, ◌<◌, ◌⊎◌, Bool, true, false, Option, Some, None, List, length, map, sum_by}
+use Rattle.std.specs.Prelude.{slice_get}
 use Rattle.ck_int.specs.declared.kinds.IntKind.{IntKind}
 use Rattle.ck_int.specs.declared.kinds.IntKind.TheVariants as int
 use Rattle.ck_int.specs.declared.kinds.IntOp.{IntOp}
@@ -107,7 +109,8 @@ pub record IntNode (f : Frame) (k : ℕ) (o : IntOp) (a b : ℕ) : Type 0 where
   pub right : IsScalar f.program b count
   pub right_fits : RightFits (is_shift o) kind count
 
--- an operation on capability integers, whose result may derive from the right operand only where this one is no shift's count
+-- an operation on capability integers, whose result may derive from the right operand only where this one is no shift's
+-- count
 pub record CapabilityNode (f : Frame) (k : ℕ) (o : IntOp) (a b : ℕ) : Type 0 where
   pub operands : HasTwo f k a b
   pub signed : Bool
@@ -185,7 +188,8 @@ pub record CompoundNode (f : Frame) (k : ℕ) (o : IntOp) (a b t : ℕ) : Type 0
   pub left : scalar_in f.program a ≡ scalar_in f.program k
   pub fits :
       ((points (type_in f.program t) ≡ true) × IsScalar f.program a (kinds.Cap false))
-      ⊎ ((points (type_in f.program t) ≡ false) × ComputedFits o (or_int (kept_as (type_in f.program t))) (kind_in f.program b))
+      ⊎ ((points (type_in f.program t) ≡ false) ×
+      ComputedFits o (or_int (kept_as (type_in f.program t))) (kind_in f.program b))
 
 -- a step
 pub record StepNode (f : Frame) (k a : ℕ) : Type 0 where
@@ -244,7 +248,8 @@ pub record LibraryNode (f : Frame) (k n : ℕ) (args : List ℕ) : Type 0 where
   pub service : Service
   pub there : slice_get services n ≡ Some service
   pub fit : AllAskedFit service.takes (terms (map (expression f.program) args))
-  pub gives : type_of (expression f.program k) ≡ given_type service.gives (list_of (terms (map (expression f.program) args)))
+  pub gives : type_of (expression f.program k)
+      ≡ given_type service.gives (list_of (terms (map (expression f.program) args)))
 
 -- Expression k by its kind
 abbrev pub NodeFits : Frame → ℕ → ExprKind → Type 0

@@ -1,5 +1,6 @@
 -- The statements of a function of a typed program: what is known of each, its expressions and the statements in it.
-use Rattle.std.specs.Prelude.{◌≡◌, ℕ, ◌+◌, nat_lt, if◌then◌else◌, true, Option, Some, None, List, length, sum_by, slice_get}
+use Rattle.std.specs.Prelude.{◌≡◌, ℕ, ◌+◌, nat_lt, if◌then◌else◌, true, Option, Some, None, List, length, sum_by}
+use Rattle.std.specs.Prelude.{slice_get}
 use Rattle.c_tree.specs.declared.typed.FunDef.{FunDef}
 use Rattle.c_tree.specs.declared.typed.StmtKind.{StmtKind}
 use Rattle.c_tree.specs.declared.typed.StmtKind.TheVariants as stmts
@@ -89,10 +90,13 @@ pub record ForPart (f : Frame) (k : ℕ) (vars first : List ℕ) (test step : Op
   pub test_fits : (j : ℕ) → test ≡ Some j → TestFits f j
   pub step_fits : (j : ℕ) → step ≡ Some j → IsTyped f j
   pub body_fits : IsPlaced f in_loop a
-  pub weight : heft_in f.program k ≡ 1 + or_none (weight_in f.program) test + or_none (weight_in f.program) step + hefts_in f.program first + heft_in f.program a
-  pub enters : (d : FunDef) → entered d vars + all_entered_in f.program d first + entered_in f.program d a ≡ entered_in f.program d k
+  pub weight : heft_in f.program k ≡ 1 + or_none (weight_in f.program) test + or_none (weight_in f.program) step
+      + hefts_in f.program first + heft_in f.program a
+  pub enters : (d : FunDef) →
+      entered d vars + all_entered_in f.program d first + entered_in f.program d a ≡ entered_in f.program d k
 
-pub record SwitchPart (f : Frame) (i : Inside) (k on : ℕ) (vars : List ℕ) (labels : List SwitchLabel) (body : List ℕ) : Type 0 where
+pub record SwitchPart (f : Frame) (i : Inside) (k on : ℕ) (vars : List ℕ) (labels : List SwitchLabel) (body : List ℕ) :
+    Type 0 where
   pub value : IsTyped f on
   pub integer : is_integer (type_of (expression f.program on)) ≡ true
   pub vars_there : AreVars f vars

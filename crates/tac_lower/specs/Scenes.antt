@@ -1,5 +1,5 @@
--- Where the code of an expression or statement is made: the program with the table of its types, the function with the places of its
--- variables, and the code so far.
+-- Where the code of an expression or statement is made: the program with the table of its types, the function with the
+-- places of its variables, and the code so far.
 use Rattle.std.specs.Prelude.{◌≡◌, ℕ, nat_lt, true, false, List, length, Some, slice_get}
 use Rattle.c_tree.specs.Types as ty
 use Rattle.c_tree.specs.Types.{Ty, Function, is_function}
@@ -42,7 +42,8 @@ HomeFits p d e v (home.Object n t) = HasKind e t (kinds.Cap false) × (nat_lt n 
 
 pub record Housed (p : Typed) (d : FunDef) (homes : List Home) (e : Emitter) : Type 0 where
   pub many : length homes ≡ length d.vars
-  pub stand : (x : ℕ) (h : Home) (v : VarDef) → slice_get homes x ≡ Some h → slice_get d.vars x ≡ Some v → HomeFits p d e v h
+  pub stand : (x : ℕ) (h : Home) (v : VarDef) → slice_get homes x ≡ Some h → slice_get d.vars x ≡ Some v →
+      HomeFits p d e v h
 
 -- all of it
 pub record Scene (p : Typed) (d : FunDef) (types : List TypeFacts) (homes : List Home) (e : Emitter) : Type 0 where
@@ -51,13 +52,15 @@ pub record Scene (p : Typed) (d : FunDef) (types : List TypeFacts) (homes : List
   pub well : IsWell p d e
 
 -- Code is added for a part of a function, with at most n temps and n labels
-pub record Lowered (p : Typed) (d : FunDef) (types : List TypeFacts) (homes : List Home) (old new : Emitter) (n : ℕ) : Type 0 where
+pub record Lowered (p : Typed) (d : FunDef) (types : List TypeFacts) (homes : List Home) (old new : Emitter) (n : ℕ) :
+    Type 0 where
   pub built : Built p d old new
   pub scene : Scene p d types homes new
   pub adds : Adds old new n n
 
 -- Code is added of which these labels do not stand so far, with at most n temps and n labels
-pub record Opened (p : Typed) (d : FunDef) (types : List TypeFacts) (homes : List Home) (old new : Emitter) (ls : List ℕ) (n : ℕ) : Type 0 where
+pub record Opened (p : Typed) (d : FunDef) (types : List TypeFacts) (homes : List Home) (old new : Emitter)
+    (ls : List ℕ) (n : ℕ) : Type 0 where
   pub pending : Pending p d old new ls
   pub scene : Scene p d types homes new
   pub adds : Adds old new n n

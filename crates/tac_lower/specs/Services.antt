@@ -20,19 +20,32 @@ ServiceAsks (services.Library lib.PutChar) takes gives = (takes ≡ A int ∷ []
 ServiceAsks (services.Library lib.GetChar) takes gives = (takes ≡ []) × (gives ≡ Of int)
 ServiceAsks (services.Library lib.Malloc) takes gives = (takes ≡ A unsigned_long ∷ []) × (gives ≡ Of (Pointer Void))
 ServiceAsks services.Exit takes gives = (takes ≡ A int ∷ []) × (gives ≡ Of Void)
-ServiceAsks (services.Intrinsic intrinsics.Address) takes gives = (takes ≡ Any_capability ∷ []) × (gives ≡ Of unsigned_long)
-ServiceAsks (services.Intrinsic (intrinsics.Bounds exact)) takes gives = (takes ≡ Any_capability ∷ A unsigned_long ∷ []) × (gives ≡ As_argument)
-ServiceAsks (services.Intrinsic (intrinsics.Work cap.Base)) takes gives = (takes ≡ Any_capability ∷ []) × (gives ≡ Of unsigned_long)
-ServiceAsks (services.Intrinsic (intrinsics.Work cap.Offset)) takes gives = (takes ≡ Any_capability ∷ []) × (gives ≡ Of unsigned_long)
-ServiceAsks (services.Intrinsic (intrinsics.Work cap.Length)) takes gives = (takes ≡ Any_capability ∷ []) × (gives ≡ Of unsigned_long)
-ServiceAsks (services.Intrinsic (intrinsics.Work cap.Perms)) takes gives = (takes ≡ Any_capability ∷ []) × (gives ≡ Of unsigned_long)
-ServiceAsks (services.Intrinsic (intrinsics.Work cap.Tag)) takes gives = (takes ≡ Any_capability ∷ []) × (gives ≡ Of bool)
-ServiceAsks (services.Intrinsic (intrinsics.Work cap.Clear)) takes gives = (takes ≡ Any_capability ∷ []) × (gives ≡ As_argument)
-ServiceAsks (services.Intrinsic (intrinsics.Work cap.SetAddress)) takes gives = (takes ≡ Any_capability ∷ A unsigned_long ∷ []) × (gives ≡ As_argument)
-ServiceAsks (services.Intrinsic (intrinsics.Work cap.AndPerms)) takes gives = (takes ≡ Any_capability ∷ A unsigned_long ∷ []) × (gives ≡ As_argument)
-ServiceAsks (services.Intrinsic (intrinsics.Work cap.EqualExact)) takes gives = (takes ≡ Any_capability ∷ Any_capability ∷ []) × (gives ≡ Of bool)
-ServiceAsks (services.Intrinsic (intrinsics.Work cap.Rounded)) takes gives = (takes ≡ A unsigned_long ∷ []) × (gives ≡ Of unsigned_long)
-ServiceAsks (services.Intrinsic (intrinsics.Work cap.Mask)) takes gives = (takes ≡ A unsigned_long ∷ []) × (gives ≡ Of unsigned_long)
+ServiceAsks (services.Intrinsic intrinsics.Address) takes gives =
+    (takes ≡ Any_capability ∷ []) × (gives ≡ Of unsigned_long)
+ServiceAsks (services.Intrinsic (intrinsics.Bounds exact)) takes gives =
+    (takes ≡ Any_capability ∷ A unsigned_long ∷ []) × (gives ≡ As_argument)
+ServiceAsks (services.Intrinsic (intrinsics.Work cap.Base)) takes gives =
+    (takes ≡ Any_capability ∷ []) × (gives ≡ Of unsigned_long)
+ServiceAsks (services.Intrinsic (intrinsics.Work cap.Offset)) takes gives =
+    (takes ≡ Any_capability ∷ []) × (gives ≡ Of unsigned_long)
+ServiceAsks (services.Intrinsic (intrinsics.Work cap.Length)) takes gives =
+    (takes ≡ Any_capability ∷ []) × (gives ≡ Of unsigned_long)
+ServiceAsks (services.Intrinsic (intrinsics.Work cap.Perms)) takes gives =
+    (takes ≡ Any_capability ∷ []) × (gives ≡ Of unsigned_long)
+ServiceAsks (services.Intrinsic (intrinsics.Work cap.Tag)) takes gives =
+    (takes ≡ Any_capability ∷ []) × (gives ≡ Of bool)
+ServiceAsks (services.Intrinsic (intrinsics.Work cap.Clear)) takes gives =
+    (takes ≡ Any_capability ∷ []) × (gives ≡ As_argument)
+ServiceAsks (services.Intrinsic (intrinsics.Work cap.SetAddress)) takes gives =
+    (takes ≡ Any_capability ∷ A unsigned_long ∷ []) × (gives ≡ As_argument)
+ServiceAsks (services.Intrinsic (intrinsics.Work cap.AndPerms)) takes gives =
+    (takes ≡ Any_capability ∷ A unsigned_long ∷ []) × (gives ≡ As_argument)
+ServiceAsks (services.Intrinsic (intrinsics.Work cap.EqualExact)) takes gives =
+    (takes ≡ Any_capability ∷ Any_capability ∷ []) × (gives ≡ Of bool)
+ServiceAsks (services.Intrinsic (intrinsics.Work cap.Rounded)) takes gives =
+    (takes ≡ A unsigned_long ∷ []) × (gives ≡ Of unsigned_long)
+ServiceAsks (services.Intrinsic (intrinsics.Work cap.Mask)) takes gives =
+    (takes ≡ A unsigned_long ∷ []) × (gives ≡ Of unsigned_long)
 ServiceAsks s takes gives = ⊥
 
 -- an intrinsic, by the kind of its first argument and by the temps of its result and of its arguments

@@ -1,5 +1,6 @@
 -- What code that is added takes: places of the function's frame, and words of machine code.
-use Rattle.std.specs.Prelude.{◌≡◌, ℕ, ◌+◌, ◌-◌, ◌*◌, ◌≤◌, ◌⊎◌, nat_lt, Bool, true, false, length, Option, Some, None, if◌then◌else◌}
+use Rattle.std.specs.Prelude.{◌≡◌, ℕ, ◌+◌, ◌-◌, ◌*◌, ◌≤◌, ◌⊎◌, nat_lt, Bool, true, false, length, Option, Some, None}
+use Rattle.std.specs.Prelude.{if◌then◌else◌}
 use Rattle.std.specs.List.{sum_by}
 use Rattle.tac_ir.specs.Costs.{cost, outgoing}
 use Rattle.tac_ir.specs.declared.code.Amount.{Amount}
@@ -25,7 +26,8 @@ is_number (amount.Number n) = true
 
 -- ---- in a function whose first temps, so many, belong to its variables
 
--- 1 where a value gets a temp of its own beside the one in which it is asked for: that one is a variable's, or there is none
+-- 1 where a value gets a temp of its own beside the one in which it is asked for: that one is a variable's, or there is
+-- none
 unfoldable pub extra : (fixed : ℕ) → Option ℕ → ℕ
 extra fixed None = 1
 extra fixed (Some t) = if nat_lt t fixed then 1 else 0

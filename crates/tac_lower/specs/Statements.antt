@@ -53,7 +53,8 @@ pub record Begun (old new : Emitter) (c : Circle) : Type 0 where
   pub others : Forked stood new c.next c.end
 
 -- code is added for a part of a function, with at most n temps and n labels, and then a label stands
-pub record Behind (p : Typed) (d : FunDef) (types : List TypeFacts) (homes : List Home) (old new : Emitter) (l n : ℕ) : Type 0 where
+pub record Behind (p : Typed) (d : FunDef) (types : List TypeFacts) (homes : List Home) (old new : Emitter) (l n : ℕ) :
+    Type 0 where
   pub middle : Emitter
   pub lowered : Lowered p d types homes old middle n
   pub stands : Pushed middle new (instr.Label l)

@@ -10,7 +10,8 @@ ghost use Rattle.tac_ir.specs.WellFormed.{signature_of_function};
 ghost use Rattle.tac_lower.specs.declared.emitter.Emitter.{Emitter};
 ghost use Rattle.tac_lower.specs.Emitted.{HasKind, HasRoom, Grown, Adds};
 ghost use Rattle.tac_lower.specs.Known.{AreBelow};
-ghost use Rattle.tac_lower.specs.Nodes.{scalar_in, kind_in, expression, weight_in, weights_in, IsTyped, AreTyped, CallNode, LibraryNode};
+ghost use Rattle.tac_lower.specs.Nodes.{scalar_in, kind_in, expression, weight_in, weights_in, IsTyped, AreTyped};
+ghost use Rattle.tac_lower.specs.Nodes.{CallNode, LibraryNode};
 ghost use Rattle.tac_lower.specs.Spent.{Spent, Spends, SpendsValue};
 ghost use Rattle.tac_lower.specs.Scenes.{Ready, Scene, Lowered, frame_of};
 ghost use Rattle.tac_lower.specs.Services.{ServiceAsks, IntrinsicFits};
@@ -54,7 +55,8 @@ fn arguments(cx: Context, k: u32, args: &[u32], out: &mut Emitter) -> Result<Vec
     ensures kinds { IfOk result (λ ts. HaveKinds out.new ts.items (map (kind_in cx.entry.p.now) args.now)) }
     ensures lowered { IfOk result (λ _. Lowered cx.entry.p.now cx.entry.d.now cx.entry.types.now cx.entry.homes.now
         out.old out.new (4 * weights_in cx.entry.p.now args.now)) }
-    ensures spends { IfOk result (λ _. Spends cx.entry.fixed out.old out.new (2 * weights_in cx.entry.p.now args.now - length args.now)
+    ensures spends { IfOk result (λ _. Spends cx.entry.fixed out.old out.new
+        (2 * weights_in cx.entry.p.now args.now - length args.now)
         (32 * weights_in cx.entry.p.now args.now - 21 * length args.now)) }
 {
     let mut behind = written_behind(cx.alloc, cx.writes, args)?;

@@ -1,4 +1,5 @@
-//! What the lowering of a function reads: the program, what is known of its types and expressions, and where variables stand.
+//! What the lowering of a function reads: the program, what is known of its types and expressions, and where variables
+//! stand.
 
 ghost use Rattle.std.specs.Prelude.{◌≡◌, ◌≤◌, ◌<◌, true, false, length, MatchOption, IfSome, Some, None, slice_get};
 ghost use Rattle.c_tree.specs.Types.{Ty, Pointer};
@@ -50,14 +51,16 @@ pub struct Context<'a> {
 impl<'a> Context<'a> {
     /// Expression `k`.
     pub fn node(self, k: u32) -> Option<&'a Expr>
-        ensures { MatchOption result (slice_get self.entry.p.now.exprs k ≡ None) (λ e. slice_get self.entry.p.now.exprs k ≡ Some e.now) }
+        ensures { MatchOption result (slice_get self.entry.p.now.exprs k ≡ None)
+            (λ e. slice_get self.entry.p.now.exprs k ≡ Some e.now) }
     {
         self.p.exprs.as_slice().get(k as usize)
     }
 
     /// Statement `k`.
     pub fn stmt(self, k: u32) -> Option<&'a Stmt>
-        ensures { MatchOption result (slice_get self.entry.p.now.stmts k ≡ None) (λ s. slice_get self.entry.p.now.stmts k ≡ Some s.now) }
+        ensures { MatchOption result (slice_get self.entry.p.now.stmts k ≡ None)
+            (λ s. slice_get self.entry.p.now.stmts k ≡ Some s.now) }
     {
         self.p.stmts.as_slice().get(k as usize)
     }
@@ -81,8 +84,10 @@ impl<'a> Context<'a> {
     /// The facts of an expression's type.
     pub fn facts(self, k: u32) -> TypeFacts
         ensures kept { Ready self.entry.p.now self.entry.types.now → result.kind ≡ scalar_in self.entry.p.now k }
-        ensures points { Ready self.entry.p.now self.entry.types.now → is_some result.target ≡ points (type_of (expression self.entry.p.now k)) }
-        ensures pointed { (t : Ty) → Ready self.entry.p.now self.entry.types.now → type_of (expression self.entry.p.now k) ≡ Pointer t
+        ensures points { Ready self.entry.p.now self.entry.types.now →
+            is_some result.target ≡ points (type_of (expression self.entry.p.now k)) }
+        ensures pointed { (t : Ty) → Ready self.entry.p.now self.entry.types.now →
+            type_of (expression self.entry.p.now k) ≡ Pointer t
             → NamesType self.entry.p.now result.target t }
     {
         match self.node(k) {
@@ -135,7 +140,8 @@ impl<'a> Context<'a> {
 
     /// The size of what expression `k` points to, if it is a pointer.
     pub fn pointed_size(self, k: u32) -> Option<u64>
-        ensures { Ready self.entry.p.now self.entry.types.now → is_some result ≡ points (type_of (expression self.entry.p.now k)) }
+        ensures { Ready self.entry.p.now self.entry.types.now →
+            is_some result ≡ points (type_of (expression self.entry.p.now k)) }
     {
         match self.facts(k).target {
             None => None,
@@ -196,8 +202,10 @@ impl<'a> Context<'a> {
 
     /// The temp of the variable that is place `a`, if it is one and no object.
     pub fn variable(self, a: u32) -> Option<u32>
-        ensures { (e : Emitter) → Ready self.entry.p.now self.entry.types.now → IsTyped (frame_of self.entry.p.now self.entry.d.now) a
-            → Housed self.entry.p.now self.entry.d.now self.entry.homes.now e → IfSome result (λ t. HasKind e t (kind_in self.entry.p.now a)) }
+        ensures { (e : Emitter) → Ready self.entry.p.now self.entry.types.now →
+            IsTyped (frame_of self.entry.p.now self.entry.d.now) a
+            → Housed self.entry.p.now self.entry.d.now self.entry.homes.now e →
+            IfSome result (λ t. HasKind e t (kind_in self.entry.p.now a)) }
     {
         match self.node(a) {
             None => None,

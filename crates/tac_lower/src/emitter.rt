@@ -8,7 +8,9 @@ ghost use Rattle.cheri_c_sem.specs.Types.{is_shift};
 ghost use Rattle.ck_int.specs.declared.kinds.IntKind.TheVariants as int;
 ghost use Rattle.tac_ir.specs.Costs.{cost, outgoing_by, number_cost};
 ghost use Rattle.tac_lower.specs.Spent.{Spent, is_number};
-ghost use Rattle.tac_lower.specs.Emitted.{HasKind, HasInt, HasCapability, IsTemp, SameKind, AmountFits, CountFits, SameCapability, WorkFits, IsOpen, Stands, Grown, Made, Labelled, Forked, Turned, Pushed, Entered, HasLeft, Adds, HasRoom};
+ghost use Rattle.tac_lower.specs.Emitted.{HasKind, HasInt, HasCapability, IsTemp, SameKind, AmountFits, CountFits};
+ghost use Rattle.tac_lower.specs.Emitted.{SameCapability, WorkFits, IsOpen, Stands, Grown, Made, Labelled, Forked};
+ghost use Rattle.tac_lower.specs.Emitted.{Turned, Pushed, Entered, HasLeft, Adds, HasRoom};
 
 use ck_base::{NoMemory, Pos, Sequence};
 use ck_int::{CmpOp, IntKind, IntOp};

@@ -1,5 +1,5 @@
-//! Expressions. A value is computed into a temp that is given, which may be a variable's: it is written when all that the
-//! expression reads of variables was read.
+//! Expressions. A value is computed into a temp that is given, which may be a variable's: it is written when all that
+//! the expression reads of variables was read.
 
 ghost use Rattle.std.specs.Prelude.{◌≡◌, ℕ, ◌+◌, ◌-◌, ◌*◌, ◌<◌, true, false, IfOk, IfSome, Some};
 ghost use Rattle.ck_int.specs.declared.kinds.IntKind.TheVariants as int;
@@ -11,7 +11,10 @@ ghost use Rattle.tac_lower.specs.Signed.{ResultFits};
 ghost use Rattle.tac_lower.specs.Spent.{Spent, Spends, SpendsValue, SpendsOperand, Owns, extra};
 ghost use Rattle.tac_lower.specs.Tables.{is_some};
 ghost use Rattle.c_tree.specs.WellTyped.{type_in};
-ghost use Rattle.tac_lower.specs.Nodes.{scalar_in, kind_in, kept_as, or_int, points, weight_in, IsTyped, IsScalar, HasOne, HasTwo, HasThree, UnaryNode, SameNode, IntNode, CapabilityNode, DifferenceNode, CompareNode, TruthNode, SumNode, CommaNode, AssignNode, CompoundNode, StepNode, ConditionalNode};
+ghost use Rattle.tac_lower.specs.Nodes.{scalar_in, kind_in, kept_as, or_int, points, weight_in, IsTyped, IsScalar};
+ghost use Rattle.tac_lower.specs.Nodes.{HasOne, HasTwo, HasThree, UnaryNode, SameNode, IntNode, CapabilityNode};
+ghost use Rattle.tac_lower.specs.Nodes.{DifferenceNode, CompareNode, TruthNode, SumNode, CommaNode, AssignNode};
+ghost use Rattle.tac_lower.specs.Nodes.{CompoundNode, StepNode, ConditionalNode};
 ghost use Rattle.tac_lower.specs.Scenes.{Ready, Housed, Scene, Lowered, frame_of};
 
 use crate::calls::{call, library};
@@ -87,8 +90,8 @@ fn spared_variable(cx: Context, a: u32, later: Written) -> Option<u32>
     }
 }
 
-/// The temp that has the value of expression `k` already, and that `later` does not write: a variable's, or the one with the
-/// pointer to an object.
+/// The temp that has the value of expression `k` already, and that `later` does not write: a variable's, or the one
+/// with the pointer to an object.
 pub fn in_place(cx: Context, k: u32, later: Written) -> Option<u32>
     requires ordered { Ordered cx.p.now }
     requires ready { Ready cx.p.now cx.types.now }
@@ -121,8 +124,8 @@ fn constant_index(cx: Context, k: u32) -> Option<u64>
     }
 }
 
-/// The temp of a value that is changed in steps: the one that is given, or one of its own where that belongs to a variable or
-/// none is given.
+/// The temp of a value that is changed in steps: the one that is given, or one of its own where that belongs to a
+/// variable or none is given.
 fn own(cx: Context, to: Option<u32>, kind: TacKind, out: &mut Emitter) -> Result<u32, NoMemory>
     requires scene { Scene cx.p.now cx.d.now cx.types.now cx.homes.now out.old }
     requires room { HasRoom out.old (1) }
@@ -176,7 +179,8 @@ fn operand_in(cx: Context, k: u32, to: u32, out: &mut Emitter) -> Result<Held, N
     ensures kind { IfOk result (λ x. x.kind ≡ kind_in cx.entry.p.now k) }
     ensures lowered { IfOk result (λ _. Lowered cx.entry.p.now cx.entry.d.now cx.entry.types.now cx.entry.homes.now
         out.old out.new (4 * weight_in cx.entry.p.now k - 1)) }
-    ensures spends { IfOk result (λ _. SpendsValue cx.entry.fixed (weight_in cx.entry.p.now k) (extra cx.entry.fixed (Some to))
+    ensures spends { IfOk result (λ _. SpendsValue cx.entry.fixed (weight_in cx.entry.p.now k)
+        (extra cx.entry.fixed (Some to))
         out.old out.new) }
 {
     let kind = cx.kind(k);
@@ -225,7 +229,8 @@ fn pair(cx: Context, k: u32, a: u32, b: u32, out: &mut Emitter) -> Result<(Held,
     ensures right_kind { IfOk result (λ x. x.1.kind ≡ kind_in cx.entry.p.now b) }
     ensures lowered { IfOk result (λ _. Lowered cx.entry.p.now cx.entry.d.now cx.entry.types.now cx.entry.homes.now
         out.old out.new (4 * weight_in cx.entry.p.now k - 4)) }
-    ensures spends { IfOk result (λ _. Spends cx.entry.fixed out.old out.new (2 * weight_in cx.entry.p.now k - 4) (32 * weight_in cx.entry.p.now k - 74)) }
+    ensures spends { IfOk result (λ _. Spends cx.entry.fixed out.old out.new (2 * weight_in cx.entry.p.now k - 4)
+        (32 * weight_in cx.entry.p.now k - 74)) }
 {
     let x = held(cx, a, cx.written(b), out)?;
     let y = held(cx, b, Written::Nothing, out)?;
@@ -235,7 +240,8 @@ fn pair(cx: Context, k: u32, a: u32, b: u32, out: &mut Emitter) -> Result<(Held,
 /// The temp for the value of expression `k`, where it has one.
 fn asked(cx: Context, k: u32, to: u32) -> Option<u32>
     requires ready { Ready cx.p.now cx.types.now }
-    ensures { (e : Emitter) → HasKind e to (kind_in cx.entry.p.now k) → ResultFits e result (scalar_in cx.entry.p.now k) }
+    ensures { (e : Emitter) → HasKind e to (kind_in cx.entry.p.now k) →
+        ResultFits e result (scalar_in cx.entry.p.now k) }
 {
     if cx.scalar(k).is_some() {
         Some(to)
@@ -254,7 +260,8 @@ pub fn value(cx: Context, k: u32, to: u32, out: &mut Emitter) -> Result<(), NoMe
     requires room { HasRoom out.old (4 * weight_in cx.p.now k - 1) }
     ensures lowered { IfOk result (λ _. Lowered cx.entry.p.now cx.entry.d.now cx.entry.types.now cx.entry.homes.now
         out.old out.new (4 * weight_in cx.entry.p.now k - 1)) }
-    ensures spends { IfOk result (λ _. SpendsValue cx.entry.fixed (weight_in cx.entry.p.now k) (extra cx.entry.fixed (Some to))
+    ensures spends { IfOk result (λ _. SpendsValue cx.entry.fixed (weight_in cx.entry.p.now k)
+        (extra cx.entry.fixed (Some to))
         out.old out.new) }
 {
     let kind = cx.kind(k);
@@ -340,7 +347,8 @@ fn choice(
     requires room { HasRoom out.old (4 * weight_in cx.p.now k - 1) }
     ensures lowered { IfOk result (λ _. Lowered cx.entry.p.now cx.entry.d.now cx.entry.types.now cx.entry.homes.now
         out.old out.new (4 * weight_in cx.entry.p.now k - 1)) }
-    ensures spends { IfOk result (λ _. SpendsValue cx.entry.fixed (weight_in cx.entry.p.now k) (extra cx.entry.fixed (Some to))
+    ensures spends { IfOk result (λ _. SpendsValue cx.entry.fixed (weight_in cx.entry.p.now k)
+        (extra cx.entry.fixed (Some to))
         out.old out.new) }
 {
     let fork = out.fork();
@@ -367,7 +375,8 @@ fn comma(cx: Context, k: u32, a: u32, b: u32, to: u32, out: &mut Emitter) -> Res
     requires room { HasRoom out.old (4 * weight_in cx.p.now k - 1) }
     ensures lowered { IfOk result (λ _. Lowered cx.entry.p.now cx.entry.d.now cx.entry.types.now cx.entry.homes.now
         out.old out.new (4 * weight_in cx.entry.p.now k - 1)) }
-    ensures spends { IfOk result (λ _. SpendsValue cx.entry.fixed (weight_in cx.entry.p.now k) (extra cx.entry.fixed (Some to))
+    ensures spends { IfOk result (λ _. SpendsValue cx.entry.fixed (weight_in cx.entry.p.now k)
+        (extra cx.entry.fixed (Some to))
         out.old out.new) }
 {
     effect(cx, a, out)?;
@@ -394,7 +403,8 @@ fn integer(
     requires room { HasRoom out.old (4 * weight_in cx.p.now k - 1) }
     ensures lowered { IfOk result (λ _. Lowered cx.entry.p.now cx.entry.d.now cx.entry.types.now cx.entry.homes.now
         out.old out.new (4 * weight_in cx.entry.p.now k - 1)) }
-    ensures spends { IfOk result (λ _. SpendsValue cx.entry.fixed (weight_in cx.entry.p.now k) (extra cx.entry.fixed (Some to))
+    ensures spends { IfOk result (λ _. SpendsValue cx.entry.fixed (weight_in cx.entry.p.now k)
+        (extra cx.entry.fixed (Some to))
         out.old out.new) }
 {
     let (x, y) = pair(cx, k, a, b, out)?;
@@ -428,7 +438,8 @@ fn capability(
     requires room { HasRoom out.old (4 * weight_in cx.p.now k - 1) }
     ensures lowered { IfOk result (λ _. Lowered cx.entry.p.now cx.entry.d.now cx.entry.types.now cx.entry.homes.now
         out.old out.new (4 * weight_in cx.entry.p.now k - 1)) }
-    ensures spends { IfOk result (λ _. SpendsValue cx.entry.fixed (weight_in cx.entry.p.now k) (extra cx.entry.fixed (Some to))
+    ensures spends { IfOk result (λ _. SpendsValue cx.entry.fixed (weight_in cx.entry.p.now k)
+        (extra cx.entry.fixed (Some to))
         out.old out.new) }
 {
     let (x, y) = pair(cx, k, a, b, out)?;
@@ -448,7 +459,8 @@ fn distance(cx: Context, k: u32, a: u32, b: u32, to: u32, out: &mut Emitter) -> 
     requires room { HasRoom out.old (4 * weight_in cx.p.now k - 1) }
     ensures lowered { IfOk result (λ _. Lowered cx.entry.p.now cx.entry.d.now cx.entry.types.now cx.entry.homes.now
         out.old out.new (4 * weight_in cx.entry.p.now k - 1)) }
-    ensures spends { IfOk result (λ _. SpendsValue cx.entry.fixed (weight_in cx.entry.p.now k) (extra cx.entry.fixed (Some to))
+    ensures spends { IfOk result (λ _. SpendsValue cx.entry.fixed (weight_in cx.entry.p.now k)
+        (extra cx.entry.fixed (Some to))
         out.old out.new) }
 {
     let (x, y) = pair(cx, k, a, b, out)?;
@@ -620,7 +632,8 @@ fn load(cx: Context, k: u32, a: u32, to: u32, out: &mut Emitter) -> Result<(), N
     requires room { HasRoom out.old (4 * weight_in cx.p.now k - 1) }
     ensures lowered { IfOk result (λ _. Lowered cx.entry.p.now cx.entry.d.now cx.entry.types.now cx.entry.homes.now
         out.old out.new (4 * weight_in cx.entry.p.now k - 1)) }
-    ensures spends { IfOk result (λ _. SpendsValue cx.entry.fixed (weight_in cx.entry.p.now k) (extra cx.entry.fixed (Some to))
+    ensures spends { IfOk result (λ _. SpendsValue cx.entry.fixed (weight_in cx.entry.p.now k)
+        (extra cx.entry.fixed (Some to))
         out.old out.new) }
 {
     match cx.variable(a) {
@@ -643,7 +656,8 @@ fn conversion(cx: Context, k: u32, a: u32, to: u32, out: &mut Emitter) -> Result
     requires room { HasRoom out.old (4 * weight_in cx.p.now k - 1) }
     ensures lowered { IfOk result (λ _. Lowered cx.entry.p.now cx.entry.d.now cx.entry.types.now cx.entry.homes.now
         out.old out.new (4 * weight_in cx.entry.p.now k - 1)) }
-    ensures spends { IfOk result (λ _. SpendsValue cx.entry.fixed (weight_in cx.entry.p.now k) (extra cx.entry.fixed (Some to))
+    ensures spends { IfOk result (λ _. SpendsValue cx.entry.fixed (weight_in cx.entry.p.now k)
+        (extra cx.entry.fixed (Some to))
         out.old out.new) }
 {
     let new = cx.kind(k);
@@ -677,7 +691,8 @@ fn unary(
     requires room { HasRoom out.old (4 * weight_in cx.p.now k - 1) }
     ensures lowered { IfOk result (λ _. Lowered cx.entry.p.now cx.entry.d.now cx.entry.types.now cx.entry.homes.now
         out.old out.new (4 * weight_in cx.entry.p.now k - 1)) }
-    ensures spends { IfOk result (λ _. SpendsValue cx.entry.fixed (weight_in cx.entry.p.now k) (extra cx.entry.fixed (Some to))
+    ensures spends { IfOk result (λ _. SpendsValue cx.entry.fixed (weight_in cx.entry.p.now k)
+        (extra cx.entry.fixed (Some to))
         out.old out.new) }
 {
     match op {
@@ -709,7 +724,8 @@ fn signed_value(
     requires room { HasRoom out.old (4 * weight_in cx.p.now k - 1) }
     ensures lowered { IfOk result (λ _. Lowered cx.entry.p.now cx.entry.d.now cx.entry.types.now cx.entry.homes.now
         out.old out.new (4 * weight_in cx.entry.p.now k - 1)) }
-    ensures spends { IfOk result (λ _. SpendsValue cx.entry.fixed (weight_in cx.entry.p.now k) (extra cx.entry.fixed (Some to))
+    ensures spends { IfOk result (λ _. SpendsValue cx.entry.fixed (weight_in cx.entry.p.now k)
+        (extra cx.entry.fixed (Some to))
         out.old out.new) }
 {
     let x = operand_in(cx, a, to, out)?;
@@ -736,7 +752,8 @@ fn comparison(
     requires room { HasRoom out.old (4 * weight_in cx.p.now k - 1) }
     ensures lowered { IfOk result (λ _. Lowered cx.entry.p.now cx.entry.d.now cx.entry.types.now cx.entry.homes.now
         out.old out.new (4 * weight_in cx.entry.p.now k - 1)) }
-    ensures spends { IfOk result (λ _. SpendsValue cx.entry.fixed (weight_in cx.entry.p.now k) (extra cx.entry.fixed (Some to))
+    ensures spends { IfOk result (λ _. SpendsValue cx.entry.fixed (weight_in cx.entry.p.now k)
+        (extra cx.entry.fixed (Some to))
         out.old out.new) }
 {
     let (x, y) = pair(cx, k, a, b, out)?;
@@ -755,7 +772,8 @@ fn truth(cx: Context, k: u32, j: Junction, to: u32, out: &mut Emitter) -> Result
     requires room { HasRoom out.old (4 * weight_in cx.p.now k - 1) }
     ensures lowered { IfOk result (λ _. Lowered cx.entry.p.now cx.entry.d.now cx.entry.types.now cx.entry.homes.now
         out.old out.new (4 * weight_in cx.entry.p.now k - 1)) }
-    ensures spends { IfOk result (λ _. SpendsValue cx.entry.fixed (weight_in cx.entry.p.now k) (extra cx.entry.fixed (Some to))
+    ensures spends { IfOk result (λ _. SpendsValue cx.entry.fixed (weight_in cx.entry.p.now k)
+        (extra cx.entry.fixed (Some to))
         out.old out.new) }
 {
     let fork = out.fork();
@@ -790,7 +808,8 @@ fn sum(
     requires room { HasRoom out.old (4 * weight_in cx.p.now k - 1) }
     ensures lowered { IfOk result (λ _. Lowered cx.entry.p.now cx.entry.d.now cx.entry.types.now cx.entry.homes.now
         out.old out.new (4 * weight_in cx.entry.p.now k - 1)) }
-    ensures spends { IfOk result (λ _. SpendsValue cx.entry.fixed (weight_in cx.entry.p.now k) (extra cx.entry.fixed (Some to))
+    ensures spends { IfOk result (λ _. SpendsValue cx.entry.fixed (weight_in cx.entry.p.now k)
+        (extra cx.entry.fixed (Some to))
         out.old out.new) }
 {
     match cx.pointed_size(a) {
@@ -823,7 +842,8 @@ fn pointer_first(
     requires room { HasRoom out.old (4 * weight_in cx.p.now k - 1) }
     ensures lowered { IfOk result (λ _. Lowered cx.entry.p.now cx.entry.d.now cx.entry.types.now cx.entry.homes.now
         out.old out.new (4 * weight_in cx.entry.p.now k - 1)) }
-    ensures spends { IfOk result (λ _. SpendsValue cx.entry.fixed (weight_in cx.entry.p.now k) (extra cx.entry.fixed (Some to))
+    ensures spends { IfOk result (λ _. SpendsValue cx.entry.fixed (weight_in cx.entry.p.now k)
+        (extra cx.entry.fixed (Some to))
         out.old out.new) }
 {
     match constant_index(cx, b) {
@@ -856,7 +876,8 @@ fn pointer_second(
     requires room { HasRoom out.old (4 * weight_in cx.p.now k - 1) }
     ensures lowered { IfOk result (λ _. Lowered cx.entry.p.now cx.entry.d.now cx.entry.types.now cx.entry.homes.now
         out.old out.new (4 * weight_in cx.entry.p.now k - 1)) }
-    ensures spends { IfOk result (λ _. SpendsValue cx.entry.fixed (weight_in cx.entry.p.now k) (extra cx.entry.fixed (Some to))
+    ensures spends { IfOk result (λ _. SpendsValue cx.entry.fixed (weight_in cx.entry.p.now k)
+        (extra cx.entry.fixed (Some to))
         out.old out.new) }
 {
     match constant_index(cx, a) {
@@ -879,7 +900,8 @@ fn displaced(cx: Context, k: u32, by: u64, to: u32, out: &mut Emitter) -> Result
     requires room { HasRoom out.old (4 * weight_in cx.p.now k - 1) }
     ensures lowered { IfOk result (λ _. Lowered cx.entry.p.now cx.entry.d.now cx.entry.types.now cx.entry.homes.now
         out.old out.new (4 * weight_in cx.entry.p.now k - 1)) }
-    ensures spends { IfOk result (λ _. Spends cx.entry.fixed out.old out.new (2 * weight_in cx.entry.p.now k - 2 + extra cx.entry.fixed (Some to))
+    ensures spends { IfOk result (λ _. Spends cx.entry.fixed out.old out.new
+        (2 * weight_in cx.entry.p.now k - 2 + extra cx.entry.fixed (Some to))
         (32 * weight_in cx.entry.p.now k - 6 + 6 * extra cx.entry.fixed (Some to))) }
 {
     let base = operand_in(cx, k, to, out)?;

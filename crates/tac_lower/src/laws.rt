@@ -1,6 +1,7 @@
 //! What holds of typed programs and of code that is made in steps, whatever makes it.
 
-ghost use Rattle.std.specs.Prelude.{◌≡◌, ℕ, ◌+◌, ◌≤◌, Bool, List, true, false, length, map, Option, Some, None, unwrap_or, slice_get};
+ghost use Rattle.std.specs.Prelude.{◌≡◌, ℕ, ◌+◌, ◌≤◌, Bool, List, true, false, length, map, Option, Some, None};
+ghost use Rattle.std.specs.Prelude.{unwrap_or, slice_get};
 ghost use Rattle.ck_base.specs.declared.positions.Pos.{Pos};
 ghost use Rattle.ck_int.specs.declared.kinds.IntKind.TheVariants as int;
 ghost use Rattle.c_tree.specs.Expressions.{given_type};
@@ -13,7 +14,8 @@ ghost use Rattle.c_tree.specs.Layout.{bare};
 ghost use Rattle.c_tree.specs.Types.{Ty, Tys, Function, Pointer, compatible};
 ghost use Rattle.c_tree.specs.Views.{IsOrdered};
 ghost use Rattle.c_tree.specs.WellTyped.{Frame, Inside, type_in, ArgumentsFit, AllAskedFit, list_of};
-ghost use Rattle.tac_ir.specs.WellFormed.{begins_with, param_kinds, function_fits, return_fits, signature_of, signature_of_function};
+ghost use Rattle.tac_ir.specs.WellFormed.{begins_with, param_kinds, function_fits, return_fits, signature_of};
+ghost use Rattle.tac_ir.specs.WellFormed.{signature_of_function};
 ghost use Rattle.tac_ir.specs.Effects.{kind_of};
 ghost use Rattle.tac_ir.specs.declared.code.CapWork.{CapWork};
 ghost use Rattle.tac_ir.specs.declared.code.LibOp.{LibOp};
@@ -26,35 +28,38 @@ ghost use Rattle.tac_lower.specs.declared.calls.Intrinsic.TheVariants as intrins
 ghost use Rattle.tac_lower.specs.declared.calls.Service.TheVariants as services;
 ghost use Rattle.tac_ir.specs.declared.code.TacInstr.TheVariants as instr;
 ghost use Rattle.tac_lower.specs.declared.emitter.Emitter.{Emitter};
-ghost use Rattle.tac_lower.specs.Emitted.{HasKind, HasCapability, SameCapability, WorkFits, IsTemp, IsOpen, Stands, Labelled, Forked, Turned, Adds, Grown, IsWell, Pushed, WellListed, open_labels};
+ghost use Rattle.tac_lower.specs.Emitted.{HasKind, HasCapability, SameCapability, WorkFits, IsTemp, IsOpen, Stands};
+ghost use Rattle.tac_lower.specs.Emitted.{Labelled, Forked, Turned, Adds, Grown, IsWell, Pushed, WellListed};
+ghost use Rattle.tac_lower.specs.Emitted.{open_labels};
 ghost use Rattle.tac_lower.specs.Nodes.{kept_as, kind_in, scalar_in, expression, IsTyped, NodeFits};
 ghost use Rattle.tac_lower.specs.Parts.{IsPlaced, PartFits};
 ghost use Rattle.tac_lower.specs.Scenes.{Scene, Lowered};
 ghost use Rattle.tac_lower.specs.Services.{ServiceAsks};
-ghost use Rattle.tac_lower.specs.Signed.{kept_parameter, signature_as, taken_kinds, HaveKinds, ResultFits, ReturnFits, ServiceFits, ProgramFits, NamesType};
+ghost use Rattle.tac_lower.specs.Signed.{kept_parameter, signature_as, taken_kinds, HaveKinds, ResultFits, ReturnFits};
+ghost use Rattle.tac_lower.specs.Signed.{ServiceFits, ProgramFits, NamesType};
 ghost use Rattle.tac_lower.specs.Tables.{target_by, given_by};
 ghost use Rattle.tac_lower.specs.declared.context.Home.{Home};
 ghost use Rattle.tac_lower.specs.declared.types.TypeFacts.{TypeFacts};
 
 use c_tree::Typed;
 
-/// Each expression of a typed function has operands that are typed too, is kept as its kind says, and weighs what they weigh and
-/// one more (C11 6.5).
+/// Each expression of a typed function has operands that are typed too, is kept as its kind says, and weighs what they
+/// weigh and one more (C11 6.5).
 pub fn typed_expressions_fit()
     ensures fit { (f : Frame) (k : ℕ) (e : Expr) → IsOrdered f.program → IsTyped f k
         → slice_get f.program.exprs k ≡ Some e → NodeFits f k e.kind }
 {}
 
-/// Each statement of a typed function has expressions and statements that are typed too, and weighs what they weigh and one more,
-/// with each label of a `switch` (C11 6.8).
+/// Each statement of a typed function has expressions and statements that are typed too, and weighs what they weigh and
+/// one more, with each label of a `switch` (C11 6.8).
 pub fn typed_statements_fit()
     ensures { (f : Frame) (i : Inside) (k : ℕ) (s : Stmt) → IsOrdered f.program → IsPlaced f i k
         → slice_get f.program.stmts k ≡ Some s → PartFits f i k s.kind }
 {}
 
-/// What a function gives and takes, by the number of its type, is what the type says as a tree; a function that is named has the
-/// signature of each type that agrees with its own; a pointer's and a function's type number what they point to and give; and
-/// temps that are kept as the parameters begin with these.
+/// What a function gives and takes, by the number of its type, is what the type says as a tree; a function that is
+/// named has the signature of each type that agrees with its own; a pointer's and a function's type number what they
+/// point to and give; and temps that are kept as the parameters begin with these.
 pub fn signatures_fit()
     ensures signature { (p : Typed) (t : ℕ) (r : Ty) (ps : Tys) → IsOrdered p → type_in p t ≡ Function r ps
         → signature_of p t ≡ Some (signature_as r ps) }
@@ -69,8 +74,8 @@ pub fn signatures_fit()
         → begins_with ks (param_kinds p d) ≡ true }
 {}
 
-/// The arguments of a library function or intrinsic are in temps of the kinds that it asks for, where they are typed as it asks,
-/// and its result in one of the kind that it gives.
+/// The arguments of a library function or intrinsic are in temps of the kinds that it asks for, where they are typed as
+/// it asks, and its result in one of the kind that it gives.
 pub fn library_calls_fit()
     ensures library { (p : Typed) (e : Emitter) (op : LibOp) (takes : List Asked) (gives : Given) (args ts : List ℕ)
         (to : Option ℕ) (k : ℕ) → ServiceAsks (services.Library op) takes gives
@@ -102,8 +107,8 @@ pub fn library_calls_fit()
         → SameCapability e to a × HasKind e (unwrap_or b 0) (kinds.Int int.U64) }
 {}
 
-/// Code stays well formed where a jump or a branch to a label is added that does not stand so far, and where a turn and a jump
-/// back to a label that stands are.
+/// Code stays well formed where a jump or a branch to a label is added that does not stand so far, and where a turn and
+/// a jump back to a label that stands are.
 pub fn jumps_keep_code_well_formed()
     ensures jump { (a b : Emitter) (l : ℕ) → Pushed a b (instr.Jump l) → IsOpen a l → Grown a b }
     ensures branch { (a b : Emitter) (on : ℕ) (when : Bool) (l : ℕ) → Pushed a b (instr.Branch on when l)
@@ -112,8 +117,9 @@ pub fn jumps_keep_code_well_formed()
         → Grown a c }
 {}
 
-/// Code stays well formed where an instruction is added that names a part of the program which is there, with temps of the kinds
-/// that it asks: a call, by the signature of the function; a library function; a return; a global, literal, function or object.
+/// Code stays well formed where an instruction is added that names a part of the program which is there, with temps of
+/// the kinds that it asks: a call, by the signature of the function; a library function; a return; a global, literal,
+/// function or object.
 pub fn calls_keep_code_well_formed()
     ensures call { (p : Typed) (d : FunDef) (types : List TypeFacts) (homes : List Home) (a b : Emitter)
         (to : Option ℕ) (n : ℕ) (args : List ℕ) (ks : List TacKind) (r : Ty) (ps : Tys)
@@ -139,8 +145,8 @@ pub fn calls_keep_code_well_formed()
         → map kind_of (map (kind_in p) args) ≡ taken_kinds ps }
 {}
 
-/// Well-formed code in which each label stands is that of a function with a Return behind it, and a function that has such code
-/// for its parameters is well formed.
+/// Well-formed code in which each label stands is that of a function with a Return behind it, and a function that has
+/// such code for its parameters is well formed.
 pub fn finished_code_is_well_formed()
     ensures ends { (p : Typed) (d : FunDef) (a b : Emitter) (v : Option ℕ) → IsWell p d a
         → ((l : ℕ) → open_labels a l ≡ false) → Pushed a b (instr.Return v)
@@ -151,8 +157,8 @@ pub fn finished_code_is_well_formed()
         → function_fits p d f ≡ true }
 {}
 
-/// Code that is added for one part of a function and then for another is code for both, of as many temps and labels. That of a
-/// choice has two labels more, which are open until they stand; and what is jumped over has one.
+/// Code that is added for one part of a function and then for another is code for both, of as many temps and labels.
+/// That of a choice has two labels more, which are open until they stand; and what is jumped over has one.
 pub fn parts_add_up()
     ensures nothing { (p : Typed) (d : FunDef) (types : List TypeFacts) (homes : List Home) (a : Emitter) (q : ℕ)
         → Scene p d types homes a → Lowered p d types homes a a q }

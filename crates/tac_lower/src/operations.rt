@@ -9,7 +9,9 @@ ghost use Rattle.tac_ir.specs.WellFormed.{constant_fits};
 ghost use Rattle.tac_lower.specs.declared.emitter.Emitter.{Emitter};
 ghost use Rattle.tac_ir.specs.Costs.{number_cost};
 ghost use Rattle.tac_lower.specs.Spent.{Spent, is_number};
-ghost use Rattle.tac_lower.specs.Emitted.{HasKind, HasInt, HasAddress, IsWide, AmountFits, CountFits, RightFits, SameKind, SameCapability, Holds, is_capability, wide_of, Grown, Adds, HasRoom, ChangeFits};
+ghost use Rattle.tac_lower.specs.Emitted.{HasKind, HasInt, HasAddress, IsWide, AmountFits, CountFits, RightFits};
+ghost use Rattle.tac_lower.specs.Emitted.{SameKind, SameCapability, Holds, is_capability, wide_of, Grown, Adds};
+ghost use Rattle.tac_lower.specs.Emitted.{HasRoom, ChangeFits};
 
 use crate::emitter::Emitter;
 use crate::types::{LONG, POINTER, WORD, is_capability, same_kind};
@@ -159,7 +161,8 @@ fn as_count(out: &mut Emitter, x: Held) -> Result<u32, NoMemory>
 fn right_operand(out: &mut Emitter, op: IntOp, y: Held) -> Result<u32, NoMemory>
     requires room { HasRoom out.old 1 }
     requires y { Holds out.old y }
-    ensures count { IfOk result (λ t. (kind : IntKind) → RightFits (is_shift op) kind y.kind → CountFits out.new (is_shift op) kind t) }
+    ensures count { IfOk result (λ t. (kind : IntKind) → RightFits (is_shift op) kind y.kind →
+        CountFits out.new (is_shift op) kind t) }
     ensures grown { IfOk result (λ _. Grown out.old out.new) }
     ensures adds { IfOk result (λ _. Adds out.old out.new 1 0) }
     ensures spent { IfOk result (λ _. Spent out.old out.new 1 8) }
@@ -193,8 +196,8 @@ pub fn whole(
     out.int(op, kind, to, a, b)
 }
 
-/// The kind in which the address of a capability is computed. Only a quotient, a remainder and a shift to the right depend on
-/// the sign.
+/// The kind in which the address of a capability is computed. Only a quotient, a remainder and a shift to the right
+/// depend on the sign.
 fn address_kind(op: IntOp, signed: bool) -> IntKind
     ensures { IsWide (kinds.Int result) }
 {
@@ -248,7 +251,8 @@ fn computed_address(
     })
 }
 
-/// The temp of the operand from which a result derives: the right one only where that is asked and it is kept as the left one is.
+/// The temp of the operand from which a result derives: the right one only where that is asked and it is kept as the
+/// left one is.
 fn origin(right: bool, x: Held, y: Held) -> u32
     ensures { (e : Emitter) → Holds e x → Holds e y → HasKind e result x.kind }
 {
@@ -262,7 +266,8 @@ fn origin(right: bool, x: Held, y: Held) -> u32
     }
 }
 
-/// An operation on capability integers. The result derives from the right operand where that is asked, else from the left one.
+/// An operation on capability integers. The result derives from the right operand where that is asked, else from the
+/// left one.
 pub fn derived(
     out: &mut Emitter,
     op: IntOp,
@@ -436,7 +441,8 @@ fn changed_whole(
     out.convert(to, u, computed, x.kind)
 }
 
-/// An operation on capability integers, on a place that is one or a plain integer. A conversion back takes the address alone.
+/// An operation on capability integers, on a place that is one or a plain integer. A conversion back takes the address
+/// alone.
 fn changed_capability(
     out: &mut Emitter,
     op: IntOp,

@@ -289,7 +289,8 @@ pub fn address(cx: Context, k: u32, a: u32, to: u32, out: &mut Emitter) -> Resul
     requires room { HasRoom out.old (4 * weight_in cx.p.now k - 1) }
     ensures lowered { IfOk result (λ _. Lowered cx.entry.p.now cx.entry.d.now cx.entry.types.now cx.entry.homes.now
         out.old out.new (4 * weight_in cx.entry.p.now k - 1)) }
-    ensures spends { IfOk result (λ _. SpendsValue cx.entry.fixed (weight_in cx.entry.p.now k) (extra cx.entry.fixed (Some to))
+    ensures spends { IfOk result (λ _. SpendsValue cx.entry.fixed (weight_in cx.entry.p.now k)
+        (extra cx.entry.fixed (Some to))
         out.old out.new) }
 {
     place(cx, a, to, out)?;
@@ -317,7 +318,8 @@ pub fn struct_assignment(
     ensures has { IfOk result (λ t. HasKind out.new t (kinds.Cap false)) }
     ensures lowered { IfOk result (λ _. Lowered cx.entry.p.now cx.entry.d.now cx.entry.types.now cx.entry.homes.now
         out.old out.new (4 * weight_in cx.entry.p.now k - 1)) }
-    ensures spends { IfOk result (λ _. Spends cx.entry.fixed out.old out.new (2 * weight_in cx.entry.p.now k - 2) (32 * weight_in cx.entry.p.now k - 32)) }
+    ensures spends { IfOk result (λ _. Spends cx.entry.fixed out.old out.new (2 * weight_in cx.entry.p.now k - 2)
+        (32 * weight_in cx.entry.p.now k - 32)) }
 {
     let facts = cx.facts(k);
     let t = pointer(cx, a, cx.written(b), out)?;

@@ -197,7 +197,8 @@ fn test_loop(
     requires room { HasRoom out.old (4 * or_none (weight_in cx.p.now) test) }
     ensures lowered { IfOk result (λ _. Lowered cx.entry.p.now cx.entry.d.now cx.entry.types.now cx.entry.homes.now
         out.old out.new (4 * or_none (weight_in cx.entry.p.now) test)) }
-    ensures spends { IfOk result (λ _. SpendsPart cx.entry.fixed (or_none (weight_in cx.entry.p.now) test) 0 out.old out.new) }
+    ensures spends { IfOk result (λ _. SpendsPart cx.entry.fixed
+        (or_none (weight_in cx.entry.p.now) test) 0 out.old out.new) }
 {
     match test {
         None => Ok(()),
@@ -219,7 +220,8 @@ fn step_loop(cx: Context, step: Option<u32>, out: &mut Emitter) -> Result<(), No
     requires room { HasRoom out.old (4 * or_none (weight_in cx.p.now) step) }
     ensures lowered { IfOk result (λ _. Lowered cx.entry.p.now cx.entry.d.now cx.entry.types.now cx.entry.homes.now
         out.old out.new (4 * or_none (weight_in cx.entry.p.now) step)) }
-    ensures spends { IfOk result (λ _. SpendsPart cx.entry.fixed (or_none (weight_in cx.entry.p.now) step) 0 out.old out.new) }
+    ensures spends { IfOk result (λ _. SpendsPart cx.entry.fixed
+        (or_none (weight_in cx.entry.p.now) step) 0 out.old out.new) }
 {
     match step {
         None => Ok(()),
@@ -250,7 +252,8 @@ fn loop_body(cx: Context, body: u32, circle: Circle, out: &mut Emitter) -> Resul
     requires room { HasRoom out.old (4 * heft_in cx.p.now body) }
     ensures behind { IfOk result (λ _. Behind cx.entry.p.now cx.entry.d.now cx.entry.types.now cx.entry.homes.now
         out.old out.new circle.next (4 * heft_in cx.entry.p.now body)) }
-    ensures spends { IfOk result (λ _. SpendsPart cx.entry.fixed (heft_in cx.entry.p.now body) (entered_in cx.entry.p.now cx.entry.d.now body)
+    ensures spends { IfOk result (λ _. SpendsPart cx.entry.fixed (heft_in cx.entry.p.now body)
+        (entered_in cx.entry.p.now cx.entry.d.now body)
         out.old out.new) }
 {
     let exits = Exits {
@@ -281,8 +284,11 @@ fn tested_loop(
     ensures lowered { IfOk result (λ _. Lowered cx.entry.p.now cx.entry.d.now cx.entry.types.now cx.entry.homes.now
         out.old out.new (4 * (or_none (weight_in cx.entry.p.now) test + or_none (weight_in cx.entry.p.now) step
         + heft_in cx.entry.p.now body) + 3)) }
-    ensures spends { IfOk result (λ _. Spends cx.entry.fixed out.old out.new (2 * (or_none (weight_in cx.entry.p.now) test + or_none (weight_in cx.entry.p.now) step + heft_in cx.entry.p.now body))
-        (32 * (or_none (weight_in cx.entry.p.now) test + or_none (weight_in cx.entry.p.now) step + heft_in cx.entry.p.now body)
+    ensures spends { IfOk result (λ _. Spends cx.entry.fixed out.old out.new
+        (2 * (or_none (weight_in cx.entry.p.now) test + or_none (weight_in cx.entry.p.now) step
+        + heft_in cx.entry.p.now body))
+        (32 * (or_none (weight_in cx.entry.p.now) test + or_none (weight_in cx.entry.p.now) step
+        + heft_in cx.entry.p.now body)
         + 19 * entered_in cx.entry.p.now cx.entry.d.now body + 1)) }
 {
     let circle = begin_loop(out)?;
@@ -303,8 +309,10 @@ fn repeated_loop(cx: Context, body: u32, test: u32, out: &mut Emitter) -> Result
     requires room { HasRoom out.old (4 * (weight_in cx.p.now test + heft_in cx.p.now body) + 3) }
     ensures lowered { IfOk result (λ _. Lowered cx.entry.p.now cx.entry.d.now cx.entry.types.now cx.entry.homes.now
         out.old out.new (4 * (weight_in cx.entry.p.now test + heft_in cx.entry.p.now body) + 3)) }
-    ensures spends { IfOk result (λ _. Spends cx.entry.fixed out.old out.new (2 * (weight_in cx.entry.p.now test + heft_in cx.entry.p.now body))
-        (32 * (weight_in cx.entry.p.now test + heft_in cx.entry.p.now body) + 19 * entered_in cx.entry.p.now cx.entry.d.now body + 1)) }
+    ensures spends { IfOk result (λ _. Spends cx.entry.fixed out.old out.new
+        (2 * (weight_in cx.entry.p.now test + heft_in cx.entry.p.now body))
+        (32 * (weight_in cx.entry.p.now test + heft_in cx.entry.p.now body)
+        + 19 * entered_in cx.entry.p.now cx.entry.d.now body + 1)) }
 {
     let circle = begin_loop(out)?;
     loop_body(cx, body, circle, out)?;
@@ -339,7 +347,8 @@ fn choice(
     requires room { HasRoom out.old (4 * (weight_in cx.p.now c + heft_in cx.p.now a + heft_in cx.p.now b) + 2) }
     ensures lowered { IfOk result (λ _. Lowered cx.entry.p.now cx.entry.d.now cx.entry.types.now cx.entry.homes.now
         out.old out.new (4 * (weight_in cx.entry.p.now c + heft_in cx.entry.p.now a + heft_in cx.entry.p.now b) + 2)) }
-    ensures spends { IfOk result (λ _. Spends cx.entry.fixed out.old out.new (2 * (weight_in cx.entry.p.now c + heft_in cx.entry.p.now a + heft_in cx.entry.p.now b))
+    ensures spends { IfOk result (λ _. Spends cx.entry.fixed out.old out.new
+        (2 * (weight_in cx.entry.p.now c + heft_in cx.entry.p.now a + heft_in cx.entry.p.now b))
         (32 * (weight_in cx.entry.p.now c + heft_in cx.entry.p.now a + heft_in cx.entry.p.now b)
         + 19 * (entered_in cx.entry.p.now cx.entry.d.now a + entered_in cx.entry.p.now cx.entry.d.now b) + 1)) }
 {
@@ -367,8 +376,10 @@ fn guarded(cx: Context, c: u32, a: u32, exits: Exits, out: &mut Emitter) -> Resu
     requires room { HasRoom out.old (4 * (weight_in cx.p.now c + heft_in cx.p.now a) + 1) }
     ensures lowered { IfOk result (λ _. Lowered cx.entry.p.now cx.entry.d.now cx.entry.types.now cx.entry.homes.now
         out.old out.new (4 * (weight_in cx.entry.p.now c + heft_in cx.entry.p.now a) + 1)) }
-    ensures spends { IfOk result (λ _. Spends cx.entry.fixed out.old out.new (2 * (weight_in cx.entry.p.now c + heft_in cx.entry.p.now a))
-        (32 * (weight_in cx.entry.p.now c + heft_in cx.entry.p.now a) + 19 * entered_in cx.entry.p.now cx.entry.d.now a)) }
+    ensures spends { IfOk result (λ _. Spends cx.entry.fixed out.old out.new
+        (2 * (weight_in cx.entry.p.now c + heft_in cx.entry.p.now a))
+        (32 * (weight_in cx.entry.p.now c + heft_in cx.entry.p.now a)
+        + 19 * entered_in cx.entry.p.now cx.entry.d.now a)) }
 {
     let label = out.label();
     condition(cx, c, Jump { when: false, label }, out)?;
@@ -458,7 +469,8 @@ fn switch(
     ensures lowered { IfOk result (λ _. Lowered cx.entry.p.now cx.entry.d.now cx.entry.types.now cx.entry.homes.now
         out.old out.new (4 * (weight_in cx.entry.p.now on + hefts_in cx.entry.p.now body.now)
         + length labels.now + 3)) }
-    ensures spends { IfOk result (λ _. Spends cx.entry.fixed out.old out.new (2 * (weight_in cx.entry.p.now on + hefts_in cx.entry.p.now body.now) + 1)
+    ensures spends { IfOk result (λ _. Spends cx.entry.fixed out.old out.new
+        (2 * (weight_in cx.entry.p.now on + hefts_in cx.entry.p.now body.now) + 1)
         (32 * (weight_in cx.entry.p.now on + hefts_in cx.entry.p.now body.now + length labels.now)
         + 19 * (entered cx.entry.d.now vars.now + all_entered_in cx.entry.p.now cx.entry.d.now body.now))) }
 {
@@ -493,7 +505,8 @@ pub fn statement(cx: Context, k: u32, exits: Exits, out: &mut Emitter) -> Result
     requires room { HasRoom out.old (4 * heft_in cx.p.now k) }
     ensures lowered { IfOk result (λ _. Lowered cx.entry.p.now cx.entry.d.now cx.entry.types.now cx.entry.homes.now
         out.old out.new (4 * heft_in cx.entry.p.now k)) }
-    ensures spends { IfOk result (λ _. SpendsPart cx.entry.fixed (heft_in cx.entry.p.now k) (entered_in cx.entry.p.now cx.entry.d.now k)
+    ensures spends { IfOk result (λ _. SpendsPart cx.entry.fixed (heft_in cx.entry.p.now k)
+        (entered_in cx.entry.p.now cx.entry.d.now k)
         out.old out.new) }
 {
     let Some(s) = cx.stmt(k) else {

@@ -108,9 +108,9 @@ fn aligned(end: u64, align: u64) -> u64 {
     }
 }
 
-/// Where a member of a struct or union begins (C11 6.7.2.1). In a struct it stands at the least multiple of its alignment, and of
-/// that with which bounds of its length are exact, that is not below the end of the member before it, which owns its padding; in a
-/// union at 0.
+/// Where a member of a struct or union begins (C11 6.7.2.1). In a struct it stands at the least multiple of its
+/// alignment, and of that with which bounds of its length are exact, that is not below the end of the member before it,
+/// which owns its padding; in a union at 0.
 pub fn member_offset(p: &Typed, table: &[TypeFacts], t: u32, member: u32) -> u64 {
     let mut end: u64 = 0;
     let mut left = member;

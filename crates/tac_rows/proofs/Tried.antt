@@ -17,7 +17,9 @@ instrs args = instr.Const 0 (kind.Int int.I32) 72 ∷ instr.Lib lib.PutChar None
 kept : IsKept int.I32 72
 kept = record { kept = byte_kept 72 (omega arith) }
 
-pub has_form : (name : Pos) (kinds : List TacKind) (code : List TacInstr) (args : List ℕ) → kinds ≡ kind.Int int.I32 ∷ [] → args ≡ 0 ∷ [] → code ≡ instrs args → IsIntegerFun (record { name = name; params = 0; temps = 1; kinds = kinds; code = code })
+pub has_form : (name : Pos) (kinds : List TacKind) (code : List TacInstr) (args : List ℕ) →
+    kinds ≡ kind.Int int.I32 ∷ [] → args ≡ 0 ∷ [] → code ≡ instrs args →
+    IsIntegerFun (record { name = name; params = 0; temps = 1; kinds = kinds; code = code })
 has_form name kinds code args kinds_are args_are code_is =
     let long : length code ≡ 3 = ap length code_is in
     let below : AllBelow 1 args = subst (AllBelow 1) (sym args_are) (omega arith, tt) in
@@ -26,6 +28,8 @@ has_form name kinds code args kinds_are args_are code_is =
       few = omega arith;
       short = omega arith;
       integers = subst AllIntegers (sym kinds_are) (tt, tt);
-      named = subst (λ c. AreNamed 1 (length c) c) (sym code_is) ((omega arith, tt), tt, (below, tt, ((omega arith, tt), tt, tt)));
-      plain = subst (λ ks. ArePlain ks code) (sym kinds_are) (subst (ArePlain (kind.Int int.I32 ∷ [])) (sym code_is) (kept, (tt, (omega arith, tt))));
+      named = subst (λ c. AreNamed 1 (length c) c) (sym code_is)
+          ((omega arith, tt), tt, (below, tt, ((omega arith, tt), tt, tt)));
+      plain = subst (λ ks. ArePlain ks code) (sym kinds_are)
+          (subst (ArePlain (kind.Int int.I32 ∷ [])) (sym code_is) (kept, (tt, (omega arith, tt))));
     }

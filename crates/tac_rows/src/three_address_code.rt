@@ -166,7 +166,8 @@ fn source(alloc: Global, input: &[u8]) -> Result<MemSource, AllocError>
     Ok(MemSource::new(bytes, fails))
 }
 
-// A run of code: its input, the bytes of its stack and the turns that it may take, and then what it is to put and how it is to end.
+// A run of code: its input, the bytes of its stack and the turns that it may take, and then what it is to put and how
+// it is to end.
 struct Run {
     input: &'static [u8],
     stack: u64,
@@ -184,8 +185,8 @@ const PASSING: Run = Run {
     ending: Ending::Exit(1),
 };
 
-// Whether code is well formed, and how its run ends. There is no ending where the code is not well formed or not over integers, or
-// where the run puts other bytes than it is to put.
+// Whether code is well formed, and how its run ends. There is no ending where the code is not well formed or not over
+// integers, or where the run puts other bytes than it is to put.
 type Verdict = (bool, Option<Ending>);
 
 // How a run with these addresses ends. The sink has room for eight bytes.
@@ -453,8 +454,8 @@ fn a_loop_takes_a_turn_each_time(rt: HostRuntime) -> Result<(), NoMemory> {
     Ok(())
 }
 
-// A place in the counting code, and an instruction with which it is not well formed: no turn before the jump back, a label twice,
-// a label that is not there, a temp that is not there, and a temp of another kind.
+// A place in the counting code, and an instruction with which it is not well formed: no turn before the jump back, a
+// label twice, a label that is not there, a temp that is not there, and a temp of another kind.
 const WRONG: [(usize, Step); 5] = [
     (10, Step::Const(0, I32, 0)),
     (12, Step::Label(0)),

@@ -1,5 +1,7 @@
--- Three-address code as a machine with a small step. It keeps the number of the next instruction, and the calls that wait.
-use Rattle.std.specs.Prelude.{ℕ, zero, suc, ◌+◌, ◌/◌, ◌%◌, Bool, true, false, List, [], ◌∷◌, length, drop, map, Option, Some, None, slice_get}
+-- Three-address code as a machine with a small step. It keeps the number of the next instruction, and the calls that
+-- wait.
+use Rattle.std.specs.Prelude.{ℕ, zero, suc, ◌+◌, ◌/◌, ◌%◌, Bool, true, false, List, [], ◌∷◌, length, drop, map, Option}
+use Rattle.std.specs.Prelude.{Some, None, slice_get}
 use Rattle.ck_base.specs.Runs.{Act, Goes, Puts, Reads, Ends, Limits}
 use Rattle.cap_ops.specs.Permissions.{data_permissions}
 use Rattle.c_tree.specs.declared.typed.Typed.{Typed}
@@ -14,7 +16,8 @@ use Rattle.cheri_c_sem.specs.Operations.{Operations, compare_by, convert_by, int
 use Rattle.cheri_c_sem.specs.Steps.{byte_or_end}
 use Rattle.cheri_c_sem.specs.Tree.{Program}
 use Rattle.mean_steps.specs.Machine.{no_world}
-use Rattle.mean_steps.specs.Parts.{Now, Came, On as Gives, Over, Part, ◌>>=◌, ◌>>◌, give, ends, ask, set_variable, load, store, copy_units, test, allocate, called}
+use Rattle.mean_steps.specs.Parts.{Now, Came, On as Gives, Over, Part, ◌>>=◌, ◌>>◌, give, ends, ask, set_variable, load}
+use Rattle.mean_steps.specs.Parts.{store, copy_units, test, allocate, called}
 use Rattle.tac_ir.specs.Effects.{kind_of, kind_at, work_of, no_position, Next, On, To, Pause, Back, Into, held}
 use Rattle.tac_ir.specs.Effects as effects
 use Rattle.tac_ir.specs.Integers.{up_to}
@@ -29,7 +32,8 @@ use Rattle.tac_ir.specs.declared.code.TacInstr.TheVariants as instr
 use Rattle.tac_ir.specs.declared.code.TacKind.{TacKind}
 use Rattle.tac_ir.specs.declared.code.TacKind.TheVariants as kind
 
--- a call that waits: its function and the next instruction there, what its state has of its own, and the temp for the result
+-- a call that waits: its function and the next instruction there, what its state has of its own, and the temp for the
+-- result
 pub record Caller : Type 0 where
   pub fun : ℕ
   pub at : ℕ
@@ -38,7 +42,8 @@ pub record Caller : Type 0 where
   pub frame : ℕ
   pub to : Option ℕ
 
--- the function that runs, its next instruction, whether a Turn was just passed, the calls that wait, the newest first, and the state
+-- the function that runs, its next instruction, whether a Turn was just passed, the calls that wait, the newest first,
+-- and the state
 pub record Moment (M : Type 0) : Type 0 where
   pub fun : ℕ
   pub at : ℕ
@@ -207,23 +212,50 @@ module _ {M : Type 0} (ops : Operations M) (t : Tac) (objects : ℕ → List ℕ
 
   -- a call of a function in a frame at an address
   abbrev pub in_frame : ℕ → ℕ → List Value → Now M → Now M
-  in_frame address f vs n = record n { vars = entry_temps (kinds_at f) vs; first = ops.count n.mem; mem = add_locals ops n.mem address f 0 (objects f); frame = address }
+  in_frame address f vs n =
+      record n {
+        vars = entry_temps (kinds_at f) vs;
+        first = ops.count n.mem;
+        mem = add_locals ops n.mem address f 0 (objects f);
+        frame = address;
+      }
 
   abbrev pub caller_of : Moment M → Option ℕ → Caller
-  caller_of m to = record { fun = m.fun; at = m.at + 1; vars = m.now.vars; first = m.now.first; frame = m.now.frame; to = to }
+  caller_of m to = record {
+    fun = m.fun;
+    at = m.at + 1;
+    vars = m.now.vars;
+    first = m.now.first;
+    frame = m.now.frame;
+    to = to;
+  }
 
   abbrev pub entered : Option ℕ → ℕ → List Value → List Caller → Now M → Act (Moment M) Ending
   entered None f vs cs n = Ends (ending.Stack (name_of (slice_get t.funs f)))
-  entered (Some address) f vs cs n = Goes (record { fun = f; at = 0; turned = false; callers = cs; now = in_frame address f vs n })
+  entered (Some address) f vs cs n =
+      Goes (record { fun = f; at = 0; turned = false; callers = cs; now = in_frame address f vs n })
 
   -- a call uses its turn, and then takes the frame, where there is room
   abbrev pub calls : ℕ → ℕ → List Value → Option ℕ → Moment M → Act (Moment M) Ending
   calls zero f vs to m = Ends ending.Turns
-  calls (suc j) f vs to m = entered (ops.enter f m.now.frame) f vs (caller_of m to ∷ m.callers) (record m.now { left = j })
+  calls (suc j) f vs to m =
+      entered (ops.enter f m.now.frame) f vs (caller_of m to ∷ m.callers) (record m.now { left = j })
 
   -- the caller has the result
   abbrev pub resumed : Caller → List Caller → ℕ → Value → Moment M → Moment M
-  resumed c cs j v m = record { fun = c.fun; at = c.at; turned = false; callers = cs; now = record { vars = with_result c.vars c.to v; first = c.first; mem = end_locals ops m.now.mem m.now.first (objects m.fun); frame = c.frame; left = j } }
+  resumed c cs j v m = record {
+    fun = c.fun;
+    at = c.at;
+    turned = false;
+    callers = cs;
+    now = record {
+      vars = with_result c.vars c.to v;
+      first = c.first;
+      mem = end_locals ops m.now.mem m.now.first (objects m.fun);
+      frame = c.frame;
+      left = j;
+    };
+  }
 
   -- A return: the locals end, and behind a turn the caller goes on. The last return ends the run
   abbrev pub returns_to : List Caller → ℕ → Value → Moment M → Act (Moment M) Ending
@@ -278,10 +310,18 @@ module _ {M : Type 0} (ops : Operations M) (t : Tac) (objects : ℕ → List ℕ
   -- ---- the start of a program, with so many turns
 
   abbrev pub first_now : Program → ℕ → Now M
-  first_now program turns = record { vars = []; first = 0; mem = start ops program; frame = ops.stack_top; left = turns }
+  first_now program turns =
+      record { vars = []; first = 0; mem = start ops program; frame = ops.stack_top; left = turns }
 
   abbrev pub first_moment : ℕ → Program → ℕ → Moment M
-  first_moment address program turns = record { fun = program.main; at = 0; turned = false; callers = []; now = in_frame address program.main [] (first_now program turns) }
+  first_moment address program turns =
+      record {
+        fun = program.main;
+        at = 0;
+        turned = false;
+        callers = [];
+        now = in_frame address program.main [] (first_now program turns);
+      }
 
 -- the endings of a run that come from the outside
 abbrev pub limits : Limits Ending

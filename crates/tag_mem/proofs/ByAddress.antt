@@ -1,12 +1,16 @@
 -- What a write does to memory, address by address.
-use Rattle.std.proofs.Common.{◌≡◌, ℕ, ◌+◌, ◌-◌, ◌/◌, ◌%◌, ◌<◌, ◌≤◌, ◌⊎◌, ◌||◌, leb, ltb, Bool, true, false, List, [], ◌∷◌, length, get_or, Some, refl, sym, ap, ◌∙◌, arith, inl, inr}
+use Rattle.std.proofs.Common.{◌≡◌, ℕ, ◌+◌, ◌-◌, ◌/◌, ◌%◌, ◌<◌, ◌≤◌, ◌⊎◌, ◌||◌, leb, ltb, Bool, true, false, List, []}
+use Rattle.std.proofs.Common.{◌∷◌, length, get_or, Some, refl, sym, ap, ◌∙◌, arith, inl, inr}
 use Rattle.std.specs.Prelude.{All}
 use Rattle.std.proofs.lemmas.Bool.{cases_Bool, leb-true, leb-false, ltb-true, ltb-false, le-leb, and_parts, and_cases}
-use Rattle.tag_mem.specs.Areas.{Area, IsArea, AreasFrom, IsMemory, end_of, has, tag_in, is_inside, byte_at, tag_at, extents}
+use Rattle.tag_mem.specs.Areas.{Area, IsArea, AreasFrom, IsMemory, end_of, has, tag_in, is_inside, byte_at, tag_at}
+use Rattle.tag_mem.specs.Areas.{extents}
 use Rattle.tag_mem.specs.Memory.{granules_to, area_holding, area_with, written, fits_inside, Writes}
-use Rattle.tag_mem.proofs.InArea.{LiesIn, LiesIn-holds, IsArea-after, has-after, length-after, length-replaced, byte_there, byte_other, tag_there, tag_other}
+use Rattle.tag_mem.proofs.InArea.{LiesIn, LiesIn-holds, IsArea-after, has-after, length-after, length-replaced}
+use Rattle.tag_mem.proofs.InArea.{byte_there, byte_other, tag_there, tag_other}
 
-pub byte_at-here : (a : Area) (m : List Area) (x : ℕ) → has a x ≡ true → byte_at (a ∷ m) x ≡ Some (get_or a.bytes (x - a.base) 0)
+pub byte_at-here : (a : Area) (m : List Area) (x : ℕ) → has a x ≡ true →
+    byte_at (a ∷ m) x ≡ Some (get_or a.bytes (x - a.base) 0)
 unfolding byte_at
 byte_at-here a m x h = rw h refl
 
@@ -26,25 +30,33 @@ pub is_inside-cons : (a : Area) (m : List Area) (x : ℕ) → is_inside (a ∷ m
 unfolding is_inside
 is_inside-cons a m x = refl
 
-pub fits_inside-here : (a : Area) (m : List Area) (at n : ℕ) → has a at ≡ true → fits_inside (a ∷ m) at n ≡ leb (at + n) (end_of a)
+pub fits_inside-here : (a : Area) (m : List Area) (at n : ℕ) → has a at ≡ true →
+    fits_inside (a ∷ m) at n ≡ leb (at + n) (end_of a)
 unfolding fits_inside
 fits_inside-here a m at n h = rw h refl
 
-pub fits_inside-behind : (a : Area) (m : List Area) (at n : ℕ) → has a at ≡ false → fits_inside (a ∷ m) at n ≡ fits_inside m at n
+pub fits_inside-behind : (a : Area) (m : List Area) (at n : ℕ) → has a at ≡ false →
+    fits_inside (a ∷ m) at n ≡ fits_inside m at n
 unfolding fits_inside
 fits_inside-behind a m at n h = rw h refl
 
-pub written-here : (a : Area) (m : List Area) (at : ℕ) (new : List ℕ) (tag : Bool) → has a at ≡ true → written (a ∷ m) at new tag ≡ area_with a at new tag ∷ m
+pub written-here : (a : Area) (m : List Area) (at : ℕ) (new : List ℕ) (tag : Bool) → has a at ≡ true →
+    written (a ∷ m) at new tag ≡ area_with a at new tag ∷ m
 unfolding written
 written-here a m at new tag h = rw h refl
 
-pub written-behind : (a : Area) (m : List Area) (at : ℕ) (new : List ℕ) (tag : Bool) → has a at ≡ false → written (a ∷ m) at new tag ≡ a ∷ written m at new tag
+pub written-behind : (a : Area) (m : List Area) (at : ℕ) (new : List ℕ) (tag : Bool) → has a at ≡ false →
+    written (a ∷ m) at new tag ≡ a ∷ written m at new tag
 unfolding written
 written-behind a m at new tag h = rw h refl
 
 -- where an address that the area lacks lies
 pub apart : (a : Area) (x : ℕ) → has a x ≡ false → (x < a.base) ⊎ (end_of a ≤ x)
-apart a x h = elim (and_cases _ _ h) [ inl low ↦ inl (leb-false a.base x low) | inr high ↦ inr (ltb-false x (end_of a) high) ]
+apart a x h = elim (and_cases _ _ h) [
+  | inl low ↦ inl (leb-false a.base x low)
+  | inr high ↦ inr
+      (ltb-false x (end_of a) high)
+]
 
 pub starts : (a : Area) (x : ℕ) → has a x ≡ true → a.base ≤ x
 starts a x h = leb-true a.base x (and_parts (leb a.base x) (ltb x (end_of a)) h).0
@@ -58,7 +70,8 @@ unfolding fits_inside
 low_bound low [] at n h e = cc
 low_bound low (a ∷ m) at n h e = elim (cases_Bool (has a at)) [
   | inl here ↦ let base = starts a at here in omega (arith, h.0)
-  | inr lacks ↦ let behind = low_bound (end_of a) m at n h.2 (sym (fits_inside-behind a m at n lacks) ∙ e) in omega (arith, h.0, behind)
+  | inr lacks ↦ let behind = low_bound (end_of a) m at n h.2 (sym (fits_inside-behind a m at n lacks) ∙ e) in
+      omega (arith, h.0, behind)
 ]
 
 -- what a write does at one address
@@ -85,15 +98,18 @@ writes_here a m at new tag x lies =
           let tag_new = tag_at-here a' m x (same ∙ here) in
           record {
             byte_there = λ low high. byte_new ∙ ap (λ (b : ℕ). Some b) (byte_there a at new tag lies x low high);
-            byte_other = λ other. byte_new ∙ ap (λ (b : ℕ). Some b) (byte_other a at new tag lies x base other) ∙ sym byte_old;
+            byte_other = λ other. byte_new ∙ ap (λ (b : ℕ). Some b) (byte_other a at new tag lies x base other)
+                ∙ sym byte_old;
             tag_there = λ low high. tag_new ∙ ap (λ (b : Bool). Some b) (tag_there a at new tag lies x low high);
-            tag_other = λ other. tag_new ∙ ap (λ (b : Bool). Some b) (tag_other a at new tag lies x base other) ∙ sym tag_old;
+            tag_other = λ other. tag_new ∙ ap (λ (b : Bool). Some b) (tag_other a at new tag lies x base other)
+                ∙ sym tag_old;
             inside = inside;
           }
       | inr lacks ↦
           let out = apart a x lacks in
           record {
-            byte_there = λ low high. absurd (elim out [ inl before ↦ omega (arith, lies.low) | inr behind ↦ omega (arith, lies.high) ]);
+            byte_there = λ low high. absurd (elim out
+                [ inl before ↦ omega (arith, lies.low) | inr behind ↦ omega (arith, lies.high) ]);
             byte_other = λ other. byte_at-behind a' m x (same ∙ lacks) ∙ sym (byte_at-behind a m x lacks);
             tag_there = λ low high. absurd (elim out [
               | inl before ↦ omega (arith, lies.low, lies.area.base)
@@ -105,7 +121,8 @@ writes_here a m at new tag x lies =
     ]
 
 -- in an area behind it
-writes_behind : (a : Area) (m m' : List Area) (at : ℕ) (new : List ℕ) (tag : Bool) (x : ℕ) → IsArea a → end_of a ≤ at → WritesAt m m' at new tag x
+writes_behind : (a : Area) (m m' : List Area) (at : ℕ) (new : List ℕ) (tag : Bool) (x : ℕ) → IsArea a → end_of a ≤ at →
+    WritesAt m m' at new tag x
     → WritesAt (a ∷ m) (a ∷ m') at new tag x
 writes_behind a m m' at new tag x area before w =
     let inside = is_inside-cons a m' x ∙ ap (λ b. has a x || b) w.inside ∙ sym (is_inside-cons a m x) in
@@ -128,10 +145,12 @@ writes_behind a m m' at new tag x area before w =
       }
     ]
 
-area_with-fits : (a : Area) (at : ℕ) (new : List ℕ) (tag : Bool) → leb (at + length new) (end_of a) ≡ true → area_with a at new tag ≡ area_holding a (at - a.base) new tag
+area_with-fits : (a : Area) (at : ℕ) (new : List ℕ) (tag : Bool) → leb (at + length new) (end_of a) ≡ true →
+    area_with a at new tag ≡ area_holding a (at - a.base) new tag
 area_with-fits a at new tag h = rw h refl
 
-writes_at : (low : ℕ) (m : List Area) (at : ℕ) (new : List ℕ) (tag : Bool) (x : ℕ) → AreasFrom low m → fits_inside m at (length new) ≡ true
+writes_at : (low : ℕ) (m : List Area) (at : ℕ) (new : List ℕ) (tag : Bool) (x : ℕ) → AreasFrom low m →
+    fits_inside m at (length new) ≡ true
     → WritesAt m (written m at new tag) at new tag x
 unfolding fits_inside
 writes_at low [] at new tag x h e = cc
@@ -142,26 +161,32 @@ writes_at low (a ∷ m) at new tag x h e = elim (cases_Bool (has a at)) [
       rw is (writes_here a m at new tag x (LiesIn-holds a at (length new) h.1 here fits))
   | inr lacks ↦
       let fits = sym (fits_inside-behind a m at (length new) lacks) ∙ e in
-      rw (written-behind a m at new tag lacks) (writes_behind a m (written m at new tag) at new tag x h.1 (low_bound (end_of a) m at (length new) h.2 fits) (writes_at (end_of a) m at new tag x h.2 fits))
+      rw (written-behind a m at new tag lacks)
+      (writes_behind a m (written m at new tag) at new tag x h.1 (low_bound (end_of a) m at (length new) h.2 fits)
+      (writes_at (end_of a) m at new tag x h.2 fits))
 ]
 
 -- where the bytes go past the end of the area, nothing changes
-pub written-outside : (m : List Area) (at : ℕ) (new : List ℕ) (tag : Bool) → fits_inside m at (length new) ≡ false → written m at new tag ≡ m
+pub written-outside : (m : List Area) (at : ℕ) (new : List ℕ) (tag : Bool) → fits_inside m at (length new) ≡ false →
+    written m at new tag ≡ m
 unfolding written
 written-outside [] at new tag e = refl
 written-outside (a ∷ m) at new tag e = elim (cases_Bool (has a at)) [
   | inl here ↦ let past = sym (fits_inside-here a m at (length new) here) ∙ e in rw (here, past) refl
-  | inr lacks ↦ let past = sym (fits_inside-behind a m at (length new) lacks) ∙ e in rw lacks (ap (λ areas. a ∷ areas) (written-outside m at new tag past))
+  | inr lacks ↦ let past = sym (fits_inside-behind a m at (length new) lacks) ∙ e in
+      rw lacks (ap (λ areas. a ∷ areas) (written-outside m at new tag past))
 ]
 
 -- a part of a granule fits where its address lies inside
-pub fits_inside-granule : (m : List Area) (at n : ℕ) → IsMemory m → at % 16 + n ≤ 16 → fits_inside m at n ≡ is_inside m at
+pub fits_inside-granule : (m : List Area) (at n : ℕ) → IsMemory m → at % 16 + n ≤ 16 →
+    fits_inside m at n ≡ is_inside m at
 unfolding IsMemory fits_inside is_inside
 fits_inside-granule m at n h granule = go 0 m h where
   go : (low : ℕ) (m : List Area) → AreasFrom low m → fits_inside m at n ≡ is_inside m at
   go low [] h = refl
   go low (a ∷ m) h = elim (cases_Bool (has a at)) [
-    | inl here ↦ let fits : at + n ≤ end_of a = omega (arith, ends a at here, h.1.base, h.1.granules) in rw here (le-leb (at + n) (end_of a) fits)
+    | inl here ↦ let fits : at + n ≤ end_of a = omega (arith, ends a at here, h.1.base, h.1.granules) in
+        rw here (le-leb (at + n) (end_of a) fits)
     | inr lacks ↦ rw lacks (go (end_of a) m h.2)
   ]
 
@@ -180,7 +205,8 @@ extents-written (a ∷ m) at new tag = elim (cases_Bool (has a at)) [
   | inr lacks ↦ rw lacks (ap (λ rest. (a.base, length a.bytes) ∷ rest) (extents-written m at new tag))
 ]
 
-pub IsMemory-written : (m : List Area) (at : ℕ) (new : List ℕ) (tag : Bool) → IsMemory m → All (λ b. b < 256) new → IsMemory (written m at new tag)
+pub IsMemory-written : (m : List Area) (at : ℕ) (new : List ℕ) (tag : Bool) → IsMemory m → All (λ b. b < 256) new →
+    IsMemory (written m at new tag)
 unfolding IsMemory written
 IsMemory-written m at new tag h small = go 0 m h where
   go : (low : ℕ) (m : List Area) → AreasFrom low m → AreasFrom low (written m at new tag)
@@ -196,7 +222,8 @@ IsMemory-written m at new tag h small = go 0 m h where
   ]
 
 -- what a write that fits does to memory
-pub Writes-written : (m : List Area) (at : ℕ) (new : List ℕ) (tag : Bool) → IsMemory m → fits_inside m at (length new) ≡ true → Writes m (written m at new tag) at new tag
+pub Writes-written : (m : List Area) (at : ℕ) (new : List ℕ) (tag : Bool) → IsMemory m →
+    fits_inside m at (length new) ≡ true → Writes m (written m at new tag) at new tag
 unfolding IsMemory
 Writes-written m at new tag h e =
     let each : (x : ℕ) → WritesAt m (written m at new tag) at new tag x = λ x. writes_at 0 m at new tag x h e in

@@ -1,8 +1,10 @@
 -- The bytes of granules, one after another.
-use Rattle.std.proofs.Common.{◌≡◌, ℕ, zero, suc, ◌+◌, ◌-◌, ◌*◌, ◌/◌, ◌%◌, ◌<◌, ◌≤◌, List, [], ◌∷◌, ◌++◌, length, take, drop, replicate, get_or, set, refl, sym, ap, ◌∙◌, arith}
+use Rattle.std.proofs.Common.{◌≡◌, ℕ, zero, suc, ◌+◌, ◌-◌, ◌*◌, ◌/◌, ◌%◌, ◌<◌, ◌≤◌, List, [], ◌∷◌, ◌++◌, length, take}
+use Rattle.std.proofs.Common.{drop, replicate, get_or, set, refl, sym, ap, ◌∙◌, arith}
 use Rattle.std.specs.Prelude.{All, flat_map}
 use Rattle.std.specs.List.{range_with_len}
-use Rattle.std.proofs.lemmas.List.{length-append, length-replicate, replicate-append-replicate, length-drop, append_assoc, drop-append-le, take-append-le}
+use Rattle.std.proofs.lemmas.List.{length-append, length-replicate, replicate-append-replicate, length-drop}
+use Rattle.std.proofs.lemmas.List.{append_assoc, drop-append-le, take-append-le}
 use Rattle.std.proofs.Math.Seq.{drop-append-add, take-append-add, drop-append_seam}
 use Rattle.std.proofs.lemmas.List.Elements.{All-from_get_or, All-get_or, All-replicate}
 use Rattle.std.proofs.lemmas.List.FromFn.{length-map-range_with_len, get_or-map-range_with_len, fill_by_all}
@@ -36,49 +38,62 @@ pub zero_granules : (n : ℕ) → flat_map granule_bytes (replicate n (replicate
 zero_granules zero = refl
 zero_granules (suc n) =
     let size : 16 + 16 * n ≡ 16 * suc n = omega arith in
-    ap (λ (g : List ℕ). g ++ flat_map granule_bytes (replicate n (replicate 16 0))) (same_granule (replicate 16 0) (length-replicate {A = ℕ} 16 0) (All-replicate (λ b. b < 256) 16 0 (omega arith)))
-    ∙ ap (λ (bs : List ℕ). replicate 16 0 ++ bs) (zero_granules n) ∙ replicate-append-replicate 16 (16 * n) 0 ∙ ap (λ (k : ℕ). replicate k 0) size
+    ap (λ (g : List ℕ). g ++ flat_map granule_bytes (replicate n (replicate 16 0)))
+    (same_granule (replicate 16 0) (length-replicate {A = ℕ} 16 0)
+    (All-replicate (λ b. b < 256) 16 0 (omega arith)))
+    ∙ ap (λ (bs : List ℕ). replicate 16 0 ++ bs) (zero_granules n) ∙ replicate-append-replicate 16 (16 * n) 0
+    ∙ ap (λ (k : ℕ). replicate k 0) size
 
 pub length_granules : (gs : List (List ℕ)) → length (flat_map granule_bytes gs) ≡ 16 * length gs
 length_granules [] = refl
-length_granules (g ∷ gs) = omega (arith, length-append (granule_bytes g) (flat_map granule_bytes gs), length_granule g, length_granules gs)
+length_granules (g ∷ gs) =
+    omega (arith, length-append (granule_bytes g) (flat_map granule_bytes gs), length_granule g, length_granules gs)
 
 take_front : (g rest : List ℕ) (o n : ℕ) → length g ≡ 16 → o + n ≤ 16 → take n (drop o (g ++ rest)) ≡ take n (drop o g)
 take_front g rest o n long within =
-    ap (take n) (drop-append-le o g rest (omega (arith, long))) ∙ take-append-le n (drop o g) rest (omega (arith, long, length-drop o g))
+    ap (take n) (drop-append-le o g rest (omega (arith, long)))
+    ∙ take-append-le n (drop o g) rest (omega (arith, long, length-drop o g))
 
 drop_front : (g rest : List ℕ) (o : ℕ) → length g ≡ 16 → drop (16 + o) (g ++ rest) ≡ drop o rest
 drop_front g rest o long = ap (λ (n : ℕ). drop (n + o) (g ++ rest)) (sym long) ∙ drop-append-add g rest o
 
 -- bytes of one granule
-pub part_of : (gs : List (List ℕ)) (k o n : ℕ) (d : List ℕ) → k < length gs → o + n ≤ 16 → take n (drop (16 * k + o) (flat_map granule_bytes gs)) ≡ take n (drop o (granule_bytes (get_or gs k d)))
+pub part_of : (gs : List (List ℕ)) (k o n : ℕ) (d : List ℕ) → k < length gs → o + n ≤ 16 →
+    take n (drop (16 * k + o) (flat_map granule_bytes gs)) ≡ take n (drop o (granule_bytes (get_or gs k d)))
 part_of [] k o n d lt within = absurd (omega arith)
 part_of (g ∷ gs) zero o n d lt within =
     let at : 16 * zero + o ≡ o = omega arith in
-    ap (λ (x : ℕ). take n (drop x (granule_bytes g ++ flat_map granule_bytes gs))) at ∙ take_front (granule_bytes g) (flat_map granule_bytes gs) o n (length_granule g) within
+    ap (λ (x : ℕ). take n (drop x (granule_bytes g ++ flat_map granule_bytes gs))) at
+    ∙ take_front (granule_bytes g) (flat_map granule_bytes gs) o n (length_granule g) within
 part_of (g ∷ gs) (suc k) o n d lt within =
     let at : 16 * suc k + o ≡ 16 + (16 * k + o) = omega arith in
     ap (λ (x : ℕ). take n (drop x (granule_bytes g ++ flat_map granule_bytes gs))) at
-    ∙ ap (take n) (drop_front (granule_bytes g) (flat_map granule_bytes gs) (16 * k + o) (length_granule g)) ∙ part_of gs k o n d (omega arith) within
+    ∙ ap (take n) (drop_front (granule_bytes g) (flat_map granule_bytes gs) (16 * k + o) (length_granule g))
+    ∙ part_of gs k o n d (omega arith) within
 
 replaced_front : (g rest new : List ℕ) → length g ≡ 16 → length new ≡ 16 → new ++ rest ≡ replaced 0 new (g ++ rest)
 replaced_front g rest new long also =
     let at : 0 + length new ≡ length g = omega (arith, long, also) in
     ap (λ (x : List ℕ). new ++ x) (sym (ap (λ (n : ℕ). drop n (g ++ rest)) at ∙ drop-append_seam g rest))
 
-replaced_behind : (g rest new : List ℕ) (o : ℕ) → length g ≡ 16 → g ++ replaced o new rest ≡ replaced (16 + o) new (g ++ rest)
+replaced_behind : (g rest new : List ℕ) (o : ℕ) → length g ≡ 16 →
+    g ++ replaced o new rest ≡ replaced (16 + o) new (g ++ rest)
 replaced_behind g rest new o long =
-    let front : take (16 + o) (g ++ rest) ≡ g ++ take o rest = ap (λ (n : ℕ). take (n + o) (g ++ rest)) (sym long) ∙ take-append-add g rest o in
+    let front : take (16 + o) (g ++ rest) ≡ g ++ take o rest =
+    ap (λ (n : ℕ). take (n + o) (g ++ rest)) (sym long) ∙ take-append-add g rest o in
     let at : 16 + o + length new ≡ 16 + (o + length new) = omega arith in
-    let back : drop (16 + o + length new) (g ++ rest) ≡ drop (o + length new) rest = ap (λ (n : ℕ). drop n (g ++ rest)) at ∙ drop_front g rest (o + length new) long in
+    let back : drop (16 + o + length new) (g ++ rest) ≡ drop (o + length new) rest =
+    ap (λ (n : ℕ). drop n (g ++ rest)) at ∙ drop_front g rest (o + length new) long in
     sym (append_assoc g (take o rest) (new ++ drop (o + length new) rest))
     ∙ ap (λ (x : List ℕ). x ++ (new ++ drop (o + length new) rest)) (sym front)
     ∙ ap (λ (x : List ℕ). take (16 + o) (g ++ rest) ++ (new ++ x)) (sym back)
 
 -- one granule is replaced
-pub replaced_granule : (gs : List (List ℕ)) (k : ℕ) (w : List ℕ) → k < length gs → flat_map granule_bytes (set gs k w) ≡ replaced (16 * k) (granule_bytes w) (flat_map granule_bytes gs)
+pub replaced_granule : (gs : List (List ℕ)) (k : ℕ) (w : List ℕ) → k < length gs →
+    flat_map granule_bytes (set gs k w) ≡ replaced (16 * k) (granule_bytes w) (flat_map granule_bytes gs)
 replaced_granule [] k w lt = absurd (omega arith)
-replaced_granule (g ∷ gs) zero w lt = replaced_front (granule_bytes g) (flat_map granule_bytes gs) (granule_bytes w) (length_granule g) (length_granule w)
+replaced_granule (g ∷ gs) zero w lt =
+    replaced_front (granule_bytes g) (flat_map granule_bytes gs) (granule_bytes w) (length_granule g) (length_granule w)
 replaced_granule (g ∷ gs) (suc k) w lt =
     let at : 16 * suc k ≡ 16 + 16 * k = omega arith in
     ap (λ (x : List ℕ). granule_bytes g ++ x) (replaced_granule gs k w (omega arith))
@@ -95,4 +110,5 @@ replaced_one {X} [] k x lt = absurd (omega arith)
 replaced_one {X} (y ∷ ys) zero x lt = refl
 replaced_one {X} (y ∷ ys) (suc k) x lt =
     let at : suc (k + 1) ≡ suc k + 1 = omega arith in
-    ap (λ (zs : List X). y ∷ zs) (replaced_one ys k x (omega arith)) ∙ ap (λ (n : ℕ). y ∷ (take k ys ++ (x ∷ drop n (y ∷ ys)))) at
+    ap (λ (zs : List X). y ∷ zs) (replaced_one ys k x (omega arith))
+    ∙ ap (λ (n : ℕ). y ∷ (take k ys ++ (x ∷ drop n (y ∷ ys)))) at

@@ -1,5 +1,6 @@
 -- The number that bytes spell, and the bytes of a number.
-use Rattle.std.proofs.Common.{◌≡◌, ℕ, zero, suc, ◌+◌, ◌-◌, ◌*◌, ◌/◌, ◌%◌, ◌^◌, ◌<◌, ◌≤◌, List, [], ◌∷◌, ◌++◌, length, take, drop, replicate, get_or, refl, sym, ap, ◌∙◌, arith}
+use Rattle.std.proofs.Common.{◌≡◌, ℕ, zero, suc, ◌+◌, ◌-◌, ◌*◌, ◌/◌, ◌%◌, ◌^◌, ◌<◌, ◌≤◌, List, [], ◌∷◌, ◌++◌, length}
+use Rattle.std.proofs.Common.{take, drop, replicate, get_or, refl, sym, ap, ◌∙◌, arith}
 use Rattle.std.specs.Prelude.{All}
 use Rattle.std.specs.Int.{byte_at, byte_worth, bytes_low_first, from_le_bytes, sum_through, w64, w128}
 use Rattle.std.proofs.lemmas.List.{places, drop-replicate, length-append, length-drop}
@@ -50,12 +51,14 @@ unfolding worth
 number-half bs size = worth-number bs 7 (omega (arith, size))
 
 -- bytes at the front of an array of zeros
-pub number-padded : (bs : List ℕ) → length bs ≤ 16 → from_le_bytes w128 (bs ++ drop (length bs) (replicate 16 0)) ≡ little_number bs
+pub number-padded : (bs : List ℕ) → length bs ≤ 16 →
+    from_le_bytes w128 (bs ++ drop (length bs) (replicate 16 0)) ≡ little_number bs
 unfolding worth
 number-padded bs h =
     let zeros : List ℕ = drop (length bs) (replicate 16 0) in
     let rest : zeros ≡ replicate (16 - length bs) 0 = drop-replicate (length bs) 16 0 in
-    let size : length (bs ++ zeros) ≤ 16 = omega (arith, length-append bs zeros, length-drop {A = ℕ} (length bs) (replicate 16 0)) in
+    let size : length (bs ++ zeros) ≤ 16 =
+    omega (arith, length-append bs zeros, length-drop {A = ℕ} (length bs) (replicate 16 0)) in
     worth-number (bs ++ zeros) 15 size ∙ ap (λ z. little_number (bs ++ z)) rest ∙ number-zeros bs (16 - length bs)
 
 -- n bytes spell no number of more bytes
@@ -98,7 +101,8 @@ get_or-little_bytes n v k h = get_or-bytes 0 n v k h ∙ ap (λ j. byte_at j v) 
 -- each of them is a byte
 pub small-little_bytes : (n v : ℕ) → All (λ b. b < 256) (little_bytes n v)
 small-little_bytes n v = All-from_get_or (λ b. b < 256) (little_bytes n v) 0
-    (λ k h. let here : k < n = omega (arith, length-little_bytes n v) in rw (get_or-little_bytes n v k here) (omega arith))
+    (λ k h. let here : k < n = omega (arith, length-little_bytes n v) in
+    rw (get_or-little_bytes n v k here) (omega arith))
 
 -- the low bytes of a number among its bytes
 pub take-little_bytes : (k n v : ℕ) → n ≤ k → take n (little_bytes k v) ≡ little_bytes n v
@@ -111,7 +115,8 @@ quotient : (v k : ℕ) → v / 256 ^ suc k ≡ v / 256 / 256 ^ k
 quotient v k = ap (λ p. v / p) (pow-succ' 256 k) ∙ sym (div-div-eq-div-mul v 256 (256 ^ k))
 
 -- a byte k of the number that bytes spell
-pub number-byte : (bs : List ℕ) (k : ℕ) → All (λ b. b < 256) bs → k < length bs → little_number bs / 256 ^ k % 256 ≡ get_or bs k 0
+pub number-byte : (bs : List ℕ) (k : ℕ) → All (λ b. b < 256) bs → k < length bs →
+    little_number bs / 256 ^ k % 256 ≡ get_or bs k 0
 number-byte [] k small h = absurd (omega arith)
 number-byte (b ∷ bs) zero small h = let low = All-head (λ b. b < 256) b bs small in omega (arith, low)
 number-byte (b ∷ bs) (suc k) small h =
@@ -121,12 +126,14 @@ number-byte (b ∷ bs) (suc k) small h =
     rw up (number-byte bs k (All-tail (λ b. b < 256) b bs small) (omega arith))
 
 -- bytes that are those of a number spell it
-pub number-spelled : (bs : List ℕ) (v : ℕ) → ((k : ℕ) → k < length bs → get_or bs k 0 ≡ v / 256 ^ k % 256) → v < 256 ^ length bs → little_number bs ≡ v
+pub number-spelled : (bs : List ℕ) (v : ℕ) → ((k : ℕ) → k < length bs → get_or bs k 0 ≡ v / 256 ^ k % 256) →
+    v < 256 ^ length bs → little_number bs ≡ v
 number-spelled [] v each below = omega arith
 number-spelled (b ∷ bs) v each below =
     let low : b ≡ v % 256 = each 0 (omega arith) ∙ ap (λ n. n % 256) (div-one v) in
     let high : v / 256 < 256 ^ length bs = let wide : v < 256 ^ length bs * 256 = rw (← pow-suc 256 (length bs)) below in omega (arith, wide) in
-    let rest = number-spelled bs (v / 256) (λ k h. each (suc k) (omega arith) ∙ ap (λ n. n % 256) (quotient v k)) high in
+    let rest = number-spelled bs (v / 256) (λ k h. each (suc k) (omega arith) ∙ ap (λ n. n % 256) (quotient v k)) high
+    in
     omega (arith, low, rest)
 
 -- ---- parts of a number
@@ -139,7 +146,8 @@ number-drop [] (suc k) small = omega (arith, below_zero (256 ^ suc k)) where
   below_zero n = omega arith
 number-drop (b ∷ bs) (suc k) small =
     let low = All-head (λ b. b < 256) b bs small in
-    number-drop bs k (All-tail (λ b. b < 256) b bs small) ∙ ap (λ n. n / 256 ^ k) (omega (arith, low)) ∙ sym (quotient (b + 256 * little_number bs) k)
+    number-drop bs k (All-tail (λ b. b < 256) b bs small) ∙ ap (λ n. n / 256 ^ k) (omega (arith, low))
+    ∙ sym (quotient (b + 256 * little_number bs) k)
 
 -- the number of the first bytes
 pub number-take : (bs : List ℕ) (n : ℕ) → All (λ b. b < 256) bs → little_number (take n bs) ≡ little_number bs % 256 ^ n
@@ -149,11 +157,15 @@ number-take [] (suc n) small = omega (arith, below_zero (256 ^ suc n)) where
   below_zero n = omega arith
 number-take (b ∷ bs) (suc n) small =
     let low = All-head (λ b. b < 256) b bs small in
-    rw (pow-succ' 256 n, number-take bs n (All-tail (λ b. b < 256) b bs small)) (split b (little_number bs) (256 ^ n) low (one-le-pow n 256 (omega arith))) where
+    rw (pow-succ' 256 n, number-take bs n (All-tail (λ b. b < 256) b bs small))
+    (split b (little_number bs) (256 ^ n) low (one-le-pow n 256 (omega arith))) where
       split : (b v p : ℕ) → b < 256 → 0 < p → b + 256 * (v % p) ≡ (b + 256 * v) % (256 * p)
       split b v p low some =
-          let whole : (b + 256 * v) % (p * 256) ≡ ((b + 256 * v) / 256 % p) * 256 + (b + 256 * v) % 256 = mod-mul (b + 256 * v) {m = p} {c = 256} some (omega arith) in
+          let whole : (b + 256 * v) % (p * 256) ≡ ((b + 256 * v) / 256 % p) * 256 + (b + 256 * v) % 256 =
+          mod-mul (b + 256 * v) {m = p} {c = 256} some (omega arith) in
           let high : (b + 256 * v) / 256 ≡ v = omega (arith, low) in
           let rest : (b + 256 * v) % 256 ≡ b = omega (arith, low) in
           let sum : (v % p) * 256 + b ≡ b + 256 * (v % p) = omega arith in
-          sym (ap (λ (m : ℕ). (b + 256 * v) % m) (mul_comm 256 p) ∙ whole ∙ ap (λ (x : ℕ). (x % p) * 256 + (b + 256 * v) % 256) high ∙ ap (λ (x : ℕ). (v % p) * 256 + x) rest ∙ sum)
+          sym (ap (λ (m : ℕ). (b + 256 * v) % m) (mul_comm 256 p) ∙ whole
+          ∙ ap (λ (x : ℕ). (x % p) * 256 + (b + 256 * v) % 256) high ∙ ap (λ (x : ℕ). (v % p) * 256 + x) rest
+          ∙ sum)

@@ -1,5 +1,6 @@
 -- The area that has an address, by its place among the areas.
-use Rattle.std.proofs.Common.{◌≡◌, ℕ, zero, suc, ◌+◌, ◌<◌, ◌≤◌, leb, Bool, true, false, ltb, List, [], ◌∷◌, length, get_or, set, Some, None, refl, sym, ap, ◌∙◌, arith, inl, inr}
+use Rattle.std.proofs.Common.{◌≡◌, ℕ, zero, suc, ◌+◌, ◌<◌, ◌≤◌, leb, Bool, true, false, ltb, List, [], ◌∷◌, length}
+use Rattle.std.proofs.Common.{get_or, set, Some, None, refl, sym, ap, ◌∙◌, arith, inl, inr}
 use Rattle.std.proofs.lemmas.Bool.{cases_Bool, ltb-true, ltb-false, lt-ltb, leb-true, and_parts, false_from_ne_true}
 use Rattle.std.proofs.lemmas.List.Quantifiers.{position-Some}
 use Rattle.std.proofs.lemmas.List.Sums.{fails_before_first}
@@ -8,8 +9,10 @@ use Rattle.tag_mem.specs.Areas.{Area, AreasFrom, IsMemory, end_of, has, area_at,
 use Rattle.tag_mem.specs.Memory.{place_of, area_with, written, fits_inside}
 
 -- the first area that has the address
-first_found : (m : List Area) (at i : ℕ) (a : Area) → i < length m → has (get_or m i a) at ≡ true → ((k : ℕ) → k < i → has (get_or m k a) at ≡ false)
-    → (area_at m at ≡ Some (get_or m i a)) × ((new : List ℕ) (tag : Bool) → written m at new tag ≡ set m i (area_with (get_or m i a) at new tag))
+first_found : (m : List Area) (at i : ℕ) (a : Area) → i < length m → has (get_or m i a) at ≡ true →
+    ((k : ℕ) → k < i → has (get_or m k a) at ≡ false)
+    → (area_at m at ≡ Some (get_or m i a)) ×
+    ((new : List ℕ) (tag : Bool) → written m at new tag ≡ set m i (area_with (get_or m i a) at new tag))
 unfolding written
 first_found [] at i a lt there before = absurd (omega arith)
 first_found (b ∷ m) at zero a lt there before = (rw there refl, λ new tag. rw there refl)
@@ -24,10 +27,14 @@ unfolding written is_inside
 none_found [] at h = (refl, refl, λ new tag. refl)
 none_found (a ∷ m) at h =
     let not_here : has a at ≡ false = h 0 a (omega arith) in
-    let behind = none_found m at (λ k d lt. h (suc k) d (omega arith)) in
-    (rw not_here behind.0, rw not_here behind.1, λ new tag. rw not_here (ap (λ (areas : List Area). a ∷ areas) (behind.2 new tag)))
+    let behind = none_found m at (λ k d lt. h (suc k) d (omega arith)) in (
+      rw not_here behind.0,
+      rw not_here behind.1,
+      λ new tag. rw not_here (ap (λ (areas : List Area). a ∷ areas) (behind.2 new tag)),
+    )
 
-fits_inside-found : (m : List Area) (at n : ℕ) (a : Area) → area_at m at ≡ Some a → fits_inside m at n ≡ leb (at + n) (end_of a)
+fits_inside-found : (m : List Area) (at n : ℕ) (a : Area) → area_at m at ≡ Some a →
+    fits_inside m at n ≡ leb (at + n) (end_of a)
 unfolding fits_inside
 fits_inside-found m at n a e = rw e refl
 
@@ -43,7 +50,8 @@ pub record IsAt (m : List Area) (at i : ℕ) (a : Area) : Type 0 where
   pub writes : (new : List ℕ) (tag : Bool) → set m i (area_with a at new tag) ≡ written m at new tag
 
 -- the area at the place of an address, read from the same areas under another name
-pub at_place : (items m : List Area) (at i : ℕ) (a : Area) → items ≡ m → Some i ≡ place_of m at → a ≡ get_or items i a → IsAt items at i a
+pub at_place : (items m : List Area) (at i : ℕ) (a : Area) → items ≡ m → Some i ≡ place_of m at → a ≡ get_or items i a →
+    IsAt items at i a
 at_place items m at i a same place is =
     let place' : place_of items at ≡ Some i = ap (λ x. place_of x at) same ∙ sym place in
     let p = position-Some (λ (x : Area). has x at) items i a place' in
@@ -56,7 +64,8 @@ at_place items m at i a same place is =
       writes = λ new tag. ap (λ (x : Area). set items i (area_with x at new tag)) is ∙ sym (first.1 new tag);
     }
 
-no_place_behind : (m : List Area) (at : ℕ) → place_of m at ≡ None → length m ≤ position_or_len (λ (x : Area). has x at) m
+no_place_behind : (m : List Area) (at : ℕ) → place_of m at ≡ None →
+    length m ≤ position_or_len (λ (x : Area). has x at) m
 no_place_behind m at e =
     let first : ℕ = position_or_len (λ (x : Area). has x at) m in
     elim (cases_Bool (ltb first (length m))) [
@@ -79,7 +88,8 @@ no_place m at e =
 
 -- ---- areas do not overlap
 
-starts_behind : (low : ℕ) (m : List Area) (i : ℕ) (d : Area) → AreasFrom low m → i < length m → low ≤ (get_or m i d).base
+starts_behind : (low : ℕ) (m : List Area) (i : ℕ) (d : Area) → AreasFrom low m → i < length m →
+    low ≤ (get_or m i d).base
 starts_behind low [] i d h lt = absurd (omega arith)
 starts_behind low (a ∷ m) zero d h lt = h.0
 starts_behind low (a ∷ m) (suc i) d h lt =
@@ -89,17 +99,21 @@ starts_behind low (a ∷ m) (suc i) d h lt =
 next : (i : ℕ) → 1 + i ≡ suc i
 next i = omega arith
 
-only_from : (low : ℕ) (m : List Area) (at i : ℕ) (d : Area) → AreasFrom low m → i < length m → has (get_or m i d) at ≡ true
+only_from : (low : ℕ) (m : List Area) (at i : ℕ) (d : Area) → AreasFrom low m → i < length m →
+    has (get_or m i d) at ≡ true
     → position_or_len (λ (x : Area). has x at) m ≡ i
 only_from low [] at i d h lt here = absurd (omega arith)
 only_from low (a ∷ m) at zero d h lt here = rw here refl
 only_from low (a ∷ m) at (suc i) d h lt here =
     let start = leb-true (get_or m i d).base at (and_parts _ _ here).0 in
     let behind = starts_behind (end_of a) m i d h.2 (omega arith) in
-    let not_here : has a at ≡ false = false_from_ne_true (has a at) (λ there. omega (arith, start, behind, ltb-true at (end_of a) (and_parts _ _ there).1)) in
+    let not_here : has a at ≡ false =
+    false_from_ne_true (has a at) (λ there.
+    omega (arith, start, behind, ltb-true at (end_of a) (and_parts _ _ there).1)) in
     rw not_here (ap (λ (k : ℕ). 1 + k) (only_from (end_of a) m at i d h.2 (omega arith) here) ∙ next i)
 
 -- the only place of an address
-pub only_place : (m : List Area) (at i : ℕ) (d : Area) → IsMemory m → i < length m → has (get_or m i d) at ≡ true → place_of m at ≡ Some i
+pub only_place : (m : List Area) (at i : ℕ) (d : Area) → IsMemory m → i < length m → has (get_or m i d) at ≡ true →
+    place_of m at ≡ Some i
 unfolding IsMemory
 only_place m at i d h lt here = rw (only_from 0 m at i d h lt here, lt-ltb i (length m) lt) refl

@@ -17,10 +17,13 @@ pub in_granule : (at n : ℕ) → IsAccessSize n → at % n ≡ 0 → InGranule 
 in_granule at n size aligned = elim (sizes n size) [
   | inl one ↦ record { some = omega arith; most = omega arith; granule = omega arith; within = omega arith }
   | inr more ↦ elim more [
-    | inl two ↦ let even : at % 2 ≡ 0 = rw (← two) aligned in record { some = omega arith; most = omega arith; granule = omega arith; within = omega arith }
+    | inl two ↦ let even : at % 2 ≡ 0 = rw (← two) aligned in
+        record { some = omega arith; most = omega arith; granule = omega arith; within = omega arith }
     | inr more ↦ elim more [
-      | inl four ↦ let even : at % 4 ≡ 0 = rw (← four) aligned in record { some = omega arith; most = omega arith; granule = omega arith; within = omega arith }
-      | inr eight ↦ let even : at % 8 ≡ 0 = rw (← eight) aligned in record { some = omega arith; most = omega arith; granule = omega arith; within = omega arith }
+      | inl four ↦ let even : at % 4 ≡ 0 = rw (← four) aligned in
+          record { some = omega arith; most = omega arith; granule = omega arith; within = omega arith }
+      | inr eight ↦ let even : at % 8 ≡ 0 = rw (← eight) aligned in
+          record { some = omega arith; most = omega arith; granule = omega arith; within = omega arith }
     ]
   ]
 ]

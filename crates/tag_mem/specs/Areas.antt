@@ -1,6 +1,7 @@
--- Memory is a list of areas, one for each region, in the order of their addresses. An area has its bytes, and a tag for each
--- granule of 16 bytes (CHERI ISAv9, tagged memory). A reader sees what `byte_at` and `tag_at` say of each address.
-use Rattle.std.specs.Prelude.{◌≡◌, ℕ, ◌+◌, ◌-◌, ◌*◌, ◌/◌, ◌%◌, ◌^◌, ◌<◌, ◌≤◌, ◌&&◌, nat_lt, nat_le, Bool, false, List, [], ◌∷◌, length, take, drop, map, slice_index, slice_index_or, Option, All, ⊤, find}
+-- Memory is a list of areas, one for each region, in the order of their addresses. An area has its bytes, and a tag for
+-- each granule of 16 bytes (CHERI ISAv9, tagged memory). A reader sees what `byte_at` and `tag_at` say of each address.
+use Rattle.std.specs.Prelude.{◌≡◌, ℕ, ◌+◌, ◌-◌, ◌*◌, ◌/◌, ◌%◌, ◌^◌, ◌<◌, ◌≤◌, ◌&&◌, nat_lt, nat_le, Bool, false, List}
+use Rattle.std.specs.Prelude.{[], ◌∷◌, length, take, drop, map, slice_index, slice_index_or, Option, All, ⊤, find}
 use Rattle.std.specs.Option.{option_map}
 use Rattle.std.specs.List.{list_any}
 

@@ -1,5 +1,7 @@
 -- What the calls on memory read and write.
-use Rattle.std.specs.Prelude.{◌≡◌, ℕ, ◌+◌, ◌-◌, ◌/◌, ◌%◌, ◌^◌, ◌<◌, ◌≤◌, ◌==◌, ◌||◌, ◌⊎◌, nat_le, Bool, false, List, [], ◌∷◌, ◌++◌, length, take, drop, replicate, slice_index, position, Option, Some, IsTrue, if◌then◌else◌}
+use Rattle.std.specs.Prelude.{◌≡◌, ℕ, ◌+◌, ◌-◌, ◌/◌, ◌%◌, ◌^◌, ◌<◌, ◌≤◌, ◌==◌, ◌||◌, ◌⊎◌, nat_le, Bool, false, List, []}
+use Rattle.std.specs.Prelude.{◌∷◌, ◌++◌, length, take, drop, replicate, slice_index, position, Option, Some, IsTrue}
+use Rattle.std.specs.Prelude.{if◌then◌else◌}
 use Rattle.std.specs.Option.{option_map, option_map_or}
 use Rattle.tag_mem.specs.Areas.{Area, end_of, has, bytes_in, tag_in, area_at, is_inside, byte_at, tag_at, extents}
 use Rattle.tag_mem.specs.Numbers.{little_number}
@@ -45,8 +47,8 @@ area_holding a place new tag = record {
 abbrev pub area_with : Area → ℕ → List ℕ → Bool → Area
 area_with a at new tag = if nat_le (at + length new) (end_of a) then area_holding a (at - a.base) new tag else a
 
--- memory with these bytes from an address on, in the area that has the address, and with this tag on each granule that they
--- touch; memory as it was where they don't lie in that area
+-- memory with these bytes from an address on, in the area that has the address, and with this tag on each granule that
+-- they touch; memory as it was where they don't lie in that area
 unfoldable pub written : List Area → ℕ → List ℕ → Bool → List Area
 written [] at new tag = []
 written (a ∷ m) at new tag = if has a at then area_with a at new tag ∷ m else a ∷ written m at new tag
@@ -64,6 +66,7 @@ pub record Writes (old new : List Area) (at : ℕ) (bytes : List ℕ) (tag : Boo
   pub bytes_there : (x : ℕ) → at ≤ x → x < at + length bytes → byte_at new x ≡ Some (slice_index bytes (x - at))
   pub other_bytes : (x : ℕ) → (x < at) ⊎ (at + length bytes ≤ x) → byte_at new x ≡ byte_at old x
   pub tags_there : (x : ℕ) → at / 16 ≤ x / 16 → x / 16 < granules_to (at + length bytes) → tag_at new x ≡ Some tag
-  pub other_tags : (x : ℕ) → (x / 16 < at / 16) ⊎ (granules_to (at + length bytes) ≤ x / 16) → tag_at new x ≡ tag_at old x
+  pub other_tags : (x : ℕ) → (x / 16 < at / 16) ⊎ (granules_to (at + length bytes) ≤ x / 16) →
+      tag_at new x ≡ tag_at old x
   pub same_inside : (x : ℕ) → is_inside new x ≡ is_inside old x
   pub same_extents : extents new ≡ extents old

@@ -1,5 +1,6 @@
 -- The regions that memory is made of, and memory as it is made.
-use Rattle.std.specs.Prelude.{◌≡◌, ℕ, ◌+◌, ◌/◌, ◌%◌, ◌^◌, ◌≤◌, ◌&&◌, nat_lt, nat_le, Bool, true, false, List, [], ◌∷◌, map, replicate, Some, ⊤}
+use Rattle.std.specs.Prelude.{◌≡◌, ℕ, ◌+◌, ◌/◌, ◌%◌, ◌^◌, ◌≤◌, ◌&&◌, nat_lt, nat_le, Bool, true, false, List, [], ◌∷◌}
+use Rattle.std.specs.Prelude.{map, replicate, Some, ⊤}
 use Rattle.std.specs.List.{list_any}
 use Rattle.tag_mem.specs.Areas.{Area, is_inside, byte_at, tag_at}
 use Rattle.tag_mem.specs.declared.region.Region.{Region}

@@ -128,8 +128,8 @@ impl Area {
         self.tags.set(k, tag);
     }
 
-    /// Fills the granules from an address on, and clears their tags. False, and nothing changed, where the bytes go past the
-    /// end.
+    /// Fills the granules from an address on, and clears their tags. False, and nothing changed, where the bytes go
+    /// past the end.
     pub fn fill(&mut self, at: u64, bytes: &[u8]) -> bool
         requires place { IsTrue (has self.old at) }
         requires aligned { at % 16 ≡ 0 }

@@ -1,12 +1,14 @@
 //! Memory.
 
-ghost use Rattle.std.specs.Prelude.{◌≡◌, ◌+◌, ◌%◌, ◌<◌, ◌≤◌, ◌^◌, ◌*◌, length, is_some, IsTrue, IfSome, IfOk, true, false, Some};
+ghost use Rattle.std.specs.Prelude.{◌≡◌, ◌+◌, ◌%◌, ◌<◌, ◌≤◌, ◌^◌, ◌*◌, length, is_some, IsTrue, IfSome, IfOk, true};
+ghost use Rattle.std.specs.Prelude.{false, Some};
 ghost use Rattle.std.specs.Bool.{OnTrue, OnFalse};
 ghost use Rattle.std.specs.Borrow.{sem};
 ghost use Rattle.tag_mem.specs.Areas.{IsMemory, area_at, has, is_inside, tag_at};
 ghost use Rattle.std.specs.Option.{option_copied};
 ghost use Rattle.tag_mem.specs.Numbers.{little_bytes};
-ghost use Rattle.tag_mem.specs.Memory.{place_of, number_at, capability_at, fits_inside, written, IsAccessSize, Spells, Holds, Writes};
+ghost use Rattle.tag_mem.specs.Memory.{place_of, number_at, capability_at, fits_inside, written, IsAccessSize, Spells};
+ghost use Rattle.tag_mem.specs.Memory.{Holds, Writes};
 ghost use Rattle.tag_mem.specs.Lending.{LendsGranule, LendsIn};
 ghost use Rattle.tag_mem.specs.Regions.{LieFrom, fresh, IsZeroed};
 
@@ -35,8 +37,8 @@ impl Model for Mem {
 }
 
 impl Mem {
-    /// Memory of zeros without tags, in these regions. They ascend without overlap, their bases and lengths are multiples of
-    /// 16, and they end at most at 2^40. It fails only for want of memory.
+    /// Memory of zeros without tags, in these regions. They ascend without overlap, their bases and lengths are
+    /// multiples of 16, and they end at most at 2^40. It fails only for want of memory.
     pub fn new(alloc: Global, regions: &Vec<Region>) -> Result<Mem, NoMemory>
         requires { LieFrom 0 regions.now.items }
         ensures value { IfOk result (λ mem. mem ≡ fresh regions.now.items) }
@@ -49,8 +51,8 @@ impl Mem {
         Ok(Mem { areas })
     }
 
-    /// The little-endian number of `n` bytes at an address, where `n` is 1, 2, 4 or 8 and divides the address. None exactly
-    /// where the address is outside the regions.
+    /// The little-endian number of `n` bytes at an address, where `n` is 1, 2, 4 or 8 and divides the address. None
+    /// exactly where the address is outside the regions.
     pub fn read(&self, at: u64, n: u8) -> Option<u64>
         requires size { IsAccessSize n }
         requires aligned { at % n ≡ 0 }
@@ -63,8 +65,8 @@ impl Mem {
         self.read_near(&mut near, at, n)
     }
 
-    /// The same. The address is looked for first in the region whose number is `near`, counted from 0, and `near` becomes
-    /// the number of the region that has it. No answer depends on it.
+    /// The same. The address is looked for first in the region whose number is `near`, counted from 0, and `near`
+    /// becomes the number of the region that has it. No answer depends on it.
     #[inline(always)]
     pub fn read_near(&self, near: &mut usize, at: u64, n: u8) -> Option<u64>
         requires size { IsAccessSize n }
@@ -78,8 +80,8 @@ impl Mem {
         Some(area.number(at, n))
     }
 
-    /// Writes the low `n` bytes of a number, little endian, and clears the tag of their granule; `n` is 1, 2, 4 or 8 and
-    /// divides the address. False, and nothing changed, exactly where the address is outside the regions.
+    /// Writes the low `n` bytes of a number, little endian, and clears the tag of their granule; `n` is 1, 2, 4 or 8
+    /// and divides the address. False, and nothing changed, exactly where the address is outside the regions.
     pub fn write(&mut self, at: u64, n: u8, v: u64) -> bool
         requires size { IsAccessSize n }
         requires aligned { at % n ≡ 0 }
@@ -124,8 +126,8 @@ impl Mem {
         self.store(near, at, &v.to_le_bytes()[..n as usize], false)
     }
 
-    /// The 128 bits of a capability at a multiple of 16, as they stand in memory, and its tag. None exactly where the address
-    /// is outside the regions.
+    /// The 128 bits of a capability at a multiple of 16, as they stand in memory, and its tag. None exactly where the
+    /// address is outside the regions.
     pub fn cap_at(&self, at: u64) -> Option<(u128, bool)>
         requires { at % 16 ≡ 0 }
         ensures inside { is_some result ≡ is_inside self.now at }
@@ -150,8 +152,8 @@ impl Mem {
         Some((whole_number(area.granule(at)), area.tag(at)))
     }
 
-    /// Writes the 128 bits of a capability at a multiple of 16, and its tag. False, and nothing changed, exactly where the
-    /// address is outside the regions.
+    /// Writes the 128 bits of a capability at a multiple of 16, and its tag. False, and nothing changed, exactly where
+    /// the address is outside the regions.
     pub fn set_cap(&mut self, at: u64, bits: u128, tag: bool) -> bool
         requires { at % 16 ≡ 0 }
         ensures inside { result ≡ is_inside self.old at }
@@ -201,8 +203,8 @@ impl Mem {
         Some(area.granule(at))
     }
 
-    /// Lends the granule at a multiple of 16 to be written, and clears its tag. None, and nothing changed, exactly where the
-    /// address is outside the regions.
+    /// Lends the granule at a multiple of 16 to be written, and clears its tag. None, and nothing changed, exactly
+    /// where the address is outside the regions.
     pub fn granule_mut(&mut self, at: u64) -> Option<&mut [u8; 16]>
         requires { at % 16 ≡ 0 }
         ensures* writes_back { sem 𝓛 (LendsGranule self.entry at result) }

@@ -1,7 +1,8 @@
 //! Tags, packed.
 
 ghost use Rattle.std.specs.Int.{bit_not, w64};
-ghost use Rattle.std.specs.Prelude.{◌≡◌, ℕ, ◌*◌, ◌%◌, ◌^◌, ◌<◌, ◌≤◌, bit_or, bit_and, if◌then◌else◌, length, slice_index_or, slice_set, replicate, false, IfOk};
+ghost use Rattle.std.specs.Prelude.{◌≡◌, ℕ, ◌*◌, ◌%◌, ◌^◌, ◌<◌, ◌≤◌, bit_or, bit_and, if◌then◌else◌, length};
+ghost use Rattle.std.specs.Prelude.{slice_index_or, slice_set, replicate, false, IfOk};
 
 use ck_base::NoMemory;
 use std::alloc::Global;
@@ -29,7 +30,8 @@ impl Model for Tags {
 #[inline(always)]
 fn with_bit(word: u64, k: usize, tag: bool) -> u64
     requires { k < 64 }
-    ensures { result ≡ (if tag then bit_or word (1 * 2 ^ k % 2 ^ 64) else bit_and word (bit_not w64 (1 * 2 ^ k % 2 ^ 64))) }
+    ensures { result ≡ (if tag then bit_or word (1 * 2 ^ k % 2 ^ 64)
+        else bit_and word (bit_not w64 (1 * 2 ^ k % 2 ^ 64))) }
 {
     let bit = 1 << k;
     if tag { word | bit } else { word & !bit }

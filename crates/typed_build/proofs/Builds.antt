@@ -1,5 +1,6 @@
 -- What is written of a program's contained code is built of it.
-use Rattle.std.proofs.Common.{◌≡◌, ℕ, zero, suc, ◌+◌, true, List, [], ◌∷◌, map, Some, refl, sym, ap, ◌∙◌, subst, arith, inl, inr}
+use Rattle.std.proofs.Common.{◌≡◌, ℕ, zero, suc, ◌+◌, true, List, [], ◌∷◌, map, Some, refl, sym, ap, ◌∙◌, subst, arith}
+use Rattle.std.proofs.Common.{inl, inr}
 use Rattle.std.specs.Prelude.{slice_get, Contains}
 use Rattle.std.specs.List.{All}
 use Rattle.std.proofs.lemmas.Bool.{false≢true}
@@ -47,7 +48,8 @@ entry_in base entries entered same f x e = among_mapped base entries f x (sym (a
 
 -- ---- what is built
 
-module _ (p : Typed) (s : Selected) (given : Selects p s) (code : HasContainedCode s) (sizes : Sizes) (chosen : in_range sizes ≡ true) (m : Map) (file : List ℕ) (w : IsWritten p s sizes m file) where
+module _ (p : Typed) (s : Selected) (given : Selects p s) (code : HasContainedCode s) (sizes : Sizes)
+    (chosen : in_range sizes ≡ true) (m : Map) (file : List ℕ) (w : IsWritten p s sizes m file) where
   abbrev image : Image
   image = image_in p s sizes m file w
 
@@ -71,9 +73,11 @@ module _ (p : Typed) (s : Selected) (given : Selects p s) (code : HasContainedCo
       let high = l.in_range.1 in
       record {
         text =
-            contained_text s.code.items s.entries.items (text_in image).entries s.start m.text.0 code given.coded.in_range
+            contained_text s.code.items s.entries.items
+            (text_in image).entries s.start m.text.0 code given.coded.in_range
             l.text_aligned (omega (arith, sized p s given, w.placing.text_is, high))
-            (entered_places image s.entries.items s.start refl (All-weaker (IsPointer m) Entered enters w.relocs w.begins.pointers));
+            (entered_places image s.entries.items s.start refl
+            (All-weaker (IsPointer m) Entered enters w.relocs w.begins.pointers));
         relocs = relocs_contained p s given sizes m file w;
       }
 
@@ -89,6 +93,7 @@ module _ (p : Typed) (s : Selected) (given : Selects p s) (code : HasContainedCo
         counted = counted;
         says = ap (λ (l : Loaded). l.image.count) i.1 ∙ sym counted;
         contained = subst (λ (l : Loaded). Contained l.image) (sym i.1) contained;
-        entered = subst (λ (l : Loaded). All (EntersFunction m) l.image.relocs) (sym i.1) (relocs_enter m w.relocs w.begins.pointers);
+        entered = subst (λ (l : Loaded). All (EntersFunction m) l.image.relocs) (sym i.1)
+            (relocs_enter m w.relocs w.begins.pointers);
         runs = λ form. subst (λ l. RunsAsMeant p m l count) (sym i.1) (runs form);
       }

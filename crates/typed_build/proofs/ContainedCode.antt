@@ -1,5 +1,7 @@
 -- The text of contained code is a contained text, wherever it stands.
-use Rattle.std.proofs.Common.{◌≡◌, ℕ, zero, suc, ◌+◌, ◌-◌, ◌*◌, ◌/◌, ◌%◌, ◌^◌, ◌<◌, ◌≤◌, ◌⊎◌, inl, ⊎_elim, ℤ, pos, negsuc, Bool, true, false, if◌then◌else◌, List, [], ◌∷◌, ◌++◌, length, Some, refl, sym, ap, ◌∙◌, subst, arith, length-append}
+use Rattle.std.proofs.Common.{◌≡◌, ℕ, zero, suc, ◌+◌, ◌-◌, ◌*◌, ◌/◌, ◌%◌, ◌^◌, ◌<◌, ◌≤◌, ◌⊎◌, inl, ⊎_elim, ℤ, pos}
+use Rattle.std.proofs.Common.{negsuc, Bool, true, false, if◌then◌else◌, List, [], ◌∷◌, ◌++◌, length, Some, refl, sym}
+use Rattle.std.proofs.Common.{ap, ◌∙◌, subst, arith, length-append}
 use Rattle.std.specs.Prelude.{◌+ℤ◌, Contains, slice_get, map}
 use Rattle.std.specs.List.{All, filter}
 use Rattle.std.proofs.lemmas.Int.{ints}
@@ -236,7 +238,8 @@ of_executing P (r ∷ rs) h = by (executes r) refl (of_executing P rs (λ k d lt
     by true e rest = All-cons P (address_of r) (map address_of (filter executes rs)) (h 0 r (omega arith) e) rest
     by false e rest = rest
 
--- the entry places of an image that is entered at the code's start, and whose relocations with Execute point to its entries
+-- the entry places of an image that is entered at the code's start, and whose relocations with Execute point to its
+-- entries
 pub entered_places : (i : Image) (entries : List ℕ) (start : ℕ) → i.entry ≡ i.text_base + start
     → All (λ r. executes r ≡ true → IsEnteredAt i.text_base entries start (address_of r)) i.relocs
     → (x : ℕ) → Contains (entries_of i) x → IsEnteredAt i.text_base entries start x

@@ -1,12 +1,14 @@
 -- The parts of 16 bytes of a program's objects and copies: few of any program, and none of one of the form.
-use Rattle.std.proofs.Common.{◌≡◌, ℕ, suc, ◌+◌, ◌*◌, ◌≤◌, Bool, true, false, List, [], ◌∷◌, length, Option, Some, None, refl, ap, ◌∙◌, arith, ⊎_elim}
+use Rattle.std.proofs.Common.{◌≡◌, ℕ, suc, ◌+◌, ◌*◌, ◌≤◌, Bool, true, false, List, [], ◌∷◌, length, Option, Some, None}
+use Rattle.std.proofs.Common.{refl, ap, ◌∙◌, arith, ⊎_elim}
 use Rattle.std.specs.Prelude.{slice_get, sum_by, if◌then◌else◌}
 use Rattle.std.specs.List.{list_all}
 use Rattle.std.proofs.lemmas.Bool.Decides.{nat_tests}
 use Rattle.std.proofs.lemmas.List.Sums.{sum_by-cons}
 use Rattle.cap_concentrate.specs.Rounding.{owned}
 use Rattle.cap_concentrate.proofs.Owned.{owned_small}
-use Rattle.c_tree.specs.Counts.{var_granules, fun_granules, granules, copied, expr_copies, kind_copies, value_copies, init_copies, stmt_copies, copies, is_record, parts, size_of}
+use Rattle.c_tree.specs.Counts.{var_granules, fun_granules, granules, copied, expr_copies, kind_copies, value_copies}
+use Rattle.c_tree.specs.Counts.{init_copies, stmt_copies, copies, is_record, parts, size_of}
 use Rattle.c_tree.specs.Layout.{Extent, extent, bare, size_limit}
 use Rattle.c_tree.specs.Weight.{kind_weight, expr_weight, stmt_weight, fun_weight, weight}
 use Rattle.c_tree.specs.declared.typed.CType.{CType}
@@ -17,7 +19,8 @@ use Rattle.c_tree.specs.declared.typed.StmtKind.{StmtKind}
 use Rattle.c_tree.specs.declared.typed.StmtKind.TheVariants as stmts
 use Rattle.c_tree.specs.declared.typed.Typed.{Typed}
 use Rattle.c_tree.specs.declared.typed.VarDef.{VarDef}
-use Rattle.int_lower.specs.Form.{is_form_variable, is_converted, is_form_expression, is_plain, is_void_type, is_integer_form}
+use Rattle.int_lower.specs.Form.{is_form_variable, is_converted, is_form_expression, is_plain, is_void_type}
+use Rattle.int_lower.specs.Form.{is_integer_form}
 use Rattle.int_lower.proofs.Assembled.{form_expressions}
 use Rattle.int_lower.proofs.Alone.{alone}
 use Rattle.int_lower.proofs.Trees.{all_get, and_both, or_one, bare_plain, void_bare}
@@ -27,14 +30,16 @@ no_granules_in : (types : List CType) (vs : List VarDef) → list_all (is_form_v
 no_granules_in types [] h = refl
 no_granules_in types (v ∷ vs) h =
     let here = and_both (is_form_variable types v) (list_all (is_form_variable types) vs) h in
-    let simple : var_granules types v ≡ 0 = ap (λ b. if b then 0 else parts (owned (size_of (extent types v.of)))) (and_both _ _ here.0).0 in
+    let simple : var_granules types v ≡ 0 =
+    ap (λ b. if b then 0 else parts (owned (size_of (extent types v.of)))) (and_both _ _ here.0).0 in
     omega (arith, sum_by-cons (var_granules types) v vs, simple, no_granules_in types vs here.1)
 
 pub no_granules : (p : Typed) → is_integer_form p ≡ true → granules p ≡ 0
 unfolding granules
 no_granules p h =
     let a = alone p h in
-    ap (sum_by (fun_granules p.types)) a.only ∙ sum_by-cons (fun_granules p.types) a.d [] ∙ (let q = no_granules_in p.types a.d.vars a.simple in omega (arith, q))
+    ap (sum_by (fun_granules p.types)) a.only ∙ sum_by-cons (fun_granules p.types) a.d []
+    ∙ (let q = no_granules_in p.types a.d.vars a.simple in omega (arith, q))
 
 all_zero : {A : Type 0} (f : A → ℕ) (xs : List A) → ((k : ℕ) (x : A) → slice_get xs k ≡ Some x → f x ≡ 0)
     → sum_by f xs ≡ 0
@@ -49,7 +54,8 @@ void_no_copy : (all : List CType) (t : ℕ) → is_void_type (slice_get all t) �
 void_no_copy all t h = ap (λ c. if is_record c then parts (size_of (extent all t)) else 0) (void_bare all t h)
 
 no_copy : (p : Typed) (kind : ExprKind) (t : ℕ) → is_converted p kind t ≡ true → copied p.types t ≡ 0
-no_copy p (exprs.Convert a) t h = ⊎_elim (λ v. void_no_copy p.types t v) (λ q. plain_no_copy p.types t (and_both _ _ q).0) (or_one _ _ h)
+no_copy p (exprs.Convert a) t h =
+    ⊎_elim (λ v. void_no_copy p.types t v) (λ q. plain_no_copy p.types t (and_both _ _ q).0) (or_one _ _ h)
 no_copy p kind t h = plain_no_copy p.types t h
 
 kind_no_copy : (types : List CType) (kind : ExprKind) (t : ℕ) → copied types t ≡ 0 → kind_copies types kind t ≡ 0
@@ -59,7 +65,8 @@ kind_no_copy types kind t h = refl
 
 module _ (p : Typed) (h : is_integer_form p ≡ true) where
   of_node : (k : ℕ) (e : Expr) → slice_get p.exprs k ≡ Some e → copied p.types e.of ≡ 0
-  of_node k e at = no_copy p e.kind e.of (and_both _ _ (all_get (is_form_expression p) p.exprs k e (form_expressions p h) at)).1
+  of_node k e at = no_copy p e.kind e.of (and_both _ _
+      (all_get (is_form_expression p) p.exprs k e (form_expressions p h) at)).1
 
   of_value : (a : ℕ) (o : Option Expr) → slice_get p.exprs a ≡ o → value_copies p.types o ≡ 0
   of_value a None at = refl

@@ -1,5 +1,6 @@
 -- An image under a legal map is loaded: no test of the loader refuses it.
-use Rattle.std.proofs.Common.{◌≡◌, ℕ, ◌+◌, ◌%◌, ◌^◌, ◌<◌, ◌≤◌, ◌⊎◌, Bool, true, false, List, [], ◌∷◌, length, Ok, refl, ap, ◌∙◌, arith, eq-eqb, inl, inr}
+use Rattle.std.proofs.Common.{◌≡◌, ℕ, ◌+◌, ◌%◌, ◌^◌, ◌<◌, ◌≤◌, ◌⊎◌, Bool, true, false, List, [], ◌∷◌, length, Ok, refl}
+use Rattle.std.proofs.Common.{ap, ◌∙◌, arith, eq-eqb, inl, inr}
 use Rattle.std.specs.Prelude.{◌&&◌, nat_le, nat_eq, All, if◌then◌else◌}
 use Rattle.std.proofs.lemmas.Bool.{le-leb, lt-ltb, le-ltb}
 use Rattle.std.proofs.lemmas.List.Elements.{All-head, All-tail}
@@ -15,7 +16,10 @@ use Rattle.cap_reloc.specs.Begins.{IsInside}
 use Rattle.cap_reloc.specs.Stored.{IsStorable, IsSentry, IsDataWord, IsData, IsPointer}
 use Rattle.elf_file.specs.declared.image.Image.{Image}
 use Rattle.elf_file.specs.declared.image.Reloc.{Reloc}
-use Rattle.image_load.specs.Judging.{Extent, end_of, text_of, initial_of, lies_well, segments_fit, overlap, some_overlap, lies_inside, is_entry, is_exact, is_sentry, is_permission_word, address_of, capability_of, keeps_extent, is_place, is_capability, judged_relocs, judged}
+use Rattle.image_load.specs.Judging.{Extent, end_of, text_of, initial_of, lies_well, segments_fit, overlap}
+use Rattle.image_load.specs.Judging.{some_overlap, lies_inside, is_entry, is_exact, is_sentry, is_permission_word}
+use Rattle.image_load.specs.Judging.{address_of, capability_of, keeps_extent, is_place, is_capability, judged_relocs}
+use Rattle.image_load.specs.Judging.{judged}
 
 -- ---- exact bounds
 
@@ -34,13 +38,15 @@ exact_by e low high a b c = rw (a, eq-eqb low e.0 b, eq-eqb high (end_of e) c) r
 
 pub exact : (e : Extent) → Encodable e.0 (end_of e) → is_exact e ≡ true
 unfolding is_exact
-exact e h = let least = least_of_encodable e.0 (end_of e) h in exact_by e _ _ (le-leb (end_of e) (2 ^ 64) h.within) least.0 least.1
+exact e h = let least = least_of_encodable e.0 (end_of e) h in
+    exact_by e _ _ (le-leb (end_of e) (2 ^ 64) h.within) least.0 least.1
 
 -- ---- segments
 
 pub lies : (e : Extent) → e.0 % 16 ≡ 0 → e.1 % 16 ≡ 0 → 65536 ≤ e.0 → end_of e ≤ 2 ^ 40 → lies_well e ≡ true
 unfolding lies_well
-lies e a b c d = rw (eq-eqb (e.0 % 16) 0 a, eq-eqb (e.1 % 16) 0 b, le-leb 65536 e.0 c, le-leb (end_of e) (2 ^ 40) d) refl
+lies e a b c d = rw (eq-eqb (e.0 % 16) 0 a, eq-eqb (e.1 % 16) 0 b, le-leb 65536 e.0 c, le-leb (end_of e) (2 ^ 40) d)
+    refl
 
 pub fit : (t d h s : Extent) → lies_well t ≡ true → lies_well d ≡ true → lies_well h ≡ true → lies_well s ≡ true
     → t.1 ≤ 1048576 → t.1 + d.1 + h.1 + s.1 ≤ 268435456 → segments_fit t d h s ≡ true
@@ -86,7 +92,8 @@ keeps r s =
     let bounds =
     bounded_near r.base (r.base + r.length) (r.perms % 128) (if is_sentry r.perms then SENTRY else UNSEALED)
     (address_of r) s.exact s.from s.to s.above s.below in
-    rw (eq-eqb (base (capability_of r)) r.base bounds.0, eq-eqb (top (capability_of r)) (r.base + r.length) bounds.1) refl
+    rw (eq-eqb (base (capability_of r)) r.base bounds.0, eq-eqb (top (capability_of r)) (r.base + r.length) bounds.1)
+    refl
 
 sentry_word : is_permission_word (2 ^ 63 + code_permissions) ≡ true
 unfolding is_permission_word

@@ -1,5 +1,6 @@
 -- Frames of a program's functions are those that a legal map may have.
-use Rattle.std.proofs.Common.{◌≡◌, ℕ, zero, suc, ◌+◌, ◌<◌, ◌≤◌, List, [], ◌∷◌, length, map, Some, refl, sym, ap, ◌∙◌, subst, arith}
+use Rattle.std.proofs.Common.{◌≡◌, ℕ, zero, suc, ◌+◌, ◌<◌, ◌≤◌, List, [], ◌∷◌, length, map, Some, refl, sym, ap, ◌∙◌}
+use Rattle.std.proofs.Common.{subst, arith}
 use Rattle.std.specs.Prelude.{slice_get}
 use Rattle.std.specs.List.{All}
 use Rattle.std.proofs.lemmas.Option.{slice_get_within}
@@ -34,7 +35,12 @@ slot_below n m e (Slot s) b = omega (arith, b, e)
 
 pub has_homes : (f : TacFun) (n : ℕ) (homes : List Home) → n ≡ f.temps → length homes ≡ n
     → All (alloc.IsSlotBelow n) homes → HasHomes f homes
-has_homes f n homes e long slots = record { len = long ∙ e; slots = All-weaker (alloc.IsSlotBelow n) (IsSlotBelow f.temps) (slot_below n f.temps e) homes slots }
+has_homes f n homes e long slots =
+    record {
+      len = long ∙ e;
+      slots = All-weaker (alloc.IsSlotBelow n) (IsSlotBelow f.temps)
+          (slot_below n f.temps e) homes slots;
+    }
 
 slot_same : (n m : ℕ) → n ≡ m → (h : Home) → IsSlotBelow n h → IsSlotBelow m h
 slot_same n m e (Register r) b = tt
@@ -43,7 +49,8 @@ slot_same n m e (Slot s) b = omega (arith, b, e)
 pub are_homes : (f : TacFun) (homes : List Home) (w : ℕ) → HasHomes f homes → FunctionCosts w f → w ≤ 7780
     → AreHomes homes
 are_homes f homes w h c light = record {
-  slots = All-weaker (IsSlotBelow f.temps) (IsSlotBelow (length homes)) (slot_same f.temps (length homes) (sym h.len)) homes h.slots;
+  slots = All-weaker (IsSlotBelow f.temps) (IsSlotBelow (length homes))
+      (slot_same f.temps (length homes) (sym h.len)) homes h.slots;
   few = omega (arith, h.len, c.temps, light);
 }
 
@@ -54,14 +61,17 @@ pub frame_fits : (p : Typed) (d : FunDef) (f : TacFun) (l : Places) (g : Frame) 
     → HasFrame (map Rattle.bounds_place.specs.Rows.owned_need (local_needs p.types d)) l.homes (outgoing f.code) g
     → IsFor l.homes g → FrameFits p d l g
 frame_fits p d f l g h c has own = record {
-  legal = has.legal (record { locals = local_needs p.types d; weight = function_weight p d }) refl (omega (arith, h.len, c.temps));
+  legal = has.legal (record { locals = local_needs p.types d; weight = function_weight p d }) refl
+      (omega (arith, h.len, c.temps));
   framed = own;
 }
 
 -- ---- all of them
 
 frames_from : (p : Typed) (k : ℕ) (ds : List FunDef) (gs : List Frame) → length gs ≡ length ds
-    → ((j : ℕ) (d : FunDef) (g : Frame) → slice_get ds j ≡ Some d → slice_get gs j ≡ Some g → (weight_in p (k + j) ≡ function_weight p d) × IsFrame (record { locals = local_needs p.types d; weight = function_weight p d }) g)
+    → ((j : ℕ) (d : FunDef) (g : Frame) → slice_get ds j ≡ Some d → slice_get gs j ≡ Some g →
+    (weight_in p (k + j) ≡ function_weight p d) ×
+    IsFrame (record { locals = local_needs p.types d; weight = function_weight p d }) g)
     → AreFrames (function_needs p.types (weight_in p) k ds) gs
 frames_from p k [] [] n h = tt
 frames_from p k [] (g ∷ gs) n h = absurd (omega (arith, n))

@@ -1,5 +1,6 @@
 -- Lists that grow by one element a turn, beside others.
-use Rattle.std.proofs.Common.{◌≡◌, ℕ, zero, suc, ◌<◌, List, [], ◌∷◌, ◌++◌, length, get_or, Some, inl, inr, refl, sym, ap, ◌∙◌, subst}
+use Rattle.std.proofs.Common.{◌≡◌, ℕ, zero, suc, ◌<◌, List, [], ◌∷◌, ◌++◌, length, get_or, Some, inl, inr, refl, sym}
+use Rattle.std.proofs.Common.{ap, ◌∙◌, subst}
 use Rattle.std.specs.Prelude.{◌⊎◌, slice_get}
 use Rattle.std.proofs.lemmas.Option.{slice_get_read}
 
@@ -19,17 +20,22 @@ pub grown : {A B : Type 0} (P : A → B → Type 0) (xs : List A) (ys : List B) 
     → ((k : ℕ) (a : A) (b : B) → slice_get xs k ≡ Some a → slice_get ys k ≡ Some b → P a b)
     → slice_get xs (length ys) ≡ Some x → P x y
     → (k : ℕ) (a : A) (b : B) → slice_get xs k ≡ Some a → slice_get (ys ++ y ∷ []) k ≡ Some b → P a b
-grown P xs ys x y h at p k a b e f = elim (get_appended ys y k b f) as (λ _. P a b) [ inl l ↦ h k a b e l | inr r ↦ subst (P a) r.1 (subst (λ z. P z y) (same xs k (length ys) a x r.0 e at) p) ]
+grown P xs ys x y h at p k a b e f =
+    elim (get_appended ys y k b f) as (λ _. P a b)
+    [ inl l ↦ h k a b e l | inr r ↦ subst (P a) r.1 (subst (λ z. P z y) (same xs k (length ys) a x r.0 e at) p) ]
 
-pub grown_beside : {A B C : Type 0} (P : A → B → C → Type 0) (xs : List A) (ys : List B) (zs : List C) (x : A) (y : B) (z : C)
-    → ((k : ℕ) (a : A) (b : B) (c : C) → slice_get xs k ≡ Some a → slice_get ys k ≡ Some b → slice_get zs k ≡ Some c → P a b c)
+pub grown_beside : {A B C : Type 0} (P : A → B → C → Type 0) (xs : List A) (ys : List B) (zs : List C) (x : A) (y : B)
+    (z : C)
+    → ((k : ℕ) (a : A) (b : B) (c : C) → slice_get xs k ≡ Some a → slice_get ys k ≡ Some b → slice_get zs k ≡ Some c →
+    P a b c)
     → slice_get xs (length zs) ≡ Some x → slice_get ys (length zs) ≡ Some y → P x y z
     → (k : ℕ) (a : A) (b : B) (c : C) → slice_get xs k ≡ Some a → slice_get ys k ≡ Some b
     → slice_get (zs ++ z ∷ []) k ≡ Some c → P a b c
 grown_beside P xs ys zs x y z h at by p k a b c e f g =
     elim (get_appended zs z k c g) as (λ _. P a b c) [
       | inl l ↦ h k a b c e f l
-      | inr r ↦ subst (P a b) r.1 (subst (λ v. P a v z) (same ys k (length zs) b y r.0 f by) (subst (λ v. P v y z) (same xs k (length zs) a x r.0 e at) p))
+      | inr r ↦ subst (P a b) r.1 (subst (λ v. P a v z) (same ys k (length zs) b y r.0 f by)
+          (subst (λ v. P v y z) (same xs k (length zs) a x r.0 e at) p))
     ]
 
 -- ---- an element that a loop reads

@@ -1,5 +1,6 @@
 -- The locals of a function that are within the limit are locals for which there is a frame.
-use Rattle.std.proofs.Common.{◌≡◌, ℕ, zero, suc, ◌+◌, ◌*◌, ◌/◌, ◌%◌, ◌≤◌, max, Bool, true, false, List, [], ◌∷◌, length, map, Option, Some, None, refl, sym, ap, ◌∙◌, subst, arith, inl, inr}
+use Rattle.std.proofs.Common.{◌≡◌, ℕ, zero, suc, ◌+◌, ◌*◌, ◌/◌, ◌%◌, ◌≤◌, max, Bool, true, false, List, [], ◌∷◌, length}
+use Rattle.std.proofs.Common.{map, Option, Some, None, refl, sym, ap, ◌∙◌, subst, arith, inl, inr}
 use Rattle.std.specs.Prelude.{slice_get, nat_le, nat_lt, sum_by, ◌||◌, if◌then◌else◌}
 use Rattle.std.specs.List.{All, list_any}
 use Rattle.std.proofs.lemmas.Bool.{cases_lt}
@@ -17,11 +18,13 @@ use Rattle.ck_int.specs.declared.kinds.IntKind.{IntKind}
 use Rattle.ck_int.specs.declared.kinds.IntKind.TheVariants as kind
 use Rattle.cap_ops.specs.Permissions.{data_permissions}
 use Rattle.c_tree.specs.declared.typed.CType.{CType}
-use Rattle.c_tree.specs.declared.typed.CType.TheVariants.{Void, Int, Cap, Pointer, Array, Struct, Union, Function, Const, Incomplete}
+use Rattle.c_tree.specs.declared.typed.CType.TheVariants.{Void, Int, Cap, Pointer, Array, Struct, Union, Function}
+use Rattle.c_tree.specs.declared.typed.CType.TheVariants.{Const, Incomplete}
 use Rattle.c_tree.specs.declared.typed.FunDef.{FunDef}
 use Rattle.c_tree.specs.declared.typed.Typed.{Typed}
 use Rattle.c_tree.specs.declared.typed.VarDef.{VarDef}
-use Rattle.c_tree.specs.Layout.{Extent, size_limit, bytes_of, scalar, with_extent, behind, beside, no_members, members, whole, times, extent_of, extent_within, extent}
+use Rattle.c_tree.specs.Layout.{Extent, size_limit, bytes_of, scalar, with_extent, behind, beside, no_members, members}
+use Rattle.c_tree.specs.Layout.{whole, times, extent_of, extent_within, extent}
 use Rattle.c_tree.proofs.Aligned.{IsPower, max_power, alignment_is_power, extent_aligned}
 use Rattle.obj_mem.specs.Legal.{ObjectNeed, owned_of, alignment_of, room_of}
 use Rattle.obj_mem.specs.Needs.{nothing_of, need_by, need_of, local_need, local_needs}

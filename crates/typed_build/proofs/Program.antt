@@ -1,5 +1,6 @@
 -- What a program of the form asks of its map, and what it begins with.
-use Rattle.std.proofs.Common.{◌≡◌, ℕ, zero, ◌+◌, ◌*◌, ◌%◌, ◌<◌, ◌≤◌, true, List, [], ◌∷◌, ◌++◌, length, map, refl, sym, ap, ◌∙◌, subst, arith}
+use Rattle.std.proofs.Common.{◌≡◌, ℕ, zero, ◌+◌, ◌*◌, ◌%◌, ◌<◌, ◌≤◌, true, List, [], ◌∷◌, ◌++◌, length, map, refl, sym}
+use Rattle.std.proofs.Common.{ap, ◌∙◌, subst, arith}
 use Rattle.std.specs.Prelude.{All, slice_index}
 use Rattle.std.specs.List.{list_all, filter, flat_map, zip}
 use Rattle.std.proofs.lemmas.List.Elements.{All-from_get_or}
@@ -9,7 +10,8 @@ use Rattle.c_tree.specs.declared.typed.CType.{CType}
 use Rattle.c_tree.specs.declared.typed.Typed.{Typed}
 use Rattle.c_tree.specs.declared.typed.VarDef.{VarDef}
 use Rattle.obj_mem.specs.Legal.{FunctionNeed, Needs, IsFrame, AreFrames, objects_of}
-use Rattle.obj_mem.specs.Needs.{needs_of, local_needs, local_need, is_object, function_needs, global_need, literal_need, weight_in}
+use Rattle.obj_mem.specs.Needs.{needs_of, local_needs, local_need, is_object, function_needs, global_need, literal_need}
+use Rattle.obj_mem.specs.Needs.{weight_in}
 use Rattle.obj_mem.specs.Table.{Holds, WholeHeap, table_length, table_starts}
 use Rattle.obj_mem.specs.Values.{Fun}
 use Rattle.obj_mem.specs.declared.map.Map.{Map}
@@ -50,8 +52,11 @@ pub frames_fit : (p : Typed) (a : IsAlone p) (f : TacFun) → f.temps ≤ 2 * we
     → AreFrames (function_needs p.types (weight_in p) 0 p.funs) (frame_of f ∷ [])
 frames_fit p a f few =
     let none : local_needs p.types a.d ≡ [] = ap (map (local_need p.types)) (no_objects p.types a.d.vars a.simple) in
-    subst (λ ds. AreFrames (function_needs p.types (weight_in p) 0 ds) (frame_of f ∷ [])) (sym a.only)
-    (subst (λ ls. IsFrame (record { locals = ls; weight = weight_in p 0 }) (frame_of f)) (sym none) (frame_fits f (weight_in p 0) few), tt)
+    subst (λ ds. AreFrames (function_needs p.types (weight_in p) 0 ds) (frame_of f ∷ [])) (sym a.only) (
+      subst (λ ls. IsFrame (record { locals = ls; weight = weight_in p 0 }) (frame_of f)) (sym none)
+          (frame_fits f (weight_in p 0) few),
+      tt,
+    )
 
 -- ---- what it asks for
 
@@ -74,7 +79,8 @@ asks p w a = record {
 pub table_small : (p : Typed) → IsAlone p → table_length (weightless p) ≡ 48
 table_small p a =
     let n = asks p (λ f. zero) a in
-    let count : length (weightless p).globals + length (weightless p).literals + length (weightless p).functions + 2 ≡ 3 = omega (arith, ap length n.globals, ap length n.literals, ap length n.functions) in
+    let count : length (weightless p).globals + length (weightless p).literals + length (weightless p).functions + 2
+    ≡ 3 = omega (arith, ap length n.globals, ap length n.literals, ap length n.functions) in
     ap (λ k. owned (16 * k)) count ∙ owned_short 48 (omega arith)
 
 no_places : (n : Needs) (m : Map) → n.globals ≡ [] → n.literals ≡ [] → objects_of n m ≡ []
@@ -99,12 +105,15 @@ unfolding lowest highest byte_of
 is_data p a m even size base bytes h =
     let none = places_none p m a in
     let from : base ≡ m.table.0 = h.from ∙ ap (lowest m.table.0) none in
-    let to : base + length bytes ≡ rounded_up (m.table.0 + m.table.1) 16 = h.to ∙ ap (λ es. rounded_up (highest (m.table.0 + m.table.1) es) 16) none in
+    let to : base + length bytes ≡ rounded_up (m.table.0 + m.table.1) 16 =
+    h.to ∙ ap (λ es. rounded_up (highest (m.table.0 + m.table.1) es) 16) none in
     let empty : contents p m ≡ [] = no_contents p m a in
     record {
       from = from;
       size = omega (arith, from, to);
-      small = All-from_get_or (λ b. b < 256) bytes 0 (λ k lt. let zero_here : slice_index bytes k ≡ 0 = h.each k lt ∙ ap (λ cs. byte_of 0 cs (base + k)) empty in omega (arith, zero_here));
+      small = All-from_get_or (λ b. b < 256) bytes 0
+          (λ k lt. let zero_here : slice_index bytes k ≡ 0 = h.each k lt ∙ ap (λ cs. byte_of 0 cs (base + k)) empty in
+          omega (arith, zero_here));
     }
 
 -- it is that of every other such program
@@ -122,7 +131,8 @@ initial_same p q a b m base bytes h =
 -- ---- its relocations
 
 abbrev two_begin : Map → List Begun
-two_begin m = record { place = m.table.0; start = Holds (Fun 0) } ∷ record { place = m.table.0 + 16; start = WholeHeap } ∷ []
+two_begin m = record { place = m.table.0; start = Holds (Fun 0) } ∷ record { place = m.table.0 + 16; start = WholeHeap }
+    ∷ []
 
 starts_by : (n : Needs) → AsksLittle n → table_starts n ≡ Holds (Fun 0) ∷ WholeHeap ∷ []
 starts_by n a = rw (a.globals, a.literals, a.functions) refl
@@ -130,5 +140,7 @@ starts_by n a = rw (a.globals, a.literals, a.functions) refl
 pub begins_with_two : (p : Typed) → IsAlone p → (m : Map) → beginning p m ≡ two_begin m
 unfolding entries_from
 begins_with_two p a m =
-    ap (λ ss. entries_from m.table.0 ss ++ flat_map (links_begun (asked_by p)) (zip p.globals m.globals)) (starts_by (asked_by p) (asks p (weight_in p) a))
-    ∙ ap (λ gs. entries_from m.table.0 (Holds (Fun 0) ∷ WholeHeap ∷ []) ++ flat_map (links_begun (asked_by p)) (zip gs m.globals)) a.no_globals
+    ap (λ ss. entries_from m.table.0 ss ++ flat_map (links_begun (asked_by p)) (zip p.globals m.globals))
+    (starts_by (asked_by p) (asks p (weight_in p) a))
+    ∙ ap (λ gs. entries_from m.table.0 (Holds (Fun 0) ∷ WholeHeap ∷ [])
+    ++ flat_map (links_begun (asked_by p)) (zip gs m.globals)) a.no_globals

@@ -1,5 +1,6 @@
 -- The machine of an image that is made of a program over integers does what the program means.
-use Rattle.std.proofs.Common.{◌≡◌, ℕ, ◌+◌, ◌*◌, ◌<◌, ◌≤◌, ◌⊎◌, true, false, List, [], length, Some, refl, sym, ap, ◌∙◌, subst, arith, inl, inr}
+use Rattle.std.proofs.Common.{◌≡◌, ℕ, ◌+◌, ◌*◌, ◌<◌, ◌≤◌, ◌⊎◌, true, false, List, [], length, Some, refl, sym, ap, ◌∙◌}
+use Rattle.std.proofs.Common.{subst, arith, inl, inr}
 use Rattle.std.specs.Prelude.{All, slice_get, slice_index}
 use Rattle.std.proofs.lemmas.Option.{slice_get_within}
 use Rattle.ck_base.specs.World.{World, Outcome}
@@ -41,7 +42,8 @@ use Rattle.typed_build.proofs.Standing.{added_here, added_other, is_memory, is_t
 use Rattle.typed_build.proofs.Texts.{text_is, filled, byte_in, word_below, small_bytes, front_get}
 use Rattle.typed_build.proofs.Writes.{code_of, loaded_of, short, is_sized, sized, legal}
 
-module _ (p : Typed) (t : Tac) (s : Selected) (low : IsLowered p t) (given : SelectsIntegers p t s) (sizes : Sizes) (chosen : in_range sizes ≡ true) (m : Map) (file : List ℕ) (w : IsWritten p s sizes m file) where
+module _ (p : Typed) (t : Tac) (s : Selected) (low : IsLowered p t) (given : SelectsIntegers p t s) (sizes : Sizes)
+    (chosen : in_range sizes ≡ true) (m : Map) (file : List ℕ) (w : IsWritten p s sizes m file) where
   abbrev code : List Instr
   code = code_of s
 
@@ -148,27 +150,35 @@ module _ (p : Typed) (t : Tac) (s : Selected) (low : IsLowered p t) (given : Sel
   does_what = record {
     each = λ world n.
         let sides = sides_of p m loaded in
-        subst (λ (o : Outcome Ending). is_outside o.ending ≡ false → GoesOn sides.steps (sides.machine world n) o ⊎ SameEnd sides.report (sides.machine world n) o) (means world n) (matched.does_what.each world n);
+        subst (λ (o : Outcome Ending). is_outside o.ending ≡ false →
+        GoesOn sides.steps (sides.machine world n) o ⊎ SameEnd sides.report (sides.machine world n) o)
+        (means world n) (matched.does_what.each world n);
   }
 
   keeps : KeepsToOutside (sides_of p m loaded)
   keeps = record {
     going = λ world n.
         let sides = sides_of p m loaded in
-        subst (λ (o : Outcome Ending). is_outside o.ending ≡ true → (sides.machine world n).ending ≡ sides.steps → BeginsWith o.output (sides.machine world n).output ⊎ BeginsWith (sides.machine world n).output o.output) (means world n) (matched.keeps.going world n);
+        subst (λ (o : Outcome Ending). is_outside o.ending ≡ true → (sides.machine world n).ending ≡ sides.steps →
+        BeginsWith o.output (sides.machine world n).output ⊎ BeginsWith (sides.machine world n).output o.output)
+        (means world n) (matched.keeps.going world n);
     ended = λ world n.
         let sides = sides_of p m loaded in
-        subst (λ (o : Outcome Ending). is_outside o.ending ≡ true → ((sides.machine world n).ending ≡ sides.steps → ⊥) → BeginsWith (sides.machine world n).output o.output) (means world n) (matched.keeps.ended world n);
+        subst (λ (o : Outcome Ending). is_outside o.ending ≡ true → ((sides.machine world n).ending ≡ sides.steps → ⊥) →
+        BeginsWith (sides.machine world n).output o.output) (means world n) (matched.keeps.ended world n);
   }
 
   does_all : DoesAllThatIsMeant (sides_of p m loaded) (count_of p)
   does_all = record {
     output = λ world n.
         let sides = sides_of p m loaded in
-        subst (λ (o : Outcome Ending). BeginsWith (sides.machine world ((n + 1) * count_of p)).output o.output) (means world n) (matched.does_all.output world n);
+        subst (λ (o : Outcome Ending). BeginsWith (sides.machine world ((n + 1) * count_of p)).output o.output)
+        (means world n) (matched.does_all.output world n);
     ends = λ world n.
         let sides = sides_of p m loaded in
-        subst (λ (o : Outcome Ending). is_turns o.ending ≡ false → is_outside o.ending ≡ false → (sides.machine world ((n + 1) * count_of p)).ending ≡ sides.steps → ⊥) (means world n) (matched.does_all.ends world n);
+        subst (λ (o : Outcome Ending). is_turns o.ending ≡ false → is_outside o.ending ≡ false →
+        (sides.machine world ((n + 1) * count_of p)).ending ≡ sides.steps → ⊥) (means world n)
+        (matched.does_all.ends world n);
   }
 
   pub runs : RunsAsMeant p m loaded (count_of p)

@@ -43,18 +43,28 @@ module _ (p : Typed) (form : is_integer_form p ≡ true) (q : Program) (s : Show
       let a = alone p form in
       let head : routine a.d ≡ r = (let z : routine a.d ∷ [] ≡ r ∷ [] = sym (ap (map routine) a.only) ∙ s.routines ∙ e in cc) in
       let here = ap (λ (fs : List FunDef). weight_by p (slice_get fs 0)) a.only in
-      let own : function_weight p a.d ≡ routine_weight (routine a.d) = omega (arith, mapped_length (variable_of (types_of p.types)) a.d.vars) in
+      let own : function_weight p a.d ≡ routine_weight (routine a.d) =
+      omega (arith, mapped_length (variable_of (types_of p.types)) a.d.vars) in
       here ∙ own ∙ ap routine_weight head
 
   -- what a program of the form asks of its map
-  needs_are : (r : Routine) → q.routines ≡ r ∷ [] → needs_of (weight_in p) p ≡ record { globals = []; literals = []; functions = record { locals = []; weight = routine_weight r } ∷ [] }
+  needs_are : (r : Routine) → q.routines ≡ r ∷ [] →
+      needs_of (weight_in p) p ≡ record {
+        globals = [];
+        literals = [];
+        functions = record { locals = []; weight = routine_weight r } ∷ [];
+      }
   needs_are r e =
       let a = alone p form in
-      let made : List ObjectNeed → List ObjectNeed → List FunctionNeed → Needs = λ gs ls fs. record { globals = gs; literals = ls; functions = fs } in
-      ap (λ (gs : List GlobalDef). made (map (global_need p.types) gs) (map literal_need p.literals) (function_needs p.types (weight_in p) 0 p.funs)) a.no_globals
-      ∙ ap (λ (ls : List Literal). made [] (map literal_need ls) (function_needs p.types (weight_in p) 0 p.funs)) a.no_literals
+      let made : List ObjectNeed → List ObjectNeed → List FunctionNeed → Needs =
+      λ gs ls fs. record { globals = gs; literals = ls; functions = fs } in
+      ap (λ (gs : List GlobalDef). made (map (global_need p.types) gs) (map literal_need p.literals)
+      (function_needs p.types (weight_in p) 0 p.funs)) a.no_globals
+      ∙ ap (λ (ls : List Literal). made [] (map literal_need ls) (function_needs p.types (weight_in p) 0 p.funs))
+      a.no_literals
       ∙ ap (λ (fs : List FunDef). made [] [] (function_needs p.types (weight_in p) 0 fs)) a.only
-      ∙ ap (λ (ls : List ObjectNeed). made [] [] (record { locals = ls; weight = weight_in p 0 } ∷ [])) (ap (map (local_need p.types)) (no_objects p.types a.d.vars a.simple))
+      ∙ ap (λ (ls : List ObjectNeed). made [] [] (record { locals = ls; weight = weight_in p 0 } ∷ []))
+      (ap (map (local_need p.types)) (no_objects p.types a.d.vars a.simple))
       ∙ ap (λ (w : ℕ). made [] [] (record { locals = []; weight = w } ∷ [])) (weight_is r e)
 
   only_routine : (r : Routine) × (q.routines ≡ r ∷ [])
@@ -74,7 +84,15 @@ same_count : (p r : Typed) (q : Program) → IsOrdered p → IsOrdered r → is_
     → is_integer_form r ≡ true → Shows p q → Shows r q → count_of p ≡ count_of r
 unfolding count_of
 same_count p r q o u f g s t =
-    omega (arith, weight_of_program p q o s, weight_of_program r q u t, no_granules p f, no_granules r g, no_copies p f, no_copies r g)
+    omega (
+      arith,
+      weight_of_program p q o s,
+      weight_of_program r q u t,
+      no_granules p f,
+      no_granules r g,
+      no_copies p f,
+      no_copies r g,
+    )
 
 pub built_same : (p r : Typed) (q : Program) → IsOrdered p → IsOrdered r → is_integer_form p ≡ true
     → is_integer_form r ≡ true → Shows p q → Shows r q → (file : List ℕ) (m : Map) (count : ℕ)
@@ -97,9 +115,14 @@ built_same p r q o u f g s t file m count h =
         version = i.version;
         whole = i.whole;
         extents = i.extents;
-        filled = record { code = i.filled.code; is = i.filled.is; size = omega (arith, i.filled.size, weight_of_program p q o s, weight_of_program r q u t) };
+        filled = record {
+          code = i.filled.code;
+          is = i.filled.is;
+          size = omega (arith, i.filled.size, weight_of_program p q o s, weight_of_program r q u t);
+        };
         words = i.words;
-        relocates = subst (λ bs. Paired (IsRelocation m) bs i.loaded.image.relocs) (begins_with_two p a m ∙ sym (begins_with_two r b m)) i.relocates;
+        relocates = subst (λ bs. Paired (IsRelocation m) bs i.loaded.image.relocs)
+            (begins_with_two p a m ∙ sym (begins_with_two r b m)) i.relocates;
         begins = initial_same p r a b m i.loaded.image.initial_base i.loaded.image.initial i.begins;
       };
       counted = h.counted ∙ same_count p r q o u f g s t;

@@ -1,5 +1,6 @@
 -- The memory of an image that is loaded: the text and the stack stand in it.
-use Rattle.std.proofs.Common.{◌≡◌, ℕ, zero, suc, ◌+◌, ◌-◌, ◌*◌, ◌/◌, ◌%◌, ◌^◌, ◌<◌, ◌≤◌, ◌⊎◌, Bool, true, false, cond, eqb, List, [], ◌∷◌, length, get_or, Some, Ok, refl, sym, ap, ◌∙◌, subst, arith, inl, inr}
+use Rattle.std.proofs.Common.{◌≡◌, ℕ, zero, suc, ◌+◌, ◌-◌, ◌*◌, ◌/◌, ◌%◌, ◌^◌, ◌<◌, ◌≤◌, ◌⊎◌, Bool, true, false, cond}
+use Rattle.std.proofs.Common.{eqb, List, [], ◌∷◌, length, get_or, Some, Ok, refl, sym, ap, ◌∙◌, subst, arith, inl, inr}
 use Rattle.std.specs.Prelude.{◌&&◌, ◌||◌, nat_le, nat_lt, All, slice_index}
 use Rattle.std.specs.List.{insert, prefix_len}
 use Rattle.std.proofs.lemmas.Bool.{cases_Bool, le-leb, lt-ltb}
@@ -34,7 +35,8 @@ not_empty n h = grind (arith, nat_tests)
 with_is : (e : Extent) (rs : List Region) → 0 < e.1
     → with_region e rs ≡ insert rs (prefix_len (λ r. nat_lt r.base e.0) rs) (region_of e)
 unfolding with_region
-with_is e rs some = ap (λ b. cond b rs (insert rs (prefix_len (λ r. nat_lt r.base e.0) rs) (region_of e))) (not_empty e.1 some)
+with_is e rs some = ap (λ b. cond b rs (insert rs (prefix_len (λ r. nat_lt r.base e.0) rs) (region_of e)))
+    (not_empty e.1 some)
 
 or_right : (a b : Bool) → b ≡ true → (a || b) ≡ true
 or_right true b h = refl
@@ -71,7 +73,8 @@ pub added_here : (e : Extent) (rs : List Region) (x : ℕ) → 0 < e.1 → e.0 �
     → lies_in (with_region e rs) x ≡ true
 added_here e rs x some from to =
     subst (λ z. lies_in z x ≡ true) (sym (with_is e rs some))
-    (inserted_here rs _ (region_of e) x (prefix_len-le-length (λ r. nat_lt r.base e.0) rs) (both (nat_le e.0 x) (nat_lt x (end_of e)) (le-leb e.0 x from) (lt-ltb x (end_of e) to)))
+    (inserted_here rs _ (region_of e) x (prefix_len-le-length (λ r. nat_lt r.base e.0) rs)
+    (both (nat_le e.0 x) (nat_lt x (end_of e)) (le-leb e.0 x from) (lt-ltb x (end_of e) to)))
   where
     both : (a b : Bool) → a ≡ true → b ≡ true → (a && b) ≡ true
     both true b h g = g
@@ -91,11 +94,14 @@ pub fits_first : (e : Extent) (rs : List Region) → 0 < e.1 → LieFrom 0 (with
 fits_first e rs some lie =
     let k = prefix_len (λ r. nat_lt r.base e.0) rs in
     let all = insert rs k (region_of e) in
-    let at : get_or all k (region_of e) ≡ region_of e = get_or-insert_at rs k (region_of e) (region_of e) (prefix_len-le-length (λ r. nat_lt r.base e.0) rs) in
+    let at : get_or all k (region_of e) ≡ region_of e =
+    get_or-insert_at rs k (region_of e) (region_of e) (prefix_len-le-length (λ r. nat_lt r.base e.0) rs) in
     let le : LieFrom 0 all = subst (LieFrom 0) (with_is e rs some) lie in
     subst (λ z. fits_inside (fresh z) e.0 e.1 ≡ true) (sym (with_is e rs some))
     (subst (λ (r : Region). fits_inside (fresh all) r.base e.1 ≡ true) at
-    (fits_inside-fresh 0 all k e.1 (region_of e) le (inserted_longer rs k (region_of e) (prefix_len-le-length (λ r. nat_lt r.base e.0) rs)) (omega (arith, ap (λ (r : Region). r.length) at, some)) (omega (arith, ap (λ (r : Region). r.length) at))))
+    (fits_inside-fresh 0 all k e.1 (region_of e) le
+    (inserted_longer rs k (region_of e) (prefix_len-le-length (λ r. nat_lt r.base e.0) rs))
+    (omega (arith, ap (λ (r : Region). r.length) at, some)) (omega (arith, ap (λ (r : Region). r.length) at))))
   where
     inserted_longer : (rs : List Region) (k : ℕ) (r : Region) → k ≤ length rs → k < length (insert rs k r)
     inserted_longer rs zero r le = omega arith
@@ -119,7 +125,10 @@ outside r x from size i (inr behind) n e = inr (let a = i.below in omega arith)
 pub relocated_memory : (m : List Area) (rs : List Reloc) → IsMemory m → IsMemory (relocated m rs)
 unfolding relocated
 relocated_memory m [] h = h
-relocated_memory m (r ∷ rs) h = relocated_memory (written m r.place (little_bytes 16 (memory_bits (capability_of r).fields)) true) rs (IsMemory-written m r.place (little_bytes 16 (memory_bits (capability_of r).fields)) true h (small-little_bytes 16 (memory_bits (capability_of r).fields)))
+relocated_memory m (r ∷ rs) h =
+    relocated_memory (written m r.place (little_bytes 16 (memory_bits (capability_of r).fields)) true) rs
+    (IsMemory-written m r.place (little_bytes 16 (memory_bits (capability_of r).fields)) true h
+    (small-little_bytes 16 (memory_bits (capability_of r).fields)))
 
 pub relocated_inside : (m : List Area) (rs : List Reloc) (x : ℕ) → IsMemory m
     → is_inside (relocated m rs) x ≡ is_inside m x
@@ -127,7 +136,9 @@ unfolding relocated
 relocated_inside m [] x h = refl
 relocated_inside m (r ∷ rs) x h =
     let bytes = little_bytes 16 (memory_bits (capability_of r).fields) in
-    relocated_inside (written m r.place bytes true) rs x (IsMemory-written m r.place bytes true h (small-little_bytes 16 (memory_bits (capability_of r).fields))) ∙ written_inside m r.place bytes true x h
+    relocated_inside (written m r.place bytes true) rs x
+    (IsMemory-written m r.place bytes true h (small-little_bytes 16 (memory_bits (capability_of r).fields)))
+    ∙ written_inside m r.place bytes true x h
 
 pub relocated_other : (m : List Area) (rs : List Reloc) (from size x : ℕ) → IsMemory m → All (IsInside from size) rs
     → (x < from) ⊎ (from + size ≤ x) → byte_at (relocated m rs) x ≡ byte_at m x
@@ -135,12 +146,18 @@ unfolding relocated
 relocated_other m [] from size x h there out = refl
 relocated_other m (r ∷ rs) from size x h there out =
     let bytes = little_bytes 16 (memory_bits (capability_of r).fields) in
-    relocated_other (written m r.place bytes true) rs from size x (IsMemory-written m r.place bytes true h (small-little_bytes 16 (memory_bits (capability_of r).fields))) (All-tail (IsInside from size) r rs there) out
-    ∙ byte_at-written_other m r.place bytes true h x (outside r x from size (All-head (IsInside from size) r rs there) out (length bytes) (length-little_bytes 16 (memory_bits (capability_of r).fields)))
+    relocated_other (written m r.place bytes true) rs from size x
+    (IsMemory-written m r.place bytes true h (small-little_bytes 16 (memory_bits (capability_of r).fields)))
+    (All-tail (IsInside from size) r rs there) out
+    ∙ byte_at-written_other m r.place bytes true h x
+    (outside r x from size (All-head (IsInside from size) r rs there) out (length bytes)
+    (length-little_bytes 16 (memory_bits (capability_of r).fields)))
 
 -- ---- the memory of an image
 
-module _ (i : Image) (fine : judged i ≡ Ok tt) (some : 0 < length i.text) (text_small : All (λ b. b < 256) i.text) (initial_small : All (λ b. b < 256) i.initial) (there : All (IsInside i.initial_base (length i.initial)) i.relocs) where
+module _ (i : Image) (fine : judged i ≡ Ok tt) (some : 0 < length i.text) (text_small : All (λ b. b < 256) i.text)
+    (initial_small : All (λ b. b < 256) i.initial)
+    (there : All (IsInside i.initial_base (length i.initial)) i.relocs) where
   abbrev others : List Region
   others = regions_of (initial_of i ∷ i.heap ∷ i.stack ∷ [])
 
@@ -173,7 +190,9 @@ module _ (i : Image) (fine : judged i ≡ Ok tt) (some : 0 < length i.text) (tex
   pub is_there : (x : ℕ) → lies_in (with_region (text_of i) others) x ≡ true → is_inside (memory_of i) x ≡ true
   unfolding memory_of
   is_there x h =
-      relocated_inside third i.relocs x third_memory ∙ written_inside second i.initial_base i.initial false x second_memory ∙ written_inside first i.text_base i.text false x first_memory
+      relocated_inside third i.relocs x third_memory
+      ∙ written_inside second i.initial_base i.initial false x second_memory
+      ∙ written_inside first i.text_base i.text false x first_memory
       ∙ (IsZeroed-fresh (with_region (text_of i) others) lie).inside x ∙ h
 
   -- the bytes of the text
@@ -184,7 +203,8 @@ module _ (i : Image) (fine : judged i ≡ Ok tt) (some : 0 < length i.text) (tex
   text_byte x from to out =
       relocated_other third i.relocs i.initial_base (length i.initial) x third_memory there out
       ∙ byte_at-written_other second i.initial_base i.initial false second_memory x out
-      ∙ (Writes-written first i.text_base i.text false first_memory (fits_first (text_of i) others some lie)).bytes_there x from to
+      ∙ (Writes-written first i.text_base i.text false first_memory
+      (fits_first (text_of i) others some lie)).bytes_there x from to
 
   -- a word of the text
   pub text_word : (k v : ℕ) → i.text_base % 16 ≡ 0 → 4 * k + 4 ≤ length i.text
@@ -196,7 +216,10 @@ module _ (i : Image) (fine : judged i ≡ Ok tt) (some : 0 < length i.text) (tex
   text_word k v even room apart below bytes =
       number_at-Spells (memory_of i) (i.text_base + 4 * k) 4 v is_memory (omega arith) (omega arith) (omega arith)
       (λ j lt.
-      let out : (i.text_base + 4 * k + j < i.initial_base) ⊎ (i.initial_base + length i.initial ≤ i.text_base + 4 * k + j) = elim apart [ inl before ↦ inl (omega (arith, before)) | inr behind ↦ inr (omega (arith, behind)) ] in
+      let out : (i.text_base + 4 * k + j < i.initial_base) ⊎
+      (i.initial_base + length i.initial ≤ i.text_base + 4 * k + j) =
+      elim apart [ inl before ↦ inl (omega (arith, before)) | inr behind ↦ inr (omega (arith, behind)) ] in
       text_byte (i.text_base + 4 * k + j) (omega arith) (omega arith) out
-      ∙ ap (λ n. Some (slice_index i.text n)) (let q : i.text_base + 4 * k + j - i.text_base ≡ 4 * k + j = omega arith in q)
+      ∙ ap (λ n. Some (slice_index i.text n)) (let q : i.text_base + 4 * k + j - i.text_base ≡ 4 * k + j = omega arith
+      in q)
       ∙ ap (λ (b : ℕ). Some b) (bytes j lt))

@@ -1,5 +1,7 @@
 -- The bytes of a text and the words in them.
-use Rattle.std.proofs.Common.{◌≡◌, ℕ, zero, suc, ◌+◌, ◌-◌, ◌*◌, ◌/◌, ◌%◌, ◌^◌, ◌<◌, ◌≤◌, List, [], ◌∷◌, ◌++◌, length, take, drop, get_or, pos, Some, refl, lit≤, sym, ap, ◌∙◌, subst, arith, inl, inr, length-append}
+use Rattle.std.proofs.Common.{◌≡◌, ℕ, zero, suc, ◌+◌, ◌-◌, ◌*◌, ◌/◌, ◌%◌, ◌^◌, ◌<◌, ◌≤◌, List, [], ◌∷◌, ◌++◌, length}
+use Rattle.std.proofs.Common.{take, drop, get_or, pos, Some, refl, lit≤, sym, ap, ◌∙◌, subst, arith, inl, inr}
+use Rattle.std.proofs.Common.{length-append}
 use Rattle.std.specs.Prelude.{All, slice_get}
 use Rattle.std.proofs.lemmas.Bool.{cases_lt}
 use Rattle.std.proofs.lemmas.Grind.{flat_map-append}
@@ -11,7 +13,8 @@ use Rattle.std.proofs.Math.Nat.{mul-mod_left}
 use Rattle.std.proofs.Math.Pow.{pow-lt}
 use Rattle.std.proofs.Math.Seq.{drop-append-add}
 use Rattle.cap_concentrate.specs.Rounding.{rounded_up, alignment, owned, first_from}
-use Rattle.cap_concentrate.proofs.Laws.{alignment_pos, alignment_power, multiple_of_alignment, owned_ge, owned_multiple, owned_monotone, owned-owned}
+use Rattle.cap_concentrate.proofs.Laws.{alignment_pos, alignment_power, multiple_of_alignment, owned_ge, owned_multiple}
+use Rattle.cap_concentrate.proofs.Laws.{owned_monotone, owned-owned}
 use Rattle.cap_concentrate.proofs.Least.{rounded_up_multiple}
 use Rattle.rv_instr.specs.Range.{InRange}
 use Rattle.rv_instr.specs.declared.instr.Instr.{Instr}
@@ -76,7 +79,15 @@ is_text words small =
 pub length-text_of : (code : List Instr) → IsText (length code) (text_length (length code))
     → length (text_of code) ≡ text_length (length code)
 length-text_of code t =
-    omega (arith, length-append (code_bytes code) (code_bytes (filler (missing (length code)))), length-code_bytes code, length-code_bytes (filler (missing (length code))), length-replicate (missing (length code)) (Cjal 0 (pos 0)), t.whole, t.room)
+    omega (
+      arith,
+      length-append (code_bytes code) (code_bytes (filler (missing (length code)))),
+      length-code_bytes code,
+      length-code_bytes (filler (missing (length code))),
+      length-replicate (missing (length code)) (Cjal 0 (pos 0)),
+      t.whole,
+      t.room,
+    )
 
 -- ---- words
 
@@ -96,7 +107,8 @@ bytes_at (j ∷ is) zero i e =
 bytes_at (j ∷ is) (suc k) i e =
     let bs = instr_bytes j in
     let n : 4 * suc k ≡ length bs + 4 * k = omega (arith, length-little_bytes 4 (word_of (fields_of j))) in
-    ap (λ x. take 4 (drop x (bs ++ code_bytes is))) n ∙ ap (take 4) (drop-append-add bs (code_bytes is) (4 * k)) ∙ bytes_at is k i e
+    ap (λ x. take 4 (drop x (bs ++ code_bytes is))) n ∙ ap (take 4) (drop-append-add bs (code_bytes is) (4 * k))
+    ∙ bytes_at is k i e
 
 -- each of them
 pub byte_in : (code : List Instr) (k j : ℕ) (i : Instr) → slice_get code k ≡ Some i → j < 4
@@ -115,12 +127,14 @@ little_again v h =
 pub decodes : (code : List Instr) (k : ℕ) (i : Instr) → slice_get code k ≡ Some i → InRange i
     → decode_of (word_in (code_bytes code) k) ≡ Some i
 decodes code k i e h =
-    ap (λ bs. decode_of (little_number bs)) (bytes_at code k i e) ∙ ap decode_of (little_again (word_of (fields_of i)) (word_below i h))
+    ap (λ bs. decode_of (little_number bs)) (bytes_at code k i e)
+    ∙ ap decode_of (little_again (word_of (fields_of i)) (word_below i h))
     ∙ decode_of-encoded (word_of (fields_of i)) i (encodes i h)
 
 pub small_bytes : (code : List Instr) → All (λ b. b < 256) (code_bytes code)
 small_bytes [] = All-nil (λ b. b < 256)
-small_bytes (i ∷ is) = All-append (λ b. b < 256) (instr_bytes i) (code_bytes is) (small-little_bytes 4 (word_of (fields_of i))) (small_bytes is)
+small_bytes (i ∷ is) = All-append (λ b. b < 256) (instr_bytes i) (code_bytes is)
+    (small-little_bytes 4 (word_of (fields_of i))) (small_bytes is)
 
 -- ---- the filled code
 
@@ -163,5 +177,9 @@ pub all_decode : (code : List Instr) → ((k : ℕ) (i : Instr) → slice_get co
     → 4 * k < length (text_of code) → (i : Instr) × (decode_of (word_in (text_of code) k) ≡ Some i)
 all_decode code in_range k lt =
     let all = filled code in
-    let at = there all k (omega (arith, lt, ap length (text_is code), length-code_bytes all)) in
-    (at.0, ap (λ t. decode_of (word_in t k)) (text_is code) ∙ decodes all k at.0 at.1 (filled_in_range code (filler (missing (length code))) in_range (filler_get (missing (length code))) k at.0 at.1))
+    let at = there all k (omega (arith, lt, ap length (text_is code), length-code_bytes all)) in (
+      at.0,
+      ap (λ t. decode_of (word_in t k)) (text_is code)
+          ∙ decodes all k at.0 at.1 (filled_in_range code (filler (missing (length code))) in_range
+          (filler_get (missing (length code))) k at.0 at.1),
+    )

@@ -30,7 +30,13 @@ sum_below f g [] [] n h = omega arith
 sum_below f g [] (y ∷ ys) n h = absurd (omega (arith, n))
 sum_below f g (x ∷ xs) [] n h = absurd (omega (arith, n))
 sum_below f g (x ∷ xs) (y ∷ ys) n h =
-    omega (arith, sum_by-cons f x xs, sum_by-cons g y ys, h 0 x y refl refl, sum_below f g xs ys (omega (arith, n)) (λ k. h (suc k)))
+    omega (
+      arith,
+      sum_by-cons f x xs,
+      sum_by-cons g y ys,
+      h 0 x y refl refl,
+      sum_below f g xs ys (omega (arith, n)) (λ k. h (suc k)),
+    )
 
 sum_least : {A : Type 0} (f : A → ℕ) (xs : List A) → ((x : A) → 8 ≤ f x) → 8 * length xs ≤ sum_by f xs
 sum_least f [] h = omega arith
@@ -73,5 +79,6 @@ module _ (p : Typed) (o : IsOrdered p) (light : weight p ≤ 7780) where
         omega (
           arith,
           weight_of_functions p o,
-          sum_below function_cost (function_weight p) t.funs p.funs (same_count t p formed) (λ k f d e g. (one_within k f d e g).0.cost),
+          sum_below function_cost (function_weight p) t.funs p.funs (same_count t p formed)
+              (λ k f d e g. (one_within k f d e g).0.cost),
         )

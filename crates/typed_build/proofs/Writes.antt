@@ -1,5 +1,7 @@
--- A program's machine code that is placed and written with the program's initial data loads, as the image of the program.
-use Rattle.std.proofs.Common.{◌≡◌, ℕ, ◌+◌, ◌*◌, ◌%◌, ◌^◌, ◌<◌, ◌≤◌, true, false, List, length, Ok, inr, refl, sym, ap, ◌∙◌, subst, arith}
+-- A program's machine code that is placed and written with the program's initial data loads, as the image of the
+-- program.
+use Rattle.std.proofs.Common.{◌≡◌, ℕ, ◌+◌, ◌*◌, ◌%◌, ◌^◌, ◌<◌, ◌≤◌, true, false, List, length, Ok, inr, refl, sym, ap}
+use Rattle.std.proofs.Common.{◌∙◌, subst, arith}
 use Rattle.std.proofs.lemmas.List.Elements.{All-weaker}
 use Rattle.c_tree.specs.Views.{IsOrdered}
 use Rattle.c_tree.specs.declared.typed.Typed.{Typed}
@@ -27,7 +29,8 @@ use Rattle.typed_build.specs.Text.{text_length, text_of}
 use Rattle.typed_build.specs.Written.{Begins, image_with, IsWritten, image_in}
 use Rattle.typed_build.specs.declared.written.Selected.{Selected}
 use Rattle.typed_build.proofs.Coding.{offsets_of}
-use Rattle.typed_build.proofs.Extents.{even_exact, exact, lies, fit, free, none_overlap, inside, entry, capable, all_judged, judged_by}
+use Rattle.typed_build.proofs.Extents.{even_exact, exact, lies, fit, free, none_overlap, inside, entry, capable}
+use Rattle.typed_build.proofs.Extents.{all_judged, judged_by}
 use Rattle.typed_build.proofs.Initial.{Stand, stand, same_table, table_most}
 use Rattle.typed_build.proofs.Locals.{data_within}
 use Rattle.typed_build.proofs.Texts.{IsText, is_text, length-text_of, all_decode}
@@ -64,7 +67,8 @@ module _ (p : Typed) (s : Selected) (given : Selects p s) where
 
   -- ---- under a map
 
-  module _ (sizes : Sizes) (chosen : in_range sizes ≡ true) (m : Map) (placing : IsPlacing p s.frames.items s.entries.items (size_of s) sizes m) where
+  module _ (sizes : Sizes) (chosen : in_range sizes ≡ true) (m : Map)
+      (placing : IsPlacing p s.frames.items s.entries.items (size_of s) sizes m) where
     pub legal : Legal p m
     legal = placing.legal (weight_in p) given.frames
 
@@ -150,7 +154,8 @@ module _ (p : Typed) (s : Selected) (given : Selects p s) where
 
   -- ---- written
 
-  module _ (sizes : Sizes) (chosen : in_range sizes ≡ true) (m : Map) (file : List ℕ) (w : IsWritten p s sizes m file) where
+  module _ (sizes : Sizes) (chosen : in_range sizes ≡ true) (m : Map) (file : List ℕ)
+      (w : IsWritten p s sizes m file) where
     pub is_image : (i : IsImage p file m) × (i.loaded ≡ loaded_of (image_in p s sizes m file w))
     unfolding loading
     is_image = (

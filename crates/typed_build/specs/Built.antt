@@ -1,5 +1,6 @@
 -- What it means that an image was built from a typed program.
-use Rattle.std.specs.Prelude.{◌≡◌, ℕ, zero, suc, ◌+◌, ◌*◌, ◌<◌, ◌≤◌, ◌⊎◌, true, false, List, length, take, drop, slice_get, Option, Some, None, Ok, ⊤}
+use Rattle.std.specs.Prelude.{◌≡◌, ℕ, zero, suc, ◌+◌, ◌*◌, ◌<◌, ◌≤◌, ◌⊎◌, true, false, List, length, take, drop}
+use Rattle.std.specs.Prelude.{slice_get, Option, Some, None, Ok, ⊤}
 use Rattle.std.specs.List.{All}
 use Rattle.ck_base.specs.Runs.{outcome, ending_alone}
 use Rattle.ck_base.specs.Agreement.{Sides, DoesWhatIsMeant, KeepsToOutside, DoesAllThatIsMeant}
@@ -100,10 +101,12 @@ pub record IsImage (p : Typed) (file : List ℕ) (map : Map) : Type 0 where
   -- and it is the file that is written for the image, with nothing behind it
   pub whole : file ≡ file_of loaded.image
   pub extents : HasExtents map loaded.image
-  -- the text is code of at most 128 bytes for each unit of the program's weight and 4,096 more, filled with jumps to themselves
+  -- the text is code of at most 128 bytes for each unit of the program's weight and 4,096 more, filled with jumps to
+  -- themselves
   pub filled : IsFilled (128 * weight p + 4096) loaded.image.text
   -- each of its words is an instruction
-  pub words : (k : ℕ) → 4 * k < length loaded.image.text → (i : Instr) × (decode_of (word_in loaded.image.text k) ≡ Some i)
+  pub words : (k : ℕ) → 4 * k < length loaded.image.text →
+      (i : Instr) × (decode_of (word_in loaded.image.text k) ≡ Some i)
   -- its relocations store the capabilities with which the program's pointers begin
   pub relocates : Paired (IsRelocation map) (beginning p map) loaded.image.relocs
   -- and its other bytes begin as the program's objects do
@@ -119,8 +122,8 @@ pub record RunsAsMeant (p : Typed) (map : Map) (loaded : Loaded) (count : ℕ) :
 abbrev pub EntersFunction : Map → Reloc → Type 0
 EntersFunction map r = executes r ≡ true → (function : ℕ) × (slice_get map.entries function ≡ Some (address_of r))
 
--- What is built of a program: its image, which is contained, and its count; and of a program over integers that its runs
--- are what it means
+-- What is built of a program: its image, which is contained, and its count; and of a program over integers that its
+-- runs are what it means
 pub record IsBuilt (p : Typed) (file : List ℕ) (map : Map) (count : ℕ) : Type 0 where
   pub image : IsImage p file map
   pub counted : count ≡ count_of p
@@ -138,8 +141,8 @@ pub record IsBuilt (p : Typed) (file : List ℕ) (map : Map) (count : ℕ) : Typ
 abbrev pub start : Pos
 start = record { line = 1; col = 1 }
 
--- At the start of the file: 141 where the objects of a program exceed their limit; else 142 where it is too heavy. Want of
--- memory is free.
+-- At the start of the file: 141 where the objects of a program exceed their limit; else 142 where it is too heavy. Want
+-- of memory is free.
 abbrev pub ExceedsBy : Typed → ℕ → Type 0
 ExceedsBy p code =
     ((code ≡ 141) × (exceeds p ≡ true)) ⊎ ((code ≡ 142) × (exceeds p ≡ false) × (weight_limit < weight p))

@@ -23,7 +23,8 @@ pub record IsCode (p : Typed) (t : Tac) : Type 0 where
   pub within : WithinCosts t p
   pub short : (k : ℕ) (f : TacFun) → slice_get t.funs k ≡ Some f → length f.code < 2 ^ 32
 
--- machine code that has words, no larger than the program allows, with its place of entry and the places of its accesses
+-- machine code that has words, no larger than the program allows, with its place of entry and the places of its
+-- accesses
 pub record IsCoded (p : Typed) (code : List Instr) (start : ℕ) (lines : List Line) : Type 0 where
   pub light : weight p ≤ 7780
   pub size : 4 * length code ≤ 128 * weight p + 4096

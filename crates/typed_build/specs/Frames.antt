@@ -31,7 +31,8 @@ pub record HasHomes (f : TacFun) (homes : List Home) : Type 0 where
 
 -- for each function
 abbrev pub HaveHomes : List TacFun → List Places → Type 0
-HaveHomes funs places = (k : ℕ) (f : TacFun) (l : Places) → slice_get funs k ≡ Some f → slice_get places k ≡ Some l → HasHomes f l.homes
+HaveHomes funs places = (k : ℕ) (f : TacFun) (l : Places) → slice_get funs k ≡ Some f → slice_get places k ≡ Some l →
+    HasHomes f l.homes
 
 -- ---- frames
 
@@ -43,4 +44,5 @@ pub record FrameFits (p : Typed) (d : FunDef) (l : Places) (g : Frame) : Type 0 
 -- for each function
 abbrev pub FramesFit : Typed → List Places → List Frame → Type 0
 FramesFit p places frames =
-    (k : ℕ) (d : FunDef) (l : Places) (g : Frame) → slice_get p.funs k ≡ Some d → slice_get places k ≡ Some l → slice_get frames k ≡ Some g → FrameFits p d l g
+    (k : ℕ) (d : FunDef) (l : Places) (g : Frame) → slice_get p.funs k ≡ Some d → slice_get places k ≡ Some l →
+    slice_get frames k ≡ Some g → FrameFits p d l g

@@ -19,8 +19,8 @@ code_bytes code = flat_map instr_bytes code
 abbrev pub filler : ℕ → List Instr
 filler count = replicate count (Cjal 0 (pos 0))
 
--- The length of a text for so many words of code: they are rounded up to whole granules, and these to their owned length, so that the text
--- has bounds of its own
+-- The length of a text for so many words of code: they are rounded up to whole granules, and these to their owned
+-- length, so that the text has bounds of its own
 abbrev pub text_length : ℕ → ℕ
 text_length words = owned (rounded_up (4 * words) 16)
 

@@ -30,7 +30,8 @@ abbrev pub image_with : Typed → Selected → Map → ℕ → List ℕ → List
 image_with p s m base bytes relocs =
     image_of m s.start (text_of s.code.items) base bytes relocs s.lines.items (count_of p)
 
--- The file of the code under a map: it is read as the image of that code and these initial data, and no test of the loader refuses it
+-- The file of the code under a map: it is read as the image of that code and these initial data, and no test of the
+-- loader refuses it
 pub record IsWritten (p : Typed) (s : Selected) (sizes : Sizes) (m : Map) (file : List ℕ) : Type 0 where
   pub placing : IsPlacing p s.frames.items s.entries.items (text_length (length s.code.items)) sizes m
   pub base : ℕ
@@ -42,5 +43,6 @@ pub record IsWritten (p : Typed) (s : Selected) (sizes : Sizes) (m : Map) (file 
   pub fine : judged (image_with p s m base bytes relocs) ≡ Ok tt
 
 -- the image
-abbrev pub image_in : (p : Typed) (s : Selected) (sizes : Sizes) (m : Map) (file : List ℕ) → IsWritten p s sizes m file → Image
+abbrev pub image_in : (p : Typed) (s : Selected) (sizes : Sizes) (m : Map) (file : List ℕ) →
+    IsWritten p s sizes m file → Image
 image_in p s sizes m file w = image_with p s m w.base w.bytes w.relocs

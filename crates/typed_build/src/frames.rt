@@ -1,5 +1,6 @@
 //! The frames of a program's functions.
-ghost use Rattle.std.specs.Prelude.{◌≡◌, ◌≤◌, ◌<◌, ◌^◌, ℕ, false, IfOk, OnOk, ◌++◌, ◌∷◌, [], Some, length, slice_get, vec_len};
+ghost use Rattle.std.specs.Prelude.{◌≡◌, ◌≤◌, ◌<◌, ◌^◌, ℕ, false, IfOk, OnOk, ◌++◌, ◌∷◌, [], Some, length, slice_get};
+ghost use Rattle.std.specs.Prelude.{vec_len};
 ghost use Rattle.c_tree.specs.TreeWeight.{function_weight};
 ghost use Rattle.c_tree.specs.declared.typed.FunDef.{FunDef as Def};
 ghost use Rattle.cap_layout.specs.Kept.{AreLayoutsOf};
@@ -61,7 +62,9 @@ pub fn frames_of(
     requires homes { HaveHomes t.now.funs places.now.items }
     requires few { length p.now.funs < 2 ^ 32 }
     requires within { exceeds p.now ≡ false }
-    requires costs { (k : ℕ) (f : Function) (d : Def) → slice_get t.now.funs k ≡ Some f → slice_get p.now.funs k ≡ Some d → FunctionCosts (function_weight p.now d) f × (function_weight p.now d ≤ 7780) }
+    requires costs { (k : ℕ) (f : Function) (d : Def) → slice_get t.now.funs k ≡ Some f →
+        slice_get p.now.funs k ≡ Some d →
+        FunctionCosts (function_weight p.now d) f × (function_weight p.now d ≤ 7780) }
     ensures len { IfOk result (λ frames. vec_len frames ≡ length p.now.funs) }
     ensures fit { IfOk result (λ frames. FramesFit p.now places.now.items frames.items) }
 {

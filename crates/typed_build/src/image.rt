@@ -17,7 +17,8 @@ pub fn image_of(
     count: u64,
 ) -> Image
     requires { map.now.text.0 + start < 2 ^ 64 }
-    ensures { result ≡ image_of map.now start text.items contents.base contents.bytes.items contents.relocs.items lines.items count }
+    ensures { result ≡ image_of map.now start text.items contents.base contents.bytes.items contents.relocs.items
+        lines.items count }
 {
     let Table {
         relocs,

@@ -39,8 +39,8 @@ pub struct Written {
     pub map: Map,
 }
 
-/// The file of a program's machine code under a legal map, whose heap and stack have these lengths. It loads, and says the
-/// program's count.
+/// The file of a program's machine code under a legal map, whose heap and stack have these lengths. It loads, and says
+/// the program's count.
 pub fn write_program(
     alloc: Global,
     p: &Typed,

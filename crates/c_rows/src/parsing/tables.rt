@@ -1,4 +1,5 @@
-//! Texts, and whether C's grammar has a tree for them (C11 6.5 to 6.9, without declarations of parameters by old style lists and without implicit `int`).
+//! Texts, and whether C's grammar has a tree for them (C11 6.5 to 6.9, without declarations of parameters by old style
+//! lists and without implicit `int`).
 
 /// Files with `tree`, or the code of their refusal and mostly its place.
 pub(super) static ANSWERS: [(&str, &str); 34] = [
@@ -331,8 +332,8 @@ pub(super) static NO_EXPRESSIONS: [&str; 40] = [
     "a = b + c = d",
 ];
 
-/// A text, one that comes so often, what stands in the middle, and what closes it as often; and the answer. A function, its block, a
-/// statement and what is innermost count four levels.
+/// A text, one that comes so often, what stands in the middle, and what closes it as often; and the answer. A function,
+/// its block, a statement and what is innermost count four levels.
 pub(super) static NESTED: [((&str, &str, usize), &str, (&str, &str), &str); 22] = [
     (
         ("int main(void){return ", "(", 200),

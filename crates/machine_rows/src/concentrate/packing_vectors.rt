@@ -1,7 +1,7 @@
 // Values of an independent model of the format.
 
-// The 128 bits and their form in memory; then the user permissions, the permissions, the reserved bits and the flag; the
-// object type, L, T and B; and the address.
+// The 128 bits and their form in memory; then the user permissions, the permissions, the reserved bits and the flag;
+// the object type, L, T and B; and the address.
 pub static FIELDS: [(
     (u128, u128),
     (u8, u16, u8, bool),

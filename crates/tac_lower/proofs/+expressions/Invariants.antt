@@ -51,7 +51,9 @@ abbrev pub decreases-calls::arguments : goal.decreases-calls::arguments
 decreases-calls::arguments l = 16 * l.k + 1
 
 abbrev pub invariant-calls::arguments-loop-a : goal.invariant-calls::arguments-loop-a
-invariant-calls::arguments-loop-a l = ArgumentsTo l.cx.fixed l.cx.p.now l.cx.d.now l.cx.types.now l.cx.homes.now l.initial.out l.out (take l.a-index l.args) l.temps.items
+invariant-calls::arguments-loop-a l =
+    ArgumentsTo l.cx.fixed l.cx.p.now l.cx.d.now l.cx.types.now l.cx.homes.now l.initial.out l.out
+    (take l.a-index l.args) l.temps.items
 
 abbrev pub decreases-calls::call : goal.decreases-calls::call
 decreases-calls::call l = 16 * l.k + 3

@@ -5,4 +5,5 @@ use Rattle.bounds_place.specs.Rows.{owned_need}
 use Rattle.bounds_place.proofs.needs.local_needs.Given as goal
 
 abbrev pub invariant-loop-v : goal.invariant-loop-v
-invariant-loop-v l = l.needs.items ≡ map owned_need (map (local_need l.p.types) (filter is_object (take l.v-index l.vars)))
+invariant-loop-v l = l.needs.items ≡ map owned_need
+    (map (local_need l.p.types) (filter is_object (take l.v-index l.vars)))

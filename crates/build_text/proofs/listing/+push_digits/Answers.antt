@@ -6,4 +6,5 @@ pub returns-then-count-eq0 : goal.returns-then-count-eq0
 returns-then-count-eq0 t c = no_digits _ _ _ (search rules)
 
 pub returns : goal.returns
-returns t c = one_digit _ _ _ _ (c.args.count - 1) _ (omega (arith, c.if-count-eq0.false)) c.in_ok-push_digits.ensures (search rules)
+returns t c = one_digit _ _ _ _ (c.args.count - 1) _ (omega (arith, c.if-count-eq0.false)) c.in_ok-push_digits.ensures
+    (search rules)

@@ -9,4 +9,6 @@ loop-k-init c = c.new-listing.ensures.bytes ∙ no_lines [] _
 pub loop-k-preserved : goal.loop-k-preserved
 loop-k-preserved c =
     one_line [] _ _ (λ k. word_line (c.args.base + 4 * k) (word_in c.args.text.now k)) c.loop-k.k c.loop-k.invariant
-    (c.in_ok-push_word.ensures ∙ ap (λ (w : ℕ). string_bytes c.loop-k.listing ++ word_line (c.args.base + 4 * c.loop-k.k) w) c.word_in.ensures)
+    (c.in_ok-push_word.ensures
+    ∙ ap (λ (w : ℕ). string_bytes c.loop-k.listing ++ word_line (c.args.base + 4 * c.loop-k.k) w)
+    c.word_in.ensures)

@@ -4,4 +4,5 @@ use Rattle.build_text.specs.Map.{frame_lines}
 use Rattle.build_text.proofs.map.push_frames.Given as goal
 
 abbrev pub invariant-loop-k : goal.invariant-loop-k
-invariant-loop-k l = l.into.items ≡ l.initial.into.items ++ lines (λ k. frame_lines l.file (slice_get l.functions k) (slice_get l.frames k)) l.k
+invariant-loop-k l = l.into.items ≡ l.initial.into.items
+    ++ lines (λ k. frame_lines l.file (slice_get l.functions k) (slice_get l.frames k)) l.k

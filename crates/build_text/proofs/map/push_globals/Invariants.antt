@@ -4,4 +4,5 @@ use Rattle.build_text.specs.Map.{global_line}
 use Rattle.build_text.proofs.map.push_globals.Given as goal
 
 abbrev pub invariant-loop-k : goal.invariant-loop-k
-invariant-loop-k l = l.into.items ≡ l.initial.into.items ++ lines (λ k. global_line l.file l.p.types (slice_get l.p.globals k) (slice_get l.bases k)) l.k
+invariant-loop-k l = l.into.items ≡ l.initial.into.items
+    ++ lines (λ k. global_line l.file l.p.types (slice_get l.p.globals k) (slice_get l.bases k)) l.k

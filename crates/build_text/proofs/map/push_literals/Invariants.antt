@@ -4,4 +4,5 @@ use Rattle.build_text.specs.Map.{literal_line}
 use Rattle.build_text.proofs.map.push_literals.Given as goal
 
 abbrev pub invariant-loop-k : goal.invariant-loop-k
-invariant-loop-k l = l.into.items ≡ l.initial.into.items ++ lines (λ k. literal_line (slice_get l.literals k) (slice_get l.bases k)) l.k
+invariant-loop-k l = l.into.items ≡ l.initial.into.items
+    ++ lines (λ k. literal_line (slice_get l.literals k) (slice_get l.bases k)) l.k

@@ -13,13 +13,17 @@ loop-x-preserved c =
     let n : length c.loop-x.table.items ≡ length t = c.loop-x.invariant.count in
     let l : get_or xs i 0 < length c.loop-x.table.items = c.in_ok-mark_one.ensures.there in
     record {
-      marks = subst (Marks t u) (sym (take_more xs i 0 c.loop-x-test.true)) (marks_then t c.loop-x.table.items u (take i xs) (get_or xs i 0 ∷ []) c.loop-x.invariant.marks c.in_ok-mark_one.ensures.marks);
+      marks = subst (Marks t u) (sym (take_more xs i 0 c.loop-x-test.true))
+          (marks_then t c.loop-x.table.items u (take i xs)
+          (get_or xs i 0 ∷ []) c.loop-x.invariant.marks c.in_ok-mark_one.ensures.marks);
       count = c.in_ok-mark_one.ensures.count ∙ n;
       there = each_turn (λ j a. a < length t) xs i 0 c.loop-x-test.true c.loop-x.invariant.there (omega arith);
     }
 
 pub returns-clause-marks : goal.returns-clause-marks
-returns-clause-marks c = subst (Marks c.args.table.now.items c.loop-x.table.items) (take_all c.loop-x.x-index c.args.xs.now c.loop-x-test.false) c.loop-x.invariant.marks
+returns-clause-marks c = subst (Marks c.args.table.now.items c.loop-x.table.items)
+    (take_all c.loop-x.x-index c.args.xs.now c.loop-x-test.false) c.loop-x.invariant.marks
 
 pub returns-clause-there : goal.returns-clause-there
-returns-clause-there c = each_end (λ j a. a < length c.args.table.now.items) c.args.xs.now c.loop-x.x-index c.loop-x-test.false c.loop-x.invariant.there
+returns-clause-there c = each_end (λ j a. a < length c.args.table.now.items) c.args.xs.now c.loop-x.x-index
+    c.loop-x-test.false c.loop-x.invariant.there

@@ -17,7 +17,9 @@ loop-k-preserved c =
     let f : Expr → List ℕ = λ e. operands e.kind in
     record {
       typed = item_turn (λ i (e : Expr). e.of < c.args.types) xs k y lt inv.typed c.index-exprs-k.is ok.typed;
-      before = λ i j a e g h. item_turn (λ n (x : Expr). (m b : ℕ) → slice_get (operands x.kind) m ≡ Some b → b < n) xs k y lt (λ n x q m b r. inv.before n m b x q r) c.index-exprs-k.is ok.before i e g j a h;
-      marks = subst (HasMarks c.check_expr.new.table.items) (sym (flat_item f xs k y lt c.index-exprs-k.is)) (ok.marks (flat_map f (take k xs)) inv.marks);
+      before = λ i j a e g h. item_turn (λ n (x : Expr). (m b : ℕ) → slice_get (operands x.kind) m ≡ Some b → b < n) xs
+          k y lt (λ n x q m b r. inv.before n m b x q r) c.index-exprs-k.is ok.before i e g j a h;
+      marks = subst (HasMarks c.check_expr.new.table.items) (sym (flat_item f xs k y lt c.index-exprs-k.is))
+          (ok.marks (flat_map f (take k xs)) inv.marks);
       count = ok.count ∙ inv.count;
     }

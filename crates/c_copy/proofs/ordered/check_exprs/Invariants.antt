@@ -8,7 +8,8 @@ use Rattle.c_copy.proofs.ordered.check_exprs.Given as goal
 abbrev pub invariant-loop-k : goal.invariant-loop-k
 invariant-loop-k l = record {
   typed : AreTyped l.types (take l.k l.exprs);
-  before : (i j a : ℕ) (e : Expr) → slice_get (take l.k l.exprs) i ≡ Some e → slice_get (operands e.kind) j ≡ Some a → a < i;
+  before : (i j a : ℕ) (e : Expr) → slice_get (take l.k l.exprs) i ≡ Some e → slice_get (operands e.kind) j ≡ Some a →
+      a < i;
   marks : HasMarks l.table.items (flat_map (λ (e : Expr). operands e.kind) (take l.k l.exprs));
   count : length l.table.items ≡ length l.initial.table.items;
 }

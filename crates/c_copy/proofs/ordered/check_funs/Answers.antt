@@ -17,13 +17,18 @@ loop-k-preserved c =
     let n : length c.loop-k.stmts.items ≡ length c.args.stmts.now.items = inv.count in
     let b : y.body < length c.loop-k.stmts.items = ok.body in
     record {
-      of = item_turn (λ i (d : FunDef). (d.of < c.args.types) × (d.body < length c.args.stmts.now.items)) xs k y lt inv.of c.index-funs-k.is (ok.of, omega arith);
+      of = item_turn (λ i (d : FunDef). (d.of < c.args.types) × (d.body < length c.args.stmts.now.items)) xs k y lt
+          inv.of c.index-funs-k.is (ok.of, omega arith);
       vars = item_turn (λ i (d : FunDef). AreVars c.args.types d.vars) xs k y lt inv.vars c.index-funs-k.is ok.vars;
-      marks = subst (Marks c.args.stmts.now.items c.check_fun.new.stmts.items) (sym (map_item f xs k y lt c.index-funs-k.is)) (marks_then c.args.stmts.now.items c.loop-k.stmts.items c.check_fun.new.stmts.items (map f (take k xs)) (f y ∷ []) inv.marks ok.marks);
+      marks = subst (Marks c.args.stmts.now.items c.check_fun.new.stmts.items)
+          (sym (map_item f xs k y lt c.index-funs-k.is))
+          (marks_then c.args.stmts.now.items c.loop-k.stmts.items c.check_fun.new.stmts.items (map f (take k xs))
+          (f y ∷ []) inv.marks ok.marks);
       count = ok.count ∙ n;
     }
 
 pub returns-clause-marks : goal.returns-clause-marks
 returns-clause-marks c =
     let f : FunDef → ℕ = λ d. d.body in
-    subst (λ zs. Marks c.args.stmts.now.items c.loop-k.stmts.items (map f zs)) (take_all c.loop-k.k c.args.funs.now c.loop-k-test.false) c.loop-k.invariant.marks
+    subst (λ zs. Marks c.args.stmts.now.items c.loop-k.stmts.items (map f zs))
+    (take_all c.loop-k.k c.args.funs.now c.loop-k-test.false) c.loop-k.invariant.marks

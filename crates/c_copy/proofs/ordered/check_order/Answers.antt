@@ -11,7 +11,9 @@ returns c =
     let p = c.in_ok-stmt_marks.stmt_marks.items in
     let q = c.check_stmts.new.stmts.items in
     let r = c.check_funs.new.stmts.items in
-    ordered c.args.p.now c.as_slice-types.result.now c.as_slice-globals.result.now c.as_slice-funs.result.now c.as_slice-exprs.result.now c.as_slice-stmts.result.now d e g p q r c.as_slice-types.ensures c.as_slice-globals.ensures c.as_slice-funs.ensures c.as_slice-exprs.ensures c.as_slice-stmts.ensures
+    ordered c.args.p.now c.as_slice-types.result.now c.as_slice-globals.result.now c.as_slice-funs.result.now
+    c.as_slice-exprs.result.now c.as_slice-stmts.result.now d e g p q r c.as_slice-types.ensures
+    c.as_slice-globals.ensures c.as_slice-funs.ensures c.as_slice-exprs.ensures c.as_slice-stmts.ensures
     (record {
       types = c.in_ok-check_types.ensures;
       globals = c.in_ok-check_globals.ensures;

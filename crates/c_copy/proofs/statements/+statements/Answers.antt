@@ -10,12 +10,16 @@ use Rattle.c_copy.proofs.statements.+statements.Goals as goal
 pub statement-expressions-requires-clause-below : goal.statement-expressions-requires-clause-below
 statement-expressions-requires-clause-below t c = λ j a q.
     let s = c.args.source.now in
-    term_there (NamesThere s.numbers.now) s.exprs.now a (value_stands (NamesThere s.numbers.now) s.exprs.now s.stmts.now c.args.k c.stmt_at-s.result.now c.requires.stands c.stmt_at-s.ensures j a (ap (λ xs. slice_get xs j) (sym (c.as_slice-2.ensures.value ∙ c.in_ok-xs.ensures)) ∙ q))
+    term_there (NamesThere s.numbers.now) s.exprs.now a
+    (value_stands (NamesThere s.numbers.now) s.exprs.now s.stmts.now c.args.k c.stmt_at-s.result.now
+    c.requires.stands c.stmt_at-s.ensures j a
+    (ap (λ xs. slice_get xs j) (sym (c.as_slice-2.ensures.value ∙ c.in_ok-xs.ensures)) ∙ q))
 
 pub statement-expressions-requires-clause-stand : goal.statement-expressions-requires-clause-stand
 statement-expressions-requires-clause-stand t c = λ j a q.
     let s = c.args.source.now in
-    value_stands (NamesThere s.numbers.now) s.exprs.now s.stmts.now c.args.k c.stmt_at-s.result.now c.requires.stands c.stmt_at-s.ensures j a (ap (λ xs. slice_get xs j) (sym (c.as_slice-2.ensures.value ∙ c.in_ok-xs.ensures)) ∙ q)
+    value_stands (NamesThere s.numbers.now) s.exprs.now s.stmts.now c.args.k c.stmt_at-s.result.now c.requires.stands
+    c.stmt_at-s.ensures j a (ap (λ xs. slice_get xs j) (sym (c.as_slice-2.ensures.value ∙ c.in_ok-xs.ensures)) ∙ q)
 
 pub statement-statements-requires : goal.statement-statements-requires
 statement-statements-requires t c =
@@ -28,7 +32,9 @@ statement-statements-requires t c =
         (
           omega arith,
           λ j a q.
-              part_stands (NamesThere s.numbers.now) s.exprs.now s.stmts.now c.args.k c.stmt_at-s.result.now c.requires.stands c.stmt_at-s.ensures j a (ap (λ xs. slice_get xs j) (sym (c.as_slice-3.ensures.value ∙ c.in_ok-ks.ensures)) ∙ q) (below j a q),
+              part_stands (NamesThere s.numbers.now) s.exprs.now s.stmts.now c.args.k c.stmt_at-s.result.now
+              c.requires.stands c.stmt_at-s.ensures j a
+              (ap (λ xs. slice_get xs j) (sym (c.as_slice-3.ensures.value ∙ c.in_ok-ks.ensures)) ∙ q) (below j a q),
         ),
       ),
     )
@@ -40,8 +46,11 @@ statement-returns-clause-is t c =
     let mid = c.statements.new.into.stmts.items in
     let d : Stmt = record { kind = c.in_ok-kind.kind; pos = x.pos } in
     pushed c.push_stmt.result _ _ _ c.push_stmt.ensures.items c.push_stmt.ensures.number
-    (λ items. rw items (action_copied_through s.numbers.now s.exprs.now s.stmts.now _ c.statements.new.into.exprs.items mid c.args.k x d c.in_ok-xs.xs.items _ c.in_ok-vs.vs.items _ c.in_ok-ks.ks.items _ _ c.in_ok-js.js.items _
-    c.as_slice-2.ensures.value c.as_slice-4.ensures.value c.as_slice.ensures.value c.as_slice-3.ensures.value c.as_slice-5.ensures.value c.in_ok-js.ensures.exprs c.stmt_at-s.ensures c.in_ok-xs.ensures c.in_ok-ks.ensures c.in_ok-all_below.ensures c.in_ok-vs.ensures.are c.in_ok-js.ensures.are
+    (λ items. rw items (action_copied_through s.numbers.now s.exprs.now s.stmts.now _ c.statements.new.into.exprs.items
+    mid c.args.k x d c.in_ok-xs.xs.items _ c.in_ok-vs.vs.items _ c.in_ok-ks.ks.items _ _ c.in_ok-js.js.items _
+    c.as_slice-2.ensures.value c.as_slice-4.ensures.value c.as_slice.ensures.value c.as_slice-3.ensures.value
+    c.as_slice-5.ensures.value c.in_ok-js.ensures.exprs c.stmt_at-s.ensures c.in_ok-xs.ensures c.in_ok-ks.ensures
+    c.in_ok-all_below.ensures c.in_ok-vs.ensures.are c.in_ok-js.ensures.are
     c.in_ok-kind.ensures refl))
 
 pub statements-loop-k-preserved : goal.statements-loop-k-preserved
@@ -49,8 +58,11 @@ statements-loop-k-preserved t c =
     let s = c.args.source.now in
     let lt : c.loop-k.k-index < length c.args.ks.now = c.loop-k-test.true in
     record {
-      count = copies_count c.loop-k.js.items _ c.in_ok-j.j c.loop-k.k-index c.in_ok-push.ensures.items c.loop-k.invariant.count;
+      count = copies_count c.loop-k.js.items _ c.in_ok-j.j c.loop-k.k-index c.in_ok-push.ensures.items
+          c.loop-k.invariant.count;
       exprs = extends_then _ _ _ c.loop-k.invariant.exprs c.in_ok-j.ensures.exprs;
       stmts = extends_then _ _ _ c.loop-k.invariant.stmts c.in_ok-j.ensures.stmts;
-      copies = action_turn s.numbers.now s.exprs.now s.stmts.now _ _ _ _ c.args.ks.now c.loop-k.js.items _ c.loop-k.k-index _ c.in_ok-j.j lt refl c.in_ok-j.ensures.exprs c.in_ok-j.ensures.stmts c.loop-k.invariant.copies c.in_ok-j.ensures.is c.in_ok-push.ensures.items;
+      copies = action_turn s.numbers.now s.exprs.now s.stmts.now _ _ _ _ c.args.ks.now c.loop-k.js.items _
+          c.loop-k.k-index _ c.in_ok-j.j lt refl c.in_ok-j.ensures.exprs c.in_ok-j.ensures.stmts
+          c.loop-k.invariant.copies c.in_ok-j.ensures.is c.in_ok-push.ensures.items;
     }

@@ -13,5 +13,6 @@ invariant-statements-loop-k l = record {
   count : length l.js.items ≡ l.k-index;
   exprs : Extends l.initial.into.exprs.items l.into.exprs.items;
   stmts : Extends l.initial.into.stmts.items l.into.stmts.items;
-  copies : AreActionCopies l.source.numbers.now l.source.exprs.now l.source.stmts.now l.into.exprs.items l.into.stmts.items (take l.k-index l.ks) l.js.items;
+  copies : AreActionCopies l.source.numbers.now l.source.exprs.now l.source.stmts.now l.into.exprs.items
+      l.into.stmts.items (take l.k-index l.ks) l.js.items;
 }

@@ -11,9 +11,11 @@ returns-in-If c = rw (c.in-If.is, c.one.ensures) (c.if_with.ensures _ _)
 pub returns-in-For : goal.returns-in-For
 returns-in-For c =
     let a = c.in-For in
-    let n : length c.args.ys.now ≡ length a.first + 1 = (rw a.is at c.requires.parts) ∙ length-append a.first (a.body ∷ []) in
+    let n : length c.args.ys.now ≡ length a.first + 1 =
+    (rw a.is at c.requires.parts) ∙ length-append a.first (a.body ∷ []) in
     IfOk-weaker c.for_with.result _ _
     (λ k h.
     subst (λ (s : StmtKind). IsStmtWith s c.args.xs.now c.args.ys.now k) (sym a.is)
-    (subst (λ (vs : List ℕ). IsStmtWith (stmts.For vs a.first a.test a.step a.body) c.args.xs.now c.args.ys.now k) c.as_slice-in-For.ensures (h a.first a.body n)))
+    (subst (λ (vs : List ℕ). IsStmtWith (stmts.For vs a.first a.test a.step a.body) c.args.xs.now c.args.ys.now k)
+    c.as_slice-in-For.ensures (h a.first a.body n)))
     c.for_with.ensures

@@ -8,4 +8,6 @@ loop-param-init c = rw c.new-types.ensures.items (no_types_yet c.args.nodes.now 
 pub loop-param-preserved : goal.loop-param-preserved
 loop-param-preserved c =
     let lt : c.loop-param.param-index < length c.args.params.now = omega arith in
-    rw c.in_ok-push.ensures.items (param_more c.args.nodes.now c.loop-param.nodes c.in_signature.new.nodes _ c.args.params.now c.loop-param.param-index c.in_ok-of.of _ lt c.requires.there c.loop-param.invariant c.in_ok-of.ensures)
+    rw c.in_ok-push.ensures.items (param_more c.args.nodes.now c.loop-param.nodes c.in_signature.new.nodes _
+    c.args.params.now c.loop-param.param-index c.in_ok-of.of _ lt c.requires.there c.loop-param.invariant
+    c.in_ok-of.ensures)

@@ -27,22 +27,32 @@ returns-in-Ok c =
     let sc : Scopes = c.declare_constant.new.self in
     let z : ℤ = c.args.number in
     let n : (s : State) → Shows w s → name_of w.nodes.scopes.file.now c.constant_of-d.result ≡ t =
-    λ s h. λ i. record { kind = Word; text = text_at (h.closed.file i) (c.constant_of-d.ensures.name i); span = c.constant_of-d.ensures.name i; pos = c.constant_of-d.ensures.pos i } in
-    let new : (s : State) → Shows w s → is_new s t.text ≡ true = λ s h. sym (c.is_new.ensures s h) ∙ c.if-not-is_new.false in
+    λ s h. λ i. record {
+      kind = Word;
+      text = text_at (h.closed.file i) (c.constant_of-d.ensures.name i);
+      span = c.constant_of-d.ensures.name i;
+      pos = c.constant_of-d.ensures.pos i;
+    } in
+    let new : (s : State) → Shows w s → is_new s t.text ≡ true =
+    λ s h. sym (c.is_new.ensures s h) ∙ c.if-not-is_new.false in
     let b : in_int z ≡ true = first_of (search rules, grind arith) in
     let v : c.in-Some.value ≡ z = first_of (search rules, grind arith) in
     let x : c.next_after.result ≡ c.in-Some.value +ℤ pos 1 = first_of (search rules, grind arith) in
     let q : to_z w32 (of_z w32 c.in-Some.value) ≡ c.in-Some.value = to_z-of_z w32 c.in-Some.value c.in-Some.ensures.2 in
     let e : z +ℤ pos 1 ≡ c.next_after.result = ap (λ (y : ℤ). y +ℤ pos 1) (sym v) ∙ sym x in
     let F : State → ℤ → Type 0 = λ s y. y ≡ c.next_after.result in
-    declared w (record w.nodes { scopes = sc }) (enumerate t z c.args.at) _ F _ c.requires (scopes_declared w.nodes sc c.declare_constant.ensures.file) (enumerate_declares w.file.now t z c.args.at) tt
+    declared w (record w.nodes { scopes = sc }) (enumerate t z c.args.at) _ F _ c.requires
+    (scopes_declared w.nodes sc c.declare_constant.ensures.file) (enumerate_declares w.file.now t z c.args.at) tt
     (λ s h. record {
       value = z +ℤ pos 1;
       state = bind_name t.text (Enumerator z) s;
       is = enumerated t z c.args.at s (new s h) b;
       stands = constant_stands sc w.nodes.p t z s _ (new s h)
-          (subst (λ (y : ℤ). Given sc w.nodes.p (denoted t (declares_constant t y) s) (IsDenoted w.nodes.p c.in-Ok.field-0)) (q ∙ v)
-          (subst (λ (u : Lexeme). Given sc w.nodes.p (denoted u (declares_constant u (to_z w32 (of_z w32 c.in-Some.value))) s) (IsDenoted w.nodes.p c.in-Ok.field-0)) (n s h) (c.in-Ok.ensures.is w.nodes.p s h.stands)));
+          (subst (λ (y : ℤ). Given sc w.nodes.p (denoted t (declares_constant t y) s)
+          (IsDenoted w.nodes.p c.in-Ok.field-0)) (q ∙ v)
+          (subst (λ (u : Lexeme). Given sc w.nodes.p
+          (denoted u (declares_constant u (to_z w32 (of_z w32 c.in-Some.value))) s)
+          (IsDenoted w.nodes.p c.in-Ok.field-0)) (n s h) (c.in-Ok.ensures.is w.nodes.p s h.stands)));
       fits = e;
     })
     (λ s y f. f ∙ sym (to_z-of_z w128 c.next_after.result c.next_after.ensures.fits))

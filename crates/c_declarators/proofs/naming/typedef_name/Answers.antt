@@ -14,14 +14,19 @@ use Rattle.c_declarators.proofs.naming.typedef_name.Goals as goal
 pub returns-in-None : goal.returns-in-None
 returns-in-None c = λ s h.
     let w : Work = c.args.work.now in
-    no_alias (types_of w.nodes.p.types) c.look-found.result _ c.args.name.pos s (rw c.text_of.ensures at (c.look-found.ensures w.nodes.p s h.stands)) (rw c.in-None.is at c.alias_of.ensures)
+    no_alias (types_of w.nodes.p.types) c.look-found.result _ c.args.name.pos s
+    (rw c.text_of.ensures at (c.look-found.ensures w.nodes.p s h.stands)) (rw c.in-None.is at c.alias_of.ensures)
 
 pub returns-then-of-as_slice : goal.returns-then-of-as_slice
 returns-then-of-as_slice c =
     let w : Work = c.args.work.now in
     let lt : c.in-Some.of < type_count w.nodes = rw c.as_slice.ensures at c.if-of-as_slice.true in
     let len : length (types_of w.nodes.p.types) ≡ type_count w.nodes = length-types_of w.nodes.p.types in
-    let g : named (types_of w.nodes.p.types) c.in-Some.of ≡ Some (type_in w.nodes c.in-Some.of) = slice_get-get_or (types_of w.nodes.p.types) c.in-Some.of Void (omega arith) in
+    let g : named (types_of w.nodes.p.types) c.in-Some.of ≡ Some (type_in w.nodes c.in-Some.of) =
+    slice_get-get_or (types_of w.nodes.p.types) c.in-Some.of Void (omega arith) in
     given_quietly w w.nodes _ _ _ (λ s. type_in w.nodes c.in-Some.of) (keeps_same w.nodes c.requires) lt
-    (λ s h. an_alias (types_of w.nodes.p.types) c.look-found.result _ c.in-Some.of (type_in w.nodes c.in-Some.of) c.args.name.pos s (rw c.text_of.ensures at (c.look-found.ensures w.nodes.p s h.stands)) (rw c.in-Some.is at c.alias_of.ensures) g)
+    (λ s h. an_alias (types_of w.nodes.p.types) c.look-found.result _ c.in-Some.of
+    (type_in w.nodes c.in-Some.of) c.args.name.pos s
+    (rw c.text_of.ensures at (c.look-found.ensures w.nodes.p s h.stands))
+    (rw c.in-Some.is at c.alias_of.ensures) g)
     (λ s h. refl)

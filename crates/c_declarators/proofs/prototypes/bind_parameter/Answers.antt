@@ -22,13 +22,17 @@ returns-in_ok-bind_local-in-Some c =
     let n : Name = c.in-Some.name in
     let u : Ty = type_in w.nodes c.args.p.of in
     let F : State → Unit {0} → Type 0 = λ s a. Unit {0} in
-    declared w (record w.nodes { scopes = sc }) (change (bind_parameter c.args.k (param_in w c.args.p))) _ F F c.requires.whole (scopes_declared w.nodes sc c.bind_local.ensures.file) (parameter_declares w.file.now c.args.k (param_in w c.args.p)) tt
+    declared w (record w.nodes { scopes = sc })
+    (change (bind_parameter c.args.k (param_in w c.args.p))) _ F F c.requires.whole
+    (scopes_declared w.nodes sc c.bind_local.ensures.file)
+    (parameter_declares w.file.now c.args.k (param_in w c.args.p)) tt
     (λ s h. record {
       value = tt;
       state = bind_parameter c.args.k (param_in w c.args.p) s;
       is = refl;
       stands = subst (λ (t : State). Stands sc w.nodes.p t) (sym (parameter_binds w c.args.k c.args.p n s c.in-Some.is))
-          (subst (λ (f : List ℕ). Stands sc w.nodes.p (bind_name (text_at f n.span) (meant.Local c.args.k u) s)) h.closed.file
+          (subst (λ (f : List ℕ). Stands sc w.nodes.p (bind_name (text_at f n.span) (meant.Local c.args.k u) s))
+          h.closed.file
           (c.in_ok-bind_local-in-Some.ensures.ok w.nodes.p s u h.stands (type_there w c.args.p.of c.requires.there)));
       fits = tt;
     })

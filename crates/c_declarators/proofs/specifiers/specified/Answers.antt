@@ -8,4 +8,6 @@ use Rattle.c_declarators.proofs.specifiers.specified.Goals as goal
 
 pub returns : goal.returns
 returns c = λ t xs e h.
-    subst (λ (x : Words). Answers quietly c.args.work.now c.specified_by.new.work (specified_by x t (map (type_in c.args.work.now.nodes) c.args.named.now)) SpecifiedThere (in_any IsSpecified) c.specified_by.result) (c.in_ok-words.ensures xs h) (c.specified_by.ensures t e)
+    subst (λ (x : Words). Answers quietly c.args.work.now c.specified_by.new.work
+    (specified_by x t (map (type_in c.args.work.now.nodes) c.args.named.now)) SpecifiedThere
+    (in_any IsSpecified) c.specified_by.result) (c.in_ok-words.ensures xs h) (c.specified_by.ensures t e)

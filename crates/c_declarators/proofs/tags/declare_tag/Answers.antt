@@ -18,8 +18,13 @@ returns-in-Ok-bind_tag c =
     let t : Lexeme = token_of w c.args.name in
     let u : Lexeme = name_of w.nodes.scopes.file.now c.tag_of-d.result in
     let F : State → ℕ → Type 0 = λ s n. n ≡ c.in-Ok.tag in
-    let e : c.in-Ok.tag ≡ c.tag_count.result = first_of (search rules, cc (c.in-Ok.ensures), omega (arith, c.in-Ok.ensures)) in
-    declared w m (declare_tag c.args.kind t) _ F F c.requires.whole c.bind_tag.ensures.declared (declare_tag_declares w.file.now c.args.kind t) tt
-    (λ s h. tag_declared m.scopes m.p c.args.kind c.tag_kind-k.result t u c.tag_of-d.result.defines s c.in-Ok.tag (IsTag m.p c.in-Ok-bind_tag.field-0) c.tag_kind-k.ensures (name_is w c.args.name c.tag_of-d.result s c.tag_of-d.ensures.name c.tag_of-d.ensures.pos h)
-    c.tag_of-d.ensures.defines (c.requires.new s h) (e ∙ c.tag_count.ensures w.nodes.p s h.stands) (c.in-Ok-bind_tag.ensures.is s h.stands))
+    let e : c.in-Ok.tag ≡ c.tag_count.result =
+    first_of (search rules, cc (c.in-Ok.ensures), omega (arith, c.in-Ok.ensures)) in
+    declared w m (declare_tag c.args.kind t) _ F F c.requires.whole c.bind_tag.ensures.declared
+    (declare_tag_declares w.file.now c.args.kind t) tt
+    (λ s h. tag_declared m.scopes m.p c.args.kind c.tag_kind-k.result t u c.tag_of-d.result.defines s c.in-Ok.tag
+    (IsTag m.p c.in-Ok-bind_tag.field-0) c.tag_kind-k.ensures
+    (name_is w c.args.name c.tag_of-d.result s c.tag_of-d.ensures.name c.tag_of-d.ensures.pos h)
+    c.tag_of-d.ensures.defines (c.requires.new s h) (e ∙ c.tag_count.ensures w.nodes.p s h.stands)
+    (c.in-Ok-bind_tag.ensures.is s h.stands))
     (λ s n f. f)

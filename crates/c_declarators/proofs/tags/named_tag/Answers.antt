@@ -16,5 +16,8 @@ returns-then-is_of_kind c =
     let t : Lexeme = token_of w c.args.name in
     let n = c.in-Some-Recorded.tag in
     given_quietly w w.nodes _ _ _ (λ s. n) (keeps_same w.nodes c.requires) tt
-    (λ s h. named_is c.args.here c.args.kind t s (Some (Recorded n)) (sym (c.found_tag.ensures s h) ∙ ap (option_map tagging_of) (c.in-Some-Recorded.is ∙ ap (λ x. Some x) c.in-Some-Recorded.field-0-is)) ∙ of_kind c.args.kind t n s (sym (c.is_of_kind.ensures w.nodes.p s h.stands) ∙ c.if-is_of_kind.true))
+    (λ s h. named_is c.args.here c.args.kind t s (Some (Recorded n))
+    (sym (c.found_tag.ensures s h)
+    ∙ ap (option_map tagging_of) (c.in-Some-Recorded.is ∙ ap (λ x. Some x) c.in-Some-Recorded.field-0-is))
+    ∙ of_kind c.args.kind t n s (sym (c.is_of_kind.ensures w.nodes.p s h.stands) ∙ c.if-is_of_kind.true))
     (λ s h. refl)

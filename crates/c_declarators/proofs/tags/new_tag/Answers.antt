@@ -10,4 +10,5 @@ pub returns : goal.returns
 returns c =
     let w : Work = c.args.work.now in
     let F : State → ℕ → Type 0 = λ s n. n ≡ c.in_ok-tag.tag in
-    declared w c.add_tag.new.nodes (new_tag c.args.kind) _ F F c.requires c.add_tag.ensures.declared (new_tag_declares w.file.now c.args.kind) tt (λ s h. c.in_ok-tag.ensures.is s h.stands) (λ s n e. e)
+    declared w c.add_tag.new.nodes (new_tag c.args.kind) _ F F c.requires c.add_tag.ensures.declared
+    (new_tag_declares w.file.now c.args.kind) tt (λ s h. c.in_ok-tag.ensures.is s h.stands) (λ s n e. e)

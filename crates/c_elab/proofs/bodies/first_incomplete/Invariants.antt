@@ -7,4 +7,6 @@ use Rattle.c_elab.proofs.bodies.first_incomplete.Given as goal
 
 abbrev pub invariant-loop-param : goal.invariant-loop-param
 invariant-loop-param l =
-    (s : State) → Shows l.work s → first_incomplete s.tags (map (param_in l.work) l.params) ≡ first_incomplete s.tags (map (param_in l.work) (drop l.param-index l.params))
+    (s : State) → Shows l.work s →
+    first_incomplete s.tags (map (param_in l.work) l.params)
+    ≡ first_incomplete s.tags (map (param_in l.work) (drop l.param-index l.params))

@@ -8,6 +8,9 @@ loop-k-preserved c =
     let js = c.as_slice-k-items.result.now in
     let i = c.loop-k.k-index in
     record {
-      marks = one_marked ks i (get_or js i 0) 0 c.loop-k.marks.items c.mark.new.marks.items (rw c.as_slice-k-items.ensures.value at c.loop-k-test.true) (ap (λ xs. get_or xs i 0) (sym c.as_slice-k-items.ensures.value)) c.mark.ensures.marks c.loop-k.invariant.marks;
+      marks = one_marked ks i (get_or js i 0) 0 c.loop-k.marks.items c.mark.new.marks.items
+          (rw c.as_slice-k-items.ensures.value at c.loop-k-test.true)
+          (ap (λ xs. get_or xs i 0) (sym c.as_slice-k-items.ensures.value)) c.mark.ensures.marks
+          c.loop-k.invariant.marks;
       count = c.mark.ensures.count ∙ c.loop-k.invariant.count;
     }

@@ -6,7 +6,12 @@ use Rattle.c_elab.proofs.Ending.{body_typed, body_untyped}
 use Rattle.c_elab.proofs.bodies.type_body.Goals as goal
 
 pub all_items-requires : goal.all_items-requires
-all_items-requires c = record { whole = c.requires.whole; context = c.requires.context; parts = rw c.as_slice.ensures (have_kids c.args.work.now c.args.block c.in_ok-node.node.now c.requires.part c.in_ok-node.ensures) }
+all_items-requires c = record {
+  whole = c.requires.whole;
+  context = c.requires.context;
+  parts = rw c.as_slice.ensures (have_kids c.args.work.now c.args.block c.in_ok-node.node.now c.requires.part
+      c.in_ok-node.ensures);
+}
 
 pub finish_body-requires : goal.finish_body-requires
 finish_body-requires c =
@@ -15,12 +20,17 @@ finish_body-requires c =
     record { whole = a.whole; items = a.there }
 
 pub returns-in_err-items : goal.returns-in_err-items
-returns-in_err-items c = let q = err_from_is_err_and c.from_residual-in_err-items.result c.from_residual-in_err-items.ensures.1 in λ z p.
+returns-in_err-items c =
+    let q = err_from_is_err_and c.from_residual-in_err-items.result c.from_residual-in_err-items.ensures.1 in λ z p.
     let u : Work = c.args.work.now in
-    rw (q.1, q.2) (body_untyped u c.all_items.new.work c.all_items.new.work c.args.k c.args.count (context_in u c.args.context) c.args.block z c.in_ok-node.node.now _ p c.in_ok-node.ensures (λ xs a. c.in_err-items.ensures xs (rw c.as_slice.ensures a)))
+    rw (q.1, q.2) (body_untyped u c.all_items.new.work c.all_items.new.work c.args.k c.args.count
+    (context_in u c.args.context) c.args.block z c.in_ok-node.node.now _ p c.in_ok-node.ensures
+    (λ xs a. c.in_err-items.ensures xs (rw c.as_slice.ensures a)))
 
 pub returns : goal.returns
 returns c = λ z p.
     let u : Work = c.args.work.now in
-    body_typed u c.all_items.new.work c.finish_body.new.work c.args.k c.args.count (context_in u c.args.context) c.args.block z c.in_ok-node.node.now c.in_ok-items.items c.finish_body.result p c.in_ok-node.ensures
+    body_typed u c.all_items.new.work c.finish_body.new.work c.args.k c.args.count
+    (context_in u c.args.context) c.args.block z c.in_ok-node.node.now c.in_ok-items.items c.finish_body.result p
+    c.in_ok-node.ensures
     (λ xs a. c.in_ok-items.ensures xs (rw c.as_slice.ensures a)) c.finish_body.ensures

@@ -12,18 +12,28 @@ loop-v-preserved c =
     let w = c.args.work.now in
     let i = c.loop-v.v-index in
     let vs = c.args.locals.now in
-    let d : VarDef = record { name = record { start = 0; end = 0 }; pos = record { line = 0; col = 0 }; of = 0; simple = false } in
+    let d : VarDef = record {
+      name = record { start = 0; end = 0 };
+      pos = record { line = 0; col = 0 };
+      of = 0;
+      simple = false;
+    } in
     let n = c.loop-v.invariant.count in
     let x : VarDef = c.in_ok-x.x in
     let all = c.loop-v.all.items in
     record {
       count = c.in_ok-next.ensures ∙ ap (λ m. m + 1) n;
-      there = subst (λ (xs : List VarDef). All (VariableThere w) xs) (sym c.in_ok-push_variable.ensures) (All-push (VariableThere w) all x c.loop-v.invariant.there c.in_ok-x.ensures.there);
-      are = c.in_ok-push_variable.ensures ∙ one_variable w (take i vs) c.loop-v.k (get_or vs i d) x all (taken_count vs i (omega arith) ∙ sym n) c.loop-v.invariant.are c.in_ok-x.ensures.is ∙ ap (variables_from w 0) (sym (take_more vs i d c.loop-v-test.true));
+      there = subst (λ (xs : List VarDef). All (VariableThere w) xs) (sym c.in_ok-push_variable.ensures)
+          (All-push (VariableThere w) all x c.loop-v.invariant.there c.in_ok-x.ensures.there);
+      are = c.in_ok-push_variable.ensures
+          ∙ one_variable w (take i vs) c.loop-v.k (get_or vs i d) x all
+          (taken_count vs i (omega arith) ∙ sym n) c.loop-v.invariant.are c.in_ok-x.ensures.is
+          ∙ ap (variables_from w 0) (sym (take_more vs i d c.loop-v-test.true));
     }
 
 pub returns-clause-are : goal.returns-clause-are
-returns-clause-are c = c.loop-v.invariant.are ∙ ap (variables_from c.args.work.now 0) (take_all c.loop-v.v-index c.args.locals.now c.loop-v-test.false)
+returns-clause-are c = c.loop-v.invariant.are
+    ∙ ap (variables_from c.args.work.now 0) (take_all c.loop-v.v-index c.args.locals.now c.loop-v-test.false)
 
 pub variable-requires-clause-marked : goal.variable-requires-clause-marked
 variable-requires-clause-marked c =

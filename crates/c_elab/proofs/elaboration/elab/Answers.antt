@@ -10,35 +10,62 @@ pub all_externals-requires : goal.all_externals-requires
 all_externals-requires c =
     let w : Work = c.in_ok-work.work in
     let h = c.requires.readable in
-    let p = root_is w c.args.tree.now c.args.file.now h.syntax c.in_ok-work.ensures.tree c.in_ok-work.ensures.file h.reads in
-    record { shown = record { state = beginning; shows = c.in_ok-work.ensures.shows }; whole = c.in_ok-work.ensures.whole; parts = rw c.as_slice.ensures (have_kids w c.args.tree.now.root c.in_ok-root.root.now (record { syntax = h.syntax; is = p }) c.in_ok-root.ensures) }
+    let p = root_is w c.args.tree.now c.args.file.now h.syntax c.in_ok-work.ensures.tree c.in_ok-work.ensures.file
+    h.reads in
+    record {
+      shown = record { state = beginning; shows = c.in_ok-work.ensures.shows };
+      whole = c.in_ok-work.ensures.whole;
+      parts =
+          rw c.as_slice.ensures (have_kids w c.args.tree.now.root c.in_ok-root.root.now
+          (record { syntax = h.syntax; is = p }) c.in_ok-root.ensures);
+    }
 
 pub finish-requires : goal.finish-requires
 finish-requires c =
     let w : Work = c.in_ok-work.work in
     let h = c.requires.readable in
-    let p = root_is w c.args.tree.now c.args.file.now h.syntax c.in_ok-work.ensures.tree c.in_ok-work.ensures.file h.reads in
-    let a = c.in_ok-all_externals.ensures (parts h.syntax) (rw c.as_slice.ensures (root_parts w c.args.tree.now.root h.syntax c.in_ok-root.root.now p c.in_ok-root.ensures)) in
+    let p = root_is w c.args.tree.now c.args.file.now h.syntax c.in_ok-work.ensures.tree c.in_ok-work.ensures.file
+    h.reads in
+    let a = c.in_ok-all_externals.ensures (parts h.syntax)
+    (rw c.as_slice.ensures (root_parts w c.args.tree.now.root h.syntax c.in_ok-root.root.now p
+    c.in_ok-root.ensures)) in
     let m = a.gives beginning c.in_ok-work.ensures.shows in
     record {
       whole = a.whole;
-      shown = record { state = m.state; shows = m.shows; typed = typed_end c.args.tree.now c.args.file.now h.syntax m.value m.state h.reads m.is };
-      syntax = record { syntax = h.syntax; stands = syntax_is w c.all_externals.new.work c.args.tree.now h.syntax c.in_ok-work.ensures.tree a.grows.tree h.reads.stands };
+      shown = record {
+        state = m.state;
+        shows = m.shows;
+        typed = typed_end c.args.tree.now c.args.file.now h.syntax m.value m.state h.reads m.is;
+      };
+      syntax = record {
+        syntax = h.syntax;
+        stands = syntax_is w c.all_externals.new.work c.args.tree.now h.syntax c.in_ok-work.ensures.tree
+            a.grows.tree h.reads.stands;
+      };
     }
 
 pub returns-in_err-root : goal.returns-in_err-root
-returns-in_err-root c = let q = err_from_is_err_and c.from_residual-in_err-root.result c.from_residual-in_err-root.ensures.1 in λ x r. rw (q.1, q.2) (tt {0})
+returns-in_err-root c =
+    let q = err_from_is_err_and c.from_residual-in_err-root.result c.from_residual-in_err-root.ensures.1 in
+    λ x r. rw (q.1, q.2) (tt {0})
 
 pub returns-in_err-all_externals : goal.returns-in_err-all_externals
-returns-in_err-all_externals c = let q = err_from_is_err_and c.from_residual-in_err-all_externals.result c.from_residual-in_err-all_externals.ensures.1 in λ x r.
+returns-in_err-all_externals c =
+    let q = err_from_is_err_and c.from_residual-in_err-all_externals.result c.from_residual-in_err-all_externals.ensures.1 in λ x r.
     let w : Work = c.in_ok-work.work in
     let p = root_is w c.args.tree.now c.args.file.now x c.in_ok-work.ensures.tree c.in_ok-work.ensures.file r in
-    rw (q.1, q.2) (elaboration_fails x w c.all_externals.new.work _ c.in_ok-work.ensures.shows (c.in_err-all_externals.ensures (parts x) (rw c.as_slice.ensures (root_parts w c.args.tree.now.root x c.in_ok-root.root.now p c.in_ok-root.ensures))))
+    rw (q.1, q.2) (elaboration_fails x w c.all_externals.new.work _ c.in_ok-work.ensures.shows
+    (c.in_err-all_externals.ensures (parts x)
+    (rw c.as_slice.ensures (root_parts w c.args.tree.now.root x c.in_ok-root.root.now p c.in_ok-root.ensures))))
 
 pub returns : goal.returns
 returns c = λ x r.
     let w : Work = c.in_ok-work.work in
     let p = root_is w c.args.tree.now c.args.file.now x c.in_ok-work.ensures.tree c.in_ok-work.ensures.file r in
-    let a = c.in_ok-all_externals.ensures (parts x) (rw c.as_slice.ensures (root_parts w c.args.tree.now.root x c.in_ok-root.root.now p c.in_ok-root.ensures)) in
+    let a = c.in_ok-all_externals.ensures (parts x)
+    (rw c.as_slice.ensures (root_parts w c.args.tree.now.root x c.in_ok-root.root.now p c.in_ok-root.ensures))
+    in
     let m = a.gives beginning c.in_ok-work.ensures.shows in
-    elaborated x m.state m.value c.finish.result m.is (c.finish.ensures m.state x m.shows (syntax_is w c.all_externals.new.work c.args.tree.now x c.in_ok-work.ensures.tree a.grows.tree r.stands))
+    elaborated x m.state m.value c.finish.result m.is
+    (c.finish.ensures m.state x m.shows (syntax_is w c.all_externals.new.work c.args.tree.now x
+    c.in_ok-work.ensures.tree a.grows.tree r.stands))

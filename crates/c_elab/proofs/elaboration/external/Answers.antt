@@ -12,19 +12,30 @@ use Rattle.c_elab.proofs.elaboration.external.Goals as goal
 pub function_definition-requires : goal.function_definition-requires
 function_definition-requires c =
     let u : Work = c.args.work.now in
-    record { shown = c.requires.shown; whole = c.requires.whole; parts = rw c.as_slice.ensures (have_kids u c.args.k c.in_ok-node.node.now c.requires.part c.in_ok-node.ensures) }
+    record {
+      shown = c.requires.shown;
+      whole = c.requires.whole;
+      parts = rw c.as_slice.ensures (have_kids u c.args.k c.in_ok-node.node.now c.requires.part
+          c.in_ok-node.ensures);
+    }
 
 pub declare-requires : goal.declare-requires
 declare-requires c =
     let u : Work = c.args.work.now in
-    record { whole = c.requires.whole; parts = rw c.as_slice-in-Declaration.ensures (have_kids u c.args.k c.in_ok-node.node.now c.requires.part c.in_ok-node.ensures) }
+    record {
+      whole = c.requires.whole;
+      parts = rw c.as_slice-in-Declaration.ensures
+          (have_kids u c.args.k c.in_ok-node.node.now c.requires.part c.in_ok-node.ensures);
+    }
 
 pub returns-in-FunctionDefinition : goal.returns-in-FunctionDefinition
 returns-in-FunctionDefinition c = λ x p.
     let u : Work = c.args.work.now in
     let w : Work = c.function_definition.new.work in
     external_answers u w c.args.k x c.in_ok-node.node.now c.function_definition.result p c.in_ok-node.ensures
-    (λ t xs e a. subst (λ (k : NodeKind). Answers freely u w (external_of k t xs (readings xs)) NothingThere IsNothing c.function_definition.result) (sym c.in-FunctionDefinition.is)
+    (λ t xs e a. subst (λ (k : NodeKind). Answers freely u w
+    (external_of k t xs (readings xs)) NothingThere IsNothing c.function_definition.result)
+    (sym c.in-FunctionDefinition.is)
     (c.function_definition.ensures t xs e (rw c.as_slice.ensures a)))
 
 pub returns-in-Declaration : goal.returns-in-Declaration
@@ -32,11 +43,15 @@ returns-in-Declaration c = λ x p.
     let u : Work = c.args.work.now in
     let w : Work = c.declare.new.work in
     external_answers u w c.args.k x c.in_ok-node.node.now c.declare.result p c.in_ok-node.ensures
-    (λ t xs e a. subst (λ (k : NodeKind). Answers freely u w (external_of k t xs (readings xs)) NothingThere IsNothing c.declare.result) (sym c.in-Declaration.is)
+    (λ t xs e a. subst (λ (k : NodeKind). Answers freely u w
+    (external_of k t xs (readings xs)) NothingThere IsNothing c.declare.result) (sym c.in-Declaration.is)
     (c.declare.ensures t xs e (rw c.as_slice-in-Declaration.ensures a)))
 
 pub returns-in_default : goal.returns-in_default
 returns-in_default c = λ x p.
     let u : Work = c.args.work.now in
     external_answers u u c.args.k x c.in_ok-node.node.now (Ok tt) p c.in_ok-node.ensures
-    (λ t xs e a. subst (λ (d : Doing Unit). Answers freely u u d NothingThere IsNothing (Ok tt)) (sym (other_external c.in_ok-node.node.now.kind t xs (readings xs) c.in_default.not-FunctionDefinition c.in_default.not-Declaration)) (nothing_done u c.requires.whole))
+    (λ t xs e a. subst (λ (d : Doing Unit). Answers freely u u d NothingThere IsNothing (Ok tt))
+    (sym (other_external c.in_ok-node.node.now.kind t xs
+    (readings xs) c.in_default.not-FunctionDefinition c.in_default.not-Declaration))
+    (nothing_done u c.requires.whole))

@@ -32,7 +32,14 @@ define_named-requires c =
     let h = c.requires.shown in
     let m = a.gives h.state h.shows in
     let n = b.gives m.state m.shows in
-    record { shown = record { state = n.state; shows = n.shows }; whole = b.whole; specified = type_there v w c.in_ok-s.s.of b.grows.keeps a.there; derived = b.there; part = has_kept u w c.args.block (keeps_then u v w a.grows.keeps b.grows.keeps) c.requires.third }
+    record {
+      shown = record { state = n.state; shows = n.shows };
+      whole = b.whole;
+      specified = type_there v w c.in_ok-s.s.of b.grows.keeps a.there;
+      derived = b.there;
+      part =
+          has_kept u w c.args.block (keeps_then u v w a.grows.keeps b.grows.keeps) c.requires.third;
+    }
 
 pub returns-in_err-s : goal.returns-in_err-s
 returns-in_err-s c = let q = err_from_is_err_and c.from_residual.result c.from_residual.ensures.1 in λ x y z hx hy hz.
@@ -41,12 +48,14 @@ returns-in_err-s c = let q = err_from_is_err_and c.from_residual.result c.from_r
     rw (q.1, q.2) (unspecified u v v x y z _ (c.in_err-s.ensures x hx))
 
 pub returns-in_err-d : goal.returns-in_err-d
-returns-in_err-d c = let q = err_from_is_err_and c.from_residual-in_err-d.result c.from_residual-in_err-d.ensures.1 in λ x y z hx hy hz.
+returns-in_err-d c = let q = err_from_is_err_and c.from_residual-in_err-d.result c.from_residual-in_err-d.ensures.1 in
+    λ x y z hx hy hz.
     let u : Work = c.args.work.now in
     let v : Work = c.specified.new.work in
     let w : Work = c.derived.new.work in
     let a = c.in_ok-s.ensures x hx in
-    rw (q.1, q.2) (underived u v w w x y z c.in_ok-s.s _ a (c.in_err-d.ensures y (part_kept u v c.args.declarator y a.grows.keeps hy)))
+    rw (q.1, q.2) (underived u v w w x y z c.in_ok-s.s _ a
+    (c.in_err-d.ensures y (part_kept u v c.args.declarator y a.grows.keeps hy)))
 
 pub returns : goal.returns
 returns c = λ x y z hx hy hz.
@@ -60,7 +69,13 @@ returns c = λ x y z hx hy hz.
     let a = c.in_ok-s.ensures x hx in
     let b = c.in_ok-d.ensures y (part_kept u v c.args.declarator y a.grows.keeps hy) in
     let rest : meant.Specified → Doing Unit = λ t. (reading y).derived >>= λ e. define_named t e e.name z (reading z) in
-    then_for freely free_law u v o d rest (SpecifiedThere v s) (in_any IsSpecified v s) NothingThere IsNothing c.define_named.result (freed u v d SpecifiedThere (in_any IsSpecified) (Ok s) a)
-    (for_each freely v o (in_any IsSpecified v s) (IsSpecified v s) rest NothingThere IsNothing c.define_named.result (some_specified v s) (is_some_specified v s) (λ st t h. h)
-    (λ t h. then_for freely free_law v w o (reading y).derived (λ e. define_named t e e.name z (reading z)) (DerivedThere w m) (ShowsDerived w m) NothingThere IsNothing c.define_named.result (freed v w (reading y).derived DerivedThere ShowsDerived (Ok m) b)
-    (c.define_named.ensures t z (specified_kept v w s t b.grows.keeps a.there h) (part_kept u w c.args.block z (keeps_then u v w a.grows.keeps b.grows.keeps) hz))))
+    then_for freely free_law u v o d rest (SpecifiedThere v s)
+    (in_any IsSpecified v s) NothingThere IsNothing c.define_named.result
+    (freed u v d SpecifiedThere (in_any IsSpecified) (Ok s) a)
+    (for_each freely v o (in_any IsSpecified v s) (IsSpecified v s) rest NothingThere IsNothing c.define_named.result
+    (some_specified v s) (is_some_specified v s) (λ st t h. h)
+    (λ t h. then_for freely free_law v w o (reading y).derived (λ e. define_named t e e.name z (reading z))
+    (DerivedThere w m) (ShowsDerived w m) NothingThere IsNothing c.define_named.result
+    (freed v w (reading y).derived DerivedThere ShowsDerived (Ok m) b)
+    (c.define_named.ensures t z (specified_kept v w s t b.grows.keeps a.there h)
+    (part_kept u w c.args.block z (keeps_then u v w a.grows.keeps b.grows.keeps) hz))))

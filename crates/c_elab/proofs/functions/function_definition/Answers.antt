@@ -14,11 +14,20 @@ define-requires c =
     let d = c.in-Some.x.third in
     let h = subst (λ (ks : List ℕ). HaveParts u ks) c.in-Some.ensures c.requires.parts in
     let i = have_others u a (b ∷ d ∷ []) h in
-    record { shown = c.requires.shown; whole = c.requires.whole; first = have_first u a (b ∷ d ∷ []) h; second = have_first u b (d ∷ []) i; third = have_first u d [] (have_others u b (d ∷ []) i) }
+    record {
+      shown = c.requires.shown;
+      whole = c.requires.whole;
+      first = have_first u a (b ∷ d ∷ []) h;
+      second = have_first u b (d ∷ []) i;
+      third = have_first u d [] (have_others u b (d ∷ []) i);
+    }
 
 pub returns-in-None : goal.returns-in-None
-returns-in-None c = λ t xs e a s h. ap (λ (d : Doing Unit). d s) (not_three c.args.work.now c.args.kids.now t xs c.in-None.ensures a) ∙ ap (λ p. (let d : Doing Unit = refuse 120 p in d) s) e
+returns-in-None c = λ t xs e a s h. ap (λ (d : Doing Unit). d s)
+    (not_three c.args.work.now c.args.kids.now t xs c.in-None.ensures a)
+    ∙ ap (λ p. (let d : Doing Unit = refuse 120 p in d) s) e
 
 pub returns-in-Some : goal.returns-in-Some
 returns-in-Some c = λ t xs e a.
-    from_three c.args.work.now c.define.new.work c.args.kids.now c.in-Some.x.first c.in-Some.x.second c.in-Some.x.third c.define.result c.in-Some.ensures c.define.ensures t xs a
+    from_three c.args.work.now c.define.new.work c.args.kids.now c.in-Some.x.first c.in-Some.x.second c.in-Some.x.third
+    c.define.result c.in-Some.ensures c.define.ensures t xs a

@@ -4,19 +4,23 @@ use Rattle.c_finish.proofs.Faulting.{at_some, begun, turn_back, over, statics_co
 use Rattle.c_finish.proofs.faults.object_faults.Goals as goal
 
 pub loop-i-init : goal.loop-i-init
-loop-i-init c = λ s h. begun (static_faults s) s.statics c.in_ok-n.n _ (c.in_ok-n.ensures ∙ ap length c.as_slice.ensures ∙ statics_count c.args.work.now s h)
+loop-i-init c = λ s h. begun (static_faults s) s.statics c.in_ok-n.n _
+    (c.in_ok-n.ensures ∙ ap length c.as_slice.ensures ∙ statics_count c.args.work.now s h)
 
 pub loop-i-preserved : goal.loop-i-preserved
 loop-i-preserved c = λ s h.
     let n = c.in_ok-n.n in
     let i = c.loop-i.i in
     let lt : i < n = c.loop-i-test.true in
-    let e : n ≡ length s.statics = c.in_ok-n.ensures ∙ ap length c.as_slice.ensures ∙ statics_count c.args.work.now s h in
+    let e : n ≡ length s.statics =
+    c.in_ok-n.ensures ∙ ap length c.as_slice.ensures ∙ statics_count c.args.work.now s h in
     let x = at_some s.statics (n - 1 - i) (omega arith) in
-    turn_back (static_faults s) s.statics n i x.0 _ _ _ lt x.1 (c.loop-i.invariant s h) (c.object_fault-best.ensures s x.0 h x.1)
+    turn_back (static_faults s) s.statics n i x.0 _ _ _ lt x.1 (c.loop-i.invariant s h)
+    (c.object_fault-best.ensures s x.0 h x.1)
 
 pub returns : goal.returns
-returns c = λ s h. over (static_faults s) s.statics c.in_ok-n.n c.loop-i.i _ _ c.loop-i-test.false (c.loop-i.invariant s h)
+returns c = λ s h. over (static_faults s) s.statics c.in_ok-n.n c.loop-i.i _ _ c.loop-i-test.false
+    (c.loop-i.invariant s h)
 
 pub object_fault-best-requires-clause-there : goal.object_fault-best-requires-clause-there
 object_fault-best-requires-clause-there c =

@@ -7,4 +7,5 @@ use Rattle.c_finish.specs.Faults.{found, onto}
 use Rattle.c_finish.proofs.faults.waiting_faults.Given as goal
 
 abbrev pub invariant-loop-i : goal.invariant-loop-i
-invariant-loop-i l = (s : State) → Shows l.work s → found l.best ≡ onto (flat_map (pending_faults s) (drop (l.n - l.i) s.pending)) (found l.fn.rest)
+invariant-loop-i l = (s : State) → Shows l.work s →
+    found l.best ≡ onto (flat_map (pending_faults s) (drop (l.n - l.i) s.pending)) (found l.fn.rest)

@@ -4,8 +4,11 @@ use Rattle.c_finish.proofs.file_end.written.Goals as goal
 
 pub returns : goal.returns
 returns c =
-    written_is c.args.work c.assembled.result c.in_ok-numbers.numbers c.in_ok-globals.globals.items c.in_ok-funs.funs.items c.routines.new.into.exprs.items c.routines.new.into.stmts.items c.args.main c.number_of_main-main.result c.assembled.ensures c.in_ok-check_tags.ensures
+    written_is c.args.work c.assembled.result c.in_ok-numbers.numbers c.in_ok-globals.globals.items
+    c.in_ok-funs.funs.items c.routines.new.into.exprs.items c.routines.new.into.stmts.items c.args.main
+    c.number_of_main-main.result c.assembled.ensures c.in_ok-check_tags.ensures
     c.in_ok-numbers.ensures c.number_of_main-main.ensures c.requires.main c.in_ok-globals.ensures c.in_ok-funs.ensures
 
 pub number_of_main-main-requires : goal.number_of_main-main-requires
-number_of_main-main-requires c = main_there c.args.work c.in_ok-numbers.numbers c.args.main c.requires.shown c.requires.main c.in_ok-numbers.ensures
+number_of_main-main-requires c =
+    main_there c.args.work c.in_ok-numbers.numbers c.args.main c.requires.shown c.requires.main c.in_ok-numbers.ensures

@@ -2,7 +2,8 @@ use Rattle.std.proofs.Common.{◌≡◌, ◌<◌, length, sym, ap, ◌∙◌, ar
 use Rattle.c_tree.specs.Scopes.{RoutineState}
 use Rattle.c_tree.specs.Programs.{numbers_of, is_there}
 use Rattle.c_finish.proofs.Faulting.{at_some, routines_count}
-use Rattle.c_finish.proofs.Counting.{low_step, count_zero, count_step, filled_push, pushed_count, body_there, nothing_filled}
+use Rattle.c_finish.proofs.Counting.{low_step, count_zero, count_step, filled_push, pushed_count, body_there}
+use Rattle.c_finish.proofs.Counting.{nothing_filled}
 use Rattle.c_finish.proofs.numbering.numbers_of_functions.Goals as goal
 
 pub loop-k-init : goal.loop-k-init
@@ -19,12 +20,16 @@ loop-k-preserved c =
     let k = c.loop-k.k in
     let inv = c.loop-k.invariant in
     record {
-      filled = λ s h. filled_push (numbers_of s).1 c.loop-k.table.items c.push.new.self.items c.loop-k.next k c.in_ok-push.ensures.items inv.count (inv.filled s h) (inv.next s h);
+      filled = λ s h. filled_push (numbers_of s).1 c.loop-k.table.items c.push.new.self.items c.loop-k.next k
+          c.in_ok-push.ensures.items inv.count (inv.filled s h) (inv.next s h);
       next = λ s h.
           let lt : k < length s.routines = let a : k < c.in_ok-n.n = c.loop-k-test.true in let b : c.in_ok-n.n ≡ length s.routines = c.in_ok-n.ensures ∙ ap length c.as_slice.ensures ∙ routines_count w s h in omega arith in
           let x = at_some s.routines k lt in
-          count_step (λ (f : RoutineState). is_there f.body) s.routines k x.0 c.is_defined-is_there.result c.loop-k.next c.one_more-next.result x.1 (sym c.is_defined-is_there.ensures ∙ sym (body_there w s k x.0 h x.1)) (inv.next s h) c.one_more-next.ensures;
-      count = pushed_count c.loop-k.table.items c.push.new.self.items c.loop-k.next k c.in_ok-push.ensures.items inv.count;
+          count_step (λ (f : RoutineState). is_there f.body) s.routines k x.0 c.is_defined-is_there.result c.loop-k.next
+          c.one_more-next.result x.1 (sym c.is_defined-is_there.ensures ∙ sym (body_there w s k x.0 h x.1))
+          (inv.next s h) c.one_more-next.ensures;
+      count = pushed_count c.loop-k.table.items c.push.new.self.items c.loop-k.next k c.in_ok-push.ensures.items
+          inv.count;
       low = low_step _ c.loop-k.next c.one_more-next.result k c.one_more-next.ensures inv.low;
     }
 

@@ -6,4 +6,5 @@ use Rattle.c_work.specs.Work.{Shows, aiming_of}
 use Rattle.c_finish.proofs.objects.links_of.Given as goal
 
 abbrev pub invariant-loop-i : goal.invariant-loop-i
-invariant-loop-i l = (s : State) → Shows l.work s → map views.pointing_of l.links.items ≡ map (pointing_of s) (map aiming_of (take l.i l.starts))
+invariant-loop-i l = (s : State) → Shows l.work s →
+    map views.pointing_of l.links.items ≡ map (pointing_of s) (map aiming_of (take l.i l.starts))

@@ -8,4 +8,5 @@ use Rattle.c_work.specs.Work.{Shows}
 use Rattle.c_finish.proofs.objects.objects.Given as goal
 
 abbrev pub invariant-loop-k : goal.invariant-loop-k
-invariant-loop-k l = (s : State) → Shows l.work s → map (views.object_of (types_of l.work.nodes.p.types)) l.list.items ≡ flat_map (object_of s) (take l.k s.statics)
+invariant-loop-k l = (s : State) → Shows l.work s →
+    map (views.object_of (types_of l.work.nodes.p.types)) l.list.items ≡ flat_map (object_of s) (take l.k s.statics)

@@ -4,4 +4,5 @@ use Rattle.c_finish.specs.Finished.{AreRoutines}
 use Rattle.c_finish.proofs.routines.routines.Given as goal
 
 abbrev pub invariant-loop-k : goal.invariant-loop-k
-invariant-loop-k l = (s : State) → Shows l.work s → AreRoutines l.work l.into.exprs.items l.into.stmts.items s l.k l.list.items
+invariant-loop-k l = (s : State) → Shows l.work s →
+    AreRoutines l.work l.into.exprs.items l.into.stmts.items s l.k l.list.items

@@ -13,9 +13,11 @@ returns-in-None c = c.requires.definitions.are.last c.args.k None (c.entry.ensur
 
 pub definition_at-requires : goal.definition_at-requires
 definition_at-requires c =
-    subst (λ xs. c.in-Some.at < length xs) (sym c.as_slice.ensures.value) (c.requires.definitions.are.there c.args.k c.in-Some.at (c.entry.ensures ∙ ap (λ o. Some o) c.in-Some.is))
+    subst (λ xs. c.in-Some.at < length xs) (sym c.as_slice.ensures.value)
+    (c.requires.definitions.are.there c.args.k c.in-Some.at (c.entry.ensures ∙ ap (λ o. Some o) c.in-Some.is))
 
 pub returns-in-Some : goal.returns-in-Some
 returns-in-Some c =
     let g = ap (λ xs. slice_get xs c.in-Some.at) (sym c.as_slice.ensures.value) ∙ c.definition_at.ensures in
-    sym g ∙ c.requires.definitions.are.last c.args.k (Some c.in-Some.at) (c.entry.ensures ∙ ap (λ o. Some o) c.in-Some.is)
+    sym g ∙ c.requires.definitions.are.last c.args.k (Some c.in-Some.at)
+    (c.entry.ensures ∙ ap (λ o. Some o) c.in-Some.is)

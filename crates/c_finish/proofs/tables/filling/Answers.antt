@@ -13,7 +13,8 @@ returns-in-None c = c.requires.fillings.are.last c.args.k None (c.entry.ensures 
 
 pub filling_at-requires : goal.filling_at-requires
 filling_at-requires c =
-    subst (λ xs. c.in-Some.at < length xs) (sym c.as_slice.ensures.value) (c.requires.fillings.are.there c.args.k c.in-Some.at (c.entry.ensures ∙ ap (λ o. Some o) c.in-Some.is))
+    subst (λ xs. c.in-Some.at < length xs) (sym c.as_slice.ensures.value)
+    (c.requires.fillings.are.there c.args.k c.in-Some.at (c.entry.ensures ∙ ap (λ o. Some o) c.in-Some.is))
 
 pub returns-in-Some : goal.returns-in-Some
 returns-in-Some c =

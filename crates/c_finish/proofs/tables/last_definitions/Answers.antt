@@ -18,8 +18,10 @@ set_number-requires c =
     let w = c.args.work.now in
     let i = c.loop-i.i in
     let h = c.requires in
-    let e : slice_get w.definitions.items i ≡ Some c.definition_at-d.result.now = ap (λ xs. slice_get xs i) (sym c.as_slice-definitions.ensures.value) ∙ c.definition_at-d.ensures in
-    let a : c.definition_at-d.result.now.function < length h.state.routines = (h.shows.closed.definitions i c.definition_at-d.result.now e).function in
+    let e : slice_get w.definitions.items i ≡ Some c.definition_at-d.result.now =
+    ap (λ xs. slice_get xs i) (sym c.as_slice-definitions.ensures.value) ∙ c.definition_at-d.ensures in
+    let a : c.definition_at-d.result.now.function < length h.state.routines =
+    (h.shows.closed.definitions i c.definition_at-d.result.now e).function in
     let b : length w.nodes.p.funs ≡ length h.state.routines = routines_count w h.state h.shows in
     let d : length c.loop-i.table.items ≡ length w.nodes.p.funs = c.loop-i.invariant.count in
     omega arith
@@ -30,7 +32,8 @@ loop-i-preserved c =
     let i = c.loop-i.i in
     let x = c.definition_at-d.result.now in
     record {
-      are = rw (taken xs i x c.definition_at-d.ensures, c.set_number.ensures) (definition_set xs (take i xs) c.loop-i.table.items i x c.definition_at-d.ensures c.loop-i.invariant.are);
+      are = rw (taken xs i x c.definition_at-d.ensures, c.set_number.ensures)
+          (definition_set xs (take i xs) c.loop-i.table.items i x c.definition_at-d.ensures c.loop-i.invariant.are);
       count = ap length c.set_number.ensures ∙ length-set c.loop-i.table.items x.function _ ∙ c.loop-i.invariant.count;
     }
 
@@ -40,6 +43,7 @@ returns c =
     let t = c.loop-i.table.items in
     let past : length xs ≤ c.loop-i.i = omega (arith, c.in_ok-n.ensures) in
     record {
-      are = subst (λ ys. LastDefinitions ys ys t) c.as_slice-definitions.ensures.value (rw (take_all c.loop-i.i xs past) at c.loop-i.invariant.are);
+      are = subst (λ ys. LastDefinitions ys ys t) c.as_slice-definitions.ensures.value
+          (rw (take_all c.loop-i.i xs past) at c.loop-i.invariant.are);
       count = c.loop-i.invariant.count;
     }

@@ -18,8 +18,10 @@ set_number-requires c =
     let w = c.args.work.now in
     let i = c.loop-i.i in
     let h = c.requires in
-    let e : slice_get w.fillings.items i ≡ Some c.filling_at-f.result.now = ap (λ xs. slice_get xs i) (sym c.as_slice-fillings.ensures.value) ∙ c.filling_at-f.ensures in
-    let a : c.filling_at-f.result.now.object < length h.state.statics = h.shows.closed.fillings i c.filling_at-f.result.now e in
+    let e : slice_get w.fillings.items i ≡ Some c.filling_at-f.result.now =
+    ap (λ xs. slice_get xs i) (sym c.as_slice-fillings.ensures.value) ∙ c.filling_at-f.ensures in
+    let a : c.filling_at-f.result.now.object < length h.state.statics =
+    h.shows.closed.fillings i c.filling_at-f.result.now e in
     let b : length w.nodes.p.globals ≡ length h.state.statics = statics_count w h.state h.shows in
     let d : length c.loop-i.table.items ≡ length w.nodes.p.globals = c.loop-i.invariant.count in
     omega arith
@@ -30,7 +32,8 @@ loop-i-preserved c =
     let i = c.loop-i.i in
     let x = c.filling_at-f.result.now in
     record {
-      are = rw (taken xs i x c.filling_at-f.ensures, c.set_number.ensures) (filling_set xs (take i xs) c.loop-i.table.items i x c.filling_at-f.ensures c.loop-i.invariant.are);
+      are = rw (taken xs i x c.filling_at-f.ensures, c.set_number.ensures)
+          (filling_set xs (take i xs) c.loop-i.table.items i x c.filling_at-f.ensures c.loop-i.invariant.are);
       count = ap length c.set_number.ensures ∙ length-set c.loop-i.table.items x.object _ ∙ c.loop-i.invariant.count;
     }
 
@@ -40,6 +43,7 @@ returns c =
     let t = c.loop-i.table.items in
     let past : length xs ≤ c.loop-i.i = omega (arith, c.in_ok-n.ensures) in
     record {
-      are = subst (λ ys. LastFillings ys ys t) c.as_slice-fillings.ensures.value (rw (take_all c.loop-i.i xs past) at c.loop-i.invariant.are);
+      are = subst (λ ys. LastFillings ys ys t) c.as_slice-fillings.ensures.value
+          (rw (take_all c.loop-i.i xs past) at c.loop-i.invariant.are);
       count = c.loop-i.invariant.count;
     }

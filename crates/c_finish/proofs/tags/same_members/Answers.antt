@@ -7,7 +7,9 @@ pub loop-i-preserved : goal.loop-i-preserved
 loop-i-preserved c =
     let d : Member = record { name = record { start = 0; end = 0 }; of = 0 } in
     let lt : c.loop-i.i < length c.args.ys.now = omega arith in
-    take_more_same c.args.xs.now c.args.ys.now c.loop-i.i d c.loop-i-test.true lt c.loop-i.invariant c.in_ok-same_member.ensures
+    take_more_same c.args.xs.now c.args.ys.now c.loop-i.i d c.loop-i-test.true lt c.loop-i.invariant
+    c.in_ok-same_member.ensures
 
 pub returns : goal.returns
-returns c = sym (take_all c.loop-i.i c.args.xs.now c.loop-i-test.false) ∙ c.loop-i.invariant ∙ take_all c.loop-i.i c.args.ys.now (omega arith)
+returns c = sym (take_all c.loop-i.i c.args.xs.now c.loop-i-test.false) ∙ c.loop-i.invariant
+    ∙ take_all c.loop-i.i c.args.ys.now (omega arith)

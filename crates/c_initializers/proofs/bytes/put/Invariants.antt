@@ -5,5 +5,6 @@ use Rattle.c_initializers.proofs.bytes.put.Given as goal
 abbrev pub invariant-loop-j : goal.invariant-loop-j
 invariant-loop-j l = record {
   rest : l.left ≡ l.x.number / 256 ^ l.j;
-  each : (k : ℕ) → get_or l.bytes k 0 ≡ get_or l.fn.bytes k 0 + byte_in k (record { at = l.x.at; width = l.j; number = l.x.number });
+  each : (k : ℕ) → get_or l.bytes k 0 ≡ get_or l.fn.bytes k 0
+      + byte_in k (record { at = l.x.at; width = l.j; number = l.x.number });
 }

@@ -11,7 +11,8 @@ pub returns-in_ok-push : goal.returns-in_ok-push
 returns-in_ok-push c =
     let n = c.args.nodes.now in
     let e : (c.args.x.at == c.args.at) ≡ true = grind (arith, nat_tests) in
-    rw e (adds-one n n c.args.out.now.items c.push.new.self.items c.args.x (slot_in n c.args.x) c.in_ok-push.ensures.items (keeps_same n c.requires.whole) c.requires.there refl)
+    rw e (adds-one n n c.args.out.now.items c.push.new.self.items c.args.x
+    (slot_in n c.args.x) c.in_ok-push.ensures.items (keeps_same n c.requires.whole) c.requires.there refl)
 
 pub returns-else-x-at : goal.returns-else-x-at
 returns-else-x-at c =

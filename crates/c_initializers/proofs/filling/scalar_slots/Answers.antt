@@ -17,7 +17,8 @@ loop-p-init c =
       of = c.new-cursor.ensures.of;
       keeps = keeps_same n c.requires.whole;
       there = no-slots n c.new-out.result.items c.new-out.ensures.items;
-      are = ap (λ l. slots_in n l ++ scalars_given c.args.whole (slots_in n c.args.slots.now) c.args.extents.now (map (place_of n) c.args.scalars.now)) c.new-out.ensures.items;
+      are = ap (λ l. slots_in n l ++ scalars_given c.args.whole (slots_in n c.args.slots.now) c.args.extents.now
+          (map (place_of n) c.args.scalars.now)) c.new-out.ensures.items;
     }
 
 pub loop-p-preserved : goal.loop-p-preserved
@@ -31,12 +32,15 @@ loop-p-preserved c =
     let p = get_or c.args.scalars.now c.loop-p.p-index d in
     let given = c.args.slots.now in
     let q = ap (λ o. scalar_slot c.args.whole (place_of m p) (chosen (slots_in m given) o)) (c.find-found.ensures.found ∙ ap (position (covers_place p.at)) i.of)
-    ∙ given_kept a m given p c.args.extents.now c.args.whole i.keeps c.requires.slots (c.requires.scalars c.loop-p.p-index d c.loop-p-test.true) in
+    ∙ given_kept a m given p c.args.extents.now c.args.whole i.keeps c.requires.slots
+    (c.requires.scalars c.loop-p.p-index d c.loop-p-test.true) in
     record {
       cursor = c.find-found.ensures.is;
       of = c.find-found.ensures.of ∙ i.of;
       keeps = keeps_then a m n i.keeps h.keeps;
       there = h.there i.there;
-      are = scalars-more a m n c.args.whole (slots_in a given) c.args.extents.now c.args.scalars.now c.loop-p.p-index d c.loop-p.out.items c.add_slot.new.out.items _ c.loop-p-test.true
-          (subst (λ (ys : List meant.Slot). AddsSlots m n c.loop-p.out.items c.add_slot.new.out.items ys) q h) i.there i.are;
+      are = scalars-more a m n c.args.whole (slots_in a given) c.args.extents.now c.args.scalars.now c.loop-p.p-index d
+          c.loop-p.out.items c.add_slot.new.out.items _ c.loop-p-test.true
+          (subst (λ (ys : List meant.Slot). AddsSlots m n c.loop-p.out.items c.add_slot.new.out.items ys) q h) i.there
+          i.are;
     }

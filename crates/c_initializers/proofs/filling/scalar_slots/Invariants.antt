@@ -10,5 +10,7 @@ invariant-loop-p l = record {
   of : l.cursor.extents.now ≡ l.extents;
   keeps : Keeps l.fn.nodes l.nodes;
   there : AreSlotsThere l.nodes l.out.items;
-  are : slots_in l.nodes l.out.items ++ scalars_given l.whole (slots_in l.fn.nodes l.slots) l.extents (map (place_of l.fn.nodes) (drop l.p-index l.scalars)) ≡ scalars_given l.whole (slots_in l.fn.nodes l.slots) l.extents (map (place_of l.fn.nodes) l.scalars);
+  are : slots_in l.nodes l.out.items ++ scalars_given l.whole (slots_in l.fn.nodes l.slots) l.extents
+      (map (place_of l.fn.nodes) (drop l.p-index l.scalars))
+      ≡ scalars_given l.whole (slots_in l.fn.nodes l.slots) l.extents (map (place_of l.fn.nodes) l.scalars);
 }

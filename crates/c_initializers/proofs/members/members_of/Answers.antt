@@ -11,10 +11,13 @@ pub returns-in-None : goal.returns-in-None
 returns-in-None c = λ s h t e.
     let w = c.args.work.now in
     let f = c.members.ensures s h.stands in
-    none-placed w s c.args.tag t e (ap (option_map (λ x. map (member_kept (types_of w.nodes.p.types)) (now x))) (sym c.in-None.is) ∙ f ∙ ap (λ (o : Option TagState). option_map (map part_seen) (parts_of o)) e)
+    none-placed w s c.args.tag t e (ap (option_map (λ x. map (member_kept (types_of w.nodes.p.types)) (now x)))
+    (sym c.in-None.is) ∙ f ∙ ap (λ (o : Option TagState). option_map (map part_seen) (parts_of o)) e)
 
 pub returns-in-Some : goal.returns-in-Some
 returns-in-Some c = λ s h t e.
     let w = c.args.work.now in
     let f = c.members.ensures s h.stands in
-    kept-placed w s c.args.tag t c.in-Some.members.now e (ap (option_map (λ x. map (member_kept (types_of w.nodes.p.types)) (now x))) (sym c.in-Some.is) ∙ f ∙ ap (λ (o : Option TagState). option_map (map part_seen) (parts_of o)) e)
+    kept-placed w s c.args.tag t c.in-Some.members.now e
+    (ap (option_map (λ x. map (member_kept (types_of w.nodes.p.types)) (now x))) (sym c.in-Some.is) ∙ f
+    ∙ ap (λ (o : Option TagState). option_map (map part_seen) (parts_of o)) e)

@@ -13,9 +13,12 @@ returns-in_ok-size_of-in-Array c =
     record {
       there = c.in-Array.ensures.there;
       are = λ s h k l.
-          sym (item_place-stripped s t k) ∙ ap (λ u. item_place s u k) (sym c.stripped-base.ensures.is ∙ c.in-Array.ensures.is)
-          ∙ array-place s (type_in w.nodes c.in-Array.element) c.in-Array.length k c.in_ok-size_of-in-Array.field-0 (c.in_ok-size_of-in-Array.ensures.is s h)
-          ∙ sym (option_map-if (place_in w) (nat_lt k c.in-Array.length || c.in-Array.length == 0) (record { at = k * c.in_ok-size_of-in-Array.field-0; of = c.in-Array.element }));
+          sym (item_place-stripped s t k)
+          ∙ ap (λ u. item_place s u k) (sym c.stripped-base.ensures.is ∙ c.in-Array.ensures.is)
+          ∙ array-place s (type_in w.nodes c.in-Array.element) c.in-Array.length k c.in_ok-size_of-in-Array.field-0
+          (c.in_ok-size_of-in-Array.ensures.is s h)
+          ∙ sym (option_map-if (place_in w) (nat_lt k c.in-Array.length || c.in-Array.length == 0)
+          (record { at = k * c.in_ok-size_of-in-Array.field-0; of = c.in-Array.element }));
     }
 
 pub returns-in_ok-first_members-in-Tagged : goal.returns-in_ok-first_members-in-Tagged
@@ -25,7 +28,8 @@ returns-in_ok-first_members-in-Tagged c =
     let a = c.in_ok-first_members-in-Tagged.ensures in
     record {
       there = a.there;
-      are = λ s h k l. sym (item_place-stripped s t k) ∙ ap (λ u. item_place s u k) (sym c.stripped-base.ensures.is ∙ c.in-Tagged.ensures.is) ∙ a.are s h k l;
+      are = λ s h k l. sym (item_place-stripped s t k)
+          ∙ ap (λ u. item_place s u k) (sym c.stripped-base.ensures.is ∙ c.in-Tagged.ensures.is) ∙ a.are s h k l;
     }
 
 pub returns-in_default : goal.returns-in_default
@@ -38,7 +42,8 @@ returns-in_default c =
       there = c.stripped-base.ensures.there;
       are = λ s h k l.
           sym (item_place-stripped s t k) ∙ ap (λ u. item_place s u k) (sym b ∙ e)
-          ∙ alone-place s c.class.result (type_in w.nodes) c.class.ensures.params k c.in_default.not-Array c.in_default.not-Tagged (λ u q. stripped_base t u (sym b ∙ e ∙ q))
+          ∙ alone-place s c.class.result (type_in w.nodes) c.class.ensures.params k c.in_default.not-Array
+          c.in_default.not-Tagged (λ u q. stripped_base t u (sym b ∙ e ∙ q))
           ∙ ap (λ u. (if k == 0 then Some (0, u) else None)) (sym e)
           ∙ sym (option_map-if (place_in w) (k == 0) (record { at = 0; of = c.stripped-base.result }));
     }

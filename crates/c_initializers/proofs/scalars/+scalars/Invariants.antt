@@ -22,7 +22,10 @@ invariant-add_elements-loop-left l =
     let t = type_in w.nodes l.element in
     record {
       there : All (IsPlaceThere w) l.fn.places.items → All (IsPlaceThere w) l.places.items;
-      are : (s : State) → Shows w s → map (place_in w) l.places.items ++ repeat l.left (size s t) (scalars_of s (tag_scalars l.tags s) t) l.from ≡ map (place_in w) l.fn.places.items ++ repeat l.fn.count (size s t) (scalars_of s (tag_scalars l.tags s) t) l.fn.at;
+      are : (s : State) → Shows w s →
+          map (place_in w) l.places.items ++ repeat l.left (size s t) (scalars_of s (tag_scalars l.tags s) t) l.from
+          ≡ map (place_in w) l.fn.places.items ++ repeat l.fn.count (size s t)
+          (scalars_of s (tag_scalars l.tags s) t) l.fn.at;
     }
 
 abbrev pub decreases-add_elements-loop-left : goal.decreases-add_elements-loop-left
@@ -33,5 +36,9 @@ invariant-add_members-loop-m l =
     let w = l.work in
     record {
       there : All (IsPlaceThere w) l.fn.places.items → All (IsPlaceThere w) l.places.items;
-      are : (s : State) → Shows w s → map (place_in w) l.places.items ++ all_scalars s (tag_scalars (l.tags - 1) s) (map (place_in w) (drop l.m-index l.m-items)) l.at ≡ map (place_in w) l.fn.places.items ++ all_scalars s (tag_scalars (l.tags - 1) s) (map (place_in w) l.m-items) l.at;
+      are : (s : State) → Shows w s →
+          map (place_in w) l.places.items ++ all_scalars s (tag_scalars (l.tags - 1) s)
+          (map (place_in w) (drop l.m-index l.m-items)) l.at
+          ≡ map (place_in w) l.fn.places.items ++ all_scalars s (tag_scalars (l.tags - 1) s)
+          (map (place_in w) l.m-items) l.at;
     }

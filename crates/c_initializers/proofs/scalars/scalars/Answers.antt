@@ -10,5 +10,7 @@ returns c =
     let a = c.in_ok-add_scalars.ensures in
     record {
       there = a.there (all-none (IsPlaceThere w) c.new-places.result.items c.new-places.ensures.items);
-      are = λ s h. a.are s h ∙ scalars-all w s (type_in w.nodes c.args.of) c.tag_count-tags.result c.new-places.result.items c.new-places.ensures.items (c.tag_count-tags.ensures s h);
+      are = λ s h. a.are s h ∙ scalars-all w s
+          (type_in w.nodes c.args.of) c.tag_count-tags.result c.new-places.result.items c.new-places.ensures.items
+          (c.tag_count-tags.ensures s h);
     }

@@ -20,7 +20,8 @@ returns-in-None c = λ s h.
     let d : Slot = record { at = 0; of = 0; value = 0; first = record { line = 0; col = 0 } } in
     let x = get_or slots i d in
     let k = c.in_ok-known_value.ensures s h ∙ ap (option_map known_of) c.in-None.is in
-    c.loop-x.invariant.fails s _ h (ap (λ l. start_slots (slots_in n l) s) (drop-next slots i d c.loop-x-test.true) ∙ first-refused s (slot_in n x) (slots_in n (drop (i + 1) slots)) k)
+    c.loop-x.invariant.fails s _ h (ap (λ l. start_slots (slots_in n l) s) (drop-next slots i d c.loop-x-test.true)
+    ∙ first-refused s (slot_in n x) (slots_in n (drop (i + 1) slots)) k)
 
 pub loop-x-preserved : goal.loop-x-preserved
 loop-x-preserved c =
@@ -32,9 +33,14 @@ loop-x-preserved c =
     record {
       count = let e = c.in_ok-keep-in-Some.ensures in grind (arith, common_steps);
       knows = λ s h.
-          let k : known_value s (term_in n x.value) ≡ Some (known_of c.in-Some.value) = c.in_ok-known_value.ensures s h ∙ ap (option_map known_of) c.in-Some.is in
-          knows-more c.args.work.now s slots i d c.loop-x.known.items c.keep.new.known.items c.in-Some.value c.loop-x-test.true k c.in_ok-keep-in-Some.ensures (c.loop-x.invariant.knows s h);
+          let k : known_value s (term_in n x.value) ≡ Some (known_of c.in-Some.value) =
+          c.in_ok-known_value.ensures s h ∙ ap (option_map known_of) c.in-Some.is in
+          knows-more c.args.work.now s slots i d c.loop-x.known.items c.keep.new.known.items c.in-Some.value
+          c.loop-x-test.true k c.in_ok-keep-in-Some.ensures (c.loop-x.invariant.knows s h);
       fails = λ s e h r.
-          let k : known_value s (term_in n x.value) ≡ Some (known_of c.in-Some.value) = c.in_ok-known_value.ensures s h ∙ ap (option_map known_of) c.in-Some.is in
-          c.loop-x.invariant.fails s e h (ap (λ l. start_slots (slots_in n l) s) (drop-next slots i d c.loop-x-test.true) ∙ later-refused s (slot_in n x) (slots_in n (drop (i + 1) slots)) (known_of c.in-Some.value) e k r);
+          let k : known_value s (term_in n x.value) ≡ Some (known_of c.in-Some.value) =
+          c.in_ok-known_value.ensures s h ∙ ap (option_map known_of) c.in-Some.is in
+          c.loop-x.invariant.fails s e h (ap (λ l. start_slots (slots_in n l) s)
+          (drop-next slots i d c.loop-x-test.true)
+          ∙ later-refused s (slot_in n x) (slots_in n (drop (i + 1) slots)) (known_of c.in-Some.value) e k r);
     }

@@ -5,4 +5,5 @@ use Rattle.c_initializers.proofs.FillLaws.{BytesTo}
 use Rattle.c_initializers.proofs.strings.byte_slots.Given as goal
 
 abbrev pub invariant-loop-byte : goal.invariant-loop-byte
-invariant-loop-byte l = BytesTo l.fn.nodes l.nodes l.whole (type_in l.fn.nodes l.of) l.place (drop l.byte-index l.bytes) l.slots.items (byte_slots l.whole (type_in l.fn.nodes l.of) l.at l.bytes)
+invariant-loop-byte l = BytesTo l.fn.nodes l.nodes l.whole (type_in l.fn.nodes l.of) l.place
+    (drop l.byte-index l.bytes) l.slots.items (byte_slots l.whole (type_in l.fn.nodes l.of) l.at l.bytes)

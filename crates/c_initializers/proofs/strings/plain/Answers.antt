@@ -6,4 +6,5 @@ use Rattle.c_initializers.proofs.strings.plain.Goals as goal
 pub returns : goal.returns
 returns c =
     let w = c.args.work.now in
-    lift w c.plain_in.new.nodes (plain_slot (type_in w.nodes c.args.of) c.args.at (operand_in w.nodes c.args.x)) IsSlotIn SlotThere IsSlot c.plain_in.result (λ x a h. h.there) (λ x a s h. h.is) c.plain_in.ensures
+    lift w c.plain_in.new.nodes (plain_slot (type_in w.nodes c.args.of) c.args.at (operand_in w.nodes c.args.x))
+    IsSlotIn SlotThere IsSlot c.plain_in.result (λ x a h. h.there) (λ x a s h. h.is) c.plain_in.ensures

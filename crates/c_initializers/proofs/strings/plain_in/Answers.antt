@@ -14,7 +14,8 @@ returns-in-Err c =
     let m = c.assigned.new.self in
     let t = type_in n c.args.of in
     let x = operand_in n c.args.x in
-    answers_err n m n m (assigned t x) (plain_slot t c.args.at x) IsTerm IsSlotIn c.in-Err.refusal (λ code p h. bind_refuses (assigned t x) (λ y. give (slot_of c.args.at t y x.first)) code p h) c.in-Err.ensures
+    answers_err n m n m (assigned t x) (plain_slot t c.args.at x) IsTerm IsSlotIn c.in-Err.refusal
+    (λ code p h. bind_refuses (assigned t x) (λ y. give (slot_of c.args.at t y x.first)) code p h) c.in-Err.ensures
 
 pub returns-in-Ok : goal.returns-in-Ok
 returns-in-Ok c =
@@ -30,5 +31,10 @@ returns-in-Ok c =
       value = slot_of c.args.at t a.value x.first;
       is = λ s. bind_gives (assigned t x) (λ y. give (slot_of c.args.at t y x.first)) a.value s (a.is s);
       keeps = k;
-      shows = record { there = record { of = b.there; value = a.shows.there }; is = ap (λ u. (let y : meant.Slot = record { at = c.args.at; of = u; value = a.value; first = x.first } in y)) (sym e) ∙ ap (λ v. (let y : meant.Slot = record { at = c.args.at; of = type_in m c.bare.result; value = v; first = x.first } in y)) (sym a.shows.is) };
+      shows = record {
+        there = record { of = b.there; value = a.shows.there };
+        is = ap (λ u. (let y : meant.Slot = record { at = c.args.at; of = u; value = a.value; first = x.first } in
+            y)) (sym e) ∙ ap
+            (λ v. (let y : meant.Slot = record { at = c.args.at; of = type_in m c.bare.result; value = v; first = x.first } in y)) (sym a.shows.is);
+      };
     }

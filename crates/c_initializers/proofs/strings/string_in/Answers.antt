@@ -10,7 +10,8 @@ returns-then-not-has_room c =
     let n = c.args.nodes.now in
     let bytes = c.args.bytes.now in
     let room = c.room_of-room.ensures ∙ ap (λ k. (if k == 0 then length bytes else k)) c.row_of-element.ensures.count in
-    string-refused bytes c.args.pos c.args.whole (type_in n c.args.of) c.args.at c.room_of-room.result room (sym c.if-not-has_room.ensures)
+    string-refused bytes c.args.pos c.args.whole (type_in n c.args.of) c.args.at c.room_of-room.result room
+    (sym c.if-not-has_room.ensures)
 
 pub returns : goal.returns
 returns c =
@@ -18,5 +19,7 @@ returns c =
     let bytes = c.args.bytes.now in
     let room = c.room_of-room.ensures ∙ ap (λ k. (if k == 0 then length bytes else k)) c.row_of-element.ensures.count in
     let f : Filled = record { slots = c.in_ok-slots.slots; count = length bytes } in
-    string-given n c.byte_slots.new.nodes bytes c.args.pos c.args.whole (type_in n c.args.of) c.args.at f c.row_of-element.result.0 c.room_of-room.result c.min-most.result room (sym c.if-not-has_room.ensures) c.min-most.ensures
+    string-given n c.byte_slots.new.nodes bytes c.args.pos c.args.whole
+    (type_in n c.args.of) c.args.at f c.row_of-element.result.0 c.room_of-room.result c.min-most.result room
+    (sym c.if-not-has_room.ensures) c.min-most.ensures
     c.row_of-element.ensures.element c.in_ok-slots.ensures refl

@@ -3,4 +3,9 @@ use Rattle.c_interner.specs.Known.{AreRight}
 use Rattle.c_interner.proofs.agreement.agree.Given as goal
 
 abbrev pub invariant-steps : goal.invariant-steps
-invariant-steps l = record { right : AreRight l.agreements; types : l.agreements.types.now ≡ l.fn.p.types; how : l.agreements.how ≡ l.fn.how }
+invariant-steps l = record {
+  right : AreRight l.agreements;
+  types : l.agreements.types.now ≡ l.fn.p.types;
+  how :
+      l.agreements.how ≡ l.fn.how;
+}

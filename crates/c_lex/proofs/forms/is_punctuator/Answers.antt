@@ -3,7 +3,8 @@ use Rattle.ck_base.specs.Tokens.{is_among, punctuators}
 use Rattle.c_lex.proofs.Tables.{punctuator_short}
 use Rattle.c_lex.proofs.forms.is_punctuator.Goals as goal
 
-long : (text : List ℕ) → ((1 ≤ length text) × (length text ≤ 3) → ⊥) → (b : Bool) → is_among punctuators text ≡ b → false ≡ b
+long : (text : List ℕ) → ((1 ≤ length text) × (length text ≤ 3) → ⊥) → (b : Bool) → is_among punctuators text ≡ b →
+    false ≡ b
 long text other true e = absurd (other (punctuator_short text e))
 long text other false e = refl
 

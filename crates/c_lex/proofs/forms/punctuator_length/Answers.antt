@@ -5,17 +5,27 @@ use Rattle.c_lex.proofs.forms.punctuator_length.Goals as goal
 use Rattle.c_lex.proofs.forms.punctuator_length.Goals.{then-loop-n-test+else-not-is_punctuator, else-loop-n-test}
 
 -- where no longer front than the empty one is a punctuator, none is
-none : (bytes : List ℕ) (n : ℕ) → ((m : ℕ) → m ≤ length bytes → is_among punctuators (take m bytes) ≡ true → m ≤ n) → n ≡ 0 → (m : ℕ) → m ≤ length bytes → is_among punctuators (take m bytes) ≡ false
+none : (bytes : List ℕ) (n : ℕ) → ((m : ℕ) → m ≤ length bytes → is_among punctuators (take m bytes) ≡ true → m ≤ n) →
+    n ≡ 0 → (m : ℕ) → m ≤ length bytes → is_among punctuators (take m bytes) ≡ false
 none bytes n longest zero_is m within = by_test _ refl
   where
     by_test : (b : Bool) → is_among punctuators (take m bytes) ≡ b → b ≡ false
-    by_test true among = absurd (omega (arith, longest m within among, (punctuator_short (take m bytes) among).0, length-take-le m bytes within))
+    by_test true among = absurd (omega (
+      arith,
+      longest m within among,
+      (punctuator_short (take m bytes) among).0,
+      length-take-le m bytes within,
+    ))
     by_test false among = refl
 
 pub loop-n-init : goal.loop-n-init
 loop-n-init c = record {
   within = omega arith;
-  longest = λ m within among. omega (arith, (punctuator_short (take m c.args.bytes.now) among).1, length-take-le m c.args.bytes.now within);
+  longest = λ m within among. omega (
+    arith,
+    (punctuator_short (take m c.args.bytes.now) among).1,
+    length-take-le m c.args.bytes.now within,
+  );
 }
 
 pub returns-then-n-eq0 : goal.returns-then-n-eq0

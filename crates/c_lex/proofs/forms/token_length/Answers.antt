@@ -9,17 +9,23 @@ use Rattle.c_lex.proofs.Quotes.{one_quoted}
 use Rattle.c_lex.proofs.forms.token_length.Goals as goal
 
 pub returns-in-Word : goal.returns-in-Word
-returns-in-Word c = rw (c.in-Word.is, c.word_length.ensures.value) (word_front c.args.bytes.now (c.requires ∙ c.in-Word.is))
+returns-in-Word c = rw (c.in-Word.is, c.word_length.ensures.value)
+    (word_front c.args.bytes.now (c.requires ∙ c.in-Word.is))
 
 pub returns-in-Number : goal.returns-in-Number
-returns-in-Number c = rw (c.in-Number.is, c.number_length.ensures) (number_front c.args.bytes.now (c.requires ∙ c.in-Number.is))
+returns-in-Number c = rw (c.in-Number.is, c.number_length.ensures)
+    (number_front c.args.bytes.now (c.requires ∙ c.in-Number.is))
 
-quoted : (kind : TokenKind) (quote : ℕ) → ((text : List ℕ) → has_form kind text ≡ is_quoted quote text) → (bytes : List ℕ) (found : Option ℕ) → MeasuresQuoted quote bytes found → MeasuresFront kind bytes found
+quoted : (kind : TokenKind) (quote : ℕ) → ((text : List ℕ) → has_form kind text ≡ is_quoted quote text) →
+    (bytes : List ℕ) (found : Option ℕ) → MeasuresQuoted quote bytes found → MeasuresFront kind bytes found
 quoted kind quote same bytes None none = λ n within. same (take n bytes) ∙ none n within
 quoted kind quote same bytes (Some n) found = record {
   within = found.0;
   form = same (take n bytes) ∙ found.1;
-  longest = λ m within form. omega (arith, one_quoted quote bytes n m found.0 within found.1 (sym (same (take m bytes)) ∙ form));
+  longest = λ m within form. omega (
+    arith,
+    one_quoted quote bytes n m found.0 within found.1 (sym (same (take m bytes)) ∙ form),
+  );
 }
 
 pub returns-in-Char : goal.returns-in-Char

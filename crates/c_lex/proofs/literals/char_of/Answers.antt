@@ -7,10 +7,12 @@ use Rattle.c_lex.proofs.Strings.{in_quotes-injective}
 use Rattle.c_lex.proofs.literals.char_of.Goals as goal
 
 -- the one character between the quotes
-one : (text contents : List ℕ) (value : ℕ) → text ≡ in_quotes 39 contents → IsCharacter text value → character_at 39 contents ≡ Some (value, length contents)
+one : (text contents : List ℕ) (value : ℕ) → text ≡ in_quotes 39 contents → IsCharacter text value →
+    character_at 39 contents ≡ Some (value, length contents)
 one text contents value quoted is =
     let same = in_quotes-injective 39 is.0 contents (sym is.1 ∙ quoted) in
-    character_only 39 contents value (length contents) (subst (λ bytes. BeginsWithCharacter 39 bytes value (length bytes)) same is.2)
+    character_only 39 contents value (length contents)
+    (subst (λ bytes. BeginsWithCharacter 39 bytes value (length bytes)) same is.2)
 
 pub returns-in_err-value-clause-only : goal.returns-in_err-value-clause-only
 returns-in_err-value-clause-only c = λ value is.
@@ -20,17 +22,20 @@ returns-in_err-value-clause-only c = λ value is.
 
 pub returns-then-n-contents-clause-found : goal.returns-then-n-contents-clause-found
 returns-then-n-contents-clause-found c =
-    let begins = character_found 39 c.in_ok-contents.contents.now (c.in_ok-value.value, c.in_ok-value.n) (sym c.in_ok-value.ensures.value) in
+    let begins = character_found 39 c.in_ok-contents.contents.now (c.in_ok-value.value, c.in_ok-value.n)
+    (sym c.in_ok-value.ensures.value) in
     (c.in_ok-contents.contents.now, c.in_ok-contents.ensures.found, rw (← c.if-n-contents.true) begins)
 
 pub returns-then-n-contents-clause-only : goal.returns-then-n-contents-clause-only
 returns-then-n-contents-clause-only c = λ value is.
     let begins = c.in_ok-value.ensures.value ∙ one _ _ value c.in_ok-contents.ensures.found is in
-    let same : ◌≡◌ {A = ℕ × ℕ} (c.in_ok-value.value, c.in_ok-value.n) (value, length c.in_ok-contents.contents.now) = cc in
+    let same : ◌≡◌ {A = ℕ × ℕ} (c.in_ok-value.value, c.in_ok-value.n) (value, length c.in_ok-contents.contents.now) =
+    cc in
     ap (λ (p : ℕ × ℕ). Some p.0) same
 
 pub returns-else-n-contents-clause-only : goal.returns-else-n-contents-clause-only
 returns-else-n-contents-clause-only c = λ value is.
     let begins = c.in_ok-value.ensures.value ∙ one _ _ value c.in_ok-contents.ensures.found is in
-    let same : ◌≡◌ {A = ℕ × ℕ} (c.in_ok-value.value, c.in_ok-value.n) (value, length c.in_ok-contents.contents.now) = cc in
+    let same : ◌≡◌ {A = ℕ × ℕ} (c.in_ok-value.value, c.in_ok-value.n) (value, length c.in_ok-contents.contents.now) =
+    cc in
     absurd (c.if-n-contents.false (ap (λ (p : ℕ × ℕ). p.1) same))

@@ -6,8 +6,10 @@ use Rattle.c_lex.proofs.Escapes.{escape_found, escape_within}
 use Rattle.c_lex.proofs.literals.character.Goals as goal
 
 -- an escape sequence lies in the bytes behind its backslash
-within : (bytes : List ℕ) (value n : ℕ) → 1 ≤ length bytes → Some (value, n) ≡ escape_at (drop 1 bytes) → n + 1 ≤ length bytes
-within bytes value n some found = omega (arith, escape_within (escape_found (drop 1 bytes) (value, n) (sym found)), length-drop 1 bytes)
+within : (bytes : List ℕ) (value n : ℕ) → 1 ≤ length bytes → Some (value, n) ≡ escape_at (drop 1 bytes) →
+    n + 1 ≤ length bytes
+within bytes value n some found =
+    omega (arith, escape_within (escape_found (drop 1 bytes) (value, n) (sym found)), length-drop 1 bytes)
 
 pub overflow_add-result : goal.overflow_add-result
 overflow_add-result c =

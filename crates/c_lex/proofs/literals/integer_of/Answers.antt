@@ -9,9 +9,15 @@ use Rattle.c_lex.proofs.literals.integer_of.Goals.{In_ok-unsigned}
 
 -- what was found, where the digits have a value and the suffix is one
 constant : (c : In_ok-unsigned) → Integer
-constant c = record { value = c.in_ok-value.value; unsigned = c.in_ok-unsigned.unsigned; longs = c.in_ok-unsigned.longs; decimal = nat_eq c.digits_of-base.result.0 10 }
+constant c = record {
+  value = c.in_ok-value.value;
+  unsigned = c.in_ok-unsigned.unsigned;
+  longs = c.in_ok-unsigned.longs;
+  decimal = nat_eq c.digits_of-base.result.0 10;
+}
 
-found : (c : In_ok-unsigned) → Found c.args.text.now (constant c) c.digits_of-base.result.0 c.split_at.result.0.now c.split_at.result.1.now
+found : (c : In_ok-unsigned) →
+    Found c.args.text.now (constant c) c.digits_of-base.result.0 c.split_at.result.0.now c.split_at.result.1.now
 unfolding constant
 found c =
     let part = c.digits_of-base.ensures in
@@ -42,7 +48,8 @@ pub returns-in_err-unsigned-clause-only : goal.returns-in_err-unsigned-clause-on
 returns-in_err-unsigned-clause-only c = λ n is.
     let part = c.digits_of-base.ensures in
     let rest = behind_at _ _ _ _ _ c.split_at.ensures.back c.digits_length.ensures.value part.base part.digits in
-    let said : suffix_at c.split_at.result.1.now ≡ Some (n.unsigned, n.longs) = ap suffix_at rest ∙ (reading c.args.text.now n is).suffix in
+    let said : suffix_at c.split_at.result.1.now ≡ Some (n.unsigned, n.longs) =
+    ap suffix_at rest ∙ (reading c.args.text.now n is).suffix in
     let unsaid = sym c.suffix_of.ensures ∙ c.in_err-unsigned.was in
     absurd (cc)
 
@@ -59,11 +66,14 @@ returns-then-not-has_type-clause-only c = λ n is.
 pub returns-clause-found : goal.returns-clause-found
 unfolding constant
 returns-clause-found c =
-    made c.args.text.now _ (found_reading _ _ _ _ _ (found (goal.at.returns-clause-found c).In_ok-unsigned) (some c.split_at.result.0.now (sym c.is_empty.ensures ∙ c.if-is_empty.false)) c.in_ok-value.ensures.0 (sym c.has_type.ensures ∙ c.if-not-has_type.false))
+    made c.args.text.now _ (found_reading _ _ _ _ _ (found (goal.at.returns-clause-found c).In_ok-unsigned)
+    (some c.split_at.result.0.now (sym c.is_empty.ensures ∙ c.if-is_empty.false)) c.in_ok-value.ensures.0
+    (sym c.has_type.ensures ∙ c.if-not-has_type.false))
   where
     some : (front : List ℕ) → nat_eq (length front) 0 ≡ false → 1 ≤ length front
     some front e = let h = eqb-false (length front) 0 e in omega (arith, h)
 
 pub returns-clause-only : goal.returns-clause-only
 unfolding constant
-returns-clause-only c = λ n is. ap Some (found_only _ _ n _ _ _ (found (goal.at.returns-clause-only c).In_ok-unsigned) (reading c.args.text.now n is))
+returns-clause-only c = λ n is. ap Some (found_only _ _ n _ _ _ (found (goal.at.returns-clause-only c).In_ok-unsigned)
+    (reading c.args.text.now n is))

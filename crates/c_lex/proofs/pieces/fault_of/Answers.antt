@@ -12,13 +12,20 @@ never true e f = cc
 never false e f = cc
 
 pub returns-else-is_some : goal.returns-else-is_some
-returns-else-is_some c = rw c.in-Number.is (Faults.literal refl (λ accepted. nothing c.integer_of.result accepted.0 (sym c.is_some.ensures ∙ c.if-is_some.false) (c.integer_of.ensures.only accepted.0 accepted.1)))
+returns-else-is_some c = rw c.in-Number.is
+    (Faults.literal refl (λ accepted. nothing c.integer_of.result accepted.0
+    (sym c.is_some.ensures ∙ c.if-is_some.false) (c.integer_of.ensures.only accepted.0 accepted.1)))
 
 pub returns-else-is_some-2 : goal.returns-else-is_some-2
-returns-else-is_some-2 c = rw c.in-Char.is (Faults.literal refl (λ accepted. nothing c.char_of.result accepted.0 (sym c.is_some-in-Char.ensures ∙ c.if-is_some-2.false) (c.char_of.ensures.only accepted.0 accepted.1)))
+returns-else-is_some-2 c =
+    rw c.in-Char.is (Faults.literal refl (λ accepted.
+    nothing c.char_of.result accepted.0 (sym c.is_some-in-Char.ensures ∙ c.if-is_some-2.false)
+    (c.char_of.ensures.only accepted.0 accepted.1)))
 
 pub returns-else-is_string : goal.returns-else-is_string
-returns-else-is_string c = rw c.in-Text.is (Faults.literal refl (λ accepted. never c.is_string.result c.if-is_string.false (c.is_string.ensures.1 accepted)))
+returns-else-is_string c =
+    rw c.in-Text.is (Faults.literal refl (λ accepted.
+    never c.is_string.result c.if-is_string.false (c.is_string.ensures.1 accepted)))
 
 pub returns-then-is_left_out : goal.returns-then-is_left_out
 returns-then-is_left_out c = Faults.word (sym c.is_left_out.ensures ∙ c.if-is_left_out.true)

@@ -5,7 +5,8 @@ use Rattle.c_lex.proofs.pieces.piece_at.Goals as goal
 use Rattle.c_lex.proofs.pieces.piece_at.Goals.{then-first+in-Missing-directive_at, else-first}
 
 pub returns-in-len1-up : goal.returns-in-len1-up
-returns-in-len1-up c = Separates.blank _ _ (head_is c.args.bytes.now (omega arith)) (sym c.is_blank.ensures ∙ c.if-is_blank.true)
+returns-in-len1-up c = Separates.blank _ _ (head_is c.args.bytes.now (omega arith))
+    (sym c.is_blank.ensures ∙ c.if-is_blank.true)
 
 pub returns-in-Whole : goal.returns-in-Whole
 returns-in-Whole c = Separates.comment c.in-Whole.ensures
@@ -23,4 +24,8 @@ pub returns : goal.returns
 returns c = found_on_line c.args.first c.args.bytes.now c.token_at.result no_directive c.token_at.ensures
   where
     no_directive : (c.args.first && (begins_skipped c.args.bytes.now || begins_pack c.args.bytes.now)) ≡ false
-    no_directive = elim c.if-first.branch [ then-first+in-Missing-directive_at w ↦ rw w.if-first.true w.in-Missing-directive_at.ensures | else-first w ↦ rw w.if-first.false refl ]
+    no_directive = elim c.if-first.branch [
+      | then-first+in-Missing-directive_at w ↦ rw w.if-first.true
+          w.in-Missing-directive_at.ensures
+      | else-first w ↦ rw w.if-first.false refl
+    ]

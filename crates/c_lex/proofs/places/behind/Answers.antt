@@ -4,7 +4,9 @@ use Rattle.c_lex.specs.Pieces.{place_behind}
 use Rattle.c_lex.proofs.Positions.{place_bounds}
 use Rattle.c_lex.proofs.places.behind.Goals as goal
 
-bounds : (place : Place) (front bytes : List ℕ) (i : ℕ) → i < length bytes → length front + length bytes ≤ 4194304 → place ≡ place_behind (front ++ take i bytes) → (place.at < 4194304) × (place.pos.line ≤ 4194304) × (place.pos.col ≤ 4194304)
+bounds : (place : Place) (front bytes : List ℕ) (i : ℕ) → i < length bytes → length front + length bytes ≤ 4194304 →
+    place ≡ place_behind (front ++ take i bytes) →
+    (place.at < 4194304) × (place.pos.line ≤ 4194304) × (place.pos.col ≤ 4194304)
 bounds place front bytes i within small is =
     let small_place = place_bounds place (front ++ take i bytes) is in
     let long = length-append front (take i bytes) in
@@ -12,10 +14,13 @@ bounds place front bytes i within small is =
     (omega (arith, small_place.0), omega (arith, small_place.1), omega (arith, small_place.2))
 
 pub behind_byte-place-requires-clause-at : goal.behind_byte-place-requires-clause-at
-behind_byte-place-requires-clause-at c = let small = bounds c.loop-b.place c.requires.0 c.args.bytes.now c.loop-b.b-index (omega arith) c.requires.2 (c.loop-b.invariant c.requires.0 c.requires.1) in omega (arith, small.0)
+behind_byte-place-requires-clause-at c =
+    let small = bounds c.loop-b.place c.requires.0 c.args.bytes.now c.loop-b.b-index (omega arith) c.requires.2 (c.loop-b.invariant c.requires.0 c.requires.1) in omega (arith, small.0)
 
 pub behind_byte-place-requires-clause-line : goal.behind_byte-place-requires-clause-line
-behind_byte-place-requires-clause-line c = let small = bounds c.loop-b.place c.requires.0 c.args.bytes.now c.loop-b.b-index (omega arith) c.requires.2 (c.loop-b.invariant c.requires.0 c.requires.1) in omega (arith, small.1)
+behind_byte-place-requires-clause-line c =
+    let small = bounds c.loop-b.place c.requires.0 c.args.bytes.now c.loop-b.b-index (omega arith) c.requires.2 (c.loop-b.invariant c.requires.0 c.requires.1) in omega (arith, small.1)
 
 pub behind_byte-place-requires-clause-col : goal.behind_byte-place-requires-clause-col
-behind_byte-place-requires-clause-col c = let small = bounds c.loop-b.place c.requires.0 c.args.bytes.now c.loop-b.b-index (omega arith) c.requires.2 (c.loop-b.invariant c.requires.0 c.requires.1) in omega (arith, small.2)
+behind_byte-place-requires-clause-col c =
+    let small = bounds c.loop-b.place c.requires.0 c.args.bytes.now c.loop-b.b-index (omega arith) c.requires.2 (c.loop-b.invariant c.requires.0 c.requires.1) in omega (arith, small.2)

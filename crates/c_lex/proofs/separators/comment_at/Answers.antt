@@ -8,4 +8,5 @@ returns-then-starts_with c = rw c.line_length.ensures (line (sym c.starts_with.e
 
 pub returns-in-Some : goal.returns-in-Some
 returns-in-Some c =
-    block (sym c.starts_with-else-starts_with.ensures.value ∙ c.if-starts_with-2.true) (rw (take_rest c.args.bytes.now 2) at c.in-Some.ensures.found)
+    block (sym c.starts_with-else-starts_with.ensures.value ∙ c.if-starts_with-2.true)
+    (rw (take_rest c.args.bytes.now 2) at c.in-Some.ensures.found)

@@ -11,7 +11,8 @@ both_false : (a b : Bool) → (a || b) ≡ false → (a ≡ false) × (b ≡ fal
 both_false true b e = cc
 both_false false b e = (refl, e)
 
-described : (bytes : List ℕ) → 1 ≤ length bytes → get_or bytes 0 0 ≡ 35 → (named : Directive) → DescribesNamed (drop 1 bytes) named → DescribesDirective bytes named
+described : (bytes : List ℕ) → 1 ≤ length bytes → get_or bytes 0 0 ≡ 35 → (named : Directive) →
+    DescribesNamed (drop 1 bytes) named → DescribesDirective bytes named
 unfolding begins_skipped begins_pack
 described [] some hash named says = absurd (omega arith)
 described (b ∷ bs) some hash Skipped says = rw (eq-eqb b 35 hash) says
@@ -20,13 +21,15 @@ described (b ∷ bs) some hash Missing says =
     let neither = both_false (is_marker bs) (is_pragma bs) says in
     rw (eq-eqb b 35 hash) (rw (neither.0, neither.1) refl)
 
-missing : (bytes : List ℕ) → (1 ≤ length bytes → get_or bytes 0 0 ≡ 35 → ⊥) → (begins_skipped bytes || begins_pack bytes) ≡ false
+missing : (bytes : List ℕ) → (1 ≤ length bytes → get_or bytes 0 0 ≡ 35 → ⊥) →
+    (begins_skipped bytes || begins_pack bytes) ≡ false
 unfolding begins_skipped begins_pack
 missing [] other = refl
 missing (b ∷ bs) other = rw (ne_eqb b 35 (other (omega arith))) refl
 
 pub returns-in-len1-up : goal.returns-in-len1-up
-returns-in-len1-up c = described c.args.bytes.now (omega arith) c.if-first-eq35.true _ (rw (take_rest c.args.bytes.now 1) at c.directive_named.ensures)
+returns-in-len1-up c = described c.args.bytes.now (omega arith) c.if-first-eq35.true _
+    (rw (take_rest c.args.bytes.now 1) at c.directive_named.ensures)
 
 pub returns-in_default : goal.returns-in_default
 returns-in_default c = missing c.args.bytes.now (λ some. absurd (omega arith))

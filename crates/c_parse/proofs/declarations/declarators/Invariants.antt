@@ -10,7 +10,10 @@ invariant-list l = record {
   size : Owed l.fn.cursor l.cursor 1;
   low : l.parts.height ≤ l.below;
   longer : length (in_force l.fn.types) ≤ length (in_force l.types);
-  declares : (ys : Syns) (x : Syn) → Holds l.fn.cursor.nodes.items l.fn.start ys → Means l.fn.cursor.nodes.items l.fn.first x → Declares l.fn.cursor l.cursor (in_force l.fn.types) (in_force l.types) l.below (naming_of l.naming) l.defines x ys l.parts;
+  declares : (ys : Syns) (x : Syn) → Holds l.fn.cursor.nodes.items l.fn.start ys →
+      Means l.fn.cursor.nodes.items l.fn.first x →
+      Declares l.fn.cursor l.cursor (in_force l.fn.types) (in_force l.types) l.below
+      (naming_of l.naming) l.defines x ys l.parts;
 }
 
 abbrev pub decreases-list : goal.decreases-list

@@ -6,7 +6,8 @@ use Rattle.c_tree.specs.Grammar.{Declarator, Plain}
 use Rattle.c_parse.specs.Reading.{read}
 use Rattle.c_parse.specs.Statements.{declaration}
 use Rattle.c_parse.specs.Got.{rest_of, in_force}
-use Rattle.c_parse.proofs.Made.{bind_is, then_is, else_is, fails_bind, fails_after, fails_same, grows_same, grows_to, grows_on, means_on}
+use Rattle.c_parse.proofs.Made.{bind_is, then_is, else_is, fails_bind, fails_after, fails_same, grows_same, grows_to}
+use Rattle.c_parse.proofs.Made.{grows_on, means_on}
 use Rattle.c_parse.proofs.Declared.{declare_at, declare_none, specifies_of, specifies_on, naming_after, naming_alone}
 use Rattle.c_parse.proofs.declarations.declare.Goals as goal
 
@@ -15,25 +16,37 @@ returns-then-budget-eq0-clause-tree c = declare_none _ _ _ c.if-budget-eq0.true
 
 pub returns-in_err-specified-clause-tree : goal.returns-in_err-specified-clause-tree
 unfolding declaration
-returns-in_err-specified-clause-tree c = let p = err_from_is_err_and c.from_residual.result c.from_residual.ensures.1 in rw (p.1, p.2)
-    (fails_same _ (declare_at c.args.budget (c.args.budget - 1) (in_force c.args.types.now) (rest_of c.args.cursor.now) (let n = c.if-budget-eq0.false in omega arith)) (fails_bind _ _ _ c.in_err-specified.ensures.tree))
+returns-in_err-specified-clause-tree c =
+    let p = err_from_is_err_and c.from_residual.result c.from_residual.ensures.1 in rw (p.1, p.2)
+    (fails_same _ (declare_at c.args.budget (c.args.budget - 1) (in_force c.args.types.now) (rest_of c.args.cursor.now)
+    (let n = c.if-budget-eq0.false in omega arith)) (fails_bind _ _ _ c.in_err-specified.ensures.tree))
 
 pub returns-then-takes-clause-tree : goal.returns-then-takes-clause-tree
 unfolding declaration
 returns-then-takes-clause-tree c =
     let g = c.in_ok-specified.ensures.tree in
     let grown = grows_to grows_same (sym c.takes.ensures.nodes) in
-    naming_alone _ c.takes.new.self _ _ g.part.tree c.specifiers_only.result (c.specifiers_only.ensures.tree g.part.tree (means_on grown g.part.means)) c.specifiers_only.ensures.grows c.specifiers_only.ensures.rest
+    naming_alone _ c.takes.new.self _ _ g.part.tree c.specifiers_only.result
+    (c.specifiers_only.ensures.tree g.part.tree (means_on grown g.part.means)) c.specifiers_only.ensures.grows
+    c.specifiers_only.ensures.rest
     (grows_on g.part.grows grown)
-    (declare_at c.args.budget (c.args.budget - 1) (in_force c.args.types.now) (rest_of c.args.cursor.now) (let n = c.if-budget-eq0.false in omega arith) ∙ bind_is _ g.part.reads ∙ then_is _ (sym c.takes.ensures.found ∙ c.if-takes.true) ∙ ap (λ v. Some (node Kinds.Declaration (own_token g.part.tree) (one g.part.tree), v)) (sym (c.takes.ensures.taken c.if-takes.true)))
+    (declare_at c.args.budget (c.args.budget - 1) (in_force c.args.types.now) (rest_of c.args.cursor.now)
+    (let n = c.if-budget-eq0.false in omega arith) ∙ bind_is _ g.part.reads
+    ∙ then_is _ (sym c.takes.ensures.found ∙ c.if-takes.true)
+    ∙ ap (λ v. Some (node Kinds.Declaration (own_token g.part.tree) (one g.part.tree), v))
+    (sym (c.takes.ensures.taken c.if-takes.true)))
 
 pub returns-in_err-first-clause-tree : goal.returns-in_err-first-clause-tree
 unfolding declaration
-returns-in_err-first-clause-tree c = let p = err_from_is_err_and c.from_residual-in_err-first.result c.from_residual-in_err-first.ensures.1 in rw (p.1, p.2)
+returns-in_err-first-clause-tree c =
+    let p = err_from_is_err_and c.from_residual-in_err-first.result c.from_residual-in_err-first.ensures.1 in
+    rw (p.1, p.2)
     (let g = c.in_ok-specified.ensures.tree in
-    fails_same _ (declare_at c.args.budget (c.args.budget - 1) (in_force c.args.types.now) (rest_of c.args.cursor.now) (let n = c.if-budget-eq0.false in omega arith))
+    fails_same _ (declare_at c.args.budget (c.args.budget - 1) (in_force c.args.types.now) (rest_of c.args.cursor.now)
+    (let n = c.if-budget-eq0.false in omega arith))
     (fails_after _ _ _ _ g.part.reads (fails_same _ (else_is _ (sym c.takes.ensures.found ∙ c.if-takes.false))
-    (fails_bind _ _ _ (fails_same _ (ap (λ v. read (c.args.budget - 1) (Declarator Plain) (in_force c.args.types.now) v) (sym (c.takes.ensures.left c.if-takes.false))) c.in_err-first.ensures.tree)))))
+    (fails_bind _ _ _ (fails_same _ (ap (λ v. read (c.args.budget - 1) (Declarator Plain) (in_force c.args.types.now) v)
+    (sym (c.takes.ensures.left c.if-takes.false))) c.in_err-first.ensures.tree)))))
 
 pub returns-clause-tree : goal.returns-clause-tree
 unfolding declaration
@@ -42,7 +55,10 @@ returns-clause-tree c =
     let d = c.in_ok-first.ensures.tree in
     let grown = grows_on (grows_to grows_same (sym c.takes.ensures.nodes)) d.grows in
     naming_after _ c.read.new.cursor _ _ _ c.declaration_behind.result
-    (declare_at c.args.budget (c.args.budget - 1) (in_force c.args.types.now) (rest_of c.args.cursor.now) (let n = c.if-budget-eq0.false in omega arith) ∙ bind_is _ g.part.reads ∙ else_is _ (sym c.takes.ensures.found ∙ c.if-takes.false)
-    ∙ bind_is _ (ap (λ v. read (c.args.budget - 1) (Declarator Plain) (in_force c.args.types.now) v) (sym (c.takes.ensures.left c.if-takes.false)) ∙ d.reads))
+    (declare_at c.args.budget (c.args.budget - 1) (in_force c.args.types.now) (rest_of c.args.cursor.now)
+    (let n = c.if-budget-eq0.false in omega arith) ∙ bind_is _ g.part.reads
+    ∙ else_is _ (sym c.takes.ensures.found ∙ c.if-takes.false)
+    ∙ bind_is _ (ap (λ v. read (c.args.budget - 1) (Declarator Plain) (in_force c.args.types.now) v)
+    (sym (c.takes.ensures.left c.if-takes.false)) ∙ d.reads))
     (grows_on g.part.grows grown)
     (c.declaration_behind.ensures.tree g.part.tree d.tree (specifies_on grown (specifies_of _ _ _ g)) d.means)

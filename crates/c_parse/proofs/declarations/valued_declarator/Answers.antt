@@ -11,6 +11,9 @@ pub returns-clause-tree : goal.returns-clause-tree
 returns-clause-tree c = λ x m.
     let i = c.in_ok-initializer.ensures.tree in
     let grown = grows_on (grows_to grows_same (sym c.takes.ensures.nodes)) i.grows in
-    with_reads _ c.read.new.cursor _ _ c.with.result c.with.ensures.size c.with.ensures.kids c.with.ensures.full (one x) i.tree
+    with_reads _ c.read.new.cursor _ _ c.with.result c.with.ensures.size c.with.ensures.kids c.with.ensures.full
+    (one x) i.tree
     (holds_on grown (c.in_ok-parts.ensures.one x m)) i.means grown
-    (then_is _ (sym c.takes.ensures.found ∙ c.if-not-takes.false) ∙ bind_is _ (ap (λ v. read c.args.below Initializer (in_force c.args.types.now) v) (sym (c.takes.ensures.taken c.if-not-takes.false)) ∙ i.reads))
+    (then_is _ (sym c.takes.ensures.found ∙ c.if-not-takes.false)
+    ∙ bind_is _ (ap (λ v. read c.args.below Initializer (in_force c.args.types.now) v)
+    (sym (c.takes.ensures.taken c.if-not-takes.false)) ∙ i.reads))

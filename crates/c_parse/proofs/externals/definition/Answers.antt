@@ -8,14 +8,20 @@ use Rattle.c_parse.proofs.Outer.{definition_is}
 use Rattle.c_parse.proofs.externals.definition.Goals as goal
 
 pub returns-in_err-body-clause-tree : goal.returns-in_err-body-clause-tree
-returns-in_err-body-clause-tree c = λ s d ms md. let p = err_from_is_err_and c.from_residual.result c.from_residual.ensures.1 in rw (p.1, p.2)
-    (fails_same _ (definition_is s d c.args.brace.now (in_force c.args.types.now) (rest_of c.args.cursor.now)) (fails_bind _ _ _ c.in_err-body.ensures.tree))
+returns-in_err-body-clause-tree c =
+    λ s d ms md. let p = err_from_is_err_and c.from_residual.result c.from_residual.ensures.1 in rw (p.1, p.2)
+    (fails_same _ (definition_is s d c.args.brace.now (in_force c.args.types.now) (rest_of c.args.cursor.now))
+    (fails_bind _ _ _ c.in_err-body.ensures.tree))
 
 pub returns-clause-tree : goal.returns-clause-tree
 returns-clause-tree c = λ s d ms md.
     let b = c.in_ok-body.ensures.tree in
-    made_reads _ c.block.new.cursor _ (own_token s) (three s d b.tree) c.make.result c.make.ensures.tree c.make.ensures.rest
+    made_reads _ c.block.new.cursor _ (own_token s)
+    (three s d b.tree) c.make.result c.make.ensures.tree c.make.ensures.rest
     (record { kind = refl; own = ms.root.own; first = ms.root.own; names = refl })
-    (holds_more {new = c.push-2.new.self} (holds_more {new = c.push.new.self} (c.in_ok-parts.ensures.one s (means_on b.grows ms)) (means_on b.grows md) c.in_ok-push.ensures.kids c.in_ok-push.ensures.size) b.means c.in_ok-push-2.ensures.kids c.in_ok-push-2.ensures.size)
+    (holds_more {new = c.push-2.new.self} (holds_more {new = c.push.new.self}
+    (c.in_ok-parts.ensures.one s (means_on b.grows ms))
+    (means_on b.grows md) c.in_ok-push.ensures.kids c.in_ok-push.ensures.size) b.means
+    c.in_ok-push-2.ensures.kids c.in_ok-push-2.ensures.size)
     b.grows
     (definition_is s d c.args.brace.now (in_force c.args.types.now) (rest_of c.args.cursor.now) ∙ bind_is _ b.reads)

@@ -11,7 +11,8 @@ use Rattle.c_parse.proofs.externals.external.Goals as goal
 
 pub returns-in_err-specified-clause-tree : goal.returns-in_err-specified-clause-tree
 unfolding external
-returns-in_err-specified-clause-tree c = let p = err_from_is_err_and c.from_residual.result c.from_residual.ensures.1 in rw (p.1, p.2)
+returns-in_err-specified-clause-tree c =
+    let p = err_from_is_err_and c.from_residual.result c.from_residual.ensures.1 in rw (p.1, p.2)
     (fails_bind _ _ _ c.in_err-specified.ensures.tree)
 
 pub returns-then-takes-clause-tree : goal.returns-then-takes-clause-tree
@@ -19,9 +20,13 @@ unfolding external
 returns-then-takes-clause-tree c =
     let g = c.in_ok-specified.ensures.tree in
     let grown = grows_to grows_same (sym c.takes.ensures.nodes) in
-    naming_alone _ c.takes.new.self _ _ g.part.tree c.specifiers_only.result (c.specifiers_only.ensures.tree g.part.tree (means_on grown g.part.means)) c.specifiers_only.ensures.grows c.specifiers_only.ensures.rest
+    naming_alone _ c.takes.new.self _ _ g.part.tree c.specifiers_only.result
+    (c.specifiers_only.ensures.tree g.part.tree (means_on grown g.part.means)) c.specifiers_only.ensures.grows
+    c.specifiers_only.ensures.rest
     (grows_on g.part.grows grown)
-    (bind_is _ g.part.reads ∙ then_is _ (sym c.takes.ensures.found ∙ c.if-takes.true) ∙ ap (λ v. Some (node Kinds.Declaration (own_token g.part.tree) (one g.part.tree), v)) (sym (c.takes.ensures.taken c.if-takes.true)))
+    (bind_is _ g.part.reads ∙ then_is _ (sym c.takes.ensures.found ∙ c.if-takes.true)
+    ∙ ap (λ v. Some (node Kinds.Declaration (own_token g.part.tree) (one g.part.tree), v))
+    (sym (c.takes.ensures.taken c.if-takes.true)))
 
 pub returns-clause-tree : goal.returns-clause-tree
 unfolding external
@@ -29,6 +34,8 @@ returns-clause-tree c =
     let g = c.in_ok-specified.ensures.tree in
     let grown = grows_to grows_same (sym c.takes.ensures.nodes) in
     naming_after _ c.takes.new.self _ _ _ c.external_behind.result
-    (bind_is _ g.part.reads ∙ else_is _ (sym c.takes.ensures.found ∙ c.if-takes.false) ∙ ap (λ v. declared_externally g.part.tree (in_force c.args.types.now) v) (sym (c.takes.ensures.left c.if-takes.false)))
+    (bind_is _ g.part.reads ∙ else_is _ (sym c.takes.ensures.found ∙ c.if-takes.false)
+    ∙ ap (λ v. declared_externally g.part.tree (in_force c.args.types.now) v)
+    (sym (c.takes.ensures.left c.if-takes.false)))
     (grows_on g.part.grows grown)
     (c.external_behind.ensures.tree g.part.tree (specifies_on grown (specifies_of _ _ _ g)))

@@ -16,10 +16,13 @@ returns-in_default-clause-tree c = λ s p.
     let named = c.external_naming-naming.ensures s p.defines p.names in
     let kept = grows_to grows_same (sym c.in_default.ensures.nodes) in
     naming_after _ c.take_if.new.self _ _ _ c.declaration_behind.result
-    (bind_is _ (ap (λ n. read 199 (Declarator n) (in_force c.args.types.now) (rest_of c.args.cursor.now)) (sym named) ∙ d.reads)
+    (bind_is _ (ap (λ n. read 199 (Declarator n) (in_force c.args.types.now) (rest_of c.args.cursor.now)) (sym named)
+    ∙ d.reads)
     ∙ behind_other s d.tree (in_force c.args.types.now) (rest_of c.read.new.cursor) c.in_default.ensures.other
-    ∙ ap (λ n. declaration_behind (read 199) 199 n s d.tree (in_force c.args.types.now) (rest_of c.read.new.cursor)) (sym named)
-    ∙ ap (λ v. declaration_behind (read 199) 199 (naming_of c.external_naming-naming.result) s d.tree (in_force c.args.types.now) v) (sym c.in_default.ensures.left))
+    ∙ ap (λ n. declaration_behind (read 199) 199 n s d.tree (in_force c.args.types.now) (rest_of c.read.new.cursor))
+    (sym named)
+    ∙ ap (λ v. declaration_behind (read 199) 199 (naming_of c.external_naming-naming.result) s d.tree
+    (in_force c.args.types.now) v) (sym c.in_default.ensures.left))
     (grows_on d.grows kept)
     (c.declaration_behind.ensures.tree s d.tree (specifies_on (grows_on d.grows kept) p) (means_on kept d.means))
 
@@ -27,18 +30,25 @@ pub returns-then-not-is_plain-clause-tree : goal.returns-then-not-is_plain-claus
 returns-then-not-is_plain-clause-tree c = λ s p.
     let d = c.in_ok-declarator.ensures.tree in
     let named = c.external_naming-naming.ensures s p.defines p.names in
-    bind_is _ (ap (λ n. read 199 (Declarator n) (in_force c.args.types.now) (rest_of c.args.cursor.now)) (sym named) ∙ d.reads)
-    ∙ behind_brace s d.tree (in_force c.args.types.now) (rest_of c.read.new.cursor) (rest_of c.take_if.new.self) c.in-Some.brace c.in-Some.ensures.rest c.in-Some.ensures.found
-    ∙ else_is _ (ap (λ v. not (list_any (λ n. is_among (in_force c.args.types.now) n) v)) (sym d.means.root.names) ∙ sym c.is_plain.ensures ∙ c.if-not-is_plain.true)
+    bind_is _ (ap (λ n. read 199 (Declarator n) (in_force c.args.types.now) (rest_of c.args.cursor.now)) (sym named)
+    ∙ d.reads)
+    ∙ behind_brace s d.tree (in_force c.args.types.now) (rest_of c.read.new.cursor)
+    (rest_of c.take_if.new.self) c.in-Some.brace c.in-Some.ensures.rest c.in-Some.ensures.found
+    ∙ else_is _ (ap (λ v. not (list_any (λ n. is_among (in_force c.args.types.now) n) v)) (sym d.means.root.names)
+    ∙ sym c.is_plain.ensures ∙ c.if-not-is_plain.true)
 
 pub returns-clause-tree : goal.returns-clause-tree
 returns-clause-tree c = λ s p.
     let d = c.in_ok-declarator.ensures.tree in
     let named = c.external_naming-naming.ensures s p.defines p.names in
     let kept = grows_to grows_same (sym c.in-Some.ensures.nodes) in
-    naming_function _ c.take_if.new.self _ (in_force c.args.types.now) (in_force c.definition.new.types) s d.tree c.in-Some.brace (rest_of c.take_if.new.self) c.definition.result
-    (bind_is _ (ap (λ n. read 199 (Declarator n) (in_force c.args.types.now) (rest_of c.args.cursor.now)) (sym named) ∙ d.reads)
-    ∙ behind_brace s d.tree (in_force c.args.types.now) (rest_of c.read.new.cursor) (rest_of c.take_if.new.self) c.in-Some.brace c.in-Some.ensures.rest c.in-Some.ensures.found
-    ∙ then_is _ (ap (λ v. not (list_any (λ n. is_among (in_force c.args.types.now) n) v)) (sym d.means.root.names) ∙ sym c.is_plain.ensures ∙ c.if-not-is_plain.false))
+    naming_function _ c.take_if.new.self _ (in_force c.args.types.now)
+    (in_force c.definition.new.types) s d.tree c.in-Some.brace (rest_of c.take_if.new.self) c.definition.result
+    (bind_is _ (ap (λ n. read 199 (Declarator n) (in_force c.args.types.now) (rest_of c.args.cursor.now)) (sym named)
+    ∙ d.reads)
+    ∙ behind_brace s d.tree (in_force c.args.types.now) (rest_of c.read.new.cursor)
+    (rest_of c.take_if.new.self) c.in-Some.brace c.in-Some.ensures.rest c.in-Some.ensures.found
+    ∙ then_is _ (ap (λ v. not (list_any (λ n. is_among (in_force c.args.types.now) n) v)) (sym d.means.root.names)
+    ∙ sym c.is_plain.ensures ∙ c.if-not-is_plain.false))
     (grows_on d.grows kept) c.definition.ensures.names
     (c.definition.ensures.tree s d.tree (means_on (grows_on d.grows kept) p.means) (means_on kept d.means))

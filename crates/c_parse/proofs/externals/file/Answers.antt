@@ -10,8 +10,11 @@ use Rattle.c_parse.proofs.externals.file.Goals as goal
 
 pub returns-in_err-parts-clause-tree : goal.returns-in_err-parts-clause-tree
 unfolding read_file
-returns-in_err-parts-clause-tree c = let p = err_from_is_err_and c.from_residual.result c.from_residual.ensures.1 in rw (p.1, p.2)
-    (fails_bind _ _ _ (fails_same _ (ap (λ v. externals 199 (suc (length (rest_of c.args.cursor.now))) v (rest_of c.args.cursor.now)) (sym c.requires.names)) c.in_err-parts.ensures.tree))
+returns-in_err-parts-clause-tree c =
+    let p = err_from_is_err_and c.from_residual.result c.from_residual.ensures.1 in rw (p.1, p.2)
+    (fails_bind _ _ _ (fails_same _ (ap (λ v.
+    externals 199 (suc (length (rest_of c.args.cursor.now))) v (rest_of c.args.cursor.now))
+    (sym c.requires.names)) c.in_err-parts.ensures.tree))
 
 pub returns-clause-tree : goal.returns-clause-tree
 unfolding read_file
@@ -20,7 +23,13 @@ returns-clause-tree c =
     MatchResult-weaker c.make.result c.make.ensures.tree
     (λ part made. record {
       tree = node Kinds.File file_start g.trees;
-      means = made.means file_start g.trees (record { kind = refl; own = record { pos = refl; text = refl }; first = record { pos = refl; text = refl }; names = refl }) g.holds;
-      reads = bind_is _ (ap (λ v. externals 199 (suc (length (rest_of c.args.cursor.now))) v (rest_of c.args.cursor.now)) (sym c.requires.names) ∙ g.reads);
+      means = made.means file_start g.trees (record {
+        kind = refl;
+        own = record { pos = refl; text = refl };
+        first = record { pos = refl; text = refl };
+        names = refl;
+      }) g.holds;
+      reads = bind_is _ (ap (λ v. externals 199 (suc (length (rest_of c.args.cursor.now))) v
+          (rest_of c.args.cursor.now)) (sym c.requires.names) ∙ g.reads);
     })
     (λ e same. fails_memory e _ same)

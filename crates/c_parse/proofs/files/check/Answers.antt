@@ -13,7 +13,11 @@ use Rattle.c_parse.proofs.files.check.Goals as goal
 pub loop-next-init : goal.loop-next-init
 loop-next-init c = record {
   file = refl;
-  tokens = ([], record { few = omega arith; within = let begins = c.requires in omega arith; reads = sym c.requires }, c.no_brackets-brackets.ensures);
+  tokens = (
+    [],
+    record { few = omega arith; within = let begins = c.requires in omega arith; reads = sym c.requires },
+    c.no_brackets-brackets.ensures,
+  );
 }
 
 pub with_token-brackets-requires : goal.with_token-brackets-requires
@@ -30,7 +34,8 @@ with_token-brackets-requires c =
 pub loop-next-preserved : goal.loop-next-preserved
 loop-next-preserved c =
     let token = lexeme_of c.in-Ok.token in
-    let next : NextToken c.loop-next.reader.file c.loop-next.reader.at token = rw c.in-Ok.is at c.in-Some.ensures.token in
+    let next : NextToken c.loop-next.reader.file c.loop-next.reader.at token =
+    rw c.in-Ok.is at c.in-Some.ensures.token in
     let taken = rw c.in-Ok.is at c.in-Some.ensures.taken in
     let forward = rw c.in-Ok.is at c.in-Some.ensures.forward in
     let before = c.loop-next.invariant.tokens in
@@ -42,19 +47,30 @@ loop-next-preserved c =
         before.0 ++ token ∷ [],
         read_more _ _ _ _ token before.1 (subst (λ v. NextToken v c.loop-next.reader.at token) file next) at
             (omega (arith, at, forward.0)) (let same = ap length file in omega (arith, at, same, forward.1)),
-        subst (λ t. Counts c.with_token-brackets.result (before.0 ++ t ∷ [])) c.new-item.ensures (c.with_token-brackets.ensures before.0 before.2),
+        subst (λ t. Counts c.with_token-brackets.result (before.0 ++ t ∷ [])) c.new-item.ensures
+            (c.with_token-brackets.ensures before.0 before.2),
       );
     }
 
 pub returns-in-Err : goal.returns-in-Err
 returns-in-Err c =
     let before = c.loop-next.invariant.tokens in
-    lexical (before.0, c.loop-next.reader.at, before.1.reads, subst (λ v. NextRefusal v c.loop-next.reader.at c.in-Err.code c.in-Err.place) c.loop-next.invariant.file (rw c.in-Err.is at c.in-Some.ensures.refusal))
+    lexical (
+      before.0,
+      c.loop-next.reader.at,
+      before.1.reads,
+      subst (λ v. NextRefusal v c.loop-next.reader.at c.in-Err.code c.in-Err.place) c.loop-next.invariant.file
+          (rw c.in-Err.is at c.in-Some.ensures.refusal),
+    )
 
 pub returns-in-Some-deep : goal.returns-in-Some-deep
 returns-in-Some-deep c =
     let before = c.loop-next.invariant.tokens in
-    brackets before.0 (c.loop-next.reader.at, before.1.reads, subst (λ v. NextEnd v c.loop-next.reader.at) c.loop-next.invariant.file c.in_default.ensures.end)
+    brackets before.0 (
+      c.loop-next.reader.at,
+      before.1.reads,
+      subst (λ v. NextEnd v c.loop-next.reader.at) c.loop-next.invariant.file c.in_default.ensures.end,
+    )
     (whole _ _ before.2 ∙ ap (λ v. first_of v None) c.in-Some-deep.is)
 
 pub returns-in-None : goal.returns-in-None
@@ -67,7 +83,11 @@ returns-in-None c =
       tokens = before.0;
       cut = record {
         short = subst (λ v. length v ≤ 4_194_304) c.loop-next.invariant.file small;
-        lexes = (c.loop-next.reader.at, read.reads, subst (λ v. NextEnd v c.loop-next.reader.at) c.loop-next.invariant.file c.in_default.ensures.end);
+        lexes = (
+          c.loop-next.reader.at,
+          read.reads,
+          subst (λ v. NextEnd v c.loop-next.reader.at) c.loop-next.invariant.file c.in_default.ensures.end,
+        );
         brackets = whole _ _ before.2 ∙ ap (λ v. first_of v None) c.in-None.is;
       };
       few = omega (arith, read.few, read.within, same, small);

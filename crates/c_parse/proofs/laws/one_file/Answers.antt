@@ -4,4 +4,9 @@ use Rattle.c_parse.proofs.StatementsComplete.{one_tree}
 use Rattle.c_parse.proofs.laws.one_file.Goals as goal
 
 pub returns : goal.returns
-returns c = λ bytes. files.one_file bytes (record { tokens = one_lexing bytes; unrefused = lexing_no_refusal bytes; refused = one_refusal bytes; syntax = λ a x y d e. one_tree d e })
+returns c = λ bytes. files.one_file bytes (record {
+  tokens = one_lexing bytes;
+  unrefused = lexing_no_refusal bytes;
+  refused = one_refusal bytes;
+  syntax = λ a x y d e. one_tree d e;
+})

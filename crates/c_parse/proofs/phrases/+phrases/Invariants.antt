@@ -98,7 +98,8 @@ abbrev pub invariant-climb-loop-item : goal.invariant-climb-loop-item
 invariant-climb-loop-item l = record {
   size : Owed l.fn.cursor l.cursor 0;
   low : l.part.height ≤ l.below + 1;
-  climbs : (x : Syn) → Means l.fn.cursor.nodes.items l.fn.start x → Climbs l.fn.cursor l.cursor l.below l.level (in_force l.types) x l.part;
+  climbs : (x : Syn) → Means l.fn.cursor.nodes.items l.fn.start x →
+      Climbs l.fn.cursor l.cursor l.below l.level (in_force l.types) x l.part;
 }
 
 abbrev pub decreases-production-loop-first : goal.decreases-production-loop-first
@@ -110,7 +111,8 @@ invariant-production-loop-first l = record {
   low : l.parts.height ≤ l.below;
   keeps : l.fn.start.height ≤ l.parts.height;
   small : AreSmall l.left;
-  runs : (ys : Syns) → Holds l.fn.cursor.nodes.items l.fn.start ys → Produces l.fn.cursor l.cursor l.below (in_force l.types) l.steps l.left ys l.parts;
+  runs : (ys : Syns) → Holds l.fn.cursor.nodes.items l.fn.start ys →
+      Produces l.fn.cursor l.cursor l.below (in_force l.types) l.steps l.left ys l.parts;
 }
 
 abbrev pub decreases-separated-list : goal.decreases-separated-list
@@ -121,7 +123,8 @@ invariant-separated-list l = record {
   size : Paid l.fn.cursor l.cursor 4;
   low : l.parts.height ≤ l.below;
   keeps : l.fn.start.height ≤ l.parts.height;
-  lists : (ys : Syns) → Holds l.fn.cursor.nodes.items l.fn.start ys → Lists l.fn.cursor l.cursor l.below (goal_of l.what) (in_force l.types) ys l.parts;
+  lists : (ys : Syns) → Holds l.fn.cursor.nodes.items l.fn.start ys →
+      Lists l.fn.cursor l.cursor l.below (goal_of l.what) (in_force l.types) ys l.parts;
 }
 
 abbrev pub decreases-members-list : goal.decreases-members-list
@@ -131,7 +134,8 @@ abbrev pub invariant-members-list : goal.invariant-members-list
 invariant-members-list l = record {
   size : Paid l.fn.cursor l.cursor 4;
   low : l.parts.height ≤ l.below;
-  fills : (ys : Syns) (turns : ℕ) → length (rest_of l.fn.cursor) < turns → Holds l.fn.cursor.nodes.items l.fn.start ys → Fills l.fn.cursor l.cursor l.below turns (in_force l.types) ys l.parts;
+  fills : (ys : Syns) (turns : ℕ) → length (rest_of l.fn.cursor) < turns → Holds l.fn.cursor.nodes.items l.fn.start ys →
+      Fills l.fn.cursor l.cursor l.below turns (in_force l.types) ys l.parts;
 }
 
 abbrev pub decreases-specifier_list-loop-item : goal.decreases-specifier_list-loop-item
@@ -151,5 +155,6 @@ abbrev pub invariant-suffixes-loop-part : goal.invariant-suffixes-loop-part
 invariant-suffixes-loop-part l = record {
   size : HasPaid l.fn.cursor l.cursor l.fn.start l.inner;
   low : height_of l.inner ≤ l.below + 1;
-  suffixes : (x : Option Syn) → MeansOption l.fn.cursor.nodes.items l.fn.start x → Suffixes l.fn.cursor l.cursor l.below (in_force l.types) x l.inner;
+  suffixes : (x : Option Syn) → MeansOption l.fn.cursor.nodes.items l.fn.start x →
+      Suffixes l.fn.cursor l.cursor l.below (in_force l.types) x l.inner;
 }

@@ -19,7 +19,8 @@ returns-clause-tree c = λ ys first names h. MatchResult-weaker c.join.result c.
       tree = node c.args.kind c.args.keyword.now ys;
       means = made.means ys (subst (λ v. IsPlaceOf c.place.result v) (sym first) c.place.ensures) names h;
       reads = with_parts_some (node c.args.kind c.args.keyword.now) ys (rest_of c.args.cursor.now)
-          (holds_some h (λ e. eqb-false c.args.tag.kids.len 0 (sym c.is_empty.ensures ∙ c.if-is_empty.false) (let l = ap length e in let held = c.args.tag.kids.ok.0 in omega arith)))
+          (holds_some h (λ e. eqb-false c.args.tag.kids.len 0 (sym c.is_empty.ensures ∙ c.if-is_empty.false)
+          (let l = ap length e in let held = c.args.tag.kids.ok.0 in omega arith)))
           ∙ ap (λ v. Some (node c.args.kind c.args.keyword.now ys, v)) (sym c.join.ensures.rest);
       grows = made.grows;
     })

@@ -17,13 +17,18 @@ loop-item-preserved c =
     let more = made.size in
     record {
       size = record { room = omega arith; shorter = omega arith; grows = omega arith };
-      low = let low = c.loop-item.invariant.low in let tall = made.low in let now = c.in_ok-push.ensures.size in omega arith;
-      runs = runs_more c.loop-item.invariant.runs (pieces_more (c.in-Some.ensures.rest ∙ ap (λ v. c.in-Some.item ∷ v) (sym made.rest)) c.in-Some.ensures.found)
+      low = let low = c.loop-item.invariant.low in let tall = made.low in let now = c.in_ok-push.ensures.size in
+          omega arith;
+      runs = runs_more c.loop-item.invariant.runs
+          (pieces_more (c.in-Some.ensures.rest ∙ ap (λ v. c.in-Some.item ∷ v) (sym made.rest)) c.in-Some.ensures.found)
           c.in-Some.ensures.nodes made.grows (made.tree refl) c.in_ok-push.ensures.kids c.in_ok-push.ensures.size;
     }
 
 pub returns-in_err-push-clause-tree : goal.returns-in_err-push-clause-tree
-returns-in_err-push-clause-tree c = let p = err_from_is_err_and c.from_residual-in_err-push.result c.from_residual-in_err-push.ensures.1 in rw (p.1, p.2) (fails_memory _ _ c.in_err-push.ensures.full)
+returns-in_err-push-clause-tree c =
+    let p = err_from_is_err_and c.from_residual-in_err-push.result c.from_residual-in_err-push.ensures.1 in
+    rw (p.1, p.2) (fails_memory _ _ c.in_err-push.ensures.full)
 
 pub returns-clause-tree : goal.returns-clause-tree
-returns-clause-tree c = runs_end c.loop-item.invariant.runs (pieces_end _ c.in_default.ensures.other) c.in_default.ensures.nodes c.in_default.ensures.left
+returns-clause-tree c = runs_end c.loop-item.invariant.runs
+    (pieces_end _ c.in_default.ensures.other) c.in_default.ensures.nodes c.in_default.ensures.left

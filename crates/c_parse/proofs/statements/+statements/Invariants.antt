@@ -49,5 +49,6 @@ invariant-items-loop-item l = record {
   size : Owed l.fn.cursor l.cursor 0;
   low : l.parts.height ≤ l.below;
   extends : Extends (in_force l.types) (in_force l.fn.types);
-  enters : (ys : Syns) → Holds l.fn.cursor.nodes.items l.fn.start ys → Enters l.fn.cursor l.cursor (in_force l.fn.types) (in_force l.types) l.below l.in_switch ys l.parts;
+  enters : (ys : Syns) → Holds l.fn.cursor.nodes.items l.fn.start ys →
+      Enters l.fn.cursor l.cursor (in_force l.fn.types) (in_force l.types) l.below l.in_switch ys l.parts;
 }

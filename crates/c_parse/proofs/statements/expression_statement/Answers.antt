@@ -8,14 +8,16 @@ use Rattle.c_parse.proofs.statements.expression_statement.Goals as goal
 
 pub returns-in_err-whole-clause-tree : goal.returns-in_err-whole-clause-tree
 unfolding expression_from
-returns-in_err-whole-clause-tree c = let p = err_from_is_err_and c.from_residual.result c.from_residual.ensures.1 in rw (p.1, p.2)
+returns-in_err-whole-clause-tree c =
+    let p = err_from_is_err_and c.from_residual.result c.from_residual.ensures.1 in rw (p.1, p.2)
     (fails_bind _ _ _ c.in_err-whole.ensures.tree)
 
 pub returns-clause-tree : goal.returns-clause-tree
 unfolding expression_from
 returns-clause-tree c =
     let a = c.in_ok-whole.ensures.tree in
-    made_reads _ c.bracketed.new.cursor _ (first_token a.tree) (one a.tree) c.make.result c.make.ensures.tree c.make.ensures.rest
+    made_reads _ c.bracketed.new.cursor _ (first_token a.tree)
+    (one a.tree) c.make.result c.make.ensures.tree c.make.ensures.rest
     (record { kind = refl; own = a.means.root.first; first = a.means.root.first; names = refl })
     (c.in_ok-parts.ensures.one a.tree a.means)
     a.grows

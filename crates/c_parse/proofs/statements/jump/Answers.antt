@@ -7,9 +7,12 @@ use Rattle.c_parse.proofs.statements.jump.Goals as goal
 
 pub returns-in_err-expect-clause-tree : goal.returns-in_err-expect-clause-tree
 unfolding jump_from
-returns-in_err-expect-clause-tree c = λ names h. let p = err_from_is_err_and c.from_residual.result c.from_residual.ensures.1 in rw (p.1, p.2)
+returns-in_err-expect-clause-tree c =
+    λ names h. let p = err_from_is_err_and c.from_residual.result c.from_residual.ensures.1 in rw (p.1, p.2)
     (fails_bind _ _ _ c.in_err-expect.ensures.found)
 
 pub returns-clause-tree : goal.returns-clause-tree
 unfolding jump_from
-returns-clause-tree c = λ names h. leaf_reads _ c.expect.new.self _ c.leaf.result c.leaf.ensures.tree c.leaf.ensures.grows c.leaf.ensures.rest (grows_to grows_same (sym c.in_ok-expect.ensures.nodes)) names (bind_is _ c.in_ok-expect.ensures.found)
+returns-clause-tree c = λ names h. leaf_reads _ c.expect.new.self _ c.leaf.result c.leaf.ensures.tree
+    c.leaf.ensures.grows c.leaf.ensures.rest (grows_to grows_same (sym c.in_ok-expect.ensures.nodes)) names
+    (bind_is _ c.in_ok-expect.ensures.found)

@@ -12,15 +12,27 @@ use Rattle.c_parse.proofs.statements.optional.Goals as goal
 
 pub returns-in_default-clause-tree : goal.returns-in_default-clause-tree
 unfolding optional
-returns-in_default-clause-tree c = ap (λ v. optional (read c.args.below) (declare c.args.below) (state c.args.below) (is_mark c.args.closing) (in_force c.args.types.now) v) c.in_default.ensures
+returns-in_default-clause-tree c =
+    ap (λ v. optional (read c.args.below) (declare c.args.below) (state c.args.below) (is_mark c.args.closing)
+    (in_force c.args.types.now) v) c.in_default.ensures
 
 pub returns-then-is_marked-clause-tree : goal.returns-then-is_marked-clause-tree
 unfolding optional
 returns-then-is_marked-clause-tree c =
-    leaf_reads _ c.advance.new.self _ c.leaf.result c.leaf.ensures.tree c.leaf.ensures.grows c.leaf.ensures.rest (grows_to grows_same (sym c.advance.ensures.nodes)) refl
-    (ap (λ v. optional (read c.args.below) (declare c.args.below) (state c.args.below) (is_mark c.args.closing) (in_force c.args.types.now) v) c.in-Some.ensures ∙ then_is _ (ap (λ v. is_mark c.args.closing v) (sym c.symbol.ensures) ∙ sym c.is_marked.ensures ∙ c.if-is_marked.true) ∙ ap (λ v. let q : Syn × List Lexeme = (node Kinds.Absent c.in-Some.item nil, v) in Some q) (sym c.advance.ensures.rest))
+    leaf_reads _ c.advance.new.self _ c.leaf.result c.leaf.ensures.tree c.leaf.ensures.grows c.leaf.ensures.rest
+    (grows_to grows_same (sym c.advance.ensures.nodes)) refl
+    (ap (λ v. optional (read c.args.below) (declare c.args.below) (state c.args.below) (is_mark c.args.closing)
+    (in_force c.args.types.now) v) c.in-Some.ensures
+    ∙ then_is _ (ap (λ v. is_mark c.args.closing v) (sym c.symbol.ensures) ∙ sym c.is_marked.ensures
+    ∙ c.if-is_marked.true) ∙ ap (λ v. let q : Syn × List Lexeme = (node Kinds.Absent c.in-Some.item nil, v) in
+    Some q) (sym c.advance.ensures.rest))
 
 pub returns-clause-tree : goal.returns-clause-tree
 unfolding optional
 returns-clause-tree c =
-    reads_same _ _ c.bracketed.result (ap (λ v. optional (read c.args.below) (declare c.args.below) (state c.args.below) (is_mark c.args.closing) (in_force c.args.types.now) v) c.in-Some.ensures ∙ else_is _ (ap (λ v. is_mark c.args.closing v) (sym c.symbol.ensures) ∙ sym c.is_marked.ensures ∙ c.if-is_marked.false) ∙ ap (λ v. bracketed (read c.args.below) (Expression 0) (is_mark c.args.closing) (in_force c.args.types.now) v) (sym c.in-Some.ensures)) c.bracketed.ensures.tree
+    reads_same _ _ c.bracketed.result (ap (λ v.
+    optional (read c.args.below) (declare c.args.below) (state c.args.below) (is_mark c.args.closing)
+    (in_force c.args.types.now) v) c.in-Some.ensures
+    ∙ else_is _ (ap (λ v. is_mark c.args.closing v) (sym c.symbol.ensures) ∙ sym c.is_marked.ensures
+    ∙ c.if-is_marked.false) ∙ ap (λ v. bracketed (read c.args.below) (Expression 0) (is_mark c.args.closing)
+    (in_force c.args.types.now) v) (sym c.in-Some.ensures)) c.bracketed.ensures.tree

@@ -14,13 +14,20 @@ use Rattle.c_parse.proofs.statements.return_statement.Goals as goal
 pub returns-then-takes-clause-tree : goal.returns-then-takes-clause-tree
 unfolding return_from
 returns-then-takes-clause-tree c =
-    leaf_reads _ c.takes.new.self _ c.leaf.result c.leaf.ensures.tree c.leaf.ensures.grows c.leaf.ensures.rest (grows_to grows_same (sym c.takes.ensures.nodes)) refl
-    (then_is _ (sym c.takes.ensures.found ∙ c.if-takes.true) ∙ ap (λ v. let q : Syn × List Lexeme = (node Kinds.Return c.args.own.now nil, v) in Some q) (sym (c.takes.ensures.taken c.if-takes.true)))
+    leaf_reads _ c.takes.new.self _ c.leaf.result c.leaf.ensures.tree c.leaf.ensures.grows c.leaf.ensures.rest
+    (grows_to grows_same (sym c.takes.ensures.nodes)) refl
+    (then_is _ (sym c.takes.ensures.found ∙ c.if-takes.true)
+    ∙ ap (λ v. let q : Syn × List Lexeme = (node Kinds.Return c.args.own.now nil, v) in Some q)
+    (sym (c.takes.ensures.taken c.if-takes.true)))
 
 pub returns-in_err-value-clause-tree : goal.returns-in_err-value-clause-tree
 unfolding return_from
-returns-in_err-value-clause-tree c = let p = err_from_is_err_and c.from_residual.result c.from_residual.ensures.1 in rw (p.1, p.2)
-    (fails_same _ (else_is _ (sym c.takes.ensures.found ∙ c.if-takes.false)) (fails_bind _ _ _ (fails_same _ (ap (λ v. bracketed (read c.args.below) (Expression 0) is_semicolon (in_force c.args.types.now) v) (sym (c.takes.ensures.left c.if-takes.false))) c.in_err-value.ensures.tree)))
+returns-in_err-value-clause-tree c =
+    let p = err_from_is_err_and c.from_residual.result c.from_residual.ensures.1 in rw (p.1, p.2)
+    (fails_same _ (else_is _ (sym c.takes.ensures.found ∙ c.if-takes.false))
+    (fails_bind _ _ _ (fails_same _ (ap (λ v.
+    bracketed (read c.args.below) (Expression 0) is_semicolon (in_force c.args.types.now) v)
+    (sym (c.takes.ensures.left c.if-takes.false))) c.in_err-value.ensures.tree)))
 
 pub returns-clause-tree : goal.returns-clause-tree
 unfolding return_from
@@ -29,5 +36,7 @@ returns-clause-tree c =
     joined_reads _ c.bracketed.new.cursor _ c.join.result c.join.ensures.tree c.join.ensures.grows c.join.ensures.rest
     (c.in_ok-parts.ensures.one a.tree a.means)
     (grows_on (grows_to grows_same (sym c.takes.ensures.nodes)) a.grows)
-    (else_is _ (sym c.takes.ensures.found ∙ c.if-takes.false) ∙ bind_is _ ((ap (λ v. bracketed (read c.args.below) (Expression 0) is_semicolon (in_force c.args.types.now) v) (sym (c.takes.ensures.left c.if-takes.false))) ∙ a.reads))
+    (else_is _ (sym c.takes.ensures.found ∙ c.if-takes.false)
+    ∙ bind_is _ ((ap (λ v. bracketed (read c.args.below) (Expression 0) is_semicolon
+    (in_force c.args.types.now) v) (sym (c.takes.ensures.left c.if-takes.false))) ∙ a.reads))
     c.place.ensures refl

@@ -10,7 +10,9 @@ use Rattle.c_parts.proofs.parts.+library.Goals as goal
 pub returns-in-Name : goal.returns-in-Name
 returns-in-Name t c = λ x p s k.
     let o = opened c.args.work.now c.args.k x c.in_ok-node.node.now p c.in_ok-node.ensures in
-    ap (λ (z : Syn). called_library s (called_name z)) (o.is ∙ ap (λ (d : NodeKind). node d o.token o.parts) c.in-Name.is) ∙ c.named_library.ensures o.token o.parts o.node s k
+    ap (λ (z : Syn). called_library s (called_name z))
+    (o.is ∙ ap (λ (d : NodeKind). node d o.token o.parts) c.in-Name.is)
+    ∙ c.named_library.ensures o.token o.parts o.node s k
 
 pub returns-in-Some : goal.returns-in-Some
 returns-in-Some t c = MatchResult-weaker c.library.result c.library.ensures
@@ -18,8 +20,11 @@ returns-in-Some t c = MatchResult-weaker c.library.result c.library.ensures
     let n = c.in_ok-node.node.now in
     let w = c.args.work.now in
     let o = opened w c.args.k x n p c.in_ok-node.ensures in
-    let m = enclosed w o.token n.kids c.in-Some.inner (sym c.as_slice.ensures ∙ c.in-Some.ensures) o.parts o.node.parts in
-    ap (λ (z : Syn). called_library s (called_name z)) (o.is ∙ ap (λ (d : NodeKind). node d o.token o.parts) c.in-Parenthesized.is) ∙ ap (called_library s) m.1 ∙ f m.0 m.2 s k)
+    let m = enclosed w o.token n.kids c.in-Some.inner
+    (sym c.as_slice.ensures ∙ c.in-Some.ensures) o.parts o.node.parts in
+    ap (λ (z : Syn). called_library s (called_name z))
+    (o.is ∙ ap (λ (d : NodeKind). node d o.token o.parts) c.in-Parenthesized.is) ∙ ap (called_library s) m.1
+    ∙ f m.0 m.2 s k)
     (λ e f. f)
 
 pub returns-in-None : goal.returns-in-None
@@ -27,11 +32,14 @@ returns-in-None t c = λ x p s k.
     let n = c.in_ok-node.node.now in
     let w = c.args.work.now in
     let o = opened w c.args.k x n p c.in_ok-node.ensures in
-    ap (λ (z : Syn). called_library s (called_name z)) (o.is ∙ ap (λ (d : NodeKind). node d o.token o.parts) c.in-Parenthesized.is)
-    ∙ ap (called_library s) (not_enclosed w o.token n.kids (λ z. c.in-None.ensures (ap length c.as_slice.ensures ∙ z)) o.parts o.node.parts)
+    ap (λ (z : Syn). called_library s (called_name z))
+    (o.is ∙ ap (λ (d : NodeKind). node d o.token o.parts) c.in-Parenthesized.is)
+    ∙ ap (called_library s) (not_enclosed w o.token n.kids
+    (λ z. c.in-None.ensures (ap length c.as_slice.ensures ∙ z)) o.parts o.node.parts)
 
 pub returns-in_default : goal.returns-in_default
 returns-in_default t c = λ x p s k.
     let n = c.in_ok-node.node.now in
     let o = opened c.args.work.now c.args.k x n p c.in_ok-node.ensures in
-    ap (λ (z : Syn). called_library s (called_name z)) o.is ∙ ap (called_library s) (no_name n.kind o.token o.parts c.in_default.not-Name c.in_default.not-Parenthesized)
+    ap (λ (z : Syn). called_library s (called_name z)) o.is
+    ∙ ap (called_library s) (no_name n.kind o.token o.parts c.in_default.not-Name c.in_default.not-Parenthesized)

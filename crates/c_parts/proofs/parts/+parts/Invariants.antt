@@ -273,7 +273,8 @@ invariant-named_types-loop-part l = record {
   parts : HaveParts l.work l.left;
   there : TypesThere l.work l.types;
   reads : (xs : Syns) → AreParts l.fn.work l.fn.kids xs →
-      SoFar l.fn.work l.work l.left (named_types l.fn.alone xs (readings xs)) (types_on l.fn.alone) (TypesThere l.work l.types) (λ ys. ys ≡ map (type_in l.work.nodes) l.types.items);
+      SoFar l.fn.work l.work l.left (named_types l.fn.alone xs (readings xs)) (types_on l.fn.alone)
+      (TypesThere l.work l.types) (λ ys. ys ≡ map (type_in l.work.nodes) l.types.items);
 }
 
 abbrev pub invariant-all_members-loop-part : goal.invariant-all_members-loop-part
@@ -281,7 +282,9 @@ invariant-all_members-loop-part l = record {
   whole : IsWhole l.work.nodes;
   parts : HaveParts l.work l.left;
   there : AllMembersThere l.work l.members;
-  reads : (xs : Syns) → AreParts l.fn.work l.fn.kids xs → SoFar l.fn.work l.work l.left (all_members (readings xs) []) members_on (AllMembersThere l.work l.members) (AreMembers l.work l.members.all.items);
+  reads : (xs : Syns) → AreParts l.fn.work l.fn.kids xs →
+      SoFar l.fn.work l.work l.left (all_members (readings xs) []) members_on (AllMembersThere l.work l.members)
+      (AreMembers l.work l.members.all.items);
 }
 
 abbrev pub invariant-member_declarators-loop-part : goal.invariant-member_declarators-loop-part
@@ -290,20 +293,26 @@ invariant-member_declarators-loop-part l = record {
   keeps : Keeps l.fn.work l.work;
   parts : HaveParts l.work l.left;
   there : AllMembersThere l.work l.all;
-  reads : (y : Specified) (xs : Syns) (zs : List Part) → IsSpecified l.fn.work l.fn.s y → AreParts l.fn.work l.fn.kids xs → AreMembers l.fn.work l.fn.members.all.items zs →
-      SoFar l.fn.work l.work l.left (member_declarators y (readings xs) zs) (declarators_on y) (AllMembersThere l.work l.all) (AreMembers l.work l.all.all.items);
+  reads : (y : Specified) (xs : Syns) (zs : List Part) → IsSpecified l.fn.work l.fn.s y →
+      AreParts l.fn.work l.fn.kids xs → AreMembers l.fn.work l.fn.members.all.items zs →
+      SoFar l.fn.work l.work l.left (member_declarators y (readings xs) zs) (declarators_on y)
+      (AllMembersThere l.work l.all) (AreMembers l.work l.all.all.items);
 }
 
 abbrev pub invariant-enumerators-loop-part : goal.invariant-enumerators-loop-part
 invariant-enumerators-loop-part l = record {
   whole : IsWhole l.work.nodes;
   parts : HaveParts l.work l.left;
-  reads : (xs : Syns) → AreParts l.fn.work l.fn.kids xs → SoFar l.fn.work l.work l.left (enumerators (readings xs) (pos 0)) enumerators_on (NumberThere l.work l.next) (λ z. z ≡ l.next);
+  reads : (xs : Syns) → AreParts l.fn.work l.fn.kids xs →
+      SoFar l.fn.work l.work l.left (enumerators (readings xs) (pos 0)) enumerators_on (NumberThere l.work l.next)
+      (λ z. z ≡ l.next);
 }
 
 abbrev pub invariant-parameter_list-loop-part : goal.invariant-parameter_list-loop-part
 invariant-parameter_list-loop-part l = record {
   whole : IsWhole l.work.nodes;
   parts : HaveParts l.work l.left;
-  reads : (xs : Syns) → AreParts l.fn.work l.fn.kids xs → ParamsSoFar l.fn.work l.work l.left l.only (parameter_list 0 (length (readings xs) == 1) (readings xs)) l.params.items;
+  reads : (xs : Syns) → AreParts l.fn.work l.fn.kids xs →
+      ParamsSoFar l.fn.work l.work l.left l.only
+      (parameter_list 0 (length (readings xs) == 1) (readings xs)) l.params.items;
 }

@@ -13,7 +13,8 @@ returns-then-is_empty c = λ t xs h s k.
     let w = c.args.work.now in
     let e = eqb-true (length c.as_slice.result.now) 0 (sym c.is_empty.ensures ∙ c.if-is_empty.true) in
     ap (called_library s) (named_alone w t n.kids (ap length (sym c.as_slice.ensures) ∙ e) xs h.parts)
-    ∙ ap (λ x. library_number (find_name s.scopes x)) (h.text ∙ ap (λ (m : Name). (token_of w m).text) (sym c.name_of.ensures)) ∙ c.called_library.ensures s k
+    ∙ ap (λ x. library_number (find_name s.scopes x))
+    (h.text ∙ ap (λ (m : Name). (token_of w m).text) (sym c.name_of.ensures)) ∙ c.called_library.ensures s k
 
 pub returns-else-is_empty : goal.returns-else-is_empty
 returns-else-is_empty c = λ t xs h s k.

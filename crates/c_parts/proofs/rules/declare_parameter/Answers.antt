@@ -9,4 +9,7 @@ use Rattle.c_parts.proofs.rules.declare_parameter.Goals as goal
 pub returns-clause-answers : goal.returns-clause-answers
 returns-clause-answers c =
     let u = c.args.work.now in
-    subst (λ (n : ℕ). Answers quietly u c.bind_parameter.new.work (change (bind_parameter n (param_in u c.args.p))) NothingThere IsNothing (Ok tt)) (c.in_ok-k.ensures ∙ ap length c.as_slice.ensures.value ∙ sym (length-map c.args.params.now.items (param_in u))) c.in_ok-bind_parameter.ensures
+    subst (λ (n : ℕ). Answers quietly u c.bind_parameter.new.work
+    (change (bind_parameter n (param_in u c.args.p))) NothingThere IsNothing (Ok tt))
+    (c.in_ok-k.ensures ∙ ap length c.as_slice.ensures.value ∙ sym (length-map c.args.params.now.items (param_in u)))
+    c.in_ok-bind_parameter.ensures

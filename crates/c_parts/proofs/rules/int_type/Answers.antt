@@ -13,5 +13,12 @@ returns c =
       whole = k.keeps.whole;
       grows = quiet_nodes w n k.keeps;
       there = k.is.there;
-      gives = λ s h. record { value = int; state = s; is = refl; stays = still_same s; shows = shows_nodes w n s k.keeps h; fits = sym k.is.is };
+      gives = λ s h. record {
+        value = int;
+        state = s;
+        is = refl;
+        stays = still_same s;
+        shows = shows_nodes w n s k.keeps h;
+        fits = sym k.is.is;
+      };
     }

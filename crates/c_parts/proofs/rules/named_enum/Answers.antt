@@ -9,4 +9,5 @@ use Rattle.c_parts.proofs.rules.named_enum.Goals as goal
 pub returns : goal.returns
 returns c =
     let u = c.args.work.now in
-    also_then quietly quiet_law u u c.int_type.new.work (named_enumeration_of (token_of u c.args.name)) (give int) _ _ TypeThere IsType c.int_type.result c.in_ok-named_enumeration.ensures c.int_type.ensures
+    also_then quietly quiet_law u u c.int_type.new.work (named_enumeration_of (token_of u c.args.name))
+    (give int) _ _ TypeThere IsType c.int_type.result c.in_ok-named_enumeration.ensures c.int_type.ensures

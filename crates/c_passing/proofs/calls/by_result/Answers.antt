@@ -10,8 +10,12 @@ returns-clause-is c =
     pushed c.push_expr-3.result _ _ _ c.push_expr-3.ensures.exprs c.push_expr-3.ensures.number
     (λ items. record {
       is = λ ts e f ys fits hf hl.
-          result_made a.source.now ts e a.out.now.exprs.items c.push_expr.new.self.exprs.items c.push_expr-2.new.self.exprs.items c.push_expr-3.new.self.exprs.items a.h a.called a.t c.in_ok-of.of a.list.items a.pos c.in_ok-call.call c.in_ok-place.place _ f ys fits
+          result_made a.source.now ts e a.out.now.exprs.items c.push_expr.new.self.exprs.items
+          c.push_expr-2.new.self.exprs.items c.push_expr-3.new.self.exprs.items a.h a.called a.t c.in_ok-of.of
+          a.list.items a.pos c.in_ok-call.call c.in_ok-place.place _ f ys fits
           c.requires c.in_ok-of.ensures hf hl
-          (c.in_ok-call.ensures.exprs ∙ ap (λ ks. a.out.now.exprs.items ++ record { kind = exprs.Call a.called ks; of = 0; pos = a.pos } ∷ []) c.from_vec.ensures)
+          (c.in_ok-call.ensures.exprs
+          ∙ ap (λ ks. a.out.now.exprs.items ++ record { kind = exprs.Call a.called ks; of = 0; pos = a.pos } ∷ [])
+          c.from_vec.ensures)
           c.in_ok-call.ensures.number c.in_ok-place.ensures.exprs c.in_ok-place.ensures.number items refl;
     })

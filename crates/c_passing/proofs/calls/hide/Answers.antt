@@ -5,5 +5,7 @@ use Rattle.c_passing.proofs.calls.hide.Goals as goal
 
 pub returns-in_ok-of-in-Some-clause-hides : goal.returns-in_ok-of-in-Some-clause-hides
 returns-in_ok-of-in-Some-clause-hides c =
-    on_ok c.push_var.result _ _ (λ vars. hides_one c.args.source.now c.args.out.now c.push_var.new.self c.args.of c.in-Some.t c.in_ok-of-in-Some.of c.args.pos _ c.in-Some.ensures c.in_ok-of-in-Some.ensures (rw c.name.ensures refl) vars)
+    on_ok c.push_var.result _ _ (λ vars. hides_one c.args.source.now c.args.out.now c.push_var.new.self c.args.of
+    c.in-Some.t c.in_ok-of-in-Some.of c.args.pos _ c.in-Some.ensures c.in_ok-of-in-Some.ensures
+    (rw c.name.ensures refl) vars)
     c.push_var.ensures.vars

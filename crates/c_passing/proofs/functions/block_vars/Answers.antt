@@ -10,6 +10,8 @@ returns c =
       are = λ ts e fits.
           c.in_ok-add_numbers-2.ensures
           ∙ ap (λ zs. zs ++ b)
-          (c.in_ok-extend_from_slice.ensures.items ∙ ap (λ zs. zs ++ c.as_slice.result.now) (c.in_ok-add_numbers.ensures ∙ ap (λ zs. zs ++ a) c.new-list.ensures.items)
+          (c.in_ok-extend_from_slice.ensures.items
+          ∙ ap (λ zs. zs ++ c.as_slice.result.now)
+          (c.in_ok-add_numbers.ensures ∙ ap (λ zs. zs ++ a) c.new-list.ensures.items)
           ∙ ap (λ zs. a ++ zs) (c.as_slice.ensures.value ∙ c.in_ok-declared.ensures.are ts e fits));
     }

@@ -14,10 +14,15 @@ use Rattle.c_passing.proofs.functions.body.Goals.{After-push_stmt}
 use Rattle.c_passing.proofs.functions.body.Goals as goal
 
 steps : (c : After-push_stmt) (j : ℕ) →
-    c.push_stmt.new.self.stmts.items ≡ c.statements.new.out.stmts.items ++ record { kind = stmts.Block c.from_vec.result c.from_vec-in-Block.result; pos = c.in_ok-s.s.now.pos } ∷ [] →
-    c.push_stmt.new.self ≡ record c.statements.new.out { stmts = c.push_stmt.new.self.stmts } → j ≡ length c.statements.new.out.stmts.items →
-    BodySteps c.args.source.now c.args.f.now c.args.out.now c.param_copies.new.out c.statements.new.out c.push_stmt.new.self c.in_ok-s.s.now c.in-Block.vars c.in-Block.body c.param_copies.new.body.items c.statements.new.js.items
-    c.in_ok-vars-in-Block.vars.items c.written_vars.result.0.now c.args.before c.in_ok-local-in-Block.local c.in_ok-other-in-Block.other c.in_ok-hidden-in-Block.hidden c.in_ok-end-in-Block.end j
+    c.push_stmt.new.self.stmts.items ≡ c.statements.new.out.stmts.items
+    ++ record { kind = stmts.Block c.from_vec.result c.from_vec-in-Block.result; pos = c.in_ok-s.s.now.pos } ∷ [] →
+    c.push_stmt.new.self ≡ record c.statements.new.out { stmts = c.push_stmt.new.self.stmts } →
+    j ≡ length c.statements.new.out.stmts.items →
+    BodySteps c.args.source.now c.args.f.now c.args.out.now c.param_copies.new.out c.statements.new.out
+    c.push_stmt.new.self c.in_ok-s.s.now c.in-Block.vars c.in-Block.body c.param_copies.new.body.items
+    c.statements.new.js.items
+    c.in_ok-vars-in-Block.vars.items c.written_vars.result.0.now c.args.before c.in_ok-local-in-Block.local
+    c.in_ok-other-in-Block.other c.in_ok-hidden-in-Block.hidden c.in_ok-end-in-Block.end j
 steps c j items rest n =
     let s = c.args.source.now in
     let f = c.args.f.now in
@@ -38,19 +43,26 @@ steps c j items rest n =
       below = subst (AllBelow f.body) c.as_slice.ensures c.in_ok-all_below-in-Block.ensures;
       params_are = params.params;
       before_is = c.requires.before;
-      local_is = c.in_ok-local-in-Block.ensures ∙ ap (λ m. m + c.args.before) (c.in_ok-written-in-Block.ensures ∙ ap length params.params ∙ length-take-le (length f.params) f.vars c.requires.fits.params);
+      local_is = c.in_ok-local-in-Block.ensures
+          ∙ ap (λ m. m + c.args.before) (c.in_ok-written-in-Block.ensures ∙ ap length params.params
+          ∙ length-take-le (length f.params) f.vars c.requires.fits.params);
       other_is = c.in_ok-other-in-Block.ensures ∙ ap (λ m. c.in_ok-local-in-Block.local + m) c.requires.copied;
       hidden_is = c.in_ok-hidden-in-Block.ensures;
       end_is = c.in_ok-end-in-Block.ensures;
-      copies = subst (λ zs. AreParamCopies s old a c.args.before c.in_ok-local-in-Block.local (map (source_variable s) c.written_vars.result.0.now) zs js) c.new-list.ensures.items copies.are;
+      copies = subst (λ zs. AreParamCopies s old a c.args.before c.in_ok-local-in-Block.local
+          (map (source_variable s) c.written_vars.result.0.now) zs js) c.new-list.ensures.items copies.are;
       vars_same = copies.vars;
       hides = subst (λ zs. Hides s a b (λ names. hidden_of_each names (map (written_action s) zs))) slice inner.hides;
       inner = subst (λ zs. ArePassedActions s a b (map (written_action s) zs) js ls) slice inner.are;
-      block_vars = subst (λ zs. AreBlockVars s (c.in_ok-local-in-Block.local, c.in_ok-other-in-Block.other) zs (c.in_ok-hidden-in-Block.hidden, c.in_ok-end-in-Block.end) c.in_ok-vars-in-Block.vars.items) c.as_slice-in-Block-2.ensures c.in_ok-vars-in-Block.ensures;
+      block_vars = subst (λ zs. AreBlockVars s (c.in_ok-local-in-Block.local, c.in_ok-other-in-Block.other) zs
+          (c.in_ok-hidden-in-Block.hidden, c.in_ok-end-in-Block.end) c.in_ok-vars-in-Block.vars.items)
+          c.as_slice-in-Block-2.ensures c.in_ok-vars-in-Block.ensures;
       pushed =
           items
-          ∙ ap (λ zs. b.stmts.items ++ record { kind = stmts.Block zs c.from_vec-in-Block.result; pos = d.pos } ∷ []) c.from_vec.ensures
-          ∙ ap (λ zs. b.stmts.items ++ record { kind = stmts.Block c.in_ok-vars-in-Block.vars.items zs; pos = d.pos } ∷ []) c.from_vec-in-Block.ensures;
+          ∙ ap (λ zs. b.stmts.items ++ record { kind = stmts.Block zs c.from_vec-in-Block.result; pos = d.pos } ∷ [])
+          c.from_vec.ensures
+          ∙ ap (λ zs. b.stmts.items ++ record { kind = stmts.Block c.in_ok-vars-in-Block.vars.items zs; pos = d.pos }
+          ∷ []) c.from_vec-in-Block.ensures;
       number = n;
       exprs = ap (λ (m : Made). m.exprs) rest;
       vars_kept = ap (λ (m : Made). m.vars) rest;
@@ -58,15 +70,24 @@ steps c j items rest n =
 
 pub returns-clause-hides : goal.returns-clause-hides
 returns-clause-hides c =
-    on_ok c.push_stmt.result _ _ (λ x. body_hides _ _ _ _ _ _ _ _ _ _ _ _ _ _ _ _ _ _ _ (steps c _ x.0 x.1 refl)) (on_both c.push_stmt.result _ _ c.push_stmt.ensures.stmts c.push_stmt.ensures.rest)
+    on_ok c.push_stmt.result _ _ (λ x. body_hides _ _ _ _ _ _ _ _ _ _ _ _ _ _ _ _ _ _ _ (steps c _ x.0 x.1 refl))
+    (on_both c.push_stmt.result _ _ c.push_stmt.ensures.stmts c.push_stmt.ensures.rest)
 
 pub returns-clause-there : goal.returns-clause-there
 returns-clause-there c =
     let b = c.statements.new.out.stmts.items in
     pushed c.push_stmt.result _ _ _ c.push_stmt.ensures.stmts c.push_stmt.ensures.number
-    (λ items. let l = ap length items in omega (arith, length-append b (record { kind = stmts.Block c.from_vec.result c.from_vec-in-Block.result; pos = c.in_ok-s.s.now.pos } ∷ [])))
+    (λ items. let l = ap length items in
+    omega (
+      arith,
+      length-append b (record {
+        kind = stmts.Block c.from_vec.result c.from_vec-in-Block.result;
+        pos = c.in_ok-s.s.now.pos;
+      } ∷ []),
+    ))
 
 pub returns-clause-is : goal.returns-clause-is
 returns-clause-is c =
-    pushed c.push_stmt.result _ _ _ (on_both c.push_stmt.result _ _ c.push_stmt.ensures.stmts c.push_stmt.ensures.rest) c.push_stmt.ensures.number
+    pushed c.push_stmt.result _ _ _ (on_both c.push_stmt.result _ _ c.push_stmt.ensures.stmts c.push_stmt.ensures.rest)
+    c.push_stmt.ensures.number
     (λ x. body_made _ _ _ _ _ _ _ _ _ _ _ _ _ _ _ _ _ _ _ (steps c _ x.0 x.1 refl))

@@ -4,4 +4,6 @@ use Rattle.c_passing.proofs.functions.copied_params.Given as goal
 
 abbrev pub invariant-loop-k : goal.invariant-loop-k
 invariant-loop-k l =
-    (f : FunDef) → HasParams l.whole f l.params → IsNamed l.whole f 0 l.initial.into (named_so_far (written_routine l.whole f) 0) → IsNamed l.whole f l.k l.into (named_so_far (written_routine l.whole f) l.k)
+    (f : FunDef) → HasParams l.whole f l.params →
+    IsNamed l.whole f 0 l.initial.into (named_so_far (written_routine l.whole f) 0) →
+    IsNamed l.whole f l.k l.into (named_so_far (written_routine l.whole f) l.k)

@@ -12,9 +12,22 @@ returns c =
     let w = c.args.whole.now in
     let f = c.args.f.now in
     let n = c.in_ok-before.field-0 in
-    let s : Source = record { alloc = w.alloc; program = w.program; types = w.types; names = w.names; numbers = c.as_slice.result } in
+    let s : Source = record {
+      alloc = w.alloc;
+      program = w.program;
+      types = w.types;
+      names = w.names;
+      numbers = c.as_slice.result;
+    } in
     let old : Made = record { exprs = c.args.out.now.exprs; stmts = c.args.out.now.stmts; vars = n.vars } in
-    let g : FunDef = record { name = f.name; pos = f.pos; of = c.in_ok-of.of; params = c.from_vec.result; vars = c.from_vec-2.result; body = c.in_ok-body.body } in
+    let g : FunDef = record {
+      name = f.name;
+      pos = f.pos;
+      of = c.in_ok-of.of;
+      params = c.from_vec.result;
+      vars = c.from_vec-2.result;
+      body = c.in_ok-body.body;
+    } in
     let body = c.in_ok-body.ensures in
     let made : IsFunction w (written_routine w f) c.body.new.out g = function_made w s f g n old c.body.new.out (record {
       program = refl;
@@ -29,7 +42,9 @@ returns c =
       name = refl;
       pos = refl;
       of = c.in_ok-of.ensures;
-      params = c.from_vec.ensures ∙ c.in_ok-params-2.ensures ∙ ap (numbers_from 0) (c.in_ok-params.ensures ∙ ap (λ m. m + n.before) (c.in_ok-written.ensures ∙ ap length c.as_slice-2.ensures));
+      params = c.from_vec.ensures ∙ c.in_ok-params-2.ensures
+          ∙ ap (numbers_from 0) (c.in_ok-params.ensures
+          ∙ ap (λ m. m + n.before) (c.in_ok-written.ensures ∙ ap length c.as_slice-2.ensures));
       all = c.from_vec-2.ensures ∙ ap (λ z. z.items) c.replace-vars.ensures.value;
     }) in
     record { exprs = body.exprs; stmts = body.stmts; is = record { there = made.there; is = made.is } }

@@ -8,9 +8,16 @@ loop-v-init c = λ f h s. no_locals_named c.args.whole.now f c.args.into.now s
 
 pub loop-v-preserved : goal.loop-v-preserved
 loop-v-preserved c = λ f h s.
-    let d : VarDef = record { name = record { start = 0; end = 0 }; pos = record { line = 0; col = 0 }; of = 0; simple = false } in
-    local_added c.args.whole.now f c.args.locals.now c.loop-v.into _ d _ c.in_ok-local.local c.loop-v.v-index c.in_ok-at.at h c.loop-v-test.true refl c.in_ok-at.ensures c.in_ok-local.ensures refl refl
+    let d : VarDef = record {
+      name = record { start = 0; end = 0 };
+      pos = record { line = 0; col = 0 };
+      of = 0;
+      simple = false;
+    } in
+    local_added c.args.whole.now f c.args.locals.now c.loop-v.into _ d _ c.in_ok-local.local c.loop-v.v-index
+    c.in_ok-at.at h c.loop-v-test.true refl c.in_ok-at.ensures c.in_ok-local.ensures refl refl
     c.in_ok-push-2.ensures.items c.in_ok-push.ensures.items (c.loop-v.invariant f h s)
 
 pub returns : goal.returns
-returns c = λ f h s. all_named c.args.whole.now f c.args.locals.now c.loop-v.into c.loop-v.v-index h c.loop-v-test.false c.loop-v.auto.v-index-end (c.loop-v.invariant f h s)
+returns c = λ f h s. all_named c.args.whole.now f c.args.locals.now c.loop-v.into c.loop-v.v-index h c.loop-v-test.false
+    c.loop-v.auto.v-index-end (c.loop-v.invariant f h s)

@@ -9,9 +9,11 @@ use Rattle.c_passing.proofs.functions.param_copy.Goals as goal
 pub returns-clause-is : goal.returns-clause-is
 returns-clause-is c =
     let a = c.args in
-    pushed c.push_stmt.result _ _ _ (on_both c.push_stmt.result _ _ c.push_stmt.ensures.stmts c.push_stmt.ensures.rest) c.push_stmt.ensures.number
+    pushed c.push_stmt.result _ _ _ (on_both c.push_stmt.result _ _ c.push_stmt.ensures.stmts c.push_stmt.ensures.rest)
+    c.push_stmt.ensures.number
     (λ x.
-    param_copy_made a.source.now a.out.now c.behind.new.self c.push_expr.new.self c.push_stmt.new.self a.v a.from a.to c.bare-t.result c.in_ok-of.of c.in_ok-pointer.pointer c.in_ok-place.place c.in_ok-value.value _ c.requires
+    param_copy_made a.source.now a.out.now c.behind.new.self c.push_expr.new.self c.push_stmt.new.self a.v a.from a.to
+    c.bare-t.result c.in_ok-of.of c.in_ok-pointer.pointer c.in_ok-place.place c.in_ok-value.value _ c.requires
     (record {
       bare = subst (λ ts. IsBare ts a.v.of c.bare-t.result) c.written_types.ensures c.bare-t.ensures;
       number = c.in_ok-of.ensures;

@@ -5,4 +5,5 @@ use Rattle.c_passing.specs.Routines.{written_variable, AreRun}
 use Rattle.c_passing.proofs.functions.params_as_run.Given as goal
 
 abbrev pub invariant-loop-v : goal.invariant-loop-v
-invariant-loop-v l = (vs : List Variable) → AreRun l.whole l.initial.vars.items vs → AreRun l.whole l.vars.items (vs ++ map passed_param (map (written_variable l.whole) (take l.v-index l.params)))
+invariant-loop-v l = (vs : List Variable) → AreRun l.whole l.initial.vars.items vs →
+    AreRun l.whole l.vars.items (vs ++ map passed_param (map (written_variable l.whole) (take l.v-index l.params)))

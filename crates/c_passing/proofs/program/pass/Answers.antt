@@ -9,8 +9,17 @@ pub returns : goal.returns
 returns c =
     let old = c.args.p in
     let types = c.in_ok-types.types in
-    let new : Typed = record { types = c.from_vec.result; globals = c.from_vec-2.result; literals = old.literals; funs = c.from_vec-3.result; exprs = c.from_vec-4.result; stmts = c.from_vec-5.result; main = old.main } in
-    program_made c.args.tree.now old new types c.in_ok-names.names _ c.functions.new.out c.in_ok-funs.funs.items c.in_ok-funs.ensures c.from_vec-3.ensures
+    let new : Typed = record {
+      types = c.from_vec.result;
+      globals = c.from_vec-2.result;
+      literals = old.literals;
+      funs = c.from_vec-3.result;
+      exprs = c.from_vec-4.result;
+      stmts = c.from_vec-5.result;
+      main = old.main;
+    } in
+    program_made c.args.tree.now old new types c.in_ok-names.names _ c.functions.new.out c.in_ok-funs.funs.items
+    c.in_ok-funs.ensures c.from_vec-3.ensures
     (λ functions. record {
       program = refl;
       types_are = refl;
@@ -21,7 +30,9 @@ returns c =
       functions = functions;
       objects =
           subst (λ ns. AreObjects ns old.globals c.from_vec-2.result) c.as_slice-2.ensures.value
-          (subst (λ gs. AreObjects c.as_slice-2.result.now gs c.from_vec-2.result) c.as_slice-3.ensures (subst (λ zs. AreObjects c.as_slice-2.result.now c.as_slice-3.result.now zs) (sym c.from_vec-2.ensures) c.in_ok-objects.ensures));
+          (subst (λ gs. AreObjects c.as_slice-2.result.now gs c.from_vec-2.result) c.as_slice-3.ensures
+          (subst (λ zs. AreObjects c.as_slice-2.result.now c.as_slice-3.result.now zs)
+          (sym c.from_vec-2.ensures) c.in_ok-objects.ensures));
       literals = refl;
       exprs = c.from_vec-4.ensures;
       stmts = c.from_vec-5.ensures;

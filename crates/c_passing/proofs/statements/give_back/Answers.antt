@@ -14,10 +14,15 @@ returns-clause-is c =
     let d = c.push_stmt-2.new.self in
     let none : c.from_vec.result ≡ [] = c.from_vec.ensures ∙ c.new.ensures.items in
     let both : c.from_vec-2.result ≡ first ∷ second ∷ [] =
-    c.from_vec-2.ensures ∙ c.in_ok-push-2.ensures.items ∙ ap (λ zs. zs ++ second ∷ []) (c.in_ok-push.ensures.items ∙ ap (λ zs. zs ++ first ∷ []) c.new-body.ensures.items) in
-    pushed c.push_stmt-3.result _ _ _ (on_both c.push_stmt-3.result _ _ c.push_stmt-3.ensures.stmts c.push_stmt-3.ensures.rest) c.push_stmt-3.ensures.number
+    c.from_vec-2.ensures ∙ c.in_ok-push-2.ensures.items
+    ∙ ap (λ zs. zs ++ second ∷ []) (c.in_ok-push.ensures.items
+    ∙ ap (λ zs. zs ++ first ∷ []) c.new-body.ensures.items) in
+    pushed c.push_stmt-3.result _ _ _ (on_both c.push_stmt-3.result _ _ c.push_stmt-3.ensures.stmts
+    c.push_stmt-3.ensures.rest) c.push_stmt-3.ensures.number
     (λ x.
-    given_back_made c.args.source.now c.args.out.now c.behind.new.self c.push_expr.new.self c.push_stmt.new.self d c.push_stmt-3.new.self c.args.value c.args.t c.in_ok-of.of c.in_ok-pointer.pointer c.in_ok-place.place c.in_ok-assigned.assigned first second _ p c.requires
+    given_back_made c.args.source.now c.args.out.now c.behind.new.self c.push_expr.new.self c.push_stmt.new.self d
+    c.push_stmt-3.new.self c.args.value c.args.t c.in_ok-of.of c.in_ok-pointer.pointer c.in_ok-place.place
+    c.in_ok-assigned.assigned first second _ p c.requires
     (record {
       number = c.in_ok-of.ensures;
       pointer = c.in_ok-pointer.ensures;
@@ -34,5 +39,6 @@ returns-clause-is c =
           ∙ ap (λ zs. d.stmts.items ++ record { kind = stmts.Block zs c.from_vec-2.result; pos = p } ∷ []) none
           ∙ ap (λ zs. d.stmts.items ++ record { kind = stmts.Block [] zs; pos = p } ∷ []) both;
       number_is = refl;
-      exprs = ap (λ (m : Made). m.exprs.items) x.1 ∙ ap (λ (m : Made). m.exprs.items) c.in_ok-second.ensures.rest ∙ ap (λ (m : Made). m.exprs.items) c.in_ok-first.ensures.rest;
+      exprs = ap (λ (m : Made). m.exprs.items) x.1 ∙ ap (λ (m : Made). m.exprs.items) c.in_ok-second.ensures.rest
+          ∙ ap (λ (m : Made). m.exprs.items) c.in_ok-first.ensures.rest;
     }))

@@ -14,8 +14,10 @@ returns-then-by_pointer c =
     let e = c.in_ok-e.e.now in
     let types = c.written_types-types.ensures in
     let type : type_of (written_term s a) ≡ written_type s e.of = written_of s a e c.in_ok-e.ensures in
-    let pointed : by_pointer (written_type s e.of) ≡ true = ap (λ ts. by_pointer (type_in ts e.of)) (sym types) ∙ sym c.by_pointer.ensures ∙ c.if-by_pointer.true in
-    let bared : IsBare s.program.now.types e.of c.bare.result = subst (λ ts. IsBare ts e.of c.bare.result) types c.bare.ensures in
+    let pointed : by_pointer (written_type s e.of) ≡ true =
+    ap (λ ts. by_pointer (type_in ts e.of)) (sym types) ∙ sym c.by_pointer.ensures ∙ c.if-by_pointer.true in
+    let bared : IsBare s.program.now.types e.of c.bare.result =
+    subst (λ ts. IsBare ts e.of c.bare.result) types c.bare.ensures in
     (refl, ap by_pointer type ∙ pointed, bared.is pointed ∙ ap bare (sym type))
 
 pub returns-else-by_pointer : goal.returns-else-by_pointer
@@ -25,4 +27,5 @@ returns-else-by_pointer c =
     let e = c.in_ok-e.e.now in
     let types = c.written_types-types.ensures in
     let type : type_of (written_term s a) ≡ written_type s e.of = written_of s a e c.in_ok-e.ensures in
-    ap by_pointer type ∙ ap (λ ts. by_pointer (type_in ts e.of)) (sym types) ∙ sym c.by_pointer.ensures ∙ c.if-by_pointer.false
+    ap by_pointer type ∙ ap (λ ts. by_pointer (type_in ts e.of)) (sym types) ∙ sym c.by_pointer.ensures
+    ∙ c.if-by_pointer.false

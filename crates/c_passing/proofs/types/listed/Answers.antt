@@ -15,7 +15,11 @@ loop-c-preserved c =
     let count : length c.loop-c.whole.items ≡ i = inv.count in
     let l : length (take i list) ≡ i = length-take-le i list (omega arith) in
     record {
-      count = ap length c.in_ok-push.ensures.items ∙ omega (arith, length-append c.loop-c.whole.items (c.in_ok-c.c ∷ []));
-      are = subst (λ zs. AreListed c.args.types.now.numbers.items zs c.push.new.self.items) (sym (take_more list i item lt ∙ ap (λ x. take i list ++ x ∷ []) (sym read)))
-          (listed_push c.args.types.now.numbers.items (take i list) c.loop-c.whole.items c.push.new.self.items item c.in_ok-c.c (l ∙ sym count) inv.are (rw (← c.as_slice.ensures.value) c.in_ok-c.ensures) c.in_ok-push.ensures.items);
+      count = ap length c.in_ok-push.ensures.items
+          ∙ omega (arith, length-append c.loop-c.whole.items (c.in_ok-c.c ∷ []));
+      are = subst (λ zs. AreListed c.args.types.now.numbers.items zs c.push.new.self.items)
+          (sym (take_more list i item lt ∙ ap (λ x. take i list ++ x ∷ []) (sym read)))
+          (listed_push c.args.types.now.numbers.items
+          (take i list) c.loop-c.whole.items c.push.new.self.items item c.in_ok-c.c (l ∙ sym count) inv.are
+          (rw (← c.as_slice.ensures.value) c.in_ok-c.ensures) c.in_ok-push.ensures.items);
     }

@@ -10,4 +10,6 @@ pub returns : goal.returns
 returns c =
     let n = c.args.nodes.now in
     let t = has_type_is n _ _ _ _ c.in_ok-of.ensures (ap (common (type_in n c.args.s)) c.of-t.ensures.is) in
-    IfOk-weaker c.converted.result _ _ (λ k h. typed_step (λ x u. converted_term u x) n c.common.new.self _ c.args.node _ k _ c.requires.node t h) c.converted.ensures
+    IfOk-weaker c.converted.result _ _ (λ k h.
+    typed_step (λ x u. converted_term u x) n c.common.new.self _ c.args.node _ k _ c.requires.node t h)
+    c.converted.ensures

@@ -14,5 +14,8 @@ returns c =
     let t = type_is n _ _ _ c.bare-t.ensures (ap bare c.of-of.ensures.is) in
     given_operand n _ _ _ _
     (has_term_is n _ _ _ _ c.in_ok-node.ensures
-    (ap (λ b. step (Step b c.args.in_front) x (type_in n c.bare-t.result) c.args.pos) (sym c.increments-adds.ensures) ∙ ap (λ u. step (Step (increments c.args.op) c.args.in_front) x u c.args.pos) t.is))
-    (λ s. needed _ 133 c.args.first _ s (one_type (λ u. is_modifiable x && is_scalar u && not (points_to_function u)) n _ _ _ _ t c.may_step.ensures c.if-not-may_step.false))
+    (ap (λ b. step (Step b c.args.in_front) x (type_in n c.bare-t.result) c.args.pos) (sym c.increments-adds.ensures)
+    ∙ ap (λ u. step (Step (increments c.args.op) c.args.in_front) x u c.args.pos) t.is))
+    (λ s. needed _ 133 c.args.first _ s (one_type
+    (λ u. is_modifiable x && is_scalar u && not (points_to_function u)) n _ _ _ _ t c.may_step.ensures
+    c.if-not-may_step.false))

@@ -10,7 +10,8 @@ pub called-requires-clause-gives : goal.called-requires-clause-gives
 called-requires-clause-gives c = let h = rw c.in-Some.is at c.in_ok-callee.ensures in h.gives
 
 pub called-requires-clause-params : goal.called-requires-clause-params
-called-requires-clause-params c = let h = rw c.in-Some.is at c.in_ok-callee.ensures in rw c.as_slice.ensures.value h.params
+called-requires-clause-params c =
+    let h = rw c.in-Some.is at c.in_ok-callee.ensures in rw c.as_slice.ensures.value h.params
 
 pub returns-in-Some : goal.returns-in-Some
 returns-in-Some c =
@@ -18,4 +19,6 @@ returns-in-Some c =
     let h = rw c.in-Some.is at c.in_ok-callee.ensures in
     answers_is n _ _ _ IsOperand _
     (ap (λ t. call_of t (operand_in n c.args.f) (map (operand_in n) c.args.xs.now) c.args.pos)
-    (sym c.of-of.ensures.is ∙ h.is ∙ ap (λ ps. Pointer (Function (type_in n c.in-Some.signature.gives) (tys (map (type_in n) ps)))) (sym c.as_slice.ensures.value))) c.called.ensures
+    (sym c.of-of.ensures.is ∙ h.is
+    ∙ ap (λ ps. Pointer (Function (type_in n c.in-Some.signature.gives) (tys (map (type_in n) ps))))
+    (sym c.as_slice.ensures.value))) c.called.ensures

@@ -5,4 +5,6 @@ use Rattle.c_nodes.proofs.Keeping.{has_type_then}
 use Rattle.c_rules.proofs.choices.pointer_with.Goals as goal
 
 pub returns : goal.returns
-returns c = IfOk-weaker c.pointer_to.result _ _ (λ k h. has_type_then c.args.nodes.now c.with_const_of.new.nodes _ k _ _ c.in_ok-to.ensures.keeps h (ap Pointer c.in_ok-to.ensures.is.is)) c.pointer_to.ensures
+returns c = IfOk-weaker c.pointer_to.result _ _
+    (λ k h. has_type_then c.args.nodes.now c.with_const_of.new.nodes _ k _ _ c.in_ok-to.ensures.keeps h
+    (ap Pointer c.in_ok-to.ensures.is.is)) c.pointer_to.ensures

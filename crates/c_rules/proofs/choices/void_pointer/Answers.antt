@@ -10,4 +10,5 @@ pub returns : goal.returns
 returns c =
     let n = c.args.nodes.now in
     IfOk-weaker c.pointer_with.result _ _ (λ k h.
-    has_type_is n _ k _ _ h (ap (λ u. Pointer (with_const_of (type_in n c.args.s) (type_in n c.args.t) u)) c.requires.whole.void)) c.pointer_with.ensures
+    has_type_is n _ k _ _ h (ap (λ u. Pointer (with_const_of (type_in n c.args.s) (type_in n c.args.t) u))
+    c.requires.whole.void)) c.pointer_with.ensures

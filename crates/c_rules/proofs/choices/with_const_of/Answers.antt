@@ -9,9 +9,12 @@ pub returns-then-is_either_const : goal.returns-then-is_either_const
 returns-then-is_either_const c =
     let n = c.args.nodes.now in
     IfOk-weaker c.qualified.result _ _ (λ k h.
-    has_type_is n _ k _ _ h (sym (const_of (type_in n c.args.s) (type_in n c.args.t) (type_in n c.args.of) _ c.is_either_const.ensures c.if-is_either_const.true))) c.qualified.ensures
+    has_type_is n _ k _ _ h (sym (const_of (type_in n c.args.s) (type_in n c.args.t)
+    (type_in n c.args.of) _ c.is_either_const.ensures c.if-is_either_const.true))) c.qualified.ensures
 
 pub returns-else-is_either_const : goal.returns-else-is_either_const
 returns-else-is_either_const c =
     let n = c.args.nodes.now in
-    has_type_same n c.args.of _ c.requires.whole c.requires.of (sym (const_of-plain (type_in n c.args.s) (type_in n c.args.t) (type_in n c.args.of) _ c.is_either_const.ensures c.if-is_either_const.false))
+    has_type_same n c.args.of _ c.requires.whole c.requires.of
+    (sym (const_of-plain (type_in n c.args.s) (type_in n c.args.t)
+    (type_in n c.args.of) _ c.is_either_const.ensures c.if-is_either_const.false))

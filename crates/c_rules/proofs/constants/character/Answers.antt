@@ -16,4 +16,6 @@ unreachable-requires c =
 pub returns : goal.returns
 returns c =
     answers_is c.args.nodes.now _ _ _ IsOperand _
-    (ap (λ v. gives (leaf (Constant v) int c.args.pos) c.args.pos) (character_is c.args.text.now c.in-Some.value c.in-Some.ensures.found ∙ sym c.from.ensures)) c.int_constant.ensures
+    (ap (λ v. gives (leaf (Constant v) int c.args.pos) c.args.pos)
+    (character_is c.args.text.now c.in-Some.value c.in-Some.ensures.found ∙ sym c.from.ensures))
+    c.int_constant.ensures

@@ -18,4 +18,5 @@ unreachable-requires c =
 pub returns : goal.returns
 returns c =
     answers_is c.args.nodes.now _ _ _ IsOperand _
-    (ap (λ (m : Integer). gives (leaf (Constant m.value) (integer_type (type_of m)) c.args.pos) c.args.pos) (integer_is c.args.text.now c.in-Some.n c.in-Some.ensures.found)) c.number_with.ensures
+    (ap (λ (m : Integer). gives (leaf (Constant m.value) (integer_type (type_of m)) c.args.pos) c.args.pos)
+    (integer_is c.args.text.now c.in-Some.n c.in-Some.ensures.found)) c.number_with.ensures

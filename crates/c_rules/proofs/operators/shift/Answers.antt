@@ -11,6 +11,10 @@ returns c =
     let n = c.args.nodes.now in
     let t = has_type_is n _ _ _ _ c.in_ok-of.ensures (ap promoted c.of-s.ensures.is) in
     given_operand n _ _ _ _
-    (converted_join (λ x y u. shift_join c.args.op x y u c.args.pos) converted_term (λ u x. promoted_term x) n c.promoted.new.self c.converted.new.self c.promoted_term.new.self _ c.args.a.node c.args.b.node _ _ _ _ _
+    (converted_join (λ x y u. shift_join c.args.op x y u c.args.pos) converted_term
+    (λ u x. promoted_term x) n c.promoted.new.self c.converted.new.self c.promoted_term.new.self _ c.args.a.node
+    c.args.b.node _ _ _ _ _
     c.requires.left c.requires.right t c.in_ok-left.ensures c.in_ok-right.ensures c.in_ok-node.ensures)
-    (λ s. needed _ 133 c.args.a.first _ s (two_types (λ u v. is_integer u && is_integer v) n _ _ _ _ _ _ c.of-s.ensures c.of-t.ensures c.are_integers.ensures c.if-not-are_integers.false))
+    (λ s. needed _ 133 c.args.a.first _ s (two_types
+    (λ u v. is_integer u && is_integer v) n _ _ _ _ _ _ c.of-s.ensures c.of-t.ensures c.are_integers.ensures
+    c.if-not-are_integers.false))

@@ -7,4 +7,6 @@ pub returns-in-None : goal.returns-in-None
 returns-in-None c = tells_same c.args.nodes.now _ _ c.requires.whole (agree_left _ _ c.in-None.ensures)
 
 pub returns-in-None-target : goal.returns-in-None-target
-returns-in-None-target c = tells_same c.args.nodes.now _ _ c.requires.whole (agree_right _ (type_in c.args.nodes.now c.args.t) c.in-None-target.ensures)
+returns-in-None-target c =
+    tells_same c.args.nodes.now _ _ c.requires.whole
+    (agree_right _ (type_in c.args.nodes.now c.args.t) c.in-None-target.ensures)

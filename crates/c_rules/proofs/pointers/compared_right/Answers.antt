@@ -10,6 +10,8 @@ pub returns : goal.returns
 returns c =
     let n = c.args.nodes.now in
     given_operand n _ _ _ _
-    (join_right (λ x y. join (Compare c.args.op) x y int c.args.pos) n c.converted.new.self _ c.args.a.node _ _ _ c.requires.left
-    (has_term_is n _ _ _ _ c.in_ok-right.ensures (ap (λ u. converted_term u (term_in n c.args.b.node)) c.of-of.ensures.is)) c.in_ok-node.ensures)
+    (join_right (λ x y. join (Compare c.args.op) x y int c.args.pos) n c.converted.new.self _ c.args.a.node _ _ _
+    c.requires.left
+    (has_term_is n _ _ _ _ c.in_ok-right.ensures
+    (ap (λ u. converted_term u (term_in n c.args.b.node)) c.of-of.ensures.is)) c.in_ok-node.ensures)
     (λ s. refl)

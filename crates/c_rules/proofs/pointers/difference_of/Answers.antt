@@ -11,7 +11,9 @@ use Rattle.c_rules.proofs.pointers.difference_of.Goals as goal
 pub returns-then-moves : goal.returns-then-moves
 returns-then-moves c =
     let n = c.args.nodes.now in
-    answers_is n _ _ _ IsOperand _ (first_of _ _ _ (two_types moves n _ _ _ _ _ _ c.of-s.ensures c.of-t.ensures c.moves.ensures c.if-moves.true)) c.moved_left.ensures
+    answers_is n _ _ _ IsOperand _ (first_of _ _ _
+    (two_types moves n _ _ _ _ _ _ c.of-s.ensures c.of-t.ensures c.moves.ensures c.if-moves.true))
+    c.moved_left.ensures
 
 pub returns-then-differ : goal.returns-then-differ
 returns-then-differ c =
@@ -20,7 +22,8 @@ returns-then-differ c =
     answers_is n _ _ _ IsOperand _
     (second_of _ _ _ (two_types moves n _ _ _ _ _ _ c.of-s.ensures c.of-t.ensures c.moves.ensures c.if-moves.false)
     ∙ first_of _ _ _ (two_types differ n _ _ _ _ _ _ c.of-s.ensures c.of-t.ensures k.is c.if-differ.true))
-    (answers_two_after (λ x y. gives (join Difference x.is y.is long c.args.pos) x.first) n c.differ.new.nodes _ c.args.a c.args.b _ k.keeps c.requires.left c.requires.right c.pointer_difference.ensures)
+    (answers_two_after (λ x y. gives (join Difference x.is y.is long c.args.pos) x.first) n c.differ.new.nodes _
+    c.args.a c.args.b _ k.keeps c.requires.left c.requires.right c.pointer_difference.ensures)
 
 pub returns-else-differ : goal.returns-else-differ
 returns-else-differ c =
@@ -29,4 +32,5 @@ returns-else-differ c =
     answers_is n _ _ _ IsOperand _
     (second_of _ _ _ (two_types moves n _ _ _ _ _ _ c.of-s.ensures c.of-t.ensures c.moves.ensures c.if-moves.false)
     ∙ second_of _ _ _ (two_types differ n _ _ _ _ _ _ c.of-s.ensures c.of-t.ensures k.is c.if-differ.false))
-    (answers_two_after (λ x y. arithmetic Sub x y c.args.pos) n c.differ.new.nodes _ c.args.a c.args.b _ k.keeps c.requires.left c.requires.right c.arithmetic.ensures)
+    (answers_two_after (λ x y. arithmetic Sub x y c.args.pos) n c.differ.new.nodes _ c.args.a c.args.b _ k.keeps
+    c.requires.left c.requires.right c.arithmetic.ensures)

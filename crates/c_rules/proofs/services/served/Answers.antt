@@ -17,14 +17,18 @@ returns-in_err-values c =
     let n = c.args.nodes.now in
     let p = err_from_is_err_and c.from_residual.result c.from_residual.ensures.1 in
     rw (p.1, p.2)
-    (answers_err n c.all_asked.new.nodes n c.all_asked.new.nodes (asked_from n c.args.takes.now c.args.xs.now 0) (served_in n c.args.takes.now c.args.gives c.args.service c.args.xs.now c.args.pos c.args.first) AreTerms IsOperand _
-    (λ code q h. served_refuses n c.args.takes.now c.args.gives c.args.service c.args.xs.now c.args.pos c.args.first code q h) c.in_err-values.ensures)
+    (answers_err n c.all_asked.new.nodes n c.all_asked.new.nodes (asked_from n c.args.takes.now c.args.xs.now 0)
+    (served_in n c.args.takes.now c.args.gives c.args.service c.args.xs.now c.args.pos c.args.first) AreTerms
+    IsOperand _
+    (λ code q h. served_refuses n c.args.takes.now c.args.gives c.args.service c.args.xs.now c.args.pos c.args.first
+    code q h) c.in_err-values.ensures)
 
 pub returns-then-not-are_as_many_asked : goal.returns-then-not-are_as_many_asked
 returns-then-not-are_as_many_asked c =
     let n = c.args.nodes.now in
     let v = c.in_ok-values.ensures in
-    served_few n c.args.takes.now c.args.gives c.args.service c.args.xs.now c.args.pos c.args.first v.value _ v.is c.are_as_many_asked.ensures c.if-not-are_as_many_asked.true
+    served_few n c.args.takes.now c.args.gives c.args.service c.args.xs.now c.args.pos c.args.first v.value _ v.is
+    c.are_as_many_asked.ensures c.if-not-are_as_many_asked.true
 
 pub returns : goal.returns
 returns c =
@@ -40,5 +44,7 @@ returns c =
     (has_term_then n l _ _ _ _ (keeps_then n m l v.keeps g.keeps) c.in_ok-node.ensures
     (ap (λ ys. term (Library c.args.service) (terms ys) (type_in l c.in_ok-of.of) c.args.pos) kept
     ∙ ap (λ t. term (Library c.args.service) (terms v.value) t c.args.pos)
-    (g.is.is ∙ ap (λ ys. given_type (given_as c.args.gives) ys) (ap (map (term_in m)) c.as_slice.ensures.value ∙ same))))
-    (served_done n c.args.takes.now c.args.gives c.args.service c.args.xs.now c.args.pos c.args.first v.value _ v.is c.are_as_many_asked.ensures c.if-not-are_as_many_asked.false)
+    (g.is.is ∙ ap (λ ys. given_type (given_as c.args.gives) ys)
+    (ap (map (term_in m)) c.as_slice.ensures.value ∙ same))))
+    (served_done n c.args.takes.now c.args.gives c.args.service c.args.xs.now c.args.pos c.args.first v.value _ v.is
+    c.are_as_many_asked.ensures c.if-not-are_as_many_asked.false)

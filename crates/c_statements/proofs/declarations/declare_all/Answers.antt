@@ -20,7 +20,8 @@ loop-part-init c =
       whole = c.requires.whole;
       keeps = keeps_same u;
       parts = c.requires.parts;
-      found = λ y xs hy p. so_far_begins (λ r. r.declared y) u c.args.kids.now c.no_items-items.result c.requires.whole c.no_items-items.ensures.vars c.no_items-items.ensures.actions xs p;
+      found = λ y xs hy p. so_far_begins (λ r. r.declared y) u c.args.kids.now c.no_items-items.result c.requires.whole
+          c.no_items-items.ensures.vars c.no_items-items.ensures.actions xs p;
     }
 
 pub declared-requires : goal.declared-requires
@@ -28,7 +29,12 @@ declared-requires c =
     let u : Work = c.args.work.now in
     let v : Work = c.loop-part.work in
     let i = c.loop-part.invariant in
-    record { whole = i.whole; specified = type_there u v c.args.s.of i.keeps c.requires.specified; part = have_first v c.in-Some.part.first c.in-Some.part.others.now (subst (λ (z : List ℕ). HaveParts v z) c.in-Some.ensures i.parts) }
+    record {
+      whole = i.whole;
+      specified = type_there u v c.args.s.of i.keeps c.requires.specified;
+      part = have_first v c.in-Some.part.first c.in-Some.part.others.now
+          (subst (λ (z : List ℕ). HaveParts v z) c.in-Some.ensures i.parts);
+    }
 
 pub loop-part-preserved : goal.loop-part-preserved
 loop-part-preserved c =
@@ -46,8 +52,10 @@ loop-part-preserved c =
       whole = a.whole;
       keeps = keeps_then u v w i.keeps a.grows;
       parts = have_kept v w ks a.grows (have_others v k ks h);
-      found = λ y xs hy p. so_far_steps (λ r. r.declared y) u v w xs k ks c.loop-part.items c.in_ok-more.more c.join.new.items
-          (subst (λ (z : List ℕ). SoFar (λ r. r.declared y) u v xs z c.loop-part.items) c.in-Some.ensures (i.found y xs hy p))
+      found = λ y xs hy p. so_far_steps (λ r. r.declared y) u v w xs k ks c.loop-part.items c.in_ok-more.more
+          c.join.new.items
+          (subst (λ (z : List ℕ). SoFar (λ r. r.declared y) u v xs z c.loop-part.items) c.in-Some.ensures
+          (i.found y xs hy p))
           (λ x q. c.in_ok-more.ensures y x (specified_kept u v s y i.keeps c.requires.specified hy) q)
           c.in_ok-join.ensures.vars c.in_ok-join.ensures.actions;
     }
@@ -56,12 +64,18 @@ pub returns : goal.returns
 returns c = λ y xs hy p.
     let u : Work = c.args.work.now in
     let v : Work = c.loop-part.work in
-    rw (declare_all_is y (readings xs)) (so_far_ends (λ r. r.declared y) u v xs c.loop-part.items (subst (λ (z : List ℕ). SoFar (λ r. r.declared y) u v xs z c.loop-part.items) c.in_default.ensures (c.loop-part.invariant.found y xs hy p)))
+    rw (declare_all_is y (readings xs)) (so_far_ends (λ r. r.declared y) u v xs c.loop-part.items
+    (subst (λ (z : List ℕ). SoFar (λ r. r.declared y) u v xs z c.loop-part.items) c.in_default.ensures
+    (c.loop-part.invariant.found y xs hy p)))
 
 pub returns-in_err-more : goal.returns-in_err-more
 returns-in_err-more c = let e = err_from_is_err_and c.from_residual.result c.from_residual.ensures.1 in λ y xs hy p.
     let u : Work = c.args.work.now in
     let v : Work = c.loop-part.work in
-    rw (declare_all_is y (readings xs)) (rw (e.1, e.2) (so_far_fails (λ r. r.declared y) u v c.declared.new.work xs c.in-Some.part.first c.in-Some.part.others.now c.loop-part.items _
-    (subst (λ (z : List ℕ). SoFar (λ r. r.declared y) u v xs z c.loop-part.items) c.in-Some.ensures (c.loop-part.invariant.found y xs hy p))
-    (λ x q. c.in_err-more.ensures y x (specified_kept u v c.args.s y c.loop-part.invariant.keeps c.requires.specified hy) q)))
+    rw (declare_all_is y (readings xs)) (rw (e.1, e.2)
+    (so_far_fails (λ r. r.declared y) u v c.declared.new.work xs c.in-Some.part.first c.in-Some.part.others.now
+    c.loop-part.items _
+    (subst (λ (z : List ℕ). SoFar (λ r. r.declared y) u v xs z c.loop-part.items) c.in-Some.ensures
+    (c.loop-part.invariant.found y xs hy p))
+    (λ x q. c.in_err-more.ensures y x (specified_kept u v c.args.s y c.loop-part.invariant.keeps c.requires.specified
+    hy) q)))

@@ -16,5 +16,6 @@ invariant-loop-part l = record {
   whole : IsWhole l.work.nodes;
   keeps : Keeps l.fn.work l.work;
   parts : HaveParts l.work l.left;
-  found : (y : meant.Specified) (xs : Syns) → IsSpecified l.fn.work l.fn.s y → AreParts l.fn.work l.fn.kids xs → SoFar (λ r. r.declared y) l.fn.work l.work xs l.left l.items;
+  found : (y : meant.Specified) (xs : Syns) → IsSpecified l.fn.work l.fn.s y → AreParts l.fn.work l.fn.kids xs →
+      SoFar (λ r. r.declared y) l.fn.work l.work xs l.left l.items;
 }

@@ -8,10 +8,17 @@ use Rattle.c_statements.proofs.declarations.declare_named.Goals as goal
 
 pub returns-in-None : goal.returns-in-None
 returns-in-None c = λ y e b hy he hb st h.
-    ap (λ o. declare_named y e o b st) (he.name ∙ ap (name_token c.args.work.now) c.in-None.is) ∙ ap (λ p. (let d : Doing meant.Items = refuse 120 p in d) st) hy.first
+    ap (λ o. declare_named y e o b st) (he.name ∙ ap (name_token c.args.work.now) c.in-None.is)
+    ∙ ap (λ p. (let d : Doing meant.Items = refuse 120 p in d) st) hy.first
 
 pub declare_so-requires : goal.declare_so-requires
-declare_so-requires c = record { whole = c.requires.whole; specified = c.requires.specified; parts = rw c.as_slice.ensures.value c.requires.derived; behind = c.requires.behind }
+declare_so-requires c = record {
+  whole = c.requires.whole;
+  specified = c.requires.specified;
+  parts = rw c.as_slice.ensures.value c.requires.derived;
+  behind = c.requires.behind;
+}
 
 pub returns-in-Some : goal.returns-in-Some
-returns-in-Some c = λ y e b hy he hb. c.declare_so.ensures y e b hy (he.name ∙ ap (name_token c.args.work.now) c.in-Some.is) (rw c.as_slice.ensures.value he.wraps) hb
+returns-in-Some c = λ y e b hy he hb. c.declare_so.ensures y e b hy
+    (he.name ∙ ap (name_token c.args.work.now) c.in-Some.is) (rw c.as_slice.ensures.value he.wraps) hb

@@ -21,13 +21,22 @@ declare_named-requires c =
     let u : Work = c.args.work.now in
     let v : Work = c.derived.new.work in
     let a = c.in_ok-d.ensures c.requires.part.syntax c.requires.part.is in
-    record { whole = a.whole; specified = type_there u v c.args.s.of a.grows.keeps c.requires.specified; derived = a.there; behind = has_behind_kept u v c.in_ok-behind.behind a.grows.keeps c.in_ok-behind.ensures.there }
+    record {
+      whole = a.whole;
+      specified = type_there u v c.args.s.of a.grows.keeps c.requires.specified;
+      derived = a.there;
+      behind =
+          has_behind_kept u v c.in_ok-behind.behind a.grows.keeps c.in_ok-behind.ensures.there;
+    }
 
 pub returns-in_err-d : goal.returns-in_err-d
-returns-in_err-d c = let q = err_from_is_err_and c.from_residual-in_err-d.result c.from_residual-in_err-d.ensures.1 in λ y x ys hy hx hys.
+returns-in_err-d c = let q = err_from_is_err_and c.from_residual-in_err-d.result c.from_residual-in_err-d.ensures.1 in
+    λ y x ys hy hx hys.
     let u : Work = c.args.work.now in
     let v : Work = c.derived.new.work in
-    rw (q.1, q.2) (fails_freed u v v (reading x).derived (λ d. declare_named y d d.name (behind_in ys)) DerivedThere ShowsDerived ItemsThere IsItems _ (c.in_err-d.ensures x hx))
+    rw (q.1, q.2) (fails_freed u v v (reading x).derived
+    (λ d. declare_named y d d.name (behind_in ys)) DerivedThere ShowsDerived ItemsThere IsItems _
+    (c.in_err-d.ensures x hx))
 
 pub returns : goal.returns
 returns c = λ y x ys hy hx hys.
@@ -36,7 +45,13 @@ returns c = λ y x ys hy hx hys.
     let d = c.in_ok-d.d in
     let a = c.in_ok-d.ensures x hx in
     let k = a.grows.keeps in
-    then_for freely free_law u v c.declare_named.new.work (reading x).derived (λ e. declare_named y e e.name (behind_in ys)) (DerivedThere v d) (ShowsDerived v d) ItemsThere IsItems c.declare_named.result (freed u v (reading x).derived DerivedThere ShowsDerived (Ok d) a)
-    (for_each freely v c.declare_named.new.work (ShowsDerived v d) (IsDerived any_scope v d) (λ e. declare_named y e e.name (behind_in ys)) ItemsThere IsItems c.declare_named.result (some_derived v d) (is_some_derived v d)
+    then_for freely free_law u v c.declare_named.new.work (reading x).derived
+    (λ e. declare_named y e e.name (behind_in ys)) (DerivedThere v d)
+    (ShowsDerived v d) ItemsThere IsItems c.declare_named.result
+    (freed u v (reading x).derived DerivedThere ShowsDerived (Ok d) a)
+    (for_each freely v c.declare_named.new.work (ShowsDerived v d) (IsDerived any_scope v d)
+    (λ e. declare_named y e e.name (behind_in ys)) ItemsThere IsItems c.declare_named.result (some_derived v d)
+    (is_some_derived v d)
     (λ s e h. derived_weaker (shown_in v s) any_scope v d e (λ m n i. tt) h)
-    (λ e h. c.declare_named.ensures y e (behind_in ys) (specified_kept u v c.args.s y k c.requires.specified hy) h (behind_kept u v c.in_ok-behind.behind (behind_in ys) k (c.in_ok-behind.ensures.is ys hys))))
+    (λ e h. c.declare_named.ensures y e (behind_in ys) (specified_kept u v c.args.s y k c.requires.specified hy) h
+    (behind_kept u v c.in_ok-behind.behind (behind_in ys) k (c.in_ok-behind.ensures.is ys hys))))

@@ -19,15 +19,23 @@ declare_with-requires c =
     let u : Work = c.args.work.now in
     let k = c.in-Some.x.first in
     let rest = c.in-Some.x.others.now in
-    let h = subst (λ (ks : List ℕ). HaveParts u ks) (sym c.as_slice.ensures ∙ c.in-Some.ensures) (have_kids u c.args.k c.in_ok-node.node.now c.requires.part c.in_ok-node.ensures) in
-    record { whole = c.requires.whole; specified = c.requires.specified; part = have_first u k rest h; parts = have_others u k rest h }
+    let h = subst (λ (ks : List ℕ). HaveParts u ks) (sym c.as_slice.ensures ∙ c.in-Some.ensures)
+    (have_kids u c.args.k c.in_ok-node.node.now c.requires.part c.in_ok-node.ensures) in
+    record {
+      whole = c.requires.whole;
+      specified = c.requires.specified;
+      part = have_first u k rest h;
+      parts = have_others u k rest h;
+    }
 
 pub returns-in-None : goal.returns-in-None
 returns-in-None c = λ y x hy hx.
     let u : Work = c.args.work.now in
     let n = c.in_ok-node.node.now in
     let o = opened u c.args.k x n hx c.in_ok-node.ensures in
-    let e : o.parts ≡ nil = no_parts u o.parts (subst (λ (ks : List ℕ). AreParts u ks o.parts) (sym c.as_slice.ensures ∙ c.in-None.ensures) o.node.parts) in
+    let e : o.parts ≡ nil = no_parts u o.parts
+    (subst (λ (ks : List ℕ). AreParts u ks o.parts) (sym c.as_slice.ensures ∙ c.in-None.ensures) o.node.parts)
+    in
     λ s h.
     ap (λ (r : Reading). r.declared y s) (ap reading o.is ∙ reading_node n.kind o.token o.parts)
     ∙ ap (λ (xs : Syns). init_declarator xs (readings xs) y s) e
@@ -41,7 +49,12 @@ returns-in-Some c = λ y x hy hx.
     let k = c.in-Some.x.first in
     let rest = c.in-Some.x.others.now in
     let o = opened u c.args.k x n hx c.in_ok-node.ensures in
-    let m = cut u k rest o.parts (subst (λ (ks : List ℕ). AreParts u ks o.parts) (sym c.as_slice.ensures ∙ c.in-Some.ensures) o.node.parts) in
-    subst (λ (r : Reading). Answers freely u c.declare_with.new.work (r.declared y) ItemsThere IsItems c.declare_with.result) (sym (ap reading o.is ∙ reading_node n.kind o.token o.parts))
-    (subst (λ (xs : Syns). Answers freely u c.declare_with.new.work (init_declarator xs (readings xs) y) ItemsThere IsItems c.declare_with.result) (sym m.is)
-    (subst (λ d. Answers freely u c.declare_with.new.work d ItemsThere IsItems c.declare_with.result) (sym (declarator_is m.head m.tail y)) (c.declare_with.ensures y m.head m.tail hy m.first m.others)))
+    let m = cut u k rest o.parts (subst (λ (ks : List ℕ). AreParts u ks o.parts)
+    (sym c.as_slice.ensures ∙ c.in-Some.ensures) o.node.parts) in
+    subst (λ (r : Reading). Answers freely u c.declare_with.new.work
+    (r.declared y) ItemsThere IsItems c.declare_with.result)
+    (sym (ap reading o.is ∙ reading_node n.kind o.token o.parts))
+    (subst (λ (xs : Syns). Answers freely u c.declare_with.new.work
+    (init_declarator xs (readings xs) y) ItemsThere IsItems c.declare_with.result) (sym m.is)
+    (subst (λ d. Answers freely u c.declare_with.new.work d ItemsThere IsItems c.declare_with.result)
+    (sym (declarator_is m.head m.tail y)) (c.declare_with.ensures y m.head m.tail hy m.first m.others)))

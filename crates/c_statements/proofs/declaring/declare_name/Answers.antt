@@ -17,8 +17,12 @@ returns c =
     let n : Nodes = c.declare_in.new.nodes in
     let x = c.in_ok-entity.entity in
     let a = c.in_ok-declare_in.ensures.answers in
-    let Looks = λ (m : Nodes). (s : State) → Shows (record w { nodes = m }) s → IsEntity (record w { nodes = m }) x s (find_in (innermost s.scopes).names (text_at w.file.now d.name)) in
-    subst (λ (m : Nodes). Done freely w (record w { nodes = m }) (declares w d) (Unit {0}) (IsEntity (record w { nodes = m }) x)) (sym c.declare_in.ensures.others)
-    (named_done w n.scopes n.p d x (IsDenoted n.p a.0) c.requires.whole c.declare_in.ensures.extends c.declare_in.ensures.file
-    (named_kind d.what w.nodes.scopes.file.now w.nodes.scopes w.nodes.p n.scopes n.p d (Ok a.0) c.requires.what (a.1 c.requires.there))
+    let Looks = λ (m : Nodes). (s : State) → Shows (record w { nodes = m }) s →
+    IsEntity (record w { nodes = m }) x s (find_in (innermost s.scopes).names (text_at w.file.now d.name)) in
+    subst (λ (m : Nodes). Done freely w (record w { nodes = m }) (declares w d) (Unit {0})
+    (IsEntity (record w { nodes = m }) x)) (sym c.declare_in.ensures.others)
+    (named_done w n.scopes n.p d x (IsDenoted n.p a.0) c.requires.whole c.declare_in.ensures.extends
+    c.declare_in.ensures.file
+    (named_kind d.what w.nodes.scopes.file.now w.nodes.scopes w.nodes.p n.scopes n.p d (Ok a.0) c.requires.what
+    (a.1 c.requires.there))
     (subst Looks c.declare_in.ensures.others c.in_ok-entity.ensures))

@@ -12,9 +12,13 @@ use Rattle.c_statements.proofs.filling.initialize.Goals as goal
 pub returns-in-Local : goal.returns-in-Local
 returns-in-Local c = λ b h.
     let u : Work = c.args.work.now in
-    subst (λ (e : Entity). Answers freely u c.initialize_variable.new.work (initializes e (token_of u c.args.name) (type_in u.nodes c.args.of) b) ItemsThere IsItems c.initialize_variable.result) (sym c.in-Local.is) (c.initialize_variable.ensures b h)
+    subst (λ (e : Entity). Answers freely u c.initialize_variable.new.work
+    (initializes e (token_of u c.args.name) (type_in u.nodes c.args.of) b) ItemsThere IsItems
+    c.initialize_variable.result) (sym c.in-Local.is) (c.initialize_variable.ensures b h)
 
 pub returns-in-Static : goal.returns-in-Static
 returns-in-Static c = λ b h.
     let u : Work = c.args.work.now in
-    subst (λ (e : Entity). Answers freely u c.initialize_object.new.work (initializes e (token_of u c.args.name) (type_in u.nodes c.args.of) b) ItemsThere IsItems c.initialize_object.result) (sym c.in-Static.is) (c.initialize_object.ensures b h)
+    subst (λ (e : Entity). Answers freely u c.initialize_object.new.work
+    (initializes e (token_of u c.args.name) (type_in u.nodes c.args.of) b) ItemsThere IsItems
+    c.initialize_object.result) (sym c.in-Static.is) (c.initialize_object.ensures b h)

@@ -22,7 +22,11 @@ pub declaration-requires : goal.declaration-requires
 declaration-requires c =
     let u = c.args.work.now in
     let n = c.in_ok-node.node.now in
-    record { whole = c.requires.whole; parts = kids_of u n c.as_slice.result.now (has_node u c.args.k n c.requires.part c.in_ok-node.ensures) c.as_slice.ensures }
+    record {
+      whole = c.requires.whole;
+      parts = kids_of u n c.as_slice.result.now
+          (has_node u c.args.k n c.requires.part c.in_ok-node.ensures) c.as_slice.ensures;
+    }
 
 pub returns-in-Declaration : goal.returns-in-Declaration
 returns-in-Declaration c = λ x p.
@@ -31,9 +35,13 @@ returns-in-Declaration c = λ x p.
     let n = c.in_ok-node.node.now in
     let d = context_in u c.args.context in
     let o = opened u c.args.k x n p c.in_ok-node.ensures in
-    subst (λ (y : Syn). Answers freely u w (first_part d y (reading y)) ItemsThere IsItems c.declaration.result) (sym (o.is ∙ ap (λ (k : NodeKind). node k o.token o.parts) c.in-Declaration.is))
-    (subst (λ (e : Doing meant.Items). Answers freely u w e ItemsThere IsItems c.declaration.result) (sym (declares_first d o.token o.parts))
-    (at_place u w (λ q. declaration q (readings o.parts)) o.token.pos n.pos c.declaration.result o.node.place (c.declaration.ensures o.parts (subst (λ (ks : List ℕ). AreParts u ks o.parts) (sym c.as_slice.ensures) o.node.parts))))
+    subst (λ (y : Syn). Answers freely u w (first_part d y (reading y)) ItemsThere IsItems c.declaration.result)
+    (sym (o.is ∙ ap (λ (k : NodeKind). node k o.token o.parts) c.in-Declaration.is))
+    (subst (λ (e : Doing meant.Items). Answers freely u w e ItemsThere IsItems c.declaration.result)
+    (sym (declares_first d o.token o.parts))
+    (at_place u w (λ q. declaration q (readings o.parts)) o.token.pos n.pos c.declaration.result o.node.place
+    (c.declaration.ensures o.parts (subst (λ (ks : List ℕ). AreParts u ks o.parts)
+    (sym c.as_slice.ensures) o.node.parts))))
 
 pub returns-in-Absent : goal.returns-in-Absent
 returns-in-Absent c = λ x p.
@@ -42,7 +50,8 @@ returns-in-Absent c = λ x p.
     let d = context_in u c.args.context in
     let o = opened u c.args.k x n p c.in_ok-node.ensures in
     let i = c.no_items.result in
-    subst (λ (y : Syn). Answers freely u u (first_part d y (reading x)) ItemsThere IsItems (Ok i)) (sym (o.is ∙ ap (λ (k : NodeKind). node k o.token o.parts) c.in-Absent.is))
+    subst (λ (y : Syn). Answers freely u u (first_part d y (reading x)) ItemsThere IsItems (Ok i))
+    (sym (o.is ∙ ap (λ (k : NodeKind). node k o.token o.parts) c.in-Absent.is))
     (nothing_given u i c.requires.whole c.no_items.ensures.vars c.no_items.ensures.actions)
 
 pub returns-in_default : goal.returns-in_default
@@ -54,5 +63,8 @@ returns-in_default c = λ x p.
     let o = opened u c.args.k x n p c.in_ok-node.ensures in
     let r = c.evaluate_one.result in
     subst (λ (y : Syn). Answers freely u w (first_part d y (reading x)) ItemsThere IsItems r) (sym o.is)
-    (subst (λ (e : Doing meant.Items). Answers freely u w e ItemsThere IsItems r) (sym (evaluates_first d n.kind o.token o.parts (reading x) (is_expression n.kind c.in_default.not-Declaration c.in_default.not-Absent)))
-    (subst (λ (q : Pos). Answers freely u w (evaluate_one (reading x) q) ItemsThere IsItems r) (o.first ∙ ap first_of o.is) (c.evaluate_one.ensures x p)))
+    (subst (λ (e : Doing meant.Items). Answers freely u w e ItemsThere IsItems r)
+    (sym (evaluates_first d n.kind o.token o.parts (reading x)
+    (is_expression n.kind c.in_default.not-Declaration c.in_default.not-Absent)))
+    (subst (λ (q : Pos). Answers freely u w (evaluate_one (reading x) q) ItemsThere IsItems r)
+    (o.first ∙ ap first_of o.is) (c.evaluate_one.ensures x p)))

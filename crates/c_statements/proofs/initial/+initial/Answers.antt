@@ -1,4 +1,5 @@
-use Rattle.std.proofs.Common.{◌≡◌, ◌+◌, ◌-◌, ◌*◌, ◌<◌, ◌≤◌, ◌++◌, ℕ, List, [], ◌∷◌, length, get_or, drop, Ok, Err, Result, refl, sym, ap, subst, ◌∙◌, arith}
+use Rattle.std.proofs.Common.{◌≡◌, ◌+◌, ◌-◌, ◌*◌, ◌<◌, ◌≤◌, ◌++◌, ℕ, List, [], ◌∷◌, length, get_or, drop, Ok, Err}
+use Rattle.std.proofs.Common.{Result, refl, sym, ap, subst, ◌∙◌, arith}
 use Rattle.std.proofs.lemmas.List.{drop_all}
 use Rattle.std.proofs.lemmas.Result.{err_from_is_err_and}
 use Rattle.ck_base.specs.declared.positions.Pos.{Pos}
@@ -18,19 +19,29 @@ use Rattle.c_initializers.specs.Slots.{FilledThere, IsFilled}
 use Rattle.c_initializers.proofs.PlaceLaws.{drop-next}
 use Rattle.c_statements.specs.declared.initial.Goal.{Goal}
 use Rattle.c_statements.specs.Initial.{asked_by, gives_items, SoFar}
-use Rattle.c_statements.proofs.Listing.{so_far_begins, so_far_steps, so_far_fails, so_far_ends, rest_have, item_there, place_is_there, part_is_there, part_refused}
-use Rattle.c_statements.proofs.Reading.{reads_braces, reads_string, reads_text, reads_value, string_same, lone_given, braced_listed, one_part, lone_part, first_part, node_parts}
+use Rattle.c_statements.proofs.Listing.{so_far_begins, so_far_steps, so_far_fails, so_far_ends, rest_have, item_there}
+use Rattle.c_statements.proofs.Listing.{place_is_there, part_is_there, part_refused}
+use Rattle.c_statements.proofs.Reading.{reads_braces, reads_string, reads_text, reads_value, string_same, lone_given}
+use Rattle.c_statements.proofs.Reading.{braced_listed, one_part, lone_part, first_part, node_parts}
 use Rattle.c_statements.proofs.initial.+initial.Goals as goal
 
 pub initializer-braced-requires : goal.initializer-braced-requires
-initializer-braced-requires t c = (omega arith, (c.requires.whole, (c.requires.there, node_parts c.args.work.now c.args.k c.in_ok-part.part c.in_ok-part.ensures c.requires.part)))
+initializer-braced-requires t c = (
+  omega arith,
+  (
+    c.requires.whole,
+    (c.requires.there, node_parts c.args.work.now c.args.k c.in_ok-part.part c.in_ok-part.ensures c.requires.part),
+  ),
+)
 
 pub initializer-returns-in-BracedInitializer : goal.initializer-returns-in-BracedInitializer
 initializer-returns-in-BracedInitializer t c = λ x p.
     let u = c.args.work.now in
     let n = c.in_ok-part.ensures x p in
     let g = c.args.goal in
-    subst (λ (d : Doing Filled). Answers quietly u c.braced.new.work d FilledThere IsFilled c.braced.result) (sym (reads_braces x (asked_by g.asked) g.whole (type_in u.nodes g.of) g.at (n.kind ∙ c.in-BracedInitializer.is)))
+    subst (λ (d : Doing Filled). Answers quietly u c.braced.new.work d FilledThere IsFilled c.braced.result)
+    (sym (reads_braces x (asked_by g.asked) g.whole (type_in u.nodes g.of) g.at
+    (n.kind ∙ c.in-BracedInitializer.is)))
     (c.braced.ensures (own_token x) (syns_of x) n.pos n.parts)
 
 pub initializer-returns-then-takes_string : goal.initializer-returns-then-takes_string
@@ -40,7 +51,9 @@ initializer-returns-then-takes_string t c = λ x p.
     let g = c.args.goal in
     let of = type_in u.nodes g.of in
     subst (λ (d : Doing Filled). Answers quietly u c.text_value.new.work d FilledThere IsFilled c.text_value.result)
-    (sym (reads_string x (asked_by g.asked) g.whole of g.at (n.kind ∙ c.in-Text.is) (c.takes_string.ensures ∙ c.if-takes_string.true) ∙ string_same (own_token x) (token_of u c.in_ok-part.part.name) (syns_of x) g.whole of g.at n.text n.pos))
+    (sym (reads_string x (asked_by g.asked) g.whole of g.at (n.kind ∙ c.in-Text.is)
+    (c.takes_string.ensures ∙ c.if-takes_string.true)
+    ∙ string_same (own_token x) (token_of u c.in_ok-part.part.name) (syns_of x) g.whole of g.at n.text n.pos))
     (c.text_value.ensures (syns_of x) n.parts)
 
 pub initializer-returns-else-takes_string : goal.initializer-returns-else-takes_string
@@ -49,7 +62,8 @@ initializer-returns-else-takes_string t c = λ x p.
     let n = c.in_ok-part.ensures x p in
     let g = c.args.goal in
     subst (λ (d : Doing Filled). Answers quietly u c.plain_value.new.work d FilledThere IsFilled c.plain_value.result)
-    (sym (reads_text x (asked_by g.asked) g.whole (type_in u.nodes g.of) g.at (n.kind ∙ c.in-Text.is) (c.takes_string.ensures ∙ c.if-takes_string.false)))
+    (sym (reads_text x (asked_by g.asked) g.whole (type_in u.nodes g.of) g.at (n.kind ∙ c.in-Text.is)
+    (c.takes_string.ensures ∙ c.if-takes_string.false)))
     (c.plain_value.ensures x p)
 
 pub initializer-returns-in_default : goal.initializer-returns-in_default
@@ -57,14 +71,21 @@ initializer-returns-in_default t c = λ x p.
     let u = c.args.work.now in
     let n = c.in_ok-part.ensures x p in
     let g = c.args.goal in
-    subst (λ (d : Doing Filled). Answers quietly u c.plain_value-in_default.new.work d FilledThere IsFilled c.plain_value-in_default.result)
-    (sym (reads_value x (asked_by g.asked) g.whole (type_in u.nodes g.of) g.at (λ e. c.in_default.not-BracedInitializer (sym n.kind ∙ e)) (λ e. c.in_default.not-Text (sym n.kind ∙ e))))
+    subst (λ (d : Doing Filled). Answers quietly u c.plain_value-in_default.new.work d FilledThere IsFilled
+    c.plain_value-in_default.result)
+    (sym (reads_value x (asked_by g.asked) g.whole (type_in u.nodes g.of) g.at
+    (λ e. c.in_default.not-BracedInitializer (sym n.kind ∙ e)) (λ e. c.in_default.not-Text (sym n.kind ∙ e))))
     (c.plain_value-in_default.ensures x p)
 
 pub braced-initializer-requires : goal.braced-initializer-requires
 braced-initializer-requires t c =
-    let l = rw c.in-Some.is at c.in_ok-k.ensures in
-    (omega arith, (c.requires.whole, (c.requires.there, lone_part c.args.work.now c.in-Some.k c.args.kids.now l.0 c.requires.parts)))
+    let l = rw c.in-Some.is at c.in_ok-k.ensures in (
+      omega arith,
+      (
+        c.requires.whole,
+        (c.requires.there, lone_part c.args.work.now c.in-Some.k c.args.kids.now l.0 c.requires.parts),
+      ),
+    )
 
 pub braced-returns-in-Some : goal.braced-returns-in-Some
 braced-returns-in-Some t c = λ t' xs e p.
@@ -72,7 +93,8 @@ braced-returns-in-Some t c = λ t' xs e p.
     let l = rw c.in-Some.is at c.in_ok-k.ensures in
     let g = c.args.goal in
     let o = one_part u c.in-Some.k xs (subst (λ (ks : List ℕ). AreParts u ks xs) l.0 p) in
-    subst (λ (d : Doing Filled). Answers quietly u c.initializer.new.work d FilledThere IsFilled c.initializer.result) (sym (lone_given t' xs o.0 (asked_by g.asked) g.whole (type_in u.nodes g.of) g.at o.1 (l.1 xs p)))
+    subst (λ (d : Doing Filled). Answers quietly u c.initializer.new.work d FilledThere IsFilled c.initializer.result)
+    (sym (lone_given t' xs o.0 (asked_by g.asked) g.whole (type_in u.nodes g.of) g.at o.1 (l.1 xs p)))
     (c.initializer.ensures o.0 o.2)
 
 pub braced-returns-in-None : goal.braced-returns-in-None
@@ -82,11 +104,13 @@ braced-returns-in-None t c = λ t' xs e p.
     let g = c.args.goal in
     let of = type_in u.nodes g.of in
     subst (λ (d : Doing Filled). Answers quietly u c.list.new.work d FilledThere IsFilled c.list.result)
-    (sym (braced_listed t' (is_text xs) (readings xs) (asked_by g.asked) g.whole of g.at (l xs p) ∙ ap (λ (q : Pos). gives_items (readings xs) (asked_by g.asked) g.whole of g.at q) e))
+    (sym (braced_listed t' (is_text xs) (readings xs) (asked_by g.asked) g.whole of g.at (l xs p)
+    ∙ ap (λ (q : Pos). gives_items (readings xs) (asked_by g.asked) g.whole of g.at q) e))
     (c.list.ensures xs p)
 
 pub list-listed-requires : goal.list-listed-requires
-list-listed-requires t c = (omega arith, (c.requires.whole, (c.requires.there, (c.requires.parts, c.in_ok-places.ensures {u = tt}))))
+list-listed-requires t c =
+    (omega arith, (c.requires.whole, (c.requires.there, (c.requires.parts, c.in_ok-places.ensures {u = tt}))))
 
 pub listed-loop-k-init : goal.listed-loop-k-init
 listed-loop-k-init t c =
@@ -95,7 +119,8 @@ listed-loop-k-init t c =
       keeps = keeps_same u;
       whole = c.requires.whole;
       number = refl;
-      given = λ xs p. so_far_begins u c.args.goal c.args.brace c.args.kids.now c.new-slots.result.items c.requires.whole c.new-slots.ensures.items xs p;
+      given = λ xs p. so_far_begins u c.args.goal c.args.brace c.args.kids.now c.new-slots.result.items c.requires.whole
+          c.new-slots.ensures.items xs p;
     }
 
 pub listed-returns-in_err-part : goal.listed-returns-in_err-part
@@ -107,9 +132,12 @@ listed-returns-in_err-part t c =
     let i = c.loop-k.k-index in
     let ks = c.args.kids.now in
     let given = c.loop-k.slots.items in
-    let so_far = subst (λ (js : List ℕ). SoFar u v c.args.goal c.args.brace xs i js given) (drop-next ks i 0 c.loop-k-test.true) (c.loop-k.invariant.given xs p) in
+    let so_far = subst (λ (js : List ℕ). SoFar u v c.args.goal c.args.brace xs i js given)
+    (drop-next ks i 0 c.loop-k-test.true) (c.loop-k.invariant.given xs p) in
     rw (q.1, q.2)
-    (part_refused u v v c.args.goal c.args.brace xs i (get_or ks i 0) (drop (i + 1) ks) given c.args.places.now (length ks) c.loop-k.number c.in_err-part.field-0.0 so_far c.requires.places c.loop-k-test.true c.loop-k.invariant.number
+    (part_refused u v v c.args.goal c.args.brace xs i (get_or ks i 0) (drop (i + 1) ks) given c.args.places.now
+    (length ks) c.loop-k.number c.in_err-part.field-0.0 so_far c.requires.places c.loop-k-test.true
+    c.loop-k.invariant.number
     c.in_err-part.ensures)
 
 pub listed-initializer-requires : goal.listed-initializer-requires
@@ -125,8 +153,11 @@ listed-initializer-requires t c =
       (
         c.loop-k.invariant.whole,
         (
-          part_is_there u v c.args.goal c.in_ok-part.part c.args.places.now (length ks) c.loop-k.number c.args.brace c.requires.places c.loop-k.invariant.keeps (c.in_ok-part.ensures {u = tt}),
-          first_part v (get_or ks i 0) (drop (i + 1) ks) (rest_have u v c.args.goal c.args.brace xs i (get_or ks i 0 ∷ drop (i + 1) ks) given so_far),
+          part_is_there u v c.args.goal c.in_ok-part.part c.args.places.now
+              (length ks) c.loop-k.number c.args.brace c.requires.places c.loop-k.invariant.keeps
+              (c.in_ok-part.ensures {u = tt}),
+          first_part v (get_or ks i 0) (drop (i + 1) ks)
+              (rest_have u v c.args.goal c.args.brace xs i (get_or ks i 0 ∷ drop (i + 1) ks) given so_far),
         ),
       ),
     )
@@ -143,15 +174,21 @@ listed-returns-in_err-filled t c =
     let k = get_or ks i 0 in
     let g = c.args.goal in
     let given = c.loop-k.slots.items in
-    let so_far = subst (λ (js : List ℕ). SoFar u v g c.args.brace xs i js given) (drop-next ks i 0 c.loop-k-test.true) (c.loop-k.invariant.given xs p) in
+    let so_far = subst (λ (js : List ℕ). SoFar u v g c.args.brace xs i js given) (drop-next ks i 0 c.loop-k-test.true)
+    (c.loop-k.invariant.given xs p) in
     let a = c.requires.places in
     let part = c.in_ok-part.part in
     let h = c.in_ok-part.ensures {u = tt} in
     let e = c.in_err-filled.field-0.0 in
     rw (q.1, q.2)
-    (so_far_fails u v w g c.args.brace xs i k (drop (i + 1) ks) given h.0 e so_far (item_there u g part c.args.places.now (length ks) i c.loop-k.number c.args.brace a c.loop-k-test.true c.loop-k.invariant.number h)
-    (c.loop-k.invariant.keeps.types h.0.of (place_is_there u g part c.args.places.now (length ks) c.loop-k.number c.args.brace a h))
-    (λ y r. subst (λ (z : Goal). Answers quietly v w ((reading y).initializer (asked_by z.asked) z.whole (type_in v.nodes z.of) z.at) FilledThere IsFilled (Err e)) h.2 (c.in_err-filled.ensures y r)))
+    (so_far_fails u v w g c.args.brace xs i k (drop (i + 1) ks) given h.0 e so_far
+    (item_there u g part c.args.places.now (length ks) i c.loop-k.number c.args.brace a c.loop-k-test.true
+    c.loop-k.invariant.number h)
+    (c.loop-k.invariant.keeps.types h.0.of (place_is_there u g part c.args.places.now
+    (length ks) c.loop-k.number c.args.brace a h))
+    (λ y r. subst (λ (z : Goal). Answers quietly v w
+    ((reading y).initializer (asked_by z.asked) z.whole (type_in v.nodes z.of) z.at) FilledThere IsFilled
+    (Err e)) h.2 (c.in_err-filled.ensures y r)))
 
 pub listed-loop-k-preserved : goal.listed-loop-k-preserved
 listed-loop-k-preserved t c =
@@ -168,7 +205,8 @@ listed-loop-k-preserved t c =
     let part = c.in_ok-part.part in
     let h = c.in_ok-part.ensures {u = tt} in
     let ys = c.requires.parts.syntax in
-    let here = subst (λ (js : List ℕ). SoFar u v g c.args.brace ys i js given) (drop-next ks i 0 c.loop-k-test.true) (c.loop-k.invariant.given ys c.requires.parts.are) in
+    let here = subst (λ (js : List ℕ). SoFar u v g c.args.brace ys i js given) (drop-next ks i 0 c.loop-k-test.true)
+    (c.loop-k.invariant.given ys c.requires.parts.are) in
     let first = first_part v k (drop (i + 1) ks) (rest_have u v g c.args.brace ys i (k ∷ drop (i + 1) ks) given here) in
     let d = c.in_ok-filled.ensures first.syntax first.is in
     record {
@@ -176,10 +214,16 @@ listed-loop-k-preserved t c =
       whole = d.whole;
       number = c.in_ok-number.ensures ∙ ap (λ n. n + 1) c.loop-k.invariant.number;
       given = λ xs p.
-          let so_far = subst (λ (js : List ℕ). SoFar u v g c.args.brace xs i js given) (drop-next ks i 0 c.loop-k-test.true) (c.loop-k.invariant.given xs p) in
-          so_far_steps u v w g c.args.brace xs i k (drop (i + 1) ks) given c.append.new.slots.items h.0 more so_far (item_there u g part c.args.places.now (length ks) i c.loop-k.number c.args.brace a c.loop-k-test.true c.loop-k.invariant.number h)
-          (c.loop-k.invariant.keeps.types h.0.of (place_is_there u g part c.args.places.now (length ks) c.loop-k.number c.args.brace a h))
-          (λ y r. subst (λ (z : Goal). Answers quietly v w ((reading y).initializer (asked_by z.asked) z.whole (type_in v.nodes z.of) z.at) FilledThere IsFilled (Ok more)) h.2 (c.in_ok-filled.ensures y r))
+          let so_far = subst (λ (js : List ℕ). SoFar u v g c.args.brace xs i js given)
+          (drop-next ks i 0 c.loop-k-test.true) (c.loop-k.invariant.given xs p) in
+          so_far_steps u v w g c.args.brace xs i k (drop (i + 1) ks) given c.append.new.slots.items h.0 more so_far
+          (item_there u g part c.args.places.now
+          (length ks) i c.loop-k.number c.args.brace a c.loop-k-test.true c.loop-k.invariant.number h)
+          (c.loop-k.invariant.keeps.types h.0.of (place_is_there u g part c.args.places.now
+          (length ks) c.loop-k.number c.args.brace a h))
+          (λ y r. subst (λ (z : Goal). Answers quietly v w
+          ((reading y).initializer (asked_by z.asked) z.whole (type_in v.nodes z.of) z.at) FilledThere IsFilled
+          (Ok more)) h.2 (c.in_ok-filled.ensures y r))
           (c.in_ok-append.ensures ∙ ap (λ (l : List Slot). given ++ l) c.as_slice.ensures.value);
     }
 
@@ -189,4 +233,5 @@ listed-returns t c = λ xs p.
     let i = c.loop-k.k-index in
     let ks = c.args.kids.now in
     let f : Kept = record { slots = c.loop-k.slots; count = length ks } in
-    so_far_ends u c.loop-k.work c.args.goal c.args.brace xs i ks (drop i ks) c.loop-k.slots.items f (c.loop-k.invariant.given xs p) (drop_all i ks c.loop-k-test.false) p refl refl
+    so_far_ends u c.loop-k.work c.args.goal c.args.brace xs i ks (drop i ks) c.loop-k.slots.items f
+    (c.loop-k.invariant.given xs p) (drop_all i ks c.loop-k-test.false) p refl refl

@@ -25,5 +25,6 @@ invariant-listed-loop-k l =
       keeps : Keeps u l.work;
       whole : IsWhole l.work.nodes;
       number : l.number ≡ l.k-index;
-      given : (xs : Syns) → AreParts u l.kids xs → SoFar u l.work l.goal l.brace xs l.k-index (drop l.k-index l.kids) l.slots.items;
+      given : (xs : Syns) → AreParts u l.kids xs →
+          SoFar u l.work l.goal l.brace xs l.k-index (drop l.k-index l.kids) l.slots.items;
     }

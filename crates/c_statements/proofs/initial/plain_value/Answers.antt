@@ -14,7 +14,8 @@ plain-requires-clause-whole c = (c.in_ok-x.ensures c.requires.part.syntax c.requ
 
 pub plain-requires-clause-there : goal.plain-requires-clause-there
 plain-requires-clause-there c =
-    let m : type_count c.args.work.now.nodes ≤ type_count c.value_of.new.work.nodes = (c.in_ok-x.ensures c.requires.part.syntax c.requires.part.is).grows.keeps.more_types in
+    let m : type_count c.args.work.now.nodes ≤ type_count c.value_of.new.work.nodes =
+    (c.in_ok-x.ensures c.requires.part.syntax c.requires.part.is).grows.keeps.more_types in
     let l : c.args.goal.of < type_count c.args.work.now.nodes = c.requires.there in
     omega arith
 
@@ -27,7 +28,8 @@ returns-in_err-x c =
     λ y p.
     let u = c.args.work.now in
     let g = c.args.goal in
-    rw (q.1, q.2) (value_fails u c.value_of.new.work (reading y).operand (asked_by g.asked) g.whole (type_in u.nodes g.of) g.at c.in_err-x.field-0.0 (c.in_err-x.ensures y p))
+    rw (q.1, q.2) (value_fails u c.value_of.new.work (reading y).operand (asked_by g.asked) g.whole
+    (type_in u.nodes g.of) g.at c.in_err-x.field-0.0 (c.in_err-x.ensures y p))
 
 pub returns-in_err-slot : goal.returns-in_err-slot
 returns-in_err-slot c =
@@ -40,7 +42,8 @@ returns-in_err-slot c =
     let x = c.in_ok-x.x in
     let e = c.in_err-slot.field-0.0 in
     rw (q.1, q.2)
-    (value_steps u v w (reading y).operand x (asked_by g.asked) g.whole g.of g.at (Err e) c.requires.there (c.in_ok-x.ensures y p)
+    (value_steps u v w (reading y).operand x (asked_by g.asked) g.whole g.of g.at (Err e) c.requires.there
+    (c.in_ok-x.ensures y p)
     (slot_fails v w (asked_by g.asked) (type_in v.nodes g.of) g.at (operand_in v x) e c.in_err-slot.ensures))
 
 pub returns-in_err-ask : goal.returns-in_err-ask
@@ -55,8 +58,10 @@ returns-in_err-ask c =
     let slot = c.in_ok-slot.slot in
     let e = c.in_err-ask.field-0.0 in
     rw (q.1, q.2)
-    (value_steps u v w (reading y).operand x (asked_by g.asked) g.whole g.of g.at (Err e) c.requires.there (c.in_ok-x.ensures y p)
-    (slot_steps v w w (asked_by g.asked) (type_in v.nodes g.of) g.at (operand_in v x) slot (Err e) (c.in_ok-slot.ensures {u = tt})
+    (value_steps u v w (reading y).operand x (asked_by g.asked) g.whole g.of g.at (Err e) c.requires.there
+    (c.in_ok-x.ensures y p)
+    (slot_steps v w w (asked_by g.asked) (type_in v.nodes g.of) g.at (operand_in v x) slot (Err e)
+    (c.in_ok-slot.ensures {u = tt})
     (ask_fails w (asked_by g.asked) (slot_in w.nodes slot) e c.in_err-ask.ensures)))
 
 pub returns : goal.returns
@@ -68,6 +73,9 @@ returns c = λ y p.
     let slot = c.in_ok-slot.slot in
     let asked = asked_by c.args.goal.asked in
     let f : Filled = record { slots = c.in_ok-slots.slots; count = 0 } in
-    value_steps u v w (reading y).operand x asked c.args.goal.whole c.args.goal.of c.args.goal.at (Ok f) c.requires.there (c.in_ok-x.ensures y p)
-    (slot_steps v w w asked (type_in v.nodes c.args.goal.of) c.args.goal.at (operand_in v x) slot (Ok f) (c.in_ok-slot.ensures {u = tt})
-    (ask_steps w asked slot f (c.in_ok-ask.ensures {u = tt}) (c.in_ok-slot.ensures {u = tt}).there (c.in_ok-slots.ensures {u = tt}) refl))
+    value_steps u v w (reading y).operand x asked c.args.goal.whole c.args.goal.of c.args.goal.at
+    (Ok f) c.requires.there (c.in_ok-x.ensures y p)
+    (slot_steps v w w asked (type_in v.nodes c.args.goal.of) c.args.goal.at (operand_in v x) slot (Ok f)
+    (c.in_ok-slot.ensures {u = tt})
+    (ask_steps w asked slot f (c.in_ok-ask.ensures {u = tt}) (c.in_ok-slot.ensures {u = tt}).there
+    (c.in_ok-slots.ensures {u = tt}) refl))

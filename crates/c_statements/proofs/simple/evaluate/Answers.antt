@@ -5,10 +5,16 @@ use Rattle.c_statements.proofs.Stating.{from_one, not_one, have_one}
 use Rattle.c_statements.proofs.simple.evaluate.Goals as goal
 
 pub evaluate_one-requires : goal.evaluate_one-requires
-evaluate_one-requires c = record { whole = c.requires.whole; part = have_one c.args.work.now c.args.kids.now c.in-Some.k c.in-Some.ensures c.requires.parts }
+evaluate_one-requires c =
+    record {
+      whole = c.requires.whole;
+      part = have_one c.args.work.now c.args.kids.now c.in-Some.k c.in-Some.ensures c.requires.parts;
+    }
 
 pub returns-in-None : goal.returns-in-None
-returns-in-None c = not_one c.args.work.now c.args.kids.now (λ r. evaluate_one r c.args.pos) c.args.pos c.in-None.ensures
+returns-in-None c = not_one c.args.work.now c.args.kids.now
+    (λ r. evaluate_one r c.args.pos) c.args.pos c.in-None.ensures
 
 pub returns-in-Some : goal.returns-in-Some
-returns-in-Some c = from_one freely c.args.work.now _ c.args.kids.now c.in-Some.k (λ r. evaluate_one r c.args.pos) c.args.pos ItemsThere IsItems _ c.in-Some.ensures c.evaluate_one.ensures
+returns-in-Some c = from_one freely c.args.work.now _ c.args.kids.now c.in-Some.k
+    (λ r. evaluate_one r c.args.pos) c.args.pos ItemsThere IsItems _ c.in-Some.ensures c.evaluate_one.ensures

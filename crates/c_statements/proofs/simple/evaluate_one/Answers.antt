@@ -18,7 +18,10 @@ does-requires c =
 
 pub returns-in_err-a : goal.returns-in_err-a
 returns-in_err-a c = let p = err_from_is_err_and c.from_residual.result c.from_residual.ensures.1 in λ x q.
-    rw (p.1, p.2) (quiet_failed c.args.work.now c.value_of.new.work (read_value (reading x)) (λ a. does Evaluate (one_term a.is) no_actions c.args.pos) OperandThere IsOperand ItemsThere IsItems _ (c.in_err-a.ensures x q))
+    rw (p.1, p.2) (quiet_failed c.args.work.now c.value_of.new.work (read_value (reading x))
+    (λ a. does Evaluate (one_term a.is) no_actions c.args.pos) OperandThere IsOperand ItemsThere IsItems _
+    (c.in_err-a.ensures x q))
 
 pub returns : goal.returns
-returns c = λ x p. evaluates c.args.work.now c.value_of.new.work c.does.new.work (reading x) c.args.pos c.in_ok-a.a _ (c.in_ok-a.ensures x p) c.does.ensures
+returns c = λ x p. evaluates c.args.work.now c.value_of.new.work c.does.new.work (reading x) c.args.pos c.in_ok-a.a _
+    (c.in_ok-a.ensures x p) c.does.ensures

@@ -85,7 +85,8 @@ invariant-all_items-loop-part l = record {
   whole : IsWhole l.work.nodes;
   keeps : Keeps l.fn.work l.work;
   parts : HaveParts l.work l.left;
-  found : (xs : Syns) → AreParts l.fn.work l.fn.kids xs → SoFar (λ r. r.item (context_in l.fn.work l.fn.context)) l.fn.work l.work xs l.left l.items;
+  found : (xs : Syns) → AreParts l.fn.work l.fn.kids xs →
+      SoFar (λ r. r.item (context_in l.fn.work l.fn.context)) l.fn.work l.work xs l.left l.items;
 }
 
 abbrev pub decreases-switch_items-loop-part : goal.decreases-switch_items-loop-part
@@ -96,5 +97,7 @@ invariant-switch_items-loop-part l = record {
   whole : IsWhole l.work.nodes;
   keeps : Keeps l.fn.work l.work;
   parts : HaveParts l.work l.left;
-  found : (xs : Syns) → AreParts l.fn.work l.fn.kids xs → CasesSoFar (context_in l.fn.work l.fn.context) (type_in l.fn.work.nodes l.fn.of) l.fn.work l.work xs l.left l.cases;
+  found : (xs : Syns) → AreParts l.fn.work l.fn.kids xs →
+      CasesSoFar (context_in l.fn.work l.fn.context)
+      (type_in l.fn.work.nodes l.fn.of) l.fn.work l.work xs l.left l.cases;
 }

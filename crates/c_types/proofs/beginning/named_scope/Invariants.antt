@@ -5,4 +5,5 @@ use Rattle.c_types.specs.Beginning.{KnowsTypes, all_refer_within, names_scope}
 use Rattle.c_types.proofs.beginning.named_scope.Given as goal
 
 abbrev pub invariant-loop-name : goal.invariant-loop-name
-invariant-loop-name l = (ts : List Ty) → KnowsTypes ts l.numbers → all_refer_within l.rows ≡ true → ShowsScope ts 0 l.scope (names_scope (take l.name-index l.rows))
+invariant-loop-name l = (ts : List Ty) → KnowsTypes ts l.numbers → all_refer_within l.rows ≡ true →
+    ShowsScope ts 0 l.scope (names_scope (take l.name-index l.rows))

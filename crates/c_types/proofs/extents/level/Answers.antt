@@ -4,4 +4,6 @@ use Rattle.c_types.proofs.Sizing.{once}
 use Rattle.c_types.proofs.extents.level.Goals as goal
 
 pub returns-in-Const-clause-is : goal.returns-in-Const-clause-is
-returns-in-Const-clause-is c tags types seen ps h = rw c.in-Const.is (sym (once (type_extent tags (seen c.in-Const.inner))) ∙ c.part-in-Const.ensures.is tags types seen h)
+returns-in-Const-clause-is c tags types seen ps h =
+    rw c.in-Const.is (sym (once (type_extent tags (seen c.in-Const.inner)))
+    ∙ c.part-in-Const.ensures.is tags types seen h)

@@ -8,4 +8,6 @@ pub returns : goal.returns
 returns c =
     let n = c.args.nodes.now in
     let m = c.integer.new.self in
-    IfOk-weaker c.type_number.result _ _ (λ k h. has_type_then n m c.type_number.new.self k _ _ c.in_ok-of.ensures.keeps h (ap (λ (t : Ty). Array t c.args.count) c.in_ok-of.ensures.is.is)) c.type_number.ensures
+    IfOk-weaker c.type_number.result _ _ (λ k h.
+    has_type_then n m c.type_number.new.self k _ _ c.in_ok-of.ensures.keeps h
+    (ap (λ (t : Ty). Array t c.args.count) c.in_ok-of.ensures.is.is)) c.type_number.ensures

@@ -14,16 +14,26 @@ pub returns-then-not-f-clause-top : goal.returns-then-not-f-clause-top
 unfolding top_of base_of exponent mantissa
 returns-then-not-f-clause-top c =
     rw (not-true c.args.f.internal c.if-not-f.true)
-    (omega (arith, top_sum 0 c.args.f.address c.args.f.b c.length.result _ (omega arith) (omega arith) (omega arith) c.length.ensures.value))
+    (omega (
+      arith,
+      top_sum 0 c.args.f.address c.args.f.b c.length.result _ (omega arith) (omega arith)
+          (omega arith) c.length.ensures.value,
+    ))
 
 pub returns-then-not-f-clause-canonical : goal.returns-then-not-f-clause-canonical
 returns-then-not-f-clause-canonical c =
-    only_fields c.args.f.internal c.args.f.t c.args.f.b c.args.f.address _ _ c.args.f.t_in_range c.args.f.b_in_range (returns-then-not-f-clause-base c) (returns-then-not-f-clause-top c)
+    only_fields c.args.f.internal c.args.f.t c.args.f.b c.args.f.address _ _ c.args.f.t_in_range c.args.f.b_in_range
+    (returns-then-not-f-clause-base c) (returns-then-not-f-clause-top c)
 
 pub returns-clause-base : goal.returns-clause-base
 unfolding base_of
 returns-clause-base c =
-    rw (not-false c.args.f.internal c.if-not-f.false, c.placed_base-base-2.ensures, c.exponent-e.ensures.value, c.mantissa-b.ensures.value) refl
+    rw (
+      not-false c.args.f.internal c.if-not-f.false,
+      c.placed_base-base-2.ensures,
+      c.exponent-e.ensures.value,
+      c.mantissa-b.ensures.value,
+    ) refl
 
 pub returns-clause-top : goal.returns-clause-top
 unfolding top_of base_of
@@ -34,7 +44,14 @@ returns-clause-top c =
     let address = c.args.f.address in
     let base = placed e address b b % 2 ^ 64 in
     let s = c.length-units.ensures.value in
-    rw (not-false c.args.f.internal c.if-not-f.false, c.corrected.ensures, ← c.exponent-e.ensures.value, ← c.mantissa-b.ensures.value, ← c.mantissa.ensures.value, c.placed_base-base-2.ensures)
+    rw (
+      not-false c.args.f.internal c.if-not-f.false,
+      c.corrected.ensures,
+      ← c.exponent-e.ensures.value,
+      ← c.mantissa-b.ensures.value,
+      ← c.mantissa.ensures.value,
+      c.placed_base-base-2.ensures,
+    )
     (elim c.if-e-lt51.branch [
       | then-e-lt51 w ↦
           rw (w.top-is, w.from-top.ensures, w.from-then-e-lt51.ensures, c.placed_base-base-2.ensures)
@@ -46,4 +63,5 @@ returns-clause-top c =
 
 pub returns-clause-canonical : goal.returns-clause-canonical
 returns-clause-canonical c =
-    only_fields c.args.f.internal c.args.f.t c.args.f.b c.args.f.address _ _ c.args.f.t_in_range c.args.f.b_in_range (returns-clause-base c) (returns-clause-top c)
+    only_fields c.args.f.internal c.args.f.t c.args.f.b c.args.f.address _ _ c.args.f.t_in_range c.args.f.b_in_range
+    (returns-clause-base c) (returns-clause-top c)

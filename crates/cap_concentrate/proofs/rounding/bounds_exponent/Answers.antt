@@ -3,7 +3,8 @@ use Rattle.cap_concentrate.proofs.Leading.{leading_exponent, takes_exponent, tak
 use Rattle.cap_concentrate.proofs.rounding.bounds_exponent.Goals as goal
 
 pub units_up-requires-clause-shift_in_range : goal.units_up-requires-clause-shift_in_range
-units_up-requires-clause-shift_in_range c = let l = leading_exponent c.args.len (omega arith) (omega arith) in omega (arith, l.0)
+units_up-requires-clause-shift_in_range c =
+    let l = leading_exponent c.args.len (omega arith) (omega arith) in omega (arith, l.0)
 
 pub overflow_shr-base : goal.overflow_shr-base
 overflow_shr-base c = let l = leading_exponent c.args.len (omega arith) (omega arith) in omega (arith, l.0)
@@ -14,7 +15,8 @@ returns-then-units_up-from-clause-value c =
     (rw (c.units_up.ensures, c.from.ensures, c.from-2.ensures, c.from-3.ensures) at c.if-units_up-from.true)
 
 pub returns-then-units_up-from-clause-bound : goal.returns-then-units_up-from-clause-bound
-returns-then-units_up-from-clause-bound c = let l = leading_exponent c.args.len (omega arith) (omega arith) in omega (arith, l.0)
+returns-then-units_up-from-clause-bound c =
+    let l = leading_exponent c.args.len (omega arith) (omega arith) in omega (arith, l.0)
 
 pub returns-else-units_up-from-clause-value : goal.returns-else-units_up-from-clause-value
 returns-else-units_up-from-clause-value c =
@@ -23,4 +25,5 @@ returns-else-units_up-from-clause-value c =
     (rw (c.units_up.ensures, c.from.ensures, c.from-2.ensures, c.from-3.ensures) at c.if-units_up-from.false)
 
 pub returns-else-units_up-from-clause-bound : goal.returns-else-units_up-from-clause-bound
-returns-else-units_up-from-clause-bound c = let l = leading_exponent c.args.len (omega arith) (omega arith) in omega (arith, l.0)
+returns-else-units_up-from-clause-bound c =
+    let l = leading_exponent c.args.len (omega arith) (omega arith) in omega (arith, l.0)

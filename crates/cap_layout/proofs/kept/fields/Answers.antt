@@ -11,10 +11,13 @@ loop-m-preserved c =
     let i = c.loop-m.m-index in
     let d : Member = record { name = record { start = 0; end = 0 }; of = 0 } in
     let next = c.placed-end.result in
-    walk_on _ c.args.shared (extent c.args.k.types.now) ms i (get_or ms i d) c.loop-m.end c.in-Some.l next c.loop-m-test.true (item ms i d c.loop-m-test.true) c.in-Some.ensures.is
+    walk_on _ c.args.shared (extent c.args.k.types.now) ms i
+    (get_or ms i d) c.loop-m.end c.in-Some.l next c.loop-m-test.true
+    (item ms i d c.loop-m-test.true) c.in-Some.ensures.is
     c.placed-end.ensures.is c.placed-end.ensures.positive c.placed-end.ensures.align
     (sym (le-ltb size_limit next.size c.if-end-gt-LIMIT.false))
     c.loop-m.invariant
 
 pub returns : goal.returns
-returns c = walk_end c.args.shared (extent c.args.k.types.now) c.args.ms.now c.loop-m.m-index c.loop-m.end c.loop-m-test.false c.loop-m.invariant
+returns c = walk_end c.args.shared (extent c.args.k.types.now) c.args.ms.now c.loop-m.m-index c.loop-m.end
+    c.loop-m-test.false c.loop-m.invariant

@@ -14,7 +14,8 @@ returns-in_err-l c =
     let d : Member = record { name = record { start = 0; end = 0 }; of = 0 } in
     let p = err_from_is_err_and c.from_residual.result c.from_residual.ensures.1 in
     rw p.1
-    (place_fault (extent c.args.p.now.types) ms i c.args.k (get_or ms i d) (extent_is c.loop-m.end) c.in_err-l.field-0.0 c.loop-m-test.true (item ms i d c.loop-m-test.true)
+    (place_fault (extent c.args.p.now.types) ms i c.args.k (get_or ms i d)
+    (extent_is c.loop-m.end) c.in_err-l.field-0.0 c.loop-m-test.true (item ms i d c.loop-m-test.true)
     c.loop-m.invariant.whole c.in_err-l.ensures)
 
 pub returns-then-left-eq0 : goal.returns-then-left-eq0
@@ -23,7 +24,8 @@ returns-then-left-eq0 c =
     let i = c.loop-m.m-index in
     let d : Member = record { name = record { start = 0; end = 0 }; of = 0 } in
     c.loop-m.invariant.offset
-    ∙ offset_here (extent c.args.p.now.types) ms i c.loop-m.left (get_or ms i d) (extent_is c.loop-m.end) (extent_is c.in_ok-l.l) c.loop-m-test.true (item ms i d c.loop-m-test.true)
+    ∙ offset_here (extent c.args.p.now.types) ms i c.loop-m.left (get_or ms i d) (extent_is c.loop-m.end)
+    (extent_is c.in_ok-l.l) c.loop-m-test.true (item ms i d c.loop-m-test.true)
     c.in_ok-l.ensures.is c.if-left-eq0.true
     ∙ ap Some (sym c.start_of.ensures.is)
 
@@ -35,7 +37,8 @@ returns-then-end-gt-LIMIT c =
     let d : Member = record { name = record { start = 0; end = 0 }; of = 0 } in
     place_over go ms (drop (i + 1) ms) c.args.k (extent_is c.placed-end.result) c.if-end-gt-LIMIT.true
     (c.loop-m.invariant.whole
-    ∙ members_later go ms i (get_or ms i d) (extent_is c.loop-m.end) (extent_is c.in_ok-l.l) c.loop-m-test.true (item ms i d c.loop-m-test.true) c.in_ok-l.ensures.is
+    ∙ members_later go ms i (get_or ms i d) (extent_is c.loop-m.end) (extent_is c.in_ok-l.l) c.loop-m-test.true
+    (item ms i d c.loop-m-test.true) c.in_ok-l.ensures.is
     ∙ ap (members behind go (drop (i + 1) ms)) (sym c.placed-end.ensures.is))
 
 pub loop-m-preserved : goal.loop-m-preserved
@@ -48,10 +51,12 @@ loop-m-preserved c =
     record {
       count = omega (arith, c.loop-m.invariant.count);
       offset = c.loop-m.invariant.offset
-          ∙ offset_later go ms i c.loop-m.left (get_or ms i d) (extent_is c.loop-m.end) (extent_is c.in_ok-l.l) c.loop-m-test.true (item ms i d c.loop-m-test.true) c.in_ok-l.ensures.is left
+          ∙ offset_later go ms i c.loop-m.left (get_or ms i d) (extent_is c.loop-m.end)
+          (extent_is c.in_ok-l.l) c.loop-m-test.true (item ms i d c.loop-m-test.true) c.in_ok-l.ensures.is left
           ∙ ap (struct_offset go (drop (i + 1) ms) (c.loop-m.left - 1)) (sym c.placed-end.ensures.is);
       whole = c.loop-m.invariant.whole
-          ∙ members_later go ms i (get_or ms i d) (extent_is c.loop-m.end) (extent_is c.in_ok-l.l) c.loop-m-test.true (item ms i d c.loop-m-test.true) c.in_ok-l.ensures.is
+          ∙ members_later go ms i (get_or ms i d) (extent_is c.loop-m.end) (extent_is c.in_ok-l.l) c.loop-m-test.true
+          (item ms i d c.loop-m-test.true) c.in_ok-l.ensures.is
           ∙ ap (members behind go (drop (i + 1) ms)) (sym c.placed-end.ensures.is);
       size = c.if-end-gt-LIMIT.false;
       positive = c.placed-end.ensures.positive;

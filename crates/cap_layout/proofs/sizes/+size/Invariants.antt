@@ -10,4 +10,5 @@ abbrev pub decreases-fields : goal.decreases-fields
 decreases-fields l = 2 * l.depth + 1
 
 abbrev pub invariant-fields-loop-m : goal.invariant-fields-loop-m
-invariant-fields-loop-m l = Walk l.large (placing l.shared) (extent_within l.depth l.types) l.ms (drop l.m-index l.ms) l.end
+invariant-fields-loop-m l =
+    Walk l.large (placing l.shared) (extent_within l.depth l.types) l.ms (drop l.m-index l.ms) l.end

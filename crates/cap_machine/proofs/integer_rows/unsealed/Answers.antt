@@ -7,4 +7,15 @@ use Rattle.cap_machine.proofs.integer_rows.unsealed.Goals as goal
 
 pub returns : goal.returns
 unfolding unsealed with_otype
-returns c = ap (λ (f : Fields). record c.args.c { fields = f }) (same_fields _ _ (record { user = refl; perms = refl; reserved = refl; flag = refl; otype = refl; internal = refl; t = refl; b = refl; address = refl }))
+returns c = ap (λ (f : Fields). record c.args.c { fields = f })
+    (same_fields _ _ (record {
+      user = refl;
+      perms = refl;
+      reserved = refl;
+      flag = refl;
+      otype = refl;
+      internal = refl;
+      t = refl;
+      b = refl;
+      address = refl;
+    }))

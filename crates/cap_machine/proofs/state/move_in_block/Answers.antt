@@ -12,4 +12,14 @@ returns c =
     sym (moved_in_block c.args.c.now c.args.at c.requires
     ∙ ap (λ (t : Bool). record { tag = t; fields = with_address f c.args.at }) (sym c.is_usable-c.ensures)
     ∙ ap (λ (g : Fields). record { tag = tag; fields = g }) (same_fields (with_address f c.args.at) _
-    (record { user = refl; perms = refl; reserved = refl; flag = refl; otype = refl; internal = refl; t = refl; b = refl; address = refl })))
+    (record {
+      user = refl;
+      perms = refl;
+      reserved = refl;
+      flag = refl;
+      otype = refl;
+      internal = refl;
+      t = refl;
+      b = refl;
+      address = refl;
+    })))

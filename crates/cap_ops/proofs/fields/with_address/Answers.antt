@@ -3,4 +3,14 @@ use Rattle.cap_concentrate.specs.Packing.{same_fields}
 use Rattle.cap_ops.proofs.fields.with_address.Goals as goal
 
 pub returns : goal.returns
-returns c = same_fields _ _ (record { user = refl; perms = refl; reserved = refl; flag = refl; otype = refl; internal = refl; t = refl; b = refl; address = refl })
+returns c = same_fields _ _ (record {
+  user = refl;
+  perms = refl;
+  reserved = refl;
+  flag = refl;
+  otype = refl;
+  internal = refl;
+  t = refl;
+  b = refl;
+  address = refl;
+})

@@ -5,4 +5,14 @@ use Rattle.cap_ops.proofs.fields.with_bounds.Goals as goal
 
 pub returns : goal.returns
 unfolding with_bounds
-returns c = same_fields _ _ (record { user = refl; perms = refl; reserved = refl; flag = refl; otype = refl; internal = c.requires.internal_is; t = c.requires.t_is; b = c.requires.b_is; address = refl })
+returns c = same_fields _ _ (record {
+  user = refl;
+  perms = refl;
+  reserved = refl;
+  flag = refl;
+  otype = refl;
+  internal = c.requires.internal_is;
+  t = c.requires.t_is;
+  b = c.requires.b_is;
+  address = refl;
+})

@@ -7,7 +7,8 @@ pub returns-in-Some-clause-exact : goal.returns-in-Some-clause-exact
 unfolding with_request
 returns-in-Some-clause-exact c _ =
     rw (c.with_bounds.ensures, c.in-Some.ensures.base, c.in-Some.ensures.top)
-    (exact_bounds c.args.c c.args.len (omega arith) (sym c.in-Some.ensures.granted) (sym c.in-Some.ensures.exact ∙ c.if-bounds.true))
+    (exact_bounds c.args.c c.args.len (omega arith) (sym c.in-Some.ensures.granted)
+    (sym c.in-Some.ensures.exact ∙ c.if-bounds.true))
 
 pub returns-in-Some-clause-inside : goal.returns-in-Some-clause-inside
 unfolding with_request

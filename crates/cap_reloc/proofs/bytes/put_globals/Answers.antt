@@ -13,7 +13,9 @@ loop-k-preserved c = λ i h.
     let bases : length c.as_slice-bases.result.now ≡ length c.as_slice-globals.result.now = cc in
     let put = c.put.ensures.each i there in
     let before = c.loop-k.invariant i h in
-    let more = byte_of_more global_content (get_or c.args.bytes.now i 0) c.as_slice-globals.result.now c.as_slice-bases.result.now c.loop-k.k c.index-globals-k.result (c.args.from + i) c.loop-k-test.true bases in
+    let more = byte_of_more global_content (get_or c.args.bytes.now i 0) c.as_slice-globals.result.now
+    c.as_slice-bases.result.now c.loop-k.k c.index-globals-k.result
+    (c.args.from + i) c.loop-k-test.true bases in
     cc
 
 pub returns-clause-each : goal.returns-clause-each

@@ -4,4 +4,6 @@ use Rattle.cap_reloc.specs.Initial.{byte_of, literal_content}
 use Rattle.cap_reloc.proofs.bytes.put_literals.Given as goal
 
 abbrev pub invariant-loop-k : goal.invariant-loop-k
-invariant-loop-k l = (i : ℕ) → i < length l.fn.bytes → get_or l.bytes i 0 ≡ byte_of (get_or l.fn.bytes i 0) (map literal_content (take l.k (zip l.literals l.bases))) (l.from + i)
+invariant-loop-k l = (i : ℕ) → i < length l.fn.bytes →
+    get_or l.bytes i 0 ≡ byte_of (get_or l.fn.bytes i 0) (map literal_content (take l.k (zip l.literals l.bases)))
+    (l.from + i)

@@ -13,7 +13,8 @@ loop-c-preserved c =
     record { low = cc; high = cc; ordered = omega arith; most = omega arith }
 
 pub returns-clause-from : goal.returns-clause-from
-returns-clause-from c = let low = lowest_none c.loop-c.base c.args.objects.now c.loop-c.c-index c.loop-c-test.false in cc
+returns-clause-from c = let low = lowest_none c.loop-c.base c.args.objects.now c.loop-c.c-index c.loop-c-test.false in
+    cc
 
 pub returns-clause-to : goal.returns-clause-to
 returns-clause-to c =

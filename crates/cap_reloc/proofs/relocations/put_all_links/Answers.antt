@@ -7,7 +7,9 @@ pub loop-k-preserved : goal.loop-k-preserved
 loop-k-preserved c =
     let bases : length c.as_slice-bases.result.now ≡ length c.as_slice-globals.result.now = cc in
     let put = c.in_ok-put_links.ensures in
-    let more = pairs_more (link_relocs c.args.p.now c.args.pointers.now) c.args.relocs.now.items c.as_slice-globals.result.now c.as_slice-bases.result.now c.loop-k.k c.index-globals-k.result c.loop-k-test.true bases in
+    let more = pairs_more (link_relocs c.args.p.now c.args.pointers.now) c.args.relocs.now.items
+    c.as_slice-globals.result.now c.as_slice-bases.result.now c.loop-k.k c.index-globals-k.result
+    c.loop-k-test.true bases in
     cc
 
 pub returns : goal.returns

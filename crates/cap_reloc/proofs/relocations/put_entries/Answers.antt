@@ -8,5 +8,6 @@ loop-k-init c = entries_none c.args.relocs.now.items c.args.table
 pub loop-k-preserved : goal.loop-k-preserved
 loop-k-preserved c =
     let pushed = c.in_ok-push.ensures.items in
-    let more = entries_more c.args.relocs.now.items c.args.table c.args.pointers.now c.loop-k.k no_pointer c.loop-k-test.true in
+    let more = entries_more c.args.relocs.now.items c.args.table c.args.pointers.now c.loop-k.k no_pointer
+    c.loop-k-test.true in
     cc

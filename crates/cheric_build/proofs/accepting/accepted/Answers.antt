@@ -21,5 +21,6 @@ pub returns-clause-accepted : goal.returns-clause-accepted
 returns-clause-accepted c =
     let file = c.args.file.now in
     let front = c.in_ok-p.ensures in
-    accepted file (once file) c.in_ok-p.p front.typed front.sound (sym c.in_ok-exceeds_limit.ensures ∙ c.if-branch.false)
+    accepted file (once file) c.in_ok-p.p front.typed front.sound
+    (sym c.in_ok-exceeds_limit.ensures ∙ c.if-branch.false)
     (omega (arith, c.weight.ensures, c.if-weight-gt-MOST_WEIGHT.false))

@@ -13,7 +13,8 @@ returns-clause-built c =
     let file = c.args.file.now in
     let front = c.in_ok-p.ensures in
     let built = c.build_typed.ensures in
-    built_of file (once file) c.in_ok-p.p front.typed front.sound c.build_typed.result built.built built.within built.light
+    built_of file (once file) c.in_ok-p.p front.typed front.sound c.build_typed.result built.built built.within
+    built.light
 
 pub returns-clause-refused : goal.returns-clause-refused
 returns-clause-refused c =

@@ -15,22 +15,28 @@ returns-in_err-tree-clause-refused c =
 pub elab-requires-clause-readable : goal.elab-requires-clause-readable
 elab-requires-clause-readable c =
     let t = rw c.new.ensures at c.in_ok-tree.ensures in
-    record { syntax = t.parses.syntax; reads = reads c.args.file.now c.in_ok-tree.tree t (are_bytes c.args.file.now c.type_inv.file) }
+    record {
+      syntax = t.parses.syntax;
+      reads = reads c.args.file.now c.in_ok-tree.tree t (are_bytes c.args.file.now c.type_inv.file);
+    }
 
 pub returns-clause-typed : goal.returns-clause-typed
 returns-clause-typed c =
     let t = rw c.new.ensures at c.in_ok-tree.ensures in
     let bytes = are_bytes c.args.file.now c.type_inv.file in
-    typed c.args.file.now c.in_ok-tree.tree t c.elab.result (c.elab.ensures t.parses.syntax (reads c.args.file.now c.in_ok-tree.tree t bytes))
+    typed c.args.file.now c.in_ok-tree.tree t c.elab.result
+    (c.elab.ensures t.parses.syntax (reads c.args.file.now c.in_ok-tree.tree t bytes))
 
 pub returns-clause-sound : goal.returns-clause-sound
 returns-clause-sound c =
     let t = rw c.new.ensures at c.in_ok-tree.ensures in
     let bytes = are_bytes c.args.file.now c.type_inv.file in
-    sound c.args.file.now c.in_ok-tree.tree t bytes c.elab.result (c.elab.ensures t.parses.syntax (reads c.args.file.now c.in_ok-tree.tree t bytes))
+    sound c.args.file.now c.in_ok-tree.tree t bytes c.elab.result
+    (c.elab.ensures t.parses.syntax (reads c.args.file.now c.in_ok-tree.tree t bytes))
 
 pub returns-clause-refused : goal.returns-clause-refused
 returns-clause-refused c =
     let t = rw c.new.ensures at c.in_ok-tree.ensures in
     let bytes = are_bytes c.args.file.now c.type_inv.file in
-    refused c.args.file.now c.in_ok-tree.tree t c.elab.result (c.elab.ensures t.parses.syntax (reads c.args.file.now c.in_ok-tree.tree t bytes))
+    refused c.args.file.now c.in_ok-tree.tree t c.elab.result
+    (c.elab.ensures t.parses.syntax (reads c.args.file.now c.in_ok-tree.tree t bytes))

@@ -8,5 +8,7 @@ use Rattle.cheric_top.proofs.meaning.mean_file.Goals as goal
 pub returns-in-Err : goal.returns-in-Err
 returns-in-Err g c =
     let file = c.args.file.now in
-    let now = seen (g.I.Source.left c.args.input.now) (g.I.Source.faults c.args.input.now) (g.O.Sink.held c.args.out.now) (g.O.Sink.faults c.args.out.now) in
-    inl (subst (λ (answer : Answer). MeanStopped now now file answer) (sym c.not_built.ensures) (mean_stopped now file c.in-Err.refusal c.in-Err.ensures.refused))
+    let now = seen (g.I.Source.left c.args.input.now) (g.I.Source.faults c.args.input.now)
+    (g.O.Sink.held c.args.out.now) (g.O.Sink.faults c.args.out.now) in
+    inl (subst (λ (answer : Answer). MeanStopped now now file answer) (sym c.not_built.ensures)
+    (mean_stopped now file c.in-Err.refusal c.in-Err.ensures.refused))

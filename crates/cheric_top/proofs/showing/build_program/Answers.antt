@@ -13,7 +13,8 @@ pub returns-in_err-built-clause-refused : goal.returns-in_err-built-clause-refus
 returns-in_err-built-clause-refused c =
     let file = c.args.file.now in
     let front = c.in_ok-p.ensures in
-    let refused = refused_of file (once file) c.in_ok-p.p front.typed front.sound (Err c.in_err-built.field-0.0) c.in_err-built.ensures.refused in
+    let refused = refused_of file (once file) c.in_ok-p.p front.typed front.sound
+    (Err c.in_err-built.field-0.0) c.in_err-built.ensures.refused in
     search rules
 
 pub returns-clause-program : goal.returns-clause-program
@@ -22,7 +23,14 @@ returns-clause-program c =
     let t = front.typed in
     let built = c.in_ok-built.ensures in
     record {
-      accepted = record { tokens = t.tokens; syntax = t.syntax; reads = t.reads; types = t.types; room = has_room c.in_ok-p.p t.syntax t.types front.sound built.within; light = built.light };
+      accepted = record {
+        tokens = t.tokens;
+        syntax = t.syntax;
+        reads = t.reads;
+        types = t.types;
+        room = has_room c.in_ok-p.p t.syntax t.types front.sound built.within;
+        light = built.light;
+      };
       built = built.built;
     }
 
@@ -31,4 +39,5 @@ returns-clause-built c =
     let file = c.args.file.now in
     let front = c.in_ok-p.ensures in
     let built = c.in_ok-built.ensures in
-    built_of file (once file) c.in_ok-p.p front.typed front.sound (Ok c.in_ok-built.built) built.built built.within built.light
+    built_of file (once file) c.in_ok-p.p front.typed front.sound
+    (Ok c.in_ok-built.built) built.built built.within built.light

@@ -2,7 +2,8 @@ use Rattle.std.proofs.Common.{◌∙◌, sym, ap}
 use Rattle.std.specs.Int.{cast_signed, cast_unsigned, w64}
 use Rattle.std.specs.Prelude.{int_rem}
 use Rattle.ck_int.specs.Kinds.{form_of, kept_of}
-use Rattle.ck_int.proofs.WordLaws.{kept_of-word_of, remainder-zero, signed_operand, signed_remainder, unsigned_remainder}
+use Rattle.ck_int.proofs.WordLaws.{kept_of-word_of, remainder-zero, signed_operand, signed_remainder}
+use Rattle.ck_int.proofs.WordLaws.{unsigned_remainder}
 use Rattle.ck_int.proofs.arithmetic.remainder.Goals as goal
 
 pub returns-then-b-eq0 : goal.returns-then-b-eq0

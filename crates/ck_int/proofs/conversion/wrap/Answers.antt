@@ -6,7 +6,8 @@ use Rattle.ck_int.proofs.Laws.{IsKept-wrapped, value_of-represented}
 use Rattle.ck_int.proofs.conversion.wrap.Goals as goal
 
 is_wrapped : (c : goal.After-reduce) → c.reduce.result ≡ wrapped c.args.kind c.args.v
-is_wrapped c = c.reduce.ensures ∙ c.representative.ensures ∙ ap (wrapped c.args.kind) (to_z-of_z w128 c.args.v c.ranges.v)
+is_wrapped c = c.reduce.ensures ∙ c.representative.ensures
+    ∙ ap (wrapped c.args.kind) (to_z-of_z w128 c.args.v c.ranges.v)
 
 pub returns-clause-value : goal.returns-clause-value
 returns-clause-value c = is_wrapped c

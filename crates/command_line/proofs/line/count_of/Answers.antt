@@ -6,7 +6,8 @@ pub returns-in_default : goal.returns-in_default
 returns-in_default c = λ n count.
     let read = sym c.in-Ok.is ∙ count_read c.args.word.now n c.parse.result c.parse.ensures.value.0 count in
     let same : c.in-Ok.n ≡ n = cc in
-    differ c.format.result.now c.args.word.now (sym c.eq.ensures ∙ c.if-eq.false) (c.format.ensures.text ∙ ap decimal same ∙ sym count.is)
+    differ c.format.result.now c.args.word.now (sym c.eq.ensures ∙ c.if-eq.false)
+    (c.format.ensures.text ∙ ap decimal same ∙ sym count.is)
 
 pub returns-in_default-2 : goal.returns-in_default-2
 returns-in_default-2 c = λ n count.

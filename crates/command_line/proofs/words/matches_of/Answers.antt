@@ -14,7 +14,8 @@ returns-in-Ok c =
     let fine = c.in-Ok.ensures.kinds (ap is_simple_and_free app ∙ simple_and_free) in
     let rows = c.in-Ok.ensures.matches (ap is_simple app ∙ simple) in (
       ap (λ (a : App). fault_of a words) (sym app) ∙ fine,
-      λ id. first_value-rows (found_of c.in-Ok.matches) id ∙ ap (first_of id) (rows.0 ∙ ap (λ (a : App). matches_of a words) app),
+      λ id. first_value-rows (found_of c.in-Ok.matches) id
+          ∙ ap (first_of id) (rows.0 ∙ ap (λ (a : App). matches_of a words) app),
     )
 
 pub returns : goal.returns
@@ -25,4 +26,5 @@ returns c =
     one_of_none (fault_of (app_of c.in_ok-command.field-0) words) c.in-Err.e (λ memory.
     let kind = c.kind.ensures ∙ memory in
     let same = rw kind at c.eq.ensures in
-    false≢true (sym c.if-eq.false ∙ same)) (ap (λ (a : App). fault_of a words) app ∙ takes) (c.in-Err.ensures.kinds (ap is_simple_and_free app ∙ simple_and_free))
+    false≢true (sym c.if-eq.false ∙ same)) (ap (λ (a : App). fault_of a words) app ∙ takes)
+    (c.in-Err.ensures.kinds (ap is_simple_and_free app ∙ simple_and_free))

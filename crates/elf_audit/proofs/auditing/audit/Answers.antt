@@ -18,6 +18,7 @@ returns-in-None-clause-answer c = contained_image c.args.view.now c.requires c.i
 pub returns-clause-contained : goal.returns-clause-contained
 returns-clause-contained c contained =
     let first = c.in-Some-first_reloc.ensures in
-    let none = none_there (reloc_reason (text_in c.args.view.now)) c.args.view.now.relocs c.in-Some-first_reloc.k c.in-Some-first_reloc.reason (no_reloc c.args.view.now contained) first.is in
+    let none = none_there (reloc_reason (text_in c.args.view.now)) c.args.view.now.relocs c.in-Some-first_reloc.k
+    c.in-Some-first_reloc.reason (no_reloc c.args.view.now contained) first.is in
     let some = first.some in
     absurd (omega (arith, none))

@@ -3,4 +3,5 @@ use Rattle.elf_audit.proofs.Sizes.{fits}
 use Rattle.elf_audit.proofs.auditing.word_reason.Goals as goal
 
 pub overflow_add-at : goal.overflow_add-at
-overflow_add-at c = let high = (fits c.args.view.now c.requires.fine).high in omega (arith, c.requires.inside, c.place_of-at.ensures)
+overflow_add-at c = let high = (fits c.args.view.now c.requires.fine).high in
+    omega (arith, c.requires.inside, c.place_of-at.ensures)

@@ -9,8 +9,10 @@ use Rattle.elf_audit.proofs.reached.note_entries.Given as goal
 -- those that are still to come, and those that were noted
 abbrev pub invariant-loop-r : goal.invariant-loop-r
 invariant-loop-r l = (j : ℕ) → j < length l.reached →
-    (is_among (map address_of (filter executes (drop l.k l.view.relocs))) (l.view.text_base + 4 * j) || slice_index_or l.reached j false)
-    ≡ (is_among (map address_of (filter executes l.view.relocs)) (l.view.text_base + 4 * j) || slice_index_or l.fn.reached j false)
+    (is_among (map address_of (filter executes (drop l.k l.view.relocs))) (l.view.text_base + 4 * j)
+    || slice_index_or l.reached j false)
+    ≡ (is_among (map address_of (filter executes l.view.relocs)) (l.view.text_base + 4 * j)
+    || slice_index_or l.fn.reached j false)
 
 abbrev pub decreases-loop-r : goal.decreases-loop-r
 decreases-loop-r l = length l.view.relocs - l.k

@@ -11,5 +11,6 @@ loop-line-preserved c =
     let zero : Line = record { at = 0; line = 0; col = 0; kind = 0 } in
     record {
       bytes = grind (arith, common_steps);
-      fits = All-more (λ l. Fit (line_fields l)) c.args.lines.now c.loop-line.line-index zero c.loop-line-test.true c.loop-line.invariant.fits c.line_fields.ensures.fits;
+      fits = All-more (λ l. Fit (line_fields l)) c.args.lines.now c.loop-line.line-index zero c.loop-line-test.true
+          c.loop-line.invariant.fits c.line_fields.ensures.fits;
     }

@@ -11,5 +11,6 @@ loop-reloc-preserved c =
     let zero : Reloc = record { place = 0; base = 0; offset = 0; length = 0; perms = 0 } in
     record {
       bytes = grind (arith, common_steps);
-      fits = All-more (λ r. Fit (reloc_fields r)) c.args.relocs.now c.loop-reloc.reloc-index zero c.loop-reloc-test.true c.loop-reloc.invariant.fits c.reloc_fields.ensures.fits;
+      fits = All-more (λ r. Fit (reloc_fields r)) c.args.relocs.now c.loop-reloc.reloc-index zero c.loop-reloc-test.true
+          c.loop-reloc.invariant.fits c.reloc_fields.ensures.fits;
     }

@@ -12,9 +12,11 @@ use Rattle.elf_file.proofs.writing.put_words.Goals as goal
 -- the words, the count and the zero bytes, put one after the other
 abbrev put : Headers → Image → List ℕ → List ℕ
 put h i out =
-    ((out ++ spelled (image_words i.version i.table h)) ++ spelled (count_words h.counted i.count)) ++ padding (words_size h.counted)
+    ((out ++ spelled (image_words i.version i.table h)) ++ spelled (count_words h.counted i.count))
+    ++ padding (words_size h.counted)
 
-put_is : (i : Image) (out : List ℕ) → put (headers_of i) i out ≡ out ++ spelled (words_fields i) ++ padding (words_size (headers_of i).counted)
+put_is : (i : Image) (out : List ℕ) →
+    put (headers_of i) i out ≡ out ++ spelled (words_fields i) ++ padding (words_size (headers_of i).counted)
 put_is i out =
     let h = headers_of i in
     let both = spelled_both (image_words i.version i.table h) (count_words h.counted i.count) in
@@ -30,7 +32,8 @@ returns-clause-bytes c =
     let words = c.in_ok-put.ensures ∙ ap (λ (fs : List Field). out ++ spelled fs) c.image_words.ensures.value in
     subst P
     (ap (λ (n : ℕ). c.put_count.new.out.items ++ padding n) c.words_size.ensures.value
-    ∙ ap (λ (x : List ℕ). x ++ padding (words_size h.counted)) (c.in_ok-put_count.ensures.bytes ∙ ap (λ (x : List ℕ). x ++ count) words)
+    ∙ ap (λ (x : List ℕ). x ++ padding (words_size h.counted))
+    (c.in_ok-put_count.ensures.bytes ∙ ap (λ (x : List ℕ). x ++ count) words)
     ∙ ap (λ (h : Headers). put h i out) c.headers_of-h.ensures
     ∙ put_is i out)
     c.put_padding.ensures

@@ -22,7 +22,8 @@ returns c =
       reserved = refl;
       flag = refl;
       otype = omega arith;
-      internal = is.internal_is ∙ ap (λ b. encoded_internal b c.set_bounds-bounds.result.top) low ∙ ap (λ t. encoded_internal c.args.e.0 t) high;
+      internal = is.internal_is ∙ ap (λ b. encoded_internal b c.set_bounds-bounds.result.top) low
+          ∙ ap (λ t. encoded_internal c.args.e.0 t) high;
       t = is.t_is ∙ ap (λ b. encoded_t b c.set_bounds-bounds.result.top) low ∙ ap (λ t. encoded_t c.args.e.0 t) high;
       b = is.b_is ∙ ap (λ b. encoded_b b c.set_bounds-bounds.result.top) low ∙ ap (λ t. encoded_b c.args.e.0 t) high;
       address = refl;

@@ -16,4 +16,5 @@ pub returns-clause-text : goal.returns-clause-text
 returns-clause-text c = subst (All (λ b. b < 256)) (c.bytes.ensures.value ∙ c.text.ensures) c.bytes.ensures.small
 
 pub returns-clause-initial : goal.returns-clause-initial
-returns-clause-initial c = subst (All (λ b. b < 256)) (c.bytes-2.ensures.value ∙ c.initial.ensures) c.bytes-2.ensures.small
+returns-clause-initial c =
+    subst (All (λ b. b < 256)) (c.bytes-2.ensures.value ∙ c.initial.ensures) c.bytes-2.ensures.small

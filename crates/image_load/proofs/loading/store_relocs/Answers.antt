@@ -15,10 +15,13 @@ pub loop-r-init : goal.loop-r-init
 loop-r-init c = record { well = (judged_well c.args.view.now c.requires).relocs; so_far = refl }
 
 pub capability_of-c-requires : goal.capability_of-c-requires
-capability_of-c-requires c = (loadable c.args.view.now.relocs c.loop-r.k c.in-Some.r (initial_of c.args.view.now) (sym c.in-Some.ensures.value) c.loop-r.invariant.well).0.exact
+capability_of-c-requires c =
+    (loadable c.args.view.now.relocs c.loop-r.k c.in-Some.r (initial_of c.args.view.now)
+    (sym c.in-Some.ensures.value) c.loop-r.invariant.well).0.exact
 
 pub set_cap-requires : goal.set_cap-requires
-set_cap-requires c = (loadable c.args.view.now.relocs c.loop-r.k c.in-Some.r (initial_of c.args.view.now) (sym c.in-Some.ensures.value) c.loop-r.invariant.well).0.even
+set_cap-requires c = (loadable c.args.view.now.relocs c.loop-r.k c.in-Some.r (initial_of c.args.view.now)
+    (sym c.in-Some.ensures.value) c.loop-r.invariant.well).0.even
 
 pub loop-r-smaller : goal.loop-r-smaller
 loop-r-smaller c =
@@ -29,13 +32,16 @@ pub loop-r-preserved : goal.loop-r-preserved
 loop-r-preserved c =
     let rs = c.args.view.now.relocs in
     let e = sym c.in-Some.ensures.value in
-    let bits : c.memory_bits.result ≡ memory_bits (capability_of c.in-Some.r).fields = c.memory_bits.ensures ∙ ap (λ (x : Cap). memory_bits x.fields) c.capability_of-c.ensures in
+    let bits : c.memory_bits.result ≡ memory_bits (capability_of c.in-Some.r).fields =
+    c.memory_bits.ensures ∙ ap (λ (x : Cap). memory_bits x.fields) c.capability_of-c.ensures in
     let m : c.set_cap.new.self ≡ written c.loop-r.mem c.in-Some.r.place (little_bytes 16 (memory_bits (capability_of c.in-Some.r).fields)) true =
     c.set_cap.ensures.value ∙ ap (λ (b : ℕ). written c.loop-r.mem c.in-Some.r.place (little_bytes 16 b) true) bits in
     record {
       well = (loadable rs c.loop-r.k c.in-Some.r (initial_of c.args.view.now) e c.loop-r.invariant.well).1;
-      so_far = ap (λ (x : List Area). relocated x (drop (c.loop-r.k + 1) rs)) m ∙ next_stored c.loop-r.mem _ rs c.loop-r.k c.in-Some.r e c.loop-r.invariant.so_far;
+      so_far = ap (λ (x : List Area). relocated x (drop (c.loop-r.k + 1) rs)) m
+          ∙ next_stored c.loop-r.mem _ rs c.loop-r.k c.in-Some.r e c.loop-r.invariant.so_far;
     }
 
 pub returns : goal.returns
-returns c = sym (last_stored c.loop-r.mem c.args.view.now.relocs c.loop-r.k (sym c.in_default.ensures.value)) ∙ c.loop-r.invariant.so_far
+returns c = sym (last_stored c.loop-r.mem c.args.view.now.relocs c.loop-r.k (sym c.in_default.ensures.value))
+    ∙ c.loop-r.invariant.so_far

@@ -14,4 +14,5 @@ abbrev pub decreases-statement : goal.decreases-statement
 decreases-statement l = 2 * l.k + 1
 
 abbrev pub invariant-block-loop-s : goal.invariant-block-loop-s
-invariant-block-loop-s l = Continues (variable_kinds l.p l.d) (stmt_tree l.p l.d.vars) l.fn.out l.out l.body (drop l.s-index l.body)
+invariant-block-loop-s l =
+    Continues (variable_kinds l.p l.d) (stmt_tree l.p l.d.vars) l.fn.out l.out l.body (drop l.s-index l.body)

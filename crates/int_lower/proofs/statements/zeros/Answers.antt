@@ -14,8 +14,11 @@ loop-x-preserved c =
     let i = c.loop-x.x-index in
     let lt : i < length xs = omega arith in
     let there = slice_get-get_or xs i 0 lt in
-    zeros_continue ks ds _ _ _ xs (get_or xs i 0) _ (subst (λ (z : List ℕ). ZerosContinue ks ds c.args.out.now c.loop-x.out xs z) (drop_get xs i (get_or xs i 0) there) c.loop-x.invariant)
-    (declared_zero c.args.p.now c.args.d.now xs i (get_or xs i 0) _ _ _ c.requires there c.variable_kind-kind.ensures c.in_ok-push.ensures)
+    zeros_continue ks ds _ _ _ xs (get_or xs i 0) _
+    (subst (λ (z : List ℕ). ZerosContinue ks ds c.args.out.now c.loop-x.out xs z)
+    (drop_get xs i (get_or xs i 0) there) c.loop-x.invariant)
+    (declared_zero c.args.p.now c.args.d.now xs i
+    (get_or xs i 0) _ _ _ c.requires there c.variable_kind-kind.ensures c.in_ok-push.ensures)
 
 pub returns : goal.returns
 returns c =
@@ -23,4 +26,5 @@ returns c =
     let ds = declared c.args.p.now c.args.d.now.vars in
     let xs = c.args.vars.now in
     let le : length xs ≤ c.loop-x.x-index = omega arith in
-    zeros_completed ks ds _ _ xs (subst (λ (z : List ℕ). ZerosContinue ks ds c.args.out.now c.loop-x.out xs z) (drop_all xs c.loop-x.x-index le) c.loop-x.invariant)
+    zeros_completed ks ds _ _ xs (subst (λ (z : List ℕ). ZerosContinue ks ds c.args.out.now c.loop-x.out xs z)
+    (drop_all xs c.loop-x.x-index le) c.loop-x.invariant)

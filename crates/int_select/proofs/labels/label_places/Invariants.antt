@@ -9,5 +9,6 @@ invariant-loop-i l = record {
   named : AreNamed 200 (length l.code) (drop l.i-index l.code);
   at_most : l.at ≤ 16 * l.i-index + 1;
   near : (k : ℕ) → slice_index l.places.items k ≤ l.at;
-  places : (k : ℕ) → k < length l.code → place_last (slice_index l.places.items k) k l.at (drop l.i-index l.code) ≡ place_last 0 k 1 l.code;
+  places : (k : ℕ) → k < length l.code →
+      place_last (slice_index l.places.items k) k l.at (drop l.i-index l.code) ≡ place_last 0 k 1 l.code;
 }

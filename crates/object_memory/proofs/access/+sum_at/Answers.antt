@@ -10,4 +10,5 @@ summed-requires m c =
 pub returns-clause-below : goal.returns-clause-below
 returns-clause-below m c =
     let some : 0 < c.args.n = omega (arith, c.if-n-eq0.false) in
-    sum_below c.args.n c.sum_at-rest.result.number c.summed.result.number some c.sum_at-rest.ensures.below c.summed.ensures.below
+    sum_below c.args.n c.sum_at-rest.result.number c.summed.result.number some c.sum_at-rest.ensures.below
+    c.summed.ensures.below

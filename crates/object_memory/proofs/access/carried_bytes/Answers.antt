@@ -15,5 +15,9 @@ loop-k-preserved c =
     let d = mode_of c.args.mode in
     let s = shapes_of c.args.objects.now in
     let o = c.args.o.now.content in
-    let same : plain_cell c.in-Some.byte ≡ byte_at d s o (c.args.at + c.loop-k.k) = c.in-Some.ensures.some ∙ c.byte_at.ensures ∙ ap (λ j. byte_at d s o (c.args.at + j)) c.from.ensures in
-    (carry_more d s o c.args.at c.args.n c.loop-k.k c.loop-k.items c.in-Some.byte test room same ∙ i.0, part_more d s o c.args.at c.args.n c.loop-k.k c.in-Some.byte test same ∙ i.1, length-set c.loop-k.items c.loop-k.k _ ∙ long)
+    let same : plain_cell c.in-Some.byte ≡ byte_at d s o (c.args.at + c.loop-k.k) =
+    c.in-Some.ensures.some ∙ c.byte_at.ensures ∙ ap (λ j. byte_at d s o (c.args.at + j)) c.from.ensures in (
+      carry_more d s o c.args.at c.args.n c.loop-k.k c.loop-k.items c.in-Some.byte test room same ∙ i.0,
+      part_more d s o c.args.at c.args.n c.loop-k.k c.in-Some.byte test same ∙ i.1,
+      length-set c.loop-k.items c.loop-k.k _ ∙ long,
+    )

@@ -6,6 +6,8 @@ use Rattle.object_memory.proofs.access.carried_bytes.Given as goal
 
 abbrev pub invariant-loop-k : goal.invariant-loop-k
 invariant-loop-k l =
-    (map plain_cell (take l.k l.items) ++ bytes_at (mode_of l.mode) (shapes_of l.objects) l.o.content (l.at + l.k) (l.n - l.k) ≡ bytes_at (mode_of l.mode) (shapes_of l.objects) l.o.content l.at l.n)
-    × (has_part (bytes_at (mode_of l.mode) (shapes_of l.objects) l.o.content (l.at + l.k) (l.n - l.k)) ≡ has_part (bytes_at (mode_of l.mode) (shapes_of l.objects) l.o.content l.at l.n))
+    (map plain_cell (take l.k l.items) ++ bytes_at (mode_of l.mode) (shapes_of l.objects) l.o.content (l.at + l.k)
+    (l.n - l.k) ≡ bytes_at (mode_of l.mode) (shapes_of l.objects) l.o.content l.at l.n)
+    × (has_part (bytes_at (mode_of l.mode) (shapes_of l.objects) l.o.content (l.at + l.k) (l.n - l.k))
+    ≡ has_part (bytes_at (mode_of l.mode) (shapes_of l.objects) l.o.content l.at l.n))
     × (length l.items ≡ 16)

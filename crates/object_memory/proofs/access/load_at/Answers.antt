@@ -8,4 +8,5 @@ pub returns-in-None : goal.returns-in-None
 returns-in-None c =
     let there = c.in-Ok.ensures.value in
     let none = c.in-None.ensures in
-    c.read.ensures ∙ sym (load_plain (mode_of c.args.mode) (memory_at c.args.objects.now c.args.notes.now) (spot_of c.args.s) c.args.n _ (sym there) (sym none))
+    c.read.ensures ∙ sym (load_plain (mode_of c.args.mode) (memory_at c.args.objects.now c.args.notes.now)
+    (spot_of c.args.s) c.args.n _ (sym there) (sym none))

@@ -7,5 +7,8 @@ pub loop-k-preserved : goal.loop-k-preserved
 loop-k-preserved c =
     let i = c.loop-k.invariant in
     let long = i.1 in
-    let room = c.requires in
-    (low_more c.loop-k.items c.loop-k.k c.args.n c.loop-k.left c.loop-k-test.true (omega (arith, long, room, c.loop-k-test.true)) ∙ i.0, length-set c.loop-k.items c.loop-k.k _ ∙ long)
+    let room = c.requires in (
+      low_more c.loop-k.items c.loop-k.k c.args.n c.loop-k.left c.loop-k-test.true
+          (omega (arith, long, room, c.loop-k-test.true)) ∙ i.0,
+      length-set c.loop-k.items c.loop-k.k _ ∙ long,
+    )

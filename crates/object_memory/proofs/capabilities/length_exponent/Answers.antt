@@ -18,7 +18,8 @@ unfolding length_exponent
 returns-else-length-power-clause-value c =
     let test : ℕ → Bool = λ e. nat_lt c.args.length (2 ^ (e + 13)) in
     let short : c.args.length < 2 ^ (c.loop-e.e + 13) = omega (arith, c.power.ensures, c.if-length-power.false) in
-    sym (first_here test 52 c.loop-e.e c.loop-e-test.true (lt-ltb c.args.length (2 ^ (c.loop-e.e + 13)) short)) ∙ c.loop-e.invariant.0
+    sym (first_here test 52 c.loop-e.e c.loop-e-test.true (lt-ltb c.args.length (2 ^ (c.loop-e.e + 13)) short))
+    ∙ c.loop-e.invariant.0
 
 pub returns-after-loop-e-clause-value : goal.returns-after-loop-e-clause-value
 unfolding length_exponent

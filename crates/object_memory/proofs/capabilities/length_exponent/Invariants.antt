@@ -5,7 +5,8 @@ use Rattle.object_memory.proofs.capabilities.length_exponent.Given as goal
 
 abbrev pub invariant-loop-e : goal.invariant-loop-e
 invariant-loop-e l =
-    (first_from (λ e. nat_lt l.length (2 ^ (e + 13))) (52 - l.e) l.e ≡ first_from (λ e. nat_lt l.length (2 ^ (e + 13))) 52 0) × (l.e ≤ 52)
+    (first_from (λ e. nat_lt l.length (2 ^ (e + 13))) (52 - l.e) l.e
+    ≡ first_from (λ e. nat_lt l.length (2 ^ (e + 13))) 52 0) × (l.e ≤ 52)
 
 abbrev pub decreases-loop-e : goal.decreases-loop-e
 decreases-loop-e l = 52 - l.e

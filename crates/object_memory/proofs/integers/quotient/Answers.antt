@@ -9,5 +9,7 @@ pub returns : goal.returns
 returns c =
     let x = to_z-of_z w128 c.args.x c.ranges.x in
     let y = to_z-of_z w128 c.args.y c.ranges.y in
-    let inside : int_div (cast_signed w128 (cast_unsigned w128 c.args.x)) (cast_signed w128 (cast_unsigned w128 c.args.y)) ≡ int_div c.args.x c.args.y = λ i. int_div (x i) (y i) in
-    ap (λ z. cast_signed w128 (cast_unsigned w128 z)) inside ∙ to_z-of_z w128 (int_div c.args.x c.args.y) (quotient_fits c.args.x c.args.y c.requires.left)
+    let inside : int_div (cast_signed w128 (cast_unsigned w128 c.args.x))
+    (cast_signed w128 (cast_unsigned w128 c.args.y)) ≡ int_div c.args.x c.args.y = λ i. int_div (x i) (y i) in
+    ap (λ z. cast_signed w128 (cast_unsigned w128 z)) inside
+    ∙ to_z-of_z w128 (int_div c.args.x c.args.y) (quotient_fits c.args.x c.args.y c.requires.left)

@@ -8,10 +8,13 @@ use Rattle.purecap_abi.proofs.ends.keep_next.Goals as goal
 pub returns-in_ok-put-clause-code : goal.returns-in_ok-put-clause-code
 returns-in_ok-put-clause-code c =
     let a = c.args in
-    one_kept (is_home a.places.now.homes a.register) a.way a.register a.base a.at a.code.now.items c.put.new.code.items (sym c.if-is_home.ensures)
-    (c.in_ok-put.ensures ∙ ap (λ (i : Instr). a.code.now.items ++ i ∷ []) (c.keep.ensures ∙ ap (λ r. keep a.way r a.base a.at) c.numbered.ensures))
+    one_kept (is_home a.places.now.homes a.register) a.way a.register a.base a.at a.code.now.items c.put.new.code.items
+    (sym c.if-is_home.ensures)
+    (c.in_ok-put.ensures ∙ ap (λ (i : Instr). a.code.now.items ++ i ∷ [])
+    (c.keep.ensures ∙ ap (λ r. keep a.way r a.base a.at) c.numbered.ensures))
 
 pub returns-else-is_home-clause-code : goal.returns-else-is_home-clause-code
 returns-else-is_home-clause-code c =
     let a = c.args in
-    none_kept (is_home a.places.now.homes a.register) a.way a.register a.base a.at a.code.now.items (sym c.if-is_home.ensures)
+    none_kept (is_home a.places.now.homes a.register) a.way a.register a.base a.at a.code.now.items
+    (sym c.if-is_home.ensures)

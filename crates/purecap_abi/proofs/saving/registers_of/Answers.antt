@@ -7,7 +7,8 @@ use Rattle.purecap_abi.proofs.saving.registers_of.Goals as goal
 pub loop-register-preserved : goal.loop-register-preserved
 loop-register-preserved c = record {
   value =
-      let e = length-filter_more (is_home c.args.places.now.homes) kept_registers c.loop-register.register-index 0 (omega arith) in
+      let e = length-filter_more (is_home c.args.places.now.homes) kept_registers c.loop-register.register-index 0
+      (omega arith) in
       grind (arith, common_steps);
   few = grind (arith, common_steps);
 }

@@ -7,7 +7,8 @@ use Rattle.purecap_abi.proofs.saving.slots_of.Goals as goal
 pub loop-home-preserved : goal.loop-home-preserved
 loop-home-preserved c = record {
   value =
-      let e = slot_count_more c.as_slice-home-items.result.now c.loop-home.home-index (Register 0) c.loop-home-test.true in
+      let e = slot_count_more c.as_slice-home-items.result.now c.loop-home.home-index
+      (Register 0) c.loop-home-test.true in
       grind (arith, common_steps);
   small = grind (arith, common_steps);
 }

@@ -7,5 +7,10 @@ use Rattle.reg_alloc.proofs.checking.check.Goals.{then-homes-live, else-homes-li
 pub returns-then-all_fit : goal.returns-then-all_fit
 returns-then-all_fit c =
     let facts : (length c.as_slice-homes.result.now ≡ length c.as_slice-live.result.now) × ((i : ℕ) → FitsAt c.as_slice-live.result.now c.as_slice-calls.result.now c.as_slice-homes.result.now i) =
-    elim c.if-homes-live.branch [ then-homes-live w ↦ (w.if-homes-live.true, w.all_fit.ensures.0 (search rules)) | else-homes-live w ↦ absurd (grind arith) ] in
-    rw (← c.as_slice-live.ensures.value, ← c.as_slice-calls.ensures.value, ← c.as_slice-homes.ensures) (placed_iff _ _ _ _ facts.0 facts.1 c.all_apart.ensures)
+    elim c.if-homes-live.branch [
+      | then-homes-live w ↦
+          (w.if-homes-live.true, w.all_fit.ensures.0 (search rules))
+      | else-homes-live w ↦ absurd (grind arith)
+    ] in
+    rw (← c.as_slice-live.ensures.value, ← c.as_slice-calls.ensures.value, ← c.as_slice-homes.ensures)
+    (placed_iff _ _ _ _ facts.0 facts.1 c.all_apart.ensures)

@@ -9,7 +9,11 @@ pub word-requires : goal.word-requires
 word-requires c = rw c.fields.ensures (FitsWord-fields_of c.args.i c.requires)
 
 pub returns-clause-word : goal.returns-clause-word
-returns-clause-word c = record { in_range = c.requires; word = c.word.ensures ∙ ap (λ (f : Fields). word_of f) c.fields.ensures }
+returns-clause-word c = record {
+  in_range = c.requires;
+  word = c.word.ensures
+      ∙ ap (λ (f : Fields). word_of f) c.fields.ensures;
+}
 
 pub returns-clause-only : goal.returns-clause-only
 returns-clause-only c w h = same_word w c.word.result c.args.i h (returns-clause-word c)

@@ -9,4 +9,5 @@ abbrev pub decreases-expression_weight : goal.decreases-expression_weight
 decreases-expression_weight l = l.limit
 
 abbrev pub invariant-loop-i : goal.invariant-loop-i
-invariant-loop-i l = l.total ≡ capped (kind_weight l.e.kind + sum_by (before (expression_weight l.p) l.k) (take l.i (operands l.e.kind)))
+invariant-loop-i l = l.total ≡ capped (kind_weight l.e.kind
+    + sum_by (before (expression_weight l.p) l.k) (take l.i (operands l.e.kind)))

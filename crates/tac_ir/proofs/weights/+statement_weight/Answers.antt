@@ -6,15 +6,27 @@ use Rattle.tac_ir.proofs.weights.+statement_weight.Goals as goal
 
 pub loop-i-preserved : goal.loop-i-preserved
 loop-i-preserved t c =
-    let more = sum_one_more (before (statement_weight c.args.p.now) c.args.k) (parts c.in-Some.s.now.kind) c.loop-i.i _ c.part-part.ensures in
+    let more = sum_one_more (before (statement_weight c.args.p.now) c.args.k)
+    (parts c.in-Some.s.now.kind) c.loop-i.i _ c.part-part.ensures in
     omega (arith, more, c.saturating_add-total-in-loop-i.ensures, c.statement_weight.ensures, c.loop-i.invariant)
 
 pub returns-in-None : goal.returns-in-None
 returns-in-None t c =
-    omega (arith, before_true (statement_weight c.args.p.now) c.args.limit c.args.k c.if-k-limit.false, statement_nowhere c.args.p.now c.args.k c.in-None.ensures)
+    omega (
+      arith,
+      before_true (statement_weight c.args.p.now) c.args.limit c.args.k c.if-k-limit.false,
+      statement_nowhere c.args.p.now c.args.k c.in-None.ensures,
+    )
 
 pub returns-after-loop-i : goal.returns-after-loop-i
 returns-after-loop-i t c =
-    let all = sum_of_all (before (statement_weight c.args.p.now) c.args.k) (parts c.in-Some.s.now.kind) c.loop-i.i (omega arith) in
+    let all = sum_of_all (before (statement_weight c.args.p.now) c.args.k) (parts c.in-Some.s.now.kind) c.loop-i.i
+    (omega arith) in
     let node = statement_node c.args.p.now c.args.k c.in-Some.s.now c.in-Some.ensures in
-    omega (arith, all, node, c.loop-i.invariant, before_true (statement_weight c.args.p.now) c.args.limit c.args.k c.if-k-limit.false)
+    omega (
+      arith,
+      all,
+      node,
+      c.loop-i.invariant,
+      before_true (statement_weight c.args.p.now) c.args.limit c.args.k c.if-k-limit.false,
+    )

@@ -9,4 +9,5 @@ abbrev pub decreases-statement_weight : goal.decreases-statement_weight
 decreases-statement_weight l = l.limit
 
 abbrev pub invariant-loop-i : goal.invariant-loop-i
-invariant-loop-i l = l.total ≡ capped (1 + labels_of l.s.kind + sum_by (expression_weight l.p) (values l.s.kind) + sum_by (before (statement_weight l.p) l.k) (take l.i (parts l.s.kind)))
+invariant-loop-i l = l.total ≡ capped (1 + labels_of l.s.kind + sum_by (expression_weight l.p) (values l.s.kind)
+    + sum_by (before (statement_weight l.p) l.k) (take l.i (parts l.s.kind)))

@@ -15,13 +15,18 @@ loop-i-preserved c =
       at = omega arith;
       calls = elim c.if-is_call.branch [
         | then-is_call+in_ok-push w ↦
-            let e : c.if-is_call.calls.items ≡ c.loop-i.calls.items ++ at ∷ [] = cc (w.in_ok-push.ensures.items, w.calls-is) in
+            let e : c.if-is_call.calls.items ≡ c.loop-i.calls.items ++ at ∷ [] =
+            cc (w.in_ok-push.ensures.items, w.calls-is) in
             let call : is_call c.i-item.result ≡ true = cc in
-            subst (λ xs. CallsUpto code at xs) (sym e) (calls_more code c.loop-i.at at c.loop-i.calls.items c.i-item.result next here c.loop-i.invariant.calls call)
+            subst (λ xs. CallsUpto code at xs) (sym e)
+            (calls_more code c.loop-i.at at c.loop-i.calls.items c.i-item.result next here c.loop-i.invariant.calls
+            call)
         | else-is_call w ↦
             let e : c.if-is_call.calls.items ≡ c.loop-i.calls.items = cc in
             let call : is_call c.i-item.result ≡ false = cc in
-            subst (λ xs. CallsUpto code at xs) (sym e) (calls_same code c.loop-i.at at c.loop-i.calls.items c.i-item.result next here c.loop-i.invariant.calls call)
+            subst (λ xs. CallsUpto code at xs) (sym e)
+            (calls_same code c.loop-i.at at c.loop-i.calls.items c.i-item.result next here c.loop-i.invariant.calls
+            call)
       ];
     }
 

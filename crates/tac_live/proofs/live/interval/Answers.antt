@@ -28,7 +28,8 @@ returns-in-Some c =
     let bound = used.bound in
     let len = c.requires.code_blocks.ends_len in
     let e = get_or_read b.ends.items u.last c.index.result.now (omega arith) c.index.ensures 0 in
-    subst (λ m. IsLive f c.args.t 0 m) (sym e) (parameter f c.args.t u used b.starts.items b.ends.items c.requires.code_blocks param)
+    subst (λ m. IsLive f c.args.t 0 m) (sym e)
+    (parameter f c.args.t u used b.starts.items b.ends.items c.requires.code_blocks param)
 
 pub returns-in-Some-2 : goal.returns-in-Some-2
 returns-in-Some-2 c =
@@ -51,5 +52,8 @@ returns-in-Some-3 c =
     let ends_len = c.requires.code_blocks.ends_len in
     let bent : u.straight ≡ false = cc in
     let s = get_or_read b.starts.items u.first c.index-in-Some-3.result.now (omega arith) c.index-in-Some-3.ensures 0 in
-    let e = get_or_read b.ends.items u.last c.index-in-Some-3-2.result.now (omega arith) c.index-in-Some-3-2.ensures 0 in
-    subst (λ m. IsLive f c.args.t c.index-in-Some-3.result.now m) (sym e) (subst (λ m. IsLive f c.args.t m (slice_index b.ends.items u.last)) (sym s) (bent_temp f c.args.t u used b.starts.items b.ends.items c.requires.code_blocks local bent))
+    let e = get_or_read b.ends.items u.last c.index-in-Some-3-2.result.now
+    (omega arith) c.index-in-Some-3-2.ensures 0 in
+    subst (λ m. IsLive f c.args.t c.index-in-Some-3.result.now m) (sym e)
+    (subst (λ m. IsLive f c.args.t m (slice_index b.ends.items u.last)) (sym s)
+    (bent_temp f c.args.t u used b.starts.items b.ends.items c.requires.code_blocks local bent))

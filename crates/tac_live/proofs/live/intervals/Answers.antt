@@ -9,11 +9,13 @@ use Rattle.tac_live.proofs.live.intervals.Goals as goal
 
 pub uses_of-requires-clause-named : goal.uses_of-requires-clause-named
 uses_of-requires-clause-named c =
-    λ t n a. names_its_temps c.args.f.now c.requires.numbered t n (subst (λ code. NamesAt code t n) c.as_slice-code.ensures a)
+    λ t n a. names_its_temps c.args.f.now c.requires.numbered t n
+    (subst (λ code. NamesAt code t n) c.as_slice-code.ensures a)
 
 pub blocks_of-requires-clause-labels : goal.blocks_of-requires-clause-labels
 blocks_of-requires-clause-labels c =
-    subst (λ code. labels_differ code ≡ true) (sym c.as_slice-code.ensures) (labels_once c.args.f.now c.requires.numbered)
+    subst (λ code. labels_differ code ≡ true) (sym c.as_slice-code.ensures)
+    (labels_once c.args.f.now c.requires.numbered)
 
 pub loop-u-preserved : goal.loop-u-preserved
 loop-u-preserved c =
@@ -26,11 +28,13 @@ loop-u-preserved c =
     record {
       index = omega arith;
       len = omega arith;
-      live = λ k i e. elim (get_push c.loop-u.live.items c.interval.result i k (subst (λ xs. slice_get xs k ≡ Some i) items e)) [
-        | inl o ↦ c.loop-u.invariant.live k i o
-        | inr o ↦
-            let at = o.0 in
-            let t : c.loop-u.t ≡ k = omega arith in
-            subst (λ m. IsLive f m i.first i.last) t (subst (λ (j : Interval). IsLive f c.loop-u.t j.first j.last) (sym o.1) c.interval.ensures)
-      ];
+      live = λ k i e. elim (get_push c.loop-u.live.items c.interval.result i k
+          (subst (λ xs. slice_get xs k ≡ Some i) items e)) [
+            | inl o ↦ c.loop-u.invariant.live k i o
+            | inr o ↦
+                let at = o.0 in
+                let t : c.loop-u.t ≡ k = omega arith in
+                subst (λ m. IsLive f m i.first i.last) t
+                (subst (λ (j : Interval). IsLive f c.loop-u.t j.first j.last) (sym o.1) c.interval.ensures)
+          ];
     }

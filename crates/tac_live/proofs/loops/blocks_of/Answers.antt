@@ -20,6 +20,8 @@ returns c =
     let same_starts : length starts ≡ length tops = omega (arith, ap length c.deref-2.ensures.value) in
     let same_ends : length ends ≡ length tops = omega (arith, ap length c.deref-3.ensures.value) in
     let are_tops : AreTops reach tops = subst (λ xs. AreTops xs tops) c.deref.ensures.value c.in_ok-tops.ensures.tops in
-    let are_starts : AreStarts tops starts = subst (λ xs. AreStarts xs starts) c.deref-2.ensures.value c.in_ok-starts.ensures.starts in
-    let are_ends : AreEnds tops ends = subst (λ xs. AreEnds xs ends) c.deref-3.ensures.value c.in_ok-ends.ensures.ends in
+    let are_starts : AreStarts tops starts =
+    subst (λ xs. AreStarts xs starts) c.deref-2.ensures.value c.in_ok-starts.ensures.starts in
+    let are_ends : AreEnds tops ends =
+    subst (λ xs. AreEnds xs ends) c.deref-3.ensures.value c.in_ok-ends.ensures.ends in
     all_blocks code reach tops c.in_ok-reach.ensures same are_tops starts ends same_starts same_ends are_starts are_ends

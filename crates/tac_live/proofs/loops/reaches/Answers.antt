@@ -5,7 +5,8 @@ use Rattle.tac_ir.specs.Temps.{goes_to}
 use Rattle.tac_ir.specs.declared.code.TacInstr.TheVariants as instr
 use Rattle.tac_ir.specs.Intervals.{IsAt}
 use Rattle.tac_live.specs.Loops.{ArePlaces, AreReaches}
-use Rattle.tac_live.proofs.LoopSteps.{places_same, places_more, other_key, none_ends, reaches_other, goes_nowhere, jump_arm}
+use Rattle.tac_live.proofs.LoopSteps.{places_same, places_more, other_key, none_ends, reaches_other, goes_nowhere}
+use Rattle.tac_live.proofs.LoopSteps.{jump_arm}
 use Rattle.tac_live.proofs.Numbers.{at_item}
 use Rattle.tac_live.proofs.Pushes.{written_back}
 use Rattle.tac_live.proofs.loops.reaches.Goals as goal
@@ -50,33 +51,53 @@ loop-i-preserved c =
           let updates = w.in_ok-insert-in-Label.ensures.updates in
           record {
             at = omega arith;
-            places = subst (λ m. ArePlaces code at (λ k. get nat_cmp m k)) (sym w.places-is) (places_more code upto at next place (λ k. get nat_cmp w.insert.new.self k) l c.requires.labels label updates.1 (λ q ne. updates.2 q (other_key l q ne)) before);
-            reach = subst (λ xs. AreReaches code at xs) (sym (ap (λ v. v.items) w.reach-is ∙ pushed)) (reaches_other code upto at reach next reaches (none_ends code upto at place i next here before (ap goes_to w.in-Label.is)));
+            places = subst (λ m. ArePlaces code at (λ k. get nat_cmp m k)) (sym w.places-is)
+                (places_more code upto at next place (λ k. get nat_cmp w.insert.new.self k) l c.requires.labels label
+                updates.1 (λ q ne. updates.2 q (other_key l q ne)) before);
+            reach = subst (λ xs. AreReaches code at xs) (sym (ap (λ v. v.items) w.reach-is ∙ pushed))
+                (reaches_other code upto at reach next reaches
+                (none_ends code upto at place i next here before (ap goes_to w.in-Label.is)));
           }
       | in-Jump w ↦
           let other : (m : ℕ) → i ≡ instr.Label m → ⊥ = λ m e. (let s = w.in-Jump.is in cc) in
           let kept = w.note_jump.auto.reach in
           let len = w.deref_mut.ensures.len in
-          let back = written_back w.note_jump.new.reach (drop (length w.note_jump.new.reach) c.push-in-loop-i.new.self.items) c.push-in-loop-i.new.self.len (omega arith) in
+          let back = written_back w.note_jump.new.reach
+          (drop (length w.note_jump.new.reach) c.push-in-loop-i.new.self.items) c.push-in-loop-i.new.self.len
+          (omega arith) in
           record {
             at = omega arith;
-            places = subst (λ m. ArePlaces code at (λ k. get nat_cmp m k)) (sym w.places-is) (places_same code upto at next place i here other before);
-            reach = subst (λ xs. AreReaches code at xs) (sym (ap (λ v. v.items) w.reach-is ∙ back)) (jump_arm code upto at reach place i w.in-Jump.l w.deref_mut.result.now w.note_jump.new.reach next reaches before here (ap goes_to w.in-Jump.is) other (w.deref_mut.ensures.value ∙ pushed) w.note_jump.ensures);
+            places = subst (λ m. ArePlaces code at (λ k. get nat_cmp m k)) (sym w.places-is)
+                (places_same code upto at next place i here other before);
+            reach = subst (λ xs. AreReaches code at xs) (sym (ap (λ v. v.items) w.reach-is ∙ back))
+                (jump_arm code upto at reach place i w.in-Jump.l w.deref_mut.result.now w.note_jump.new.reach next
+                reaches before here (ap goes_to w.in-Jump.is) other
+                (w.deref_mut.ensures.value ∙ pushed) w.note_jump.ensures);
           }
       | in-Branch w ↦
           let other : (m : ℕ) → i ≡ instr.Label m → ⊥ = λ m e. (let s = w.in-Branch.is in cc) in
           let kept = w.note_jump-in-Branch.auto.reach in
           let len = w.deref_mut-in-Branch.ensures.len in
-          let back = written_back w.note_jump-in-Branch.new.reach (drop (length w.note_jump-in-Branch.new.reach) c.push-in-loop-i.new.self.items) c.push-in-loop-i.new.self.len (omega arith) in
+          let back = written_back w.note_jump-in-Branch.new.reach
+          (drop (length w.note_jump-in-Branch.new.reach) c.push-in-loop-i.new.self.items)
+          c.push-in-loop-i.new.self.len (omega arith) in
           record {
             at = omega arith;
-            places = subst (λ m. ArePlaces code at (λ k. get nat_cmp m k)) (sym w.places-is) (places_same code upto at next place i here other before);
-            reach = subst (λ xs. AreReaches code at xs) (sym (ap (λ v. v.items) w.reach-is ∙ back)) (jump_arm code upto at reach place i w.in-Branch.label w.deref_mut-in-Branch.result.now w.note_jump-in-Branch.new.reach next reaches before here (ap goes_to w.in-Branch.is) other (w.deref_mut-in-Branch.ensures.value ∙ pushed) w.note_jump-in-Branch.ensures);
+            places = subst (λ m. ArePlaces code at (λ k. get nat_cmp m k)) (sym w.places-is)
+                (places_same code upto at next place i here other before);
+            reach = subst (λ xs. AreReaches code at xs) (sym (ap (λ v. v.items) w.reach-is ∙ back))
+                (jump_arm code upto at reach place i w.in-Branch.label w.deref_mut-in-Branch.result.now
+                w.note_jump-in-Branch.new.reach next reaches before here (ap goes_to w.in-Branch.is) other
+                (w.deref_mut-in-Branch.ensures.value ∙ pushed) w.note_jump-in-Branch.ensures);
           }
       | in_default w ↦
           record {
             at = omega arith;
-            places = subst (λ m. ArePlaces code at (λ k. get nat_cmp m k)) (sym w.places-is) (places_same code upto at next place i here w.in_default.not-Label before);
-            reach = subst (λ xs. AreReaches code at xs) (sym (ap (λ v. v.items) w.reach-is ∙ pushed)) (reaches_other code upto at reach next reaches (none_ends code upto at place i next here before (goes_nowhere i w.in_default.not-Jump w.in_default.not-Branch)));
+            places = subst (λ m. ArePlaces code at (λ k. get nat_cmp m k)) (sym w.places-is)
+                (places_same code upto at next place i here w.in_default.not-Label before);
+            reach = subst (λ xs. AreReaches code at xs) (sym (ap (λ v. v.items) w.reach-is ∙ pushed))
+                (reaches_other code upto at reach next reaches
+                (none_ends code upto at place i next here before
+                (goes_nowhere i w.in_default.not-Jump w.in_default.not-Branch)));
           }
     ]

@@ -1,4 +1,5 @@
-use Rattle.std.proofs.Common.{◌≡◌, suc, ◌+◌, ◌<◌, None, length, get_or, take, drop, ◌++◌, sym, subst, ap, refl, ◌∙◌, true, false, arith}
+use Rattle.std.proofs.Common.{◌≡◌, suc, ◌+◌, ◌<◌, None, length, get_or, take, drop, ◌++◌, sym, subst, ap, refl, ◌∙◌}
+use Rattle.std.proofs.Common.{true, false, arith}
 use Rattle.tac_ir.specs.Intervals.{is_control}
 use Rattle.tac_ir.specs.Temps.{reads, writes}
 use Rattle.tac_live.proofs.Numbers.{all_from_in, at_item, is_in_left, is_in_right}
@@ -40,14 +41,21 @@ loop-i-preserved c =
     let at_index = c.loop-i.invariant.at in
     let here = at_item code c.loop-i.i-index i at c.loop-i-test.true c.i-item.is (omega arith) in
     let next : at ≡ suc upto = omega arith in
-    let same : after.at ≡ at = elim c.if-is_control.branch [ then-is_control w ↦ ap (λ (q : Place). q.at) w.place-is | else-is_control w ↦ ap (λ (q : Place). q.at) w.place-is ] in
+    let same : after.at ≡ at =
+    elim c.if-is_control.branch [
+      | then-is_control w ↦ ap
+          (λ (q : Place). q.at) w.place-is
+      | else-is_control w ↦ ap (λ (q : Place). q.at) w.place-is
+    ] in
     let last : IsLastControl code at after.control = elim c.if-is_control.branch [
       | then-is_control w ↦
           let e : is_control i ≡ true = cc in
-          subst (λ (q : Place). IsLastControl code at q.control) (sym w.place-is) (control_here code upto at c.loop-i.place.control i next here e)
+          subst (λ (q : Place). IsLastControl code at q.control) (sym w.place-is)
+          (control_here code upto at c.loop-i.place.control i next here e)
       | else-is_control w ↦
           let e : is_control i ≡ false = cc in
-          subst (λ (q : Place). IsLastControl code at q.control) (sym w.place-is) (control_before code upto at c.loop-i.place.control i next here e c.loop-i.invariant.control)
+          subst (λ (q : Place). IsLastControl code at q.control) (sym w.place-is)
+          (control_before code upto at c.loop-i.place.control i next here e c.loop-i.invariant.control)
     ] in
     let items = c.loop-i.uses.items in
     let len = c.deref_mut.ensures.len in
@@ -55,19 +63,29 @@ loop-i-preserved c =
     let vec = c.loop-i.invariant.len in
     let written = c.note_instruction.new.uses in
     let after_items = take c.loop-i.uses.len (written ++ drop (length written) items) in
-    let back : after_items ≡ written = written_back written (drop (length written) items) c.loop-i.uses.len (omega arith) in
+    let back : after_items ≡ written =
+    written_back written (drop (length written) items) c.loop-i.uses.len (omega arith) in
     record {
       at = omega arith;
       control = subst (λ n. IsLastControl code n after.control) (sym same) last;
       len = c.loop-i.invariant.len;
       uses = λ t lt.
-          let step = uses_step code upto at t next place i (get_or items t None) refl c.loop-i.invariant.control here (c.loop-i.invariant.uses t lt) in
-          let noted_now : get_or written t None ≡ noted place true (writes i) t (noted place false (reads i) t (get_or items t None)) = c.note_instruction.ensures t (omega arith) ∙ ap (λ xs. noted place true (writes i) t (noted place false (reads i) t (get_or xs t None))) c.deref_mut.ensures.value in
-          let now : get_or after_items t None ≡ noted place true (writes i) t (noted place false (reads i) t (get_or items t None)) = ap (λ xs. get_or xs t None) back ∙ noted_now in
-          subst (λ n. MatchUses code n t (get_or after_items t None)) (sym same) (subst (λ o. MatchUses code at t o) (sym now) step);
+          let step = uses_step code upto at t next place i (get_or items t None) refl c.loop-i.invariant.control here
+          (c.loop-i.invariant.uses t lt) in
+          let noted_now : get_or written t None ≡ noted place true (writes i) t
+          (noted place false (reads i) t (get_or items t None)) =
+          c.note_instruction.ensures t (omega arith)
+          ∙ ap (λ xs. noted place true (writes i) t (noted place false (reads i) t (get_or xs t None)))
+          c.deref_mut.ensures.value in
+          let now : get_or after_items t None ≡ noted place true (writes i) t
+          (noted place false (reads i) t (get_or items t None)) =
+          ap (λ xs. get_or xs t None) back ∙ noted_now in
+          subst (λ n. MatchUses code n t (get_or after_items t None)) (sym same)
+          (subst (λ o. MatchUses code at t o) (sym now) step);
     }
 
 pub returns-clause-uses : goal.returns-clause-uses
 returns-clause-uses c =
     let e : c.loop-i.place.at ≡ length c.args.code.now = let a = c.loop-i.invariant.at in omega arith in
-    λ t lt. subst (λ n. MatchUses c.args.code.now n t (get_or c.loop-i.uses.items t None)) e (c.loop-i.invariant.uses t lt)
+    λ t lt. subst (λ n. MatchUses c.args.code.now n t (get_or c.loop-i.uses.items t None)) e
+    (c.loop-i.invariant.uses t lt)

@@ -2,7 +2,8 @@ use Rattle.std.proofs.Common.{Some, subst, arith, inl, inr, ⊎_elim, ◌≡◌,
 use Rattle.std.proofs.lemmas.Bool.{cases_lt}
 use Rattle.std.specs.Prelude.{slice_get}
 use Rattle.c_tree.specs.Libraries.{services}
-use Rattle.tac_lower.proofs.Services.{asks_0, asks_1, asks_2, asks_4, asks_5, asks_6, asks_7, asks_8, asks_9, asks_10, asks_11, asks_12, asks_13, asks_14, asks_15, asks_16, asks_17, asks_other}
+use Rattle.tac_lower.proofs.Services.{asks_0, asks_1, asks_2, asks_4, asks_5, asks_6, asks_7, asks_8, asks_9, asks_10}
+use Rattle.tac_lower.proofs.Services.{asks_11, asks_12, asks_13, asks_14, asks_15, asks_16, asks_17, asks_other}
 use Rattle.tac_lower.proofs.calls.service_of.Goals as goal
 
 pub returns-in-0 : goal.returns-in-0
@@ -59,5 +60,7 @@ returns-in-17 c = λ s h. asks_17 s (subst (λ z. slice_get services z ≡ Some 
 pub returns-in_default : goal.returns-in_default
 returns-in_default c = λ s h.
     let d = c.in_default in
-    let w : (c.args.number ≡ 3) ⊎ (18 ≤ c.args.number) = ⊎_elim (λ (lt : c.args.number < 4). inl (omega arith)) (λ (ge : 4 ≤ c.args.number). inr (omega arith)) (cases_lt c.args.number 4) in
+    let w : (c.args.number ≡ 3) ⊎ (18 ≤ c.args.number) =
+    ⊎_elim (λ (lt : c.args.number < 4). inl (omega arith)) (λ (ge : 4 ≤ c.args.number). inr (omega arith))
+    (cases_lt c.args.number 4) in
     asks_other c.args.number s w h

@@ -4,4 +4,5 @@ use Rattle.tac_lower.proofs.Keeping.{asked_some}
 use Rattle.tac_lower.proofs.expressions.asked.Goals as goal
 
 pub returns-then-is_some : goal.returns-then-is_some
-returns-then-is_some c = λ e h. asked_some e c.args.to _ (sym (ap is_some (c.scalar.ensures c.requires.ready)) ∙ sym c.is_some.ensures ∙ c.if-is_some.true) h
+returns-then-is_some c = λ e h. asked_some e c.args.to _
+    (sym (ap is_some (c.scalar.ensures c.requires.ready)) ∙ sym c.is_some.ensures ∙ c.if-is_some.true) h

@@ -8,30 +8,40 @@ use Rattle.tac_lower.proofs.expressions.variable_step.Goals as goal
 pub give-requires : goal.give-requires
 give-requires c = record {
   same =
-      maybe_same _ c.args.to _ c.args.v.kind (maybe_kept c.args.v.kind c.args.to (grew (start c.requires.scene) c.in_ok-stepped.ensures.grown c.in_ok-stepped.ensures.adds) c.requires.to)
+      maybe_same _ c.args.to _ c.args.v.kind (maybe_kept c.args.v.kind c.args.to
+      (grew (start c.requires.scene) c.in_ok-stepped.ensures.grown c.in_ok-stepped.ensures.adds) c.requires.to)
       (kept _ _ _ _ c.requires.v c.in_ok-stepped.ensures.grown);
 }
 
 pub returns-then-front-clause-lowered : goal.returns-then-front-clause-lowered
-returns-then-front-clause-lowered c = tail_grew _ _ c.give.result (grew (start c.requires.scene) c.in_ok-stepped.ensures.grown c.in_ok-stepped.ensures.adds) c.give.ensures.grown c.give.ensures.adds (omega arith)
+returns-then-front-clause-lowered c =
+    tail_grew _ _ c.give.result (grew (start c.requires.scene) c.in_ok-stepped.ensures.grown
+    c.in_ok-stepped.ensures.adds) c.give.ensures.grown c.give.ensures.adds (omega arith)
 
 pub returns-then-front-clause-spends : goal.returns-then-front-clause-spends
-returns-then-front-clause-spends c = last_and _ _ _ c.give.result (plainly c.in_ok-stepped.ensures.spent) c.give.ensures.spent (omega arith) (omega arith)
+returns-then-front-clause-spends c =
+    last_and _ _ _ c.give.result (plainly c.in_ok-stepped.ensures.spent) c.give.ensures.spent (omega arith)
+    (omega arith)
 
 pub give-requires-2 : goal.give-requires-2
 give-requires-2 c = record {
   same =
       maybe_same _ c.args.to _ c.args.v.kind
-      (maybe_kept c.args.v.kind c.args.to (grew (grew c.in_ok-old.ensures.lowered c.in_ok-copy.ensures.grown c.in_ok-copy.ensures.adds) c.in_ok-stepped-2.ensures.grown c.in_ok-stepped-2.ensures.adds) c.requires.to)
+      (maybe_kept c.args.v.kind c.args.to (grew
+      (grew c.in_ok-old.ensures.lowered c.in_ok-copy.ensures.grown c.in_ok-copy.ensures.adds)
+      c.in_ok-stepped-2.ensures.grown c.in_ok-stepped-2.ensures.adds) c.requires.to)
       (kept _ _ _ _ (kept _ _ _ _ c.in_ok-old.ensures.has c.in_ok-copy.ensures.grown) c.in_ok-stepped-2.ensures.grown);
 }
 
 pub returns-clause-lowered : goal.returns-clause-lowered
 returns-clause-lowered c =
-    tail_grew _ _ c.give-2.result (grew (grew c.in_ok-old.ensures.lowered c.in_ok-copy.ensures.grown c.in_ok-copy.ensures.adds) c.in_ok-stepped-2.ensures.grown c.in_ok-stepped-2.ensures.adds) c.give-2.ensures.grown c.give-2.ensures.adds (omega arith)
+    tail_grew _ _ c.give-2.result (grew (grew c.in_ok-old.ensures.lowered c.in_ok-copy.ensures.grown
+    c.in_ok-copy.ensures.adds) c.in_ok-stepped-2.ensures.grown c.in_ok-stepped-2.ensures.adds)
+    c.give-2.ensures.grown c.give-2.ensures.adds (omega arith)
 
 pub returns-clause-spends : goal.returns-clause-spends
 returns-clause-spends c =
     let small = extra_small c.args.cx.fixed c.args.to in
-    last_and _ _ _ c.give-2.result (and (and (owned nothing c.in_ok-old.ensures.owns) c.in_ok-copy.ensures.spent) c.in_ok-stepped-2.ensures.spent)
+    last_and _ _ _ c.give-2.result (and (and (owned nothing c.in_ok-old.ensures.owns) c.in_ok-copy.ensures.spent)
+    c.in_ok-stepped-2.ensures.spent)
     c.give-2.ensures.spent (omega (arith, small)) (omega arith)

@@ -29,7 +29,8 @@ loop-x-preserved c =
     record {
       lowered = at_most (both c.loop-x.invariant.lowered c.in_ok-take_parameter.ensures.lowered)
           (omega arith);
-      spent = spent_within (spent_then c.loop-x.invariant.spent c.in_ok-take_parameter.ensures.spent) (omega arith) (omega arith);
+      spent = spent_within (spent_then c.loop-x.invariant.spent c.in_ok-take_parameter.ensures.spent) (omega arith)
+          (omega arith);
       number = omega arith;
     }
 

@@ -71,4 +71,7 @@ returns-clause-formed c =
 
 pub returns-clause-costs : goal.returns-clause-costs
 returns-clause-costs c =
-    record { functions = (subst (λ z. CostsTo c.args.p.now z c.loop-d.d-index) (sym c.from_vec.ensures) c.loop-d.invariant.costs).each }
+    record {
+      functions = (subst (λ z. CostsTo c.args.p.now z c.loop-d.d-index)
+          (sym c.from_vec.ensures) c.loop-d.invariant.costs).each;
+    }

@@ -17,19 +17,26 @@ int-requires-clause-left c =
     subst (λ z. HasKind c.right_operand.new.out c.args.x.temp z) e (kept _ _ _ _ c.requires.x c.in_ok-b.ensures.grown)
 
 pub returns-then-same_kind-clause-grown : goal.returns-then-same_kind-clause-grown
-returns-then-same_kind-clause-grown c = IfOk-weaker c.int.result _ _ (λ r g. grown_then _ _ _ c.in_ok-b.ensures.grown g) c.int.ensures.grown
+returns-then-same_kind-clause-grown c =
+    IfOk-weaker c.int.result _ _ (λ r g. grown_then _ _ _ c.in_ok-b.ensures.grown g) c.int.ensures.grown
 
 pub fresh_conversion-requires-clause-from : goal.fresh_conversion-requires-clause-from
 fresh_conversion-requires-clause-from c = kept _ _ _ _ c.requires.x c.in_ok-b.ensures.grown
 
 pub int-requires-2-clause-right : goal.int-requires-2-clause-right
-int-requires-2-clause-right c = kept_count _ _ _ _ _ (c.in_ok-b.ensures.count c.args.kind c.requires.right) c.in_ok-u.ensures.grown
+int-requires-2-clause-right c =
+    kept_count _ _ _ _ _ (c.in_ok-b.ensures.count c.args.kind c.requires.right) c.in_ok-u.ensures.grown
 
 pub convert-requires-clause-to : goal.convert-requires-clause-to
-convert-requires-clause-to c = kept _ _ _ _ c.requires.to (grown_then _ _ _ (grown_then _ _ _ c.in_ok-b.ensures.grown c.in_ok-u.ensures.grown) c.in_ok-int.ensures.grown)
+convert-requires-clause-to c =
+    kept _ _ _ _ c.requires.to (grown_then _ _ _
+    (grown_then _ _ _ c.in_ok-b.ensures.grown c.in_ok-u.ensures.grown) c.in_ok-int.ensures.grown)
 
 pub convert-requires-clause-from : goal.convert-requires-clause-from
 convert-requires-clause-from c = kept _ _ _ _ c.in_ok-u.ensures.has c.in_ok-int.ensures.grown
 
 pub returns-clause-grown : goal.returns-clause-grown
-returns-clause-grown c = IfOk-weaker c.convert.result _ _ (λ r g. grown_then _ _ _ (grown_then _ _ _ (grown_then _ _ _ c.in_ok-b.ensures.grown c.in_ok-u.ensures.grown) c.in_ok-int.ensures.grown) g) c.convert.ensures.grown
+returns-clause-grown c = IfOk-weaker c.convert.result _ _
+    (λ r g. grown_then _ _ _ (grown_then _ _ _
+    (grown_then _ _ _ c.in_ok-b.ensures.grown c.in_ok-u.ensures.grown) c.in_ok-int.ensures.grown) g)
+    c.convert.ensures.grown

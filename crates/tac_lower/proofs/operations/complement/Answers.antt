@@ -3,4 +3,5 @@ use Rattle.tac_lower.proofs.Wells.{grown_then}
 use Rattle.tac_lower.proofs.operations.complement.Goals as goal
 
 pub returns-clause-grown : goal.returns-clause-grown
-returns-clause-grown c = IfOk-weaker c.int.result _ _ (λ r g. grown_then _ _ _ c.in_ok-ones.ensures.grown g) c.int.ensures.grown
+returns-clause-grown c = IfOk-weaker c.int.result _ _
+    (λ r g. grown_then _ _ _ c.in_ok-ones.ensures.grown g) c.int.ensures.grown

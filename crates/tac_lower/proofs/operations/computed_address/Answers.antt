@@ -5,7 +5,9 @@ pub address_operand-requires-clause-y : goal.address_operand-requires-clause-y
 address_operand-requires-clause-y c = kept _ _ _ _ c.requires.y c.in_ok-n.ensures.grown
 
 pub returns-clause-held : goal.returns-clause-held
-returns-clause-held c = kept _ _ _ _ (kept _ _ _ _ c.in_ok-n.ensures.has c.in_ok-m.ensures.grown) c.in_ok-int.ensures.grown
+returns-clause-held c = kept _ _ _ _ (kept _ _ _ _ c.in_ok-n.ensures.has c.in_ok-m.ensures.grown)
+    c.in_ok-int.ensures.grown
 
 pub returns-clause-grown : goal.returns-clause-grown
-returns-clause-grown c = (grown_then _ _ _ (grown_then _ _ _ c.in_ok-n.ensures.grown c.in_ok-m.ensures.grown) c.in_ok-int.ensures.grown)
+returns-clause-grown c = (grown_then _ _ _
+    (grown_then _ _ _ c.in_ok-n.ensures.grown c.in_ok-m.ensures.grown) c.in_ok-int.ensures.grown)

@@ -8,4 +8,5 @@ pub fresh_constant-requires-clause-value : goal.fresh_constant-requires-clause-v
 fresh_constant-requires-clause-value c = zero_fits (kinds.Int c.args.kind)
 
 pub returns-clause-grown : goal.returns-clause-grown
-returns-clause-grown c = IfOk-weaker c.int.result _ _ (λ r g. grown_then _ _ _ c.in_ok-zero.ensures.grown g) c.int.ensures.grown
+returns-clause-grown c = IfOk-weaker c.int.result _ _
+    (λ r g. grown_then _ _ _ c.in_ok-zero.ensures.grown g) c.int.ensures.grown

@@ -6,13 +6,22 @@ use Rattle.tac_lower.proofs.Constants.{wide_fits, wide_is}
 use Rattle.tac_lower.proofs.operations.scaled.Goals as goal
 
 pub fresh_constant-requires-clause-value : goal.fresh_constant-requires-clause-value
-fresh_constant-requires-clause-value c = wide_fits c.wide_kind-kind.result c.args.by (subst (λ z. IsWide (kinds.Int z)) (sym c.wide_kind-kind.ensures) (wide_is c.args.i.kind)) (omega arith)
+fresh_constant-requires-clause-value c =
+    wide_fits c.wide_kind-kind.result c.args.by
+    (subst (λ z. IsWide (kinds.Int z)) (sym c.wide_kind-kind.ensures) (wide_is c.args.i.kind)) (omega arith)
 
 pub fresh_constant-requires-else-is_wide-clause-value : goal.fresh_constant-requires-else-is_wide-clause-value
-fresh_constant-requires-else-is_wide-clause-value c = wide_fits c.wide_kind-kind.result c.args.by (subst (λ z. IsWide (kinds.Int z)) (sym c.wide_kind-kind.ensures) (wide_is c.args.i.kind)) (omega arith)
+fresh_constant-requires-else-is_wide-clause-value c =
+    wide_fits c.wide_kind-kind.result c.args.by
+    (subst (λ z. IsWide (kinds.Int z)) (sym c.wide_kind-kind.ensures) (wide_is c.args.i.kind)) (omega arith)
 
 pub returns-in_ok-int-clause-bytes : goal.returns-in_ok-int-clause-bytes
-returns-in_ok-int-clause-bytes c = record { kind = kinds.Int c.wide_kind-kind.result; has = kept _ _ _ _ c.in_ok-to.ensures.has c.in_ok-int.ensures.grown; is = refl }
+returns-in_ok-int-clause-bytes c =
+    record {
+      kind = kinds.Int c.wide_kind-kind.result;
+      has = kept _ _ _ _ c.in_ok-to.ensures.has c.in_ok-int.ensures.grown;
+      is = refl;
+    }
 
 pub int-requires-else-is_wide-clause-to : goal.int-requires-else-is_wide-clause-to
 int-requires-else-is_wide-clause-to c = kept _ _ _ _ c.in_ok-n.ensures.has c.in_ok-size-2.ensures.grown
@@ -21,7 +30,9 @@ pub int-requires-else-is_wide-clause-left : goal.int-requires-else-is_wide-claus
 int-requires-else-is_wide-clause-left c = kept _ _ _ _ c.in_ok-n.ensures.has c.in_ok-size-2.ensures.grown
 
 pub returns-in_ok-int-clause-grown : goal.returns-in_ok-int-clause-grown
-returns-in_ok-int-clause-grown c = grown_then _ _ _ (grown_then _ _ _ c.in_ok-size.ensures.grown c.in_ok-to.ensures.grown) c.in_ok-int.ensures.grown
+returns-in_ok-int-clause-grown c =
+    grown_then _ _ _ (grown_then _ _ _ c.in_ok-size.ensures.grown c.in_ok-to.ensures.grown) c.in_ok-int.ensures.grown
 
 pub returns-in_ok-int-2-clause-grown : goal.returns-in_ok-int-2-clause-grown
-returns-in_ok-int-2-clause-grown c = grown_then _ _ _ (grown_then _ _ _ c.in_ok-n.ensures.grown c.in_ok-size-2.ensures.grown) c.in_ok-int-2.ensures.grown
+returns-in_ok-int-2-clause-grown c =
+    grown_then _ _ _ (grown_then _ _ _ c.in_ok-n.ensures.grown c.in_ok-size-2.ensures.grown) c.in_ok-int-2.ensures.grown

@@ -7,4 +7,5 @@ pub fresh_constant-requires-clause-value : goal.fresh_constant-requires-clause-v
 fresh_constant-requires-clause-value c = one_fits c.args.x.kind
 
 pub returns-in_ok-one-in-Int-clause-grown : goal.returns-in_ok-one-in-Int-clause-grown
-returns-in_ok-one-in-Int-clause-grown c = IfOk-weaker c.int.result _ _ (λ r g. grown_then _ _ _ c.in_ok-one-in-Int.ensures.grown g) c.int.ensures.grown
+returns-in_ok-one-in-Int-clause-grown c =
+    IfOk-weaker c.int.result _ _ (λ r g. grown_then _ _ _ c.in_ok-one-in-Int.ensures.grown g) c.int.ensures.grown

@@ -4,13 +4,20 @@ use Rattle.tac_lower.specs.Nodes.{weight_in, expression}
 use Rattle.tac_lower.specs.Parts.{statement, heft_in, hefts_in, entered, entered_in, all_entered_in, or_none}
 use Rattle.tac_lower.specs.Scenes.{Opened, frame_of}
 use Rattle.tac_lower.specs.Statements.{AreParts, labels_in}
-use Rattle.tac_lower.proofs.Below.{below, block_body, if_first, if_second, while_body, do_body, for_first, for_body, switch_body}
-use Rattle.tac_lower.proofs.Loops.{begun, begun_stands, stands_still, stands_behind, behind_second, tail_turned, tail_behind}
-use Rattle.tac_lower.proofs.Placings.{typed_some, typed_none, evaluates, initialises, blocks, chooses, whiles, does, fors, switches, returns_value, are_parts, part_at, exits_lowered, exits_opened, exit_opened, at_most_ok, hefts_next, hefts_within, hefts_taken}
+use Rattle.tac_lower.proofs.Below.{below, block_body, if_first, if_second, while_body, do_body, for_first, for_body}
+use Rattle.tac_lower.proofs.Below.{switch_body}
+use Rattle.tac_lower.proofs.Loops.{begun, begun_stands, stands_still, stands_behind, behind_second, tail_turned}
+use Rattle.tac_lower.proofs.Loops.{tail_behind}
+use Rattle.tac_lower.proofs.Placings.{typed_some, typed_none, evaluates, initialises, blocks, chooses, whiles, does}
+use Rattle.tac_lower.proofs.Placings.{fors, switches, returns_value, are_parts, part_at, exits_lowered, exits_opened}
+use Rattle.tac_lower.proofs.Placings.{exit_opened, at_most_ok, hefts_next, hefts_within, hefts_taken}
 use Rattle.tac_lower.proofs.Entering.{all_entered_next, all_entered_taken, hefty}
 use Rattle.tac_lower.proofs.Scening.{opened_none}
-use Rattle.tac_lower.proofs.Spending.{nothing, plainly, after, and, within, last, last_and, last_pushed, begun_spent, forked_spent, labelled_spent}
-use Rattle.tac_lower.proofs.Steps.{heavy, start, both, at_most, still, as_kind, room, less_room, tail, tail_grew, tail_stands, fork, label, opened, turned, first_open, second_open, opened_has, opened_room}
+use Rattle.tac_lower.proofs.Spending.{nothing, plainly, after, and, within, last, last_and, last_pushed, begun_spent}
+use Rattle.tac_lower.proofs.Spending.{forked_spent, labelled_spent}
+use Rattle.tac_lower.proofs.Steps.{heavy, start, both, at_most, still, as_kind, room, less_room, tail, tail_grew}
+use Rattle.tac_lower.proofs.Steps.{tail_stands, fork, label, opened, turned, first_open, second_open, opened_has}
+use Rattle.tac_lower.proofs.Steps.{opened_room}
 use Rattle.tac_lower.proofs.Switching.{opened_beside, opened_at_most, opened_label, open_last, none_behind}
 use Rattle.tac_lower.proofs.statements.+statements.Goals as goal
 
@@ -202,7 +209,8 @@ tested_loop-returns-clause-lowered t c =
 pub tested_loop-returns-clause-spends : goal.tested_loop-returns-clause-spends
 tested_loop-returns-clause-spends t c =
     last_and _ _ _ c.end_loop.result
-    (after (after (after (plainly (begun_spent c.in_ok-circle.ensures.begun)) c.in_ok-test_loop.ensures.spends) c.in_ok-loop_body.ensures.spends)
+    (after (after (after (plainly (begun_spent c.in_ok-circle.ensures.begun)) c.in_ok-test_loop.ensures.spends)
+    c.in_ok-loop_body.ensures.spends)
     c.in_ok-step_loop.ensures.spends) c.end_loop.ensures.spent (omega arith) (omega arith)
 
 pub repeated_loop-condition-requires-clause-scene : goal.repeated_loop-condition-requires-clause-scene
@@ -236,7 +244,8 @@ repeated_loop-returns-clause-lowered t c =
 pub repeated_loop-returns-clause-spends : goal.repeated_loop-returns-clause-spends
 repeated_loop-returns-clause-spends t c =
     last_and _ _ _ c.end_loop.result
-    (after (after (plainly (begun_spent c.in_ok-circle.ensures.begun)) c.in_ok-loop_body.ensures.spends) c.in_ok-condition.ensures.spends)
+    (after (after (plainly (begun_spent c.in_ok-circle.ensures.begun)) c.in_ok-loop_body.ensures.spends)
+    c.in_ok-condition.ensures.spends)
     c.end_loop.ensures.spent (omega arith) (omega arith)
 
 -- ---- choices
@@ -271,8 +280,10 @@ choice-returns-clause-lowered t c =
 pub choice-returns-clause-spends : goal.choice-returns-clause-spends
 choice-returns-clause-spends t c =
     last_pushed _ _ c.join_fork.result
-    (after (and (after (after (plainly (forked_spent c.fork-fork.ensures.forked)) c.in_ok-condition.ensures.spends) c.in_ok-statement.ensures.spends)
-    c.in_ok-turn_fork.ensures.spent) c.in_ok-statement-2.ensures.spends) c.join_fork.ensures.stands (omega arith) (omega arith)
+    (after (and (after (after (plainly (forked_spent c.fork-fork.ensures.forked)) c.in_ok-condition.ensures.spends)
+    c.in_ok-statement.ensures.spends)
+    c.in_ok-turn_fork.ensures.spent) c.in_ok-statement-2.ensures.spends) c.join_fork.ensures.stands (omega arith)
+    (omega arith)
 
 pub guarded-condition-requires-clause-scene : goal.guarded-condition-requires-clause-scene
 guarded-condition-requires-clause-scene t c = (label c.requires.scene c.label-label.ensures.labelled).scene
@@ -294,14 +305,18 @@ guarded-returns-clause-lowered t c =
 pub guarded-returns-clause-spends : goal.guarded-returns-clause-spends
 guarded-returns-clause-spends t c =
     last_and _ _ _ c.stand.result
-    (after (after (plainly (labelled_spent c.label-label.ensures.labelled)) c.in_ok-condition.ensures.spends) c.in_ok-statement.ensures.spends)
+    (after (after (plainly (labelled_spent c.label-label.ensures.labelled)) c.in_ok-condition.ensures.spends)
+    c.in_ok-statement.ensures.spends)
     c.stand.ensures.spent (omega arith) (omega arith)
 
 -- ---- lists of statements
 
 pub statements-loop-s-init : goal.statements-loop-s-init
 statements-loop-s-init t c =
-    record { lowered = at_most (start c.requires.scene) (omega arith); spends = within nothing (omega arith) (omega arith) }
+    record {
+      lowered = at_most (start c.requires.scene) (omega arith);
+      spends = within nothing (omega arith) (omega arith);
+    }
 
 pub statements-loop-s-preserved : goal.statements-loop-s-preserved
 statements-loop-s-preserved t c =
@@ -331,7 +346,8 @@ block-returns-clause-lowered t c =
 
 pub block-returns-clause-spends : goal.block-returns-clause-spends
 block-returns-clause-spends t c =
-    last _ _ _ c.statements.result (plainly c.in_ok-enter.ensures.spent) c.statements.ensures.spends (omega arith) (omega arith)
+    last _ _ _ c.statements.result (plainly c.in_ok-enter.ensures.spent) c.statements.ensures.spends (omega arith)
+    (omega arith)
 
 -- ---- a statement by its kind
 
@@ -777,7 +793,8 @@ switch-loop-s-init t c =
           (opened_beside (c.label-end.result ∷ []) (labels_in c.in_ok-cases.cases) one c.in_ok-cases.ensures.opened)
           (omega arith);
       spends = within
-          (and (and (and c.in_ok-v.ensures.spends c.in_ok-enter.ensures.spent) (labelled_spent c.label-end.ensures.labelled))
+          (and (and (and c.in_ok-v.ensures.spends c.in_ok-enter.ensures.spent)
+          (labelled_spent c.label-end.ensures.labelled))
           c.in_ok-cases.ensures.spent) (omega (arith, some)) (omega (arith, some));
     }
 
@@ -849,7 +866,8 @@ switch-loop-s-preserved t c =
     let enters = all_entered_next p c.args.cx.d.now c.args.body.now i (omega arith) in
     record {
       opened = opened_at_most (opened o c.in_ok-statement.ensures.lowered) (omega (arith, next));
-      spends = within (after (and c.loop-s.invariant.spends c.in_ok-first.ensures.spent) c.in_ok-statement.ensures.spends)
+      spends = within (after (and c.loop-s.invariant.spends c.in_ok-first.ensures.spent)
+          c.in_ok-statement.ensures.spends)
           (omega (arith, next)) (omega (arith, next, enters));
     }
 

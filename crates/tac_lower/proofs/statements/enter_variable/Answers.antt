@@ -28,8 +28,10 @@ returns-in-Some-Temp-clause-lowered c =
 
 pub returns-in-Some-Temp-clause-spent : goal.returns-in-Some-Temp-clause-spent
 returns-in-Some-Temp-clause-spent c =
-    let one = entered_one c.args.cx.d.now c.args.x (c.is_parameter.ensures.other c.if-is_parameter.false) c.requires.there in
-    IfOk-weaker c.constant.result _ _ (λ r h. spent_within h (omega arith) (omega (arith, one))) c.constant.ensures.spent
+    let one = entered_one c.args.cx.d.now c.args.x
+    (c.is_parameter.ensures.other c.if-is_parameter.false) c.requires.there in
+    IfOk-weaker c.constant.result _ _ (λ r h. spent_within h (omega arith) (omega (arith, one)))
+    c.constant.ensures.spent
 
 pub returns-in-Some-Object-clause-lowered : goal.returns-in-Some-Object-clause-lowered
 returns-in-Some-Object-clause-lowered c =
@@ -38,8 +40,10 @@ returns-in-Some-Object-clause-lowered c =
 
 pub returns-in-Some-Object-clause-spent : goal.returns-in-Some-Object-clause-spent
 returns-in-Some-Object-clause-spent c =
-    let one = entered_one c.args.cx.d.now c.args.x (c.is_parameter.ensures.other c.if-is_parameter.false) c.requires.there in
-    IfOk-weaker c.enter_object.result _ _ (λ r h. spent_within h (omega arith) (omega (arith, one))) c.enter_object.ensures.spent
+    let one = entered_one c.args.cx.d.now c.args.x
+    (c.is_parameter.ensures.other c.if-is_parameter.false) c.requires.there in
+    IfOk-weaker c.enter_object.result _ _ (λ r h. spent_within h (omega arith) (omega (arith, one)))
+    c.enter_object.ensures.spent
 
 pub returns-then-is_parameter-clause-lowered : goal.returns-then-is_parameter-clause-lowered
 returns-then-is_parameter-clause-lowered c = start c.requires.scene

@@ -32,4 +32,5 @@ returns-clause-lowered c =
 pub returns-clause-spends : goal.returns-clause-spends
 returns-clause-spends c =
     last_and _ _ _ c.store.result (and c.in_ok-v.ensures.spends c.in_ok-at.ensures.spent) c.store.ensures.spent
-    (omega (arith, heavy (expression c.args.cx.p.now c.args.a))) (omega (arith, heavy (expression c.args.cx.p.now c.args.a)))
+    (omega (arith, heavy (expression c.args.cx.p.now c.args.a)))
+    (omega (arith, heavy (expression c.args.cx.p.now c.args.a)))

@@ -47,7 +47,8 @@ returns-in_ok-effect-in-None-clause-spends c =
     c.requires.part in
     let h = part.weight in
     let one = heavy (expression c.args.cx.p.now c.in-Some.a) in
-    last_and _ _ _ c.leave-in-None.result c.in_ok-effect-in-None.ensures.spends c.leave-in-None.ensures.spent (omega arith) (omega arith)
+    last_and _ _ _ c.leave-in-None.result c.in_ok-effect-in-None.ensures.spends c.leave-in-None.ensures.spent
+    (omega arith) (omega arith)
 
 pub operand-requires-clause-typed : goal.operand-requires-clause-typed
 operand-requires-clause-typed c = c.requires.part.value c.in-Some.a c.in-Some.is

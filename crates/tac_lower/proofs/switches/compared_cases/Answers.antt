@@ -6,7 +6,8 @@ use Rattle.tac_lower.specs.Scenes.{Opened}
 use Rattle.tac_lower.specs.Statements.{labels_of}
 use Rattle.tac_lower.proofs.Scening.{opened_none, opened_then, grown_lowered}
 use Rattle.tac_lower.proofs.Spending.{spent_then, spent_within, labelled_spent}
-use Rattle.tac_lower.proofs.Switching.{opened_permuted, opened_at_most, opened_grown, opened_label, open_beside, open_here, open_grown, labels_pushed, switched_kept}
+use Rattle.tac_lower.proofs.Switching.{opened_permuted, opened_at_most, opened_grown, opened_label, open_beside}
+use Rattle.tac_lower.proofs.Switching.{open_here, open_grown, labels_pushed, switched_kept}
 use Rattle.tac_lower.proofs.Wells.{keeps_same, keeps_then}
 use Rattle.tac_lower.proofs.switches.compared_cases.Goals as goal
 use Rattle.tac_lower.proofs.switches.compared_cases.Goals.{then-is_none, else-is_none}
@@ -54,7 +55,8 @@ loop-l-preserved c =
     record {
       opened = opened_at_most (subst (λ z. Opened p d types homes a b z (c.loop-l.l-index + 2 + 1)) (sym same) last)
           (omega arith);
-      spent = spent_within (spent_then (spent_then c.loop-l.invariant.spent (labelled_spent made)) c.in_ok-compare_label.ensures.spent) (omega arith) (omega arith);
+      spent = spent_within (spent_then (spent_then c.loop-l.invariant.spent (labelled_spent made))
+          c.in_ok-compare_label.ensures.spent) (omega arith) (omega arith);
       switched = switched_kept _ _ _ (keeps_then _ _ _ (keeps_same _ _ made.kinds) grown.keeps)
           c.loop-l.invariant.switched;
       otherwise = elim c.if-is_none.branch [
@@ -68,7 +70,9 @@ pub returns-clause-opened : goal.returns-clause-opened
 returns-clause-opened c =
     let at_end = opened_grown c.loop-l.invariant.opened c.in_ok-jump.ensures.grown c.in_ok-jump.ensures.adds in
     opened_at_most
-    (opened_permuted _ _ at_end (IsPermutation-map (λ (k : Case). k.label) _ _ c.in_ok-sort_by_key.ensures.permutation)) (omega arith)
+    (opened_permuted _ _ at_end (IsPermutation-map (λ (k : Case). k.label) _ _ c.in_ok-sort_by_key.ensures.permutation))
+    (omega arith)
 
 pub returns-clause-spent : goal.returns-clause-spent
-returns-clause-spent c = spent_within (spent_then c.loop-l.invariant.spent c.in_ok-jump.ensures.spent) (omega arith) (omega arith)
+returns-clause-spent c = spent_within (spent_then c.loop-l.invariant.spent c.in_ok-jump.ensures.spent) (omega arith)
+    (omega arith)

@@ -21,6 +21,7 @@ returns c =
     let count = c.outgoing-outgoing in
     let placed = subst (λ ls. HasFrame ls homes.homes count.result g) c.in_ok-locals.ensures given.frame in
     let has =
-    subst (λ n. HasFrame (map owned_need (local_needs types d)) homes.homes n g) (count.ensures ∙ ap outgoing c.as_slice.ensures)
+    subst (λ n. HasFrame (map owned_need (local_needs types d)) homes.homes n g)
+    (count.ensures ∙ ap outgoing c.as_slice.ensures)
     placed in
     frame_fits c.args.p.now d c.args.f.now homes g c.requires.homes c.requires.costs has given.saved

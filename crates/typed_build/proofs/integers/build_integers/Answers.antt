@@ -35,7 +35,8 @@ returns-clause-built c =
       same = given.same;
     } in
     let w = c.in_ok-elf.field-0 in
-    is_built p t c.in_ok-selected.selected low (c.in_ok-selected.ensures p low) c.args.sizes c.requires.sizes w.map w.elf.items
+    is_built p t c.in_ok-selected.selected low
+    (c.in_ok-selected.ensures p low) c.args.sizes c.requires.sizes w.map w.elf.items
     c.in_ok-elf.ensures.written c.count_of-count.result c.count_of-count.ensures
 
 pub returns-clause-sized : goal.returns-clause-sized

@@ -14,7 +14,8 @@ pub returns-clause-built : goal.returns-clause-built
 returns-clause-built c =
     let w = c.in_ok-elf.field-0 in
     let given = c.in_ok-selected.ensures in
-    is_built c.args.p.now c.in_ok-selected.selected given.selects given.contained c.args.sizes c.requires.sizes w.map w.elf.items
+    is_built c.args.p.now c.in_ok-selected.selected given.selects given.contained c.args.sizes c.requires.sizes w.map
+    w.elf.items
     c.in_ok-elf.ensures.written c.count_of-count.result c.count_of-count.ensures
     (λ form. absurd (false≢true (sym c.requires.other ∙ form)))
 

@@ -5,4 +5,9 @@ use Rattle.typed_build.proofs.whole.code_of.Goals as goal
 pub lower-requires : goal.lower-requires
 lower-requires c =
     let w = well_typed c.args.p.now c.requires.sound in
-    record { ordered = ordered_of c.args.p.now w.ordered; listed = w.ordered; typed = record { each = w.funs }; light = c.requires.light }
+    record {
+      ordered = ordered_of c.args.p.now w.ordered;
+      listed = w.ordered;
+      typed = record { each = w.funs };
+      light = c.requires.light;
+    }

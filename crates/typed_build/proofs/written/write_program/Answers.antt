@@ -19,7 +19,8 @@ place-requires c =
     let given = c.requires.selects in
     let text = c.in_ok-text.text in
     let count : c.len.result ≡ length text.items = omega (arith, c.len.ensures, text.ok) in
-    let is = long p s given c.len.result text.items c.deref.result.now count c.in_ok-text.ensures c.deref.ensures.value in
+    let is = long p s given c.len.result text.items c.deref.result.now count c.in_ok-text.ensures c.deref.ensures.value
+    in
     let sized = is_sized p s given in
     record {
       entries = given.each;
@@ -38,8 +39,10 @@ table-requires c =
     let given = c.requires.selects in
     let text = c.in_ok-text.text in
     let count : c.len.result ≡ length text.items = omega (arith, c.len.ensures, text.ok) in
-    let is = long p s given c.len.result text.items c.deref.result.now count c.in_ok-text.ensures c.deref.ensures.value in
-    let placing = subst (λ n. IsPlacing p s.frames.items s.entries.items n c.args.sizes m) is c.in_ok-map.ensures.placed in
+    let is = long p s given c.len.result text.items c.deref.result.now count c.in_ok-text.ensures c.deref.ensures.value
+    in
+    let placing = subst (λ n. IsPlacing p s.frames.items s.entries.items n c.args.sizes m) is c.in_ok-map.ensures.placed
+    in
     record {
       sound = c.requires.sound;
       legal = legal p s given c.args.sizes c.requires.sizes m placing;
@@ -54,8 +57,10 @@ image_of-image-requires c =
     let given = c.requires.selects in
     let text = c.in_ok-text.text in
     let count : c.len.result ≡ length text.items = omega (arith, c.len.ensures, text.ok) in
-    let is = long p s given c.len.result text.items c.deref.result.now count c.in_ok-text.ensures c.deref.ensures.value in
-    let placing = subst (λ n. IsPlacing p s.frames.items s.entries.items n c.args.sizes m) is c.in_ok-map.ensures.placed in
+    let is = long p s given c.len.result text.items c.deref.result.now count c.in_ok-text.ensures c.deref.ensures.value
+    in
+    let placing = subst (λ n. IsPlacing p s.frames.items s.entries.items n c.args.sizes m) is c.in_ok-map.ensures.placed
+    in
     entry_below p s given c.args.sizes c.requires.sizes m placing
 
 pub returns-clause-written : goal.returns-clause-written
@@ -66,8 +71,10 @@ returns-clause-written c =
     let given = c.requires.selects in
     let text = c.in_ok-text.text in
     let count : c.len.result ≡ length text.items = omega (arith, c.len.ensures, text.ok) in
-    let is = long p s given c.len.result text.items c.deref.result.now count c.in_ok-text.ensures c.deref.ensures.value in
-    let placing = subst (λ n. IsPlacing p s.frames.items s.entries.items n c.args.sizes m) is c.in_ok-map.ensures.placed in
+    let is = long p s given c.len.result text.items c.deref.result.now count c.in_ok-text.ensures c.deref.ensures.value
+    in
+    let placing = subst (λ n. IsPlacing p s.frames.items s.entries.items n c.args.sizes m) is c.in_ok-map.ensures.placed
+    in
     let t = c.in_ok-contents.contents in
     let base = t.base in
     let bytes = t.bytes.items in
@@ -81,7 +88,8 @@ returns-clause-written c =
     } in
     let image : c.image_of-image.result ≡ image_with p s m base bytes relocs =
     c.image_of-image.ensures
-    ∙ ap (λ x. image_of m s.start x base bytes relocs s.lines.items c.args.count) (c.in_ok-text.ensures ∙ ap text_of c.deref.ensures.value)
+    ∙ ap (λ x. image_of m s.start x base bytes relocs s.lines.items c.args.count)
+    (c.in_ok-text.ensures ∙ ap text_of c.deref.ensures.value)
     ∙ ap (λ n. image_of m s.start (text_of s.code.items) base bytes relocs s.lines.items n) c.requires.count in
     let elf = c.in_ok-elf.elf.items in
     let rules = keeps_rules p s given c.args.sizes c.requires.sizes m placing base bytes relocs begins in
@@ -94,5 +102,6 @@ returns-clause-written c =
       begins = begins;
       whole = c.in_ok-elf.ensures.bytes ∙ ap file_of image;
       read = subst (λ (i : Image). KeepsRules i → reading elf ≡ Ok i) image c.in_ok-elf.ensures.read_back rules;
-      fine = fine p s given c.args.sizes c.requires.sizes m placing base bytes relocs begins ordered c.in_ok-map.ensures.within;
+      fine = fine p s given c.args.sizes c.requires.sizes m placing base bytes relocs begins ordered
+          c.in_ok-map.ensures.within;
     }

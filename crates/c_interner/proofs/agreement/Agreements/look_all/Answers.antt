@@ -7,7 +7,9 @@ use Rattle.c_interner.proofs.agreement.Agreements.look_all.Goals.{in-None+in_ok-
 
 pub returns-in-Some-false : goal.returns-in-Some-false
 returns-in-Some-false c =
-    pairs_agree_false (lengths_of c.args.self.now.how) (type_in c.args.self.now.types.now) c.args.pairs.now c.loop-pair.pair-index _ c.loop-pair-test.true (c.in-Some-false.ensures ∙ c.in-Some-false.field-0-test)
+    pairs_agree_false (lengths_of c.args.self.now.how)
+    (type_in c.args.self.now.types.now) c.args.pairs.now c.loop-pair.pair-index _ c.loop-pair-test.true
+    (c.in-Some-false.ensures ∙ c.in-Some-false.field-0-test)
 
 pub loop-pair-preserved : goal.loop-pair-preserved
 loop-pair-preserved c =
@@ -15,6 +17,8 @@ loop-pair-preserved c =
       | in-None+in_ok-push-in-None w ↦ (λ e. absurd cc)
       | in-Some-true w ↦
           (λ e.
-          pairs_agree_next (lengths_of c.args.self.now.how) (type_in c.args.self.now.types.now) c.args.pairs.now c.loop-pair.pair-index _ c.loop-pair-test.true (c.loop-pair.invariant (sym w.all_known-is ∙ e))
+          pairs_agree_next (lengths_of c.args.self.now.how)
+          (type_in c.args.self.now.types.now) c.args.pairs.now c.loop-pair.pair-index _ c.loop-pair-test.true
+          (c.loop-pair.invariant (sym w.all_known-is ∙ e))
           (w.in-Some-true.ensures ∙ w.in-Some-true.field-0-test))
     ]

@@ -12,5 +12,6 @@ returns-clause-right c =
     let past : length types ≤ c.in_ok-next_number.field-0 = omega (arith, c.in_ok-next_number.ensures) in
     record {
       void = type_at-past types c.in_ok-next_number.field-0 past;
-      known = none_kept (λ q r. agree (lengths_of c.args.how) (type_in types q.0) (type_in types q.1) ≡ r) c.new.result.entries c.new.ensures.empty;
+      known = none_kept (λ q r. agree (lengths_of c.args.how) (type_in types q.0) (type_in types q.1) ≡ r)
+          c.new.result.entries c.new.ensures.empty;
     }

@@ -11,6 +11,8 @@ returns-in_ok-insert-clause-right c =
     record {
       void = c.requires.void;
       known =
-          kept_more (λ (q : ℕ × ℕ) (r : Bool). agree (lengths_of c.args.self.now.how) (type_in types q.0) (type_in types q.1) ≡ r) c.args.self.now.known.entries c.insert.new.self.entries c.args.pair c.in-Some.agree
+          kept_more (λ (q : ℕ × ℕ) (r : Bool). agree (lengths_of c.args.self.now.how) (type_in types q.0)
+          (type_in types q.1) ≡ r) c.args.self.now.known.entries c.insert.new.self.entries c.args.pair
+          c.in-Some.agree
           (λ q. c.in_ok-insert.ensures.updates.0 q) (rw c.in-Some.is at c.in_ok-agree.ensures) c.requires.known;
     }

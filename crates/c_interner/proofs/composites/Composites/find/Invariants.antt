@@ -5,4 +5,9 @@ use Rattle.c_interner.specs.Numbers.{AddsTypes}
 use Rattle.c_interner.proofs.composites.Composites.find.Given as goal
 
 abbrev pub invariant-steps : goal.invariant-steps
-invariant-steps l = record { known : AreComposites l.p.types l.self; adds : AddsTypes l.fn.p l.p; waiting : AreBelow (length l.p.types) l.waiting.items }
+invariant-steps l = record {
+  known : AreComposites l.p.types l.self;
+  adds : AddsTypes l.fn.p l.p;
+  waiting :
+      AreBelow (length l.p.types) l.waiting.items;
+}

@@ -9,5 +9,6 @@ returns-then-pair c types a l = self_composite types c.args.pair c.if-pair.true 
 
 pub returns : goal.returns
 returns c =
-    if_some c.copied.result (λ (k : ℕ). (types : List CType) → AreComposites types c.args.self.now → c.args.pair.0 < length types → IsComposite types c.args.pair k)
+    if_some c.copied.result (λ (k : ℕ). (types : List CType) → AreComposites types c.args.self.now →
+    c.args.pair.0 < length types → IsComposite types c.args.pair k)
     (λ k e types a l. a.known c.args.pair k (sym (c.copied.ensures ∙ c.get.ensures.value) ∙ e))

@@ -6,6 +6,7 @@ use Rattle.c_interner.proofs.composites.Composites.look_all.Given as goal
 
 abbrev pub invariant-loop-pair : goal.invariant-loop-pair
 invariant-loop-pair l = record {
-  known : (types : List CType) → AreComposites types l.self → AreBelow (length types) l.pairs → l.all_known ≡ true → NamesComposites types (take l.pair-index l.pairs) l.made.items;
+  known : (types : List CType) → AreComposites types l.self → AreBelow (length types) l.pairs → l.all_known ≡ true →
+      NamesComposites types (take l.pair-index l.pairs) l.made.items;
   waiting : (n : ℕ) → AreBelow n l.pairs → AreBelow n l.initial.waiting.items → AreBelow n l.waiting.items;
 }

@@ -10,35 +10,47 @@ use Rattle.c_interner.proofs.Keeping.{first_composite, new_composite}
 use Rattle.c_interner.proofs.composites.Composites.make.Goals as goal
 
 -- the parts of two types of the list are types of the list
-parts_below : (n void x y : ℕ) (h g : Head) (ps qs : List ℕ) (parts items : List (ℕ × ℕ)) → void < n → x < n → y < n → ((m : ℕ) → void < m → x ≤ m → PartStandsBefore h m) → ((m : ℕ) → void < m → x ≤ m → AllBefore ps m) →
-    ((m : ℕ) → void < m → y ≤ m → PartStandsBefore g m) → ((m : ℕ) → void < m → y ≤ m → AllBefore qs m) → parts ≡ items → items ≡ parts_of h ps g qs → AreBelow n parts
+parts_below : (n void x y : ℕ) (h g : Head) (ps qs : List ℕ) (parts items : List (ℕ × ℕ)) → void < n → x < n → y < n →
+    ((m : ℕ) → void < m → x ≤ m → PartStandsBefore h m) → ((m : ℕ) → void < m → x ≤ m → AllBefore ps m) →
+    ((m : ℕ) → void < m → y ≤ m → PartStandsBefore g m) → ((m : ℕ) → void < m → y ≤ m → AllBefore qs m) →
+    parts ≡ items → items ≡ parts_of h ps g qs → AreBelow n parts
 parts_below n void x y h g ps qs parts items v a b hp ha gp ga e f =
     let l : x ≤ n = omega arith in
     let m : y ≤ n = omega arith in
-    subst (λ (rs : List (ℕ × ℕ)). AreBelow n rs) (sym (e ∙ f)) (parts_are_below n h ps g qs (hp n v l) (ha n v l) (gp n v m) (ga n v m))
+    subst (λ (rs : List (ℕ × ℕ)). AreBelow n rs) (sym (e ∙ f))
+    (parts_are_below n h ps g qs (hp n v l) (ha n v l) (gp n v m) (ga n v m))
 
 pub returns-in_default-clause-waiting : goal.returns-in_default-clause-waiting
 returns-in_default-clause-waiting c =
     let n = length c.args.p.now.types in
     c.in_ok-made.ensures.waiting n
-    (parts_below n c.args.self.now.void c.args.pair.0 c.args.pair.1 c.in_ok-c.c.head c.in_ok-d.d.head c.in_ok-c.c.params.items c.in_ok-d.d.params.items c.as_slice-3.result.now c.in_ok-parts.parts.items c.requires.known.there
-    c.requires.first c.requires.second c.in_ok-c.ensures.part c.in_ok-c.ensures.params c.in_ok-d.ensures.part c.in_ok-d.ensures.params c.as_slice-3.ensures.value c.in_ok-parts.ensures)
+    (parts_below n c.args.self.now.void c.args.pair.0 c.args.pair.1 c.in_ok-c.c.head c.in_ok-d.d.head
+    c.in_ok-c.c.params.items c.in_ok-d.d.params.items c.as_slice-3.result.now c.in_ok-parts.parts.items
+    c.requires.known.there
+    c.requires.first c.requires.second c.in_ok-c.ensures.part c.in_ok-c.ensures.params c.in_ok-d.ensures.part
+    c.in_ok-d.ensures.params c.as_slice-3.ensures.value c.in_ok-parts.ensures)
     c.requires.waiting
 
 pub returns-in-None-clause-waiting : goal.returns-in-None-clause-waiting
 returns-in-None-clause-waiting c =
     let n = length c.args.p.now.types in
     c.in_ok-made.ensures.waiting n
-    (parts_below n c.args.self.now.void c.args.pair.0 c.args.pair.1 c.in_ok-c.c.head c.in_ok-d.d.head c.in_ok-c.c.params.items c.in_ok-d.d.params.items c.as_slice-3.result.now c.in_ok-parts.parts.items c.requires.known.there
-    c.requires.first c.requires.second c.in_ok-c.ensures.part c.in_ok-c.ensures.params c.in_ok-d.ensures.part c.in_ok-d.ensures.params c.as_slice-3.ensures.value c.in_ok-parts.ensures)
+    (parts_below n c.args.self.now.void c.args.pair.0 c.args.pair.1 c.in_ok-c.c.head c.in_ok-d.d.head
+    c.in_ok-c.c.params.items c.in_ok-d.d.params.items c.as_slice-3.result.now c.in_ok-parts.parts.items
+    c.requires.known.there
+    c.requires.first c.requires.second c.in_ok-c.ensures.part c.in_ok-c.ensures.params c.in_ok-d.ensures.part
+    c.in_ok-d.ensures.params c.as_slice-3.ensures.value c.in_ok-parts.ensures)
     c.requires.waiting
 
 pub returns-clause-waiting : goal.returns-clause-waiting
 returns-clause-waiting c =
     let n = length c.args.p.now.types in
     c.in_ok-made.ensures.waiting n
-    (parts_below n c.args.self.now.void c.args.pair.0 c.args.pair.1 c.in_ok-c.c.head c.in_ok-d.d.head c.in_ok-c.c.params.items c.in_ok-d.d.params.items c.as_slice-3.result.now c.in_ok-parts.parts.items c.requires.known.there
-    c.requires.first c.requires.second c.in_ok-c.ensures.part c.in_ok-c.ensures.params c.in_ok-d.ensures.part c.in_ok-d.ensures.params c.as_slice-3.ensures.value c.in_ok-parts.ensures)
+    (parts_below n c.args.self.now.void c.args.pair.0 c.args.pair.1 c.in_ok-c.c.head c.in_ok-d.d.head
+    c.in_ok-c.c.params.items c.in_ok-d.d.params.items c.as_slice-3.result.now c.in_ok-parts.parts.items
+    c.requires.known.there
+    c.requires.first c.requires.second c.in_ok-c.ensures.part c.in_ok-c.ensures.params c.in_ok-d.ensures.part
+    c.in_ok-d.ensures.params c.as_slice-3.ensures.value c.in_ok-parts.ensures)
     c.requires.waiting
 
 pub returns-in-None-clause-is : goal.returns-in-None-clause-is
@@ -53,12 +65,16 @@ returns-in-None-clause-is c =
     let a : go c.args.pair.0 ≡ built h ps go = rw c.as_slice.ensures at c.in_ok-c.ensures.is in
     let b : go c.args.pair.1 ≡ built g qs go = rw c.as_slice-2.ensures at c.in_ok-d.ensures.is in
     let below =
-    parts_below n c.args.self.now.void c.args.pair.0 c.args.pair.1 h g ps qs c.as_slice-3.result.now c.in_ok-parts.parts.items c.requires.known.there c.requires.first c.requires.second c.in_ok-c.ensures.part c.in_ok-c.ensures.params
+    parts_below n c.args.self.now.void c.args.pair.0 c.args.pair.1 h g ps qs c.as_slice-3.result.now
+    c.in_ok-parts.parts.items c.requires.known.there c.requires.first c.requires.second c.in_ok-c.ensures.part
+    c.in_ok-c.ensures.params
     c.in_ok-d.ensures.part c.in_ok-d.ensures.params c.as_slice-3.ensures.value c.in_ok-parts.ensures in
     let names = (rw c.in-Some.is at c.in_ok-made.ensures.known) types c.requires.known below in
     let made : map go c.as_slice-4.result.now ≡ map (pair_composite go) (parts_of h ps g qs) =
-    ap (map go) c.as_slice-4.ensures.value ∙ names.are ∙ ap (map (pair_composite go)) (c.as_slice-3.ensures.value ∙ c.in_ok-parts.ensures) in
-    let first : composite (built h ps go) (built g qs go) ≡ built h ps go = (rw c.in-None.is at c.in_ok-composed.ensures) go made in
+    ap (map go) c.as_slice-4.ensures.value ∙ names.are
+    ∙ ap (map (pair_composite go)) (c.as_slice-3.ensures.value ∙ c.in_ok-parts.ensures) in
+    let first : composite (built h ps go) (built g qs go) ≡ built h ps go =
+    (rw c.in-None.is at c.in_ok-composed.ensures) go made in
     first_composite types c.args.pair h ps g qs c.requires.first c.requires.second a b first
 
 pub returns-clause-is : goal.returns-clause-is
@@ -73,10 +89,15 @@ returns-clause-is c =
     let a : go c.args.pair.0 ≡ built h ps go = rw c.as_slice.ensures at c.in_ok-c.ensures.is in
     let b : go c.args.pair.1 ≡ built g qs go = rw c.as_slice-2.ensures at c.in_ok-d.ensures.is in
     let below =
-    parts_below n c.args.self.now.void c.args.pair.0 c.args.pair.1 h g ps qs c.as_slice-3.result.now c.in_ok-parts.parts.items c.requires.known.there c.requires.first c.requires.second c.in_ok-c.ensures.part c.in_ok-c.ensures.params
+    parts_below n c.args.self.now.void c.args.pair.0 c.args.pair.1 h g ps qs c.as_slice-3.result.now
+    c.in_ok-parts.parts.items c.requires.known.there c.requires.first c.requires.second c.in_ok-c.ensures.part
+    c.in_ok-c.ensures.params
     c.in_ok-d.ensures.part c.in_ok-d.ensures.params c.as_slice-3.ensures.value c.in_ok-parts.ensures in
     let names = (rw c.in-Some.is at c.in_ok-made.ensures.known) types c.requires.known below in
     let made : map go c.as_slice-4.result.now ≡ map (pair_composite go) (parts_of h ps g qs) =
-    ap (map go) c.as_slice-4.ensures.value ∙ names.are ∙ ap (map (pair_composite go)) (c.as_slice-3.ensures.value ∙ c.in_ok-parts.ensures) in
-    let whole : type_from c.in-Some-2.t go ≡ composite (built h ps go) (built g qs go) = (rw c.in-Some-2.is at c.in_ok-composed.ensures) go made in
-    new_composite c.args.p.now c.number_of.new.p c.args.pair c.in_ok-k-in-Some-2.k c.in-Some-2.t h ps g qs c.in_ok-k-in-Some-2.ensures.adds c.in_ok-k-in-Some-2.ensures.ok c.requires.first c.requires.second a b whole
+    ap (map go) c.as_slice-4.ensures.value ∙ names.are
+    ∙ ap (map (pair_composite go)) (c.as_slice-3.ensures.value ∙ c.in_ok-parts.ensures) in
+    let whole : type_from c.in-Some-2.t go ≡ composite (built h ps go) (built g qs go) =
+    (rw c.in-Some-2.is at c.in_ok-composed.ensures) go made in
+    new_composite c.args.p.now c.number_of.new.p c.args.pair c.in_ok-k-in-Some-2.k c.in-Some-2.t h ps g qs
+    c.in_ok-k-in-Some-2.ensures.adds c.in_ok-k-in-Some-2.ensures.ok c.requires.first c.requires.second a b whole

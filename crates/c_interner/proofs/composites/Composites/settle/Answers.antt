@@ -9,8 +9,11 @@ returns-in_ok-insert-clause-known c =
       there = more.there;
       void = more.void;
       known =
-          kept_more (IsComposite c.make.new.p.types) c.args.self.now.known.entries c.insert.new.self.entries c.args.pair c.in-Some.k (λ q. c.in_ok-insert.ensures.updates.0 q) (rw c.in-Some.is at c.in_ok-k.ensures.is) more.known;
+          kept_more (IsComposite c.make.new.p.types) c.args.self.now.known.entries c.insert.new.self.entries c.args.pair
+          c.in-Some.k (λ q. c.in_ok-insert.ensures.updates.0 q)
+          (rw c.in-Some.is at c.in_ok-k.ensures.is) more.known;
     }
 
 pub returns-in_default-clause-known : goal.returns-in_default-clause-known
-returns-in_default-clause-known c = composites_more c.args.p.now c.make.new.p c.args.self.now c.make.ensures.adds c.requires.known
+returns-in_default-clause-known c =
+    composites_more c.args.p.now c.make.new.p c.args.self.now c.make.ensures.adds c.requires.known

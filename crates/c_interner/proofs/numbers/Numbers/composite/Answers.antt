@@ -10,5 +10,8 @@ returns-clause-ok c =
     let old = c.args.p.now in
     let new = c.find.new.p in
     let adds = adds_then old c.number_of.new.p new c.in_ok-void.ensures.adds c.find.ensures.adds in
-    if_ok c.find.result (λ (k : ℕ). IsComposite new.types (c.args.a, c.args.b) k) (λ (k : ℕ). (k < length new.types) × (type_named new k ≡ composite (type_named old c.args.a) (type_named old c.args.b)))
-    (λ k h. (h.there, composite_named old new (c.args.a, c.args.b) k adds c.requires.first c.requires.second h)) c.find.ensures.is
+    if_ok c.find.result (λ (k : ℕ). IsComposite new.types (c.args.a, c.args.b) k)
+    (λ (k : ℕ). (k < length new.types) ×
+    (type_named new k ≡ composite (type_named old c.args.a) (type_named old c.args.b)))
+    (λ k h. (h.there, composite_named old new (c.args.a, c.args.b) k adds c.requires.first c.requires.second h))
+    c.find.ensures.is

@@ -8,22 +8,32 @@ use Rattle.c_lex.proofs.tokens.Tokens.next.Goals as goal
 use Rattle.c_lex.proofs.tokens.Tokens.next.Goals.{After-behind-end}
 
 -- the token that was found
-begins : (c : After-behind-end) → BeginsWithToken (drop c.find-found.result.0.at c.self.inside.file.now) c.in-Token.kind c.in-Token.n
+begins : (c : After-behind-end) →
+    BeginsWithToken (drop c.find-found.result.0.at c.self.inside.file.now) c.in-Token.kind c.in-Token.n
 begins c = rw c.in-Token.is at c.find-found.ensures.found
 
 part : (i n : ℕ) → i + n - i ≡ n
 part i n = omega arith
 
 -- the place behind it
-behind : (c : After-behind-end) → (c.behind-end.result.at ≡ c.find-found.result.0.at + c.in-Token.n) × IsPlaceOf c.self.inside.file.now c.behind-end.result
+behind : (c : After-behind-end) →
+    (c.behind-end.result.at ≡ c.find-found.result.0.at + c.in-Token.n) ×
+    IsPlaceOf c.self.inside.file.now c.behind-end.result
 behind c =
-    place_moved c.self.inside.file.now c.find-found.result.0 c.behind-end.result c.in-Token.n c.find-found.ensures.of_file (begins c).longest.within (rw (part c.find-found.result.0.at c.in-Token.n) at c.behind-end.ensures)
+    place_moved c.self.inside.file.now c.find-found.result.0 c.behind-end.result c.in-Token.n
+    c.find-found.ensures.of_file (begins c).longest.within
+    (rw (part c.find-found.result.0.at c.in-Token.n) at c.behind-end.ensures)
 
 pub overflow_cast-result-in-Token : goal.overflow_cast-result-in-Token
-overflow_cast-result-in-Token c = let place = (behind (goal.at.overflow_cast-result-in-Token c).After-behind-end).1 in omega (arith, place.within, c.self.invariant.small)
+overflow_cast-result-in-Token c =
+    let place = (behind (goal.at.overflow_cast-result-in-Token c).After-behind-end).1 in
+    omega (arith, place.within, c.self.invariant.small)
 
 pub invariant_of-self : goal.invariant_of-self
-invariant_of-self c = record { small = c.self.invariant.small; of_file = (behind (goal.at.invariant_of-self c).After-behind-end).1 }
+invariant_of-self c = record {
+  small = c.self.invariant.small;
+  of_file = (behind (goal.at.invariant_of-self c).After-behind-end).1;
+}
 
 pub returns-in-Token-clause-token : goal.returns-in-Token-clause-token
 returns-in-Token-clause-token c =
@@ -40,12 +50,24 @@ returns-in-Token-clause-token c =
 
 pub returns-in-Refused-clause-refusal : goal.returns-in-Refused-clause-refusal
 returns-in-Refused-clause-refusal c =
-    rw (← c.self.view_is) (c.find-found.result.0.at, c.find-found.ensures.passed, rw c.in-Refused.is at c.find-found.ensures.found, place_pos c.self.inside.file.now c.find-found.result.0 c.find-found.ensures.of_file)
+    rw (← c.self.view_is) (
+      c.find-found.result.0.at,
+      c.find-found.ensures.passed,
+      rw c.in-Refused.is at c.find-found.ensures.found,
+      place_pos c.self.inside.file.now c.find-found.result.0 c.find-found.ensures.of_file,
+    )
 
 pub returns-in-End-clause-end : goal.returns-in-End-clause-end
 returns-in-End-clause-end c =
-    let nothing : drop c.find-found.result.0.at c.self.inside.file.now ≡ [] = rw c.in-End.is at c.find-found.ensures.found in
-    let at_end : c.find-found.result.0.at ≡ length c.self.inside.file.now = omega (arith, ap length nothing, length-drop c.find-found.result.0.at c.self.inside.file.now, c.find-found.ensures.of_file.within) in
+    let nothing : drop c.find-found.result.0.at c.self.inside.file.now ≡ [] =
+    rw c.in-End.is at c.find-found.ensures.found in
+    let at_end : c.find-found.result.0.at ≡ length c.self.inside.file.now =
+    omega (
+      arith,
+      ap length nothing,
+      length-drop c.find-found.result.0.at c.self.inside.file.now,
+      c.find-found.ensures.of_file.within,
+    ) in
     rw (← c.self.view_is) (rw (← at_end) c.find-found.ensures.passed)
 
 pub returns-in-Token-clause-forward : goal.returns-in-Token-clause-forward

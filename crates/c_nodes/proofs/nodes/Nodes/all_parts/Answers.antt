@@ -10,5 +10,6 @@ loop-number-preserved c =
     let lt : i < length c.args.numbers.now = omega arith in
     rw c.in_ok-push.ensures.items (
       below_more (type_count c.args.self.now) _ _ c.loop-number.invariant.0 c.part.ensures.there,
-      λ seen h. parts_more (type_in c.args.self.now) seen _ c.args.numbers.now i _ _ (c.loop-number.invariant.1 seen h) lt (get_or_default c.args.numbers.now i 0 _ lt) (c.part.ensures.is seen h),
+      λ seen h. parts_more (type_in c.args.self.now) seen _ c.args.numbers.now i _ _
+          (c.loop-number.invariant.1 seen h) lt (get_or_default c.args.numbers.now i 0 _ lt) (c.part.ensures.is seen h),
     )

@@ -5,4 +5,7 @@ use Rattle.c_nodes.specs.Nodes.{Sees, type_in, type_count}
 use Rattle.c_nodes.proofs.nodes.Nodes.all_parts.Given as goal
 
 abbrev pub invariant-loop-number : goal.invariant-loop-number
-invariant-loop-number l = AreBelow (type_count l.self) l.parts.items × ((seen : ℕ → Ty) → Sees l.self l.t seen → map (type_in l.self) l.parts.items ≡ map seen (take l.number-index l.numbers))
+invariant-loop-number l =
+    AreBelow (type_count l.self) l.parts.items ×
+    ((seen : ℕ → Ty) → Sees l.self l.t seen →
+    map (type_in l.self) l.parts.items ≡ map seen (take l.number-index l.numbers))

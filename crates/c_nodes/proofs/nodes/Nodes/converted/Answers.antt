@@ -9,4 +9,5 @@ pub returns-then-branch : goal.returns-then-branch
 returns-then-branch c =
     let n = c.args.self.now in
     has_term_same n c.args.node _ c.requires.whole c.requires.there
-    (converted-same _ _ _ (one_type (λ t. same t (type_in n c.args.to)) n _ _ _ _ c.of-of.ensures c.in_ok-same.ensures refl) c.if-branch.true)
+    (converted-same _ _ _ (one_type (λ t. same t (type_in n c.args.to)) n _ _ _ _ c.of-of.ensures c.in_ok-same.ensures
+    refl) c.if-branch.true)

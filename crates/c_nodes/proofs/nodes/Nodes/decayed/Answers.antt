@@ -11,5 +11,6 @@ returns c =
     let n = c.args.self.now in
     let f : Term → Ty → Term = λ x t. step Decay x t c.pos-pos.result in
     IfOk-weaker c.step.result _ _ (λ k h.
-    has_term_is n _ k _ _ (typed_step f n c.pointer_to.new.self _ c.args.node _ k _ c.requires.there c.in_ok-of.ensures h)
+    has_term_is n _ k _ _ (typed_step f n c.pointer_to.new.self _ c.args.node _ k _ c.requires.there c.in_ok-of.ensures
+    h)
     (ap (λ p. step Decay (term_in n c.args.node) (Pointer (type_in n c.args.to)) p) c.pos-pos.ensures)) c.step.ensures

@@ -4,13 +4,16 @@ use Rattle.c_nodes.proofs.Keeping.{tells_same}
 use Rattle.c_nodes.proofs.nodes.Nodes.goes_to.Goals as goal
 
 pub returns-in-Int : goal.returns-in-Int
-returns-in-Int c = tells_same c.args.self.now _ _ c.requires.whole (rw c.in-Int.ensures.is (rw c.in-Int.ensures.is at c.goes_to_integer.ensures))
+returns-in-Int c = tells_same c.args.self.now _ _ c.requires.whole
+    (rw c.in-Int.ensures.is (rw c.in-Int.ensures.is at c.goes_to_integer.ensures))
 
 pub returns-in-Cap : goal.returns-in-Cap
 returns-in-Cap c = tells_same c.args.self.now _ _ c.requires.whole (rw c.in-Cap.ensures.is c.is_integer.ensures)
 
 pub returns-in-Tagged : goal.returns-in-Tagged
-returns-in-Tagged c = IfOk-weaker c.same.result _ _ (λ b h. tells_same c.args.self.now _ b c.requires.whole (rw c.in-Tagged.ensures.is (rw c.in-Tagged.ensures.is at h))) c.same.ensures
+returns-in-Tagged c = IfOk-weaker c.same.result _ _
+    (λ b h. tells_same c.args.self.now _ b c.requires.whole
+    (rw c.in-Tagged.ensures.is (rw c.in-Tagged.ensures.is at h))) c.same.ensures
 
 pub returns-in-Void : goal.returns-in-Void
 returns-in-Void c = tells_same c.args.self.now _ _ c.requires.whole (rw c.in-Void.ensures.is refl)

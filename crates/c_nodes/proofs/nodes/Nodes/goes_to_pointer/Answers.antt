@@ -6,4 +6,5 @@ use Rattle.c_nodes.proofs.nodes.Nodes.goes_to_pointer.Goals as goal
 pub returns-in-None : goal.returns-in-None
 returns-in-None c =
     let n = c.args.self.now in
-    tells_same n _ _ c.requires.whole (goes_to-null (type_in n c.args.target) (type_in n c.args.of) (term_in n c.args.node) _ c.in-None.ensures c.is_null_integer.ensures)
+    tells_same n _ _ c.requires.whole (goes_to-null (type_in n c.args.target) (type_in n c.args.of)
+    (term_in n c.args.node) _ c.in-None.ensures c.is_null_integer.ensures)

@@ -4,7 +4,8 @@ use Rattle.c_nodes.specs.Rows.{rows_type}
 use Rattle.c_nodes.proofs.nodes.Nodes.in_rows.Given as goal
 
 abbrev pub invariant-loop-left : goal.invariant-loop-left
-invariant-loop-left l = (l.left ≤ length l.counts) × HasType l.fn.self l.self l.of (rows_type (drop l.left l.counts) (type_in l.fn.self l.fn.t))
+invariant-loop-left l = (l.left ≤ length l.counts) ×
+    HasType l.fn.self l.self l.of (rows_type (drop l.left l.counts) (type_in l.fn.self l.fn.t))
 
 abbrev pub decreases-loop-left : goal.decreases-loop-left
 decreases-loop-left l = l.left

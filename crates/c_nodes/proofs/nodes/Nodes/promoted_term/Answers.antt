@@ -9,4 +9,6 @@ pub returns : goal.returns
 returns c =
     let n = c.args.self.now in
     let t = has_type_is n _ _ _ _ c.in_ok-to.ensures (ap promoted c.of-of.ensures.is) in
-    IfOk-weaker c.converted.result _ _ (λ k h. typed_step (λ x u. converted_term u x) n c.promoted.new.self _ c.args.node _ k _ c.requires.there t h) c.converted.ensures
+    IfOk-weaker c.converted.result _ _ (λ k h.
+    typed_step (λ x u. converted_term u x) n c.promoted.new.self _ c.args.node _ k _ c.requires.there t h)
+    c.converted.ensures

@@ -8,5 +8,7 @@ use Rattle.c_parse.proofs.counts.Counts.add.Goals as goal
 
 pub returns-clause-ok : goal.returns-clause-ok
 returns-clause-ok c other =
-    ap (λ o. unwrap_or o 0) (hash_map_updates_str c.args.text.now c.args.self.now.table c.insert.new.self (Some (c.count-count.result + 1)) c.in_ok-insert.ensures.updates other)
-    ∙ one_more (λ t. lookup (λ k. bytes_eq t k.now) c.args.self.now.table.entries) c.args.text.now other c.count-count.result c.count-count.ensures
+    ap (λ o. unwrap_or o 0) (hash_map_updates_str c.args.text.now c.args.self.now.table c.insert.new.self
+    (Some (c.count-count.result + 1)) c.in_ok-insert.ensures.updates other)
+    ∙ one_more (λ t. lookup (λ k. bytes_eq t k.now) c.args.self.now.table.entries) c.args.text.now other
+    c.count-count.result c.count-count.ensures

@@ -6,7 +6,8 @@ pub returns-clause-tree : goal.returns-clause-tree
 returns-clause-tree c = MatchResult-weaker c.make.result c.make.ensures.tree
     (λ part made. record {
       grows = made.grows;
-      means = λ xs first names holds. made.means c.args.item.now xs (record { kind = refl; own = c.place-own.ensures; first = first; names = sym names }) holds;
+      means = λ xs first names holds. made.means c.args.item.now xs
+          (record { kind = refl; own = c.place-own.ensures; first = first; names = sym names }) holds;
     })
     (λ e same. same)
 

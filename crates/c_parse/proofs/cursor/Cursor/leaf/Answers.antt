@@ -7,5 +7,6 @@ use Rattle.c_parse.proofs.cursor.Cursor.leaf.Goals as goal
 
 pub returns-clause-tree : goal.returns-clause-tree
 returns-clause-tree c = MatchResult-weaker c.join.result c.join.ensures.tree
-    (λ part made. λ names. made.means nil (subst (λ v. IsPlaceOf c.place.result v) (sym (first_leaf c.args.kind c.args.item.now)) c.place.ensures) names c.no_parts-parts.ensures.none)
+    (λ part made. λ names. made.means nil (subst (λ v. IsPlaceOf c.place.result v)
+    (sym (first_leaf c.args.kind c.args.item.now)) c.place.ensures) names c.no_parts-parts.ensures.none)
     (λ e same. same)

@@ -12,4 +12,5 @@ returns c =
     let text = c.args.text.now in
     let names = c.self.inside.names.items in
     ap (nat_lt 0) (c.count.ensures ∙ c.self.invariant.each text) ∙ positive_any (λ name. bytes_eq name.now text) names
-    ∙ sym (reversed_any (λ name. bytes_eq name text) (λ name. name.now) names) ∙ ap (λ v. is_among v text) c.self.view_is
+    ∙ sym (reversed_any (λ name. bytes_eq name text) (λ name. name.now) names)
+    ∙ ap (λ v. is_among v text) c.self.view_is

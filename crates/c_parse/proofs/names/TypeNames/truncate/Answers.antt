@@ -10,7 +10,8 @@ loop-self-preserved c =
     let some : 0 < length now = omega (arith, there) in
     let shorter : length (in_force c.pop.new.self) ≡ length now - 1 = ap length c.pop.ensures ∙ length-drop 1 now in
     record {
-      rest = dropped_more (in_force c.args.self.now) now (in_force c.pop.new.self) c.loop-self.invariant.rest some c.loop-self.invariant.fewer c.pop.ensures;
+      rest = dropped_more (in_force c.args.self.now) now
+          (in_force c.pop.new.self) c.loop-self.invariant.rest some c.loop-self.invariant.fewer c.pop.ensures;
       enough = λ h. omega (arith, there, shorter);
       fewer = omega (arith, shorter, c.loop-self.invariant.fewer);
     }

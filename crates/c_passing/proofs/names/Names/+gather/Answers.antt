@@ -16,14 +16,21 @@ loop-kid-preserved t c =
 
 pub returns : goal.returns
 returns t c =
-    node_gathered c.args.tree.now c.args.self.now c.add_call.new.self c.loop-kid.self c.node_at-node.result.now c.args.k c.node_at-node.ensures c.in_ok-add_call.ensures
-    (subst (GathersParts c.args.tree.now c.add_call.new.self c.loop-kid.self) (take_all c.loop-kid.kid-index _ c.loop-kid-test.false ∙ c.as_slice-kid-items.ensures) c.loop-kid.invariant)
+    node_gathered c.args.tree.now c.args.self.now c.add_call.new.self c.loop-kid.self c.node_at-node.result.now c.args.k
+    c.node_at-node.ensures c.in_ok-add_call.ensures
+    (subst (GathersParts c.args.tree.now c.add_call.new.self c.loop-kid.self)
+    (take_all c.loop-kid.kid-index _ c.loop-kid-test.false ∙ c.as_slice-kid-items.ensures) c.loop-kid.invariant)
 
 pub gather-requires : goal.gather-requires
 gather-requires t c =
     let n = c.node_at-node.result.now in
     let ks = c.as_slice-kid-items.result.now in
     let i = c.loop-kid.kid-index in
-    let kid : slice_get n.kids i ≡ Some (get_or ks i 0) = ap (λ xs. slice_get xs i) (sym c.as_slice-kid-items.ensures) ∙ slice_get-get_or ks i 0 c.loop-kid-test.true in
-    let some : 0 < c.args.levels = some_levels c.args.tree.now c.args.k c.args.levels c.requires in
-    (omega arith, kid_within c.args.tree.now c.args.k n c.args.levels i (get_or ks i 0) c.requires c.node_at-node.ensures kid)
+    let kid : slice_get n.kids i ≡ Some (get_or ks i 0) =
+    ap (λ xs. slice_get xs i) (sym c.as_slice-kid-items.ensures)
+    ∙ slice_get-get_or ks i 0 c.loop-kid-test.true in
+    let some : 0 < c.args.levels = some_levels c.args.tree.now c.args.k c.args.levels c.requires in (
+      omega arith,
+      kid_within c.args.tree.now c.args.k n c.args.levels i
+          (get_or ks i 0) c.requires c.node_at-node.ensures kid,
+    )

@@ -3,7 +3,9 @@ use Rattle.c_passing.proofs.Naming.{name_known, name_added, found_none, found_so
 use Rattle.c_passing.proofs.names.Names.add.Goals as goal
 
 pub returns-in_ok-insert : goal.returns-in_ok-insert
-returns-in_ok-insert c = name_added c.args.self.now _ c.args.pos c.args.name (found_none c.get.result (known_at c.args.self.now c.args.pos) c.get.ensures.value c.if-is_none.ensures) c.in_ok-insert.ensures.updates.0
+returns-in_ok-insert c = name_added c.args.self.now _ c.args.pos c.args.name
+    (found_none c.get.result (known_at c.args.self.now c.args.pos) c.get.ensures.value c.if-is_none.ensures)
+    c.in_ok-insert.ensures.updates.0
 
 pub returns-else-is_none : goal.returns-else-is_none
 returns-else-is_none c =

@@ -7,4 +7,5 @@ pub returns : goal.returns
 returns c = known_all c.args.tree.now _ c.gather.new.self c.new.ensures.empty c.in_ok-gather.ensures
 
 pub gather-requires : goal.gather-requires
-gather-requires c = whole_within c.args.tree.now (length c.as_slice.result.now) c.requires (ap length c.as_slice.ensures)
+gather-requires c = whole_within c.args.tree.now (length c.as_slice.result.now) c.requires
+    (ap length c.as_slice.ensures)

@@ -16,6 +16,8 @@ returns-clause-is c =
     pushed c.push_expr-2.result _ _ _ c.push_expr-2.ensures.exprs c.push_expr-2.ensures.number
     (λ items. record {
       is = λ ts.
-          step_made ts c.push_expr.new.self.exprs.items c.push_expr-2.new.self.exprs.items d place _ (leaf (tree.Var a.k) (type_at ts a.of) a.pos) items refl refl
-          (var_made ts a.self.now.exprs.items c.push_expr.new.self.exprs.items a.k a.of a.pos place c.in_ok-place.ensures.exprs c.in_ok-place.ensures.number);
+          step_made ts c.push_expr.new.self.exprs.items c.push_expr-2.new.self.exprs.items d place _
+          (leaf (tree.Var a.k) (type_at ts a.of) a.pos) items refl refl
+          (var_made ts a.self.now.exprs.items c.push_expr.new.self.exprs.items a.k a.of a.pos place
+          c.in_ok-place.ensures.exprs c.in_ok-place.ensures.number);
     })

@@ -19,7 +19,10 @@ returns-clause-is c =
     (λ items. record {
       is = λ ts.
           let x = leaf (tree.Var a.k) (type_at ts a.pointer) a.pos in
-          let there = var_made ts a.self.now.exprs.items c.push_expr.new.self.exprs.items a.k a.pointer a.pos place c.in_ok-place.ensures.exprs c.in_ok-place.ensures.number in
-          let read = step_made ts c.push_expr.new.self.exprs.items c.push_expr-2.new.self.exprs.items load place value x c.in_ok-value.ensures.exprs c.in_ok-value.ensures.number refl there in
-          step_made ts c.push_expr-2.new.self.exprs.items c.push_expr-3.new.self.exprs.items d value _ (step tree.Load x (type_at ts a.pointer) a.pos) items refl refl read;
+          let there = var_made ts a.self.now.exprs.items c.push_expr.new.self.exprs.items a.k a.pointer a.pos place
+          c.in_ok-place.ensures.exprs c.in_ok-place.ensures.number in
+          let read = step_made ts c.push_expr.new.self.exprs.items c.push_expr-2.new.self.exprs.items load place value x
+          c.in_ok-value.ensures.exprs c.in_ok-value.ensures.number refl there in
+          step_made ts c.push_expr-2.new.self.exprs.items c.push_expr-3.new.self.exprs.items d value _
+          (step tree.Load x (type_at ts a.pointer) a.pos) items refl refl read;
     })

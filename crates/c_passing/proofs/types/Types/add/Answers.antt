@@ -5,16 +5,22 @@ use Rattle.c_passing.proofs.types.Types.add.Goals as goal
 
 pub returns-in-Void : goal.returns-in-Void
 returns-in-Void c =
-    on_ok c.keep.result _ _ (λ k. subst (AddsType c.args.types.now c.args.self.now c.keep.new.self) (sym c.in-Void.is) (adds_void c.args.types.now c.args.self.now c.keep.new.self k)) c.keep.ensures
+    on_ok c.keep.result _ _ (λ k. subst (AddsType c.args.types.now c.args.self.now c.keep.new.self) (sym c.in-Void.is)
+    (adds_void c.args.types.now c.args.self.now c.keep.new.self k)) c.keep.ensures
 
 pub returns-in-Int : goal.returns-in-Int
 returns-in-Int c =
-    on_ok c.plainly.result _ _ (λ k. subst (AddsType c.args.types.now c.args.self.now c.plainly.new.self) (sym c.in-Int.is) (adds_int c.args.types.now c.args.self.now c.plainly.new.self _ _ k)) c.plainly.ensures
+    on_ok c.plainly.result _ _ (λ k. subst (AddsType c.args.types.now c.args.self.now c.plainly.new.self)
+    (sym c.in-Int.is) (adds_int c.args.types.now c.args.self.now c.plainly.new.self _ _ k)) c.plainly.ensures
 
 pub returns-in-Cap : goal.returns-in-Cap
 returns-in-Cap c =
-    on_ok c.plainly-in-Cap.result _ _ (λ k. subst (AddsType c.args.types.now c.args.self.now c.plainly-in-Cap.new.self) (sym c.in-Cap.is) (adds_cap c.args.types.now c.args.self.now c.plainly-in-Cap.new.self _ k)) c.plainly-in-Cap.ensures
+    on_ok c.plainly-in-Cap.result _ _ (λ k. subst (AddsType c.args.types.now c.args.self.now c.plainly-in-Cap.new.self)
+    (sym c.in-Cap.is) (adds_cap c.args.types.now c.args.self.now c.plainly-in-Cap.new.self _ k))
+    c.plainly-in-Cap.ensures
 
 pub returns-in-Incomplete : goal.returns-in-Incomplete
 returns-in-Incomplete c =
-    on_ok c.add_tagged.result _ _ (λ k. subst (AddsType c.args.types.now c.args.self.now c.add_tagged.new.self) (sym c.in-Incomplete.is) (adds_incomplete c.args.types.now c.args.self.now c.add_tagged.new.self _ k)) c.add_tagged.ensures
+    on_ok c.add_tagged.result _ _ (λ k. subst (AddsType c.args.types.now c.args.self.now c.add_tagged.new.self)
+    (sym c.in-Incomplete.is) (adds_incomplete c.args.types.now c.args.self.now c.add_tagged.new.self _ k))
+    c.add_tagged.ensures

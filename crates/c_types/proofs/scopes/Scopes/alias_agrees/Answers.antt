@@ -14,5 +14,8 @@ returns-in-Some-alias_of c =
     let p = c.args.p.now in
     let ts = types_of p.types in
     let t = type_named p c.args.of in
-    if_ok c.agree.result _ (λ (r : Bool). c.args.of < length p.types → r ≡ alias_seen (option_map (entity_kept ts) c.args.found) t) c.agree.ensures
-    (λ r e lt. e ∙ same_alias_is (named ts c.in-Some-alias_of.known) _ t (named_there p c.args.of lt) ∙ ap (λ o. same_alias o t) (c.in-Some-alias_of.ensures ts) ∙ ap (λ o. alias_seen (option_map (entity_kept ts) o) t) (sym c.in-Some.is))
+    if_ok c.agree.result _ (λ (r : Bool). c.args.of < length p.types →
+    r ≡ alias_seen (option_map (entity_kept ts) c.args.found) t) c.agree.ensures
+    (λ r e lt. e ∙ same_alias_is (named ts c.in-Some-alias_of.known) _ t (named_there p c.args.of lt)
+    ∙ ap (λ o. same_alias o t) (c.in-Some-alias_of.ensures ts)
+    ∙ ap (λ o. alias_seen (option_map (entity_kept ts) o) t) (sym c.in-Some.is))

@@ -15,9 +15,11 @@ returns-then-is_at_file_scope c =
     let p = c.args.p.now in
     let n = text_at sc.file.now c.args.d.name in
     let t = type_named p c.args.d.of in
-    if_ok c.alias_agrees.result _ (λ (r : Bool). (s : State) → Stands sc p s → c.args.d.of < length p.types → r ≡ alias_fits s n t) c.alias_agrees.ensures
+    if_ok c.alias_agrees.result _ (λ (r : Bool). (s : State) → Stands sc p s → c.args.d.of < length p.types →
+    r ≡ alias_fits s n t) c.alias_agrees.ensures
     (λ r e s h lt.
-    let found = c.look_here.ensures p s h ∙ ap (λ m. option_map entity_seen (find_in (innermost s.scopes).names m)) c.text-name.ensures in
+    let found = c.look_here.ensures p s h
+    ∙ ap (λ m. option_map entity_seen (find_in (innermost s.scopes).names m)) c.text-name.ensures in
     let file : at_file_scope s ≡ true = sym (c.is_at_file_scope.ensures p s h) ∙ c.if-is_at_file_scope.true in
     let here : alias_fits s n t ≡ alias_agrees (find_in (innermost s.scopes).names n) t = rw file refl in
     e lt ∙ ap (λ o. alias_seen o t) found ∙ sym (here ∙ alias_seen_is (find_in (innermost s.scopes).names n) t))

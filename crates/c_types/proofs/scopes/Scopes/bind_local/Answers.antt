@@ -9,5 +9,7 @@ use Rattle.c_types.proofs.scopes.Scopes.bind_local.Goals as goal
 pub returns-clause-ok : goal.returns-clause-ok
 returns-clause-ok c =
     on_ok_weaker c.bind.result
-    (λ b p s u h e. subst (λ n. Stands c.bind.new.self p (bind_name n (meant.Local c.args.k u) s)) c.text.ensures (b p s (meant.Local c.args.k u) h (ap (entity_kept (types_of p.types)) c.local.ensures ∙ ap (local c.args.k) e)))
+    (λ b p s u h e. subst (λ n. Stands c.bind.new.self p (bind_name n (meant.Local c.args.k u) s)) c.text.ensures
+    (b p s (meant.Local c.args.k u) h (ap (entity_kept (types_of p.types)) c.local.ensures
+    ∙ ap (local c.args.k) e)))
     c.bind.ensures.ok

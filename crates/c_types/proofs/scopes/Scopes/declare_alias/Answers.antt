@@ -18,7 +18,9 @@ returns-in-Err-clause-is c lt =
     let t = name_of sc.file.now c.args.d in
     let f = formed_of p c.args.d in
     let b = c.args.d.defines in
-    not_admitted {X = Entry} sc p (declares_alias t f b) (λ s. change (bind_name t.text (meant.Alias f.of))) f c.in_ok-fits.fits false b (λ s. alias_fits s t.text f.of) (λ s. false) (λ s. b) t.pos (IsNamed p t.text) c.in-Err.refusal
+    not_admitted {X = Entry} sc p (declares_alias t f b)
+    (λ s. change (bind_name t.text (meant.Alias f.of))) f c.in_ok-fits.fits false b (λ s. alias_fits s t.text f.of)
+    (λ s. false) (λ s. b) t.pos (IsNamed p t.text) c.in-Err.refusal
     (λ s. refl) (λ s h. c.in_ok-fits.ensures s h lt) (λ s h. refl) (λ s h. refl) (c.in-Err.ensures f.of)
 
 pub returns-in_ok-bind-in-Ok-clause-is : goal.returns-in_ok-bind-in-Ok-clause-is
@@ -28,13 +30,17 @@ returns-in_ok-bind-in-Ok-clause-is c lt s h =
     let t = name_of sc.file.now c.args.d in
     let f = formed_of p c.args.d in
     let b = c.args.d.defines in
-    admitted c.bind.new.self p s (declares_alias t f b) (change (bind_name t.text (meant.Alias f.of))) f c.in_ok-fits.fits false b (alias_fits s t.text f.of) false b t.pos _ (IsNamed p t.text c.entry_of.result)
+    admitted c.bind.new.self p s (declares_alias t f b)
+    (change (bind_name t.text (meant.Alias f.of))) f c.in_ok-fits.fits false b
+    (alias_fits s t.text f.of) false b t.pos _ (IsNamed p t.text c.entry_of.result)
     refl (c.in_ok-fits.ensures s h lt) refl refl (c.in-Ok.ensures f.of)
     (record {
       value = tt;
       state = bind_name t.text (meant.Alias f.of) s;
       is = refl;
       stands = subst (λ n. Stands c.bind.new.self p (bind_name n (meant.Alias f.of) s)) c.text.ensures
-          (c.in_ok-bind-in-Ok.ensures.ok p s (meant.Alias f.of) h (ap (entity_kept (types_of p.types)) c.alias-entity.ensures ∙ ap alias (named_there p c.args.d.of lt)));
-      fits = bound_named {A = ℕ} p s t.text (meant.Alias f.of) c.entry_of.result 0 (rw (c.entry_of.ensures, c.alias-entity.ensures) refl);
+          (c.in_ok-bind-in-Ok.ensures.ok p s (meant.Alias f.of) h
+          (ap (entity_kept (types_of p.types)) c.alias-entity.ensures ∙ ap alias (named_there p c.args.d.of lt)));
+      fits = bound_named {A = ℕ} p s t.text (meant.Alias f.of) c.entry_of.result 0
+          (rw (c.entry_of.ensures, c.alias-entity.ensures) refl);
     })

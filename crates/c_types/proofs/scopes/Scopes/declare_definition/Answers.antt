@@ -23,10 +23,23 @@ returns-in-Err-clause-answers c lt =
     let p = c.args.p.now in
     let t = name_of sc.file.now c.args.d in
     let f = formed_of p c.args.d in
-    let misfits : c.either-misfits.result ≡ (is_typedef (storage_of c.args.d.storage) || not (is_function f.of)) = c.either-misfits.ensures ∙ ap (λ b. b || not c.is_function.result) c.is_typedef.ensures ∙ ap (λ b. is_typedef (storage_of c.args.d.storage) || not b) (c.is_function.ensures ∙ ap (λ cs. is_function (type_at (types_of cs) c.args.d.of)) c.as_slice.ensures) in
-    not_admitted {X = Entry} sc p (declares_definition (storage_of c.args.d.storage) t f) (λ s. linked_routine t f.of (find_in (innermost s.scopes).names t.text) >>= begins t) f c.in_ok-fits.fits false c.either-misfits.result (λ s. definition_agrees s (find_in (innermost s.scopes).names t.text) t.text f.of) (λ s. false) (λ s. is_typedef (storage_of c.args.d.storage) || not (is_function f.of)) t.pos (IsNamed p t.text) c.in-Err.refusal
-    (λ s. steps_after (admits (definition_agrees s (find_in (innermost s.scopes).names t.text) t.text f.of) f false (is_typedef (storage_of c.args.d.storage) || not (is_function f.of)) t.pos) (linked_routine t f.of (find_in (innermost s.scopes).names t.text)) (begins t) s)
-    (λ s h. c.in_ok-fits.ensures s h lt ∙ ap (λ o. definition_seen s o t.text f.of) (c.look_here-found.ensures p s h ∙ ap (λ m. option_map entity_seen (find_in (innermost s.scopes).names m)) c.text.ensures) ∙ sym (definition_seen_is s (find_in (innermost s.scopes).names t.text) t.text f.of))
+    let misfits : c.either-misfits.result ≡ (is_typedef (storage_of c.args.d.storage) || not (is_function f.of)) =
+    c.either-misfits.ensures ∙ ap (λ b. b || not c.is_function.result) c.is_typedef.ensures
+    ∙ ap (λ b. is_typedef (storage_of c.args.d.storage) || not b)
+    (c.is_function.ensures ∙ ap (λ cs. is_function (type_at (types_of cs) c.args.d.of)) c.as_slice.ensures) in
+    not_admitted {X = Entry} sc p (declares_definition (storage_of c.args.d.storage) t f)
+    (λ s. linked_routine t f.of (find_in (innermost s.scopes).names t.text) >>= begins t) f c.in_ok-fits.fits false
+    c.either-misfits.result (λ s. definition_agrees s (find_in (innermost s.scopes).names t.text) t.text f.of)
+    (λ s. false) (λ s. is_typedef (storage_of c.args.d.storage) || not (is_function f.of)) t.pos
+    (IsNamed p t.text) c.in-Err.refusal
+    (λ s. steps_after (admits (definition_agrees s (find_in (innermost s.scopes).names t.text) t.text f.of) f false
+    (is_typedef (storage_of c.args.d.storage) || not (is_function f.of)) t.pos)
+    (linked_routine t f.of (find_in (innermost s.scopes).names t.text)) (begins t) s)
+    (λ s h. c.in_ok-fits.ensures s h lt
+    ∙ ap (λ o. definition_seen s o t.text f.of)
+    (c.look_here-found.ensures p s h
+    ∙ ap (λ m. option_map entity_seen (find_in (innermost s.scopes).names m)) c.text.ensures)
+    ∙ sym (definition_seen_is s (find_in (innermost s.scopes).names t.text) t.text f.of))
     (λ s h. refl)
     (λ s h. misfits)
     (c.in-Err.ensures f.of)
@@ -37,16 +50,31 @@ returns-in_ok-k-in-Ok-clause-answers c lt s h =
     let p = c.args.p.now in
     let t = name_of sc.file.now c.args.d in
     let f = formed_of p c.args.d in
-    let misfits : c.either-misfits.result ≡ (is_typedef (storage_of c.args.d.storage) || not (is_function f.of)) = c.either-misfits.ensures ∙ ap (λ b. b || not c.is_function.result) c.is_typedef.ensures ∙ ap (λ b. is_typedef (storage_of c.args.d.storage) || not b) (c.is_function.ensures ∙ ap (λ cs. is_function (type_at (types_of cs) c.args.d.of)) c.as_slice.ensures) in
+    let misfits : c.either-misfits.result ≡ (is_typedef (storage_of c.args.d.storage) || not (is_function f.of)) =
+    c.either-misfits.ensures ∙ ap (λ b. b || not c.is_function.result) c.is_typedef.ensures
+    ∙ ap (λ b. is_typedef (storage_of c.args.d.storage) || not b)
+    (c.is_function.ensures ∙ ap (λ cs. is_function (type_at (types_of cs) c.args.d.of)) c.as_slice.ensures) in
     let e = find_in (innermost s.scopes).names t.text in
-    let found = c.look_here-found.ensures p s h ∙ ap (λ m. option_map entity_seen (find_in (innermost s.scopes).names m)) c.text.ensures in
-    admitted _ _ s (declares_definition (storage_of c.args.d.storage) t f) (linked_routine t f.of e >>= begins t) f c.in_ok-fits.fits false c.either-misfits.result (definition_agrees s e t.text f.of) false (is_typedef (storage_of c.args.d.storage) || not (is_function f.of)) t.pos _ _
-    (steps_after (admits (definition_agrees s e t.text f.of) f false (is_typedef (storage_of c.args.d.storage) || not (is_function f.of)) t.pos) (linked_routine t f.of e) (begins t) s)
-    (c.in_ok-fits.ensures s h lt ∙ ap (λ o. definition_seen s o t.text f.of) found ∙ sym (definition_seen_is s e t.text f.of))
+    let found = c.look_here-found.ensures p s h
+    ∙ ap (λ m. option_map entity_seen (find_in (innermost s.scopes).names m)) c.text.ensures in
+    admitted _ _ s (declares_definition (storage_of c.args.d.storage) t f)
+    (linked_routine t f.of e >>= begins t) f c.in_ok-fits.fits false c.either-misfits.result
+    (definition_agrees s e t.text f.of) false
+    (is_typedef (storage_of c.args.d.storage) || not (is_function f.of)) t.pos _ _
+    (steps_after (admits (definition_agrees s e t.text f.of) f false
+    (is_typedef (storage_of c.args.d.storage) || not (is_function f.of)) t.pos) (linked_routine t f.of e)
+    (begins t) s)
+    (c.in_ok-fits.ensures s h lt ∙ ap (λ o. definition_seen s o t.text f.of) found
+    ∙ sym (definition_seen_is s e t.text f.of))
     refl misfits (c.in-Ok.ensures f.of)
-    (definition_given c.linked_routine.new.self _ c.linked_routine.new.p _ s t f.of e t.text c.in_ok-k-in-Ok.k _ _ (c.in_ok-k-in-Ok.ensures.ok s e h lt found refl)
-    (λ u g. subst (λ z. Stands c.begin_routine.new.self c.begin_routine.new.p (change_routine c.in_ok-k-in-Ok.k (λ (r : RoutineState). record r { name = name_of z c.args.d; begun = true }) (record u { locals = [] }))) c.in_ok-k-in-Ok.ensures.file (c.begin_routine.ensures.stands u g))
+    (definition_given c.linked_routine.new.self _ c.linked_routine.new.p _ s t f.of e t.text c.in_ok-k-in-Ok.k _ _
+    (c.in_ok-k-in-Ok.ensures.ok s e h lt found refl)
+    (λ u g. subst (λ z. Stands c.begin_routine.new.self c.begin_routine.new.p
+    (change_routine c.in_ok-k-in-Ok.k (λ (r : RoutineState).
+    record r { name = name_of z c.args.d; begun = true }) (record u { locals = [] })))
+    c.in_ok-k-in-Ok.ensures.file (c.begin_routine.ensures.stands u g))
     c.begin_routine.ensures.types c.function_entry.ensures)
 
 pub returns-in_ok-k-in-Ok-clause-extends : goal.returns-in_ok-k-in-Ok-clause-extends
-returns-in_ok-k-in-Ok-clause-extends c = extends_after _ _ _ c.in_ok-k-in-Ok.ensures.extends c.begin_routine.ensures.extends
+returns-in_ok-k-in-Ok-clause-extends c =
+    extends_after _ _ _ c.in_ok-k-in-Ok.ensures.extends c.begin_routine.ensures.extends

@@ -14,7 +14,9 @@ returns-in-Err-clause-answers c lt =
     let t = name_of sc.file.now c.args.d in
     let f = formed_of p c.args.d in
     let b = c.args.d.defines in
-    not_admitted {X = Entry} sc p (declares_external t f b) (λ s. linked_static t f.of false (linked s t.text)) f c.in_ok-fits.fits false b (λ s. external_fits s t.text f.of) (λ s. false) (λ s. b) t.pos (IsNamed p t.text) c.in-Err.refusal
+    not_admitted {X = Entry} sc p (declares_external t f b)
+    (λ s. linked_static t f.of false (linked s t.text)) f c.in_ok-fits.fits false b
+    (λ s. external_fits s t.text f.of) (λ s. false) (λ s. b) t.pos (IsNamed p t.text) c.in-Err.refusal
     (λ s. refl)
     (λ s h. c.in_ok-fits.ensures s h lt)
     (λ s h. refl) (λ s h. refl) (c.in-Err.ensures f.of)
@@ -26,6 +28,7 @@ returns-in_ok-linked_object-in-Ok-clause-answers c lt s h =
     let t = name_of sc.file.now c.args.d in
     let f = formed_of p c.args.d in
     let b = c.args.d.defines in
-    admitted _ _ s (declares_external t f b) (linked_static t f.of false (linked s t.text)) f c.in_ok-fits.fits false b (external_fits s t.text f.of) false b t.pos _ _
+    admitted _ _ s (declares_external t f b) (linked_static t f.of false (linked s t.text)) f c.in_ok-fits.fits false b
+    (external_fits s t.text f.of) false b t.pos _ _
     refl (c.in_ok-fits.ensures s h lt) refl refl (c.in-Ok.ensures f.of)
     (c.in_ok-linked_object-in-Ok.ensures.ok s h lt)

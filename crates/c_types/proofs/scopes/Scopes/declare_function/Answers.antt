@@ -17,9 +17,13 @@ returns-in-Err-clause-answers c lt =
     let t = name_of sc.file.now c.args.d in
     let f = formed_of p c.args.d in
     let b = c.args.d.defines in
-    not_admitted {X = Entry} sc p (declares_function t f b) (λ s. linked_routine t f.of (find_in (innermost s.scopes).names t.text)) f c.in_ok-fits.fits false c.either-misfits.result (λ s. function_fits s t.text f.of) (λ s. false) (λ s. b || not (at_file_scope s)) t.pos (IsNamed p t.text) c.in-Err.refusal
+    not_admitted {X = Entry} sc p (declares_function t f b)
+    (λ s. linked_routine t f.of (find_in (innermost s.scopes).names t.text)) f c.in_ok-fits.fits false
+    c.either-misfits.result (λ s. function_fits s t.text f.of) (λ s. false) (λ s. b || not (at_file_scope s)) t.pos
+    (IsNamed p t.text) c.in-Err.refusal
     (λ s. refl)
-    (λ s h. c.in_ok-fits.ensures s h lt (c.look_here-found.ensures p s h ∙ ap (λ m. option_map entity_seen (find_in (innermost s.scopes).names m)) c.text.ensures))
+    (λ s h. c.in_ok-fits.ensures s h lt (c.look_here-found.ensures p s h
+    ∙ ap (λ m. option_map entity_seen (find_in (innermost s.scopes).names m)) c.text.ensures))
     (λ s h. refl)
     (λ s h. c.either-misfits.ensures ∙ ap (λ x. b || not x) (c.is_at_file_scope.ensures p s h))
     (c.in-Err.ensures f.of)
@@ -32,7 +36,11 @@ returns-in_ok-k-in-Ok-clause-answers c lt s h =
     let f = formed_of p c.args.d in
     let b = c.args.d.defines in
     let e = find_in (innermost s.scopes).names t.text in
-    let found = c.look_here-found.ensures p s h ∙ ap (λ m. option_map entity_seen (find_in (innermost s.scopes).names m)) c.text.ensures in
-    admitted _ _ s (declares_function t f b) (linked_routine t f.of e) f c.in_ok-fits.fits false c.either-misfits.result (function_fits s t.text f.of) false (b || not (at_file_scope s)) t.pos _ _
-    refl (c.in_ok-fits.ensures s h lt found) refl (c.either-misfits.ensures ∙ ap (λ x. b || not x) (c.is_at_file_scope.ensures p s h)) (c.in-Ok.ensures f.of)
-    (numbered_named _ _ _ t.text c.in_ok-k-in-Ok.k _ _ c.function_entry.ensures (c.in_ok-k-in-Ok.ensures.ok s e h lt found refl))
+    let found = c.look_here-found.ensures p s h
+    ∙ ap (λ m. option_map entity_seen (find_in (innermost s.scopes).names m)) c.text.ensures in
+    admitted _ _ s (declares_function t f b) (linked_routine t f.of e) f c.in_ok-fits.fits false c.either-misfits.result
+    (function_fits s t.text f.of) false (b || not (at_file_scope s)) t.pos _ _
+    refl (c.in_ok-fits.ensures s h lt found) refl
+    (c.either-misfits.ensures ∙ ap (λ x. b || not x) (c.is_at_file_scope.ensures p s h)) (c.in-Ok.ensures f.of)
+    (numbered_named _ _ _ t.text c.in_ok-k-in-Ok.k _ _ c.function_entry.ensures
+    (c.in_ok-k-in-Ok.ensures.ok s e h lt found refl))

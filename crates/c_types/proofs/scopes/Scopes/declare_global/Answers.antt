@@ -19,9 +19,17 @@ returns-in-Err-clause-answers c lt =
     let t = name_of sc.file.now c.args.d in
     let f = formed_of p c.args.d in
     let b = c.args.d.defines in
-    not_admitted {X = Entry} sc p (declares_global (storage_of c.args.d.storage) t f b) (λ s. linked_static t f.of (b || not (is_external (storage_of c.args.d.storage))) (linked s t.text)) f c.in_ok-fits.fits (not c.may_wait-waits.result) false (λ s. object_agrees s (find_in (innermost s.scopes).names t.text) t.text f.of b) (λ s. (not (may_wait s f.of b))) (λ s. false) t.pos (IsNamed p t.text) c.in-Err.refusal
+    not_admitted {X = Entry} sc p (declares_global (storage_of c.args.d.storage) t f b)
+    (λ s. linked_static t f.of (b || not (is_external (storage_of c.args.d.storage))) (linked s t.text)) f
+    c.in_ok-fits.fits (not c.may_wait-waits.result) false
+    (λ s. object_agrees s (find_in (innermost s.scopes).names t.text) t.text f.of b)
+    (λ s. (not (may_wait s f.of b))) (λ s. false) t.pos (IsNamed p t.text) c.in-Err.refusal
     (λ s. refl)
-    (λ s h. c.in_ok-fits.ensures s h lt ∙ ap (λ o. object_seen s o t.text f.of b) (c.look_here-found.ensures p s h ∙ ap (λ m. option_map entity_seen (find_in (innermost s.scopes).names m)) c.text.ensures) ∙ sym (object_seen_is s (find_in (innermost s.scopes).names t.text) t.text f.of b))
+    (λ s h. c.in_ok-fits.ensures s h lt
+    ∙ ap (λ o. object_seen s o t.text f.of b)
+    (c.look_here-found.ensures p s h
+    ∙ ap (λ m. option_map entity_seen (find_in (innermost s.scopes).names m)) c.text.ensures)
+    ∙ sym (object_seen_is s (find_in (innermost s.scopes).names t.text) t.text f.of b))
     (λ s h. (ap not (c.may_wait-waits.ensures s h))) (λ s h. refl) (c.in-Err.ensures f.of)
 
 pub returns-in_ok-linked_object-in-Ok-clause-answers : goal.returns-in_ok-linked_object-in-Ok-clause-answers
@@ -31,6 +39,16 @@ returns-in_ok-linked_object-in-Ok-clause-answers c lt s h =
     let t = name_of sc.file.now c.args.d in
     let f = formed_of p c.args.d in
     let b = c.args.d.defines in
-    admitted _ _ s (declares_global (storage_of c.args.d.storage) t f b) (linked_static t f.of (b || not (is_external (storage_of c.args.d.storage))) (linked s t.text)) f c.in_ok-fits.fits (not c.may_wait-waits.result) false (object_agrees s (find_in (innermost s.scopes).names t.text) t.text f.of b) (not (may_wait s f.of b)) false t.pos _ _
-    refl (c.in_ok-fits.ensures s h lt ∙ ap (λ o. object_seen s o t.text f.of b) (c.look_here-found.ensures p s h ∙ ap (λ m. option_map entity_seen (find_in (innermost s.scopes).names m)) c.text.ensures) ∙ sym (object_seen_is s (find_in (innermost s.scopes).names t.text) t.text f.of b)) (ap not (c.may_wait-waits.ensures s h)) refl (c.in-Ok.ensures f.of)
-    (defined_given _ _ s t f.of _ _ (linked s t.text) _ c.is_definition.ensures (c.in_ok-linked_object-in-Ok.ensures.ok s h lt))
+    admitted _ _ s (declares_global (storage_of c.args.d.storage) t f b)
+    (linked_static t f.of (b || not (is_external (storage_of c.args.d.storage))) (linked s t.text)) f
+    c.in_ok-fits.fits (not c.may_wait-waits.result) false
+    (object_agrees s (find_in (innermost s.scopes).names t.text) t.text f.of b)
+    (not (may_wait s f.of b)) false t.pos _ _
+    refl (c.in_ok-fits.ensures s h lt
+    ∙ ap (λ o. object_seen s o t.text f.of b)
+    (c.look_here-found.ensures p s h
+    ∙ ap (λ m. option_map entity_seen (find_in (innermost s.scopes).names m)) c.text.ensures)
+    ∙ sym (object_seen_is s (find_in (innermost s.scopes).names t.text) t.text f.of b))
+    (ap not (c.may_wait-waits.ensures s h)) refl (c.in-Ok.ensures f.of)
+    (defined_given _ _ s t f.of _ _ (linked s t.text) _ c.is_definition.ensures
+    (c.in_ok-linked_object-in-Ok.ensures.ok s h lt))

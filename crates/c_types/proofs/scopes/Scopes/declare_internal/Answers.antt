@@ -16,8 +16,11 @@ returns-in-Err-clause-answers c lt =
     let t = name_of sc.file.now c.args.d in
     let f = formed_of p c.args.d in
     let b = c.args.d.defines in
-    not_admitted {X = Entry} sc p (declares_internal t f b) (λ s. new_static t f.of false true) f c.is_new-fits.result (not c.is_ready-ready.result) false (λ s. is_new s t.text) (λ s. not (is_ready s f.of b)) (λ s. false) t.pos (IsNamed p t.text) c.in-Err.refusal
-    (λ s. refl) (λ s h. c.is_new-fits.ensures p s h ∙ ap (is_new s) c.text.ensures) (λ s h. ap not (c.is_ready-ready.ensures s h)) (λ s h. refl) (c.in-Err.ensures f.of)
+    not_admitted {X = Entry} sc p (declares_internal t f b) (λ s. new_static t f.of false true) f c.is_new-fits.result
+    (not c.is_ready-ready.result) false (λ s. is_new s t.text) (λ s. not (is_ready s f.of b)) (λ s. false) t.pos
+    (IsNamed p t.text) c.in-Err.refusal
+    (λ s. refl) (λ s h. c.is_new-fits.ensures p s h ∙ ap (is_new s) c.text.ensures)
+    (λ s h. ap not (c.is_ready-ready.ensures s h)) (λ s h. refl) (c.in-Err.ensures f.of)
 
 pub returns-in_ok-new_object-in-Ok-clause-answers : goal.returns-in_ok-new_object-in-Ok-clause-answers
 returns-in_ok-new_object-in-Ok-clause-answers c lt s h =
@@ -26,6 +29,8 @@ returns-in_ok-new_object-in-Ok-clause-answers c lt s h =
     let t = name_of sc.file.now c.args.d in
     let f = formed_of p c.args.d in
     let b = c.args.d.defines in
-    admitted _ _ s (declares_internal t f b) (new_static t f.of false true) f c.is_new-fits.result (not c.is_ready-ready.result) false (is_new s t.text) (not (is_ready s f.of b)) false t.pos _ _
-    refl (c.is_new-fits.ensures p s h ∙ ap (is_new s) c.text.ensures) (ap not (c.is_ready-ready.ensures s h)) refl (c.in-Ok.ensures f.of)
+    admitted _ _ s (declares_internal t f b) (new_static t f.of false true) f c.is_new-fits.result
+    (not c.is_ready-ready.result) false (is_new s t.text) (not (is_ready s f.of b)) false t.pos _ _
+    refl (c.is_new-fits.ensures p s h ∙ ap (is_new s) c.text.ensures) (ap not (c.is_ready-ready.ensures s h)) refl
+    (c.in-Ok.ensures f.of)
     (c.in_ok-new_object-in-Ok.ensures.ok s h lt (λ e. absurd (false≢true e)))

@@ -15,8 +15,11 @@ returns-in-Err-clause-is c lt =
     let t = name_of sc.file.now c.args.d in
     let f = formed_of p c.args.d in
     let b = c.args.d.defines in
-    not_admitted {X = Entry} sc p (declares_local t f b) (λ s. new_local t f.of) f c.is_new-fits.result (not c.is_ready-ready.result) false (λ s. is_new s t.text) (λ s. not (is_ready s f.of b)) (λ s. false) t.pos (IsNamed p t.text) c.in-Err.refusal
-    (λ s. refl) (λ s h. c.is_new-fits.ensures p s h ∙ ap (is_new s) c.text.ensures) (λ s h. ap not (c.is_ready-ready.ensures s h)) (λ s h. refl) (c.in-Err.ensures f.of)
+    not_admitted {X = Entry} sc p (declares_local t f b) (λ s. new_local t f.of) f c.is_new-fits.result
+    (not c.is_ready-ready.result) false (λ s. is_new s t.text) (λ s. not (is_ready s f.of b)) (λ s. false) t.pos
+    (IsNamed p t.text) c.in-Err.refusal
+    (λ s. refl) (λ s h. c.is_new-fits.ensures p s h ∙ ap (is_new s) c.text.ensures)
+    (λ s h. ap not (c.is_ready-ready.ensures s h)) (λ s h. refl) (c.in-Err.ensures f.of)
 
 pub returns-in_ok-new_local-in-Ok-clause-is : goal.returns-in_ok-new_local-in-Ok-clause-is
 returns-in_ok-new_local-in-Ok-clause-is c lt s h =
@@ -25,6 +28,8 @@ returns-in_ok-new_local-in-Ok-clause-is c lt s h =
     let t = name_of sc.file.now c.args.d in
     let f = formed_of p c.args.d in
     let b = c.args.d.defines in
-    admitted _ _ s (declares_local t f b) (new_local t f.of) f c.is_new-fits.result (not c.is_ready-ready.result) false (is_new s t.text) (not (is_ready s f.of b)) false t.pos _ _
-    refl (c.is_new-fits.ensures p s h ∙ ap (is_new s) c.text.ensures) (ap not (c.is_ready-ready.ensures s h)) refl (c.in-Ok.ensures f.of)
+    admitted _ _ s (declares_local t f b) (new_local t f.of) f c.is_new-fits.result (not c.is_ready-ready.result) false
+    (is_new s t.text) (not (is_ready s f.of b)) false t.pos _ _
+    refl (c.is_new-fits.ensures p s h ∙ ap (is_new s) c.text.ensures) (ap not (c.is_ready-ready.ensures s h)) refl
+    (c.in-Ok.ensures f.of)
     (c.in_ok-new_local-in-Ok.ensures.ok p s f.of h (named_there p c.args.d.of lt))

@@ -16,8 +16,11 @@ returns-then-is_function c =
     let n = text_at sc.file.now c.args.d.name in
     let t = type_named p c.args.d.of in
     let o = option_map (entity_kept (types_of p.types)) c.args.found in
-    if_ok c.function_agrees.result _ (λ (r : Bool). (s : State) → Stands sc p s → c.args.d.of < length p.types → r ≡ definition_seen s o n t) c.function_agrees.ensures
-    (λ r e s h lt. e s h lt ∙ ap (λ b. if b then function_seen s o n t true else object_seen s o n t true) (sym c.if-is_function.true ∙ c.is_function.ensures ∙ ap (λ cs. is_function (type_at (types_of cs) c.args.d.of)) c.as_slice.ensures))
+    if_ok c.function_agrees.result _ (λ (r : Bool). (s : State) → Stands sc p s → c.args.d.of < length p.types →
+    r ≡ definition_seen s o n t) c.function_agrees.ensures
+    (λ r e s h lt. e s h lt ∙ ap (λ b. if b then function_seen s o n t true else object_seen s o n t true)
+    (sym c.if-is_function.true ∙ c.is_function.ensures
+    ∙ ap (λ cs. is_function (type_at (types_of cs) c.args.d.of)) c.as_slice.ensures))
 
 pub returns-else-is_function : goal.returns-else-is_function
 returns-else-is_function c =
@@ -26,5 +29,8 @@ returns-else-is_function c =
     let n = text_at sc.file.now c.args.d.name in
     let t = type_named p c.args.d.of in
     let o = option_map (entity_kept (types_of p.types)) c.args.found in
-    if_ok c.object_agrees.result _ (λ (r : Bool). (s : State) → Stands sc p s → c.args.d.of < length p.types → r ≡ definition_seen s o n t) c.object_agrees.ensures
-    (λ r e s h lt. e s h lt ∙ ap (λ b. if b then function_seen s o n t true else object_seen s o n t true) (sym c.if-is_function.false ∙ c.is_function.ensures ∙ ap (λ cs. is_function (type_at (types_of cs) c.args.d.of)) c.as_slice.ensures))
+    if_ok c.object_agrees.result _ (λ (r : Bool). (s : State) → Stands sc p s → c.args.d.of < length p.types →
+    r ≡ definition_seen s o n t) c.object_agrees.ensures
+    (λ r e s h lt. e s h lt ∙ ap (λ b. if b then function_seen s o n t true else object_seen s o n t true)
+    (sym c.if-is_function.false ∙ c.is_function.ensures
+    ∙ ap (λ cs. is_function (type_at (types_of cs) c.args.d.of)) c.as_slice.ensures))

@@ -19,10 +19,13 @@ returns-clause-ok c s h lt e =
     (routine_changed _ c.merged_routine.new.p _ s k c.in_ok-of.of t (c.in_ok-of.ensures.keeps s h) c.set_type.ensures
     (λ x y a b.
     let there : slice_get p.funs k ≡ Some x = ap (λ fs. slice_get fs k) (sym same) ∙ a in
-    c.in_ok-of.ensures.ok x y.of t there (routine_type c.args.self.now p s k x y h there b) (named_there p c.args.d.of lt)))
+    c.in_ok-of.ensures.ok x y.of t there (routine_type c.args.self.now p s k x y h there b)
+    (named_there p c.args.d.of lt)))
     e
 
 pub returns-clause-extends : goal.returns-clause-extends
 returns-clause-extends c =
-    extends_after c.args.p.now c.merged_routine.new.p _ (extends_types c.args.p.now c.merged_routine.new.p c.in_ok-of.ensures.adds)
-    (fun_changed c.merged_routine.new.p _ (λ (f : FunDef). record f { of = c.in_ok-of.of }) c.args.k c.set_type.ensures (λ x. refl))
+    extends_after c.args.p.now c.merged_routine.new.p _
+    (extends_types c.args.p.now c.merged_routine.new.p c.in_ok-of.ensures.adds)
+    (fun_changed c.merged_routine.new.p _ (λ (f : FunDef). record f { of = c.in_ok-of.of }) c.args.k c.set_type.ensures
+    (λ x. refl))

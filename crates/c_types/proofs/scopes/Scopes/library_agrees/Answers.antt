@@ -14,5 +14,6 @@ returns-in_ok-agrees-in-Some c lt =
     let p = c.args.p.now in
     let ts = types_of p.types in
     let t = type_named p c.args.of in
-    c.agree_with.ensures ∙ library_is (named ts c.in-Some.known) _ t c.in_ok-agrees-in-Some.agrees c.args.defines (named_there p c.args.of lt) c.in_ok-agrees-in-Some.ensures
+    c.agree_with.ensures ∙ library_is (named ts c.in-Some.known) _ t c.in_ok-agrees-in-Some.agrees c.args.defines
+    (named_there p c.args.of lt) c.in_ok-agrees-in-Some.ensures
     ∙ ap (λ o. agrees_library (joined (option_map (named ts) o)) t c.args.defines) (sym c.in-Some.is)

@@ -9,7 +9,8 @@ use Rattle.c_types.proofs.scopes.Scopes.members_end.Given as goal
 
 abbrev pub invariant-loop-m : goal.invariant-loop-m
 invariant-loop-m l = record {
-  walk : (s : State) → Stands l.self l.p s → Walk l.large (placing l.shared) (numbered_extent s.tags l.p.types) l.ms (drop l.m-index l.ms) l.end;
+  walk : (s : State) → Stands l.self l.p s →
+      Walk l.large (placing l.shared) (numbered_extent s.tags l.p.types) l.ms (drop l.m-index l.ms) l.end;
   size : l.large ≡ false → l.end.size ≤ size_limit;
   positive : 0 < l.end.align;
   align : l.end.align ≤ greatest_align;

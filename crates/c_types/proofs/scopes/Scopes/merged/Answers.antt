@@ -10,7 +10,9 @@ use Rattle.c_types.proofs.scopes.Scopes.merged.Goals as goal
 
 pub returns-else-is_err-clause-ok : goal.returns-else-is_err-clause-ok
 returns-else-is_err-clause-ok c =
-    if_ok c.composite-merged.result _ (λ (k : ℕ). (t u : Ty) → named (types_of c.args.p.now.types) c.args.a ≡ Some t → named (types_of c.args.p.now.types) c.args.b ≡ Some u → named (types_of c.composite-merged.new.p.types) k ≡ Some (composite t u)) c.composite-merged.ensures.ok
+    if_ok c.composite-merged.result _ (λ (k : ℕ). (t u : Ty) → named (types_of c.args.p.now.types) c.args.a ≡ Some t →
+    named (types_of c.args.p.now.types) c.args.b ≡ Some u →
+    named (types_of c.composite-merged.new.p.types) k ≡ Some (composite t u)) c.composite-merged.ensures.ok
     (λ k e t u f g. composite_named c.args.p.now c.composite-merged.new.p k c.args.a c.args.b t u e.0 e.1 f g)
 
 pub returns-else-b-count-clause-ok : goal.returns-else-b-count-clause-ok

@@ -14,7 +14,9 @@ returns-clause-ok c p s of h e =
     let k = c.in_ok-k.k in
     let n = c.in_ok-k.ensures ∙ ap length c.as_slice.ensures.value in
     let ready = locals_same sc c.reserve.new.self p s h c.in_ok-reserve.ensures.items in
-    let b = c.in_ok-bind.ensures.ok p s (meant.Local k of) ready (ap (entity_kept (types_of p.types)) c.local-entity.ensures ∙ ap (local k) e) in
+    let b = c.in_ok-bind.ensures.ok p s (meant.Local k of) ready
+    (ap (entity_kept (types_of p.types)) c.local-entity.ensures ∙ ap (local k) e) in
     local_given sc c.bind.new.self c.push.new.self p s c.args.d of k c.entry_of.result h e n
     (subst (λ x. Stands c.bind.new.self p (bind_name x (meant.Local k of) s)) c.text.ensures b)
-    (ap (λ (x : Scopes). x.file.now) c.bind.ensures.others) c.in_ok-push.ensures.items (c.entry_of.ensures ∙ ap entry_of c.local-entity.ensures)
+    (ap (λ (x : Scopes). x.file.now) c.bind.ensures.others) c.in_ok-push.ensures.items
+    (c.entry_of.ensures ∙ ap entry_of c.local-entity.ensures)

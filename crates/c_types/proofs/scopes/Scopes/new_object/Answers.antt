@@ -18,16 +18,28 @@ returns-clause-ok c s h lt u =
     let k = c.in_ok-k.k in
     let n = c.in_ok-k.ensures ∙ ap length c.as_slice.ensures.value in
     let same = ap (λ (x : Scopes). x.file.now) c.reserve_name.ensures.others in
-    let name : c.text-name.result.now ≡ text_at sc.file.now c.args.d.name = c.text-name.ensures ∙ ap (λ z. text_at z c.args.d.name) same in
-    let ready = c.reserve_name.ensures.keeps p s (linked_same (record sc { objects = c.reserve.new.self }) _ p s (objects_same sc c.reserve.new.self p s h c.in_ok-reserve.ensures.items) refl c.reserve-2.ensures.entries) in
-    let b = c.in_ok-bind.ensures.ok p s (meant.Static k) ready (ap (entity_kept (types_of p.types)) c.object-entity.ensures) in
+    let name : c.text-name.result.now ≡ text_at sc.file.now c.args.d.name =
+    c.text-name.ensures ∙ ap (λ z. text_at z c.args.d.name) same in
+    let ready = c.reserve_name.ensures.keeps p s
+    (linked_same (record sc { objects = c.reserve.new.self }) _ p s
+    (objects_same sc c.reserve.new.self p s h c.in_ok-reserve.ensures.items) refl c.reserve-2.ensures.entries)
+    in
+    let b = c.in_ok-bind.ensures.ok p s (meant.Static k) ready
+    (ap (entity_kept (types_of p.types)) c.object-entity.ensures) in
     let sb = c.bind.new.self in
     object_given sc sb _ p _ s c.args.d c.args.linkage c.args.defined k c.zeros.result c.entry_of.result h lt n
     (subst (λ x. Stands sb p (bind_name x (meant.Static k) s)) name b)
     (ap (λ (x : Scopes). x.file.now) c.bind.ensures.others ∙ same)
     (ap (λ (x : Scopes). record x { objects = c.push.new.self }) c.note_linked.ensures.others)
-    (c.in_ok-push.ensures.items ∙ ap (λ (x : Scopes). x.objects.items ++ record { linked = c.args.linkage; defined = c.args.defined; given = false } ∷ []) c.note_linked.ensures.others)
-    (λ m. c.in_ok-note_linked.ensures.ok m ∙ ap (λ x. cond (c.args.linkage && bytes_eq x m) (Some k) (lookup (λ j. bytes_eq m j.now) sb.linked.entries)) name)
+    (c.in_ok-push.ensures.items
+    ∙ ap (λ (x : Scopes). x.objects.items ++ record {
+      linked = c.args.linkage;
+      defined = c.args.defined;
+      given = false;
+    } ∷ []) c.note_linked.ensures.others)
+    (λ m. c.in_ok-note_linked.ensures.ok m
+    ∙ ap (λ x. cond (c.args.linkage && bytes_eq x m) (Some k) (lookup (λ j. bytes_eq m j.now) sb.linked.entries))
+    name)
     c.in_ok-append.ensures.ok c.zeros.ensures u (c.entry_of.ensures ∙ ap entry_of c.object-entity.ensures)
 
 pub returns-clause-extends : goal.returns-clause-extends

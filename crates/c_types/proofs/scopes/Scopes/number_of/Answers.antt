@@ -3,7 +3,8 @@ use Rattle.c_types.proofs.Growth.{stands_more, stands_numbers}
 use Rattle.c_types.proofs.scopes.Scopes.number_of.Goals as goal
 
 pub returns-clause-keeps : goal.returns-clause-keeps
-returns-clause-keeps c s h = stands_numbers c.args.self.now _ _ s (stands_more c.args.self.now c.args.p.now _ s c.number_of.ensures.adds h)
+returns-clause-keeps c s h =
+    stands_numbers c.args.self.now _ _ s (stands_more c.args.self.now c.args.p.now _ s c.number_of.ensures.adds h)
 
 pub returns-clause-extends : goal.returns-clause-extends
 returns-clause-extends c = extends_types c.args.p.now _ c.number_of.ensures.adds

@@ -16,7 +16,9 @@ returns-in-Some-look_linked c =
     let ts = types_of p.types in
     let n = text_at sc.file.now c.args.d.name in
     let t = type_named p c.args.d.of in
-    if_ok c.static_agrees.result _ (λ (r : Bool). (s : State) → Stands sc p s → c.args.d.of < length p.types → r ≡ object_seen s (option_map (entity_kept ts) c.args.found) n t c.args.defines) c.static_agrees.ensures
+    if_ok c.static_agrees.result _ (λ (r : Bool). (s : State) → Stands sc p s → c.args.d.of < length p.types →
+    r ≡ object_seen s (option_map (entity_kept ts) c.args.found) n t c.args.defines) c.static_agrees.ensures
     (λ r e s h lt.
-    e s h lt ∙ ap (λ o. agrees_linked s o t c.args.defines) (c.in-Some-look_linked.ensures.seen p s h ∙ ap (linked s) c.text.ensures)
+    e s h lt ∙ ap (λ o. agrees_linked s o t c.args.defines)
+    (c.in-Some-look_linked.ensures.seen p s h ∙ ap (linked s) c.text.ensures)
     ∙ ap (λ o. object_seen s (option_map (entity_kept ts) o) n t c.args.defines) (sym c.in-None.is))

@@ -7,4 +7,5 @@ returns-in-None-clause-is c p s place h e = begun_nothing c.args.self.now p s c.
 
 pub returns-in-Some-clause-is : goal.returns-in-Some-clause-is
 returns-in-Some-clause-is c p s place h e =
-    begun_now c.args.self.now p s c.args.tag c.in-Some.info place _ h (sym c.in-Some.ensures) (sym (tag_begun c.args.self.now p s c.args.tag c.in-Some.info h (sym c.in-Some.ensures)) ∙ e) refl
+    begun_now c.args.self.now p s c.args.tag c.in-Some.info place _ h (sym c.in-Some.ensures)
+    (sym (tag_begun c.args.self.now p s c.args.tag c.in-Some.info h (sym c.in-Some.ensures)) ∙ e) refl

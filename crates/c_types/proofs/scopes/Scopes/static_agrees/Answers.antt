@@ -9,6 +9,8 @@ pub returns-in_ok-agrees-in-Some : goal.returns-in_ok-agrees-in-Some
 returns-in_ok-agrees-in-Some c s h lt =
     let p = c.args.p.now in
     c.agree_with.ensures
-    ∙ static_some c.args.self.now p s c.args.k c.in-Some.global.now _ (type_named p c.args.of) c.in_ok-agrees-in-Some.agrees c.is_given.result c.args.defines h
-    (there_at p.globals _ c.args.k c.in-Some.global.now c.as_slice.ensures c.in-Some.ensures.lookup.0 c.in-Some.ensures.lookup.1)
+    ∙ static_some c.args.self.now p s c.args.k c.in-Some.global.now _
+    (type_named p c.args.of) c.in_ok-agrees-in-Some.agrees c.is_given.result c.args.defines h
+    (there_at p.globals _ c.args.k c.in-Some.global.now c.as_slice.ensures c.in-Some.ensures.lookup.0
+    c.in-Some.ensures.lookup.1)
     (named_there p c.args.of lt) c.in_ok-agrees-in-Some.ensures c.is_given.ensures

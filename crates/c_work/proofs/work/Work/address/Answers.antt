@@ -12,4 +12,5 @@ returns-in-None c =
     let a = operand_in w c.args.a in
     let p = c.args.pos in
     answers_at quietly w _ _ (address_of a p) OperandThere IsOperand _
-    (λ s h. address_is a p s ∙ ap (λ (t : State). address_of a p t) (taken_none a.is s c.in-None.ensures)) (lift_operand w _ _ _ c.address_of.ensures)
+    (λ s h. address_is a p s ∙ ap (λ (t : State). address_of a p t) (taken_none a.is s c.in-None.ensures))
+    (lift_operand w _ _ _ c.address_of.ensures)

@@ -14,7 +14,10 @@ returns c =
     let p = c.args.pos in
     let ks = c.push_number.new.numbers in
     let k = c.in_ok-known.known in
-    changed quietly quiet_law w (record w { addressed = ks }) _ (take_address k) (address a p) (address_of a p) OperandThere IsOperand _
-    c.requires.whole (addressed_quiet w ks _ c.in_ok-push_number.ensures) (λ s h. still_local k s) (λ s h. let v = c.in_ok-known.ensures.is s h in shows_address w ks k s v.0 c.in_ok-push_number.ensures v.1 h)
-    (λ s h. address_is a p s ∙ ap (λ (t : State). address_of a p t) (taken_local a.is k s (c.requires.local ∙ ap (λ (n : ℕ). Some n) (sym c.in_ok-known.ensures.same))))
+    changed quietly quiet_law w (record w { addressed = ks }) _ (take_address k) (address a p)
+    (address_of a p) OperandThere IsOperand _
+    c.requires.whole (addressed_quiet w ks _ c.in_ok-push_number.ensures) (λ s h. still_local k s)
+    (λ s h. let v = c.in_ok-known.ensures.is s h in shows_address w ks k s v.0 c.in_ok-push_number.ensures v.1 h)
+    (λ s h. address_is a p s ∙ ap (λ (t : State). address_of a p t)
+    (taken_local a.is k s (c.requires.local ∙ ap (λ (n : ℕ). Some n) (sym c.in_ok-known.ensures.same))))
     (lift_operand (record w { addressed = ks }) _ _ _ c.address_of.ensures)

@@ -8,4 +8,6 @@ use Rattle.c_work.proofs.work.Work.all_complete.Given as goal
 
 abbrev pub invariant-loop-of : goal.invariant-loop-of
 invariant-loop-of l =
-    (s : State) → Shows l.self s → all_complete s (tys (map (type_in l.self.nodes) l.params)) ≡ all_complete s (tys (map (type_in l.self.nodes) (drop l.of-index l.params)))
+    (s : State) → Shows l.self s →
+    all_complete s (tys (map (type_in l.self.nodes) l.params))
+    ≡ all_complete s (tys (map (type_in l.self.nodes) (drop l.of-index l.params)))

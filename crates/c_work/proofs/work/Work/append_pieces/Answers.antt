@@ -17,8 +17,12 @@ loop-k-preserved c xs h =
     let before = c.args.into.now.items in
     let now = c.loop-k.into.items in
     rw (add-one i)
-    (one_written w before xs now c.append_piece.new.into.items (get_or ks i 0) (drop (suc i) ks) c.in_ok-append_piece.ensures
-    (subst (λ (js : List ℕ). Written w before xs now js) (drop-cons ks i 0 c.loop-k-test.true) (c.loop-k.invariant xs h)))
+    (one_written w before xs now c.append_piece.new.into.items (get_or ks i 0)
+    (drop (suc i) ks) c.in_ok-append_piece.ensures
+    (subst (λ (js : List ℕ). Written w before xs now js) (drop-cons ks i 0 c.loop-k-test.true)
+    (c.loop-k.invariant xs h)))
 
 pub returns : goal.returns
-returns c xs h = all_written c.args.self.now c.args.into.now.items xs c.loop-k.into.items (drop c.loop-k.k-index c.args.kids.now) (drop_all c.loop-k.k-index c.args.kids.now c.loop-k-test.false) (c.loop-k.invariant xs h)
+returns c xs h = all_written c.args.self.now c.args.into.now.items xs c.loop-k.into.items
+    (drop c.loop-k.k-index c.args.kids.now) (drop_all c.loop-k.k-index c.args.kids.now c.loop-k-test.false)
+    (c.loop-k.invariant xs h)

@@ -5,4 +5,5 @@ use Rattle.c_work.proofs.Parting.{Written}
 use Rattle.c_work.proofs.work.Work.append_pieces.Given as goal
 
 abbrev pub invariant-loop-k : goal.invariant-loop-k
-invariant-loop-k l = (xs : Syns) → AreParts l.self l.kids xs → Written l.self l.initial.into.items xs l.into.items (drop l.k-index l.kids)
+invariant-loop-k l = (xs : Syns) → AreParts l.self l.kids xs →
+    Written l.self l.initial.into.items xs l.into.items (drop l.k-index l.kids)

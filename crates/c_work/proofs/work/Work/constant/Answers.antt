@@ -6,4 +6,6 @@ use Rattle.c_work.proofs.work.Work.constant.Goals as goal
 
 pub returns : goal.returns
 returns c =
-    constant_lifts c.args.self.now c.int_constant.new.nodes c.int_constant.result c.kept-bits.result c.args.number c.args.pos (c.kept-bits.ensures ∙ ap kept_of (to_z-of_z w32 c.args.number c.ranges.number)) c.int_constant.ensures
+    constant_lifts c.args.self.now c.int_constant.new.nodes c.int_constant.result c.kept-bits.result c.args.number
+    c.args.pos (c.kept-bits.ensures ∙ ap kept_of (to_z-of_z w32 c.args.number c.ranges.number))
+    c.int_constant.ensures

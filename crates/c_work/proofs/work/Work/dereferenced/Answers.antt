@@ -14,4 +14,6 @@ returns c =
     let x = (operand_in w c.args.a).is in
     let u = type_in w.nodes c.args.to in
     built w _ _ _ _ c.in_ok-node.ensures
-    (λ s k. dereferencing_is u x c.args.pos c.args.first s ∙ need_true (is_sized s u) 132 c.args.first (gives (step Deref x u c.args.pos) c.args.first) s (c.is_sized.ensures s k ∙ c.if-not-is_sized.false))
+    (λ s k. dereferencing_is u x c.args.pos c.args.first s
+    ∙ need_true (is_sized s u) 132 c.args.first (gives (step Deref x u c.args.pos) c.args.first) s
+    (c.is_sized.ensures s k ∙ c.if-not-is_sized.false))

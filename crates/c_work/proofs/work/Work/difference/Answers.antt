@@ -11,6 +11,9 @@ returns c =
     let w = c.args.self.now in
     let a = operand_in w c.args.a in
     let b = operand_in w c.args.b in
-    checked quietly w _ _ (difference_of a b c.args.pos) (λ s. difference_counted s (operand_type a) (operand_type b)) 132 a.first OperandThere IsOperand _ (difference_checked a b c.args.pos)
-    (two_told difference_counted w _ _ _ _ _ _ c.of-s.ensures c.of-t.ensures c.is_difference_counted.ensures c.if-not-is_difference_counted.false)
+    checked quietly w _ _ (difference_of a b c.args.pos)
+    (λ s. difference_counted s (operand_type a) (operand_type b)) 132 a.first OperandThere IsOperand _
+    (difference_checked a b c.args.pos)
+    (two_told difference_counted w _ _ _ _ _ _ c.of-s.ensures c.of-t.ensures c.is_difference_counted.ensures
+    c.if-not-is_difference_counted.false)
     (lift_operand w _ _ _ c.infix_join_of.ensures)

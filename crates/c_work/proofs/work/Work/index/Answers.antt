@@ -7,5 +7,7 @@ pub returns : goal.returns
 returns c =
     let w = c.args.self.now in
     let p = c.args.pos in
-    then quietly quiet_law w c.sum.new.self c.dereference.new.self (sum (operand_in w c.args.a) (operand_in w c.args.b) p) (λ x. dereference x p c.args.a.first) (operand_in c.sum.new.self c.in_ok-x.x) _ OperandThere IsOperand _
+    then quietly quiet_law w c.sum.new.self c.dereference.new.self
+    (sum (operand_in w c.args.a) (operand_in w c.args.b) p) (λ x. dereference x p c.args.a.first)
+    (operand_in c.sum.new.self c.in_ok-x.x) _ OperandThere IsOperand _
     c.in_ok-x.ensures c.dereference.ensures

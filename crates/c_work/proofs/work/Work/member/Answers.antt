@@ -8,4 +8,5 @@ use Rattle.c_work.proofs.work.Work.member.Goals as goal
 pub returns-in-None : goal.returns-in-None
 returns-in-None c s h =
     let w = c.args.self.now in
-    member_of_none (operand_in w c.args.a) c.args.name.now c.args.pos (type_in w.nodes c.bare-bare.result) s (c.bare-bare.ensures.is ∙ ap bare c.of-of.ensures.is) c.in-None.ensures
+    member_of_none (operand_in w c.args.a) c.args.name.now c.args.pos (type_in w.nodes c.bare-bare.result) s
+    (c.bare-bare.ensures.is ∙ ap bare c.of-of.ensures.is) c.in-None.ensures

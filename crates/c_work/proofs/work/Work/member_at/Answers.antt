@@ -11,6 +11,8 @@ pub returns : goal.returns
 returns c =
     let w = c.args.self.now in
     let n = w.nodes in
-    let t = has_type_is n _ _ _ _ c.in_ok-qualified.ensures (ap (λ (u : Ty). as_qualified u (type_in n c.args.of)) c.of-whole.ensures.is) in
+    let t = has_type_is n _ _ _ _ c.in_ok-qualified.ensures
+    (ap (λ (u : Ty). as_qualified u (type_in n c.args.of)) c.of-whole.ensures.is) in
     built w _ _ _ _
-    (typed_step (λ (x : Term) (u : Ty). step (Member c.args.k) x u c.args.pos) n c.as_qualified.new.nodes _ c.args.a.node _ _ _ c.requires.operand t c.in_ok-node.ensures) (λ s k. refl)
+    (typed_step (λ (x : Term) (u : Ty). step (Member c.args.k) x u c.args.pos) n c.as_qualified.new.nodes _
+    c.args.a.node _ _ _ c.requires.operand t c.in_ok-node.ensures) (λ s k. refl)

@@ -14,6 +14,8 @@ returns c =
     let p = c.args.pos in
     let us = c.push_use.new.uses in
     let of = c.in_ok-of.of in
-    changed quietly quiet_law w (record w { uses = us }) _ (use_static k p) _ (giving_leaf (Global k) (type_in w.nodes of) p) OperandThere IsOperand _
-    c.requires.whole (uses_quiet w us _ c.in_ok-push_use.ensures) (λ s h. still_static k p s) (λ s h. let g = c.in_ok-of.ensures.is s h in shows_object w us k p s g.0 c.in_ok-push_use.ensures g.1 h)
+    changed quietly quiet_law w (record w { uses = us }) _ (use_static k p) _
+    (giving_leaf (Global k) (type_in w.nodes of) p) OperandThere IsOperand _
+    c.requires.whole (uses_quiet w us _ c.in_ok-push_use.ensures) (λ s h. still_static k p s)
+    (λ s h. let g = c.in_ok-of.ensures.is s h in shows_object w us k p s g.0 c.in_ok-push_use.ensures g.1 h)
     (λ s h. let g = c.in_ok-of.ensures.is s h in object_is k p (type_in w.nodes of) s g.0 g.1 g.2) c.leaf.ensures

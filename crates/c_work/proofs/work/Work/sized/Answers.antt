@@ -11,5 +11,6 @@ pub returns-in-Ok : goal.returns-in-Ok
 returns-in-Ok c =
     let w = c.args.self.now in
     let p = c.args.pos in
-    answers_at quietly w _ _ (gives (leaf (Constant c.in-Ok.layout.size) unsigned_long p) p) OperandThere IsOperand _ (λ s k. sized_is s (type_in w.nodes c.args.of) c.in-Ok.layout p (c.in-Ok.ensures s k))
+    answers_at quietly w _ _ (gives (leaf (Constant c.in-Ok.layout.size) unsigned_long p) p) OperandThere IsOperand _
+    (λ s k. sized_is s (type_in w.nodes c.args.of) c.in-Ok.layout p (c.in-Ok.ensures s k))
     (lift_operand w _ _ _ c.size_constant.ensures)

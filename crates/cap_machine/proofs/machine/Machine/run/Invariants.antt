@@ -8,6 +8,9 @@ use Rattle.cap_machine.proofs.machine.Machine.run.Given as goal
 
 abbrev pub invariant-loop-done : goal.invariant-loop-done
 invariant-loop-done g l = record {
-  running : Running limits act l.fn.steps l.fn.self (seen (g.I.Source.left l.fn.input) (g.I.Source.faults l.fn.input) (g.O.Sink.held l.fn.out) (g.O.Sink.faults l.fn.out)) (seen (g.I.Source.left l.input) (g.I.Source.faults l.input) (g.O.Sink.held l.out) (g.O.Sink.faults l.out)) l.self (l.fn.steps - l._done);
+  running : Running limits act l.fn.steps l.fn.self
+      (seen (g.I.Source.left l.fn.input) (g.I.Source.faults l.fn.input) (g.O.Sink.held l.fn.out)
+      (g.O.Sink.faults l.fn.out)) (seen (g.I.Source.left l.input) (g.I.Source.faults l.input) (g.O.Sink.held l.out)
+      (g.O.Sink.faults l.out)) l.self (l.fn.steps - l._done);
   contained : StaysContained l.fn.self l.self None;
 }

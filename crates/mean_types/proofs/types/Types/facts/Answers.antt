@@ -8,7 +8,8 @@ returns-in-None c =
     let a = c.deref.ensures.value in
     let b = c.self.view_is in
     let e : c.args.self.now ≡ c.deref.result.now = cc in
-    facts_missing _ c.deref.result.now _ _ (subst (λ l. AreTypesOf c.args.p.now.types l) e c.requires) c.in-None.ensures.lookup.0
+    facts_missing _ c.deref.result.now _ _ (subst (λ l. AreTypesOf c.args.p.now.types l) e c.requires)
+    c.in-None.ensures.lookup.0
     (record { kind = refl; pointer = refl; target = refl; void = refl; is_record = refl; gives = refl }) refl refl refl
 
 pub returns-in-Some : goal.returns-in-Some
@@ -16,4 +17,5 @@ returns-in-Some c =
     let a = c.deref.ensures.value in
     let b = c.self.view_is in
     let e : c.args.self.now ≡ c.deref.result.now = cc in
-    facts_found _ c.deref.result.now _ _ (subst (λ l. AreTypesOf c.args.p.now.types l) e c.requires) c.ranges.t.fits c.in-Some.ensures.lookup.0 c.in-Some.ensures.lookup.1
+    facts_found _ c.deref.result.now _ _ (subst (λ l. AreTypesOf c.args.p.now.types l) e c.requires) c.ranges.t.fits
+    c.in-Some.ensures.lookup.0 c.in-Some.ensures.lookup.1

@@ -11,4 +11,5 @@ returns-then-k-len-clause-memory c =
 pub returns-clause-memory : goal.returns-clause-memory
 returns-clause-memory c =
     let within : c.args.object < length c.args.self.now.objects.items = search rules in
-    rw c.set_life.ensures (life_set c.args.self.now.objects.items c.args.self.now.notes.items c.args.object (life_of c.args.life) c.index_mut.result.now within c.index_mut.ensures.value)
+    rw c.set_life.ensures (life_set c.args.self.now.objects.items c.args.self.now.notes.items c.args.object
+    (life_of c.args.life) c.index_mut.result.now within c.index_mut.ensures.value)

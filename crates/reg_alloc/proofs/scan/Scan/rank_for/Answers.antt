@@ -7,4 +7,5 @@ returns-in-Some-clause-choice c = own_choice _ _ _ _ _ (c.in-Some.ensures {u = t
 
 pub returns-in_default-clause-choice : goal.returns-in_default-clause-choice
 returns-in_default-clause-choice c =
-    first_choice _ _ _ _ c.lowest_rank.result c.first_free.result c.lowest_rank.ensures.crossed c.lowest_rank.ensures.passed c.first_free.ensures.within c.first_free.ensures.free
+    first_choice _ _ _ _ c.lowest_rank.result c.first_free.result c.lowest_rank.ensures.crossed
+    c.lowest_rank.ensures.passed c.first_free.ensures.within c.first_free.ensures.free

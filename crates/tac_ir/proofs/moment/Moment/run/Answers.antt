@@ -10,7 +10,10 @@ pub acts-init : goal.acts-init
 acts-init g c = (
   acts_left c.args.f.now.code c.args.self + 1,
   omega arith,
-  Running-first limits (act c.args.f.now.kinds c.args.f.now.code) (acts_left c.args.f.now.code c.args.self + 1) c.args.self (seen (g.I.Source.left c.args.input.now) (g.I.Source.faults c.args.input.now) (g.O.Sink.held c.args.out.now) (g.O.Sink.faults c.args.out.now)),
+  Running-first limits (act c.args.f.now.kinds c.args.f.now.code)
+      (acts_left c.args.f.now.code c.args.self + 1) c.args.self
+      (seen (g.I.Source.left c.args.input.now) (g.I.Source.faults c.args.input.now) (g.O.Sink.held c.args.out.now)
+      (g.O.Sink.faults c.args.out.now)),
 )
 
 pub acts-smaller : goal.acts-smaller
@@ -21,5 +24,6 @@ acts-preserved g c = goes_on c.args.f.now.kinds c.args.f.now.code c.acts.invaria
 
 pub returns-in-Some : goal.returns-in-Some
 returns-in-Some g c =
-    let both = comes_to_end c.args.f.now.kinds c.args.f.now.code c.step.new.self c.requires.source_room c.requires.sink_room c.acts.invariant c.in-Some.ensures in
+    let both = comes_to_end c.args.f.now.kinds c.args.f.now.code c.step.new.self c.requires.source_room
+    c.requires.sink_room c.acts.invariant c.in-Some.ensures in
     record { run = both.0; counted = both.1 }

@@ -15,10 +15,13 @@ pub returns-in-Some-clause-kept : goal.returns-in-Some-clause-kept
 returns-in-Some-clause-kept c = λ r. facts_kept _ r.ordered _ _ _ c.in-Some.ensures (c.facts_at.ensures _ r.table).kept
 
 pub returns-in-Some-clause-points : goal.returns-in-Some-clause-points
-returns-in-Some-clause-points c = λ r. facts_point _ r.ordered _ _ _ c.in-Some.ensures (c.facts_at.ensures _ r.table).points
+returns-in-Some-clause-points c =
+    λ r. facts_point _ r.ordered _ _ _ c.in-Some.ensures (c.facts_at.ensures _ r.table).points
 
 pub returns-in-None-clause-pointed : goal.returns-in-None-clause-pointed
-returns-in-None-clause-pointed c = λ t r e. absurd (let q : Void ≡ Pointer t = sym (ap type_of (expression_past _ r.ordered _ c.in-None.ensures)) ∙ e in cc)
+returns-in-None-clause-pointed c =
+    λ t r e. absurd (let q : Void ≡ Pointer t = sym (ap type_of (expression_past _ r.ordered _ c.in-None.ensures)) ∙ e
+    in cc)
 
 pub returns-in-Some-clause-pointed : goal.returns-in-Some-clause-pointed
 returns-in-Some-clause-pointed c = λ t r e.

@@ -3,4 +3,5 @@ use Rattle.tac_lower.proofs.Instructions.{copy_grown}
 use Rattle.tac_lower.proofs.emitter.Emitter.copy.Goals as goal
 
 pub returns-clause-grown : goal.returns-clause-grown
-returns-clause-grown c = IfOk-weaker c.push.result _ _ (λ r g. copy_grown _ _ _ _ c.requires.same g) c.push.ensures.pushed
+returns-clause-grown c = IfOk-weaker c.push.result _ _
+    (λ r g. copy_grown _ _ _ _ c.requires.same g) c.push.ensures.pushed

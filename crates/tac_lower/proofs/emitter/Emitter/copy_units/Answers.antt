@@ -3,4 +3,5 @@ use Rattle.tac_lower.proofs.Instructions.{copy_units_grown}
 use Rattle.tac_lower.proofs.emitter.Emitter.copy_units.Goals as goal
 
 pub returns-clause-grown : goal.returns-clause-grown
-returns-clause-grown c = IfOk-weaker c.push.result _ _ (λ r g. copy_units_grown _ _ _ _ _ _ _ _ c.requires.from c.requires.to c.requires.units g) c.push.ensures.pushed
+returns-clause-grown c = IfOk-weaker c.push.result _ _
+    (λ r g. copy_units_grown _ _ _ _ _ _ _ _ c.requires.from c.requires.to c.requires.units g) c.push.ensures.pushed

@@ -3,4 +3,5 @@ use Rattle.tac_lower.proofs.Instructions.{store_grown}
 use Rattle.tac_lower.proofs.emitter.Emitter.store.Goals as goal
 
 pub returns-clause-grown : goal.returns-clause-grown
-returns-clause-grown c = IfOk-weaker c.push.result _ _ (λ r g. store_grown _ _ _ _ _ _ c.requires.at c.requires.value g) c.push.ensures.pushed
+returns-clause-grown c = IfOk-weaker c.push.result _ _
+    (λ r g. store_grown _ _ _ _ _ _ c.requires.at c.requires.value g) c.push.ensures.pushed

@@ -2,4 +2,9 @@ use Rattle.std.proofs.lemmas.Result.{IfOk-weaker}
 use Rattle.tac_lower.proofs.emitter.Emitter.turn_fork.Goals as goal
 
 pub returns-clause-turned : goal.returns-clause-turned
-returns-clause-turned c = IfOk-weaker c.stand.result _ _ (λ r g. record { middle = c.jump.new.self; leads = c.in_ok-jump.ensures.grown; stands = g }) c.stand.ensures.stands
+returns-clause-turned c =
+    IfOk-weaker c.stand.result _ _ (λ r g. record {
+      middle = c.jump.new.self;
+      leads = c.in_ok-jump.ensures.grown;
+      stands = g;
+    }) c.stand.ensures.stands

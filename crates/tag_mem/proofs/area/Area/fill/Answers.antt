@@ -1,4 +1,5 @@
-use Rattle.std.proofs.Common.{◌≡◌, ℕ, ◌+◌, ◌-◌, ◌%◌, ◌<◌, ◌≤◌, ◌⊎◌, leb, Bool, List, length, take, drop, true, false, refl, sym, ap, ◌∙◌, subst, arith, rules, inl, inr}
+use Rattle.std.proofs.Common.{◌≡◌, ℕ, ◌+◌, ◌-◌, ◌%◌, ◌<◌, ◌≤◌, ◌⊎◌, leb, Bool, List, length, take, drop, true, false}
+use Rattle.std.proofs.Common.{refl, sym, ap, ◌∙◌, subst, arith, rules, inl, inr}
 use Rattle.std.specs.Prelude.{IsTrue, min}
 use Rattle.std.proofs.lemmas.Bool.{cases_Bool, leb-true, leb-false}
 use Rattle.std.proofs.lemmas.List.{length-take-le, length-drop}
@@ -28,7 +29,15 @@ past c = elim (cases_Bool (leb (c.args.at + length c.args.bytes.now) (end_of c.a
       let is_here = subst (λ (a : Area). IsTrue (has a c.args.at)) (sym c.self.view_is) c.requires.place in
       let here : has before c.args.at ≡ true = search rules in
       let low = starts before c.args.at here in
-      absurd (omega (arith, fits, end, low, length_granules c.self.inside.granules.items, c.if-bytes-len.true, c.len.ensures))
+      absurd (omega (
+        arith,
+        fits,
+        end,
+        low,
+        length_granules c.self.inside.granules.items,
+        c.if-bytes-len.true,
+        c.len.ensures,
+      ))
   | inr f ↦ f
 ]
 
@@ -50,7 +59,16 @@ loop-done-init c =
     let high = ends c.args.self.now c.args.at here in
     record {
       area = area;
-      fits = omega (arith, end, base, low, high, length_granules c.self.inside.granules.items, c.if-bytes-len.false, c.len.ensures);
+      fits = omega (
+        arith,
+        end,
+        base,
+        low,
+        high,
+        length_granules c.self.inside.granules.items,
+        c.if-bytes-len.false,
+        c.len.ensures,
+      );
       within = omega arith;
       whole = inl refl;
       so_far = sym (area_with-none c.args.self.now c.args.at area low c.requires.aligned (omega (arith, high)));
@@ -70,14 +88,17 @@ loop-done-preserved c =
           let more = leb-false (length bytes - done) 16 f in
           inr (c.min-count.ensures ∙ min-eq_right (omega (arith, more)), omega (arith, more))
     ] in
-    let even : done % 16 ≡ 0 = elim so_far.whole [ inl e ↦ e | inr e ↦ absurd (omega (arith, e, c.loop-done-test.true)) ] in
-    let within : done + n ≤ length bytes = elim count [ inl e ↦ omega (arith, e, so_far.within) | inr e ↦ omega (arith, e.0, e.1) ] in
+    let even : done % 16 ≡ 0 =
+    elim so_far.whole [ inl e ↦ e | inr e ↦ absurd (omega (arith, e, c.loop-done-test.true)) ] in
+    let within : done + n ≤ length bytes =
+    elim count [ inl e ↦ omega (arith, e, so_far.within) | inr e ↦ omega (arith, e.0, e.1) ] in
     let back : done + n - done ≡ n = omega arith in
     let is_here = c.requires.place in
     let here : has now at ≡ true = search rules in
     let low = starts now at here in
     let size : length (take done bytes) ≡ done = length-take-le done bytes so_far.within in
-    let part : length (take (done + n - done) (drop done bytes)) ≡ n = length-take-le (done + n - done) (drop done bytes) (omega (arith, within, length-drop done bytes)) ∙ back in
+    let part : length (take (done + n - done) (drop done bytes)) ≡ n =
+    length-take-le (done + n - done) (drop done bytes) (omega (arith, within, length-drop done bytes)) ∙ back in
     record {
       area = so_far.area;
       fits = so_far.fits;
@@ -85,8 +106,10 @@ loop-done-preserved c =
       whole = elim count [ inl e ↦ inr (omega (arith, e, so_far.within)) | inr e ↦ inl (omega (arith, e.0, even)) ];
       so_far = c.store.ensures
           ∙ ap (λ (a : Area). area_with a (at + done) (take (done + n - done) (drop done bytes)) false) so_far.so_far
-          ∙ ap (λ (k : ℕ). area_with (area_with now at (take done bytes) false) (at + k) (take (done + n - done) (drop done bytes)) false) (sym size)
-          ∙ area_with-more now at so_far.area low c.requires.aligned (take done bytes) (take (done + n - done) (drop done bytes)) (omega (arith, size, even))
+          ∙ ap (λ (k : ℕ). area_with (area_with now at (take done bytes) false) (at + k)
+          (take (done + n - done) (drop done bytes)) false) (sym size)
+          ∙ area_with-more now at so_far.area low c.requires.aligned (take done bytes)
+          (take (done + n - done) (drop done bytes)) (omega (arith, size, even))
           (omega (arith, size, part, within, so_far.fits))
           ∙ ap (λ (bs : List ℕ). area_with now at bs false) (take_more done (done + n - done) n bytes back);
     }

@@ -15,7 +15,8 @@ set-requires c =
 pub index_mut-requires : goal.index_mut-requires
 index_mut-requires c =
     let here = subst (λ (a : Area). IsTrue (has a c.args.at)) (sym c.self.view_is) c.requires.place in
-    let below = granule_below c.self.inside.base c.self.inside.granules.items c.self.inside.tags c.args.at c.self.invariant here in
+    let below = granule_below c.self.inside.base c.self.inside.granules.items c.self.inside.tags c.args.at
+    c.self.invariant here in
     omega (arith, below)
 
 pub invariant_of-self-lent : goal.invariant_of-self-lent
@@ -25,7 +26,8 @@ invariant_of-self-lent c w =
     let here = subst (λ (a : Area). IsTrue (has a c.args.at)) (sym c.self.view_is) c.requires.place in
     let is = ap (λ (t : List Bool). area_of base (set gs ((c.args.at - base) / 16) w) t) c.set.ensures
     ∙ with_lent base gs c.self.inside.tags c.args.at c.self.invariant here w c.requires.aligned in
-    subst (λ (a : Area). IsArea a) (sym is) (IsArea-with (area_of base gs c.self.inside.tags) c.args.at (granule_bytes w) false c.self.invariant here (small_granule w))
+    subst (λ (a : Area). IsArea a) (sym is) (IsArea-with (area_of base gs c.self.inside.tags) c.args.at
+    (granule_bytes w) false c.self.invariant here (small_granule w))
 
 pub returns : goal.returns
 returns c =
@@ -40,7 +42,8 @@ returns c =
       ),
       record {
         writes_back = tt;
-        value = ap granule_bytes c.index_mut.ensures.value ∙ bytes-granule base gs c.self.inside.tags c.args.at c.self.invariant here c.index_mut.result.now
+        value = ap granule_bytes c.index_mut.ensures.value
+            ∙ bytes-granule base gs c.self.inside.tags c.args.at c.self.invariant here c.index_mut.result.now
             ∙ ap (λ (x : ℕ). bytes_in (area_of base gs c.self.inside.tags) x 16) (omega (arith, c.requires.aligned))
             ∙ ap (λ (a : Area). bytes_in a c.args.at 16) c.self.view_is;
       },

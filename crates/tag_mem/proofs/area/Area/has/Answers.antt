@@ -15,5 +15,7 @@ overflow_add-result c = omega (arith, length_granules c.self.inside.granules.ite
 pub returns-then-self-at : goal.returns-then-self-at
 returns-then-self-at c =
     let gs : List (List ℕ) = c.self.inside.granules.items in
-    let size : length (flat_map granule_bytes gs) ≡ c.len.result * 16 = omega (arith, length_granules gs, c.len.ensures) in
-    sym (ap (λ (a : Area). has a c.args.at) (sym c.self.view_is) ∙ rw (le-leb c.self.inside.base c.args.at c.if-self-at.true, size) refl)
+    let size : length (flat_map granule_bytes gs) ≡ c.len.result * 16 =
+    omega (arith, length_granules gs, c.len.ensures) in
+    sym (ap (λ (a : Area). has a c.args.at) (sym c.self.view_is)
+    ∙ rw (le-leb c.self.inside.base c.args.at c.if-self-at.true, size) refl)

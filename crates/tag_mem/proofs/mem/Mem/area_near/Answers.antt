@@ -16,7 +16,8 @@ returns-in_err-i c =
 pub returns : goal.returns
 returns c =
     let a : Area = c.index.result.now in
-    let place = at_place c.self.inside.areas.items c.args.self.now c.args.at c.in_ok-i.i a c.self.view_is c.in_ok-i.ensures c.index.ensures in
+    let place = at_place c.self.inside.areas.items c.args.self.now c.args.at c.in_ok-i.i a c.self.view_is
+    c.in_ok-i.ensures c.index.ensures in
     record {
       found = sym (ap (λ (m : List Area). area_at m c.args.at) (sym c.self.view_is) ∙ place.found);
       here = let here = place.here in search rules;

@@ -2,7 +2,8 @@ use Rattle.std.proofs.Common.{ℕ, ◌*◌, ◌/◌, ◌≡◌, List, Some, sym,
 use Rattle.std.specs.Prelude.{is_some}
 use Rattle.tag_mem.specs.Areas.{Area, area_at, bytes_in}
 use Rattle.tag_mem.specs.Numbers.{little_number}
-use Rattle.tag_mem.proofs.Reading.{is_inside-found, is_inside-nowhere, capability_at-found, capability_at-nowhere, tag_at-found, Spells-found}
+use Rattle.tag_mem.proofs.Reading.{is_inside-found, is_inside-nowhere, capability_at-found, capability_at-nowhere}
+use Rattle.tag_mem.proofs.Reading.{tag_at-found, Spells-found}
 use Rattle.tag_mem.proofs.mem.Mem.cap_near.Goals as goal
 
 pub returns-in_err-area : goal.returns-in_err-area
@@ -23,7 +24,8 @@ returns c =
     let area : Area = c.in_ok-area.area.now in
     let found : area_at memory at ≡ Some area = sym c.in_ok-area.ensures.found in
     let even : at / 16 * 16 ≡ at = omega (arith, c.requires) in
-    let number = c.whole_number.ensures ∙ ap little_number (c.granule.ensures.value ∙ ap (λ (x : ℕ). bytes_in area x 16) even) in
+    let number = c.whole_number.ensures
+    ∙ ap little_number (c.granule.ensures.value ∙ ap (λ (x : ℕ). bytes_in area x 16) even) in
     let tag = c.tag.ensures in
     record {
       inside = is_inside-found memory at area found;

@@ -19,5 +19,6 @@ returns c =
     let even : at / 16 * 16 ≡ at = omega (arith, c.requires) in
     record {
       inside = is_inside-found memory at area found;
-      by_address = Holds-found memory at area c.granule.result.now c.in_ok-area.ensures.memory c.requires found (c.granule.ensures.value ∙ ap (λ (x : ℕ). bytes_in area x 16) even);
+      by_address = Holds-found memory at area c.granule.result.now c.in_ok-area.ensures.memory c.requires found
+          (c.granule.ensures.value ∙ ap (λ (x : ℕ). bytes_in area x 16) even);
     }

@@ -10,4 +10,11 @@ returns-in_err-i c =
     (rw none refl, record { writes_back = tt; inside = ap is_some none ∙ sym nowhere.inside; by_address = rw none tt })
 
 pub returns : goal.returns
-returns c = (refl, record { writes_back = tt; inside = sym c.granule_in.ensures.inside; by_address = c.granule_in.ensures.value })
+returns c = (
+  refl,
+  record {
+    writes_back = tt;
+    inside = sym c.granule_in.ensures.inside;
+    by_address = c.granule_in.ensures.value;
+  },
+)

@@ -2,7 +2,8 @@ use Rattle.std.proofs.Common.{ℕ, ◌≡◌, List, Some, sym, ap, ◌∙◌}
 use Rattle.std.specs.Prelude.{is_some}
 use Rattle.tag_mem.specs.Areas.{Area, area_at}
 use Rattle.tag_mem.specs.Memory.{number_at}
-use Rattle.tag_mem.proofs.Reading.{is_inside-found, is_inside-nowhere, number_at-found, number_at-nowhere, number_at-below, Spells-found}
+use Rattle.tag_mem.proofs.Reading.{is_inside-found, is_inside-nowhere, number_at-found, number_at-nowhere}
+use Rattle.tag_mem.proofs.Reading.{number_at-below, Spells-found}
 use Rattle.tag_mem.proofs.Sizes.{in_granule}
 use Rattle.tag_mem.proofs.mem.Mem.read_near.Goals as goal
 
@@ -29,10 +30,12 @@ returns c =
     let area : Area = c.in_ok-area.area.now in
     let found : area_at memory at ≡ Some area = sym c.in_ok-area.ensures.found in
     let part = in_granule at c.args.n c.requires.size c.requires.aligned in
-    let value : Some c.number.result ≡ number_at memory at c.args.n = rw c.number.ensures.value (sym (number_at-found memory at area found c.args.n)) in
+    let value : Some c.number.result ≡ number_at memory at c.args.n =
+    rw c.number.ensures.value (sym (number_at-found memory at area found c.args.n)) in
     record {
       inside = is_inside-found memory at area found;
       value = value;
       below = number_at-below memory at c.args.n c.number.result c.in_ok-area.ensures.memory part.granule (sym value);
-      by_address = rw c.number.ensures.value (Spells-found memory at c.args.n area c.in_ok-area.ensures.memory part.granule found);
+      by_address = rw c.number.ensures.value (Spells-found memory at c.args.n area c.in_ok-area.ensures.memory
+          part.granule found);
     }

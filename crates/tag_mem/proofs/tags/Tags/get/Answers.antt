@@ -10,8 +10,12 @@ index-requires c = omega (arith, long c.self.inside.words.items c.self.inside.co
 
 pub returns : goal.returns
 returns c =
-    let place : c.args.i / 64 < length c.self.inside.words.items = omega (arith, long c.self.inside.words.items c.self.inside.count c.args.self.now c.self.view_is) in
+    let place : c.args.i / 64 < length c.self.inside.words.items =
+    omega (arith, long c.self.inside.words.items c.self.inside.count c.args.self.now c.self.view_is) in
     let is = c.index.ensures ∙ get_or_default c.self.inside.words.items (c.args.i / 64) c.index.result.now 0 place in
-    let lt : c.args.i < c.self.inside.count = omega (arith, long c.self.inside.words.items c.self.inside.count c.args.self.now c.self.view_is) in
-    sym (ap (λ (xs : List Bool). get_or xs c.args.i false) (sym c.self.view_is) ∙ get_or-unpacked c.self.inside.words.items c.self.inside.count c.args.i lt
-    ∙ sym (ap (λ (x : ℕ). eqb (bit_and (x / 2 ^ (c.args.i % 64)) 1) 1) is ∙ ap (λ (x : ℕ). eqb x 1) (shr_and_one (get_or c.self.inside.words.items (c.args.i / 64) 0) (c.args.i % 64))))
+    let lt : c.args.i < c.self.inside.count =
+    omega (arith, long c.self.inside.words.items c.self.inside.count c.args.self.now c.self.view_is) in
+    sym (ap (λ (xs : List Bool). get_or xs c.args.i false) (sym c.self.view_is)
+    ∙ get_or-unpacked c.self.inside.words.items c.self.inside.count c.args.i lt
+    ∙ sym (ap (λ (x : ℕ). eqb (bit_and (x / 2 ^ (c.args.i % 64)) 1) 1) is
+    ∙ ap (λ (x : ℕ). eqb x 1) (shr_and_one (get_or c.self.inside.words.items (c.args.i / 64) 0) (c.args.i % 64))))
