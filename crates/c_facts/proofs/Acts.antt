@@ -147,6 +147,14 @@ both_actions s t i (x ∷ xs) ys h k = (h.0, both_actions s t i xs ys h.1 k)
 unfoldable pub between : ℕ → ℕ → ℕ → ℕ
 between a b k = (if nat_le a k && nat_lt k b then 1 else 0)
 
+pub between_in : (a b k : ℕ) → a ≤ k → k < b → between a b k ≡ 1
+unfolding between
+between_in a b k l m = rw (le-leb a k l, lt-ltb k b m) refl
+
+pub between_under : (a b k : ℕ) → k < a → between a b k ≡ 0
+unfolding between
+between_under a b k l = rw (lt-leb a k l) refl
+
 pub between_none : (a k : ℕ) → between a a k ≡ 0
 unfolding between
 between_none a k =

@@ -67,7 +67,7 @@ files_begin = both_named (λ x. FileEntity beginning x.name x.is) (map alias_nam
     (tt, (tt, (tt, (tt, (tt, (tt, (tt, (tt, (tt, (tt, (tt, (tt, (tt, tt)))))))))))))
     (services_named (λ x. FileEntity beginning x.name x.is) (λ n k t. tt) 0 services)
 
-outside_beginning : Outside beginning
+pub outside_beginning : Outside beginning
 outside_beginning = record {
   inv = record {
     tags = λ k t e. absurd (none-some t e);

@@ -45,6 +45,7 @@ use Rattle.c_facts.proofs.Numbers.{extent_within_limit}
 use Rattle.c_facts.proofs.Wholes.{ParamsFit}
 use Rattle.c_facts.proofs.Ended.{typed_end}
 use Rattle.c_facts.proofs.Standing.{BodyStands, Standing}
+use Rattle.c_facts.proofs.Acts.{between, between_in, between_under}
 use Rattle.c_facts.proofs.PassedStates.{passed_state}
 use Rattle.c_facts.proofs.PassingState.{passed_stands}
 use Rattle.c_facts.proofs.PassingShown.{passed_shown}
@@ -356,6 +357,11 @@ module _ (p : Typed) (s : State) (o : IsOrdered p) (sh : Shows p (program_of s))
           parameters_by ts vs ws (λ j v q. g (suc j) v q) h.1,
         )
 
+    declared_times : (j : ℕ) → times_in j (declared (action_at (actions_of p) f.body))
+        ≡ between (count ok.takes) (length z.body.vars) j
+    declared_times j = ap (λ a. times_in j (declared a)) action_same
+        ∙ ap (times_in j) (declared_with (numbers_of s) z.body.action) ∙ ok.once j
+
     pub function_fits : FunctionFits p f
     function_fits =
         let tu : TypeOk s.tags (Function ok.result ok.takes) =
@@ -377,10 +383,10 @@ module _ (p : Typed) (s : State) (o : IsOrdered p) (sh : Shows p (program_of s))
               subst (IsComplete p) t (sized_there p s o sh inv v.0.of (w.of, o.vars k j f w there h, sym t)
               (sized j v.0 v.1));
           simple_scalar = simple_scalar;
-          declared_once = λ j l m.
-              ap (λ a. times_in j (declared a)) action_same
-              ∙ ap (times_in j) (declared_with (numbers_of s) z.body.action)
-              ∙ ok.once j (omega (arith, l, len)) (omega (arith, m, count_same));
+          params_apart = λ j l. declared_times j
+              ∙ between_under (count ok.takes) (length z.body.vars) j (omega (arith, l, len));
+          declared_once = λ j l m. declared_times j ∙ between_in (count ok.takes) (length z.body.vars) j
+              (omega (arith, l, len)) (omega (arith, m, count_same));
           body = subst (ActionFits (record { program = p; vars = f.vars; gives = bare ok.result }) outside)
               (sym action_same)
               (action_fits p s o sh inv z.body.vars (numbers_of s) f.vars

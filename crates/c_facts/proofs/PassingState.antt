@@ -2,11 +2,11 @@
 use Rattle.std.proofs.Common.{◌≡◌, ℕ, suc, ◌+◌, ◌<◌, ◌≤◌, Bool, true, false, List, [], ◌∷◌, length, Option, Some, None}
 use Rattle.std.proofs.Common.{refl, sym, ap, subst, ◌∙◌, ⊎_elim, arith}
 use Rattle.std.specs.Prelude.{ℤ, slice_get, map, option_map, ◌&&◌, ◌||◌, ◌==◌, if◌then◌else◌, bytes_eq, codes}
-use Rattle.std.proofs.lemmas.Bool.{false≢true, and_parts, and_from, or_cases, or_left, or_right, le-leb, lt-ltb}
+use Rattle.std.proofs.lemmas.Bool.{false≢true, and_parts, and_from, or_cases, or_left, or_right}
 use Rattle.std.proofs.lemmas.Option.{none-some, same_Some, slice_get-map}
 use Rattle.cap_concentrate.specs.Rounding.{owned}
 use Rattle.c_tree.specs.Types.{Ty, Void, Pointer, Function, Tys, no_types, also, int, bare, is_function, is_tagged}
-use Rattle.c_tree.specs.Types.{same}
+use Rattle.c_tree.specs.Types.{same, count}
 use Rattle.c_tree.specs.Terms.{Aim, To_global, To_literal, To_function, Block, action, no_terms, Variable, Routine}
 use Rattle.c_tree.specs.Terms.{numbers_from}
 use Rattle.c_tree.specs.Scopes.{Reach, Aiming, TagState, StaticState, LocalState, RoutineState, Body, State}
@@ -51,10 +51,6 @@ option_from : {A B : Type 0} (v : A → B) (o : Option A) (y : B) → option_map
     (x : A) × (o ≡ Some x) × (v x ≡ y)
 option_from v None y e = absurd cc
 option_from v (Some x) y e = (x, refl, same_Some (v x) y e)
-
-between_in : (a b k : ℕ) → a ≤ k → k < b → between a b k ≡ 1
-unfolding between
-between_in a b k l m = rw (le-leb a k l, lt-ltb k b m) refl
 
 -- ---- functions as they are written
 
@@ -174,15 +170,13 @@ module _ (names : Names) (s : State) (i : Inv true s) (f : RoutineState) (b : Bo
     fit = as_locals (passed_takes ok.result ok.takes) vars (passed_fit names whole ok.result ok.takes as_written);
     sized = λ k v e. let w = mapped_from as_local vars k v e in
         subst (λ (v : LocalState). Sized (passed_records s.tags) v.of) w.2 (variables_sized k w.0 w.1);
-    once = λ k l m.
-        let c = passed_count whole ok.result ok.takes as_written in
-        let n = length_map as_local vars in
+    once = λ k.
         passed_once names whole enough ok.block.0 no_terms ok.block.1 ok.block.2 ok.block.3
         (λ j. ok.once j ∙ ap (λ n. between n (length b.vars) j)
         (sym (written_count whole ok.result ok.takes as_written))
         ∙ ap (λ n. between (length whole.params) n j) (sym count_vars)) k
-        ∙ between_in (length (result_pointer whole) + length whole.params) (length vars) k (omega (arith, l, c))
-        (omega (arith, m, n));
+        ∙ ap (λ n. between n (length vars) k) (sym (passed_count whole ok.result ok.takes as_written))
+        ∙ ap (λ n. between (count (passed_takes ok.result ok.takes)) n k) (sym (length_map as_local vars));
     gives = passed_result ok.gives;
     refined = refined_result (by_pointer ok.gives) (by_pointer ok.result) ok.gives ok.result same_pointer ok.refined;
     body = body_is;

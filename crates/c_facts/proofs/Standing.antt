@@ -9,11 +9,11 @@ use Rattle.c_tree.specs.Programs.{is_there, has_main, reaches}
 use Rattle.c_tree.specs.WellTyped.{holds, declared, outside}
 use Rattle.c_facts.proofs.Agreeing.{refines}
 use Rattle.c_facts.proofs.Facts.{Complete, Sized, IsUsed, Inv}
-use Rattle.c_facts.proofs.Acts.{ActionOk}
+use Rattle.c_facts.proofs.Acts.{between, ActionOk}
 use Rattle.c_facts.proofs.Placed.{IsWaiting, Begins}
 use Rattle.c_facts.proofs.Wholes.{ParamsFit, with_locals}
 
--- the body of a function of a type: each variable but the parameters is declared once
+-- the body of a function of a type: no parameter is declared, and each other variable once
 pub record BodyStands (s : State) (t : Ty) (b : Body) : Type 0 where
   pub result : Ty
   pub takes : Tys
@@ -21,7 +21,7 @@ pub record BodyStands (s : State) (t : Ty) (b : Body) : Type 0 where
   pub params : b.params ≡ numbers_from 0 (count takes)
   pub fit : ParamsFit takes b.vars
   pub sized : (k : ℕ) (v : LocalState) → slice_get b.vars k ≡ Some v → Sized s.tags v.of
-  pub once : (k : ℕ) → count takes ≤ k → k < length b.vars → times_in k (declared b.action) ≡ 1
+  pub once : (k : ℕ) → times_in k (declared b.action) ≡ between (count takes) (length b.vars) k
   pub gives : Ty
   pub refined : holds (refines gives (bare result))
   pub body : ActionOk (with_locals s b.vars) gives outside b.action

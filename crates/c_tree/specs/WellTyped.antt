@@ -292,8 +292,8 @@ ParametersFit p no_types vs = Unit {0}
 ParametersFit p (also t ts) (v ∷ vs) = holds (compatible t (in_signature (type_in p v.of))) × ParametersFit p ts vs
 ParametersFit p ts vs = ⊥
 
--- A function: its parameters come first and are the type's, each other variable is declared in one block, each has a
--- complete type, and a variable that is no object has a scalar type
+-- A function: its parameters come first and are the type's, and no block declares one; each other variable is declared
+-- in one block; each has a complete type, and a variable that is no object has a scalar type
 pub record FunctionFits (p : Typed) (f : FunDef) : Type 0 where
   pub result : Ty
   pub takes : Tys
@@ -304,6 +304,7 @@ pub record FunctionFits (p : Typed) (f : FunDef) : Type 0 where
   pub vars_complete : (k : ℕ) (v : VarDef) → slice_get f.vars k ≡ Some v → IsComplete p (type_in p v.of)
   pub simple_scalar : (k : ℕ) (v : VarDef) → slice_get f.vars k ≡ Some v → v.simple ≡ true →
       holds (is_scalar (bare (type_in p v.of)))
+  pub params_apart : (k : ℕ) → k < length f.params → times_in k (declared (action_at (actions_of p) f.body)) ≡ 0
   pub declared_once : (k : ℕ) → length f.params ≤ k → k < length f.vars →
       times_in k (declared (action_at (actions_of p) f.body)) ≡ 1
   pub body : ActionFits (record { program = p; vars = f.vars; gives = bare result }) outside
