@@ -1,5 +1,5 @@
 // Constants, copies and operations on integers.
-ghost use Rattle.std.specs.Prelude.{◌≡◌, ◌+◌, ◌≤◌, ◌<◌, OnOk, IfSome};
+ghost use Rattle.std.specs.Prelude.{◌≡◌, ◌+◌, OnOk, IfSome};
 ghost use Rattle.rv_select.specs.Growing.{Grows, reduce_words};
 ghost use Rattle.rv_select.specs.Work.{WorkFits};
 ghost use Rattle.tac_ir.specs.Costs.{number_cost, operation_cost, is_wide};
@@ -57,17 +57,8 @@ pub fn is_wide(kind: IntKind) -> bool
     matches!(kind, IntKind::I64 | IntKind::U64)
 }
 
-/// Whether a kind has 32 bits.
-pub fn is_word(kind: IntKind) -> bool {
-    matches!(kind, IntKind::I32 | IntKind::U32)
-}
-
 /// The bits of a kind. A truth value is kept in 8.
-pub fn bits_of(kind: IntKind) -> u8
-    ensures least { 8 ≤ result }
-    ensures most { result ≤ 64 }
-    ensures narrow { result < 32 → 13 ≤ operation_cost kind }
-{
+pub fn bits_of(kind: IntKind) -> u8 {
     match kind {
         IntKind::Bool | IntKind::I8 | IntKind::U8 => 8,
         IntKind::I16 | IntKind::U16 => 16,
@@ -149,12 +140,12 @@ fn unsigned_op(op: RegOp) -> RegOp {
     }
 }
 
-/// The operation of two registers.
+/// The operation of two registers. A kind of fewer than 32 bits is promoted to 32, also for the count of a shift.
 fn reg_op(kind: IntKind, op: IntOp) -> RegOp {
-    let signed = if is_word(kind) {
-        word_op(op)
-    } else {
+    let signed = if is_wide(kind) {
         long_op(op)
+    } else {
+        word_op(op)
     };
     if is_signed(kind) {
         signed
@@ -165,10 +156,10 @@ fn reg_op(kind: IntKind, op: IntOp) -> RegOp {
 
 /// The addition of a number.
 fn add_op(kind: IntKind) -> ImmOp {
-    if is_word(kind) {
-        ImmOp::Addiw
-    } else {
+    if is_wide(kind) {
         ImmOp::Addi
+    } else {
+        ImmOp::Addiw
     }
 }
 
@@ -239,18 +230,21 @@ fn product(f: &Function<'_>, kind: IntKind, a: u32, b: u32) -> Option<Work>
 /// The shift of a kind by a count.
 fn shift_op(kind: IntKind, op: IntOp) -> ShiftOp {
     match (op, kind) {
-        (IntOp::Shl, IntKind::I32 | IntKind::U32) => ShiftOp::Slliw,
-        (IntOp::Shl, _) => ShiftOp::Slli,
+        (IntOp::Shl, IntKind::I64 | IntKind::U64) => ShiftOp::Slli,
+        (IntOp::Shl, _) => ShiftOp::Slliw,
         (_, IntKind::I32) => ShiftOp::Sraiw,
         (_, IntKind::I8 | IntKind::I16 | IntKind::I64) => ShiftOp::Srai,
         _ => ShiftOp::Srli,
     }
 }
 
-/// A number as the count of a shift of a kind.
+/// A number as the count of a shift of a kind, which is promoted to 32 bits where it has fewer.
 fn count_of(kind: IntKind, number: i32) -> u8 {
-    let bits = u32::from(bits_of(kind));
-    (number.cast_unsigned() % bits) as u8
+    match kind {
+        IntKind::Bool => u8::from(number != 0),
+        IntKind::I64 | IntKind::U64 => (number.cast_unsigned() % 64) as u8,
+        _ => (number.cast_unsigned() % 32) as u8,
+    }
 }
 
 /// A shift by a number.
@@ -259,6 +253,16 @@ fn shift(f: &Function<'_>, op: IntOp, kind: IntKind, a: u32, b: u32) -> Option<W
 {
     let number = f.number(b)?;
     Some(Work::Shift(shift_op(kind, op), a, count_of(kind, number)))
+}
+
+/// An operation on two registers. Shifted right by a truth value, a truth value is whether it exceeds the count.
+fn of_registers(op: IntOp, kind: IntKind, a: u32, b: u32) -> Work
+    ensures { WorkFits result }
+{
+    match (op, kind) {
+        (IntOp::Shr, IntKind::Bool) => Work::Registers(RegOp::Sltu, b, a),
+        _ => Work::Registers(reg_op(kind, op), a, b),
+    }
 }
 
 /// How an operation is computed.
@@ -277,7 +281,7 @@ fn plan(f: &Function<'_>, op: IntOp, kind: IntKind, a: u32, b: u32) -> Work
     };
     match short {
         Some(work) => work,
-        None => Work::Registers(reg_op(kind, op), a, b),
+        None => of_registers(op, kind, a, b),
     }
 }
 
@@ -287,7 +291,8 @@ fn is_exact(op: IntOp, kind: IntKind, work: Work) -> bool {
         (_, IntKind::I32 | IntKind::I64 | IntKind::U64) => true,
         (IntOp::And | IntOp::Or | IntOp::Xor, _) => true,
         (IntOp::Rem, IntKind::U32) => true,
-        (IntOp::Shr, _) => matches!(work, Work::Shift(_, _, _)),
+        (IntOp::Shr, IntKind::U32) => matches!(work, Work::Shift(_, _, _)),
+        (IntOp::Shr, _) => true,
         _ => false,
     }
 }
@@ -313,29 +318,6 @@ fn compute(code: &mut Code, f: &Function<'_>, work: Work, r: Reg) -> Result<(), 
     }
 }
 
-/// A shift of a kind of 8 or 16 bits by a register: only so many bits of the count matter.
-fn narrow_shift(
-    code: &mut Code,
-    f: &Function<'_>,
-    op: IntOp,
-    kind: IntKind,
-    to: u32,
-    a: u32,
-    b: u32,
-) -> Result<(), NoMemory>
-    ensures { OnOk result (Grows 13 code.old code.new) }
-{
-    let a = operand(code, f, a, left())?;
-    let b = operand(code, f, b, right())?;
-    let r = f.target(to);
-    code.put(instr::immediate(ImmOp::Andi, right(), b, i32::from(bits_of(kind)) - 1))?;
-    code.put(instr::operation(reg_op(kind, op), r, a, right()))?;
-    if matches!(op, IntOp::Shl) {
-        reduce(code, kind, r, r)?;
-    }
-    keep(code, f, to, r)
-}
-
 /// An operation on integers.
 pub fn integer(
     code: &mut Code,
@@ -349,10 +331,6 @@ pub fn integer(
     ensures { OnOk result (Grows (operation_cost kind) code.old code.new) }
 {
     let work = plan(f, op, kind, a, b);
-    let is_shift = matches!(op, IntOp::Shl | IntOp::Shr);
-    if is_shift && bits_of(kind) < 32 && matches!(work, Work::Registers(_, _, _)) {
-        return narrow_shift(code, f, op, kind, to, a, b);
-    }
     let r = f.target(to);
     compute(code, f, work, r)?;
     if !is_exact(op, kind, work) {

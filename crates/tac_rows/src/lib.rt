@@ -13,6 +13,8 @@ mod homes;
 #[cfg(test)]
 mod selection;
 #[cfg(test)]
+mod shifts;
+#[cfg(test)]
 mod three_address_code;
 #[cfg(test)]
 mod whole_selection;

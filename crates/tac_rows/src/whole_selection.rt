@@ -18,9 +18,9 @@ use rv_select::{Items, select};
 use std::alloc::Global;
 use tac_ir::{LibOp, Tac, TacFun, TacInstr, TacKind};
 
-const INT: TacKind = TacKind::Int(IntKind::I32);
+pub const INT: TacKind = TacKind::Int(IntKind::I32);
 
-const NAME: Pos = Pos { line: 1, col: 5 };
+pub const NAME: Pos = Pos { line: 1, col: 5 };
 
 fn empty<T>(alloc: Global) -> Sequence<T> {
     Sequence::from_vec(Vec::new(alloc))
@@ -81,13 +81,16 @@ fn places(alloc: Global) -> Result<Places, NoMemory>
     })
 }
 
-fn selected(alloc: Global) -> Result<Items, NoMemory> {
-    let t = code(alloc)?;
+// What is selected for a function without a parameter, whose first temp is at home in c10.
+pub fn selected(alloc: Global, t: &Tac) -> Result<Items, NoMemory>
+    requires one { length t.now.funs ≡ 1 }
+    requires cheap { sum_by function_cost t.now.funs < 200 }
+{
     let l = places(alloc)?;
     let f = frame(alloc, 0, &Vec::new(alloc), &l, 0)?;
     let places = vec![in alloc; l]?;
     let frames = vec![in alloc; f]?;
-    select(alloc, &t, &program(alloc), &places, &frames)
+    select(alloc, t, &program(alloc), &places, &frames)
 }
 
 // The code that is to be selected, by the numbers of the registers.
@@ -133,7 +136,8 @@ fn are_wanted(items: &Items) -> bool {
 
 #[test]
 fn a_byte_is_put_behind_a_jump(rt: HostRuntime) -> Result<(), NoMemory> {
-    let items = selected(rt.alloc())?;
+    let t = code(rt.alloc())?;
+    let items = selected(rt.alloc(), &t)?;
     assert!(rt; are_wanted(&items), "{items:?}");
     Ok(())
 }
