@@ -186,6 +186,17 @@ def example_rows(rows):
         ("stack_exhausted.c", "", None, "stack 4:12", 3),
     ]:
         rows.row(["run", f"{ROOT}/examples/{name}"], output, line, status, taken)
+    for reason, run, mean, line in [
+        ("address", "<", "", "unspecified address 6:15"), ("undefined", "3N", "3", "unspecified undefined 9:14"),
+        ("unwritten", "10", "1", "unspecified unwritten 7:24"), ("padding", "ab", "a", "unspecified padding 8:6"),
+        ("rounding", ">", "", "unspecified rounding 5:31"), ("excursion", "1", "1", "unspecified excursion 8:19"),
+        ("heap", "YN", "Y", "unspecified heap 6:21"), ("overlap", "1", "1", "unspecified overlap 9:10"),
+        ("outside", None, "7", "outside 9:19"),
+    ]:
+        name = f"{ROOT}/examples/mean_{reason}.c"
+        if run is not None:
+            rows.row(["run", name], run, "exit 0", 0)
+        rows.row(["mean", name], mean, line, 5)
 
 
 def main():

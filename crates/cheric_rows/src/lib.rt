@@ -28,6 +28,8 @@ mod images;
 #[cfg(test)]
 mod initialised_files;
 #[cfg(test)]
+mod meant_examples;
+#[cfg(test)]
 mod meant_files;
 #[cfg(test)]
 mod programs;
