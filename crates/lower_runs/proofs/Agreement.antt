@@ -6,6 +6,7 @@ use Rattle.std.proofs.lemmas.Bool.{cases_eq}
 use Rattle.std.proofs.lemmas.Option.{slice_get_within, slice_get-get_or}
 use Rattle.cap_ops.specs.Permissions.{data_permissions}
 use Rattle.obj_mem.specs.Values.{Value}
+use Rattle.cheri_c_sem.specs.Modes.{Store}
 use Rattle.cheri_c_sem.specs.Operations.{Operations}
 use Rattle.cheri_c_sem.specs.Steps.{State}
 use Rattle.cheri_c_sem.specs.Tree.{Exs, Nil, Cons}
@@ -48,14 +49,15 @@ pub and_right : (a b : Bool) → (a && b) ≡ true → b ≡ true
 and_right true b h = h
 and_right false b h = absurd cc
 
-module _ {M : Type 0} (ops : Operations M) where
+module _ (ops : Operations Store) where
   -- ---- memories
 
-  pub onward_same : (m : M) → IsOnward ops m m
-  onward_same m = record { count = omega arith; whole = λ x q lt. refl }
+  pub onward_same : (m : Store) → IsOnward ops m m
+  onward_same m = record { sound = λ i. i; count = omega arith; whole = λ x q lt. refl }
 
-  pub onward_then : (a b c : M) → IsOnward ops a b → IsOnward ops b c → IsOnward ops a c
+  pub onward_then : (a b c : Store) → IsOnward ops a b → IsOnward ops b c → IsOnward ops a c
   onward_then a b c f h = record {
+    sound = λ i. h.sound (f.sound i);
     count = let x = f.count in let y = h.count in omega arith;
     whole = λ x q lt. h.whole x q (let z = f.count in omega arith) ∙ f.whole x q lt;
   }
@@ -66,7 +68,7 @@ module _ {M : Type 0} (ops : Operations M) where
 
     -- ---- what a part leaves as it is
 
-    pub went_nowhere : (keeps : ℕ → Bool) (below : ℕ) (s : State M) (ts : List (Option Value)) →
+    pub went_nowhere : (keeps : ℕ → Bool) (below : ℕ) (s : State Store) (ts : List (Option Value)) →
         Went ops g keeps below None s ts s ts
     went_nowhere keeps below s ts =
         record {
@@ -78,7 +80,8 @@ module _ {M : Type 0} (ops : Operations M) where
           kept = λ j ge lt h. refl;
         }
 
-    pub went_then : (f h k : ℕ → Bool) (m n : ℕ) (but : Option ℕ) (s u v : State M) (ts us vs : List (Option Value)) →
+    pub went_then : (f h k : ℕ → Bool) (m n : ℕ) (but : Option ℕ) (s u v : State Store)
+        (ts us vs : List (Option Value)) →
         ((x : ℕ) → k x ≡ true → f x ≡ true) → ((x : ℕ) → k x ≡ true → h x ≡ true) → m ≤ n
         → Went ops g f m None s ts u us → Went ops g h n but u us v vs → Went ops g k m but s ts v vs
     went_then f h k m n but s u v ts us vs kf kh le a b = record {
@@ -91,7 +94,7 @@ module _ {M : Type 0} (ops : Operations M) where
     }
 
     -- temps change that are not kept
-    pub went_set : (f k : ℕ → Bool) (m n : ℕ) (b c : Option ℕ) (s u : State M) (ts us : List (Option Value)) (j : ℕ)
+    pub went_set : (f k : ℕ → Bool) (m n : ℕ) (b c : Option ℕ) (s u : State Store) (ts us : List (Option Value)) (j : ℕ)
         (v : Option Value) → ((x : ℕ) → k x ≡ true → f x ≡ true) → m ≤ n
         → ((i : ℕ) → i < m → IsApart c i → IsApart b i × (i ≢ j)) → Went ops g f n b s ts u us →
         Went ops g k m c s ts u (slice_set us j v)
@@ -105,7 +108,7 @@ module _ {M : Type 0} (ops : Operations M) where
     }
 
     -- the same way, of which less is asked
-    pub went_less : (f k : ℕ → Bool) (m n : ℕ) (b c : Option ℕ) (s u : State M) (ts us : List (Option Value)) →
+    pub went_less : (f k : ℕ → Bool) (m n : ℕ) (b c : Option ℕ) (s u : State Store) (ts us : List (Option Value)) →
         ((x : ℕ) → k x ≡ true → f x ≡ true) → m ≤ n
         → ((i : ℕ) → i < m → IsApart c i → IsApart b i) → Went ops g f n b s ts u us → Went ops g k m c s ts u us
     went_less f k m n b c s u ts us kf le away a = record {
@@ -119,7 +122,8 @@ module _ {M : Type 0} (ops : Operations M) where
 
     -- ---- agreement
 
-    pub agrees_set : (b c : Option ℕ) (s : State M) (ts : List (Option Value)) (j : ℕ) (v : Option Value) → IsFree g j
+    pub agrees_set : (b c : Option ℕ) (s : State Store) (ts : List (Option Value)) (j : ℕ) (v : Option Value) →
+        IsFree g j
         → ((x : ℕ) (h : Home) → g.home x ≡ Some h → IsApart c h.temp → IsApart b h.temp × (h.temp ≢ j)) →
         Agrees ops g b s ts → Agrees ops g c s (slice_set ts j v)
     agrees_set b c s ts j v free away a = record {
@@ -129,10 +133,11 @@ module _ {M : Type 0} (ops : Operations M) where
       typed = a.typed;
       object = λ n t e. get_set_other ts j t v (free n t e) ∙ a.object n t e;
       there = a.there;
+      sound = a.sound;
       within = a.within;
     }
 
-    pub agrees_any : (c : Option ℕ) (s : State M) (ts : List (Option Value)) → Agrees ops g None s ts →
+    pub agrees_any : (c : Option ℕ) (s : State Store) (ts : List (Option Value)) → Agrees ops g None s ts →
         Agrees ops g c s ts
     agrees_any c s ts a = record {
       room = a.room;
@@ -141,11 +146,12 @@ module _ {M : Type 0} (ops : Operations M) where
       typed = a.typed;
       object = a.object;
       there = a.there;
+      sound = a.sound;
       within = a.within;
     }
 
     -- the temp that is left out is no variable's
-    pub agrees_own : (j : ℕ) (s : State M) (ts : List (Option Value)) → g.fixed ≤ j → Agrees ops g (Some j) s ts →
+    pub agrees_own : (j : ℕ) (s : State Store) (ts : List (Option Value)) → g.fixed ≤ j → Agrees ops g (Some j) s ts →
         Agrees ops g None s ts
     agrees_own j s ts le a = record {
       room = a.room;
@@ -154,18 +160,19 @@ module _ {M : Type 0} (ops : Operations M) where
       typed = a.typed;
       object = a.object;
       there = a.there;
+      sound = a.sound;
       within = a.within;
     }
 
     -- a temp of an expression changes
-    pub agrees_scratch : (s : State M) (ts : List (Option Value)) (j : ℕ) (v : Option Value) → g.fixed ≤ j →
+    pub agrees_scratch : (s : State Store) (ts : List (Option Value)) (j : ℕ) (v : Option Value) → g.fixed ≤ j →
         Agrees ops g None s ts → Agrees ops g None s (slice_set ts j v)
     agrees_scratch s ts j v le a =
         agrees_set None None s ts j v (free_own j le)
         (λ x h e z. (tt, λ i. let lt = scene.home_below x h e in absurd (omega arith))) a
 
     -- memory goes on
-    pub agrees_memory : (b : Option ℕ) (s : State M) (ts : List (Option Value)) (m : M) → IsOnward ops s.mem m →
+    pub agrees_memory : (b : Option ℕ) (s : State Store) (ts : List (Option Value)) (m : Store) → IsOnward ops s.mem m →
         Agrees ops g b s ts → Agrees ops g b (record s { mem = m }) ts
     agrees_memory b s ts m on a = record {
       room = a.room;
@@ -176,10 +183,12 @@ module _ {M : Type 0} (ops : Operations M) where
           ∙ ap (λ z. Some (Some z)) (sym (on.whole (s.first + n) data_permissions
           (let all = a.there in let lt = scene.spot_counted n t e in omega arith)));
       there = let all = a.there in let le = on.count in omega arith;
+      sound = on.sound a.sound;
       within = a.within;
     }
 
-    pub went_memory : (f : ℕ → Bool) (n : ℕ) (b : Option ℕ) (s u : State M) (ts us : List (Option Value)) (m : M) →
+    pub went_memory : (f : ℕ → Bool) (n : ℕ) (b : Option ℕ) (s u : State Store) (ts us : List (Option Value))
+        (m : Store) →
         IsOnward ops u.mem m → Went ops g f n b s ts u us → Went ops g f n b s ts (record u { mem = m }) us
     went_memory f n b s u ts us m on a =
         record {
@@ -192,7 +201,8 @@ module _ {M : Type 0} (ops : Operations M) where
         }
 
     -- a variable gets the value that stands in its home already
-    pub agrees_variable : (x : ℕ) (h : Home) (s : State M) (ts : List (Option Value)) (v : Value) → g.home x ≡ Some h →
+    pub agrees_variable : (x : ℕ) (h : Home) (s : State Store) (ts : List (Option Value)) (v : Value) →
+        g.home x ≡ Some h →
         slice_get ts h.temp ≡ Some (Some v) → IsOf (kind_of h.kind) v
         → Agrees ops g (Some h.temp) s ts → Agrees ops g None (record s { vars = slice_set s.vars x (Some v) }) ts
     agrees_variable x h s ts v home value typed a = record {
@@ -219,6 +229,7 @@ module _ {M : Type 0} (ops : Operations M) where
           (λ other. a.typed y i e o (sym (get_set_other s.vars x y (Some v) other) ∙ q)) (cases_eq y x);
       object = a.object;
       there = a.there;
+      sound = a.sound;
       within = a.within;
     }
       where
@@ -227,7 +238,7 @@ module _ {M : Type 0} (ops : Operations M) where
 
     -- ---- a temp that stays
 
-    pub stays : (later : Exs) (f : ℕ → Bool) (from n at : ℕ) (b : Option ℕ) (u v : State M)
+    pub stays : (later : Exs) (f : ℕ → Bool) (from n at : ℕ) (b : Option ℕ) (u v : State Store)
         (us vs : List (Option Value)) (x : Value) → g.fixed ≤ from → Stays g later from n at →
         ((i : ℕ) → spare i later ≡ true → f i ≡ true)
         → ((i : ℕ) → from ≤ i → i < n → IsApart b i) → Agrees ops g None u us → Agrees ops g None v vs →
@@ -252,11 +263,11 @@ module _ {M : Type 0} (ops : Operations M) where
 
     -- ---- ways one behind the other
 
-    pub done_start : (f : ℕ → Bool) (m : Mark) (s : State M) (ts : List (Option Value)) → Agrees ops g None s ts →
+    pub done_start : (f : ℕ → Bool) (m : Mark) (s : State Store) (ts : List (Option Value)) → Agrees ops g None s ts →
         Done ops g f m s ts s ts
     done_start f m s ts a = record { agrees = a; went = went_nowhere f m.temps s ts }
 
-    pub done_less : (f k : ℕ → Bool) (m n : Mark) (s u : State M) (ts us : List (Option Value)) →
+    pub done_less : (f k : ℕ → Bool) (m n : Mark) (s u : State Store) (ts us : List (Option Value)) →
         ((x : ℕ) → k x ≡ true → f x ≡ true) → m.temps ≤ n.temps → Done ops g f n s ts u us → Done ops g k m s ts u us
     done_less f k m n s u ts us kf le a =
         record {
@@ -264,13 +275,13 @@ module _ {M : Type 0} (ops : Operations M) where
           went = went_less f k m.temps n.temps None None s u ts us kf le (λ i lt z. tt) a.went;
         }
 
-    pub done_then : (f h k : ℕ → Bool) (m n : Mark) (s u v : State M) (ts us vs : List (Option Value)) →
+    pub done_then : (f h k : ℕ → Bool) (m n : Mark) (s u v : State Store) (ts us vs : List (Option Value)) →
         ((x : ℕ) → k x ≡ true → f x ≡ true) → ((x : ℕ) → k x ≡ true → h x ≡ true) → m.temps ≤ n.temps
         → Done ops g f m s ts u us → Done ops g h n u us v vs → Done ops g k m s ts v vs
     done_then f h k m n s u v ts us vs kf kh le a b =
         record { agrees = b.agrees; went = went_then f h k m.temps n.temps None s u v ts us vs kf kh le a.went b.went }
 
-    pub done_valued : (k : TacKind) (f h i : ℕ → Bool) (to : ℕ) (m n : Mark) (s u z : State M)
+    pub done_valued : (k : TacKind) (f h i : ℕ → Bool) (to : ℕ) (m n : Mark) (s u z : State Store)
         (ts us zs : List (Option Value)) (v : Value) → ((x : ℕ) → i x ≡ true → f x ≡ true) →
         ((x : ℕ) → i x ≡ true → h x ≡ true) → m.temps ≤ n.temps
         → Done ops g f m s ts u us → Valued ops g k h to n u us v z zs → Valued ops g k i to m s ts v z zs
@@ -283,6 +294,6 @@ module _ {M : Type 0} (ops : Operations M) where
           typed = b.typed;
         }
 
-    pub done_labelled : (f : ℕ → Bool) (n : ℕ) (m : Mark) (s u : State M) (ts us : List (Option Value)) →
+    pub done_labelled : (f : ℕ → Bool) (n : ℕ) (m : Mark) (s u : State Store) (ts us : List (Option Value)) →
         Done ops g f (labelled n m) s ts u us → Done ops g f m s ts u us
     done_labelled f n m s u ts us a = record { agrees = a.agrees; went = a.went }

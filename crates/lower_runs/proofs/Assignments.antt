@@ -12,6 +12,7 @@ use Rattle.obj_mem.specs.Values as value
 use Rattle.obj_mem.specs.declared.ending.Fault.{Fault}
 use Rattle.cheri_c_sem.specs.Expressions.{permissions_of}
 use Rattle.cheri_c_sem.specs.Kinds.{Kind, Plain, zero_of, nothing, truth, bytes_of, read_as}
+use Rattle.cheri_c_sem.specs.Modes.{Store}
 use Rattle.cheri_c_sem.specs.Meaning.{Place, In, At, capability_of, given, value_of, place_of, point_to, test, load}
 use Rattle.cheri_c_sem.specs.Meaning.{store}
 use Rattle.cheri_c_sem.specs.Operations.{Operations, convert_by}
@@ -28,6 +29,7 @@ use Rattle.tac_ir.specs.declared.code.TacInstr.{TacInstr}
 use Rattle.tac_ir.specs.declared.code.TacInstr.TheVariants as instr
 use Rattle.tac_ir.specs.declared.code.TacKind.{TacKind}
 use Rattle.lower_runs.specs.States.{Home, Scene, IsScene, IsOf, IsApart, IsOnward, IsPlaced, Agrees, Went}
+use Rattle.lower_runs.specs.Sound.{IsPointer}
 use Rattle.lower_runs.specs.Operating.{Code, transfer}
 use Rattle.lower_runs.specs.Operating as operating
 use Rattle.lower_runs.specs.Expressions as code
@@ -43,14 +45,22 @@ use Rattle.lower_runs.proofs.Agreement.{and_left, and_right, get_set_same, get_s
 use Rattle.lower_runs.proofs.Agreement.{agrees_own, agrees_memory, agrees_variable, went_less, went_memory, went_then}
 use Rattle.lower_runs.proofs.Agreement.{stays, done_start, done_less, done_then, done_valued, done_labelled}
 use Rattle.lower_runs.proofs.Labels.{nothing_own, both_own, then_own, choice_own, guarded_own, found_label}
-use Rattle.lower_runs.proofs.Steps.{read_is_of, same_answer, compares, converts, held_is, transfer_runs, lands}
+use Rattle.lower_runs.proofs.Steps.{data_twelve_bits, loaded_is_of, same_answer, compares, converts, convert_answers}
+use Rattle.lower_runs.proofs.Steps.{held_is, transfer_runs, lands}
 use Rattle.lower_runs.proofs.Operations.{transfer_plain}
 use Rattle.lower_runs.proofs.Operands.{in_place, in_place_stays}
 use Rattle.lower_runs.proofs.Conditions.{chosen}
 
-module _ {M : Type 0} (ops : Operations M) (placed : IsPlaced ops) (w : World) (t : Tac) (p : Typed)
-    (objects : ℕ → List ℕ) (r : Running) (call : ℕ → List Value → Then M Value) (g : Scene) (scene : IsScene g) where
-  abbrev run : List TacInstr → State M → List (Option Value) → Fate
+pub turned_test : (x y : ℕ) → (x == y) ≡ (y == x)
+turned_test x y = by (y == x) refl
+  where
+    by : (b : Bool) → (y == x) ≡ b → (x == y) ≡ (y == x)
+    by b e = grind (arith, nat_tests)
+
+module _ (ops : Operations Store) (placed : IsPlaced ops) (w : World) (t : Tac) (p : Typed)
+    (objects : ℕ → List ℕ) (r : Running) (call : ℕ → List Value → Then Store Value) (g : Scene)
+    (scene : IsScene g) where
+  abbrev run : List TacInstr → State Store → List (Option Value) → Fate
   run = goes ops w t p objects r call g
 
   abbrev Value_runs : (k : TacKind) (e : Ex) (to : ℕ) (m n : Mark) (c : Code) → Type 0
@@ -79,11 +89,12 @@ module _ {M : Type 0} (ops : Operations M) (placed : IsPlaced ops) (w : World) (
 
   -- ---- the value is given out, where it is asked for
 
-  given_out : (k : TacKind) (e : Ex) (to : Option ℕ) (at : ℕ) (m n : Mark) (s u : State M) (ts us : List (Option Value))
-      (v : Value) (rest : List TacInstr) (l : Value → State M → Fate) → IsTargetIfAny g m to → HasRoom g m n →
+  pub given_out : (k : TacKind) (e : Ex) (to : Option ℕ) (at : ℕ) (m n : Mark) (s u : State Store)
+      (ts us : List (Option Value))
+      (v : Value) (rest : List TacInstr) (l : Value → State Store → Fate) → IsTargetIfAny g m to → HasRoom g m n →
       m.temps ≤ n.temps → IsOf (kind_of k) v
       → Done ops g (λ x. spares x e) m s ts u us → slice_get us at ≡ Some (Some v) →
-      ((z : Value) (y : State M) (ys : List (Option Value)) → Assigned ops g k e to m s ts z y ys →
+      ((z : Value) (y : State Store) (ys : List (Option Value)) → Assigned ops g k e to m s ts z y ys →
       l z y ≡ run rest y ys) → l v u ≡ run (operating.give to at rest) u us
   given_out k e None at m n s u ts us v rest l target room le typed done is go = go v u us done
   given_out k e (Some to) at m n s u ts us v rest l target room le typed done is go =
@@ -91,13 +102,14 @@ module _ {M : Type 0} (ops : Operations M) (placed : IsPlaced ops) (w : World) (
       (λ x. spares x e) to m n s u ts us v (λ x z. z) target room le typed done)
       ∙ sym (transfer_runs ops w t p objects r call g scene to at rest u us v is)
 
-  give_plain : (to : Option ℕ) (at o : ℕ) (rest : List TacInstr) → behind o (operating.give to at rest) ≡ behind o rest
+  pub give_plain : (to : Option ℕ) (at o : ℕ) (rest : List TacInstr) →
+      behind o (operating.give to at rest) ≡ behind o rest
   give_plain None at o rest = refl
   give_plain (Some to) at o rest = transfer_plain to at o rest
 
   -- ---- variables
 
-  other_variable : (x y : ℕ) → not (y == x) ≡ true → x ≢ y
+  pub other_variable : (x y : ℕ) → not (y == x) ≡ true → x ≢ y
   other_variable x y h e = let q : (y == x) ≡ true = grind (arith, nat_tests) in no (y == x) h q
     where
       no : (b : Bool) → not b ≡ true → b ≡ true → ⊥
@@ -105,7 +117,7 @@ module _ {M : Type 0} (ops : Operations M) (placed : IsPlaced ops) (w : World) (
       no false i j = cc
 
   -- a variable gets the value that was computed into its home
-  pub variable_done : (x : ℕ) (h : Home) (f k : ℕ → Bool) (m : Mark) (s u : State M) (ts us : List (Option Value))
+  pub variable_done : (x : ℕ) (h : Home) (f k : ℕ → Bool) (m : Mark) (s u : State Store) (ts us : List (Option Value))
       (v : Value) → g.home x ≡ Some h → g.fixed ≤ m.temps → ((i : ℕ) → k i ≡ true → f i ≡ true) →
       ((i : ℕ) → k i ≡ true → i ≢ x)
       → Valued ops g h.kind f h.temp m s ts v u us →
@@ -140,36 +152,31 @@ module _ {M : Type 0} (ops : Operations M) (placed : IsPlaced ops) (w : World) (
         (variable_done x place (λ i. spares i b)
         (λ i. spares i (Assign (kind_of k) (Variable q x) b)) m s u ts us v home room.low
         (λ i e. and_right (not (i == x)) (spares i b) e)
-        (λ i e. other_variable i x (swap i x (and_left (not (i == x)) (spares i b) e))) a) a.value go);
+        (λ i e. other_variable i x (ap not (turned_test x i) ∙ and_left (not (i == x)) (spares i b) e)) a) a.value go);
   }
-    where
-      swap : (i x : ℕ) → not (i == x) ≡ true → not (x == i) ≡ true
-      swap i x h = ap not (by (i == x) refl) ∙ h
-        where
-          by : (b : Bool) → (i == x) ≡ b → (x == i) ≡ (i == x)
-          by b e = grind (arith, nat_tests)
 
   -- ---- objects
 
   -- what is stored at a place where the memory takes it
-  pub stored : (k : TacKind) (at from : ℕ) (o q : Pos) (to v : Value) (u : State M) (us : List (Option Value))
-      (rest : List TacInstr) (next : State M → Fate) → o ≡ q → slice_get us at ≡ Some (Some to) →
+  pub stored : (k : TacKind) (at from : ℕ) (o q : Pos) (to v : Value) (u : State Store) (us : List (Option Value))
+      (rest : List TacInstr) (next : State Store → Fate) → o ≡ q → IsOf (kind_of k) v →
+      slice_get us at ≡ Some (Some to) →
       slice_get us from ≡ Some (Some v)
-      → ((m : M) → IsOnward ops u.mem m → next (record u { mem = m }) ≡ run rest (record u { mem = m }) us) →
+      → ((m : Store) → IsOnward ops u.mem m → next (record u { mem = m }) ≡ run rest (record u { mem = m }) us) →
       store ops w (kind_of k) (At o to) v u (λ z y. next y) ≡ run (instr.Store at from k q ∷ rest) u us
-  stored k at from o q to v u us rest next same_place hat hfrom go =
+  stored k at from o q to v u us rest next same_place typed hat hfrom go =
       let after : Value → Value → Fate =
       λ x y. store ops w (kind_of k) (At q x) y (record u { vars = us })
       (λ z s. turns ops w t p objects u.left rest Runs r s) in
       ap (λ z. store ops w (kind_of k) (At z to) v u (λ z2 y. next y)) same_place
       ∙ same_answer q (ops.store u.mem to (bytes_of (kind_of k)) v) u us (λ m y. next (record y { mem = m }))
       (λ m y. turns ops w t p objects u.left rest Runs r (record y { mem = m }))
-      (λ m is. go m (placed.store u.mem m to v (bytes_of (kind_of k)) is))
+      (λ m is. go m (placed.store u.mem m to v (kind_of k) typed is))
       ∙ ap (λ z. after z v) (sym (held_is ops w t p objects r call g scene us at to hat))
       ∙ ap (after (held (slice_get us at))) (sym (held_is ops w t p objects r call g scene us from v hfrom))
 
   -- memory goes on
-  pub done_memory : (f : ℕ → Bool) (m : Mark) (s u : State M) (ts us : List (Option Value)) (z : M) →
+  pub done_memory : (f : ℕ → Bool) (m : Mark) (s u : State Store) (ts us : List (Option Value)) (z : Store) →
       IsOnward ops u.mem z → Done ops g f m s ts u us → Done ops g f m s ts (record u { mem = z }) us
   done_memory f m s u ts us z on a =
       record {
@@ -194,7 +201,7 @@ module _ {M : Type 0} (ops : Operations M) (placed : IsPlaced ops) (w : World) (
         (λ i e. and_left (spares i a) (spares i b) (and_right (not (is_variable i a)) (spares i a && spares i b) e))
         (λ i e. and_right (spares i a) (spares i b)
         (and_right (not (is_variable i a)) (spares i a && spares i b) e)) lm one.done two.done in
-        stored k at from o q to v z zs rest (next v) (one.position q position)
+        stored k at from o q to v z zs rest (next v) (one.position q position) two.typed
         (stays ops g scene (Cons b Nil) (λ i. spares i b) l.temps m.temps at None u z us zs to low one.stays
         (λ i e. and_left (spares i b) true e) (λ i e k. tt) one.done.agrees two.done.agrees two.done.went
         one.value) two.value
@@ -219,7 +226,7 @@ module _ {M : Type 0} (ops : Operations M) (placed : IsPlaced ops) (w : World) (
   own_temp to at m n (code.fresh {m = m2}) l le low target =
       (omega arith, omega arith, omega arith, refl, λ i a b e. absurd (omega arith))
 
-  own_apart : (to at : ℕ) (m n : Mark) → IsOwn g (Some to) at m n → (l : Mark) → l.temps ≤ m.temps → (i : ℕ) →
+  pub own_apart : (to at : ℕ) (m n : Mark) → IsOwn g (Some to) at m n → (l : Mark) → l.temps ≤ m.temps → (i : ℕ) →
       i < l.temps → i ≢ to → i ≢ at
   own_apart to at m n (code.given {t = at2} ge) l le i lt ne = ne
   own_apart to at m n (code.fresh {m = m2}) l le i lt ne = λ e. absurd (omega arith)
@@ -253,7 +260,8 @@ module _ {M : Type 0} (ops : Operations M) (placed : IsPlaced ops) (w : World) (
         let here = stays ops g scene (Cons b Nil) (λ i. spares i b) l.temps m.temps at (Some from) u z us zs to2 low one.stays (λ i e. and_left (spares i b) true e) mine.4 one.done.agrees agrees
         (went_less ops g scene (λ i. spares i b) (λ i. spares i b) m.temps n.temps (Some from) (Some from) u z us zs
         (λ i e. e) mn (λ i e j. j) two.went) one.value in
-        stored k at from pos q to2 v z zs (transfer to from rest) (next v) (one.position q position) here two.value
+        stored k at from pos q to2 v z zs (transfer to from rest) (next v) (one.position q position)
+        two.typed here two.value
         (λ mem on. let y = record z { mem = mem } in
         go v y (slice_set zs to (Some v)) (record {
           agrees = Rattle.lower_runs.proofs.Agreement.agrees_set ops g scene None (Some to) y zs to (Some v) target.free

@@ -9,6 +9,7 @@ use Rattle.obj_mem.specs.Values.{Value}
 use Rattle.obj_mem.specs.Values as value
 use Rattle.cheri_c_sem.specs.Expressions.{fits}
 use Rattle.cheri_c_sem.specs.Kinds.{nothing}
+use Rattle.cheri_c_sem.specs.Modes.{Store}
 use Rattle.cheri_c_sem.specs.Meaning.{value_of, values_of, called, compatible}
 use Rattle.cheri_c_sem.specs.Operations.{Operations}
 use Rattle.cheri_c_sem.specs.Steps.{State, Fate, Then, turn, turn_from, over, choose, give, ends}
@@ -32,10 +33,10 @@ use Rattle.lower_runs.proofs.Agreement.{done_less, done_then}
 use Rattle.lower_runs.proofs.Labels.{nothing_own, both_own, then_own}
 use Rattle.lower_runs.proofs.Steps.{lands}
 
-module _ {M : Type 0} (ops : Operations M) (placed : IsPlaced ops) (w : World) (t : Tac) (p : Typed)
-    (objects : ℕ → List ℕ) (call : ℕ → List Value → Then M Value) (signs : ℕ → Signature) (r : Running) (g : Scene)
+module _ (ops : Operations Store) (placed : IsPlaced ops) (w : World) (t : Tac) (p : Typed)
+    (objects : ℕ → List ℕ) (call : ℕ → List Value → Then Store Value) (signs : ℕ → Signature) (r : Running) (g : Scene)
     (scene : IsScene g) where
-  abbrev run : List TacInstr → State M → List (Option Value) → Fate
+  abbrev run : List TacInstr → State Store → List (Option Value) → Fate
   run = goes ops w t p objects r call g
 
   abbrev Arguments_run : (es : Exs) (ks : List TacKind) (ts : List ℕ) (m n : Mark) (c : Code) → Type 0
@@ -77,7 +78,7 @@ module _ {M : Type 0} (ops : Operations M) (placed : IsPlaced ops) (w : World) (
         })));
   }
 
-  arguments_are : (ts : List ℕ) (vs : List Value) (s : State M) → AreIn ts vs s.vars → map (temp_in s) ts ≡ vs
+  pub arguments_are : (ts : List ℕ) (vs : List Value) (s : State Store) → AreIn ts vs s.vars → map (temp_in s) ts ≡ vs
   arguments_are [] [] s h = refl
   arguments_are [] (v ∷ vs) s h = absurd h
   arguments_are (i ∷ ts) [] s h = absurd h
@@ -88,14 +89,14 @@ module _ {M : Type 0} (ops : Operations M) (placed : IsPlaced ops) (w : World) (
   -- ---- the call and the return
 
   -- behind a call: memory, turns and what was done are other ones
-  abbrev after : State M → M → ℕ → Rattle.ck_base.specs.World.Done → State M
+  abbrev after : State Store → Store → ℕ → Rattle.ck_base.specs.World.Done → State Store
   after s m n d = record s { mem = m; left = n; done = d }
 
-  back_is : (s u : State M) → Back ops w t p objects call signs s u → u ≡ after s u.mem u.left u.done
+  back_is : (s u : State Store) → Back ops w t p objects call signs s u → u ≡ after s u.mem u.left u.done
   back_is s u b = ap (λ z. record u { vars = z }) b.vars ∙ ap (λ z. record u { vars = s.vars; first = z }) b.first
       ∙ ap (λ z. record u { vars = s.vars; first = s.first; frame = z }) b.frame
 
-  done_after : (f : ℕ → Bool) (m : Mark) (s u : State M) (ts us : List (Option Value)) (mem : M) (n : ℕ)
+  done_after : (f : ℕ → Bool) (m : Mark) (s u : State Store) (ts us : List (Option Value)) (mem : Store) (n : ℕ)
       (d : Rattle.ck_base.specs.World.Done) → IsOnward ops u.mem mem → n ≤ u.left → Done ops g f m s ts u us →
       Done ops g f m s ts (after u mem n d) us
   done_after f m s u ts us mem n d on le a = record {
@@ -108,6 +109,7 @@ module _ {M : Type 0} (ops : Operations M) (placed : IsPlaced ops) (w : World) (
           typed = b.typed;
           object = b.object;
           there = b.there;
+          sound = b.sound;
           within = let lt = a.agrees.within in omega arith;
         };
     went = record {
@@ -123,7 +125,8 @@ module _ {M : Type 0} (ops : Operations M) (placed : IsPlaced ops) (w : World) (
   }
 
   -- what a call gives comes into the temp for it
-  resulted : (k : Option TacKind) (e : Ex) (to : Option ℕ) (m n : Mark) (s u : State M) (ts us : List (Option Value))
+  pub resulted : (k : Option TacKind) (e : Ex) (to : Option ℕ) (m n : Mark) (s u : State Store)
+      (ts us : List (Option Value))
       (v : Value) → IsAsked to k → IsTargetIfAny g m to → HasRoom g m n → m.temps ≤ n.temps → IsGiven k v
       → Done ops g (λ x. spares x e) m s ts u us →
       Resulted ops w t p objects call signs r g k e to m s ts v u (with_result us to (given_back k v))
@@ -134,22 +137,22 @@ module _ {M : Type 0} (ops : Operations M) (placed : IsPlaced ops) (w : World) (
       lands ops w t p objects r call g scene k (λ x. spares x e) (λ x. spares x e) to m n s u ts us v
       (λ x i. i) target room le given d
 
-  abbrev caller : State M → List (Option Value) → List TacInstr → Option ℕ → Caller
+  abbrev caller : State Store → List (Option Value) → List TacInstr → Option ℕ → Caller
   caller u us rest to = record { fun = r.fun; vars = us; first = u.first; frame = u.frame; rest = rest; to = to }
 
   -- the turns of the call and of the return, and between them the function
   passes : CallsRun ops w t p objects call signs g.limit → (f : ℕ) (k : Option TacKind) (ks : List TacKind) →
       signs f ≡ record { gives = k; takes = ks } →
-      (e : Ex) (to : Option ℕ) (m n : Mark) (s u : State M) (ts us : List (Option Value)) (vs : List Value)
-      (l : Value → State M → Fate) (rest : List TacInstr) → IsAsked to k → IsTargetIfAny g m to → HasRoom g m n →
+      (e : Ex) (to : Option ℕ) (m n : Mark) (s u : State Store) (ts us : List (Option Value)) (vs : List Value)
+      (l : Value → State Store → Fate) (rest : List TacInstr) → IsAsked to k → IsTargetIfAny g m to → HasRoom g m n →
       m.temps ≤ n.temps → AreOf ks vs → Done ops g (λ x. spares x e) m s ts u us
-      → ((v : Value) (z : State M) (zs : List (Option Value)) →
+      → ((v : Value) (z : State Store) (zs : List (Option Value)) →
       Resulted ops w t p objects call signs r g k e to m s ts v z zs → l v z ≡ run rest z zs)
       → turn u (λ i x. call f vs x (λ v y. turn y (λ j. l v)))
       ≡ into ops w t p objects (behind_turn ops w t p objects u.left) rest f vs to r (record u { vars = us })
   passes runs f k ks sign e to m n s u ts us vs l rest asked target room le typed d go = by u.left refl
     where
-      returned : (j : ℕ) → u.left ≡ suc j → (v : Value) (mem : M) (i : ℕ) (dn : Rattle.ck_base.specs.World.Done) →
+      returned : (j : ℕ) → u.left ≡ suc j → (v : Value) (mem : Store) (i : ℕ) (dn : Rattle.ck_base.specs.World.Done) →
           IsGiven k v → IsOnward ops u.mem mem → i ≤ j
           → turn_from i (after u mem i dn) (λ q. l v)
           ≡ behind_turn ops w t p objects i rest Runs r
@@ -160,7 +163,7 @@ module _ {M : Type 0} (ops : Operations M) (placed : IsPlaced ops) (w : World) (
           (resulted k e to m n s (after u mem i dn) ts us v asked target room le given
           (done_after (λ x. spares x e) m s u ts us mem i dn on (omega arith) d))
 
-      returns : (j : ℕ) → u.left ≡ suc j → (v : Value) (y : State M) → IsGiven (signs f).gives v →
+      returns : (j : ℕ) → u.left ≡ suc j → (v : Value) (y : State Store) → IsGiven (signs f).gives v →
           Back ops w t p objects call signs (record u { left = j }) y
           → turn y (λ q. l v) ≡ backs ops w t p objects call signs (caller u us rest to) r.callers
           (given_back (signs f).gives v) y
@@ -254,11 +257,11 @@ module _ {M : Type 0} (ops : Operations M) (placed : IsPlaced ops) (w : World) (
           (sym (arguments_are ts vs (record z { vars = zs }) two.values))));
     }
       where
-        by : (v : Value) (s z : State M) (temps zs : List (Option Value)) (vs : List Value)
-            (next : Value → State M → Fate) (rest : List TacInstr) → HasRoom g l n → IsTargetIfAny g l to →
+        by : (v : Value) (s z : State Store) (temps zs : List (Option Value)) (vs : List Value)
+            (next : Value → State Store → Fate) (rest : List TacInstr) → HasRoom g l n → IsTargetIfAny g l to →
             l.temps ≤ n.temps → AreOf ks vs
             → Done ops g (λ x. spares x (Call q (fits p [] of) e es)) l s temps z zs →
-            ((i : Value) (y : State M) (ys : List (Option Value)) →
+            ((i : Value) (y : State Store) (ys : List (Option Value)) →
             Resulted ops w t p objects call signs r g k (Call q (fits p [] of) e es) to l s temps i y ys →
             next i y ≡ run rest y ys)
             → called ops w q (fits p [] of) v z (λ o y2. turn y2 (λ b x. call o vs x (λ i y3. turn y3 (λ b2. next i))))

@@ -5,18 +5,22 @@ use Rattle.std.specs.Prelude.{slice_get, slice_set, ◌&&◌, ◌==◌}
 use Rattle.std.proofs.Math.Path.{fun_ext}
 use Rattle.ck_base.specs.World.{World}
 use Rattle.ck_base.specs.declared.positions.Pos.{Pos}
-use Rattle.ck_int.specs.Kinds.{value_of as value_of_kind}
+use Rattle.ck_int.specs.Kinds.{IsKept, value_of as value_of_kind}
+use Rattle.ck_int.specs.declared.kinds.IntKind.{IntKind}
+use Rattle.ck_int.proofs.OperationLaws.{compare_of-Ne, compare_of-Eq_kept}
 use Rattle.ck_int.specs.Arithmetic.{compare_of}
 use Rattle.ck_int.specs.declared.kinds.IntKind.TheVariants as int
 use Rattle.ck_int.specs.declared.kinds.CmpOp.TheVariants.{Ne}
 use Rattle.c_tree.specs.declared.typed.Typed.{Typed}
 use Rattle.obj_mem.specs.Values.{Value}
+use Rattle.obj_mem.specs.Values as value
 use Rattle.obj_mem.specs.declared.ending.Fault.{Fault}
-use Rattle.cheri_c_sem.specs.Kinds.{Kind, Plain, number_of, truth}
+use Rattle.cheri_c_sem.specs.Kinds.{Kind, Plain, null_at, number_of, truth}
+use Rattle.cheri_c_sem.specs.Modes.{Store}
 use Rattle.cheri_c_sem.specs.Meaning.{test, value_of}
 use Rattle.cheri_c_sem.specs.Operations.{Operations, is_true}
 use Rattle.cheri_c_sem.specs.Steps.{State, Fate, Then, ◌>>=◌, give, choose, answer}
-use Rattle.cheri_c_sem.specs.Tree.{Ex, Exs, Nil, Not, And, Or, Conditional}
+use Rattle.cheri_c_sem.specs.Tree.{Ex, Exs, Nil, Number, Null, Not, And, Or, Conditional}
 use Rattle.tac_ir.specs.Effects as effects
 use Rattle.tac_ir.specs.Effects.{Next, To, kind_of, kind_at, held, way, no_position}
 use Rattle.tac_ir.specs.Meaning.{Running, Runs, Seeks, Again, behind_turn, pass, follow, turns}
@@ -25,19 +29,24 @@ use Rattle.tac_ir.specs.declared.code.Tac.{Tac}
 use Rattle.tac_ir.specs.declared.code.TacInstr.{TacInstr}
 use Rattle.tac_ir.specs.declared.code.TacInstr.TheVariants as instr
 use Rattle.tac_ir.specs.declared.code.TacKind.{TacKind}
+use Rattle.tac_ir.specs.declared.code.TacKind.TheVariants as kind
 use Rattle.lower_runs.specs.States.{Scene, IsScene, IsPlaced, Agrees}
 use Rattle.lower_runs.specs.Operating.{Code}
 use Rattle.lower_runs.specs.Expressions.{Mark, labelled, spares, int_kind, same, is_junction, choice_code, guarded_code}
+use Rattle.lower_runs.specs.Expressions.{jump_if}
 use Rattle.lower_runs.specs.Simulation.{IsPiece, HasRoom, IsTarget, Done, Valued, OperandRuns, ConditionRuns, ValueRuns}
 use Rattle.lower_runs.specs.Simulation.{goes, kinds}
-use Rattle.lower_runs.proofs.Agreement.{and_left, and_right, done_less, done_then, done_valued, done_labelled}
-use Rattle.lower_runs.proofs.Labels.{pass_label, found_label, both_own, then_own, choice_own, guarded_own, to_other}
+use Rattle.lower_runs.proofs.Agreement.{and_left, and_right, done_start, done_less, done_then, done_valued}
+use Rattle.lower_runs.proofs.Agreement.{done_labelled}
+use Rattle.lower_runs.proofs.Labels.{nothing_own, pass_label, found_label, both_own, then_own, choice_own, guarded_own}
+use Rattle.lower_runs.proofs.Labels.{to_other}
 use Rattle.lower_runs.proofs.Labels.{to_end, seeks, jumps}
-use Rattle.lower_runs.proofs.Steps.{compares, held_is}
+use Rattle.lower_runs.proofs.Steps.{compares, held_is, kept_zero}
 
-module _ {M : Type 0} (ops : Operations M) (placed : IsPlaced ops) (w : World) (t : Tac) (p : Typed)
-    (objects : ℕ → List ℕ) (r : Running) (call : ℕ → List Value → Then M Value) (g : Scene) (scene : IsScene g) where
-  abbrev run : List TacInstr → State M → List (Option Value) → Fate
+module _ (ops : Operations Store) (placed : IsPlaced ops) (w : World) (t : Tac) (p : Typed)
+    (objects : ℕ → List ℕ) (r : Running) (call : ℕ → List Value → Then Store Value) (g : Scene)
+    (scene : IsScene g) where
+  abbrev run : List TacInstr → State Store → List (Option Value) → Fate
   run = goes ops w t p objects r call g
 
   abbrev Condition_runs : (k : TacKind) (e : Ex) (when : Bool) (label : ℕ) (m n : Mark) (c : Code) → Type 0
@@ -46,26 +55,27 @@ module _ {M : Type 0} (ops : Operations M) (placed : IsPlaced ops) (w : World) (
   -- ---- truth values
 
   -- a part gives the truth of another
-  abbrev Truths : Then M Value → Then M Bool → Type 0
-  Truths c d = (s : State M) (l : Value → State M → Fate) → c s l ≡ d s (λ b. l (truth b))
+  abbrev Truths : Then Store Value → Then Store Bool → Type 0
+  Truths c d = (s : State Store) (l : Value → State Store → Fate) → c s l ≡ d s (λ b. l (truth b))
 
-  truth_test : (q : Pos) (b : Bool) (s : State M) (l : Bool → State M → Fate) →
+  truth_test : (q : Pos) (b : Bool) (s : State Store) (l : Bool → State Store → Fate) →
       test ops w q (kind_of int_kind) (truth b) s l ≡ l b s
   unfolding compare_of value_of_kind Rattle.ck_int.specs.Kinds.reduced
   truth_test q true s l = refl
   truth_test q false s l = refl
 
-  tested : (q : Pos) (c : Then M Value) (d : Then M Bool) → Truths c d → (s : State M) (l : Bool → State M → Fate) →
+  tested : (q : Pos) (c : Then Store Value) (d : Then Store Bool) → Truths c d →
+      (s : State Store) (l : Bool → State Store → Fate) →
       (c >>= test ops w q (kind_of int_kind)) s l ≡ d s l
   tested q c d h s l = h s (λ v u. test ops w q (kind_of int_kind) v u l)
       ∙ ap (d s) (fun_ext (λ b. fun_ext (λ u. truth_test q b u l)))
 
   -- both operands are true; one of them is
-  abbrev both : Pos → Kind → Kind → Ex → Ex → Then M Bool
+  abbrev both : Pos → Kind → Kind → Ex → Ex → Then Store Bool
   both q j k a b = value_of ops w call a >>= test ops w q j
       >>= (λ c. choose c (value_of ops w call b >>= test ops w q k) (give false))
 
-  abbrev either : Pos → Kind → Kind → Ex → Ex → Then M Bool
+  abbrev either : Pos → Kind → Kind → Ex → Ex → Then Store Bool
   either q j k a b = value_of ops w call a >>= test ops w q j
       >>= (λ c. choose c (give true) (value_of ops w call b >>= test ops w q k))
 
@@ -74,7 +84,7 @@ module _ {M : Type 0} (ops : Operations M) (placed : IsPlaced ops) (w : World) (
       ap (value_of ops w call a s) (fun_ext (λ x.
       fun_ext (λ u. ap (test ops w q j x u) (fun_ext (λ c. fun_ext (λ z. by c z))))))
     where
-      by : (c : Bool) (z : State M)
+      by : (c : Bool) (z : State Store)
           → choose c (value_of ops w call b >>= λ y. test ops w q k y >>= λ d. give (truth d)) (give (truth false)) z l
           ≡ choose c (value_of ops w call b >>= test ops w q k) (give false) z (λ d. l (truth d))
       by true z = refl
@@ -85,14 +95,14 @@ module _ {M : Type 0} (ops : Operations M) (placed : IsPlaced ops) (w : World) (
       ap (value_of ops w call a s) (fun_ext (λ x.
       fun_ext (λ u. ap (test ops w q j x u) (fun_ext (λ c. fun_ext (λ z. by c z))))))
     where
-      by : (c : Bool) (z : State M)
+      by : (c : Bool) (z : State Store)
           → choose c (give (truth true)) (value_of ops w call b >>= λ y. test ops w q k y >>= λ d. give (truth d)) z l
           ≡ choose c (give true) (value_of ops w call b >>= test ops w q k) z (λ d. l (truth d))
       by true z = refl
       by false z = refl
 
   -- what the value of `&&` or `||` comes to is what its truth comes to
-  pub junction_truth : (q : Pos) (e : Ex) → is_junction e ≡ true → (s : State M) (l : Value → State M → Fate) →
+  pub junction_truth : (q : Pos) (e : Ex) → is_junction e ≡ true → (s : State Store) (l : Value → State Store → Fate) →
       value_of ops w call e s l ≡ (value_of ops w call e >>= test ops w q (kind_of int_kind)) s (λ b. l (truth b))
   junction_truth q (And o j k a b) h s l =
       both_truths o j k a b s l ∙ sym (tested q _ (both o j k a b) (both_truths o j k a b) s (λ d. l (truth d)))
@@ -103,7 +113,7 @@ module _ {M : Type 0} (ops : Operations M) (placed : IsPlaced ops) (w : World) (
   -- ---- branches
 
   -- a branch whose truth is known goes on behind the label, or on
-  went_by : (when b : Bool) (label : ℕ) (rest : List TacInstr) (u : State M) (us : List (Option Value))
+  went_by : (when b : Bool) (label : ℕ) (rest : List TacInstr) (u : State Store) (us : List (Option Value))
       → run (if same when b then behind label rest else rest) u us
       ≡ follow ops w t p objects (behind_turn ops w t p objects u.left)
       (pass ops w t p objects (behind_turn ops w t p objects u.left) rest) rest r
@@ -135,6 +145,43 @@ module _ {M : Type 0} (ops : Operations M) (placed : IsPlaced ops) (w : World) (
         ∙ o.1)));
   }
 
+  -- ---- constants
+
+  -- a jump where the truth is `when`
+  jump_plain : (b : Bool) (label o : ℕ) (rest : List TacInstr) → behind o (jump_if b label rest) ≡ behind o rest
+  jump_plain true label o rest = refl
+  jump_plain false label o rest = refl
+
+  jumps_if : (b : Bool) (label : ℕ) (rest : List TacInstr) (s : State Store) (ts : List (Option Value)) →
+      run (if b then behind label rest else rest) s ts ≡ run (jump_if b label rest) s ts
+  jumps_if true label rest s ts = sym (jumps ops w t p objects r call g label rest s ts)
+  jumps_if false label rest s ts = refl
+
+  -- a constant whose truth is known
+  constant_condition : (k : TacKind) (e : Ex) (v : Value) (b when : Bool) (label : ℕ) (m : Mark)
+      → ((s : State Store) (l : Value → State Store → Fate) → value_of ops w call e s l ≡ l v s) →
+      ((m : Store) → is_true ops m (kind_of k) v ≡ Ok b) →
+      Condition_runs k e when label m m (jump_if (same when b) label)
+  constant_condition k e v b when label m means truth_is = record {
+    piece = then_own m m m (λ rest. rest) (jump_if (same when b) label) (omega arith) refl
+        (λ o rest. jump_plain (same when b) label o rest) (nothing_own m);
+    runs = λ q s ts l rest room lt ag go.
+        means s (λ x u. test ops w q (kind_of k) x u l) ∙ ap (λ z. answer q z s l) (truth_is s.mem)
+        ∙ go b s ts (done_start ops g scene (λ i. spares i e) m s ts ag) ∙ jumps_if (same when b) label rest s ts;
+  }
+
+  pub number_condition : (k : IntKind) (v label : ℕ) (when : Bool) (m : Mark) → IsKept k v →
+      Condition_runs (kind.Int k) (Number v) when label m m (jump_if (same when (not (v == 0))) label)
+  number_condition k v label when m h =
+      constant_condition (kind.Int k) (Number v) (value.Int v) (not (v == 0)) when label m (λ s l. refl)
+      (λ z. ap Ok (compare_of-Ne k v 0 ∙ ap not (compare_of-Eq_kept k v 0 h (kept_zero k))))
+
+  pub null_condition : (z : Bool) (v label : ℕ) (when : Bool) (m : Mark) →
+      Condition_runs (kind.Cap z) (Null v) when label m m (jump_if (same when (not (v == 0))) label)
+  null_condition z v label when m =
+      constant_condition (kind.Cap z) (Null v) (null_at v) (not (v == 0)) when label m (λ s l. refl)
+      (λ i. placed.compare_null i z (null_at v) v (placed.address_null i v))
+
   -- ---- `!`
 
   turned : (when b : Bool) → same when (not b) ≡ same (not when) b
@@ -162,12 +209,12 @@ module _ {M : Type 0} (ops : Operations M) (placed : IsPlaced ops) (w : World) (
     keeps i = spares i a && spares i b
 
     -- behind the first operand; behind both
-    first : (s u : State M) (ts us : List (Option Value)) → Done ops g (λ i. spares i a) l s ts u us →
+    first : (s u : State Store) (ts us : List (Option Value)) → Done ops g (λ i. spares i a) l s ts u us →
         Done ops g keeps l s ts u us
     first s u ts us h = done_less ops g scene (λ i. spares i a) keeps l l s u ts us
         (λ i e. and_left (spares i a) (spares i b) e) (omega arith) h
 
-    second : (s u v : State M) (ts us vs : List (Option Value)) → l.temps ≤ m.temps →
+    second : (s u v : State Store) (ts us vs : List (Option Value)) → l.temps ≤ m.temps →
         Done ops g (λ i. spares i a) l s ts u us → Done ops g (λ i. spares i b) m u us v vs →
         Done ops g keeps l s ts v vs
     second s u v ts us vs le h i =
@@ -212,7 +259,7 @@ module _ {M : Type 0} (ops : Operations M) (placed : IsPlaced ops) (w : World) (
     }
 
     -- the first one leads around the second
-    around : (when y : Bool) (rest : List TacInstr) (v : State M) (vs : List (Option Value)) → label < l.labels →
+    around : (when y : Bool) (rest : List TacInstr) (v : State Store) (vs : List (Option Value)) → label < l.labels →
         run (if same when y then behind label rest else rest) v vs
         ≡ run (if same when y then behind label (instr.Label l.labels ∷ rest) else instr.Label l.labels ∷ rest) v vs
     around when y rest v vs lt = by (same when y)
@@ -274,14 +321,17 @@ module _ {M : Type 0} (ops : Operations M) (placed : IsPlaced ops) (w : World) (
   -- ---- choices: of two parts that do the same with a state, given that they go on alike
 
   -- what a choice comes to, where its ways do the same as their code
-  pub chosen : {A : Type 0} (j : TacKind) (q : Pos) (e : Ex) (x y : Then M A) (l m n o : Mark) (c d f : Code) →
+  pub chosen : {A : Type 0} (j : TacKind) (q : Pos) (e : Ex) (x y : Then Store A) (l m n o : Mark) (c d f : Code) →
       Condition_runs j e false l.labels (labelled 2 l) m c → IsPiece m n d → IsPiece n o f
-      → (s : State M) (ts : List (Option Value)) (next : A → State M → Fate) (rest : List TacInstr) → HasRoom g l o →
+      → (s : State Store) (ts : List (Option Value)) (next : A → State Store → Fate) (rest : List TacInstr) →
+      HasRoom g l o →
       Agrees ops g None s ts
-      → ((u : State M) (us : List (Option Value)) (after : List TacInstr) → Done ops g (λ i. spares i e) l s ts u us →
-      ((v : State M) (vs : List (Option Value)) → run after v vs ≡ run rest v vs) → x u next ≡ run (d after) u us)
-      → ((u : State M) (us : List (Option Value)) (after : List TacInstr) → Done ops g (λ i. spares i e) l s ts u us →
-      ((v : State M) (vs : List (Option Value)) → run after v vs ≡ run rest v vs) → y u next ≡ run (f after) u us)
+      → ((u : State Store) (us : List (Option Value)) (after : List TacInstr) →
+      Done ops g (λ i. spares i e) l s ts u us →
+      ((v : State Store) (vs : List (Option Value)) → run after v vs ≡ run rest v vs) → x u next ≡ run (d after) u us)
+      → ((u : State Store) (us : List (Option Value)) (after : List TacInstr) →
+      Done ops g (λ i. spares i e) l s ts u us →
+      ((v : State Store) (vs : List (Option Value)) → run after v vs ≡ run rest v vs) → y u next ≡ run (f after) u us)
       → (value_of ops w call e >>= test ops w q (kind_of j)) s (λ b z. choose b x y z next)
       ≡ run (choice_code l.labels c d f rest) s ts
   chosen j q e x y l m n o c d f h pd pf s ts next rest room ag first second =

@@ -12,6 +12,7 @@ use Rattle.obj_mem.specs.Values as value
 use Rattle.obj_mem.specs.declared.ending.Fault.{Fault}
 use Rattle.cheri_c_sem.specs.Expressions.{permissions_of}
 use Rattle.cheri_c_sem.specs.Kinds.{Kind, Plain, zero_of, nothing, truth, bytes_of, read_as}
+use Rattle.cheri_c_sem.specs.Modes.{Store}
 use Rattle.cheri_c_sem.specs.Meaning.{Place, In, At, capability_of, given, value_of, place_of, point_to, test, load}
 use Rattle.cheri_c_sem.specs.Meaning.{store}
 use Rattle.cheri_c_sem.specs.Operations.{Operations, convert_by}
@@ -43,14 +44,16 @@ use Rattle.lower_runs.proofs.Agreement.{and_left, and_right, get_set_same, get_s
 use Rattle.lower_runs.proofs.Agreement.{agrees_own, agrees_memory, agrees_variable, went_less, went_memory, went_then}
 use Rattle.lower_runs.proofs.Agreement.{stays, done_start, done_less, done_then, done_valued, done_labelled}
 use Rattle.lower_runs.proofs.Labels.{nothing_own, both_own, then_own, choice_own, guarded_own, found_label}
-use Rattle.lower_runs.proofs.Steps.{read_is_of, same_answer, compares, converts, held_is, transfer_runs, lands}
+use Rattle.lower_runs.proofs.Steps.{data_twelve_bits, loaded_is_of, same_answer, compares, converts, convert_answers}
+use Rattle.lower_runs.proofs.Steps.{held_is, transfer_runs, lands}
 use Rattle.lower_runs.proofs.Operations.{transfer_plain}
 use Rattle.lower_runs.proofs.Operands.{in_place, in_place_stays}
 use Rattle.lower_runs.proofs.Conditions.{chosen}
 
-module _ {M : Type 0} (ops : Operations M) (placed : IsPlaced ops) (w : World) (t : Tac) (p : Typed)
-    (objects : ℕ → List ℕ) (r : Running) (call : ℕ → List Value → Then M Value) (g : Scene) (scene : IsScene g) where
-  abbrev run : List TacInstr → State M → List (Option Value) → Fate
+module _ (ops : Operations Store) (placed : IsPlaced ops) (w : World) (t : Tac) (p : Typed)
+    (objects : ℕ → List ℕ) (r : Running) (call : ℕ → List Value → Then Store Value) (g : Scene)
+    (scene : IsScene g) where
+  abbrev run : List TacInstr → State Store → List (Option Value) → Fate
   run = goes ops w t p objects r call g
 
   abbrev Value_runs : (k : TacKind) (e : Ex) (to : ℕ) (m n : Mark) (c : Code) → Type 0
@@ -76,14 +79,14 @@ module _ {M : Type 0} (ops : Operations M) (placed : IsPlaced ops) (w : World) (
 
   -- ---- without code
 
-  read_unset : (q : Pos) (k : Kind) (o : Option (Option Value)) (s : State M) →
-      (v : Value) × ((l : Value → State M → Fate) → given ops w q k o s l ≡ l v s)
+  read_unset : (q : Pos) (k : Kind) (o : Option (Option Value)) (s : State Store) →
+      (v : Value) × ((l : Value → State Store → Fate) → given ops w q k o s l ≡ l v s)
   read_unset q k (Some (Some v)) s = (v, λ l. refl)
   read_unset q k (Some None) s = (zero_of k, λ l. ap (λ z. answer q z s l) (placed.unset k))
   read_unset q k None s = (zero_of k, λ l. ap (λ z. answer q z s l) (placed.unset k))
 
-  still_value : (e : Ex) → is_still e ≡ true → (s : State M) →
-      (v : Value) × ((l : Value → State M → Fate) → value_of ops w call e s l ≡ l v s)
+  still_value : (e : Ex) → is_still e ≡ true → (s : State Store) →
+      (v : Value) × ((l : Value → State Store → Fate) → value_of ops w call e s l ≡ l v s)
   still_value (Number n) h s = (_, λ l. refl)
   still_value (Null n) h s = (_, λ l. refl)
   still_value (Load k (Variable q x)) h s = read_unset q k (slice_get s.vars x) s
@@ -93,8 +96,8 @@ module _ {M : Type 0} (ops : Operations M) (placed : IsPlaced ops) (w : World) (
   still_value (Function q f) h s = (_, λ l. refl)
   still_value e h s = absurd cc
 
-  still_place : (e : Ex) → is_still_place e ≡ true → (s : State M) →
-      (v : Place) × ((l : Place → State M → Fate) → place_of ops w call e s l ≡ l v s)
+  still_place : (e : Ex) → is_still_place e ≡ true → (s : State Store) →
+      (v : Place) × ((l : Place → State Store → Fate) → place_of ops w call e s l ≡ l v s)
   still_place (Variable q x) h s = (_, λ l. refl)
   still_place (Local q n) h s = (_, λ l. refl)
   still_place (Object q n permissions) h s = (_, λ l. refl)
@@ -117,7 +120,7 @@ module _ {M : Type 0} (ops : Operations M) (placed : IsPlaced ops) (w : World) (
 
   -- ---- of one operand
 
-  done_as : (f k : ℕ → Bool) (m : Mark) (s u : State M) (ts us : List (Option Value)) →
+  done_as : (f k : ℕ → Bool) (m : Mark) (s u : State Store) (ts us : List (Option Value)) →
       ((x : ℕ) → k x ≡ true → f x ≡ true) → Done ops g f m s ts u us → Done ops g k m s ts u us
   done_as f k m s u ts us h d = done_less ops g scene f k m m s u ts us h (omega arith) d
 
@@ -126,7 +129,7 @@ module _ {M : Type 0} (ops : Operations M) (placed : IsPlaced ops) (w : World) (
   convert_effect e q j k plain m n c h = record {
     piece = h.piece;
     runs = λ s ts l rest room ag go. h.runs s ts (λ v u. answer q (convert_by ops u.mem j k v) u l) rest room ag
-        (λ v u us d. let o = converts ops placed u.mem j k v in ap (λ z. answer q z u l) o.1 ∙ go o.0 u us d);
+        (λ v u us d. let o = convert_answers ops placed u.mem j k v in ap (λ z. answer q z u l) o.1 ∙ go o.0 u us d);
   }
 
   pub discard_effect : (e : Ex) (m n : Mark) (c : Code) → Effect_runs e m n c → Effect_runs (Discard e) m n c
@@ -280,7 +283,7 @@ module _ {M : Type 0} (ops : Operations M) (placed : IsPlaced ops) (w : World) (
 
   module _ (q : Pos) (j : TacKind) (k : Kind) (a b : Ex) (l m n : Mark) (c d : Code) where
     -- the second operand and its truth, which is dropped
-    abbrev second : Then M Value
+    abbrev second : Then Store Value
     second = value_of ops w call b >>= λ y. test ops w q k y >>= λ z. give (truth z)
 
     over : IsPiece m n d → l.labels + 1 ≤ m.labels → (rest : List TacInstr) →
@@ -290,9 +293,9 @@ module _ {M : Type 0} (ops : Operations M) (placed : IsPlaced ops) (w : World) (
 
     -- it is evaluated, where the first one leads to it
     evaluated : Effect_runs b m n d →
-        (s u : State M) (ts us : List (Option Value)) (next : Value → State M → Fate) (rest : List TacInstr) →
+        (s u : State Store) (ts us : List (Option Value)) (next : Value → State Store → Fate) (rest : List TacInstr) →
         HasRoom g l n → l.temps ≤ m.temps → Done ops g (λ i. spares i a) l s ts u us
-        → ((v : Value) (z : State M) (zs : List (Option Value)) →
+        → ((v : Value) (z : State Store) (zs : List (Option Value)) →
         Done ops g (λ i. spares i a && spares i b) l s ts z zs → next v z ≡ run rest z zs) →
         second u next ≡ run (d (instr.Label l.labels ∷ rest)) u us
     evaluated h s u ts us next rest room lm one go =
@@ -307,7 +310,7 @@ module _ {M : Type 0} (ops : Operations M) (placed : IsPlaced ops) (w : World) (
         (λ i. spares i a && spares i b) l m s u z ts us zs
         (λ i e. and_left (spares i a) (spares i b) e) (λ i e. and_right (spares i a) (spares i b) e) lm one two))
 
-    passed : (s u : State M) (ts us : List (Option Value)) → Done ops g (λ i. spares i a) l s ts u us →
+    passed : (s u : State Store) (ts us : List (Option Value)) → Done ops g (λ i. spares i a) l s ts u us →
         Done ops g (λ i. spares i a && spares i b) l s ts u us
     passed s u ts us h = done_as (λ i. spares i a) (λ i. spares i a && spares i b) l s u ts us
         (λ i e. and_left (spares i a) (spares i b) e) h

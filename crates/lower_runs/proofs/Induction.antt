@@ -1,5 +1,4 @@
--- All code that the relation makes of expressions does what they mean, by induction on how it is made. What is left of
--- the rules is a premise.
+-- All code that the relation makes of expressions does what they mean, by induction on how it is made.
 use Rattle.std.specs.Prelude.{◌≡◌, ℕ, ◌+◌, ◌*◌, ◌%◌, ◌^◌, ◌==◌, not, Bool, true, false, List, [], ◌∷◌, length, Option}
 use Rattle.std.specs.Prelude.{Some, None, slice_get, slice_index_or}
 use Rattle.ck_base.specs.World.{World}
@@ -10,6 +9,7 @@ use Rattle.ck_int.specs.declared.kinds.IntOp.{IntOp}
 use Rattle.c_tree.specs.declared.typed.Typed.{Typed}
 use Rattle.obj_mem.specs.Values.{Value}
 use Rattle.cheri_c_sem.specs.Kinds.{Kind, Plain}
+use Rattle.cheri_c_sem.specs.Modes.{Store}
 use Rattle.cheri_c_sem.specs.Meaning.{At}
 use Rattle.cheri_c_sem.specs.Operations.{Operations}
 use Rattle.cheri_c_sem.specs.Steps.{Then}
@@ -23,7 +23,7 @@ use Rattle.tac_ir.specs.declared.code.Tac.{Tac}
 use Rattle.tac_ir.specs.declared.code.TacInstr.TheVariants as instr
 use Rattle.tac_ir.specs.declared.code.TacKind.{TacKind}
 use Rattle.tac_ir.specs.declared.code.TacKind.TheVariants as kind
-use Rattle.lower_runs.specs.States.{Scene, IsScene, IsPlaced}
+use Rattle.lower_runs.specs.States.{Scene, IsScene, IsPlaced, AreBytes}
 use Rattle.lower_runs.specs.Operating as operating
 use Rattle.lower_runs.specs.Operating.{Code, AreInts, long, give, transfer, moved_temps, address_temps, changed_temps}
 use Rattle.lower_runs.specs.Operating.{signed_temps, stepped_temps, stride}
@@ -57,7 +57,6 @@ use Rattle.lower_runs.specs.Expressions.{copy_aggregate, copy_plain, arguments_n
 use Rattle.lower_runs.specs.Expressions.{call_by_value, call_library}
 use Rattle.lower_runs.specs.Simulation.{OperandRuns, OperandInRuns, PairRuns, ValueRuns, EffectRuns, PlaceEffectRuns}
 use Rattle.lower_runs.specs.Simulation.{ConditionRuns, PointerRuns, PlaceRuns, AssignmentRuns, CopyRuns, kinds}
-use Rattle.lower_runs.specs.Left.{RulesLeft}
 use Rattle.lower_runs.specs.Calling.{CallsRun, ArgumentsRun, CallRuns, IsAsked}
 use Rattle.lower_runs.proofs.Operands.{operand_in_place as operand_in_place_law, operand_fresh as operand_fresh_law}
 use Rattle.lower_runs.proofs.Operands.{operand_in_place_of, operand_there, pair as pair_law}
@@ -65,7 +64,7 @@ use Rattle.lower_runs.proofs.Values.{number_value, null_value, variable_value, k
 use Rattle.lower_runs.proofs.Values.{discarded_value, opposite_value, sign_value, whole_value, compare_value}
 use Rattle.lower_runs.proofs.Values.{truth_value, comma_value}
 use Rattle.lower_runs.proofs.Conditions.{chosen_value, opposite_condition, both_condition, either_condition}
-use Rattle.lower_runs.proofs.Conditions.{both_around, either_around, branch_condition}
+use Rattle.lower_runs.proofs.Conditions.{both_around, either_around, branch_condition, number_condition, null_condition}
 use Rattle.lower_runs.proofs.Effects.{still_effect, convert_effect, discard_effect, comma_effect, choice_effect}
 use Rattle.lower_runs.proofs.Effects.{both_effect, either_effect, deref_effect, member_effect, aggregate_effect}
 use Rattle.lower_runs.proofs.Effects.{value_effect, still_place_effect, deref_place_effect, member_place_effect}
@@ -76,11 +75,16 @@ use Rattle.lower_runs.proofs.Places.{function_place, deref_place, member_of_plac
 use Rattle.lower_runs.proofs.Places.{comma_place, choice_place}
 use Rattle.lower_runs.proofs.Assignments.{variable_assignment, object_assignment, object_value_assignment}
 use Rattle.lower_runs.proofs.Structs.{struct_copy as struct_copy_law, plain_copy, aggregate_copy, comma_copy}
-use Rattle.lower_runs.proofs.Structs.{choice_copy}
+use Rattle.lower_runs.proofs.Structs.{choice_copy, effect_of_copy, place_of_pointer}
+use Rattle.lower_runs.proofs.Capabilities.{derived_value, sign_capability, moved_value, moved_right, displaced_value}
+use Rattle.lower_runs.proofs.Capabilities.{displaced_right, difference_value}
+use Rattle.lower_runs.proofs.Compounds.{changed_variable, changed_object, stepped_variable, stepped_variable_old}
+use Rattle.lower_runs.proofs.Compounds.{stepped_object, stepped_object_old}
+use Rattle.lower_runs.proofs.Services.{library_call}
 use Rattle.lower_runs.proofs.Calls.{no_arguments, one_argument, named_call, value_call as value_call_law}
 
-module _ {M : Type 0} (ops : Operations M) (placed : IsPlaced ops) (world : World) (all : Tac) (p : Typed)
-    (objects : ℕ → List ℕ) (running : Running) (call : ℕ → List Value → Then M Value) (signs : ℕ → Signature)
+module _ (ops : Operations Store) (placed : IsPlaced ops) (world : World) (all : Tac) (p : Typed)
+    (objects : ℕ → List ℕ) (running : Running) (call : ℕ → List Value → Then Store Value) (signs : ℕ → Signature)
     (g : Scene) (scene : IsScene g) where
   abbrev Operand_runs : (i0 : Exs) → (i1 : TacKind) → (i2 : Ex) → (i3 : ℕ) → (i4 : Mark) → (i5 : Mark) → (i6 : Code) →
       Type 0
@@ -132,8 +136,7 @@ module _ {M : Type 0} (ops : Operations M) (placed : IsPlaced ops) (world : Worl
       Type 0
   Call_runs = CallRuns ops world all p objects call signs running g
 
-  module _ (calls : CallsRun ops world all p objects call signs g.limit)
-      (rest : RulesLeft ops world all p objects running call signs g) where
+  module _ (bytes : AreBytes world) (calls : CallsRun ops world all p objects call signs g.limit) where
     signed_ok : (k : TacKind) (e : Ex) (t to : ℕ) (q : Pos) (sign : Sign) (m n : Mark) (c : Code) →
         Operand_in_runs k e to t m n c →
         AreInts (kinds ops world all p objects running call g) (operating.signed sign k to t n.temps [])
@@ -141,7 +144,8 @@ module _ {M : Type 0} (ops : Operations M) (placed : IsPlaced ops) (world : Worl
         (λ r. c (operating.signed sign k to t n.temps r))
     signed_ok (kind.Int i) e x to q sign m n c h ints =
         sign_value ops placed world all p objects running call g scene sign i e q x to m n c h ints
-    signed_ok (kind.Cap s) e x to q sign m n c h ints = rest.value_sign_capability s e x to q sign m n c h ints
+    signed_ok (kind.Cap s) e x to q sign m n c h ints =
+        sign_capability ops placed world all p objects running call g scene s e x to q sign m n c h ints
 
     value_of_assignment : (k : TacKind) (e : Ex) (to : ℕ) (m n : Mark) (c : Code) →
         Assignment_runs k e (Some to) m n c → Value_runs k e to m n c
@@ -161,6 +165,14 @@ module _ {M : Type 0} (ops : Operations M) (placed : IsPlaced ops) (world : Worl
     effect_of_call : (k : Option TacKind) (e : Ex) (m n : Mark) (c : Code) → Call_runs k e None m n c →
         Effect_runs e m n c
     effect_of_call k e m n c h = record { piece = h.piece; runs = λ s ts l i room ag go. h.runs s ts l i room tt ag go }
+
+    -- a struct assignment is a copy
+    effect_of_struct : (e : Ex) (t : ℕ) (m n : Mark) (c : Code) →
+        IsStructAssignment p signs (kinds ops world all p objects running call g) g e t m n c →
+        Struct_runs e t m n c → Effect_runs e m n c
+    effect_of_struct e t m n c (struct_copy {bytes = bytes} {unit = unit} {t = at} {a = a} {b = b} {q = q} {l = l}
+        {n = o} {c = d} {d = f} h0 h1 h2) h =
+        effect_of_copy ops placed world all p objects running call g scene q bytes unit at a b l o (λ r. d (f r)) h
 
     place_effect_of_struct : (e : Ex) (at : ℕ) (m n : Mark) (c : Code) → Struct_runs e at m n c →
         Place_effect_runs e m n c
@@ -200,8 +212,8 @@ module _ {M : Type 0} (ops : Operations M) (placed : IsPlaced ops) (world : Worl
           Value_runs i0 i1 i2 i3 i4 i5
       value_ok i0 i1 i2 i3 i4 i5 (value_number {k = k} {v = v} {to = to} {m = m} h0) =
           number_value ops placed world all p objects running call g scene k v to m h0
-      value_ok i0 i1 i2 i3 i4 i5 (value_null {s = s} {v = v} {to = to} {m = m}) =
-          null_value ops placed world all p objects running call g scene s v to m
+      value_ok i0 i1 i2 i3 i4 i5 (value_null {s = s} {v = v} {to = to} {m = m} h0) =
+          null_value ops placed world all p objects running call g scene s v to m h0
       value_ok i0 i1 i2 i3 i4 i5 (value_variable {x = x} {t = t} {to = to} {k = k} {q = q} {m = m} h0) =
           variable_value ops placed world all p objects running call g scene x t to k q m h0
       value_ok i0 i1 i2 i3 i4 i5 (value_load {k = k} {e = e} {t = t} {to = to} {q = q} {m = m} {n = n} {c = c} h0 h1) =
@@ -230,23 +242,29 @@ module _ {M : Type 0} (ops : Operations M) (placed : IsPlaced ops) (world : Worl
           whole_value ops placed world all p objects running call g scene op i k a b q x y to m n c
           (pair_ok (kind.Int i) a x k b y m n c h0) h1 h2
       value_ok i0 i1 i2 i3 i4 i5 (value_derived {op = op} {s = s} {right = right} {plain = plain} {k = k} {a = a}
-          {b = b} {x = x} {y = y} {to = to} {q = q} {m = m} {n = n} {c = c} h0 h1) =
-          rest.value_derived op s right plain k a b x y to q m n c (pair_ok (kind.Cap s) a x k b y m n c h0) h1
+          {b = b} {x = x} {y = y} {to = to} {q = q} {m = m} {n = n} {c = c} h0 h1 h2) =
+          derived_value ops placed world all p objects running call g scene op s right plain k a b q x y to m n c h0
+          (pair_ok (kind.Cap s) a x k b y m n c h1) h2
       value_ok i0 i1 i2 i3 i4 i5 (value_moved {size = size} {minus = minus} {k = k} {a = a} {b = b} {x = x} {y = y}
           {to = to} {q = q} {m = m} {n = n} {c = c} h0 h1) =
-          rest.value_moved size minus k a b x y to q m n c (pair_ok pointer_kind a x k b y m n c h0) h1
+          moved_value ops placed world all p objects running call g scene size minus k a b x y to q m n c
+          (pair_ok pointer_kind a x k b y m n c h0) h1
       value_ok i0 i1 i2 i3 i4 i5 (value_moved_right {size = size} {minus = minus} {k = k} {a = a} {b = b} {x = x}
           {y = y} {to = to} {q = q} {m = m} {n = n} {c = c} h0 h1) =
-          rest.value_moved_right size minus k a b x y to q m n c (pair_ok k a x pointer_kind b y m n c h0) h1
+          moved_right ops placed world all p objects running call g scene size minus k a b x y to q m n c
+          (pair_ok k a x pointer_kind b y m n c h0) h1
       value_ok i0 i1 i2 i3 i4 i5 (value_displaced {size = size} {v = v} {minus = minus} {i = i} {a = a} {b = b} {t = t}
           {to = to} {q = q} {m = m} {n = n} {c = c} h0 h1) =
-          rest.value_displaced size v minus i a b t to q m n c h0 (given_ok pointer_kind a to t m n c h1)
+          displaced_value ops placed world all p objects running call g scene size v minus i a b t to q m n c h0
+          (given_ok pointer_kind a to t m n c h1)
       value_ok i0 i1 i2 i3 i4 i5 (value_displaced_right {size = size} {v = v} {minus = minus} {i = i} {a = a} {b = b}
           {t = t} {to = to} {q = q} {m = m} {n = n} {c = c} h0 h1) =
-          rest.value_displaced_right size v minus i a b t to q m n c h0 (given_ok pointer_kind b to t m n c h1)
+          displaced_right ops placed world all p objects running call g scene size v minus i a b t to q m n c h0
+          (given_ok pointer_kind b to t m n c h1)
       value_ok i0 i1 i2 i3 i4 i5 (value_difference {size = size} {a = a} {b = b} {x = x} {y = y} {to = to} {q = q}
           {m = m} {n = n} {c = c} h0 h1) =
-          rest.value_difference size a b x y to q m n c (pair_ok pointer_kind a x pointer_kind b y m n c h0) h1
+          difference_value ops placed world all p objects running call g scene size a b x y to q m n c
+          (pair_ok pointer_kind a x pointer_kind b y m n c h0) h1
       value_ok i0 i1 i2 i3 i4 i5 (value_compare {op = op} {k = k} {a = a} {b = b} {x = x} {y = y} {to = to} {q = q}
           {m = m} {n = n} {c = c} h0) =
           compare_value ops placed world all p objects running call g scene op k a b q x y to m n c
@@ -298,7 +316,7 @@ module _ {M : Type 0} (ops : Operations M) (placed : IsPlaced ops) (world : Worl
       effect_ok i0 i1 i2 i3 (effect_assignment {k = k} {e = e} {m = m} {n = n} {c = c} h0) =
           effect_of_assignment k e m n c (assignment_ok k e None m n c h0)
       effect_ok i0 i1 i2 i3 (effect_struct {e = e} {t = t} {m = m} {n = n} {c = c} h0) =
-          rest.effect_struct e t m n c (struct_ok e t m n c h0)
+          effect_of_struct e t m n c h0 (struct_ok e t m n c h0)
       effect_ok i0 i1 i2 i3 (effect_call {k = k} {e = e} {m = m} {n = n} {c = c} h0) =
           effect_of_call k e m n c (call_ok k e None m n c tt h0)
       effect_ok i0 i1 i2 i3 (effect_value {k = k} {e = e} {m = m} {n = n} {c = c} h0) =
@@ -333,9 +351,9 @@ module _ {M : Type 0} (ops : Operations M) (placed : IsPlaced ops) (world : Worl
           IsCondition p signs (kinds ops world all p objects running call g) g i0 i1 i2 i3 i4 i5 i6 →
           Condition_runs i0 i1 i2 i3 i4 i5 i6
       condition_ok i0 i1 i2 i3 i4 i5 i6 (condition_number {k = k} {v = v} {label = label} {when = when} {m = m} h0) =
-          rest.condition_number k v label when m h0
+          number_condition ops placed world all p objects running call g scene k v label when m h0
       condition_ok i0 i1 i2 i3 i4 i5 i6 (condition_null {s = s} {v = v} {label = label} {when = when} {m = m}) =
-          rest.condition_null s v label when m
+          null_condition ops placed world all p objects running call g scene s v label when m
       condition_ok i0 i1 i2 i3 i4 i5 i6 (condition_opposite {k = k} {e = e} {q = q} {when = when} {label = label}
           {m = m} {n = n} {c = c} h0) =
           opposite_condition ops placed world all p objects running call g scene q k e when label m n c
@@ -402,7 +420,7 @@ module _ {M : Type 0} (ops : Operations M) (placed : IsPlaced ops) (world : Worl
           choice_place ops placed world all p objects running call g scene q j e a b to l m n o c d f
           (condition_ok j e false l.labels (labelled 2 l) m c h0) (place_ok a to m n d h1) (place_ok b to n o f h2)
       place_ok i0 i1 i2 i3 i4 (place_assigned {e = e} {t = t} {to = to} {m = m} {n = n} {c = c} h0) =
-          rest.place_assigned e t to m n c (struct_ok e t m n c h0)
+          place_of_pointer ops placed world all p objects running call g scene e t to m n c (struct_ok e t m n c h0)
 
       pub assignment_ok : (i0 : TacKind) (i1 : Ex) (i2 : Option ℕ) (i3 : Mark) (i4 : Mark) (i5 : Code) →
           IsAssignment p signs (kinds ops world all p objects running call g) g i0 i1 i2 i3 i4 i5 →
@@ -420,25 +438,31 @@ module _ {M : Type 0} (ops : Operations M) (placed : IsPlaced ops) (world : Worl
           (pointer_ok (Cons b Nil) a at l m c h1) h2 (value_ok k b t n o d h3)
       assignment_ok i0 i1 i2 i3 i4 i5 (assignment_changed_variable {op = op} {computed = computed} {j = j} {k = k}
           {b = b} {x = x} {t = t} {y = y} {to = to} {q = q} {s = s} {m = m} {n = n} {c = c} h0 h1 h2 h3) =
-          rest.assignment_changed_variable op computed j k b x t y to q s m n c h0 h1 (operand_ok Nil k b y m n c h2) h3
+          changed_variable ops placed world all p objects running call g scene op computed j k b x t y to q s m n c h0
+          h1 (operand_ok Nil k b y m n c h2) h3
       assignment_ok i0 i1 i2 i3 i4 i5 (assignment_changed_object {op = op} {computed = computed} {j = j} {k = k} {a = a}
           {b = b} {at = at} {t = t} {y = y} {to = to} {q = q} {s = s} {l = l} {m = m} {n = n} {o = o} {c = c}
           {d = d} h0 h1 h2 h3 h4 h5) =
-          rest.assignment_changed_object op computed j k a b at t y to q s l m n o c d h0 h1
+          changed_object ops placed world all p objects running call g scene op computed j k a b at t y to q s l m n o c
+          d h0 h1
           (pointer_ok (Cons b Nil) a at l m c h2) (operand_ok Nil k b y m n d h3) h4 h5
       assignment_ok i0 i1 i2 i3 i4 i5 (assignment_stepped_variable {op = op} {computed = computed} {j = j} {x = x}
           {t = t} {to = to} {old = old} {q = q} {s = s} {m = m} h0 h1 h2 h3) =
-          rest.assignment_stepped_variable op computed j x t to old q s m h0 h1 h2 h3
+          stepped_variable ops placed world all p objects running call g scene op computed j x t to old q s m h0 h1 h2
+          h3
       assignment_ok i0 i1 i2 i3 i4 i5 (assignment_stepped_variable_old {op = op} {computed = computed} {j = j} {x = x}
           {t = t} {v = v} {to = to} {q = q} {s = s} {m = m} {n = n} h0 h1 h2 h3) =
-          rest.assignment_stepped_variable_old op computed j x t v to q s m n h0 h1 h2 h3
+          stepped_variable_old ops placed world all p objects running call g scene op computed j x t v to q s m n h0 h1
+          h2 h3
       assignment_ok i0 i1 i2 i3 i4 i5 (assignment_stepped_object {op = op} {computed = computed} {j = j} {a = a}
           {at = at} {t = t} {to = to} {old = old} {q = q} {s = s} {l = l} {m = m} {n = n} {c = c} h0 h1 h2 h3 h4 h5) =
-          rest.assignment_stepped_object op computed j a at t to old q s l m n c h0 h1 h2
+          stepped_object ops placed world all p objects running call g scene op computed j a at t to old q s l m n c h0
+          h1 h2
           (pointer_ok Nil a at l m c h3) h4 h5
       assignment_ok i0 i1 i2 i3 i4 i5 (assignment_stepped_object_old {op = op} {computed = computed} {j = j} {a = a}
           {at = at} {t = t} {to = to} {q = q} {s = s} {l = l} {m = m} {n = n} {c = c} h0 h1 h2 h3 h4) =
-          rest.assignment_stepped_object_old op computed j a at t to q s l m n c h0 h1
+          stepped_object_old ops placed world all p objects running call g scene op computed j a at t to q s l m n c h0
+          h1
           (pointer_ok Nil a at l m c h2) h3 h4
 
       pub struct_ok : (i0 : Ex) (i1 : ℕ) (i2 : Mark) (i3 : Mark) (i4 : Code) →
@@ -491,5 +515,7 @@ module _ {M : Type 0} (ops : Operations M) (placed : IsPlaced ops) (world : Worl
           value_call_law ops placed world all p objects call signs running g scene calls k to v of e es ks ts q l m n c
           d asked h0 (operand_ok es pointer_kind e v l m c h1) (arguments_ok es ks ts m n d h2)
       call_ok i0 i1 i2 i3 i4 i5 asked (call_library {k = k} {to = to} {service = service} {es = es} {ks = ks} {ts = ts}
-          {q = q} {m = m} {n = n} {c = c} h0 h1) =
-          rest.call_library k to service es ks ts q m n c asked h0 (arguments_ok es ks ts m n c h1)
+          {q = q} {m = m} {n = n} {c = c} h0 h1 h2) =
+          library_call ops placed world all p objects call signs running g scene bytes k to service es ks ts q m n c
+          asked h0 h1
+          (arguments_ok es ks ts m n c h2)

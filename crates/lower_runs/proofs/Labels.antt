@@ -6,6 +6,7 @@ use Rattle.std.proofs.lemmas.Bool.Decides.{nat_tests}
 use Rattle.ck_base.specs.World.{World}
 use Rattle.c_tree.specs.declared.typed.Typed.{Typed}
 use Rattle.obj_mem.specs.Values.{Value}
+use Rattle.cheri_c_sem.specs.Modes.{Store}
 use Rattle.cheri_c_sem.specs.Operations.{Operations}
 use Rattle.cheri_c_sem.specs.Steps.{State, Fate, Then}
 use Rattle.tac_ir.specs.Meaning.{Running, Going, Runs, Seeks, Again, pass, behind_turn, seek, is_label}
@@ -88,9 +89,9 @@ to_end l n o f rest le e =
     ∙ e.own (l.labels + 1) (instr.Label (l.labels + 1) ∷ rest) (λ q. absurd (omega arith))
     ∙ found_label (l.labels + 1) rest
 
-module _ {M : Type 0} (ops : Operations M) (w : World) (t : Tac) (p : Typed) (objects : ℕ → List ℕ) where
+module _ (ops : Operations Store) (w : World) (t : Tac) (p : Typed) (objects : ℕ → List ℕ) where
   -- looking for a label leads behind it
-  pub seeks : (again : Again ops w t p objects) (is : List TacInstr) (l : ℕ) (r : Running) (s : State M) →
+  pub seeks : (again : Again ops w t p objects) (is : List TacInstr) (l : ℕ) (r : Running) (s : State Store) →
       pass ops w t p objects again is (Seeks l) r s ≡ pass ops w t p objects again (behind l is) Runs r s
   seeks again [] l r s = refl
   seeks again (i ∷ is) l r s = by (is_label i l) (seeks again is l r s)
@@ -102,9 +103,9 @@ module _ {M : Type 0} (ops : Operations M) (w : World) (t : Tac) (p : Typed) (ob
       by true h = refl
       by false h = h
 
-  module _ (r : Running) (call : ℕ → List Value → Then M Value) where
+  module _ (r : Running) (call : ℕ → List Value → Then Store Value) where
     -- a jump ahead
-    pub jumps : (g : Rattle.lower_runs.specs.States.Scene) (l : ℕ) (is : List TacInstr) (s : State M)
+    pub jumps : (g : Rattle.lower_runs.specs.States.Scene) (l : ℕ) (is : List TacInstr) (s : State Store)
         (ts : List (Option Value)) →
         goes ops w t p objects r call g (instr.Jump l ∷ is) s ts ≡ goes ops w t p objects r call g (behind l is) s ts
     jumps g l is s ts = seeks (behind_turn ops w t p objects s.left) is l r (record s { vars = ts })

@@ -16,3 +16,10 @@ pub mod GatheredStatements
 pub mod Induction
 pub mod Results
 pub mod Structs
+pub mod Words
+pub mod Addresses
+pub mod Moves
+pub mod Changes
+pub mod Capabilities
+pub mod Compounds
+pub mod Services

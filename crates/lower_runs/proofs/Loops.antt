@@ -10,6 +10,7 @@ use Rattle.cap_ops.specs.Permissions.{data_permissions}
 use Rattle.c_tree.specs.declared.typed.Typed.{Typed}
 use Rattle.obj_mem.specs.Values.{Value}
 use Rattle.cheri_c_sem.specs.Kinds.{Kind, nothing}
+use Rattle.cheri_c_sem.specs.Modes.{Store}
 use Rattle.cheri_c_sem.specs.Meaning.{At, value_of, test, store}
 use Rattle.cheri_c_sem.specs.Operations.{Operations}
 use Rattle.cheri_c_sem.specs.Statements.{Flow, Goes, Breaks, Continues, Returns, after, after_body, loop, repeat, enter}
@@ -25,6 +26,7 @@ use Rattle.tac_ir.specs.declared.code.Tac.{Tac}
 use Rattle.tac_ir.specs.declared.code.TacInstr.{TacInstr}
 use Rattle.tac_ir.specs.declared.code.TacInstr.TheVariants as instr
 use Rattle.tac_ir.specs.declared.code.TacKind.{TacKind}
+use Rattle.lower_runs.specs.Sound.{IsPointer}
 use Rattle.lower_runs.specs.States.{Home, Scene, IsScene, IsOf, IsOnward, IsPlaced, Agrees, or_zero}
 use Rattle.lower_runs.specs.Operating.{Code}
 use Rattle.lower_runs.specs.Expressions.{Mark, more, labelled, spares, same, within, within_temp, within_mark}
@@ -41,18 +43,19 @@ use Rattle.lower_runs.proofs.Assignments.{stored, done_memory}
 use Rattle.lower_runs.proofs.Statements.{came_same, came_then, came_done, before_more, before_some, follows_from}
 use Rattle.lower_runs.proofs.Statements.{known_within, known_behind}
 
-module _ {M : Type 0} (ops : Operations M) (placed : IsPlaced ops) (w : World) (t : Tac) (p : Typed)
-    (objects : ℕ → List ℕ) (r : Running) (call : ℕ → List Value → Then M Value) (result : Option TacKind) where
-  abbrev run : Scene → List TacInstr → State M → List (Option Value) → Fate
+module _ (ops : Operations Store) (placed : IsPlaced ops) (w : World) (t : Tac) (p : Typed)
+    (objects : ℕ → List ℕ) (r : Running) (call : ℕ → List Value → Then Store Value) (result : Option TacKind) where
+  abbrev run : Scene → List TacInstr → State Store → List (Option Value) → Fate
   run = goes ops w t p objects r call
 
-  abbrev Comes : State M → State M → Type 0
+  abbrev Comes : State Store → State Store → Type 0
   Comes = Came ops w t p objects r call result
 
   abbrev Is_known : Mark → Mark → List TacInstr → Type 0
   Is_known = Known ops w t p objects r call result
 
-  abbrev Follow : (g : Scene) (x : Exits) (rest : List TacInstr) (s : State M) (l : Flow → State M → Fate) → Type 0
+  abbrev Follow : (g : Scene) (x : Exits) (rest : List TacInstr) (s : State Store) (l : Flow → State Store → Fate) →
+      Type 0
   Follow = Follows ops w t p objects r call result
 
   abbrev Statement_runs : (g : Scene) (x : Exits) (a : St) (m n : Mark) (c : Code) → Type 0
@@ -99,8 +102,8 @@ module _ {M : Type 0} (ops : Operations M) (placed : IsPlaced ops) (w : World) (
   -- ---- a turn
 
   -- behind a turn a label of the whole code is looked for
-  turn_back : (g : Scene) (l : ℕ) (rest head : List TacInstr) (s : State M) (ts : List (Option Value))
-      (k : Unit {0} → State M → Fate) → behind l (whole ops w t p objects r call result) ≡ head
+  turn_back : (g : Scene) (l : ℕ) (rest head : List TacInstr) (s : State Store) (ts : List (Option Value))
+      (k : Unit {0} → State Store → Fate) → behind l (whole ops w t p objects r call result) ≡ head
       → ((j : ℕ) → s.left ≡ suc j → k tt (record s { left = j }) ≡ run g head (record s { left = j }) ts) →
       turn s k ≡ run g (instr.Turn ∷ instr.Jump l ∷ rest) s ts
   turn_back g l rest head s ts k e h = by s.left refl
@@ -114,7 +117,7 @@ module _ {M : Type 0} (ops : Operations M) (placed : IsPlaced ops) (w : World) (
           (record s { vars = ts; left = j }))
 
   -- a later state with fewer turns
-  came_turned : (s u : State M) (j : ℕ) → u.left ≡ suc j → Comes s u → Comes s (record u { left = j })
+  came_turned : (s u : State Store) (j : ℕ) → u.left ≡ suc j → Comes s u → Comes s (record u { left = j })
   came_turned s u j e c = record {
     left = let le = c.left in
         omega arith;
@@ -123,7 +126,7 @@ module _ {M : Type 0} (ops : Operations M) (placed : IsPlaced ops) (w : World) (
     onward = c.onward;
   }
 
-  agrees_turned : (g : Scene) (u : State M) (us : List (Option Value)) (j : ℕ) → u.left ≡ suc j →
+  agrees_turned : (g : Scene) (u : State Store) (us : List (Option Value)) (j : ℕ) → u.left ≡ suc j →
       Agrees ops g None u us → Agrees ops g None (record u { left = j }) us
   agrees_turned g u us j e a =
       record {
@@ -133,6 +136,7 @@ module _ {M : Type 0} (ops : Operations M) (placed : IsPlaced ops) (w : World) (
         typed = a.typed;
         object = a.object;
         there = a.there;
+        sound = a.sound;
         within = let le = a.within in omega arith;
       }
 
@@ -192,16 +196,17 @@ module _ {M : Type 0} (ops : Operations M) (placed : IsPlaced ops) (w : World) (
           ∙ pass_label l.labels i head (λ e. let a = labels_m in absurd (omega arith))
           ∙ h.piece.own i (d next) (λ le. ge)
 
-      abbrev rounds : ℕ → Then M Flow
+      abbrev rounds : ℕ → Then Store Flow
       rounds k = loop k (test_of ops w call test) (exec ops w call b) (step_of ops w call step)
 
-      module _ (go : Flow → State M → Fate) where
+      module _ (go : Flow → State Store → Fate) where
         Loops : ℕ → Type 0
-        Loops k = (s : State M) (ts : List (Option Value)) → s.left < k → Agrees ops g None s ts →
+        Loops k = (s : State Store) (ts : List (Option Value)) → s.left < k → Agrees ops g None s ts →
             Follow g x rest s go → rounds k s go ≡ run g head s ts
 
         -- behind the body
-        again : (k : ℕ) → Loops k → (s u : State M) (us : List (Option Value)) → s.left < suc k → Follow g x rest s go →
+        again : (k : ℕ) → Loops k → (s u : State Store) (us : List (Option Value)) → s.left < suc k →
+            Follow g x rest s go →
             Comes s u → Agrees ops g None u us →
             (step_of ops w call step >> (turn >> rounds k)) u go ≡ run g (f end) u us
         unfolding Loops
@@ -215,7 +220,8 @@ module _ {M : Type 0} (ops : Operations M) (placed : IsPlaced ops) (w : World) (
             (follows_from ops placed w t p objects r call result g x rest s (record v { left = j }) go
             (came_turned s v j is (came_then ops placed w t p objects r call result s u v came c2)) fo)))
 
-        round : (k : ℕ) → Loops k → (s u : State M) (us : List (Option Value)) → s.left < suc k → Follow g x rest s go →
+        round : (k : ℕ) → Loops k → (s u : State Store) (us : List (Option Value)) → s.left < suc k →
+            Follow g x rest s go →
             Comes s u → Agrees ops g None u us → (i : Bool)
             → choose i (exec ops w call b >>= λ q. after_body q (step_of ops w call step >> (turn >> rounds k)))
             (give Goes) u go ≡ run g (if same false i then behind (l.labels + 2) (d next) else d next) u us
@@ -252,7 +258,7 @@ module _ {M : Type 0} (ops : Operations M) (placed : IsPlaced ops) (w : World) (
             (record { low = low; high = omega arith }) (omega arith) ag
             (λ i u us came a. round k (loops k) s u us lt fo came a i)
 
-        pub looped : (s : State M) (ts : List (Option Value)) → Agrees ops g None s ts → Follow g x rest s go →
+        pub looped : (s : State Store) (ts : List (Option Value)) → Agrees ops g None s ts → Follow g x rest s go →
             rounds (suc s.left) s go ≡ run g (loop_code l.labels c d f rest) s ts
         unfolding Loops
         looped s ts ag fo = loops (suc s.left) s ts (omega arith) ag fo
@@ -311,16 +317,16 @@ module _ {M : Type 0} (ops : Operations M) (placed : IsPlaced ops) (w : World) (
       known_d i ge lt = known i (omega arith) (let a = h.piece.labels in omega arith)
           ∙ pass_label l.labels i (d behind_body) (λ z. absurd (omega arith))
 
-      abbrev times : ℕ → Then M Flow
+      abbrev times : ℕ → Then Store Flow
       times k = repeat k (exec ops w call b) (test_of ops w call (Some (q, kind_of j, e)))
 
-      module _ (go : Flow → State M → Fate) where
+      module _ (go : Flow → State Store → Fate) where
         Repeats : ℕ → Type 0
-        Repeats k = (s : State M) (ts : List (Option Value)) → s.left < k → Agrees ops g None s ts →
+        Repeats k = (s : State Store) (ts : List (Option Value)) → s.left < k → Agrees ops g None s ts →
             Follow g x rest s go → times k s go ≡ run g (d behind_body) s ts
 
         -- behind the body
-        tested : (k : ℕ) → Repeats k → (s u : State M) (us : List (Option Value)) → s.left < suc k →
+        tested : (k : ℕ) → Repeats k → (s u : State Store) (us : List (Option Value)) → s.left < suc k →
             Follow g x rest s go → Comes s u → Agrees ops g None u us
             → (test_of ops w call (Some (q, kind_of j, e)) >>= λ i. choose i (turn >> times k) (give Goes)) u go
             ≡ run g (c last) u us
@@ -364,7 +370,7 @@ module _ {M : Type 0} (ops : Operations M) (placed : IsPlaced ops) (w : World) (
             some_same : (i z : ℕ) → Some i ≡ Some z → z ≡ i
             some_same i z z2 = cc
 
-        pub repeated : (s : State M) (ts : List (Option Value)) → Agrees ops g None s ts → Follow g x rest s go →
+        pub repeated : (s : State Store) (ts : List (Option Value)) → Agrees ops g None s ts → Follow g x rest s go →
             times (suc s.left) s go ≡ run g (repeat_code l.labels d c rest) s ts
         unfolding Repeats
         repeated s ts ag fo = repeats (suc s.left) s ts (omega arith) ag fo
@@ -395,7 +401,7 @@ module _ {M : Type 0} (ops : Operations M) (placed : IsPlaced ops) (w : World) (
   }
 
   -- a variable without a value: its home is 0 or null
-  agrees_unset : (g : Scene) → IsScene g → (x : ℕ) (h : Home) (s : State M) (ts : List (Option Value)) →
+  agrees_unset : (g : Scene) → IsScene g → (x : ℕ) (h : Home) (s : State Store) (ts : List (Option Value)) →
       g.home x ≡ Some h → Agrees ops g None s ts
       → Agrees ops g None (record s { vars = slice_set s.vars x None }) (slice_set ts h.temp (Some (constant h.kind 0)))
   agrees_unset g scene x h s ts home a = record {
@@ -406,6 +412,7 @@ module _ {M : Type 0} (ops : Operations M) (placed : IsPlaced ops) (w : World) (
     object = λ n k e. get_set_other ts h.temp k (Some (constant h.kind 0)) (scene.apart x n k h home e)
         ∙ a.object n k e;
     there = a.there;
+    sound = a.sound;
     within = a.within;
   }
     where
@@ -488,7 +495,7 @@ module _ {M : Type 0} (ops : Operations M) (placed : IsPlaced ops) (w : World) (
   some_spot : (i j : ℕ) → Some i ≡ Some j → i ≡ j
   some_spot i j e = cc
 
-  agrees_spot : (g : Scene) (n at : ℕ) → IsScene (with_spot n at g) → (s : State M) (ts : List (Option Value)) →
+  agrees_spot : (g : Scene) (n at : ℕ) → IsScene (with_spot n at g) → (s : State Store) (ts : List (Option Value)) →
       Agrees ops g None s ts → Agrees ops (with_spot n at g) None s
       (slice_set ts at (Some (ops.whole s.mem (s.first + n) data_permissions)))
   agrees_spot g n at scene s ts a = record {
@@ -499,6 +506,7 @@ module _ {M : Type 0} (ops : Operations M) (placed : IsPlaced ops) (w : World) (
     typed = a.typed;
     object = λ o i e. by o i (o == n) refl e;
     there = a.there;
+    sound = a.sound;
     within = a.within;
   }
     where
@@ -525,7 +533,7 @@ module _ {M : Type 0} (ops : Operations M) (placed : IsPlaced ops) (w : World) (
 
   -- what agrees with a pointer more agrees with the others
   agrees_without : (g : Scene) (n at : ℕ) → ((i : ℕ) → g.spot n ≡ Some i → i ≡ at) →
-      (s : State M) (ts : List (Option Value)) → Agrees ops (with_spot n at g) None s ts → Agrees ops g None s ts
+      (s : State Store) (ts : List (Option Value)) → Agrees ops (with_spot n at g) None s ts → Agrees ops g None s ts
   agrees_without g n at same_temp s ts a = record {
     room = a.room;
     count = a.count;
@@ -533,6 +541,7 @@ module _ {M : Type 0} (ops : Operations M) (placed : IsPlaced ops) (w : World) (
     typed = a.typed;
     object = λ o i e. by o i e (o == n) refl;
     there = a.there;
+    sound = a.sound;
     within = a.within;
   }
     where
@@ -570,7 +579,8 @@ module _ {M : Type 0} (ops : Operations M) (placed : IsPlaced ops) (w : World) (
 
   -- what follows a block follows its statements
   inside : (g h : Scene) (x : Exits) (ds : List Declared) (c : Code) → Enter_runs g ds h c →
-      (s u : State M) (next : Flow → State M → Fate) (rest : List TacInstr) → Comes s u → Follow g x rest s next →
+      (s u : State Store) (next : Flow → State Store → Fate) (rest : List TacInstr) → Comes s u →
+      Follow g x rest s next →
       Follow h x rest u (λ fl v. leave ops w ds v (λ q. next fl))
   inside g h x ds c e s u next rest came go = record {
     goes_on = λ v vs c2 a. e.leaves v (λ q. next Goes)
@@ -615,8 +625,8 @@ module _ {M : Type 0} (ops : Operations M) (placed : IsPlaced ops) (w : World) (
         let known_i : Is_known k o (i all) = λ z ge lt. known z ge lt ∙ e.plain z (i all) in
         let over : (z : ℕ) → z < k.labels → behind z all ≡ behind z rest =
         λ z lt. own.own z rest (λ q. absurd (omega arith)) in
-        let last : Flow → State M → Fate = λ fl v. leave ops w ds v (λ q. next fl) in
-        let body : Then M Flow = λ u. loop (suc u.left) (test_of ops w call test) (exec ops w call b)
+        let last : Flow → State Store → Fate = λ fl v. leave ops w ds v (λ q. next fl) in
+        let body : Then Store Flow = λ u. loop (suc u.left) (test_of ops w call test) (exec ops w call b)
         (step_of ops w call step) u in
         e.runs s ts (λ q u. execs ops w call first u (λ fl v. after fl body v last)) (i all) ag (λ u us came a2.
         let fo = inside g h x ds a e s u next rest came go in
@@ -653,23 +663,25 @@ module _ {M : Type 0} (ops : Operations M) (placed : IsPlaced ops) (w : World) (
 
   -- the value in a temp is stored in a part of an object
   placed_part : (g : Scene) → IsScene g →
-      (q : Pos) (o base offset from : ℕ) (k : TacKind) (m n : Mark) (f : ℕ → Bool) (s u : State M)
-      (ts us : List (Option Value)) (v : Value) (l : State M → Fate) (rest : List TacInstr) → g.spot o ≡ Some base →
+      (q : Pos) (o base offset from : ℕ) (k : TacKind) (m n : Mark) (f : ℕ → Bool) (s u : State Store)
+      (ts us : List (Option Value)) (v : Value) (l : State Store → Fate) (rest : List TacInstr) → g.spot o ≡ Some base →
+      IsOf (kind_of k) v →
       HasRoom g m (within_mark offset n)
       → m.temps ≤ n.temps → from < n.temps → slice_get us from ≡ Some (Some v) → Done ops g f m s ts u us →
-      ((z : State M) (zs : List (Option Value)) → Comes s z → Agrees ops g None z zs → l z ≡ run g rest z zs)
+      ((z : State Store) (zs : List (Option Value)) → Comes s z → Agrees ops g None z zs → l z ≡ run g rest z zs)
       → part_of_local ops w q o offset u (λ pl y. store ops w (kind_of k) pl v y (λ i z. l z))
       ≡ run g (within base offset n (instr.Store (within_temp base offset n) from k q ∷ rest)) u us
-  placed_part g scene q o base zero from k m n f s u ts us v l rest spot room le lt hv done go =
+  placed_part g scene q o base zero from k m n f s u ts us v l rest spot typed room le lt hv done go =
       let whole_one = ops.whole u.mem (u.first + o) data_permissions in
       ap (λ z. answer q z u (λ y s2. store ops w (kind_of k) (At q y) v s2 (λ i z2. l z2)))
-      (placed.offset_none u.mem (u.first + o) data_permissions)
-      ∙ stored ops placed w t p objects r call g scene k base from q q whole_one v u us rest l refl
+      (placed.offset_none u.mem (u.first + o) data_permissions done.agrees.sound
+      (let all = done.agrees.there in let below = scene.spot_counted o base spot in omega arith))
+      ∙ stored ops placed w t p objects r call g scene k base from q q whole_one v u us rest l refl typed
       (done.agrees.object o base spot) hv
       (λ mem on. let d2 = done_memory ops placed w t p objects r call g scene f m s u ts us mem on done in
       go (record u { mem = mem }) us (came_done ops placed w t p objects r call result g f m s
       (record u { mem = mem }) ts us d2) d2.agrees)
-  placed_part g scene q o base (suc j) from k m n f s u ts us v l rest spot room le lt hv done go =
+  placed_part g scene q o base (suc j) from k m n f s u ts us v l rest spot typed room le lt hv done go =
       let low = room.low in let high = room.high in
       let whole_one = ops.whole u.mem (u.first + o) data_permissions in
       let y = placed.offset u.mem whole_one (suc j) in
@@ -684,7 +696,7 @@ module _ {M : Type 0} (ops : Operations M) (placed : IsPlaced ops) (w : World) (
       (λ y2 s2. turns ops w t p objects u.left (instr.Store n.temps from k q ∷ rest) Runs r
       (record s2 { vars = slice_set s2.vars n.temps (Some y2) })) in
       ap (λ z. answer q z u (λ y2 s2. store ops w (kind_of k) (At q y2) v s2 (λ i z2. l z2))) y.1
-      ∙ stored ops placed w t p objects r call g scene k n.temps from q q y.0 v u vs rest l refl
+      ∙ stored ops placed w t p objects r call g scene k n.temps from q q y.0 v u vs rest l refl typed
       (get_set_same us n.temps (Some y.0) (omega arith))
       (get_set_other us n.temps from (Some y.0) (λ e. absurd (omega arith)) ∙ hv)
       (λ mem on. let d2 = done_memory ops placed w t p objects r call g scene f m s u ts vs mem on done2 in
@@ -713,7 +725,7 @@ module _ {M : Type 0} (ops : Operations M) (placed : IsPlaced ops) (w : World) (
         (within base offset n (instr.Store (within_temp base offset n) from k q ∷ rest))
         (record { low = low; high = omega arith }) ag
         (λ v u us a. placed_part g scene q o base offset from k m n (λ z. spares z e) s u ts us v
-        (l Goes) rest spot room mn (stays_below ops g scene Nil m.temps n.temps from (omega arith) a.stays)
+        (l Goes) rest spot a.typed room mn (stays_below ops g scene Nil m.temps n.temps from (omega arith) a.stays)
         a.value a.done
         (λ z zs came a2. go.goes_on z zs came a2));
   }

@@ -5,9 +5,11 @@ use Rattle.std.specs.Prelude.{slice_get, slice_set, ◌&&◌}
 use Rattle.std.proofs.lemmas.Option.{slice_get-get_or}
 use Rattle.ck_base.specs.World.{World}
 use Rattle.ck_base.specs.declared.positions.Pos.{Pos}
+use Rattle.cap_ops.specs.Permissions.{data_permissions}
 use Rattle.c_tree.specs.declared.typed.Typed.{Typed}
 use Rattle.obj_mem.specs.Values.{Value}
 use Rattle.cheri_c_sem.specs.Kinds.{zero_of}
+use Rattle.cheri_c_sem.specs.Modes.{Store}
 use Rattle.cheri_c_sem.specs.Meaning.{given, value_of}
 use Rattle.cheri_c_sem.specs.Operations.{Operations}
 use Rattle.cheri_c_sem.specs.Steps.{State, Fate, Then, answer}
@@ -30,11 +32,12 @@ use Rattle.lower_runs.proofs.Agreement.{and_left, and_right, get_set_same, get_s
 use Rattle.lower_runs.proofs.Agreement.{went_then, went_set, went_less, agrees_set, agrees_any, agrees_own, stays}
 use Rattle.lower_runs.proofs.Agreement.{stays_below}
 use Rattle.lower_runs.proofs.Labels.{nothing_own, both_own, then_own}
-use Rattle.lower_runs.proofs.Steps.{zero_is_of, converts_same, lands}
+use Rattle.lower_runs.proofs.Steps.{zero_is_of, data_twelve_bits, converts_same, lands}
 
-module _ {M : Type 0} (ops : Operations M) (placed : IsPlaced ops) (w : World) (t : Tac) (p : Typed)
-    (objects : ℕ → List ℕ) (r : Running) (call : ℕ → List Value → Then M Value) (g : Scene) (scene : IsScene g) where
-  abbrev run : List TacInstr → State M → List (Option Value) → Fate
+module _ (ops : Operations Store) (placed : IsPlaced ops) (w : World) (t : Tac) (p : Typed)
+    (objects : ℕ → List ℕ) (r : Running) (call : ℕ → List Value → Then Store Value) (g : Scene)
+    (scene : IsScene g) where
+  abbrev run : List TacInstr → State Store → List (Option Value) → Fate
   run = goes ops w t p objects r call g
 
   abbrev Value_runs : (k : TacKind) (e : Ex) (to : ℕ) (m n : Mark) (c : Code) → Type 0
@@ -52,15 +55,15 @@ module _ {M : Type 0} (ops : Operations M) (placed : IsPlaced ops) (w : World) (
   none_some o h = cc
 
   pub in_place : (later : Exs) (k : TacKind) (e : Ex) (at : ℕ) → IsInPlace g later k e at →
-      (s : State M) (ts : List (Option Value)) → Agrees ops g None s ts
+      (s : State Store) (ts : List (Option Value)) → Agrees ops g None s ts
       → (v : Value) × (slice_get ts at ≡ Some (Some v)) × IsOf (kind_of k) v ×
-      ((l : Value → State M → Fate) → value_of ops w call e s l ≡ l v s)
+      ((l : Value → State Store → Fate) → value_of ops w call e s l ≡ l v s)
   in_place later k e at (code.variable {x = x} {t = at2} {k = k2} {q = q} home sp) s ts ag =
       by (slice_get s.vars x) refl
     where
       by : (o : Option (Option Value)) → slice_get s.vars x ≡ o →
           (v : Value) × (slice_get ts at2 ≡ Some (Some v)) × IsOf (kind_of k2) v ×
-          ((l : Value → State M → Fate) → given ops w q (kind_of k2) (slice_get s.vars x) s l ≡ l v s)
+          ((l : Value → State Store → Fate) → given ops w q (kind_of k2) (slice_get s.vars x) s l ≡ l v s)
       by (Some (Some v)) h = (
         v,
         ag.variable x (record { temp = at2; kind = k2 }) home tt (Some v) h,
@@ -78,7 +81,12 @@ module _ {M : Type 0} (ops : Operations M) (placed : IsPlaced ops) (w : World) (
           (sym h ∙ slice_get-get_or s.vars x None
           (let lt = scene.home_counted x (record { temp = at2; kind = k2 }) home in let is = ag.count in
           omega arith)))
-  in_place later k e at (code.object {n = n} {t = at2} spot) s ts ag = (_, ag.object n at2 spot, tt, λ l. refl)
+  in_place later k e at (code.object {n = n} {t = at2} spot) s ts ag = (
+    _,
+    ag.object n at2 spot,
+    placed.whole_pointer s.mem (s.first + n) data_permissions ag.sound data_twelve_bits,
+    λ l. refl,
+  )
   in_place later k e at (code.converted {k = k2} {e = e2} {t = at2} {q = q} i) s ts ag =
       let h = in_place later k2 e2 at2 i s ts ag in (
         h.0,
@@ -166,21 +174,26 @@ module _ {M : Type 0} (ops : Operations M) (placed : IsPlaced ops) (w : World) (
 
   -- ---- an operation behind its operands
 
+  pub agrees_scratched : (n : ℕ) (u : State Store) (us vs : List (Option Value)) → g.fixed ≤ n →
+      Scratched ops w t p objects r call g n us vs → Agrees ops g None u us → Agrees ops g None u vs
+  agrees_scratched n u us vs low sc a = record {
+    room = sc.room ∙ a.room;
+    count = a.count;
+    variable = λ x i e z o q. sc.same i.temp (let lt = scene.home_below x i e in omega arith) ∙ a.variable x i e z o q;
+    typed = a.typed;
+    object = λ i at e. sc.same at (let lt = scene.spot_below i at e in omega arith) ∙ a.object i at e;
+    there = a.there;
+    sound = a.sound;
+    within = a.within;
+  }
+
   -- a state that went a way has gone it where temps change that are not kept
-  done_scratched : (f : ℕ → Bool) (m n : Mark) (s u : State M) (ts us vs : List (Option Value)) → m.temps ≤ n.temps →
+  done_scratched : (f : ℕ → Bool) (m n : Mark) (s u : State Store) (ts us vs : List (Option Value)) →
+      m.temps ≤ n.temps →
       g.fixed ≤ n.temps → Scratched ops w t p objects r call g n.temps us vs → Done ops g f m s ts u us →
       Done ops g f m s ts u vs
   done_scratched f m n s u ts us vs le low sc h = record {
-    agrees = record {
-      room = sc.room ∙ h.agrees.room;
-      count = h.agrees.count;
-      variable = λ x i e z o q. sc.same i.temp (let lt = scene.home_below x i e in omega arith)
-          ∙ h.agrees.variable x i e z o q;
-      typed = h.agrees.typed;
-      object = λ i at e. sc.same at (let lt = scene.spot_below i at e in omega arith) ∙ h.agrees.object i at e;
-      there = h.agrees.there;
-      within = h.agrees.within;
-    };
+    agrees = agrees_scratched n.temps u us vs low sc h.agrees;
     went = record {
       left = h.went.left;
       first = h.went.first;
@@ -192,11 +205,12 @@ module _ {M : Type 0} (ops : Operations M) (placed : IsPlaced ops) (w : World) (
   }
 
   -- what an operation gives comes into the temp that was given
-  operated : (k : TacKind) (f h : ℕ → Bool) (to extra : ℕ) (m n : Mark) (part : Then M Value) (d : Code) (s u : State M)
-      (ts us : List (Option Value)) (l : Value → State M → Fate) (rest : List TacInstr)
+  pub operated : (k : TacKind) (f h : ℕ → Bool) (to extra : ℕ) (m n : Mark) (part : Then Store Value) (d : Code)
+      (s u : State Store)
+      (ts us : List (Option Value)) (l : Value → State Store → Fate) (rest : List TacInstr)
       → ((x : ℕ) → h x ≡ true → f x ≡ true) → m.temps ≤ n.temps → HasRoom g m (more extra n) → IsTarget g m to →
       Done ops g f m s ts u us → Operated ops w t p objects r call g k to n.temps part d u us
-      → ((v : Value) (z : State M) (zs : List (Option Value)) → Valued ops g k h to m s ts v z zs →
+      → ((v : Value) (z : State Store) (zs : List (Option Value)) → Valued ops g k h to m s ts v z zs →
       l v z ≡ run rest z zs) → part u l ≡ run (d rest) u us
   operated k f h to extra m n part d s u ts us l rest hf le room target done o go =
       let low = room.low in
@@ -206,9 +220,9 @@ module _ {M : Type 0} (ops : Operations M) (placed : IsPlaced ops) (w : World) (
       (omega arith) o.typed (done_scratched f m n s u ts us o.temps le (omega arith) o.scratched done))
       ∙ sym (o.runs rest)
 
-  pub unary_value : (j k : TacKind) (e f : Ex) (x to extra : ℕ) (m n : Mark) (part : Value → Then M Value)
+  pub unary_value : (j k : TacKind) (e f : Ex) (x to extra : ℕ) (m n : Mark) (part : Value → Then Store Value)
       (c d : Code) → Operand_runs Nil j e x m n c → UnaryRuns ops w t p objects r call g j k to x n.temps extra part d
-      → ((s : State M) (l : Value → State M → Fate) →
+      → ((s : State Store) (l : Value → State Store → Fate) →
       value_of ops w call f s l ≡ value_of ops w call e s (λ v u. part v u l)) →
       ((i : ℕ) → spares i f ≡ true → spares i e ≡ true) → Value_runs k f to m (more extra n) (λ rest. c (d rest))
   unary_value j k e f x to extra m n part c d h o means sp = record {
@@ -223,13 +237,13 @@ module _ {M : Type 0} (ops : Operations M) (placed : IsPlaced ops) (w : World) (
           typed = a.typed;
           below = stays_below ops g scene Nil m.temps n.temps x (omega arith) a.stays;
         })
-        (let is = a.done.agrees.room in omega arith)) go);
+        (let is = a.done.agrees.room in omega arith) a.done.agrees.sound) go);
   }
 
   pub binary_value : (i j k : TacKind) (a b f : Ex) (x y to extra : ℕ) (m n : Mark)
-      (part : Value → Value → Then M Value) (c d : Code) → Pair_runs i a x j b y m n c →
+      (part : Value → Value → Then Store Value) (c d : Code) → Pair_runs i a x j b y m n c →
       BinaryRuns ops w t p objects r call g i j k to x y n.temps extra part d
-      → ((s : State M) (l : Value → State M → Fate) →
+      → ((s : State Store) (l : Value → State Store → Fate) →
       value_of ops w call f s l ≡ value_of ops w call a s
       (λ v u. value_of ops w call b u (λ z q. part v z q l))) →
       ((o : ℕ) → spares o f ≡ true → (spares o a && spares o b) ≡ true)
@@ -241,7 +255,7 @@ module _ {M : Type 0} (ops : Operations M) (placed : IsPlaced ops) (w : World) (
         means s l ∙ h.runs s ts (λ v z u. part v z u l) (d rest) (record { low = low; high = omega arith }) ag
         (λ v z u us q. operated k (λ o. spares o a && spares o b) (λ o. spares o f) to extra m n
         (part v z) d s u ts us l rest sp le room target q.done
-        (o.runs v z u us q.left q.right (let is = q.done.agrees.room in omega arith)) go);
+        (o.runs v z u us q.left q.right (let is = q.done.agrees.room in omega arith) q.done.agrees.sound) go);
   }
 
   -- ---- an operand in a temp that was given
@@ -285,9 +299,9 @@ module _ {M : Type 0} (ops : Operations M) (placed : IsPlaced ops) (w : World) (
         }));
   }
 
-  pub unary_in_value : (j k : TacKind) (e f : Ex) (x to extra : ℕ) (m n : Mark) (part : Value → Then M Value)
+  pub unary_in_value : (j k : TacKind) (e f : Ex) (x to extra : ℕ) (m n : Mark) (part : Value → Then Store Value)
       (c d : Code) → Operand_in_runs j e to x m n c → UnaryRuns ops w t p objects r call g j k to x n.temps extra part d
-      → ((s : State M) (l : Value → State M → Fate) →
+      → ((s : State Store) (l : Value → State Store → Fate) →
       value_of ops w call f s l ≡ value_of ops w call e s (λ v u. part v u l)) →
       ((i : ℕ) → spares i f ≡ true → spares i e ≡ true) → Value_runs k f to m (more extra n) (λ rest. c (d rest))
   unary_in_value j k e f x to extra m n part c d h o means sp = record {
@@ -295,7 +309,7 @@ module _ {M : Type 0} (ops : Operations M) (placed : IsPlaced ops) (w : World) (
     runs = λ s ts l rest room target ag go.
         let low = room.low in let high = room.high in let le = h.piece.temps in
         means s l ∙ h.runs s ts (λ v u. part v u l) (d rest) (record { low = low; high = omega arith }) target ag
-        (λ v u us a. let y = o.runs v u us a.holds (let is = a.agrees.room in omega arith) in
+        (λ v u us a. let y = o.runs v u us a.holds (let is = a.agrees.room in omega arith) a.agrees.sound in
         y.means l ∙ go y.value u (slice_set y.temps to (Some y.value)) (record {
           agrees = agrees_set ops g scene (Some to) (Some to) u y.temps to (Some y.value) target.free
               (λ i z q z2. (z2, z2)) (record {
@@ -307,6 +321,7 @@ module _ {M : Type 0} (ops : Operations M) (placed : IsPlaced ops) (w : World) (
                 object = λ i at q. y.scratched.same at (let lt = scene.spot_below i at q in omega arith)
                     ∙ a.agrees.object i at q;
                 there = a.agrees.there;
+                sound = a.agrees.sound;
                 within = a.agrees.within;
               });
           went = went_set ops g scene (λ i. spares i e) (λ i. spares i f) m.temps m.temps (Some to)

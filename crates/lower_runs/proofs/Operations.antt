@@ -21,6 +21,7 @@ use Rattle.obj_mem.specs.Values.{Value}
 use Rattle.obj_mem.specs.Values as value
 use Rattle.obj_mem.specs.declared.ending.Fault.{Fault}
 use Rattle.cheri_c_sem.specs.Kinds.{Kind, Plain, Capability, zero_of, number_of, truth}
+use Rattle.cheri_c_sem.specs.Modes.{Store}
 use Rattle.cheri_c_sem.specs.Meaning.{test, operate_by, sign_by}
 use Rattle.cheri_c_sem.specs.Operations.{Operations, on_ok, compare_by, is_true, convert_by, int_by}
 use Rattle.cheri_c_sem.specs.Steps.{State, Fate, Then, ◌>>=◌, give, ask, answer}
@@ -46,7 +47,7 @@ use Rattle.lower_runs.proofs.Steps.{computed_is_of, opposite_truth, constant, co
 use Rattle.lower_runs.proofs.Steps.{transfer_runs}
 
 -- an operation takes all ones as its kind keeps them
-ones_same : (i : IntKind) (y : ℕ) → binary_of Xor i (2 ^ 64 - 1) y ≡ binary_of Xor i y (all_ones i)
+pub ones_same : (i : IntKind) (y : ℕ) → binary_of Xor i (2 ^ 64 - 1) y ≡ binary_of Xor i y (all_ones i)
 unfolding binary_of value_of_kind
 ones_same i y =
     ap (λ x. wrapped i (result_of Xor (promoted_width_of i) x (value_of_kind i y))) (sym (value_of-wrapped i _))
@@ -60,28 +61,29 @@ transfer_plain to from o rest = by (to == from)
     by true = refl
     by false = refl
 
-module _ {M : Type 0} (ops : Operations M) (placed : IsPlaced ops) (w : World) (t : Tac) (p : Typed)
-    (objects : ℕ → List ℕ) (r : Running) (call : ℕ → List Value → Then M Value) (g : Scene) (scene : IsScene g) where
-  abbrev run : List TacInstr → State M → List (Option Value) → Fate
+module _ (ops : Operations Store) (placed : IsPlaced ops) (w : World) (t : Tac) (p : Typed)
+    (objects : ℕ → List ℕ) (r : Running) (call : ℕ → List Value → Then Store Value) (g : Scene)
+    (scene : IsScene g) where
+  abbrev run : List TacInstr → State Store → List (Option Value) → Fate
   run = goes ops w t p objects r call g
 
   -- behind an instruction that gives a temp its value, where so many turns are left
-  abbrev sets : ℕ → ℕ → Value → List TacInstr → State M → Fate
+  abbrev sets : ℕ → ℕ → Value → List TacInstr → State Store → Fate
   sets n to v rest s = turns ops w t p objects n rest Runs r (record s { vars = slice_set s.vars to (Some v) })
 
   abbrev kind_in : ℕ → Kind
   kind_in = kind_at (kinds ops w t p objects r call g)
 
-  abbrev Unary : (j k : TacKind) (to x from more : ℕ) (part : Value → Then M Value) (d : Code) → Type 0
+  abbrev Unary : (j k : TacKind) (to x from more : ℕ) (part : Value → Then Store Value) (d : Code) → Type 0
   Unary = UnaryRuns ops w t p objects r call g
 
-  abbrev Binary : (i j k : TacKind) (to x y from more : ℕ) (part : Value → Value → Then M Value) (d : Code) → Type 0
+  abbrev Binary : (i j k : TacKind) (to x y from more : ℕ) (part : Value → Value → Then Store Value) (d : Code) → Type 0
   Binary = BinaryRuns ops w t p objects r call g
 
-  untouched : (n : ℕ) (us : List (Option Value)) → Scratched ops w t p objects r call g n us us
+  pub untouched : (n : ℕ) (us : List (Option Value)) → Scratched ops w t p objects r call g n us us
   untouched n us = record { room = refl; same = λ j lt. refl }
 
-  scratch : (n j : ℕ) (us : List (Option Value)) (v : Option Value) → n ≤ j →
+  pub scratch : (n j : ℕ) (us : List (Option Value)) (v : Option Value) → n ≤ j →
       Scratched ops w t p objects r call g n us (slice_set us j v)
   scratch n j us v le = record {
     room = length-set us j v;
@@ -89,14 +91,15 @@ module _ {M : Type 0} (ops : Operations M) (placed : IsPlaced ops) (w : World) (
   }
 
   -- a value that operands determine, whose answer has a position in the meaning and none in the code
-  asked : (q : Pos) (a b : Result Value Fault) (y : Value) (to : ℕ) (u : State M) (us : List (Option Value))
+  asked : (q : Pos) (a b : Result Value Fault) (y : Value) (to : ℕ) (u : State Store) (us : List (Option Value))
       (rest : List TacInstr) → a ≡ Ok y → b ≡ a
       → answer no_position b (record u { vars = us }) (λ v. sets u.left to v rest)
       ≡ run rest u (slice_set us to (Some y))
   asked q a b y to u us rest e f =
       ap (λ z. answer no_position z (record u { vars = us }) (λ v. sets u.left to v rest)) (f ∙ e)
 
-  means : (q : Pos) (a : Result Value Fault) (y : Value) (u : State M) (l : Value → State M → Fate) → a ≡ Ok y →
+  pub means : (q : Pos) (a : Result Value Fault) (y : Value) (u : State Store) (l : Value → State Store → Fate) →
+      a ≡ Ok y →
       answer q a u l ≡ l y u
   means q a y u l e = ap (λ z. answer q z u l) e
 
@@ -107,8 +110,8 @@ module _ {M : Type 0} (ops : Operations M) (placed : IsPlaced ops) (w : World) (
       (λ rest. instr.Convert to x j k ∷ rest)
   conversion_runs q j k to x from = record {
     plain = λ o rest. refl;
-    runs = λ v u us h room.
-        let c = converts ops placed u.mem (kind_of j) (kind_of k) v in
+    runs = λ v u us h room sound.
+        let c = converts ops placed u.mem (kind_of j) (kind_of k) v h.typed in
         record {
           value = c.0;
           typed = c.2;
@@ -128,7 +131,7 @@ module _ {M : Type 0} (ops : Operations M) (placed : IsPlaced ops) (w : World) (
       >>= (λ b. give (truth b))) (λ rest. instr.Cmp op k to x y ∷ rest)
   comparison_runs q op k to x y from = record {
     plain = λ o rest. refl;
-    runs = λ v z u us h i room.
+    runs = λ v z u us h i room sound.
         let c = compares ops placed u.mem op (kind_of k) v z in
         record {
           value = truth c.0;
@@ -153,7 +156,7 @@ module _ {M : Type 0} (ops : Operations M) (placed : IsPlaced ops) (w : World) (
       (negated k to x from)
   negated_runs q k to x from = record {
     plain = λ o rest. refl;
-    runs = λ v u us h room.
+    runs = λ v u us h room sound.
         let c = compares ops placed u.mem Ne (kind_of k) v (zero_of (kind_of k)) in
         let vs = slice_set us from (Some (constant k 0)) in
         record {
@@ -179,7 +182,7 @@ module _ {M : Type 0} (ops : Operations M) (placed : IsPlaced ops) (w : World) (
 
   -- ---- operations on integers
 
-  int_runs : (op : IntOp) (i : IntKind) (to x y : ℕ) (v z : Value) (u : State M) (us : List (Option Value))
+  pub int_runs : (op : IntOp) (i : IntKind) (to x y : ℕ) (v z : Value) (u : State Store) (us : List (Option Value))
       (rest : List TacInstr) → slice_get us x ≡ Some (Some v) → slice_get us y ≡ Some (Some z) →
       is_int (kind_in y) ≡ true
       → run (instr.Int op i to x y ∷ rest) u us
@@ -203,7 +206,7 @@ module _ {M : Type 0} (ops : Operations M) (placed : IsPlaced ops) (w : World) (
       (λ v z. ask q (λ m. operate_by ops w (Whole op i (Plain j)) m v z)) (λ rest. instr.Int op i to x y ∷ rest)
   whole_plain q op i j to x y from hk = record {
     plain = λ o rest. refl;
-    runs = λ v z u us h h2 room. record {
+    runs = λ v z u us h h2 room sound. record {
       value = value.Int (binary_of op i (number_of v) (number_of z));
       typed = computed_is_of ops placed op i (number_of v) (number_of z);
       temps = us;
@@ -222,7 +225,7 @@ module _ {M : Type 0} (ops : Operations M) (placed : IsPlaced ops) (w : World) (
   whole_cases q op i (kind.Cap z) false to x y from right ints = absurd cc
   whole_cases q op i (kind.Cap z) true to x y from right ints = record {
     plain = λ o rest. refl;
-    runs = λ v b u us h h2 room.
+    runs = λ v b u us h h2 room sound.
         let a = placed.address u.mem b in
         let n = value.Int a.0 in
         let vs = slice_set us from (Some n) in
@@ -230,7 +233,7 @@ module _ {M : Type 0} (ops : Operations M) (placed : IsPlaced ops) (w : World) (
         ap (convert_by ops u.mem (Capability z) (Plain int.U64))
         (held_is ops w t p objects r call g scene us y b h2.value)
         ∙ ap (on_ok ops (λ c. Ok (value.Int (wrapped int.U64 (pos c))))) a.1
-        ∙ ap (λ c. Ok (value.Int c)) (IsKept-64 int.U64 a.0 refl a.2).kept in
+        ∙ ap (λ c. Ok (value.Int c)) (IsKept-64 int.U64 a.0 refl (placed.address_word u.mem b a.0 h2.typed a.1)).kept in
         record {
           value = value.Int (binary_of op i (number_of v) a.0);
           typed = computed_is_of ops placed op i (number_of v) a.0;
@@ -260,7 +263,7 @@ module _ {M : Type 0} (ops : Operations M) (placed : IsPlaced ops) (w : World) (
       (λ rest. instr.Const from (kind.Int i) 0 ∷ instr.Int Sub i to from x ∷ rest)
   negative_runs q i to x from hk = record {
     plain = λ o rest. refl;
-    runs = λ v u us h room.
+    runs = λ v u us h room sound.
         let vs = slice_set us from (Some (value.Int 0)) in
         record {
           value = value.Int (binary_of Sub i 0 (number_of v));
@@ -280,7 +283,7 @@ module _ {M : Type 0} (ops : Operations M) (placed : IsPlaced ops) (w : World) (
       (λ rest. instr.Const from (kind.Int i) (all_ones i) ∷ instr.Int Xor i to x from ∷ rest)
   complement_runs q i to x from hk = record {
     plain = λ o rest. refl;
-    runs = λ v u us h room.
+    runs = λ v u us h room sound.
         let ones = value.Int (all_ones i) in
         let vs = slice_set us from (Some ones) in
         record {
@@ -301,7 +304,7 @@ module _ {M : Type 0} (ops : Operations M) (placed : IsPlaced ops) (w : World) (
       (transfer to x)
   positive_runs q i to x from = record {
     plain = transfer_plain to x;
-    runs = λ v u us h room. record {
+    runs = λ v u us h room sound. record {
       value = v;
       typed = h.typed;
       temps = us;

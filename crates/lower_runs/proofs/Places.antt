@@ -6,12 +6,16 @@ use Rattle.std.proofs.lemmas.Bool.Decides.{nat_tests}
 use Rattle.ck_base.specs.World.{World}
 use Rattle.ck_base.specs.declared.positions.Pos.{Pos}
 use Rattle.cap_ops.specs.Permissions.{data_permissions, const_permissions}
+use Rattle.c_tree.specs.declared.typed.GlobalDef.{GlobalDef}
+use Rattle.obj_mem.specs.Needs.{is_const}
+use Rattle.lower_runs.specs.Sound.{IsPointer, IsSound}
 use Rattle.c_tree.specs.declared.typed.Typed.{Typed}
 use Rattle.obj_mem.specs.Values.{Value}
 use Rattle.obj_mem.specs.Values as value
 use Rattle.obj_mem.specs.declared.ending.Fault.{Fault}
 use Rattle.cheri_c_sem.specs.Expressions.{permissions_of}
 use Rattle.cheri_c_sem.specs.Kinds.{Kind, Plain, zero_of, nothing, truth, bytes_of, read_as}
+use Rattle.cheri_c_sem.specs.Modes.{Store}
 use Rattle.cheri_c_sem.specs.Meaning.{Place, In, At, capability_of, given, value_of, place_of, point_to, test, load}
 use Rattle.cheri_c_sem.specs.Meaning.{store}
 use Rattle.cheri_c_sem.specs.Operations.{Operations, convert_by}
@@ -43,14 +47,16 @@ use Rattle.lower_runs.proofs.Agreement.{and_left, and_right, get_set_same, get_s
 use Rattle.lower_runs.proofs.Agreement.{agrees_own, agrees_memory, agrees_variable, went_less, went_memory, went_then}
 use Rattle.lower_runs.proofs.Agreement.{stays, done_start, done_less, done_then, done_valued, done_labelled}
 use Rattle.lower_runs.proofs.Labels.{nothing_own, both_own, then_own, choice_own, guarded_own, found_label}
-use Rattle.lower_runs.proofs.Steps.{read_is_of, same_answer, compares, converts, held_is, transfer_runs, lands}
+use Rattle.lower_runs.proofs.Steps.{data_twelve_bits, loaded_is_of, same_answer, compares, converts, convert_answers}
+use Rattle.lower_runs.proofs.Steps.{held_is, transfer_runs, lands}
 use Rattle.lower_runs.proofs.Operations.{transfer_plain}
 use Rattle.lower_runs.proofs.Operands.{in_place, in_place_stays}
 use Rattle.lower_runs.proofs.Conditions.{chosen}
 
-module _ {M : Type 0} (ops : Operations M) (placed : IsPlaced ops) (w : World) (t : Tac) (p : Typed)
-    (objects : ℕ → List ℕ) (r : Running) (call : ℕ → List Value → Then M Value) (g : Scene) (scene : IsScene g) where
-  abbrev run : List TacInstr → State M → List (Option Value) → Fate
+module _ (ops : Operations Store) (placed : IsPlaced ops) (w : World) (t : Tac) (p : Typed)
+    (objects : ℕ → List ℕ) (r : Running) (call : ℕ → List Value → Then Store Value) (g : Scene)
+    (scene : IsScene g) where
+  abbrev run : List TacInstr → State Store → List (Option Value) → Fate
   run = goes ops w t p objects r call g
 
   abbrev Value_runs : (k : TacKind) (e : Ex) (to : ℕ) (m n : Mark) (c : Code) → Type 0
@@ -81,14 +87,23 @@ module _ {M : Type 0} (ops : Operations M) (placed : IsPlaced ops) (w : World) (
   no_position_in o e = absurd cc
 
   -- a temp that was given has the pointer
-  lands_there : (e : Ex) (f : ℕ → Bool) (to : ℕ) (m n : Mark) (s u : State M) (ts us : List (Option Value)) (q : Pos)
+  pub lands_there : (e : Ex) (f : ℕ → Bool) (to : ℕ) (m n : Mark) (s u : State Store) (ts us : List (Option Value))
+      (q : Pos)
       (v : Value) → ((x : ℕ) → spares x e ≡ true → f x ≡ true) → IsTarget g m to → HasRoom g m n → m.temps ≤ n.temps
-      → ((o : Pos) → position_in e ≡ Some o → q ≡ o) → Done ops g f m s ts u us →
+      → ((o : Pos) → position_in e ≡ Some o → q ≡ o) → IsPointer v → Done ops g f m s ts u us →
       Reached ops g e to m s ts q v u (slice_set us to (Some v))
-  lands_there e f to m n s u ts us q v sp target room le at done =
+  lands_there e f to m n s u ts us q v sp target room le at word done =
       let i = lands ops w t p objects r call g scene pointer_kind f
-      (λ x. spares x e) to m n s u ts us v sp target room le tt done in
-      record { agrees = i.agrees; went = i.went; value = i.value; position = at }
+      (λ x. spares x e) to m n s u ts us v sp target room le word done in
+      record { agrees = i.agrees; went = i.went; value = i.value; pointer = word; position = at }
+
+  global_twelve_bits : (o : Option GlobalDef) → permissions_of p [] o < 4096
+  global_twelve_bits None = omega arith
+  global_twelve_bits (Some d) = by (is_const p.types d.of)
+    where
+      by : (b : Bool) → (if b then const_permissions else data_permissions) < 4096
+      by true = omega arith
+      by false = omega arith
 
   -- ---- places that are there
 
@@ -101,23 +116,26 @@ module _ {M : Type 0} (ops : Operations M) (placed : IsPlaced ops) (w : World) (
         let v = ops.whole s.mem (s.first + o) data_permissions in
         go q v s (slice_set ts to (Some v)) (lands_there (Local q o) (λ i. true) to m m s s ts ts q v
         (λ i e. refl) target room (omega arith) (λ i e. same_position i q e)
+        (placed.whole_pointer s.mem (s.first + o) data_permissions ag.sound data_twelve_bits)
         (done_start ops g scene (λ i. true) m s ts ag))
         ∙ sym (transfer_runs ops w t p objects r call g scene to at rest s ts v (ag.object o at spot));
   }
 
   -- the pointer that an instruction makes of no temp
-  made_place : (e : Ex) (to : ℕ) (q : Pos) (m : Mark) (i : TacInstr) (v : State M → Value) →
+  made_place : (e : Ex) (to : ℕ) (q : Pos) (m : Mark) (i : TacInstr) (v : State Store → Value) →
       ((o : ℕ) (rest : List TacInstr) → behind o (i ∷ rest) ≡ behind o rest)
-      → ((s : State M) (l : Place → State M → Fate) → place_of ops w call e s l ≡ l (At q (v s)) s) →
-      ((s : State M) (ts : List (Option Value)) (rest : List TacInstr) →
+      → ((s : State Store) (l : Place → State Store → Fate) → place_of ops w call e s l ≡ l (At q (v s)) s) →
+      ((s : State Store) (ts : List (Option Value)) (rest : List TacInstr) →
       run (i ∷ rest) s ts ≡ run rest s (slice_set ts to (Some (v s))))
-      → position_in e ≡ Some q → Place_runs e to m m (λ rest. i ∷ rest)
-  made_place e to q m i v plain means runs position = record {
+      → position_in e ≡ Some q → ((s : State Store) → IsSound s.mem → IsPointer (v s)) →
+      Place_runs e to m m (λ rest. i ∷ rest)
+  made_place e to q m i v plain means runs position word = record {
     piece = then_own m m m (λ rest. rest) (λ rest. i ∷ rest) (omega arith) refl plain (nothing_own m);
     runs = λ s ts l rest room target ag go.
         means s l ∙ go q (v s) s (slice_set ts to (Some (v s)))
         (lands_there e (λ x. spares x e) to m m s s ts ts q (v s) (λ x z. z) target room (omega arith)
-        (λ o z. same_position o q (sym position ∙ z)) (done_start ops g scene (λ x. spares x e) m s ts ag))
+        (λ o z. same_position o q (sym position ∙ z)) (word s ag.sound)
+        (done_start ops g scene (λ x. spares x e) m s ts ag))
         ∙ sym (runs s ts rest);
   }
 
@@ -127,7 +145,8 @@ module _ {M : Type 0} (ops : Operations M) (placed : IsPlaced ops) (w : World) (
   global_place o to q m =
       made_place (Object q o (permissions_of p [] (slice_get p.globals o))) to q m (instr.Global to o false)
       (λ s. ops.whole s.mem o (permissions_of p [] (slice_get p.globals o))) (λ i rest. refl) (λ s l. refl)
-      (λ s ts rest. refl) refl
+      (λ s ts rest. refl) refl (λ s sound. placed.whole_pointer s.mem o
+      (permissions_of p [] (slice_get p.globals o)) sound (global_twelve_bits (slice_get p.globals o)))
 
   pub literal_place : (o to : ℕ) (q : Pos) (m : Mark) →
       Place_runs (Object q (length p.globals + o) const_permissions) to m m (λ rest. instr.Global to o true ∷ rest)
@@ -135,12 +154,13 @@ module _ {M : Type 0} (ops : Operations M) (placed : IsPlaced ops) (w : World) (
       made_place (Object q (length p.globals + o) const_permissions) to q m (instr.Global to o true)
       (λ s. ops.whole s.mem (length p.globals + o) const_permissions) (λ i rest. refl) (λ s l. refl)
       (λ s ts rest. refl) refl
+      (λ s sound. placed.whole_pointer s.mem (length p.globals + o) const_permissions sound (omega arith))
 
   pub function_place : (f to : ℕ) (q : Pos) (m : Mark) →
       Place_runs (Function q f) to m m (λ rest. instr.Function to f ∷ rest)
   function_place f to q m =
       made_place (Function q f) to q m (instr.Function to f) (λ s. value.Fun f) (λ i rest. refl) (λ s l. refl)
-      (λ s ts rest. refl) refl
+      (λ s ts rest. refl) refl (λ s sound. tt)
 
   -- ---- places by values and places
 
@@ -153,6 +173,7 @@ module _ {M : Type 0} (ops : Operations M) (placed : IsPlaced ops) (w : World) (
           agrees = a.agrees;
           went = a.went;
           value = a.value;
+          pointer = a.typed;
           position = λ o e. same_position o q e;
         }));
   }
@@ -166,12 +187,13 @@ module _ {M : Type 0} (ops : Operations M) (placed : IsPlaced ops) (w : World) (
           agrees = a.agrees;
           went = a.went;
           value = a.value;
+          pointer = a.pointer;
           position = a.position;
         }));
   }
 
   -- the place is reached from another state that went a way
-  reached_after : (e f : Ex) (h : ℕ → Bool) (to : ℕ) (l m : Mark) (s u z : State M) (ts us zs : List (Option Value))
+  reached_after : (e f : Ex) (h : ℕ → Bool) (to : ℕ) (l m : Mark) (s u z : State Store) (ts us zs : List (Option Value))
       (q : Pos) (v : Value) → ((x : ℕ) → spares x e ≡ true → h x ≡ true) →
       ((x : ℕ) → spares x e ≡ true → spares x f ≡ true) → l.temps ≤ m.temps
       → ((o : Pos) → position_in e ≡ Some o → position_in f ≡ Some o) → Done ops g h l s ts u us →
@@ -181,6 +203,7 @@ module _ {M : Type 0} (ops : Operations M) (placed : IsPlaced ops) (w : World) (
     went = went_then ops g scene h (λ x. spares x f) (λ x. spares x e) l.temps m.temps
         (Some to) s u z ts us zs eh ef le one.went two.went;
     value = two.value;
+    pointer = two.pointer;
     position = λ o i. two.position o (at o i);
   }
 
@@ -228,17 +251,17 @@ module _ {M : Type 0} (ops : Operations M) (placed : IsPlaced ops) (w : World) (
   -- ---- members
 
   -- behind an instruction that gives a temp its value, where so many turns are left
-  abbrev sets : ℕ → ℕ → Value → List TacInstr → State M → Fate
+  abbrev sets : ℕ → ℕ → Value → List TacInstr → State Store → Fate
   sets n to v rest s = turns ops w t p objects n rest Runs r (record s { vars = slice_set s.vars to (Some v) })
 
-  offset_runs : (to base n : ℕ) (rest : List TacInstr) (u : State M) (us : List (Option Value)) (v y : Value) →
+  offset_runs : (to base n : ℕ) (rest : List TacInstr) (u : State Store) (us : List (Option Value)) (v y : Value) →
       slice_get us base ≡ Some (Some v) → ops.offset u.mem v n ≡ Ok y →
       run (instr.Offset to base (amount.Number n) ∷ rest) u us ≡ run rest u (slice_set us to (Some y))
   offset_runs to base n rest u us v y e o =
       ap (λ a. answer no_position a (record u { vars = us }) (λ z. sets u.left to z rest))
       (ap (λ z. ops.offset u.mem z n) (held_is ops w t p objects r call g scene us base v e) ∙ o)
 
-  narrow_runs : (to base n : ℕ) (exact : Bool) (rest : List TacInstr) (u : State M) (us : List (Option Value))
+  narrow_runs : (to base n : ℕ) (exact : Bool) (rest : List TacInstr) (u : State Store) (us : List (Option Value))
       (v y : Value) → slice_get us base ≡ Some (Some v) → ops.narrow u.mem v n exact ≡ Ok y
       → run (instr.Narrow to base (amount.Number n) exact ∷ rest) u us ≡ run rest u (slice_set us to (Some y))
   narrow_runs to base n exact rest u us v y e o =
@@ -246,17 +269,18 @@ module _ {M : Type 0} (ops : Operations M) (placed : IsPlaced ops) (w : World) (
       (ap (λ z. ops.narrow u.mem z n exact) (held_is ops w t p objects r call g scene us base v e) ∙ o)
 
   -- the pointer in a temp is replaced by another one
-  again : (e f : Ex) (to : ℕ) (m n : Mark) (s u : State M) (ts us : List (Option Value)) (q o : Pos) (v y : Value) →
+  again : (e f : Ex) (to : ℕ) (m n : Mark) (s u : State Store) (ts us : List (Option Value)) (q o : Pos) (v y : Value) →
       IsTarget g m to → HasRoom g m n → m.temps ≤ n.temps → ((x : ℕ) → spares x e ≡ true → spares x f ≡ true) →
-      ((i : Pos) → position_in e ≡ Some i → q ≡ i)
+      ((i : Pos) → position_in e ≡ Some i → q ≡ i) → IsPointer y
       → Reached ops g f to m s ts o v u us → Reached ops g e to m s ts q y u (slice_set us to (Some y))
-  again e f to m n s u ts us q o v y target room le ef at h = record {
+  again e f to m n s u ts us q o v y target room le ef at word h = record {
     agrees = Rattle.lower_runs.proofs.Agreement.agrees_set ops g scene (Some to) (Some to) u us to (Some y) target.free
         (λ x i z k. (k, k)) h.agrees;
     went = Rattle.lower_runs.proofs.Agreement.went_set ops g scene (λ x. spares x f) (λ x. spares x e) m.temps m.temps
         (Some to) (Some to) s u ts us to (Some y) ef (omega arith) (λ i lt k. (k, k)) h.went;
     value = get_set_same us to (Some y) (let is = h.agrees.room in let lt = target.there in let high = room.high in
         omega arith);
+    pointer = word;
     position = at;
   }
 
@@ -272,18 +296,24 @@ module _ {M : Type 0} (ops : Operations M) (placed : IsPlaced ops) (w : World) (
         ap (λ z. answer q z u (λ i. l (At q i))) y.1
         ∙ go q y.0 u (slice_set us to (Some y.0))
         (again (Member q offset e) e to m n s u ts us q o v y.0 target room h.piece.temps (λ x z. z)
-        (λ i z. same_position i q z) a)
+        (λ i z. same_position i q z) (placed.offset_pointer u.mem v y.0 offset a.pointer y.1) a)
         ∙ sym (offset_runs to to offset rest u us v y.0 a.value y.1));
   }
 
   -- a pointer that stands in a temp already
-  pub base : (e : Ex) (at : ℕ) → IsBase g e at → (s : State M) (ts : List (Option Value)) → Agrees ops g None s ts
-      → (q : Pos) × (v : Value) × (slice_get ts at ≡ Some (Some v)) ×
-      ((l : Place → State M → Fate) → place_of ops w call e s l ≡ l (At q v) s)
+  pub base : (e : Ex) (at : ℕ) → IsBase g e at → (s : State Store) (ts : List (Option Value)) → Agrees ops g None s ts
+      → (q : Pos) × (v : Value) × (slice_get ts at ≡ Some (Some v)) × IsPointer v ×
+      ((l : Place → State Store → Fate) → place_of ops w call e s l ≡ l (At q v) s)
   base e at (code.deref {e = e2} {t = at2} {q = q} i) s ts ag =
       let h = in_place ops placed w t p objects r call g scene Nil pointer_kind e2 at2 i s ts ag in
-      (q, h.0, h.1, λ l. h.3 (λ v u. l (At q v) u))
-  base e at (code.local {n = n} {t = at2} {q = q} spot) s ts ag = (q, _, ag.object n at2 spot, λ l. refl)
+      (q, h.0, h.1, h.2, λ l. h.3 (λ v u. l (At q v) u))
+  base e at (code.local {n = n} {t = at2} {q = q} spot) s ts ag = (
+    q,
+    _,
+    ag.object n at2 spot,
+    placed.whole_pointer s.mem (s.first + n) data_permissions ag.sound data_twelve_bits,
+    λ l. refl,
+  )
   base e at (code.aggregate {e = e2} {t = at2} i) s ts ag = base e2 at2 i s ts ag
 
   pub member_of_place : (e : Ex) (at to offset : ℕ) (q : Pos) (m : Mark) → IsBase g e at →
@@ -294,11 +324,12 @@ module _ {M : Type 0} (ops : Operations M) (placed : IsPlaced ops) (w : World) (
     runs = λ s ts l rest room target ag go.
         let b = base e at h s ts ag in
         let y = placed.offset s.mem b.1 offset in
-        b.3 (λ v u. answer q (ops.offset u.mem (capability_of v) offset) u (λ z. l (At q z)))
+        b.4 (λ v u. answer q (ops.offset u.mem (capability_of v) offset) u (λ z. l (At q z)))
         ∙ ap (λ z. answer q z s (λ i. l (At q i))) y.1
         ∙ go q y.0 s (slice_set ts to (Some y.0))
         (lands_there (Member q offset e) (λ x. spares x e) to m m s s ts ts q y.0 (λ x z. z) target room
-        (omega arith) (λ i z. same_position i q z) (done_start ops g scene (λ x. spares x e) m s ts ag))
+        (omega arith) (λ i z. same_position i q z) (placed.offset_pointer s.mem b.1 y.0 offset b.3 y.1)
+        (done_start ops g scene (λ x. spares x e) m s ts ag))
         ∙ sym (offset_runs to at offset rest s ts b.1 y.0 b.2 y.1);
   }
 
@@ -312,6 +343,7 @@ module _ {M : Type 0} (ops : Operations M) (placed : IsPlaced ops) (w : World) (
         (λ v u us a. go q v u us (record {
           done = record { agrees = a.done.agrees; went = a.done.went };
           value = a.value;
+          pointer = a.typed;
           position = λ o z. same_position o q z;
           stays = a.stays;
         }));
@@ -326,6 +358,7 @@ module _ {M : Type 0} (ops : Operations M) (placed : IsPlaced ops) (w : World) (
         (record {
           done = done_start ops g scene (λ x. true) m s ts ag;
           value = ag.object o at spot;
+          pointer = placed.whole_pointer s.mem (s.first + o) data_permissions ag.sound data_twelve_bits;
           position = λ i z. same_position i q z;
           stays = stay.object spot;
         });
@@ -339,6 +372,7 @@ module _ {M : Type 0} (ops : Operations M) (placed : IsPlaced ops) (w : World) (
         (λ q v u us a. go q v u us (record {
           done = record { agrees = a.done.agrees; went = a.done.went };
           value = a.value;
+          pointer = a.pointer;
           position = a.position;
           stays = a.stays;
         }));
@@ -359,6 +393,7 @@ module _ {M : Type 0} (ops : Operations M) (placed : IsPlaced ops) (w : World) (
                 (Some m.temps) None s u ts us (λ x z. z) (omega arith) (λ i lt z k. absurd (omega arith)) a.went;
           };
           value = a.value;
+          pointer = a.pointer;
           position = a.position;
           stays = stay.own (omega arith) (let le = h.piece.temps in omega arith);
         }));
@@ -380,7 +415,8 @@ module _ {M : Type 0} (ops : Operations M) (placed : IsPlaced ops) (w : World) (
         (λ z. sets u.left to (read_as (kind_of k) z) rest)
         (λ z is. go (read_as (kind_of k) z) u (slice_set us to (Some (read_as (kind_of k) z)))
         (lands ops w t p objects r call g scene k (λ x. spares x e) (λ x. spares x e) to m n s u ts us
-        (read_as (kind_of k) z) (λ x i. i) target room h.piece.temps (read_is_of (kind_of k) z) a.done))
+        (read_as (kind_of k) z) (λ x i. i) target room h.piece.temps
+        (loaded_is_of ops placed (kind_of k) u.mem v z a.done.agrees.sound is) a.done))
         ∙ ap after (sym (held_is ops w t p objects r call g scene us at v a.value)));
   }
 
@@ -389,7 +425,7 @@ module _ {M : Type 0} (ops : Operations M) (placed : IsPlaced ops) (w : World) (
   address_value e to q m n c h = record {
     piece = h.piece;
     runs = λ s ts l rest room target ag go. h.runs s ts (λ v u. point_to ops w q None v u l) rest room target ag
-        (λ o v u us a. go v u us (record { agrees = a.agrees; went = a.went; value = a.value; typed = tt }));
+        (λ o v u us a. go v u us (record { agrees = a.agrees; went = a.went; value = a.value; typed = a.pointer }));
   }
 
   pub narrowed_value : (e : Ex) (to : ℕ) (q : Pos) (i : Narrowing) (m n : Mark) (c : Code) → Place_runs e to m n c →
@@ -402,10 +438,11 @@ module _ {M : Type 0} (ops : Operations M) (placed : IsPlaced ops) (w : World) (
         h.runs s ts (λ v u. point_to ops w q (Some i) v u l)
         (instr.Narrow to to (amount.Number i.owned) true ∷ rest) room target ag
         (λ o v u us a. let y = placed.narrow u.mem v i.owned true in
-        let there = again e e to m n s u ts us o o v y.0 target room h.piece.temps (λ x z. z) a.position a in
+        let there = again e e to m n s u ts us o o v y.0 target room h.piece.temps (λ x z. z) a.position
+        (placed.narrow_pointer u.mem v y.0 i.owned true a.pointer y.1) a in
         ap (λ z. answer q z u (λ d x. l d (record x { mem = ops.note_member x.mem d i.own }))) y.1
         ∙ ap (λ z. l y.0 (record u { mem = z })) (placed.note_member u.mem y.0 i.own)
         ∙ go y.0 u (slice_set us to (Some y.0)) (record
-        { agrees = there.agrees; went = there.went; value = there.value; typed = tt })
+        { agrees = there.agrees; went = there.went; value = there.value; typed = there.pointer })
         ∙ sym (narrow_runs to to i.owned true rest u us v y.0 a.value y.1));
   }

@@ -11,6 +11,7 @@ use Rattle.c_tree.specs.declared.typed.Typed.{Typed}
 use Rattle.obj_mem.specs.Values.{Value}
 use Rattle.obj_mem.specs.Values as value
 use Rattle.cheri_c_sem.specs.Kinds.{Kind, nothing}
+use Rattle.cheri_c_sem.specs.Modes.{Store}
 use Rattle.cheri_c_sem.specs.Meaning.{At, value_of, test, store}
 use Rattle.cheri_c_sem.specs.Operations.{Operations}
 use Rattle.cheri_c_sem.specs.Statements.{Flow, Goes, Breaks, Continues, Returns, after, after_body, loop, repeat, enter}
@@ -40,18 +41,19 @@ use Rattle.lower_runs.proofs.Labels.{to_other, to_end, seeks, jumps}
 use Rattle.lower_runs.proofs.Steps.{held_is, constant_runs, constant_zero, constant}
 use Rattle.lower_runs.proofs.Assignments.{variable_done, home_target}
 
-module _ {M : Type 0} (ops : Operations M) (placed : IsPlaced ops) (w : World) (t : Tac) (p : Typed)
-    (objects : ℕ → List ℕ) (r : Running) (call : ℕ → List Value → Then M Value) (result : Option TacKind) where
-  abbrev run : Scene → List TacInstr → State M → List (Option Value) → Fate
+module _ (ops : Operations Store) (placed : IsPlaced ops) (w : World) (t : Tac) (p : Typed)
+    (objects : ℕ → List ℕ) (r : Running) (call : ℕ → List Value → Then Store Value) (result : Option TacKind) where
+  abbrev run : Scene → List TacInstr → State Store → List (Option Value) → Fate
   run = goes ops w t p objects r call
 
-  abbrev Comes : State M → State M → Type 0
+  abbrev Comes : State Store → State Store → Type 0
   Comes = Came ops w t p objects r call result
 
   abbrev Is_known : Mark → Mark → List TacInstr → Type 0
   Is_known = Known ops w t p objects r call result
 
-  abbrev Follow : (g : Scene) (x : Exits) (rest : List TacInstr) (s : State M) (l : Flow → State M → Fate) → Type 0
+  abbrev Follow : (g : Scene) (x : Exits) (rest : List TacInstr) (s : State Store) (l : Flow → State Store → Fate) →
+      Type 0
   Follow = Follows ops w t p objects r call result
 
   abbrev Statement_runs : (g : Scene) (x : Exits) (a : St) (m n : Mark) (c : Code) → Type 0
@@ -62,10 +64,10 @@ module _ {M : Type 0} (ops : Operations M) (placed : IsPlaced ops) (w : World) (
 
   -- ---- states in one call
 
-  pub came_same : (s : State M) → Comes s s
+  pub came_same : (s : State Store) → Comes s s
   came_same s = record { left = omega arith; first = refl; frame = refl; onward = onward_same ops s.mem }
 
-  pub came_then : (s u v : State M) → Comes s u → Comes u v → Comes s v
+  pub came_then : (s u v : State Store) → Comes s u → Comes u v → Comes s v
   came_then s u v a b = record {
     left = let x = a.left in let y = b.left in
         omega arith;
@@ -75,7 +77,7 @@ module _ {M : Type 0} (ops : Operations M) (placed : IsPlaced ops) (w : World) (
         onward_then ops s.mem u.mem v.mem a.onward b.onward;
   }
 
-  pub came_done : (g : Scene) (f : ℕ → Bool) (m : Mark) (s u : State M) (ts us : List (Option Value)) →
+  pub came_done : (g : Scene) (f : ℕ → Bool) (m : Mark) (s u : State Store) (ts us : List (Option Value)) →
       Done ops g f m s ts u us → Comes s u
   came_done g f m s u ts us a =
       record { left = a.went.left; first = a.went.first; frame = a.went.frame; onward = a.went.onward }
@@ -94,9 +96,9 @@ module _ {M : Type 0} (ops : Operations M) (placed : IsPlaced ops) (w : World) (
       by (Some b) i = let lt : b < l.labels = i in omega arith
 
   -- it follows from a later state, behind instructions that lead there too
-  follows_over : (g : Scene) (x : Exits) (m : Mark) (rest over : List TacInstr) (s u : State M)
-      (l : Flow → State M → Fate) → AreBefore m x →
-      ((v : State M) (vs : List (Option Value)) → run g over v vs ≡ run g rest v vs)
+  follows_over : (g : Scene) (x : Exits) (m : Mark) (rest over : List TacInstr) (s u : State Store)
+      (l : Flow → State Store → Fate) → AreBefore m x →
+      ((v : State Store) (vs : List (Option Value)) → run g over v vs ≡ run g rest v vs)
       → ((b : ℕ) → b < m.labels → behind b over ≡ behind b rest) → Comes s u → Follow g x rest s l → Follow g x over u l
   follows_over g x m rest over s u l before alike labels came h = record {
     goes_on = λ v vs c a. h.goes_on v vs (came_then s u v came c) a ∙ sym (alike v vs);
@@ -107,7 +109,8 @@ module _ {M : Type 0} (ops : Operations M) (placed : IsPlaced ops) (w : World) (
     returns = λ y v vs c i. h.returns y v vs (came_then s u v came c) i;
   }
 
-  pub follows_from : (g : Scene) (x : Exits) (rest : List TacInstr) (s u : State M) (l : Flow → State M → Fate) →
+  pub follows_from : (g : Scene) (x : Exits) (rest : List TacInstr) (s u : State Store)
+      (l : Flow → State Store → Fate) →
       Comes s u → Follow g x rest s l → Follow g x rest u l
   follows_from g x rest s u l came h = record {
     goes_on = λ v vs c a. h.goes_on v vs (came_then s u v came c) a;
@@ -216,7 +219,7 @@ module _ {M : Type 0} (ops : Operations M) (placed : IsPlaced ops) (w : World) (
   }
 
   -- a return
-  gives_back : (v : Value) (u : State M) (us : List (Option Value)) → Fate
+  gives_back : (v : Value) (u : State Store) (us : List (Option Value)) → Fate
   gives_back v u us = back ops w t p objects (behind_turn ops w t p objects u.left) v r.fun r.callers
       (record u { vars = us })
 
@@ -261,7 +264,7 @@ module _ {M : Type 0} (ops : Operations M) (placed : IsPlaced ops) (w : World) (
   -- ---- choices
 
   module _ (g : Scene) (x : Exits) (q : Pos) (j : TacKind) (e : Ex) (a b : St) where
-    done_as : (n : ℕ) (l : Mark) (s u : State M) (ts us : List (Option Value)) →
+    done_as : (n : ℕ) (l : Mark) (s u : State Store) (ts us : List (Option Value)) →
         Done ops g (λ i. spares i e) (labelled n l) s ts u us → Comes s u
     done_as n l s u ts us d = came_done g (λ i. spares i e) (labelled n l) s u ts us d
 

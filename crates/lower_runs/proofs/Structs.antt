@@ -13,6 +13,7 @@ use Rattle.obj_mem.specs.declared.ending.Fault.{Fault}
 use Rattle.obj_mem.specs.declared.ending.UnitFault.{UnitFault}
 use Rattle.cheri_c_sem.specs.Expressions.{permissions_of}
 use Rattle.cheri_c_sem.specs.Kinds.{Kind, Plain, zero_of, nothing, truth, bytes_of, read_as}
+use Rattle.cheri_c_sem.specs.Modes.{Store}
 use Rattle.cheri_c_sem.specs.Meaning.{copy, copy_units, further, position_of, Place, In, At, capability_of, given}
 use Rattle.cheri_c_sem.specs.Meaning.{value_of, place_of, point_to, test, load, store}
 use Rattle.cheri_c_sem.specs.Operations.{Operations, convert_by}
@@ -45,14 +46,17 @@ use Rattle.lower_runs.proofs.Agreement.{get_set_other, free_own, agrees_any, agr
 use Rattle.lower_runs.proofs.Agreement.{went_less, went_memory, went_then, stays, done_start, done_less, done_then}
 use Rattle.lower_runs.proofs.Agreement.{done_valued, done_labelled}
 use Rattle.lower_runs.proofs.Labels.{nothing_own, both_own, then_own, choice_own, guarded_own, found_label}
-use Rattle.lower_runs.proofs.Steps.{read_is_of, same_answer, compares, converts, held_is, transfer_runs, lands}
+use Rattle.lower_runs.proofs.Steps.{data_twelve_bits, loaded_is_of, same_answer, compares, converts, convert_answers}
+use Rattle.lower_runs.proofs.Steps.{held_is, transfer_runs, lands}
 use Rattle.lower_runs.proofs.Operations.{transfer_plain}
 use Rattle.lower_runs.proofs.Operands.{in_place, in_place_stays}
 use Rattle.lower_runs.proofs.Conditions.{chosen}
+use Rattle.lower_runs.proofs.Places.{lands_there}
 
-module _ {M : Type 0} (ops : Operations M) (placed : IsPlaced ops) (w : World) (t : Tac) (p : Typed)
-    (objects : ℕ → List ℕ) (r : Running) (call : ℕ → List Value → Then M Value) (g : Scene) (scene : IsScene g) where
-  abbrev run : List TacInstr → State M → List (Option Value) → Fate
+module _ (ops : Operations Store) (placed : IsPlaced ops) (w : World) (t : Tac) (p : Typed)
+    (objects : ℕ → List ℕ) (r : Running) (call : ℕ → List Value → Then Store Value) (g : Scene)
+    (scene : IsScene g) where
+  abbrev run : List TacInstr → State Store → List (Option Value) → Fate
   run = goes ops w t p objects r call g
 
   abbrev Value_runs : (k : TacKind) (e : Ex) (to : ℕ) (m n : Mark) (c : Code) → Type 0
@@ -79,9 +83,9 @@ module _ {M : Type 0} (ops : Operations M) (placed : IsPlaced ops) (w : World) (
   -- ---- copies
 
   -- units are copied alike whatever the variables are
-  units_same : (n unit i : ℕ) (from to : Place) (u : State M) (us : List (Option Value))
-      (k l : Unit {0} → State M → Fate) →
-      ((m : M) → IsOnward ops u.mem m → k tt (record u { mem = m }) ≡ l tt (record u { mem = m; vars = us }))
+  units_same : (n unit i : ℕ) (from to : Place) (u : State Store) (us : List (Option Value))
+      (k l : Unit {0} → State Store → Fate) →
+      ((m : Store) → IsOnward ops u.mem m → k tt (record u { mem = m }) ≡ l tt (record u { mem = m; vars = us }))
       → copy_units ops w n unit i from to u k ≡ copy_units ops w n unit i from to (record u { vars = us }) l
   units_same zero unit i from to u us k l h = h u.mem (onward_same ops u.mem)
   units_same (suc n) unit i from to u us k l h =
@@ -89,10 +93,10 @@ module _ {M : Type 0} (ops : Operations M) (placed : IsPlaced ops) (w : World) (
       (λ m2 on2. h m2 (onward_then ops u.mem m m2 on on2)))
       (ops.copy_unit u.mem (further (capability_of from) i) (further (capability_of to) i) unit) refl
     where
-      by : ((m : M) → IsOnward ops u.mem m →
+      by : ((m : Store) → IsOnward ops u.mem m →
           copy_units ops w n unit (i + unit) from to (record u { mem = m }) k
           ≡ copy_units ops w n unit (i + unit) from to (record u { mem = m; vars = us }) l)
-          → (x : Result M UnitFault) →
+          → (x : Result Store UnitFault) →
           ops.copy_unit u.mem (further (capability_of from) i) (further (capability_of to) i) unit ≡ x
           → unit_answer (position_of from) (position_of to) x u
           (λ m y. copy_units ops w n unit (i + unit) from to (record y { mem = m }) k)
@@ -148,8 +152,8 @@ module _ {M : Type 0} (ops : Operations M) (placed : IsPlaced ops) (w : World) (
       }
 
   -- the last step goes on alike from a later state
-  finishes_later : (to : Target) (q : Pos) (bytes unit : ℕ) (f h k : ℕ → Bool) (l m : Mark) (s u : State M)
-      (ts us : List (Option Value)) (last : Place → Then M (Unit {0})) (next : Unit {0} → State M → Fate) →
+  finishes_later : (to : Target) (q : Pos) (bytes unit : ℕ) (f h k : ℕ → Bool) (l m : Mark) (s u : State Store)
+      (ts us : List (Option Value)) (last : Place → Then Store (Unit {0})) (next : Unit {0} → State Store → Fate) →
       ((x : ℕ) → k x ≡ true → f x ≡ true) → ((x : ℕ) → k x ≡ true → h x ≡ true)
       → l.temps ≤ m.temps → Done ops g f l s ts u us →
       Finishes ops w t p objects r call g to q bytes unit k l s ts last next →
@@ -213,6 +217,25 @@ module _ {M : Type 0} (ops : Operations M) (placed : IsPlaced ops) (w : World) (
 
   -- ---- struct assignments
 
+  -- without the place; and its pointer in a temp that was given
+  pub effect_of_copy : (q : Pos) (bytes unit at : ℕ) (a b : Ex) (m n : Mark) (c : Code) →
+      Pointer_runs Nil (Copy q bytes unit a b) at m n c → Effect_runs (Copy q bytes unit a b) m n c
+  effect_of_copy q bytes unit at a b m n c h = record {
+    piece = h.piece;
+    runs = λ st ts l rest room ag go. h.runs st ts (λ pl u. l nothing u) rest room ag
+        (λ o v u us x. go nothing u us x.done);
+  }
+
+  pub place_of_pointer : (e : Ex) (at to : ℕ) (m n : Mark) (c : Code) → Pointer_runs Nil e at m n c →
+      Place_runs e to m n (λ rest. c (transfer to at rest))
+  place_of_pointer e at to m n c h = record {
+    piece = then_own m n n c (transfer to at) (omega arith) refl (λ o rest. transfer_plain to at o rest) h.piece;
+    runs = λ st ts l rest room target ag go. h.runs st ts l (transfer to at rest) room ag
+        (λ o v u us x. go o v u (slice_set us to (Some v)) (lands_there ops placed w t p objects r call g scene e
+        (λ i. spares i e) to m n st u ts us o v (λ i z. z) target room h.piece.temps x.position x.pointer x.done)
+        ∙ sym (transfer_runs ops w t p objects r call g scene to at rest u us v x.value));
+  }
+
   pub struct_copy : (bytes unit at : ℕ) (a b : Ex) (q s : Pos) (l m n : Mark) (c d : Code) → position_in a ≡ Some s →
       Pointer_runs (Cons b Nil) a at l m c → Copy_runs (code.Reaches at) s bytes unit b m n d →
       Pointer_runs Nil (Copy q bytes unit a b) at l n (λ rest. c (d rest))
@@ -223,7 +246,7 @@ module _ {M : Type 0} (ops : Operations M) (placed : IsPlaced ops) (w : World) (
         f.runs st ts (λ to u. place_of ops w call b u (λ from z. copy ops w q bytes unit from to z (λ i. next to)))
         (d rest) (record { low = low; high = omega arith }) ag
         (λ o v u us one.
-        let here : (z : State M) (zs : List (Option Value)) → Done ops g (λ i. spares i b) m u us z zs → slice_get zs at ≡ Some (Some v) = λ z zs two.
+        let here : (z : State Store) (zs : List (Option Value)) → Done ops g (λ i. spares i b) m u us z zs → slice_get zs at ≡ Some (Some v) = λ z zs two.
         stays ops g scene (Cons b Nil) (λ i. spares i b) l.temps m.temps at None u z us zs v low one.stays
         (λ i e. and_left (spares i b) true e) (λ i e k. tt) one.done.agrees two.agrees two.went one.value in
         h.runs (λ from. copy ops w q bytes unit from (At o v)) u us (λ i. next (At o v)) rest
@@ -249,6 +272,7 @@ module _ {M : Type 0} (ops : Operations M) (placed : IsPlaced ops) (w : World) (
               (λ i. spares i a && spares i b) l m st u z ts us zs (λ i e. and_left (spares i a) (spares i b) e)
               (λ i e. and_right (spares i a) (spares i b) e) lm one.done two;
           value = here z zs two;
+          pointer = one.pointer;
           position = one.position;
           stays = stays_longer (Cons b Nil) l.temps m.temps n.temps at mn one.stays;
         })));

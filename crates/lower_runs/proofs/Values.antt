@@ -1,7 +1,7 @@
 -- Values that come into a temp.
 use Rattle.std.proofs.Common.{◌≡◌, ◌≢◌, ℕ, ◌+◌, ◌≤◌, ◌<◌, Bool, true, false, not, List, [], ◌∷◌, length, Option, Some}
 use Rattle.std.proofs.Common.{None, Result, Ok, Err, refl, sym, ap, subst, ◌∙◌, arith, if◌then◌else◌}
-use Rattle.std.specs.Prelude.{slice_get, slice_set, ◌&&◌}
+use Rattle.std.specs.Prelude.{slice_get, slice_set, ◌&&◌, ◌^◌}
 use Rattle.ck_base.specs.World.{World}
 use Rattle.ck_base.specs.declared.positions.Pos.{Pos}
 use Rattle.ck_int.specs.Kinds.{IsKept}
@@ -12,6 +12,7 @@ use Rattle.c_tree.specs.declared.typed.Typed.{Typed}
 use Rattle.obj_mem.specs.Values.{Value}
 use Rattle.obj_mem.specs.Values as value
 use Rattle.cheri_c_sem.specs.Kinds.{Plain, zero_of, nothing, truth, null_at}
+use Rattle.cheri_c_sem.specs.Modes.{Store}
 use Rattle.cheri_c_sem.specs.Meaning.{value_of, test, operate_by, sign_by}
 use Rattle.cheri_c_sem.specs.Operations.{Operations, convert_by, compare_by}
 use Rattle.cheri_c_sem.specs.Steps.{State, Fate, Then, ◌>>=◌, answer, ask, give}
@@ -41,12 +42,13 @@ use Rattle.lower_runs.proofs.Operands.{in_place, unary_value, unary_in_value, bi
 use Rattle.lower_runs.proofs.Conditions.{junction_truth}
 
 -- no temp more
-more_none : (m : Mark) → more 0 m ≡ m
+pub more_none : (m : Mark) → more 0 m ≡ m
 more_none m = let e : m.temps + 0 ≡ m.temps = omega arith in ap (λ n. record m { temps = n }) e
 
-module _ {M : Type 0} (ops : Operations M) (placed : IsPlaced ops) (w : World) (t : Tac) (p : Typed)
-    (objects : ℕ → List ℕ) (r : Running) (call : ℕ → List Value → Then M Value) (g : Scene) (scene : IsScene g) where
-  abbrev run : List TacInstr → State M → List (Option Value) → Fate
+module _ (ops : Operations Store) (placed : IsPlaced ops) (w : World) (t : Tac) (p : Typed)
+    (objects : ℕ → List ℕ) (r : Running) (call : ℕ → List Value → Then Store Value) (g : Scene)
+    (scene : IsScene g) where
+  abbrev run : List TacInstr → State Store → List (Option Value) → Fate
   run = goes ops w t p objects r call g
 
   abbrev Value_runs : (k : TacKind) (e : Ex) (to : ℕ) (m n : Mark) (c : Code) → Type 0
@@ -71,15 +73,15 @@ module _ {M : Type 0} (ops : Operations M) (placed : IsPlaced ops) (w : World) (
         (λ i e. refl) target room (omega arith) (v, refl, h) (done_start ops g scene (λ i. true) m s ts ag));
   }
 
-  pub null_value : (z : Bool) (v to : ℕ) (m : Mark) →
+  pub null_value : (z : Bool) (v to : ℕ) (m : Mark) → v < 2 ^ 64 →
       Value_runs (kind.Cap z) (Null v) to m m (λ rest. instr.Const to (kind.Cap z) v ∷ rest)
-  null_value z v to m = record {
+  null_value z v to m lt = record {
     piece = then_own m m m (λ rest. rest) (λ rest. instr.Const to (kind.Cap z) v ∷ rest) (omega arith) refl
         (λ o rest. refl) (nothing_own m);
     runs = λ s ts l rest room target ag go.
         go (null_at v) s (slice_set ts to (Some (null_at v)))
         (lands ops w t p objects r call g scene (kind.Cap z) (λ i. true) (λ i. true) to m m s s ts ts (null_at v)
-        (λ i e. refl) target room (omega arith) tt (done_start ops g scene (λ i. true) m s ts ag));
+        (λ i e. refl) target room (omega arith) lt (done_start ops g scene (λ i. true) m s ts ag));
   }
 
   pub variable_value : (x at to : ℕ) (k : TacKind) (q : Pos) (m : Mark) →

@@ -5,6 +5,7 @@ use Rattle.ck_base.specs.World.{World}
 use Rattle.c_tree.specs.declared.typed.Typed.{Typed}
 use Rattle.obj_mem.specs.Values.{Value}
 use Rattle.obj_mem.specs.declared.ending.Ending.TheVariants as ending
+use Rattle.cheri_c_sem.specs.Modes.{Store}
 use Rattle.cheri_c_sem.specs.Meaning.{value_of, values_of}
 use Rattle.cheri_c_sem.specs.Operations.{Operations}
 use Rattle.cheri_c_sem.specs.Steps.{State, Fate, Then, over}
@@ -34,10 +35,10 @@ AreIn [] (v ∷ vs) us = ⊥
 AreIn (t ∷ ts) [] us = ⊥
 AreIn (t ∷ ts) (v ∷ vs) us = (slice_get us t ≡ Some (Some v)) × AreIn ts vs us
 
-module _ {M : Type 0} (ops : Operations M) (w : World) (t : Tac) (p : Typed) (objects : ℕ → List ℕ)
-    (call : ℕ → List Value → Then M Value) (signs : ℕ → Signature) where
+module _ (ops : Operations Store) (w : World) (t : Tac) (p : Typed) (objects : ℕ → List ℕ)
+    (call : ℕ → List Value → Then Store Value) (signs : ℕ → Signature) where
   -- back in the caller, with the same variables, objects and frame
-  pub record Back (s u : State M) : Type 0 where
+  pub record Back (s u : State Store) : Type 0 where
     pub vars : u.vars ≡ s.vars
     pub first : u.first ≡ s.first
     pub frame : u.frame ≡ s.frame
@@ -45,43 +46,46 @@ module _ {M : Type 0} (ops : Operations M) (w : World) (t : Tac) (p : Typed) (ob
     pub onward : IsOnward ops s.mem u.mem
 
   -- a function's code from its entry on, behind the turn of its call
-  abbrev pub entered : Option ℕ → ℕ → List Value → Running → State M → Fate
+  abbrev pub entered : Option ℕ → ℕ → List Value → Running → State Store → Fate
   entered None f vs r s = over (ending.Stack (name_of (slice_get t.funs f))) s
   entered (Some address) f vs r s =
       turns ops w t p objects s.left (code_at ops w t p objects f) Runs r (in_frame ops w t p objects address f vs s)
 
   -- a caller's code behind the turn of a return
-  abbrev pub backs : Caller → List Caller → Value → State M → Fate
+  abbrev pub backs : Caller → List Caller → Value → State Store → Fate
   backs c cs v u = behind_turn ops w t p objects u.left c.rest Runs (record { fun = c.fun; callers = cs })
       (record u { vars = with_result c.vars c.to v; first = c.first; frame = c.frame })
 
   -- Calls do what the code of their functions does, where fewer turns are left than a number
   pub record CallsRun (limit : ℕ) : Type 0 where
-    pub runs : (f : ℕ) (vs : List Value) (s : State M) (c : Caller) (cs : List Caller) (k : Value → State M → Fate) →
+    pub runs : (f : ℕ) (vs : List Value) (s : State Store) (c : Caller) (cs : List Caller)
+        (k : Value → State Store → Fate) →
         s.left < limit → AreOf (signs f).takes vs
-        → ((v : Value) (u : State M) → IsGiven (signs f).gives v → Back s u →
+        → ((v : Value) (u : State Store) → IsGiven (signs f).gives v → Back s u →
         k v u ≡ backs c cs (given_back (signs f).gives v) u)
         → call f vs s k ≡ entered (ops.enter f s.frame) f vs (record { fun = f; callers = c ∷ cs }) s
 
   module _ (r : Running) (g : Scene) where
     -- ---- arguments, and calls as expressions
 
-    pub record ArgumentsHeld (es : Exs) (ks : List TacKind) (ts : List ℕ) (m : Mark) (s : State M)
-        (temps : List (Option Value)) (vs : List Value) (u : State M) (us : List (Option Value)) : Type 0 where
+    pub record ArgumentsHeld (es : Exs) (ks : List TacKind) (ts : List ℕ) (m : Mark) (s : State Store)
+        (temps : List (Option Value)) (vs : List Value) (u : State Store) (us : List (Option Value)) : Type 0 where
       pub done : Done ops g (λ x. spare x es) m s temps u us
       pub values : AreIn ts vs us
       pub typed : AreOf ks vs
 
     pub record ArgumentsRun (es : Exs) (ks : List TacKind) (ts : List ℕ) (m n : Mark) (c : Code) : Type 0 where
       pub piece : IsPiece m n c
-      pub runs : (s : State M) (temps : List (Option Value)) (l : List Value → State M → Fate) (rest : List TacInstr) →
+      pub runs : (s : State Store) (temps : List (Option Value)) (l : List Value → State Store → Fate)
+          (rest : List TacInstr) →
           HasRoom g m n → Agrees ops g None s temps
-          → ((vs : List Value) (u : State M) (us : List (Option Value)) → ArgumentsHeld es ks ts m s temps vs u us →
+          → ((vs : List Value) (u : State Store) (us : List (Option Value)) → ArgumentsHeld es ks ts m s temps vs u us →
           l vs u ≡ goes ops w t p objects r call g rest u us)
           → values_of ops w call es s l ≡ goes ops w t p objects r call g (c rest) s temps
 
     -- the value of a call, where there is one and it is asked for
-    abbrev pub Resulted : Option TacKind → Ex → Option ℕ → Mark → State M → List (Option Value) → Value → State M →
+    abbrev pub Resulted : Option TacKind → Ex → Option ℕ → Mark → State Store → List (Option Value) → Value →
+        State Store →
         List (Option Value) → Type 0
     Resulted k e None m s temps v u us = Done ops g (λ x. spares x e) m s temps u us
     Resulted None e (Some to) m s temps v u us = ⊥
@@ -89,9 +93,10 @@ module _ {M : Type 0} (ops : Operations M) (w : World) (t : Tac) (p : Typed) (ob
 
     pub record CallRuns (k : Option TacKind) (e : Ex) (to : Option ℕ) (m n : Mark) (c : Code) : Type 0 where
       pub piece : IsPiece m n c
-      pub runs : (s : State M) (temps : List (Option Value)) (l : Value → State M → Fate) (rest : List TacInstr) →
+      pub runs : (s : State Store) (temps : List (Option Value)) (l : Value → State Store → Fate)
+          (rest : List TacInstr) →
           HasRoom g m n → IsTargetIfAny g m to → Agrees ops g None s temps
-          → ((v : Value) (u : State M) (us : List (Option Value)) → Resulted k e to m s temps v u us →
+          → ((v : Value) (u : State Store) (us : List (Option Value)) → Resulted k e to m s temps v u us →
           l v u ≡ goes ops w t p objects r call g rest u us)
           → value_of ops w call e s l ≡ goes ops w t p objects r call g (c rest) s temps
 

@@ -1,7 +1,8 @@
 -- The relation, for expressions: these instructions are the code of this expression, between these numbers of temps and
 -- labels. There is one relation for each function that emits code of expressions, with a rule for each way through it;
 -- a rule asks what makes its code right, and leaves open what does not matter.
-use Rattle.std.specs.Prelude.{◌≡◌, ℕ, zero, suc, ◌+◌, ◌*◌, ◌%◌, ◌^◌, ◌≤◌, ◌==◌, ◌&&◌, not, Bool, true, false, List, []}
+use Rattle.std.specs.Prelude.{◌≡◌, ℕ, zero, suc, ◌+◌, ◌*◌, ◌%◌, ◌^◌, ◌≤◌, ◌<◌, ◌==◌, ◌&&◌, not, Bool, true, false, List}
+use Rattle.std.specs.Prelude.{[]}
 use Rattle.std.specs.Prelude.{◌∷◌, length, Option, Some, None, slice_get, slice_index_or}
 use Rattle.ck_base.specs.declared.positions.Pos.{Pos}
 use Rattle.ck_int.specs.Kinds.{IsKept}
@@ -111,7 +112,9 @@ IsRight false j k = k ≡ j
 -- on a place of a kind j and a right operand of a kind k
 abbrev pub IsChange : Operation → (j k : TacKind) → Kind → Type 0
 IsChange (Whole op i count) j k (Plain c) = (c ≡ i) × (count ≡ kind_of k) × IsRight (is_shift op) (kind.Int i) k
-IsChange (Derived op s count right plain) j k (Capability c) = (c ≡ s) × (count ≡ kind_of k)
+IsChange (Derived op s count false plain) j k (Capability c) = (c ≡ s) × (count ≡ kind_of k)
+IsChange (Derived op s count true plain) (kind.Int i) k (Capability c) =
+    (c ≡ s) × (count ≡ kind_of k) × (k ≡ kind.Cap s)
 IsChange (Moved size minus false count) (kind.Cap false) k (Capability c) = (c ≡ false) × (count ≡ kind_of k)
 IsChange op j k c = ⊥
 
@@ -152,6 +155,19 @@ serves Get_char to k ts rest = instr.Lib lib.GetChar to ts ∷ rest
 serves Malloc to k ts rest = instr.Lib lib.Malloc to ts ∷ rest
 serves Exit to k ts rest = instr.Lib lib.Exit None ts ∷ rest
 serves service to k ts rest = intrinsic service to k (slice_index_or ts 0 0) (slice_get ts 1) rest
+
+-- an intrinsic works on a capability, but for the rounding of lengths
+abbrev pub Takes : Service → List TacKind → Type 0
+Takes Address (kind.Cap s ∷ ks) = Unit {0}
+Takes (Bounds exact) (kind.Cap s ∷ k ∷ ks) = Unit {0}
+Takes (Works work.Rounded) (k ∷ ks) = Unit {0}
+Takes (Works work.Mask) (k ∷ ks) = Unit {0}
+Takes (Works w) (kind.Cap s ∷ ks) = Unit {0}
+Takes Put_char ks = Unit {0}
+Takes Get_char ks = Unit {0}
+Takes Malloc ks = Unit {0}
+Takes Exit ks = Unit {0}
+Takes service ks = ⊥
 
 -- the kind of what a service gives, by that of its first argument
 abbrev pub served : Service → TacKind → Option TacKind
@@ -255,10 +271,10 @@ asks_old old None = false
 asks_old old (Some to) = old
 
 -- `constant_index`: a constant behind conversions that leave it as it is
-pub data IsConstant (k : TacKind) : Ex → ℕ → Type 0 where
-  number : {v : ℕ} → IsConstant k (Number v) v
-  converted : {e : Ex} {v : ℕ} {q : Pos} {plain : Bool} → IsConstant k e v →
-      IsConstant k (Convert q (kind_of k) (kind_of k) plain e) v
+pub data IsConstant (i : IntKind) : Ex → ℕ → Type 0 where
+  number : {v : ℕ} → IsKept i v → IsConstant i (Number v) v
+  converted : {e : Ex} {v : ℕ} {q : Pos} {plain : Bool} → IsConstant i e v →
+      IsConstant i (Convert q (Plain i) (Plain i) plain e) v
 
 -- what a function gives, where that is a value, and the kinds of its arguments
 pub record Signature : Type 0 where
@@ -311,7 +327,7 @@ module _ (p : Typed) (signs : ℕ → Signature) (kinds : List TacKind) (g : Sce
     pub data IsValue : TacKind → Ex → ℕ → Mark → Mark → Code → Type 0 where
       value_number : {k : IntKind} {v to : ℕ} {m : Mark} → IsKept k v →
           IsValue (kind.Int k) (Number v) to m m (λ r. instr.Const to (kind.Int k) v ∷ r)
-      value_null : {s : Bool} {v to : ℕ} {m : Mark} →
+      value_null : {s : Bool} {v to : ℕ} {m : Mark} → v < 2 ^ 64 →
           IsValue (kind.Cap s) (Null v) to m m (λ r. instr.Const to (kind.Cap s) v ∷ r)
       value_variable : {x t to : ℕ} {k : TacKind} {q : Pos} {m : Mark} →
           g.home x ≡ Some (record { temp = t; kind = k }) →
@@ -343,7 +359,7 @@ module _ (p : Typed) (signs : ℕ → Signature) (kinds : List TacKind) (g : Sce
           → IsValue (kind.Int i) (Binary q (Whole op i (kind_of k)) a b) to m (more (right_temps op k) n)
           (λ r. c (operating.whole op i k to x y n.temps r))
       value_derived : {op : IntOp} {s right plain : Bool} {k : TacKind} {a b : Ex} {x y to : ℕ} {q : Pos} {m n : Mark}
-          {c : Code} → IsPair (kind.Cap s) a x k b y m n c →
+          {c : Code} → (right ≡ true → k ≡ kind.Cap s) → IsPair (kind.Cap s) a x k b y m n c →
           AreInts kinds (operating.derived op s right k to x y n.temps [])
           → IsValue (kind.Cap s) (Binary q (Derived op s (kind_of k) right plain) a b) to m
           (more (address_temps op k) n) (λ r. c (operating.derived op s right k to x y n.temps r))
@@ -359,11 +375,11 @@ module _ (p : Typed) (signs : ℕ → Signature) (kinds : List TacKind) (g : Sce
           (more (moved_temps k (stride size minus)) n)
           (λ r. c (operating.moved k (stride size minus) to y x n.temps r))
       value_displaced : {size v : ℕ} {minus : Bool} {i : IntKind} {a b : Ex} {t to : ℕ} {q : Pos} {m n : Mark}
-          {c : Code} → IsConstant (kind.Int i) b v → IsOperandIn pointer_kind a to t m n c
+          {c : Code} → IsConstant i b v → IsOperandIn pointer_kind a to t m n c
           → IsValue pointer_kind (Binary q (Moved size minus false (Plain i)) a b) to m n
           (λ r. c (instr.Offset to t (amount.Number (stride size minus * v % 2 ^ 64)) ∷ r))
       value_displaced_right : {size v : ℕ} {minus : Bool} {i : IntKind} {a b : Ex} {t to : ℕ} {q : Pos} {m n : Mark}
-          {c : Code} → IsConstant (kind.Int i) a v → IsOperandIn pointer_kind b to t m n c
+          {c : Code} → IsConstant i a v → IsOperandIn pointer_kind b to t m n c
           → IsValue pointer_kind (Binary q (Moved size minus true (Plain i)) a b) to m n
           (λ r. c (instr.Offset to t (amount.Number (stride size minus * v % 2 ^ 64)) ∷ r))
       value_difference : {size : ℕ} {a b : Ex} {x y to : ℕ} {q : Pos} {m n : Mark} {c : Code} →
@@ -590,5 +606,5 @@ module _ (p : Typed) (signs : ℕ → Signature) (kinds : List TacKind) (g : Sce
           → IsCall k (Call q (fits p [] of) e es) to l n (λ r. c (d (instr.CallValue to v of ts q ∷ r)))
       call_library : {k : Option TacKind} {to : Option ℕ} {service : Service} {es : Exs} {ks : List TacKind}
           {ts : List ℕ} {q : Pos} {m n : Mark} {c : Code}
-          → served service (first_kind ks) ≡ k → IsArguments es ks ts m n c
+          → served service (first_kind ks) ≡ k → Takes service ks → IsArguments es ks ts m n c
           → IsCall k (Library q service es) to m n (λ r. c (serves service to (first_kind ks) ts r))

@@ -6,6 +6,7 @@ use Rattle.ck_base.specs.declared.positions.Pos.{Pos}
 use Rattle.c_tree.specs.declared.typed.Typed.{Typed}
 use Rattle.obj_mem.specs.Values.{Value}
 use Rattle.cheri_c_sem.specs.Kinds.{Kind, nothing}
+use Rattle.cheri_c_sem.specs.Modes.{Store}
 use Rattle.cheri_c_sem.specs.Operations.{Operations}
 use Rattle.cheri_c_sem.specs.Statements.{Flow, Goes, Breaks, Continues, Returns, exec, execs, test_of, step_of, enter}
 use Rattle.cheri_c_sem.specs.Statements.{leave}
@@ -42,10 +43,10 @@ abbrev pub IsGiven : Option TacKind → Value → Type 0
 IsGiven None v = Unit {0}
 IsGiven (Some k) v = IsOf (kind_of k) v
 
-module _ {M : Type 0} (ops : Operations M) (w : World) (t : Tac) (p : Typed) (objects : ℕ → List ℕ) (r : Running)
-    (call : ℕ → List Value → Then M Value) (result : Option TacKind) where
+module _ (ops : Operations Store) (w : World) (t : Tac) (p : Typed) (objects : ℕ → List ℕ) (r : Running)
+    (call : ℕ → List Value → Then Store Value) (result : Option TacKind) where
   -- a state that a statement comes to, in the same call
-  pub record Came (s u : State M) : Type 0 where
+  pub record Came (s u : State Store) : Type 0 where
     pub left : u.left ≤ s.left
     pub first : u.first ≡ s.first
     pub frame : u.frame ≡ s.frame
@@ -61,44 +62,44 @@ module _ {M : Type 0} (ops : Operations M) (w : World) (t : Tac) (p : Typed) (ob
 
   -- What follows a statement goes on, from the states that it comes to, with the rest, behind one of the labels, or in
   -- the caller
-  pub record Follows (g : Scene) (x : Exits) (rest : List TacInstr) (s : State M) (l : Flow → State M → Fate) :
+  pub record Follows (g : Scene) (x : Exits) (rest : List TacInstr) (s : State Store) (l : Flow → State Store → Fate) :
       Type 0 where
-    pub goes_on : (u : State M) (us : List (Option Value)) → Came s u → Agrees ops g None u us →
+    pub goes_on : (u : State Store) (us : List (Option Value)) → Came s u → Agrees ops g None u us →
         l Goes u ≡ goes ops w t p objects r call g rest u us
-    pub breaks : (b : ℕ) → x.breaks ≡ Some b → (u : State M) (us : List (Option Value)) → Came s u →
+    pub breaks : (b : ℕ) → x.breaks ≡ Some b → (u : State Store) (us : List (Option Value)) → Came s u →
         Agrees ops g None u us → l Breaks u ≡ goes ops w t p objects r call g (behind b rest) u us
-    pub continues : (b : ℕ) → x.continues ≡ Some b → (u : State M) (us : List (Option Value)) → Came s u →
+    pub continues : (b : ℕ) → x.continues ≡ Some b → (u : State Store) (us : List (Option Value)) → Came s u →
         Agrees ops g None u us → l Continues u ≡ goes ops w t p objects r call g (behind b rest) u us
-    pub returns : (v : Value) (u : State M) (us : List (Option Value)) → Came s u → IsGiven result v
+    pub returns : (v : Value) (u : State Store) (us : List (Option Value)) → Came s u → IsGiven result v
         → l (Returns v) u ≡ back ops w t p objects (behind_turn ops w t p objects u.left)
         (given_back result v) r.fun r.callers (record u { vars = us })
 
   pub record StatementRuns (g : Scene) (x : Exits) (a : St) (m n : Mark) (c : Code) : Type 0 where
     pub piece : IsPiece m n c
-    pub runs : (s : State M) (ts : List (Option Value)) (l : Flow → State M → Fate) (rest : List TacInstr) →
+    pub runs : (s : State Store) (ts : List (Option Value)) (l : Flow → State Store → Fate) (rest : List TacInstr) →
         HasRoom g m n → AreBefore m x → Known m n (c rest) → Agrees ops g None s ts → Follows g x rest s l
         → exec ops w call a s l ≡ goes ops w t p objects r call g (c rest) s ts
 
   pub record StatementsRun (g : Scene) (x : Exits) (ss : Sts) (m n : Mark) (c : Code) : Type 0 where
     pub piece : IsPiece m n c
-    pub runs : (s : State M) (ts : List (Option Value)) (l : Flow → State M → Fate) (rest : List TacInstr) →
+    pub runs : (s : State Store) (ts : List (Option Value)) (l : Flow → State Store → Fate) (rest : List TacInstr) →
         HasRoom g m n → AreBefore m x → Known m n (c rest) → Agrees ops g None s ts → Follows g x rest s l
         → execs ops w call ss s l ≡ goes ops w t p objects r call g (c rest) s ts
 
   -- a loop's test, if there is one, goes behind a label where it is false; and its step
   pub record TestRuns (g : Scene) (o : Option (Pos × Kind × Ex)) (label : ℕ) (m n : Mark) (c : Code) : Type 0 where
     pub piece : IsPiece m n c
-    pub runs : (s : State M) (ts : List (Option Value)) (l : Bool → State M → Fate) (rest : List TacInstr) →
+    pub runs : (s : State Store) (ts : List (Option Value)) (l : Bool → State Store → Fate) (rest : List TacInstr) →
         HasRoom g m n → label < m.labels → Agrees ops g None s ts
-        → ((b : Bool) (u : State M) (us : List (Option Value)) → Came s u → Agrees ops g None u us →
+        → ((b : Bool) (u : State Store) (us : List (Option Value)) → Came s u → Agrees ops g None u us →
         l b u ≡ goes ops w t p objects r call g (if same false b then behind label rest else rest) u us)
         → test_of ops w call o s l ≡ goes ops w t p objects r call g (c rest) s ts
 
   pub record StepRuns (g : Scene) (o : Option Ex) (m n : Mark) (c : Code) : Type 0 where
     pub piece : IsPiece m n c
-    pub runs : (s : State M) (ts : List (Option Value)) (l : Unit {0} → State M → Fate) (rest : List TacInstr) →
+    pub runs : (s : State Store) (ts : List (Option Value)) (l : Unit {0} → State Store → Fate) (rest : List TacInstr) →
         HasRoom g m n → Agrees ops g None s ts
-        → ((u : State M) (us : List (Option Value)) → Came s u → Agrees ops g None u us →
+        → ((u : State Store) (us : List (Option Value)) → Came s u → Agrees ops g None u us →
         l tt u ≡ goes ops w t p objects r call g rest u us) →
         step_of ops w call o s l ≡ goes ops w t p objects r call g (c rest) s ts
 
@@ -110,10 +111,10 @@ module _ {M : Type 0} (ops : Operations M) (w : World) (t : Tac) (p : Typed) (ob
     pub fixed : h.fixed ≡ g.fixed
     pub size : h.size ≡ g.size
     pub plain : (o : ℕ) (rest : List TacInstr) → behind o (c rest) ≡ behind o rest
-    pub outward : (s : State M) (ts : List (Option Value)) → Agrees ops h None s ts → Agrees ops g None s ts
-    pub leaves : (s : State M) (l : Unit {0} → State M → Fate) → leave ops w ds s l ≡ l tt s
-    pub runs : (s : State M) (ts : List (Option Value)) (l : Unit {0} → State M → Fate) (rest : List TacInstr) →
+    pub outward : (s : State Store) (ts : List (Option Value)) → Agrees ops h None s ts → Agrees ops g None s ts
+    pub leaves : (s : State Store) (l : Unit {0} → State Store → Fate) → leave ops w ds s l ≡ l tt s
+    pub runs : (s : State Store) (ts : List (Option Value)) (l : Unit {0} → State Store → Fate) (rest : List TacInstr) →
         Agrees ops g None s ts
-        → ((u : State M) (us : List (Option Value)) → Came s u → Agrees ops h None u us →
+        → ((u : State Store) (us : List (Option Value)) → Came s u → Agrees ops h None u us →
         l tt u ≡ goes ops w t p objects r call h rest u us) →
         enter ops w ds s l ≡ goes ops w t p objects r call g (c rest) s ts

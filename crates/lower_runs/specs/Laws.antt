@@ -1,6 +1,7 @@
 -- The laws, for each rule of the relation: where the codes of the parts do what the parts mean, so does the code that
 -- the rule makes of them.
-use Rattle.std.specs.Prelude.{◌≡◌, ℕ, ◌+◌, Bool, true, false, not, List, [], ◌∷◌, length, Option, Some, None, slice_get}
+use Rattle.std.specs.Prelude.{◌≡◌, ℕ, ◌+◌, ◌^◌, ◌<◌, Bool, true, false, not, List, [], ◌∷◌, length, Option, Some, None}
+use Rattle.std.specs.Prelude.{slice_get}
 use Rattle.ck_base.specs.World.{World}
 use Rattle.ck_base.specs.declared.positions.Pos.{Pos}
 use Rattle.ck_int.specs.Kinds.{IsKept}
@@ -99,7 +100,7 @@ module _ (ops : Operations Store) (w : World) (t : Tac) (p : Typed) (objects : �
   pub record ValueRules : Type 0 where
     pub number : (k : IntKind) (v to : ℕ) (m : Mark) → IsKept k v →
         Value_runs (kind.Int k) (Number v) to m m (λ rest. instr.Const to (kind.Int k) v ∷ rest)
-    pub null : (s : Bool) (v to : ℕ) (m : Mark) →
+    pub null : (s : Bool) (v to : ℕ) (m : Mark) → v < 2 ^ 64 →
         Value_runs (kind.Cap s) (Null v) to m m (λ rest. instr.Const to (kind.Cap s) v ∷ rest)
     pub variable : (x at to : ℕ) (k : TacKind) (q : Pos) (m : Mark) → g.home x ≡ Some (record { temp = at; kind = k }) →
         Value_runs k (Load (kind_of k) (Variable q x)) to m m (transfer to at)

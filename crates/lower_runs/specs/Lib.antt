@@ -1,3 +1,4 @@
+pub mod Sound
 pub mod States
 pub mod Operating
 pub mod Expressions
@@ -7,5 +8,4 @@ pub mod Following
 pub mod Calling
 pub mod Laws
 pub mod StatementLaws
-pub mod Left
 pub mod Result

@@ -10,12 +10,11 @@ use Rattle.cheri_c_sem.specs.Tree.{Ex, Exs}
 use Rattle.tac_ir.specs.Meaning.{Running}
 use Rattle.tac_ir.specs.declared.code.Tac.{Tac}
 use Rattle.tac_ir.specs.declared.code.TacKind.{TacKind}
-use Rattle.lower_runs.specs.States.{Scene, IsScene, IsPlaced}
+use Rattle.lower_runs.specs.States.{Scene, IsScene, IsPlaced, AreBytes}
 use Rattle.lower_runs.specs.Operating.{Code}
 use Rattle.lower_runs.specs.Expressions.{Mark, Signature, IsValue, IsOperand, IsEffect, IsCondition, IsPlace}
 use Rattle.lower_runs.specs.Simulation.{ValueRuns, OperandRuns, EffectRuns, ConditionRuns, PlaceRuns, kinds}
 use Rattle.lower_runs.specs.Calling.{CallsRun}
-use Rattle.lower_runs.specs.Left.{RulesLeft}
 
 module _ (ops : Operations Store) (w : World) (t : Tac) (p : Typed) (objects : ℕ → List ℕ) (r : Running)
     (call : ℕ → List Value → Then Store Value) (signs : ℕ → Signature) (g : Scene) where
@@ -35,11 +34,10 @@ module _ (ops : Operations Store) (w : World) (t : Tac) (p : Typed) (objects : �
     pub place : (e : Ex) (to : ℕ) (m n : Mark) (c : Code) → IsPlace p signs temps g e to m n c →
         PlaceRuns ops w t p objects r call g e to m n c
 
--- given calls, and the rules that are left
+-- given calls
 abbrev pub ExpressionsRun : Type 0
 ExpressionsRun =
     (ops : Operations Store) → IsPlaced ops →
     (w : World) (t : Tac) (p : Typed) (objects : ℕ → List ℕ) (r : Running)
     (call : ℕ → List Value → Then Store Value) (signs : ℕ → Signature) (g : Scene) → IsScene g
-    → CallsRun ops w t p objects call signs g.limit → RulesLeft ops w t p objects r call signs g →
-    Runs ops w t p objects r call signs g
+    → AreBytes w → CallsRun ops w t p objects call signs g.limit → Runs ops w t p objects r call signs g

@@ -6,6 +6,7 @@ use Rattle.ck_base.specs.World.{World}
 use Rattle.ck_base.specs.declared.positions.Pos.{Pos}
 use Rattle.c_tree.specs.declared.typed.Typed.{Typed}
 use Rattle.obj_mem.specs.Values.{Value}
+use Rattle.cheri_c_sem.specs.Modes.{Store}
 use Rattle.cheri_c_sem.specs.Meaning.{Place, At, test, value_of, place_of}
 use Rattle.cheri_c_sem.specs.Operations.{Operations}
 use Rattle.cheri_c_sem.specs.Steps.{State, Fate, Then, ◌>>=◌}
@@ -18,6 +19,7 @@ use Rattle.tac_ir.specs.declared.code.TacInstr.{TacInstr}
 use Rattle.tac_ir.specs.declared.code.TacInstr.TheVariants as instr
 use Rattle.tac_ir.specs.declared.code.TacKind.{TacKind}
 use Rattle.lower_runs.specs.States.{Scene, Home, IsFree, IsOf, Agrees, Went}
+use Rattle.lower_runs.specs.Sound.{IsPointer, IsSound}
 use Rattle.lower_runs.specs.Operating.{Code}
 use Rattle.lower_runs.specs.Expressions.{Mark, Target, target_mark, target_code, target_temp, spares, spare}
 use Rattle.lower_runs.specs.Expressions.{position_in, same}
@@ -51,53 +53,56 @@ pub record Holds (limit : ℕ) (k : TacKind) (at : ℕ) (v : Value) (us : List (
   pub typed : IsOf (kind_of k) v
   pub below : at < limit
 
-module _ {M : Type 0} (ops : Operations M) (g : Scene) where
+module _ (ops : Operations Store) (g : Scene) where
   -- ---- what a part leaves behind: of an expression without its value; and with it, in a temp that was given, or in
   -- one that stays
 
-  pub record Done (keeps : ℕ → Bool) (m : Mark) (s : State M) (ts : List (Option Value)) (u : State M)
+  pub record Done (keeps : ℕ → Bool) (m : Mark) (s : State Store) (ts : List (Option Value)) (u : State Store)
       (us : List (Option Value)) : Type 0 where
     pub agrees : Agrees ops g None u us
     pub went : Went ops g keeps m.temps None s ts u us
 
-  pub record Valued (k : TacKind) (keeps : ℕ → Bool) (to : ℕ) (m : Mark) (s : State M) (ts : List (Option Value))
-      (v : Value) (u : State M) (us : List (Option Value)) : Type 0 where
+  pub record Valued (k : TacKind) (keeps : ℕ → Bool) (to : ℕ) (m : Mark) (s : State Store) (ts : List (Option Value))
+      (v : Value) (u : State Store) (us : List (Option Value)) : Type 0 where
     pub agrees : Agrees ops g (Some to) u us
     pub went : Went ops g keeps m.temps (Some to) s ts u us
     pub value : slice_get us to ≡ Some (Some v)
     pub typed : IsOf (kind_of k) v
 
-  pub record Held (k : TacKind) (later : Exs) (keeps : ℕ → Bool) (at : ℕ) (m n : Mark) (s : State M)
-      (ts : List (Option Value)) (v : Value) (u : State M) (us : List (Option Value)) : Type 0 where
+  pub record Held (k : TacKind) (later : Exs) (keeps : ℕ → Bool) (at : ℕ) (m n : Mark) (s : State Store)
+      (ts : List (Option Value)) (v : Value) (u : State Store) (us : List (Option Value)) : Type 0 where
     pub done : Done keeps m s ts u us
     pub value : slice_get us at ≡ Some (Some v)
     pub typed : IsOf (kind_of k) v
     pub stays : Stays g later m.temps n.temps at
 
   -- in a temp that was given, or in one that has it already
-  pub record HeldIn (k : TacKind) (keeps : ℕ → Bool) (to at : ℕ) (m n : Mark) (s : State M) (ts : List (Option Value))
-      (v : Value) (u : State M) (us : List (Option Value)) : Type 0 where
+  pub record HeldIn (k : TacKind) (keeps : ℕ → Bool) (to at : ℕ) (m n : Mark) (s : State Store)
+      (ts : List (Option Value))
+      (v : Value) (u : State Store) (us : List (Option Value)) : Type 0 where
     pub agrees : Agrees ops g (Some to) u us
     pub went : Went ops g keeps m.temps (Some to) s ts u us
     pub holds : Holds n.temps k at v us
 
   -- where a place was asked for: the pointer to it, and its position
-  pub record Reached (e : Ex) (to : ℕ) (m : Mark) (s : State M) (ts : List (Option Value)) (q : Pos) (v : Value)
-      (u : State M) (us : List (Option Value)) : Type 0 where
+  pub record Reached (e : Ex) (to : ℕ) (m : Mark) (s : State Store) (ts : List (Option Value)) (q : Pos) (v : Value)
+      (u : State Store) (us : List (Option Value)) : Type 0 where
     pub agrees : Agrees ops g (Some to) u us
     pub went : Went ops g (λ x. spares x e) m.temps (Some to) s ts u us
     pub value : slice_get us to ≡ Some (Some v)
+    pub pointer : IsPointer v
     pub position : (o : Pos) → position_in e ≡ Some o → q ≡ o
 
-  pub record Pointed (e : Ex) (later : Exs) (at : ℕ) (m n : Mark) (s : State M) (ts : List (Option Value)) (q : Pos)
-      (v : Value) (u : State M) (us : List (Option Value)) : Type 0 where
+  pub record Pointed (e : Ex) (later : Exs) (at : ℕ) (m n : Mark) (s : State Store) (ts : List (Option Value)) (q : Pos)
+      (v : Value) (u : State Store) (us : List (Option Value)) : Type 0 where
     pub done : Done (λ x. spares x e) m s ts u us
     pub value : slice_get us at ≡ Some (Some v)
+    pub pointer : IsPointer v
     pub position : (o : Pos) → position_in e ≡ Some o → q ≡ o
     pub stays : Stays g later m.temps n.temps at
 
   -- the value of an assignment, where it is asked for
-  abbrev pub Assigned : TacKind → Ex → Option ℕ → Mark → State M → List (Option Value) → Value → State M →
+  abbrev pub Assigned : TacKind → Ex → Option ℕ → Mark → State Store → List (Option Value) → Value → State Store →
       List (Option Value) → Type 0
   Assigned k e None m s ts v u us = Done (λ x. spares x e) m s ts u us
   Assigned k e (Some to) m s ts v u us = Valued k (λ x. spares x e) to m s ts v u us
@@ -106,10 +111,10 @@ abbrev pub IsTargetIfAny : Scene → Mark → Option ℕ → Type 0
 IsTargetIfAny g m None = Unit {0}
 IsTargetIfAny g m (Some to) = IsTarget g m to
 
-module _ {M : Type 0} (ops : Operations M) (w : World) (t : Tac) (p : Typed) (objects : ℕ → List ℕ) (r : Running)
-    (call : ℕ → List Value → Then M Value) (g : Scene) where
+module _ (ops : Operations Store) (w : World) (t : Tac) (p : Typed) (objects : ℕ → List ℕ) (r : Running)
+    (call : ℕ → List Value → Then Store Value) (g : Scene) where
   -- instructions from their front on, in the function that runs, from a state whose variables are temps
-  abbrev pub goes : List TacInstr → State M → List (Option Value) → Fate
+  abbrev pub goes : List TacInstr → State Store → List (Option Value) → Fate
   goes is s ts = turns ops w t p objects s.left is Runs r (record s { vars = ts })
 
   abbrev pub kinds : List TacKind
@@ -119,31 +124,32 @@ module _ {M : Type 0} (ops : Operations M) (w : World) (t : Tac) (p : Typed) (ob
 
   pub record ValueRuns (k : TacKind) (e : Ex) (to : ℕ) (m n : Mark) (c : Code) : Type 0 where
     pub piece : IsPiece m n c
-    pub runs : (s : State M) (ts : List (Option Value)) (l : Value → State M → Fate) (rest : List TacInstr) →
+    pub runs : (s : State Store) (ts : List (Option Value)) (l : Value → State Store → Fate) (rest : List TacInstr) →
         HasRoom g m n → IsTarget g m to → Agrees ops g None s ts
-        → ((v : Value) (u : State M) (us : List (Option Value)) → Valued ops g k (λ x. spares x e) to m s ts v u us →
+        → ((v : Value) (u : State Store) (us : List (Option Value)) →
+        Valued ops g k (λ x. spares x e) to m s ts v u us →
         l v u ≡ goes rest u us)
         → value_of ops w call e s l ≡ goes (c rest) s ts
 
   pub record OperandRuns (later : Exs) (k : TacKind) (e : Ex) (at : ℕ) (m n : Mark) (c : Code) : Type 0 where
     pub piece : IsPiece m n c
-    pub runs : (s : State M) (ts : List (Option Value)) (l : Value → State M → Fate) (rest : List TacInstr) →
+    pub runs : (s : State Store) (ts : List (Option Value)) (l : Value → State Store → Fate) (rest : List TacInstr) →
         HasRoom g m n → Agrees ops g None s ts
-        → ((v : Value) (u : State M) (us : List (Option Value)) →
+        → ((v : Value) (u : State Store) (us : List (Option Value)) →
         Held ops g k later (λ x. spares x e) at m n s ts v u us → l v u ≡ goes rest u us)
         → value_of ops w call e s l ≡ goes (c rest) s ts
 
   pub record OperandInRuns (k : TacKind) (e : Ex) (to at : ℕ) (m n : Mark) (c : Code) : Type 0 where
     pub piece : IsPiece m n c
-    pub runs : (s : State M) (ts : List (Option Value)) (l : Value → State M → Fate) (rest : List TacInstr) →
+    pub runs : (s : State Store) (ts : List (Option Value)) (l : Value → State Store → Fate) (rest : List TacInstr) →
         HasRoom g m n → IsTarget g m to → Agrees ops g None s ts
-        → ((v : Value) (u : State M) (us : List (Option Value)) →
+        → ((v : Value) (u : State Store) (us : List (Option Value)) →
         HeldIn ops g k (λ x. spares x e) to at m n s ts v u us → l v u ≡ goes rest u us)
         → value_of ops w call e s l ≡ goes (c rest) s ts
 
   -- two operands, one after the other
-  pub record PairHeld (j : TacKind) (a : Ex) (x : ℕ) (k : TacKind) (b : Ex) (y : ℕ) (m n : Mark) (s : State M)
-      (ts : List (Option Value)) (v z : Value) (u : State M) (us : List (Option Value)) : Type 0 where
+  pub record PairHeld (j : TacKind) (a : Ex) (x : ℕ) (k : TacKind) (b : Ex) (y : ℕ) (m n : Mark) (s : State Store)
+      (ts : List (Option Value)) (v z : Value) (u : State Store) (us : List (Option Value)) : Type 0 where
     pub done : Done ops g (λ i. spares i a && spares i b) m s ts u us
     pub left : Holds n.temps j x v us
     pub right : Holds n.temps k y z us
@@ -151,58 +157,61 @@ module _ {M : Type 0} (ops : Operations M) (w : World) (t : Tac) (p : Typed) (ob
   pub record PairRuns (j : TacKind) (a : Ex) (x : ℕ) (k : TacKind) (b : Ex) (y : ℕ) (m n : Mark) (c : Code) :
       Type 0 where
     pub piece : IsPiece m n c
-    pub runs : (s : State M) (ts : List (Option Value)) (l : Value → Value → State M → Fate) (rest : List TacInstr) →
+    pub runs : (s : State Store) (ts : List (Option Value)) (l : Value → Value → State Store → Fate)
+        (rest : List TacInstr) →
         HasRoom g m n → Agrees ops g None s ts
-        → ((v z : Value) (u : State M) (us : List (Option Value)) → PairHeld j a x k b y m n s ts v z u us →
+        → ((v z : Value) (u : State Store) (us : List (Option Value)) → PairHeld j a x k b y m n s ts v z u us →
         l v z u ≡ goes rest u us)
         → value_of ops w call a s (λ v u. value_of ops w call b u (l v)) ≡ goes (c rest) s ts
 
   pub record EffectRuns (e : Ex) (m n : Mark) (c : Code) : Type 0 where
     pub piece : IsPiece m n c
-    pub runs : (s : State M) (ts : List (Option Value)) (l : Value → State M → Fate) (rest : List TacInstr) →
+    pub runs : (s : State Store) (ts : List (Option Value)) (l : Value → State Store → Fate) (rest : List TacInstr) →
         HasRoom g m n → Agrees ops g None s ts
-        → ((v : Value) (u : State M) (us : List (Option Value)) → Done ops g (λ x. spares x e) m s ts u us →
+        → ((v : Value) (u : State Store) (us : List (Option Value)) → Done ops g (λ x. spares x e) m s ts u us →
         l v u ≡ goes rest u us)
         → value_of ops w call e s l ≡ goes (c rest) s ts
 
   pub record PlaceEffectRuns (e : Ex) (m n : Mark) (c : Code) : Type 0 where
     pub piece : IsPiece m n c
-    pub runs : (s : State M) (ts : List (Option Value)) (l : Place → State M → Fate) (rest : List TacInstr) →
+    pub runs : (s : State Store) (ts : List (Option Value)) (l : Place → State Store → Fate) (rest : List TacInstr) →
         HasRoom g m n → Agrees ops g None s ts
-        → ((v : Place) (u : State M) (us : List (Option Value)) → Done ops g (λ x. spares x e) m s ts u us →
+        → ((v : Place) (u : State Store) (us : List (Option Value)) → Done ops g (λ x. spares x e) m s ts u us →
         l v u ≡ goes rest u us)
         → place_of ops w call e s l ≡ goes (c rest) s ts
 
   -- where the truth is `when` it goes on behind the label
   pub record ConditionRuns (k : TacKind) (e : Ex) (when : Bool) (label : ℕ) (m n : Mark) (c : Code) : Type 0 where
     pub piece : IsPiece m n c
-    pub runs : (q : Pos) (s : State M) (ts : List (Option Value)) (l : Bool → State M → Fate) (rest : List TacInstr) →
+    pub runs : (q : Pos) (s : State Store) (ts : List (Option Value)) (l : Bool → State Store → Fate)
+        (rest : List TacInstr) →
         HasRoom g m n → label < m.labels → Agrees ops g None s ts
-        → ((b : Bool) (u : State M) (us : List (Option Value)) → Done ops g (λ x. spares x e) m s ts u us →
+        → ((b : Bool) (u : State Store) (us : List (Option Value)) → Done ops g (λ x. spares x e) m s ts u us →
         l b u ≡ goes (if same when b then behind label rest else rest) u us)
         → (value_of ops w call e >>= test ops w q (kind_of k)) s l ≡ goes (c rest) s ts
 
   pub record PlaceRuns (e : Ex) (to : ℕ) (m n : Mark) (c : Code) : Type 0 where
     pub piece : IsPiece m n c
-    pub runs : (s : State M) (ts : List (Option Value)) (l : Place → State M → Fate) (rest : List TacInstr) →
+    pub runs : (s : State Store) (ts : List (Option Value)) (l : Place → State Store → Fate) (rest : List TacInstr) →
         HasRoom g m n → IsTarget g m to → Agrees ops g None s ts
-        → ((q : Pos) (v : Value) (u : State M) (us : List (Option Value)) → Reached ops g e to m s ts q v u us →
+        → ((q : Pos) (v : Value) (u : State Store) (us : List (Option Value)) → Reached ops g e to m s ts q v u us →
         l (At q v) u ≡ goes rest u us)
         → place_of ops w call e s l ≡ goes (c rest) s ts
 
   pub record PointerRuns (later : Exs) (e : Ex) (at : ℕ) (m n : Mark) (c : Code) : Type 0 where
     pub piece : IsPiece m n c
-    pub runs : (s : State M) (ts : List (Option Value)) (l : Place → State M → Fate) (rest : List TacInstr) →
+    pub runs : (s : State Store) (ts : List (Option Value)) (l : Place → State Store → Fate) (rest : List TacInstr) →
         HasRoom g m n → Agrees ops g None s ts
-        → ((q : Pos) (v : Value) (u : State M) (us : List (Option Value)) → Pointed ops g e later at m n s ts q v u us →
+        → ((q : Pos) (v : Value) (u : State Store) (us : List (Option Value)) →
+        Pointed ops g e later at m n s ts q v u us →
         l (At q v) u ≡ goes rest u us)
         → place_of ops w call e s l ≡ goes (c rest) s ts
 
   pub record AssignmentRuns (k : TacKind) (e : Ex) (to : Option ℕ) (m n : Mark) (c : Code) : Type 0 where
     pub piece : IsPiece m n c
-    pub runs : (s : State M) (ts : List (Option Value)) (l : Value → State M → Fate) (rest : List TacInstr) →
+    pub runs : (s : State Store) (ts : List (Option Value)) (l : Value → State Store → Fate) (rest : List TacInstr) →
         HasRoom g m n → IsTargetIfAny g m to → Agrees ops g None s ts
-        → ((v : Value) (u : State M) (us : List (Option Value)) → Assigned ops g k e to m s ts v u us →
+        → ((v : Value) (u : State Store) (us : List (Option Value)) → Assigned ops g k e to m s ts v u us →
         l v u ≡ goes rest u us)
         → value_of ops w call e s l ≡ goes (c rest) s ts
 
@@ -214,43 +223,44 @@ module _ {M : Type 0} (ops : Operations M) (w : World) (t : Tac) (p : Typed) (ob
     pub same : (j : ℕ) → j < from → slice_get vs j ≡ slice_get us j
 
   -- The code of an operation gives what the operation means, in a temp, where those from a number on are its own
-  pub record Operated (k : TacKind) (to from : ℕ) (part : Then M Value) (d : Code) (u : State M)
+  pub record Operated (k : TacKind) (to from : ℕ) (part : Then Store Value) (d : Code) (u : State Store)
       (us : List (Option Value)) : Type 0 where
     pub value : Value
     pub typed : IsOf (kind_of k) value
     pub temps : List (Option Value)
     pub scratched : Scratched from us temps
-    pub means : (l : Value → State M → Fate) → part u l ≡ l value u
+    pub means : (l : Value → State Store → Fate) → part u l ≡ l value u
     pub runs : (rest : List TacInstr) → goes (d rest) u us ≡ goes rest u (slice_set temps to (Some value))
 
-  pub record UnaryRuns (j k : TacKind) (to x from more : ℕ) (part : Value → Then M Value) (d : Code) : Type 0 where
+  pub record UnaryRuns (j k : TacKind) (to x from more : ℕ) (part : Value → Then Store Value) (d : Code) : Type 0 where
     pub plain : (o : ℕ) (rest : List TacInstr) → behind o (d rest) ≡ behind o rest
-    pub runs : (v : Value) (u : State M) (us : List (Option Value)) → Holds from j x v us → from + more ≤ length us →
-        Operated k to from (part v) d u us
+    pub runs : (v : Value) (u : State Store) (us : List (Option Value)) → Holds from j x v us →
+        from + more ≤ length us →
+        IsSound u.mem → Operated k to from (part v) d u us
 
-  pub record BinaryRuns (i j k : TacKind) (to x y from more : ℕ) (part : Value → Value → Then M Value) (d : Code) :
+  pub record BinaryRuns (i j k : TacKind) (to x y from more : ℕ) (part : Value → Value → Then Store Value) (d : Code) :
       Type 0 where
     pub plain : (o : ℕ) (rest : List TacInstr) → behind o (d rest) ≡ behind o rest
-    pub runs : (v z : Value) (u : State M) (us : List (Option Value)) → Holds from i x v us → Holds from j y z us →
-        from + more ≤ length us → Operated k to from (part v z) d u us
+    pub runs : (v z : Value) (u : State Store) (us : List (Option Value)) → Holds from i x v us → Holds from j y z us →
+        from + more ≤ length us → IsSound u.mem → Operated k to from (part v z) d u us
 
   -- ---- copies of structs and unions
 
   -- the last step of a copy, from a place whose pointer is in a temp, goes on alike
-  abbrev pub Finishes : (to : Target) (q : Pos) (bytes unit : ℕ) (keeps : ℕ → Bool) (m : Mark) (s : State M)
-      (ts : List (Option Value)) (last : Place → Then M (Unit {0})) (l : Unit {0} → State M → Fate) → Type 0
+  abbrev pub Finishes : (to : Target) (q : Pos) (bytes unit : ℕ) (keeps : ℕ → Bool) (m : Mark) (s : State Store)
+      (ts : List (Option Value)) (last : Place → Then Store (Unit {0})) (l : Unit {0} → State Store → Fate) → Type 0
   Finishes to q bytes unit keeps m s ts last l =
-      (o : Pos) (v : Value) (at : ℕ) (k : Mark) (u : State M) (us : List (Option Value)) (rest : List TacInstr) →
+      (o : Pos) (v : Value) (at : ℕ) (k : Mark) (u : State Store) (us : List (Option Value)) (rest : List TacInstr) →
       Done ops g keeps m s ts u us → m.temps ≤ k.temps → (target_mark to k).temps ≤ g.size → at < k.temps →
       slice_get us at ≡ Some (Some v)
-      → ((z : State M) (zs : List (Option Value)) → Done ops g (λ x. true) k u us z zs → l tt z ≡ goes rest z zs) →
+      → ((z : State Store) (zs : List (Option Value)) → Done ops g (λ x. true) k u us z zs → l tt z ≡ goes rest z zs) →
       last (At o v) u l ≡ goes (target_code to k (instr.CopyUnits at (target_temp to k) bytes unit o q ∷ rest)) u us
 
   -- the copy from the place that an expression designates, whatever its last step means
   pub record CopyRuns (to : Target) (q : Pos) (bytes unit : ℕ) (e : Ex) (m n : Mark) (c : Code) : Type 0 where
     pub piece : IsPiece m n c
-    pub runs : (last : Place → Then M (Unit {0})) (s : State M) (ts : List (Option Value))
-        (l : Unit {0} → State M → Fate) (rest : List TacInstr) → HasRoom g m n → Agrees ops g None s ts →
+    pub runs : (last : Place → Then Store (Unit {0})) (s : State Store) (ts : List (Option Value))
+        (l : Unit {0} → State Store → Fate) (rest : List TacInstr) → HasRoom g m n → Agrees ops g None s ts →
         Finishes to q bytes unit (λ x. spares x e) m s ts last l
-        → ((u : State M) (us : List (Option Value)) → Done ops g (λ x. spares x e) m s ts u us →
+        → ((u : State Store) (us : List (Option Value)) → Done ops g (λ x. spares x e) m s ts u us →
         l tt u ≡ goes rest u us) → place_of ops w call e s (λ from u. last from u l) ≡ goes (c rest) s ts

@@ -75,7 +75,7 @@ pub fn calls_run()
         Everywhere (λ ops w t p objects r call g. CallRules ops w t p objects r call g signs) }
 {}
 
-/// Code that the relation makes of expressions does what they mean, given calls and the rules that are left.
+/// Code that the relation makes of expressions does what they mean, given calls, in a world that gives bytes.
 #[tactic(auto, using(crate::proofs::Results::expressions_law))]
 pub fn expressions_run()
     ensures { ExpressionsRun }
