@@ -1,6 +1,6 @@
 -- What changes in an object leaves the parts of memory that belong to no object, and what stands in the frames, as it
 -- was.
-use Rattle.std.proofs.Common.{◌≡◌, ℕ, ◌+◌, ◌-◌, ◌*◌, ◌%◌, ◌≤◌, List, sym, ap, ◌∙◌, arith, Some, inl, inr}
+use Rattle.std.proofs.Common.{◌≡◌, ℕ, ◌+◌, ◌-◌, ◌*◌, ◌%◌, ◌<◌, ◌≤◌, List, sym, ap, ◌∙◌, arith, Some, inl, inr}
 use Rattle.std.specs.Prelude.{slice_get}
 use Rattle.std.specs.Option.{option_map}
 use Rattle.tag_mem.specs.Areas.{Area, IsMemory, tag_at}
@@ -84,6 +84,45 @@ module _ (shapes : List Shape) (k : ℕ) (s : Shape) (there : slice_get shapes k
         clear = f.clear;
       }
 
+-- all of the table
+pub table_by : (shapes : List Shape) (old new : List Area) → IsMemory old → IsMemory new → (n : Needs) (m : Map)
+    (next : ℕ) (loaded : List Area) → m.table.0 % 16 ≡ 0 → Unchanged m.table.0 m.table.1 old new
+    → TableFits n m next shapes loaded old → TableFits n m next shapes loaded new
+table_by shapes old new h h' n m next loaded y all f =
+    let room = f.room in
+    record {
+      room = room;
+      before = twice m.table.0 (16 * heap_entry n) loaded old new f.before
+          (part_of m.table.0 m.table.1 m.table.0 (16 * heap_entry n) old new (omega arith) (omega arith) all);
+      behind = twice (m.table.0 + 16 * entry_count n) (m.table.1 - 16 * entry_count n) loaded old new f.behind
+          (part_of m.table.0 m.table.1 (m.table.0 + 16 * entry_count n) (m.table.1 - 16 * entry_count n) old new
+          (omega arith) (omega arith) all);
+      heap = kept_same m.table.0 m.table.1 (m.table.0 + 16 * heap_entry n) old new h h' all (omega arith)
+          (omega arith) (omega arith) ∙ f.heap;
+      clear = f.clear;
+    }
+
+-- the heap, of so many bytes
+module _ (b l : ℕ) (old new : List Area) (same : SameOutside b l old new) (a : Addresses) (n : ℕ)
+    (long : a.heap + n ≡ a.heap_end) where
+  beyond : (x : ℕ) → Apart b l a.heap n → a.heap ≤ x → x < a.heap_end → b ≤ x → b + l ≤ x
+  beyond x (inl before) low high q = omega arith
+  beyond x (inr behind) low high q = absurd (omega arith)
+
+  pub heap_aside : (next : ℕ) (shapes : List Shape) → Apart b l a.heap n → HeapFits a next shapes old
+      → HeapFits a next shapes new
+  heap_aside next shapes apart f =
+      let from = f.from in
+      let to = f.to in
+      record {
+        from = from;
+        to = to;
+        zeros = λ x low high. same.bytes x (λ q. beyond x apart (omega arith) high q) ∙ f.zeros x low high;
+        untagged = λ k low high. same.tags (16 * k) (λ y e q. beyond y apart (omega arith) (omega arith) q)
+            ∙ f.untagged k low high;
+        clear = f.clear;
+      }
+
 -- for an extent that is apart from all that begins with a granule and that no object has
 module _ (shapes : List Shape) (b l : ℕ) (aligned : b % 16 ≡ 0)
     (off : (base long : ℕ) → base % 16 ≡ 0 → IsClear shapes base long → Apart b l base long)
@@ -95,16 +134,4 @@ module _ (shapes : List Shape) (b l : ℕ) (aligned : b % 16 ≡ 0)
   pub table_kept : (n : Needs) (m : Map) (next : ℕ) (loaded : List Area) → m.table.0 % 16 ≡ 0
       → TableFits n m next shapes loaded old → TableFits n m next shapes loaded new
   table_kept n m next loaded y f =
-      let all = clear_same m.table.0 m.table.1 y f.clear in
-      let room = f.room in
-      record {
-        room = room;
-        before = twice m.table.0 (16 * heap_entry n) loaded old new f.before
-            (part_of m.table.0 m.table.1 m.table.0 (16 * heap_entry n) old new (omega arith) (omega arith) all);
-        behind = twice (m.table.0 + 16 * entry_count n) (m.table.1 - 16 * entry_count n) loaded old new f.behind
-            (part_of m.table.0 m.table.1 (m.table.0 + 16 * entry_count n) (m.table.1 - 16 * entry_count n) old new
-            (omega arith) (omega arith) all);
-        heap = kept_same m.table.0 m.table.1 (m.table.0 + 16 * heap_entry n) old new h h' all (omega arith)
-            (omega arith) (omega arith) ∙ f.heap;
-        clear = f.clear;
-      }
+      table_by shapes old new h h' n m next loaded y (clear_same m.table.0 m.table.1 y f.clear) f

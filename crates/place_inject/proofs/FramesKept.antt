@@ -16,6 +16,7 @@ use Rattle.purecap_abi.specs.Saving.{kept_homes, stack_bytes, keeps_stack, slot_
 use Rattle.purecap_abi.specs.Saving.{stack_at, slots_at}
 use Rattle.purecap_abi.proofs.Counts.{slot_count_each}
 use Rattle.tac_ir.specs.Meaning.{Caller}
+use Rattle.place_inject.specs.Registers.{UsesOnly, CallersUseOnly}
 use Rattle.place_inject.specs.Parts.{Unchanged, kept_at}
 use Rattle.place_inject.specs.Frames.{Setting, Registers, homes_of, functions_of, stack_top, slots_from, at_home}
 use Rattle.place_inject.specs.Frames.{HomesFit, Waits, from_place, behind_return, FrameFits, FramesFit}
@@ -31,15 +32,6 @@ position_within test xs k e =
 
 pub stack_multiple : (align : ℕ) → stack_bytes align % 16 ≡ 0
 stack_multiple align = cond_both (keeps_stack align) 16 0 (λ n. n % 16 ≡ 0) (λ e. refl) (λ e. refl)
-
--- the registers in which temps are that are still to be read are among some
-abbrev pub UsesOnly : (Used : ℕ → Type 0) → List Home → (live : ℕ → Type 0) → Type 0
-UsesOnly Used homes live = (t r : ℕ) → live t → slice_get homes t ≡ Some (Register r) → Used r
-
--- and those of the callers
-abbrev pub CallersUseOnly : Setting → (Used : ℕ → Type 0) → List Caller → Type 0
-CallersUseOnly s Used [] = Unit {0}
-CallersUseOnly s Used (c ∷ cs) = UsesOnly Used (homes_of s c.fun) (Waits s c) × CallersUseOnly s Used cs
 
 pub all_use : (s : Setting) (Used : ℕ → Type 0)
     → ((fun t r : ℕ) → slice_get (homes_of s fun) t ≡ Some (Register r) → Used r)

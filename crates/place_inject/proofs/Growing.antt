@@ -46,13 +46,13 @@ length_more : {A : Type 0} (xs : List A) (x : A) → length (xs ++ x ∷ []) ≡
 length_more [] x = refl
 length_more (y ∷ xs) x = ap suc (length_more xs x)
 
-set_last : (xs : List Shape) (x y : Shape) → slice_set (xs ++ x ∷ []) (length xs) y ≡ xs ++ y ∷ []
+pub set_last : (xs : List Shape) (x y : Shape) → slice_set (xs ++ x ∷ []) (length xs) y ≡ xs ++ y ∷ []
 set_last [] x y = refl
 set_last (z ∷ xs) x y = ap (λ r. z ∷ r) (set_last xs x y)
 
 -- ---- alignments and bounds
 
-power_sixteen : (k : ℕ) → 16 ≤ 2 ^ k → 2 ^ k % 16 ≡ 0
+pub power_sixteen : (k : ℕ) → 16 ≤ 2 ^ k → 2 ^ k % 16 ≡ 0
 power_sixteen zero h = absurd (omega arith)
 power_sixteen (suc zero) h = absurd (omega arith)
 power_sixteen (suc (suc zero)) h = absurd (omega arith)

@@ -8,7 +8,7 @@ mod Bits
 mod Sound
 mod Known
 mod Reached
-mod Storing
+pub mod Storing
 mod Numbered
 pub mod Loading
 mod Elsewhere
@@ -16,6 +16,7 @@ mod Lying
 mod FramesKept
 pub mod StoresKeep
 pub mod Reaching
+pub mod Stepping
 pub mod ReadBack
 pub mod Results
 pub mod Spilling
@@ -29,7 +30,12 @@ pub mod Pointing
 pub mod Getting
 mod Reshaped
 mod Altered
+pub mod Leaving
+mod Locals
+pub mod Entering
 pub mod Zeroing
+pub mod Granules
+pub mod Registers
 pub mod Copying
 pub mod Growing
 pub mod Wholes

@@ -8,6 +8,7 @@ use Rattle.cheri_c_sem.specs.Modes.{below, frame_within}
 pub record Lies (low above at : ℕ) (f : Frame) : Type 0 where
   pub from : low ≤ at
   pub to : at + f.size ≤ above
+  pub is : below above f ≡ at
 
 pub within : (low above at : ℕ) (f : Frame) → frame_within low above (Some f) ≡ Some at → Lies low above at f
 within low above at f e = elim (cases_Bool
@@ -20,5 +21,5 @@ within low above at f e = elim (cases_Bool
           let room = ltb-false above f.size q.0 in
           let low_is = ltb-false (below above f) low q.1 in
           let down : below above f ≤ above - f.size = omega arith in
-          record { from = omega arith; to = omega arith }
+          record { from = omega arith; to = omega arith; is = same }
     ]

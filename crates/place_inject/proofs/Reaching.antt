@@ -66,17 +66,24 @@ decoded internal t b e v d low high a i end from to =
           ∙ sym it,
     )
 
+-- bounds that an address keeps
+pub keeps_near : (low high a y : ℕ) → keeps low high a ≡ true → 65536 ≤ low → low ≤ high → high ≤ 2 ^ 40 → low ≤ y
+    → y < high + 4096 → keeps low high y ≡ true
+keeps_near low high a y kept start ordered end from to =
+    let internal = encoded_internal low high in
+    let t = encoded_t low high in
+    let b = encoded_b low high in
+    let here = kept_parts low high a kept in
+    let r = in_units internal t b a low high (encoded_t_below low high) (encoded_b_below low high) (sym here.0)
+    (sym here.1) start ordered end in
+    keeps_by low high y (decoded internal t b r.0 r.1 r.2 low high y r.3 end from to)
+
 reaches : (low high a : ℕ) → Encodable low high → 65536 ≤ low → high ≤ 2 ^ 40 → low ≤ a → a < high + 4096
     → keeps low high a ≡ true
 reaches low high a enc start end from to =
     let ordered = enc.ordered in
-    let internal = encoded_internal low high in
-    let t = encoded_t low high in
-    let b = encoded_b low high in
     let here = encoded_decodes low high low enc (omega arith) (omega arith) ordered in
-    let r = in_units internal t b low low high (encoded_t_below low high) (encoded_b_below low high) (sym here.0)
-    (sym here.1) start ordered end in
-    keeps_by low high a (decoded internal t b r.0 r.1 r.2 low high a r.3 end from to)
+    keeps_near low high low a (keeps_by low high low here) start ordered end from to
 
 stack_exact : (low long : ℕ) → low % 65536 ≡ 0 → long % 65536 ≡ 0 → long ≤ 33554432 → low + long ≤ 2 ^ 40
     → Encodable low (low + long)

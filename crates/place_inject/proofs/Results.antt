@@ -26,9 +26,10 @@ use Rattle.place_inject.specs.Values.{IsKnown}
 use Rattle.place_inject.specs.Frames.{Setting, Point, IsLive, homes_of, functions_of, stack_top, slots_from, at_home}
 use Rattle.place_inject.specs.Frames.{HomesFit, from_place, behind_return, FrameFits, FramesFit}
 use Rattle.place_inject.specs.Fits.{Fits, HomesAreUsable, registers_in}
+use Rattle.place_inject.specs.Registers.{CallersUseOnly}
 use Rattle.place_inject.specs.Homes.{CallersKeep, HomeIsFree, onward, ReadsNoMore, HasResult, ResultsFit, NumbersFit}
 use Rattle.place_inject.specs.Homes.{MovesOnFit, NumbersReadBack, RegistersReadBack}
-use Rattle.place_inject.proofs.FramesKept.{CallersUseOnly, frames_behind}
+use Rattle.place_inject.proofs.FramesKept.{frames_behind}
 use Rattle.place_inject.proofs.StoresKeep.{same_memory}
 
 -- ---- a kept register that is a home is saved

@@ -1,5 +1,5 @@
 -- A value that is spilled to the slot of its temp keeps the injection.
-use Rattle.std.proofs.Common.{◌≡◌, ◌⊎◌, ℕ, ◌+◌, ◌-◌, ◌*◌, ◌%◌, ◌^◌, ◌<◌, ◌≤◌, ◌==◌, ◌||◌, ℤ, Bool, true, false, not}
+use Rattle.std.proofs.Common.{◌≡◌, ◌⊎◌, ℕ, ◌+◌, ◌*◌, ◌%◌, ◌^◌, ◌<◌, ◌≤◌, ◌==◌, ◌||◌, ℤ, Bool, true, false, not}
 use Rattle.std.proofs.Common.{ltb, List, [], ◌∷◌, length, refl, sym, ap, ◌∙◌, subst, arith, ⊎_elim, Option, Some, None}
 use Rattle.std.proofs.Common.{inl, inr}
 use Rattle.std.specs.Prelude.{slice_get, slice_set, position, Ok}
@@ -30,7 +30,7 @@ use Rattle.cap_machine.specs.Rows.{plus, store_row, store_checked, stored, memor
 use Rattle.obj_mem.specs.Legal.{Apart, IsLegal}
 use Rattle.obj_mem.specs.Objects.{Shape, base_in}
 use Rattle.obj_mem.specs.Pointers.{keeps}
-use Rattle.obj_mem.specs.Table.{addresses_of, entry_count, heap_entry}
+use Rattle.obj_mem.specs.Table.{addresses_of}
 use Rattle.obj_mem.specs.Values.{Value, Int, Live, Fun, Raw, Addresses, capability_of}
 use Rattle.cheri_c_sem.specs.Modes.{Store}
 use Rattle.cheri_c_sem.specs.Steps.{State}
@@ -54,7 +54,7 @@ use Rattle.place_inject.specs.Homes.{onward, ReadsNoMore}
 use Rattle.place_inject.specs.Spills.{SlotIsFree, StackIsThere, SpillsFit}
 use Rattle.place_inject.proofs.Bits.{fields_back, flipped_small}
 use Rattle.place_inject.proofs.Changed.{active_stays}
-use Rattle.place_inject.proofs.Elsewhere.{twice, part_of, elsewhere, kept_same}
+use Rattle.place_inject.proofs.Elsewhere.{twice, elsewhere, kept_same, table_by, heap_aside}
 use Rattle.place_inject.proofs.FramesKept.{position_within, stack_multiple, all_use, calls_kept}
 use Rattle.place_inject.proofs.Lying.{within}
 use Rattle.place_inject.proofs.ReadBack.{none_fails, address_of, under_top}
@@ -82,7 +82,7 @@ unfolding with_bounds
 may_store_tags low high y at true = refl
 may_store_tags low high y at false = refl
 
-stack_stores : (low high y at : ℕ) (tag : Bool) → keeps low high y ≡ true → low ≤ at → at + 16 ≤ high → at % 16 ≡ 0
+pub stack_stores : (low high y at : ℕ) (tag : Bool) → keeps low high y ≡ true → low ≤ at → at + 16 ≤ high → at % 16 ≡ 0
     → checked (bounded low high data_permissions UNSEALED y) at (A.StoreCap tag) ≡ Ok at
 unfolding checked
 stack_stores low high y at tag kept from to aligned =
@@ -224,44 +224,13 @@ module _ (s : Setting) (legal : IsLegal s.needs s.map) (stack : StackIsThere s) 
 
     table_still : TableFits s.needs s.map t.mem.heap shapes s.loaded.mem new
     table_still =
-        let all = part_still s.map.table.0 s.map.table.1 legal.table_aligned legal.apart.1.0.1.0 in
-        let room = f.table.room in
-        let z = legal.table_aligned in
-        record {
-          room = room;
-          before = twice s.map.table.0 (16 * heap_entry s.needs) s.loaded.mem m.mem new f.table.before
-              (part_of s.map.table.0 s.map.table.1 s.map.table.0 (16 * heap_entry s.needs) m.mem new (omega arith)
-              (omega arith) all);
-          behind = twice (s.map.table.0 + 16 * entry_count s.needs)
-              (s.map.table.1 - 16 * entry_count s.needs) s.loaded.mem m.mem new
-              f.table.behind
-              (part_of s.map.table.0 s.map.table.1 (s.map.table.0 + 16 * entry_count s.needs)
-              (s.map.table.1 - 16 * entry_count s.needs) m.mem new (omega arith) (omega arith) all);
-          heap = kept_same s.map.table.0 s.map.table.1
-              (s.map.table.0 + 16 * heap_entry s.needs) m.mem new f.objects.areas w.areas all
-              (omega arith) (omega arith) (omega arith) ∙ f.table.heap;
-          clear = f.table.clear;
-        }
+        table_by shapes m.mem new f.objects.areas w.areas s.needs s.map t.mem.heap s.loaded.mem legal.table_aligned
+        (part_still s.map.table.0 s.map.table.1 legal.table_aligned legal.apart.1.0.1.0) f.table
 
     heap_still : HeapFits (addresses_of s.map) t.mem.heap shapes new
     heap_still =
-        let from = f.heap.from in
-        let to = f.heap.to in
-        let apart = off_part s.map.heap.0 s.map.heap.1 legal.apart.1.1.0.0 in
-        record {
-          from = from;
-          to = to;
-          zeros = λ x low high. same.bytes x (λ q. beyond x apart (omega arith) high q) ∙ f.heap.zeros x low high;
-          untagged = λ k low high. same.tags (16 * k)
-              (λ y e q. beyond y apart (omega arith) (omega arith) q) ∙ f.heap.untagged k low high;
-          clear = f.heap.clear;
-        }
-      where
-        beyond : (x : ℕ) → Apart at 16 s.map.heap.0 s.map.heap.1 → s.map.heap.0 ≤ x → x < s.map.heap.0 + s.map.heap.1 →
-            at ≤ x
-            → at + 16 ≤ x
-        beyond x (inl before) low high q = omega arith
-        beyond x (inr behind) low high q = absurd (omega arith)
+        heap_aside at 16 m.mem new same (addresses_of s.map) s.map.heap.1 refl t.mem.heap shapes
+        (off_part s.map.heap.0 s.map.heap.1 legal.apart.1.1.0.0) f.heap
 
     -- ---- what frames keep
 

@@ -19,3 +19,6 @@ pub mod Zeroing
 pub mod Calling
 pub mod Spills
 pub mod Tables
+pub mod Registers
+pub mod Leaving
+pub mod Entering

@@ -5,18 +5,21 @@ ghost use Rattle.place_inject.specs.Calling.{CalleesFit};
 ghost use Rattle.place_inject.specs.Changes.{ComeAndGoWhereObjectsFit};
 ghost use Rattle.place_inject.specs.Copies.{CopiesFit};
 ghost use Rattle.place_inject.specs.Disjoint.{ExtentsAreApartWhereFits};
+ghost use Rattle.place_inject.specs.Entering.{EntersFit};
 ghost use Rattle.place_inject.specs.Fits.{ScratchKeepsFits, StoresKeepFits};
 ghost use Rattle.place_inject.specs.Getting.{GettingFitsWhereObjectsDo};
 ghost use Rattle.place_inject.specs.Growing.{AllocationsFit, LocalsFitIn};
 ghost use Rattle.place_inject.specs.Homes.{MovesOnFit, NumbersFit, NumbersReadBack, RegistersReadBack, ResultsFit};
+ghost use Rattle.place_inject.specs.Leaving.{LeavesFit};
 ghost use Rattle.place_inject.specs.Pointers.{PointersFitWhereSpread};
+ghost use Rattle.place_inject.specs.Registers.{DoneKeepsFits, RegistersKeepFits};
 ghost use Rattle.place_inject.specs.Returns.{ReturnsClear};
 ghost use Rattle.place_inject.specs.Slots.{SlotsReadBack, StackReaches};
 ghost use Rattle.place_inject.specs.Spills.{SpillsFit};
 ghost use Rattle.place_inject.specs.Starts.{StartFits};
 ghost use Rattle.place_inject.specs.Tables.{TableReaches, TableReadsBack};
 ghost use Rattle.place_inject.specs.Whole.{WholePointersFit};
-ghost use Rattle.place_inject.specs.Zeroing.{ZeroKeepsFits};
+ghost use Rattle.place_inject.specs.Zeroing.{GranulesAreZeroed, ZeroKeepsFits};
 ghost use Rattle.place_inject.specs.Steps.{LoadsFitWhereObjectsDo, StoresFit};
 
 /// A store, of an integer or of a capability, over the bytes of a pointer or not. Where the meaning traps, the machine
@@ -71,6 +74,11 @@ pub fn zero_keeps_fits()
     ensures { ZeroKeepsFits }
 {}
 
+/// A granule of the stack becomes zero: `csc` of x0 through the stack's capability.
+pub fn granules_are_zeroed()
+    ensures { GranulesAreZeroed }
+{}
+
 /// A call through a value: the counter goes to the function that the value is, or the machine traps by the cause by
 /// which the meaning does.
 pub fn callees_fit()
@@ -100,6 +108,18 @@ pub fn returns_clear()
     ensures { ReturnsClear }
 {}
 
+/// A call: where the prologue saved what the return needs, and the callee's temps are in their homes, the machine
+/// stands for the callee's state, whose locals rest.
+pub fn enters_fit()
+    ensures { EntersFit }
+{}
+
+/// A return: where c2 is the caller's stack again and the registers that functions keep have what was saved of them,
+/// the machine stands for the caller's state.
+pub fn leaves_fit()
+    ensures { LeavesFit }
+{}
+
 /// The pointer to a whole object, made from a capability that holds it: its bounds are exact.
 pub fn whole_pointers_fit()
     ensures { WholePointersFit }
@@ -108,6 +128,17 @@ pub fn whole_pointers_fit()
 /// A step that changes nothing but the counter and the registers c28 to c31 keeps the injection.
 pub fn scratch_keeps_fits()
     ensures { ScratchKeepsFits }
+{}
+
+/// A step that changes nothing but the counter and registers in which no temp stands that is still to be read keeps the
+/// injection.
+pub fn registers_keep_fits()
+    ensures { RegistersKeepFits }
+{}
+
+/// The injection doesn't look at what was done with the outside, nor at how many turns are left.
+pub fn done_keeps_fits()
+    ensures { DoneKeepsFits }
 {}
 
 /// A value that comes into its temp and into the register that is the temp's home keeps the injection, where no other
