@@ -1,9 +1,8 @@
 -- Operations on addresses: what derives from a capability, and pointers that move.
-use Rattle.std.proofs.Common.{◌≡◌, ◌≢◌, ℕ, ◌+◌, ◌≤◌, ◌<◌, Bool, true, false, not, List, [], ◌∷◌, length, Option, Some}
-use Rattle.std.proofs.Common.{None, Result, Ok, Err, refl, sym, ap, subst, ◌∙◌, arith, if◌then◌else◌, length-set}
-use Rattle.std.specs.Prelude.{slice_get, slice_set, ◌&&◌, ◌==◌, ◌*◌, ◌%◌, ◌^◌, ◌-◌, pos}
-use Rattle.std.specs.Int.Bits.{bit_xor, xor_zero_l}
-use Rattle.std.proofs.lemmas.Bool.Decides.{nat_tests}
+use Rattle.std.proofs.Common.{◌≡◌, ℕ, ◌+◌, ◌≤◌, ◌<◌, Bool, true, false, List, [], ◌∷◌, length, Option, Some}
+use Rattle.std.proofs.Common.{Result, Ok, refl, sym, ap, subst, ◌∙◌, arith, if◌then◌else◌, length-set}
+use Rattle.std.specs.Prelude.{slice_get, slice_set, ◌&&◌, ◌%◌, ◌^◌, ◌-◌, pos}
+use Rattle.std.specs.Int.Bits.{xor_zero_l}
 use Rattle.ck_base.specs.World.{World}
 use Rattle.ck_base.specs.declared.positions.Pos.{Pos}
 use Rattle.ck_int.specs.Arithmetic.{binary_of}
@@ -13,7 +12,7 @@ use Rattle.ck_int.specs.declared.kinds.IntKind.TheVariants as int
 use Rattle.ck_int.specs.declared.kinds.IntOp.{IntOp}
 use Rattle.ck_int.specs.declared.kinds.IntOp.TheVariants.{Add, Sub, Mul, Div, Rem, And, Or, Xor, Shl, Shr}
 use Rattle.ck_int.proofs.Laws.{IsKept-below, IsKept-binary_of}
-use Rattle.ck_int.proofs.OperationLaws.{IsKept-64, binary_of-Add, binary_of-Sub, binary_of-Mul, binary_of-Xor}
+use Rattle.ck_int.proofs.OperationLaws.{IsKept-64, binary_of-Add, binary_of-Sub, binary_of-Xor}
 use Rattle.c_tree.specs.declared.typed.Typed.{Typed}
 use Rattle.obj_mem.specs.Values.{Value}
 use Rattle.obj_mem.specs.Values as value
@@ -26,12 +25,11 @@ use Rattle.cheri_c_sem.specs.Operations as asked
 use Rattle.cheri_c_sem.specs.Operations.{Operations, on_ok, convert_by, to_int, number_by, derive_by, capability_by}
 use Rattle.cheri_c_sem.specs.Operations.{move_by, plus_by, steps_of, is_live}
 use Rattle.cheri_c_sem.specs.Steps.{State, Fate, Then, ask, answer}
-use Rattle.cheri_c_sem.specs.Tree.{Derived, Moved, Sign, Positive, Negative, Complement}
+use Rattle.cheri_c_sem.specs.Tree.{Derived, Sign, Positive, Negative, Complement}
 use Rattle.tac_ir.specs.Effects.{kind_of, kind_at, held, no_position}
 use Rattle.tac_ir.specs.Meaning.{Running, Runs, turns}
 use Rattle.tac_ir.specs.Temps.{behind}
 use Rattle.tac_ir.specs.WellFormed.{same_kind, is_int}
-use Rattle.tac_ir.specs.declared.code.Amount.TheVariants as amount
 use Rattle.tac_ir.specs.declared.code.CapWork.TheVariants as cap
 use Rattle.tac_ir.specs.declared.code.Tac.{Tac}
 use Rattle.tac_ir.specs.declared.code.TacInstr.{TacInstr}

@@ -3,18 +3,18 @@ use Rattle.std.proofs.Common.{◌≡◌, ◌≢◌, ℕ, zero, suc, ◌+◌, ◌
 use Rattle.std.proofs.Common.{Option, Some, None, refl, sym, ap, subst, ◌∙◌, arith, ⊎_elim, length-set}
 use Rattle.std.specs.Prelude.{slice_get, slice_set, ◌&&◌}
 use Rattle.std.proofs.lemmas.Bool.{cases_eq}
-use Rattle.std.proofs.lemmas.Option.{slice_get_within, slice_get-get_or}
+use Rattle.std.proofs.lemmas.Option.{slice_get-get_or}
 use Rattle.cap_ops.specs.Permissions.{data_permissions}
 use Rattle.obj_mem.specs.Values.{Value}
 use Rattle.cheri_c_sem.specs.Modes.{Store}
 use Rattle.cheri_c_sem.specs.Operations.{Operations}
 use Rattle.cheri_c_sem.specs.Steps.{State}
-use Rattle.cheri_c_sem.specs.Tree.{Exs, Nil, Cons}
+use Rattle.cheri_c_sem.specs.Tree.{Exs}
 use Rattle.tac_ir.specs.Effects.{kind_of}
 use Rattle.tac_ir.specs.declared.code.TacKind.{TacKind}
 use Rattle.lower_runs.specs.States.{Home, Scene, IsScene, IsFree, IsOf, IsApart, IsOnward, Agrees, Went, or_zero}
 use Rattle.lower_runs.specs.Expressions.{Mark, labelled, spare}
-use Rattle.lower_runs.specs.Simulation.{Stays, own, variable, object, Done, Valued, Scratched}
+use Rattle.lower_runs.specs.Simulation.{Stays, own, variable, object, Done, Valued}
 
 -- ---- lists
 

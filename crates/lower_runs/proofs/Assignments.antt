@@ -1,55 +1,44 @@
 -- Assignments.
-use Rattle.std.proofs.Common.{◌≡◌, ◌≢◌, ℕ, ◌+◌, ◌≤◌, ◌<◌, Bool, true, false, not, List, [], ◌∷◌, length, Option, Some}
-use Rattle.std.proofs.Common.{None, Result, Ok, Err, refl, sym, ap, subst, ◌∙◌, arith, if◌then◌else◌}
+use Rattle.std.proofs.Common.{◌≡◌, ◌≢◌, ℕ, ◌≤◌, ◌<◌, Bool, true, false, not, List, ◌∷◌, Option, Some}
+use Rattle.std.proofs.Common.{None, refl, sym, ap, ◌∙◌, arith}
 use Rattle.std.specs.Prelude.{slice_get, slice_set, ◌&&◌, ◌==◌}
 use Rattle.std.proofs.lemmas.Bool.Decides.{nat_tests}
 use Rattle.ck_base.specs.World.{World}
 use Rattle.ck_base.specs.declared.positions.Pos.{Pos}
-use Rattle.cap_ops.specs.Permissions.{data_permissions, const_permissions}
 use Rattle.c_tree.specs.declared.typed.Typed.{Typed}
 use Rattle.obj_mem.specs.Values.{Value}
-use Rattle.obj_mem.specs.Values as value
-use Rattle.obj_mem.specs.declared.ending.Fault.{Fault}
-use Rattle.cheri_c_sem.specs.Expressions.{permissions_of}
-use Rattle.cheri_c_sem.specs.Kinds.{Kind, Plain, zero_of, nothing, truth, bytes_of, read_as}
+use Rattle.cheri_c_sem.specs.Kinds.{bytes_of}
 use Rattle.cheri_c_sem.specs.Modes.{Store}
-use Rattle.cheri_c_sem.specs.Meaning.{Place, In, At, capability_of, given, value_of, place_of, point_to, test, load}
+use Rattle.cheri_c_sem.specs.Meaning.{At, value_of}
 use Rattle.cheri_c_sem.specs.Meaning.{store}
-use Rattle.cheri_c_sem.specs.Operations.{Operations, convert_by}
-use Rattle.cheri_c_sem.specs.Steps.{State, Fate, Then, ◌>>=◌, answer, give, choose}
-use Rattle.cheri_c_sem.specs.Tree.{Ex, Exs, Nil, Cons, Narrowing, Number, Null, Load, Aggregate, Pointer_to, Convert}
-use Rattle.cheri_c_sem.specs.Tree.{Discard, And, Or, Conditional, Comma, Assign, Variable, Local, Object, Function}
-use Rattle.cheri_c_sem.specs.Tree.{Deref, Member}
-use Rattle.tac_ir.specs.Effects.{kind_of, held, no_position}
+use Rattle.cheri_c_sem.specs.Operations.{Operations}
+use Rattle.cheri_c_sem.specs.Steps.{State, Fate, Then}
+use Rattle.cheri_c_sem.specs.Tree.{Ex, Exs, Nil, Cons}
+use Rattle.cheri_c_sem.specs.Tree.{Assign, Variable}
+use Rattle.tac_ir.specs.Effects.{kind_of, held}
 use Rattle.tac_ir.specs.Meaning.{Running, Runs, turns}
 use Rattle.tac_ir.specs.Temps.{behind}
-use Rattle.tac_ir.specs.declared.code.Amount.TheVariants as amount
 use Rattle.tac_ir.specs.declared.code.Tac.{Tac}
 use Rattle.tac_ir.specs.declared.code.TacInstr.{TacInstr}
 use Rattle.tac_ir.specs.declared.code.TacInstr.TheVariants as instr
 use Rattle.tac_ir.specs.declared.code.TacKind.{TacKind}
-use Rattle.lower_runs.specs.States.{Home, Scene, IsScene, IsOf, IsApart, IsOnward, IsPlaced, Agrees, Went}
-use Rattle.lower_runs.specs.Sound.{IsPointer}
+use Rattle.lower_runs.specs.States.{Home, Scene, IsScene, IsOf, IsOnward, IsPlaced}
 use Rattle.lower_runs.specs.Operating.{Code, transfer}
 use Rattle.lower_runs.specs.Operating as operating
 use Rattle.lower_runs.specs.Expressions as code
 use Rattle.lower_runs.specs.Expressions.{Mark, more, labelled, spares, spare, position_in, int_kind, pointer_kind}
 use Rattle.lower_runs.specs.Expressions.{is_still, is_still_place, is_variable, same, choice_code, guarded_code, IsBase}
 use Rattle.lower_runs.specs.Expressions.{IsOwn}
-use Rattle.lower_runs.specs.Simulation as stay
-use Rattle.lower_runs.specs.Simulation.{IsPiece, HasRoom, IsTarget, IsTargetIfAny, Stays, Done, Valued, Held, Reached}
-use Rattle.lower_runs.specs.Simulation.{Pointed, Assigned, ValueRuns, OperandRuns, PairRuns, EffectRuns}
+use Rattle.lower_runs.specs.Simulation.{IsPiece, HasRoom, IsTarget, IsTargetIfAny, Done, Valued}
+use Rattle.lower_runs.specs.Simulation.{Assigned, ValueRuns, OperandRuns, EffectRuns}
 use Rattle.lower_runs.specs.Simulation.{PlaceEffectRuns, ConditionRuns, PlaceRuns, PointerRuns, AssignmentRuns, goes}
-use Rattle.lower_runs.specs.Simulation.{kinds}
 use Rattle.lower_runs.proofs.Agreement.{and_left, and_right, get_set_same, get_set_other, free_own, agrees_any}
 use Rattle.lower_runs.proofs.Agreement.{agrees_own, agrees_memory, agrees_variable, went_less, went_memory, went_then}
 use Rattle.lower_runs.proofs.Agreement.{stays, done_start, done_less, done_then, done_valued, done_labelled}
-use Rattle.lower_runs.proofs.Labels.{nothing_own, both_own, then_own, choice_own, guarded_own, found_label}
-use Rattle.lower_runs.proofs.Steps.{data_twelve_bits, loaded_is_of, same_answer, compares, converts, convert_answers}
+use Rattle.lower_runs.proofs.Labels.{nothing_own, both_own, then_own}
+use Rattle.lower_runs.proofs.Steps.{same_answer}
 use Rattle.lower_runs.proofs.Steps.{held_is, transfer_runs, lands}
 use Rattle.lower_runs.proofs.Operations.{transfer_plain}
-use Rattle.lower_runs.proofs.Operands.{in_place, in_place_stays}
-use Rattle.lower_runs.proofs.Conditions.{chosen}
 
 pub turned_test : (x y : ℕ) → (x == y) ≡ (y == x)
 turned_test x y = by (y == x) refl

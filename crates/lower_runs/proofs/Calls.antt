@@ -1,35 +1,34 @@
 -- Calls.
-use Rattle.std.proofs.Common.{◌≡◌, ◌≢◌, ℕ, zero, suc, ◌+◌, ◌≤◌, ◌<◌, Bool, true, false, List, [], ◌∷◌, length, map}
+use Rattle.std.proofs.Common.{◌≡◌, ℕ, zero, suc, ◌≤◌, Bool, true, false, List, [], ◌∷◌, map}
 use Rattle.std.proofs.Common.{Option, Some, None, refl, sym, ap, subst, ◌∙◌, arith}
-use Rattle.std.specs.Prelude.{slice_get, slice_set, slice_index_or, ◌&&◌}
+use Rattle.std.specs.Prelude.{slice_get, slice_index_or, ◌&&◌}
 use Rattle.ck_base.specs.World.{World}
 use Rattle.ck_base.specs.declared.positions.Pos.{Pos}
 use Rattle.c_tree.specs.declared.typed.Typed.{Typed}
 use Rattle.obj_mem.specs.Values.{Value}
 use Rattle.obj_mem.specs.Values as value
 use Rattle.cheri_c_sem.specs.Expressions.{fits}
-use Rattle.cheri_c_sem.specs.Kinds.{nothing}
 use Rattle.cheri_c_sem.specs.Modes.{Store}
-use Rattle.cheri_c_sem.specs.Meaning.{value_of, values_of, called, compatible}
+use Rattle.cheri_c_sem.specs.Meaning.{values_of, called, compatible}
 use Rattle.cheri_c_sem.specs.Operations.{Operations}
 use Rattle.cheri_c_sem.specs.Steps.{State, Fate, Then, turn, turn_from, over, choose, give, ends}
 use Rattle.obj_mem.specs.declared.ending.Ending.TheVariants as ending
 use Rattle.cheri_c_sem.specs.Tree.{Ex, Exs, Nil, Cons, Pointer_to, Call, Function}
 use Rattle.tac_ir.specs.Effects.{kind_of, temp_in}
-use Rattle.tac_ir.specs.Meaning.{Caller, Running, Runs, turns, behind_turn, in_frame, with_result, into, enters}
+use Rattle.tac_ir.specs.Meaning.{Caller, Running, Runs, behind_turn, with_result, into, enters}
 use Rattle.tac_ir.specs.declared.code.Tac.{Tac}
 use Rattle.tac_ir.specs.declared.code.TacInstr.{TacInstr}
 use Rattle.tac_ir.specs.declared.code.TacInstr.TheVariants as instr
 use Rattle.tac_ir.specs.declared.code.TacKind.{TacKind}
-use Rattle.lower_runs.specs.States.{Scene, IsScene, IsOf, IsOnward, IsPlaced, Agrees}
+use Rattle.lower_runs.specs.States.{Scene, IsScene, IsOnward, IsPlaced}
 use Rattle.lower_runs.specs.Operating.{Code}
 use Rattle.lower_runs.specs.Expressions.{Mark, Signature, spares, spare}
-use Rattle.lower_runs.specs.Simulation.{IsPiece, HasRoom, IsTargetIfAny, Done, OperandRuns, goes}
+use Rattle.lower_runs.specs.Simulation.{HasRoom, IsTargetIfAny, Done, OperandRuns, goes}
 use Rattle.lower_runs.specs.Following.{given_back, IsGiven}
-use Rattle.lower_runs.specs.Calling.{AreOf, AreIn, Back, entered, backs, CallsRun, ArgumentsHeld, ArgumentsRun}
+use Rattle.lower_runs.specs.Calling.{AreOf, AreIn, Back, entered, backs, CallsRun, ArgumentsRun}
 use Rattle.lower_runs.specs.Calling.{Resulted, CallRuns, IsAsked}
-use Rattle.lower_runs.proofs.Agreement.{and_left, and_right, onward_then, agrees_memory, went_memory, stays, done_start}
-use Rattle.lower_runs.proofs.Agreement.{done_less, done_then}
+use Rattle.lower_runs.proofs.Agreement.{and_left, and_right, onward_then, agrees_memory, stays, done_start}
+use Rattle.lower_runs.proofs.Agreement.{done_then}
 use Rattle.lower_runs.proofs.Labels.{nothing_own, both_own, then_own}
 use Rattle.lower_runs.proofs.Steps.{lands}
 

@@ -1,7 +1,7 @@
 -- Values of operations on addresses: what derives from a capability, and pointers that move.
-use Rattle.std.proofs.Common.{◌≡◌, ◌≢◌, ℕ, ◌+◌, ◌≤◌, ◌<◌, Bool, true, false, not, List, [], ◌∷◌, length, Option, Some}
-use Rattle.std.proofs.Common.{None, Result, Ok, Err, refl, sym, ap, subst, ◌∙◌, arith, if◌then◌else◌}
-use Rattle.std.specs.Prelude.{◌&&◌, ◌*◌, ◌%◌, ◌^◌}
+use Rattle.std.proofs.Common.{◌≡◌, ℕ, Bool, true, false, List, [], ◌∷◌}
+use Rattle.std.proofs.Common.{refl, ap, subst, ◌∙◌}
+use Rattle.std.specs.Prelude.{◌*◌, ◌%◌, ◌^◌}
 use Rattle.std.proofs.Math.Path.{fun_ext}
 use Rattle.ck_base.specs.World.{World}
 use Rattle.ck_base.specs.declared.positions.Pos.{Pos}
@@ -11,12 +11,12 @@ use Rattle.ck_int.specs.declared.kinds.IntOp.{IntOp}
 use Rattle.c_tree.specs.declared.typed.Typed.{Typed}
 use Rattle.obj_mem.specs.Values.{Value}
 use Rattle.obj_mem.specs.Values as value
-use Rattle.cheri_c_sem.specs.Kinds.{Kind, Plain, Capability}
+use Rattle.cheri_c_sem.specs.Kinds.{Plain, Capability}
 use Rattle.cheri_c_sem.specs.Meaning.{value_of, operate_by, sign_by}
 use Rattle.cheri_c_sem.specs.Modes.{Store}
 use Rattle.cheri_c_sem.specs.Operations.{Operations, convert_by, plus_by, difference_by}
 use Rattle.cheri_c_sem.specs.Steps.{State, Fate, Then, ask, answer}
-use Rattle.cheri_c_sem.specs.Tree.{Ex, Sign, Derived, Moved, Apart, Binary, Unary, Number, Convert}
+use Rattle.cheri_c_sem.specs.Tree.{Ex, Sign, Derived, Moved, Apart, Binary, Unary}
 use Rattle.tac_ir.specs.Effects.{kind_of}
 use Rattle.tac_ir.specs.Meaning.{Running}
 use Rattle.tac_ir.specs.declared.code.Amount.TheVariants as amount
@@ -30,7 +30,7 @@ use Rattle.lower_runs.specs.Operating.{Code, AreInts, long, derived, address_tem
 use Rattle.lower_runs.specs.Operating.{moved_temps, stride, difference}
 use Rattle.lower_runs.specs.Expressions as code
 use Rattle.lower_runs.specs.Expressions.{Mark, more, spares, pointer_kind, IsConstant}
-use Rattle.lower_runs.specs.Simulation.{ValueRuns, OperandInRuns, PairRuns, BinaryRuns, goes, kinds}
+use Rattle.lower_runs.specs.Simulation.{ValueRuns, OperandInRuns, PairRuns, BinaryRuns, kinds}
 use Rattle.lower_runs.proofs.Agreement.{and_left, and_right}
 use Rattle.lower_runs.proofs.Steps.{converts_same}
 use Rattle.lower_runs.proofs.Operands.{binary_value, unary_in_value}

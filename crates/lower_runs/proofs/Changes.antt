@@ -1,8 +1,7 @@
 -- A value that is converted, changed by a right operand, and converted back, as in compound assignments.
 use Rattle.std.proofs.Common.{◌≡◌, ◌≢◌, ℕ, ◌+◌, ◌≤◌, ◌<◌, Bool, true, false, not, List, [], ◌∷◌, length, Option, Some}
-use Rattle.std.proofs.Common.{None, Result, Ok, Err, refl, sym, ap, subst, ◌∙◌, arith, if◌then◌else◌, length-set}
-use Rattle.std.specs.Prelude.{slice_get, slice_set, ◌&&◌, ◌==◌, ◌*◌, ◌%◌, ◌^◌, ◌-◌, pos}
-use Rattle.std.proofs.lemmas.Bool.Decides.{nat_tests}
+use Rattle.std.proofs.Common.{Ok, refl, sym, ap, subst, ◌∙◌, arith, if◌then◌else◌, length-set}
+use Rattle.std.specs.Prelude.{slice_get, slice_set, ◌&&◌, ◌==◌, ◌*◌, ◌%◌, ◌^◌, pos}
 use Rattle.ck_base.specs.World.{World}
 use Rattle.ck_base.specs.declared.positions.Pos.{Pos}
 use Rattle.ck_int.specs.Arithmetic.{binary_of}
@@ -16,7 +15,6 @@ use Rattle.ck_int.proofs.OperationLaws.{IsKept-64, binary_of-Add, binary_of-Sub}
 use Rattle.c_tree.specs.declared.typed.Typed.{Typed}
 use Rattle.obj_mem.specs.Values.{Value}
 use Rattle.obj_mem.specs.Values as value
-use Rattle.obj_mem.specs.declared.ending.Fault.{Fault}
 use Rattle.cheri_c_sem.specs.Compatible.{kind_number}
 use Rattle.cheri_c_sem.specs.Kinds as kinds
 use Rattle.cheri_c_sem.specs.Kinds.{Kind, Plain, Capability, null_at, number_of, truth}
@@ -26,10 +24,10 @@ use Rattle.cheri_c_sem.specs.Operations as asked
 use Rattle.cheri_c_sem.specs.Operations.{Operations, on_ok, convert_by, to_int, int_by, number_by, capability_by}
 use Rattle.cheri_c_sem.specs.Operations.{plus_by}
 use Rattle.cheri_c_sem.specs.Steps.{State, Fate, Then, ◌>>=◌, ask, answer}
-use Rattle.cheri_c_sem.specs.Tree.{Operation, Whole, Derived, Moved, Apart}
+use Rattle.cheri_c_sem.specs.Tree.{Operation, Whole, Derived, Moved}
 use Rattle.cheri_c_sem.specs.Types.{is_shift, promoted}
-use Rattle.tac_ir.specs.Effects.{kind_of, kind_at, no_position}
-use Rattle.tac_ir.specs.Meaning.{Running, Runs, turns}
+use Rattle.tac_ir.specs.Effects.{kind_of, kind_at}
+use Rattle.tac_ir.specs.Meaning.{Running}
 use Rattle.tac_ir.specs.Temps.{behind}
 use Rattle.tac_ir.specs.WellFormed.{same_kind, is_int}
 use Rattle.tac_ir.specs.declared.code.Amount.TheVariants as amount
@@ -46,12 +44,12 @@ use Rattle.lower_runs.specs.Operating.{Code, AreInts, word, is_capability, keeps
 use Rattle.lower_runs.specs.Operating.{stepped, stepped_temps, changed, changed_temps, stride, moved, moved_temps}
 use Rattle.lower_runs.specs.Operating.{whole}
 use Rattle.lower_runs.specs.Expressions.{pointer_kind, IsRight, IsChange, IsStep}
-use Rattle.lower_runs.specs.Simulation.{Holds, Scratched, Operated, UnaryRuns, BinaryRuns, goes, kinds as temp_kinds}
+use Rattle.lower_runs.specs.Simulation.{Holds, Operated, UnaryRuns, BinaryRuns, goes, kinds as temp_kinds}
 use Rattle.lower_runs.proofs.Agreement.{get_set_same, get_set_other}
 use Rattle.lower_runs.proofs.Steps.{ok_same, kept_zero, converts, converts_same, computes, computes_address}
 use Rattle.lower_runs.proofs.Steps.{computed_is_of}
-use Rattle.lower_runs.proofs.Operations.{int_runs, means, scratch, untouched, whole_runs}
-use Rattle.lower_runs.proofs.Addresses.{as_number, Number, Computed, computed_with, computed_runs, computed_plain}
+use Rattle.lower_runs.proofs.Operations.{int_runs, scratch, untouched}
+use Rattle.lower_runs.proofs.Addresses.{as_number, computed_with, computed_runs, computed_plain}
 use Rattle.lower_runs.proofs.Addresses.{computed_ints, convert_runs, address_runs, scratch_more, capability_is}
 use Rattle.lower_runs.proofs.Addresses.{address_operation, kept_count, wide_operation, wide_address}
 use Rattle.lower_runs.proofs.Moves.{moved_runs, offset_by, strides, stride_below}

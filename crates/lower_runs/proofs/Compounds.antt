@@ -1,28 +1,26 @@
 -- Compound assignments, and steps by one.
 use Rattle.std.proofs.Common.{◌≡◌, ◌≢◌, ℕ, ◌+◌, ◌≤◌, ◌<◌, Bool, true, false, not, List, [], ◌∷◌, length, Option, Some}
-use Rattle.std.proofs.Common.{None, Result, Ok, Err, refl, sym, ap, subst, ◌∙◌, arith, if◌then◌else◌, length-set, ◌⊎◌}
+use Rattle.std.proofs.Common.{None, refl, sym, ap, ◌∙◌, arith, if◌then◌else◌, length-set, ◌⊎◌}
 use Rattle.std.proofs.Common.{inl, inr, ⊎_elim}
 use Rattle.std.specs.Prelude.{slice_get, slice_set, ◌&&◌, ◌==◌}
-use Rattle.std.proofs.lemmas.Bool.Decides.{nat_tests}
 use Rattle.ck_base.specs.World.{World}
 use Rattle.ck_base.specs.declared.positions.Pos.{Pos}
 use Rattle.c_tree.specs.declared.typed.Typed.{Typed}
 use Rattle.obj_mem.specs.Values.{Value}
 use Rattle.obj_mem.specs.Values as value
 use Rattle.cheri_c_sem.specs.Kinds.{Kind, bytes_of, read_as}
-use Rattle.cheri_c_sem.specs.Meaning.{In, At, value_of, place_of, load, store}
+use Rattle.cheri_c_sem.specs.Meaning.{In, At, value_of, load, store}
 use Rattle.cheri_c_sem.specs.Modes.{Store}
 use Rattle.cheri_c_sem.specs.Operations.{Operations}
 use Rattle.cheri_c_sem.specs.Steps.{State, Fate, Then}
 use Rattle.cheri_c_sem.specs.Tree.{Operation, Ex, Exs, Nil, Cons, Number, Load, Compound, Variable}
-use Rattle.tac_ir.specs.Effects.{kind_of, held}
+use Rattle.tac_ir.specs.Effects.{kind_of}
 use Rattle.tac_ir.specs.Meaning.{Running, Runs, turns}
-use Rattle.tac_ir.specs.Temps.{behind}
 use Rattle.tac_ir.specs.declared.code.Tac.{Tac}
 use Rattle.tac_ir.specs.declared.code.TacInstr.{TacInstr}
 use Rattle.tac_ir.specs.declared.code.TacInstr.TheVariants as instr
 use Rattle.tac_ir.specs.declared.code.TacKind.{TacKind}
-use Rattle.lower_runs.specs.States.{Home, Scene, IsScene, IsOf, IsPlaced, IsOnward, Agrees, Went}
+use Rattle.lower_runs.specs.States.{Home, Scene, IsScene, IsOf, IsPlaced, Agrees, Went}
 use Rattle.lower_runs.specs.Operating.{Code, AreInts, transfer, give, changed, changed_temps, stepped, stepped_temps}
 use Rattle.lower_runs.specs.Expressions as code
 use Rattle.lower_runs.specs.Expressions.{Mark, more, spares, is_variable, position_in, asks_old, IsChange, IsStep}
@@ -228,8 +226,8 @@ module _ (ops : Operations Store) (placed : IsPlaced ops) (w : World) (t : Tac) 
             }) (let long = length-set ts v (Some i.0) in omega arith) ag2.sound)
             (λ z y ys a.
             let o = record y { vars = slice_set y.vars x (Some z) } in
-            let d = variable_done ops placed w t p objects r call g scene x place (λ k. true) (λ k. spares k e) n st y us
-            ys z home (omega arith) (λ k k2. refl)
+            let d = variable_done ops placed w t p objects r call g scene x place (λ k. true) (λ k. spares k e) n st y
+            us ys z home (omega arith) (λ k k2. refl)
             (λ k k2. other_variable ops placed w t p objects r call g scene k x
             (ap not (turned_test x k) ∙ and_left (not (k == x)) (true && true) k2)) a in
             let there : slice_get ys v ≡ Some (Some i.0) =

@@ -1,7 +1,7 @@
 -- Conditions, and choices by them.
-use Rattle.std.proofs.Common.{◌≡◌, ◌≢◌, ℕ, ◌+◌, ◌≤◌, ◌<◌, Bool, true, false, not, List, [], ◌∷◌, length, Option, Some}
-use Rattle.std.proofs.Common.{None, Result, Ok, Err, refl, sym, ap, ◌∙◌, arith, if◌then◌else◌}
-use Rattle.std.specs.Prelude.{slice_get, slice_set, ◌&&◌, ◌==◌}
+use Rattle.std.proofs.Common.{◌≡◌, ℕ, ◌+◌, ◌≤◌, ◌<◌, Bool, true, false, not, List, ◌∷◌, Option}
+use Rattle.std.proofs.Common.{None, Result, Ok, refl, sym, ap, ◌∙◌, arith, if◌then◌else◌}
+use Rattle.std.specs.Prelude.{slice_get, ◌&&◌, ◌==◌}
 use Rattle.std.proofs.Math.Path.{fun_ext}
 use Rattle.ck_base.specs.World.{World}
 use Rattle.ck_base.specs.declared.positions.Pos.{Pos}
@@ -9,7 +9,6 @@ use Rattle.ck_int.specs.Kinds.{IsKept, value_of as value_of_kind}
 use Rattle.ck_int.specs.declared.kinds.IntKind.{IntKind}
 use Rattle.ck_int.proofs.OperationLaws.{compare_of-Ne, compare_of-Eq_kept}
 use Rattle.ck_int.specs.Arithmetic.{compare_of}
-use Rattle.ck_int.specs.declared.kinds.IntKind.TheVariants as int
 use Rattle.ck_int.specs.declared.kinds.CmpOp.TheVariants.{Ne}
 use Rattle.c_tree.specs.declared.typed.Typed.{Typed}
 use Rattle.obj_mem.specs.Values.{Value}
@@ -20,10 +19,10 @@ use Rattle.cheri_c_sem.specs.Modes.{Store}
 use Rattle.cheri_c_sem.specs.Meaning.{test, value_of}
 use Rattle.cheri_c_sem.specs.Operations.{Operations, is_true}
 use Rattle.cheri_c_sem.specs.Steps.{State, Fate, Then, ◌>>=◌, give, choose, answer}
-use Rattle.cheri_c_sem.specs.Tree.{Ex, Exs, Nil, Number, Null, Not, And, Or, Conditional}
+use Rattle.cheri_c_sem.specs.Tree.{Ex, Nil, Number, Null, Not, And, Or, Conditional}
 use Rattle.tac_ir.specs.Effects as effects
 use Rattle.tac_ir.specs.Effects.{Next, To, kind_of, kind_at, held, way, no_position}
-use Rattle.tac_ir.specs.Meaning.{Running, Runs, Seeks, Again, behind_turn, pass, follow, turns}
+use Rattle.tac_ir.specs.Meaning.{Running, behind_turn, pass, follow}
 use Rattle.tac_ir.specs.Temps.{behind}
 use Rattle.tac_ir.specs.declared.code.Tac.{Tac}
 use Rattle.tac_ir.specs.declared.code.TacInstr.{TacInstr}
@@ -34,7 +33,7 @@ use Rattle.lower_runs.specs.States.{Scene, IsScene, IsPlaced, Agrees}
 use Rattle.lower_runs.specs.Operating.{Code}
 use Rattle.lower_runs.specs.Expressions.{Mark, labelled, spares, int_kind, same, is_junction, choice_code, guarded_code}
 use Rattle.lower_runs.specs.Expressions.{jump_if}
-use Rattle.lower_runs.specs.Simulation.{IsPiece, HasRoom, IsTarget, Done, Valued, OperandRuns, ConditionRuns, ValueRuns}
+use Rattle.lower_runs.specs.Simulation.{IsPiece, HasRoom, Done, OperandRuns, ConditionRuns, ValueRuns}
 use Rattle.lower_runs.specs.Simulation.{goes, kinds}
 use Rattle.lower_runs.proofs.Agreement.{and_left, and_right, done_start, done_less, done_then, done_valued}
 use Rattle.lower_runs.proofs.Agreement.{done_labelled}

@@ -4,6 +4,7 @@ use Rattle.lower_runs.proofs.Statements.{end_statements, seq_statements, evaluat
 use Rattle.lower_runs.proofs.Statements.{choice_statement, guarded_statement, break_statement, continue_statement}
 use Rattle.lower_runs.proofs.Statements.{return_statement, return_nothing_statement, return_value_statement}
 use Rattle.lower_runs.proofs.Statements.{empty_statement}
+use Rattle.lower_runs.proofs.Fills.{struct_statement}
 use Rattle.lower_runs.proofs.Loops.{object_statement, block_statement, enter_none, enter_simple, enter_object, no_test}
 use Rattle.lower_runs.proofs.Loops.{some_test, no_step, some_step, while_statement, do_statement, for_statement}
 
@@ -14,6 +15,7 @@ statements_law ops placed w t p objects r call result = record {
   evaluated = evaluated_statement ops placed w t p objects r call result;
   variable = variable_statement ops placed w t p objects r call result;
   object = object_statement ops placed w t p objects r call result;
+  struct = struct_statement ops placed w t p objects r call result;
   block = block_statement ops placed w t p objects r call result;
   choice = choice_statement ops placed w t p objects r call result;
   guarded = guarded_statement ops placed w t p objects r call result;

@@ -1,26 +1,19 @@
 -- All code that the relation makes of expressions does what they mean, by induction on how it is made.
-use Rattle.std.specs.Prelude.{◌≡◌, ℕ, ◌+◌, ◌*◌, ◌%◌, ◌^◌, ◌==◌, not, Bool, true, false, List, [], ◌∷◌, length, Option}
-use Rattle.std.specs.Prelude.{Some, None, slice_get, slice_index_or}
+use Rattle.std.specs.Prelude.{ℕ, not, Bool, true, false, List, [], Option}
+use Rattle.std.specs.Prelude.{Some, None}
 use Rattle.ck_base.specs.World.{World}
 use Rattle.ck_base.specs.declared.positions.Pos.{Pos}
-use Rattle.ck_int.specs.Kinds.{IsKept}
-use Rattle.ck_int.specs.declared.kinds.IntKind.{IntKind}
-use Rattle.ck_int.specs.declared.kinds.IntOp.{IntOp}
 use Rattle.c_tree.specs.declared.typed.Typed.{Typed}
 use Rattle.obj_mem.specs.Values.{Value}
-use Rattle.cheri_c_sem.specs.Kinds.{Kind, Plain}
 use Rattle.cheri_c_sem.specs.Modes.{Store}
 use Rattle.cheri_c_sem.specs.Meaning.{At}
 use Rattle.cheri_c_sem.specs.Operations.{Operations}
 use Rattle.cheri_c_sem.specs.Steps.{Then}
-use Rattle.cheri_c_sem.specs.Tree.{Operation, Derived, Moved, Apart, Sign, Service, Ex, Exs, Nil, Cons, Number, Null}
-use Rattle.cheri_c_sem.specs.Tree.{Load, Aggregate, Pointer_to, Convert, Unary, Not, Binary, And, Or, Conditional}
-use Rattle.cheri_c_sem.specs.Tree.{Comma, Assign, Copy, Compound, Call, Library, Variable, Function, Deref, Member}
+use Rattle.cheri_c_sem.specs.Tree.{Sign, Ex, Exs, Nil, Cons}
+use Rattle.cheri_c_sem.specs.Tree.{Unary}
 use Rattle.tac_ir.specs.Effects.{kind_of, no_position}
 use Rattle.tac_ir.specs.Meaning.{Running}
-use Rattle.tac_ir.specs.declared.code.Amount.TheVariants as amount
 use Rattle.tac_ir.specs.declared.code.Tac.{Tac}
-use Rattle.tac_ir.specs.declared.code.TacInstr.TheVariants as instr
 use Rattle.tac_ir.specs.declared.code.TacKind.{TacKind}
 use Rattle.tac_ir.specs.declared.code.TacKind.TheVariants as kind
 use Rattle.lower_runs.specs.States.{Scene, IsScene, IsPlaced, AreBytes}
@@ -28,9 +21,7 @@ use Rattle.lower_runs.specs.Operating as operating
 use Rattle.lower_runs.specs.Operating.{Code, AreInts, long, give, transfer, moved_temps, address_temps, changed_temps}
 use Rattle.lower_runs.specs.Operating.{signed_temps, stepped_temps, stride}
 use Rattle.lower_runs.specs.Expressions.{Mark, Signature, Target, Reaches, more, labelled, int_kind, pointer_kind}
-use Rattle.lower_runs.specs.Expressions.{position_in, same, jump_if, asks_old, choice_code, IsStep, IsChange}
-use Rattle.lower_runs.specs.Expressions.{IsConstant, IsOwn, target_mark, target_code, target_temp, served, first_kind}
-use Rattle.lower_runs.specs.Expressions.{serves, IsOperand, IsOperandIn, IsPair, IsValue, IsEffect, IsPlaceEffect}
+use Rattle.lower_runs.specs.Expressions.{IsOperand, IsOperandIn, IsPair, IsValue, IsEffect, IsPlaceEffect}
 use Rattle.lower_runs.specs.Expressions.{IsCondition, IsPointer, IsPlace, IsAssignment, IsStructAssignment, IsCopy}
 use Rattle.lower_runs.specs.Expressions.{IsArguments, IsCall, operand_in_place, operand_fresh, given_in_place}
 use Rattle.lower_runs.specs.Expressions.{given_there, pair, value_number, value_null, value_variable, value_load}

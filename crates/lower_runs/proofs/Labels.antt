@@ -1,5 +1,5 @@
 -- Labels that are looked for.
-use Rattle.std.proofs.Common.{◌≡◌, ◌≢◌, ℕ, ◌+◌, ◌≤◌, ◌<◌, Bool, true, false, not, List, [], ◌∷◌, Option, refl, sym, ap}
+use Rattle.std.proofs.Common.{◌≡◌, ◌≢◌, ℕ, ◌+◌, ◌≤◌, Bool, true, false, List, [], ◌∷◌, Option, refl, ap}
 use Rattle.std.proofs.Common.{◌∙◌, arith, if◌then◌else◌}
 use Rattle.std.specs.Prelude.{◌==◌}
 use Rattle.std.proofs.lemmas.Bool.Decides.{nat_tests}
@@ -8,8 +8,8 @@ use Rattle.c_tree.specs.declared.typed.Typed.{Typed}
 use Rattle.obj_mem.specs.Values.{Value}
 use Rattle.cheri_c_sem.specs.Modes.{Store}
 use Rattle.cheri_c_sem.specs.Operations.{Operations}
-use Rattle.cheri_c_sem.specs.Steps.{State, Fate, Then}
-use Rattle.tac_ir.specs.Meaning.{Running, Going, Runs, Seeks, Again, pass, behind_turn, seek, is_label}
+use Rattle.cheri_c_sem.specs.Steps.{State, Then}
+use Rattle.tac_ir.specs.Meaning.{Running, Runs, Seeks, Again, pass, behind_turn, seek, is_label}
 use Rattle.tac_ir.specs.Temps.{behind}
 use Rattle.tac_ir.specs.declared.code.Tac.{Tac}
 use Rattle.tac_ir.specs.declared.code.TacInstr.{TacInstr}

@@ -23,3 +23,5 @@ pub mod Changes
 pub mod Capabilities
 pub mod Compounds
 pub mod Services
+pub mod Fills
+pub mod Placed

@@ -1,6 +1,6 @@
 -- Loops and blocks.
-use Rattle.std.proofs.Common.{◌≡◌, ◌≢◌, ℕ, zero, suc, ◌+◌, ◌≤◌, ◌<◌, Bool, true, false, not, List, [], ◌∷◌, length}
-use Rattle.std.proofs.Common.{Option, Some, None, Result, Ok, Err, refl, sym, ap, subst, ◌∙◌, arith, if◌then◌else◌}
+use Rattle.std.proofs.Common.{◌≡◌, ◌≢◌, ℕ, zero, suc, ◌+◌, ◌≤◌, ◌<◌, Bool, true, false, List, [], ◌∷◌, length}
+use Rattle.std.proofs.Common.{Option, Some, None, refl, sym, ap, ◌∙◌, arith, if◌then◌else◌}
 use Rattle.std.proofs.Common.{length-set}
 use Rattle.std.specs.Prelude.{slice_get, slice_set, ◌==◌}
 use Rattle.std.proofs.lemmas.Bool.Decides.{nat_tests}
@@ -9,36 +9,33 @@ use Rattle.ck_base.specs.declared.positions.Pos.{Pos}
 use Rattle.cap_ops.specs.Permissions.{data_permissions}
 use Rattle.c_tree.specs.declared.typed.Typed.{Typed}
 use Rattle.obj_mem.specs.Values.{Value}
-use Rattle.cheri_c_sem.specs.Kinds.{Kind, nothing}
+use Rattle.cheri_c_sem.specs.Kinds.{Kind}
 use Rattle.cheri_c_sem.specs.Modes.{Store}
-use Rattle.cheri_c_sem.specs.Meaning.{At, value_of, test, store}
+use Rattle.cheri_c_sem.specs.Meaning.{At, test, store}
 use Rattle.cheri_c_sem.specs.Operations.{Operations}
-use Rattle.cheri_c_sem.specs.Statements.{Flow, Goes, Breaks, Continues, Returns, after, after_body, loop, repeat, enter}
+use Rattle.cheri_c_sem.specs.Statements.{Flow, Goes, Breaks, Continues, Returns, after, after_body, loop, repeat}
 use Rattle.cheri_c_sem.specs.Statements.{leave, exec, execs, test_of, step_of, part_of_local}
 use Rattle.cheri_c_sem.specs.Steps.{State, Fate, Then, ◌>>=◌, ◌>>◌, answer, give, choose, turn, turn_from}
-use Rattle.cheri_c_sem.specs.Tree.{Ex, Nil, Declared, Simple, Objects, St, Do, Give, Init, Block, If, While, Do_while}
-use Rattle.cheri_c_sem.specs.Tree.{For, Sts, End, Seq}
-use Rattle.tac_ir.specs.Effects.{kind_of, no_position, held}
-use Rattle.tac_ir.specs.Meaning.{Running, Runs, turns, behind_turn, back}
+use Rattle.cheri_c_sem.specs.Tree.{Ex, Nil, Declared, Simple, Objects, St, Init, Block, While, Do_while}
+use Rattle.cheri_c_sem.specs.Tree.{For, Sts}
+use Rattle.tac_ir.specs.Effects.{kind_of, no_position}
+use Rattle.tac_ir.specs.Meaning.{Running, Runs, turns, behind_turn}
 use Rattle.tac_ir.specs.Temps.{behind}
-use Rattle.tac_ir.specs.declared.code.Amount.TheVariants as amount
 use Rattle.tac_ir.specs.declared.code.Tac.{Tac}
 use Rattle.tac_ir.specs.declared.code.TacInstr.{TacInstr}
 use Rattle.tac_ir.specs.declared.code.TacInstr.TheVariants as instr
 use Rattle.tac_ir.specs.declared.code.TacKind.{TacKind}
-use Rattle.lower_runs.specs.Sound.{IsPointer}
-use Rattle.lower_runs.specs.States.{Home, Scene, IsScene, IsOf, IsOnward, IsPlaced, Agrees, or_zero}
+use Rattle.lower_runs.specs.States.{Home, Scene, IsScene, IsOf, IsPlaced, Agrees, or_zero}
 use Rattle.lower_runs.specs.Operating.{Code}
-use Rattle.lower_runs.specs.Expressions.{Mark, more, labelled, spares, same, within, within_temp, within_mark}
-use Rattle.lower_runs.specs.Statements as rule
-use Rattle.lower_runs.specs.Statements.{Exits, in_loop, with_spot, loop_code, repeat_code, IsEntered}
-use Rattle.lower_runs.specs.Simulation.{IsPiece, HasRoom, Done, ValueRuns, OperandRuns, EffectRuns, ConditionRuns, goes}
-use Rattle.lower_runs.specs.Following.{IsBefore, AreBefore, given_back, IsGiven, Came, Known, whole, Follows}
+use Rattle.lower_runs.specs.Expressions.{Mark, labelled, spares, same, within, within_temp, within_mark}
+use Rattle.lower_runs.specs.Statements.{Exits, in_loop, with_spot, loop_code, repeat_code}
+use Rattle.lower_runs.specs.Simulation.{IsPiece, HasRoom, Done, OperandRuns, EffectRuns, ConditionRuns, goes}
+use Rattle.lower_runs.specs.Following.{AreBefore, Came, Known, whole, Follows}
 use Rattle.lower_runs.specs.Following.{StatementRuns, StatementsRun, TestRuns, StepRuns, EnterRuns}
-use Rattle.lower_runs.proofs.Agreement.{get_set_same, get_set_other, onward_same, onward_then, stays, stays_below}
-use Rattle.lower_runs.proofs.Agreement.{agrees_scratch, agrees_memory, went_set, done_start}
+use Rattle.lower_runs.proofs.Agreement.{get_set_same, get_set_other, onward_then, stays_below}
+use Rattle.lower_runs.proofs.Agreement.{agrees_scratch, agrees_memory, went_set}
 use Rattle.lower_runs.proofs.Labels.{pass_label, found_label, nothing_own, both_own, then_own, seeks}
-use Rattle.lower_runs.proofs.Steps.{zero_is_of, held_is, constant_runs, constant_zero, constant}
+use Rattle.lower_runs.proofs.Steps.{held_is, constant_runs, constant_zero, constant}
 use Rattle.lower_runs.proofs.Assignments.{stored, done_memory}
 use Rattle.lower_runs.proofs.Statements.{came_same, came_then, came_done, before_more, before_some, follows_from}
 use Rattle.lower_runs.proofs.Statements.{known_within, known_behind}

@@ -1,7 +1,7 @@
 -- Pointers that move by elements, and their differences.
-use Rattle.std.proofs.Common.{◌≡◌, ◌≢◌, ℕ, ◌+◌, ◌≤◌, ◌<◌, Bool, true, false, not, List, [], ◌∷◌, length, Option, Some}
-use Rattle.std.proofs.Common.{None, Result, Ok, Err, refl, sym, ap, subst, ◌∙◌, arith, if◌then◌else◌, length-set}
-use Rattle.std.specs.Prelude.{slice_get, slice_set, ◌==◌, ◌*◌, ◌%◌, ◌^◌, ◌-◌}
+use Rattle.std.proofs.Common.{◌≡◌, ℕ, ◌+◌, ◌≤◌, ◌<◌, Bool, true, false, List, [], ◌∷◌, length, Option, Some}
+use Rattle.std.proofs.Common.{Ok, refl, sym, ap, ◌∙◌, arith, if◌then◌else◌, length-set}
+use Rattle.std.specs.Prelude.{slice_get, slice_set, ◌==◌, ◌*◌, ◌%◌, ◌^◌}
 use Rattle.std.proofs.Math.Nat.{mul_comm}
 use Rattle.std.proofs.lemmas.Bool.Decides.{nat_tests}
 use Rattle.ck_base.specs.World.{World}
@@ -16,7 +16,6 @@ use Rattle.ck_int.proofs.OperationLaws.{binary_of-Mul}
 use Rattle.c_tree.specs.declared.typed.Typed.{Typed}
 use Rattle.obj_mem.specs.Values.{Value}
 use Rattle.obj_mem.specs.Values as value
-use Rattle.obj_mem.specs.declared.ending.Fault.{Fault}
 use Rattle.cheri_c_sem.specs.Kinds.{Kind, Plain, Capability, number_of}
 use Rattle.cheri_c_sem.specs.Modes.{Store}
 use Rattle.cheri_c_sem.specs.Operations.{Operations, on_ok, convert_by, number_by, move_by, plus_by, difference_by}
@@ -25,15 +24,13 @@ use Rattle.cheri_c_sem.specs.Steps.{State, Fate, Then, ask, answer}
 use Rattle.tac_ir.specs.Effects.{kind_of, kind_at, held, no_position}
 use Rattle.tac_ir.specs.Meaning.{Running, Runs, turns}
 use Rattle.tac_ir.specs.Temps.{behind}
-use Rattle.tac_ir.specs.WellFormed.{is_int}
 use Rattle.tac_ir.specs.declared.code.Amount.TheVariants as amount
 use Rattle.tac_ir.specs.declared.code.Tac.{Tac}
 use Rattle.tac_ir.specs.declared.code.TacInstr.{TacInstr}
 use Rattle.tac_ir.specs.declared.code.TacInstr.TheVariants as instr
 use Rattle.tac_ir.specs.declared.code.TacKind.{TacKind}
 use Rattle.tac_ir.specs.declared.code.TacKind.TheVariants as kind
-use Rattle.lower_runs.specs.Sound.{IsPointer, IsSound}
-use Rattle.lower_runs.specs.States.{Scene, IsScene, IsOf, IsPlaced}
+use Rattle.lower_runs.specs.States.{Scene, IsScene, IsPlaced}
 use Rattle.lower_runs.specs.Operating.{Code, AreInts, word, long, is_capability, wide_kind, is_wide, stride, moved}
 use Rattle.lower_runs.specs.Operating.{moved_temps, difference}
 use Rattle.lower_runs.specs.Expressions.{pointer_kind}

@@ -1,10 +1,9 @@
 -- Operands, and what is done with them.
-use Rattle.std.proofs.Common.{◌≡◌, ◌≢◌, ℕ, ◌+◌, ◌≤◌, ◌<◌, Bool, true, false, List, [], ◌∷◌, length, get_or, Option}
-use Rattle.std.proofs.Common.{Some, None, Result, Ok, Err, refl, sym, ap, ◌∙◌, arith}
+use Rattle.std.proofs.Common.{◌≡◌, ℕ, ◌+◌, ◌≤◌, Bool, true, List, get_or, Option}
+use Rattle.std.proofs.Common.{Some, None, refl, sym, ap, ◌∙◌, arith}
 use Rattle.std.specs.Prelude.{slice_get, slice_set, ◌&&◌}
 use Rattle.std.proofs.lemmas.Option.{slice_get-get_or}
 use Rattle.ck_base.specs.World.{World}
-use Rattle.ck_base.specs.declared.positions.Pos.{Pos}
 use Rattle.cap_ops.specs.Permissions.{data_permissions}
 use Rattle.c_tree.specs.declared.typed.Typed.{Typed}
 use Rattle.obj_mem.specs.Values.{Value}
@@ -16,11 +15,10 @@ use Rattle.cheri_c_sem.specs.Steps.{State, Fate, Then, answer}
 use Rattle.cheri_c_sem.specs.Tree.{Ex, Exs, Nil, Cons}
 use Rattle.tac_ir.specs.Effects.{kind_of}
 use Rattle.tac_ir.specs.Meaning.{Running}
-use Rattle.tac_ir.specs.Temps.{behind}
 use Rattle.tac_ir.specs.declared.code.Tac.{Tac}
 use Rattle.tac_ir.specs.declared.code.TacInstr.{TacInstr}
 use Rattle.tac_ir.specs.declared.code.TacKind.{TacKind}
-use Rattle.lower_runs.specs.States.{Scene, IsScene, IsOf, IsPlaced, IsApart, Agrees, Went}
+use Rattle.lower_runs.specs.States.{Scene, IsScene, IsOf, IsPlaced, Agrees}
 use Rattle.lower_runs.specs.Operating.{Code}
 use Rattle.lower_runs.specs.Expressions as code
 use Rattle.lower_runs.specs.Expressions.{Mark, more, spares, spare, IsInPlace}
@@ -28,7 +26,7 @@ use Rattle.lower_runs.specs.Simulation as stay
 use Rattle.lower_runs.specs.Simulation.{IsPiece, HasRoom, IsTarget, Stays, Holds, Done, Valued, Held, HeldIn}
 use Rattle.lower_runs.specs.Simulation.{OperandInRuns, Scratched, Operated, UnaryRuns, BinaryRuns, ValueRuns}
 use Rattle.lower_runs.specs.Simulation.{OperandRuns, PairHeld, PairRuns, goes}
-use Rattle.lower_runs.proofs.Agreement.{and_left, and_right, get_set_same, get_set_other, free_own, went_nowhere}
+use Rattle.lower_runs.proofs.Agreement.{and_left, and_right, get_set_same, free_own, went_nowhere}
 use Rattle.lower_runs.proofs.Agreement.{went_then, went_set, went_less, agrees_set, agrees_any, agrees_own, stays}
 use Rattle.lower_runs.proofs.Agreement.{stays_below}
 use Rattle.lower_runs.proofs.Labels.{nothing_own, both_own, then_own}

@@ -1,12 +1,11 @@
 -- Operations on values that are in temps.
-use Rattle.std.proofs.Common.{◌≡◌, ◌≢◌, ℕ, ◌+◌, ◌≤◌, ◌<◌, Bool, true, false, not, List, [], ◌∷◌, length, Option, Some}
-use Rattle.std.proofs.Common.{None, Result, Ok, Err, refl, sym, ap, subst, ◌∙◌, arith, if◌then◌else◌, length-set}
-use Rattle.std.specs.Prelude.{slice_get, slice_set, ◌&&◌, ◌==◌, ◌%◌, ◌^◌, ◌-◌, pos}
-use Rattle.std.proofs.lemmas.Bool.Decides.{nat_tests}
+use Rattle.std.proofs.Common.{◌≡◌, ℕ, ◌≤◌, Bool, true, false, not, List, [], ◌∷◌, Option, Some}
+use Rattle.std.proofs.Common.{Result, Ok, refl, sym, ap, ◌∙◌, arith, if◌then◌else◌, length-set}
+use Rattle.std.specs.Prelude.{slice_get, slice_set, ◌&&◌, ◌==◌, ◌^◌, ◌-◌, pos}
 use Rattle.ck_base.specs.World.{World}
 use Rattle.ck_base.specs.declared.positions.Pos.{Pos}
 use Rattle.ck_int.specs.Arithmetic.{binary_of, promoted_width_of, result_of}
-use Rattle.ck_int.specs.Kinds.{IsKept, wrapped, kept_of, value_of as value_of_kind}
+use Rattle.ck_int.specs.Kinds.{wrapped, kept_of, value_of as value_of_kind}
 use Rattle.ck_int.proofs.OperationLaws.{IsKept-64}
 use Rattle.std.proofs.lemmas.Nat.{xor_comm}
 use Rattle.ck_int.proofs.Laws.{value_of-wrapped}
@@ -23,7 +22,7 @@ use Rattle.obj_mem.specs.declared.ending.Fault.{Fault}
 use Rattle.cheri_c_sem.specs.Kinds.{Kind, Plain, Capability, zero_of, number_of, truth}
 use Rattle.cheri_c_sem.specs.Modes.{Store}
 use Rattle.cheri_c_sem.specs.Meaning.{test, operate_by, sign_by}
-use Rattle.cheri_c_sem.specs.Operations.{Operations, on_ok, compare_by, is_true, convert_by, int_by}
+use Rattle.cheri_c_sem.specs.Operations.{Operations, on_ok, compare_by, convert_by, int_by}
 use Rattle.cheri_c_sem.specs.Steps.{State, Fate, Then, ◌>>=◌, give, ask, answer}
 use Rattle.cheri_c_sem.specs.Tree.{Whole, Sign, Positive, Negative, Complement}
 use Rattle.tac_ir.specs.Effects.{kind_of, kind_at, held, no_position}
@@ -36,13 +35,13 @@ use Rattle.tac_ir.specs.declared.code.TacInstr.{TacInstr}
 use Rattle.tac_ir.specs.declared.code.TacInstr.TheVariants as instr
 use Rattle.tac_ir.specs.declared.code.TacKind.{TacKind}
 use Rattle.tac_ir.specs.declared.code.TacKind.TheVariants as kind
-use Rattle.lower_runs.specs.States.{Scene, IsScene, IsOf, IsPlaced, IsAnswered}
+use Rattle.lower_runs.specs.States.{Scene, IsScene, IsPlaced}
 use Rattle.lower_runs.specs.Operating.{Code, AreInts, word, is_capability, transfer, negated, signed_integer}
 use Rattle.lower_runs.specs.Operating.{sign_temps, all_ones, whole, right_temps}
 use Rattle.lower_runs.specs.Expressions.{int_kind, IsRight}
-use Rattle.lower_runs.specs.Simulation.{Holds, Scratched, Operated, UnaryRuns, BinaryRuns, goes, kinds}
+use Rattle.lower_runs.specs.Simulation.{Scratched, UnaryRuns, BinaryRuns, goes, kinds}
 use Rattle.lower_runs.proofs.Agreement.{get_set_same, get_set_other}
-use Rattle.lower_runs.proofs.Steps.{truth_is_of, answers, compares, converts, computes, computes_address}
+use Rattle.lower_runs.proofs.Steps.{truth_is_of, compares, converts, computes, computes_address}
 use Rattle.lower_runs.proofs.Steps.{computed_is_of, opposite_truth, constant, constant_zero, constant_runs, held_is}
 use Rattle.lower_runs.proofs.Steps.{transfer_runs}
 

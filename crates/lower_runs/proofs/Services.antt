@@ -1,7 +1,7 @@
 -- Library functions and intrinsics.
-use Rattle.std.proofs.Common.{◌≡◌, ◌≢◌, ℕ, ◌+◌, ◌≤◌, ◌<◌, Bool, true, false, not, List, [], ◌∷◌, length, Option, Some}
-use Rattle.std.proofs.Common.{None, Result, Ok, Err, refl, sym, ap, subst, ◌∙◌, arith, if◌then◌else◌}
-use Rattle.std.specs.Prelude.{slice_get, slice_set, slice_index_or, map, ◌-◌, ◌%◌, ◌^◌, pos}
+use Rattle.std.proofs.Common.{◌≡◌, ℕ, ◌≤◌, ◌<◌, Bool, true, false, List, [], ◌∷◌, length, Option, Some}
+use Rattle.std.proofs.Common.{None, Result, Ok, refl, sym, ap, subst, ◌∙◌, arith}
+use Rattle.std.specs.Prelude.{slice_get, slice_set, slice_index_or, ◌-◌, ◌%◌, ◌^◌}
 use Rattle.ck_base.specs.World.{World, Done as Did, fails_after}
 use Rattle.ck_base.specs.Runs.{with_put, with_read}
 use Rattle.ck_base.specs.declared.positions.Pos.{Pos}
@@ -15,7 +15,7 @@ use Rattle.obj_mem.specs.Values as value
 use Rattle.obj_mem.specs.declared.ending.Fault.{Fault}
 use Rattle.obj_mem.specs.declared.ending.Ending.TheVariants as ending
 use Rattle.cheri_c_sem.specs.Kinds.{Kind, Plain, Capability, number_of, nothing}
-use Rattle.cheri_c_sem.specs.Meaning.{first_of, second_of, serve}
+use Rattle.cheri_c_sem.specs.Meaning.{first_of, serve}
 use Rattle.cheri_c_sem.specs.Modes.{Store}
 use Rattle.cheri_c_sem.specs.Operations as work
 use Rattle.cheri_c_sem.specs.Operations.{Operations, Work, on_ok, convert_by}
@@ -32,17 +32,16 @@ use Rattle.tac_ir.specs.declared.code.TacInstr.{TacInstr}
 use Rattle.tac_ir.specs.declared.code.TacInstr.TheVariants as instr
 use Rattle.tac_ir.specs.declared.code.TacKind.{TacKind}
 use Rattle.tac_ir.specs.declared.code.TacKind.TheVariants as kind
-use Rattle.lower_runs.specs.Sound.{IsPointer, IsSound}
 use Rattle.lower_runs.specs.States.{Scene, IsScene, IsOf, IsOnward, IsPlaced, IsWorkedOn, AreBytes, kind_given}
 use Rattle.lower_runs.specs.Operating.{Code, word}
-use Rattle.lower_runs.specs.Expressions.{Mark, Signature, spares, spare, int_kind, pointer_kind, cap_of, intrinsic}
+use Rattle.lower_runs.specs.Expressions.{Mark, Signature, spares, int_kind, pointer_kind, cap_of, intrinsic}
 use Rattle.lower_runs.specs.Expressions.{serves}
 use Rattle.lower_runs.specs.Expressions.{served, first_kind, Takes}
-use Rattle.lower_runs.specs.Following.{IsGiven, given_back}
+use Rattle.lower_runs.specs.Following.{IsGiven}
 use Rattle.lower_runs.specs.Simulation.{HasRoom, IsTargetIfAny, Done, goes}
-use Rattle.lower_runs.specs.Calling.{AreOf, AreIn, ArgumentsHeld, ArgumentsRun, CallRuns, Resulted, IsAsked}
+use Rattle.lower_runs.specs.Calling.{AreOf, AreIn, ArgumentsRun, CallRuns, Resulted, IsAsked}
 use Rattle.lower_runs.proofs.Labels.{then_own}
-use Rattle.lower_runs.proofs.Steps.{held_is, convert_answers, converts}
+use Rattle.lower_runs.proofs.Steps.{held_is}
 use Rattle.lower_runs.proofs.Assignments.{done_memory}
 use Rattle.lower_runs.proofs.Calls.{arguments_are, resulted}
 use Rattle.lower_runs.proofs.Addresses.{as_number, convert_runs}

@@ -1,44 +1,37 @@
 -- Statements.
-use Rattle.std.proofs.Common.{◌≡◌, ◌≢◌, ℕ, zero, suc, ◌+◌, ◌≤◌, ◌<◌, Bool, true, false, not, List, [], ◌∷◌, length}
-use Rattle.std.proofs.Common.{Option, Some, None, Result, Ok, Err, refl, sym, ap, subst, ◌∙◌, arith, if◌then◌else◌}
-use Rattle.std.proofs.Common.{length-set}
-use Rattle.std.specs.Prelude.{slice_get, slice_set, ◌==◌}
-use Rattle.std.proofs.lemmas.Bool.Decides.{nat_tests}
+use Rattle.std.proofs.Common.{◌≡◌, ℕ, ◌+◌, ◌≤◌, ◌<◌, Bool, true, false, List, ◌∷◌}
+use Rattle.std.proofs.Common.{Option, Some, None, refl, sym, ap, subst, ◌∙◌, arith, if◌then◌else◌}
+use Rattle.std.specs.Prelude.{slice_set}
 use Rattle.ck_base.specs.World.{World}
 use Rattle.ck_base.specs.declared.positions.Pos.{Pos}
-use Rattle.cap_ops.specs.Permissions.{data_permissions}
 use Rattle.c_tree.specs.declared.typed.Typed.{Typed}
 use Rattle.obj_mem.specs.Values.{Value}
-use Rattle.obj_mem.specs.Values as value
-use Rattle.cheri_c_sem.specs.Kinds.{Kind, nothing}
+use Rattle.cheri_c_sem.specs.Kinds.{nothing}
 use Rattle.cheri_c_sem.specs.Modes.{Store}
-use Rattle.cheri_c_sem.specs.Meaning.{At, value_of, test, store}
 use Rattle.cheri_c_sem.specs.Operations.{Operations}
-use Rattle.cheri_c_sem.specs.Statements.{Flow, Goes, Breaks, Continues, Returns, after, after_body, loop, repeat, enter}
-use Rattle.cheri_c_sem.specs.Statements.{leave, exec, execs, test_of, step_of}
-use Rattle.cheri_c_sem.specs.Steps.{State, Fate, Then, ◌>>=◌, ◌>>◌, answer, give, choose, turn, turn_from}
-use Rattle.cheri_c_sem.specs.Tree.{Ex, Nil, Declared, Simple, Objects, St, Do, Give, Init, Block, If, While, Do_while}
-use Rattle.cheri_c_sem.specs.Tree.{For, Break, Continue, Return, Empty, Sts, End, Seq}
+use Rattle.cheri_c_sem.specs.Statements.{Flow, Goes, Returns, after}
+use Rattle.cheri_c_sem.specs.Statements.{exec, execs}
+use Rattle.cheri_c_sem.specs.Steps.{State, Fate, Then, choose}
+use Rattle.cheri_c_sem.specs.Tree.{Ex, Nil, St, Do, Give, If}
+use Rattle.cheri_c_sem.specs.Tree.{Break, Continue, Return, Empty, Sts, End, Seq}
 use Rattle.tac_ir.specs.Effects.{kind_of}
 use Rattle.tac_ir.specs.Meaning.{Running, behind_turn, back}
 use Rattle.tac_ir.specs.Temps.{behind}
-use Rattle.tac_ir.specs.declared.code.Amount.TheVariants as amount
 use Rattle.tac_ir.specs.declared.code.Tac.{Tac}
 use Rattle.tac_ir.specs.declared.code.TacInstr.{TacInstr}
 use Rattle.tac_ir.specs.declared.code.TacInstr.TheVariants as instr
 use Rattle.tac_ir.specs.declared.code.TacKind.{TacKind}
-use Rattle.lower_runs.specs.States.{Home, Scene, IsScene, IsOf, IsOnward, IsPlaced, Agrees}
+use Rattle.lower_runs.specs.States.{Home, Scene, IsScene, IsPlaced}
 use Rattle.lower_runs.specs.Operating.{Code}
-use Rattle.lower_runs.specs.Expressions.{Mark, more, labelled, spares, same, choice_code, guarded_code}
-use Rattle.lower_runs.specs.Statements as rule
-use Rattle.lower_runs.specs.Statements.{Exits, in_loop, with_spot, loop_code, repeat_code, IsEntered}
-use Rattle.lower_runs.specs.Simulation.{IsPiece, HasRoom, Done, ValueRuns, OperandRuns, EffectRuns, ConditionRuns, goes}
-use Rattle.lower_runs.specs.Following.{IsBefore, AreBefore, given_back, IsGiven, Came, Known, whole, Follows}
-use Rattle.lower_runs.specs.Following.{StatementRuns, StatementsRun, TestRuns, StepRuns, EnterRuns}
-use Rattle.lower_runs.proofs.Agreement.{get_set_same, get_set_other, onward_same, onward_then}
+use Rattle.lower_runs.specs.Expressions.{Mark, labelled, spares, same, choice_code, guarded_code}
+use Rattle.lower_runs.specs.Statements.{Exits}
+use Rattle.lower_runs.specs.Simulation.{IsPiece, Done, ValueRuns, OperandRuns, EffectRuns, ConditionRuns, goes}
+use Rattle.lower_runs.specs.Following.{IsBefore, AreBefore, given_back, IsGiven, Came, Known, Follows}
+use Rattle.lower_runs.specs.Following.{StatementRuns, StatementsRun}
+use Rattle.lower_runs.proofs.Agreement.{onward_same, onward_then}
 use Rattle.lower_runs.proofs.Labels.{pass_label, found_label, nothing_own, both_own, then_own, choice_own, guarded_own}
-use Rattle.lower_runs.proofs.Labels.{to_other, to_end, seeks, jumps}
-use Rattle.lower_runs.proofs.Steps.{held_is, constant_runs, constant_zero, constant}
+use Rattle.lower_runs.proofs.Labels.{to_other, to_end, jumps}
+use Rattle.lower_runs.proofs.Steps.{held_is}
 use Rattle.lower_runs.proofs.Assignments.{variable_done, home_target}
 
 module _ (ops : Operations Store) (placed : IsPlaced ops) (w : World) (t : Tac) (p : Typed)

@@ -1,5 +1,5 @@
 -- What single instructions do between states that agree.
-use Rattle.std.proofs.Common.{◌≡◌, ◌≢◌, ℕ, ◌+◌, ◌≤◌, ◌<◌, Bool, true, false, not, List, [], ◌∷◌, length, Option, Some}
+use Rattle.std.proofs.Common.{◌≡◌, ℕ, ◌≤◌, ◌<◌, Bool, true, false, not, List, ◌∷◌, Option, Some}
 use Rattle.std.proofs.Common.{None, Result, Ok, Err, refl, sym, ap, subst, ◌∙◌, arith, if◌then◌else◌}
 use Rattle.std.specs.Prelude.{slice_get, slice_set, ◌==◌, ◌^◌, pos}
 use Rattle.std.proofs.lemmas.Bool.Decides.{nat_tests}
@@ -23,9 +23,9 @@ use Rattle.obj_mem.specs.declared.ending.Fault.{Fault}
 use Rattle.cheri_c_sem.specs.Kinds.{Kind, Plain, Capability, zero_of, null_at, number_of, truth, read_as, int_kind}
 use Rattle.cheri_c_sem.specs.Kinds.{bytes_of}
 use Rattle.cheri_c_sem.specs.Modes.{Store}
-use Rattle.cheri_c_sem.specs.Operations.{Operations, on_ok, compare_by, is_true, convert_by, int_by, to_int}
+use Rattle.cheri_c_sem.specs.Operations.{Operations, on_ok, compare_by, convert_by, int_by, to_int}
 use Rattle.cheri_c_sem.specs.Steps.{State, Fate, Then, answer}
-use Rattle.tac_ir.specs.Effects.{kind_of, held, temp_in}
+use Rattle.tac_ir.specs.Effects.{kind_of, held}
 use Rattle.tac_ir.specs.Meaning.{Running}
 use Rattle.tac_ir.specs.WellFormed.{is_int}
 use Rattle.tac_ir.specs.declared.code.Tac.{Tac}
@@ -33,14 +33,13 @@ use Rattle.tac_ir.specs.declared.code.TacInstr.{TacInstr}
 use Rattle.tac_ir.specs.declared.code.TacInstr.TheVariants as instr
 use Rattle.tac_ir.specs.declared.code.TacKind.{TacKind}
 use Rattle.tac_ir.specs.declared.code.TacKind.TheVariants as kind
-use Rattle.lower_runs.specs.States.{Home, Scene, IsScene, IsFree, IsOf, IsApart, Agrees, Went, IsPlaced, IsAnswered}
-use Rattle.lower_runs.specs.States.{or_zero}
-use Rattle.lower_runs.specs.Sound.{IsPointer, IsSound}
+use Rattle.lower_runs.specs.States.{Scene, IsScene, IsOf, IsPlaced, IsAnswered}
+use Rattle.lower_runs.specs.Sound.{IsSound}
 use Rattle.lower_runs.specs.Operating.{transfer}
 use Rattle.lower_runs.specs.Expressions.{Mark}
 use Rattle.lower_runs.specs.Simulation.{HasRoom, IsTarget, Done, Valued, goes}
-use Rattle.lower_runs.proofs.Agreement.{get_set_same, get_set_other, set_there, agrees_any, agrees_set, agrees_scratch}
-use Rattle.lower_runs.proofs.Agreement.{went_set, went_less}
+use Rattle.lower_runs.proofs.Agreement.{get_set_same, set_there, agrees_set}
+use Rattle.lower_runs.proofs.Agreement.{went_set}
 
 -- ---- values of kinds
 

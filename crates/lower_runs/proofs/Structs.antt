@@ -1,37 +1,29 @@
 -- Copies of structs and unions.
-use Rattle.std.proofs.Common.{◌≡◌, ◌≢◌, ℕ, zero, suc, ◌+◌, ◌≤◌, ◌<◌, Bool, true, false, not, List, [], ◌∷◌, length}
-use Rattle.std.proofs.Common.{Option, Some, None, Result, Ok, Err, refl, sym, ap, subst, ◌∙◌, arith, if◌then◌else◌}
-use Rattle.std.specs.Prelude.{◌/◌, slice_get, slice_set, ◌&&◌, ◌==◌}
-use Rattle.std.proofs.lemmas.Bool.Decides.{nat_tests}
+use Rattle.std.proofs.Common.{◌≡◌, ℕ, zero, suc, ◌+◌, ◌≤◌, Bool, true, false, List, ◌∷◌}
+use Rattle.std.proofs.Common.{Option, Some, None, Result, Ok, Err, refl, sym, ap, ◌∙◌, arith}
+use Rattle.std.specs.Prelude.{◌/◌, slice_get, slice_set, ◌&&◌}
 use Rattle.ck_base.specs.World.{World}
 use Rattle.ck_base.specs.declared.positions.Pos.{Pos}
-use Rattle.cap_ops.specs.Permissions.{data_permissions, const_permissions}
 use Rattle.c_tree.specs.declared.typed.Typed.{Typed}
 use Rattle.obj_mem.specs.Values.{Value}
-use Rattle.obj_mem.specs.Values as value
-use Rattle.obj_mem.specs.declared.ending.Fault.{Fault}
 use Rattle.obj_mem.specs.declared.ending.UnitFault.{UnitFault}
-use Rattle.cheri_c_sem.specs.Expressions.{permissions_of}
-use Rattle.cheri_c_sem.specs.Kinds.{Kind, Plain, zero_of, nothing, truth, bytes_of, read_as}
+use Rattle.cheri_c_sem.specs.Kinds.{nothing}
 use Rattle.cheri_c_sem.specs.Modes.{Store}
-use Rattle.cheri_c_sem.specs.Meaning.{copy, copy_units, further, position_of, Place, In, At, capability_of, given}
-use Rattle.cheri_c_sem.specs.Meaning.{value_of, place_of, point_to, test, load, store}
-use Rattle.cheri_c_sem.specs.Operations.{Operations, convert_by}
-use Rattle.cheri_c_sem.specs.Steps.{unit_answer, State, Fate, Then, ◌>>=◌, answer, give, choose}
-use Rattle.cheri_c_sem.specs.Tree.{Copy, Ex, Exs, Nil, Cons, Narrowing, Number, Null, Load, Aggregate, Pointer_to}
-use Rattle.cheri_c_sem.specs.Tree.{Convert, Discard, And, Or, Conditional, Comma, Assign, Variable, Local, Object}
-use Rattle.cheri_c_sem.specs.Tree.{Function, Deref, Member}
-use Rattle.tac_ir.specs.Effects.{kind_of, held, no_position}
+use Rattle.cheri_c_sem.specs.Meaning.{copy, copy_units, further, position_of, Place, At, capability_of}
+use Rattle.cheri_c_sem.specs.Meaning.{place_of}
+use Rattle.cheri_c_sem.specs.Operations.{Operations}
+use Rattle.cheri_c_sem.specs.Steps.{unit_answer, State, Fate, Then, answer}
+use Rattle.cheri_c_sem.specs.Tree.{Copy, Ex, Exs, Nil, Cons, Aggregate}
+use Rattle.cheri_c_sem.specs.Tree.{Conditional, Comma}
+use Rattle.tac_ir.specs.Effects.{kind_of, held}
 use Rattle.tac_ir.specs.Meaning.{Running, Runs, turns}
 use Rattle.tac_ir.specs.Temps.{behind}
-use Rattle.tac_ir.specs.declared.code.Amount.TheVariants as amount
 use Rattle.tac_ir.specs.declared.code.Tac.{Tac}
 use Rattle.tac_ir.specs.declared.code.TacInstr.{TacInstr}
 use Rattle.tac_ir.specs.declared.code.TacInstr.TheVariants as instr
 use Rattle.tac_ir.specs.declared.code.TacKind.{TacKind}
-use Rattle.lower_runs.specs.States.{Home, Scene, IsScene, IsOf, IsApart, IsOnward, IsPlaced, Agrees, Went}
+use Rattle.lower_runs.specs.States.{Scene, IsScene, IsOnward, IsPlaced}
 use Rattle.lower_runs.specs.Operating.{Code, transfer}
-use Rattle.lower_runs.specs.Operating as operating
 use Rattle.lower_runs.specs.Expressions as code
 use Rattle.lower_runs.specs.Expressions.{Target, target_mark, target_code, target_temp, Mark, more, labelled, spares}
 use Rattle.lower_runs.specs.Expressions.{spare, position_in, int_kind, pointer_kind, is_still, is_still_place}
@@ -41,15 +33,11 @@ use Rattle.lower_runs.specs.Simulation.{CopyRuns, Finishes, IsPiece, HasRoom, Is
 use Rattle.lower_runs.specs.Simulation.{Valued, Held, Reached, Pointed, Assigned, ValueRuns, OperandRuns, PairRuns}
 use Rattle.lower_runs.specs.Simulation.{EffectRuns, PlaceEffectRuns, ConditionRuns, PlaceRuns, PointerRuns}
 use Rattle.lower_runs.specs.Simulation.{AssignmentRuns, goes, kinds}
-use Rattle.lower_runs.proofs.Agreement.{onward_same, onward_then, stays_below, and_left, and_right, get_set_same}
-use Rattle.lower_runs.proofs.Agreement.{get_set_other, free_own, agrees_any, agrees_own, agrees_memory, agrees_variable}
-use Rattle.lower_runs.proofs.Agreement.{went_less, went_memory, went_then, stays, done_start, done_less, done_then}
-use Rattle.lower_runs.proofs.Agreement.{done_valued, done_labelled}
-use Rattle.lower_runs.proofs.Labels.{nothing_own, both_own, then_own, choice_own, guarded_own, found_label}
-use Rattle.lower_runs.proofs.Steps.{data_twelve_bits, loaded_is_of, same_answer, compares, converts, convert_answers}
-use Rattle.lower_runs.proofs.Steps.{held_is, transfer_runs, lands}
+use Rattle.lower_runs.proofs.Agreement.{onward_same, onward_then, stays_below, and_left, and_right}
+use Rattle.lower_runs.proofs.Agreement.{stays, done_start, done_then}
+use Rattle.lower_runs.proofs.Labels.{both_own, then_own, choice_own}
+use Rattle.lower_runs.proofs.Steps.{held_is, transfer_runs}
 use Rattle.lower_runs.proofs.Operations.{transfer_plain}
-use Rattle.lower_runs.proofs.Operands.{in_place, in_place_stays}
 use Rattle.lower_runs.proofs.Conditions.{chosen}
 use Rattle.lower_runs.proofs.Places.{lands_there}
 
@@ -83,7 +71,7 @@ module _ (ops : Operations Store) (placed : IsPlaced ops) (w : World) (t : Tac) 
   -- ---- copies
 
   -- units are copied alike whatever the variables are
-  units_same : (n unit i : ℕ) (from to : Place) (u : State Store) (us : List (Option Value))
+  pub units_same : (n unit i : ℕ) (from to : Place) (u : State Store) (us : List (Option Value))
       (k l : Unit {0} → State Store → Fate) →
       ((m : Store) → IsOnward ops u.mem m → k tt (record u { mem = m }) ≡ l tt (record u { mem = m; vars = us }))
       → copy_units ops w n unit i from to u k ≡ copy_units ops w n unit i from to (record u { vars = us }) l

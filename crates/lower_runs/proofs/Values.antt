@@ -1,7 +1,7 @@
 -- Values that come into a temp.
-use Rattle.std.proofs.Common.{◌≡◌, ◌≢◌, ℕ, ◌+◌, ◌≤◌, ◌<◌, Bool, true, false, not, List, [], ◌∷◌, length, Option, Some}
-use Rattle.std.proofs.Common.{None, Result, Ok, Err, refl, sym, ap, subst, ◌∙◌, arith, if◌then◌else◌}
-use Rattle.std.specs.Prelude.{slice_get, slice_set, ◌&&◌, ◌^◌}
+use Rattle.std.proofs.Common.{◌≡◌, ℕ, ◌+◌, ◌<◌, Bool, true, false, not, List, [], ◌∷◌, Option, Some}
+use Rattle.std.proofs.Common.{refl, sym, ap, subst, ◌∙◌, arith, if◌then◌else◌}
+use Rattle.std.specs.Prelude.{slice_set, ◌&&◌, ◌^◌}
 use Rattle.ck_base.specs.World.{World}
 use Rattle.ck_base.specs.declared.positions.Pos.{Pos}
 use Rattle.ck_int.specs.Kinds.{IsKept}
@@ -11,13 +11,13 @@ use Rattle.ck_int.specs.declared.kinds.IntOp.{IntOp}
 use Rattle.c_tree.specs.declared.typed.Typed.{Typed}
 use Rattle.obj_mem.specs.Values.{Value}
 use Rattle.obj_mem.specs.Values as value
-use Rattle.cheri_c_sem.specs.Kinds.{Plain, zero_of, nothing, truth, null_at}
+use Rattle.cheri_c_sem.specs.Kinds.{Plain, nothing, truth, null_at}
 use Rattle.cheri_c_sem.specs.Modes.{Store}
 use Rattle.cheri_c_sem.specs.Meaning.{value_of, test, operate_by, sign_by}
 use Rattle.cheri_c_sem.specs.Operations.{Operations, convert_by, compare_by}
 use Rattle.cheri_c_sem.specs.Steps.{State, Fate, Then, ◌>>=◌, answer, ask, give}
 use Rattle.cheri_c_sem.specs.Tree.{Ex, Exs, Nil, Number, Null, Load, Convert, Discard, Unary, Not, Binary, Whole, Sign}
-use Rattle.cheri_c_sem.specs.Tree.{Compare, Conditional, Comma, Variable}
+use Rattle.cheri_c_sem.specs.Tree.{Compare, Comma, Variable}
 use Rattle.cheri_c_sem.specs.Types.{is_shift}
 use Rattle.tac_ir.specs.Effects.{kind_of}
 use Rattle.tac_ir.specs.Meaning.{Running}
@@ -26,15 +26,15 @@ use Rattle.tac_ir.specs.declared.code.TacInstr.{TacInstr}
 use Rattle.tac_ir.specs.declared.code.TacInstr.TheVariants as instr
 use Rattle.tac_ir.specs.declared.code.TacKind.{TacKind}
 use Rattle.tac_ir.specs.declared.code.TacKind.TheVariants as kind
-use Rattle.lower_runs.specs.States.{Scene, IsScene, IsOf, IsPlaced, Agrees}
+use Rattle.lower_runs.specs.States.{Scene, IsScene, IsPlaced}
 use Rattle.lower_runs.specs.Operating.{Code, AreInts, transfer, negated, signed_integer, sign_temps, whole, right_temps}
 use Rattle.lower_runs.specs.Expressions as code
 use Rattle.lower_runs.specs.Expressions.{Mark, more, labelled, spares, int_kind, IsRight, is_junction}
-use Rattle.lower_runs.specs.Simulation.{IsPiece, HasRoom, IsTarget, Done, Valued, ValueRuns, OperandRuns, OperandInRuns}
+use Rattle.lower_runs.specs.Simulation.{IsPiece, ValueRuns, OperandRuns, OperandInRuns}
 use Rattle.lower_runs.specs.Simulation.{PairRuns, EffectRuns, ConditionRuns, goes, kinds}
-use Rattle.lower_runs.proofs.Agreement.{and_left, and_right, done_start, done_less, done_valued, done_labelled}
+use Rattle.lower_runs.proofs.Agreement.{and_left, and_right, done_start, done_valued, done_labelled}
 use Rattle.lower_runs.proofs.Labels.{nothing_own, both_own, then_own, choice_own, to_other, to_end, jumps}
-use Rattle.lower_runs.proofs.Steps.{truth_is_of, kept_zero, converts_same, constant, constant_runs, transfer_runs}
+use Rattle.lower_runs.proofs.Steps.{truth_is_of, kept_zero, converts_same, transfer_runs}
 use Rattle.lower_runs.proofs.Steps.{lands}
 use Rattle.lower_runs.proofs.Operations.{transfer_plain, conversion_runs, comparison_runs, negated_runs, whole_runs}
 use Rattle.lower_runs.proofs.Operations.{sign_runs}

@@ -1,25 +1,23 @@
 -- Numbers of 64 bits, and operations on them.
-use Rattle.std.proofs.Common.{◌≡◌, ℕ, ◌+◌, ◌≤◌, ◌<◌, Bool, true, false, Option, Some, None, refl, sym, ap, ◌∙◌, arith}
+use Rattle.std.proofs.Common.{◌≡◌, ℕ, ◌+◌, ◌≤◌, ◌<◌, refl, sym, ap, ◌∙◌, arith}
 use Rattle.std.proofs.Common.{if◌then◌else◌, subst}
-use Rattle.std.specs.Prelude.{zero, suc, ◌-◌, ◌*◌, ◌%◌, ◌^◌, ◌==◌, not, ℤ, pos, negsuc, neg_ℤ, int_div, nat_le}
+use Rattle.std.specs.Prelude.{zero, suc, ◌-◌, ◌*◌, ◌%◌, ◌^◌, ◌==◌, ℤ, pos, negsuc, neg_ℤ, int_div, nat_le}
 use Rattle.std.proofs.Math.Nat.{add-mul, mul_comm, div-one}
 use Rattle.std.proofs.lemmas.Nat.{mul-mod_first}
 use Rattle.std.proofs.lemmas.Bool.{le-leb}
 use Rattle.std.proofs.lemmas.Float.{T_from_true}
 use Rattle.ck_int.proofs.WordLaws.{kept_of-pos}
 use Rattle.ck_int.proofs.Laws.{reduced-represented, IsKept-wrapped}
-use Rattle.ck_int.specs.Arithmetic.{binary_of, compare_of, promoted_width_of, result_of}
+use Rattle.ck_int.specs.Arithmetic.{binary_of, promoted_width_of, result_of}
 use Rattle.ck_int.specs.Kinds.{IsKept, wrapped, converted, reduced, kept_of, width_of, form_of, value_of}
 use Rattle.ck_int.specs.declared.kinds.IntKind.{IntKind}
 use Rattle.ck_int.specs.declared.kinds.IntKind.TheVariants as int
-use Rattle.ck_int.specs.declared.kinds.CmpOp.TheVariants.{Eq}
 use Rattle.ck_int.specs.declared.kinds.IntOp.{IntOp}
-use Rattle.ck_int.specs.declared.kinds.IntOp.TheVariants.{Add, Sub, Mul, Div, Rem, And, Or, Xor, Shl, Shr}
-use Rattle.ck_int.proofs.OperationLaws.{IsModular, binary_of-modular, binary_of-narrower, wrapped-64, IsKept-64}
+use Rattle.ck_int.specs.declared.kinds.IntOp.TheVariants.{Add, Sub, Div}
+use Rattle.ck_int.proofs.OperationLaws.{IsModular, binary_of-modular, binary_of-narrower, wrapped-64}
 use Rattle.ck_int.proofs.OperationLaws.{compare_of-Eq_kept, converted-Bool}
 use Rattle.ck_int.proofs.Laws.{wrapped-kept_of, wrapped-kept, value_of-wrapped, wrapped-value_of, reduced-narrower}
 use Rattle.ck_int.proofs.Laws.{IsKept-unsigned_below}
-use Rattle.cheri_c_sem.specs.Kinds as kinds
 use Rattle.cheri_c_sem.specs.Types.{promoted}
 
 -- ---- two kinds of 64 bits

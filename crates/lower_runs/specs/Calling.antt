@@ -1,6 +1,6 @@
 -- The simulation of calls: a call comes to what the code of the function comes to, from its entry on, in front of what
 -- the caller goes on with.
-use Rattle.std.specs.Prelude.{◌≡◌, ℕ, ◌≤◌, ◌<◌, ◌&&◌, List, [], ◌∷◌, Option, Some, None, slice_get}
+use Rattle.std.specs.Prelude.{◌≡◌, ℕ, ◌≤◌, ◌<◌, List, [], ◌∷◌, Option, Some, None, slice_get}
 use Rattle.ck_base.specs.World.{World}
 use Rattle.c_tree.specs.declared.typed.Typed.{Typed}
 use Rattle.obj_mem.specs.Values.{Value}

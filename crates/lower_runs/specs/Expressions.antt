@@ -31,7 +31,7 @@ use Rattle.tac_ir.specs.declared.code.LibOp.TheVariants as lib
 use Rattle.tac_ir.specs.declared.code.TacInstr.TheVariants as instr
 use Rattle.tac_ir.specs.declared.code.TacKind.{TacKind}
 use Rattle.tac_ir.specs.declared.code.TacKind.TheVariants as kind
-use Rattle.lower_runs.specs.States.{Scene, Home}
+use Rattle.lower_runs.specs.States.{Scene}
 use Rattle.lower_runs.specs.Operating as operating
 use Rattle.lower_runs.specs.Operating.{Code, word, long, transfer, give, AreInts, right_temps, moved_temps}
 use Rattle.lower_runs.specs.Operating.{address_temps, changed_temps, signed_temps, stepped_temps, stride}

@@ -1,6 +1,6 @@
 -- The simulation of statements: from states that agree, the code of a statement, in front of any instructions, comes to
 -- what the statement means, in front of anything that those instructions come to, whichever way the statement is left.
-use Rattle.std.specs.Prelude.{◌≡◌, ℕ, ◌≤◌, ◌<◌, Bool, true, false, List, Option, Some, None, slice_get, if◌then◌else◌}
+use Rattle.std.specs.Prelude.{◌≡◌, ℕ, ◌≤◌, ◌<◌, Bool, false, List, Option, Some, None, if◌then◌else◌}
 use Rattle.ck_base.specs.World.{World}
 use Rattle.ck_base.specs.declared.positions.Pos.{Pos}
 use Rattle.c_tree.specs.declared.typed.Typed.{Typed}

@@ -10,10 +10,12 @@ use Rattle.ck_int.specs.declared.kinds.IntKind.{IntKind}
 use Rattle.ck_int.specs.declared.kinds.IntOp.{IntOp}
 use Rattle.cap_ops.specs.Permissions.{const_permissions}
 use Rattle.c_tree.specs.declared.typed.Typed.{Typed}
+use Rattle.obj_mem.specs.Legal.{Needs, IsLegal}
 use Rattle.obj_mem.specs.Values.{Value}
+use Rattle.obj_mem.specs.declared.map.Map.{Map}
 use Rattle.cheri_c_sem.specs.Expressions.{permissions_of}
 use Rattle.cheri_c_sem.specs.Kinds.{Kind, Plain}
-use Rattle.cheri_c_sem.specs.Modes.{Store}
+use Rattle.cheri_c_sem.specs.Modes.{Store, operations, placed_plan}
 use Rattle.cheri_c_sem.specs.Operations.{Operations}
 use Rattle.cheri_c_sem.specs.Steps.{Then}
 use Rattle.cheri_c_sem.specs.Tree.{Ex, Exs, Nil, Cons, Whole, Sign, Narrowing, Number, Null, Load, Aggregate}
@@ -29,7 +31,6 @@ use Rattle.tac_ir.specs.declared.code.TacInstr.TheVariants as instr
 use Rattle.tac_ir.specs.declared.code.TacKind.{TacKind}
 use Rattle.tac_ir.specs.declared.code.TacKind.TheVariants as kind
 use Rattle.lower_runs.specs.States.{Scene, IsScene, IsPlaced}
-use Rattle.lower_runs.specs.Operating as operating
 use Rattle.lower_runs.specs.Operating.{Code, AreInts, transfer, give, negated, signed_integer, sign_temps, whole}
 use Rattle.lower_runs.specs.Operating.{right_temps}
 use Rattle.lower_runs.specs.Expressions.{Mark, more, labelled, position_in, int_kind, pointer_kind, IsRight, is_still}
@@ -46,6 +47,10 @@ Everywhere law =
     (ops : Operations Store) → IsPlaced ops →
     (w : World) (t : Tac) (p : Typed) (objects : ℕ → List ℕ) (r : Running)
     (call : ℕ → List Value → Then Store Value) (g : Scene) → IsScene g → law ops w t p objects r call g
+
+-- and those under a legal map do
+abbrev pub OperationsArePlaced : Type 0
+OperationsArePlaced = (needs : Needs) (m : Map) → IsLegal needs m → IsPlaced (operations (placed_plan m))
 
 module _ (ops : Operations Store) (w : World) (t : Tac) (p : Typed) (objects : ℕ → List ℕ) (r : Running)
     (call : ℕ → List Value → Then Store Value) (g : Scene) where

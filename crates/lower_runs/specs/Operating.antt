@@ -1,6 +1,6 @@
 -- The relation, for operations on values that are in temps: the code of each, by where the operands, the result and the
 -- next temp are, and how many temps it takes. Each function of the lowering's operations has its mirror here.
-use Rattle.std.specs.Prelude.{◌≡◌, ℕ, ◌+◌, ◌-◌, ◌*◌, ◌%◌, ◌^◌, ◌==◌, ◌&&◌, not, Bool, true, false, List, [], ◌∷◌}
+use Rattle.std.specs.Prelude.{◌≡◌, ℕ, ◌+◌, ◌-◌, ◌%◌, ◌^◌, ◌==◌, ◌&&◌, not, Bool, true, false, List, [], ◌∷◌}
 use Rattle.std.specs.Prelude.{Option, Some, None, pos, if◌then◌else◌}
 use Rattle.ck_int.specs.Kinds.{wrapped}
 use Rattle.ck_int.specs.declared.kinds.CmpOp.TheVariants.{Eq}

@@ -1,5 +1,5 @@
 -- What holds of the values and of the memory of a placed run.
-use Rattle.std.specs.Prelude.{◌≡◌, ℕ, ◌+◌, ◌^◌, ◌≤◌, ◌<◌, true, List, [], ◌∷◌, Option, Some, None}
+use Rattle.std.specs.Prelude.{◌≡◌, ◌+◌, ◌^◌, ◌≤◌, ◌<◌, true, List, [], ◌∷◌, Option, Some, None}
 use Rattle.obj_mem.specs.Values.{Value, Int, Live, Fun, Raw}
 use Rattle.obj_mem.specs.Objects.{Cell, Byte, Unwritten, PartOf, Shape, Content}
 use Rattle.obj_mem.specs.Pointers.{keeps}

@@ -10,7 +10,8 @@ use Rattle.cheri_c_sem.specs.Modes.{Store}
 use Rattle.cheri_c_sem.specs.Operations.{Operations}
 use Rattle.cheri_c_sem.specs.Steps.{Then}
 use Rattle.cheri_c_sem.specs.Tree.{Ex, Exs, Nil, Cons, Pointer_to, Function, Call, Declared, Simple, Objects, St, Do}
-use Rattle.cheri_c_sem.specs.Tree.{Give, Init, Block, If, While, Do_while, For, Break, Continue, Return, Empty, Sts}
+use Rattle.cheri_c_sem.specs.Tree.{Give, Init, Fill, Block, If, While, Do_while, For, Break, Continue, Return, Empty}
+use Rattle.cheri_c_sem.specs.Tree.{Sts}
 use Rattle.cheri_c_sem.specs.Tree.{End, Seq}
 use Rattle.tac_ir.specs.Effects.{kind_of}
 use Rattle.tac_ir.specs.Meaning.{Running}
@@ -20,9 +21,9 @@ use Rattle.tac_ir.specs.declared.code.TacKind.{TacKind}
 use Rattle.lower_runs.specs.States.{Scene, IsScene, IsPlaced}
 use Rattle.lower_runs.specs.Operating.{Code}
 use Rattle.lower_runs.specs.Expressions.{Mark, Signature, pointer_kind, labelled, choice_code, guarded_code, within}
-use Rattle.lower_runs.specs.Expressions.{within_temp, within_mark}
+use Rattle.lower_runs.specs.Expressions.{within_temp, within_mark, Within}
 use Rattle.lower_runs.specs.Statements.{Exits, in_loop, with_spot, loop_code, repeat_code}
-use Rattle.lower_runs.specs.Simulation.{ValueRuns, OperandRuns, EffectRuns, ConditionRuns}
+use Rattle.lower_runs.specs.Simulation.{ValueRuns, OperandRuns, EffectRuns, ConditionRuns, CopyRuns}
 use Rattle.lower_runs.specs.Calling.{CallsRun, ArgumentsRun, CallRuns, IsAsked}
 use Rattle.lower_runs.specs.Following.{StatementRuns, StatementsRun, TestRuns, StepRuns, EnterRuns}
 
@@ -77,6 +78,10 @@ module _ (ops : Operations Store) (w : World) (t : Tac) (p : Typed) (objects : �
         g.spot o ≡ Some base → Operand_runs g k e from m n c
         → Statement_runs g x (Init q o offset (kind_of k) e) m (within_mark offset n)
         (λ rest. c (within base offset n (instr.Store (within_temp base offset n) from k q ∷ rest)))
+    pub struct : (g : Scene) → IsScene g → (x : Exits) (q : Pos) (o base offset bytes unit : ℕ) (e : Ex) (m n : Mark)
+        (c : Code) → g.spot o ≡ Some base →
+        CopyRuns ops w t p objects r call g (Within base offset) q bytes unit e m n c
+        → Statement_runs g x (Fill q o offset bytes unit e) m n c
     pub block : (g h : Scene) (x : Exits) (ds : List Declared) (ss : Sts) (m n : Mark) (c d : Code) →
         Enter_runs g ds h c → Statements_run h x ss m n d → Statement_runs g x (Block ds ss) m n (λ rest. c (d rest))
     pub choice : (g : Scene) (x : Exits) (q : Pos) (j : TacKind) (e : Ex) (a b : St) (l m n o : Mark) (c d f : Code) →

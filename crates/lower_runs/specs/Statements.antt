@@ -1,6 +1,6 @@
 -- The relation, for statements: these instructions are the code of this statement, between these numbers of temps and
 -- labels.
-use Rattle.std.specs.Prelude.{◌≡◌, ℕ, zero, suc, ◌+◌, ◌==◌, Bool, true, false, List, [], ◌∷◌, Option, Some, None, pos}
+use Rattle.std.specs.Prelude.{◌≡◌, ℕ, suc, ◌+◌, ◌==◌, true, false, List, [], ◌∷◌, Option, Some, None, pos}
 use Rattle.std.specs.Prelude.{if◌then◌else◌}
 use Rattle.ck_base.specs.declared.positions.Pos.{Pos}
 use Rattle.ck_int.specs.Kinds.{wrapped}
@@ -14,9 +14,9 @@ use Rattle.tac_ir.specs.Effects.{kind_of}
 use Rattle.tac_ir.specs.declared.code.TacInstr.TheVariants as instr
 use Rattle.tac_ir.specs.declared.code.TacKind.{TacKind}
 use Rattle.tac_ir.specs.declared.code.TacKind.TheVariants as kind
-use Rattle.lower_runs.specs.States.{Scene, Home, IsScene}
+use Rattle.lower_runs.specs.States.{Scene, IsScene}
 use Rattle.lower_runs.specs.Operating.{Code}
-use Rattle.lower_runs.specs.Expressions.{Mark, Signature, more, labelled, int_kind, choice_code, guarded_code, within}
+use Rattle.lower_runs.specs.Expressions.{Mark, Signature, more, labelled, choice_code, guarded_code, within}
 use Rattle.lower_runs.specs.Expressions.{within_temp, within_mark, Within, IsOperand, IsValue, IsEffect, IsCondition}
 use Rattle.lower_runs.specs.Expressions.{IsCopy}
 

@@ -16,8 +16,6 @@ use Rattle.ck_int.specs.declared.kinds.IntOp.TheVariants.{Sub}
 use Rattle.cap_ops.specs.Permissions.{data_permissions}
 use Rattle.obj_mem.specs.Values.{Value}
 use Rattle.obj_mem.specs.Values as value
-use Rattle.obj_mem.specs.declared.ending.Fault.{Fault}
-use Rattle.obj_mem.specs.declared.ending.UnitFault.{UnitFault}
 use Rattle.cheri_c_sem.specs.Kinds.{Kind, Plain, Capability, zero_of, null_at, number_of, bytes_of}
 use Rattle.cheri_c_sem.specs.Modes.{Store}
 use Rattle.cheri_c_sem.specs.Operations.{Operations, Work}

@@ -6,7 +6,7 @@ ghost use Rattle.lower_runs.specs.Expressions.{Signature};
 ghost use Rattle.lower_runs.specs.StatementLaws.{CallRules, InEachFunction, StatementRules, BlockRules, LoopRules};
 ghost use Rattle.lower_runs.specs.Result.{ExpressionsRun};
 ghost use Rattle.lower_runs.specs.Laws.{Everywhere, OperandRules, ValueRules, LoadRules, PlaceRules, ConditionRules};
-ghost use Rattle.lower_runs.specs.Laws.{EffectRules, AssignmentRules};
+ghost use Rattle.lower_runs.specs.Laws.{EffectRules, AssignmentRules, OperationsArePlaced};
 
 /// Operands: values that stand in a temp already, and those that come into a new one.
 #[tactic(auto, using(crate::proofs::Gathered::operands_law))]
@@ -73,6 +73,12 @@ pub fn loops_run()
 pub fn calls_run()
     ensures { (signs : ℕ → Signature) →
         Everywhere (λ ops w t p objects r call g. CallRules ops w t p objects r call g signs) }
+{}
+
+/// Operations under a legal map are what the other laws ask for.
+#[tactic(auto, using(crate::proofs::Placed::operations_placed))]
+pub fn operations_are_placed()
+    ensures { OperationsArePlaced }
 {}
 
 /// Code that the relation makes of expressions does what they mean, given calls, in a world that gives bytes.

@@ -2,14 +2,15 @@
 //!
 //! Promise: laws, for each rule by which lowering makes code: where the codes of the parts do what the parts mean, so
 //! does the whole, over all operations, in every world, and whatever follows. Definitions (`specs/`): the relation of
-//! trees and code in `Expressions`, `Statements` and `Operating`; the relation of states in `States`; the simulation in
-//! `Simulation`, `Following` and `Calling`; the results in `Laws`, `StatementLaws` and `Result`. Main lemmas
-//! (`proofs/`): `Agreement`, `Operands`, `Conditions`, `Places`.
+//! trees and code in `Expressions`, `Statements` and `Operating`; the relation of states in `States` and `Sound`; the
+//! simulation in `Simulation`, `Following` and `Calling`; the results in `Laws`, `StatementLaws` and `Result`. Main
+//! lemmas (`proofs/`): `Agreement`, `Operands`, `Conditions`, `Places`, `Changes`, `Placed`.
 #![tactic(auto)]
 
 mod laws;
 
 pub use laws::{
     assignments_run, blocks_are_entered, calls_run, conditions_run, effects_run, expressions_run,
-    loads_run, loops_run, operands_run, places_run, statements_run, values_run,
+    loads_run, loops_run, operands_run, operations_are_placed, places_run, statements_run,
+    values_run,
 };
