@@ -25,3 +25,4 @@ pub mod Compounds
 pub mod Services
 pub mod Fills
 pub mod Placed
+pub mod Bodies

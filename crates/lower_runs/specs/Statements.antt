@@ -39,11 +39,11 @@ with_spot n t g = record g { spot = λ o. if o == n then Some t else g.spot o }
 
 -- `enter`: a block is entered, and in it the pointers to its objects stand in their temps
 pub data IsEntered : Scene → List Declared → Scene → Code → Type 0 where
-  none : {g : Scene} → IsEntered g [] g (λ r. r)
+  nothing : {g : Scene} → IsEntered g [] g (λ r. r)
   simple : {g h : Scene} {x t : ℕ} {k : TacKind} {ds : List Declared} {c : Code} →
       g.home x ≡ Some (record { temp = t; kind = k }) → IsEntered g ds h c →
       IsEntered g (Simple x ∷ ds) h (λ r. instr.Const t k 0 ∷ c r)
-  object : {g h : Scene} {n t : ℕ} {ds : List Declared} {c : Code} → IsScene (with_spot n t g) →
+  whole : {g h : Scene} {n t : ℕ} {ds : List Declared} {c : Code} → IsScene (with_spot n t g) →
       ((i : ℕ) → g.spot n ≡ Some i → i ≡ t) → IsEntered (with_spot n t g) ds h c →
       IsEntered g (Objects n ∷ ds) h (λ r. instr.Zero n ∷ instr.Local t n ∷ c r)
 
@@ -100,13 +100,13 @@ count_labels (s ∷ ls) = suc (count_labels ls)
 module _ (p : Typed) (signs : ℕ → Signature) (kinds : List TacKind) (result : Option TacKind) where
   -- `test_loop` and `step_loop`, where they are there
   pub data IsTest (g : Scene) : Option (Pos × Kind × Ex) → ℕ → Mark → Mark → Code → Type 0 where
-    none : {label : ℕ} {m : Mark} → IsTest g None label m m (λ r. r)
-    some : {q : Pos} {j : TacKind} {e : Ex} {label : ℕ} {m n : Mark} {c : Code} →
+    untested : {label : ℕ} {m : Mark} → IsTest g None label m m (λ r. r)
+    tested : {q : Pos} {j : TacKind} {e : Ex} {label : ℕ} {m n : Mark} {c : Code} →
         IsCondition p signs kinds g j e false label m n c → IsTest g (Some (q, kind_of j, e)) label m n c
 
   pub data IsStep (g : Scene) : Option Ex → Mark → Mark → Code → Type 0 where
-    none : {m : Mark} → IsStep g None m m (λ r. r)
-    some : {e : Ex} {m n : Mark} {c : Code} → IsEffect p signs kinds g e m n c → IsStep g (Some e) m n c
+    unstepped : {m : Mark} → IsStep g None m m (λ r. r)
+    stepped : {e : Ex} {m n : Mark} {c : Code} → IsEffect p signs kinds g e m n c → IsStep g (Some e) m n c
 
   mutual
     -- `statement`

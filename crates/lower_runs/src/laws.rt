@@ -4,7 +4,7 @@
 ghost use Rattle.std.specs.Prelude.{ℕ};
 ghost use Rattle.lower_runs.specs.Expressions.{Signature};
 ghost use Rattle.lower_runs.specs.StatementLaws.{CallRules, InEachFunction, StatementRules, BlockRules, LoopRules};
-ghost use Rattle.lower_runs.specs.Result.{ExpressionsRun};
+ghost use Rattle.lower_runs.specs.Result.{ExpressionsRun, StatementsAreRun};
 ghost use Rattle.lower_runs.specs.Laws.{Everywhere, OperandRules, ValueRules, LoadRules, PlaceRules, ConditionRules};
 ghost use Rattle.lower_runs.specs.Laws.{EffectRules, AssignmentRules, OperationsArePlaced};
 
@@ -85,4 +85,10 @@ pub fn operations_are_placed()
 #[tactic(auto, using(crate::proofs::Results::expressions_law))]
 pub fn expressions_run()
     ensures { ExpressionsRun }
+{}
+
+/// The same of statements without `switch`.
+#[tactic(auto, using(crate::proofs::Bodies::statements_are_run))]
+pub fn bodies_run()
+    ensures { StatementsAreRun }
 {}
