@@ -67,25 +67,12 @@ use Rattle.select_runs.specs.Kinds.{IsOfKind, AreOfKinds}
 use Rattle.select_runs.specs.Operands.{ground_of, IsText, IsAtPoint}
 use Rattle.select_runs.specs.Results.{Computed, before, behind, kinds_in, code_in, IsSelectable}
 use Rattle.select_runs.proofs.Acts.{fetched_here, act_on_row, counter_place, next_is, has_front, has_back, join}
-use Rattle.select_runs.proofs.Integers.{number_at}
 use Rattle.select_runs.proofs.Kinded.{kind_passes, same_turned, kinded_set, has_kind}
-use Rattle.select_runs.proofs.Numbers.{null_address}
-use Rattle.select_runs.proofs.Points.{laid, there}
+use Rattle.select_runs.proofs.Numbers.{number_at, null_address}
+use Rattle.select_runs.proofs.Points.{laid, there, traps_at}
 use Rattle.select_runs.proofs.Results.{reads_as_before}
 use Rattle.select_runs.proofs.Simple.{operand_few}
 use Rattle.select_runs.proofs.Working.{operand_got, integer_bits, unsecond, one_only, two_words, within, of_one}
-
--- ---- a word that traps
-
-traps_at : (s : Setting) (code : List Instr) (x : IsText s code) (p : Point) (at : ℕ) (t : State modes.Store)
-    (m : Machine)
-    → IsAtPoint s code p at t m → (i : Instr) → slice_get code at ≡ Some i → is_call i ≡ false → (c : Cause)
-    → row m i ≡ trap m c
-    → act m ≡ Ends (Trap c (place (ground_of s code) at))
-traps_at s code x p at t m point i has plain c does =
-    let h = there s code x p at t m point in
-    fetched_here (ground_of s code) (laid s code x) m at i h.counter h.text has ∙ act_on_row m i plain ∙ ap act_of does
-    ∙ ap (λ k. Ends (Trap c k)) (counter_place (ground_of s code) m at h.counter)
 
 next_or_end : {e : Rattle.cap_machine.specs.declared.end.End.End} → Ended e ≡ Next → ⊥
 next_or_end e = absurd cc

@@ -66,8 +66,7 @@ use Rattle.select_runs.proofs.Arithmetic.{xor_is}
 use Rattle.select_runs.proofs.Intrinsics.{truth_bits, truth_known, truth_kept}
 use Rattle.select_runs.proofs.Jumps.{address_there, address_below}
 use Rattle.select_runs.proofs.Kinded.{kind_passes, same_turned, kinded_set, has_kind}
-use Rattle.select_runs.proofs.Numbers.{null_address}
-use Rattle.select_runs.proofs.Integers.{number_at}
+use Rattle.select_runs.proofs.Numbers.{number_at, null_address}
 use Rattle.select_runs.proofs.Working.{one_only, two_words, within, of_one, of_two, other_comes}
 
 -- ---- comparisons of 64 bits

@@ -54,10 +54,10 @@ use Rattle.select_runs.specs.Operands.{IsText, IsAtPoint}
 use Rattle.select_runs.specs.Results.{Computed, Arrives, before, behind, kinds_in, code_in, IsSelectable}
 use Rattle.select_runs.specs.Words.{Copied}
 use Rattle.select_runs.proofs.Arithmetic.{mask_is, sum_with_zero}
-use Rattle.select_runs.proofs.Integers.{number_at, kept_integer}
+use Rattle.select_runs.proofs.Integers.{kept_integer}
 use Rattle.select_runs.proofs.Jumps.{address_there, address_below, truth_is, zero_kept}
 use Rattle.select_runs.proofs.Kinded.{kind_passes, raw_null, same_turned, kinded_set, has_kind}
-use Rattle.select_runs.proofs.Numbers.{null_address}
+use Rattle.select_runs.proofs.Numbers.{number_at, null_address}
 use Rattle.select_runs.proofs.Simple.{copies}
 use Rattle.select_runs.proofs.Working.{integer_bits, one_only, two_words, within, of_one}
 

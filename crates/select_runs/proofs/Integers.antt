@@ -58,16 +58,12 @@ use Rattle.select_runs.specs.Results.{Computed, Arrives, before, behind, kinds_i
 use Rattle.select_runs.proofs.Arithmetic.{Gives, registers_give, immediate_is, no_shift, commutes, less_is, shift_gives}
 use Rattle.select_runs.proofs.Arithmetic.{times_is, product_turns}
 use Rattle.select_runs.proofs.Kinded.{kind_passes, same_turned, kinded_set, has_kind}
-use Rattle.select_runs.proofs.Numbers.{null_address}
+use Rattle.select_runs.proofs.Numbers.{number_at, null_address}
 use Rattle.select_runs.proofs.Intrinsics.{same_int}
 use Rattle.select_runs.proofs.Working.{integer_of, integer_bits, first_word, next_word, within, of_one, of_two}
 use Rattle.select_runs.proofs.Working.{other_comes}
 
 -- ---- integers in registers
-
--- the number of a register that has an integer
-pub number_at : (u : Machine) (r n : ℕ) → register u r ≡ null_at n → integer u r ≡ n
-number_at u r n e = ap (λ (c : Cap). c.fields.address) e ∙ null_address n
 
 -- a value of an integer kind, as it is kept
 pub kept_integer : (k : IntKind) (j : Kind) (v : Value) → same_kind j (Plain k) ≡ true → IsOfKind j v

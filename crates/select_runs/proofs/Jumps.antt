@@ -57,11 +57,11 @@ module _ (s : Setting) (code : List Instr) (x : IsText s code) where
   abbrev g : Ground
   g = ground_of s code
 
-  abbrev landed : Machine → ℕ → Machine
+  abbrev pub landed : Machine → ℕ → Machine
   landed m to = record m { pc = counter_at g to }
 
   -- a word that changes the counter alone
-  hops : (m : Machine) (at to by : ℕ) (i : Instr) → IsThere g m at → slice_get code at ≡ Some i → is_call i ≡ false
+  pub hops : (m : Machine) (at to by : ℕ) (i : Instr) → IsThere g m at → slice_get code at ≡ Some i → is_call i ≡ false
       → row m i ≡ (Next, record m { pc = added m.pc by }) → to ≤ length code
       → (place g at + by) % 2 ^ 64 ≡ place g to → act m ≡ Goes (landed m to)
   hops m at to by i h has plain does inside sum =
@@ -77,7 +77,7 @@ module _ (s : Setting) (code : List Instr) (x : IsText s code) where
   jumps m at to z h leads has = hops m at to (extended z) (Cjal 0 z) h has refl refl leads.inside leads.there
 
   -- the machine still stands for the state, at what is read no more than before
-  lands : (p : Point) (rest : List TacInstr) → ((temp : ℕ) → IsLive s (onward p rest) temp → IsLive s p temp) →
+  pub lands : (p : Point) (rest : List TacInstr) → ((temp : ℕ) → IsLive s (onward p rest) temp → IsLive s p temp) →
       (at to : ℕ)
       → (t : State Store) (m : Machine) → IsAtPoint s code p at t m → IsAtPoint s code (onward p rest) to t
       (landed m to)

@@ -9,6 +9,7 @@ pub mod Simple
 pub mod Working
 pub mod Pointing
 pub mod Intrinsics
+pub mod Locals
 pub mod Pointers
 pub mod Arithmetic
 pub mod Integers
@@ -17,3 +18,8 @@ pub mod Conversions
 pub mod Accesses
 pub mod Rows
 pub mod Jumps
+pub mod Loops
+pub mod Zeroing
+pub mod Bringing
+pub mod Copying
+pub mod Services

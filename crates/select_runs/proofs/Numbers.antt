@@ -24,7 +24,7 @@ use Rattle.rv_instr.specs.declared.ops.ShiftOp.TheVariants.{Slli}
 use Rattle.rv_instr.specs.declared.ops.RegOp.TheVariants.{Add, Addw, Sll}
 use Rattle.cap_machine.specs.declared.machine.Machine.{Machine}
 use Rattle.cap_machine.specs.Integers.{result_of, word, upper, extended}
-use Rattle.cap_machine.specs.State.{integer}
+use Rattle.cap_machine.specs.State.{register, integer}
 use Rattle.cap_machine.specs.Rows.{row, upper_row, imm_row, shift_row, set_integer}
 use Rattle.purecap_abi.specs.Numbers.{signed_word, plus, set_by, number_after}
 use Rattle.select_runs.specs.Acts.{Ground, Laid, HasAt, Holds, IsThere}
@@ -36,6 +36,10 @@ use Rattle.select_runs.proofs.Acts.{still, one_set, after}
 pub null_address : (n : ℕ) → (null_at n).fields.address ≡ n
 unfolding null_at
 null_address n = refl
+
+-- the number of a register that has an integer
+pub number_at : (u : Machine) (r n : ℕ) → register u r ≡ null_at n → integer u r ≡ n
+number_at u r n e = ap (λ (c : Cap). c.fields.address) e ∙ null_address n
 
 small_kept : (n : ℕ) → n < 2 ^ 31 → kept_of (twos_complement 32 n) ≡ n
 unfolding kept_of

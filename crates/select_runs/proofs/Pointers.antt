@@ -1,14 +1,14 @@
 -- Pointers to objects and functions: what they are in the meaning, the machine makes of the stack's capability or
 -- reads from the table.
 use Rattle.std.proofs.Common.{◌≡◌, ℕ, zero, suc, ◌+◌, ◌-◌, ◌*◌, ◌%◌, ◌^◌, ◌<◌, ◌≤◌, ℤ, pos, Bool, true, false, List, []}
-use Rattle.std.proofs.Common.{◌∷◌, ◌++◌, length, map, Option, Some, None, refl, sym, ap, ◌∙◌, subst, arith, inl}
+use Rattle.std.proofs.Common.{◌∷◌, ◌++◌, length, Option, Some, None, refl, sym, ap, ◌∙◌, subst, arith, inl}
 use Rattle.std.proofs.Common.{if◌then◌else◌}
 use Rattle.std.specs.Prelude.{slice_get, slice_set, nat_lt, get_or}
 use Rattle.std.specs.List.{filter}
 use Rattle.std.specs.Option.{option_map}
 use Rattle.std.proofs.lemmas.Bool.{and_parts, ltb-true}
 use Rattle.std.proofs.lemmas.List.{length-append, length-map}
-use Rattle.std.proofs.lemmas.Option.{same_Some, slice_get_within, slice_get-map}
+use Rattle.std.proofs.lemmas.Option.{slice_get_within, slice_get-map}
 use Rattle.cap_concentrate.specs.Rounding.{owned}
 use Rattle.cap_ops.specs.declared.capability.Cap.{Cap}
 use Rattle.cap_ops.specs.declared.capability.TheConstants.{EXECUTE}
@@ -26,10 +26,8 @@ use Rattle.c_tree.specs.declared.typed.FunDef.{FunDef}
 use Rattle.c_tree.specs.declared.typed.GlobalDef.{GlobalDef}
 use Rattle.c_tree.specs.declared.typed.Literal.{Literal}
 use Rattle.c_tree.specs.declared.typed.Typed.{Typed}
-use Rattle.c_tree.specs.declared.typed.VarDef.{VarDef}
 use Rattle.c_tree.specs.declared.typed.CType.{CType}
 use Rattle.c_tree.specs.Layout.{Extent, extent}
-use Rattle.obj_mem.specs.declared.map.Frame.{Frame}
 use Rattle.obj_mem.specs.Legal.{ObjectNeed, FunctionNeed, IsFrame, IsSlot, AreFrames, slot_of, owned_of}
 use Rattle.obj_mem.specs.Needs.{is_const, need_by, need_of, global_need, literal_need, local_need, local_needs}
 use Rattle.obj_mem.specs.Needs.{is_object, function_needs, needs_of}
@@ -51,13 +49,11 @@ use Rattle.tac_ir.specs.declared.code.TacInstr.{TacInstr}
 use Rattle.tac_ir.specs.declared.code.TacInstr.TheVariants as instr
 use Rattle.place_inject.specs.Values.{IsKnown}
 use Rattle.place_inject.specs.Steps.{is_integer}
-use Rattle.place_inject.specs.Frames.{Setting, Point, IsAt, functions_of, locals_by, stack_top, stack_pointer}
-use Rattle.place_inject.specs.Fits.{registers_in}
+use Rattle.place_inject.specs.Frames.{Setting, Point, IsAt, functions_of, stack_top, stack_pointer}
 use Rattle.place_inject.specs.Spills.{StackIsThere}
 use Rattle.place_inject.specs.Tables.{TableIsThere, EntriesAreRead, table_top, table_pointer}
 use Rattle.place_inject.specs.Whole.{WholeFits}
-use Rattle.place_inject.proofs.ReadBack.{newest, under}
-use Rattle.place_inject.proofs.Reaching.{kept_bounds, stack_encodable, stack_reaches_law, table_reaches_law}
+use Rattle.place_inject.proofs.Reaching.{kept_bounds, stack_encodable, table_reaches_law}
 use Rattle.place_inject.proofs.Tables.{object_stands, table_reads_back_law}
 use Rattle.place_inject.proofs.Wholes.{whole_pointers_fit_law}
 use Rattle.select_runs.specs.Acts.{HasAt, IsThere, Holds}
@@ -69,17 +65,13 @@ use Rattle.select_runs.specs.Results.{Computed, Arrives, before, behind, kinds_i
 use Rattle.select_runs.proofs.Acts.{has_front, has_back, one_set}
 use Rattle.select_runs.proofs.Far.{Reach, far, far_low, near_low, near, moves}
 use Rattle.select_runs.proofs.Kinded.{kinded_set, has_kind}
+use Rattle.select_runs.proofs.Locals.{some_at, LocalLies, local_lies, local_reach, base_keeps}
 use Rattle.select_runs.proofs.Numbers.{null_address, numbers_are_made_law}
 use Rattle.select_runs.proofs.Points.{laid, there}
 use Rattle.select_runs.proofs.Pointing.{pointer_kind, same_capability}
 use Rattle.select_runs.proofs.Working.{stretch, computed_there, and_then, and_scratch, of_none}
 
 -- ---- what the program asks for
-
-some_at : {A : Type 0} (xs : List A) (k : ℕ) → k < length xs → (x : A) × (slice_get xs k ≡ Some x)
-some_at [] k h = absurd (omega arith)
-some_at (x ∷ xs) zero h = (x, refl)
-some_at (x ∷ xs) (suc k) h = some_at xs k (omega arith)
 
 get_front : {A : Type 0} (xs ys : List A) (k : ℕ) (x : A) → slice_get xs k ≡ Some x → slice_get (xs ++ ys) k ≡ Some x
 get_front [] ys k x h = cc
@@ -102,42 +94,17 @@ need_permissions (Some x) permissions = by (Rattle.std.specs.Prelude.nat_le x.si
     by true = refl
     by false = refl
 
-function_needed : (types : List CType) (weight : ℕ → ℕ) (fs : List FunDef) (k j : ℕ) (d : FunDef)
-    → slice_get fs j ≡ Some d
-    → locals_by (slice_get (function_needs types weight k fs) j) ≡ local_needs types d
-function_needed types weight [] k j d h = cc
-function_needed types weight (e ∷ fs) k zero d h = ap (local_needs types) (same_Some e d h)
-function_needed types weight (e ∷ fs) k (suc j) d h = function_needed types weight fs (suc k) j d h
-
 functions_many : (types : List CType) (weight : ℕ → ℕ) (fs : List FunDef) (k : ℕ)
     → length (function_needs types weight k fs) ≡ length fs
 functions_many types weight [] k = refl
 functions_many types weight (f ∷ fs) k = ap suc (functions_many types weight fs (suc k))
-
-locals_many : (p : Typed) (vs : List VarDef) → length (map (local_need p.types) (filter is_object vs)) ≡ length
-    (lengths_of p vs)
-locals_many p [] = refl
-locals_many p (v ∷ vs) = by v.simple refl (locals_many p vs)
-  where
-    by : (b : Bool) → v.simple ≡ b → length (map (local_need p.types) (filter is_object vs)) ≡ length (lengths_of p vs)
-        → length (map (local_need p.types) (filter is_object (v ∷ vs))) ≡ length (lengths_of p (v ∷ vs))
-    by true e r = rw e r
-    by false e r = rw e (ap suc r)
-
-framed : (ns : List FunctionNeed) (fs : List Frame) (k : ℕ) (f : Frame) → AreFrames ns fs → slice_get fs k ≡ Some f
-    → (n : FunctionNeed) × (slice_get ns k ≡ Some n) × IsFrame n f
-framed [] [] k f a h = cc
-framed [] (g ∷ fs) k f a h = absurd a
-framed (n ∷ ns) [] k f a h = absurd a
-framed (n ∷ ns) (g ∷ fs) zero f a h = (n, refl, subst (IsFrame n) (same_Some g f h) a.0)
-framed (n ∷ ns) (g ∷ fs) (suc k) f a h = framed ns fs k f a.1 h
 
 near_or_far : (b c : Bool) (i j k l : Instr) → length (if b then i ∷ [] else j ∷ k ∷ (if c then l ∷ [] else [])) ≤ 3
 near_or_far true c i j k l = omega arith
 near_or_far false true i j k l = omega arith
 near_or_far false false i j k l = omega arith
 
-moved_few : (to base offset : ℕ) → length (moved_code to base offset) ≤ 3
+pub moved_few : (to base offset : ℕ) → length (moved_code to base offset) ≤ 3
 moved_few to base offset = near_or_far (nat_lt offset 2048) (nat_lt 0 (offset % 4096)) _ _ _ _
 
 -- ---- a pointer that comes into a temp
@@ -309,96 +276,38 @@ module _ (s : Setting) (code : List Instr) (x : IsText s code) (stack : StackIsT
       (kinds_in s running) (code_in s running) var) sel.fits in
       (q.0, ltb-true var (length (lengths_of p sel.d.vars)) q.1)
 
-  needs_are : locals_by (slice_get s.needs.functions running.fun) ≡ local_needs p.types sel.d
-  needs_are =
-      ap (λ (n : Rattle.obj_mem.specs.Legal.Needs). locals_by (slice_get n.functions running.fun)) asked.needs
-      ∙ function_needed p.types asked.weight p.funs 0 running.fun sel.d sel.is
-
-  needed : (need : ObjectNeed) × (slice_get (locals_by (slice_get s.needs.functions running.fun)) var ≡ Some need)
-  needed =
-      let l = local_parts.1 in
-      let many = locals_many p sel.d.vars in
-      some_at (locals_by (slice_get s.needs.functions running.fun)) var
-      (subst (λ ns. var < length ns) (sym needs_are) (omega (arith, l, many)))
-
-  frame_is : (n : FunctionNeed) × (slice_get s.needs.functions running.fun ≡ Some n) × IsFrame n form.frame
-  frame_is = framed s.needs.functions s.map.frames running.fun form.frame x.legal.frames form.is
-
-  slot_is : IsSlot needed.0 form.frame form.slot
-  slot_is =
-      let h = frame_is.2.has_slot var needed.0 (subst (λ ns. slice_get ns var ≡ Some needed.0)
-      (ap locals_by frame_is.1) needed.1) in
-      subst (IsSlot needed.0 form.frame) (same_Some h.0 form.slot (sym h.1 ∙ form.has)) h.2
+  lies : LocalLies s t var form.slot
+  lies = local_lies s x.legal p asked here t m point.fits sel.d sel.is var local_parts.1 form.frame form.is form.slot
+      form.has
 
   abbrev base : ℕ
   base = t.frame + form.slot.at
 
-  stands : IsAt t.mem.memory.shapes (t.first + var) needed.0 base
-  stands =
-      let e : local_offset (slice_get s.map.frames running.fun) var ≡ form.slot.at =
-      ap (λ o. local_offset o var) form.is ∙ ap slot_offset form.has in
-      subst (λ k. IsAt t.mem.memory.shapes (t.first + var) needed.0 (t.frame + k)) e
-      (point.fits.calls.0.each var needed.0 needed.1)
-
-  -- where it lies in the stack
-  record Inside : Type 0 where
-    low : s.map.stack.0 ≤ t.frame
-    end : base + form.slot.length ≤ stack_top s
-    small : form.slot.at < 2 ^ 31 - 2048
-    top : stack_top s ≤ 2 ^ 40
-
-  inside : Inside
-  inside =
-      let own = newest s t.mem.memory.shapes m.mem (registers_in m) running.fun t.first t.frame running.callers
-      point.fits.calls.2 in
-      let fr = own.frame in
-      let lies = under s t.mem.memory.shapes m.mem running.fun t.first t.frame own.above own.link fr in
-      let same : fr.frame ≡ form.frame = same_Some fr.frame form.frame (sym fr.is ∙ form.is) in
-      let size : fr.frame.size ≡ form.frame.size = ap (λ (f : Frame). f.size) same in
-      let low_is = lies.from in
-      let high_is = lies.to in
-      let top_is = own.inside in
-      let within_it = slot_is.within in
-      let few = fr.for_homes.small in
-      record { low = low_is; end = omega arith; small = omega arith; top = x.legal.in_range.2.2.2.1 }
-
-  stack_keeps : (y : ℕ) → s.map.stack.0 ≤ y → y < stack_top s + 4096 → keeps s.map.stack.0 (stack_top s) y ≡ true
-  stack_keeps y from below = stack_reaches_law s x.legal y from below
-
-  local_reach : Reach s.map.stack.0 (stack_top s) t.frame form.slot.at
-  local_reach =
-      let low_is = inside.low in let high_is = inside.end in let top_is = inside.top in let few = inside.small in
-      record {
-        small = few;
-        below = omega arith;
-        here = stack_keeps t.frame low_is (omega arith);
-        near = stack_keeps (t.frame + far form.slot.at) (omega arith) (omega arith);
-      }
-
-  base_keeps : keeps s.map.stack.0 (stack_top s) base ≡ true
-  base_keeps = let low_is = inside.low in let high_is = inside.end in stack_keeps base (omega arith) (omega arith)
+  base_kept : keeps s.map.stack.0 (stack_top s) base ≡ true
+  base_kept = base_keeps s x.legal t var form.slot lies
 
   whole : WholeFits (functions_of s) (addresses_of s.map) t.mem.memory.shapes
-      (t.first + var) stands.shape data_permissions
-  whole = whole_fits s code x here at t m point (t.first + var) needed.0 base data_permissions (omega arith) refl stands
+      (t.first + var) lies.stands.shape data_permissions
+  whole = whole_fits s code x here at t m point (t.first + var) lies.need base data_permissions (omega arith) refl
+      lies.stands
 
-  owned_is : stands.shape.owned ≡ form.slot.length
+  owned_is : lies.stands.shape.owned ≡ form.slot.length
   owned_is =
-      (point.fits.objects.spread.placed (t.first + var) stands.shape stands.there).owned_is ∙ ap owned stands.length
-      ∙ sym slot_is.length
+      (point.fits.objects.spread.placed (t.first + var) lies.stands.shape lies.stands.there).owned_is
+      ∙ ap owned lies.stands.length ∙ sym lies.length_is
 
   -- the stack's capability at the object, narrowed to it
   narrowed_is : narrowed_exactly (stack_pointer s base) form.slot.length
       ≡ capability_of (addresses_of s.map) (base_in t.mem.memory.shapes) the_local
   narrowed_is =
-      let low_is = inside.low in let high_is = inside.end in let top_is = inside.top in
-      let b = kept_bounds s.map.stack.0 (stack_top s) data_permissions base base_keeps in
-      let at_base = stands.base_is in
+      let low_is = lies.low in let high_is = lies.end in let top_is = lies.top in
+      let b = kept_bounds s.map.stack.0 (stack_top s) data_permissions base base_kept in
+      let at_base = lies.stands.base_is in
       let own = owned_is in
       sym (ap (λ c. narrowed_exactly c form.slot.length) (ap (moved (stack_pointer s base)) at_base
       ∙ bounded_moved s.map.stack.0 (stack_top s) data_permissions base base b.0 b.1 b.0 b.1))
-      ∙ ap (narrowed_exactly (moved (stack_pointer s base) stands.shape.base)) (sym own)
-      ∙ whole.made s.map.stack.0 (stack_top s) base (stack_encodable s x.legal) (omega arith) base_keeps (omega arith)
+      ∙ ap (narrowed_exactly (moved (stack_pointer s base) lies.stands.shape.base)) (sym own)
+      ∙ whole.made s.map.stack.0 (stack_top s) base (stack_encodable s x.legal) (omega arith) base_kept (omega arith)
       (omega arith)
 
   local_does : (n : Machine) (mid : ℕ) → IsAtPoint s code here mid t n → (r : ℕ) (ws : List Instr)
@@ -416,9 +325,10 @@ module _ (s : Setting) (code : List Instr) (x : IsText s code) (stack : StackIsT
       let late : ℕ = mid + length front in
       let last : ℕ = late + length o.number in
       let value = capability_of (addresses_of s.map) (base_in t.mem.memory.shapes) the_local in
-      let a = moves (ground_of s code) (laid s code x) s.map.stack.0 (stack_top s) t.frame form.slot.at 2 r local_reach
+      let a = moves (ground_of s code) (laid s code x) s.map.stack.0 (stack_top s) t.frame form.slot.at 2 r
+      (local_reach s x.legal t var form.slot lies)
       (λ z. absurd (omega (arith, z, above))) (omega arith) (omega arith) n mid (there s code x here mid t n now_here)
-      now_here.fits.stack.stack base_keeps (has_front code mid front (o.number ++ end) q) in
+      now_here.fits.stack.stack base_kept (has_front code mid front (o.number ++ end) q) in
       let first = stretch s code x here t n mid r (length front) r r (stack_pointer s base) (inl refl) a in
       let b = numbers_are_made_law (ground_of s code) (laid s code x) first.to late
       (computed_there s code x here t n mid (length front) late r r

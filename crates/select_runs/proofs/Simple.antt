@@ -84,7 +84,7 @@ operand_few s fun t scratch ws r (emitted.AtHome i e) = subst (λ u. length u �
 operand_few s fun t scratch ws r (emitted.Loaded offset i e q) = subst (λ u. length u ≤ 3) (sym e)
     (load_few scratch offset scratch)
 
-bring_few : (s : Setting) (fun t r : ℕ) (ws : List Instr) → Bring s fun t r ws → length ws ≤ 3
+pub bring_few : (s : Setting) (fun t r : ℕ) (ws : List Instr) → Bring s fun t r ws → length ws ≤ 3
 bring_few s fun t r ws (words.Made v n makes few) = omega arith
 bring_few s fun t r ws (words.There i e) = subst (λ u. length u ≤ 3) (sym e) (omega arith)
 bring_few s fun t r ws (words.Moved q i d e) = subst (λ u. length u ≤ 3) (sym e) (omega arith)

@@ -90,7 +90,8 @@ module _ (s : Setting) (code : List Instr) (x : IsText s code) (p : Point) (t : 
   abbrev pub bits : Value → Cap
   bits = capability_of (addresses_of s.map) (base_in t.mem.memory.shapes)
 
-  got : (m n : Machine) (count at : ℕ) → Leads count m n → IsAtPoint s code p at t n → (scratch r size : ℕ) (c : Cap)
+  pub got : (m n : Machine) (count at : ℕ) → Leads count m n → IsAtPoint s code p at t n
+      → (scratch r size : ℕ) (c : Cap)
       → 28 ≤ scratch
       → Holds g n size (at + size) scratch r c → Got s code p t m n (count + size) (at + size) scratch r c
   got m n count at leads point scratch r size c above h = record {

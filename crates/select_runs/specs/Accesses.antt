@@ -102,18 +102,22 @@ IsAccess i = ⊥
 
 -- ---- what they do
 
--- A trap ends the run: in the meaning at a place in the source, and on the machine at a word, by the same cause
-pub record Traps (s : Setting) (code : List Instr) (w : World) (p : Typed) (running : Running) (i : TacInstr)
-    (source : Pos)
-    (word : ℕ) (t : State modes.Store) (m : Machine) : Type 0 where
+-- A trap ends the run behind fewer than so many acts: in the meaning at a place in the source, and on the machine at a
+-- word, by the same cause
+pub record TrapsWithin (most : ℕ) (s : Setting) (code : List Instr) (w : World) (p : Typed) (running : Running)
+    (i : TacInstr) (source : Pos) (word : ℕ) (t : State modes.Store) (m : Machine) : Type 0 where
   pub cause : Cause
   pub means : (k : Next → State modes.Store → Fate)
       → effect (operations (placed_plan s.map)) w p (kinds_in s running) i t k ≡ over (ending.Trap cause source) t
   pub count : ℕ
   pub to : Machine
-  pub lt : count < cost i
+  pub lt : count < most
   pub leads : Leads count m to
   pub ends : act to ≡ Ends (Trap cause (place (ground_of s code) word))
+
+abbrev pub Traps : Setting → List Instr → World → Typed → Running → TacInstr → Pos → (word : ℕ) → State modes.Store
+    → Machine → Type 0
+Traps s code w p running i source word t m = TrapsWithin (cost i) s code w p running i source word t m
 
 -- The function goes on; a trap ends the run; or the meaning leaves what it speaks of
 pub data Accesses (s : Setting) (code : List Instr) (w : World) (p : Typed) (running : Running) (i : TacInstr)

@@ -11,3 +11,6 @@ pub mod Operations
 pub mod Instructions
 pub mod Jumps
 pub mod Accesses
+pub mod Zeroing
+pub mod Copying
+pub mod Services

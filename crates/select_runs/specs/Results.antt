@@ -110,15 +110,19 @@ pub record IsSelectable (s : Setting) (p : Typed) (running : Running) (i : TacIn
       (behind running rest) temp
 
 -- What the instruction means, and the machine does it at these words: both go on to the next instruction, the machine
--- in at most as
--- many acts as the instruction costs, and each temp is of its kind still
-pub record GoesOn (s : Setting) (code : List Instr) (w : World) (p : Typed) (running : Running) (i : TacInstr)
-    (rest : List TacInstr) (words : List Instr) (at : ℕ) (t : State Store) (m : Machine) : Type 0 where
+-- in at most so many acts, and each temp is of its kind still
+pub record GoesOnWithin (most : ℕ) (s : Setting) (code : List Instr) (w : World) (p : Typed) (running : Running)
+    (i : TacInstr) (rest : List TacInstr) (words : List Instr) (at : ℕ) (t : State Store) (m : Machine) : Type 0 where
   pub next : State Store
   pub means : (k : Next → State Store → Fate)
       → effect (operations (placed_plan s.map)) w p (kinds_in s running) i t k ≡ k On next
   pub kinded : AreOfKinds (kinds_in s running) next.vars
-  pub does : Arrives s code (behind running rest) 0 (cost i) (at + length words) next m
+  pub does : Arrives s code (behind running rest) 0 most (at + length words) next m
+
+-- in at most as many as the instruction costs
+abbrev pub GoesOn : Setting → List Instr → World → Typed → Running → TacInstr → List TacInstr → List Instr → (at : ℕ)
+    → State Store → Machine → Type 0
+GoesOn s code w p running i rest words at t m = GoesOnWithin (cost i) s code w p running i rest words at t m
 
 -- For each point at which the function goes on with such an instruction, and each machine that stands for a state
 -- there and has the

@@ -8,6 +8,9 @@ ghost use Rattle.select_runs.specs.Jumps.{BranchesRun, JumpsRun};
 ghost use Rattle.select_runs.specs.Operands.{OperandsCome};
 ghost use Rattle.select_runs.specs.Results.{ResultsGoHome};
 ghost use Rattle.select_runs.specs.Accesses.{AccessesRun};
+ghost use Rattle.select_runs.specs.Copying.{StructCopiesRun};
+ghost use Rattle.select_runs.specs.Services.{ExitsRun, PutsRun, TakesRun};
+ghost use Rattle.select_runs.specs.Zeroing.{ZeroesRun};
 
 /// Words that make a number of a register do so on the machine, and change nothing else.
 pub fn numbers_are_made()
@@ -90,4 +93,29 @@ pub fn conversions_run()
 /// Loads and stores: what they do, or the trap by which they end the run.
 pub fn accesses_run()
     ensures { AccessesRun }
+{}
+
+/// Blocks that are entered: the bytes of a local become zero, granule by granule.
+pub fn zeroes_run()
+    ensures { ZeroesRun }
+{}
+
+/// Structs that are copied, unit by unit: what the copies do, or the trap at the unit that fails.
+pub fn struct_copies_run()
+    ensures { StructCopiesRun }
+{}
+
+/// `putchar`: a byte is put, and the function goes on.
+pub fn puts_run()
+    ensures { PutsRun }
+{}
+
+/// `getchar`: a byte is taken, or the end, and the function goes on.
+pub fn takes_run()
+    ensures { TakesRun }
+{}
+
+/// `exit`.
+pub fn exits_run()
+    ensures { ExitsRun }
 {}

@@ -1,19 +1,18 @@
 //! What selected code does on the machine: what three-address code means over separate objects.
 //!
 //! Promise: laws: where the words that selection appends for an instruction stand in the text, a machine that stands
-//! for a
-//! state of three-address code goes on to one that stands for the state behind the instruction, or traps as the meaning
-//! does; so far of all instructions but calls, library functions, entered blocks and struct copies.
+//! for a state of three-address code goes on to one that stands for the state behind the instruction, or traps as the
+//! meaning does; so far of all instructions but calls, returns and `malloc`.
 //! Definitions (`specs/`): `Acts`, `Numbers`, `Emitted`, `Operands`, `Kinds`, `Results`, `Words`, `Forms`,
-//! `Capabilities`,
-//! `Operations`, `Instructions`, `Jumps`, `Accesses`.
-//! Main lemmas (`proofs/`): `Acts`, `Operands`, `Results`, `Far`, `Working`, `Arithmetic`.
+//! `Capabilities`, `Operations`, `Instructions`, `Jumps`, `Accesses`, `Zeroing`, `Copying`, `Services`.
+//! Main lemmas (`proofs/`): `Acts`, `Operands`, `Results`, `Far`, `Working`, `Arithmetic`, `Loops`, `Bringing`.
 #![tactic(auto)]
 
 mod laws;
 
 pub use laws::{
     accesses_run, branches_run, comparisons_run, constants_run, conversions_run, copies_run,
-    intrinsics_run, jumps_run, labels_run, narrows_run, numbers_are_made, offsets_run,
-    operands_come, operations_run, pointers_run, results_go_home,
+    exits_run, intrinsics_run, jumps_run, labels_run, narrows_run, numbers_are_made, offsets_run,
+    operands_come, operations_run, pointers_run, puts_run, results_go_home, struct_copies_run,
+    takes_run, zeroes_run,
 };
