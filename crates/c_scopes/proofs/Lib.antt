@@ -1,0 +1,9 @@
+pub mod Declarators
+pub mod Declared
+pub mod Expressions
+pub mod Files
+pub mod Passing
+pub mod Readings
+pub mod Stated
+pub mod Stepping
+pub mod Whole
