@@ -154,7 +154,7 @@ module _ (ops : Operations Store) (placed : IsPlaced ops) (world : World) (all :
         begin) (test_in y in_block.scene bound test (l.labels + 2) (labelled 3 l) m c until)
         (statement_ok y in_block.scene bound (in_loop (l.labels + 2) (l.labels + 1)) b m n d
         (and_right (have_no_switch first) (has_no_switch b) plain) h) (step_in y in_block.scene bound step n o f onward)
-    statement_ok g scene same i0 i1 i2 i3 i4 plain (rule.switched operand enter body) = absurd cc
+    statement_ok g scene same i0 i1 i2 i3 i4 plain (rule.switched operand enter beside test once among body) = absurd cc
     statement_ok g scene same i0 i1 i2 i3 i4 plain (rule.leaves {x = x} {l = l} {m = m} e) = rules.leaves g x l m e
     statement_ok g scene same i0 i1 i2 i3 i4 plain (rule.continues {x = x} {l = l} {m = m} e) =
         rules.continues g x l m e

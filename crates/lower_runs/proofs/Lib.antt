@@ -26,3 +26,4 @@ pub mod Services
 pub mod Fills
 pub mod Placed
 pub mod Bodies
+pub mod Switches

@@ -392,9 +392,11 @@ module _ (ops : Operations Store) (placed : IsPlaced ops) (w : World) (t : Tac) 
     fixed = refl;
     size = refl;
     plain = λ o rest. refl;
+    home = λ x. refl;
+    spots = λ n at e. e;
     outward = λ s ts a. a;
     leaves = λ s l. refl;
-    runs = λ s ts l rest ag go. go s ts (came_same ops placed w t p objects r call result s) ag;
+    runs = λ s ts l rest ag go. go s ts (came_same ops placed w t p objects r call result s) ag (λ j b. refl);
   }
 
   -- a variable without a value: its home is 0 or null
@@ -470,18 +472,21 @@ module _ (ops : Operations Store) (placed : IsPlaced ops) (w : World) (t : Tac) 
     fixed = e.fixed;
     size = e.size;
     plain = λ o rest. e.plain o rest;
+    home = e.home;
+    spots = e.spots;
     outward = e.outward;
     leaves = λ s l. e.leaves s l;
     runs = λ s ts l rest ag go.
         let u = record s { vars = slice_set s.vars x None } in
         let us = slice_set ts at (Some (constant k 0)) in
         e.runs u us l rest (agrees_unset g scene x (record { temp = at; kind = k }) s ts home ag)
-        (λ v vs came a. go v vs (record {
+        (λ v vs came a kept. go v vs (record {
           left = came.left;
           first = came.first;
           frame = came.frame;
           onward = came.onward;
-        }) a)
+        }) a (λ j b. kept j b.1 ∙ get_set_other ts at j (Some (constant k 0))
+        (b.0 (record { temp = at; kind = k }) (e.home x ∙ home))))
         ∙ sym (constant_runs ops w t p objects r call g scene k at 0 (c rest) s ts);
   }
 
@@ -558,6 +563,8 @@ module _ (ops : Operations Store) (placed : IsPlaced ops) (w : World) (t : Tac) 
     fixed = e.fixed;
     size = e.size;
     plain = λ o rest. e.plain o rest;
+    home = e.home;
+    spots = λ i j q. e.spots i j (by i j q (i == n) refl);
     outward = λ s ts a. agrees_without g n at same_temp s ts (e.outward s ts a);
     leaves = λ s l. e.leaves (record s { mem = ops.leave s.mem (s.first + n) }) l
         ∙ ap (λ m. l tt (record s { mem = m })) (placed.leave s.mem (s.first + n));
@@ -566,13 +573,20 @@ module _ (ops : Operations Store) (placed : IsPlaced ops) (w : World) (t : Tac) 
         let on = placed.zero s.mem (s.first + n) in
         e.runs u (slice_set ts at (Some (ops.whole u.mem (u.first + n) data_permissions))) l rest
         (agrees_spot g n at more_scene u ts (agrees_memory ops g scene None s ts u.mem on ag))
-        (λ v vs came a. go v vs (record {
+        (λ v vs came a kept. go v vs (record {
           left = came.left;
           first = came.first;
           frame = came.frame;
           onward = onward_then ops s.mem u.mem v.mem on came.onward;
-        }) a);
+        }) a (λ j b. kept j b.1 ∙ get_set_other ts at j (Some (ops.whole u.mem (u.first + n) data_permissions))
+        (b.0 at (e.spots n at (spot_here g n at)))));
   }
+    where
+      by : (i j : ℕ) → g.spot i ≡ Some j → (b : Bool) → (i == n) ≡ b → (with_spot n at g).spot i ≡ Some j
+      by i j q true k =
+          let here : i ≡ n = grind (arith, nat_tests) in
+          ap (λ b. if b then Some at else g.spot i) k ∙ ap Some (sym (same_temp j (ap g.spot (sym here) ∙ q)))
+      by i j q false k = ap (λ b. if b then Some at else g.spot i) k ∙ q
 
   -- what follows a block follows its statements
   inside : (g h : Scene) (x : Exits) (ds : List Declared) (c : Code) → Enter_runs g ds h c →
@@ -599,7 +613,7 @@ module _ (ops : Operations Store) (placed : IsPlaced ops) (w : World) (t : Tac) 
     runs = λ s ts next rest room before known ag go.
         let low = room.low in let high = room.high in let same_fixed = e.fixed in let same_size = e.size in
         e.runs s ts (λ i u. execs ops w call ss u (λ fl v. leave ops w ds v (λ q. next fl))) (d rest) ag
-        (λ u us came a. y.runs u us (λ fl v. leave ops w ds v (λ q. next fl)) rest
+        (λ u us came a kept. y.runs u us (λ fl v. leave ops w ds v (λ q. next fl)) rest
         (record { low = omega arith; high = omega arith }) before
         (λ o ge lt. known o ge lt ∙ e.plain o (d rest)) a (inside g h x ds c e s u next rest came go));
   }
@@ -625,7 +639,7 @@ module _ (ops : Operations Store) (placed : IsPlaced ops) (w : World) (t : Tac) 
         let last : Flow → State Store → Fate = λ fl v. leave ops w ds v (λ q. next fl) in
         let body : Then Store Flow = λ u. loop (suc u.left) (test_of ops w call test) (exec ops w call b)
         (step_of ops w call step) u in
-        e.runs s ts (λ q u. execs ops w call first u (λ fl v. after fl body v last)) (i all) ag (λ u us came a2.
+        e.runs s ts (λ q u. execs ops w call first u (λ fl v. after fl body v last)) (i all) ag (λ u us came a2 kept.
         let fo = inside g h x ds a e s u next rest came go in
         y.runs u us (λ fl v. after fl body v last) all (record { low = omega arith; high = omega arith }) before
         (known_within ops placed w t p objects r call result k k l o (i all) (omega arith) llo known_i) a2 (record {

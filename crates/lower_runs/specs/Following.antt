@@ -1,6 +1,7 @@
 -- The simulation of statements: from states that agree, the code of a statement, in front of any instructions, comes to
 -- what the statement means, in front of anything that those instructions come to, whichever way the statement is left.
-use Rattle.std.specs.Prelude.{◌≡◌, ℕ, ◌≤◌, ◌<◌, Bool, false, List, Option, Some, None, if◌then◌else◌}
+use Rattle.std.specs.Prelude.{◌≡◌, ℕ, ◌+◌, ◌≤◌, ◌<◌, Bool, false, List, Option, Some, None, slice_get}
+use Rattle.std.specs.Prelude.{if◌then◌else◌}
 use Rattle.ck_base.specs.World.{World}
 use Rattle.ck_base.specs.declared.positions.Pos.{Pos}
 use Rattle.c_tree.specs.declared.typed.Typed.{Typed}
@@ -9,9 +10,9 @@ use Rattle.cheri_c_sem.specs.Kinds.{Kind, nothing}
 use Rattle.cheri_c_sem.specs.Modes.{Store}
 use Rattle.cheri_c_sem.specs.Operations.{Operations}
 use Rattle.cheri_c_sem.specs.Statements.{Flow, Goes, Breaks, Continues, Returns, exec, execs, test_of, step_of, enter}
-use Rattle.cheri_c_sem.specs.Statements.{leave}
+use Rattle.cheri_c_sem.specs.Statements.{leave, execs_from}
 use Rattle.cheri_c_sem.specs.Steps.{State, Fate, Then}
-use Rattle.cheri_c_sem.specs.Tree.{Ex, Declared, St, Sts}
+use Rattle.cheri_c_sem.specs.Tree.{Ex, Declared, Label, St, Sts}
 use Rattle.tac_ir.specs.Effects.{kind_of}
 use Rattle.tac_ir.specs.Meaning.{Running, behind_turn, back, code_at}
 use Rattle.tac_ir.specs.Temps.{behind}
@@ -21,7 +22,7 @@ use Rattle.tac_ir.specs.declared.code.TacKind.{TacKind}
 use Rattle.lower_runs.specs.States.{Scene, IsScene, IsOf, IsOnward, Agrees}
 use Rattle.lower_runs.specs.Operating.{Code}
 use Rattle.lower_runs.specs.Expressions.{Mark, same}
-use Rattle.lower_runs.specs.Statements.{Exits}
+use Rattle.lower_runs.specs.Statements.{Exits, IsBeside, stands_before, count_labels, count_statements}
 use Rattle.lower_runs.specs.Simulation.{IsPiece, HasRoom, goes}
 
 -- a label is one that was made before
@@ -111,10 +112,32 @@ module _ (ops : Operations Store) (w : World) (t : Tac) (p : Typed) (objects : �
     pub fixed : h.fixed ≡ g.fixed
     pub size : h.size ≡ g.size
     pub plain : (o : ℕ) (rest : List TacInstr) → behind o (c rest) ≡ behind o rest
+    pub home : (x : ℕ) → h.home x ≡ g.home x
+    pub spots : (n t : ℕ) → g.spot n ≡ Some t → h.spot n ≡ Some t
     pub outward : (s : State Store) (ts : List (Option Value)) → Agrees ops h None s ts → Agrees ops g None s ts
     pub leaves : (s : State Store) (l : Unit {0} → State Store → Fate) → leave ops w ds s l ≡ l tt s
     pub runs : (s : State Store) (ts : List (Option Value)) (l : Unit {0} → State Store → Fate) (rest : List TacInstr) →
         Agrees ops g None s ts
         → ((u : State Store) (us : List (Option Value)) → Came s u → Agrees ops h None u us →
+        ((j : ℕ) → IsBeside h ds j → slice_get us j ≡ slice_get ts j) →
         l tt u ≡ goes ops w t p objects r call h rest u us) →
         enter ops w ds s l ≡ goes ops w t p objects r call g (c rest) s ts
+
+  -- ---- the body of a `switch`
+
+  -- Statements, from their start on, and from before the one with a number, where a label leads that stands there; the
+  -- labels have numbers of their own, from one on
+  pub record BodyRuns (g : Scene) (x : Exits) (label : ℕ) (ls : List Label) (number : ℕ) (ss : Sts) (m n : Mark)
+      (c : Code) : Type 0 where
+    pub temps : m.temps ≤ n.temps
+    pub labels : m.labels ≤ n.labels
+    pub own : (o : ℕ) (rest : List TacInstr) → (m.labels ≤ o → n.labels ≤ o) →
+        (label ≤ o → label + count_labels ls ≤ o) → behind o (c rest) ≡ behind o rest
+    pub runs : (s : State Store) (ts : List (Option Value)) (l : Flow → State Store → Fate) (rest : List TacInstr) →
+        HasRoom g m n → AreBefore (record m { labels = label }) x → Known m n (c rest) → Agrees ops g None s ts →
+        Follows g x rest s l → execs ops w call ss s l ≡ goes ops w t p objects r call g (c rest) s ts
+    pub enters : (i j : ℕ) (b : Label) → slice_get ls i ≡ Some b → stands_before b ≡ number + j →
+        j ≤ count_statements ss → (s : State Store) (ts : List (Option Value)) (l : Flow → State Store → Fate)
+        (rest : List TacInstr) → HasRoom g m n → AreBefore (record m { labels = label }) x → Known m n (c rest) →
+        Agrees ops g None s ts → Follows g x rest s l
+        → execs_from ops w call ss j s l ≡ goes ops w t p objects r call g (behind (label + i) (c rest)) s ts

@@ -1,5 +1,5 @@
 -- The laws of statements, for each rule of the relation.
-use Rattle.std.specs.Prelude.{◌≡◌, ℕ, ◌+◌, slice_index_or, Bool, true, false, List, [], ◌∷◌, Option, Some, None}
+use Rattle.std.specs.Prelude.{◌≡◌, ℕ, ◌+◌, ◌≤◌, slice_index_or, Bool, true, false, List, [], ◌∷◌, Option, Some, None}
 use Rattle.ck_base.specs.World.{World}
 use Rattle.ck_base.specs.declared.positions.Pos.{Pos}
 use Rattle.c_tree.specs.declared.typed.Typed.{Typed}
@@ -9,7 +9,8 @@ use Rattle.cheri_c_sem.specs.Kinds.{Kind}
 use Rattle.cheri_c_sem.specs.Modes.{Store}
 use Rattle.cheri_c_sem.specs.Operations.{Operations}
 use Rattle.cheri_c_sem.specs.Steps.{Then}
-use Rattle.cheri_c_sem.specs.Tree.{Ex, Exs, Nil, Cons, Pointer_to, Function, Call, Declared, Simple, Objects, St, Do}
+use Rattle.cheri_c_sem.specs.Tree.{Ex, Exs, Nil, Cons, Pointer_to, Function, Call, Declared, Label, Simple, Objects, St}
+use Rattle.cheri_c_sem.specs.Tree.{Do}
 use Rattle.cheri_c_sem.specs.Tree.{Give, Init, Fill, Block, If, While, Do_while, For, Break, Continue, Return, Empty}
 use Rattle.cheri_c_sem.specs.Tree.{Sts}
 use Rattle.cheri_c_sem.specs.Tree.{End, Seq}
@@ -22,10 +23,10 @@ use Rattle.lower_runs.specs.States.{Scene, IsScene, IsPlaced}
 use Rattle.lower_runs.specs.Operating.{Code}
 use Rattle.lower_runs.specs.Expressions.{Mark, Signature, pointer_kind, labelled, choice_code, guarded_code, within}
 use Rattle.lower_runs.specs.Expressions.{within_temp, within_mark, Within}
-use Rattle.lower_runs.specs.Statements.{Exits, in_loop, with_spot, loop_code, repeat_code}
+use Rattle.lower_runs.specs.Statements.{Exits, stand_code, count_labels, in_loop, with_spot, loop_code, repeat_code}
 use Rattle.lower_runs.specs.Simulation.{ValueRuns, OperandRuns, EffectRuns, ConditionRuns, CopyRuns}
 use Rattle.lower_runs.specs.Calling.{CallsRun, ArgumentsRun, CallRuns, IsAsked}
-use Rattle.lower_runs.specs.Following.{StatementRuns, StatementsRun, TestRuns, StepRuns, EnterRuns}
+use Rattle.lower_runs.specs.Following.{StatementRuns, StatementsRun, TestRuns, StepRuns, EnterRuns, BodyRuns}
 
 -- A law of statements holds over all operations that answer as those under a map do, in every world, in each function
 -- of any code, whatever calls do, and whatever the function gives
@@ -102,6 +103,16 @@ module _ (ops : Operations Store) (w : World) (t : Tac) (p : Typed) (objects : �
         result ≡ Some k → Operand_runs g k e at m n c →
         Statement_runs g x (Return (Some e)) m n (λ rest. c (instr.Return (Some at) ∷ rest))
     pub empty : (g : Scene) (x : Exits) (m : Mark) → Statement_runs g x Empty m m (λ rest. rest)
+
+  -- the body of a `switch`
+  pub record BodyRules : Type 0 where
+    pub last : (g : Scene) (x : Exits) (label number : ℕ) (ls : List Label) (m : Mark) →
+        BodyRuns ops w t p objects r call result g x label ls number End m m (stand_code label number ls)
+    pub among : (g : Scene) (x : Exits) (label number : ℕ) (ls : List Label) (a : St) (ss : Sts) (l m n : Mark)
+        (c d : Code) → label + count_labels ls ≤ l.labels → Statement_runs g x a l m c →
+        BodyRuns ops w t p objects r call result g x label ls (number + 1) ss m n d
+        → BodyRuns ops w t p objects r call result g x label ls number (Seq a ss) l n
+        (λ rest. stand_code label number ls (c (d rest)))
 
   -- `enter`
   pub record BlockRules : Type 0 where

@@ -1,22 +1,23 @@
 -- The relation, for statements: these instructions are the code of this statement, between these numbers of temps and
 -- labels.
-use Rattle.std.specs.Prelude.{◌≡◌, ℕ, suc, ◌+◌, ◌==◌, true, false, List, [], ◌∷◌, Option, Some, None, pos}
+use Rattle.std.specs.Prelude.{◌≡◌, ◌≤◌, ◌≢◌, ℕ, suc, ◌+◌, ◌==◌, true, false, List, [], ◌∷◌, Option, Some, None, pos}
 use Rattle.std.specs.Prelude.{if◌then◌else◌}
 use Rattle.ck_base.specs.declared.positions.Pos.{Pos}
 use Rattle.ck_int.specs.Kinds.{wrapped}
 use Rattle.ck_int.specs.declared.kinds.CmpOp.TheVariants.{Eq}
 use Rattle.c_tree.specs.declared.typed.Typed.{Typed}
 use Rattle.cheri_c_sem.specs.Kinds.{Kind}
+use Rattle.cheri_c_sem.specs.Statements.{default_of}
 use Rattle.cheri_c_sem.specs.Tree.{Ex, Nil, Declared, Simple, Objects, Label, Case, Default, St, Do, Give, Init, Fill}
 use Rattle.cheri_c_sem.specs.Tree.{Block, If, While, Do_while, For, Switch, Break, Continue, Return, Empty, Sts, End}
 use Rattle.cheri_c_sem.specs.Tree.{Seq}
-use Rattle.tac_ir.specs.Effects.{kind_of}
+use Rattle.tac_ir.specs.Effects.{kind_of, kind_at}
 use Rattle.tac_ir.specs.declared.code.TacInstr.TheVariants as instr
 use Rattle.tac_ir.specs.declared.code.TacKind.{TacKind}
 use Rattle.tac_ir.specs.declared.code.TacKind.TheVariants as kind
-use Rattle.lower_runs.specs.States.{Scene, IsScene}
+use Rattle.lower_runs.specs.States.{Scene, IsScene, Home}
 use Rattle.lower_runs.specs.Operating.{Code}
-use Rattle.lower_runs.specs.Expressions.{Mark, Signature, more, labelled, choice_code, guarded_code, within}
+use Rattle.lower_runs.specs.Expressions.{int_kind, Mark, Signature, more, labelled, choice_code, guarded_code, within}
 use Rattle.lower_runs.specs.Expressions.{within_temp, within_mark, Within, IsOperand, IsValue, IsEffect, IsCondition}
 use Rattle.lower_runs.specs.Expressions.{IsCopy}
 
@@ -46,6 +47,12 @@ pub data IsEntered : Scene → List Declared → Scene → Code → Type 0 where
   whole : {g h : Scene} {n t : ℕ} {ds : List Declared} {c : Code} → IsScene (with_spot n t g) →
       ((i : ℕ) → g.spot n ≡ Some i → i ≡ t) → IsEntered (with_spot n t g) ds h c →
       IsEntered g (Objects n ∷ ds) h (λ r. instr.Zero n ∷ instr.Local t n ∷ c r)
+
+-- a temp that is no home of a variable that a block declares, and has no pointer to an object of it
+abbrev pub IsBeside : Scene → List Declared → ℕ → Type 0
+IsBeside h [] j = Unit {0}
+IsBeside h (Simple x ∷ ds) j = ((i : Home) → h.home x ≡ Some i → j ≢ i.temp) × IsBeside h ds j
+IsBeside h (Objects n ∷ ds) j = ((t : ℕ) → h.spot n ≡ Some t → j ≢ t) × IsBeside h ds j
 
 -- ---- loops
 
@@ -94,6 +101,21 @@ stand_code l n (s ∷ ls) rest =
 abbrev pub count_labels : List Label → ℕ
 count_labels [] = 0
 count_labels (s ∷ ls) = suc (count_labels ls)
+
+-- at most one label is without a value
+abbrev pub IsOnce : List Label → Type 0
+IsOnce [] = Unit {0}
+IsOnce (Case n before ∷ ls) = IsOnce ls
+IsOnce (Default before ∷ ls) = (default_of ls ≡ None) × IsOnce ls
+
+-- each stands before a statement, or behind the last
+abbrev pub AreAmong : List Label → ℕ → Type 0
+AreAmong [] n = Unit {0}
+AreAmong (s ∷ ls) n = (stands_before s ≤ n) × AreAmong ls n
+
+abbrev pub count_statements : Sts → ℕ
+count_statements End = 0
+count_statements (Seq a ss) = suc (count_statements ss)
 
 -- ---- the relation, in a function that gives a value of a kind, or none
 
@@ -147,7 +169,8 @@ module _ (p : Typed) (signs : ℕ → Signature) (kinds : List TacKind) (result 
           → IsStatement g x (For ds first test step b) k o (λ r. a (i (loop_code l.labels c d f r)))
       switched : {g h : Scene} {x : Exits} {j : TacKind} {e : Ex} {ds : List Declared} {ls : List Label} {ss : Sts}
           {v : ℕ} {q : Pos} {l m n : Mark} {a c d : Code}
-          → IsOperand p signs kinds g Nil j e v l m c → IsEntered g ds h a →
+          → IsOperand p signs kinds g Nil j e v l m c → IsEntered g ds h a → IsBeside h ds v →
+          kind_at kinds (m.temps + 1) ≡ kind_of int_kind → IsOnce ls → AreAmong ls (count_statements ss) →
           IsBody h (in_switch m.labels x) (m.labels + 1) ls 0 ss (labelled (1 + count_labels ls) (more 2 m)) n d
           → IsStatement g x (Switch q (kind_of j) e ds ls ss) l n
           (λ r. c (a (cases_code j v m.temps (m.labels + 1) ls

@@ -3,7 +3,7 @@
 
 ghost use Rattle.std.specs.Prelude.{ℕ};
 ghost use Rattle.lower_runs.specs.Expressions.{Signature};
-ghost use Rattle.lower_runs.specs.StatementLaws.{CallRules, InEachFunction, StatementRules, BlockRules, LoopRules};
+ghost use Rattle.lower_runs.specs.StatementLaws.{CallRules, InEachFunction, StatementRules, BodyRules, BlockRules, LoopRules};
 ghost use Rattle.lower_runs.specs.Result.{ExpressionsRun, StatementsAreRun};
 ghost use Rattle.lower_runs.specs.Laws.{Everywhere, OperandRules, ValueRules, LoadRules, PlaceRules, ConditionRules};
 ghost use Rattle.lower_runs.specs.Laws.{EffectRules, AssignmentRules, OperationsArePlaced};
@@ -66,6 +66,12 @@ pub fn blocks_are_entered()
 #[tactic(auto, using(crate::proofs::GatheredStatements::loops_law))]
 pub fn loops_run()
     ensures { InEachFunction LoopRules }
+{}
+
+/// The statements of a `switch`, from each of its labels on.
+#[tactic(auto, using(crate::proofs::GatheredStatements::bodies_law))]
+pub fn switch_bodies_run()
+    ensures { InEachFunction BodyRules }
 {}
 
 /// Arguments and calls, where further calls do what the code of their functions does, with fewer turns.
