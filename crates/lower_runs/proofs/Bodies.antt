@@ -1,5 +1,5 @@
--- All code that the relation makes of statements without `switch` does what they mean, by induction on how it is made.
-use Rattle.std.proofs.Common.{◌≡◌, ℕ, ◌+◌, Bool, true, false, List, Option, Some, refl, sym, subst, ◌∙◌}
+-- All code that the relation makes of statements does what they mean, by induction on how it is made.
+use Rattle.std.proofs.Common.{◌≡◌, ℕ, ◌+◌, ◌≤◌, Bool, false, List, Option, Some, refl, sym, subst, ◌∙◌, arith}
 use Rattle.std.specs.Prelude.{slice_get}
 use Rattle.ck_base.specs.World.{World}
 use Rattle.ck_base.specs.declared.positions.Pos.{Pos}
@@ -9,21 +9,23 @@ use Rattle.cheri_c_sem.specs.Kinds.{Kind}
 use Rattle.cheri_c_sem.specs.Modes.{Store}
 use Rattle.cheri_c_sem.specs.Operations.{Operations}
 use Rattle.cheri_c_sem.specs.Steps.{Then}
-use Rattle.cheri_c_sem.specs.Tree.{Ex, Nil, Declared, St, Sts}
+use Rattle.cheri_c_sem.specs.Tree.{Ex, Nil, Declared, Label, St, Sts}
 use Rattle.tac_ir.specs.Meaning.{Running, kinds_of}
 use Rattle.tac_ir.specs.declared.code.Tac.{Tac}
 use Rattle.tac_ir.specs.declared.code.TacKind.{TacKind}
 use Rattle.lower_runs.specs.States.{Scene, IsScene, IsPlaced, AreBytes}
 use Rattle.lower_runs.specs.Operating.{Code}
-use Rattle.lower_runs.specs.Expressions.{Mark, Signature, Within, labelled, IsOperand, IsEffect, IsCondition}
+use Rattle.lower_runs.specs.Expressions.{Mark, Signature, Within, more, labelled, IsOperand, IsEffect, IsCondition}
 use Rattle.lower_runs.specs.Statements as rule
 use Rattle.lower_runs.specs.Statements.{Exits, in_loop, with_spot, IsEntered, IsTest, IsStep, IsStatement, IsStatements}
+use Rattle.lower_runs.specs.Statements.{IsBody, in_switch, count_labels}
 use Rattle.lower_runs.specs.Simulation.{OperandRuns, EffectRuns, ConditionRuns}
-use Rattle.lower_runs.specs.Following.{StatementRuns, StatementsRun, TestRuns, StepRuns, EnterRuns}
+use Rattle.lower_runs.specs.Following.{StatementRuns, StatementsRun, TestRuns, StepRuns, EnterRuns, BodyRuns}
 use Rattle.lower_runs.specs.StatementLaws.{StatementRules, BlockRules, LoopRules}
 use Rattle.lower_runs.specs.Calling.{CallsRun}
-use Rattle.lower_runs.specs.Result.{has_no_switch, have_no_switch, StatementsAreRun}
-use Rattle.lower_runs.proofs.Agreement.{and_left, and_right}
+use Rattle.lower_runs.specs.Result.{StatementsAreRun}
+use Rattle.lower_runs.proofs.Switches.{body_end, body_among}
+use Rattle.lower_runs.proofs.Switched.{switch_statement}
 use Rattle.lower_runs.proofs.GatheredStatements.{statements_law, blocks_law, loops_law}
 use Rattle.lower_runs.proofs.Induction.{value_ok, operand_ok, effect_ok, condition_ok, copy_ok}
 
@@ -102,78 +104,95 @@ module _ (ops : Operations Store) (placed : IsPlaced ops) (world : World) (all :
 
   mutual
     pub statement_ok : (g : Scene) → IsScene g → g.limit ≡ limit → (x : Exits) (a : St) (m n : Mark) (c : Code) →
-        has_no_switch a ≡ true → IsStatement p signs temps result g x a m n c → Statement_runs g x a m n c
-    statement_ok g scene same i0 i1 i2 i3 i4 plain (rule.evaluated {x = x} {e = e} {m = m} {n = n} {c = c} h) =
+        IsStatement p signs temps result g x a m n c → Statement_runs g x a m n c
+    statement_ok g scene same i0 i1 i2 i3 i4 (rule.evaluated {x = x} {e = e} {m = m} {n = n} {c = c} h) =
         rules.evaluated g x e m n c (effect_in g scene same e m n c h)
-    statement_ok g scene same i0 i1 i2 i3 i4 plain
-        (rule.variable {x = x} {v = v} {t = t} {k = k} {e = e} {m = m} {n = n}
+    statement_ok g scene same i0 i1 i2 i3 i4 (rule.variable {x = x} {v = v} {t = t} {k = k} {e = e} {m = m} {n = n}
         {c = c} home h) = rules.variable g scene x v t k e m n c home
         (value_ok ops placed world all p objects running call signs g scene bytes (calls_in g same) k e t m n c h)
-    statement_ok g scene same i0 i1 i2 i3 i4 plain (rule.object {x = x} {o = o} {base = base} {v = v} {offset = offset}
+    statement_ok g scene same i0 i1 i2 i3 i4 (rule.object {x = x} {o = o} {base = base} {v = v} {offset = offset}
         {k = k} {e = e} {q = q} {m = m} {n = n} {c = c} spot h) =
         rules.object g scene x q o base offset v k e m n c spot (operand_in g scene same k e v m n c h)
-    statement_ok g scene same i0 i1 i2 i3 i4 plain (rule.struct {x = x} {o = o} {base = base} {offset = offset}
+    statement_ok g scene same i0 i1 i2 i3 i4 (rule.struct {x = x} {o = o} {base = base} {offset = offset}
         {bytes = size} {unit = unit} {e = e} {q = q} {m = m} {n = n} {c = c} spot h) =
         rules.struct g scene x q o base offset size unit e m n c spot
         (copy_ok ops placed world all p objects running call signs g scene bytes (calls_in g same)
         (Within base offset) q
         size unit e m n c h)
-    statement_ok g scene same i0 i1 i2 i3 i4 plain (rule.block {h = j} {x = x} {ds = ds} {ss = ss} {m = m} {n = n}
+    statement_ok g scene same i0 i1 i2 i3 i4 (rule.block {h = j} {x = x} {ds = ds} {ss = ss} {m = m} {n = n}
         {c = c} {d = d} enter h) =
         let in_block = entered g j ds c scene enter in
         rules.block g j x ds ss m n c d in_block
-        (statements_ok j in_block.scene (entered_limit g j ds c enter ∙ same) x ss m n d plain h)
-    statement_ok g scene same i0 i1 i2 i3 i4 plain (rule.choice {x = x} {j = j} {e = e} {a = a} {b = b} {q = q} {l = l}
+        (statements_ok j in_block.scene (entered_limit g j ds c enter ∙ same) x ss m n d h)
+    statement_ok g scene same i0 i1 i2 i3 i4 (rule.choice {x = x} {j = j} {e = e} {a = a} {b = b} {q = q} {l = l}
         {m = m} {n = n} {o = o} {c = c} {d = d} {f = f} test one two) =
         rules.choice g x q j e a b l m n o c d f (condition_in g scene same j e false l.labels (labelled 2 l) m c test)
-        (statement_ok g scene same x a m n d (and_left (has_no_switch a) (has_no_switch b) plain) one)
-        (statement_ok g scene same x b n o f (and_right (has_no_switch a) (has_no_switch b) plain) two)
-    statement_ok g scene same i0 i1 i2 i3 i4 plain (rule.guarded {x = x} {j = j} {e = e} {a = a} {q = q} {l = l} {m = m}
+        (statement_ok g scene same x a m n d one)
+        (statement_ok g scene same x b n o f two)
+    statement_ok g scene same i0 i1 i2 i3 i4 (rule.guarded {x = x} {j = j} {e = e} {a = a} {q = q} {l = l} {m = m}
         {n = n} {c = c} {d = d} test h) =
         rules.guarded g x q j e a a l m n c d (condition_in g scene same j e false l.labels (labelled 1 l) m c test)
-        (statement_ok g scene same x a m n d (and_left (has_no_switch a) true plain) h)
-    statement_ok g scene same i0 i1 i2 i3 i4 plain (rule.looped {x = x} {k = k} {e = e} {b = b} {q = q} {l = l} {m = m}
+        (statement_ok g scene same x a m n d h)
+    statement_ok g scene same i0 i1 i2 i3 i4 (rule.looped {x = x} {k = k} {e = e} {b = b} {q = q} {l = l} {m = m}
         {n = n} {c = c} {d = d} test h) =
         loops.looped g x k e b q l m n c d
         (test_in g scene same (Some (q, k, e)) (l.labels + 2) (labelled 3 l) m c test)
-        (statement_ok g scene same (in_loop (l.labels + 2) (l.labels + 1)) b m n d plain h)
-    statement_ok g scene same i0 i1 i2 i3 i4 plain
-        (rule.repeated {x = x} {j = j} {e = e} {b = b} {q = q} {l = l} {m = m}
+        (statement_ok g scene same (in_loop (l.labels + 2) (l.labels + 1)) b m n d h)
+    statement_ok g scene same i0 i1 i2 i3 i4 (rule.repeated {x = x} {j = j} {e = e} {b = b} {q = q} {l = l} {m = m}
         {n = n} {c = c} {d = d} h test) =
         loops.repeated g x q j e b l m n c d
-        (statement_ok g scene same (in_loop (l.labels + 2) (l.labels + 1)) b (labelled 3 l) m d plain h)
+        (statement_ok g scene same (in_loop (l.labels + 2) (l.labels + 1)) b (labelled 3 l) m d h)
         (condition_in g scene same j e false (l.labels + 2) m n c test)
-    statement_ok g scene same i0 i1 i2 i3 i4 plain (rule.counted {h = y} {x = x} {ds = ds} {first = first} {test = test}
+    statement_ok g scene same i0 i1 i2 i3 i4 (rule.counted {h = y} {x = x} {ds = ds} {first = first} {test = test}
         {step = step} {b = b} {k = k} {l = l} {m = m} {n = n} {o = o} {a = a} {c = c} {d = d} {f = f}
         {i = i} enter begin
         until h onward) =
         let in_block = entered g y ds a scene enter in
         let bound = entered_limit g y ds a enter ∙ same in
         loops.counted g y x ds first test step b k l m n o a c d f i in_block
-        (statements_ok y in_block.scene bound x first k l i (and_left (have_no_switch first) (has_no_switch b) plain)
+        (statements_ok y in_block.scene bound x first k l i
         begin) (test_in y in_block.scene bound test (l.labels + 2) (labelled 3 l) m c until)
         (statement_ok y in_block.scene bound (in_loop (l.labels + 2) (l.labels + 1)) b m n d
-        (and_right (have_no_switch first) (has_no_switch b) plain) h) (step_in y in_block.scene bound step n o f onward)
-    statement_ok g scene same i0 i1 i2 i3 i4 plain (rule.switched operand enter beside test once among body) = absurd cc
-    statement_ok g scene same i0 i1 i2 i3 i4 plain (rule.leaves {x = x} {l = l} {m = m} e) = rules.leaves g x l m e
-    statement_ok g scene same i0 i1 i2 i3 i4 plain (rule.continues {x = x} {l = l} {m = m} e) =
+        h) (step_in y in_block.scene bound step n o f onward)
+    statement_ok g scene same i0 i1 i2 i3 i4 (rule.switched {h = y} {x = x} {j = j} {e = e} {ds = ds} {ls = ls}
+        {ss = ss} {v = v} {q = q} {l = l} {m = m} {n = n} {a = a} {c = c} {d = d} operand enter beside test once among
+        body) =
+        let in_block = entered g y ds a scene enter in
+        switch_statement ops placed world all p objects running call result g y scene x j e ds ls ss v q l m n a c d
+        (operand_in g scene same j e v l m c operand) in_block beside test once among
+        (body_ok y in_block.scene (entered_limit g y ds a enter ∙ same) (in_switch m.labels x) (m.labels + 1) ls 0 ss
+        (labelled (1 + count_labels ls) (more 2 m)) n d (omega arith) body)
+    statement_ok g scene same i0 i1 i2 i3 i4 (rule.leaves {x = x} {l = l} {m = m} e) = rules.leaves g x l m e
+    statement_ok g scene same i0 i1 i2 i3 i4 (rule.continues {x = x} {l = l} {m = m} e) =
         rules.continues g x l m e
-    statement_ok g scene same i0 i1 i2 i3 i4 plain (rule.returns {x = x} {m = m} e) = rules.returns g x m e
-    statement_ok g scene same i0 i1 i2 i3 i4 plain (rule.returns_nothing {x = x} {e = e} {m = m} {n = n} {c = c} void h) =
+    statement_ok g scene same i0 i1 i2 i3 i4 (rule.returns {x = x} {m = m} e) = rules.returns g x m e
+    statement_ok g scene same i0 i1 i2 i3 i4 (rule.returns_nothing {x = x} {e = e} {m = m} {n = n} {c = c} void h) =
         rules.returns_nothing g x e m n c void (effect_in g scene same e m n c h)
-    statement_ok g scene same i0 i1 i2 i3 i4 plain (rule.returns_value {x = x} {k = k} {e = e} {v = v} {m = m} {n = n}
+    statement_ok g scene same i0 i1 i2 i3 i4 (rule.returns_value {x = x} {k = k} {e = e} {v = v} {m = m} {n = n}
         {c = c} gives h) = rules.returns_value g scene x k e v m n c gives (operand_in g scene same k e v m n c h)
-    statement_ok g scene same i0 i1 i2 i3 i4 plain (rule.empty {x = x} {m = m}) = rules.empty g x m
+    statement_ok g scene same i0 i1 i2 i3 i4 (rule.empty {x = x} {m = m}) = rules.empty g x m
 
     pub statements_ok : (g : Scene) → IsScene g → g.limit ≡ limit → (x : Exits) (ss : Sts) (m n : Mark) (c : Code) →
-        have_no_switch ss ≡ true → IsStatements p signs temps result g x ss m n c → Statements_run g x ss m n c
-    statements_ok g scene same i0 i1 i2 i3 i4 plain (rule.end {x = x} {m = m}) = rules.end g x m
-    statements_ok g scene same i0 i1 i2 i3 i4 plain (rule.seq {x = x} {a = a} {ss = ss} {l = l} {m = m} {n = n} {c = c}
+        IsStatements p signs temps result g x ss m n c → Statements_run g x ss m n c
+    statements_ok g scene same i0 i1 i2 i3 i4 (rule.end {x = x} {m = m}) = rules.end g x m
+    statements_ok g scene same i0 i1 i2 i3 i4 (rule.seq {x = x} {a = a} {ss = ss} {l = l} {m = m} {n = n} {c = c}
         {d = d} one more) =
         rules.seq g x a ss l m n c d
-        (statement_ok g scene same x a l m c (and_left (has_no_switch a) (have_no_switch ss) plain) one)
-        (statements_ok g scene same x ss m n d (and_right (has_no_switch a) (have_no_switch ss) plain) more)
+        (statement_ok g scene same x a l m c one)
+        (statements_ok g scene same x ss m n d more)
+
+    pub body_ok : (g : Scene) → IsScene g → g.limit ≡ limit → (x : Exits) (label : ℕ) (ls : List Label) (number : ℕ)
+        (ss : Sts) (m n : Mark) (c : Code) → label + count_labels ls ≤ m.labels →
+        IsBody p signs temps result g x label ls number ss m n c →
+        BodyRuns ops world all p objects running call result g x label ls number ss m n c
+    body_ok g scene same i0 i1 i2 i3 i4 i5 i6 i7 low (rule.behind {x = x} {label = label} {number = number} {ls = ls}
+        {m = m}) = body_end ops placed world all p objects running call result g x label number ls m
+    body_ok g scene same i0 i1 i2 i3 i4 i5 i6 i7 low (rule.among {x = x} {label = label} {number = number} {ls = ls}
+        {a = a} {ss = ss} {l = l} {m = m} {n = n} {c = c} {d = d} one rest) =
+        let first = statement_ok g scene same x a l m c one in
+        body_among ops placed world all p objects running call result g x label number ls a ss l m n c d low first
+        (body_ok g scene same x label ls (number + 1) ss m n d (let le = first.piece.labels in omega arith) rest)
 
 pub statements_are_run : StatementsAreRun
-statements_are_run ops placed w t p objects r call signs result g scene bytes calls x a m n c plain h =
-    statement_ok ops placed w t p objects r call signs result bytes g.limit calls g scene refl x a m n c plain h
+statements_are_run ops placed w t p objects r call signs result g scene bytes calls x a m n c h =
+    statement_ok ops placed w t p objects r call signs result bytes g.limit calls g scene refl x a m n c h

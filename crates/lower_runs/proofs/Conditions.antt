@@ -57,7 +57,7 @@ module _ (ops : Operations Store) (placed : IsPlaced ops) (w : World) (t : Tac) 
   abbrev Truths : Then Store Value → Then Store Bool → Type 0
   Truths c d = (s : State Store) (l : Value → State Store → Fate) → c s l ≡ d s (λ b. l (truth b))
 
-  truth_test : (q : Pos) (b : Bool) (s : State Store) (l : Bool → State Store → Fate) →
+  pub truth_test : (q : Pos) (b : Bool) (s : State Store) (l : Bool → State Store → Fate) →
       test ops w q (kind_of int_kind) (truth b) s l ≡ l b s
   unfolding compare_of value_of_kind Rattle.ck_int.specs.Kinds.reduced
   truth_test q true s l = refl
@@ -112,7 +112,7 @@ module _ (ops : Operations Store) (placed : IsPlaced ops) (w : World) (t : Tac) 
   -- ---- branches
 
   -- a branch whose truth is known goes on behind the label, or on
-  went_by : (when b : Bool) (label : ℕ) (rest : List TacInstr) (u : State Store) (us : List (Option Value))
+  pub went_by : (when b : Bool) (label : ℕ) (rest : List TacInstr) (u : State Store) (us : List (Option Value))
       → run (if same when b then behind label rest else rest) u us
       ≡ follow ops w t p objects (behind_turn ops w t p objects u.left)
       (pass ops w t p objects (behind_turn ops w t p objects u.left) rest) rest r

@@ -27,3 +27,5 @@ pub mod Fills
 pub mod Placed
 pub mod Bodies
 pub mod Switches
+pub mod Cases
+pub mod Switched

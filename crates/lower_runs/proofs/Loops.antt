@@ -589,7 +589,7 @@ module _ (ops : Operations Store) (placed : IsPlaced ops) (w : World) (t : Tac) 
       by i j q false k = ap (λ b. if b then Some at else g.spot i) k ∙ q
 
   -- what follows a block follows its statements
-  inside : (g h : Scene) (x : Exits) (ds : List Declared) (c : Code) → Enter_runs g ds h c →
+  pub inside : (g h : Scene) (x : Exits) (ds : List Declared) (c : Code) → Enter_runs g ds h c →
       (s u : State Store) (next : Flow → State Store → Fate) (rest : List TacInstr) → Comes s u →
       Follow g x rest s next →
       Follow h x rest u (λ fl v. leave ops w ds v (λ q. next fl))

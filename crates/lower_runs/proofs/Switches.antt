@@ -1,6 +1,6 @@
 -- The body of a `switch`.
 use Rattle.std.proofs.Common.{◌≡◌, ◌≢◌, ℕ, zero, suc, ◌+◌, ◌≤◌, ◌<◌, Bool, true, false, List, [], ◌∷◌, Option, Some}
-use Rattle.std.proofs.Common.{None, refl, sym, ap, subst, ◌∙◌, arith, if◌then◌else◌}
+use Rattle.std.proofs.Common.{None, refl, sym, ap, ◌∙◌, arith, if◌then◌else◌}
 use Rattle.std.specs.Prelude.{slice_get, ◌==◌}
 use Rattle.std.proofs.lemmas.Bool.Decides.{nat_tests}
 use Rattle.ck_base.specs.World.{World}
@@ -8,7 +8,7 @@ use Rattle.c_tree.specs.declared.typed.Typed.{Typed}
 use Rattle.obj_mem.specs.Values.{Value}
 use Rattle.cheri_c_sem.specs.Modes.{Store}
 use Rattle.cheri_c_sem.specs.Operations.{Operations}
-use Rattle.cheri_c_sem.specs.Statements.{Flow, Goes, after, execs, execs_from}
+use Rattle.cheri_c_sem.specs.Statements.{Flow, after, execs, execs_from}
 use Rattle.cheri_c_sem.specs.Steps.{State, Fate, Then}
 use Rattle.cheri_c_sem.specs.Tree.{Label, St, Sts, End, Seq}
 use Rattle.tac_ir.specs.Meaning.{Running}

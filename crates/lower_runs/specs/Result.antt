@@ -1,12 +1,12 @@
 -- The results: code that the relation makes of an expression, or of a statement, does what that means.
-use Rattle.std.specs.Prelude.{◌≡◌, ℕ, ◌&&◌, Bool, true, false, List, Option, slice_get}
+use Rattle.std.specs.Prelude.{ℕ, Bool, List, Option, slice_get}
 use Rattle.ck_base.specs.World.{World}
 use Rattle.c_tree.specs.declared.typed.Typed.{Typed}
 use Rattle.obj_mem.specs.Values.{Value}
 use Rattle.cheri_c_sem.specs.Modes.{Store}
 use Rattle.cheri_c_sem.specs.Operations.{Operations}
 use Rattle.cheri_c_sem.specs.Steps.{Then}
-use Rattle.cheri_c_sem.specs.Tree.{Ex, Exs, St, Block, If, While, Do_while, For, Switch, Sts, End, Seq}
+use Rattle.cheri_c_sem.specs.Tree.{Ex, Exs, St}
 use Rattle.tac_ir.specs.Meaning.{Running, kinds_of}
 use Rattle.tac_ir.specs.declared.code.Tac.{Tac}
 use Rattle.tac_ir.specs.declared.code.TacKind.{TacKind}
@@ -46,27 +46,12 @@ ExpressionsRun =
 
 -- ---- statements
 
--- no `switch` in a statement
-abbrev mutual
-  pub has_no_switch : St → Bool
-  has_no_switch (Block ds ss) = have_no_switch ss
-  has_no_switch (If q k e a b) = has_no_switch a && has_no_switch b
-  has_no_switch (While q k e b) = has_no_switch b
-  has_no_switch (Do_while q k b e) = has_no_switch b
-  has_no_switch (For ds first t step b) = have_no_switch first && has_no_switch b
-  has_no_switch (Switch q k e ds ls ss) = false
-  has_no_switch a = true
-
-  pub have_no_switch : Sts → Bool
-  have_no_switch End = true
-  have_no_switch (Seq a ss) = has_no_switch a && have_no_switch ss
-
--- the code of a statement without `switch`, given calls, does what the statement means
+-- given calls
 abbrev pub StatementsAreRun : Type 0
 StatementsAreRun =
     (ops : Operations Store) → IsPlaced ops →
     (w : World) (t : Tac) (p : Typed) (objects : ℕ → List ℕ) (r : Running)
     (call : ℕ → List Value → Then Store Value) (signs : ℕ → Signature) (result : Option TacKind) (g : Scene) → IsScene g
     → AreBytes w → CallsRun ops w t p objects call signs g.limit → (x : Exits) (a : St) (m n : Mark) (c : Code) →
-    has_no_switch a ≡ true → IsStatement p signs (kinds_of (slice_get t.funs r.fun)) result g x a m n c →
+    IsStatement p signs (kinds_of (slice_get t.funs r.fun)) result g x a m n c →
     StatementRuns ops w t p objects r call result g x a m n c

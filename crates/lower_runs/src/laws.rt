@@ -93,7 +93,7 @@ pub fn expressions_run()
     ensures { ExpressionsRun }
 {}
 
-/// The same of statements without `switch`.
+/// The same of statements.
 #[tactic(auto, using(crate::proofs::Bodies::statements_are_run))]
 pub fn bodies_run()
     ensures { StatementsAreRun }
