@@ -247,7 +247,8 @@ module _ (ops : Operations Store) where
         went.kept at (omega arith) lt (away at ge lt) ∙ e
     stays later f from n at b u v us vs x le (variable {x = i} {h = h} home z) sp away au av went e =
         let o = get_or u.vars i None in
-        let there : slice_get u.vars i ≡ Some o = slice_get-get_or u.vars i None (let below = scene.home_counted i h home in let is = au.count in omega arith) in
+        let there : slice_get u.vars i ≡ Some o = slice_get-get_or u.vars i None (let below = scene.home_counted i h
+        home in let is = au.count in omega arith) in
         av.variable i h home tt o (went.spared i (sp i z) ∙ there) ∙ sym (au.variable i h home tt o there) ∙ e
     stays later f from n at b u v us vs x le (object {o = o} spot) sp away au av went e =
         av.object o at spot ∙ ap (λ z. Some (Some z))

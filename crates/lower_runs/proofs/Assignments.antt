@@ -186,7 +186,8 @@ module _ (ops : Operations Store) (placed : IsPlaced ops) (w : World) (t : Tac) 
         (λ o to u us one. h.runs u us (λ v z. store ops w (kind_of k) (At o to) v z (λ i y. next v y))
         (instr.Store at from k q ∷ rest) (record { low = omega arith; high = high }) one.done.agrees
         (λ v z zs two.
-        let done = done_then ops g scene (λ i. spares i a) (λ i. spares i b) (λ i. spares i (Assign (kind_of k) a b)) l m s u z ts us zs
+        let done = done_then ops g scene (λ i. spares i a) (λ i. spares i b) (λ i. spares i (Assign (kind_of k) a b))
+        l m s u z ts us zs
         (λ i e. and_left (spares i a) (spares i b) (and_right (not (is_variable i a)) (spares i a && spares i b) e))
         (λ i e. and_right (spares i a) (spares i b)
         (and_right (not (is_variable i a)) (spares i a && spares i b) e)) lm one.done two.done in
@@ -242,11 +243,13 @@ module _ (ops : Operations Store) (placed : IsPlaced ops) (w : World) (t : Tac) 
         (record { there = lt; free = free_own ops g scene from ge }) one.done.agrees
         (λ v z zs two.
         let agrees = agrees_own ops g scene from z zs ge two.agrees in
-        let went = went_then ops g scene (λ i. spares i a) (λ i. spares i b) (λ i. spares i (Assign (kind_of k) a b)) l.temps n.temps (Some from) s u z ts us zs
+        let went = went_then ops g scene (λ i. spares i a) (λ i. spares i b) (λ i. spares i (Assign (kind_of k) a b))
+        l.temps n.temps (Some from) s u z ts us zs
         (λ i e. and_left (spares i a) (spares i b) (and_right (not (is_variable i a)) (spares i a && spares i b) e))
         (λ i e. and_right (spares i a) (spares i b)
         (and_right (not (is_variable i a)) (spares i a && spares i b) e)) (omega arith) one.done.went two.went in
-        let here = stays ops g scene (Cons b Nil) (λ i. spares i b) l.temps m.temps at (Some from) u z us zs to2 low one.stays (λ i e. and_left (spares i b) true e) mine.4 one.done.agrees agrees
+        let here = stays ops g scene (Cons b Nil) (λ i. spares i b) l.temps m.temps at (Some from) u z us zs to2 low
+        one.stays (λ i e. and_left (spares i b) true e) mine.4 one.done.agrees agrees
         (went_less ops g scene (λ i. spares i b) (λ i. spares i b) m.temps n.temps (Some from) (Some from) u z us zs
         (λ i e. e) mn (λ i e j. j) two.went) one.value in
         stored k at from pos q to2 v z zs (transfer to from rest) (next v) (one.position q position)

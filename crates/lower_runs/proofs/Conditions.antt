@@ -231,7 +231,8 @@ module _ (ops : Operations Store) (placed : IsPlaced ops) (w : World) (t : Tac) 
           tested o _ (both q (kind_of j) (kind_of k) a b) (both_truths q (kind_of j) (kind_of k) a b) s next
           ∙ f.runs q s ts (λ x z. choose x (value_of ops w call b >>= test ops w q (kind_of k)) (give false) z next)
           (d rest) (record { low = low; high = omega arith }) lt ag (λ x u us one.
-          let by : (x : Bool) → choose x (value_of ops w call b >>= test ops w q (kind_of k)) (give false) u next ≡ run (if same false x then behind label (d rest) else d rest) u us = elim [
+          let by : (x : Bool) → choose x (value_of ops w call b >>= test ops w q (kind_of k)) (give false) u next
+          ≡ run (if same false x then behind label (d rest) else d rest) u us = elim [
             | true ↦ h.runs q u us next rest (record { low = omega arith; high = high }) (omega arith) one.agrees
                 (λ y v vs two. go y v vs (second s u v ts us vs lm one two))
             | false ↦ go false u us (first s u ts us one)
@@ -249,7 +250,8 @@ module _ (ops : Operations Store) (placed : IsPlaced ops) (w : World) (t : Tac) 
           tested o _ (either q (kind_of j) (kind_of k) a b) (either_truths q (kind_of j) (kind_of k) a b) s next
           ∙ f.runs q s ts (λ x z. choose x (give true) (value_of ops w call b >>= test ops w q (kind_of k)) z next)
           (d rest) (record { low = low; high = omega arith }) lt ag (λ x u us one.
-          let by : (x : Bool) → choose x (give true) (value_of ops w call b >>= test ops w q (kind_of k)) u next ≡ run (if same true x then behind label (d rest) else d rest) u us = elim [
+          let by : (x : Bool) → choose x (give true) (value_of ops w call b >>= test ops w q (kind_of k)) u next
+          ≡ run (if same true x then behind label (d rest) else d rest) u us = elim [
             | true ↦ go true u us (first s u ts us one)
                 ∙ ap (λ z. run z u us) (sym (h.piece.own label rest (λ le. absurd (omega arith))))
             | false ↦ h.runs q u us next rest (record { low = omega arith; high = high }) (omega arith) one.agrees
@@ -284,7 +286,9 @@ module _ (ops : Operations Store) (placed : IsPlaced ops) (w : World) (t : Tac) 
           ∙ f.runs q s ts (λ x z. choose x (value_of ops w call b >>= test ops w q (kind_of k)) (give false) z next)
           (d (instr.Label l.labels ∷ rest)) (record { low = low; high = omega arith }) (omega arith) ag
           (λ x u us one.
-          let by : (x : Bool) → choose x (value_of ops w call b >>= test ops w q (kind_of k)) (give false) u next ≡ run (if same false x then behind l.labels (d (instr.Label l.labels ∷ rest)) else d (instr.Label l.labels ∷ rest)) u us = elim [
+          let by : (x : Bool) → choose x (value_of ops w call b >>= test ops w q (kind_of k)) (give false) u next
+          ≡ run (if same false x then behind l.labels (d (instr.Label l.labels ∷ rest))
+          else d (instr.Label l.labels ∷ rest)) u us = elim [
             | true ↦ h.runs q u us next (instr.Label l.labels ∷ rest) (record { low = omega arith; high = high })
                 (omega arith) one.agrees
                 (λ y v vs two. go y v vs (second s u v ts us vs lm
@@ -306,7 +310,9 @@ module _ (ops : Operations Store) (placed : IsPlaced ops) (w : World) (t : Tac) 
           ∙ f.runs q s ts (λ x z. choose x (give true) (value_of ops w call b >>= test ops w q (kind_of k)) z next)
           (d (instr.Label l.labels ∷ rest)) (record { low = low; high = omega arith }) (omega arith) ag
           (λ x u us one.
-          let by : (x : Bool) → choose x (give true) (value_of ops w call b >>= test ops w q (kind_of k)) u next ≡ run (if same true x then behind l.labels (d (instr.Label l.labels ∷ rest)) else d (instr.Label l.labels ∷ rest)) u us = elim [
+          let by : (x : Bool) → choose x (give true) (value_of ops w call b >>= test ops w q (kind_of k)) u next
+          ≡ run (if same true x then behind l.labels (d (instr.Label l.labels ∷ rest))
+          else d (instr.Label l.labels ∷ rest)) u us = elim [
             | true ↦ go true u us (first s u ts us (done_labelled ops g scene (λ i. spares i a) 1 l s u ts us one))
                 ∙ ap (λ z. run z u us) (sym (over h.piece (omega arith) rest))
             | false ↦ h.runs q u us next (instr.Label l.labels ∷ rest) (record { low = omega arith; high = high })
@@ -341,7 +347,8 @@ module _ (ops : Operations Store) (placed : IsPlaced ops) (w : World) (t : Tac) 
       h.runs q s ts (λ b z. choose b x y z next) (d way_one) (record { low = low; high = omega arith }) (omega arith) ag
       (λ b u us one.
       let done = done_labelled ops g scene (λ i. spares i e) 2 l s u ts us one in
-      let by : (b : Bool) → choose b x y u next ≡ run (if same false b then behind l.labels (d way_one) else d way_one) u us = elim [
+      let by : (b : Bool) → choose b x y u next
+      ≡ run (if same false b then behind l.labels (d way_one) else d way_one) u us = elim [
         | true ↦ first u us way_one done (λ v vs.
             jumps ops w t p objects r call g (l.labels + 1) (instr.Label l.labels ∷ f last) v vs
             ∙ ap (λ z. run z v vs) (to_end l n o f rest (omega arith) pf))

@@ -310,7 +310,9 @@ module _ (ops : Operations Store) (placed : IsPlaced ops) (w : World) (t : Tac) 
           f.runs q s ts (λ x z. choose x second (give (truth false)) z next) (d (instr.Label l.labels ∷ rest))
           (record { low = low; high = omega arith }) (omega arith) ag (λ x u us one.
           let done = done_labelled ops g scene (λ i. spares i a) 1 l s u ts us one in
-          let by : (x : Bool) → choose x second (give (truth false)) u next ≡ run (if same false x then behind l.labels (d (instr.Label l.labels ∷ rest)) else d (instr.Label l.labels ∷ rest)) u us = elim [
+          let by : (x : Bool) → choose x second (give (truth false)) u next
+          ≡ run (if same false x then behind l.labels (d (instr.Label l.labels ∷ rest))
+          else d (instr.Label l.labels ∷ rest)) u us = elim [
             | true ↦ evaluated h s u ts us next rest room lm done go
             | false ↦ go (truth false) u us (passed s u ts us done)
                 ∙ ap (λ z. run z u us) (sym (over h.piece (omega arith) rest))
@@ -327,7 +329,9 @@ module _ (ops : Operations Store) (placed : IsPlaced ops) (w : World) (t : Tac) 
           f.runs q s ts (λ x z. choose x (give (truth true)) second z next) (d (instr.Label l.labels ∷ rest))
           (record { low = low; high = omega arith }) (omega arith) ag (λ x u us one.
           let done = done_labelled ops g scene (λ i. spares i a) 1 l s u ts us one in
-          let by : (x : Bool) → choose x (give (truth true)) second u next ≡ run (if same true x then behind l.labels (d (instr.Label l.labels ∷ rest)) else d (instr.Label l.labels ∷ rest)) u us = elim [
+          let by : (x : Bool) → choose x (give (truth true)) second u next
+          ≡ run (if same true x then behind l.labels (d (instr.Label l.labels ∷ rest))
+          else d (instr.Label l.labels ∷ rest)) u us = elim [
             | true ↦ go (truth true) u us (passed s u ts us done)
                 ∙ ap (λ z. run z u us) (sym (over h.piece (omega arith) rest))
             | false ↦ evaluated h s u ts us next rest room lm done go

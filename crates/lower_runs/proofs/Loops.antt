@@ -334,7 +334,8 @@ module _ (ops : Operations Store) (placed : IsPlaced ops) (w : World) (t : Tac) 
             (record { low = omega arith; high = room.high }) (let a = three in omega arith) ag (λ i v vs dn.
             let c2 = came_done ops placed w t p objects r call result g (λ z. spares z e) m u v us vs dn in
             let all = came_then ops placed w t p objects r call result s u v came c2 in
-            let by : (i : Bool) → choose i (turn >> times k) (give Goes) v go ≡ run g (if same false i then behind (l.labels + 2) last else last) v vs = elim [
+            let by : (i : Bool) → choose i (turn >> times k) (give Goes) v go
+            ≡ run g (if same false i then behind (l.labels + 2) last else last) v vs = elim [
               | true ↦ turn_back g l.labels (instr.Label (l.labels + 2) ∷ rest) (d behind_body) v vs
                   (λ z z2. times k z2 go) to_top
                   (λ z is. ih (record v { left = z }) vs (let le = all.left in omega arith)

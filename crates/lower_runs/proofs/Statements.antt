@@ -281,12 +281,15 @@ module _ (ops : Operations Store) (placed : IsPlaced ops) (w : World) (t : Tac) 
           let known_d : Is_known m n (d way_one) =
           known_behind (labelled 2 l) m n c (d way_one) h.piece
           (known_within l m n o (c (d way_one)) (omega arith) (omega arith) known) in
-          let known_f : Is_known n o (f last) = λ i ge lt. known_behind m n o d way_one y.piece (λ k ge2 lt2. known_behind (labelled 2 l) m o c (d way_one) h.piece (known_within l m o o (c (d way_one)) (omega arith) (omega arith) known) k (omega arith) lt2) i ge lt
+          let known_f : Is_known n o (f last) = λ i ge lt. known_behind m n o d way_one y.piece (λ k ge2 lt2.
+          known_behind (labelled 2 l) m o c (d way_one) h.piece (known_within l m o o (c (d way_one)) (omega
+          arith) (omega arith) known) k (omega arith) lt2) i ge lt
           ∙ pass_label l.labels i (f last) (λ k. absurd (omega arith)) in
           h.runs q s ts (λ k u. choose k (exec ops w call a) (exec ops w call b) u next) (d way_one)
           (record { low = low; high = omega arith }) (omega arith) ag (λ k u us one.
           let came = done_as 2 l s u ts us one in
-          let by : (k : Bool) → choose k (exec ops w call a) (exec ops w call b) u next ≡ run g (if same false k then behind l.labels (d way_one) else d way_one) u us = elim [
+          let by : (k : Bool) → choose k (exec ops w call a) (exec ops w call b) u next
+          ≡ run g (if same false k then behind l.labels (d way_one) else d way_one) u us = elim [
             | true ↦ y.runs u us next way_one (record { low = omega arith; high = omega arith })
                 (before_more l m x (omega arith) before) known_d one.agrees
                 (follows_over g x l rest way_one s u next before
@@ -311,7 +314,8 @@ module _ (ops : Operations Store) (placed : IsPlaced ops) (w : World) (t : Tac) 
           h.runs q s ts (λ k u. choose k (exec ops w call a) (exec ops w call Empty) u next) (d last)
           (record { low = low; high = omega arith }) (omega arith) ag (λ k u us one.
           let came = done_as 1 l s u ts us one in
-          let by : (k : Bool) → choose k (exec ops w call a) (exec ops w call Empty) u next ≡ run g (if same false k then behind l.labels (d last) else d last) u us = elim [
+          let by : (k : Bool) → choose k (exec ops w call a) (exec ops w call Empty) u next
+          ≡ run g (if same false k then behind l.labels (d last) else d last) u us = elim [
             | true ↦ y.runs u us next last (record { low = omega arith; high = high })
                 (before_more l m x (omega arith) before)
                 (known_behind (labelled 1 l) m n c (d last) h.piece

@@ -234,7 +234,8 @@ module _ (ops : Operations Store) (placed : IsPlaced ops) (w : World) (t : Tac) 
         f.runs st ts (λ to u. place_of ops w call b u (λ from z. copy ops w q bytes unit from to z (λ i. next to)))
         (d rest) (record { low = low; high = omega arith }) ag
         (λ o v u us one.
-        let here : (z : State Store) (zs : List (Option Value)) → Done ops g (λ i. spares i b) m u us z zs → slice_get zs at ≡ Some (Some v) = λ z zs two.
+        let here : (z : State Store) (zs : List (Option Value)) → Done ops g (λ i. spares i b) m u us z zs →
+        slice_get zs at ≡ Some (Some v) = λ z zs two.
         stays ops g scene (Cons b Nil) (λ i. spares i b) l.temps m.temps at None u z us zs v low one.stays
         (λ i e. and_left (spares i b) true e) (λ i e k. tt) one.done.agrees two.agrees two.went one.value in
         h.runs (λ from. copy ops w q bytes unit from (At o v)) u us (λ i. next (At o v)) rest

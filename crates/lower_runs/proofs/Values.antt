@@ -212,7 +212,9 @@ module _ (ops : Operations Store) (placed : IsPlaced ops) (w : World) (t : Tac) 
         junction_truth ops placed w t p objects r call g scene q e junction s l
         ∙ h.runs q s ts (λ b. l (truth b)) way_one (record { low = low; high = high }) (omega arith) ag (λ b u us d.
         let done = done_labelled ops g scene (λ i. spares i e) 2 m s u ts us d in
-        let by : (b : Bool) → l (truth b) u ≡ run (if code.same false b then Rattle.tac_ir.specs.Temps.behind m.labels way_one else way_one) u us = elim [
+        let by : (b : Bool) → l (truth b) u
+        ≡ run (if code.same false b then Rattle.tac_ir.specs.Temps.behind m.labels way_one
+        else way_one) u us = elim [
           | true ↦ go (truth true) u (slice_set us to (Some (truth true)))
               (lands ops w t p objects r call g scene int_kind (λ i. spares i e) (λ i. spares i e) to m n s u ts us
               (truth true) (λ i z. z) target room le (truth_is_of true) done)

@@ -3,7 +3,8 @@
 
 ghost use Rattle.std.specs.Prelude.{ℕ};
 ghost use Rattle.lower_runs.specs.Expressions.{Signature};
-ghost use Rattle.lower_runs.specs.StatementLaws.{CallRules, InEachFunction, StatementRules, BodyRules, BlockRules, LoopRules};
+ghost use Rattle.lower_runs.specs.StatementLaws.{CallRules, InEachFunction, StatementRules, BodyRules};
+ghost use Rattle.lower_runs.specs.StatementLaws.{BlockRules, LoopRules};
 ghost use Rattle.lower_runs.specs.Result.{ExpressionsRun, StatementsAreRun};
 ghost use Rattle.lower_runs.specs.Laws.{Everywhere, OperandRules, ValueRules, LoadRules, PlaceRules, ConditionRules};
 ghost use Rattle.lower_runs.specs.Laws.{EffectRules, AssignmentRules, OperationsArePlaced};
