@@ -1,6 +1,6 @@
 -- A call keeps the injection: the callee's frame lies below the caller's, with its locals, which rest.
 use Rattle.std.proofs.Common.{◌≡◌, ◌⊎◌, ℕ, suc, ◌+◌, ◌-◌, ◌/◌, ◌%◌, ◌^◌, ◌<◌, ◌≤◌, List, [], ◌∷◌, ◌++◌, length}
-use Rattle.std.proofs.Common.{Option, Some, refl, sym, ap, ◌∙◌, subst, arith, inl, inr}
+use Rattle.std.proofs.Common.{Option, Some, None, refl, sym, ap, ◌∙◌, subst, arith, inl, inr}
 use Rattle.std.specs.Prelude.{slice_get}
 use Rattle.std.specs.Option.{option_map}
 use Rattle.std.proofs.lemmas.List.{length-map}
@@ -23,12 +23,12 @@ use Rattle.tac_ir.specs.Meaning.{Caller, Running}
 use Rattle.tac_ir.specs.declared.code.TacInstr.{TacInstr}
 use Rattle.place_inject.specs.Objects.{ObjectsFit}
 use Rattle.place_inject.specs.Parts.{Unchanged, TableFits, HeapFits}
-use Rattle.place_inject.specs.Frames.{Setting, Registers, IsAt, Waits, IsLive, GlobalsFit, LocalsFit}
+use Rattle.place_inject.specs.Frames.{Setting, Point, Registers, IsAt, Waits, IsLive, GlobalsFit, LocalsFit}
 use Rattle.place_inject.specs.Frames.{HomesFit, FrameFits, FramesFit, homes_of, functions_of, locals_by, slots_from}
 use Rattle.place_inject.specs.Frames.{stack_top, behind_return}
 use Rattle.place_inject.specs.Fits.{Fits, registers_in}
 use Rattle.place_inject.specs.Homes.{CallersKeep}
-use Rattle.place_inject.specs.Entering.{IsFrameOf, HasEntered, caller_of, entered, entry_of, EntersFit}
+use Rattle.place_inject.specs.Entering.{IsFrameOf, HasEntered, caller_of, entered, EntersFit, FirstEntersFit}
 use Rattle.place_inject.proofs.Altered.{homes_later}
 use Rattle.place_inject.proofs.Changed.{active_stays}
 use Rattle.place_inject.proofs.Elsewhere.{twice, elsewhere, table_by, heap_aside}
@@ -42,19 +42,14 @@ use Rattle.place_inject.proofs.Lying.{Lies, within}
 use Rattle.place_inject.proofs.ReadBack.{under_top}
 use Rattle.place_inject.proofs.Reshaped.{Same}
 
-module _ (s : Setting) (legal : IsLegal s.needs s.map) (caller : Running) (left rest : List TacInstr) (to : Option ℕ)
-    (t : State Store) (m : Machine) (f : Fits s (Some (record { running = caller; rest = left })) t m)
-    (keeps : CallersKeep s (caller_of caller rest to t ∷ caller.callers))
-    (waits : (temp : ℕ) → Waits s (caller_of caller rest to t) temp
-    → IsLive s (record { running = caller; rest = left }) temp)
-    (fun : ℕ) (lengths : List ℕ) (frame : Frame) (fo : IsFrameOf s fun lengths frame) (at : ℕ)
-    (place : frame_within s.map.stack.0 t.frame (Some frame) ≡ Some at) (after : Machine)
-    (e : HasEntered s fun at t.frame (s.back caller.fun rest) frame m after) where
+-- A frame that is taken below an address, in a state before
+module _ (s : Setting) (legal : IsLegal s.needs s.map) (before : Option Point) (t : State Store) (m : Machine)
+    (f : Fits s before t m) (top_is : t.frame ≤ stack_top s) (fun : ℕ) (lengths : List ℕ) (frame : Frame)
+    (fo : IsFrameOf s fun lengths frame) (at : ℕ)
+    (place : frame_within s.map.stack.0 t.frame (Some frame) ≡ Some at) (link : ℕ) (after : Machine)
+    (e : HasEntered s fun at t.frame link frame m after) where
   abbrev shapes : List Shape
   shapes = t.mem.memory.shapes
-
-  abbrev c : Caller
-  c = caller_of caller rest to t
 
   lies : Lies s.map.stack.0 t.frame at frame
   lies = within s.map.stack.0 t.frame at frame place
@@ -80,7 +75,7 @@ module _ (s : Setting) (legal : IsLegal s.needs s.map) (caller : Running) (left 
   room = record {
     low = lies.from;
     high = lies.to;
-    top = under_top s shapes m.mem (registers_in m) caller.fun t.first t.frame caller.callers f.calls.2;
+    top = top_is;
     saved = fo.for_homes.inside;
     start = legal.in_range.2.2.2.0;
     end = legal.in_range.2.2.2.1;
@@ -330,7 +325,7 @@ module _ (s : Setting) (legal : IsLegal s.needs s.map) (caller : Running) (left 
   many : length needs_here ≡ length lengths
   many = sym (ap length fo.needed ∙ length-map needs_here (λ (x : ObjectNeed). x.length))
 
-  frame_fits : FrameFits s (shapes ++ news) after.mem fun (length shapes) at t.frame (s.back caller.fun rest)
+  frame_fits : FrameFits s (shapes ++ news) after.mem fun (length shapes) at t.frame link
   frame_fits = record {
     frame = frame;
     is = fo.is;
@@ -355,36 +350,7 @@ module _ (s : Setting) (legal : IsLegal s.needs s.map) (caller : Running) (left 
     };
   }
 
-  -- ---- the callers
-
-  abbrev behind_it : Registers
-  behind_it = behind_return s after.mem fun at (registers_in after)
-
-  abbrev slots : ℕ
-  slots = slots_from (slice_get s.map.frames caller.fun) (homes_of s caller.fun) t.frame
-
-  waiting : HomesFit (functions_of s) (addresses_of s.map) shapes m.mem (registers_in m) (homes_of s caller.fun)
-      (s.numbers caller.fun) slots (Waits s c) t.vars
-  waiting = record {
-    one_each = f.calls.1.one_each;
-    kept = λ k h l n q. f.calls.1.kept k h (waits k l) n q;
-    numbered = λ k n l q. f.calls.1.numbered k n (waits k l) q;
-    known = λ k l. f.calls.1.known k (waits k l);
-  }
-
-  -- in the new memory
-  callers_there : HomesFit (functions_of s) (addresses_of s.map) shapes after.mem behind_it (homes_of s caller.fun)
-      (s.numbers caller.fun) slots (Waits s c) t.vars
-      × FramesFit s shapes after.mem behind_it caller.fun t.first t.frame caller.callers
-  callers_there =
-      let r = room in let h = r.high in let q = r.saved in
-      calls_kept s shapes m.mem after.mem f.objects.areas e.areas t.frame
-      (λ fun' first at' above link g up. elsewhere at frame.saved at' g.frame.saved m.mem after.mem r.aligned g.aligned
-      (inl (omega arith)) e.same)
-      IsKept (registers_in m) behind_it e.kept caller.fun t.first t.frame (omega arith) caller.callers (functions_of s)
-      (addresses_of s.map) (Waits s c) t.vars keeps.0 (kept_only s caller.callers keeps.1) waiting f.calls.2
-
-  -- and with the new objects, which lie below
+  -- ---- frames above, with the new objects
   frame_more : (fun' first at' above link : ℕ) → t.frame ≤ at'
       → FrameFits s shapes after.mem fun' first at' above link
       → FrameFits s (shapes ++ news) after.mem fun' first at' above link
@@ -431,10 +397,15 @@ module _ (s : Setting) (legal : IsLegal s.needs s.map) (caller : Running) (left 
 
   -- ---- all of it
 
-  module _ (code : List TacInstr) (vars : List (Option Value))
+  -- with the calls in progress
+  module _ (cs : List Caller) (frames : FramesFit s (shapes ++ news) after.mem (registers_in after) fun
+      (length shapes) at cs) (code : List TacInstr) (vars : List (Option Value))
       (homes : HomesFit (functions_of s) (addresses_of s.map) shapes after.mem (registers_in after) (homes_of s fun)
-      (s.numbers fun) (slots_from (Some frame) (homes_of s fun) at) (IsLive s (entry_of fun c caller.callers code))
-      vars) where
+      (s.numbers fun) (slots_from (Some frame) (homes_of s fun) at)
+      (IsLive s (record { running = record { fun = fun; callers = cs }; rest = code })) vars) where
+    abbrev at_entry : Point
+    at_entry = record { running = record { fun = fun; callers = cs }; rest = code }
+
     abbrev all_shapes : List Shape → Type 0
     all_shapes xs =
         GlobalsFit s xs × TableFits s.needs s.map out.heap xs s.loaded.mem after.mem
@@ -442,8 +413,8 @@ module _ (s : Setting) (legal : IsLegal s.needs s.map) (caller : Running) (left 
         × LocalsFit s xs fun (length shapes) at
         × HomesFit (functions_of s) (addresses_of s.map) xs after.mem (registers_in after) (homes_of s fun)
         (s.numbers fun) (slots_from (slice_get s.map.frames fun) (homes_of s fun) at)
-        (IsLive s (entry_of fun c caller.callers code)) vars
-        × FramesFit s xs after.mem (registers_in after) fun (length shapes) at (c ∷ caller.callers)
+        (IsLive s at_entry) vars
+        × FramesFit s xs after.mem (registers_in after) fun (length shapes) at cs
 
     table_fits : TableFits s.needs s.map out.heap (shapes ++ news) s.loaded.mem after.mem
     table_fits =
@@ -493,13 +464,13 @@ module _ (s : Setting) (legal : IsLegal s.needs s.map) (caller : Running) (left 
 
     homes_fit : HomesFit (functions_of s) (addresses_of s.map) (shapes ++ news) after.mem (registers_in after)
         (homes_of s fun) (s.numbers fun) (slots_from (slice_get s.map.frames fun) (homes_of s fun) at)
-        (IsLive s (entry_of fun c caller.callers code)) vars
+        (IsLive s at_entry) vars
     homes_fit =
         subst (λ o. HomesFit (functions_of s) (addresses_of s.map) (shapes ++ news) after.mem (registers_in after)
         (homes_of s fun) (s.numbers fun) (slots_from o (homes_of s fun) at)
-        (IsLive s (entry_of fun c caller.callers code)) vars) (sym fo.is)
+        (IsLive s at_entry) vars) (sym fo.is)
         (homes_later s shapes (shapes ++ news) same_more after.mem (registers_in after) (homes_of s fun) (s.numbers fun)
-        (slots_from (Some frame) (homes_of s fun) at) (IsLive s (entry_of fun c caller.callers code)) vars homes)
+        (slots_from (Some frame) (homes_of s fun) at) (IsLive s at_entry) vars homes)
 
     all : all_shapes (shapes ++ news)
     all = (
@@ -509,16 +480,10 @@ module _ (s : Setting) (legal : IsLegal s.needs s.map) (caller : Running) (left 
       stack_clear,
       locals_fit,
       homes_fit,
-      (
-        frame_fits,
-        record { each = λ n need q. still_at (t.first + n) need _ (f.calls.0.each n need q) },
-        homes_later s shapes (shapes ++ news) same_more after.mem behind_it (homes_of s caller.fun)
-            (s.numbers caller.fun) slots (Waits s c) t.vars callers_there.0,
-        frames_more behind_it caller.fun t.first t.frame caller.callers (omega arith) callers_there.1,
-      ),
+      frames,
     )
 
-    enters : Fits s (Some (entry_of fun c caller.callers code)) (entered s fun at lengths vars t) after
+    enters : Fits s (Some at_entry) (entered s fun at lengths vars t) after
     enters =
         let k = subst all_shapes (sym shapes_are) all in
         record {
@@ -534,6 +499,88 @@ module _ (s : Setting) (legal : IsLegal s.needs s.map) (caller : Running) (left 
           places = λ x. e.same.places x ∙ f.places x;
         }
 
+-- ---- calls
+
+module _ (s : Setting) (legal : IsLegal s.needs s.map) (caller : Running) (left rest : List TacInstr) (to : Option ℕ)
+    (t : State Store) (m : Machine) (f : Fits s (Some (record { running = caller; rest = left })) t m)
+    (keeps : CallersKeep s (caller_of caller rest to t ∷ caller.callers))
+    (waits : (temp : ℕ) → Waits s (caller_of caller rest to t) temp
+    → IsLive s (record { running = caller; rest = left }) temp)
+    (fun : ℕ) (lengths : List ℕ) (frame : Frame) (fo : IsFrameOf s fun lengths frame) (at : ℕ)
+    (place : frame_within s.map.stack.0 t.frame (Some frame) ≡ Some at) (after : Machine)
+    (e : HasEntered s fun at t.frame (s.back caller.fun rest) frame m after) where
+  abbrev calling : Option Point
+  calling = Some (record { running = caller; rest = left })
+
+  abbrev c : Caller
+  c = caller_of caller rest to t
+
+  abbrev there : List Shape
+  there = t.mem.memory.shapes
+
+  abbrev grown : List Shape
+  grown = there ++ locals_from s fun at 0 lengths
+
+  top_below : t.frame ≤ stack_top s
+  top_below = under_top s there m.mem (registers_in m) caller.fun t.first t.frame caller.callers f.calls.2
+
+  abbrev behind_it : Registers
+  behind_it = behind_return s after.mem fun at (registers_in after)
+
+  abbrev slots : ℕ
+  slots = slots_from (slice_get s.map.frames caller.fun) (homes_of s caller.fun) t.frame
+
+  waiting : HomesFit (functions_of s) (addresses_of s.map) there m.mem (registers_in m) (homes_of s caller.fun)
+      (s.numbers caller.fun) slots (Waits s c) t.vars
+  waiting = record {
+    one_each = f.calls.1.one_each;
+    kept = λ k h l n q. f.calls.1.kept k h (waits k l) n q;
+    numbered = λ k n l q. f.calls.1.numbered k n (waits k l) q;
+    known = λ k l. f.calls.1.known k (waits k l);
+  }
+
+  -- in the new memory
+  callers_there : HomesFit (functions_of s) (addresses_of s.map) there after.mem behind_it (homes_of s caller.fun)
+      (s.numbers caller.fun) slots (Waits s c) t.vars
+      × FramesFit s there after.mem behind_it caller.fun t.first t.frame caller.callers
+  callers_there =
+      let r = room s legal calling t m f top_below fun lengths frame fo at place
+      (s.back caller.fun rest) after e in let h = r.high in let q = r.saved in
+      calls_kept s there m.mem after.mem f.objects.areas e.areas t.frame
+      (λ fun' first at' above link g up. elsewhere at frame.saved at' g.frame.saved m.mem after.mem r.aligned g.aligned
+      (inl (omega arith)) e.same)
+      IsKept (registers_in m) behind_it e.kept caller.fun t.first t.frame (omega arith) caller.callers (functions_of s)
+      (addresses_of s.map) (Waits s c) t.vars keeps.0 (kept_only s caller.callers keeps.1) waiting f.calls.2
+
+  frames_there : FramesFit s grown after.mem (registers_in after) fun (length there) at (c ∷ caller.callers)
+  frames_there = (
+    frame_fits s legal calling t m f top_below fun lengths frame fo at place
+        (s.back caller.fun rest) after e,
+    record {
+      each = λ n need q. still_at s legal calling t m f top_below fun lengths frame fo at place
+          (s.back caller.fun rest) after e (t.first + n) need _ (f.calls.0.each n need q);
+    },
+    homes_later s there grown (same_more s legal calling t m f top_below fun lengths frame fo at place
+        (s.back caller.fun rest) after e) after.mem behind_it (homes_of s caller.fun) (s.numbers caller.fun) slots
+        (Waits s c) t.vars callers_there.0,
+    frames_more s legal calling t m f top_below fun lengths frame fo at place
+        (s.back caller.fun rest) after e behind_it caller.fun t.first t.frame caller.callers (omega arith)
+        callers_there.1,
+  )
+
 pub enters_fit_law : EntersFit
 enters_fit_law s legal caller left rest to t m f keeps waits fun lengths frame fo at place after e code vars homes =
-    enters s legal caller left rest to t m f keeps waits fun lengths frame fo at place after e code vars homes
+    enters s legal (Some (record { running = caller; rest = left })) t m f
+    (top_below s legal caller left rest to t m f keeps waits fun lengths frame fo at place after e) fun lengths frame fo
+    at place (s.back caller.fun rest) after e (caller_of caller rest to t ∷ caller.callers)
+    (frames_there s legal caller left rest to t m f keeps waits fun lengths frame fo at place after e) code vars homes
+
+-- ---- the first function
+
+pub first_enters_fit_law : FirstEntersFit
+first_enters_fit_law s legal t m f fun lengths frame fo at place after e code vars homes =
+    let top_is : t.frame ≤ stack_top s = let is = f.calls in omega arith in
+    enters s legal None t m f top_is fun lengths frame fo at place s.stub after e []
+    (subst (λ a. FrameFits s (t.mem.memory.shapes ++ locals_from s fun at 0 lengths) after.mem fun
+    (length t.mem.memory.shapes) at a s.stub) f.calls
+    (frame_fits s legal None t m f top_is fun lengths frame fo at place s.stub after e)) code vars homes

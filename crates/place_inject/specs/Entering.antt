@@ -1,5 +1,6 @@
 -- A function is entered, in the whole injection.
-use Rattle.std.specs.Prelude.{◌≡◌, ℕ, ◌+◌, ◌%◌, ◌<◌, ◌≤◌, List, ◌∷◌, length, map, Option, Some, slice_get}
+use Rattle.std.specs.Prelude.{◌≡◌, ℕ, ◌+◌, ◌%◌, ◌<◌, ◌≤◌, List, [], ◌∷◌, length, map, Option, Some, None}
+use Rattle.std.specs.Prelude.{slice_get}
 use Rattle.cap_concentrate.specs.Rounding.{owned}
 use Rattle.tag_mem.specs.Areas.{IsMemory}
 use Rattle.cap_machine.specs.declared.machine.Machine.{Machine}
@@ -87,3 +88,17 @@ EntersFit = (s : Setting) → IsLegal s.needs s.map → (caller : Running) (left
     (IsLive s (entry_of fun (caller_of caller rest to t) caller.callers code)) vars
     → Fits s (Some (entry_of fun (caller_of caller rest to t) caller.callers code)) (entered s fun at lengths vars t)
     after
+
+-- The first function, which has no caller: the stack is as it was loaded, and it returns to the stub
+abbrev pub first_of : (fun : ℕ) → List TacInstr → Point
+first_of fun code = record { running = record { fun = fun; callers = [] }; rest = code }
+
+abbrev pub FirstEntersFit : Type 0
+FirstEntersFit = (s : Setting) → IsLegal s.needs s.map → (t : State Store) (m : Machine) → Fits s None t m
+    → (fun : ℕ) (lengths : List ℕ) (frame : Frame) → IsFrameOf s fun lengths frame
+    → (at : ℕ) → frame_within s.map.stack.0 t.frame (Some frame) ≡ Some at
+    → (after : Machine) → HasEntered s fun at t.frame s.stub frame m after
+    → (code : List TacInstr) (vars : List (Option Value))
+    → HomesFit (functions_of s) (addresses_of s.map) t.mem.memory.shapes after.mem (registers_in after) (homes_of s fun)
+    (s.numbers fun) (slots_from (Some frame) (homes_of s fun) at) (IsLive s (first_of fun code)) vars
+    → Fits s (Some (first_of fun code)) (entered s fun at lengths vars t) after

@@ -5,7 +5,7 @@ ghost use Rattle.place_inject.specs.Calling.{CalleesFit};
 ghost use Rattle.place_inject.specs.Changes.{ComeAndGoWhereObjectsFit};
 ghost use Rattle.place_inject.specs.Copies.{CopiesFit};
 ghost use Rattle.place_inject.specs.Disjoint.{ExtentsAreApartWhereFits};
-ghost use Rattle.place_inject.specs.Entering.{EntersFit};
+ghost use Rattle.place_inject.specs.Entering.{EntersFit, FirstEntersFit};
 ghost use Rattle.place_inject.specs.Fits.{ScratchKeepsFits, StoresKeepFits};
 ghost use Rattle.place_inject.specs.Getting.{GettingFitsWhereObjectsDo};
 ghost use Rattle.place_inject.specs.Growing.{AllocationsFit, LocalsFitIn};
@@ -112,6 +112,11 @@ pub fn returns_clear()
 /// stands for the callee's state, whose locals rest.
 pub fn enters_fit()
     ensures { EntersFit }
+{}
+
+/// The first function is entered, with no call in progress.
+pub fn first_enters_fit()
+    ensures { FirstEntersFit }
 {}
 
 /// A return: where c2 is the caller's stack again and the registers that functions keep have what was saved of them,

@@ -15,9 +15,9 @@ mod laws;
 
 pub use laws::{
     allocations_fit, callees_fit, copies_fit, done_keeps_fits, enters_fit, extents_are_apart,
-    getting_fits, granules_are_zeroed, leaves_fit, loads_fit, locals_fit, moves_on_fit,
-    numbers_fit, numbers_read_back, objects_come_and_go, pointers_fit, registers_keep_fits,
-    registers_read_back, results_fit, returns_clear, scratch_keeps_fits, slots_read_back,
-    spills_fit, stack_reaches, start_fits, stores_fit, stores_keep_fits, table_reaches,
-    table_reads_back, whole_pointers_fit, zero_keeps_fits,
+    first_enters_fit, getting_fits, granules_are_zeroed, leaves_fit, loads_fit, locals_fit,
+    moves_on_fit, numbers_fit, numbers_read_back, objects_come_and_go, pointers_fit,
+    registers_keep_fits, registers_read_back, results_fit, returns_clear, scratch_keeps_fits,
+    slots_read_back, spills_fit, stack_reaches, start_fits, stores_fit, stores_keep_fits,
+    table_reaches, table_reads_back, whole_pointers_fit, zero_keeps_fits,
 };
