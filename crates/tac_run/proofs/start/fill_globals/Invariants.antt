@@ -1,0 +1,15 @@
+use Rattle.std.proofs.Common.{◌≡◌, drop, map}
+use Rattle.cheri_c_sem.specs.Calls.{fill_globals}
+use Rattle.cheri_c_sem.specs.Programs.{global_tree}
+use Rattle.tac_run.specs.Holdings.{ops_of, with_store}
+use Rattle.tac_run.proofs.start.fill_globals.Given as goal
+
+abbrev pub invariant-globals : goal.invariant-globals
+invariant-globals l = record {
+  under : l.memory.map ≡ l.fn.memory.map;
+  so_far :
+      with_store l.memory (fill_globals (ops_of l.memory) l.memory.store l.object
+      (map (global_tree l.program.p.now) (drop l.object l.program.p.now.globals)))
+      ≡ with_store l.fn.memory (fill_globals (ops_of l.fn.memory) l.fn.memory.store 0
+      (map (global_tree l.program.p.now) l.program.p.now.globals));
+}

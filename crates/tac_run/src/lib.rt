@@ -1,0 +1,23 @@
+//! Three-address code as it runs, over separate objects under a map.
+//!
+//! Promise: of a sound program and a legal map, a run of well-formed code is what the code means, in the world of the
+//! call.
+//! Definitions (`specs/`): `Ready`, `Moments`, `Bases`, `Holdings`, `Views`.
+//! Main lemmas (`proofs/`): `Acts`, `Starts`, `Meant`, `Readiness`.
+#![tactic(auto)]
+
+mod calls;
+mod compatibility;
+mod effects;
+mod faults;
+mod frames;
+mod held;
+mod operations;
+mod places;
+mod program;
+mod run;
+mod running;
+mod start;
+mod state;
+
+pub use running::run_tac;
