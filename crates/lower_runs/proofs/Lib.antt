@@ -25,6 +25,7 @@ pub mod Compounds
 pub mod Services
 pub mod Fills
 pub mod Placed
+pub mod Frames
 pub mod Bodies
 pub mod Switches
 pub mod Cases

@@ -30,7 +30,7 @@ use Rattle.obj_mem.specs.declared.ending.Reason.TheVariants as reason
 use Rattle.obj_mem.specs.Objects.{Cell, Byte, Unwritten, PartOf, Life, Active, Inactive, Returned, Shape, Content}
 use Rattle.obj_mem.specs.Objects.{Memory, Mode, Placed, base_in, base_of_shape, byte_of, held, value_at, cell_or}
 use Rattle.obj_mem.specs.Objects.{seen_through, byte_at, bytes_at, put_at, parts, opened_by, opened, blank}
-use Rattle.obj_mem.specs.Objects.{owned_of_shape, whole_pointer, with_life_by, zero_object}
+use Rattle.obj_mem.specs.Objects.{owned_of_shape, whole_pointer, with_life_by, with_life, zero_object}
 use Rattle.obj_mem.specs.Access.{Spot, Piece, Tagged, Plain, onward, reach, outside_unless_active, at_place, at_spot}
 use Rattle.obj_mem.specs.Access.{load_access, store_access, piece_of, fetch, with_piece, put, has_unwritten, has_part}
 use Rattle.obj_mem.specs.Access.{number_of, read_as, known, loaded, load, bytes_of, stored_piece, store, carried}
@@ -177,7 +177,7 @@ difference_is a b la lb = by a b lb ∙ sym (binary_of-Sub int.I64 a b refl la l
 
 -- ---- lists of which each member has a property
 
-same_some : {A : Type 0} (x y : A) → Some x ≡ Some y → x ≡ y
+pub same_some : {A : Type 0} (x y : A) → Some x ≡ Some y → x ≡ y
 same_some x y e = cc
 
 pub each_get : {A : Type 0} (P : A → Type 0) (xs : List A) (i : ℕ) (x : A) → Each P xs → slice_get xs i ≡ Some x → P x
@@ -406,7 +406,7 @@ module _ (a : Addresses) where
   life_owned (x ∷ xs) (suc k) zero l s e = refl
   life_owned (x ∷ xs) (suc k) (suc o) l s e = life_owned xs k o l s e
 
-  blank_filled : (n : ℕ) → IsFilled (blank d n)
+  pub blank_filled : (n : ℕ) → IsFilled (blank d n)
   blank_filled n = record {
     cells = each_replicate IsByte (Byte 0) n (omega arith);
     values = each_replicate IsHeld None ((n + 15) / 16) tt;
@@ -468,7 +468,7 @@ opposite_of true b e = ap (λ z. Ok (not z)) (same_ok false b _ refl e)
 opposite_of false b e = ap (λ z. Ok (not z)) (same_ok true b _ refl e)
 
 -- an object that is aligned to its length has exact bounds
-exact_at : (start n : ℕ) → start + owned n ≤ 2 ^ 40 → start % alignment n ≡ 0 →
+pub exact_at : (start n : ℕ) → start + owned n ≤ 2 ^ 40 → start % alignment n ≡ 0 →
     keeps start (start + owned n) start ≡ true
 unfolding keeps
 exact_at start n le aligned =
@@ -485,7 +485,7 @@ same_place b n le h =
 -- ---- the operations under a map
 
 module _ (needs : Needs) (map : Map) (legal : IsLegal needs map) where
-  abbrev at_map : Addresses
+  abbrev pub at_map : Addresses
   at_map = addresses_of map
 
   abbrev ops : Operations Store
@@ -644,6 +644,29 @@ module _ (needs : Needs) (map : Map) (legal : IsLegal needs map) where
   onward_copied s new (Ok x) k e = subst (IsOnward ops s) (same_ok (with_memory s x) new _ refl e) (onward_kept s x k)
   onward_copied s new (Err f) k e = absurd cc
 
+  onward_same_memory : (s : Store) → IsOnward ops s s
+  onward_same_memory s = record { sound = λ h. h; count = omega arith; whole = λ object permissions lt. refl }
+
+  -- the life of an object changes
+  pub onward_life : (l : Life) (s : Store) (k : ℕ) → IsOnward ops s (with_memory s (with_life l s.memory k))
+  unfolding operations
+  onward_life l s k = by (slice_get s.memory.shapes k) refl
+    where
+      by : (o : Option Shape) → slice_get s.memory.shapes k ≡ o →
+          IsOnward ops s (with_memory s (record s.memory { shapes = with_life_by l s.memory.shapes k o }))
+      by None e = onward_same_memory s
+      by (Some o) e = record {
+        sound = λ h. record {
+          shapes = let old = each_get IsStanding s.memory.shapes k o h.shapes e in
+              each_set IsStanding s.memory.shapes k (record o { life = l }) h.shapes
+              (record { low = old.low; exact = old.exact });
+          contents = h.contents;
+        };
+        count = let long = length-set s.memory.shapes k (record o { life = l }) in omega arith;
+        whole = λ object permissions lt.
+            ap (λ z. Live object 0 z 0 permissions) (life_owned at_map s.memory.shapes k object l o e);
+      }
+
   onward_zero : (s : Store) (k : ℕ) → IsOnward ops s (with_memory s (zero_object (Placed at_map) s.memory k))
   unfolding operations
   onward_zero s k = by (slice_get s.memory.shapes k) refl
@@ -675,10 +698,11 @@ module _ (needs : Needs) (map : Map) (legal : IsLegal needs map) where
             ap (λ z. Live object 0 z 0 permissions) (life_owned at_map s.memory.shapes k object Active o e);
       }
 
-  onward_added : (s : Store) (o : Shape) (c : Content) (heap : ℕ) → IsStanding o → IsFilled c → IsOnward ops s (record {
-    memory = record s.memory { shapes = s.memory.shapes ++ o ∷ []; contents = s.memory.contents ++ c ∷ [] };
-    heap = heap;
-  })
+  pub onward_added : (s : Store) (o : Shape) (c : Content) (heap : ℕ) → IsStanding o → IsFilled c →
+      IsOnward ops s (record {
+        memory = record s.memory { shapes = s.memory.shapes ++ o ∷ []; contents = s.memory.contents ++ c ∷ [] };
+        heap = heap;
+      })
   unfolding operations
   onward_added s o c heap standing filled = record {
     sound = λ h. record {
@@ -689,9 +713,6 @@ module _ (needs : Needs) (map : Map) (legal : IsLegal needs map) where
     whole = λ object permissions lt. ap (λ z. Live object 0 (owned_of_shape z) 0 permissions)
         (front s.memory.shapes (o ∷ []) object lt);
   }
-
-  onward_same_memory : (s : Store) → IsOnward ops s s
-  onward_same_memory s = record { sound = λ h. h; count = omega arith; whole = λ object permissions lt. refl }
 
   allocates : (s : Store) (n : ℕ) → (r : Value × Store) × (taken (allocate (Placed at_map) s.memory s.heap n) ≡ Ok r) ×
       IsPointer r.0 × IsOnward ops s r.1
@@ -769,4 +790,5 @@ module _ (needs : Needs) (map : Map) (legal : IsLegal needs map) where
     copy_unit = λ m new from to n e. onward_copied m new (copy_unit (Placed at_map) m.memory from to n)
         (copy_keeps at_map m.memory from to n) e;
     zero = λ m object. onward_zero m object;
+    end = λ m object. onward_life Returned m object;
   }

@@ -1,5 +1,6 @@
 pub mod Sound
 pub mod States
+pub mod Frames
 pub mod Operating
 pub mod Expressions
 pub mod Statements

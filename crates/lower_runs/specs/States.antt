@@ -183,3 +183,4 @@ pub record IsPlaced (ops : Operations Store) : Type 0 where
       (r : Value × Store) × (ops.allocate m n ≡ Ok r) × IsPointer r.0 × IsOnward ops m r.1
   pub copy_unit : (m new : Store) (from to : Value) (n : ℕ) → ops.copy_unit m from to n ≡ Ok new → IsOnward ops m new
   pub zero : (m : Store) (object : ℕ) → IsOnward ops m (ops.zero m object)
+  pub end : (m : Store) (object : ℕ) → IsOnward ops m (ops.end m object)

@@ -7,6 +7,7 @@ ghost use Rattle.lower_runs.specs.StatementLaws.{CallRules, InEachFunction, Stat
 ghost use Rattle.lower_runs.specs.StatementLaws.{BlockRules, LoopRules};
 ghost use Rattle.lower_runs.specs.Result.{ExpressionsRun, StatementsAreRun};
 ghost use Rattle.lower_runs.specs.Laws.{Everywhere, OperandRules, ValueRules, LoadRules, PlaceRules, ConditionRules};
+ghost use Rattle.lower_runs.specs.Frames.{FramesAreLegal};
 ghost use Rattle.lower_runs.specs.Laws.{EffectRules, AssignmentRules, OperationsArePlaced};
 
 /// Operands: values that stand in a temp already, and those that come into a new one.
@@ -86,6 +87,12 @@ pub fn calls_run()
 #[tactic(auto, using(crate::proofs::Placed::operations_placed))]
 pub fn operations_are_placed()
     ensures { OperationsArePlaced }
+{}
+
+/// Frames under a legal map hold the objects of their functions.
+#[tactic(auto, using(crate::proofs::Frames::frames_legal))]
+pub fn frames_hold_objects()
+    ensures { FramesAreLegal }
 {}
 
 /// Code that the relation makes of expressions does what they mean, given calls, in a world that gives bytes.
