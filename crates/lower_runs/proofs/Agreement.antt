@@ -135,6 +135,7 @@ module _ (ops : Operations Store) where
       there = a.there;
       sound = a.sound;
       within = a.within;
+      high = a.high;
     }
 
     pub agrees_any : (c : Option ℕ) (s : State Store) (ts : List (Option Value)) → Agrees ops g None s ts →
@@ -148,6 +149,7 @@ module _ (ops : Operations Store) where
       there = a.there;
       sound = a.sound;
       within = a.within;
+      high = a.high;
     }
 
     -- the temp that is left out is no variable's
@@ -162,6 +164,7 @@ module _ (ops : Operations Store) where
       there = a.there;
       sound = a.sound;
       within = a.within;
+      high = a.high;
     }
 
     -- a temp of an expression changes
@@ -185,6 +188,7 @@ module _ (ops : Operations Store) where
       there = let all = a.there in let le = on.count in omega arith;
       sound = on.sound a.sound;
       within = a.within;
+      high = a.high;
     }
 
     pub went_memory : (f : ℕ → Bool) (n : ℕ) (b : Option ℕ) (s u : State Store) (ts us : List (Option Value))
@@ -231,6 +235,7 @@ module _ (ops : Operations Store) where
       there = a.there;
       sound = a.sound;
       within = a.within;
+      high = a.high;
     }
       where
         lt : x < length s.vars

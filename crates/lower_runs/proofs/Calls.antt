@@ -110,6 +110,7 @@ module _ (ops : Operations Store) (placed : IsPlaced ops) (w : World) (t : Tac) 
           there = b.there;
           sound = b.sound;
           within = let lt = a.agrees.within in omega arith;
+          high = b.high;
         };
     went = record {
       left = let lt = a.went.left in
@@ -186,7 +187,8 @@ module _ (ops : Operations Store) (placed : IsPlaced ops) (w : World) (t : Tac) 
           stops (Some a) = refl
       by (suc j) is =
           runs.runs f vs (record u { left = j }) (caller u us rest to) r.callers (λ v y. turn y (λ q. l v))
-          (let lt = d.agrees.within in omega arith) (subst (λ z. AreOf z vs) (sym (ap (λ z. z.takes) sign)) typed)
+          (let lt = d.agrees.within in omega arith) d.agrees.sound d.agrees.high
+          (subst (λ z. AreOf z vs) (sym (ap (λ z. z.takes) sign)) typed)
           (returns j is)
           ∙ starts (ops.enter f u.frame)
         where

@@ -26,6 +26,7 @@ pub mod Services
 pub mod Fills
 pub mod Placed
 pub mod Frames
+pub mod Ends
 pub mod Bodies
 pub mod Switches
 pub mod Cases

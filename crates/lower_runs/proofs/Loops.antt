@@ -135,6 +135,7 @@ module _ (ops : Operations Store) (placed : IsPlaced ops) (w : World) (t : Tac) 
         there = a.there;
         sound = a.sound;
         within = let le = a.within in omega arith;
+        high = a.high;
       }
 
   -- ---- loops with the test in front
@@ -414,6 +415,7 @@ module _ (ops : Operations Store) (placed : IsPlaced ops) (w : World) (t : Tac) 
     there = a.there;
     sound = a.sound;
     within = a.within;
+    high = a.high;
   }
     where
       lt : x < length s.vars
@@ -511,6 +513,7 @@ module _ (ops : Operations Store) (placed : IsPlaced ops) (w : World) (t : Tac) 
     there = a.there;
     sound = a.sound;
     within = a.within;
+    high = a.high;
   }
     where
       pointer : Value
@@ -546,6 +549,7 @@ module _ (ops : Operations Store) (placed : IsPlaced ops) (w : World) (t : Tac) 
     there = a.there;
     sound = a.sound;
     within = a.within;
+    high = a.high;
   }
     where
       by : (o i : ℕ) → g.spot o ≡ Some i → (b : Bool) → (o == n) ≡ b →

@@ -183,6 +183,7 @@ module _ (ops : Operations Store) (placed : IsPlaced ops) (w : World) (t : Tac) 
     there = a.there;
     sound = a.sound;
     within = a.within;
+    high = a.high;
   }
 
   -- a state that went a way has gone it where temps change that are not kept
@@ -321,6 +322,7 @@ module _ (ops : Operations Store) (placed : IsPlaced ops) (w : World) (t : Tac) 
                 there = a.agrees.there;
                 sound = a.agrees.sound;
                 within = a.agrees.within;
+                high = a.agrees.high;
               });
           went = went_set ops g scene (λ i. spares i e) (λ i. spares i f) m.temps m.temps (Some to)
               (Some to) s u ts y.temps to (Some y.value) sp (omega arith) (λ i lt z. (z, z)) (record {

@@ -160,6 +160,7 @@ module _ (ops : Operations Store) (placed : IsPlaced ops) (w : World) (t : Tac) 
       there = a.agrees.there;
       sound = a.agrees.sound;
       within = a.agrees.within;
+      high = a.agrees.high;
     };
     went = record {
       left = a.went.left;

@@ -16,6 +16,7 @@ use Rattle.tac_ir.specs.declared.code.Tac.{Tac}
 use Rattle.tac_ir.specs.declared.code.TacInstr.{TacInstr}
 use Rattle.tac_ir.specs.declared.code.TacKind.{TacKind}
 use Rattle.lower_runs.specs.States.{Scene, IsOf, IsOnward, Agrees}
+use Rattle.lower_runs.specs.Sound.{IsSound}
 use Rattle.lower_runs.specs.Operating.{Code}
 use Rattle.lower_runs.specs.Expressions.{Mark, Signature, spares, spare}
 use Rattle.lower_runs.specs.Simulation.{IsPiece, HasRoom, IsTargetIfAny, Done, Valued, goes}
@@ -60,7 +61,7 @@ module _ (ops : Operations Store) (w : World) (t : Tac) (p : Typed) (objects : �
   pub record CallsRun (limit : ℕ) : Type 0 where
     pub runs : (f : ℕ) (vs : List Value) (s : State Store) (c : Caller) (cs : List Caller)
         (k : Value → State Store → Fate) →
-        s.left < limit → AreOf (signs f).takes vs
+        s.left < limit → IsSound s.mem → s.frame ≤ ops.stack_top → AreOf (signs f).takes vs
         → ((v : Value) (u : State Store) → IsGiven (signs f).gives v → Back s u →
         k v u ≡ backs c cs (given_back (signs f).gives v) u)
         → call f vs s k ≡ entered (ops.enter f s.frame) f vs (record { fun = f; callers = c ∷ cs }) s

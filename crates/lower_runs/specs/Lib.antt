@@ -7,6 +7,7 @@ pub mod Statements
 pub mod Simulation
 pub mod Following
 pub mod Calling
+pub mod Functions
 pub mod Laws
 pub mod StatementLaws
 pub mod Result

@@ -101,6 +101,7 @@ module _ (ops : Operations Store) where
       pub there : s.first + g.objects ≤ ops.count s.mem
       pub sound : IsSound s.mem
       pub within : s.left ≤ g.limit
+      pub high : s.frame ≤ ops.stack_top
 
     -- What a part of an expression leaves as it is on the way from one state to another: the call, the objects, the
     -- variables that it spares, and the temps of expressions below its own, but for one that may be left out

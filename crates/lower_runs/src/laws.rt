@@ -8,6 +8,7 @@ ghost use Rattle.lower_runs.specs.StatementLaws.{BlockRules, LoopRules};
 ghost use Rattle.lower_runs.specs.Result.{ExpressionsRun, StatementsAreRun};
 ghost use Rattle.lower_runs.specs.Laws.{Everywhere, OperandRules, ValueRules, LoadRules, PlaceRules, ConditionRules};
 ghost use Rattle.lower_runs.specs.Frames.{FramesAreLegal};
+ghost use Rattle.lower_runs.specs.Functions.{FunctionsEnd};
 ghost use Rattle.lower_runs.specs.Laws.{EffectRules, AssignmentRules, OperationsArePlaced};
 
 /// Operands: values that stand in a temp already, and those that come into a new one.
@@ -93,6 +94,12 @@ pub fn operations_are_placed()
 #[tactic(auto, using(crate::proofs::Frames::frames_legal))]
 pub fn frames_hold_objects()
     ensures { FramesAreLegal }
+{}
+
+/// The end of a function, behind its body, goes back to the caller.
+#[tactic(auto, using(crate::proofs::Ends::functions_end))]
+pub fn functions_end()
+    ensures { FunctionsEnd }
 {}
 
 /// Code that the relation makes of expressions does what they mean, given calls, in a world that gives bytes.
