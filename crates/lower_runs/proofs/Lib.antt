@@ -27,6 +27,7 @@ pub mod Fills
 pub mod Placed
 pub mod Frames
 pub mod Ends
+pub mod Entries
 pub mod Bodies
 pub mod Switches
 pub mod Cases

@@ -494,13 +494,13 @@ module _ (ops : Operations Store) (placed : IsPlaced ops) (w : World) (t : Tac) 
   }
 
   -- a pointer to an object stands in its temp from here on
-  spot_here : (g : Scene) (n at : ℕ) → (with_spot n at g).spot n ≡ Some at
+  pub spot_here : (g : Scene) (n at : ℕ) → (with_spot n at g).spot n ≡ Some at
   spot_here g n at = let e : (n == n) ≡ true = grind (arith, nat_tests) in ap (λ b. if b then Some at else g.spot n) e
 
   some_spot : (i j : ℕ) → Some i ≡ Some j → i ≡ j
   some_spot i j e = cc
 
-  agrees_spot : (g : Scene) (n at : ℕ) → IsScene (with_spot n at g) → (s : State Store) (ts : List (Option Value)) →
+  pub agrees_spot : (g : Scene) (n at : ℕ) → IsScene (with_spot n at g) → (s : State Store) (ts : List (Option Value)) →
       Agrees ops g None s ts → Agrees ops (with_spot n at g) None s
       (slice_set ts at (Some (ops.whole s.mem (s.first + n) data_permissions)))
   agrees_spot g n at scene s ts a = record {

@@ -1,24 +1,29 @@
--- The end of a function: its code, and what it does.
-use Rattle.std.specs.Prelude.{◌≡◌, ℕ, ◌≤◌, ◌<◌, List, [], ◌∷◌, Option, Some, None}
+-- The entry and the end of a function: their code, and what it does.
+use Rattle.std.specs.Prelude.{◌≡◌, ℕ, ◌+◌, ◌≤◌, ◌<◌, ◌==◌, List, [], ◌∷◌, length, Option, Some, None, slice_get}
+use Rattle.std.specs.Prelude.{if◌then◌else◌}
 use Rattle.ck_base.specs.World.{World}
+use Rattle.ck_base.specs.declared.positions.Pos.{Pos}
 use Rattle.c_tree.specs.declared.typed.Typed.{Typed}
 use Rattle.obj_mem.specs.Values.{Value}
-use Rattle.cheri_c_sem.specs.Calls.{result_of, close, back}
+use Rattle.cheri_c_sem.specs.Calls.{pass, result_of, close, back}
 use Rattle.cheri_c_sem.specs.Modes.{Store}
 use Rattle.cheri_c_sem.specs.Operations.{Operations}
 use Rattle.cheri_c_sem.specs.Statements.{Flow}
 use Rattle.cheri_c_sem.specs.Steps.{State, Fate, Then, ◌>>=◌, ◌>>◌, give}
-use Rattle.cheri_c_sem.specs.Tree.{At_end, Gives_nothing, Gives_zero, Lacks, Fun}
+use Rattle.cheri_c_sem.specs.Tree.{Parameter, In_variable, In_object, At_end, Gives_nothing, Gives_zero, Lacks, Fun}
 use Rattle.tac_ir.specs.Effects.{kind_of}
-use Rattle.tac_ir.specs.Meaning.{Caller}
+use Rattle.tac_ir.specs.Meaning.{Caller, Running}
 use Rattle.tac_ir.specs.declared.code.Tac.{Tac}
 use Rattle.tac_ir.specs.declared.code.TacInstr.{TacInstr}
 use Rattle.tac_ir.specs.declared.code.TacInstr.TheVariants as instr
 use Rattle.tac_ir.specs.declared.code.TacKind.{TacKind}
-use Rattle.lower_runs.specs.States.{Scene, IsScene, IsOnward, IsPlaced}
+use Rattle.lower_runs.specs.States.{Home, Scene, IsScene, IsOnward, IsPlaced, Agrees}
+use Rattle.lower_runs.specs.Operating.{Code}
 use Rattle.lower_runs.specs.Expressions.{Signature, int_kind}
-use Rattle.lower_runs.specs.Following.{given_back, IsGiven, Follows}
-use Rattle.lower_runs.specs.Calling.{Back, backs}
+use Rattle.lower_runs.specs.Statements.{with_spot}
+use Rattle.lower_runs.specs.Simulation.{goes}
+use Rattle.lower_runs.specs.Following.{given_back, IsGiven, Came, Follows}
+use Rattle.lower_runs.specs.Calling.{AreOf, Back, backs}
 
 -- 0 or null of its kind, where the function gives a value
 abbrev pub end_code : Option TacKind → ℕ → List TacInstr
@@ -57,3 +62,41 @@ FunctionsEnd =
     k v u ≡ backs ops w t p objects call signs c cs (given_back (signs n).gives v) u)
     → Follows ops w t p objects (record { fun = n; callers = c ∷ cs }) call (signs n).gives g
     (record { breaks = None; continues = None }) (end_code (signs n).gives at) s (behind_body ops w f caller k)
+
+-- ---- the entry
+
+-- the value of a variable stands in a temp from here on
+abbrev pub with_home : ℕ → Home → Scene → Scene
+with_home x h g = record g { home = λ y. if y == x then Some h else g.home y }
+
+-- Parameters, from number i on, whose arguments are in the temps of these numbers: a variable has its home there; an
+-- object is entered, and the argument is stored in it
+pub data AreTaken (q : Pos) : Scene → ℕ → List Parameter → List TacKind → Scene → Code → Type 0 where
+  none : {g : Scene} {i : ℕ} → AreTaken q g i [] [] g (λ rest. rest)
+  variable : {g h : Scene} {i x : ℕ} {k : TacKind} {ps : List Parameter} {ks : List TacKind} {c : Code} →
+      IsScene (with_home x (record { temp = i; kind = k }) g) →
+      AreTaken q (with_home x (record { temp = i; kind = k }) g) (i + 1) ps ks h c →
+      AreTaken q g i (In_variable x ∷ ps) (k ∷ ks) h c
+  object : {g h : Scene} {i n at : ℕ} {k : TacKind} {ps : List Parameter} {ks : List TacKind} {c : Code} →
+      IsScene (with_spot n at g) → i + length (k ∷ ks) ≤ at →
+      AreTaken q (with_spot n at g) (i + 1) ps ks h c
+      → AreTaken q g i (In_object n (kind_of k) ∷ ps) (k ∷ ks) h
+      (λ rest. instr.Zero n ∷ instr.Local at n ∷ instr.Store at i k q ∷ c rest)
+
+-- arguments stand in the temps from number i on
+abbrev pub AreFrom : ℕ → List Value → List (Option Value) → Type 0
+AreFrom i [] us = Unit {0}
+AreFrom i (v ∷ vs) us = (slice_get us i ≡ Some (Some v)) × AreFrom (i + 1) vs us
+
+-- Arguments come into parameters as the code at a function's entry takes them
+abbrev pub ArgumentsAreTaken : Type 0
+ArgumentsAreTaken =
+    (ops : Operations Store) → IsPlaced ops →
+    (w : World) (t : Tac) (p : Typed) (objects : ℕ → List ℕ) (r : Running) (call : ℕ → List Value → Then Store Value)
+    (result : Option TacKind) (q : Pos) (g h : Scene) (i : ℕ) (ps : List Parameter) (ks : List TacKind) (c : Code) →
+    IsScene g → AreTaken q g i ps ks h c
+    → (s : State Store) (ts : List (Option Value)) (vs : List Value) (l : Unit {0} → State Store → Fate)
+    (rest : List TacInstr) → Agrees ops g None s ts → AreOf ks vs → AreFrom i vs ts
+    → ((u : State Store) (us : List (Option Value)) → Came ops w t p objects r call result s u →
+    Agrees ops h None u us → l tt u ≡ goes ops w t p objects r call h rest u us)
+    → pass ops w q ps vs s l ≡ goes ops w t p objects r call g (c rest) s ts

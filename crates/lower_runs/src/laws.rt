@@ -8,7 +8,7 @@ ghost use Rattle.lower_runs.specs.StatementLaws.{BlockRules, LoopRules};
 ghost use Rattle.lower_runs.specs.Result.{ExpressionsRun, StatementsAreRun};
 ghost use Rattle.lower_runs.specs.Laws.{Everywhere, OperandRules, ValueRules, LoadRules, PlaceRules, ConditionRules};
 ghost use Rattle.lower_runs.specs.Frames.{FramesAreLegal};
-ghost use Rattle.lower_runs.specs.Functions.{FunctionsEnd};
+ghost use Rattle.lower_runs.specs.Functions.{ArgumentsAreTaken, FunctionsEnd};
 ghost use Rattle.lower_runs.specs.Laws.{EffectRules, AssignmentRules, OperationsArePlaced};
 
 /// Operands: values that stand in a temp already, and those that come into a new one.
@@ -94,6 +94,11 @@ pub fn operations_are_placed()
 #[tactic(auto, using(crate::proofs::Frames::frames_legal))]
 pub fn frames_hold_objects()
     ensures { FramesAreLegal }
+{}
+
+/// Arguments come into parameters, that are variables or objects, at the entry of a function.
+pub fn arguments_are_taken()
+    ensures { ArgumentsAreTaken }
 {}
 
 /// The end of a function, behind its body, goes back to the caller.
