@@ -28,6 +28,7 @@ pub mod Placed
 pub mod Frames
 pub mod Ends
 pub mod Entries
+pub mod Functions
 pub mod Bodies
 pub mod Switches
 pub mod Cases

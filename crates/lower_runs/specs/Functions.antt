@@ -5,25 +5,27 @@ use Rattle.ck_base.specs.World.{World}
 use Rattle.ck_base.specs.declared.positions.Pos.{Pos}
 use Rattle.c_tree.specs.declared.typed.Typed.{Typed}
 use Rattle.obj_mem.specs.Values.{Value}
-use Rattle.cheri_c_sem.specs.Calls.{pass, result_of, close, back}
+use Rattle.cheri_c_sem.specs.Calls.{pass, result_of, close, back, in_frame}
 use Rattle.cheri_c_sem.specs.Modes.{Store}
 use Rattle.cheri_c_sem.specs.Operations.{Operations}
 use Rattle.cheri_c_sem.specs.Statements.{Flow}
 use Rattle.cheri_c_sem.specs.Steps.{State, Fate, Then, ◌>>=◌, ◌>>◌, give}
 use Rattle.cheri_c_sem.specs.Tree.{Parameter, In_variable, In_object, At_end, Gives_nothing, Gives_zero, Lacks, Fun}
 use Rattle.tac_ir.specs.Effects.{kind_of}
-use Rattle.tac_ir.specs.Meaning.{Caller, Running}
+use Rattle.tac_ir.specs.Meaning.{Caller, Running, kinds_of, code_of, name_of}
 use Rattle.tac_ir.specs.declared.code.Tac.{Tac}
 use Rattle.tac_ir.specs.declared.code.TacInstr.{TacInstr}
 use Rattle.tac_ir.specs.declared.code.TacInstr.TheVariants as instr
 use Rattle.tac_ir.specs.declared.code.TacKind.{TacKind}
-use Rattle.lower_runs.specs.States.{Home, Scene, IsScene, IsOnward, IsPlaced, Agrees}
+use Rattle.lower_runs.specs.States.{Home, Scene, IsScene, IsOnward, IsPlaced, Agrees, AreBytes}
+use Rattle.lower_runs.specs.Sound.{IsSound}
+use Rattle.lower_runs.specs.Frames.{HasFrames}
 use Rattle.lower_runs.specs.Operating.{Code}
-use Rattle.lower_runs.specs.Expressions.{Signature, int_kind}
-use Rattle.lower_runs.specs.Statements.{with_spot}
+use Rattle.lower_runs.specs.Expressions.{Mark, Signature, int_kind}
+use Rattle.lower_runs.specs.Statements.{with_spot, IsStatement}
 use Rattle.lower_runs.specs.Simulation.{goes}
 use Rattle.lower_runs.specs.Following.{given_back, IsGiven, Came, Follows}
-use Rattle.lower_runs.specs.Calling.{AreOf, Back, backs}
+use Rattle.lower_runs.specs.Calling.{AreOf, Back, backs, entered, CallsRun}
 
 -- 0 or null of its kind, where the function gives a value
 abbrev pub end_code : Option TacKind → ℕ → List TacInstr
@@ -100,3 +102,50 @@ ArgumentsAreTaken =
     → ((u : State Store) (us : List (Option Value)) → Came ops w t p objects r call result s u →
     Agrees ops h None u us → l tt u ≡ goes ops w t p objects r call h rest u us)
     → pass ops w q ps vs s l ≡ goes ops w t p objects r call g (c rest) s ts
+
+-- ---- functions
+
+-- At the entry no parameter has its place yet, and every other variable that is no object is 0 or null in its home
+pub record IsStart (kinds takes : List TacKind) (f : Fun) (limit : ℕ) (g : Scene) : Type 0 where
+  pub scene : IsScene g
+  pub size : g.size ≡ length kinds
+  pub count : g.count ≡ f.vars
+  pub objects : g.objects ≡ length f.objects
+  pub limited : g.limit ≡ limit
+  pub few : length takes ≤ length kinds
+  pub spots : (n t : ℕ) → g.spot n ≡ Some t → ⊥
+  pub homes : (x : ℕ) (h : Home) → g.home x ≡ Some h →
+      (length takes ≤ h.temp) × (slice_get kinds h.temp ≡ Some h.kind)
+
+-- The code of a function, by its number: it takes the arguments, goes through the body, and ends
+pub record IsFunction (p : Typed) (signs : ℕ → Signature) (t : Tac) (n : ℕ) (f : Fun) (limit : ℕ) : Type 0 where
+  pub entry : Scene
+  pub inner : Scene
+  pub take : Code
+  pub body : Code
+  pub from : Mark
+  pub to : Mark
+  pub start : IsStart (kinds_of (slice_get t.funs n)) (signs n).takes f limit entry
+  pub taken : AreTaken f.name entry 0 f.params (signs n).takes inner take
+  pub statement : IsStatement p signs (kinds_of (slice_get t.funs n)) (signs n).gives inner
+      (record { breaks = None; continues = None }) f.body from to body
+  pub low : entry.fixed ≤ from.temps
+  pub high : to.temps < entry.size
+  pub code : code_of (slice_get t.funs n) ≡ take (body (end_code (signs n).gives to.temps))
+  pub ends : IsEnd (signs n).gives f.at_end
+  pub name : name_of (slice_get t.funs n) ≡ f.name
+
+-- A function runs as its call means, given calls with fewer turns
+abbrev pub FunctionsRun : Type 0
+FunctionsRun =
+    (ops : Operations Store) → IsPlaced ops → (w : World) → AreBytes w →
+    (t : Tac) (p : Typed) (objects : ℕ → List ℕ) → HasFrames ops objects →
+    (call : ℕ → List Value → Then Store Value) (signs : ℕ → Signature) (funs : List Fun) (n : ℕ) (f : Fun)
+    (limit : ℕ) → f.objects ≡ objects n → IsFunction p signs t n f limit →
+    CallsRun ops w t p objects call signs limit →
+    (vs : List Value) (s : State Store) (c : Caller) (cs : List Caller) (k : Value → State Store → Fate) →
+    s.left ≤ limit → IsSound s.mem → s.frame ≤ ops.stack_top → AreOf (signs n).takes vs
+    → ((v : Value) (u : State Store) → IsGiven (signs n).gives v → Back ops w t p objects call signs s u →
+    k v u ≡ backs ops w t p objects call signs c cs (given_back (signs n).gives v) u)
+    → in_frame ops w funs call n (Some f) vs s k
+    ≡ entered ops w t p objects call signs (ops.enter n s.frame) n vs (record { fun = n; callers = c ∷ cs }) s
