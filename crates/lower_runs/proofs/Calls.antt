@@ -1,7 +1,8 @@
 -- Calls.
-use Rattle.std.proofs.Common.{◌≡◌, ℕ, zero, suc, ◌≤◌, Bool, true, false, List, [], ◌∷◌, map}
+use Rattle.std.proofs.Common.{◌≡◌, ℕ, zero, suc, ◌≤◌, ◌<◌, length, Bool, true, false, List, [], ◌∷◌, map}
 use Rattle.std.proofs.Common.{Option, Some, None, refl, sym, ap, subst, ◌∙◌, arith}
 use Rattle.std.specs.Prelude.{slice_get, slice_index_or, ◌&&◌}
+use Rattle.std.proofs.lemmas.List.{length-map}
 use Rattle.ck_base.specs.World.{World}
 use Rattle.ck_base.specs.declared.positions.Pos.{Pos}
 use Rattle.c_tree.specs.declared.typed.Typed.{Typed}
@@ -31,6 +32,11 @@ use Rattle.lower_runs.proofs.Agreement.{and_left, and_right, onward_then, agrees
 use Rattle.lower_runs.proofs.Agreement.{done_then}
 use Rattle.lower_runs.proofs.Labels.{nothing_own, both_own, then_own}
 use Rattle.lower_runs.proofs.Steps.{lands}
+
+index_there : (xs : List Bool) (i : ℕ) → slice_index_or xs i false ≡ true → i < length xs
+index_there [] i e = absurd cc
+index_there (x ∷ xs) zero e = omega arith
+index_there (x ∷ xs) (suc i) e = let lt = index_there xs i e in omega arith
 
 module _ (ops : Operations Store) (placed : IsPlaced ops) (w : World) (t : Tac) (p : Typed)
     (objects : ℕ → List ℕ) (call : ℕ → List Value → Then Store Value) (signs : ℕ → Signature) (r : Running) (g : Scene)
@@ -141,7 +147,8 @@ module _ (ops : Operations Store) (placed : IsPlaced ops) (w : World) (t : Tac) 
   caller u us rest to = record { fun = r.fun; vars = us; first = u.first; frame = u.frame; rest = rest; to = to }
 
   -- the turns of the call and of the return, and between them the function
-  passes : CallsRun ops w t p objects call signs g.limit → (f : ℕ) (k : Option TacKind) (ks : List TacKind) →
+  passes : CallsRun ops w t p objects call signs g.limit → (f : ℕ) → f < length p.funs →
+      (k : Option TacKind) (ks : List TacKind) →
       signs f ≡ record { gives = k; takes = ks } →
       (e : Ex) (to : Option ℕ) (m n : Mark) (s u : State Store) (ts us : List (Option Value)) (vs : List Value)
       (l : Value → State Store → Fate) (rest : List TacInstr) → IsAsked to k → IsTargetIfAny g m to → HasRoom g m n →
@@ -150,7 +157,7 @@ module _ (ops : Operations Store) (placed : IsPlaced ops) (w : World) (t : Tac) 
       Resulted ops w t p objects call signs r g k e to m s ts v z zs → l v z ≡ run rest z zs)
       → turn u (λ i x. call f vs x (λ v y. turn y (λ j. l v)))
       ≡ into ops w t p objects (behind_turn ops w t p objects u.left) rest f vs to r (record u { vars = us })
-  passes runs f k ks sign e to m n s u ts us vs l rest asked target room le typed d go = by u.left refl
+  passes runs f inside k ks sign e to m n s u ts us vs l rest asked target room le typed d go = by u.left refl
     where
       returned : (j : ℕ) → u.left ≡ suc j → (v : Value) (mem : Store) (i : ℕ) (dn : Rattle.ck_base.specs.World.Done) →
           IsGiven k v → IsOnward ops u.mem mem → i ≤ j
@@ -187,7 +194,7 @@ module _ (ops : Operations Store) (placed : IsPlaced ops) (w : World) (t : Tac) 
           stops (Some a) = refl
       by (suc j) is =
           runs.runs f vs (record u { left = j }) (caller u us rest to) r.callers (λ v y. turn y (λ q. l v))
-          (let lt = d.agrees.within in omega arith) d.agrees.sound d.agrees.high
+          inside (let lt = d.agrees.within in omega arith) d.agrees.sound d.agrees.high
           (subst (λ z. AreOf z vs) (sym (ap (λ z. z.takes) sign)) typed)
           (returns j is)
           ∙ starts (ops.enter f u.frame)
@@ -206,11 +213,12 @@ module _ (ops : Operations Store) (placed : IsPlaced ops) (w : World) (t : Tac) 
     -- what is called is a function that the call names
     pub named_call : (k : Option TacKind) (to : Option ℕ) (f : ℕ) (fitting : List Bool) (es : Exs) (ks : List TacKind)
         (ts : List ℕ) (q i j : Pos) (m n : Mark) (c : Code) → IsAsked to k → slice_index_or fitting f false ≡ true →
+        f < length p.funs →
         signs f ≡ record { gives = k; takes = ks }
         → Arguments_run es ks ts m n c →
         Call_runs k (Call q fitting (Pointer_to i None (Function j f)) es) to m n
         (λ rest. c (instr.Call to f ts ∷ rest))
-    named_call k to f fitting es ks ts q i j m n c asked fit sign h = record {
+    named_call k to f fitting es ks ts q i j m n c asked fit inside sign h = record {
       piece = then_own m n n c (λ rest. instr.Call to f ts ∷ rest) (omega arith) refl (λ o rest. refl) h.piece;
       runs = λ s temps l rest room target ag go.
           h.runs s temps (λ vs u. called ops w q fitting (value.Fun f) u
@@ -218,7 +226,8 @@ module _ (ops : Operations Store) (placed : IsPlaced ops) (w : World) (t : Tac) 
           (λ vs u us a.
           ap (λ z. choose z (give f) (ends (ending.Outside q)) u
           (λ o y. turn y (λ b x. call o vs x (λ v y2. turn y2 (λ b2. l v))))) fit
-          ∙ passes runs f k ks sign (Call q fitting (Pointer_to i None (Function j f)) es) to m n s u temps us vs l rest
+          ∙ passes runs f inside k ks sign (Call q fitting (Pointer_to i None (Function j f)) es) to m n s u temps us vs
+          l rest
           asked target room h.piece.temps a.typed a.done go
           ∙ ap (λ z. into ops w t p objects (behind_turn ops w t p objects u.left) rest f z to r
           (record u { vars = us })) (sym (arguments_are ts vs (record u { vars = us }) a.values)));
@@ -279,5 +288,7 @@ module _ (ops : Operations Store) (placed : IsPlaced ops) (w : World) (t : Tac) 
                 ≡ compatible ops w q o b (record z { vars = zs })
                 (λ i y. into ops w t p objects (behind_turn ops w t p objects z.left) rest i vs to r y)
             which false is = refl
-            which true is = passes runs o k ks (sign o is)
+            which true is = passes runs o
+                (subst (λ x. o < x) (length-map p.funs _) (index_there (fits p [] of) o is))
+                k ks (sign o is)
                 (Call q (fits p [] of) e es) to l n s z temps zs vs next rest asked target room le typed done go

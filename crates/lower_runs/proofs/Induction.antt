@@ -498,9 +498,9 @@ module _ (ops : Operations Store) (placed : IsPlaced ops) (world : World) (all :
           IsAsked i2 i0 → IsCall p signs (kinds ops world all p objects running call g) g i0 i1 i2 i3 i4 i5 →
           Call_runs i0 i1 i2 i3 i4 i5
       call_ok i0 i1 i2 i3 i4 i5 asked (call_named {k = k} {to = to} {f = f} {fitting = fitting} {es = es} {ks = ks}
-          {ts = ts} {q = q} {s = s} {u = u} {m = m} {n = n} {c = c} h0 h1 h2) =
+          {ts = ts} {q = q} {s = s} {u = u} {m = m} {n = n} {c = c} h0 inside h1 h2) =
           named_call ops placed world all p objects call signs running g scene calls k to f fitting es ks ts q s u m n c
-          asked h0 h1 (arguments_ok es ks ts m n c h2)
+          asked h0 inside h1 (arguments_ok es ks ts m n c h2)
       call_ok i0 i1 i2 i3 i4 i5 asked (call_by_value {k = k} {to = to} {v = v} {of = of} {e = e} {es = es} {ks = ks}
           {ts = ts} {q = q} {l = l} {m = m} {n = n} {c = c} {d = d} h0 h1 h2) =
           value_call_law ops placed world all p objects call signs running g scene calls k to v of e es ks ts q l m n c

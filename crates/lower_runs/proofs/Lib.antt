@@ -29,6 +29,7 @@ pub mod Frames
 pub mod Ends
 pub mod Entries
 pub mod Functions
+pub mod Called
 pub mod Bodies
 pub mod Switches
 pub mod Cases

@@ -1,6 +1,6 @@
 -- The simulation of calls: a call comes to what the code of the function comes to, from its entry on, in front of what
 -- the caller goes on with.
-use Rattle.std.specs.Prelude.{◌≡◌, ℕ, ◌≤◌, ◌<◌, List, [], ◌∷◌, Option, Some, None, slice_get}
+use Rattle.std.specs.Prelude.{◌≡◌, ℕ, ◌≤◌, ◌<◌, List, [], ◌∷◌, length, Option, Some, None, slice_get}
 use Rattle.ck_base.specs.World.{World}
 use Rattle.c_tree.specs.declared.typed.Typed.{Typed}
 use Rattle.obj_mem.specs.Values.{Value}
@@ -61,7 +61,7 @@ module _ (ops : Operations Store) (w : World) (t : Tac) (p : Typed) (objects : �
   pub record CallsRun (limit : ℕ) : Type 0 where
     pub runs : (f : ℕ) (vs : List Value) (s : State Store) (c : Caller) (cs : List Caller)
         (k : Value → State Store → Fate) →
-        s.left < limit → IsSound s.mem → s.frame ≤ ops.stack_top → AreOf (signs f).takes vs
+        f < length p.funs → s.left < limit → IsSound s.mem → s.frame ≤ ops.stack_top → AreOf (signs f).takes vs
         → ((v : Value) (u : State Store) → IsGiven (signs f).gives v → Back s u →
         k v u ≡ backs c cs (given_back (signs f).gives v) u)
         → call f vs s k ≡ entered (ops.enter f s.frame) f vs (record { fun = f; callers = c ∷ cs }) s

@@ -596,7 +596,7 @@ module _ (p : Typed) (signs : ℕ → Signature) (kinds : List TacKind) (g : Sce
     pub data IsCall : Option TacKind → Ex → Option ℕ → Mark → Mark → Code → Type 0 where
       call_named : {k : Option TacKind} {to : Option ℕ} {f : ℕ} {fitting : List Bool} {es : Exs} {ks : List TacKind}
           {ts : List ℕ} {q s u : Pos} {m n : Mark} {c : Code}
-          → slice_index_or fitting f false ≡ true → signs f ≡ record { gives = k; takes = ks } →
+          → slice_index_or fitting f false ≡ true → f < length p.funs → signs f ≡ record { gives = k; takes = ks } →
           IsArguments es ks ts m n c
           → IsCall k (Call q fitting (Pointer_to s None (Function u f)) es) to m n (λ r. c (instr.Call to f ts ∷ r))
       call_by_value : {k : Option TacKind} {to : Option ℕ} {v of : ℕ} {e : Ex} {es : Exs} {ks : List TacKind}

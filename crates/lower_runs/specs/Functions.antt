@@ -6,6 +6,7 @@ use Rattle.ck_base.specs.declared.positions.Pos.{Pos}
 use Rattle.c_tree.specs.declared.typed.Typed.{Typed}
 use Rattle.obj_mem.specs.Values.{Value}
 use Rattle.cheri_c_sem.specs.Calls.{pass, result_of, close, back, in_frame}
+use Rattle.cheri_c_sem.specs.Depth.{deep}
 use Rattle.cheri_c_sem.specs.Modes.{Store}
 use Rattle.cheri_c_sem.specs.Operations.{Operations}
 use Rattle.cheri_c_sem.specs.Statements.{Flow}
@@ -149,3 +150,14 @@ FunctionsRun =
     k v u ≡ backs ops w t p objects call signs c cs (given_back (signs n).gives v) u)
     → in_frame ops w funs call n (Some f) vs s k
     ≡ entered ops w t p objects call signs (ops.enter n s.frame) n vs (record { fun = n; callers = c ∷ cs }) s
+
+-- ---- all calls
+
+-- Where each function of a program has code that stands for it, calls as deep as the turns allow run
+abbrev pub CallsAreRun : Type 0
+CallsAreRun =
+    (ops : Operations Store) → IsPlaced ops → (w : World) → AreBytes w →
+    (t : Tac) (p : Typed) (objects : ℕ → List ℕ) → HasFrames ops objects → (signs : ℕ → Signature) (funs : List Fun)
+    → ((limit n : ℕ) → n < length p.funs → (f : Fun) × (slice_get funs n ≡ Some f) × (f.objects ≡ objects n) ×
+    IsFunction p signs t n f limit)
+    → (limit : ℕ) → CallsRun ops w t p objects (deep ops w funs) signs limit

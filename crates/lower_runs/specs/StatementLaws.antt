@@ -1,5 +1,6 @@
 -- The laws of statements, for each rule of the relation.
-use Rattle.std.specs.Prelude.{◌≡◌, ℕ, ◌+◌, ◌≤◌, slice_index_or, Bool, true, false, List, [], ◌∷◌, Option, Some, None}
+use Rattle.std.specs.Prelude.{◌≡◌, ℕ, ◌+◌, ◌≤◌, ◌<◌, length, slice_index_or, Bool, true, false, List, [], ◌∷◌, Option}
+use Rattle.std.specs.Prelude.{Some, None}
 use Rattle.ck_base.specs.World.{World}
 use Rattle.ck_base.specs.declared.positions.Pos.{Pos}
 use Rattle.c_tree.specs.declared.typed.Typed.{Typed}
@@ -158,7 +159,7 @@ module _ (ops : Operations Store) (w : World) (t : Tac) (p : Typed) (objects : �
     pub named : CallsRun ops w t p objects call signs g.limit →
         (k : Option TacKind) (to : Option ℕ) (f : ℕ) (fitting : List Bool) (es : Exs) (ks : List TacKind) (ts : List ℕ)
         (q i j : Pos) (m n : Mark) (c : Code) → IsAsked to k
-        → slice_index_or fitting f false ≡ true → signs f ≡ record { gives = k; takes = ks } →
+        → slice_index_or fitting f false ≡ true → f < length p.funs → signs f ≡ record { gives = k; takes = ks } →
         ArgumentsRun ops w t p objects call signs r g es ks ts m n c
         → CallRuns ops w t p objects call signs r g k (Call q fitting (Pointer_to i None (Function j f)) es) to m n
         (λ rest. c (instr.Call to f ts ∷ rest))

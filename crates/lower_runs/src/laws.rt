@@ -8,7 +8,7 @@ ghost use Rattle.lower_runs.specs.StatementLaws.{BlockRules, LoopRules};
 ghost use Rattle.lower_runs.specs.Result.{ExpressionsRun, StatementsAreRun};
 ghost use Rattle.lower_runs.specs.Laws.{Everywhere, OperandRules, ValueRules, LoadRules, PlaceRules, ConditionRules};
 ghost use Rattle.lower_runs.specs.Frames.{FramesAreLegal};
-ghost use Rattle.lower_runs.specs.Functions.{ArgumentsAreTaken, FunctionsEnd, FunctionsRun};
+ghost use Rattle.lower_runs.specs.Functions.{ArgumentsAreTaken, CallsAreRun, FunctionsEnd, FunctionsRun};
 ghost use Rattle.lower_runs.specs.Laws.{EffectRules, AssignmentRules, OperationsArePlaced};
 
 /// Operands: values that stand in a temp already, and those that come into a new one.
@@ -110,6 +110,11 @@ pub fn functions_end()
 /// A function runs as its call means, given calls with fewer turns.
 pub fn functions_run()
     ensures { FunctionsRun }
+{}
+
+/// Calls as deep as the turns allow do what the code of their functions does.
+pub fn calls_are_run()
+    ensures { CallsAreRun }
 {}
 
 /// Code that the relation makes of expressions does what they mean, given calls, in a world that gives bytes.

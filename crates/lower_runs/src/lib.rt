@@ -10,7 +10,7 @@
 mod laws;
 
 pub use laws::{
-    arguments_are_taken, assignments_run, blocks_are_entered, bodies_run, calls_run,
+    arguments_are_taken, assignments_run, blocks_are_entered, bodies_run, calls_are_run, calls_run,
     conditions_run, effects_run, expressions_run, frames_hold_objects, functions_end,
     functions_run, loads_run, loops_run, operands_run, operations_are_placed, places_run,
     statements_run, switch_bodies_run, values_run,
