@@ -3,8 +3,9 @@
 //! Promise: laws, for each rule by which lowering makes code: where the codes of the parts do what the parts mean, so
 //! does the whole, over all operations, in every world, and whatever follows. Definitions (`specs/`): the relation of
 //! trees and code in `Expressions`, `Statements` and `Operating`; the relation of states in `States` and `Sound`; the
-//! simulation in `Simulation`, `Following` and `Calling`; the results in `Laws`, `StatementLaws` and `Result`. Main
-//! lemmas (`proofs/`): `Agreement`, `Operands`, `Conditions`, `Places`, `Changes`, `Placed`.
+//! simulation in `Simulation`, `Following` and `Calling`; the results in `Laws`, `StatementLaws`, `Result`, `Frames` and
+//! `Functions`. Main lemmas (`proofs/`): `Agreement`, `Operands`, `Conditions`, `Places`, `Changes`, `Placed`,
+//! `Functions`.
 #![tactic(auto)]
 
 mod laws;
