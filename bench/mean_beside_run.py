@@ -9,20 +9,15 @@ import collections
 import sys
 import tempfile
 
-from calls import answer_of, each, parser, prepared
-from whole_against_gcc import STEPS, pair
+from calls import answer_of, each, prepared
+from whole_against_gcc import STEPS, pair, programs_parser
 
 TURNS = "10000000"
 OPEN = ("unspecified", "outside", "turns")
 
 
 def main():
-    words = parser(__doc__)
-    words.add_argument("count", nargs="?", type=int, default=100, metavar="COUNT")
-    words.add_argument("seed", nargs="?", type=int, default=1, metavar="SEED")
-    words.add_argument("--dense", action="store_true", help="dense expressions with side effects")
-    words.add_argument("--trap", action="store_true", help="a failing check in each program")
-    words = words.parse_args()
+    words = programs_parser(__doc__).parse_args()
     cheric = prepared(words.cheric)
 
     def compared(seed):

@@ -49,12 +49,18 @@ def by_cheric(cheric, work, text):
     return answer_of([cheric, "run", source, "--steps", STEPS], text.encode())
 
 
-def main():
-    words = parser(__doc__)
+def programs_parser(text):
+    """A command line that says which generated programs are taken: how many, from which seed on, and of which kind."""
+    words = parser(text)
     words.add_argument("count", nargs="?", type=int, default=100, metavar="COUNT")
     words.add_argument("seed", nargs="?", type=int, default=1, metavar="SEED")
     words.add_argument("--dense", action="store_true", help="dense expressions with side effects")
     words.add_argument("--trap", action="store_true", help="a failing check in each program")
+    return words
+
+
+def main():
+    words = programs_parser(__doc__)
     words.add_argument("--keep", metavar="FOLDER", help="where programs that are answered otherwise are put")
     words = words.parse_args()
     cheric = prepared(words.cheric)
