@@ -1,5 +1,6 @@
 -- The body of a function as it is run, and the function.
-use Rattle.std.proofs.Common.{◌≡◌, ℕ, suc, ◌+◌, ◌-◌, ◌<◌, List, [], ◌∷◌, ◌++◌, length, take, map, Some, refl, sym, ap}
+use Rattle.std.proofs.Common.{◌≡◌, ℕ, suc, ◌+◌, ◌-◌, ◌<◌, List, [], ◌∷◌, ◌++◌, length, get_or, take, map, Some, refl}
+use Rattle.std.proofs.Common.{sym, ap}
 use Rattle.std.proofs.Common.{subst, ◌∙◌, ⊎_elim, arith, length-append}
 use Rattle.std.specs.Prelude.{slice_get}
 use Rattle.std.proofs.lemmas.List.{map-append, take-map}
@@ -168,7 +169,7 @@ pub record FunctionSteps (w : Whole) (s : Source) (f g : FunDef) (n : Standing) 
   pub there : g.body < length new.stmts.items
   pub name : g.name ≡ f.name
   pub pos : g.pos ≡ f.pos
-  pub of : slice_get w.types.now.numbers.items f.of ≡ Some g.of
+  pub of : get_or w.types.now.numbers.items f.of 0 ≡ g.of
   pub params : g.params ≡ numbers_from 0 (length f.params + n.before)
   pub all : g.vars ≡ new.vars.items
 

@@ -69,12 +69,12 @@ hides_plainly s a b of p h q =
 
 -- the type that stands for a struct or union is itself
 pub number_same : (s : Source) (ts : List Ty) (e : Passing) (t n : ℕ) → Fits s ts e →
-    is_tagged (written_type s t) ≡ true → slice_get s.types.now.numbers.items t ≡ Some n →
+    is_tagged (written_type s t) ≡ true → get_or s.types.now.numbers.items t 0 ≡ n →
     type_at ts n ≡ written_type s t
 number_same s ts e t n fits b g = fits.types.numbers t n g ∙ tagged_same (written_type s t) b
 
 pub pointer_same : (s : Source) (ts : List Ty) (e : Passing) (t n : ℕ) → Fits s ts e →
-    is_tagged (written_type s t) ≡ true → slice_get s.types.now.pointers.items t ≡ Some n →
+    is_tagged (written_type s t) ≡ true → get_or s.types.now.pointers.items t 0 ≡ n →
     type_at ts n ≡ Pointer (written_type s t)
 pointer_same s ts e t n fits b g =
     fits.types.pointers t n g (tagged_goes (written_type s t) b) ∙ ap Pointer (tagged_bare (written_type s t) b)
@@ -87,7 +87,7 @@ pub hidden_tagged : (s : Source) (of t : ℕ) → IsHidden s of (Some t) → is_
 hidden_tagged s of t h = ap is_tagged h.1 ∙ h.0
 
 variable_same : (s : Source) (ts : List Ty) (e : Passing) (of t n : ℕ) (p : Pos) (v : VarDef) → Fits s ts e →
-    IsHidden s of (Some t) → slice_get s.types.now.numbers.items t ≡ Some n →
+    IsHidden s of (Some t) → get_or s.types.now.numbers.items t 0 ≡ n →
     v ≡ record { name = name_in s.names.now p; pos = p; of = n; simple = false } →
     variable_of ts v ≡ hidden e.names p (written_type s of)
 variable_same s ts e of t n p v fits h g q =
@@ -96,7 +96,7 @@ variable_same s ts e of t n p v fits h g q =
     rw (q, is, name) refl
 
 pub hides_one : (s : Source) (a b : Made) (of t n : ℕ) (p : Pos) (v : VarDef) → IsHidden s of (Some t) →
-    slice_get s.types.now.numbers.items t ≡ Some n →
+    get_or s.types.now.numbers.items t 0 ≡ n →
     v ≡ record { name = name_in s.names.now p; pos = p; of = n; simple = false } →
     b.vars.items ≡ a.vars.items ++ v ∷ [] → Hides s a b (λ names. hidden_for names p (written_type s of))
 hides_one s a b of t n p v h g q r = record {
@@ -152,7 +152,7 @@ join_made ts es fs d a b j x y q r o h i =
 -- an argument by a pointer: a value, the hidden local's place, the assignment, the address, and both together
 pub address_passed : (s : Source) (ts : List Ty) (e : Passing) (a b c d f : List Expr) (h value t n m : ℕ) (p : Pos)
     (k l i j : ℕ) (y : Term) → Fits s ts e → is_tagged (written_type s t) ≡ true →
-    slice_get s.types.now.numbers.items t ≡ Some n → slice_get s.types.now.pointers.items t ≡ Some m →
+    get_or s.types.now.numbers.items t 0 ≡ n → get_or s.types.now.pointers.items t 0 ≡ m →
     HasTerm ts a value y →
     b ≡ a ++ record { kind = exprs.Var h; of = n; pos = p } ∷ [] → k ≡ length a →
     c ≡ b ++ record { kind = exprs.Assign k value; of = n; pos = p } ∷ [] → l ≡ length b →
@@ -192,7 +192,7 @@ call_made ts es fs called of j list p f ys q r h i =
 -- a call with a result by a pointer: the call, the hidden local's place, and both together
 pub result_made : (s : Source) (ts : List Ty) (e : Passing) (a b c d : List Expr) (h called t n : ℕ) (list : List ℕ)
     (p : Pos) (k l j : ℕ) (f : Term) (ys : List Term) → Fits s ts e → is_tagged (written_type s t) ≡ true →
-    slice_get s.types.now.numbers.items t ≡ Some n → HasTerm ts a called f → HasTerms ts a list ys →
+    get_or s.types.now.numbers.items t 0 ≡ n → HasTerm ts a called f → HasTerms ts a list ys →
     b ≡ a ++ record { kind = exprs.Call called list; of = 0; pos = p } ∷ [] → k ≡ length a →
     c ≡ b ++ record { kind = exprs.Var h; of = n; pos = p } ∷ [] → l ≡ length b →
     d ≡ c ++ record { kind = exprs.Comma k l; of = n; pos = p } ∷ [] → j ≡ length c →

@@ -1,10 +1,10 @@
 -- The types of the program that is run, as they are added.
 use Rattle.std.proofs.Common.{◌≡◌, ℕ, zero, suc, ◌+◌, ◌<◌, ◌≤◌, Bool, true, false, List, [], ◌∷◌, ◌++◌, length, take}
-use Rattle.std.proofs.Common.{drop, map, Some, None, refl, sym, ap, subst, ◌∙◌, ◌⊎◌, inl, inr, ⊎_elim, arith}
+use Rattle.std.proofs.Common.{drop, get_or, map, Some, None, refl, sym, ap, subst, ◌∙◌, ◌⊎◌, inl, inr, ⊎_elim, arith}
 use Rattle.std.proofs.Common.{length-append, append_assoc}
 use Rattle.std.specs.Prelude.{slice_get, slice_index_or, Result, Ok, Err, IfOk, OnOk}
 use Rattle.ck_base.specs.declared.refusal.NoMemory.{NoMemory}
-use Rattle.std.proofs.lemmas.List.{append-nil, map-append, length-take-le, take-append-drop, get_or_past}
+use Rattle.std.proofs.lemmas.List.{append-nil, map-append, length-take-le, take-append-drop, take_more, get_or_past}
 use Rattle.std.proofs.lemmas.Option.{slice_get_within}
 use Rattle.ck_int.specs.declared.kinds.IntKind.{IntKind}
 use Rattle.c_tree.specs.declared.typed.CType.{CType}
@@ -13,9 +13,7 @@ use Rattle.c_tree.specs.declared.typed.Member.{Member}
 use Rattle.c_tree.specs.Types.{Ty, Void, Int, Cap, Pointer, Array, Tagged, Function, Const, Tys, also, bare, is_tagged}
 use Rattle.c_tree.specs.Views.{grow, type_from, type_at, types_of, tys, member_of}
 use Rattle.c_tree.specs.Passed.{by_pointer, passed, all_passed, passed_member, result_types}
-use Rattle.c_tree.proofs.Forest.{forest_reads}
-use Rattle.c_copy.specs.Copying.{AllBelow}
-use Rattle.c_copy.proofs.Copies.{at_seam, forest_front, grow-append, length-grow, map_seen}
+use Rattle.c_copy.proofs.Copies.{at_seam, forest_front, grow-append, length-grow}
 use Rattle.c_copy.proofs.Marking.{get-push}
 use Rattle.c_passing.specs.declared.types.Types.{Types}
 use Rattle.c_passing.specs.Numbered.{type_in, is_record, const_of, gives_of, IsGivenIn, IsBare, IsNumber, IsPointer}
@@ -31,17 +29,6 @@ type_seam cs c more = at_seam type_from Void cs c more
 
 pub type_kept : (cs more : List CType) (k : ℕ) → k < length cs → type_in (cs ++ more) k ≡ type_in cs k
 type_kept cs more k lt = forest_front type_from Void cs more k lt
-
--- a written type, whose parts stand before it
-pub record Reading (types : List CType) (i : ℕ) (c : CType) : Type 0 where
-  pub go : ℕ → Ty
-  pub before : (j : ℕ) → j < i → go j ≡ type_in types j
-  pub is : type_in types i ≡ type_from c go
-
-pub reading : (types : List CType) (i : ℕ) (c : CType) → slice_get types i ≡ Some c → Reading types i c
-reading types i c e =
-    let r = forest_reads type_from Void types i c e in
-    record { go = λ j. slice_index_or r.seen j Void; before = r.before; is = r.is }
 
 get-append : {A : Type 0} (xs ys : List A) (k : ℕ) (x : A) → slice_get (xs ++ ys) k ≡ Some x →
     (slice_get xs k ≡ Some x) ⊎ ((j : ℕ) × (slice_get ys j ≡ Some x))
@@ -279,22 +266,39 @@ tagged_bare (Const t) e = absurd cc
 
 -- ---- one type more
 
-number_more : (types list new cs : List CType) (k n : ℕ) → new ≡ list ++ cs → IsNumber types list k n →
-    IsNumber types new k n
-number_more types list new cs k n e h =
+get_front : {A : Type 0} (xs ys : List A) (k : ℕ) (x : A) → slice_get xs k ≡ Some x → slice_get (xs ++ ys) k ≡ Some x
+get_front [] ys k x e = absurd cc
+get_front (z ∷ xs) ys zero x e = e
+get_front (z ∷ xs) ys (suc k) x e = get_front xs ys k x e
+
+get_seam : {A : Type 0} (xs : List A) (x : A) → slice_get (xs ++ x ∷ []) (length xs) ≡ Some x
+get_seam [] x = refl
+get_seam (z ∷ xs) x = get_seam xs x
+
+kept_more : (types more : List CType) (c : CType) → IsKept types c → IsKept (types ++ more) c
+kept_more types more (ctypes.Struct tag ms) h = (h.0, get_front types more h.0 (ctypes.Struct tag ms) h.1)
+kept_more types more (ctypes.Union tag ms) h = (h.0, get_front types more h.0 (ctypes.Union tag ms) h.1)
+kept_more types more (ctypes.Incomplete tag) h = (h.0, get_front types more h.0 (ctypes.Incomplete tag) h.1)
+kept_more types more _ h = tt
+
+number_more : (types list new cs : List CType) (c : CType) (k n : ℕ) → k < length types → new ≡ list ++ cs →
+    IsNumber types list k n → IsNumber (types ++ c ∷ []) new k n
+number_more types list new cs c k n lt e h =
     rw e (record {
       there = let l = h.there in
           omega (arith, length-append list cs);
-      is = type_kept list cs n h.there ∙ h.is;
+      is = type_kept list cs n h.there ∙ h.is ∙ ap passed (sym (type_kept types (c ∷ []) k lt));
     })
 
-pointer_more : (types list new cs : List CType) (k n : ℕ) → new ≡ list ++ cs → IsPointer types list k n →
-    IsPointer types new k n
-pointer_more types list new cs k n e h =
+pointer_more : (types list new cs : List CType) (c : CType) (k n : ℕ) → k < length types → new ≡ list ++ cs →
+    IsPointer types list k n → IsPointer (types ++ c ∷ []) new k n
+pointer_more types list new cs c k n lt e h =
+    let same = type_kept types (c ∷ []) k lt in
     rw e (record {
       there = let l = h.there in
           omega (arith, length-append list cs);
-      is = λ b. type_kept list cs n h.there ∙ h.is b;
+      is = λ b. type_kept list cs n h.there ∙ h.is (ap by_pointer (sym same) ∙ b)
+          ∙ ap (λ t. Pointer (bare t)) (sym same);
     })
 
 void_more : (list new cs : List CType) → new ≡ list ++ cs → StartsVoid list → StartsVoid new
@@ -305,33 +309,71 @@ void_more list new cs e h =
       is = type_kept list cs 0 h.there ∙ h.is;
     })
 
-pushed_count : (xs ys : List ℕ) (n i : ℕ) → ys ≡ xs ++ n ∷ [] → length xs ≡ i → length ys ≡ i + 1
-pushed_count xs ys n i e l = rw e (omega (arith, length-append xs (n ∷ [])))
+-- `void` stands for it, and it goes by no pointer
+void_number : (types list : List CType) (k : ℕ) → type_in types k ≡ Void → StartsVoid list → IsNumber types list k 0
+void_number types list k e v = record { there = v.there; is = v.is ∙ ap passed (sym e) }
 
--- what holds of each number so far and of the one behind them holds of all
-each_pushed : (P : ℕ → ℕ → Type 0) (xs ys : List ℕ) (n i : ℕ) → ys ≡ xs ++ n ∷ [] → length xs ≡ i →
-    ((k m : ℕ) → slice_get xs k ≡ Some m → P k m) → P i n → (k m : ℕ) → slice_get ys k ≡ Some m → P k m
-each_pushed P xs ys n i e l h p k m g =
-    ⊎_elim (λ a. h k m a) (λ b. let q : k ≡ i = b.0 ∙ l in rw (q, ← b.1) p)
-    (get-push xs n k m (ap (λ zs. slice_get zs k) (sym e) ∙ g))
-
-pub follows_more : (types : List CType) (i : ℕ) (old new : Types) (cs : List CType) (n p : ℕ) → Follows types i old →
-    Keeps old new cs n p →
-    IsNumber types new.list.items i n → IsPointer types new.list.items i p →
-    ((k : ℕ) (c : CType) → slice_get cs k ≡ Some c → IsKept types c) → Follows types (i + 1) new
-follows_more types i old new cs n p f k a b h = record {
-  void = void_more old.list.items new.list.items cs k.list f.void;
-  number_count = pushed_count old.numbers.items new.numbers.items n i k.numbers f.number_count;
-  pointer_count = pushed_count old.pointers.items new.pointers.items p i k.pointers f.pointer_count;
-  numbers =
-      each_pushed (IsNumber types new.list.items) old.numbers.items new.numbers.items n i k.numbers f.number_count
-      (λ j m e. number_more types old.list.items new.list.items cs j m k.list (f.numbers j m e)) a;
-  pointers =
-      each_pushed (IsPointer types new.list.items) old.pointers.items new.pointers.items p i k.pointers f.pointer_count
-      (λ j m e. pointer_more types old.list.items new.list.items cs j m k.list (f.pointers j m e)) b;
-  kept = λ j c e. ⊎_elim (λ g. f.kept j c g) (λ g. h g.0 c g.1)
-      (get-append old.list.items cs j c (ap (λ zs. slice_get zs j) (sym k.list) ∙ e));
+no_pointer : (types list : List CType) (k n : ℕ) (t : Ty) → type_in types k ≡ t → by_pointer t ≡ false →
+    n < length list → IsPointer types list k n
+no_pointer types list k n t e b lt = record {
+  there = lt;
+  is = λ g. absurd (let q : by_pointer t ≡ true = ap by_pointer (sym e) ∙ g in cc);
 }
+
+past_more : (types : List CType) (c : CType) (k : ℕ) → length types < k → type_in (types ++ c ∷ []) k ≡ Void
+past_more types c k lt = type_past (types ++ c ∷ []) k (omega (arith, length-append types (c ∷ [])))
+
+pushed_count : (xs ys : List ℕ) (n : ℕ) (types : List CType) (c : CType) → ys ≡ xs ++ n ∷ [] →
+    length xs ≡ length types → length ys ≡ length (types ++ c ∷ [])
+pushed_count xs ys n types c e l =
+    rw e (omega (arith, length-append xs (n ∷ []), length-append types (c ∷ [])))
+
+-- a number of a list to which one was added
+number_split : (xs : List ℕ) (n k m : ℕ) → get_or (xs ++ n ∷ []) k 0 ≡ m →
+    ((k < length xs) × (get_or xs k 0 ≡ m)) ⊎ (((k ≡ length xs) × (n ≡ m)) ⊎ ((length xs < k) × (0 ≡ m)))
+number_split [] n zero m e = inr (inl (refl, e))
+number_split [] n (suc k) m e = inr (inr (omega arith, sym (get_or_past [] k 0 (omega arith)) ∙ e))
+number_split (x ∷ xs) n zero m e = inl (omega arith, e)
+number_split (x ∷ xs) n (suc k) m e =
+    ⊎_elim (λ a. inl (let l : k < length xs = a.0 in omega arith, a.1))
+    (λ b. inr (⊎_elim (λ a. inl (let q : k ≡ length xs = a.0 in omega arith, a.1))
+    (λ a. inr (let l : length xs < k = a.0 in omega arith, a.1)) b))
+    (number_split xs n k m e)
+
+-- what holds of each number so far, of the one behind them and of 0 holds of all
+each_number : (P : ℕ → ℕ → Type 0) (xs ys : List ℕ) (n i : ℕ) → ys ≡ xs ++ n ∷ [] → length xs ≡ i →
+    ((k m : ℕ) → k < i → get_or xs k 0 ≡ m → P k m) → P i n → ((k : ℕ) → i < k → P k 0) → (k m : ℕ) →
+    get_or ys k 0 ≡ m → P k m
+each_number P xs ys n i e l h p q k m g =
+    ⊎_elim (λ a. h k m (let z : k < length xs = a.0 in omega arith) a.1)
+    (λ b. ⊎_elim (λ a. let z : k ≡ i = a.0 ∙ l in rw (z, ← a.1) p)
+    (λ a. subst (P k) a.1 (q k (let z : length xs < k = a.0 in omega arith))) b)
+    (number_split xs n k m (ap (λ zs. get_or zs k 0) (sym e) ∙ g))
+
+pub follows_more : (types : List CType) (c : CType) (old new : Types) (cs : List CType) (n p : ℕ) → Follows types old →
+    Keeps old new cs n p → IsNumber (types ++ c ∷ []) new.list.items (length types) n →
+    IsPointer (types ++ c ∷ []) new.list.items (length types) p →
+    ((k : ℕ) (d : CType) → slice_get cs k ≡ Some d → IsKept (types ++ c ∷ []) d) → Follows (types ++ c ∷ []) new
+follows_more types c old new cs n p f k a b h =
+    let list = old.list.items in
+    let now = new.list.items in
+    let void = void_more list now cs k.list f.void in
+    record {
+      void = void;
+      number_count = pushed_count old.numbers.items new.numbers.items n types c k.numbers f.number_count;
+      pointer_count = pushed_count old.pointers.items new.pointers.items p types c k.pointers f.pointer_count;
+      numbers =
+          each_number (IsNumber (types ++ c ∷ []) now) old.numbers.items new.numbers.items n (length types) k.numbers
+          f.number_count (λ j m lt e. number_more types list now cs c j m lt k.list (f.numbers j m e)) a
+          (λ j lt. void_number (types ++ c ∷ []) now j (past_more types c j lt) void);
+      pointers =
+          each_number (IsPointer (types ++ c ∷ []) now) old.pointers.items new.pointers.items p (length types)
+          k.pointers f.pointer_count
+          (λ j m lt e. pointer_more types list now cs c j m lt k.list (f.pointers j m e)) b
+          (λ j lt. no_pointer (types ++ c ∷ []) now j 0 Void (past_more types c j lt) refl void.there);
+      kept = λ j d e. ⊎_elim (λ g. kept_more types (c ∷ []) d (f.kept j d g)) (λ g. h g.0 d g.1)
+          (get-append list cs j d (ap (λ zs. slice_get zs j) (sym k.list) ∙ e));
+    }
 
 none_kept : (types : List CType) (k : ℕ) (c : CType) → slice_get [] k ≡ Some c → IsKept types c
 none_kept types k c e = absurd cc
@@ -389,31 +431,30 @@ if_ok (Ok v) P Q f h = f v h
 if_ok (Err e) P Q f h = tt
 
 -- a type that is no struct or union
-pub plainly_follows : (types : List CType) (i : ℕ) (old new : Types) (c : CType) (t : Ty) → Follows types i old →
-    Keeps old new (c ∷ []) (length old.list.items) (length old.list.items) →
-    type_in types i ≡ t → type_from c (type_in old.list.items) ≡ passed t → by_pointer t ≡ false → IsKept types c →
-    Follows types (i + 1) new
-plainly_follows types i old new c t f k e is b h =
-    let l : length old.list.items < length (old.list.items ++ c ∷ []) =
-    omega (arith, length-append old.list.items (c ∷ [])) in
-    follows_more types i old new (c ∷ []) (length old.list.items) (length old.list.items) f k
-    (rw (k.list) (record { there = l; is = type_seam old.list.items c [] ∙ is ∙ ap passed (sym e) }))
-    (rw (k.list) (record {
-      there = l;
-      is = λ g. absurd (let q : by_pointer t ≡ true = ap by_pointer (sym e) ∙ g in cc);
-    }))
-    (one_kept types c h)
+pub plainly_follows : (types : List CType) (c : CType) (old new : Types) (d : CType) → Follows types old →
+    Keeps old new (d ∷ []) (length old.list.items) (length old.list.items) →
+    type_from d (type_in old.list.items) ≡ passed (type_from c (type_in types)) →
+    by_pointer (type_from c (type_in types)) ≡ false → IsKept (types ++ c ∷ []) d → Follows (types ++ c ∷ []) new
+plainly_follows types c old new d f k is b h =
+    let list = old.list.items in
+    let there : length list < length (list ++ d ∷ []) = omega (arith, length-append list (d ∷ [])) in
+    let seam = type_seam types c [] in
+    follows_more types c old new (d ∷ []) (length list) (length list) f k
+    (rw (k.list) (record { there = there; is = type_seam list d [] ∙ is ∙ ap passed (sym seam) }))
+    (rw (k.list) (no_pointer (types ++ c ∷ []) (list ++ d ∷ []) (length types) (length list)
+    (type_from c (type_in types)) seam b there))
+    (one_kept (types ++ c ∷ []) d h)
 
 -- a struct or union
-pub record_follows : (types : List CType) (i : ℕ) (old new : Types) (c : CType) (tag : ℕ) → Follows types i old →
+pub record_follows : (types : List CType) (c : CType) (old new : Types) (tag : ℕ) → Follows types old →
     Keeps old new (c ∷ ctypes.Pointer (length old.list.items) ∷ []) (length old.list.items)
     (length old.list.items + 1) →
-    ((go : ℕ → Ty) → type_from c go ≡ Tagged tag) → type_in types i ≡ Tagged tag → IsKept types c →
-    Follows types (i + 1) new
-record_follows types i old new c tag f k is e h =
+    ((go : ℕ → Ty) → type_from c go ≡ Tagged tag) → IsKept (types ++ c ∷ []) c → Follows (types ++ c ∷ []) new
+record_follows types c old new tag f k is h =
     let list = old.list.items in
     let n = length list in
     let p = ctypes.Pointer n in
+    let e : type_in (types ++ c ∷ []) (length types) ≡ Tagged tag = type_seam types c [] ∙ is (type_in types) in
     let both : list ++ c ∷ p ∷ [] ≡ (list ++ c ∷ []) ++ p ∷ [] = sym (append_assoc list (c ∷ []) (p ∷ [])) in
     let m : length (list ++ c ∷ []) ≡ n + 1 = omega (arith, length-append list (c ∷ [])) in
     let l : length (list ++ c ∷ p ∷ []) ≡ n + 2 = omega (arith, length-append list (c ∷ p ∷ [])) in
@@ -422,102 +463,87 @@ record_follows types i old new c tag f k is e h =
     let second : type_in (list ++ c ∷ p ∷ []) (n + 1) ≡ Pointer (Tagged tag) =
     ap (λ zs. type_in zs (n + 1)) both ∙ ap (λ j. type_in ((list ++ c ∷ []) ++ p ∷ []) j) (sym m)
     ∙ type_seam (list ++ c ∷ []) p [] ∙ ap Pointer inner in
-    follows_more types i old new (c ∷ p ∷ []) n (n + 1) f k
+    follows_more types c old new (c ∷ p ∷ []) n (n + 1) f k
     (rw (k.list) (record { there = omega arith; is = first ∙ ap passed (sym e) }))
     (rw (k.list) (record { there = omega arith; is = λ g. second ∙ ap (λ t. Pointer (bare t)) (sym e) }))
-    (two_kept types c n h)
+    (two_kept (types ++ c ∷ []) c n h)
+
+same_list : (xs ys : List CType) → ys ≡ xs ++ [] → xs ≡ ys
+same_list xs ys e = sym (e ∙ append-nil xs)
 
 -- a type of which no new one is made
-pub kept_follows : (types : List CType) (i : ℕ) (old new : Types) (n p : ℕ) → Follows types i old →
-    Keeps old new [] n p → IsNumber types old.list.items i n → IsPointer types old.list.items i p →
-    Follows types (i + 1) new
-kept_follows types i old new n p f k a b =
-    follows_more types i old new [] n p f k (number_more types old.list.items new.list.items [] i n k.list a)
-    (pointer_more types old.list.items new.list.items [] i p k.list b) (none_kept types)
+pub kept_follows : (types : List CType) (c : CType) (old new : Types) (n p : ℕ) → Follows types old →
+    Keeps old new [] n p → IsNumber (types ++ c ∷ []) old.list.items (length types) n →
+    IsPointer (types ++ c ∷ []) old.list.items (length types) p → Follows (types ++ c ∷ []) new
+kept_follows types c old new n p f k a b =
+    let same = same_list old.list.items new.list.items k.list in
+    follows_more types c old new [] n p f k
+    (subst (λ zs. IsNumber (types ++ c ∷ []) zs (length types) n) same a)
+    (subst (λ zs. IsPointer (types ++ c ∷ []) zs (length types) p) same b) (none_kept (types ++ c ∷ []))
 
 -- ---- each kind of type
 
-number_below : (types : List CType) (i : ℕ) (t : Types) (k n : ℕ) → Follows types i t →
-    slice_get t.numbers.items k ≡ Some n → k < i
-number_below types i t k n f e = let l = slice_get_within t.numbers.items k n e in let c = f.number_count in omega arith
-
-pointer_below : (types : List CType) (i : ℕ) (t : Types) (k n : ℕ) → Follows types i t →
-    slice_get t.pointers.items k ≡ Some n → k < i
-pointer_below types i t k n f e =
-    let l = slice_get_within t.pointers.items k n e in let c = f.pointer_count in omega arith
-
 pub adds_void : (types : List CType) (old new : Types) → Keeps old new [] 0 0 → AddsType types old new ctypes.Void
-adds_void types old new k = λ i f e.
-    let r = reading types i ctypes.Void e in
-    kept_follows types i old new 0 0 f k (record { there = f.void.there; is = f.void.is ∙ ap passed (sym r.is) })
-    (record {
-      there = f.void.there;
-      is = λ g. absurd (let q : by_pointer Void ≡ true = ap by_pointer (sym r.is) ∙ g in cc);
-    })
+adds_void types old new k = λ f.
+    let seam = type_seam types ctypes.Void [] in
+    kept_follows types ctypes.Void old new 0 0 f k
+    (void_number (types ++ ctypes.Void ∷ []) old.list.items (length types) seam f.void)
+    (no_pointer (types ++ ctypes.Void ∷ []) old.list.items (length types) 0 Void seam refl f.void.there)
 
-pub adds_pointer : (types : List CType) (old new : Types) (t n : ℕ) → slice_get old.numbers.items t ≡ Some n →
+pub adds_pointer : (types : List CType) (old new : Types) (t n : ℕ) → get_or old.numbers.items t 0 ≡ n →
     Keeps old new (ctypes.Pointer n ∷ []) (length old.list.items) (length old.list.items) →
     AddsType types old new (ctypes.Pointer t)
-adds_pointer types old new t n g k = λ i f e.
-    let r = reading types i (ctypes.Pointer t) e in
-    plainly_follows types i old new (ctypes.Pointer n) (Pointer (type_in types t)) f k
-    (r.is ∙ ap Pointer (r.before t (number_below types i old t n f g))) (ap Pointer (f.numbers t n g).is) refl tt
+adds_pointer types old new t n g k = λ f.
+    plainly_follows types (ctypes.Pointer t) old new (ctypes.Pointer n) f k (ap Pointer (f.numbers t n g).is) refl tt
 
-pub adds_tagged_pointer : (types : List CType) (old new : Types) (t n : ℕ) → slice_get old.pointers.items t ≡ Some n →
+pub adds_tagged_pointer : (types : List CType) (old new : Types) (t n : ℕ) → get_or old.pointers.items t 0 ≡ n →
     is_tagged (type_in types t) ≡ true → Keeps old new [] n n → AddsType types old new (ctypes.Pointer t)
-adds_tagged_pointer types old new t n g b k = λ i f e.
-    let r = reading types i (ctypes.Pointer t) e in
-    let is : type_in types i ≡ Pointer (type_in types t) =
-    r.is ∙ ap Pointer (r.before t (pointer_below types i old t n f g)) in
+adds_tagged_pointer types old new t n g b k = λ f.
+    let u = type_in types t in
+    let seam = type_seam types (ctypes.Pointer t) [] in
     let p = f.pointers t n g in
-    kept_follows types i old new n n f k (record {
+    kept_follows types (ctypes.Pointer t) old new n n f k (record {
       there = p.there;
-      is = p.is (tagged_goes (type_in types t) b) ∙ tagged_pointer (type_in types t) b
-          ∙ ap passed (sym is);
+      is = p.is (tagged_goes u b) ∙ tagged_pointer u b
+          ∙ ap passed (sym seam);
     })
-    (record {
-      there = p.there;
-      is = λ h. absurd (let q : by_pointer (Pointer (type_in types t)) ≡ true = ap by_pointer (sym is) ∙ h in cc);
-    })
+    (no_pointer (types ++ ctypes.Pointer t ∷ []) old.list.items (length types) n (Pointer u) seam refl p.there)
 
-pub adds_array : (types : List CType) (old new : Types) (t n m : ℕ) → slice_get old.numbers.items t ≡ Some n →
+pub adds_array : (types : List CType) (old new : Types) (t n m : ℕ) → get_or old.numbers.items t 0 ≡ n →
     Keeps old new (ctypes.Array n m ∷ []) (length old.list.items) (length old.list.items) →
     AddsType types old new (ctypes.Array t m)
-adds_array types old new t n m g k = λ i f e.
-    let r = reading types i (ctypes.Array t m) e in
-    plainly_follows types i old new (ctypes.Array n m) (Array (type_in types t) m) f k
-    (r.is ∙ ap (λ x. Array x m) (r.before t (number_below types i old t n f g)))
+adds_array types old new t n m g k = λ f.
+    plainly_follows types (ctypes.Array t m) old new (ctypes.Array n m) f k
     (ap (λ x. Array x m) (f.numbers t n g).is) refl tt
 
 const_goes : (t s : Ty) → by_pointer (Const t) ≡ true → (by_pointer t ≡ true → s ≡ Pointer (bare t)) →
     s ≡ Pointer (bare (Const t))
 const_goes t s e h = h (tagged_goes t e) ∙ ap Pointer (tagged_bare t e)
 
-pub adds_const : (types : List CType) (old new : Types) (t n p : ℕ) → slice_get old.numbers.items t ≡ Some n →
-    slice_get old.pointers.items t ≡ Some p → Keeps old new (ctypes.Const n ∷ []) (length old.list.items) p →
+pub adds_const : (types : List CType) (old new : Types) (t n p : ℕ) → get_or old.numbers.items t 0 ≡ n →
+    get_or old.pointers.items t 0 ≡ p → Keeps old new (ctypes.Const n ∷ []) (length old.list.items) p →
     AddsType types old new (ctypes.Const t)
-adds_const types old new t n p g h k = λ i f e.
+adds_const types old new t n p g h k = λ f.
     let list = old.list.items in
-    let r = reading types i (ctypes.Const t) e in
-    let is : type_in types i ≡ Const (type_in types t) =
-    r.is ∙ ap Const (r.before t (number_below types i old t n f g)) in
+    let d = ctypes.Const n in
+    let is : type_in (types ++ ctypes.Const t ∷ []) (length types) ≡ Const (type_in types t) =
+    type_seam types (ctypes.Const t) [] in
     let q = f.pointers t p h in
-    let there : length list < length (list ++ ctypes.Const n ∷ []) =
-    omega (arith, length-append list (ctypes.Const n ∷ [])) in
-    let within : p < length (list ++ ctypes.Const n ∷ []) = let l = q.there in omega (arith, length-append list (ctypes.Const n ∷ [])) in
-    follows_more types i old new (ctypes.Const n ∷ []) (length list) p f k
+    let there : length list < length (list ++ d ∷ []) = omega (arith, length-append list (d ∷ [])) in
+    let within : p < length (list ++ d ∷ []) = let l = q.there in omega (arith, length-append list (d ∷ [])) in
+    follows_more types (ctypes.Const t) old new (d ∷ []) (length list) p f k
     (rw (k.list) (record {
       there = there;
-      is = type_seam list (ctypes.Const n) [] ∙ ap Const (f.numbers t n g).is
+      is = type_seam list d [] ∙ ap Const (f.numbers t n g).is
           ∙ ap passed (sym is);
     }))
     (rw (k.list) (record {
       there = within;
-      is = λ b. type_kept list (ctypes.Const n ∷ []) p q.there
+      is = λ b. type_kept list (d ∷ []) p q.there
           ∙ const_goes (type_in types t) (type_in list p) (ap by_pointer (sym is) ∙ b) q.is
           ∙ ap (λ x. Pointer (bare x)) (sym is);
     }))
-    (one_kept types (ctypes.Const n) tt)
+    (one_kept (types ++ ctypes.Const t ∷ []) d tt)
 
 -- ---- functions
 
@@ -525,66 +551,42 @@ pub tys_passed : (ts : List Ty) → tys (map passed_parameter ts) ≡ all_passed
 tys_passed [] = refl
 tys_passed (t ∷ ts) = ap (λ us. also (passed_parameter t) us) (tys_passed ts)
 
-pub parameter_number : (types : List CType) (t : Types) (k n : ℕ) → slice_get t.numbers.items k ≡ Some n →
+pub parameter_number : (types : List CType) (t : Types) (k n : ℕ) → get_or t.numbers.items k 0 ≡ n →
     by_pointer (type_in types k) ≡ false → AreParameters types t (k ∷ []) [] (n ∷ [])
 parameter_number types t k n g b = record {
-  below = λ i f. one_below i k (number_below types i t k n f g);
-  are = λ i f. ap (λ x. x ∷ []) ((f.numbers k n g).is ∙ sym (by (type_in types k) b));
+  are = λ f. ap (λ x. x ∷ []) ((f.numbers k n g).is ∙ sym (by (type_in types k) b));
 }
   where
-    one_below : (i k : ℕ) → k < i → AllBelow i (k ∷ [])
-    one_below i k lt zero a e = let q : k ≡ a = cc in omega arith
-    one_below i k lt (suc j) a e = absurd cc
-
     by : (u : Ty) → by_pointer u ≡ false → passed_parameter u ≡ passed u
     by u e = rw e refl
 
-pub parameter_pointer : (types : List CType) (t : Types) (k n : ℕ) → slice_get t.pointers.items k ≡ Some n →
+pub parameter_pointer : (types : List CType) (t : Types) (k n : ℕ) → get_or t.pointers.items k 0 ≡ n →
     by_pointer (type_in types k) ≡ true → AreParameters types t (k ∷ []) [] (n ∷ [])
 parameter_pointer types t k n g b = record {
-  below = λ i f. one_below i k (pointer_below types i t k n f g);
-  are = λ i f. ap (λ x. x ∷ []) ((f.pointers k n g).is b ∙ sym (by (type_in types k) b));
+  are = λ f. ap (λ x. x ∷ []) ((f.pointers k n g).is b ∙ sym (by (type_in types k) b));
 }
   where
-    one_below : (i k : ℕ) → k < i → AllBelow i (k ∷ [])
-    one_below i k lt zero a e = let q : k ≡ a = cc in omega arith
-    one_below i k lt (suc j) a e = absurd cc
-
     by : (u : Ty) → by_pointer u ≡ true → passed_parameter u ≡ Pointer (bare u)
     by u e = rw e refl
 
 pub no_parameters : (types : List CType) (t : Types) (ns : List ℕ) → AreParameters types t [] ns ns
-no_parameters types t ns = record {
-  below = λ i f k a e. absurd cc;
-  are = λ i f. sym (append-nil (map (type_in t.list.items) ns));
-}
+no_parameters types t ns = record { are = λ f. sym (append-nil (map (type_in t.list.items) ns)) }
 
 -- one parameter more
 pub parameters_push : (types : List CType) (t : Types) (ks before now after : List ℕ) (k n : ℕ) →
     AreParameters types t ks before now → AreParameters types t (k ∷ []) [] (n ∷ []) → after ≡ now ++ n ∷ [] →
     AreParameters types t (ks ++ k ∷ []) before after
 parameters_push types t ks before now after k n h i e = record {
-  below = λ j f. below_both j ks k (h.below j f) (i.below j f);
-  are = λ j f.
+  are = λ f.
       let go = type_in t.list.items in
       let old = map go before in
       let us = map passed_parameter (map (type_in types) ks) in
-      ap (map go) e ∙ map-append go now (n ∷ []) ∙ ap (λ zs. zs ++ go n ∷ []) (h.are j f)
+      ap (map go) e ∙ map-append go now (n ∷ []) ∙ ap (λ zs. zs ++ go n ∷ []) (h.are f)
       ∙ append_assoc old us (go n ∷ [])
-      ∙ ap (λ zs. old ++ (us ++ zs)) (i.are j f)
+      ∙ ap (λ zs. old ++ (us ++ zs)) (i.are f)
       ∙ ap (λ zs. old ++ zs) (sym (ap (map passed_parameter) (map-append (type_in types) ks (k ∷ []))
       ∙ map-append passed_parameter (map (type_in types) ks) (type_in types k ∷ [])));
 }
-  where
-    below_both : (j : ℕ) (ks : List ℕ) (k : ℕ) → AllBelow j ks → AllBelow j (k ∷ []) → AllBelow j (ks ++ k ∷ [])
-    below_both j ks k h i m a e = ⊎_elim (λ g. h m a g) (λ g. i g.0 a g.1) (get-append ks (k ∷ []) m a e)
-
-function_read : (types : List CType) (i gives : ℕ) (ts : List ℕ) → slice_get types i ≡ Some (ctypes.Function gives ts) →
-    gives < i → AllBelow i ts → type_in types i ≡ Function (type_in types gives) (tys (map (type_in types) ts))
-function_read types i gives ts e lt b =
-    let r = reading types i (ctypes.Function gives ts) e in
-    r.is ∙ ap (λ x. Function x (tys (map r.go ts))) (r.before gives lt)
-    ∙ ap (λ us. Function (type_in types gives) (tys us)) (map_seen r.go (type_in types) ts i b r.before)
 
 passed_plainly : (r : Ty) (ps : Tys) → by_pointer r ≡ false →
     passed (Function r ps) ≡ Function (passed r) (all_passed ps)
@@ -595,32 +597,30 @@ passed_by_pointer : (r : Ty) (ps : Tys) → by_pointer r ≡ true →
 passed_by_pointer r ps e = rw e refl
 
 pub adds_function : (types : List CType) (old new : Types) (gives of : ℕ) (ts after : List ℕ) →
-    slice_get old.numbers.items gives ≡ Some of → by_pointer (type_in types gives) ≡ false →
+    get_or old.numbers.items gives 0 ≡ of → by_pointer (type_in types gives) ≡ false →
     AreParameters types old ts [] after →
     Keeps old new (ctypes.Function of after ∷ []) (length old.list.items) (length old.list.items) →
     AddsType types old new (ctypes.Function gives ts)
-adds_function types old new gives of ts after g b h k = λ i f e.
+adds_function types old new gives of ts after g b h k = λ f.
     let go = type_in old.list.items in
     let us = map (type_in types) ts in
-    let is = function_read types i gives ts e (number_below types i old gives of f g) (h.below i f) in
-    plainly_follows types i old new (ctypes.Function of after) (Function (type_in types gives) (tys us)) f k is
+    plainly_follows types (ctypes.Function gives ts) old new (ctypes.Function of after) f k
     (ap (λ x. Function x (tys (map go after))) (f.numbers gives of g).is
-    ∙ ap (λ zs. Function (passed (type_in types gives)) (tys zs)) (h.are i f)
+    ∙ ap (λ zs. Function (passed (type_in types gives)) (tys zs)) (h.are f)
     ∙ ap (Function (passed (type_in types gives))) (tys_passed us)
     ∙ sym (passed_plainly (type_in types gives) (tys us) b))
     refl tt
 
 pub adds_result : (types : List CType) (old new : Types) (gives p : ℕ) (ts after : List ℕ) →
-    slice_get old.pointers.items gives ≡ Some p → by_pointer (type_in types gives) ≡ true →
+    get_or old.pointers.items gives 0 ≡ p → by_pointer (type_in types gives) ≡ true →
     AreParameters types old ts (p ∷ []) after →
     Keeps old new (ctypes.Function 0 after ∷ []) (length old.list.items) (length old.list.items) →
     AddsType types old new (ctypes.Function gives ts)
-adds_result types old new gives p ts after g b h k = λ i f e.
+adds_result types old new gives p ts after g b h k = λ f.
     let go = type_in old.list.items in
     let us = map (type_in types) ts in
-    let is = function_read types i gives ts e (pointer_below types i old gives p f g) (h.below i f) in
-    plainly_follows types i old new (ctypes.Function 0 after) (Function (type_in types gives) (tys us)) f k is
-    (ap (λ x. Function x (tys (map go after))) f.void.is ∙ ap (λ zs. Function Void (tys zs)) (h.are i f)
+    plainly_follows types (ctypes.Function gives ts) old new (ctypes.Function 0 after) f k
+    (ap (λ x. Function x (tys (map go after))) f.void.is ∙ ap (λ zs. Function Void (tys zs)) (h.are f)
     ∙ ap (λ x. Function Void (also x (tys (map passed_parameter us)))) ((f.pointers gives p g).is b)
     ∙ ap (λ zs. Function Void (also (Pointer (bare (type_in types gives))) zs)) (tys_passed us)
     ∙ sym (passed_by_pointer (type_in types gives) (tys us) b))
@@ -632,52 +632,64 @@ pub adds_struct : (types : List CType) (old new : Types) (tag : ℕ) (ms : List 
     Keeps old new (ctypes.Struct tag ms ∷ ctypes.Pointer (length old.list.items) ∷ []) (length old.list.items)
     (length old.list.items + 1) → AddsType types old new (ctypes.Struct tag ms)
 adds_struct types old new tag ms k =
-    λ i f e. record_follows types i old new (ctypes.Struct tag ms) tag f k (λ go. refl)
-    (reading types i (ctypes.Struct tag ms) e).is (i, e)
+    λ f. record_follows types (ctypes.Struct tag ms) old new tag f k (λ go. refl)
+    (length types, get_seam types (ctypes.Struct tag ms))
 
 pub adds_union : (types : List CType) (old new : Types) (tag : ℕ) (ms : List Member) →
     Keeps old new (ctypes.Union tag ms ∷ ctypes.Pointer (length old.list.items) ∷ []) (length old.list.items)
     (length old.list.items + 1) → AddsType types old new (ctypes.Union tag ms)
 adds_union types old new tag ms k =
-    λ i f e. record_follows types i old new (ctypes.Union tag ms) tag f k (λ go. refl)
-    (reading types i (ctypes.Union tag ms) e).is (i, e)
+    λ f. record_follows types (ctypes.Union tag ms) old new tag f k (λ go. refl)
+    (length types, get_seam types (ctypes.Union tag ms))
 
 pub adds_incomplete : (types : List CType) (old new : Types) (tag : ℕ) →
     Keeps old new (ctypes.Incomplete tag ∷ ctypes.Pointer (length old.list.items) ∷ []) (length old.list.items)
     (length old.list.items + 1) → AddsType types old new (ctypes.Incomplete tag)
 adds_incomplete types old new tag k =
-    λ i f e. record_follows types i old new (ctypes.Incomplete tag) tag f k (λ go. refl)
-    (reading types i (ctypes.Incomplete tag) e).is (i, e)
+    λ f. record_follows types (ctypes.Incomplete tag) old new tag f k (λ go. refl)
+    (length types, get_seam types (ctypes.Incomplete tag))
 
 pub adds_int : (types : List CType) (old new : Types) (k : IntKind) (n : ℕ) →
     Keeps old new (ctypes.Int k n ∷ []) (length old.list.items) (length old.list.items) →
     AddsType types old new (ctypes.Int k n)
-adds_int types old new k n q =
-    λ i f e. plainly_follows types i old new (ctypes.Int k n) (Int k n) f q
-    (reading types i (ctypes.Int k n) e).is refl refl tt
+adds_int types old new k n q = λ f. plainly_follows types (ctypes.Int k n) old new (ctypes.Int k n) f q refl refl tt
 
 pub adds_cap : (types : List CType) (old new : Types) (s : Bool) →
     Keeps old new (ctypes.Cap s ∷ []) (length old.list.items) (length old.list.items) →
     AddsType types old new (ctypes.Cap s)
-adds_cap types old new s q =
-    λ i f e. plainly_follows types i old new (ctypes.Cap s) (Cap s) f q
-    (reading types i (ctypes.Cap s) e).is refl refl tt
+adds_cap types old new s q = λ f. plainly_follows types (ctypes.Cap s) old new (ctypes.Cap s) f q refl refl tt
 
 -- ---- all types
 
-pub starts : (types : List CType) (t : Types) → t.list.items ≡ ctypes.Void ∷ [] → t.numbers.items ≡ [] →
-    t.pointers.items ≡ [] → Follows types 0 t
-starts types t l n p = record {
-  void = rw l (record { there = omega arith; is = type_seam [] ctypes.Void [] });
-  number_count = ap length n;
-  pointer_count = ap length p;
-  numbers = λ k m e. absurd (let q : slice_get [] k ≡ Some m = ap (λ zs. slice_get zs k) (sym n) ∙ e in cc);
-  pointers = λ k m e. absurd (let q : slice_get [] k ≡ Some m = ap (λ zs. slice_get zs k) (sym p) ∙ e in cc);
-  kept = λ k c e. one_kept types ctypes.Void tt k c (ap (λ zs. slice_get zs k) (sym l) ∙ e);
-}
+pub starts : (t : Types) → t.list.items ≡ ctypes.Void ∷ [] → t.numbers.items ≡ [] → t.pointers.items ≡ [] → Follows [] t
+starts t l n p =
+    let void : StartsVoid t.list.items = rw l (record { there = omega arith; is = type_seam [] ctypes.Void [] }) in
+    let none : (k : ℕ) → type_in [] k ≡ Void = λ k. type_past [] k (omega arith) in
+    record {
+      void = void;
+      number_count = ap length n;
+      pointer_count = ap length p;
+      numbers = λ k m e. subst (IsNumber [] t.list.items k) (nothing k m (ap (λ zs. get_or zs k 0) (sym n) ∙ e))
+          (void_number [] t.list.items k (none k) void);
+      pointers = λ k m e. subst (IsPointer [] t.list.items k) (nothing k m (ap (λ zs. get_or zs k 0) (sym p) ∙ e))
+          (no_pointer [] t.list.items k 0 Void (none k) refl void.there);
+      kept = λ k c e. one_kept [] ctypes.Void tt k c (ap (λ zs. slice_get zs k) (sym l) ∙ e);
+    }
+  where
+    nothing : (k m : ℕ) → get_or [] k 0 ≡ m → 0 ≡ m
+    nothing k m e = sym (get_or_past [] k 0 (omega arith)) ∙ e
+
+-- one type more of the list
+pub types_turn : (types before : List CType) (i : ℕ) (c : CType) (now new : Types) → i < length types →
+    c ≡ get_or types i c → before ≡ take i types → AddsType before now new c → Follows (take i types) now →
+    Follows (take (i + 1) types) new
+types_turn types before i c now new lt e b add f =
+    let more : take (i + 1) types ≡ take i types ++ c ∷ [] =
+    take_more types i c lt ∙ ap (λ x. take i types ++ x ∷ []) (sym e) in
+    subst (λ zs. Follows zs new) (ap (λ zs. zs ++ c ∷ []) b ∙ sym more) (add (subst (λ zs. Follows zs now) (sym b) f))
 
 -- the list with members that have their types
-pub types_fit : (types : List CType) (t : Types) (new : List CType) → Follows types (length types) t →
+pub types_fit : (types : List CType) (t : Types) (new : List CType) → Follows types t →
     AreListed t.numbers.items t.list.items new → TypesFit types t (types_of new)
 types_fit types t new f a = record {
   void = ap (λ us. type_at us 0) a.types ∙ f.void.is;
@@ -688,7 +700,7 @@ types_fit types t new f a = record {
 -- ---- members
 
 pub members_push : (numbers : List ℕ) (ms ns after : List Member) (m : Member) (n : ℕ) → AreRenumbered numbers ms ns →
-    slice_get numbers m.of ≡ Some n → after ≡ ns ++ record { name = m.name; of = n } ∷ [] →
+    get_or numbers m.of 0 ≡ n → after ≡ ns ++ record { name = m.name; of = n } ∷ [] →
     AreRenumbered numbers (ms ++ m ∷ []) after
 members_push numbers ms ns after m n h g e = record {
   are = λ types ts fits.
@@ -740,12 +752,3 @@ listed_push numbers cs ds after c d l h i e = record {
       (λ b. (c, rw (b.0, ← l) (get_seam cs c), subst (IsWithMembers numbers c) b.1 i))
       (get-push ds d k x (ap (λ zs. slice_get zs k) (sym e) ∙ g));
 }
-  where
-    get_front : (xs ys : List CType) (k : ℕ) (x : CType) → slice_get xs k ≡ Some x → slice_get (xs ++ ys) k ≡ Some x
-    get_front [] ys k x e = absurd cc
-    get_front (z ∷ xs) ys zero x e = e
-    get_front (z ∷ xs) ys (suc k) x e = get_front xs ys k x e
-
-    get_seam : (xs : List CType) (x : CType) → slice_get (xs ++ x ∷ []) (length xs) ≡ Some x
-    get_seam [] x = refl
-    get_seam (z ∷ xs) x = get_seam xs x

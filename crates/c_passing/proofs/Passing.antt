@@ -71,7 +71,7 @@ pub expression_passed : (s : Source) (old mid new : Made) (k : ℕ) (e d : Expr)
     slice_get s.program.now.exprs k ≡ Some e → AllBelow k (operands e.kind) →
     calls (expr_shape (types_of s.program.now.types) e.kind) ≡ false →
     ArePassed s old mid (map (written_term s) (operands e.kind)) js → IsKindPassed s e.kind js d.kind →
-    slice_get s.types.now.numbers.items e.of ≡ Some d.of → d.pos ≡ e.pos →
+    get_or s.types.now.numbers.items e.of 0 ≡ d.of → d.pos ≡ e.pos →
     new.exprs.items ≡ mid.exprs.items ++ d ∷ [] → j ≡ length mid.exprs.items → IsPassed s old new (written_term s k) j
 expression_passed s old mid new k e d js j g b c h w t p q r = record {
   is = λ ts f fits.
@@ -247,7 +247,7 @@ written_call_is s k e f xs g b q =
     (written_type s e.of) e.pos) q
 
 pub plain_call_made : (s : Source) (old a new : Made) (e : Expr) (called own of : ℕ) (xs list : List ℕ) (j : ℕ) →
-    slice_get s.types.now.numbers.items e.of ≡ Some of → Extends old.exprs.items a.exprs.items →
+    get_or s.types.now.numbers.items e.of 0 ≡ of → Extends old.exprs.items a.exprs.items →
     ArePassedArguments s old a own e.pos (map (written_term s) xs) [] list →
     new.exprs.items ≡ a.exprs.items ++ record { kind = exprs.Call called list; of = of; pos = e.pos } ∷ [] →
     j ≡ length a.exprs.items → IsPlainCall s old new e called own xs j
@@ -267,8 +267,8 @@ plain_call_made s old a new e called own of xs list j g ext args q r = record {
 
 pub result_call_made : (s : Source) (old a b new : Made) (e : Expr) (called own hid t n m address : ℕ)
     (xs first list : List ℕ) (j : ℕ) → is_tagged (written_type s t) ≡ true →
-    slice_get s.types.now.numbers.items t ≡ Some n →
-    slice_get s.types.now.pointers.items t ≡ Some m → Extends old.exprs.items a.exprs.items → a.vars ≡ old.vars →
+    get_or s.types.now.numbers.items t 0 ≡ n →
+    get_or s.types.now.pointers.items t 0 ≡ m → Extends old.exprs.items a.exprs.items → a.vars ≡ old.vars →
     Makes a (λ ts. step tree.Address (leaf (tree.Var hid) (type_at ts n) e.pos) (type_at ts m) e.pos) address →
     first ≡ address ∷ [] → Extends a.exprs.items b.exprs.items →
     ArePassedArguments s a b own e.pos (map (written_term s) xs) first list →

@@ -1,5 +1,5 @@
 -- The whole program as it is run.
-use Rattle.std.proofs.Common.{◌≡◌, ℕ, List, [], ◌∷◌, ◌++◌, length, map, Some, refl, sym, ap, subst, ◌∙◌}
+use Rattle.std.proofs.Common.{◌≡◌, ℕ, List, [], ◌∷◌, ◌++◌, length, get_or, map, Some, refl, sym, ap, subst, ◌∙◌}
 use Rattle.std.specs.Prelude.{slice_get, option_map}
 use Rattle.std.proofs.lemmas.List.{append-nil, map-append}
 use Rattle.std.proofs.lemmas.Option.{slice_get-map}
@@ -32,7 +32,7 @@ use Rattle.c_passing.proofs.Numbering.{types_fit}
 
 -- ---- objects
 
-pub object_made : (numbers : List ℕ) (g h : GlobalDef) → slice_get numbers g.of ≡ Some h.of → h.name ≡ g.name →
+pub object_made : (numbers : List ℕ) (g h : GlobalDef) → get_or numbers g.of 0 ≡ h.of → h.name ≡ g.name →
     h.pos ≡ g.pos → h.bytes ≡ g.bytes → h.links ≡ g.links → IsObject numbers g h
 object_made numbers g h e n p b l = record {
   is = λ types ts fits.
@@ -61,12 +61,12 @@ with_tag : (tags : List Tag) (k : ℕ) (t : Tag) → slice_get tags k ≡ Some t
 with_tag tags k t e = slice_get-map passed_tag tags k ∙ ap (option_map passed_tag) e
 
 members_same : (numbers : List ℕ) (types ts : List Ty) (ms ns : List Member) → AreRenumbered numbers ms ns →
-    ((k n : ℕ) → slice_get numbers k ≡ Some n → type_at ts n ≡ passed (type_at types k)) →
+    ((k n : ℕ) → get_or numbers k 0 ≡ n → type_at ts n ≡ passed (type_at types k)) →
     passed_members (Some (map (member_of types) ms)) ≡ Some (map (member_of ts) ns)
 members_same numbers types ts ms ns h fits = ap Some (sym (h.are types ts fits))
 
 tag_agrees : (numbers : List ℕ) (types : List CType) (ts : List Ty) (tags : List Tag) (c d : CType) → IsKept types c →
-    IsWithMembers numbers c d → ((k n : ℕ) → slice_get numbers k ≡ Some n → type_at ts n ≡ passed (type_in types k)) →
+    IsWithMembers numbers c d → ((k n : ℕ) → get_or numbers k 0 ≡ n → type_at ts n ≡ passed (type_in types k)) →
     ((j : ℕ) (x : CType) → slice_get types j ≡ Some x → TagAgrees (types_of types) tags x) →
     TagAgrees ts (map passed_tag tags) d
 tag_agrees numbers types ts tags (ctypes.Struct tag ms) d (j, g) (ns, e, r) fits a =
@@ -102,7 +102,7 @@ pub record ProgramSteps (tree : Tree) (old new : Typed) (types : Types) (names :
   pub types_are : w.types.now ≡ types
   pub names_are : w.names.now ≡ names
   pub known : (x : Syn) → StandsAt tree.nodes tree.root x → Knows names (calls_in x)
-  pub follows : Follows old.types (length old.types) types
+  pub follows : Follows old.types types
   pub listed : AreListed types.numbers.items types.list.items new.types
   pub functions : AreFunctions w (map (written_routine w) old.funs) out new.funs
   pub objects : AreObjects types.numbers.items old.globals new.globals

@@ -32,8 +32,8 @@ pointed k pointer of p = λ ts. step tree.Deref
     (step tree.Load (leaf (tree.Var k) (type_at ts pointer) p) (type_at ts pointer) p) (type_at ts of) p
 
 pub behind_made : (s : Source) (ts : List Ty) (e : Passing) (a : Made) (k t n m : ℕ) (p : Pos) (j : ℕ) → Fits s ts e →
-    is_tagged (written_type s t) ≡ true → slice_get s.types.now.numbers.items t ≡ Some n →
-    slice_get s.types.now.pointers.items t ≡ Some m → Makes a (pointed k m n p) j →
+    is_tagged (written_type s t) ≡ true → get_or s.types.now.numbers.items t 0 ≡ n →
+    get_or s.types.now.pointers.items t 0 ≡ m → Makes a (pointed k m n p) j →
     HasTerm ts a.exprs.items j (behind k (written_type s t) p)
 behind_made s ts e a k t n m p j fits g u v h =
     let tn = number_same s ts e t n fits g u in
@@ -54,8 +54,8 @@ two_have ts es ss i j x y h g =
 -- the place, the assignment, and the three statements
 pub record GivesBack (s : Source) (old a b c d new : Made) (value t n m place assigned first second j : ℕ) (p : Pos) :
     Type 0 where
-  pub number : slice_get s.types.now.numbers.items t ≡ Some n
-  pub pointer : slice_get s.types.now.pointers.items t ≡ Some m
+  pub number : get_or s.types.now.numbers.items t 0 ≡ n
+  pub pointer : get_or s.types.now.pointers.items t 0 ≡ m
   pub extends : Extends old.exprs.items a.exprs.items
   pub behind : Makes a (pointed 0 m n p) place
   pub assign : b.exprs.items ≡ a.exprs.items ++ record { kind = exprs.Assign place value; of = n; pos = p } ∷ []
@@ -106,8 +106,8 @@ given_back_made s old a b c d new value t n m place assigned first second j p g 
 
 pub record CopiesParam (s : Source) (a b new : Made) (v : VarDef) (from to t n m place value j : ℕ) : Type 0 where
   pub bare : IsBare s.program.now.types v.of t
-  pub number : slice_get s.types.now.numbers.items t ≡ Some n
-  pub pointer : slice_get s.types.now.pointers.items t ≡ Some m
+  pub number : get_or s.types.now.numbers.items t 0 ≡ n
+  pub pointer : get_or s.types.now.pointers.items t 0 ≡ m
   pub behind : Makes a (pointed from m n v.pos) place
   pub load : b.exprs.items ≡ a.exprs.items ++ record { kind = exprs.Load place; of = n; pos = v.pos } ∷ []
   pub value_is : value ≡ length a.exprs.items

@@ -336,7 +336,7 @@ all_named w f locals s i hl past within h =
 
 -- ---- one variable as it is run
 
-pub local_run : (w : Whole) (v : VarDef) (n : ℕ) → slice_get w.types.now.numbers.items v.of ≡ Some n →
+pub local_run : (w : Whole) (v : VarDef) (n : ℕ) → get_or w.types.now.numbers.items v.of 0 ≡ n →
     IsRun w (record v { of = n }) (passed_variable (written_variable w v))
 local_run w v n g = record {
   is = λ ts f. ap (λ t. record (written_variable w v) { of = t })
@@ -344,7 +344,7 @@ local_run w v n g = record {
 }
 
 pub param_pointed : (w : Whole) (v : VarDef) (n : ℕ) → by_pointer (written_variable w v).of ≡ true →
-    slice_get w.types.now.pointers.items v.of ≡ Some n →
+    get_or w.types.now.pointers.items v.of 0 ≡ n →
     IsRun w (record v { of = n; simple = true }) (passed_param (written_variable w v))
 param_pointed w v n p g =
     record {
@@ -371,7 +371,7 @@ pub one_result : (w : Whole) (f : FunDef) (k : ℕ) → IsGivenIn w.program.now.
 one_result w f k h = ap (map (result_variable (written_routine w f))) h.0
 
 pub result_run : (w : Whole) (f : FunDef) (k n : ℕ) (xs ys : List VarDef) →
-    IsGivenIn w.program.now.types f.of (Some k) → slice_get w.types.now.pointers.items k ≡ Some n → xs ≡ [] →
+    IsGivenIn w.program.now.types f.of (Some k) → get_or w.types.now.pointers.items k 0 ≡ n → xs ≡ [] →
     ys ≡ xs ++ record { name = f.name; pos = f.pos; of = n; simple = true } ∷ [] →
     AreRun w ys (result_pointer (written_routine w f))
 result_run w f k n xs ys h g e q =

@@ -1,13 +1,12 @@
 -- What stands for the types of a program.
 use Rattle.std.specs.Prelude.{◌≡◌, ℕ, ◌+◌, ◌<◌, Bool, true, false, List, ◌∷◌, [], ◌++◌, length, map, Option, Some, None}
-use Rattle.std.specs.Prelude.{slice_get, if◌then◌else◌}
+use Rattle.std.specs.Prelude.{slice_get, slice_index, if◌then◌else◌}
 use Rattle.c_tree.specs.declared.typed.CType.{CType}
 use Rattle.c_tree.specs.declared.typed.CType.TheVariants as ctypes
 use Rattle.c_tree.specs.declared.typed.Member.{Member}
 use Rattle.c_tree.specs.Types.{Ty, Void, Pointer, bare, is_tagged}
 use Rattle.c_tree.specs.Views.{type_at, types_of, member_of}
 use Rattle.c_tree.specs.Passed.{by_pointer, passed, passed_member, result_types}
-use Rattle.c_copy.specs.Copying.{AllBelow}
 use Rattle.c_passing.specs.declared.types.Types.{Types}
 
 -- the type that a number names in a list
@@ -63,18 +62,18 @@ IsKept types (ctypes.Union tag ms) = (j : ℕ) × (slice_get types j ≡ Some (c
 IsKept types (ctypes.Incomplete tag) = (j : ℕ) × (slice_get types j ≡ Some (ctypes.Incomplete tag))
 IsKept types c = Unit {0}
 
--- what stands for the first so many written types
-pub record Follows (types : List CType) (i : ℕ) (t : Types) : Type 0 where
+-- what stands for some written types
+pub record Follows (types : List CType) (t : Types) : Type 0 where
   pub void : StartsVoid t.list.items
-  pub number_count : length t.numbers.items ≡ i
-  pub pointer_count : length t.pointers.items ≡ i
-  pub numbers : (k n : ℕ) → slice_get t.numbers.items k ≡ Some n → IsNumber types t.list.items k n
-  pub pointers : (k n : ℕ) → slice_get t.pointers.items k ≡ Some n → IsPointer types t.list.items k n
+  pub number_count : length t.numbers.items ≡ length types
+  pub pointer_count : length t.pointers.items ≡ length types
+  pub numbers : (k n : ℕ) → slice_index t.numbers.items k ≡ n → IsNumber types t.list.items k n
+  pub pointers : (k n : ℕ) → slice_index t.pointers.items k ≡ n → IsPointer types t.list.items k n
   pub kept : (k : ℕ) (c : CType) → slice_get t.list.items k ≡ Some c → IsKept types c
 
--- what stands for the next type, which is this one, comes behind
+-- what stands for one more, which is this one, comes behind
 abbrev pub AddsType : List CType → Types → Types → CType → Type 0
-AddsType types old new c = (i : ℕ) → Follows types i old → slice_get types i ≡ Some c → Follows types (i + 1) new
+AddsType types old new c = Follows types old → Follows (types ++ c ∷ []) new
 
 -- new types, and the numbers of what stands for one more written type
 pub record Keeps (old new : Types) (cs : List CType) (number pointer : ℕ) : Type 0 where
@@ -88,15 +87,14 @@ passed_parameter t = (if by_pointer t then Pointer (bare t) else passed t)
 
 -- numbers of what stands for parameters of types come behind others
 pub record AreParameters (types : List CType) (t : Types) (ks before after : List ℕ) : Type 0 where
-  pub below : (i : ℕ) → Follows types i t → AllBelow i ks
-  pub are : (i : ℕ) → Follows types i t →
+  pub are : Follows types t →
       map (type_in t.list.items) after ≡ map (type_in t.list.items) before
       ++ map passed_parameter (map (type_in types) ks)
 
 -- the members of a struct or union, with the numbers of what stands for their types
 pub record AreRenumbered (numbers : List ℕ) (ms ns : List Member) : Type 0 where
   pub are : (types ts : List Ty) →
-      ((k n : ℕ) → slice_get numbers k ≡ Some n → type_at ts n ≡ passed (type_at types k)) →
+      ((k n : ℕ) → slice_index numbers k ≡ n → type_at ts n ≡ passed (type_at types k)) →
       map (member_of ts) ns ≡ map passed_member (map (member_of types) ms)
 
 abbrev pub IsWithMembers : List ℕ → CType → CType → Type 0
@@ -115,6 +113,6 @@ pub record AreListed (numbers : List ℕ) (list new : List CType) : Type 0 where
 -- the types of the program that is run, for all written ones
 pub record TypesFit (types : List CType) (t : Types) (ts : List Ty) : Type 0 where
   pub void : type_at ts 0 ≡ Void
-  pub numbers : (k n : ℕ) → slice_get t.numbers.items k ≡ Some n → type_at ts n ≡ passed (type_in types k)
-  pub pointers : (k n : ℕ) → slice_get t.pointers.items k ≡ Some n → by_pointer (type_in types k) ≡ true →
+  pub numbers : (k n : ℕ) → slice_index t.numbers.items k ≡ n → type_at ts n ≡ passed (type_in types k)
+  pub pointers : (k n : ℕ) → slice_index t.pointers.items k ≡ n → by_pointer (type_in types k) ≡ true →
       type_at ts n ≡ Pointer (bare (type_in types k))

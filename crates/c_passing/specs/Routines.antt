@@ -1,6 +1,6 @@
 -- What is made of a function, and of a program.
 use Rattle.std.specs.Prelude.{◌≡◌, ℕ, ◌+◌, ◌-◌, ◌<◌, ◌≤◌, List, ◌++◌, length, map, take, drop, flat_map, Some}
-use Rattle.std.specs.Prelude.{slice_get}
+use Rattle.std.specs.Prelude.{slice_get, slice_index}
 use Rattle.ck_base.specs.declared.positions.Pos.{Pos}
 use Rattle.c_tree.specs.declared.syntax.Tree.{Tree}
 use Rattle.c_tree.specs.declared.typed.Expr.{Expr}
@@ -138,12 +138,12 @@ pub record AreFunctions (w : Whole) (rs : List Routine) (new : Made) (fs : List 
 
 -- an object with its type as it is run
 pub record IsObject (numbers : List ℕ) (old new : GlobalDef) : Type 0 where
-  pub is : (types ts : List Ty) → ((k n : ℕ) → slice_get numbers k ≡ Some n → type_at ts n ≡ passed (type_at types k)) →
+  pub is : (types ts : List Ty) → ((k n : ℕ) → slice_index numbers k ≡ n → type_at ts n ≡ passed (type_at types k)) →
       object_of ts new ≡ passed_object (object_of types old)
 
 pub record AreObjects (numbers : List ℕ) (old new : List GlobalDef) : Type 0 where
   pub are : (types ts : List Ty) →
-      ((k n : ℕ) → slice_get numbers k ≡ Some n → type_at ts n ≡ passed (type_at types k)) →
+      ((k n : ℕ) → slice_index numbers k ≡ n → type_at ts n ≡ passed (type_at types k)) →
       map (object_of ts) new ≡ map passed_object (map (object_of types) old)
 
 -- The program that is run stands for the passed one, where the calls have the names that the syntax gives them

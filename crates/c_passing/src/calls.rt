@@ -33,7 +33,7 @@ pub(crate) fn hide(source: &Source<'_>, of: u32, pos: Pos, out: &mut Made) -> Re
     match hidden_type(source, of) {
         None => Ok(()),
         Some(t) => {
-            let of = source.types.number(t)?;
+            let of = source.types.number(t);
             out.push_var(VarDef {
                 name: source.names.name(pos),
                 pos,
@@ -76,8 +76,8 @@ pub(crate) fn by_address(
     ensures rest { OnOk result (out.new ≡ record out.old { exprs = out.new.exprs }) }
     ensures is { IfOk result (IsByAddress source.now out.old out.new h value t pos) }
 {
-    let of = source.types.number(t)?;
-    let pointer = source.types.pointer(t)?;
+    let of = source.types.number(t);
+    let pointer = source.types.pointer(t);
     let place = out.push_expr(ExprKind::Var(h), of, pos)?;
     let assigned = out.push_expr(ExprKind::Assign(place, value), of, pos)?;
     let address = out.address(h, pointer, of, pos)?;
@@ -99,7 +99,7 @@ pub(crate) fn by_result(
     ensures rest { OnOk result (out.new ≡ record out.old { exprs = out.new.exprs }) }
     ensures is { IfOk result (IsByResult source.now out.old out.new h called list.items t pos) }
 {
-    let of = source.types.number(t)?;
+    let of = source.types.number(t);
     let kind = ExprKind::Call(called, Sequence::from_vec(list));
     let call = out.push_expr(kind, VOID, pos)?;
     let place = out.push_expr(ExprKind::Var(h), of, pos)?;

@@ -33,7 +33,7 @@ fn kind_with(source: &Source<'_>, kind: &ExprKind, xs: &[u32]) -> Result<ExprKin
         }
         ExprKind::Compound(o, _, _, of) => {
             let (a, b) = two(xs);
-            let of = source.types.number(*of)?;
+            let of = source.types.number(*of);
             Ok(ExprKind::Compound(*o, a, b, of))
         }
         _ => inner_with(source.alloc, kind, xs),
@@ -91,7 +91,7 @@ fn call_plainly(
 {
     let mut list = Vec::new(source.alloc);
     arguments(source, own, xs, e.pos, out, &mut list)?;
-    let of = source.types.number(e.of)?;
+    let of = source.types.number(e.of);
     let kind = ExprKind::Call(called, Sequence::from_vec(list));
     out.push_expr(kind, of, e.pos)
 }
@@ -115,8 +115,8 @@ fn call_by_result(
         (λ names. hidden_in_each names (map (written_term source.now) xs.now))) }
     ensures is { IfOk result (IsCallByResult source.now out.old out.new e.now called own hidden t xs.now) }
 {
-    let of = source.types.number(t)?;
-    let pointer = source.types.pointer(t)?;
+    let of = source.types.number(t);
+    let pointer = source.types.pointer(t);
     let address = out.address(hidden, pointer, of, e.pos)?;
     let mut list = Vec::new(source.alloc);
     list.push(address)?;
@@ -161,7 +161,7 @@ pub(crate) fn expression(source: &Source<'_>, k: u32, out: &mut Made) -> Result<
         _ => {
             let js = expressions(source, ks.as_slice(), out)?;
             let kind = kind_with(source, &e.kind, js.as_slice())?;
-            let of = source.types.number(e.of)?;
+            let of = source.types.number(e.of);
             out.push_expr(kind, of, e.pos)
         }
     }

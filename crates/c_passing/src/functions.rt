@@ -51,24 +51,24 @@ impl Standing {
     }
 }
 
-fn retyped(whole: &Whole<'_>, v: VarDef) -> Result<VarDef, NoMemory>
-    ensures { IfOk result (λ w. IsRun whole.now w (passed_variable (written_variable whole.now v))) }
+fn retyped(whole: &Whole<'_>, v: VarDef) -> VarDef
+    ensures { IsRun whole.now result (passed_variable (written_variable whole.now v)) }
 {
-    let of = whole.types.number(v.of)?;
-    Ok(VarDef { of, ..v })
+    let of = whole.types.number(v.of);
+    VarDef { of, ..v }
 }
 
 // A parameter as it is run.
-fn passed(whole: &Whole<'_>, v: VarDef) -> Result<VarDef, NoMemory>
-    ensures { IfOk result (λ w. IsRun whole.now w (passed_param (written_variable whole.now v))) }
+fn passed(whole: &Whole<'_>, v: VarDef) -> VarDef
+    ensures { IsRun whole.now result (passed_param (written_variable whole.now v)) }
 {
     if by_pointer(whole.program.types.as_slice(), v.of) {
-        let of = whole.types.pointer(v.of)?;
-        Ok(VarDef {
+        let of = whole.types.pointer(v.of);
+        VarDef {
             of,
             simple: true,
             ..v
-        })
+        }
     } else {
         retyped(whole, v)
     }
@@ -83,7 +83,7 @@ fn result_pointer(whole: &Whole<'_>, f: &FunDef, vars: &mut Vec<VarDef>) -> Resu
     match given_by_pointer(whole.program.types.as_slice(), f.of) {
         None => Ok(0),
         Some(gives) => {
-            let of = whole.types.pointer(gives)?;
+            let of = whole.types.pointer(gives);
             vars.push(VarDef {
                 name: f.name,
                 pos: f.pos,
@@ -104,7 +104,7 @@ fn params_as_run(
         AreRun whole.now vars.new.items (vs ++ map passed_param (map (written_variable whole.now) params.now))) }
 {
     for v in params {
-        let v = passed(whole, *v)?;
+        let v = passed(whole, *v);
         vars.push(v)?;
     }
     Ok(())
@@ -116,7 +116,7 @@ fn add_param(whole: &Whole<'_>, v: VarDef, k: u32, into: &mut Standing) -> Resul
 {
     if by_pointer(whole.program.types.as_slice(), v.of) {
         let at = into.next_var()?;
-        let local = retyped(whole, v)?;
+        let local = retyped(whole, v);
         into.vars.push(local)?;
         into.copied = after(into.copied)?;
         into.numbers.push(at)?;
@@ -149,7 +149,7 @@ fn other_locals(whole: &Whole<'_>, locals: &[VarDef], into: &mut Standing) -> Re
 {
     for v in locals {
         let at = into.next_var()?;
-        let local = retyped(whole, *v)?;
+        let local = retyped(whole, *v);
         into.vars.push(local)?;
         into.numbers.push(at)?;
     }
@@ -201,8 +201,8 @@ fn param_copy(
     ensures is { IfOk result (IsParamCopy source.now out.old out.new v from to) }
 {
     let t = bare(source.written_types(), v.of);
-    let of = source.types.number(t)?;
-    let pointer = source.types.pointer(t)?;
+    let of = source.types.number(t);
+    let pointer = source.types.pointer(t);
     let place = out.behind(from, pointer, of, v.pos)?;
     let value = out.push_expr(ExprKind::Load(place), of, v.pos)?;
     let kind = StmtKind::Init {
@@ -344,7 +344,7 @@ pub(crate) fn function(whole: &Whole<'_>, f: &FunDef, out: &mut Made) -> Result<
     let written = count(f.params.as_slice().len())?;
     let params = sum(written, before)?;
     let params = numbers_below(whole.alloc, params)?;
-    let of = whole.types.number(f.of)?;
+    let of = whole.types.number(f.of);
     let vars = std::mem::replace(&mut out.vars, Vec::new(whole.alloc));
     Ok(FunDef {
         name: f.name,

@@ -31,7 +31,7 @@ fn functions(whole: &Whole<'_>, out: &mut Made) -> Result<Vec<FunDef>, NoMemory>
 fn object(alloc: Global, numbers: &[u32], g: &GlobalDef) -> Result<GlobalDef, NoMemory>
     ensures { IfOk result (IsObject numbers.now g.now) }
 {
-    let of = number_in(numbers, g.of)?;
+    let of = number_in(numbers, g.of);
     let bytes = Vec::from_slice(alloc, g.bytes.as_slice())?;
     let links = Vec::from_slice(alloc, g.links.as_slice())?;
     Ok(GlobalDef {

@@ -105,8 +105,8 @@ fn give_back(
     ensures vars { OnOk result (out.new.vars ≡ out.old.vars) }
     ensures is { IfOk result (IsGivenBack source.now out.old out.new value t pos) }
 {
-    let of = source.types.number(t)?;
-    let pointer = source.types.pointer(t)?;
+    let of = source.types.number(t);
+    let pointer = source.types.pointer(t);
     let place = out.behind(0, pointer, of, pos)?;
     let assigned = out.push_expr(ExprKind::Assign(place, value), of, pos)?;
     let first = out.push_stmt(StmtKind::Expr(assigned), pos)?;

@@ -1,7 +1,7 @@
 //! The types of the program that is run.
 
 ghost use Rattle.std.specs.Prelude.{◌≡◌, ◌≤◌, ◌++◌, ◌∷◌, ◌+◌, [], List, Some, IfOk, IfSome, IfNone, OnOk, length};
-ghost use Rattle.std.specs.Prelude.{slice_get};
+ghost use Rattle.std.specs.Prelude.{slice_get, slice_index};
 ghost use Rattle.c_tree.specs.declared.typed.CType.{CType as Written};
 ghost use Rattle.c_tree.specs.declared.typed.CType.TheVariants as ctypes;
 ghost use Rattle.c_tree.specs.Types.{is_tagged};
@@ -145,12 +145,14 @@ pub(crate) fn given_by_pointer(types: &[CType], k: u32) -> Option<u32>
     }
 }
 
-pub(crate) fn number_in(numbers: &[u32], k: u32) -> Result<u32, NoMemory>
-    ensures { IfOk result (λ n. slice_get numbers.now k ≡ Some n) }
+/// What stands for the type with a number: `void` where there is no such type.
+pub(crate) fn number_in(numbers: &[u32], k: u32) -> u32
+    ensures { slice_index numbers.now k ≡ result }
 {
-    match numbers.get(k as usize).copied() {
-        Some(n) => Ok(n),
-        None => Err(NoMemory),
+    if (k as usize) < numbers.len() {
+        numbers[k as usize]
+    } else {
+        VOID
     }
 }
 
@@ -159,7 +161,7 @@ fn members_of(alloc: Global, numbers: &[u32], members: &[Member]) -> Result<Vec<
 {
     let mut list = Vec::new(alloc);
     for m in members {
-        let of = number_in(numbers, m.of)?;
+        let of = number_in(numbers, m.of);
         list.push(Member { name: m.name, of })?;
     }
     Ok(list)
@@ -174,15 +176,15 @@ fn same_members(alloc: Global, members: &[Member]) -> Result<Vec<Member>, NoMemo
 
 impl Types {
     /// The number that stands for a type.
-    pub(crate) fn number(&self, k: u32) -> Result<u32, NoMemory>
-        ensures { IfOk result (λ n. slice_get self.now.numbers.items k ≡ Some n) }
+    pub(crate) fn number(&self, k: u32) -> u32
+        ensures { slice_index self.now.numbers.items k ≡ result }
     {
         number_in(self.numbers.as_slice(), k)
     }
 
     /// The number of the pointer to a struct or union.
-    pub(crate) fn pointer(&self, k: u32) -> Result<u32, NoMemory>
-        ensures { IfOk result (λ n. slice_get self.now.pointers.items k ≡ Some n) }
+    pub(crate) fn pointer(&self, k: u32) -> u32
+        ensures { slice_index self.now.pointers.items k ≡ result }
     {
         number_in(self.pointers.as_slice(), k)
     }
@@ -230,32 +232,32 @@ impl Types {
         ensures { OnOk result (AddsType types.now self.old self.new (ctypes.Pointer t)) }
     {
         if is_tagged(types, t) {
-            let k = self.pointer(t)?;
+            let k = self.pointer(t);
             return self.keep(k, k);
         }
-        let of = self.number(t)?;
+        let of = self.number(t);
         self.plainly(CType::Pointer(of))
     }
 
     fn array_of(&mut self, types: &[CType], t: u32, n: u64) -> Result<(), NoMemory>
         ensures { OnOk result (AddsType types.now self.old self.new (ctypes.Array t n)) }
     {
-        let of = self.number(t)?;
+        let of = self.number(t);
         self.plainly(CType::Array(of, n))
     }
 
     fn const_of(&mut self, types: &[CType], t: u32) -> Result<(), NoMemory>
         ensures { OnOk result (AddsType types.now self.old self.new (ctypes.Const t)) }
     {
-        let of = self.number(t)?;
-        let pointer = self.pointer(t)?;
+        let of = self.number(t);
+        let pointer = self.pointer(t);
         let k = self.push(CType::Const(of))?;
         self.keep(k, pointer)
     }
 
     // What stands for a parameter of a type.
-    fn parameter(&self, types: &[CType], t: u32) -> Result<u32, NoMemory>
-        ensures { IfOk result (λ n. AreParameters types.now self.now (t ∷ []) [] (n ∷ [])) }
+    fn parameter(&self, types: &[CType], t: u32) -> u32
+        ensures { AreParameters types.now self.now (t ∷ []) [] (result ∷ []) }
     {
         if by_pointer(types, t) {
             self.pointer(t)
@@ -268,7 +270,7 @@ impl Types {
         ensures { OnOk result (AreParameters types.now self.now ts.now list.old.items list.new.items) }
     {
         for t in ts {
-            let of = self.parameter(types, *t)?;
+            let of = self.parameter(types, *t);
             list.push(of)?;
         }
         Ok(())
@@ -285,12 +287,12 @@ impl Types {
     {
         let mut params = Vec::new(alloc);
         if by_pointer(types, gives) {
-            let pointer = self.pointer(gives)?;
+            let pointer = self.pointer(gives);
             params.push(pointer)?;
             self.parameters(types, ts, &mut params)?;
             self.plainly(CType::Function(VOID, Sequence::from_vec(params)))
         } else {
-            let of = self.number(gives)?;
+            let of = self.number(gives);
             self.parameters(types, ts, &mut params)?;
             self.plainly(CType::Function(of, Sequence::from_vec(params)))
         }
@@ -322,7 +324,7 @@ impl Types {
         self.add_tagged(CType::Union(tag, Sequence::from_vec(members)))
     }
 
-    // The next type. The members of a struct or union have their old types yet.
+    // One type more, behind these. The members of a struct or union have their old types yet.
     fn add(&mut self, alloc: Global, types: &[CType], c: &CType) -> Result<(), NoMemory>
         ensures { OnOk result (AddsType types.now self.old self.new c.now) }
     {
@@ -344,7 +346,7 @@ impl Types {
 
     /// What stands for each type.
     pub(crate) fn new(alloc: Global, types: &[CType]) -> Result<Self, NoMemory>
-        ensures { IfOk result (λ t. Follows types.now (length types.now) t) }
+        ensures { IfOk result (λ t. Follows types.now t) }
     {
         let mut passed = Types {
             list: Vec::new(alloc),
@@ -352,8 +354,9 @@ impl Types {
             pointers: Vec::new(alloc),
         };
         passed.push(CType::Void)?;
-        for c in types {
-            passed.add(alloc, types, c)?;
+        for k in 0..types.len() {
+            let (before, _) = types.split_at(k);
+            passed.add(alloc, before, &types[k])?;
         }
         Ok(passed)
     }

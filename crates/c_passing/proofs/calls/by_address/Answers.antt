@@ -11,9 +11,9 @@ returns-clause-is c =
       is = λ ts e y fits hy.
           address_passed a.source.now ts e a.out.now.exprs.items c.push_expr.new.self.exprs.items
           c.push_expr-2.new.self.exprs.items c.address.new.self.exprs.items c.push_expr-3.new.self.exprs.items a.h
-          a.value a.t c.in_ok-of.of c.in_ok-pointer.pointer
+          a.value a.t c.number-of.result c.pointer-pointer.result
           a.pos c.in_ok-place.place c.in_ok-assigned.assigned c.in_ok-address.address _ y fits c.requires
-          c.in_ok-of.ensures c.in_ok-pointer.ensures hy
+          c.number-of.ensures c.pointer-pointer.ensures hy
           c.in_ok-place.ensures.exprs c.in_ok-place.ensures.number c.in_ok-assigned.ensures.exprs
           c.in_ok-assigned.ensures.number c.in_ok-address.ensures.extends
           (c.in_ok-address.ensures.is.is ts) items refl;

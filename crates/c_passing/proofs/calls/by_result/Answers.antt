@@ -11,9 +11,9 @@ returns-clause-is c =
     (λ items. record {
       is = λ ts e f ys fits hf hl.
           result_made a.source.now ts e a.out.now.exprs.items c.push_expr.new.self.exprs.items
-          c.push_expr-2.new.self.exprs.items c.push_expr-3.new.self.exprs.items a.h a.called a.t c.in_ok-of.of
+          c.push_expr-2.new.self.exprs.items c.push_expr-3.new.self.exprs.items a.h a.called a.t c.number-of.result
           a.list.items a.pos c.in_ok-call.call c.in_ok-place.place _ f ys fits
-          c.requires c.in_ok-of.ensures hf hl
+          c.requires c.number-of.ensures hf hl
           (c.in_ok-call.ensures.exprs
           ∙ ap (λ ks. a.out.now.exprs.items ++ record { kind = exprs.Call a.called ks; of = 0; pos = a.pos } ∷ [])
           c.from_vec.ensures)

@@ -3,9 +3,9 @@ use Rattle.c_passing.proofs.Calling.{hides_one}
 use Rattle.c_passing.proofs.Numbering.{on_ok}
 use Rattle.c_passing.proofs.calls.hide.Goals as goal
 
-pub returns-in_ok-of-in-Some-clause-hides : goal.returns-in_ok-of-in-Some-clause-hides
-returns-in_ok-of-in-Some-clause-hides c =
+pub returns-in-Some-clause-hides : goal.returns-in-Some-clause-hides
+returns-in-Some-clause-hides c =
     on_ok c.push_var.result _ _ (λ vars. hides_one c.args.source.now c.args.out.now c.push_var.new.self c.args.of
-    c.in-Some.t c.in_ok-of-in-Some.of c.args.pos _ c.in-Some.ensures c.in_ok-of-in-Some.ensures
+    c.in-Some.t c.number-of.result c.args.pos _ c.in-Some.ensures c.number-of.ensures
     (rw c.name.ensures refl) vars)
     c.push_var.ensures.vars

@@ -148,9 +148,9 @@ call_by_result-returns-clause-is t c =
     if_ok c.by_result.result _ _
     (λ j is.
     result_call_made a.source.now a.out.now c.address.new.self c.arguments.new.out c.by_result.new.out a.e.now a.called
-    a.own a.hidden a.t c.in_ok-of.of c.in_ok-pointer.pointer c.in_ok-address.address a.xs.now c.push.new.self.items
-    _ j c.requires c.in_ok-of.ensures
-    c.in_ok-pointer.ensures c.in_ok-address.ensures.extends
+    a.own a.hidden a.t c.number-of.result c.pointer-pointer.result c.in_ok-address.address a.xs.now c.push.new.self.items
+    _ j c.requires c.number-of.ensures
+    c.pointer-pointer.ensures c.in_ok-address.ensures.extends
     (ap (λ (m : Made). m.vars) c.in_ok-address.ensures.rest) c.in_ok-address.ensures.is
     (c.in_ok-push.ensures.items ∙ ap (λ zs. zs ++ c.in_ok-address.address ∷ []) c.new-list.ensures.items)
     c.in_ok-arguments.ensures.extends c.in_ok-arguments.ensures.are is)
@@ -165,8 +165,8 @@ call_plainly-returns-clause-is t c =
     c.arguments.new.list.items) c.new-list.ensures.items c.in_ok-arguments.ensures.are in
     pushed c.push_expr.result _ _ _ c.push_expr.ensures.exprs c.push_expr.ensures.number
     (λ items.
-    plain_call_made a.source.now a.out.now c.arguments.new.out c.push_expr.new.self a.e.now a.called a.own c.in_ok-of.of
-    a.xs.now c.arguments.new.list.items _ c.in_ok-of.ensures c.in_ok-arguments.ensures.extends before
+    plain_call_made a.source.now a.out.now c.arguments.new.out c.push_expr.new.self a.e.now a.called a.own c.number-of.result
+    a.xs.now c.arguments.new.list.items _ c.number-of.ensures c.in_ok-arguments.ensures.extends before
     (rw (← c.from_vec.ensures) items) refl)
 
 pub expression-returns-in-Call-clause-hides : goal.expression-returns-in-Call-clause-hides
@@ -212,7 +212,7 @@ expression-returns t c =
     subst (λ zs. ArePassed s old mid (map (written_term s) zs) js) too inner.are in
     let hidden : Hides s old mid (λ names. hidden_in_each names (map (written_term s) (operands e.kind))) =
     subst (λ zs. Hides s old mid (λ names. hidden_in_each names (map (written_term s) zs))) too inner.hides in
-    let d : Expr = record { kind = c.in_ok-kind-in_default.kind; of = c.in_ok-of-in_default.of; pos = e.pos } in
+    let d : Expr = record { kind = c.in_ok-kind-in_default.kind; of = c.number-of.result; pos = e.pos } in
     let kind : IsKindPassed s e.kind js d.kind =
     subst (λ zs. IsKindPassed s e.kind zs d.kind) c.as_slice-in_default-2.ensures.value
     c.in_ok-kind-in_default.ensures in
@@ -228,7 +228,7 @@ expression-returns t c =
       is =
           pushed c.push_expr.result _ _ _ c.push_expr.ensures.exprs c.push_expr.ensures.number
           (λ items. expression_passed s old mid new k e d js _ c.in_ok-e.ensures below calls passed kind
-          c.in_ok-of-in_default.ensures refl items refl);
+          c.number-of.ensures refl items refl);
     }
 
 pub expressions-loop-k-preserved : goal.expressions-loop-k-preserved

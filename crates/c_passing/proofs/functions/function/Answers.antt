@@ -23,7 +23,7 @@ returns c =
     let g : FunDef = record {
       name = f.name;
       pos = f.pos;
-      of = c.in_ok-of.of;
+      of = c.number-of.result;
       params = c.from_vec.result;
       vars = c.from_vec-2.result;
       body = c.in_ok-body.body;
@@ -41,7 +41,7 @@ returns c =
       there = body.there;
       name = refl;
       pos = refl;
-      of = c.in_ok-of.ensures;
+      of = c.number-of.ensures;
       params = c.from_vec.ensures ∙ c.in_ok-params-2.ensures
           ∙ ap (numbers_from 0) (c.in_ok-params.ensures
           ∙ ap (λ m. m + n.before) (c.in_ok-written.ensures ∙ ap length c.as_slice-2.ensures));

@@ -14,8 +14,8 @@ loop-v-preserved c = λ f h s.
       of = 0;
       simple = false;
     } in
-    local_added c.args.whole.now f c.args.locals.now c.loop-v.into _ d _ c.in_ok-local.local c.loop-v.v-index
-    c.in_ok-at.at h c.loop-v-test.true refl c.in_ok-at.ensures c.in_ok-local.ensures refl refl
+    local_added c.args.whole.now f c.args.locals.now c.loop-v.into _ d _ c.retyped-local.result c.loop-v.v-index
+    c.in_ok-at.at h c.loop-v-test.true refl c.in_ok-at.ensures c.retyped-local.ensures refl refl
     c.in_ok-push-2.ensures.items c.in_ok-push.ensures.items (c.loop-v.invariant f h s)
 
 pub returns : goal.returns

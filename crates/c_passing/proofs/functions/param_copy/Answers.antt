@@ -13,11 +13,11 @@ returns-clause-is c =
     c.push_stmt.ensures.number
     (λ x.
     param_copy_made a.source.now a.out.now c.behind.new.self c.push_expr.new.self c.push_stmt.new.self a.v a.from a.to
-    c.bare-t.result c.in_ok-of.of c.in_ok-pointer.pointer c.in_ok-place.place c.in_ok-value.value _ c.requires
+    c.bare-t.result c.number-of.result c.pointer-pointer.result c.in_ok-place.place c.in_ok-value.value _ c.requires
     (record {
       bare = subst (λ ts. IsBare ts a.v.of c.bare-t.result) c.written_types.ensures c.bare-t.ensures;
-      number = c.in_ok-of.ensures;
-      pointer = c.in_ok-pointer.ensures;
+      number = c.number-of.ensures;
+      pointer = c.pointer-pointer.ensures;
       behind = c.in_ok-place.ensures.is;
       load = c.in_ok-value.ensures.exprs;
       value_is = c.in_ok-value.ensures.number;

@@ -17,8 +17,8 @@ loop-v-preserved c = λ vs h.
       of = 0;
       simple = false;
     } in
-    params_turn c.args.whole.now c.args.params.now c.loop-v.v-index d _ c.in_ok-v.v c.loop-v.vars.items
-    c.push.new.self.items vs c.loop-v-test.true refl c.in_ok-v.ensures c.in_ok-push.ensures.items
+    params_turn c.args.whole.now c.args.params.now c.loop-v.v-index d _ c.passed-v.result c.loop-v.vars.items
+    c.push.new.self.items vs c.loop-v-test.true refl c.passed-v.ensures c.in_ok-push.ensures.items
     (c.loop-v.invariant vs h)
 
 pub returns : goal.returns

@@ -22,6 +22,6 @@ returns-in_ok-push-in-Some c =
     subst (λ ts. IsGivenIn ts c.args.f.now.of (Some k)) c.as_slice.ensures c.in-Some.ensures in
     record {
       count = ap length (sym (one_result w c.args.f.now k given));
-      vars = result_run w c.args.f.now k c.in_ok-of-in-Some.of c.args.vars.now.items c.push.new.self.items given
-          c.in_ok-of-in-Some.ensures c.requires c.in_ok-push-in-Some.ensures.items;
+      vars = result_run w c.args.f.now k c.pointer-of.result c.args.vars.now.items c.push.new.self.items given
+          c.pointer-of.ensures c.requires c.in_ok-push-in-Some.ensures.items;
     }

@@ -1,4 +1,4 @@
-use Rattle.std.proofs.Common.{length, refl, sym, subst}
+use Rattle.std.proofs.Common.{refl, sym, subst}
 use Rattle.c_tree.specs.declared.typed.Typed.{Typed}
 use Rattle.c_passing.specs.Numbered.{Follows, AreListed}
 use Rattle.c_passing.specs.Routines.{AreObjects}
@@ -25,7 +25,7 @@ returns c =
       types_are = refl;
       names_are = refl;
       known = c.in_ok-names.ensures;
-      follows = subst (λ ts. Follows ts (length ts) types) c.as_slice.ensures c.in_ok-types.ensures;
+      follows = subst (λ ts. Follows ts types) c.as_slice.ensures c.in_ok-types.ensures;
       listed = subst (AreListed types.numbers.items types.list.items) (sym c.from_vec.ensures) c.in_ok-list.ensures;
       functions = functions;
       objects =

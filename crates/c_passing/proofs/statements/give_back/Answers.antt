@@ -21,11 +21,11 @@ returns-clause-is c =
     c.push_stmt-3.ensures.rest) c.push_stmt-3.ensures.number
     (λ x.
     given_back_made c.args.source.now c.args.out.now c.behind.new.self c.push_expr.new.self c.push_stmt.new.self d
-    c.push_stmt-3.new.self c.args.value c.args.t c.in_ok-of.of c.in_ok-pointer.pointer c.in_ok-place.place
+    c.push_stmt-3.new.self c.args.value c.args.t c.number-of.result c.pointer-pointer.result c.in_ok-place.place
     c.in_ok-assigned.assigned first second _ p c.requires
     (record {
-      number = c.in_ok-of.ensures;
-      pointer = c.in_ok-pointer.ensures;
+      number = c.number-of.ensures;
+      pointer = c.pointer-pointer.ensures;
       extends = c.in_ok-place.ensures.extends;
       behind = c.in_ok-place.ensures.is;
       assign = c.in_ok-assigned.ensures.exprs;

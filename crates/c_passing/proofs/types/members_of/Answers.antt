@@ -12,7 +12,8 @@ pub loop-m-preserved : goal.loop-m-preserved
 loop-m-preserved c =
     let d : Member = record { name = record { start = 0; end = 0 }; of = 0 } in
     rw (take_more c.args.members.now c.loop-m.m-index d c.loop-m-test.true)
-    (members_push c.args.numbers.now _ c.loop-m.list.items _ _ c.in_ok-of.of c.loop-m.invariant c.in_ok-of.ensures
+    (members_push c.args.numbers.now _ c.loop-m.list.items _ _ c.number_in-of.result c.loop-m.invariant
+    c.number_in-of.ensures
     c.in_ok-push.ensures.items)
 
 pub returns : goal.returns

@@ -3,4 +3,4 @@ use Rattle.c_passing.proofs.types.Types.array_of.Goals as goal
 
 pub returns : goal.returns
 returns c = on_ok c.plainly.result _ _ (adds_array c.args.types.now c.args.self.now c.plainly.new.self c.args.t
-    c.in_ok-of.of c.args.n c.in_ok-of.ensures) c.plainly.ensures
+    c.number-of.result c.args.n c.number-of.ensures) c.plainly.ensures

@@ -5,10 +5,10 @@ use Rattle.c_passing.proofs.types.Types.function.Goals as goal
 
 pub returns-in_ok-parameters : goal.returns-in_ok-parameters
 returns-in_ok-parameters c =
-    let p = c.in_ok-pointer.pointer in
+    let p = c.pointer-pointer.result in
     on_ok c.plainly.result _ _
     (adds_result c.args.types.now c.args.self.now c.plainly.new.self c.args.gives p c.args.ts.now _
-    c.in_ok-pointer.ensures (sym c.by_pointer.ensures ∙ c.if-by_pointer.true)
+    c.pointer-pointer.ensures (sym c.by_pointer.ensures ∙ c.if-by_pointer.true)
     (subst (λ (ns : List ℕ). AreParameters c.args.types.now c.args.self.now c.args.ts.now (p ∷ []) ns)
     (sym c.from_vec.ensures)
     (subst (λ (ns : List ℕ). AreParameters c.args.types.now c.args.self.now c.args.ts.now ns
@@ -19,8 +19,8 @@ returns-in_ok-parameters c =
 pub returns-in_ok-parameters-2 : goal.returns-in_ok-parameters-2
 returns-in_ok-parameters-2 c =
     on_ok c.plainly-else-by_pointer.result _ _
-    (adds_function c.args.types.now c.args.self.now c.plainly-else-by_pointer.new.self c.args.gives c.in_ok-of.of
-    c.args.ts.now _ c.in_ok-of.ensures (sym c.by_pointer.ensures ∙ c.if-by_pointer.false)
+    (adds_function c.args.types.now c.args.self.now c.plainly-else-by_pointer.new.self c.args.gives c.number-of.result
+    c.args.ts.now _ c.number-of.ensures (sym c.by_pointer.ensures ∙ c.if-by_pointer.false)
     (subst (λ (ns : List ℕ). AreParameters c.args.types.now c.args.self.now c.args.ts.now [] ns)
     (sym c.from_vec-else-by_pointer.ensures)
     (subst (λ (ns : List ℕ). AreParameters c.args.types.now c.args.self.now c.args.ts.now ns

@@ -10,8 +10,9 @@ loop-t-init c = no_parameters c.args.types.now c.args.self.now c.args.list.now.i
 pub loop-t-preserved : goal.loop-t-preserved
 loop-t-preserved c =
     rw (take_more c.args.ts.now c.loop-t.t-index 0 c.loop-t-test.true)
-    (parameters_push c.args.types.now c.args.self.now _ _ c.loop-t.list.items _ _ c.in_ok-of.of c.loop-t.invariant
-    c.in_ok-of.ensures c.in_ok-push.ensures.items)
+    (parameters_push c.args.types.now c.args.self.now _ _ c.loop-t.list.items _ _ c.parameter-of.result
+    c.loop-t.invariant
+    c.parameter-of.ensures c.in_ok-push.ensures.items)
 
 pub returns : goal.returns
 returns c =

@@ -4,9 +4,10 @@ use Rattle.c_passing.proofs.types.Types.pointer_to.Goals as goal
 
 pub returns-then-is_tagged : goal.returns-then-is_tagged
 returns-then-is_tagged c =
-    on_ok c.keep.result _ _ (adds_tagged_pointer c.args.types.now c.args.self.now c.keep.new.self c.args.t c.in_ok-k.k
-    c.in_ok-k.ensures (sym c.is_tagged.ensures ∙ c.if-is_tagged.true)) c.keep.ensures
+    on_ok c.keep.result _ _ (adds_tagged_pointer c.args.types.now c.args.self.now c.keep.new.self c.args.t
+    c.pointer-k.result
+    c.pointer-k.ensures (sym c.is_tagged.ensures ∙ c.if-is_tagged.true)) c.keep.ensures
 
 pub returns : goal.returns
 returns c = on_ok c.plainly.result _ _ (adds_pointer c.args.types.now c.args.self.now c.plainly.new.self c.args.t
-    c.in_ok-of.of c.in_ok-of.ensures) c.plainly.ensures
+    c.number-of.result c.number-of.ensures) c.plainly.ensures
