@@ -172,10 +172,10 @@ module _ (ops : Operations Store) (placed : IsPlaced ops) (w : World) (t : Tac) 
 
       returns : (j : ℕ) → u.left ≡ suc j → (v : Value) (y : State Store) → IsGiven (signs f).gives v →
           Back ops w t p objects call signs (record u { left = j }) y
-          → turn y (λ q. l v) ≡ backs ops w t p objects call signs (caller u us rest to) r.callers
+          → turn y (λ q. l v) ≡ backs ops w t p objects call signs (caller u us rest to ∷ r.callers)
           (given_back (signs f).gives v) y
       returns j is v y given b =
-          subst (λ z. turn z (λ q. l v) ≡ backs ops w t p objects call signs (caller u us rest to) r.callers
+          subst (λ z. turn z (λ q. l v) ≡ backs ops w t p objects call signs (caller u us rest to ∷ r.callers)
           (given_back (signs f).gives v) z) (sym (back_is (record u { left = j }) y b))
           (returned j is v y.mem y.left y.done (subst (λ z. IsGiven z v) (ap (λ z. z.gives) sign) given) b.onward b.left
           ∙ ap (λ z. behind_turn ops w t p objects y.left rest Runs r
@@ -193,7 +193,7 @@ module _ (ops : Operations Store) (placed : IsPlaced ops) (w : World) (t : Tac) 
           stops None = refl
           stops (Some a) = refl
       by (suc j) is =
-          runs.runs f vs (record u { left = j }) (caller u us rest to) r.callers (λ v y. turn y (λ q. l v))
+          runs.runs f vs (record u { left = j }) (caller u us rest to ∷ r.callers) (λ v y. turn y (λ q. l v))
           inside (let lt = d.agrees.within in omega arith) d.agrees.sound d.agrees.high
           (subst (λ z. AreOf z vs) (sym (ap (λ z. z.takes) sign)) typed)
           (returns j is)

@@ -13,7 +13,7 @@ use Rattle.cheri_c_sem.specs.Operations.{Operations}
 use Rattle.cheri_c_sem.specs.Steps.{State, Fate, Then, ◌>>=◌, ◌>>◌, give, answer}
 use Rattle.cheri_c_sem.specs.Tree.{At_end, Gives_nothing, Gives_zero, Lacks, Fun}
 use Rattle.tac_ir.specs.Effects.{kind_of}
-use Rattle.tac_ir.specs.Meaning.{Caller, Running, behind_turn, back}
+use Rattle.tac_ir.specs.Meaning.{Caller, Running, Runs, behind_turn, back, with_result}
 use Rattle.tac_ir.specs.declared.code.Tac.{Tac}
 use Rattle.tac_ir.specs.declared.code.TacInstr.TheVariants as instr
 use Rattle.tac_ir.specs.declared.code.TacKind.{TacKind}
@@ -27,14 +27,14 @@ use Rattle.lower_runs.proofs.Agreement.{get_set_same, onward_same, onward_then}
 use Rattle.lower_runs.proofs.Steps.{zero_is_of, constant, constant_zero, constant_runs, held_is}
 
 module _ (ops : Operations Store) (placed : IsPlaced ops) (w : World) (t : Tac) (p : Typed)
-    (objects : ℕ → List ℕ) (call : ℕ → List Value → Then Store Value) (signs : ℕ → Signature) (n : ℕ) (c : Caller)
-    (cs : List Caller) (g : Scene) (scene : IsScene g) (f : Fun) (at : ℕ) (there : at < g.size)
+    (objects : ℕ → List ℕ) (call : ℕ → List Value → Then Store Value) (signs : ℕ → Signature) (n : ℕ)
+    (callers : List Caller) (g : Scene) (scene : IsScene g) (f : Fun) (at : ℕ) (there : at < g.size)
     (own : f.objects ≡ objects n) (caller s : State Store) (on : IsOnward ops caller.mem s.mem)
     (fewer : s.left ≤ caller.left) (k : Value → State Store → Fate) (gives : Option TacKind)
     (goes_back : (v : Value) (u : State Store) → IsGiven gives v → Back ops w t p objects call signs caller u →
-    k v u ≡ backs ops w t p objects call signs c cs (given_back gives v) u) where
+    k v u ≡ backs ops w t p objects call signs callers (given_back gives v) u) where
   abbrev r : Running
-  r = record { fun = n; callers = c ∷ cs }
+  r = record { fun = n; callers = callers }
 
   abbrev Comes : State Store → Type 0
   Comes u = Came ops w t p objects r call gives s u
@@ -49,7 +49,17 @@ module _ (ops : Operations Store) (placed : IsPlaced ops) (w : World) (t : Tac) 
   }
 
   abbrev returned : Value → State Store → List (Option Value) → Fate
-  returned v u us = back ops w t p objects (behind_turn ops w t p objects u.left) v n (c ∷ cs) (record u { vars = us })
+  returned v u us = back ops w t p objects (behind_turn ops w t p objects u.left) v n callers (record u { vars = us })
+
+  -- whatever is in its temps
+  returned_alike : (v : Value) (u : State Store) (us vs : List (Option Value)) → returned v u us ≡ returned v u vs
+  returned_alike v u us vs = by callers
+    where
+      by : (cs : List Caller) → back ops w t p objects (behind_turn ops w t p objects u.left) v n cs
+          (record u { vars = us })
+          ≡ back ops w t p objects (behind_turn ops w t p objects u.left) v n cs (record u { vars = vs })
+      by [] = refl
+      by (c ∷ cs) = refl
 
   all_end : (ls : List ℕ) (m : Store) (object : ℕ) → IsOnward ops m (end_locals ops m object ls)
   all_end [] m object = onward_same ops m
@@ -68,16 +78,19 @@ module _ (ops : Operations Store) (placed : IsPlaced ops) (w : World) (t : Tac) 
         onward = onward_then ops caller.mem s.mem (closed u).mem on
             (onward_then ops s.mem u.mem (closed u).mem came.onward (all_end f.objects u.mem u.first));
       })
-      ∙ ap (λ z. returned_with z) own
+      ∙ by callers
     where
-      returned_with : List ℕ → Fate
-      returned_with ls = behind_turn ops w t p objects u.left c.rest Rattle.tac_ir.specs.Meaning.Runs
+      by : (cs : List Caller) → backs ops w t p objects call signs cs (given_back gives v) (closed u)
+          ≡ back ops w t p objects (behind_turn ops w t p objects u.left) (given_back gives v) n cs
+          (record u { vars = us })
+      by [] = refl
+      by (c ∷ cs) = ap (λ z. behind_turn ops w t p objects u.left c.rest Runs
           (record { fun = c.fun; callers = cs }) (record u {
-            vars = Rattle.tac_ir.specs.Meaning.with_result c.vars c.to (given_back gives v);
+            vars = with_result c.vars c.to (given_back gives v);
             first = c.first;
-            mem = end_locals ops u.mem u.first ls;
+            mem = end_locals ops u.mem u.first z;
             frame = c.frame;
-          })
+          })) own
 
   gives_zero : (j : TacKind) → gives ≡ Some j → (u : State Store) (us : List (Option Value)) → length us ≡ g.size →
       Comes u → k (constant j 0) (closed u)
@@ -86,7 +99,8 @@ module _ (ops : Operations Store) (placed : IsPlaced ops) (w : World) (t : Tac) 
       leaves (constant j 0) u us came (subst (λ z. IsGiven z (constant j 0)) (sym e)
       (subst (IsOf (kind_of j)) (sym (constant_zero j)) (zero_is_of (kind_of j))))
       ∙ ap (λ z. returned (given_back z (constant j 0)) u us) e
-      ∙ ap (λ z. returned z u us) (sym (held_is ops w t p objects r call g scene
+      ∙ returned_alike (constant j 0) u us (slice_set us at (Some (constant j 0)))
+      ∙ ap (λ z. returned z u (slice_set us at (Some (constant j 0)))) (sym (held_is ops w t p objects r call g scene
       (slice_set us at (Some (constant j 0))) at (constant j 0)
       (get_set_same us at (Some (constant j 0)) (omega arith))))
       ∙ sym (constant_runs ops w t p objects r call g scene j at 0 (instr.Return (Some at) ∷ []) u us)
@@ -108,19 +122,21 @@ module _ (ops : Operations Store) (placed : IsPlaced ops) (w : World) (t : Tac) 
       ∙ ap (λ z. k z (closed u)) (ap zero_of (sym h) ∙ sym (constant_zero j)) ∙ gives_zero j e u us room came
 
 pub functions_end : FunctionsEnd
-functions_end ops placed w t p objects call signs n c cs g scene f at there end own caller s on fewer k goes_back =
+functions_end ops placed w t p objects call signs n callers g scene f at there end own caller s on fewer k goes_back =
     record {
       goes_on = λ u us came ag. ended f.at_end u us end ag.room came;
       breaks = λ b e. absurd cc;
       continues = λ b e. absurd cc;
-      returns = λ v u us came given. leaves ops placed w t p objects call signs n c cs g scene f at there own caller s
+      returns = λ v u us came given. leaves ops placed w t p objects call signs n callers g scene f at there own caller
+          s
           on
           fewer k (signs n).gives goes_back v u us came given;
     }
   where
     ended : (e : At_end) (u : State Store) (us : List (Option Value)) → IsEnd (signs n).gives e →
-        length us ≡ g.size → Came ops w t p objects (record { fun = n; callers = c ∷ cs }) call (signs n).gives s u
+        length us ≡ g.size → Came ops w t p objects (record { fun = n; callers = callers }) call (signs n).gives s u
         → (at_end ops w f.name e >>= λ v. close ops w f >> (calls.back ops w caller >> give v)) u k
-        ≡ goes ops w t p objects (record { fun = n; callers = c ∷ cs }) call g (end_code (signs n).gives at) u us
-    ended e u us h room came = ends ops placed w t p objects call signs n c cs g scene f at there own caller s on fewer
+        ≡ goes ops w t p objects (record { fun = n; callers = callers }) call g (end_code (signs n).gives at) u us
+    ended e u us h room came =
+        ends ops placed w t p objects call signs n callers g scene f at there own caller s on fewer
         k (signs n).gives goes_back (signs n).gives e refl h u us room came

@@ -115,12 +115,12 @@ module _ (q : Pos) where
   taken_plain g h i ps ks c (taken.object more le e) o rest = taken_plain _ h _ _ _ _ e o rest
 
 pub functions_run : FunctionsRun
-functions_run ops placed w bytes t p objects frames call signs funs n f limit own is runs vs s c cs k le sound high
+functions_run ops placed w bytes t p objects frames call signs funs n f limit own is runs vs s callers k le sound high
     typed
     goes_back = by (ops.enter n s.frame) refl
   where
     r : Running
-    r = record { fun = n; callers = c ∷ cs }
+    r = record { fun = n; callers = callers }
 
     from_start : (j : ℕ) → 0 + j ≡ j
     from_start j = omega arith
@@ -188,7 +188,8 @@ functions_run ops placed w bytes t p objects frames call signs funs n f limit ow
         (λ o ge lt. ap (behind o) is.code
         ∙ taken_plain f.name is.entry is.inner 0 f.params (signs n).takes is.take is.taken o
         (is.body (end_code (signs n).gives is.to.temps))) ag
-        (functions_end ops placed w t p objects call signs n c cs is.inner inner f is.to.temps (omega arith) is.ends own
+        (functions_end ops placed w t p objects call signs n callers is.inner inner f is.to.temps
+        (omega arith) is.ends own
         s u (onward_then ops s.mem (at_entry a (objects n)).mem u.mem entered_frame came.onward) came.left k
         goes_back))
 

@@ -34,3 +34,4 @@ pub mod Bodies
 pub mod Switches
 pub mod Cases
 pub mod Switched
+pub mod Shortened

@@ -1,11 +1,12 @@
 -- The simulation of calls: a call comes to what the code of the function comes to, from its entry on, in front of what
 -- the caller goes on with.
-use Rattle.std.specs.Prelude.{◌≡◌, ℕ, ◌≤◌, ◌<◌, List, [], ◌∷◌, length, Option, Some, None, slice_get}
+use Rattle.std.specs.Prelude.{◌≡◌, ℕ, ◌%◌, ◌≤◌, ◌<◌, List, [], ◌∷◌, length, Option, Some, None, slice_get}
 use Rattle.ck_base.specs.World.{World}
 use Rattle.c_tree.specs.declared.typed.Typed.{Typed}
 use Rattle.obj_mem.specs.Values.{Value}
 use Rattle.obj_mem.specs.declared.ending.Ending.TheVariants as ending
 use Rattle.cheri_c_sem.specs.Modes.{Store}
+use Rattle.cheri_c_sem.specs.Kinds.{number_of}
 use Rattle.cheri_c_sem.specs.Meaning.{value_of, values_of}
 use Rattle.cheri_c_sem.specs.Operations.{Operations}
 use Rattle.cheri_c_sem.specs.Steps.{State, Fate, Then, over}
@@ -52,19 +53,19 @@ module _ (ops : Operations Store) (w : World) (t : Tac) (p : Typed) (objects : �
   entered (Some address) f vs r s =
       turns ops w t p objects s.left (code_at ops w t p objects f) Runs r (in_frame ops w t p objects address f vs s)
 
-  -- a caller's code behind the turn of a return
-  abbrev pub backs : Caller → List Caller → Value → State Store → Fate
-  backs c cs v u = behind_turn ops w t p objects u.left c.rest Runs (record { fun = c.fun; callers = cs })
+  -- the newest caller's code behind the turn of a return; where there is none, the run is over
+  abbrev pub backs : List Caller → Value → State Store → Fate
+  backs [] v u = over (ending.Exit (number_of v % 256)) u
+  backs (c ∷ cs) v u = behind_turn ops w t p objects u.left c.rest Runs (record { fun = c.fun; callers = cs })
       (record u { vars = with_result c.vars c.to v; first = c.first; frame = c.frame })
 
   -- Calls do what the code of their functions does, where fewer turns are left than a number
   pub record CallsRun (limit : ℕ) : Type 0 where
-    pub runs : (f : ℕ) (vs : List Value) (s : State Store) (c : Caller) (cs : List Caller)
-        (k : Value → State Store → Fate) →
+    pub runs : (f : ℕ) (vs : List Value) (s : State Store) (callers : List Caller) (k : Value → State Store → Fate) →
         f < length p.funs → s.left < limit → IsSound s.mem → s.frame ≤ ops.stack_top → AreOf (signs f).takes vs
         → ((v : Value) (u : State Store) → IsGiven (signs f).gives v → Back s u →
-        k v u ≡ backs c cs (given_back (signs f).gives v) u)
-        → call f vs s k ≡ entered (ops.enter f s.frame) f vs (record { fun = f; callers = c ∷ cs }) s
+        k v u ≡ backs callers (given_back (signs f).gives v) u)
+        → call f vs s k ≡ entered (ops.enter f s.frame) f vs (record { fun = f; callers = callers }) s
 
   module _ (r : Running) (g : Scene) where
     -- ---- arguments, and calls as expressions

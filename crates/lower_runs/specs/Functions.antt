@@ -15,6 +15,7 @@ use Rattle.cheri_c_sem.specs.Tree.{Parameter, In_variable, In_object, At_end, Gi
 use Rattle.tac_ir.specs.Effects.{kind_of}
 use Rattle.tac_ir.specs.Meaning.{Caller, Running, kinds_of, code_of, name_of}
 use Rattle.tac_ir.specs.declared.code.Tac.{Tac}
+use Rattle.tac_ir.specs.declared.code.TacFun.{TacFun}
 use Rattle.tac_ir.specs.declared.code.TacInstr.{TacInstr}
 use Rattle.tac_ir.specs.declared.code.TacInstr.TheVariants as instr
 use Rattle.tac_ir.specs.declared.code.TacKind.{TacKind}
@@ -51,19 +52,19 @@ behind_body ops w f caller k flow = λ u. (do
   back ops w caller
   give v) u k
 
--- Behind a body, which no jump leaves, the end of its function goes back to the caller, over all operations that answer
--- as those under a map do
+-- Behind a body, which no jump leaves, the end of its function goes back to the caller, or ends the run where there is
+-- none, over all operations that answer as those under a map do
 abbrev pub FunctionsEnd : Type 0
 FunctionsEnd =
     (ops : Operations Store) → IsPlaced ops →
     (w : World) (t : Tac) (p : Typed) (objects : ℕ → List ℕ) (call : ℕ → List Value → Then Store Value)
-    (signs : ℕ → Signature) (n : ℕ) (c : Caller) (cs : List Caller) (g : Scene) → IsScene g → (f : Fun) (at : ℕ) →
+    (signs : ℕ → Signature) (n : ℕ) (callers : List Caller) (g : Scene) → IsScene g → (f : Fun) (at : ℕ) →
     at < g.size → IsEnd (signs n).gives f.at_end → f.objects ≡ objects n
     → (caller s : State Store) → IsOnward ops caller.mem s.mem → s.left ≤ caller.left
     → (k : Value → State Store → Fate)
     → ((v : Value) (u : State Store) → IsGiven (signs n).gives v → Back ops w t p objects call signs caller u →
-    k v u ≡ backs ops w t p objects call signs c cs (given_back (signs n).gives v) u)
-    → Follows ops w t p objects (record { fun = n; callers = c ∷ cs }) call (signs n).gives g
+    k v u ≡ backs ops w t p objects call signs callers (given_back (signs n).gives v) u)
+    → Follows ops w t p objects (record { fun = n; callers = callers }) call (signs n).gives g
     (record { breaks = None; continues = None }) (end_code (signs n).gives at) s (behind_body ops w f caller k)
 
 -- ---- the entry
@@ -118,23 +119,24 @@ pub record IsStart (kinds takes : List TacKind) (f : Fun) (limit : ℕ) (g : Sce
   pub homes : (x : ℕ) (h : Home) → g.home x ≡ Some h →
       (length takes ≤ h.temp) × (slice_get kinds h.temp ≡ Some h.kind)
 
--- The code of a function, by its number: it takes the arguments, goes through the body, and ends
-pub record IsFunction (p : Typed) (signs : ℕ → Signature) (t : Tac) (n : ℕ) (f : Fun) (limit : ℕ) : Type 0 where
-  pub entry : Scene
-  pub inner : Scene
-  pub take : Code
-  pub body : Code
-  pub from : Mark
-  pub to : Mark
-  pub start : IsStart (kinds_of (slice_get t.funs n)) (signs n).takes f limit entry
-  pub taken : AreTaken f.name entry 0 f.params (signs n).takes inner take
-  pub statement : IsStatement p signs (kinds_of (slice_get t.funs n)) (signs n).gives inner
-      (record { breaks = None; continues = None }) f.body from to body
-  pub low : entry.fixed ≤ from.temps
-  pub high : to.temps < entry.size
-  pub code : code_of (slice_get t.funs n) ≡ take (body (end_code (signs n).gives to.temps))
-  pub ends : IsEnd (signs n).gives f.at_end
-  pub name : name_of (slice_get t.funs n) ≡ f.name
+-- The code of a function with a number: it takes the arguments, goes through the body, and ends
+pub record IsFunction (p : Typed) (signs : ℕ → Signature) (it : Option TacFun) (n : ℕ) (f : Fun) (limit : ℕ) : Type 0
+  where
+    pub entry : Scene
+    pub inner : Scene
+    pub take : Code
+    pub body : Code
+    pub from : Mark
+    pub to : Mark
+    pub start : IsStart (kinds_of it) (signs n).takes f limit entry
+    pub taken : AreTaken f.name entry 0 f.params (signs n).takes inner take
+    pub statement : IsStatement p signs (kinds_of it) (signs n).gives inner
+        (record { breaks = None; continues = None }) f.body from to body
+    pub low : entry.fixed ≤ from.temps
+    pub high : to.temps < entry.size
+    pub code : code_of it ≡ take (body (end_code (signs n).gives to.temps))
+    pub ends : IsEnd (signs n).gives f.at_end
+    pub name : name_of it ≡ f.name
 
 -- A function runs as its call means, given calls with fewer turns
 abbrev pub FunctionsRun : Type 0
@@ -142,14 +144,14 @@ FunctionsRun =
     (ops : Operations Store) → IsPlaced ops → (w : World) → AreBytes w →
     (t : Tac) (p : Typed) (objects : ℕ → List ℕ) → HasFrames ops objects →
     (call : ℕ → List Value → Then Store Value) (signs : ℕ → Signature) (funs : List Fun) (n : ℕ) (f : Fun)
-    (limit : ℕ) → f.objects ≡ objects n → IsFunction p signs t n f limit →
+    (limit : ℕ) → f.objects ≡ objects n → IsFunction p signs (slice_get t.funs n) n f limit →
     CallsRun ops w t p objects call signs limit →
-    (vs : List Value) (s : State Store) (c : Caller) (cs : List Caller) (k : Value → State Store → Fate) →
+    (vs : List Value) (s : State Store) (callers : List Caller) (k : Value → State Store → Fate) →
     s.left ≤ limit → IsSound s.mem → s.frame ≤ ops.stack_top → AreOf (signs n).takes vs
     → ((v : Value) (u : State Store) → IsGiven (signs n).gives v → Back ops w t p objects call signs s u →
-    k v u ≡ backs ops w t p objects call signs c cs (given_back (signs n).gives v) u)
+    k v u ≡ backs ops w t p objects call signs callers (given_back (signs n).gives v) u)
     → in_frame ops w funs call n (Some f) vs s k
-    ≡ entered ops w t p objects call signs (ops.enter n s.frame) n vs (record { fun = n; callers = c ∷ cs }) s
+    ≡ entered ops w t p objects call signs (ops.enter n s.frame) n vs (record { fun = n; callers = callers }) s
 
 -- ---- all calls
 
@@ -159,5 +161,5 @@ CallsAreRun =
     (ops : Operations Store) → IsPlaced ops → (w : World) → AreBytes w →
     (t : Tac) (p : Typed) (objects : ℕ → List ℕ) → HasFrames ops objects → (signs : ℕ → Signature) (funs : List Fun)
     → ((limit n : ℕ) → n < length p.funs → (f : Fun) × (slice_get funs n ≡ Some f) × (f.objects ≡ objects n) ×
-    IsFunction p signs t n f limit)
+    IsFunction p signs (slice_get t.funs n) n f limit)
     → (limit : ℕ) → CallsRun ops w t p objects (deep ops w funs) signs limit

@@ -8,6 +8,7 @@ pub mod Simulation
 pub mod Following
 pub mod Calling
 pub mod Functions
+pub mod Shortened
 pub mod Laws
 pub mod StatementLaws
 pub mod Result

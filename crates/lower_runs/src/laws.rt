@@ -9,6 +9,7 @@ ghost use Rattle.lower_runs.specs.Result.{ExpressionsRun, StatementsAreRun};
 ghost use Rattle.lower_runs.specs.Laws.{Everywhere, OperandRules, ValueRules, LoadRules, PlaceRules, ConditionRules};
 ghost use Rattle.lower_runs.specs.Frames.{FramesAreLegal};
 ghost use Rattle.lower_runs.specs.Functions.{ArgumentsAreTaken, CallsAreRun, FunctionsEnd, FunctionsRun};
+ghost use Rattle.lower_runs.specs.Shortened.{ShortCodeRuns};
 ghost use Rattle.lower_runs.specs.Laws.{EffectRules, AssignmentRules, OperationsArePlaced};
 
 /// Operands: values that stand in a temp already, and those that come into a new one.
@@ -101,7 +102,7 @@ pub fn arguments_are_taken()
     ensures { ArgumentsAreTaken }
 {}
 
-/// The end of a function, behind its body, goes back to the caller.
+/// The end of a function, behind its body, goes back to the caller, or ends the run.
 #[tactic(auto, using(crate::proofs::Ends::functions_end))]
 pub fn functions_end()
     ensures { FunctionsEnd }
@@ -115,6 +116,12 @@ pub fn functions_run()
 /// Calls as deep as the turns allow do what the code of their functions does.
 pub fn calls_are_run()
     ensures { CallsAreRun }
+{}
+
+/// Code that lacks what stands behind a return, where no label stands among that, runs alike.
+#[tactic(auto, using(crate::proofs::Shortened::short_code_runs))]
+pub fn short_code_runs()
+    ensures { ShortCodeRuns }
 {}
 
 /// Code that the relation makes of expressions does what they mean, given calls, in a world that gives bytes.

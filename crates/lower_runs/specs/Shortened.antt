@@ -1,0 +1,38 @@
+-- Code that lacks what stands behind a return, where no run comes.
+use Rattle.std.specs.Prelude.{◌≡◌, ℕ, List, [], ◌∷◌, Option}
+use Rattle.ck_base.specs.World.{World}
+use Rattle.c_tree.specs.declared.typed.Typed.{Typed}
+use Rattle.obj_mem.specs.declared.map.Map.{Map}
+use Rattle.tac_ir.specs.Meaning.{tac}
+use Rattle.tac_ir.specs.declared.code.Tac.{Tac}
+use Rattle.tac_ir.specs.declared.code.TacFun.{TacFun}
+use Rattle.tac_ir.specs.declared.code.TacInstr.{TacInstr}
+use Rattle.tac_ir.specs.declared.code.TacInstr.TheVariants as instr
+
+abbrev pub AreUnlabelled : List TacInstr → Type 0
+AreUnlabelled [] = Unit {0}
+AreUnlabelled (instr.Label l ∷ is) = ⊥
+AreUnlabelled (i ∷ is) = AreUnlabelled is
+
+-- The first list has the instructions of the second, but for those behind a return, where no label stands among these
+pub data IsShort : List TacInstr → List TacInstr → Type 0 where
+  end : IsShort [] []
+  left : {v : Option ℕ} {is : List TacInstr} → AreUnlabelled is → IsShort (instr.Return v ∷ []) (instr.Return v ∷ is)
+  next : {i : TacInstr} {is js : List TacInstr} → IsShort is js → IsShort (i ∷ is) (i ∷ js)
+
+pub record IsShortFun (short whole : TacFun) : Type 0 where
+  pub name : short.name ≡ whole.name
+  pub kinds : short.kinds ≡ whole.kinds
+  pub code : IsShort short.code whole.code
+
+abbrev pub AreShort : List TacFun → List TacFun → Type 0
+AreShort [] [] = Unit {0}
+AreShort [] (g ∷ gs) = ⊥
+AreShort (f ∷ fs) [] = ⊥
+AreShort (f ∷ fs) (g ∷ gs) = IsShortFun f g × AreShort fs gs
+
+-- Then they run alike
+abbrev pub ShortCodeRuns : Type 0
+ShortCodeRuns =
+    (t u : Tac) → AreShort t.funs u.funs → (p : Typed) (m : Map) (w : World) (turns : ℕ) →
+    tac t p m w turns ≡ tac u p m w turns
