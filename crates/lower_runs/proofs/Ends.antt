@@ -1,5 +1,5 @@
 -- The end of a function.
-use Rattle.std.proofs.Common.{◌≡◌, ℕ, suc, ◌≤◌, ◌<◌, length, List, [], ◌∷◌, Option, Some, None, refl, sym, ap, subst}
+use Rattle.std.proofs.Common.{◌≡◌, ℕ, suc, ◌≤◌, length, List, [], ◌∷◌, Option, Some, None, refl, sym, ap, subst}
 use Rattle.std.proofs.Common.{◌∙◌, arith}
 use Rattle.std.specs.Prelude.{slice_set}
 use Rattle.ck_base.specs.World.{World}
@@ -22,15 +22,16 @@ use Rattle.lower_runs.specs.Expressions.{Signature}
 use Rattle.lower_runs.specs.Simulation.{goes}
 use Rattle.lower_runs.specs.Following.{given_back, IsGiven, Came}
 use Rattle.lower_runs.specs.Calling.{Back, backs}
-use Rattle.lower_runs.specs.Functions.{end_code, IsEnd, FunctionsEnd}
+use Rattle.lower_runs.specs.Functions.{end_code, HasEndTemp, IsEnd, FunctionsEnd}
 use Rattle.lower_runs.proofs.Agreement.{get_set_same, onward_same, onward_then}
 use Rattle.lower_runs.proofs.Steps.{zero_is_of, constant, constant_zero, constant_runs, held_is}
 
 module _ (ops : Operations Store) (placed : IsPlaced ops) (w : World) (t : Tac) (p : Typed)
     (objects : ℕ → List ℕ) (call : ℕ → List Value → Then Store Value) (signs : ℕ → Signature) (n : ℕ)
-    (callers : List Caller) (g : Scene) (scene : IsScene g) (f : Fun) (at : ℕ) (there : at < g.size)
+    (callers : List Caller) (g : Scene) (scene : IsScene g) (f : Fun) (gives : Option TacKind) (at : ℕ)
+    (there : HasEndTemp gives at g.size)
     (own : f.objects ≡ objects n) (caller s : State Store) (on : IsOnward ops caller.mem s.mem)
-    (fewer : s.left ≤ caller.left) (k : Value → State Store → Fate) (gives : Option TacKind)
+    (fewer : s.left ≤ caller.left) (k : Value → State Store → Fate)
     (goes_back : (v : Value) (u : State Store) → IsGiven gives v → Back ops w t p objects call signs caller u →
     k v u ≡ backs ops w t p objects call signs callers (given_back gives v) u) where
   abbrev r : Running
@@ -102,7 +103,7 @@ module _ (ops : Operations Store) (placed : IsPlaced ops) (w : World) (t : Tac) 
       ∙ returned_alike (constant j 0) u us (slice_set us at (Some (constant j 0)))
       ∙ ap (λ z. returned z u (slice_set us at (Some (constant j 0)))) (sym (held_is ops w t p objects r call g scene
       (slice_set us at (Some (constant j 0))) at (constant j 0)
-      (get_set_same us at (Some (constant j 0)) (omega arith))))
+      (get_set_same us at (Some (constant j 0)) (let lt = subst (λ z. HasEndTemp z at g.size) e there in omega arith))))
       ∙ sym (constant_runs ops w t p objects r call g scene j at 0 (instr.Return (Some at) ∷ []) u us)
 
   pub ends : (o : Option TacKind) (e : At_end) → gives ≡ o → IsEnd o e → (u : State Store)
@@ -127,10 +128,11 @@ functions_end ops placed w t p objects call signs n callers g scene f at there e
       goes_on = λ u us came ag. ended f.at_end u us end ag.room came;
       breaks = λ b e. absurd cc;
       continues = λ b e. absurd cc;
-      returns = λ v u us came given. leaves ops placed w t p objects call signs n callers g scene f at there own caller
+      returns = λ v u us came given. leaves ops placed w t p objects call signs n callers g scene f
+          (signs n).gives at there own caller
           s
           on
-          fewer k (signs n).gives goes_back v u us came given;
+          fewer k goes_back v u us came given;
     }
   where
     ended : (e : At_end) (u : State Store) (us : List (Option Value)) → IsEnd (signs n).gives e →
@@ -138,5 +140,5 @@ functions_end ops placed w t p objects call signs n callers g scene f at there e
         → (at_end ops w f.name e >>= λ v. close ops w f >> (calls.back ops w caller >> give v)) u k
         ≡ goes ops w t p objects (record { fun = n; callers = callers }) call g (end_code (signs n).gives at) u us
     ended e u us h room came =
-        ends ops placed w t p objects call signs n callers g scene f at there own caller s on fewer
-        k (signs n).gives goes_back (signs n).gives e refl h u us room came
+        ends ops placed w t p objects call signs n callers g scene f (signs n).gives at there own caller s on fewer
+        k goes_back (signs n).gives e refl h u us room came

@@ -1,5 +1,5 @@
 -- Frames under a legal map hold the objects of their functions.
-use Rattle.std.proofs.Common.{◌≡◌, ℕ, zero, suc, ◌+◌, ◌-◌, ◌*◌, ◌/◌, ◌%◌, ◌^◌, ◌≤◌, max, Bool, true, false, ◌||◌}
+use Rattle.std.proofs.Common.{◌≡◌, ℕ, zero, suc, ◌+◌, ◌-◌, ◌*◌, ◌/◌, ◌%◌, ◌^◌, ◌≤◌, Bool, true, false, ◌||◌}
 use Rattle.std.proofs.Common.{nat_lt}
 use Rattle.std.proofs.Common.{List, [], ◌∷◌, ◌++◌, length, Option, Some, None, refl, sym, ap, subst, ◌∙◌, inl, inr}
 use Rattle.std.proofs.Common.{arith}
@@ -51,12 +51,6 @@ multiple_then : (a m n : ℕ) → a % m ≡ 0 → m % n ≡ 0 → a % n ≡ 0
 multiple_then a m n h k =
     let e : a ≡ a / m * m = omega (arith, div-add-mod' a m) in
     subst (λ v. v % n ≡ 0) (sym e) (multiple_of (a / m) m n k)
-
-power_max : (a b i j : ℕ) → a ≡ 2 ^ i → b ≡ 2 ^ j → (k : ℕ) × (max a b ≡ 2 ^ k)
-power_max a b i j p q = elim (cases_lt a b) as (λ _. (k : ℕ) × (max a b ≡ 2 ^ k)) [
-  | inl less ↦ (j, let e : max a b ≡ b = omega arith in e ∙ q)
-  | inr more ↦ (i, let e : max a b ≡ a = omega arith in e ∙ p)
-]
 
 -- ---- frames
 
@@ -147,14 +141,8 @@ module _ (needs : Needs) (map : Map) (objects : ℕ → List ℕ) (legal : IsLeg
       let framed : frame % alignment o.0.length ≡ 0 =
       subst (λ v. v % alignment o.0.length ≡ 0) (sym r.here)
       (multiple_of ((above - r.it.size) / r.it.align) r.it.align (alignment o.0.length) divides) in
-      let whole = power_max 16 (max o.0.align (alignment o.0.length)) 4 (power_max o.0.align (alignment o.0.length) o.3
-      two.0 o.4 two.2).0 refl (power_max o.0.align (alignment o.0.length) o.3 two.0 o.4 two.2).1 in
       let offset : slot.0.at % alignment o.0.length ≡ 0 =
-      multiple_then slot.0.at (alignment_of o.0) (alignment o.0.length) s.aligned
-      (subst (λ v. alignment_of o.0 % v ≡ 0) (sym two.2)
-      (subst (λ v. v % 2 ^ two.0 ≡ 0) (sym whole.1)
-      (power_divides two.0 whole.0 (subst (λ v. v ≤ 2 ^ whole.0) two.2
-      (subst (λ v. alignment o.0.length ≤ v) whole.1 (omega arith)))))) in
+      multiple_then slot.0.at (alignment_of o.0) (alignment o.0.length) s.aligned o.3 in
       let aligned : place f frame n % alignment long ≡ 0 =
       subst (λ v. place f frame n % alignment v ≡ 0) o.2
       (subst (λ v. (frame + v) % alignment o.0.length ≡ 0) (sym at)

@@ -23,7 +23,7 @@ use Rattle.lower_runs.specs.Operating.{Code}
 use Rattle.lower_runs.specs.Statements.{Exits}
 use Rattle.lower_runs.specs.Simulation.{goes}
 use Rattle.lower_runs.specs.Calling.{AreOf, entered, CallsRun}
-use Rattle.lower_runs.specs.Functions.{AreTaken, AreFrom, FunctionsRun, behind_body, end_code}
+use Rattle.lower_runs.specs.Functions.{AreTaken, AreFrom, FunctionsRun, HasEndTemp, behind_body, end_code}
 use Rattle.lower_runs.specs.Functions as taken
 use Rattle.lower_runs.proofs.Agreement.{onward_then}
 use Rattle.lower_runs.proofs.Bodies.{statements_are_run}
@@ -167,13 +167,13 @@ functions_run ops placed w bytes t p objects frames call signs funs n f limit ow
     inside : (a : ℕ) → ops.enter n s.frame ≡ Some a →
         pass ops w f.name f.params vs (at_entry a (objects n))
         (λ x u. exec ops w call f.body u (λ fl y. behind_body ops w f s k fl y))
-        ≡ goes ops w t p objects r call is.entry (is.take (is.body (end_code (signs n).gives is.to.temps)))
+        ≡ goes ops w t p objects r call is.entry (is.take (is.body (end_code (signs n).gives is.at)))
         (at_entry a (objects n)) (entry_temps kinds vs)
     inside a e =
         arguments_taken ops placed w t p objects r call (signs n).gives f.name is.entry is.inner 0 f.params
         (signs n).takes is.take is.start.scene is.taken (at_entry a (objects n)) (entry_temps kinds vs) vs
         (λ x u. exec ops w call f.body u (λ fl y. behind_body ops w f s k fl y))
-        (is.body (end_code (signs n).gives is.to.temps)) (agrees a e) typed
+        (is.body (end_code (signs n).gives is.at)) (agrees a e) typed
         (all_from vs (map zero_temp (drop (length vs) kinds)) (entry_temps kinds vs) 0
         (λ j. ap (slice_get (entry_temps kinds vs)) (from_start j)))
         (λ u us came ag.
@@ -183,13 +183,13 @@ functions_run ops placed w bytes t p objects frames call signs funs n f limit ow
         (subst (CallsRun ops w t p objects call signs) (sym (same.2 ∙ is.start.limited)) runs) exits f.body is.from
         is.to
         is.body is.statement in
-        statement.runs u us (λ fl y. behind_body ops w f s k fl y) (end_code (signs n).gives is.to.temps)
+        statement.runs u us (λ fl y. behind_body ops w f s k fl y) (end_code (signs n).gives is.at)
         (record { low = omega arith; high = omega arith }) (record { breaks = tt; continues = tt })
         (λ o ge lt. ap (behind o) is.code
         ∙ taken_plain f.name is.entry is.inner 0 f.params (signs n).takes is.take is.taken o
-        (is.body (end_code (signs n).gives is.to.temps))) ag
-        (functions_end ops placed w t p objects call signs n callers is.inner inner f is.to.temps
-        (omega arith) is.ends own
+        (is.body (end_code (signs n).gives is.at))) ag
+        (functions_end ops placed w t p objects call signs n callers is.inner inner f is.at
+        (subst (HasEndTemp (signs n).gives is.at) (sym size) is.room) is.ends own
         s u (onward_then ops s.mem (at_entry a (objects n)).mem u.mem entered_frame came.onward) came.left k
         goes_back))
 

@@ -35,3 +35,6 @@ pub mod Switches
 pub mod Cases
 pub mod Switched
 pub mod Shortened
+pub mod Needs
+pub mod Starts
+pub mod Programs

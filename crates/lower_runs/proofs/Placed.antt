@@ -252,7 +252,7 @@ module _ (a : Addresses) where
       by (Some None) e = tt
       by (Some (Some v)) e = each_get IsHeld c.values i (Some v) h.values e
 
-  abbrev IsPiece : Piece → Type 0
+  abbrev pub IsPiece : Piece → Type 0
   IsPiece (Tagged v) = IsPointer v
   IsPiece (Plain cs) = Each IsByte cs
 
@@ -353,11 +353,11 @@ module _ (a : Addresses) where
             (piece_filled m.shapes c s.at u (each_get IsFilled m.contents s.object c h e) (k h)),
       ))
 
-  bytes_all : (n x : ℕ) → Each IsByte (bytes_of n x)
+  pub bytes_all : (n x : ℕ) → Each IsByte (bytes_of n x)
   bytes_all zero x = tt
   bytes_all (suc n) x = (omega arith, bytes_all n (x / 256))
 
-  stored_is : (k : Kind) (n : ℕ) (v : Value) → IsOf k v → IsPiece (stored_piece n v)
+  pub stored_is : (k : Kind) (n : ℕ) (v : Value) → IsOf k v → IsPiece (stored_piece n v)
   stored_is k n (Int x) h = bytes_all n x
   stored_is k n (Raw address upper) h =
       each_append IsByte (bytes_of 8 address) (bytes_of 8 upper) (bytes_all 8 address) (bytes_all 8 upper)
@@ -368,9 +368,9 @@ module _ (a : Addresses) where
       no : (x : ℕ) → Live object low high offset permissions ≡ Int x → ⊥
       no x e = cc
 
-  pub store_keeps : (m : Memory) (to v : Value) (n : ℕ) (k : Kind) → IsOf k v → Answers (Keeps m) (store d m to n v)
+  store_keeps : (m : Memory) (to v : Value) (n : ℕ) → IsPiece (stored_piece n v) → Answers (Keeps m) (store d m to n v)
   unfolding store
-  store_keeps m to v n k h = put_keeps m to n (stored_piece n v) (λ filled. stored_is k n v h)
+  store_keeps m to v n h = put_keeps m to n (stored_piece n v) (λ filled. h)
 
   carried_is : (m : Memory) (u : Piece) → Fetched m u → Answers (Fetched m) (carried u)
   carried_is m (Tagged v) k = k
@@ -639,6 +639,12 @@ module _ (needs : Needs) (map : Map) (legal : IsLegal needs map) where
   onward_stored s new (Ok x) k e = subst (IsOnward ops s) (same_ok (with_memory s x) new _ refl e) (onward_kept s x k)
   onward_stored s new (Err f) k e = absurd cc
 
+  pub onward_store : (s new : Store) (to v : Value) (n : ℕ) → IsPiece at_map (stored_piece n v) →
+      ops.store s to n v ≡ Ok new → IsOnward ops s new
+  unfolding operations
+  onward_store s new to v n h =
+      onward_stored s new (store (Placed at_map) s.memory to n v) (store_keeps at_map s.memory to v n h)
+
   onward_copied : (s new : Store) (r : Result Memory UnitFault) → Answers (Keeps at_map s.memory) r →
       copied s r ≡ Ok new → IsOnward ops s new
   onward_copied s new (Ok x) k e = subst (IsOnward ops s) (same_ok (with_memory s x) new _ refl e) (onward_kept s x k)
@@ -784,8 +790,8 @@ module _ (needs : Needs) (map : Map) (legal : IsLegal needs map) where
     whole_pointer = λ m object permissions sound lt. whole_is m object permissions sound lt;
     load_pointer = λ m from v sound e. answered IsPointer (load (Placed at_map) m.memory from 16) v
         (load_gives at_map m.memory from sound.contents) e;
-    store = λ m new to v k h e. onward_stored m new (store (Placed at_map) m.memory to (kinds.bytes_of k) v)
-        (store_keeps at_map m.memory to v (kinds.bytes_of k) k h) e;
+    store = λ m new to v k h e. onward_store m new to v (kinds.bytes_of k)
+        (stored_is at_map k (kinds.bytes_of k) v h) e;
     allocate = λ m n sound. allocates m n;
     copy_unit = λ m new from to n e. onward_copied m new (copy_unit (Placed at_map) m.memory from to n)
         (copy_keeps at_map m.memory from to n) e;

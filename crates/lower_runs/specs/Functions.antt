@@ -34,6 +34,11 @@ abbrev pub end_code : Option TacKind → ℕ → List TacInstr
 end_code None at = instr.Return None ∷ []
 end_code (Some k) at = instr.Const at k 0 ∷ instr.Return (Some at) ∷ []
 
+-- the value of an end has a temp
+abbrev pub HasEndTemp : Option TacKind → (at size : ℕ) → Type 0
+HasEndTemp None at size = Unit {0}
+HasEndTemp (Some k) at size = at < size
+
 -- what a function gives whose body was gone through has the kind that it gives
 abbrev pub IsEnd : Option TacKind → At_end → Type 0
 IsEnd None Gives_nothing = Unit {0}
@@ -59,7 +64,7 @@ FunctionsEnd =
     (ops : Operations Store) → IsPlaced ops →
     (w : World) (t : Tac) (p : Typed) (objects : ℕ → List ℕ) (call : ℕ → List Value → Then Store Value)
     (signs : ℕ → Signature) (n : ℕ) (callers : List Caller) (g : Scene) → IsScene g → (f : Fun) (at : ℕ) →
-    at < g.size → IsEnd (signs n).gives f.at_end → f.objects ≡ objects n
+    HasEndTemp (signs n).gives at g.size → IsEnd (signs n).gives f.at_end → f.objects ≡ objects n
     → (caller s : State Store) → IsOnward ops caller.mem s.mem → s.left ≤ caller.left
     → (k : Value → State Store → Fate)
     → ((v : Value) (u : State Store) → IsGiven (signs n).gives v → Back ops w t p objects call signs caller u →
@@ -133,8 +138,10 @@ pub record IsFunction (p : Typed) (signs : ℕ → Signature) (it : Option TacFu
     pub statement : IsStatement p signs (kinds_of it) (signs n).gives inner
         (record { breaks = None; continues = None }) f.body from to body
     pub low : entry.fixed ≤ from.temps
-    pub high : to.temps < entry.size
-    pub code : code_of it ≡ take (body (end_code (signs n).gives to.temps))
+    pub high : to.temps ≤ entry.size
+    pub at : ℕ
+    pub room : HasEndTemp (signs n).gives at entry.size
+    pub code : code_of it ≡ take (body (end_code (signs n).gives at))
     pub ends : IsEnd (signs n).gives f.at_end
     pub name : name_of it ≡ f.name
 

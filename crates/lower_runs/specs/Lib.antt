@@ -9,6 +9,7 @@ pub mod Following
 pub mod Calling
 pub mod Functions
 pub mod Shortened
+pub mod Programs
 pub mod Laws
 pub mod StatementLaws
 pub mod Result

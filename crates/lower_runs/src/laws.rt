@@ -9,6 +9,7 @@ ghost use Rattle.lower_runs.specs.Result.{ExpressionsRun, StatementsAreRun};
 ghost use Rattle.lower_runs.specs.Laws.{Everywhere, OperandRules, ValueRules, LoadRules, PlaceRules, ConditionRules};
 ghost use Rattle.lower_runs.specs.Frames.{FramesAreLegal};
 ghost use Rattle.lower_runs.specs.Functions.{ArgumentsAreTaken, CallsAreRun, FunctionsEnd, FunctionsRun};
+ghost use Rattle.lower_runs.specs.Programs.{ProgramsRun};
 ghost use Rattle.lower_runs.specs.Shortened.{ShortCodeRuns};
 ghost use Rattle.lower_runs.specs.Laws.{EffectRules, AssignmentRules, OperationsArePlaced};
 
@@ -122,6 +123,12 @@ pub fn calls_are_run()
 #[tactic(auto, using(crate::proofs::Shortened::short_code_runs))]
 pub fn short_code_runs()
     ensures { ShortCodeRuns }
+{}
+
+/// The code of a sound program runs under a legal map as the program means.
+#[tactic(auto, using(crate::proofs::Programs::programs_run))]
+pub fn programs_run()
+    ensures { ProgramsRun }
 {}
 
 /// Code that the relation makes of expressions does what they mean, given calls, in a world that gives bytes.
