@@ -10,6 +10,7 @@ use Rattle.cap_ops.specs.declared.access.Access.TheVariants as A
 use Rattle.cap_ops.specs.declared.access.Cause.TheVariants as C
 use Rattle.cap_ops.specs.declared.capability.Cap.{Cap}
 use Rattle.cap_ops.specs.declared.capability.TheConstants.{UNSEALED, SENTRY, EXECUTE}
+use Rattle.cap_ops.specs.Bounded.{bounded}
 use Rattle.cap_ops.specs.Access.{fails, in_order, answer, checked}
 use Rattle.cap_ops.specs.Capability.{base, top, lacks, with_otype}
 use Rattle.cap_ops.proofs.Laws.{bounded_bounds, bounded_moved}
@@ -21,63 +22,70 @@ use Rattle.cap_machine.specs.Rows.{plus, trap, jump, unsealed, entered, cjalr_ch
 use Rattle.obj_mem.specs.Values.{Int, Live, Fun, Raw, Addresses, capability_of}
 use Rattle.obj_mem.specs.Objects.{base_in}
 use Rattle.obj_mem.specs.Access.{misses}
-use Rattle.place_inject.specs.Calling.{code_at, CalleesFit}
+use Rattle.place_inject.specs.Calling.{CalleesFit}
 use Rattle.place_inject.proofs.Checked.{Points, pointer, pointer_checked, untagged_checked}
 use Rattle.place_inject.proofs.Known.{pointer_is, plus_zero, integer_tag, raw_tag, points}
 use Rattle.place_inject.proofs.ReadBack.{none_fails}
 
--- ---- a sentry
+-- ---- a sentry of a place in the text
 
-module _ (a : Addresses) (f : ℕ) (enc : Encodable a.text a.text_end) (from : a.text ≤ a.entry f)
-    (to : a.entry f + 4 ≤ a.text_end) (aligned : a.entry f % 4 ≡ 0) (high : a.text_end ≤ 2 ^ 40) where
+module _ (low high at : ℕ) (enc : Encodable low high) (from : low ≤ at) (to : at + 4 ≤ high) (aligned : at % 4 ≡ 0)
+    (end : high ≤ 2 ^ 40) where
+  abbrev sentry : Cap
+  sentry = bounded low high code_permissions SENTRY at
+
   abbrev code : Cap
-  code = code_at a (a.entry f)
+  code = bounded low high code_permissions UNSEALED at
 
-  entered_is : (at : ℕ → ℕ) → entered (capability_of a at (Fun f)) (pos 0) ≡ code
-  unfolding capability_of with_bounds unsealed with_otype kept_of
-  entered_is at = refl
+  entered_is : entered sentry (pos 0) ≡ code
+  unfolding with_bounds unsealed with_otype kept_of
+  entered_is = refl
 
-  code_address : code.fields.address ≡ a.entry f
+  code_address : code.fields.address ≡ at
   unfolding with_bounds
   code_address = refl
 
-  not_sealed : fails code (a.entry f) A.Jump C.Sealed ≡ false
+  not_sealed : fails code at A.Jump C.Sealed ≡ false
   unfolding with_bounds
   not_sealed = refl
 
-  may_execute : fails code (a.entry f) A.Jump C.Execute ≡ false
+  may_execute : fails code at A.Jump C.Execute ≡ false
   unfolding with_bounds
   may_execute = refl
 
-  code_bounds : (base code ≡ a.text) × (top code ≡ a.text_end)
-  code_bounds = bounded_bounds a.text a.text_end code_permissions UNSEALED (a.entry f) enc
-      (omega (arith, from, to, high)) from (omega (arith, to))
+  code_bounds : (base code ≡ low) × (top code ≡ high)
+  code_bounds = bounded_bounds low high code_permissions UNSEALED at enc (omega (arith, from, to, end)) from
+      (omega (arith, to))
 
-  code_checked : checked code (a.entry f) A.Jump ≡ Ok (a.entry f)
+  code_checked : checked code at A.Jump ≡ Ok at
   unfolding checked
   code_checked =
       let q = code_bounds in
-      let bounds : (ltb (a.entry f) (base code) || ltb (top code) (a.entry f + 4)) ≡ false =
-      or_from _ _ (le-ltb (a.entry f) (base code) (let e = q.0 in omega (arith, e, from)))
-      (le-ltb (top code) (a.entry f + 4) (let e = q.1 in omega (arith, e, to))) in
-      let align : not (a.entry f % 4 == 0) ≡ false = ap not (eq-eqb (a.entry f % 4) 0 aligned) in
-      ap (answer (a.entry f)) (none_fails (fails code (a.entry f) A.Jump) refl not_sealed refl refl refl may_execute
-      bounds
-      align)
+      let bounds : (ltb at (base code) || ltb (top code) (at + 4)) ≡ false =
+      or_from _ _ (le-ltb at (base code) (let e = q.0 in omega (arith, e, from)))
+      (le-ltb (top code) (at + 4) (let e = q.1 in omega (arith, e, to))) in
+      let align : not (at % 4 == 0) ≡ false = ap not (eq-eqb (at % 4) 0 aligned) in
+      ap (answer at) (none_fails (fails code at A.Jump) refl not_sealed refl refl refl may_execute bounds align)
 
-  sentry_called : (m : Machine) (link rs : ℕ) (at : ℕ → ℕ) → register m rs ≡ capability_of a at (Fun f)
-      → cjalr_row m link rs (pos 0) ≡ jump m link code
+  -- a jump to it goes there
+  pub sentry_enters : (m : Machine) (link rs : ℕ) → register m rs ≡ sentry →
+      cjalr_row m link rs (pos 0) ≡ jump m link code
   unfolding cjalr_row
-  sentry_called m link rs at holds =
+  sentry_enters m link rs holds =
       let q = code_bounds in
-      let place : plus code.fields.address (pos 0) ≡ a.entry f =
-      ap (λ x. plus x (pos 0)) code_address ∙ plus_zero (a.entry f) (omega (arith, to, high)) in
+      let place : plus code.fields.address (pos 0) ≡ at =
+      ap (λ x. plus x (pos 0)) code_address ∙ plus_zero at (omega (arith, to, end)) in
       ap (λ r. cjalr_checked m link (entered r (pos 0))
       (checked (entered r (pos 0)) (plus (entered r (pos 0)).fields.address (pos 0)) A.Jump)) holds
-      ∙ ap (λ c. cjalr_checked m link c (checked c (plus c.fields.address (pos 0)) A.Jump)) (entered_is at)
+      ∙ ap (λ c. cjalr_checked m link c (checked c (plus c.fields.address (pos 0)) A.Jump)) entered_is
       ∙ ap (λ x. cjalr_checked m link code (checked code x A.Jump)) place
       ∙ ap (cjalr_checked m link code) code_checked
-      ∙ ap (jump m link) (bounded_moved a.text a.text_end code_permissions (a.entry f) (a.entry f) q.0 q.1 q.0 q.1)
+      ∙ ap (jump m link) (bounded_moved low high code_permissions at at q.0 q.1 q.0 q.1)
+
+function_is : (a : Addresses) (base : ℕ → ℕ) (f : ℕ)
+    → capability_of a base (Fun f) ≡ bounded a.text a.text_end code_permissions SENTRY (a.entry f)
+unfolding capability_of
+function_is a base f = refl
 
 -- ---- a value without a tag
 
@@ -135,9 +143,8 @@ callees_fit_law functions a objects m fit lie link rs (Int n) k holds =
 callees_fit_law functions a objects m fit lie link rs (Raw address upper) k holds =
     untagged_called m link rs _ holds (raw_tag a (base_in objects.shapes) address upper)
 callees_fit_law functions a objects m fit lie link rs (Fun f) k holds =
-    sentry_called a f lie.exact (fit.spread.in_text f k).0 (lie.within f k)
-    (lie.aligned f k) fit.spread.text_to m link rs
-    (base_in objects.shapes) holds
+    sentry_enters a.text a.text_end (a.entry f) lie.exact (fit.spread.in_text f k).0 (lie.within f k) (lie.aligned f k)
+    fit.spread.text_to m link rs (holds ∙ function_is a (base_in objects.shapes) f)
 callees_fit_law functions a objects m fit lie link rs (Live o low high at perms) k holds =
     pointer_called k.shape.base low high at perms
     (points functions a objects m.mem fit o low high at perms k) k.no_execute

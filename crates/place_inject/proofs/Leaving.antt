@@ -9,14 +9,15 @@ use Rattle.cheri_c_sem.specs.Calls.{end_locals}
 use Rattle.cheri_c_sem.specs.Modes.{Store, operations, placed_plan, with_memory}
 use Rattle.cheri_c_sem.specs.Steps.{State}
 use Rattle.obj_mem.specs.Legal.{ObjectNeed}
-use Rattle.obj_mem.specs.Objects.{Shape, end}
+use Rattle.obj_mem.specs.Objects.{Shape, end, base_in}
 use Rattle.obj_mem.specs.Table.{addresses_of}
-use Rattle.obj_mem.specs.Values.{Addresses}
+use Rattle.obj_mem.specs.Values.{Value, Addresses, capability_of}
 use Rattle.placement.proofs.Ended.{Ends, ends}
 use Rattle.placement.proofs.Shapes.{AreFrom, IsFrom, clear_same}
 use Rattle.reg_alloc.specs.Placed.{IsKept}
 use Rattle.tac_ir.specs.Meaning.{Caller}
 use Rattle.tac_ir.specs.declared.code.TacInstr.{TacInstr}
+use Rattle.place_inject.specs.Values.{IsKnown}
 use Rattle.place_inject.specs.Objects.{ObjectsFit}
 use Rattle.place_inject.specs.Parts.{TableFits, HeapFits}
 use Rattle.place_inject.specs.Frames.{Setting, Registers, IsAt, IsLive, Waits, GlobalsFit, LocalsFit, HomesFit}
@@ -29,7 +30,7 @@ use Rattle.place_inject.specs.Leaving.{LeavesFit}
 use Rattle.place_inject.specs.Registers.{CallersUseOnly}
 use Rattle.place_inject.proofs.Altered.{homes_later, frame_later}
 use Rattle.place_inject.proofs.FramesKept.{calls_kept}
-use Rattle.place_inject.proofs.Reshaped.{Same, come_and_go_law}
+use Rattle.place_inject.proofs.Reshaped.{Same, known_later, capability_later, come_and_go_law}
 use Rattle.place_inject.proofs.Returning.{returns_clear_law}
 use Rattle.place_inject.proofs.StoresKeep.{same_memory}
 
@@ -73,6 +74,15 @@ module _ (s : Setting) (fun : ℕ) (c : Caller) (cs : List Caller) (left : List 
         let y = back i x.0 x.1 in
         (x.0, x.1, subst (λ u. IsFrom u x.0) (same_Some y.0 g (sym y.1 ∙ e)) y.2);
   }
+
+  -- a value that is known has the capability that it had
+  pub value_stays : (v : Value) → IsKnown shapes (functions_of s) v
+      → IsKnown ended (functions_of s) v
+      × (capability_of (addresses_of s.map) (base_in ended) v ≡ capability_of (addresses_of s.map) (base_in shapes) v)
+  value_stays v k = (
+    known_later shapes ended same (functions_of s) v k,
+    capability_later shapes ended same (functions_of s) (addresses_of s.map) v k,
+  )
 
   -- ---- older objects
 
