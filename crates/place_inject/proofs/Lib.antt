@@ -1,6 +1,6 @@
 mod Puts
 mod Contents
-mod Wrote
+pub mod Wrote
 mod Kept
 mod Changed
 mod Checked
@@ -11,9 +11,9 @@ mod Reached
 pub mod Storing
 mod Numbered
 pub mod Loading
-mod Elsewhere
-mod Lying
-mod FramesKept
+pub mod Elsewhere
+pub mod Lying
+pub mod FramesKept
 pub mod StoresKeep
 pub mod Reaching
 pub mod Stepping
@@ -29,9 +29,9 @@ mod Turned
 pub mod Pointing
 pub mod Getting
 mod Reshaped
-mod Altered
+pub mod Altered
 pub mod Leaving
-mod Locals
+pub mod Locals
 pub mod Entering
 pub mod Zeroing
 pub mod Granules

@@ -5,7 +5,7 @@ use Rattle.std.specs.Prelude.{slice_get, slice_set, Result, Ok, Err}
 use Rattle.std.proofs.lemmas.Bool.{and_parts}
 use Rattle.std.proofs.lemmas.List.{length-append}
 use Rattle.std.proofs.lemmas.Option.{slice_get_within}
-use Rattle.ck_base.specs.Runs.{Goes as Acted, Ends}
+use Rattle.ck_base.specs.Runs.{Goes as Acted}
 use Rattle.ck_base.specs.World.{World}
 use Rattle.ck_base.specs.declared.positions.Pos.{Pos}
 use Rattle.ck_int.specs.declared.kinds.IntKind.{IntKind}
@@ -23,7 +23,6 @@ use Rattle.rv_instr.specs.declared.ops.StoreOp.TheVariants.{Sb, Sh, Sw, Sd, Csc}
 use Rattle.rv_instr.specs.declared.ops.RegOp.TheVariants as regs
 use Rattle.tag_mem.specs.Areas.{is_inside}
 use Rattle.cap_machine.specs.declared.machine.Machine.{Machine}
-use Rattle.cap_machine.specs.declared.end.End.TheVariants.{Trap}
 use Rattle.cap_machine.specs.declared.end.Step.{Step}
 use Rattle.cap_machine.specs.declared.end.Step.TheVariants.{Next, Ended}
 use Rattle.cap_machine.specs.Integers.{loaded_kind, loaded_bytes, stored_bytes, result_of}
@@ -66,7 +65,7 @@ use Rattle.select_runs.specs.Forms.{OfOne}
 use Rattle.select_runs.specs.Kinds.{IsOfKind, AreOfKinds}
 use Rattle.select_runs.specs.Operands.{ground_of, IsText, IsAtPoint}
 use Rattle.select_runs.specs.Results.{Computed, before, behind, kinds_in, code_in, IsSelectable}
-use Rattle.select_runs.proofs.Acts.{fetched_here, act_on_row, counter_place, next_is, has_front, has_back, join}
+use Rattle.select_runs.proofs.Acts.{fetched_here, next_is, has_front, has_back, join}
 use Rattle.select_runs.proofs.Kinded.{kind_passes, same_turned, kinded_set, has_kind}
 use Rattle.select_runs.proofs.Numbers.{number_at, null_address}
 use Rattle.select_runs.proofs.Points.{laid, there, traps_at}

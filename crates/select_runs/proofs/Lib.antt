@@ -23,3 +23,6 @@ pub mod Zeroing
 pub mod Bringing
 pub mod Copying
 pub mod Services
+pub mod Stretches
+pub mod Epilogue
+pub mod Returning

@@ -60,20 +60,20 @@ use Rattle.select_runs.proofs.Working.{integer_bits, integer_of}
 
 -- ---- the number of the service
 
-makes_service : (k : ℕ) → k < 2 ^ 64 → MakesNumber 17 k (Imm Addi 17 0 (pos k) ∷ [])
+pub makes_service : (k : ℕ) → k < 2 ^ 64 → MakesNumber 17 k (Imm Addi 17 0 (pos k) ∷ [])
 unfolding number_after numbers.plus
 makes_service k small = record { own = ((refl, inr refl), tt); some = omega arith; made = λ x. omega arith }
 
 -- what an environment call does, by that number
 module _ (m : Machine) where
-  abbrev by_number : ℕ → Act Machine End
+  abbrev pub by_number : ℕ → Act Machine End
   by_number n =
       if n == 1 then Puts (low_byte m) (answered m (low_byte m))
       else if n == 2 then Reads (λ byte. answered m (read_value byte))
       else if n == 3 then Ends (end.Exit (low_byte m))
       else Ends (end.Illegal (counter m))
 
-  call_is : (n : ℕ) → integer m 17 ≡ n → call m ≡ by_number n
+  pub call_is : (n : ℕ) → integer m 17 ≡ n → call m ≡ by_number n
   unfolding call
   call_is n e = ap by_number e
 
@@ -276,7 +276,7 @@ unfolding wrapped reduced kept_of
 end_kept = record { kept = refl }
 
 -- the low byte of an argument
-low_byte_is : (a : Addresses) (base : ℕ → ℕ) (v : Value) (m : Machine) → v ≡ Int (number_of v)
+pub low_byte_is : (a : Addresses) (base : ℕ → ℕ) (v : Value) (m : Machine) → v ≡ Int (number_of v)
     → register m 10 ≡ capability_of a base v → low_byte m ≡ number_of v % 256
 low_byte_is a base v m is holds =
     ap (λ (c : Cap). c.fields.address % 256) (holds ∙ ap (capability_of a base) is ∙ integer_bits a base (number_of v))

@@ -14,3 +14,4 @@ pub mod Accesses
 pub mod Zeroing
 pub mod Copying
 pub mod Services
+pub mod Returning

@@ -119,3 +119,15 @@ pub fn takes_run()
 pub fn exits_run()
     ensures { ExitsRun }
 {}
+
+ghost use Rattle.select_runs.specs.Returning.{ReturnsRun, LastReturnsRun};
+
+/// Returns to a caller, which goes on with the result.
+pub fn returns_run()
+    ensures { ReturnsRun }
+{}
+
+/// The return of the first function, by which the run ends.
+pub fn last_returns_run()
+    ensures { LastReturnsRun }
+{}
