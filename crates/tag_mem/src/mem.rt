@@ -75,6 +75,7 @@ impl Mem {
         ensures value { result ≡ number_at self.now at n }
         ensures below { IfSome result (λ v. v < 256 ^ n) }
         ensures by_address { IfSome result (Spells self.now at n) }
+        ensures memory { IfSome result (λ _. IsMemory self.now) }
     {
         let area = self.area_near(near, at)?;
         Some(area.number(at, n))

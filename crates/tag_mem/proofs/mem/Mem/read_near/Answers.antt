@@ -16,6 +16,7 @@ returns-in_err-area c =
       value = none ∙ sym (number_at-nowhere c.args.self.now c.args.at nowhere c.args.n);
       below = rw none tt;
       by_address = rw none tt;
+      memory = rw none tt;
     }
 
 pub number-requires : goal.number-requires
@@ -38,4 +39,5 @@ returns c =
       below = number_at-below memory at c.args.n c.number.result c.in_ok-area.ensures.memory part.granule (sym value);
       by_address = rw c.number.ensures.value (Spells-found memory at c.args.n area c.in_ok-area.ensures.memory
           part.granule found);
+      memory = c.in_ok-area.ensures.memory;
     }
