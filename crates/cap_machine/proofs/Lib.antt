@@ -10,3 +10,4 @@ pub mod Widths
 pub mod KeptRows
 pub mod Containment
 pub mod KeptBounds
+pub mod KeptCode

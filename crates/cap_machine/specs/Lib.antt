@@ -4,3 +4,4 @@ pub mod Rows
 pub mod Step
 pub mod ContainedText
 pub mod Containment
+pub mod Code

@@ -29,7 +29,7 @@ fn unsealed(c: Cap) -> Cap
 }
 
 /// The capability that a jump enters: a sentry is unsealed by a jump to it with immediate 0.
-fn entered(c: Cap, z: i32) -> Cap
+pub fn entered(c: Cap, z: i32) -> Cap
     ensures { result ≡ entered c z }
 {
     if c.fields.otype == SENTRY && extended(z) == 0 {

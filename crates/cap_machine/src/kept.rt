@@ -1,17 +1,15 @@
 //! What one step found out and a later one may use again: the bounds of capabilities with the regions where they
-//! lead, and the instructions of words. No answer depends on it.
+//! lead. No answer depends on it.
 ghost use Rattle.std.specs.Prelude.{◌≡◌, ℕ, ◌+◌, ◌*◌, ◌&&◌, ◌<◌, ◌≤◌, false, Ok, IsTrue};
 ghost use Rattle.cap_concentrate.specs.Decoding.{base_at, top_at, base_of, top_of};
 ghost use Rattle.cap_ops.specs.Access.{IsAccess, answer, checked, size, loads, stores, stores_tagged, jumps};
 ghost use Rattle.cap_ops.specs.Capability.{base, top, permits, lacks};
-ghost use Rattle.rv_code.specs.Decoding.{decode_of};
 
 use cap_concentrate::{Fields, bounds_of};
 use cap_ops::{
     Access, Cap, Cause, EXECUTE, LOAD, STORE, STORE_CAPABILITY, UNSEALED, check as check_anew, null,
 };
-use rv_code::decode;
-use rv_instr::{Instr, Reg};
+use rv_instr::Reg;
 
 /// The bounds that some fields give at the addresses of a block of 2048 bytes.
 #[derive(Clone, Copy)]
@@ -34,20 +32,10 @@ pub struct Reach {
     pub region: usize,
 }
 
-/// What a word decodes to.
-#[derive(Clone, Copy)]
-struct Decoded {
-    word: u32,
-    instruction: Option<Instr>,
-    ghost is: { decode_of word ≡ instruction },
-}
-
-/// Where the counter reaches and what each register last lent to an access, and the words that were last decoded.
+/// What each register last lent to an access.
 #[derive(Drop)]
-pub struct Kept {
-    counter: Reach,
+pub struct Reaches {
     held: [Reach; 32],
-    decoded: [Decoded; 256],
 }
 
 /// The number, or 2^64 - 1 where it is above that.
@@ -74,15 +62,6 @@ fn bounds_anew(f: Fields) -> Bounds
         base,
         top,
     }
-}
-
-#[cold]
-#[inline(never)]
-fn decode_anew(word: u32) -> Decoded
-    ensures { result.instruction ≡ decode_of word }
-{
-    let instruction = decode(word);
-    Decoded { word, instruction }
 }
 
 #[inline(always)]
@@ -218,41 +197,26 @@ fn cause_of(c: &Cap, at: u64, a: Access) -> Option<Cause>
     }
 }
 
-impl Kept {
-    pub fn new() -> Kept {
-        let first = Reach {
+impl Reach {
+    pub fn new() -> Reach {
+        Reach {
             bounds: bounds_anew(null(0).fields),
             region: 0,
-        };
-        Kept {
-            counter: first,
-            held: [first; 32],
-            decoded: [decode_anew(0); 256],
         }
     }
+}
 
-    /// Where the counter reaches.
-    #[inline(always)]
-    pub fn counter(&mut self) -> &mut Reach {
-        &mut self.counter
+impl Reaches {
+    /// Nothing so far.
+    pub fn new() -> Reaches {
+        Reaches {
+            held: [Reach::new(); 32],
+        }
     }
 
     /// Where that reaches which a register holds.
     #[inline(always)]
     pub fn held(&mut self, r: Reg) -> &mut Reach {
         &mut self.held[r.number() as usize]
-    }
-
-    /// The instruction of the word at an address, and None exactly where it has none.
-    #[inline(always)]
-    pub fn decode(&mut self, at: u64, word: u32) -> Option<Instr>
-        ensures { result ≡ decode_of word }
-    {
-        let k = (at / 4 % 256) as usize;
-        if self.decoded[k].word == word {
-            return self.decoded[k].instruction;
-        }
-        self.decoded[k] = decode_anew(word);
-        self.decoded[k].instruction
     }
 }

@@ -7,6 +7,7 @@
 #![tactic(auto)]
 
 mod capability_rows;
+mod code;
 mod end;
 mod integer_rows;
 mod integers;

@@ -1,18 +1,22 @@
 //! One step, and runs.
-ghost use Rattle.std.specs.Prelude.{◌≡◌, ℕ, ◌<◌, ◌-◌, ◌^◌, Option, Some, List};
+ghost use Rattle.std.specs.Prelude.{◌≡◌, ℕ, ◌<◌, ◌-◌, ◌^◌, Option, Some, List, IfOk};
 ghost use Rattle.ck_base.specs.Runs.{outcome, state_and_ending, Puts, Reads};
 ghost use Rattle.ck_base.specs.Calls.{seen, Acted, IsRun, Counted};
+ghost use Rattle.tag_mem.specs.Areas.{IsMemory};
+ghost use Rattle.cap_machine.specs.Code.{Current};
 ghost use Rattle.cap_machine.specs.Rows.{row};
 ghost use Rattle.cap_machine.specs.ContainedText.{Text};
 ghost use Rattle.cap_machine.specs.Containment.{IsContained, Keeps, LeavesContained, StaysContained};
 ghost use Rattle.cap_machine.specs.Step.{fetched, low_byte, answered, read_value, call, is_call, act, limits};
 ghost use Rattle.cap_machine.specs.Step.{ending_of};
 
+use crate::code::Code;
 use crate::end::{End, Step};
-use crate::kept::{Kept, check};
+use crate::kept::{Reach, Reaches, check};
 use crate::machine::Machine;
 use cap_ops::{Access, Cause, null};
 use ck_base::{Sink, Source};
+use rv_code::decode;
 use rv_instr::{Instr, Reg};
 
 /// Whether this is an environment call.
@@ -25,16 +29,44 @@ fn is_call(i: &Instr) -> bool
 impl Machine {
     /// The instruction at the counter, or how the step ends without one.
     #[inline(always)]
-    #[tactic(auto, unfolding(crate::specs::Step::fetched))]
-    fn fetch(&self, kept: &mut Kept) -> Result<Instr, End>
-        ensures { result ≡ fetched self.now }
+    fn fetch(&self, code: &mut Code) -> Result<Instr, End>
+        requires { Current code.old self.now }
+        ensures value { result ≡ fetched self.now }
+        ensures current { Current code.new self.now }
     {
-        let reach = kept.counter();
+        if self.pc.tag {
+            if let Some(i) = code.found(self.counter()) {
+                return Ok(i);
+            }
+        }
+        self.fetch_anew(code)
+    }
+
+    /// The same, which is kept.
+    #[cold]
+    #[inline(never)]
+    fn fetch_anew(&self, code: &mut Code) -> Result<Instr, End>
+        requires { Current code.old self.now }
+        ensures value { result ≡ fetched self.now }
+        ensures current { Current code.new self.now }
+    {
+        match self.decoded(&mut code.reach) {
+            Err(end) => Err(end),
+            Ok(i) => Ok(code.keep(self.counter(), i)),
+        }
+    }
+
+    /// The same, from memory.
+    #[tactic(auto, unfolding(crate::specs::Step::fetched))]
+    fn decoded(&self, reach: &mut Reach) -> Result<Instr, End>
+        ensures value { result ≡ fetched self.now }
+        ensures memory { IfOk result (λ _. IsMemory self.now.mem) }
+    {
         match check(&mut reach.bounds, &self.pc, self.counter(), Access::Jump) {
             Err(cause) => Err(End::Trap(cause, self.counter())),
             Ok(at) => match self.mem.read_near(&mut reach.region, at, 4) {
                 None => Err(End::Trap(Cause::Bounds, self.counter())),
-                Some(word) => match kept.decode(at, word as u32) {
+                Some(word) => match decode(word as u32) {
                     None => Err(End::Illegal(self.counter())),
                     Some(i) => Ok(i),
                 },
@@ -45,7 +77,7 @@ impl Machine {
     /// An instruction that is no environment call.
     #[inline(always)]
     #[tactic(auto, unfolding(crate::specs::Rows::row))]
-    fn row(&mut self, kept: &mut Kept, i: Instr) -> Step
+    fn row(&mut self, reaches: &mut Reaches, i: Instr) -> Step
         ensures { (result, self.new) ≡ row self.old i }
     {
         match i {
@@ -53,9 +85,9 @@ impl Machine {
             Instr::Cjal(rd, z) => self.cjal_row(rd, z),
             Instr::Cjalr(rd, rs1, z) => self.cjalr_row(rd, rs1, z),
             Instr::Branch(op, rs1, rs2, z) => self.branch_row(op, rs1, rs2, z),
-            Instr::Load(op, rd, rs1, z) => self.load_row(kept.held(rs1), op, rd, rs1, z),
-            Instr::Store(op, rs2, rs1, z) => self.store_row(kept.held(rs1), op, rs2, rs1, z),
-            Instr::Clc(rd, rs1, z) => self.clc_row(kept.held(rs1), rd, rs1, z),
+            Instr::Load(op, rd, rs1, z) => self.load_row(reaches.held(rs1), op, rd, rs1, z),
+            Instr::Store(op, rs2, rs1, z) => self.store_row(reaches.held(rs1), op, rs2, rs1, z),
+            Instr::Clc(rd, rs1, z) => self.clc_row(reaches.held(rs1), rd, rs1, z),
             Instr::Imm(op, rd, rs1, z) => self.imm_row(op, rd, rs1, z),
             Instr::Shift(op, rd, rs1, n) => self.shift_row(op, rd, rs1, n),
             Instr::Op(op, rd, rs1, rs2) => self.op_row(op, rd, rs1, rs2),
@@ -144,22 +176,31 @@ impl Machine {
         }
     }
 
-    /// One instruction, by what the steps before it kept.
+    /// One instruction, by what the steps before it found out.
     #[inline(always)]
-    fn next_step<I: Source, O: Sink>(&mut self, kept: &mut Kept, input: &mut I, out: &mut O) -> Step
+    fn next_step<I: Source, O: Sink>(
+        &mut self,
+        code: &mut Code,
+        reaches: &mut Reaches,
+        input: &mut I,
+        out: &mut O,
+    ) -> Step
+        requires { Current code.old self.old }
         ensures acted { Acted limits (act self.old)
             (seen (I.left input.old) (I.faults input.old) (O.held out.old) (O.faults out.old))
             (seen (I.left input.new) (I.faults input.new) (O.held out.new) (O.faults out.new)) self.old self.new
             (ending_of result) }
         ensures contained { StaysContained self.old self.new (ending_of result) }
+        ensures current { Current code.new self.new }
     {
-        match self.fetch(kept) {
+        match self.fetch(code) {
             Err(end) => Step::Ended(end),
             Ok(i) => {
                 if is_call(&i) {
                     self.call(input, out)
                 } else {
-                    self.row(kept, i)
+                    code.prepare(self, &i);
+                    self.row(reaches, i)
                 }
             }
         }
@@ -173,8 +214,9 @@ impl Machine {
             (ending_of result) }
         ensures contained { StaysContained self.old self.new (ending_of result) }
     {
-        let mut kept = Kept::new();
-        self.next_step(&mut kept, input, out)
+        let mut code = Code::new();
+        let mut reaches = Reaches::new();
+        self.next_step(&mut code, &mut reaches, input, out)
     }
 
     /// At most so many instructions: a run over the world of the call, where the source tells its bytes. It ends by
@@ -190,9 +232,10 @@ impl Machine {
             result }
         ensures contained { StaysContained self.old self.new (Some result) }
     {
-        let mut kept = Kept::new();
+        let mut code = Code::new();
+        let mut reaches = Reaches::new();
         for _done in 0..steps {
-            match self.next_step(&mut kept, input, out) {
+            match self.next_step(&mut code, &mut reaches, input, out) {
                 Step::Next => {}
                 Step::Ended(end) => return end,
             }

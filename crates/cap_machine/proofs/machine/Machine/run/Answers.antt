@@ -4,6 +4,7 @@ use Rattle.ck_base.specs.Runs.{state_and_ending}
 use Rattle.ck_base.specs.RunLaws.{Running, Running-first, Running-acted, run_ended, run_all}
 use Rattle.cap_machine.specs.Step.{act, limits}
 use Rattle.cap_machine.proofs.Endings.{own_endings}
+use Rattle.cap_machine.proofs.KeptCode.{empty_current}
 use Rattle.cap_machine.proofs.machine.Machine.run.Goals as goal
 
 pub loop-done-init : goal.loop-done-init
@@ -14,6 +15,7 @@ loop-done-init g c =
     record {
       running = subst (λ k. Running limits act c.args.steps c.args.self.now first first c.args.self.now k) k
           (Running-first limits act c.args.steps c.args.self.now first);
+      current = empty_current c.new-code.result c.args.self.now c.new-code.ensures;
       contained = λ t text has. record { state = has; proper = tt };
     }
 
@@ -29,8 +31,12 @@ loop-done-preserved g c =
     record {
       running = Running-acted limits act c.args.steps c.args.self.now first now _ c.loop-done.self c.next_step.new.self
           _ running c.in-Next.ensures.acted;
+      current = c.in-Next.ensures.current;
       contained = λ t text has. c.in-Next.ensures.contained t text (c.loop-done.invariant.contained t text has).state;
     }
+
+pub next_step-requires : goal.next_step-requires
+next_step-requires g c = c.loop-done.invariant.current
 
 pub returns-in-Ended : goal.returns-in-Ended
 returns-in-Ended g c =
