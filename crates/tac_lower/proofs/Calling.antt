@@ -28,6 +28,7 @@ use Rattle.tac_lower.specs.declared.calls.Service.TheVariants as services
 use Rattle.tac_lower.specs.declared.context.Home.{Home}
 use Rattle.tac_lower.specs.declared.emitter.Emitter.{Emitter}
 use Rattle.tac_lower.specs.declared.types.TypeFacts.{TypeFacts}
+use Rattle.tac_lower.specs.Copied.{copies_in, all_copies_in}
 use Rattle.tac_lower.specs.Emitted.{HasKind, HasInt, HasCapability, HasRoom}
 use Rattle.tac_lower.specs.Nodes.{expression, kind_in, scalar_in, kept_as, or_int, weight_in, weights_in, IsTyped}
 use Rattle.tac_lower.specs.Scenes.{Ready, Scene, Lowered, frame_of}
@@ -161,6 +162,7 @@ pub record ArgumentsTo (fixed : ℕ) (p : Typed) (d : FunDef) (types : List Type
   pub kinds : HaveKinds new ts (map (kind_in p) args)
   pub lowered : Lowered p d types homes old new (4 * weights_in p args)
   pub spends : Spends fixed old new (2 * weights_in p args - length args) (32 * weights_in p args - 21 * length args)
+      (all_copies_in p args)
 
 -- each weighs 1 at least
 pub weights_heavy : (p : Typed) (args : List ℕ) → length args ≤ weights_in p args
@@ -190,12 +192,12 @@ module _ {fixed : ℕ} {p : Typed} {d : FunDef} {types : List TypeFacts} {homes 
       record {
         kinds = tt;
         lowered = lowered_none p d types homes a (4 * weights_in p []) s;
-        spends = within nothing (omega arith) (omega arith);
+        spends = within nothing (omega arith) (omega arith) (omega arith);
       }
 
   pub arguments_more : {a b c : Emitter} {args ts : List ℕ} (x t : ℕ) → ArgumentsTo fixed p d types homes a b args ts →
       HasKind c t (kind_in p x) → Lowered p d types homes b c (4 * weight_in p x) →
-      SpendsOperand fixed (weight_in p x) b c
+      SpendsOperand fixed (weight_in p x) (copies_in p x) b c
       → ArgumentsTo fixed p d types homes a c (args ++ x ∷ []) (ts ++ t ∷ [])
   arguments_more {a = a} {b = b} {c = c} {args = args} {ts = ts} x t h k l s = record {
     kinds =
@@ -206,7 +208,7 @@ module _ {fixed : ℕ} {p : Typed} {d : FunDef} {types : List TypeFacts} {homes 
     lowered = lowered_then p d types homes a b c (4 * weights_in p args) (4 * weight_in p x)
         (4 * weights_in p (args ++ x ∷ [])) h.lowered l weight;
     spends = within (after h.spends s) (omega (arith, more, count, many, heavy (expression p x)))
-        (omega (arith, more, count, many, heavy (expression p x)));
+        (omega (arith, more, count, many, heavy (expression p x))) (omega (arith, copied));
   }
     where
       many : length args ≤ weights_in p args
@@ -214,6 +216,10 @@ module _ {fixed : ℕ} {p : Typed} {d : FunDef} {types : List TypeFacts} {homes 
 
       count : length (args ++ x ∷ []) ≡ length args + 1
       count = length-append args (x ∷ [])
+
+      copied : all_copies_in p (args ++ x ∷ []) ≡ all_copies_in p args + copies_in p x
+      copied = let e = sum_by-append (λ j. copies_in p j) args (x ∷ []) in
+          let f = sum_by-cons (λ j. copies_in p j) x [] in omega (arith, e, f)
 
       more : weights_in p (args ++ x ∷ []) ≡ weights_in p args + weight_in p x
       more = let e = sum_by-append (λ j. weight_in p j) args (x ∷ []) in

@@ -1,12 +1,15 @@
 -- What functions cost, one after another.
-use Rattle.std.proofs.Common.{◌≡◌, ℕ, zero, suc, ◌+◌, ◌<◌, List, [], ◌∷◌, ◌++◌, length, Some, refl, sym, ap, ◌∙◌, subst}
-use Rattle.std.proofs.Common.{arith, length-append}
+use Rattle.std.proofs.Common.{◌≡◌, ℕ, zero, suc, ◌+◌, ◌<◌, ◌≤◌, List, [], ◌∷◌, ◌++◌, length, take, get_or, Some, refl}
+use Rattle.std.proofs.Common.{sym, ap, subst, arith, length-append}
+use Rattle.std.specs.List.{sum_by}
+use Rattle.std.proofs.lemmas.List.Sums.{sum_by_push, sum_by_more}
 use Rattle.std.specs.Prelude.{slice_get}
 use Rattle.c_tree.specs.TreeWeight.{function_weight}
 use Rattle.c_tree.specs.declared.typed.FunDef.{FunDef}
 use Rattle.c_tree.specs.declared.typed.Typed.{Typed}
 use Rattle.obj_mem.specs.Needs.{weight_by, weight_in}
-use Rattle.tac_ir.specs.Within.{FunctionCosts}
+use Rattle.tac_ir.specs.Within.{FunctionCosts, function_copies}
+use Rattle.tac_lower.specs.Copied.{part_copies}
 use Rattle.tac_ir.specs.declared.code.TacFun.{TacFun}
 
 -- the first functions, so many
@@ -34,3 +37,22 @@ costs_more p d fs f i h there q = record {
       (subst (λ z. FunctionCosts (weight_by p (slice_get p.funs z)) f) (sym h.count)
       (subst (λ z. FunctionCosts (weight_by p z) f) (sym there) q));
 }
+
+-- ---- what the first functions copy
+
+abbrev pub copied_by : Typed → List FunDef → ℕ
+copied_by p ds = sum_by (λ (d : FunDef). part_copies p d.body) ds
+
+pub copies_more : (p : Typed) (xs : List FunDef) (i : ℕ) (d : FunDef) (fs : List TacFun) (f : TacFun) → i < length xs →
+    d ≡ get_or xs i d → sum_by function_copies fs ≤ copied_by p (take i xs) →
+    function_copies f ≤ part_copies p d.body →
+    sum_by function_copies (fs ++ f ∷ []) ≤ copied_by p (take (i + 1) xs)
+copies_more p xs i d fs f lt there h q =
+    omega (
+      arith,
+      h,
+      q,
+      sum_by_push function_copies fs f,
+      sum_by_more (λ (e : FunDef). part_copies p e.body) xs i d lt,
+      ap (λ (e : FunDef). part_copies p e.body) there,
+    )

@@ -14,12 +14,12 @@ use Rattle.c_tree.specs.WellTyped.{FunctionFits, declared}
 use Rattle.c_tree.specs.declared.typed.FunDef.{FunDef}
 use Rattle.c_tree.specs.declared.typed.Typed.{Typed}
 use Rattle.tac_ir.specs.Costs.{cost, outgoing, prologue_cost, function_cost}
-use Rattle.tac_ir.specs.Within.{FunctionCosts}
+use Rattle.tac_ir.specs.Within.{FunctionCosts, copied_parts, function_copies}
 use Rattle.tac_ir.specs.declared.code.TacFun.{TacFun}
 use Rattle.tac_lower.specs.declared.emitter.Emitter.{Emitter}
 use Rattle.tac_lower.specs.Functions.{Makes}
 use Rattle.tac_lower.specs.Parts.{is_entered, entered, entered_in, all_entered_in}
-use Rattle.tac_lower.specs.Spent.{places, words}
+use Rattle.tac_lower.specs.Spent.{places, words, copying}
 use Rattle.tac_lower.proofs.Calling.{places_small}
 
 pub entered_one : (d : FunDef) (x : ℕ) → length d.params ≤ x → x < length d.vars → entered d (x ∷ []) ≡ 1
@@ -143,6 +143,14 @@ empty_places e code kinds = omega (arith, ap length kinds, ap outgoing code)
 pub empty_words : (e : Emitter) → e.code.items ≡ [] → words e ≡ 0
 unfolding words
 empty_words e code = ap (sum_by cost) code
+
+pub empty_copying : (e : Emitter) → e.code.items ≡ [] → copying e ≡ 0
+unfolding copying
+empty_copying e code = ap (sum_by copied_parts) code
+
+pub finished_copies : {d : FunDef} {e : Emitter} {f : TacFun} → Makes d e f → function_copies f ≡ copying e
+unfolding copying
+finished_copies m = ap (sum_by copied_parts) m.code
 
 pub finished_costs : {d : FunDef} {e : Emitter} {f : TacFun} (w : ℕ) → Makes d e f → places e ≤ 2 * w
     → 64 + 6 * length d.params + words e ≤ 32 * w → FunctionCosts w f

@@ -24,5 +24,6 @@ pub mod Homes
 pub mod Nothing
 pub mod Keeping
 pub mod Calling
+pub mod Copying
 pub mod Entering
 pub mod Costing

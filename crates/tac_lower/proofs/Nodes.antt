@@ -1,5 +1,6 @@
 -- What typing gives of each expression of a function.
-use Rattle.std.proofs.Common.{◌≡◌, ℕ, zero, suc, ◌+◌, Bool, true, false, List, [], ◌∷◌, map, length, get_or, Some, refl}
+use Rattle.std.proofs.Common.{◌≡◌, ℕ, zero, suc, ◌+◌, ◌≤◌, Bool, true, false, List, [], ◌∷◌, map, length, get_or, Some}
+use Rattle.std.proofs.Common.{refl}
 use Rattle.std.proofs.Common.{sym, ap, ◌∙◌, subst, arith, ⊎_elim, inl, inr, ◌⊎◌}
 use Rattle.std.specs.Prelude.{slice_get, sum_by, ◌==◌, ◌||◌}
 use Rattle.std.proofs.lemmas.Option.{slice_get_within}
@@ -29,6 +30,7 @@ use Rattle.c_tree.specs.WellTyped.{Decays, PointsToComplete, holds}
 use Rattle.c_tree.proofs.Forest.{forest_reads}
 use Rattle.tac_ir.specs.declared.code.TacKind.{TacKind}
 use Rattle.tac_ir.specs.declared.code.TacKind.TheVariants as kind
+use Rattle.tac_lower.specs.Copied.{copies_in}
 use Rattle.tac_lower.specs.Emitted.{RightFits, ComputedFits}
 use Rattle.tac_lower.specs.Nodes.{kept_as, points, or_int, expression, IsTyped, IsScalar, HasOne, HasTwo, HasThree}
 use Rattle.tac_lower.specs.Nodes.{ConstantNode, IntNode, CapabilityNode, SameNode, NotNode, AddressNode, DerefNode}
@@ -36,6 +38,7 @@ use Rattle.tac_lower.specs.Nodes.{SumNode, CompareNode, TruthNode, DifferenceNod
 use Rattle.tac_lower.specs.Nodes.{StepNode, ConditionalNode, NameNode, VarNode, FunNode, CallNode, LibraryNode}
 use Rattle.tac_lower.specs.Nodes.{NodeFits}
 use Rattle.tac_lower.proofs.Constants.{kept_fits}
+use Rattle.tac_lower.proofs.Copying.{copied_is, copies_by}
 use Rattle.tac_lower.proofs.Wells.{and_both}
 
 -- ---- one node
@@ -183,22 +186,33 @@ module _ (f : Frame) (o : IsOrdered f.program) where
     abbrev of : Ty
     of = type_in f.program e.of
 
-    one : (n : Shape) (a : ℕ) → shape_weight n ≡ 1 → x k ≡ term.step n (x a) of e.pos → HasOne f k a
-    one n a light is =
+    -- copies of operands
+    abbrev copied_among : List ℕ → Type 0
+    copied_among js = sum_by (copies_in f.program) js ≤ copies_in f.program k
+
+    one : (n : Shape) (a : ℕ) → shape_weight n ≡ 1 → x k ≡ term.step n (x a) of e.pos → copied_among (a ∷ []) →
+        HasOne f k a
+    one n a light is few =
         let h = of_one n (x a) of e.pos (subst (λ z. TermFits f z) is w.fits) in
         let q : term_weight (x k) ≡ shape_weight n + (term_weight (x a) + 0) = ap term_weight is in
-        record { operand = record { fits = h.0 }; weight = omega (arith, q, light) }
+        record { operand = record { fits = h.0 }; weight = omega (arith, q, light); copies = omega (arith, few) }
 
-    two : (n : Shape) (a b : ℕ) → shape_weight n ≡ 1 → x k ≡ term.join n (x a) (x b) of e.pos → HasTwo f k a b
-    two n a b light is =
+    two : (n : Shape) (a b : ℕ) → shape_weight n ≡ 1 → x k ≡ term.join n (x a) (x b) of e.pos →
+        copied_among (a ∷ b ∷ []) → HasTwo f k a b
+    two n a b light is few =
         let h = of_two n (x a) (x b) of e.pos (subst (λ z. TermFits f z) is w.fits) in
         let q : term_weight (x k) ≡ shape_weight n + (term_weight (x a) + (term_weight (x b) + 0)) =
         ap term_weight is in
-        record { left = record { fits = h.0 }; right = record { fits = h.1 }; weight = omega (arith, q, light) }
+        record {
+          left = record { fits = h.0 };
+          right = record { fits = h.1 };
+          weight = omega (arith, q, light);
+          copies = omega (arith, few);
+        }
 
     three : (n : Shape) (a b c : ℕ) → shape_weight n ≡ 1 → x k ≡ term.join_three n (x a) (x b) (x c) of e.pos →
-        HasThree f k a b c
-    three n a b c light is =
+        copied_among (a ∷ b ∷ c ∷ []) → HasThree f k a b c
+    three n a b c light is few =
         let h = of_three n (x a) (x b) (x c) of e.pos (subst (λ z. TermFits f z) is w.fits) in
         let q : term_weight (x k) ≡ shape_weight n
         + (term_weight (x a) + (term_weight (x b) + (term_weight (x c) + 0))) = ap term_weight is in
@@ -207,6 +221,7 @@ module _ (f : Frame) (o : IsOrdered f.program) where
           second = record { fits = h.1 };
           third = record { fits = h.2 };
           weight = omega (arith, q, light);
+          copies = omega (arith, few);
         }
 
     abbrev Is : ExprKind → Type 0
@@ -225,6 +240,10 @@ module _ (f : Frame) (o : IsOrdered f.program) where
 
     abbrev fits : (kd : ExprKind) → Is kd → TermFits f (kind_term (types_of f.program.types) kd of e.pos x)
     fits kd is = typed k e kd there is w
+
+    -- the copies of its operands are among its own
+    few : (kd : ExprKind) → Is kd → copied_among (operands kd)
+    few kd is = omega (arith, copies_by f.program o k e kd there is)
 
     scalar : (s : Ty) (j : TacKind) → t k ≡ s → kept_as s ≡ Some j → IsScalar f.program k j
     scalar s j q r = record { is = ap kept_as q ∙ r }
@@ -245,7 +264,7 @@ module _ (f : Frame) (o : IsOrdered f.program) where
     load_node a is =
         let h = of_one term.Load (x a) of e.pos (fits (exprs.Load a) is) in
         record {
-          operands = one term.Load a refl (same (exprs.Load a) is);
+          operands = one term.Load a refl (same (exprs.Load a) is) (few (exprs.Load a) is);
           same = sym (bare_kept (t a))
               ∙ sym (ap kept_as h.1.1) ∙ sym (ap kept_as of_is);
         }
@@ -254,7 +273,7 @@ module _ (f : Frame) (o : IsOrdered f.program) where
     decay_node a is =
         let h = of_one term.Decay (x a) of e.pos (fits (exprs.Decay a) is) in
         record {
-          operands = one term.Decay a refl (same (exprs.Decay a) is);
+          operands = one term.Decay a refl (same (exprs.Decay a) is) (few (exprs.Decay a) is);
           is = ⊎_elim (λ (d : (u : Ty) × (n : ℕ) × (t a ≡ ty.Array u n) × (of ≡ ty.Pointer u)).
               scalar (ty.Pointer d.0) (kind.Cap false) (of_is ∙ d.3) refl)
               (λ (d : holds (ty.is_function (t a)) × (of ≡ ty.Pointer (t a))).
@@ -268,7 +287,7 @@ module _ (f : Frame) (o : IsOrdered f.program) where
     address_node a is =
         let h = of_one term.Address (x a) of e.pos (fits (exprs.Address a) is) in
         record {
-          operands = one term.Address a refl (same (exprs.Address a) is);
+          operands = one term.Address a refl (same (exprs.Address a) is) (few (exprs.Address a) is);
           is = scalar (ty.Pointer (t a)) (kind.Cap false) (of_is ∙ h.1.1) refl;
         }
 
@@ -276,21 +295,22 @@ module _ (f : Frame) (o : IsOrdered f.program) where
     deref_node a is =
         let h = of_one term.Deref (x a) of e.pos (fits (exprs.Deref a) is) in
         record {
-          operands = one term.Deref a refl (same (exprs.Deref a) is);
+          operands = one term.Deref a refl (same (exprs.Deref a) is) (few (exprs.Deref a) is);
           operand = as_scalar a (ty.Pointer of) (kind.Cap false) h.1.0 refl;
         }
 
     pub member_node : (a m : ℕ) → Is (exprs.Member a m) → HasOne f k a
-    member_node a m is = one (term.Member m) a refl (same (exprs.Member a m) is)
+    member_node a m is = one (term.Member m) a refl (same (exprs.Member a m) is) (few (exprs.Member a m) is)
 
     pub convert_node : (a : ℕ) → Is (exprs.Convert a) → HasOne f k a
-    convert_node a is = one term.Convert a refl (same (exprs.Convert a) is)
+    convert_node a is = one term.Convert a refl (same (exprs.Convert a) is) (few (exprs.Convert a) is)
 
     pub not_node : (a : ℕ) → Is (exprs.Unary unary.LogicalNot a) → NotNode f k a
     not_node a is =
         let h = of_one (term.Unary unary.LogicalNot) (x a) of e.pos (fits (exprs.Unary unary.LogicalNot a) is) in
         record {
-          operands = one (term.Unary unary.LogicalNot) a refl (same (exprs.Unary unary.LogicalNot a) is);
+          operands = one (term.Unary unary.LogicalNot) a refl (same (exprs.Unary unary.LogicalNot a) is)
+              (few (exprs.Unary unary.LogicalNot a) is);
           is = scalar ty.int (kind.Int int.I32) (of_is ∙ h.1.1) refl;
         }
 
@@ -298,7 +318,7 @@ module _ (f : Frame) (o : IsOrdered f.program) where
     unary_node u a other is =
         let h = of_one (term.Unary u) (x a) of e.pos (fits (exprs.Unary u a) is) in
         record {
-          operands = one (term.Unary u) a refl (same (exprs.Unary u a) is);
+          operands = one (term.Unary u) a refl (same (exprs.Unary u a) is) (few (exprs.Unary u a) is);
           same = ap kept_as (by u other h.1 ∙ sym of_is);
         }
       where
@@ -342,7 +362,7 @@ module _ (f : Frame) (o : IsOrdered f.program) where
         let n = h.0.1 in
         let c = integer_kept (t b) h.1.1 in
         record {
-          operands = two (term.Arithmetic q) a b refl (same (exprs.Int q a b) is);
+          operands = two (term.Arithmetic q) a b refl (same (exprs.Int q a b) is) (few (exprs.Int q a b) is);
           kind = j;
           is = scalar (ty.Int j n) (kind.Int j) (of_is ∙ h.0.2) refl;
           left = as_scalar a (ty.Int j n) (kind.Int j) (h.1.0 ∙ h.0.2) refl;
@@ -356,7 +376,8 @@ module _ (f : Frame) (o : IsOrdered f.program) where
         let h = (of_two (term.Capability q r) (x a) (x b) of e.pos (fits (exprs.Capability q a b r) is)).2 in
         let c = integer_kept (t b) h.1.1 in
         record {
-          operands = two (term.Capability q r) a b refl (same (exprs.Capability q a b r) is);
+          operands = two (term.Capability q r) a b refl (same (exprs.Capability q a b r) is)
+              (few (exprs.Capability q a b r) is);
           signed = h.0.0;
           is = scalar (ty.Cap h.0.0) (kind.Cap h.0.0) (of_is ∙ h.0.1) refl;
           left = as_scalar a (ty.Cap h.0.0) (kind.Cap h.0.0) (h.1.0 ∙ h.0.1) refl;
@@ -374,7 +395,7 @@ module _ (f : Frame) (o : IsOrdered f.program) where
         let h = (of_two (term.Plus m) (x a) (x b) of e.pos (fits (exprs.Plus a b m) is)).2 in
         let p = h.0.1 in
         record {
-          operands = two (term.Plus m) a b refl (same (exprs.Plus a b m) is);
+          operands = two (term.Plus m) a b refl (same (exprs.Plus a b m) is) (few (exprs.Plus a b m) is);
           is = scalar (ty.Pointer h.0.0) (kind.Cap false) (of_is ∙ p) refl;
           pointer =
               ⊎_elim (λ (d : (t a ≡ of) × holds (ty.is_integer (t b))).
@@ -387,7 +408,7 @@ module _ (f : Frame) (o : IsOrdered f.program) where
     difference_node a b is =
         let h = (of_two term.Difference (x a) (x b) of e.pos (fits (exprs.Difference a b) is)).2 in
         record {
-          operands = two term.Difference a b refl (same (exprs.Difference a b) is);
+          operands = two term.Difference a b refl (same (exprs.Difference a b) is) (few (exprs.Difference a b) is);
           is = scalar ty.long (kind.Int int.I64) (of_is ∙ h.2) refl;
           left = as_scalar a (ty.Pointer h.0.0) (kind.Cap false) h.0.1 refl;
           right = as_scalar b (ty.Pointer h.1.0) (kind.Cap false) h.1.1 refl;
@@ -401,7 +422,7 @@ module _ (f : Frame) (o : IsOrdered f.program) where
     compare_node q a b is =
         let h = (of_two (term.Compare q) (x a) (x b) of e.pos (fits (exprs.Compare q a b) is)).2 in
         record {
-          operands = two (term.Compare q) a b refl (same (exprs.Compare q a b) is);
+          operands = two (term.Compare q) a b refl (same (exprs.Compare q a b) is) (few (exprs.Compare q a b) is);
           is = scalar ty.int (kind.Int int.I32) (of_is ∙ h.0) refl;
           same =
               ⊎_elim (λ (d : holds (ty.is_integer (t a)) × (t a ≡ t b)). ap kept_as d.1)
@@ -413,7 +434,7 @@ module _ (f : Frame) (o : IsOrdered f.program) where
     and_node a b is =
         let h = (of_two term.And (x a) (x b) of e.pos (fits (exprs.And a b) is)).2 in
         record {
-          operands = two term.And a b refl (same (exprs.And a b) is);
+          operands = two term.And a b refl (same (exprs.And a b) is) (few (exprs.And a b) is);
           is = scalar ty.int (kind.Int int.I32) (of_is ∙ h.0) refl;
         }
 
@@ -421,7 +442,7 @@ module _ (f : Frame) (o : IsOrdered f.program) where
     or_node a b is =
         let h = (of_two term.Or (x a) (x b) of e.pos (fits (exprs.Or a b) is)).2 in
         record {
-          operands = two term.Or a b refl (same (exprs.Or a b) is);
+          operands = two term.Or a b refl (same (exprs.Or a b) is) (few (exprs.Or a b) is);
           is = scalar ty.int (kind.Int int.I32) (of_is ∙ h.0) refl;
         }
 
@@ -429,7 +450,7 @@ module _ (f : Frame) (o : IsOrdered f.program) where
     comma_node a b is =
         let h = (of_two term.Comma (x a) (x b) of e.pos (fits (exprs.Comma a b) is)).2 in
         record {
-          operands = two term.Comma a b refl (same (exprs.Comma a b) is);
+          operands = two term.Comma a b refl (same (exprs.Comma a b) is) (few (exprs.Comma a b) is);
           right = ap kept_as (sym h ∙ sym of_is);
         }
 
@@ -437,7 +458,8 @@ module _ (f : Frame) (o : IsOrdered f.program) where
     assign_node a b is =
         let h = (of_two term.Assign (x a) (x b) of e.pos (fits (exprs.Assign a b) is)).2 in
         record {
-          operands = two term.Assign a b refl (same (exprs.Assign a b) is);
+          operands = two term.Assign a b refl (same (exprs.Assign a b) is) (few (exprs.Assign a b) is);
+          copies = omega (arith, copied_is f.program k e there, copies_by f.program o k e (exprs.Assign a b) there is);
           left = sym (bare_kept (t a)) ∙ sym (ap kept_as h.1) ∙ sym (ap kept_as of_is);
           right = ap kept_as (h.2 ∙ sym of_is);
         }
@@ -446,7 +468,13 @@ module _ (f : Frame) (o : IsOrdered f.program) where
     conditional_node a b c is =
         let h = (of_three term.Conditional (x a) (x b) (x c) of e.pos (fits (exprs.Conditional a b c) is)).3 in
         record {
-          operands = three term.Conditional a b c refl (same (exprs.Conditional a b c) is);
+          operands = three term.Conditional a b c refl (same (exprs.Conditional a b c) is)
+              (few (exprs.Conditional a b c) is);
+          copies = omega (
+            arith,
+            copied_is f.program k e there,
+            copies_by f.program o k e (exprs.Conditional a b c) there is,
+          );
           left = ap kept_as (h.1 ∙ sym of_is);
           right = ap kept_as (h.2 ∙ sym of_is);
         }
@@ -458,7 +486,8 @@ module _ (f : Frame) (o : IsOrdered f.program) where
         (λ (d : (u : Ty) × (of ≡ ty.Pointer u) × Rattle.c_tree.specs.WellTyped.IsComplete f.program u).
         (kind.Cap false, ap kept_as d.1)) h.2 in
         record {
-          operands = one (term.Step adds front) a refl (same (exprs.Step a adds front) is);
+          operands = one (term.Step adds front) a refl (same (exprs.Step a adds front) is)
+              (few (exprs.Step a adds front) is);
           kind = j.0;
           is = record { is = ap kept_as of_is ∙ j.1 };
           left = sym (bare_kept (t a)) ∙ sym (ap kept_as h.1) ∙ sym (ap kept_as of_is);
@@ -478,7 +507,8 @@ module _ (f : Frame) (o : IsOrdered f.program) where
         (fits (exprs.Compound q a b s) is)).2 in
         let left = sym (bare_kept (t a)) ∙ sym (ap kept_as h.1) ∙ sym (ap kept_as of_is) in
         record {
-          operands = two (term.Compound q (type_in f.program s)) a b refl (same (exprs.Compound q a b s) is);
+          operands = two (term.Compound q (type_in f.program s)) a b refl (same (exprs.Compound q a b s) is)
+              (few (exprs.Compound q a b s) is);
           left = left;
           fits =
               ⊎_elim (λ (d : PointsToComplete f.program of × (type_in f.program s ≡ of) × holds (ty.is_integer (t b))).
@@ -557,6 +587,7 @@ module _ (f : Frame) (o : IsOrdered f.program) where
           called = record { fits = h.0 };
           arguments = record { each = each_typed xs h.1 };
           weight = omega (arith, q, weights xs);
+          copies = omega (arith, few (exprs.Call g xs) is, sum_by-cons (copies_in f.program) g xs);
           result = h.2.0;
           takes = h.2.1;
           of = h.2.2;
@@ -572,6 +603,7 @@ module _ (f : Frame) (o : IsOrdered f.program) where
         record {
           arguments = record { each = each_typed xs h.0 };
           weight = omega (arith, q, weights xs);
+          copies = few (exprs.Library n xs) is;
           service = h.1.0;
           there = h.1.1;
           fit = h.1.2;

@@ -1,7 +1,7 @@
 -- What typing gives of each statement of a function.
 use Rattle.std.proofs.Common.{◌≡◌, ℕ, zero, suc, ◌+◌, true, List, [], ◌∷◌, ◌++◌, map, length, get_or, Option, Some}
 use Rattle.std.proofs.Common.{None, refl, ap, ◌∙◌, subst, arith}
-use Rattle.std.specs.Prelude.{slice_get}
+use Rattle.std.specs.Prelude.{slice_get, sum_by}
 use Rattle.std.proofs.lemmas.List.{length-map}
 use Rattle.std.proofs.lemmas.List.Sums.{sum_by-append, sum_by-cons}
 use Rattle.ck_base.specs.declared.positions.Pos.{Pos}
@@ -15,11 +15,14 @@ use Rattle.c_tree.specs.Terms as tree
 use Rattle.c_tree.specs.Terms.{Term, Terms, terms, with_term, no_terms, type_of, Action, Actions, Form, action, actions}
 use Rattle.c_tree.specs.TreeWeight.{terms_weight, action_weight, actions_weight}
 use Rattle.c_tree.specs.Views.{kind_action, stmt_from, no_action, terms_of, term_at, parts, listed, is_some, label_of}
-use Rattle.c_tree.specs.Views.{IsOrdered}
+use Rattle.c_tree.specs.Counts.{value_copies, init_copies}
+use Rattle.c_tree.specs.Views.{values, same_number, IsOrdered}
 use Rattle.c_tree.specs.WellTyped.{Frame, Inside, TermFits, TermsFit, FormFits, ActionFits, ActionsFit, TestsFit}
 use Rattle.c_tree.specs.WellTyped.{inside_of, in_loop, in_switch, count_of, declared, all_declared}
 use Rattle.c_tree.specs.Types as ty
 use Rattle.c_tree.proofs.Forest.{forest_reads}
+use Rattle.tac_lower.proofs.Copying.{part_by}
+use Rattle.tac_lower.specs.Copied.{copied_in, copies_in, part_copies}
 use Rattle.tac_lower.specs.Nodes.{expression, weight_in, IsTyped}
 use Rattle.tac_lower.specs.Parts.{statement, heft_in, hefts_in, is_entered, entered, entered_in, all_entered_in}
 use Rattle.tac_lower.specs.Parts.{or_none, IsPlaced, TestFits, EvaluatePart, InitPart, BlockPart, IfPart, LoopPart}
@@ -164,6 +167,12 @@ module _ (f : Frame) (o : IsOrdered f.program) where
         entered_in f.program d k ≡ entered d (declared (kind_action (terms_of f.program) kd s.pos st))
     enters d kd is = ap (λ z. entered d (declared z)) (same kd is)
 
+    -- what it copies, by its expressions and the statements in it
+    copies : (kd : StmtKind) → Is kd →
+        init_copies f.program.types f.program.exprs kd + sum_by (copies_in f.program) (values kd)
+        + sum_by (part_copies f.program) (parts kd) ≡ part_copies f.program k
+    copies kd is = part_by f.program o k s kd there is
+
     fits : (n : Form) (xs : Terms) (ys : Actions) → st k ≡ action n xs ys s.pos →
         TermsFit f xs × FormFits f i n xs (count_of ys) × ActionsFit f (inside_of n i) ys
     fits n xs ys e = of_action i n xs ys s.pos (subst (λ z. ActionFits f i z) e w.fits)
@@ -177,12 +186,25 @@ module _ (f : Frame) (o : IsOrdered f.program) where
     evaluate_part : (a : ℕ) → Is (stmts.Expr a) → EvaluatePart f k a
     evaluate_part a is =
         let h = fits tree.Evaluate (one a) (actions []) (same (stmts.Expr a) is) in
-        record { value = typed a h.0; weight = omega (arith, weighs (stmts.Expr a) is) }
+        record {
+          value = typed a h.0;
+          weight = omega (arith, weighs (stmts.Expr a) is);
+          copies = omega (arith, copies (stmts.Expr a) is);
+        }
+
+    value_copied : (a : ℕ) → copied_in f.program a ≡ value_copies f.program.types (slice_get f.program.exprs a)
+    unfolding copied_in
+    value_copied a = refl
 
     init_part : (v n a : ℕ) → Is (stmts.Init v n a) → InitPart f k v n a
     init_part v n a is =
         let h = fits (tree.Init v n) (one a) (actions []) (same (stmts.Init v n a) is) in
-        record { value = typed a h.0; lies = h.1; weight = omega (arith, weighs (stmts.Init v n a) is) }
+        record {
+          value = typed a h.0;
+          lies = h.1;
+          weight = omega (arith, weighs (stmts.Init v n a) is);
+          copies = omega (arith, copies (stmts.Init v n a) is, value_copied a);
+        }
 
     block_part : (vars body : List ℕ) → Is (stmts.Block vars body) → BlockPart f i k vars body
     block_part vars body is =
@@ -191,6 +213,7 @@ module _ (f : Frame) (o : IsOrdered f.program) where
           vars_there = h.1;
           body_fits = record { each = each_placed i body h.2 };
           weight = omega (arith, weighs (stmts.Block vars body) is, hefts body);
+          copies = omega (arith, copies (stmts.Block vars body) is);
           enters = λ d. omega (
             arith,
             enters d (stmts.Block vars body) is,
@@ -210,6 +233,7 @@ module _ (f : Frame) (o : IsOrdered f.program) where
           first = record { fits = (of_first i (st a) (actions []) h.2).0 };
           second = λ j e. absurd cc;
           weight = omega (arith, weighs (stmts.If c a None) is);
+          copies = omega (arith, copies (stmts.If c a None) is);
           enters = λ d. omega (arith, enters d (stmts.If c a None) is, both_entered d (declared (st a)) []);
         }
     if_part c a (Some b) is =
@@ -221,6 +245,7 @@ module _ (f : Frame) (o : IsOrdered f.program) where
           second = λ j e. subst (λ z. IsPlaced f i z) (some_same b j e)
               (record { fits = (of_first i (st b) (actions []) r.1).0 });
           weight = omega (arith, weighs (stmts.If c a (Some b)) is);
+          copies = omega (arith, copies (stmts.If c a (Some b)) is);
           enters = λ d. omega (
             arith,
             enters d (stmts.If c a (Some b)) is,
@@ -236,6 +261,7 @@ module _ (f : Frame) (o : IsOrdered f.program) where
           test = record { typed = typed c h.0; scalar = h.1.0 };
           body_fits = record { fits = (of_first in_loop (st a) (actions []) h.2).0 };
           weight = omega (arith, weighs (stmts.While c a) is);
+          copies = omega (arith, copies (stmts.While c a) is);
           enters = λ d. omega (arith, enters d (stmts.While c a) is, both_entered d (declared (st a)) []);
         }
 
@@ -246,6 +272,7 @@ module _ (f : Frame) (o : IsOrdered f.program) where
           test = record { typed = typed c h.0; scalar = h.1.0 };
           body_fits = record { fits = (of_first in_loop (st a) (actions []) h.2).0 };
           weight = omega (arith, weighs (stmts.Do a c) is);
+          copies = omega (arith, copies (stmts.Do a c) is);
           enters = λ d. omega (arith, enters d (stmts.Do a c) is, both_entered d (declared (st a)) []);
         }
 
@@ -272,6 +299,14 @@ module _ (f : Frame) (o : IsOrdered f.program) where
     tests_weigh (Some a) None = omega arith
     tests_weigh (Some a) (Some b) = omega arith
 
+    tests_copy : (a b : Option ℕ) →
+        sum_by (copies_in f.program) (listed same_number a ++ listed same_number b)
+        ≡ or_none (copies_in f.program) a + or_none (copies_in f.program) b
+    tests_copy None None = refl
+    tests_copy None (Some b) = omega arith
+    tests_copy (Some a) None = omega arith
+    tests_copy (Some a) (Some b) = omega arith
+
     for_part : (vars first : List ℕ) (a b : Option ℕ) (y : ℕ) → Is (stmts.For vars first a b y) →
         ForPart f k vars first a b y
     for_part vars first a b y is =
@@ -284,6 +319,12 @@ module _ (f : Frame) (o : IsOrdered f.program) where
           step_fits = steps_typed a b h.0;
           body_fits = last_placed in_loop first y h.2;
           weight = omega (arith, weighs (stmts.For vars first a b y) is, tests_weigh a b, hefts_last first y);
+          copies = omega (
+            arith,
+            copies (stmts.For vars first a b y) is,
+            tests_copy a b,
+            sum_by-append (part_copies f.program) first (y ∷ []),
+          );
           enters = λ d. omega (
             arith,
             enters d (stmts.For vars first a b y) is,
@@ -303,6 +344,7 @@ module _ (f : Frame) (o : IsOrdered f.program) where
           vars_there = h.1.0;
           body_fits = record { each = each_placed (in_switch i) body h.2 };
           weight = omega (arith, weighs (stmts.Switch on vars labels body) is, length-map labels label_of, hefts body);
+          copies = omega (arith, copies (stmts.Switch on vars labels body) is);
           enters = λ d. omega (
             arith,
             enters d (stmts.Switch on vars labels body) is,
@@ -319,6 +361,7 @@ module _ (f : Frame) (o : IsOrdered f.program) where
           value = λ j e. absurd cc;
           given = λ j e. absurd cc;
           weight = omega (arith, weighs (stmts.Return None) is);
+          copies = omega (arith, copies (stmts.Return None) is);
         }
     return_part (Some a) is =
         let h = fits tree.Return (one a) (actions []) (same (stmts.Return (Some a)) is) in
@@ -327,6 +370,7 @@ module _ (f : Frame) (o : IsOrdered f.program) where
           value = λ j e. subst (λ z. IsTyped f z) (some_same a j e) (typed a h.0);
           given = λ j e. subst (λ z. ty.compatible (type_of (x z)) f.gives ≡ true) (some_same a j e) h.1;
           weight = omega (arith, weighs (stmts.Return (Some a)) is);
+          copies = omega (arith, copies (stmts.Return (Some a)) is);
         }
 
     by_kind : (kd : StmtKind) → Is kd → PartFits f i k kd

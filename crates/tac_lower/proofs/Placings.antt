@@ -16,6 +16,7 @@ use Rattle.tac_lower.specs.declared.context.Home.{Home}
 use Rattle.tac_lower.specs.declared.emitter.Emitter.{Emitter}
 use Rattle.tac_lower.specs.declared.statements.Exits.{Exits}
 use Rattle.tac_lower.specs.declared.types.TypeFacts.{TypeFacts}
+use Rattle.tac_lower.specs.Copied.{part_copies, all_part_copies}
 use Rattle.tac_lower.specs.Emitted.{IsOpen}
 use Rattle.tac_lower.specs.Nodes.{IsTyped}
 use Rattle.tac_lower.specs.Parts.{heft_in, hefts_in, PartFits, ArePlaced, EvaluatePart, InitPart, BlockPart, IfPart}
@@ -119,3 +120,12 @@ hefts_within p ks i lt = sum_by_more_le (λ k. heft_in p k) ks i 0 lt
 
 pub hefts_taken : (p : Typed) (ks : List ℕ) (i : ℕ) → hefts_in p (take i ks) ≤ hefts_in p ks
 hefts_taken p ks i = sum_by-take-le (λ k. heft_in p k) ks i
+
+-- ---- the copies of some statements
+
+pub copies_next : (p : Typed) (ks : List ℕ) (i : ℕ) → i < length ks
+    → all_part_copies p (take (i + 1) ks) ≡ all_part_copies p (take i ks) + part_copies p (get_or ks i 0)
+copies_next p ks i lt = sum_by_more (λ k. part_copies p k) ks i 0 lt
+
+pub copies_taken : (p : Typed) (ks : List ℕ) (i : ℕ) → all_part_copies p (take i ks) ≤ all_part_copies p ks
+copies_taken p ks i = sum_by-take-le (λ k. part_copies p k) ks i

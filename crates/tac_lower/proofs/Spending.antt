@@ -7,6 +7,7 @@ use Rattle.std.proofs.lemmas.Bool.Decides.{nat_tests}
 use Rattle.std.specs.List.{sum_by}
 use Rattle.std.proofs.lemmas.List.Sums.{sum_by_push}
 use Rattle.tac_ir.specs.Costs.{cost, outgoing, outgoing_by}
+use Rattle.tac_ir.specs.Within.{copied_parts}
 use Rattle.tac_ir.specs.declared.code.TacInstr.{TacInstr}
 use Rattle.tac_ir.specs.declared.code.TacInstr.TheVariants as instr
 use Rattle.tac_ir.specs.declared.code.TacKind.{TacKind}
@@ -14,7 +15,7 @@ use Rattle.tac_lower.specs.declared.emitter.Emitter.{Emitter}
 use Rattle.tac_lower.specs.Emitted.{Made, Pushed, Labelled, Forked}
 use Rattle.tac_lower.specs.declared.statements.Circle.{Circle}
 use Rattle.tac_lower.specs.Statements.{Begun}
-use Rattle.tac_lower.specs.Spent.{places, words, Spent, extra, Spends, Owns}
+use Rattle.tac_lower.specs.Spent.{places, words, copying, Takes, Spent, extra, Spends, Owns}
 
 -- ---- one instruction, temp or label
 
@@ -26,44 +27,59 @@ outgoing_push [] i = omega arith
 outgoing_push (j ∷ js) i =
     max_more (outgoing_by j) (outgoing (js ++ i ∷ [])) (outgoing js) (outgoing_by i) (outgoing_push js i)
 
-pub pushed_spent : (a b : Emitter) (i : TacInstr) → Pushed a b i → Spent a b (outgoing_by i) (cost i)
-unfolding places words
+pub pushed_spent : (a b : Emitter) (i : TacInstr) → Pushed a b i → Takes a b (outgoing_by i) (cost i) (copied_parts i)
+unfolding places words copying
 pushed_spent a b i h = record {
   grows = omega (arith, ap length h.kinds);
   places = omega (arith, ap length h.kinds, ap outgoing h.code, outgoing_push a.code.items i);
   words = omega (arith, ap (sum_by cost) h.code, sum_by_push cost a.code.items i);
+  copies = omega (arith, ap (sum_by copied_parts) h.code, sum_by_push copied_parts a.code.items i);
 }
 
 pub made_spent : (a b : Emitter) (k : TacKind) → Made a b k → Spent a b 1 0
-unfolding places words
+unfolding places words copying
 made_spent a b k h = record {
   grows = omega (arith, ap length h.kinds, length-append a.kinds.items (k ∷ []));
   places = omega (arith, ap length h.kinds, length-append a.kinds.items (k ∷ []), ap outgoing h.code);
   words = omega (arith, ap (sum_by cost) h.code);
+  copies = omega (arith, ap (sum_by copied_parts) h.code);
 }
 
 pub labelled_spent : {a b : Emitter} {l : ℕ} → Labelled a b l → Spent a b 0 0
-unfolding places words
+unfolding places words copying
 labelled_spent h = record {
   grows = omega (arith, ap length h.kinds);
   places = omega (arith, ap length h.kinds, ap outgoing h.code);
   words = omega (arith, ap (sum_by cost) h.code);
+  copies = omega (arith, ap (sum_by copied_parts) h.code);
 }
 
 -- ---- in steps
 
 pub spent_same : (a : Emitter) (n : ℕ) → Spent a a 0 n
-spent_same a n = record { grows = omega arith; places = omega arith; words = omega arith }
+spent_same a n = record { grows = omega arith; places = omega arith; words = omega arith; copies = omega arith }
 
-pub spent_then : {a b c : Emitter} {m n k l : ℕ} → Spent a b m n → Spent b c k l → Spent a c (m + k) (n + l)
-spent_then f g = record {
+takes_then : {a b c : Emitter} {m n u k l v : ℕ} → Takes a b m n u → Takes b c k l v → Takes a c (m + k) (n + l) (u + v)
+takes_then f g = record {
   grows = omega (arith, f.grows, g.grows);
   places = omega (arith, f.places, g.places);
   words = omega (arith, f.words, g.words);
+  copies = omega (arith, f.copies, g.copies);
 }
 
+takes_within : {a b : Emitter} {m n u k l v : ℕ} → Takes a b m n u → m ≤ k → n ≤ l → u ≤ v → Takes a b k l v
+takes_within f i j h = record {
+  grows = f.grows;
+  places = omega (arith, f.places, i);
+  words = omega (arith, f.words, j);
+  copies = omega (arith, f.copies, h);
+}
+
+pub spent_then : {a b c : Emitter} {m n k l : ℕ} → Spent a b m n → Spent b c k l → Spent a c (m + k) (n + l)
+spent_then f g = takes_then f g
+
 pub spent_within : {a b : Emitter} {m n k l : ℕ} → Spent a b m n → m ≤ k → n ≤ l → Spent a b k l
-spent_within f i j = record { grows = f.grows; places = omega (arith, f.places, i); words = omega (arith, f.words, j) }
+spent_within f i j = takes_within f i j (omega arith)
 
 pub forked_spent : {a b : Emitter} {l m : ℕ} → Forked a b l m → Spent a b 0 0
 forked_spent h = spent_then (labelled_spent h.first) (labelled_spent h.second)
@@ -90,72 +106,76 @@ unfolding extra
 extra_none f = refl
 
 module _ {f : ℕ} where
-  pub nothing : {a : Emitter} → Spends f a a 0 0
+  pub nothing : {a : Emitter} → Spends f a a 0 0 0
   nothing {a = a} = record { spent = λ s. spent_same a 0 }
 
-  pub plainly : {a b : Emitter} {m n : ℕ} → Spent a b m n → Spends f a b m n
+  pub plainly : {a b : Emitter} {m n u : ℕ} → Takes a b m n u → Spends f a b m n u
   plainly h = record { spent = λ s. h }
 
-  pub after : {a b c : Emitter} {m n k l : ℕ} → Spends f a b m n → Spends f b c k l → Spends f a c (m + k) (n + l)
-  after g h = record { spent = λ s. spent_then (g.spent s) (h.spent (omega (arith, s, (g.spent s).grows))) }
+  pub after : {a b c : Emitter} {m n u k l v : ℕ} → Spends f a b m n u → Spends f b c k l v →
+      Spends f a c (m + k) (n + l) (u + v)
+  after g h = record { spent = λ s. takes_then (g.spent s) (h.spent (omega (arith, s, (g.spent s).grows))) }
 
-  pub and : {a b c : Emitter} {m n k l : ℕ} → Spends f a b m n → Spent b c k l → Spends f a c (m + k) (n + l)
-  and g h = after g (plainly h)
+  pub within : {a b : Emitter} {m n u k l v : ℕ} → Spends f a b m n u → m ≤ k → n ≤ l → u ≤ v → Spends f a b k l v
+  within h i j q = record { spent = λ s. takes_within (h.spent s) i j q }
 
-  pub within : {a b : Emitter} {m n k l : ℕ} → Spends f a b m n → m ≤ k → n ≤ l → Spends f a b k l
-  within h i j = record { spent = λ s. spent_within (h.spent s) i j }
+  -- with code that copies nothing
+  pub and : {a b c : Emitter} {m n u k l : ℕ} → Spends f a b m n u → Spent b c k l → Spends f a c (m + k) (n + l) u
+  and g h = within (after g (plainly h)) (omega arith) (omega arith) (omega arith)
 
   -- a new temp belongs to an expression
   pub fresh : (t : ℕ) → f ≤ t → extra f (Some t) ≡ 0
   unfolding extra
   fresh t h = let no : nat_lt t f ≡ false = grind (arith, nat_tests) in ap (λ b. if b then 1 else 0) no
 
-  pub in_fresh : {a b c : Emitter} {t n : ℕ} (m : ℕ) → t ≡ length a.kinds.items → Spent a b 1 0
-      → Spends f b c (m + extra f (Some t)) (n + 6 * extra f (Some t)) → Spends f a c (m + 1) n
+  pub in_fresh : {a b c : Emitter} {t n u : ℕ} (m : ℕ) → t ≡ length a.kinds.items → Spent a b 1 0
+      → Spends f b c (m + extra f (Some t)) (n + 6 * extra f (Some t)) u → Spends f a c (m + 1) n u
   in_fresh {t = t} m e g h = record {
     spent = λ s.
         let none : extra f (Some t) ≡ 0 = fresh t (omega (arith, e, s)) in
         let rest = h.spent (omega (arith, s, g.grows)) in
-        let both = spent_then g rest in
-        spent_within both (omega (arith, none)) (omega (arith, none));
+        let both = takes_then g rest in
+        takes_within both (omega (arith, none)) (omega (arith, none)) (omega arith);
   }
 
   -- ---- where the last call's result is handed on
 
-  pub last : {T E : Type 0} {a b : Emitter} {m n k l : ℕ} (c : Emitter) (u v : ℕ) (r : Result T E)
-      → Spends f a b m n → IfOk r (λ _. Spends f b c u v) → m + u ≤ k → n + v ≤ l → IfOk r (λ _. Spends f a c k l)
-  last c u v (Ok x) g h i j = within (after g h) i j
-  last c u v (Err e) g h i j = tt
+  pub last : {T E : Type 0} {a b : Emitter} {m n u k l v : ℕ} (c : Emitter) (y z x : ℕ) (r : Result T E)
+      → Spends f a b m n u → IfOk r (λ _. Spends f b c y z x) → m + y ≤ k → n + z ≤ l → u + x ≤ v →
+      IfOk r (λ _. Spends f a c k l v)
+  last c y z x (Ok t) g h i j q = within (after g h) i j q
+  last c y z x (Err e) g h i j q = tt
 
-  pub last_and : {T E : Type 0} {a b : Emitter} {m n k l : ℕ} (c : Emitter) (u v : ℕ) (r : Result T E)
-      → Spends f a b m n → IfOk r (λ _. Spent b c u v) → m + u ≤ k → n + v ≤ l → IfOk r (λ _. Spends f a c k l)
-  last_and c u v (Ok x) g h i j = within (and g h) i j
-  last_and c u v (Err e) g h i j = tt
+  pub last_and : {T E : Type 0} {a b : Emitter} {m n u k l v : ℕ} (c : Emitter) (y z x : ℕ) (r : Result T E)
+      → Spends f a b m n u → IfOk r (λ _. Takes b c y z x) → m + y ≤ k → n + z ≤ l → u + x ≤ v →
+      IfOk r (λ _. Spends f a c k l v)
+  last_and c y z x (Ok t) g h i j q = within (after g (plainly h)) i j q
+  last_and c y z x (Err e) g h i j q = tt
 
-  pub last_pushed : {T E : Type 0} {a b : Emitter} {m n k l : ℕ} (c : Emitter) (i : TacInstr) (r : Result T E)
-      → Spends f a b m n → IfOk r (λ _. Pushed b c i) → m + outgoing_by i ≤ k → n + cost i ≤ l
-      → IfOk r (λ _. Spends f a c k l)
-  last_pushed {b = b} c i (Ok x) g h p q = within (and g (pushed_spent b c i h)) p q
-  last_pushed c i (Err e) g h p q = tt
+  pub last_pushed : {T E : Type 0} {a b : Emitter} {m n u k l v : ℕ} (c : Emitter) (i : TacInstr) (r : Result T E)
+      → Spends f a b m n u → IfOk r (λ _. Pushed b c i) → m + outgoing_by i ≤ k → n + cost i ≤ l →
+      u + copied_parts i ≤ v → IfOk r (λ _. Spends f a c k l v)
+  last_pushed {b = b} c i (Ok x) g h o p q = within (after g (plainly (pushed_spent b c i h))) o p q
+  last_pushed c i (Err e) g h o p q = tt
 
   -- ---- a temp for a value that is changed in steps
 
-  pub owned : {a b c : Emitter} {to : Option ℕ} {t m n : ℕ} → Spends f a b m n → Owns f to b c t →
-      Spends f a c (m + extra f to) n
+  pub owned : {a b c : Emitter} {to : Option ℕ} {t m n u : ℕ} → Spends f a b m n u → Owns f to b c t →
+      Spends f a c (m + extra f to) n u
   owned g h = record {
     spent = λ s.
-        spent_within (spent_then (g.spent s) (h.spent (omega (arith, s, (g.spent s).grows)))) (omega arith)
-        (omega arith);
+        takes_within (takes_then (g.spent s) (h.spent (omega (arith, s, (g.spent s).grows)))) (omega arith)
+        (omega arith) (omega arith);
   }
 
-  pub in_own : {a b c : Emitter} {to : Option ℕ} {t n : ℕ} (m : ℕ) → Owns f to a b t
-      → Spends f b c (m + extra f (Some t)) (n + 6 * extra f (Some t)) → Spends f a c (m + extra f to) n
+  pub in_own : {a b c : Emitter} {to : Option ℕ} {t n u : ℕ} (m : ℕ) → Owns f to a b t
+      → Spends f b c (m + extra f (Some t)) (n + 6 * extra f (Some t)) u → Spends f a c (m + extra f to) n u
   in_own {to = to} {t = t} m g h = record {
     spent = λ s.
         let none : extra f (Some t) ≡ 0 = g.own s in
         let mine = g.spent s in
-        spent_within (spent_then mine (h.spent (omega (arith, s, mine.grows)))) (omega (arith, none))
-        (omega (arith, none));
+        takes_within (takes_then mine (h.spent (omega (arith, s, mine.grows)))) (omega (arith, none))
+        (omega (arith, none)) (omega arith);
   }
 
   pub other : (t : ℕ) → t < f → extra f (Some t) ≡ 1
@@ -178,15 +198,15 @@ module _ {f : ℕ} where
   }
 
   -- the value is handed on to where it is asked for
-  pub last_given : {T E : Type 0} {a b d g : Emitter} {to : Option ℕ} {t m n k l : ℕ} (c : Emitter) (r : Result T E)
-      → Owns f to d g t → Spends f a b m n → IfOk r (λ _. Spent b c 0 6)
-      → (IfSome to (λ u. u ≡ t) → IfOk r (λ _. Spent b c 0 0)) → m ≤ k → n + 6 * extra f to ≤ l →
-      IfOk r (λ _. Spends f a c k l)
-  last_given {to = to} {t = t} c (Ok x) o g h there i j =
-      ⊎_elim (λ (e : extra f to ≡ 1). within (and g h) (omega (arith, i)) (omega (arith, e, j)))
+  pub last_given : {T E : Type 0} {a b d g : Emitter} {to : Option ℕ} {t m n u k l v : ℕ} (c : Emitter) (r : Result T E)
+      → Owns f to d g t → Spends f a b m n u → IfOk r (λ _. Spent b c 0 6)
+      → (IfSome to (λ u. u ≡ t) → IfOk r (λ _. Spent b c 0 0)) → m ≤ k → n + 6 * extra f to ≤ l → u ≤ v →
+      IfOk r (λ _. Spends f a c k l v)
+  last_given {to = to} {t = t} c (Ok x) o g h there i j q =
+      ⊎_elim (λ (e : extra f to ≡ 1). within (and g h) (omega (arith, i)) (omega (arith, e, j)) q)
       (λ (e : to ≡ Some t). within (and g (there (subst (λ z. IfSome z (λ u. u ≡ t)) (sym e) refl))) (omega (arith, i))
-      (omega (arith, j))) o.given
-  last_given c (Err x) o g h there i j = tt
+      (omega (arith, j)) q) o.given
+  last_given c (Err x) o g h there i j q = tt
 
 module _ (f : ℕ) {T : Type 0} (a b : Emitter) {to : Option ℕ} where
   pub own_none : (r : Result ℕ T) → to ≡ None → IfOk r (λ t. t ≡ length a.kinds.items) → IfOk r (λ _. Spent a b 1 0)
@@ -200,9 +220,9 @@ module _ (f : ℕ) {T : Type 0} (a b : Emitter) {to : Option ℕ} where
   own_other (Err x) u e lt next h = tt
 
 -- the last call has its value in a new temp
-pub last_fresh : {T E : Type 0} {a b : Emitter} {t n k l : ℕ} (f m : ℕ) (c : Emitter) (r : Result T E) →
-    t ≡ length a.kinds.items
-    → Spent a b 1 0 → IfOk r (λ _. Spends f b c (m + extra f (Some t)) (n + 6 * extra f (Some t))) → m + 1 ≤ k → n ≤ l
-    → IfOk r (λ _. Spends f a c k l)
-last_fresh f m c (Ok x) e g h i j = within (in_fresh m e g h) i j
-last_fresh f m c (Err x) e g h i j = tt
+pub last_fresh : {T E : Type 0} {a b : Emitter} {t n u k l v : ℕ} (f m : ℕ) (c : Emitter) (r : Result T E) →
+    t ≡ length a.kinds.items → Spent a b 1 0 →
+    IfOk r (λ _. Spends f b c (m + extra f (Some t)) (n + 6 * extra f (Some t)) u) → m + 1 ≤ k → n ≤ l → u ≤ v →
+    IfOk r (λ _. Spends f a c k l v)
+last_fresh f m c (Ok x) e g h i j q = within (in_fresh m e g h) i j q
+last_fresh f m c (Err x) e g h i j q = tt

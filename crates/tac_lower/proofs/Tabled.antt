@@ -1,8 +1,9 @@
 -- The table of a program's types, entry by entry.
 use Rattle.std.proofs.Common.{◌≡◌, ℕ, zero, suc, ◌+◌, ◌^◌, ◌<◌, ◌≤◌, false, List, [], ◌∷◌, ◌++◌, length, Some, None}
 use Rattle.std.proofs.Common.{refl, sym, ap, subst, arith, length-append, min}
-use Rattle.std.specs.Prelude.{slice_get}
-use Rattle.c_tree.specs.Layout.{bare}
+use Rattle.std.specs.Prelude.{slice_get, if◌then◌else◌}
+use Rattle.c_tree.specs.Counts.{parts, is_record, size_of}
+use Rattle.c_tree.specs.Layout.{bare, extent}
 use Rattle.c_tree.specs.declared.typed.CType.{CType}
 use Rattle.tac_lower.specs.declared.types.TypeFacts.{TypeFacts}
 use Rattle.tac_lower.specs.Tables.{kept_by, target_by, given_by, FactsFit, TableFits}
@@ -53,4 +54,9 @@ pub past_facts : (all : List CType) (table : List TypeFacts) (t : ℕ) → Table
     FactsFit all t (record { kind = None; target = None; gives = None; «record» = false; size = 0; align = 1 })
 past_facts all table t h lt e =
     let n : bare all t ≡ None = h.past t lt (past_from table t e) in
-    record { kept = sym (ap kept_by n); points = sym (ap target_by n); given = sym (ap given_by n) }
+    record {
+      kept = sym (ap kept_by n);
+      points = sym (ap target_by n);
+      given = sym (ap given_by n);
+      copied = ap (λ z. if is_record z then parts (size_of (extent all t)) else 0) n;
+    }

@@ -1,3 +1,4 @@
+pub mod Copied
 pub mod Destinations
 pub mod Emitted
 pub mod Functions

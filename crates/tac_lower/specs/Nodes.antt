@@ -1,6 +1,7 @@
 -- The expressions of a function of a typed program: how their values are kept, and what is known of each and its
 -- operands.
-use Rattle.std.specs.Prelude.{◌≡◌, ℕ, ◌+◌, ◌<◌, ◌⊎◌, Bool, true, false, Option, Some, None, List, length, map, sum_by}
+use Rattle.std.specs.Prelude.{◌≡◌, ℕ, ◌+◌, ◌<◌, ◌≤◌, ◌⊎◌, Bool, true, false, Option, Some, None, List, length, map}
+use Rattle.std.specs.Prelude.{sum_by}
 use Rattle.std.specs.Prelude.{slice_get}
 use Rattle.ck_int.specs.declared.kinds.IntKind.{IntKind}
 use Rattle.ck_int.specs.declared.kinds.IntKind.TheVariants as int
@@ -23,6 +24,7 @@ use Rattle.c_tree.specs.WellTyped.{Frame, TermFits, type_in, ArgumentsFit, AllAs
 use Rattle.tac_ir.specs.WellFormed.{constant_fits}
 use Rattle.tac_ir.specs.declared.code.TacKind.{TacKind}
 use Rattle.tac_ir.specs.declared.code.TacKind.TheVariants as kinds
+use Rattle.tac_lower.specs.Copied.{copied_in, copies_in, all_copies_in}
 use Rattle.tac_lower.specs.Emitted.{RightFits, ComputedFits}
 
 -- how the scalars of a type are kept
@@ -82,17 +84,20 @@ pub record IsScalar (p : Typed) (k : ℕ) (j : TacKind) : Type 0 where
 pub record HasOne (f : Frame) (k a : ℕ) : Type 0 where
   pub operand : IsTyped f a
   pub weight : weight_in f.program k ≡ 1 + weight_in f.program a
+  pub copies : copies_in f.program a ≤ copies_in f.program k
 
 pub record HasTwo (f : Frame) (k a b : ℕ) : Type 0 where
   pub left : IsTyped f a
   pub right : IsTyped f b
   pub weight : weight_in f.program k ≡ 1 + weight_in f.program a + weight_in f.program b
+  pub copies : copies_in f.program a + copies_in f.program b ≤ copies_in f.program k
 
 pub record HasThree (f : Frame) (k a b c : ℕ) : Type 0 where
   pub first : IsTyped f a
   pub second : IsTyped f b
   pub third : IsTyped f c
   pub weight : weight_in f.program k ≡ 1 + weight_in f.program a + weight_in f.program b + weight_in f.program c
+  pub copies : copies_in f.program a + copies_in f.program b + copies_in f.program c ≤ copies_in f.program k
 
 pub record ConstantNode (f : Frame) (k n : ℕ) : Type 0 where
   pub kind : TacKind
@@ -176,9 +181,10 @@ pub record CommaNode (f : Frame) (k a b : ℕ) : Type 0 where
   pub operands : HasTwo f k a b
   pub right : scalar_in f.program b ≡ scalar_in f.program k
 
--- both operands of an assignment are kept as its value
+-- both operands of an assignment are kept as its value, which may be copied
 pub record AssignNode (f : Frame) (k a b : ℕ) : Type 0 where
   pub operands : HasTwo f k a b
+  pub copies : copied_in f.program k + copies_in f.program a + copies_in f.program b ≡ copies_in f.program k
   pub left : scalar_in f.program a ≡ scalar_in f.program k
   pub right : scalar_in f.program b ≡ scalar_in f.program k
 
@@ -198,9 +204,11 @@ pub record StepNode (f : Frame) (k a : ℕ) : Type 0 where
   pub is : IsScalar f.program k kind
   pub left : scalar_in f.program a ≡ scalar_in f.program k
 
--- the operands of a conditional expression are kept as its value
+-- the operands of a conditional expression are kept as its value, which may be copied
 pub record ConditionalNode (f : Frame) (k a b c : ℕ) : Type 0 where
   pub operands : HasThree f k a b c
+  pub copies : copied_in f.program k + copies_in f.program a + copies_in f.program b + copies_in f.program c
+      ≡ copies_in f.program k
   pub left : scalar_in f.program b ≡ scalar_in f.program k
   pub right : scalar_in f.program c ≡ scalar_in f.program k
 
@@ -235,6 +243,7 @@ pub record CallNode (f : Frame) (k g : ℕ) (args : List ℕ) : Type 0 where
   pub called : IsTyped f g
   pub arguments : AreTyped f args
   pub weight : weight_in f.program k ≡ 4 + weight_in f.program g + weights_in f.program args
+  pub copies : copies_in f.program g + all_copies_in f.program args ≤ copies_in f.program k
   pub result : Ty
   pub takes : Tys
   pub of : type_of (expression f.program g) ≡ Pointer (Function result takes)
@@ -245,6 +254,7 @@ pub record CallNode (f : Frame) (k g : ℕ) (args : List ℕ) : Type 0 where
 pub record LibraryNode (f : Frame) (k n : ℕ) (args : List ℕ) : Type 0 where
   pub arguments : AreTyped f args
   pub weight : weight_in f.program k ≡ 4 + weights_in f.program args
+  pub copies : all_copies_in f.program args ≤ copies_in f.program k
   pub service : Service
   pub there : slice_get services n ≡ Some service
   pub fit : AllAskedFit service.takes (terms (map (expression f.program) args))

@@ -1,5 +1,5 @@
 -- The statements of a function of a typed program: what is known of each, its expressions and the statements in it.
-use Rattle.std.specs.Prelude.{◌≡◌, ℕ, ◌+◌, nat_lt, if◌then◌else◌, true, Option, Some, None, List, length, sum_by}
+use Rattle.std.specs.Prelude.{◌≡◌, ℕ, ◌+◌, ◌≤◌, nat_lt, if◌then◌else◌, true, Option, Some, None, List, length, sum_by}
 use Rattle.std.specs.Prelude.{slice_get}
 use Rattle.c_tree.specs.declared.typed.FunDef.{FunDef}
 use Rattle.c_tree.specs.declared.typed.StmtKind.{StmtKind}
@@ -11,6 +11,7 @@ use Rattle.c_tree.specs.TreeWeight.{action_weight}
 use Rattle.c_tree.specs.Types.{is_integer, is_scalar, is_void, compatible}
 use Rattle.c_tree.specs.Views.{actions_of, action_at}
 use Rattle.c_tree.specs.WellTyped.{Frame, Inside, in_loop, in_switch, ActionFits, InitFits, AreVars, declared}
+use Rattle.tac_lower.specs.Copied.{copied_in, copies_in, part_copies, all_part_copies}
 use Rattle.tac_lower.specs.Nodes.{expression, weight_in, IsTyped}
 
 -- statement k
@@ -37,10 +38,10 @@ entered_in p d k = entered d (declared (statement p k))
 abbrev pub all_entered_in : Typed → FunDef → List ℕ → ℕ
 all_entered_in p d ks = sum_by (λ k. entered_in p d k) ks
 
--- the weight of what may be absent
+-- a measure of what may be absent
 abbrev pub or_none : (ℕ → ℕ) → Option ℕ → ℕ
-or_none weight None = 0
-or_none weight (Some k) = weight k
+or_none measure None = 0
+or_none measure (Some k) = measure k
 
 -- a statement of a function is well typed where it stands
 pub record IsPlaced (f : Frame) (i : Inside) (k : ℕ) : Type 0 where
@@ -59,16 +60,19 @@ pub record TestFits (f : Frame) (a : ℕ) : Type 0 where
 pub record EvaluatePart (f : Frame) (k a : ℕ) : Type 0 where
   pub value : IsTyped f a
   pub weight : heft_in f.program k ≡ 1 + weight_in f.program a
+  pub copies : copies_in f.program a ≤ part_copies f.program k
 
 pub record InitPart (f : Frame) (k var offset a : ℕ) : Type 0 where
   pub value : IsTyped f a
   pub lies : InitFits f var offset (type_of (expression f.program a))
   pub weight : heft_in f.program k ≡ 1 + weight_in f.program a
+  pub copies : copied_in f.program a + copies_in f.program a ≤ part_copies f.program k
 
 pub record BlockPart (f : Frame) (i : Inside) (k : ℕ) (vars body : List ℕ) : Type 0 where
   pub vars_there : AreVars f vars
   pub body_fits : ArePlaced f i body
   pub weight : heft_in f.program k ≡ 1 + hefts_in f.program body
+  pub copies : all_part_copies f.program body ≤ part_copies f.program k
   pub enters : (d : FunDef) → entered d vars + all_entered_in f.program d body ≡ entered_in f.program d k
 
 pub record IfPart (f : Frame) (i : Inside) (k c a : ℕ) (b : Option ℕ) : Type 0 where
@@ -76,12 +80,15 @@ pub record IfPart (f : Frame) (i : Inside) (k c a : ℕ) (b : Option ℕ) : Type
   pub first : IsPlaced f i a
   pub second : (j : ℕ) → b ≡ Some j → IsPlaced f i j
   pub weight : heft_in f.program k ≡ 1 + weight_in f.program c + heft_in f.program a + or_none (heft_in f.program) b
+  pub copies : copies_in f.program c + part_copies f.program a + or_none (part_copies f.program) b
+      ≤ part_copies f.program k
   pub enters : (d : FunDef) → entered_in f.program d a + or_none (entered_in f.program d) b ≡ entered_in f.program d k
 
 pub record LoopPart (f : Frame) (k c a : ℕ) : Type 0 where
   pub test : TestFits f c
   pub body_fits : IsPlaced f in_loop a
   pub weight : heft_in f.program k ≡ 1 + weight_in f.program c + heft_in f.program a
+  pub copies : copies_in f.program c + part_copies f.program a ≤ part_copies f.program k
   pub enters : (d : FunDef) → entered_in f.program d a ≡ entered_in f.program d k
 
 pub record ForPart (f : Frame) (k : ℕ) (vars first : List ℕ) (test step : Option ℕ) (a : ℕ) : Type 0 where
@@ -92,6 +99,8 @@ pub record ForPart (f : Frame) (k : ℕ) (vars first : List ℕ) (test step : Op
   pub body_fits : IsPlaced f in_loop a
   pub weight : heft_in f.program k ≡ 1 + or_none (weight_in f.program) test + or_none (weight_in f.program) step
       + hefts_in f.program first + heft_in f.program a
+  pub copies : or_none (copies_in f.program) test + or_none (copies_in f.program) step
+      + all_part_copies f.program first + part_copies f.program a ≤ part_copies f.program k
   pub enters : (d : FunDef) →
       entered d vars + all_entered_in f.program d first + entered_in f.program d a ≡ entered_in f.program d k
 
@@ -102,6 +111,7 @@ pub record SwitchPart (f : Frame) (i : Inside) (k on : ℕ) (vars : List ℕ) (l
   pub vars_there : AreVars f vars
   pub body_fits : ArePlaced f (in_switch i) body
   pub weight : heft_in f.program k ≡ 1 + length labels + weight_in f.program on + hefts_in f.program body
+  pub copies : copies_in f.program on + all_part_copies f.program body ≤ part_copies f.program k
   pub enters : (d : FunDef) → entered d vars + all_entered_in f.program d body ≡ entered_in f.program d k
 
 -- a Return gives what the function gives
@@ -110,6 +120,7 @@ pub record ReturnPart (f : Frame) (k : ℕ) (a : Option ℕ) : Type 0 where
   pub value : (j : ℕ) → a ≡ Some j → IsTyped f j
   pub given : (j : ℕ) → a ≡ Some j → compatible (type_of (expression f.program j)) f.gives ≡ true
   pub weight : heft_in f.program k ≡ 1 + or_none (weight_in f.program) a
+  pub copies : or_none (copies_in f.program) a ≤ part_copies f.program k
 
 abbrev pub PartFits : Frame → Inside → ℕ → StmtKind → Type 0
 PartFits f i k (stmts.Expr a) = EvaluatePart f k a

@@ -1,8 +1,10 @@
--- What code that is added takes: places of the function's frame, and words of machine code.
+-- What code that is added takes: places of the function's frame, words of machine code, and parts of 16 bytes that are
+-- copied.
 use Rattle.std.specs.Prelude.{◌≡◌, ℕ, ◌+◌, ◌-◌, ◌*◌, ◌≤◌, ◌⊎◌, nat_lt, Bool, true, false, length, Option, Some, None}
 use Rattle.std.specs.Prelude.{if◌then◌else◌}
 use Rattle.std.specs.List.{sum_by}
 use Rattle.tac_ir.specs.Costs.{cost, outgoing}
+use Rattle.tac_ir.specs.Within.{copied_parts}
 use Rattle.tac_ir.specs.declared.code.Amount.{Amount}
 use Rattle.tac_ir.specs.declared.code.Amount.TheVariants as amount
 use Rattle.tac_lower.specs.declared.emitter.Emitter.{Emitter}
@@ -14,11 +16,19 @@ places e = length e.kinds.items + outgoing e.code.items
 unfoldable pub words : Emitter → ℕ
 words e = sum_by cost e.code.items
 
--- code is added that takes so many places and words at most
-pub record Spent (old new : Emitter) (m n : ℕ) : Type 0 where
+unfoldable pub copying : Emitter → ℕ
+copying e = sum_by copied_parts e.code.items
+
+-- code is added that takes so many places and words, and copies so many parts at most
+pub record Takes (old new : Emitter) (m n c : ℕ) : Type 0 where
   pub grows : length old.kinds.items ≤ length new.kinds.items
   pub places : places new ≤ places old + m
   pub words : words new ≤ words old + n
+  pub copies : copying new ≤ copying old + c
+
+-- code is added that copies nothing
+abbrev pub Spent : (old new : Emitter) → (m n : ℕ) → Type 0
+Spent old new m n = Takes old new m n 0
 
 abbrev pub is_number : Amount → Bool
 is_number (amount.Temp t) = false
@@ -33,38 +43,39 @@ extra fixed None = 1
 extra fixed (Some t) = if nat_lt t fixed then 1 else 0
 
 -- where the temps of the variables are there
-pub record Spends (fixed : ℕ) (old new : Emitter) (m n : ℕ) : Type 0 where
-  pub spent : fixed ≤ length old.kinds.items → Spent old new m n
+pub record Spends (fixed : ℕ) (old new : Emitter) (m n c : ℕ) : Type 0 where
+  pub spent : fixed ≤ length old.kinds.items → Takes old new m n c
 
--- the value of an expression of a weight, which may need a temp beside the one in which it is asked for
-abbrev pub SpendsValue : (fixed weight beside : ℕ) → (old new : Emitter) → Type 0
-SpendsValue fixed w x old new = Spends fixed old new (2 * w - 2 + x) (32 * w - 21 + 6 * x)
+-- the value of an expression of a weight and of so many copies, which may need a temp beside the one in which it is
+-- asked for
+abbrev pub SpendsValue : (fixed weight copies beside : ℕ) → (old new : Emitter) → Type 0
+SpendsValue fixed w c x old new = Spends fixed old new (2 * w - 2 + x) (32 * w - 21 + 6 * x) c
 
 -- the same in a new temp
-abbrev pub SpendsOperand : (fixed weight : ℕ) → (old new : Emitter) → Type 0
-SpendsOperand fixed w old new = Spends fixed old new (2 * w - 1) (32 * w - 21)
+abbrev pub SpendsOperand : (fixed weight copies : ℕ) → (old new : Emitter) → Type 0
+SpendsOperand fixed w c old new = Spends fixed old new (2 * w - 1) (32 * w - 21) c
 
 -- the pointer to a place, and in a new temp
-abbrev pub SpendsPlace : (fixed weight : ℕ) → (old new : Emitter) → Type 0
-SpendsPlace fixed w old new = Spends fixed old new (2 * w - 2) (32 * w - 26)
+abbrev pub SpendsPlace : (fixed weight copies : ℕ) → (old new : Emitter) → Type 0
+SpendsPlace fixed w c old new = Spends fixed old new (2 * w - 2) (32 * w - 26) c
 
-abbrev pub SpendsPointer : (fixed weight : ℕ) → (old new : Emitter) → Type 0
-SpendsPointer fixed w old new = Spends fixed old new (2 * w - 1) (32 * w - 26)
+abbrev pub SpendsPointer : (fixed weight copies : ℕ) → (old new : Emitter) → Type 0
+SpendsPointer fixed w c old new = Spends fixed old new (2 * w - 1) (32 * w - 26) c
 
 -- a branch by the truth of an expression, and by that of `&&` or `||`
-abbrev pub SpendsCondition : (fixed weight : ℕ) → (old new : Emitter) → Type 0
-SpendsCondition fixed w old new = Spends fixed old new (2 * w - 1) (32 * w - 16)
+abbrev pub SpendsCondition : (fixed weight copies : ℕ) → (old new : Emitter) → Type 0
+SpendsCondition fixed w c old new = Spends fixed old new (2 * w - 1) (32 * w - 16) c
 
-abbrev pub SpendsJunction : (fixed weight : ℕ) → (old new : Emitter) → Type 0
-SpendsJunction fixed w old new = Spends fixed old new (2 * w - 4) (32 * w - 64)
+abbrev pub SpendsJunction : (fixed weight copies : ℕ) → (old new : Emitter) → Type 0
+SpendsJunction fixed w c old new = Spends fixed old new (2 * w - 4) (32 * w - 64) c
 
 -- the copy of a struct or union
-abbrev pub SpendsCopy : (fixed weight : ℕ) → (old new : Emitter) → Type 0
-SpendsCopy fixed w old new = Spends fixed old new (2 * w) (32 * w + 3)
+abbrev pub SpendsCopy : (fixed weight copies : ℕ) → (old new : Emitter) → Type 0
+SpendsCopy fixed w c old new = Spends fixed old new (2 * w) (32 * w + 3) c
 
--- a statement, by its weight and the variables that it enters
-abbrev pub SpendsPart : (fixed heft variables : ℕ) → (old new : Emitter) → Type 0
-SpendsPart fixed h e old new = Spends fixed old new (2 * h) (32 * h + 19 * e)
+-- a statement, by its weight, its copies and the variables that it enters
+abbrev pub SpendsPart : (fixed heft copies variables : ℕ) → (old new : Emitter) → Type 0
+SpendsPart fixed h c e old new = Spends fixed old new (2 * h) (32 * h + 19 * e) c
 
 -- a temp for a value that is changed in steps, and the copy from there to where the value is asked for
 pub record Owns (fixed : ℕ) (to : Option ℕ) (old new : Emitter) (t : ℕ) : Type 0 where

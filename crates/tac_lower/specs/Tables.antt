@@ -1,5 +1,7 @@
 -- What the table of a program's types keeps of each.
 use Rattle.std.specs.Prelude.{◌≡◌, ℕ, ◌^◌, ◌<◌, ◌≤◌, Bool, true, false, List, length, Option, Some, None, slice_get}
+use Rattle.std.specs.Prelude.{if◌then◌else◌}
+use Rattle.c_tree.specs.Counts.{parts, copied}
 use Rattle.c_tree.specs.Layout.{bare}
 use Rattle.c_tree.specs.declared.typed.CType.{CType}
 use Rattle.c_tree.specs.declared.typed.CType.TheVariants as types
@@ -26,10 +28,15 @@ abbrev pub is_some : {A : Type 0} → Option A → Bool
 is_some None = false
 is_some (Some a) = true
 
+-- the bytes of a struct or union; none of another type
+abbrev pub record_size : TypeFacts → ℕ
+record_size f = if f.«record» then f.size else 0
+
 pub record FactsFit (all : List CType) (t : ℕ) (f : TypeFacts) : Type 0 where
   pub kept : f.kind ≡ kept_by (bare all t)
   pub points : f.target ≡ target_by (bare all t)
   pub given : f.gives ≡ given_by (bare all t)
+  pub copied : copied all t ≡ parts (record_size f)
 
 -- a table has the facts of the first types, and past it there are none whose numbers have 32 bits
 pub record TableFits (all : List CType) (table : List TypeFacts) : Type 0 where

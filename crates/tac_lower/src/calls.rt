@@ -8,6 +8,7 @@ ghost use Rattle.c_tree.specs.Types.{Ty, Tys, Function, Pointer};
 ghost use Rattle.cheri_c_sem.specs.Order.{Ordered};
 ghost use Rattle.tac_ir.specs.WellFormed.{signature_of_function};
 ghost use Rattle.tac_lower.specs.declared.emitter.Emitter.{Emitter};
+ghost use Rattle.tac_lower.specs.Copied.{copies_in, all_copies_in};
 ghost use Rattle.tac_lower.specs.Emitted.{HasKind, HasRoom, Grown, Adds};
 ghost use Rattle.tac_lower.specs.Known.{AreBelow};
 ghost use Rattle.tac_lower.specs.Nodes.{scalar_in, kind_in, expression, weight_in, weights_in, IsTyped, AreTyped};
@@ -57,7 +58,7 @@ fn arguments(cx: Context, k: u32, args: &[u32], out: &mut Emitter) -> Result<Vec
         out.old out.new (4 * weights_in cx.entry.p.now args.now)) }
     ensures spends { IfOk result (λ _. Spends cx.entry.fixed out.old out.new
         (2 * weights_in cx.entry.p.now args.now - length args.now)
-        (32 * weights_in cx.entry.p.now args.now - 21 * length args.now)) }
+        (32 * weights_in cx.entry.p.now args.now - 21 * length args.now) (all_copies_in cx.entry.p.now args.now)) }
 {
     let mut behind = written_behind(cx.alloc, cx.writes, args)?;
     let mut temps = Vec::new(cx.alloc);
@@ -88,7 +89,8 @@ pub fn call(
     requires room { HasRoom out.old (4 * weight_in cx.p.now k - 1) }
     ensures lowered { IfOk result (λ _. Lowered cx.entry.p.now cx.entry.d.now cx.entry.types.now cx.entry.homes.now
         out.old out.new (4 * weight_in cx.entry.p.now k - 1)) }
-    ensures spends { IfOk result (λ _. SpendsValue cx.entry.fixed (weight_in cx.entry.p.now k) 0
+    ensures spends { IfOk result (λ _. SpendsValue cx.entry.fixed (weight_in cx.entry.p.now k)
+        (copies_in cx.entry.p.now k) 0
         out.old out.new) }
 {
     match named_function(cx, f) {
@@ -123,7 +125,8 @@ pub fn library(
     requires room { HasRoom out.old (4 * weight_in cx.p.now k - 1) }
     ensures lowered { IfOk result (λ _. Lowered cx.entry.p.now cx.entry.d.now cx.entry.types.now cx.entry.homes.now
         out.old out.new (4 * weight_in cx.entry.p.now k - 1)) }
-    ensures spends { IfOk result (λ _. SpendsValue cx.entry.fixed (weight_in cx.entry.p.now k) 0
+    ensures spends { IfOk result (λ _. SpendsValue cx.entry.fixed (weight_in cx.entry.p.now k)
+        (copies_in cx.entry.p.now k) 0
         out.old out.new) }
 {
     let temps = arguments(cx, k, args, out)?;

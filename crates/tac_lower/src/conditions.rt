@@ -2,6 +2,7 @@
 
 ghost use Rattle.std.specs.Prelude.{◌≡◌, ◌+◌, ◌-◌, ◌*◌, ◌<◌, true, false, IfOk};
 ghost use Rattle.cheri_c_sem.specs.Order.{Ordered};
+ghost use Rattle.tac_lower.specs.Copied.{copies_in};
 ghost use Rattle.tac_lower.specs.Emitted.{IsOpen, Grown, Adds, HasRoom};
 ghost use Rattle.tac_lower.specs.Nodes.{weight_in, IsTyped, HasOne, HasTwo};
 ghost use Rattle.tac_lower.specs.Spent.{Spent, SpendsCondition, SpendsJunction};
@@ -68,6 +69,7 @@ pub fn condition(cx: Context, k: u32, jump: Jump, out: &mut Emitter) -> Result<(
     ensures lowered { IfOk result (λ _. Lowered cx.entry.p.now cx.entry.d.now cx.entry.types.now cx.entry.homes.now
         out.old out.new (4 * weight_in cx.entry.p.now k)) }
     ensures spends { IfOk result (λ _. SpendsCondition cx.entry.fixed (weight_in cx.entry.p.now k)
+        (copies_in cx.entry.p.now k)
         out.old out.new) }
 {
     let Some(e) = cx.node(k) else {
@@ -106,6 +108,7 @@ fn opposite_condition(
     ensures lowered { IfOk result (λ _. Lowered cx.entry.p.now cx.entry.d.now cx.entry.types.now cx.entry.homes.now
         out.old out.new (4 * weight_in cx.entry.p.now k)) }
     ensures spends { IfOk result (λ _. SpendsCondition cx.entry.fixed (weight_in cx.entry.p.now k)
+        (copies_in cx.entry.p.now k)
         out.old out.new) }
 {
     let jump = Jump {
@@ -134,6 +137,7 @@ pub fn joined_condition(
     ensures lowered { IfOk result (λ _. Lowered cx.entry.p.now cx.entry.d.now cx.entry.types.now cx.entry.homes.now
         out.old out.new (4 * weight_in cx.entry.p.now k - 3)) }
     ensures spends { IfOk result (λ _. SpendsJunction cx.entry.fixed (weight_in cx.entry.p.now k)
+        (copies_in cx.entry.p.now k)
         out.old out.new) }
 {
     if j.both == jump.when {
@@ -162,6 +166,7 @@ fn joined_around(
     ensures lowered { IfOk result (λ _. Lowered cx.entry.p.now cx.entry.d.now cx.entry.types.now cx.entry.homes.now
         out.old out.new (4 * weight_in cx.entry.p.now k - 3)) }
     ensures spends { IfOk result (λ _. SpendsJunction cx.entry.fixed (weight_in cx.entry.p.now k)
+        (copies_in cx.entry.p.now k)
         out.old out.new) }
 {
     let around = Jump {

@@ -13,7 +13,9 @@ ghost use Rattle.c_tree.specs.Terms.{type_of};
 ghost use Rattle.tac_lower.specs.Nodes.{kept_as, or_int, points, expression, scalar_in, kind_in, IsTyped};
 ghost use Rattle.tac_lower.specs.Scenes.{Ready, Housed, frame_of};
 ghost use Rattle.tac_lower.specs.Signed.{NamesType};
-ghost use Rattle.tac_lower.specs.Tables.{is_some};
+ghost use Rattle.tac_lower.specs.Tables.{is_some, record_size};
+ghost use Rattle.c_tree.specs.Counts.{parts};
+ghost use Rattle.tac_lower.specs.Copied.{copied_in};
 
 use crate::types::{NO_FACTS, TypeFacts, facts_at, member_offset, or_int};
 use crate::writes::{Written, written_at};
@@ -89,6 +91,8 @@ impl<'a> Context<'a> {
         ensures pointed { (t : Ty) → Ready self.entry.p.now self.entry.types.now →
             type_of (expression self.entry.p.now k) ≡ Pointer t
             → NamesType self.entry.p.now result.target t }
+        ensures copied { Ready self.entry.p.now self.entry.types.now →
+            copied_in self.entry.p.now k ≡ parts (record_size result) }
     {
         match self.node(k) {
             None => NO_FACTS,

@@ -7,7 +7,9 @@ ghost use Rattle.tac_ir.specs.WellFormed.{constant_fits, units_fit, is_unit};
 ghost use Rattle.cheri_c_sem.specs.Types.{is_shift};
 ghost use Rattle.ck_int.specs.declared.kinds.IntKind.TheVariants as int;
 ghost use Rattle.tac_ir.specs.Costs.{cost, outgoing_by, number_cost};
-ghost use Rattle.tac_lower.specs.Spent.{Spent, is_number};
+ghost use Rattle.tac_lower.specs.Spent.{Takes, Spent, is_number};
+ghost use Rattle.tac_ir.specs.Within.{copied_parts};
+ghost use Rattle.c_tree.specs.Counts.{parts};
 ghost use Rattle.tac_lower.specs.Emitted.{HasKind, HasInt, HasCapability, IsTemp, SameKind, AmountFits, CountFits};
 ghost use Rattle.tac_lower.specs.Emitted.{SameCapability, WorkFits, IsOpen, Stands, Grown, Made, Labelled, Forked};
 ghost use Rattle.tac_lower.specs.Emitted.{Turned, Pushed, Entered, HasLeft, Adds, HasRoom};
@@ -60,7 +62,7 @@ impl Emitter {
     fn push(&mut self, i: TacInstr) -> Result<(), NoMemory>
         ensures pushed { IfOk result (λ _. Pushed self.old self.new i) }
         ensures adds { IfOk result (λ _. Adds self.old self.new 0 0) }
-        ensures spent { IfOk result (λ _. Spent self.old self.new (outgoing_by i) (cost i)) }
+        ensures spent { IfOk result (λ _. Takes self.old self.new (outgoing_by i) (cost i) (copied_parts i)) }
     {
         self.code.push(i)?;
         Ok(())
@@ -387,7 +389,7 @@ impl Emitter {
         requires units { units_fit c.bytes c.unit ≡ true }
         ensures grown { IfOk result (λ _. Grown self.old self.new) }
         ensures adds { IfOk result (λ _. Adds self.old self.new 0 0) }
-        ensures spent { IfOk result (λ _. Spent self.old self.new 0 14) }
+        ensures spent { IfOk result (λ _. Takes self.old self.new 0 14 (parts c.bytes)) }
     {
         self.push(TacInstr::CopyUnits {
             from: c.from,

@@ -6,6 +6,7 @@ ghost use Rattle.ck_int.specs.declared.kinds.IntKind.TheVariants as int;
 ghost use Rattle.tac_ir.specs.declared.code.TacKind.TheVariants as kinds;
 ghost use Rattle.tac_lower.specs.declared.emitter.Emitter.{Emitter};
 ghost use Rattle.cheri_c_sem.specs.Order.{Ordered};
+ghost use Rattle.tac_lower.specs.Copied.{copies_in};
 ghost use Rattle.tac_lower.specs.Emitted.{HasKind, Holds, ChangeFits, HasRoom, Grown, Adds};
 ghost use Rattle.tac_lower.specs.Signed.{ResultFits};
 ghost use Rattle.tac_lower.specs.Spent.{Spent, Spends, SpendsValue, SpendsOperand, Owns, extra};
@@ -155,6 +156,7 @@ pub fn operand(cx: Context, k: u32, later: Written, out: &mut Emitter) -> Result
     ensures lowered { IfOk result (λ _. Lowered cx.entry.p.now cx.entry.d.now cx.entry.types.now cx.entry.homes.now
         out.old out.new (4 * weight_in cx.entry.p.now k)) }
     ensures spends { IfOk result (λ _. SpendsOperand cx.entry.fixed (weight_in cx.entry.p.now k)
+        (copies_in cx.entry.p.now k)
         out.old out.new) }
 {
     match in_place(cx, k, later) {
@@ -180,6 +182,7 @@ fn operand_in(cx: Context, k: u32, to: u32, out: &mut Emitter) -> Result<Held, N
     ensures lowered { IfOk result (λ _. Lowered cx.entry.p.now cx.entry.d.now cx.entry.types.now cx.entry.homes.now
         out.old out.new (4 * weight_in cx.entry.p.now k - 1)) }
     ensures spends { IfOk result (λ _. SpendsValue cx.entry.fixed (weight_in cx.entry.p.now k)
+        (copies_in cx.entry.p.now k)
         (extra cx.entry.fixed (Some to))
         out.old out.new) }
 {
@@ -205,6 +208,7 @@ fn held(cx: Context, k: u32, later: Written, out: &mut Emitter) -> Result<Held, 
     ensures lowered { IfOk result (λ _. Lowered cx.entry.p.now cx.entry.d.now cx.entry.types.now cx.entry.homes.now
         out.old out.new (4 * weight_in cx.entry.p.now k)) }
     ensures spends { IfOk result (λ _. SpendsOperand cx.entry.fixed (weight_in cx.entry.p.now k)
+        (copies_in cx.entry.p.now k)
         out.old out.new) }
 {
     let temp = operand(cx, k, later, out)?;
@@ -230,7 +234,7 @@ fn pair(cx: Context, k: u32, a: u32, b: u32, out: &mut Emitter) -> Result<(Held,
     ensures lowered { IfOk result (λ _. Lowered cx.entry.p.now cx.entry.d.now cx.entry.types.now cx.entry.homes.now
         out.old out.new (4 * weight_in cx.entry.p.now k - 4)) }
     ensures spends { IfOk result (λ _. Spends cx.entry.fixed out.old out.new (2 * weight_in cx.entry.p.now k - 4)
-        (32 * weight_in cx.entry.p.now k - 74)) }
+        (32 * weight_in cx.entry.p.now k - 74) (copies_in cx.entry.p.now k)) }
 {
     let x = held(cx, a, cx.written(b), out)?;
     let y = held(cx, b, Written::Nothing, out)?;
@@ -261,6 +265,7 @@ pub fn value(cx: Context, k: u32, to: u32, out: &mut Emitter) -> Result<(), NoMe
     ensures lowered { IfOk result (λ _. Lowered cx.entry.p.now cx.entry.d.now cx.entry.types.now cx.entry.homes.now
         out.old out.new (4 * weight_in cx.entry.p.now k - 1)) }
     ensures spends { IfOk result (λ _. SpendsValue cx.entry.fixed (weight_in cx.entry.p.now k)
+        (copies_in cx.entry.p.now k)
         (extra cx.entry.fixed (Some to))
         out.old out.new) }
 {
@@ -348,6 +353,7 @@ fn choice(
     ensures lowered { IfOk result (λ _. Lowered cx.entry.p.now cx.entry.d.now cx.entry.types.now cx.entry.homes.now
         out.old out.new (4 * weight_in cx.entry.p.now k - 1)) }
     ensures spends { IfOk result (λ _. SpendsValue cx.entry.fixed (weight_in cx.entry.p.now k)
+        (copies_in cx.entry.p.now k)
         (extra cx.entry.fixed (Some to))
         out.old out.new) }
 {
@@ -376,6 +382,7 @@ fn comma(cx: Context, k: u32, a: u32, b: u32, to: u32, out: &mut Emitter) -> Res
     ensures lowered { IfOk result (λ _. Lowered cx.entry.p.now cx.entry.d.now cx.entry.types.now cx.entry.homes.now
         out.old out.new (4 * weight_in cx.entry.p.now k - 1)) }
     ensures spends { IfOk result (λ _. SpendsValue cx.entry.fixed (weight_in cx.entry.p.now k)
+        (copies_in cx.entry.p.now k)
         (extra cx.entry.fixed (Some to))
         out.old out.new) }
 {
@@ -404,6 +411,7 @@ fn integer(
     ensures lowered { IfOk result (λ _. Lowered cx.entry.p.now cx.entry.d.now cx.entry.types.now cx.entry.homes.now
         out.old out.new (4 * weight_in cx.entry.p.now k - 1)) }
     ensures spends { IfOk result (λ _. SpendsValue cx.entry.fixed (weight_in cx.entry.p.now k)
+        (copies_in cx.entry.p.now k)
         (extra cx.entry.fixed (Some to))
         out.old out.new) }
 {
@@ -439,6 +447,7 @@ fn capability(
     ensures lowered { IfOk result (λ _. Lowered cx.entry.p.now cx.entry.d.now cx.entry.types.now cx.entry.homes.now
         out.old out.new (4 * weight_in cx.entry.p.now k - 1)) }
     ensures spends { IfOk result (λ _. SpendsValue cx.entry.fixed (weight_in cx.entry.p.now k)
+        (copies_in cx.entry.p.now k)
         (extra cx.entry.fixed (Some to))
         out.old out.new) }
 {
@@ -460,6 +469,7 @@ fn distance(cx: Context, k: u32, a: u32, b: u32, to: u32, out: &mut Emitter) -> 
     ensures lowered { IfOk result (λ _. Lowered cx.entry.p.now cx.entry.d.now cx.entry.types.now cx.entry.homes.now
         out.old out.new (4 * weight_in cx.entry.p.now k - 1)) }
     ensures spends { IfOk result (λ _. SpendsValue cx.entry.fixed (weight_in cx.entry.p.now k)
+        (copies_in cx.entry.p.now k)
         (extra cx.entry.fixed (Some to))
         out.old out.new) }
 {
@@ -477,7 +487,8 @@ pub fn effect(cx: Context, k: u32, out: &mut Emitter) -> Result<(), NoMemory>
     requires room { HasRoom out.old (4 * weight_in cx.p.now k) }
     ensures lowered { IfOk result (λ _. Lowered cx.entry.p.now cx.entry.d.now cx.entry.types.now cx.entry.homes.now
         out.old out.new (4 * weight_in cx.entry.p.now k)) }
-    ensures spends { IfOk result (λ _. SpendsValue cx.entry.fixed (weight_in cx.entry.p.now k) 1
+    ensures spends { IfOk result (λ _. SpendsValue cx.entry.fixed (weight_in cx.entry.p.now k)
+        (copies_in cx.entry.p.now k) 1
         out.old out.new) }
 {
     let Some(e) = cx.node(k) else {
@@ -554,7 +565,8 @@ fn chosen_effect(
     requires room { HasRoom out.old (4 * weight_in cx.p.now k) }
     ensures lowered { IfOk result (λ _. Lowered cx.entry.p.now cx.entry.d.now cx.entry.types.now cx.entry.homes.now
         out.old out.new (4 * weight_in cx.entry.p.now k)) }
-    ensures spends { IfOk result (λ _. SpendsValue cx.entry.fixed (weight_in cx.entry.p.now k) 1
+    ensures spends { IfOk result (λ _. SpendsValue cx.entry.fixed (weight_in cx.entry.p.now k)
+        (copies_in cx.entry.p.now k) 1
         out.old out.new) }
 {
     let fork = out.fork();
@@ -587,7 +599,8 @@ fn guarded_effect(
     requires room { HasRoom out.old (4 * weight_in cx.p.now k) }
     ensures lowered { IfOk result (λ _. Lowered cx.entry.p.now cx.entry.d.now cx.entry.types.now cx.entry.homes.now
         out.old out.new (4 * weight_in cx.entry.p.now k)) }
-    ensures spends { IfOk result (λ _. SpendsValue cx.entry.fixed (weight_in cx.entry.p.now k) 1
+    ensures spends { IfOk result (λ _. SpendsValue cx.entry.fixed (weight_in cx.entry.p.now k)
+        (copies_in cx.entry.p.now k) 1
         out.old out.new) }
 {
     let label = out.label();
@@ -606,7 +619,8 @@ fn read_effect(cx: Context, k: u32, a: u32, out: &mut Emitter) -> Result<(), NoM
     requires room { HasRoom out.old (4 * weight_in cx.p.now k) }
     ensures lowered { IfOk result (λ _. Lowered cx.entry.p.now cx.entry.d.now cx.entry.types.now cx.entry.homes.now
         out.old out.new (4 * weight_in cx.entry.p.now k)) }
-    ensures spends { IfOk result (λ _. SpendsValue cx.entry.fixed (weight_in cx.entry.p.now k) 1
+    ensures spends { IfOk result (λ _. SpendsValue cx.entry.fixed (weight_in cx.entry.p.now k)
+        (copies_in cx.entry.p.now k) 1
         out.old out.new) }
 {
     match cx.scalar(k) {
@@ -633,6 +647,7 @@ fn load(cx: Context, k: u32, a: u32, to: u32, out: &mut Emitter) -> Result<(), N
     ensures lowered { IfOk result (λ _. Lowered cx.entry.p.now cx.entry.d.now cx.entry.types.now cx.entry.homes.now
         out.old out.new (4 * weight_in cx.entry.p.now k - 1)) }
     ensures spends { IfOk result (λ _. SpendsValue cx.entry.fixed (weight_in cx.entry.p.now k)
+        (copies_in cx.entry.p.now k)
         (extra cx.entry.fixed (Some to))
         out.old out.new) }
 {
@@ -657,6 +672,7 @@ fn conversion(cx: Context, k: u32, a: u32, to: u32, out: &mut Emitter) -> Result
     ensures lowered { IfOk result (λ _. Lowered cx.entry.p.now cx.entry.d.now cx.entry.types.now cx.entry.homes.now
         out.old out.new (4 * weight_in cx.entry.p.now k - 1)) }
     ensures spends { IfOk result (λ _. SpendsValue cx.entry.fixed (weight_in cx.entry.p.now k)
+        (copies_in cx.entry.p.now k)
         (extra cx.entry.fixed (Some to))
         out.old out.new) }
 {
@@ -692,6 +708,7 @@ fn unary(
     ensures lowered { IfOk result (λ _. Lowered cx.entry.p.now cx.entry.d.now cx.entry.types.now cx.entry.homes.now
         out.old out.new (4 * weight_in cx.entry.p.now k - 1)) }
     ensures spends { IfOk result (λ _. SpendsValue cx.entry.fixed (weight_in cx.entry.p.now k)
+        (copies_in cx.entry.p.now k)
         (extra cx.entry.fixed (Some to))
         out.old out.new) }
 {
@@ -725,6 +742,7 @@ fn signed_value(
     ensures lowered { IfOk result (λ _. Lowered cx.entry.p.now cx.entry.d.now cx.entry.types.now cx.entry.homes.now
         out.old out.new (4 * weight_in cx.entry.p.now k - 1)) }
     ensures spends { IfOk result (λ _. SpendsValue cx.entry.fixed (weight_in cx.entry.p.now k)
+        (copies_in cx.entry.p.now k)
         (extra cx.entry.fixed (Some to))
         out.old out.new) }
 {
@@ -753,6 +771,7 @@ fn comparison(
     ensures lowered { IfOk result (λ _. Lowered cx.entry.p.now cx.entry.d.now cx.entry.types.now cx.entry.homes.now
         out.old out.new (4 * weight_in cx.entry.p.now k - 1)) }
     ensures spends { IfOk result (λ _. SpendsValue cx.entry.fixed (weight_in cx.entry.p.now k)
+        (copies_in cx.entry.p.now k)
         (extra cx.entry.fixed (Some to))
         out.old out.new) }
 {
@@ -773,6 +792,7 @@ fn truth(cx: Context, k: u32, j: Junction, to: u32, out: &mut Emitter) -> Result
     ensures lowered { IfOk result (λ _. Lowered cx.entry.p.now cx.entry.d.now cx.entry.types.now cx.entry.homes.now
         out.old out.new (4 * weight_in cx.entry.p.now k - 1)) }
     ensures spends { IfOk result (λ _. SpendsValue cx.entry.fixed (weight_in cx.entry.p.now k)
+        (copies_in cx.entry.p.now k)
         (extra cx.entry.fixed (Some to))
         out.old out.new) }
 {
@@ -809,6 +829,7 @@ fn sum(
     ensures lowered { IfOk result (λ _. Lowered cx.entry.p.now cx.entry.d.now cx.entry.types.now cx.entry.homes.now
         out.old out.new (4 * weight_in cx.entry.p.now k - 1)) }
     ensures spends { IfOk result (λ _. SpendsValue cx.entry.fixed (weight_in cx.entry.p.now k)
+        (copies_in cx.entry.p.now k)
         (extra cx.entry.fixed (Some to))
         out.old out.new) }
 {
@@ -843,6 +864,7 @@ fn pointer_first(
     ensures lowered { IfOk result (λ _. Lowered cx.entry.p.now cx.entry.d.now cx.entry.types.now cx.entry.homes.now
         out.old out.new (4 * weight_in cx.entry.p.now k - 1)) }
     ensures spends { IfOk result (λ _. SpendsValue cx.entry.fixed (weight_in cx.entry.p.now k)
+        (copies_in cx.entry.p.now k)
         (extra cx.entry.fixed (Some to))
         out.old out.new) }
 {
@@ -877,6 +899,7 @@ fn pointer_second(
     ensures lowered { IfOk result (λ _. Lowered cx.entry.p.now cx.entry.d.now cx.entry.types.now cx.entry.homes.now
         out.old out.new (4 * weight_in cx.entry.p.now k - 1)) }
     ensures spends { IfOk result (λ _. SpendsValue cx.entry.fixed (weight_in cx.entry.p.now k)
+        (copies_in cx.entry.p.now k)
         (extra cx.entry.fixed (Some to))
         out.old out.new) }
 {
@@ -902,7 +925,7 @@ fn displaced(cx: Context, k: u32, by: u64, to: u32, out: &mut Emitter) -> Result
         out.old out.new (4 * weight_in cx.entry.p.now k - 1)) }
     ensures spends { IfOk result (λ _. Spends cx.entry.fixed out.old out.new
         (2 * weight_in cx.entry.p.now k - 2 + extra cx.entry.fixed (Some to))
-        (32 * weight_in cx.entry.p.now k - 6 + 6 * extra cx.entry.fixed (Some to))) }
+        (32 * weight_in cx.entry.p.now k - 6 + 6 * extra cx.entry.fixed (Some to)) (copies_in cx.entry.p.now k)) }
 {
     let base = operand_in(cx, k, to, out)?;
     out.offset(to, base.temp, Amount::Number(by))
@@ -927,7 +950,8 @@ fn assignment(
     requires room { HasRoom out.old (4 * weight_in cx.p.now k - 1) }
     ensures lowered { IfOk result (λ _. Lowered cx.entry.p.now cx.entry.d.now cx.entry.types.now cx.entry.homes.now
         out.old out.new (4 * weight_in cx.entry.p.now k - 1)) }
-    ensures spends { IfOk result (λ _. SpendsValue cx.entry.fixed (weight_in cx.entry.p.now k) (extra cx.entry.fixed to)
+    ensures spends { IfOk result (λ _. SpendsValue cx.entry.fixed (weight_in cx.entry.p.now k)
+        (copies_in cx.entry.p.now k) (extra cx.entry.fixed to)
         out.old out.new) }
 {
     if cx.facts(k).record {
@@ -962,7 +986,8 @@ fn object_assignment(
     requires room { HasRoom out.old (4 * weight_in cx.p.now k - 1) }
     ensures lowered { IfOk result (λ _. Lowered cx.entry.p.now cx.entry.d.now cx.entry.types.now cx.entry.homes.now
         out.old out.new (4 * weight_in cx.entry.p.now k - 1)) }
-    ensures spends { IfOk result (λ _. SpendsValue cx.entry.fixed (weight_in cx.entry.p.now k) (extra cx.entry.fixed to)
+    ensures spends { IfOk result (λ _. SpendsValue cx.entry.fixed (weight_in cx.entry.p.now k)
+        (copies_in cx.entry.p.now k) (extra cx.entry.fixed to)
         out.old out.new) }
 {
     let kind = cx.kind(a);
@@ -991,6 +1016,7 @@ fn assigned(
     ensures lowered { IfOk result (λ _. Lowered cx.entry.p.now cx.entry.d.now cx.entry.types.now cx.entry.homes.now
         out.old out.new (4 * weight_in cx.entry.p.now k)) }
     ensures spends { IfOk result (λ _. SpendsOperand cx.entry.fixed (weight_in cx.entry.p.now k)
+        (copies_in cx.entry.p.now k)
         out.old out.new) }
 {
     match to {
@@ -1039,7 +1065,8 @@ fn compound(
     requires room { HasRoom out.old (4 * weight_in cx.p.now k - 1) }
     ensures lowered { IfOk result (λ _. Lowered cx.entry.p.now cx.entry.d.now cx.entry.types.now cx.entry.homes.now
         out.old out.new (4 * weight_in cx.entry.p.now k - 1)) }
-    ensures spends { IfOk result (λ _. SpendsValue cx.entry.fixed (weight_in cx.entry.p.now k) (extra cx.entry.fixed to)
+    ensures spends { IfOk result (λ _. SpendsValue cx.entry.fixed (weight_in cx.entry.p.now k)
+        (copies_in cx.entry.p.now k) (extra cx.entry.fixed to)
         out.old out.new) }
 {
     let kind = cx.kind(a);
@@ -1080,7 +1107,8 @@ fn step(
     requires room { HasRoom out.old (4 * weight_in cx.p.now k - 1) }
     ensures lowered { IfOk result (λ _. Lowered cx.entry.p.now cx.entry.d.now cx.entry.types.now cx.entry.homes.now
         out.old out.new (4 * weight_in cx.entry.p.now k - 1)) }
-    ensures spends { IfOk result (λ _. SpendsValue cx.entry.fixed (weight_in cx.entry.p.now k) (extra cx.entry.fixed to)
+    ensures spends { IfOk result (λ _. SpendsValue cx.entry.fixed (weight_in cx.entry.p.now k)
+        (copies_in cx.entry.p.now k) (extra cx.entry.fixed to)
         out.old out.new) }
 {
     let kind = cx.kind(a);
@@ -1130,7 +1158,7 @@ fn variable_step(
     requires room { HasRoom out.old (2) }
     ensures lowered { IfOk result (λ _. Lowered cx.entry.p.now cx.entry.d.now cx.entry.types.now cx.entry.homes.now
         out.old out.new (2)) }
-    ensures spends { IfOk result (λ _. Spends cx.entry.fixed out.old out.new (2) (35)) }
+    ensures spends { IfOk result (λ _. Spends cx.entry.fixed out.old out.new 2 35 0) }
 {
     if front || to.is_none() {
         stepped(out, pace, v.temp, v)?;

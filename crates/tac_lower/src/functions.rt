@@ -14,7 +14,8 @@ ghost use Rattle.tac_lower.specs.Emitted.{HasKind, WellListed, Keeps, Grown, Add
 ghost use Rattle.tac_lower.specs.Functions.{AreParameters, Makes};
 ghost use Rattle.tac_lower.specs.Nodes.{kept_as, or_int};
 ghost use Rattle.tac_lower.specs.Scenes.{Ready, HomeFits, Housed, Scene, Lowered};
-ghost use Rattle.tac_ir.specs.Within.{FunctionCosts};
+ghost use Rattle.tac_ir.specs.Within.{FunctionCosts, function_copies};
+ghost use Rattle.tac_lower.specs.Copied.{part_copies};
 ghost use Rattle.tac_lower.specs.Spent.{Spent};
 ghost use Rattle.tac_lower.specs.Signed.{kept_parameter, ReturnFits};
 
@@ -319,6 +320,7 @@ pub fn function(program: Program, d: &FunDef) -> Result<TacFun, NoMemory>
     ensures named { IfOk result (λ f. f.name ≡ d.now.pos) }
     ensures formed { IfOk result (λ f. function_fits program.entry.p.now d.now f ≡ true) }
     ensures costs { IfOk result (λ f. FunctionCosts (function_weight program.entry.p.now d.now) f) }
+    ensures copies { IfOk result (λ f. function_copies f ≤ part_copies program.entry.p.now d.now.body) }
 {
     let mut out = Emitter::new(program.alloc);
     parameter_temps(program, d, &mut out)?;

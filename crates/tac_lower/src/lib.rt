@@ -1,9 +1,9 @@
 //! Lowering: from typed programs to three-address code.
 //!
 //! Promise: `lower` gives well-formed code for every sound program of weight at most 7,780, function by function, which
-//! costs no more than the weight of each function allows. Definitions (`specs/`): `Lowered`; `WellFormed` of `tac_ir`;
-//! on the way `Scenes`, `Emitted`, `Spent`, `Nodes`, `Functions`. Main lemmas (`proofs/`): `Bodies`, `Scening`,
-//! `Housing`, `Spending`.
+//! costs no more than the weight of each function allows, and copies no more than the program does. Definitions
+//! (`specs/`): `Lowered`; `WellFormed` and `Within` of `tac_ir`; on the way `Scenes`, `Emitted`, `Spent`, `Copied`,
+//! `Nodes`, `Functions`. Main lemmas (`proofs/`): `Bodies`, `Scening`, `Housing`, `Spending`, `Copying`.
 #![tactic(auto)]
 
 mod calls;

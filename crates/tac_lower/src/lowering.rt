@@ -1,11 +1,12 @@
 //! Lowering: from typed programs to three-address code.
 
-ghost use Rattle.std.specs.Prelude.{◌≡◌, ◌≤◌, true, IfOk};
+ghost use Rattle.std.specs.Prelude.{◌≡◌, ◌≤◌, true, IfOk, sum_by};
 ghost use Rattle.c_tree.specs.Views.{IsOrdered};
 ghost use Rattle.c_tree.specs.Weight.{weight};
 ghost use Rattle.cheri_c_sem.specs.Order.{Ordered};
 ghost use Rattle.tac_ir.specs.WellFormed.{is_well_formed};
-ghost use Rattle.tac_ir.specs.Within.{WithinCosts};
+ghost use Rattle.tac_ir.specs.Within.{WithinCosts, function_copies};
+ghost use Rattle.c_tree.specs.Counts.{copies};
 ghost use Rattle.tac_lower.specs.Functions.{AreTypedFunctions};
 ghost use Rattle.tac_lower.specs.Lowered.{names_of, names_in};
 
@@ -27,6 +28,7 @@ pub fn lower(alloc: Global, p: &Typed) -> Result<Tac, NoMemory>
     ensures named { IfOk result (λ t. names_of t.funs ≡ names_in p.now.funs) }
     ensures formed { IfOk result (λ t. is_well_formed t p.now ≡ true) }
     ensures costs { IfOk result (λ t. WithinCosts t p.now) }
+    ensures copies { IfOk result (λ t. sum_by function_copies t.funs ≤ copies p.now) }
 {
     let types = type_table(alloc, p)?;
     let writes = writes_table(alloc, p)?;

@@ -1,11 +1,15 @@
 //! Places, and struct and union values: their pointers.
 
-ghost use Rattle.std.specs.Prelude.{◌≡◌, ◌+◌, ◌-◌, ◌*◌, ◌<◌, false, IfOk, IfSome, Some};
+ghost use Rattle.std.specs.Prelude.{◌≡◌, ◌+◌, ◌-◌, ◌*◌, ◌<◌, ◌≤◌, false, IfOk, IfSome, Some};
 ghost use Rattle.tac_ir.specs.declared.code.TacKind.TheVariants as kinds;
 ghost use Rattle.tac_lower.specs.declared.emitter.Emitter.{Emitter};
 ghost use Rattle.tac_lower.specs.Destinations.{TargetFits, DestinationFits};
 ghost use Rattle.tac_lower.specs.Emitted.{HasKind, Grown, Adds, HasRoom};
 ghost use Rattle.tac_lower.specs.Nodes.{weight_in, kind_in, IsTyped, AddressNode, HasOne, HasTwo, HasThree};
+ghost use Rattle.tac_lower.specs.Nodes.{AssignNode, ConditionalNode};
+ghost use Rattle.c_tree.specs.Counts.{parts};
+ghost use Rattle.tac_lower.specs.Copied.{copies_in};
+ghost use Rattle.tac_lower.specs.Tables.{record_size};
 ghost use Rattle.tac_lower.specs.Spent.{Spent, Spends, SpendsValue, SpendsPlace, SpendsPointer, SpendsCopy, extra};
 ghost use Rattle.tac_lower.specs.Scenes.{Ready, Housed, Scene, Lowered, frame_of};
 ghost use Rattle.cheri_c_sem.specs.Order.{Ordered};
@@ -14,7 +18,7 @@ use crate::conditions::{Jump, condition};
 use crate::context::Context;
 use crate::emitter::{Copied, Emitter};
 use crate::expressions::{effect, in_place, operand, value};
-use crate::types::{POINTER, owned_length, unit_of};
+use crate::types::{POINTER, TypeFacts, owned_length, unit_of};
 use crate::writes::Written;
 use c_tree::ExprKind;
 use ck_base::{NoMemory, Pos};
@@ -27,6 +31,23 @@ pub struct Destination {
     pub pos: Pos,
     pub bytes: u64,
     pub unit: u8,
+}
+
+impl Destination {
+    /// That of a value of a type, which has no more bytes than the type.
+    fn limited(self, facts: TypeFacts) -> Destination
+        ensures fits { (e : Emitter) → DestinationFits e self → DestinationFits e result }
+        ensures bytes { parts result.bytes ≤ parts self.bytes }
+        ensures value { parts result.bytes ≤ parts (record_size facts) }
+    {
+        let bytes = self.bytes.min(facts.record_size());
+        Destination {
+            to: self.to,
+            pos: self.pos,
+            bytes,
+            unit: unit_of(bytes, facts.align),
+        }
+    }
 }
 
 #[derive(Clone, Copy)]
@@ -116,6 +137,7 @@ pub fn pointer(cx: Context, k: u32, later: Written, out: &mut Emitter) -> Result
     ensures lowered { IfOk result (λ _. Lowered cx.entry.p.now cx.entry.d.now cx.entry.types.now cx.entry.homes.now
         out.old out.new (4 * weight_in cx.entry.p.now k)) }
     ensures spends { IfOk result (λ _. SpendsPointer cx.entry.fixed (weight_in cx.entry.p.now k)
+        (copies_in cx.entry.p.now k)
         out.old out.new) }
 {
     let Some(e) = cx.node(k) else {
@@ -145,6 +167,7 @@ fn fresh_place(cx: Context, k: u32, out: &mut Emitter) -> Result<u32, NoMemory>
     ensures lowered { IfOk result (λ _. Lowered cx.entry.p.now cx.entry.d.now cx.entry.types.now cx.entry.homes.now
         out.old out.new (4 * weight_in cx.entry.p.now k)) }
     ensures spends { IfOk result (λ _. SpendsPointer cx.entry.fixed (weight_in cx.entry.p.now k)
+        (copies_in cx.entry.p.now k)
         out.old out.new) }
 {
     let t = out.temp(POINTER)?;
@@ -163,6 +186,7 @@ pub fn place(cx: Context, k: u32, to: u32, out: &mut Emitter) -> Result<(), NoMe
     ensures lowered { IfOk result (λ _. Lowered cx.entry.p.now cx.entry.d.now cx.entry.types.now cx.entry.homes.now
         out.old out.new (4 * weight_in cx.entry.p.now k - 1)) }
     ensures spends { IfOk result (λ _. SpendsPlace cx.entry.fixed (weight_in cx.entry.p.now k)
+        (copies_in cx.entry.p.now k)
         out.old out.new) }
 {
     let Some(e) = cx.node(k) else {
@@ -212,6 +236,7 @@ fn place_behind(
     ensures lowered { IfOk result (λ _. Lowered cx.entry.p.now cx.entry.d.now cx.entry.types.now cx.entry.homes.now
         out.old out.new (4 * weight_in cx.entry.p.now k - 1)) }
     ensures spends { IfOk result (λ _. SpendsPlace cx.entry.fixed (weight_in cx.entry.p.now k)
+        (copies_in cx.entry.p.now k)
         out.old out.new) }
 {
     effect(cx, a, out)?;
@@ -240,6 +265,7 @@ fn place_choice(
     ensures lowered { IfOk result (λ _. Lowered cx.entry.p.now cx.entry.d.now cx.entry.types.now cx.entry.homes.now
         out.old out.new (4 * weight_in cx.entry.p.now k - 1)) }
     ensures spends { IfOk result (λ _. SpendsPlace cx.entry.fixed (weight_in cx.entry.p.now k)
+        (copies_in cx.entry.p.now k)
         out.old out.new) }
 {
     let fork = out.fork();
@@ -266,6 +292,7 @@ fn member(cx: Context, k: u32, a: u32, m: u32, to: u32, out: &mut Emitter) -> Re
     ensures lowered { IfOk result (λ _. Lowered cx.entry.p.now cx.entry.d.now cx.entry.types.now cx.entry.homes.now
         out.old out.new (4 * weight_in cx.entry.p.now k - 1)) }
     ensures spends { IfOk result (λ _. SpendsPlace cx.entry.fixed (weight_in cx.entry.p.now k)
+        (copies_in cx.entry.p.now k)
         out.old out.new) }
 {
     let offset = Amount::Number(cx.member_offset(a, m));
@@ -290,6 +317,7 @@ pub fn address(cx: Context, k: u32, a: u32, to: u32, out: &mut Emitter) -> Resul
     ensures lowered { IfOk result (λ _. Lowered cx.entry.p.now cx.entry.d.now cx.entry.types.now cx.entry.homes.now
         out.old out.new (4 * weight_in cx.entry.p.now k - 1)) }
     ensures spends { IfOk result (λ _. SpendsValue cx.entry.fixed (weight_in cx.entry.p.now k)
+        (copies_in cx.entry.p.now k)
         (extra cx.entry.fixed (Some to))
         out.old out.new) }
 {
@@ -313,21 +341,22 @@ pub fn struct_assignment(
     requires a_before { a < k }
     requires b_before { b < k }
     requires scene { Scene cx.p.now cx.d.now cx.types.now cx.homes.now out.old }
-    requires node { HasTwo (frame_of cx.p.now cx.d.now) k a b }
+    requires node { AssignNode (frame_of cx.p.now cx.d.now) k a b }
     requires room { HasRoom out.old (4 * weight_in cx.p.now k - 1) }
     ensures has { IfOk result (λ t. HasKind out.new t (kinds.Cap false)) }
     ensures lowered { IfOk result (λ _. Lowered cx.entry.p.now cx.entry.d.now cx.entry.types.now cx.entry.homes.now
         out.old out.new (4 * weight_in cx.entry.p.now k - 1)) }
     ensures spends { IfOk result (λ _. Spends cx.entry.fixed out.old out.new (2 * weight_in cx.entry.p.now k - 2)
-        (32 * weight_in cx.entry.p.now k - 32)) }
+        (32 * weight_in cx.entry.p.now k - 32) (copies_in cx.entry.p.now k)) }
 {
     let facts = cx.facts(k);
+    let bytes = facts.record_size();
     let t = pointer(cx, a, cx.written(b), out)?;
     let destination = Destination {
         to: Target::At(t),
         pos: place_pos(cx, a),
-        bytes: facts.size,
-        unit: unit_of(facts.size, facts.align),
+        bytes,
+        unit: unit_of(bytes, facts.align),
     };
     struct_copy(cx, b, destination, out)?;
     Ok(t)
@@ -349,7 +378,7 @@ pub fn struct_copy(
     ensures lowered { IfOk result (λ _. Lowered cx.entry.p.now cx.entry.d.now cx.entry.types.now cx.entry.homes.now
         out.old out.new (4 * weight_in cx.entry.p.now k + 1)) }
     ensures spends { IfOk result (λ _. SpendsCopy cx.entry.fixed (weight_in cx.entry.p.now k)
-        out.old out.new) }
+        (parts destination.bytes + copies_in cx.entry.p.now k) out.old out.new) }
 {
     let Some(e) = cx.node(k) else {
         return plain_copy(cx, k, destination, out);
@@ -384,23 +413,24 @@ fn chosen_copy(
     requires a_before { a < k }
     requires b_before { b < k }
     requires scene { Scene cx.p.now cx.d.now cx.types.now cx.homes.now out.old }
-    requires node { HasThree (frame_of cx.p.now cx.d.now) k c a b }
+    requires node { ConditionalNode (frame_of cx.p.now cx.d.now) k c a b }
     requires destination { DestinationFits out.old destination }
     requires room { HasRoom out.old (4 * weight_in cx.p.now k + 1) }
     ensures lowered { IfOk result (λ _. Lowered cx.entry.p.now cx.entry.d.now cx.entry.types.now cx.entry.homes.now
         out.old out.new (4 * weight_in cx.entry.p.now k + 1)) }
     ensures spends { IfOk result (λ _. SpendsCopy cx.entry.fixed (weight_in cx.entry.p.now k)
-        out.old out.new) }
+        (parts destination.bytes + copies_in cx.entry.p.now k) out.old out.new) }
 {
     let fork = out.fork();
     let jump = Jump {
         when: false,
         label: fork.other,
     };
+    let chosen = destination.limited(cx.facts(k));
     condition(cx, c, jump, out)?;
-    struct_copy(cx, a, destination, out)?;
+    struct_copy(cx, a, chosen, out)?;
     out.turn_fork(fork)?;
-    struct_copy(cx, b, destination, out)?;
+    struct_copy(cx, b, chosen, out)?;
     out.join_fork(fork)
 }
 
@@ -420,7 +450,7 @@ fn plain_copy(
     ensures lowered { IfOk result (λ _. Lowered cx.entry.p.now cx.entry.d.now cx.entry.types.now cx.entry.homes.now
         out.old out.new (4 * weight_in cx.entry.p.now k + 1)) }
     ensures spends { IfOk result (λ _. SpendsCopy cx.entry.fixed (weight_in cx.entry.p.now k)
-        out.old out.new) }
+        (parts destination.bytes + copies_in cx.entry.p.now k) out.old out.new) }
 {
     let from = pointer(cx, k, Written::Nothing, out)?;
     let to = destination.to.pointer(out)?;

@@ -5,6 +5,7 @@ ghost use Rattle.c_tree.specs.Terms.{type_of};
 ghost use Rattle.c_tree.specs.WellTyped.{AreVars, FunctionFits, InitFits};
 ghost use Rattle.cheri_c_sem.specs.Order.{Ordered};
 ghost use Rattle.tac_ir.specs.declared.code.TacKind.TheVariants as kinds;
+ghost use Rattle.tac_lower.specs.Copied.{copied_in, copies_in, part_copies, all_part_copies};
 ghost use Rattle.tac_lower.specs.Emitted.{HasKind, IsOpen, Stands, Grown, Turned, Adds, HasRoom};
 ghost use Rattle.tac_lower.specs.Known.{AreBelow};
 ghost use Rattle.tac_lower.specs.Nodes.{expression, weight_in, IsTyped};
@@ -79,15 +80,17 @@ fn initialise_object(
     requires room { HasRoom out.old (4 * weight_in cx.p.now a + 1) }
     ensures lowered { IfOk result (λ _. Lowered cx.entry.p.now cx.entry.d.now cx.entry.types.now cx.entry.homes.now
         out.old out.new (4 * weight_in cx.entry.p.now a + 1)) }
-    ensures spends { IfOk result (λ _. SpendsCopy cx.entry.fixed (weight_in cx.entry.p.now a) out.old out.new) }
+    ensures spends { IfOk result (λ _. SpendsCopy cx.entry.fixed (weight_in cx.entry.p.now a)
+        (copied_in cx.entry.p.now a + copies_in cx.entry.p.now a) out.old out.new) }
 {
     let facts = cx.facts(a);
     if facts.record {
+        let bytes = facts.record_size();
         let destination = Destination {
             to: Target::Within(base, offset),
             pos,
-            bytes: facts.size,
-            unit: unit_of(facts.size, facts.align),
+            bytes,
+            unit: unit_of(bytes, facts.align),
         };
         return struct_copy(cx, a, destination, out);
     }
@@ -112,7 +115,8 @@ fn initialise(
     requires room { HasRoom out.old (4 * weight_in cx.p.now a + 1) }
     ensures lowered { IfOk result (λ _. Lowered cx.entry.p.now cx.entry.d.now cx.entry.types.now cx.entry.homes.now
         out.old out.new (4 * weight_in cx.entry.p.now a + 1)) }
-    ensures spends { IfOk result (λ _. SpendsCopy cx.entry.fixed (weight_in cx.entry.p.now a) out.old out.new) }
+    ensures spends { IfOk result (λ _. SpendsCopy cx.entry.fixed (weight_in cx.entry.p.now a)
+        (copied_in cx.entry.p.now a + copies_in cx.entry.p.now a) out.old out.new) }
 {
     match cx.home(x) {
         None => effect(cx, a, out),
@@ -143,7 +147,9 @@ fn leave(cx: Context, k: u32, a: Option<u32>, out: &mut Emitter) -> Result<(), N
     requires room { HasRoom out.old (4 * heft_in cx.p.now k) }
     ensures lowered { IfOk result (λ _. Lowered cx.entry.p.now cx.entry.d.now cx.entry.types.now cx.entry.homes.now
         out.old out.new (4 * heft_in cx.entry.p.now k)) }
-    ensures spends { IfOk result (λ _. SpendsPart cx.entry.fixed (heft_in cx.entry.p.now k) 0 out.old out.new) }
+    ensures spends { IfOk result (λ _. SpendsPart cx.entry.fixed (heft_in cx.entry.p.now k)
+        (part_copies cx.entry.p.now k) 0
+        out.old out.new) }
 {
     let Some(a) = a else {
         return out.leave(None);
@@ -198,7 +204,7 @@ fn test_loop(
     ensures lowered { IfOk result (λ _. Lowered cx.entry.p.now cx.entry.d.now cx.entry.types.now cx.entry.homes.now
         out.old out.new (4 * or_none (weight_in cx.entry.p.now) test)) }
     ensures spends { IfOk result (λ _. SpendsPart cx.entry.fixed
-        (or_none (weight_in cx.entry.p.now) test) 0 out.old out.new) }
+        (or_none (weight_in cx.entry.p.now) test) (or_none (copies_in cx.entry.p.now) test) 0 out.old out.new) }
 {
     match test {
         None => Ok(()),
@@ -221,7 +227,7 @@ fn step_loop(cx: Context, step: Option<u32>, out: &mut Emitter) -> Result<(), No
     ensures lowered { IfOk result (λ _. Lowered cx.entry.p.now cx.entry.d.now cx.entry.types.now cx.entry.homes.now
         out.old out.new (4 * or_none (weight_in cx.entry.p.now) step)) }
     ensures spends { IfOk result (λ _. SpendsPart cx.entry.fixed
-        (or_none (weight_in cx.entry.p.now) step) 0 out.old out.new) }
+        (or_none (weight_in cx.entry.p.now) step) (or_none (copies_in cx.entry.p.now) step) 0 out.old out.new) }
 {
     match step {
         None => Ok(()),
@@ -253,7 +259,7 @@ fn loop_body(cx: Context, body: u32, circle: Circle, out: &mut Emitter) -> Resul
     ensures behind { IfOk result (λ _. Behind cx.entry.p.now cx.entry.d.now cx.entry.types.now cx.entry.homes.now
         out.old out.new circle.next (4 * heft_in cx.entry.p.now body)) }
     ensures spends { IfOk result (λ _. SpendsPart cx.entry.fixed (heft_in cx.entry.p.now body)
-        (entered_in cx.entry.p.now cx.entry.d.now body)
+        (part_copies cx.entry.p.now body) (entered_in cx.entry.p.now cx.entry.d.now body)
         out.old out.new) }
 {
     let exits = Exits {
@@ -289,7 +295,9 @@ fn tested_loop(
         + heft_in cx.entry.p.now body))
         (32 * (or_none (weight_in cx.entry.p.now) test + or_none (weight_in cx.entry.p.now) step
         + heft_in cx.entry.p.now body)
-        + 19 * entered_in cx.entry.p.now cx.entry.d.now body + 1)) }
+        + 19 * entered_in cx.entry.p.now cx.entry.d.now body + 1)
+        (or_none (copies_in cx.entry.p.now) test + or_none (copies_in cx.entry.p.now) step
+        + part_copies cx.entry.p.now body)) }
 {
     let circle = begin_loop(out)?;
     test_loop(cx, test, circle, out)?;
@@ -312,7 +320,8 @@ fn repeated_loop(cx: Context, body: u32, test: u32, out: &mut Emitter) -> Result
     ensures spends { IfOk result (λ _. Spends cx.entry.fixed out.old out.new
         (2 * (weight_in cx.entry.p.now test + heft_in cx.entry.p.now body))
         (32 * (weight_in cx.entry.p.now test + heft_in cx.entry.p.now body)
-        + 19 * entered_in cx.entry.p.now cx.entry.d.now body + 1)) }
+        + 19 * entered_in cx.entry.p.now cx.entry.d.now body + 1)
+        (copies_in cx.entry.p.now test + part_copies cx.entry.p.now body)) }
 {
     let circle = begin_loop(out)?;
     loop_body(cx, body, circle, out)?;
@@ -350,7 +359,8 @@ fn choice(
     ensures spends { IfOk result (λ _. Spends cx.entry.fixed out.old out.new
         (2 * (weight_in cx.entry.p.now c + heft_in cx.entry.p.now a + heft_in cx.entry.p.now b))
         (32 * (weight_in cx.entry.p.now c + heft_in cx.entry.p.now a + heft_in cx.entry.p.now b)
-        + 19 * (entered_in cx.entry.p.now cx.entry.d.now a + entered_in cx.entry.p.now cx.entry.d.now b) + 1)) }
+        + 19 * (entered_in cx.entry.p.now cx.entry.d.now a + entered_in cx.entry.p.now cx.entry.d.now b) + 1)
+        (copies_in cx.entry.p.now c + part_copies cx.entry.p.now a + part_copies cx.entry.p.now b)) }
 {
     let fork = out.fork();
     let jump = Jump {
@@ -379,7 +389,8 @@ fn guarded(cx: Context, c: u32, a: u32, exits: Exits, out: &mut Emitter) -> Resu
     ensures spends { IfOk result (λ _. Spends cx.entry.fixed out.old out.new
         (2 * (weight_in cx.entry.p.now c + heft_in cx.entry.p.now a))
         (32 * (weight_in cx.entry.p.now c + heft_in cx.entry.p.now a)
-        + 19 * entered_in cx.entry.p.now cx.entry.d.now a)) }
+        + 19 * entered_in cx.entry.p.now cx.entry.d.now a)
+        (copies_in cx.entry.p.now c + part_copies cx.entry.p.now a)) }
 {
     let label = out.label();
     condition(cx, c, Jump { when: false, label }, out)?;
@@ -407,7 +418,8 @@ fn statements(
     ensures lowered { IfOk result (λ _. Lowered cx.entry.p.now cx.entry.d.now cx.entry.types.now cx.entry.homes.now
         out.old out.new (4 * hefts_in cx.entry.p.now body.now)) }
     ensures spends { IfOk result (λ _. SpendsPart cx.entry.fixed (hefts_in cx.entry.p.now body.now)
-        (all_entered_in cx.entry.p.now cx.entry.d.now body.now) out.old out.new) }
+        (all_part_copies cx.entry.p.now body.now) (all_entered_in cx.entry.p.now cx.entry.d.now body.now)
+        out.old out.new) }
 {
     for s in body {
         statement(cx, *s, exits, out)?;
@@ -436,6 +448,7 @@ fn block(
     ensures lowered { IfOk result (λ _. Lowered cx.entry.p.now cx.entry.d.now cx.entry.types.now cx.entry.homes.now
         out.old out.new (4 * hefts_in cx.entry.p.now body.now)) }
     ensures spends { IfOk result (λ _. SpendsPart cx.entry.fixed (hefts_in cx.entry.p.now body.now)
+        (all_part_copies cx.entry.p.now body.now)
         (entered cx.entry.d.now vars.now + all_entered_in cx.entry.p.now cx.entry.d.now body.now) out.old out.new) }
 {
     enter(cx, vars, out)?;
@@ -472,7 +485,8 @@ fn switch(
     ensures spends { IfOk result (λ _. Spends cx.entry.fixed out.old out.new
         (2 * (weight_in cx.entry.p.now on + hefts_in cx.entry.p.now body.now) + 1)
         (32 * (weight_in cx.entry.p.now on + hefts_in cx.entry.p.now body.now + length labels.now)
-        + 19 * (entered cx.entry.d.now vars.now + all_entered_in cx.entry.p.now cx.entry.d.now body.now))) }
+        + 19 * (entered cx.entry.d.now vars.now + all_entered_in cx.entry.p.now cx.entry.d.now body.now))
+        (copies_in cx.entry.p.now on + all_part_copies cx.entry.p.now body.now)) }
 {
     let v = operand(cx, on, Written::Nothing, out)?;
     enter(cx, vars, out)?;
@@ -506,7 +520,7 @@ pub fn statement(cx: Context, k: u32, exits: Exits, out: &mut Emitter) -> Result
     ensures lowered { IfOk result (λ _. Lowered cx.entry.p.now cx.entry.d.now cx.entry.types.now cx.entry.homes.now
         out.old out.new (4 * heft_in cx.entry.p.now k)) }
     ensures spends { IfOk result (λ _. SpendsPart cx.entry.fixed (heft_in cx.entry.p.now k)
-        (entered_in cx.entry.p.now cx.entry.d.now k)
+        (part_copies cx.entry.p.now k) (entered_in cx.entry.p.now cx.entry.d.now k)
         out.old out.new) }
 {
     let Some(s) = cx.stmt(k) else {

@@ -8,7 +8,10 @@ ghost use Rattle.tac_ir.specs.Effects.{kind_of};
 ghost use Rattle.tac_ir.specs.WellFormed.{same_kind, units_fit};
 ghost use Rattle.tac_lower.specs.Emitted.{is_capability};
 ghost use Rattle.tac_lower.specs.Nodes.{or_int};
-ghost use Rattle.tac_lower.specs.Tables.{kept_by, target_by, given_by, FactsFit, TableFits};
+ghost use Rattle.tac_lower.specs.Tables.{kept_by, target_by, given_by, record_size, FactsFit, TableFits};
+ghost use Rattle.cap_layout.specs.Kept.{AreLayoutsOf};
+ghost use Rattle.c_tree.specs.Counts.{is_record, size_of};
+ghost use Rattle.c_tree.specs.Layout.{extent};
 ghost use Rattle.c_tree.specs.declared.typed.CType.{CType};
 
 use c_tree::{CType, Member, Typed};
@@ -46,6 +49,15 @@ pub struct TypeFacts {
     pub record: bool,
     pub size: u64,
     pub align: u64,
+}
+
+impl TypeFacts {
+    /// The bytes of a struct or union; none of another type.
+    pub fn record_size(self) -> u64
+        ensures { result ≡ record_size self }
+    {
+        if self.record { self.size } else { 0 }
+    }
 }
 
 /// What is known of a number without a type.
@@ -87,7 +99,9 @@ fn gives_of(c: &CType) -> Option<u32>
     }
 }
 
-fn is_record(c: &CType) -> bool {
+fn is_record(c: &CType) -> bool
+    ensures { result ≡ is_record (Some c.now) }
+{
     matches!(c, CType::Struct(_, _) | CType::Union(_, _))
 }
 
@@ -129,6 +143,7 @@ pub fn member_offset(p: &Typed, table: &[TypeFacts], t: u32, member: u32) -> u64
 
 /// The facts of a type that has a layout.
 fn facts_of(types: &[CType], t: u32, layout: Layout) -> TypeFacts
+    requires size { layout.size ≡ size_of (extent types.now t) }
     ensures { FactsFit types.now t result }
 {
     let Layout { size, align } = layout;
@@ -149,6 +164,17 @@ fn facts_of(types: &[CType], t: u32, layout: Layout) -> TypeFacts
     }
 }
 
+/// The layout of a type; nothing, where it has none.
+fn layout_of(layouts: &Layouts, p: &Typed, t: u32) -> Layout
+    requires { AreLayoutsOf p.now.types layouts.now }
+    ensures { result.size ≡ size_of (extent p.now.types t) }
+{
+    match layouts.layout(p, t) {
+        Ok(layout) => layout,
+        Err(_) => Layout { size: 0, align: 1 },
+    }
+}
+
 /// The facts of all types of a program, in their order.
 pub fn type_table(alloc: Global, p: &Typed) -> Result<Vec<TypeFacts>, NoMemory>
     ensures { IfOk result (λ table. TableFits p.now.types table.items) }
@@ -159,9 +185,7 @@ pub fn type_table(alloc: Global, p: &Typed) -> Result<Vec<TypeFacts>, NoMemory>
     let count = types.len().min(MOST);
     for t in 0..count {
         let number = t as u32;
-        let layout = layouts
-            .layout(p, number)
-            .unwrap_or(Layout { size: 0, align: 1 });
+        let layout = layout_of(&layouts, p, number);
         table.push(facts_of(types, number, layout))?;
     }
     Ok(table)

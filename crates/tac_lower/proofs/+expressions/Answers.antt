@@ -4,6 +4,7 @@ use Rattle.std.proofs.lemmas.List.{take_more}
 use Rattle.std.proofs.lemmas.Option.{slice_get_within, slice_get-get_or}
 use Rattle.std.proofs.lemmas.Result.{IfOk-weaker}
 use Rattle.ck_int.specs.declared.kinds.IntKind.TheVariants as int
+use Rattle.c_tree.specs.Counts.{parts}
 use Rattle.c_tree.specs.Types.{Function}
 use Rattle.cheri_c_sem.specs.Types.{is_shift}
 use Rattle.tac_ir.specs.WellFormed.{constant_fits}
@@ -42,9 +43,10 @@ conditions::condition-returns-in_default-clause-lowered t c =
 
 pub conditions::condition-returns-in_default-clause-spends : goal.conditions::condition-returns-in_default-clause-spends
 conditions::condition-returns-in_default-clause-spends t c =
-    last_and _ _ _ c.jump_if.result nothing c.jump_if.ensures.spent
+    last_and _ _ _ _ c.jump_if.result nothing c.jump_if.ensures.spent
     (omega (arith, heavy (expression c.args.cx.p.now c.args.k)))
     (omega (arith, heavy (expression c.args.cx.p.now c.args.k)))
+    (omega arith)
 
 pub conditions::condition-returns-in-Constant-clause-lowered :
     goal.conditions::condition-returns-in-Constant-clause-lowered
@@ -55,9 +57,10 @@ conditions::condition-returns-in-Constant-clause-lowered t c =
 pub conditions::condition-returns-in-Constant-clause-spends :
     goal.conditions::condition-returns-in-Constant-clause-spends
 conditions::condition-returns-in-Constant-clause-spends t c =
-    last_and _ _ _ c.jump_if-in-Constant.result nothing c.jump_if-in-Constant.ensures.spent
+    last_and _ _ _ _ c.jump_if-in-Constant.result nothing c.jump_if-in-Constant.ensures.spent
     (omega (arith, heavy (expression c.args.cx.p.now c.args.k)))
     (omega (arith, heavy (expression c.args.cx.p.now c.args.k)))
+    (omega arith)
 
 pub conditions::condition-opposite_condition-requires : goal.conditions::condition-opposite_condition-requires
 conditions::condition-opposite_condition-requires t c =
@@ -100,7 +103,8 @@ conditions::condition-joined_condition-requires t c =
               (
                 subst (λ (z : Junction).
                     HasTwo (frame_of c.args.cx.p.now c.args.cx.d.now) c.args.k z.a z.b) (sym c.and.ensures)
-                    (node_at c.args.cx.d.now c.requires.scene.ready c.requires.typed c.in-Some.ensures c.in-And.is).operands,
+                    (node_at c.args.cx.d.now c.requires.scene.ready c.requires.typed c.in-Some.ensures
+                    c.in-And.is).operands,
                 (c.requires.open, less_room c.requires.room (omega arith)),
               ),
             ),
@@ -127,7 +131,8 @@ conditions::condition-joined_condition-requires-in-Or t c =
               (
                 subst (λ (z : Junction).
                     HasTwo (frame_of c.args.cx.p.now c.args.cx.d.now) c.args.k z.a z.b) (sym c.or.ensures)
-                    (node_at c.args.cx.d.now c.requires.scene.ready c.requires.typed c.in-Some.ensures c.in-Or.is).operands,
+                    (node_at c.args.cx.d.now c.requires.scene.ready c.requires.typed c.in-Some.ensures
+                    c.in-Or.is).operands,
                 (c.requires.open, less_room c.requires.room (omega arith)),
               ),
             ),
@@ -142,9 +147,10 @@ conditions::condition-returns-in-And-clause-lowered t c =
 
 pub conditions::condition-returns-in-And-clause-spends : goal.conditions::condition-returns-in-And-clause-spends
 conditions::condition-returns-in-And-clause-spends t c =
-    last _ _ _ c.joined_condition.result nothing c.joined_condition.ensures.spends
+    last _ _ _ _ c.joined_condition.result nothing c.joined_condition.ensures.spends
     (omega (arith, heavy (expression c.args.cx.p.now c.args.k)))
     (omega (arith, heavy (expression c.args.cx.p.now c.args.k)))
+    (omega arith)
 
 pub conditions::condition-returns-in-Or-clause-lowered : goal.conditions::condition-returns-in-Or-clause-lowered
 conditions::condition-returns-in-Or-clause-lowered t c =
@@ -153,9 +159,10 @@ conditions::condition-returns-in-Or-clause-lowered t c =
 
 pub conditions::condition-returns-in-Or-clause-spends : goal.conditions::condition-returns-in-Or-clause-spends
 conditions::condition-returns-in-Or-clause-spends t c =
-    last _ _ _ c.joined_condition-in-Or.result nothing c.joined_condition-in-Or.ensures.spends
+    last _ _ _ _ c.joined_condition-in-Or.result nothing c.joined_condition-in-Or.ensures.spends
     (omega (arith, heavy (expression c.args.cx.p.now c.args.k)))
     (omega (arith, heavy (expression c.args.cx.p.now c.args.k)))
+    (omega arith)
 
 pub conditions::condition-branch-out-requires-clause-open : goal.conditions::condition-branch-out-requires-clause-open
 conditions::condition-branch-out-requires-clause-open t c =
@@ -173,9 +180,10 @@ conditions::condition-returns-in_ok-on-in_default-kind-clause-lowered t c =
 pub conditions::condition-returns-in_ok-on-in_default-kind-clause-spends :
     goal.conditions::condition-returns-in_ok-on-in_default-kind-clause-spends
 conditions::condition-returns-in_ok-on-in_default-kind-clause-spends t c =
-    last_and _ _ _ c.branch-out.result c.in_ok-on-in_default-kind.ensures.spends c.branch-out.ensures.spent
+    last_and _ _ _ _ c.branch-out.result c.in_ok-on-in_default-kind.ensures.spends c.branch-out.ensures.spent
     (omega (arith, heavy (expression c.args.cx.p.now c.args.k)))
     (omega (arith, heavy (expression c.args.cx.p.now c.args.k)))
+    (omega arith)
 
 pub conditions::opposite_condition-condition-requires : goal.conditions::opposite_condition-condition-requires
 conditions::opposite_condition-condition-requires t c = (
@@ -199,7 +207,7 @@ conditions::opposite_condition-returns-clause-lowered t c =
 
 pub conditions::opposite_condition-returns-clause-spends : goal.conditions::opposite_condition-returns-clause-spends
 conditions::opposite_condition-returns-clause-spends t c =
-    last _ _ _ c.condition.result nothing c.condition.ensures.spends
+    last _ _ _ _ c.condition.result nothing c.condition.ensures.spends
     (omega (
       arith,
       c.requires.node.weight,
@@ -212,6 +220,7 @@ conditions::opposite_condition-returns-clause-spends t c =
       heavy (expression c.args.cx.p.now c.args.k),
       heavy (expression c.args.cx.p.now c.args.a),
     ))
+    (omega (arith, c.requires.node.copies))
 
 pub conditions::joined_condition-condition-requires : goal.conditions::joined_condition-condition-requires
 conditions::joined_condition-condition-requires t c = (
@@ -253,7 +262,7 @@ conditions::joined_condition-returns-clause-lowered t c =
 
 pub conditions::joined_condition-returns-clause-spends : goal.conditions::joined_condition-returns-clause-spends
 conditions::joined_condition-returns-clause-spends t c =
-    last _ _ _ c.condition-2.result c.in_ok-condition.ensures.spends c.condition-2.ensures.spends
+    last _ _ _ _ c.condition-2.result c.in_ok-condition.ensures.spends c.condition-2.ensures.spends
     (omega (
       arith,
       c.requires.node.weight,
@@ -268,6 +277,7 @@ conditions::joined_condition-returns-clause-spends t c =
       heavy (expression c.args.cx.p.now c.args.j.a),
       heavy (expression c.args.cx.p.now c.args.j.b),
     ))
+    (omega (arith, c.requires.node.copies))
 
 pub conditions::joined_around-label-requires : goal.conditions::joined_around-label-requires
 conditions::joined_around-label-requires t c =
@@ -337,6 +347,7 @@ conditions::joined_around-returns-clause-spends t c =
       heavy (expression c.args.cx.p.now c.args.j.a),
       heavy (expression c.args.cx.p.now c.args.j.b),
     ))
+    (omega (arith, c.requires.node.copies))
 
 pub places::pointer-operand-requires : goal.places::pointer-operand-requires
 places::pointer-operand-requires t c =
@@ -377,7 +388,7 @@ places::pointer-returns-in-Deref-clause-lowered t c =
 
 pub places::pointer-returns-in-Deref-clause-spends : goal.places::pointer-returns-in-Deref-clause-spends
 places::pointer-returns-in-Deref-clause-spends t c =
-    last _ _ _ c.operand.result nothing c.operand.ensures.spends
+    last _ _ _ _ c.operand.result nothing c.operand.ensures.spends
     (omega (
       arith,
       (node_at c.args.cx.d.now c.requires.scene.ready c.requires.typed c.in-Some.ensures
@@ -391,6 +402,11 @@ places::pointer-returns-in-Deref-clause-spends t c =
           c.in-Deref.is).operands.weight,
       heavy (expression c.args.cx.p.now c.args.k),
       heavy (expression c.args.cx.p.now c.in-Deref.a),
+    ))
+    (omega (
+      arith,
+      (node_at c.args.cx.d.now c.requires.scene.ready c.requires.typed c.in-Some.ensures
+          c.in-Deref.is).operands.copies,
     ))
 
 pub places::pointer-pointer-requires : goal.places::pointer-pointer-requires
@@ -426,7 +442,7 @@ places::pointer-returns-in-Load-clause-lowered t c =
 
 pub places::pointer-returns-in-Load-clause-spends : goal.places::pointer-returns-in-Load-clause-spends
 places::pointer-returns-in-Load-clause-spends t c =
-    last _ _ _ c.pointer.result nothing c.pointer.ensures.spends
+    last _ _ _ _ c.pointer.result nothing c.pointer.ensures.spends
     (omega (
       arith,
       (node_at c.args.cx.d.now c.requires.scene.ready c.requires.typed c.in-Some.ensures
@@ -440,6 +456,11 @@ places::pointer-returns-in-Load-clause-spends t c =
           c.in-Load.is).operands.weight,
       heavy (expression c.args.cx.p.now c.args.k),
       heavy (expression c.args.cx.p.now c.in-Load.a),
+    ))
+    (omega (
+      arith,
+      (node_at c.args.cx.d.now c.requires.scene.ready c.requires.typed c.in-Some.ensures
+          c.in-Load.is).operands.copies,
     ))
 
 pub places::pointer-returns-in-Some-pointer_to_variable-clause-has :
@@ -456,6 +477,7 @@ pub places::pointer-returns-in-Some-pointer_to_variable-clause-spends :
 places::pointer-returns-in-Some-pointer_to_variable-clause-spends t c =
     within nothing (omega (arith, heavy (expression c.args.cx.p.now c.args.k)))
     (omega (arith, heavy (expression c.args.cx.p.now c.args.k)))
+    (omega arith)
 
 pub places::fresh_place-temp-requires : goal.places::fresh_place-temp-requires
 places::fresh_place-temp-requires t c =
@@ -493,6 +515,7 @@ places::fresh_place-returns-clause-spends t c =
     within (after (and nothing c.in_ok-t.ensures.spent) c.in_ok-place.ensures.spends)
     (omega (arith, heavy (expression c.args.cx.p.now c.args.k), heavy (expression c.args.cx.p.now c.args.k)))
     (omega (arith, heavy (expression c.args.cx.p.now c.args.k), heavy (expression c.args.cx.p.now c.args.k)))
+    (omega arith)
 
 pub places::place-returns-in_default-clause-lowered : goal.places::place-returns-in_default-clause-lowered
 places::place-returns-in_default-clause-lowered t c =
@@ -501,9 +524,10 @@ places::place-returns-in_default-clause-lowered t c =
 
 pub places::place-returns-in_default-clause-spends : goal.places::place-returns-in_default-clause-spends
 places::place-returns-in_default-clause-spends t c =
-    last_and _ _ _ c.constant.result nothing (c.constant.ensures.short refl)
+    last_and _ _ _ _ c.constant.result nothing (c.constant.ensures.short refl)
     (omega (arith, heavy (expression c.args.cx.p.now c.args.k)))
     (omega (arith, heavy (expression c.args.cx.p.now c.args.k)))
+    (omega arith)
 
 pub places::place-returns-in-Var-clause-lowered : goal.places::place-returns-in-Var-clause-lowered
 places::place-returns-in-Var-clause-lowered t c =
@@ -511,9 +535,10 @@ places::place-returns-in-Var-clause-lowered t c =
 
 pub places::place-returns-in-Var-clause-spends : goal.places::place-returns-in-Var-clause-spends
 places::place-returns-in-Var-clause-spends t c =
-    last_and _ _ _ c.variable_pointer.result nothing c.variable_pointer.ensures.spent
+    last_and _ _ _ _ c.variable_pointer.result nothing c.variable_pointer.ensures.spent
     (omega (arith, heavy (expression c.args.cx.p.now c.args.k)))
     (omega (arith, heavy (expression c.args.cx.p.now c.args.k)))
+    (omega arith)
 
 pub places::place-returns-in-Global-clause-lowered : goal.places::place-returns-in-Global-clause-lowered
 places::place-returns-in-Global-clause-lowered t c =
@@ -528,6 +553,7 @@ places::place-returns-in-Global-clause-spends t c =
     last_pushed _ (instr.Global c.args.to c.in-Global.g false) c.global.result nothing c.global.ensures.pushed
     (omega (arith, heavy (expression c.args.cx.p.now c.args.k), extra_small c.args.cx.fixed (Some c.args.to)))
     (omega (arith, heavy (expression c.args.cx.p.now c.args.k), extra_small c.args.cx.fixed (Some c.args.to)))
+    (omega arith)
 
 pub places::place-returns-in-Literal-clause-lowered : goal.places::place-returns-in-Literal-clause-lowered
 places::place-returns-in-Literal-clause-lowered t c =
@@ -543,6 +569,7 @@ places::place-returns-in-Literal-clause-spends t c =
     c.global-in-Literal.ensures.pushed (omega
     (arith, heavy (expression c.args.cx.p.now c.args.k), extra_small c.args.cx.fixed (Some c.args.to)))
     (omega (arith, heavy (expression c.args.cx.p.now c.args.k), extra_small c.args.cx.fixed (Some c.args.to)))
+    (omega arith)
 
 pub places::place-returns-in-Fun-clause-lowered : goal.places::place-returns-in-Fun-clause-lowered
 places::place-returns-in-Fun-clause-lowered t c =
@@ -557,6 +584,7 @@ places::place-returns-in-Fun-clause-spends t c =
     last_pushed _ (instr.Function c.args.to c.in-Fun.f) c.function.result nothing c.function.ensures.pushed
     (omega (arith, heavy (expression c.args.cx.p.now c.args.k), extra_small c.args.cx.fixed (Some c.args.to)))
     (omega (arith, heavy (expression c.args.cx.p.now c.args.k), extra_small c.args.cx.fixed (Some c.args.to)))
+    (omega arith)
 
 pub places::place-value-requires : goal.places::place-value-requires
 places::place-value-requires t c =
@@ -596,7 +624,7 @@ places::place-returns-in-Deref-clause-lowered t c =
 
 pub places::place-returns-in-Deref-clause-spends : goal.places::place-returns-in-Deref-clause-spends
 places::place-returns-in-Deref-clause-spends t c =
-    last _ _ _ c.value.result nothing c.value.ensures.spends
+    last _ _ _ _ c.value.result nothing c.value.ensures.spends
     (omega (
       arith,
       (node_at c.args.cx.d.now c.requires.scene.ready c.requires.typed c.in-Some.ensures
@@ -612,6 +640,11 @@ places::place-returns-in-Deref-clause-spends t c =
       heavy (expression c.args.cx.p.now c.args.k),
       heavy (expression c.args.cx.p.now c.in-Deref.a),
       extra_small c.args.cx.fixed (Some c.args.to),
+    ))
+    (omega (
+      arith,
+      (node_at c.args.cx.d.now c.requires.scene.ready c.requires.typed c.in-Some.ensures
+          c.in-Deref.is).operands.copies,
     ))
 
 pub places::place-member-requires : goal.places::place-member-requires
@@ -671,7 +704,7 @@ places::place-returns-in-Load-clause-lowered t c =
 
 pub places::place-returns-in-Load-clause-spends : goal.places::place-returns-in-Load-clause-spends
 places::place-returns-in-Load-clause-spends t c =
-    last _ _ _ c.place.result nothing c.place.ensures.spends
+    last _ _ _ _ c.place.result nothing c.place.ensures.spends
     (omega (
       arith,
       (node_at c.args.cx.d.now c.requires.scene.ready c.requires.typed c.in-Some.ensures
@@ -687,6 +720,11 @@ places::place-returns-in-Load-clause-spends t c =
       heavy (expression c.args.cx.p.now c.args.k),
       heavy (expression c.args.cx.p.now c.in-Load.a),
       extra_small c.args.cx.fixed (Some c.args.to),
+    ))
+    (omega (
+      arith,
+      (node_at c.args.cx.d.now c.requires.scene.ready c.requires.typed c.in-Some.ensures
+          c.in-Load.is).operands.copies,
     ))
 
 pub places::place-place_behind-requires : goal.places::place-place_behind-requires
@@ -765,8 +803,7 @@ places::place-struct_assignment-requires t c =
             (
               c.requires.scene,
               (
-                (node_at c.args.cx.d.now c.requires.scene.ready c.requires.typed c.in-Some.ensures
-                    c.in-Assign.is).operands,
+                node_at c.args.cx.d.now c.requires.scene.ready c.requires.typed c.in-Some.ensures c.in-Assign.is,
                 c.requires.room,
               ),
             ),
@@ -788,7 +825,7 @@ places::place-returns-in_ok-t-in-Assign-clause-lowered t c =
 
 pub places::place-returns-in_ok-t-in-Assign-clause-spends : goal.places::place-returns-in_ok-t-in-Assign-clause-spends
 places::place-returns-in_ok-t-in-Assign-clause-spends t c =
-    last_and _ _ _ c.transfer.result c.in_ok-t-in-Assign.ensures.spends c.transfer.ensures.spent
+    last_and _ _ _ _ c.transfer.result c.in_ok-t-in-Assign.ensures.spends c.transfer.ensures.spent
     (omega (
       arith,
       heavy (expression c.args.cx.p.now c.args.k),
@@ -803,6 +840,7 @@ places::place-returns-in_ok-t-in-Assign-clause-spends t c =
       heavy (expression c.args.cx.p.now c.in-Assign.b),
       extra_small c.args.cx.fixed (Some c.args.to),
     ))
+    (omega arith)
 
 pub places::place-returns-in_default-kind-clause-lowered : goal.places::place-returns-in_default-kind-clause-lowered
 places::place-returns-in_default-kind-clause-lowered t c =
@@ -812,9 +850,10 @@ places::place-returns-in_default-kind-clause-lowered t c =
 
 pub places::place-returns-in_default-kind-clause-spends : goal.places::place-returns-in_default-kind-clause-spends
 places::place-returns-in_default-kind-clause-spends t c =
-    last_and _ _ _ c.constant-in_default-kind.result nothing (c.constant-in_default-kind.ensures.short refl)
+    last_and _ _ _ _ c.constant-in_default-kind.result nothing (c.constant-in_default-kind.ensures.short refl)
     (omega (arith, heavy (expression c.args.cx.p.now c.args.k)))
     (omega (arith, heavy (expression c.args.cx.p.now c.args.k)))
+    (omega arith)
 
 pub places::place_behind-effect-requires : goal.places::place_behind-effect-requires
 places::place_behind-effect-requires t c = (
@@ -856,7 +895,7 @@ places::place_behind-returns-clause-lowered t c =
 
 pub places::place_behind-returns-clause-spends : goal.places::place_behind-returns-clause-spends
 places::place_behind-returns-clause-spends t c =
-    last _ _ _ c.place.result c.in_ok-effect.ensures.spends c.place.ensures.spends
+    last _ _ _ _ c.place.result c.in_ok-effect.ensures.spends c.place.ensures.spends
     (omega (
       arith,
       c.requires.node.weight,
@@ -873,6 +912,7 @@ places::place_behind-returns-clause-spends t c =
       heavy (expression c.args.cx.p.now c.args.b),
       extra_small c.args.cx.fixed (Some c.args.to),
     ))
+    (omega (arith, c.requires.node.copies))
 
 pub places::place_choice-fork-fork-requires : goal.places::place_choice-fork-fork-requires
 places::place_choice-fork-fork-requires t c =
@@ -981,6 +1021,7 @@ places::place_choice-returns-clause-spends t c =
       heavy (expression c.args.cx.p.now c.args.b),
       extra_small c.args.cx.fixed (Some c.args.to),
     ))
+    (omega (arith, c.requires.node.copies))
 
 pub places::member-offset-requires-clause-same : goal.places::member-offset-requires-clause-same
 places::member-offset-requires-clause-same t c =
@@ -992,9 +1033,10 @@ places::member-returns-in-Some-clause-lowered t c =
 
 pub places::member-returns-in-Some-clause-spends : goal.places::member-returns-in-Some-clause-spends
 places::member-returns-in-Some-clause-spends t c =
-    last_and _ _ _ c.offset.result nothing c.offset.ensures.spent
+    last_and _ _ _ _ c.offset.result nothing c.offset.ensures.spent
     (omega (arith, c.requires.node.weight, heavy (expression c.args.cx.p.now c.args.a)))
     (omega (arith, c.requires.node.weight, heavy (expression c.args.cx.p.now c.args.a)))
+    (omega (arith, c.requires.node.copies))
 
 pub places::member-place-requires : goal.places::member-place-requires
 places::member-place-requires t c = (
@@ -1025,7 +1067,7 @@ places::member-returns-in_ok-place-in-None-clause-lowered t c =
 pub places::member-returns-in_ok-place-in-None-clause-spends :
     goal.places::member-returns-in_ok-place-in-None-clause-spends
 places::member-returns-in_ok-place-in-None-clause-spends t c =
-    last_and _ _ _ c.offset-in-None.result c.in_ok-place-in-None.ensures.spends c.offset-in-None.ensures.spent
+    last_and _ _ _ _ c.offset-in-None.result c.in_ok-place-in-None.ensures.spends c.offset-in-None.ensures.spent
     (omega (
       arith,
       c.requires.node.weight,
@@ -1040,6 +1082,7 @@ places::member-returns-in_ok-place-in-None-clause-spends t c =
       heavy (expression c.args.cx.p.now c.args.a),
       extra_small c.args.cx.fixed (Some c.args.to),
     ))
+    (omega (arith, c.requires.node.copies))
 
 pub places::address-place-requires : goal.places::address-place-requires
 places::address-place-requires t c = (
@@ -1079,6 +1122,7 @@ places::address-returns-in-None-clause-spends t c =
       heavy (expression c.args.cx.p.now c.args.a),
       extra_small c.args.cx.fixed (Some c.args.to),
     ))
+    (omega (arith, c.requires.node.operands.copies))
 
 pub places::address-narrow-requires-clause-same : goal.places::address-narrow-requires-clause-same
 places::address-narrow-requires-clause-same t c =
@@ -1092,7 +1136,7 @@ places::address-returns-in-Some-clause-lowered t c =
 
 pub places::address-returns-in-Some-clause-spends : goal.places::address-returns-in-Some-clause-spends
 places::address-returns-in-Some-clause-spends t c =
-    last_and _ _ _ c.narrow.result c.in_ok-place.ensures.spends c.narrow.ensures.spent
+    last_and _ _ _ _ c.narrow.result c.in_ok-place.ensures.spends c.narrow.ensures.spent
     (omega (
       arith,
       c.requires.node.operands.weight,
@@ -1107,6 +1151,7 @@ places::address-returns-in-Some-clause-spends t c =
       heavy (expression c.args.cx.p.now c.args.a),
       extra_small c.args.cx.fixed (Some c.args.to),
     ))
+    (omega (arith, c.requires.node.operands.copies))
 
 pub places::struct_assignment-pointer-requires : goal.places::struct_assignment-pointer-requires
 places::struct_assignment-pointer-requires t c = (
@@ -1116,8 +1161,8 @@ places::struct_assignment-pointer-requires t c = (
     (
       c.requires.scene,
       (
-        c.requires.node.left,
-        less_room c.requires.room (omega (arith, c.requires.node.weight)),
+        c.requires.node.operands.left,
+        less_room c.requires.room (omega (arith, c.requires.node.operands.weight)),
       ),
     ),
   ),
@@ -1131,10 +1176,10 @@ places::struct_assignment-struct_copy-requires t c = (
     (
       c.in_ok-t.ensures.lowered.scene,
       (
-        c.requires.node.right,
+        c.requires.node.operands.right,
         (
           record { target = c.in_ok-t.ensures.has; units = c.unit_of.ensures },
-          room c.requires.room c.in_ok-t.ensures.lowered (omega (arith, c.requires.node.weight)),
+          room c.requires.room c.in_ok-t.ensures.lowered (omega (arith, c.requires.node.operands.weight)),
         ),
       ),
     ),
@@ -1146,24 +1191,31 @@ places::struct_assignment-returns-clause-has t c = still c.in_ok-t.ensures.has c
 
 pub places::struct_assignment-returns-clause-lowered : goal.places::struct_assignment-returns-clause-lowered
 places::struct_assignment-returns-clause-lowered t c =
-    at_most (both c.in_ok-t.ensures.lowered c.in_ok-struct_copy.ensures.lowered) (omega (arith, c.requires.node.weight))
+    at_most (both c.in_ok-t.ensures.lowered c.in_ok-struct_copy.ensures.lowered)
+    (omega (arith, c.requires.node.operands.weight))
 
 pub places::struct_assignment-returns-clause-spends : goal.places::struct_assignment-returns-clause-spends
 places::struct_assignment-returns-clause-spends t c =
     within (after c.in_ok-t.ensures.spends c.in_ok-struct_copy.ensures.spends)
     (omega (
       arith,
-      c.requires.node.weight,
+      c.requires.node.operands.weight,
       heavy (expression c.args.cx.p.now c.args.k),
       heavy (expression c.args.cx.p.now c.args.a),
       heavy (expression c.args.cx.p.now c.args.b),
     ))
     (omega (
       arith,
-      c.requires.node.weight,
+      c.requires.node.operands.weight,
       heavy (expression c.args.cx.p.now c.args.k),
       heavy (expression c.args.cx.p.now c.args.a),
       heavy (expression c.args.cx.p.now c.args.b),
+    ))
+    (omega (
+      arith,
+      c.requires.node.copies,
+      c.facts-facts.ensures.copied c.requires.scene.ready,
+      ap parts c.record_size-bytes.ensures,
     ))
 
 pub places::struct_copy-chosen_copy-requires : goal.places::struct_copy-chosen_copy-requires
@@ -1189,8 +1241,8 @@ places::struct_copy-chosen_copy-requires t c =
               (
                 c.requires.scene,
                 (
-                  (node_at c.args.cx.d.now c.requires.scene.ready c.requires.typed c.in-Some.ensures
-                      c.in-Conditional.is).operands,
+                  node_at c.args.cx.d.now c.requires.scene.ready c.requires.typed c.in-Some.ensures
+                      c.in-Conditional.is,
                   (c.requires.destination, c.requires.room),
                 ),
               ),
@@ -1265,7 +1317,7 @@ places::struct_copy-returns-in_ok-effect-in-Comma-clause-lowered t c =
 pub places::struct_copy-returns-in_ok-effect-in-Comma-clause-spends :
     goal.places::struct_copy-returns-in_ok-effect-in-Comma-clause-spends
 places::struct_copy-returns-in_ok-effect-in-Comma-clause-spends t c =
-    last _ _ _ c.struct_copy.result c.in_ok-effect-in-Comma.ensures.spends c.struct_copy.ensures.spends
+    last _ _ _ _ c.struct_copy.result c.in_ok-effect-in-Comma.ensures.spends c.struct_copy.ensures.spends
     (omega (
       arith,
       (node_at c.args.cx.d.now c.requires.scene.ready c.requires.typed c.in-Some.ensures
@@ -1281,6 +1333,11 @@ places::struct_copy-returns-in_ok-effect-in-Comma-clause-spends t c =
       heavy (expression c.args.cx.p.now c.args.k),
       heavy (expression c.args.cx.p.now c.in-Comma.a),
       heavy (expression c.args.cx.p.now c.in-Comma.b),
+    ))
+    (omega (
+      arith,
+      (node_at c.args.cx.d.now c.requires.scene.ready c.requires.typed c.in-Some.ensures
+          c.in-Comma.is).operands.copies,
     ))
 
 pub places::struct_copy-struct_copy-requires-in-Load : goal.places::struct_copy-struct_copy-requires-in-Load
@@ -1320,7 +1377,7 @@ places::struct_copy-returns-in-Load-clause-lowered t c =
 
 pub places::struct_copy-returns-in-Load-clause-spends : goal.places::struct_copy-returns-in-Load-clause-spends
 places::struct_copy-returns-in-Load-clause-spends t c =
-    last _ _ _ c.struct_copy-in-Load.result nothing c.struct_copy-in-Load.ensures.spends
+    last _ _ _ _ c.struct_copy-in-Load.result nothing c.struct_copy-in-Load.ensures.spends
     (omega (
       arith,
       (node_at c.args.cx.d.now c.requires.scene.ready c.requires.typed c.in-Some.ensures
@@ -1334,11 +1391,16 @@ places::struct_copy-returns-in-Load-clause-spends t c =
           c.in-Load.is).operands.weight,
       heavy (expression c.args.cx.p.now c.args.k),
       heavy (expression c.args.cx.p.now c.in-Load.a),
+    ))
+    (omega (
+      arith,
+      (node_at c.args.cx.d.now c.requires.scene.ready c.requires.typed c.in-Some.ensures
+          c.in-Load.is).operands.copies,
     ))
 
 pub places::chosen_copy-fork-fork-requires : goal.places::chosen_copy-fork-fork-requires
 places::chosen_copy-fork-fork-requires t c =
-    record { few = (omega (arith, c.requires.node.weight, c.requires.room.labels)) }
+    record { few = (omega (arith, c.requires.node.operands.weight, c.requires.room.labels)) }
 
 pub places::chosen_copy-condition-requires : goal.places::chosen_copy-condition-requires
 places::chosen_copy-condition-requires t c = (
@@ -1348,11 +1410,11 @@ places::chosen_copy-condition-requires t c = (
     (
       (fork c.requires.scene c.fork-fork.ensures.forked).scene,
       (
-        c.requires.node.first,
+        c.requires.node.operands.first,
         (
           second_open (fork c.requires.scene c.fork-fork.ensures.forked),
           opened_room c.requires.room (fork c.requires.scene c.fork-fork.ensures.forked)
-              (omega (arith, c.requires.node.weight)),
+              (omega (arith, c.requires.node.operands.weight)),
         ),
       ),
     ),
@@ -1367,14 +1429,14 @@ places::chosen_copy-struct_copy-requires t c = (
     (
       c.in_ok-condition.ensures.lowered.scene,
       (
-        c.requires.node.second,
+        c.requires.node.operands.second,
         (
           destination_opened
               (opened (fork c.requires.scene c.fork-fork.ensures.forked) c.in_ok-condition.ensures.lowered)
-              c.requires.destination,
+              (c.limited-chosen.ensures.fits _ c.requires.destination),
           opened_room c.requires.room
               (opened (fork c.requires.scene c.fork-fork.ensures.forked) c.in_ok-condition.ensures.lowered)
-              (omega (arith, c.requires.node.weight)),
+              (omega (arith, c.requires.node.operands.weight)),
         ),
       ),
     ),
@@ -1399,16 +1461,16 @@ places::chosen_copy-struct_copy-requires-2 t c = (
           c.in_ok-condition.ensures.lowered) c.in_ok-struct_copy.ensures.lowered) c.in_ok-turn_fork.ensures.turned
           c.in_ok-turn_fork.ensures.adds).scene,
       (
-        c.requires.node.third,
+        c.requires.node.operands.third,
         (
           destination_opened
               (turned (opened (opened (fork c.requires.scene c.fork-fork.ensures.forked)
               c.in_ok-condition.ensures.lowered) c.in_ok-struct_copy.ensures.lowered) c.in_ok-turn_fork.ensures.turned
-              c.in_ok-turn_fork.ensures.adds) c.requires.destination,
+              c.in_ok-turn_fork.ensures.adds) (c.limited-chosen.ensures.fits _ c.requires.destination),
           opened_room c.requires.room (turned (opened
               (opened (fork c.requires.scene c.fork-fork.ensures.forked) c.in_ok-condition.ensures.lowered)
               c.in_ok-struct_copy.ensures.lowered) c.in_ok-turn_fork.ensures.turned c.in_ok-turn_fork.ensures.adds)
-              (omega (arith, c.requires.node.weight)),
+              (omega (arith, c.requires.node.operands.weight)),
         ),
       ),
     ),
@@ -1420,7 +1482,7 @@ places::chosen_copy-returns-clause-lowered t c =
     tail_stands _ c.join_fork.result (opened (turned
     (opened (opened (fork c.requires.scene c.fork-fork.ensures.forked) c.in_ok-condition.ensures.lowered)
     c.in_ok-struct_copy.ensures.lowered) c.in_ok-turn_fork.ensures.turned c.in_ok-turn_fork.ensures.adds)
-    c.in_ok-struct_copy-2.ensures.lowered) c.join_fork.ensures.stands (omega (arith, c.requires.node.weight))
+    c.in_ok-struct_copy-2.ensures.lowered) c.join_fork.ensures.stands (omega (arith, c.requires.node.operands.weight))
 
 pub places::chosen_copy-returns-clause-spends : goal.places::chosen_copy-returns-clause-spends
 places::chosen_copy-returns-clause-spends t c =
@@ -1429,7 +1491,7 @@ places::chosen_copy-returns-clause-spends t c =
     c.in_ok-struct_copy.ensures.spends) c.in_ok-turn_fork.ensures.spent) c.in_ok-struct_copy-2.ensures.spends)
     c.join_fork.ensures.stands (omega (
       arith,
-      c.requires.node.weight,
+      c.requires.node.operands.weight,
       heavy (expression c.args.cx.p.now c.args.k),
       heavy (expression c.args.cx.p.now c.args.c),
       heavy (expression c.args.cx.p.now c.args.a),
@@ -1437,11 +1499,18 @@ places::chosen_copy-returns-clause-spends t c =
     ))
     (omega (
       arith,
-      c.requires.node.weight,
+      c.requires.node.operands.weight,
       heavy (expression c.args.cx.p.now c.args.k),
       heavy (expression c.args.cx.p.now c.args.c),
       heavy (expression c.args.cx.p.now c.args.a),
       heavy (expression c.args.cx.p.now c.args.b),
+    ))
+    (omega (
+      arith,
+      c.requires.node.copies,
+      c.facts.ensures.copied c.requires.scene.ready,
+      c.limited-chosen.ensures.bytes,
+      c.limited-chosen.ensures.value,
     ))
 
 pub places::plain_copy-pointer-requires : goal.places::plain_copy-pointer-requires
@@ -1477,9 +1546,10 @@ places::plain_copy-returns-clause-lowered t c =
 
 pub places::plain_copy-returns-clause-spends : goal.places::plain_copy-returns-clause-spends
 places::plain_copy-returns-clause-spends t c =
-    last_and _ _ _ c.copy_units.result (and c.in_ok-from.ensures.spends c.in_ok-to.ensures.spent)
+    last_and _ _ _ _ c.copy_units.result (and c.in_ok-from.ensures.spends c.in_ok-to.ensures.spent)
     c.copy_units.ensures.spent (omega (arith, heavy (expression c.args.cx.p.now c.args.k)))
     (omega (arith, heavy (expression c.args.cx.p.now c.args.k)))
+    (omega arith)
 
 pub calls::call-named_function-requires-clause-typed : goal.calls::call-named_function-requires-clause-typed
 calls::call-named_function-requires-clause-typed t c = c.requires.node.called
@@ -1528,6 +1598,7 @@ calls::call-returns-in_ok-temps-in-Some-clause-spends t c =
           c.in_ok-temps-in-Some.ensures.kinds,
       places_small (length c.in_ok-temps-in-Some.temps.items),
     ))
+    (omega (arith, c.requires.node.copies))
 
 pub calls::call-operand-requires : goal.calls::call-operand-requires
 calls::call-operand-requires t c = (
@@ -1598,6 +1669,7 @@ calls::call-returns-in_ok-temps-in-None-clause-spends t c =
       places_small (length c.in_ok-temps-in-None.temps.items),
       heavy (expression c.args.cx.p.now c.args.f),
     ))
+    (omega (arith, c.requires.node.copies))
 
 pub calls::library-arguments-requires : goal.calls::library-arguments-requires
 calls::library-arguments-requires t c = (
@@ -1640,6 +1712,7 @@ calls::library-returns-in-Library-clause-spends t c =
       weights_heavy c.args.cx.p.now c.args.args.now,
       service_small c.in-Library.op,
     ))
+    (omega (arith, c.requires.node.copies))
 
 pub calls::library-returns-in-Exit-clause-lowered : goal.calls::library-returns-in-Exit-clause-lowered
 calls::library-returns-in-Exit-clause-lowered t c =
@@ -1655,6 +1728,7 @@ calls::library-returns-in-Exit-clause-spends t c =
     last_pushed _ _ c.service-in-Exit.result c.in_ok-temps.ensures.spends c.service-in-Exit.ensures.pushed
     (omega (arith, c.requires.node.weight, weights_heavy c.args.cx.p.now c.args.args.now))
     (omega (arith, c.requires.node.weight, weights_heavy c.args.cx.p.now c.args.args.now))
+    (omega (arith, c.requires.node.copies))
 
 pub calls::library-intrinsic_value-requires : goal.calls::library-intrinsic_value-requires
 calls::library-intrinsic_value-requires t c =
@@ -1675,9 +1749,10 @@ calls::library-returns-in-Intrinsic-clause-lowered t c =
 
 pub calls::library-returns-in-Intrinsic-clause-spends : goal.calls::library-returns-in-Intrinsic-clause-spends
 calls::library-returns-in-Intrinsic-clause-spends t c =
-    last_and _ _ _ c.intrinsic_value.result c.in_ok-temps.ensures.spends c.intrinsic_value.ensures.spent
+    last_and _ _ _ _ c.intrinsic_value.result c.in_ok-temps.ensures.spends c.intrinsic_value.ensures.spent
     (omega (arith, c.requires.node.weight, weights_heavy c.args.cx.p.now c.args.args.now))
     (omega (arith, c.requires.node.weight, weights_heavy c.args.cx.p.now c.args.args.now))
+    (omega (arith, c.requires.node.copies))
 
 pub calls::arguments-loop-a-init : goal.calls::arguments-loop-a-init
 calls::arguments-loop-a-init t c =
@@ -1723,6 +1798,7 @@ pub expressions::operand-returns-in-Some-clause-spends : goal.expressions::opera
 expressions::operand-returns-in-Some-clause-spends t c =
     within nothing (omega (arith, heavy (expression c.args.cx.p.now c.args.k)))
     (omega (arith, heavy (expression c.args.cx.p.now c.args.k)))
+    (omega arith)
 
 pub expressions::operand-temp-requires : goal.expressions::operand-temp-requires
 expressions::operand-temp-requires t c =
@@ -1765,6 +1841,7 @@ expressions::operand-returns-in_ok-value-in-None-clause-spends t c =
     within (in_fresh _ c.in_ok-t-in-None.ensures.next c.in_ok-t-in-None.ensures.spent
     c.in_ok-value-in-None.ensures.spends) (omega (arith, heavy (expression c.args.cx.p.now c.args.k)))
     (omega (arith, heavy (expression c.args.cx.p.now c.args.k)))
+    (omega arith)
 
 pub expressions::operand_in-returns-in-Some-clause-holds : goal.expressions::operand_in-returns-in-Some-clause-holds
 expressions::operand_in-returns-in-Some-clause-holds t c =
@@ -1784,6 +1861,7 @@ expressions::operand_in-returns-in-Some-clause-spends t c =
       extra_small c.args.cx.fixed (Some c.args.to),
     ))
     (omega (arith, heavy (expression c.args.cx.p.now c.args.k), extra_small c.args.cx.fixed (Some c.args.to)))
+    (omega arith)
 
 pub expressions::operand_in-returns-in_ok-value-in-None-clause-holds :
     goal.expressions::operand_in-returns-in_ok-value-in-None-clause-holds
@@ -1874,6 +1952,7 @@ expressions::pair-returns-clause-spends t c =
       heavy (expression c.args.cx.p.now c.args.a),
       heavy (expression c.args.cx.p.now c.args.b),
     ))
+    (omega (arith, c.requires.node.copies))
 
 pub expressions::value-constant-requires-clause-to : goal.expressions::value-constant-requires-clause-to
 expressions::value-constant-requires-clause-to t c =
@@ -1889,9 +1968,10 @@ expressions::value-returns-in_default-clause-lowered t c =
 
 pub expressions::value-returns-in_default-clause-spends : goal.expressions::value-returns-in_default-clause-spends
 expressions::value-returns-in_default-clause-spends t c =
-    last_and _ _ _ c.constant.result nothing c.constant.ensures.spent
+    last_and _ _ _ _ c.constant.result nothing c.constant.ensures.spent
     (omega (arith, heavy (expression c.args.cx.p.now c.args.k), extra_small c.args.cx.fixed (Some c.args.to)))
     (omega (arith, heavy (expression c.args.cx.p.now c.args.k), extra_small c.args.cx.fixed (Some c.args.to)))
+    (omega arith)
 
 pub expressions::value-constant-requires-in-Constant-clause-to :
     goal.expressions::value-constant-requires-in-Constant-clause-to
@@ -1914,9 +1994,10 @@ expressions::value-returns-in-Constant-clause-lowered t c =
 
 pub expressions::value-returns-in-Constant-clause-spends : goal.expressions::value-returns-in-Constant-clause-spends
 expressions::value-returns-in-Constant-clause-spends t c =
-    last_and _ _ _ c.constant-in-Constant.result nothing c.constant-in-Constant.ensures.spent
+    last_and _ _ _ _ c.constant-in-Constant.result nothing c.constant-in-Constant.ensures.spent
     (omega (arith, heavy (expression c.args.cx.p.now c.args.k), extra_small c.args.cx.fixed (Some c.args.to)))
     (omega (arith, heavy (expression c.args.cx.p.now c.args.k), extra_small c.args.cx.fixed (Some c.args.to)))
+    (omega arith)
 
 pub expressions::value-load-requires : goal.expressions::value-load-requires
 expressions::value-load-requires t c =
@@ -2379,7 +2460,8 @@ expressions::value-compound-requires t c =
                     change_fits c.args.cx.p.now c.in-Compound.op c.in-Compound.a c.in-Compound.b
                         c.in-Compound.of c.change_of-change.result c.change_of-change.ensures.op
                         (c.change_of-change.ensures.computed) (c.change_of-change.ensures.element)
-                        (node_at c.args.cx.d.now c.requires.scene.ready c.requires.typed c.in-Some.ensures c.in-Compound.is).fits,
+                        (node_at c.args.cx.d.now c.requires.scene.ready c.requires.typed c.in-Some.ensures
+                        c.in-Compound.is).fits,
                     (c.requires.to, c.requires.room),
                   ),
                 ),
@@ -2406,9 +2488,10 @@ expressions::value-returns-in-Literal-clause-lowered t c =
 
 pub expressions::value-returns-in-Literal-clause-spends : goal.expressions::value-returns-in-Literal-clause-spends
 expressions::value-returns-in-Literal-clause-spends t c =
-    last_and _ _ _ c.constant-in-Literal.result nothing c.constant-in-Literal.ensures.spent
+    last_and _ _ _ _ c.constant-in-Literal.result nothing c.constant-in-Literal.ensures.spent
     (omega (arith, heavy (expression c.args.cx.p.now c.args.k), extra_small c.args.cx.fixed (Some c.args.to)))
     (omega (arith, heavy (expression c.args.cx.p.now c.args.k), extra_small c.args.cx.fixed (Some c.args.to)))
+    (omega arith)
 
 pub expressions::choice-fork-fork-requires : goal.expressions::choice-fork-fork-requires
 expressions::choice-fork-fork-requires t c =
@@ -2518,6 +2601,7 @@ expressions::choice-returns-clause-spends t c =
       heavy (expression c.args.cx.p.now c.args.b),
       extra_small c.args.cx.fixed (Some c.args.to),
     ))
+    (omega (arith, c.requires.node.operands.copies))
 
 pub expressions::comma-effect-requires : goal.expressions::comma-effect-requires
 expressions::comma-effect-requires t c = (
@@ -2559,7 +2643,7 @@ expressions::comma-returns-clause-lowered t c =
 
 pub expressions::comma-returns-clause-spends : goal.expressions::comma-returns-clause-spends
 expressions::comma-returns-clause-spends t c =
-    last _ _ _ c.value.result c.in_ok-effect.ensures.spends c.value.ensures.spends
+    last _ _ _ _ c.value.result c.in_ok-effect.ensures.spends c.value.ensures.spends
     (omega (
       arith,
       c.requires.node.operands.weight,
@@ -2576,6 +2660,7 @@ expressions::comma-returns-clause-spends t c =
       heavy (expression c.args.cx.p.now c.args.b),
       extra_small c.args.cx.fixed (Some c.args.to),
     ))
+    (omega (arith, c.requires.node.operands.copies))
 
 pub expressions::integer-pair-requires : goal.expressions::integer-pair-requires
 expressions::integer-pair-requires t c = (
@@ -2625,7 +2710,7 @@ expressions::integer-returns-clause-lowered t c =
 
 pub expressions::integer-returns-clause-spends : goal.expressions::integer-returns-clause-spends
 expressions::integer-returns-clause-spends t c =
-    last_and _ _ _ c.whole.result c.in_ok-x.ensures.spends c.whole.ensures.spent
+    last_and _ _ _ _ c.whole.result c.in_ok-x.ensures.spends c.whole.ensures.spent
     (omega (
       arith,
       c.requires.node.operands.weight,
@@ -2642,6 +2727,7 @@ expressions::integer-returns-clause-spends t c =
       heavy (expression c.args.cx.p.now c.args.b),
       extra_small c.args.cx.fixed (Some c.args.to),
     ))
+    (omega (arith, c.requires.node.operands.copies))
 
 pub expressions::capability-pair-requires : goal.expressions::capability-pair-requires
 expressions::capability-pair-requires t c = (
@@ -2691,7 +2777,7 @@ expressions::capability-returns-clause-lowered t c =
 
 pub expressions::capability-returns-clause-spends : goal.expressions::capability-returns-clause-spends
 expressions::capability-returns-clause-spends t c =
-    last_and _ _ _ c.derived.result c.in_ok-x.ensures.spends c.derived.ensures.spent
+    last_and _ _ _ _ c.derived.result c.in_ok-x.ensures.spends c.derived.ensures.spent
     (omega (
       arith,
       c.requires.node.operands.weight,
@@ -2708,6 +2794,7 @@ expressions::capability-returns-clause-spends t c =
       heavy (expression c.args.cx.p.now c.args.b),
       extra_small c.args.cx.fixed (Some c.args.to),
     ))
+    (omega (arith, c.requires.node.operands.copies))
 
 pub expressions::distance-pair-requires : goal.expressions::distance-pair-requires
 expressions::distance-pair-requires t c = (
@@ -2747,7 +2834,7 @@ expressions::distance-returns-clause-lowered t c =
 
 pub expressions::distance-returns-clause-spends : goal.expressions::distance-returns-clause-spends
 expressions::distance-returns-clause-spends t c =
-    last_and _ _ _ c.difference.result c.in_ok-x.ensures.spends c.difference.ensures.spent
+    last_and _ _ _ _ c.difference.result c.in_ok-x.ensures.spends c.difference.ensures.spent
     (omega (
       arith,
       c.requires.node.operands.weight,
@@ -2764,6 +2851,7 @@ expressions::distance-returns-clause-spends t c =
       heavy (expression c.args.cx.p.now c.args.b),
       extra_small c.args.cx.fixed (Some c.args.to),
     ))
+    (omega (arith, c.requires.node.operands.copies))
 
 pub expressions::effect-returns-in_default-clause-lowered : goal.expressions::effect-returns-in_default-clause-lowered
 expressions::effect-returns-in_default-clause-lowered t c = at_most (start c.requires.scene) (omega arith)
@@ -2772,6 +2860,7 @@ pub expressions::effect-returns-in_default-clause-spends : goal.expressions::eff
 expressions::effect-returns-in_default-clause-spends t c =
     within nothing (omega (arith, heavy (expression c.args.cx.p.now c.args.k)))
     (omega (arith, heavy (expression c.args.cx.p.now c.args.k)))
+    (omega arith)
 
 pub expressions::effect-effect-requires : goal.expressions::effect-effect-requires
 expressions::effect-effect-requires t c =
@@ -2806,7 +2895,7 @@ expressions::effect-returns-in-Convert-clause-lowered t c =
 
 pub expressions::effect-returns-in-Convert-clause-spends : goal.expressions::effect-returns-in-Convert-clause-spends
 expressions::effect-returns-in-Convert-clause-spends t c =
-    last _ _ _ c.effect.result nothing c.effect.ensures.spends
+    last _ _ _ _ c.effect.result nothing c.effect.ensures.spends
     (omega (
       arith,
       (node_at c.args.cx.d.now c.requires.scene.ready c.requires.typed c.in-Some.ensures
@@ -2820,6 +2909,11 @@ expressions::effect-returns-in-Convert-clause-spends t c =
           c.in-Convert.is).weight,
       heavy (expression c.args.cx.p.now c.args.k),
       heavy (expression c.args.cx.p.now c.in-Convert.a),
+    ))
+    (omega (
+      arith,
+      (node_at c.args.cx.d.now c.requires.scene.ready c.requires.typed c.in-Some.ensures
+          c.in-Convert.is).copies,
     ))
 
 pub expressions::effect-effect-requires-in-Deref : goal.expressions::effect-effect-requires-in-Deref
@@ -2855,7 +2949,7 @@ expressions::effect-returns-in-Deref-clause-lowered t c =
 
 pub expressions::effect-returns-in-Deref-clause-spends : goal.expressions::effect-returns-in-Deref-clause-spends
 expressions::effect-returns-in-Deref-clause-spends t c =
-    last _ _ _ c.effect-in-Deref.result nothing c.effect-in-Deref.ensures.spends
+    last _ _ _ _ c.effect-in-Deref.result nothing c.effect-in-Deref.ensures.spends
     (omega (
       arith,
       (node_at c.args.cx.d.now c.requires.scene.ready c.requires.typed c.in-Some.ensures
@@ -2869,6 +2963,11 @@ expressions::effect-returns-in-Deref-clause-spends t c =
           c.in-Deref.is).operands.weight,
       heavy (expression c.args.cx.p.now c.args.k),
       heavy (expression c.args.cx.p.now c.in-Deref.a),
+    ))
+    (omega (
+      arith,
+      (node_at c.args.cx.d.now c.requires.scene.ready c.requires.typed c.in-Some.ensures
+          c.in-Deref.is).operands.copies,
     ))
 
 pub expressions::effect-effect-requires-in-Member : goal.expressions::effect-effect-requires-in-Member
@@ -2905,7 +3004,7 @@ expressions::effect-returns-in-Member-clause-lowered t c =
 
 pub expressions::effect-returns-in-Member-clause-spends : goal.expressions::effect-returns-in-Member-clause-spends
 expressions::effect-returns-in-Member-clause-spends t c =
-    last _ _ _ c.effect-in-Member.result nothing c.effect-in-Member.ensures.spends
+    last _ _ _ _ c.effect-in-Member.result nothing c.effect-in-Member.ensures.spends
     (omega (
       arith,
       (node_at c.args.cx.d.now c.requires.scene.ready c.requires.typed c.in-Some.ensures
@@ -2919,6 +3018,11 @@ expressions::effect-returns-in-Member-clause-spends t c =
           c.in-Member.is).weight,
       heavy (expression c.args.cx.p.now c.args.k),
       heavy (expression c.args.cx.p.now c.in-Member.a),
+    ))
+    (omega (
+      arith,
+      (node_at c.args.cx.d.now c.requires.scene.ready c.requires.typed c.in-Some.ensures
+          c.in-Member.is).copies,
     ))
 
 pub expressions::effect-assignment-requires : goal.expressions::effect-assignment-requires
@@ -3063,7 +3167,8 @@ expressions::effect-guarded_effect-requires t c =
             (
               c.requires.scene,
               (
-                (node_at c.args.cx.d.now c.requires.scene.ready c.requires.typed c.in-Some.ensures c.in-And.is).operands,
+                (node_at c.args.cx.d.now c.requires.scene.ready c.requires.typed c.in-Some.ensures
+                    c.in-And.is).operands,
                 c.requires.room,
               ),
             ),
@@ -3123,8 +3228,9 @@ expressions::effect-returns-in-Assign-clause-lowered t c =
 
 pub expressions::effect-returns-in-Assign-clause-spends : goal.expressions::effect-returns-in-Assign-clause-spends
 expressions::effect-returns-in-Assign-clause-spends t c =
-    last _ _ _ c.assignment.result nothing c.assignment.ensures.spends (omega (arith, extra_none c.args.cx.fixed))
+    last _ _ _ _ c.assignment.result nothing c.assignment.ensures.spends (omega (arith, extra_none c.args.cx.fixed))
     (omega (arith, extra_none c.args.cx.fixed))
+    (omega arith)
 
 pub expressions::effect-compound-requires : goal.expressions::effect-compound-requires
 expressions::effect-compound-requires t c =
@@ -3153,7 +3259,8 @@ expressions::effect-compound-requires t c =
                     change_fits c.args.cx.p.now c.in-Compound.op c.in-Compound.a c.in-Compound.b
                         c.in-Compound.of c.change_of-change.result c.change_of-change.ensures.op
                         (c.change_of-change.ensures.computed) (c.change_of-change.ensures.element)
-                        (node_at c.args.cx.d.now c.requires.scene.ready c.requires.typed c.in-Some.ensures c.in-Compound.is).fits,
+                        (node_at c.args.cx.d.now c.requires.scene.ready c.requires.typed c.in-Some.ensures
+                        c.in-Compound.is).fits,
                     ((search rules), less_room c.requires.room (omega arith)),
                   ),
                 ),
@@ -3170,8 +3277,9 @@ expressions::effect-returns-in-Compound-clause-lowered t c =
 
 pub expressions::effect-returns-in-Compound-clause-spends : goal.expressions::effect-returns-in-Compound-clause-spends
 expressions::effect-returns-in-Compound-clause-spends t c =
-    last _ _ _ c.compound.result nothing c.compound.ensures.spends (omega (arith, extra_none c.args.cx.fixed))
+    last _ _ _ _ c.compound.result nothing c.compound.ensures.spends (omega (arith, extra_none c.args.cx.fixed))
     (omega (arith, extra_none c.args.cx.fixed))
+    (omega arith)
 
 pub expressions::effect-returns-in-Step-clause-lowered : goal.expressions::effect-returns-in-Step-clause-lowered
 expressions::effect-returns-in-Step-clause-lowered t c =
@@ -3179,8 +3287,9 @@ expressions::effect-returns-in-Step-clause-lowered t c =
 
 pub expressions::effect-returns-in-Step-clause-spends : goal.expressions::effect-returns-in-Step-clause-spends
 expressions::effect-returns-in-Step-clause-spends t c =
-    last _ _ _ c.step.result nothing c.step.ensures.spends (omega (arith, extra_none c.args.cx.fixed))
+    last _ _ _ _ c.step.result nothing c.step.ensures.spends (omega (arith, extra_none c.args.cx.fixed))
     (omega (arith, extra_none c.args.cx.fixed))
+    (omega arith)
 
 pub expressions::effect-returns-in-Call-clause-lowered : goal.expressions::effect-returns-in-Call-clause-lowered
 expressions::effect-returns-in-Call-clause-lowered t c =
@@ -3188,8 +3297,9 @@ expressions::effect-returns-in-Call-clause-lowered t c =
 
 pub expressions::effect-returns-in-Call-clause-spends : goal.expressions::effect-returns-in-Call-clause-spends
 expressions::effect-returns-in-Call-clause-spends t c =
-    last _ _ _ c.call.result nothing c.call.ensures.spends (omega (arith, heavy (expression c.args.cx.p.now c.args.k)))
+    last _ _ _ _ c.call.result nothing c.call.ensures.spends (omega (arith, heavy (expression c.args.cx.p.now c.args.k)))
     (omega (arith, heavy (expression c.args.cx.p.now c.args.k)))
+    (omega arith)
 
 pub expressions::effect-returns-in-Library-clause-lowered : goal.expressions::effect-returns-in-Library-clause-lowered
 expressions::effect-returns-in-Library-clause-lowered t c =
@@ -3197,9 +3307,10 @@ expressions::effect-returns-in-Library-clause-lowered t c =
 
 pub expressions::effect-returns-in-Library-clause-spends : goal.expressions::effect-returns-in-Library-clause-spends
 expressions::effect-returns-in-Library-clause-spends t c =
-    last _ _ _ c.library.result nothing c.library.ensures.spends
+    last _ _ _ _ c.library.result nothing c.library.ensures.spends
     (omega (arith, heavy (expression c.args.cx.p.now c.args.k)))
     (omega (arith, heavy (expression c.args.cx.p.now c.args.k)))
+    (omega arith)
 
 pub expressions::effect-effect-requires-in-Comma : goal.expressions::effect-effect-requires-in-Comma
 expressions::effect-effect-requires-in-Comma t c =
@@ -3263,7 +3374,7 @@ expressions::effect-returns-in_ok-effect-in-Comma-clause-lowered t c =
 pub expressions::effect-returns-in_ok-effect-in-Comma-clause-spends :
     goal.expressions::effect-returns-in_ok-effect-in-Comma-clause-spends
 expressions::effect-returns-in_ok-effect-in-Comma-clause-spends t c =
-    last _ _ _ c.effect-in-Comma-2.result c.in_ok-effect-in-Comma.ensures.spends c.effect-in-Comma-2.ensures.spends
+    last _ _ _ _ c.effect-in-Comma-2.result c.in_ok-effect-in-Comma.ensures.spends c.effect-in-Comma-2.ensures.spends
     (omega (
       arith,
       (node_at c.args.cx.d.now c.requires.scene.ready c.requires.typed c.in-Some.ensures
@@ -3279,6 +3390,11 @@ expressions::effect-returns-in_ok-effect-in-Comma-clause-spends t c =
       heavy (expression c.args.cx.p.now c.args.k),
       heavy (expression c.args.cx.p.now c.in-Comma.a),
       heavy (expression c.args.cx.p.now c.in-Comma.b),
+    ))
+    (omega (
+      arith,
+      (node_at c.args.cx.d.now c.requires.scene.ready c.requires.typed c.in-Some.ensures
+          c.in-Comma.is).operands.copies,
     ))
 
 pub expressions::effect-returns-in-Constant-clause-lowered : goal.expressions::effect-returns-in-Constant-clause-lowered
@@ -3288,6 +3404,7 @@ pub expressions::effect-returns-in-Constant-clause-spends : goal.expressions::ef
 expressions::effect-returns-in-Constant-clause-spends t c =
     within nothing (omega (arith, heavy (expression c.args.cx.p.now c.args.k)))
     (omega (arith, heavy (expression c.args.cx.p.now c.args.k)))
+    (omega arith)
 
 pub expressions::effect-temp-requires : goal.expressions::effect-temp-requires
 expressions::effect-temp-requires t c =
@@ -3325,6 +3442,7 @@ expressions::effect-returns-in_ok-t-in-Decay-clause-spends t c =
     last_fresh _ _ _ c.value.result c.in_ok-t-in-Decay.ensures.next c.in_ok-t-in-Decay.ensures.spent
     c.value.ensures.spends (omega (arith, heavy (expression c.args.cx.p.now c.args.k)))
     (omega (arith, heavy (expression c.args.cx.p.now c.args.k)))
+    (omega arith)
 
 pub expressions::chosen_effect-fork-fork-requires : goal.expressions::chosen_effect-fork-fork-requires
 expressions::chosen_effect-fork-fork-requires t c =
@@ -3422,6 +3540,7 @@ expressions::chosen_effect-returns-clause-spends t c =
       heavy (expression c.args.cx.p.now c.args.a),
       heavy (expression c.args.cx.p.now c.args.b),
     ))
+    (omega (arith, c.requires.node.copies))
 
 pub expressions::guarded_effect-label-label-requires : goal.expressions::guarded_effect-label-label-requires
 expressions::guarded_effect-label-label-requires t c =
@@ -3488,6 +3607,7 @@ expressions::guarded_effect-returns-clause-spends t c =
       heavy (expression c.args.cx.p.now c.args.a),
       heavy (expression c.args.cx.p.now c.args.b),
     ))
+    (omega (arith, c.requires.node.copies))
 
 pub expressions::read_effect-effect-requires : goal.expressions::read_effect-effect-requires
 expressions::read_effect-effect-requires t c = (
@@ -3512,7 +3632,7 @@ expressions::read_effect-returns-in-None-clause-lowered t c =
 
 pub expressions::read_effect-returns-in-None-clause-spends : goal.expressions::read_effect-returns-in-None-clause-spends
 expressions::read_effect-returns-in-None-clause-spends t c =
-    last _ _ _ c.effect.result nothing c.effect.ensures.spends
+    last _ _ _ _ c.effect.result nothing c.effect.ensures.spends
     (omega (
       arith,
       c.requires.node.operands.weight,
@@ -3525,6 +3645,7 @@ expressions::read_effect-returns-in-None-clause-spends t c =
       heavy (expression c.args.cx.p.now c.args.k),
       heavy (expression c.args.cx.p.now c.args.a),
     ))
+    (omega (arith, c.requires.node.operands.copies))
 
 pub expressions::read_effect-returns-in-Some-variable-clause-lowered :
     goal.expressions::read_effect-returns-in-Some-variable-clause-lowered
@@ -3539,6 +3660,7 @@ expressions::read_effect-returns-in-Some-variable-clause-spends t c =
       heavy (expression c.args.cx.p.now c.args.a),
     ))
     (omega (arith, heavy (expression c.args.cx.p.now c.args.k), heavy (expression c.args.cx.p.now c.args.a)))
+    (omega arith)
 
 pub expressions::read_effect-temp-requires : goal.expressions::read_effect-temp-requires
 expressions::read_effect-temp-requires t c =
@@ -3580,6 +3702,7 @@ expressions::read_effect-returns-in_ok-t-in-None-variable-clause-spends t c =
     last_fresh _ _ _ c.load.result c.in_ok-t-in-None-variable.ensures.next c.in_ok-t-in-None-variable.ensures.spent
     c.load.ensures.spends (omega (arith, heavy (expression c.args.cx.p.now c.args.k)))
     (omega (arith, heavy (expression c.args.cx.p.now c.args.k)))
+    (omega arith)
 
 pub expressions::load-transfer-requires : goal.expressions::load-transfer-requires
 expressions::load-transfer-requires t c =
@@ -3596,7 +3719,7 @@ expressions::load-returns-in-Some-clause-lowered t c =
 
 pub expressions::load-returns-in-Some-clause-spends : goal.expressions::load-returns-in-Some-clause-spends
 expressions::load-returns-in-Some-clause-spends t c =
-    last_and _ _ _ c.transfer.result nothing c.transfer.ensures.spent
+    last_and _ _ _ _ c.transfer.result nothing c.transfer.ensures.spent
     (omega (
       arith,
       heavy (expression c.args.cx.p.now c.args.k),
@@ -3609,6 +3732,7 @@ expressions::load-returns-in-Some-clause-spends t c =
       heavy (expression c.args.cx.p.now c.args.a),
       extra_small c.args.cx.fixed (Some c.args.to),
     ))
+    (omega arith)
 
 pub expressions::load-pointer-requires : goal.expressions::load-pointer-requires
 expressions::load-pointer-requires t c = (
@@ -3641,7 +3765,7 @@ expressions::load-returns-in_ok-from-in-None-clause-lowered t c =
 pub expressions::load-returns-in_ok-from-in-None-clause-spends :
     goal.expressions::load-returns-in_ok-from-in-None-clause-spends
 expressions::load-returns-in_ok-from-in-None-clause-spends t c =
-    last_and _ _ _ c.load.result c.in_ok-from-in-None.ensures.spends c.load.ensures.spent
+    last_and _ _ _ _ c.load.result c.in_ok-from-in-None.ensures.spends c.load.ensures.spent
     (omega (
       arith,
       c.requires.node.operands.weight,
@@ -3656,6 +3780,7 @@ expressions::load-returns-in_ok-from-in-None-clause-spends t c =
       heavy (expression c.args.cx.p.now c.args.a),
       extra_small c.args.cx.fixed (Some c.args.to),
     ))
+    (omega (arith, c.requires.node.operands.copies))
 
 pub expressions::conversion-effect-requires : goal.expressions::conversion-effect-requires
 expressions::conversion-effect-requires t c = (
@@ -3688,7 +3813,7 @@ expressions::conversion-returns-then-is_none-clause-lowered t c =
 pub expressions::conversion-returns-then-is_none-clause-spends :
     goal.expressions::conversion-returns-then-is_none-clause-spends
 expressions::conversion-returns-then-is_none-clause-spends t c =
-    last_and _ _ _ c.constant.result c.in_ok-effect.ensures.spends c.constant.ensures.spent
+    last_and _ _ _ _ c.constant.result c.in_ok-effect.ensures.spends c.constant.ensures.spent
     (omega (
       arith,
       c.requires.node.weight,
@@ -3703,6 +3828,7 @@ expressions::conversion-returns-then-is_none-clause-spends t c =
       heavy (expression c.args.cx.p.now c.args.a),
       extra_small c.args.cx.fixed (Some c.args.to),
     ))
+    (omega (arith, c.requires.node.copies))
 
 pub expressions::conversion-value-requires : goal.expressions::conversion-value-requires
 expressions::conversion-value-requires t c = (
@@ -3732,7 +3858,7 @@ expressions::conversion-returns-then-same_kind-clause-lowered t c =
 pub expressions::conversion-returns-then-same_kind-clause-spends :
     goal.expressions::conversion-returns-then-same_kind-clause-spends
 expressions::conversion-returns-then-same_kind-clause-spends t c =
-    last _ _ _ c.value.result nothing c.value.ensures.spends
+    last _ _ _ _ c.value.result nothing c.value.ensures.spends
     (omega (
       arith,
       c.requires.node.weight,
@@ -3747,6 +3873,7 @@ expressions::conversion-returns-then-same_kind-clause-spends t c =
       heavy (expression c.args.cx.p.now c.args.a),
       extra_small c.args.cx.fixed (Some c.args.to),
     ))
+    (omega (arith, c.requires.node.copies))
 
 pub expressions::conversion-operand-requires : goal.expressions::conversion-operand-requires
 expressions::conversion-operand-requires t c = (
@@ -3778,7 +3905,7 @@ expressions::conversion-returns-clause-lowered t c =
 
 pub expressions::conversion-returns-clause-spends : goal.expressions::conversion-returns-clause-spends
 expressions::conversion-returns-clause-spends t c =
-    last_and _ _ _ c.convert.result c.in_ok-x.ensures.spends c.convert.ensures.spent
+    last_and _ _ _ _ c.convert.result c.in_ok-x.ensures.spends c.convert.ensures.spent
     (omega (
       arith,
       c.requires.node.weight,
@@ -3793,6 +3920,7 @@ expressions::conversion-returns-clause-spends t c =
       heavy (expression c.args.cx.p.now c.args.a),
       extra_small c.args.cx.fixed (Some c.args.to),
     ))
+    (omega (arith, c.requires.node.copies))
 
 pub expressions::unary-held-requires : goal.expressions::unary-held-requires
 expressions::unary-held-requires t c = (
@@ -3842,7 +3970,7 @@ expressions::unary-returns-in_ok-x-in-LogicalNot-clause-lowered t c =
 pub expressions::unary-returns-in_ok-x-in-LogicalNot-clause-spends :
     goal.expressions::unary-returns-in_ok-x-in-LogicalNot-clause-spends
 expressions::unary-returns-in_ok-x-in-LogicalNot-clause-spends t c =
-    last_and _ _ _ c.negated.result c.in_ok-x-in-LogicalNot.ensures.spends c.negated.ensures.spent
+    last_and _ _ _ _ c.negated.result c.in_ok-x-in-LogicalNot.ensures.spends c.negated.ensures.spent
     (omega (
       arith,
       (not_node (frame_of c.args.cx.p.now c.args.cx.d.now) c.args.k c.args.a c.args.op c.in-LogicalNot.is
@@ -3858,6 +3986,11 @@ expressions::unary-returns-in_ok-x-in-LogicalNot-clause-spends t c =
       heavy (expression c.args.cx.p.now c.args.k),
       heavy (expression c.args.cx.p.now c.args.a),
       extra_small c.args.cx.fixed (Some c.args.to),
+    ))
+    (omega (
+      arith,
+      (not_node (frame_of c.args.cx.p.now c.args.cx.d.now) c.args.k c.args.a c.args.op c.in-LogicalNot.is
+          c.requires.node).operands.copies,
     ))
 
 pub expressions::unary-signed_value-requires : goal.expressions::unary-signed_value-requires
@@ -3951,7 +4084,7 @@ expressions::signed_value-returns-clause-lowered t c =
 
 pub expressions::signed_value-returns-clause-spends : goal.expressions::signed_value-returns-clause-spends
 expressions::signed_value-returns-clause-spends t c =
-    last_and _ _ _ c.signed.result c.in_ok-x.ensures.spends c.signed.ensures.spent
+    last_and _ _ _ _ c.signed.result c.in_ok-x.ensures.spends c.signed.ensures.spent
     (omega (
       arith,
       c.requires.node.operands.weight,
@@ -3966,6 +4099,7 @@ expressions::signed_value-returns-clause-spends t c =
       heavy (expression c.args.cx.p.now c.args.a),
       extra_small c.args.cx.fixed (Some c.args.to),
     ))
+    (omega (arith, c.requires.node.operands.copies))
 
 pub expressions::comparison-pair-requires : goal.expressions::comparison-pair-requires
 expressions::comparison-pair-requires t c = (
@@ -4001,7 +4135,7 @@ expressions::comparison-returns-clause-lowered t c =
 
 pub expressions::comparison-returns-clause-spends : goal.expressions::comparison-returns-clause-spends
 expressions::comparison-returns-clause-spends t c =
-    last_and _ _ _ c.compare.result c.in_ok-x.ensures.spends c.compare.ensures.spent
+    last_and _ _ _ _ c.compare.result c.in_ok-x.ensures.spends c.compare.ensures.spent
     (omega (
       arith,
       c.requires.node.operands.weight,
@@ -4018,6 +4152,7 @@ expressions::comparison-returns-clause-spends t c =
       heavy (expression c.args.cx.p.now c.args.b),
       extra_small c.args.cx.fixed (Some c.args.to),
     ))
+    (omega (arith, c.requires.node.operands.copies))
 
 pub expressions::truth-fork-fork-requires : goal.expressions::truth-fork-fork-requires
 expressions::truth-fork-fork-requires t c =
@@ -4112,6 +4247,7 @@ expressions::truth-returns-clause-spends t c =
       heavy (expression c.args.cx.p.now c.args.j.b),
       extra_small c.args.cx.fixed (Some c.args.to),
     ))
+    (omega (arith, c.requires.node.operands.copies))
 
 pub expressions::sum-pointer_first-requires : goal.expressions::sum-pointer_first-requires
 expressions::sum-pointer_first-requires t c = (
@@ -4197,7 +4333,7 @@ expressions::pointer_first-returns-in-Some-clause-lowered t c =
 pub expressions::pointer_first-returns-in-Some-clause-spends :
     goal.expressions::pointer_first-returns-in-Some-clause-spends
 expressions::pointer_first-returns-in-Some-clause-spends t c =
-    last _ _ _ c.displaced.result nothing c.displaced.ensures.spends
+    last _ _ _ _ c.displaced.result nothing c.displaced.ensures.spends
     (omega (
       arith,
       c.requires.node.weight,
@@ -4214,6 +4350,7 @@ expressions::pointer_first-returns-in-Some-clause-spends t c =
       heavy (expression c.args.cx.p.now c.args.b),
       extra_small c.args.cx.fixed (Some c.args.to),
     ))
+    (omega (arith, c.requires.node.copies))
 
 pub expressions::pointer_first-pair-requires : goal.expressions::pointer_first-pair-requires
 expressions::pointer_first-pair-requires t c = (
@@ -4252,7 +4389,7 @@ expressions::pointer_first-returns-in_ok-base-in-None-clause-lowered t c =
 pub expressions::pointer_first-returns-in_ok-base-in-None-clause-spends :
     goal.expressions::pointer_first-returns-in_ok-base-in-None-clause-spends
 expressions::pointer_first-returns-in_ok-base-in-None-clause-spends t c =
-    last_and _ _ _ c.moved.result c.in_ok-base-in-None.ensures.spends c.moved.ensures.spent
+    last_and _ _ _ _ c.moved.result c.in_ok-base-in-None.ensures.spends c.moved.ensures.spent
     (omega (
       arith,
       c.requires.node.weight,
@@ -4269,6 +4406,7 @@ expressions::pointer_first-returns-in_ok-base-in-None-clause-spends t c =
       heavy (expression c.args.cx.p.now c.args.b),
       extra_small c.args.cx.fixed (Some c.args.to),
     ))
+    (omega (arith, c.requires.node.copies))
 
 pub expressions::pointer_second-constant_index-requires-clause-typed :
     goal.expressions::pointer_second-constant_index-requires-clause-typed
@@ -4304,7 +4442,7 @@ expressions::pointer_second-returns-in-Some-clause-lowered t c =
 pub expressions::pointer_second-returns-in-Some-clause-spends :
     goal.expressions::pointer_second-returns-in-Some-clause-spends
 expressions::pointer_second-returns-in-Some-clause-spends t c =
-    last _ _ _ c.displaced.result nothing c.displaced.ensures.spends
+    last _ _ _ _ c.displaced.result nothing c.displaced.ensures.spends
     (omega (
       arith,
       c.requires.node.weight,
@@ -4321,6 +4459,7 @@ expressions::pointer_second-returns-in-Some-clause-spends t c =
       heavy (expression c.args.cx.p.now c.args.b),
       extra_small c.args.cx.fixed (Some c.args.to),
     ))
+    (omega (arith, c.requires.node.copies))
 
 pub expressions::pointer_second-pair-requires : goal.expressions::pointer_second-pair-requires
 expressions::pointer_second-pair-requires t c = (
@@ -4358,7 +4497,7 @@ expressions::pointer_second-returns-in_ok-i-in-None-clause-lowered t c =
 pub expressions::pointer_second-returns-in_ok-i-in-None-clause-spends :
     goal.expressions::pointer_second-returns-in_ok-i-in-None-clause-spends
 expressions::pointer_second-returns-in_ok-i-in-None-clause-spends t c =
-    last_and _ _ _ c.moved.result c.in_ok-i-in-None.ensures.spends c.moved.ensures.spent
+    last_and _ _ _ _ c.moved.result c.in_ok-i-in-None.ensures.spends c.moved.ensures.spent
     (omega (
       arith,
       c.requires.node.weight,
@@ -4375,6 +4514,7 @@ expressions::pointer_second-returns-in_ok-i-in-None-clause-spends t c =
       heavy (expression c.args.cx.p.now c.args.b),
       extra_small c.args.cx.fixed (Some c.args.to),
     ))
+    (omega (arith, c.requires.node.copies))
 
 pub expressions::displaced-operand_in-requires : goal.expressions::displaced-operand_in-requires
 expressions::displaced-operand_in-requires t c = (
@@ -4403,9 +4543,10 @@ expressions::displaced-returns-clause-lowered t c =
 
 pub expressions::displaced-returns-clause-spends : goal.expressions::displaced-returns-clause-spends
 expressions::displaced-returns-clause-spends t c =
-    last_and _ _ _ c.offset.result c.in_ok-base.ensures.spends c.offset.ensures.spent
+    last_and _ _ _ _ c.offset.result c.in_ok-base.ensures.spends c.offset.ensures.spent
     (omega (arith, heavy (expression c.args.cx.p.now c.args.k), extra_small c.args.cx.fixed (Some c.args.to)))
     (omega (arith, heavy (expression c.args.cx.p.now c.args.k), extra_small c.args.cx.fixed (Some c.args.to)))
+    (omega arith)
 
 pub expressions::assignment-struct_assignment-requires : goal.expressions::assignment-struct_assignment-requires
 expressions::assignment-struct_assignment-requires t c = (
@@ -4416,7 +4557,7 @@ expressions::assignment-struct_assignment-requires t c = (
       c.requires.a_before,
       (
         c.requires.b_before,
-        (c.requires.scene, (c.requires.node.operands, c.requires.room)),
+        (c.requires.scene, (c.requires.node, c.requires.room)),
       ),
     ),
   ),
@@ -4445,6 +4586,7 @@ expressions::assignment-returns-then-facts-clause-spends t c =
       heavy (expression c.args.cx.p.now c.args.b),
       extra_small c.args.cx.fixed c.args.to,
     ))
+    (omega arith)
 
 pub expressions::assignment-value-requires : goal.expressions::assignment-value-requires
 expressions::assignment-value-requires t c = (
@@ -4470,7 +4612,8 @@ expressions::assignment-give-requires t c =
     record {
       same = maybe_same _ c.args.to _ _
           (maybe_kept _ c.args.to c.in_ok-value-in-Some.ensures.lowered c.requires.to)
-          (as_kind (still (c.in-Some.ensures _ c.requires.scene.ready c.requires.node.operands.left c.requires.scene.housed)
+          (as_kind (still (c.in-Some.ensures _ c.requires.scene.ready c.requires.node.operands.left
+          c.requires.scene.housed)
           c.in_ok-value-in-Some.ensures.lowered) (ap or_int c.requires.node.left));
     }
 
@@ -4483,7 +4626,7 @@ expressions::assignment-returns-in_ok-value-in-Some-clause-lowered t c =
 pub expressions::assignment-returns-in_ok-value-in-Some-clause-spends :
     goal.expressions::assignment-returns-in_ok-value-in-Some-clause-spends
 expressions::assignment-returns-in_ok-value-in-Some-clause-spends t c =
-    last_and _ _ _ c.give.result c.in_ok-value-in-Some.ensures.spends c.give.ensures.spent
+    last_and _ _ _ _ c.give.result c.in_ok-value-in-Some.ensures.spends c.give.ensures.spent
     (omega (
       arith,
       c.requires.node.operands.weight,
@@ -4498,6 +4641,7 @@ expressions::assignment-returns-in_ok-value-in-Some-clause-spends t c =
       heavy (expression c.args.cx.p.now c.args.b),
       extra_small c.args.cx.fixed (Some c.in-Some.v),
     ))
+    (omega (arith, c.requires.node.operands.copies))
 
 pub expressions::object_assignment-pointer-requires : goal.expressions::object_assignment-pointer-requires
 expressions::object_assignment-pointer-requires t c = (
@@ -4564,7 +4708,7 @@ expressions::object_assignment-returns-clause-lowered t c =
 
 pub expressions::object_assignment-returns-clause-spends : goal.expressions::object_assignment-returns-clause-spends
 expressions::object_assignment-returns-clause-spends t c =
-    last_and _ _ _ c.give.result (and (after c.in_ok-at.ensures.spends c.in_ok-v.ensures.spends)
+    last_and _ _ _ _ c.give.result (and (after c.in_ok-at.ensures.spends c.in_ok-v.ensures.spends)
     c.in_ok-store.ensures.spent) c.give.ensures.spent
     (omega (
       arith,
@@ -4581,6 +4725,7 @@ expressions::object_assignment-returns-clause-spends t c =
       heavy (expression c.args.cx.p.now c.args.b),
       extra_small c.args.cx.fixed c.args.to,
     ))
+    (omega (arith, c.requires.node.operands.copies))
 
 pub expressions::assigned-returns-in-None-clause-has : goal.expressions::assigned-returns-in-None-clause-has
 expressions::assigned-returns-in-None-clause-has t c =
@@ -4626,6 +4771,7 @@ expressions::assigned-returns-in_ok-value-in-Some-clause-spends t c =
     within (in_own _ c.in_ok-v-in-Some.ensures.owns c.in_ok-value-in-Some.ensures.spends)
     (omega (arith, heavy (expression c.args.cx.p.now c.args.k), extra_small c.args.cx.fixed c.args.to))
     (omega (arith, heavy (expression c.args.cx.p.now c.args.k), extra_small c.args.cx.fixed c.args.to))
+    (omega arith)
 
 pub expressions::compound-held-requires : goal.expressions::compound-held-requires
 expressions::compound-held-requires t c = (
@@ -4682,7 +4828,7 @@ expressions::compound-returns-in_ok-changed-in-Some-clause-lowered t c =
 pub expressions::compound-returns-in_ok-changed-in-Some-clause-spends :
     goal.expressions::compound-returns-in_ok-changed-in-Some-clause-spends
 expressions::compound-returns-in_ok-changed-in-Some-clause-spends t c =
-    last_and _ _ _ c.give.result (and c.in_ok-y-in-Some.ensures.spends c.in_ok-changed-in-Some.ensures.spent)
+    last_and _ _ _ _ c.give.result (and c.in_ok-y-in-Some.ensures.spends c.in_ok-changed-in-Some.ensures.spent)
     c.give.ensures.spent (omega (
       arith,
       c.requires.node.weight,
@@ -4698,6 +4844,7 @@ expressions::compound-returns-in_ok-changed-in-Some-clause-spends t c =
       heavy (expression c.args.cx.p.now c.args.b),
       extra_small c.args.cx.fixed c.args.to,
     ))
+    (omega (arith, c.requires.node.copies))
 
 pub expressions::compound-pointer-requires : goal.expressions::compound-pointer-requires
 expressions::compound-pointer-requires t c = (
@@ -4832,6 +4979,7 @@ expressions::compound-returns-in_ok-store-in-None-clause-spends t c =
       heavy (expression c.args.cx.p.now c.args.a),
       heavy (expression c.args.cx.p.now c.args.b),
     ))
+    (omega (arith, c.requires.node.copies))
 
 pub expressions::step-variable_step-requires-clause-v : goal.expressions::step-variable_step-requires-clause-v
 expressions::step-variable_step-requires-clause-v t c =
@@ -4854,7 +5002,7 @@ expressions::step-returns-in-Some-clause-lowered t c =
 
 pub expressions::step-returns-in-Some-clause-spends : goal.expressions::step-returns-in-Some-clause-spends
 expressions::step-returns-in-Some-clause-spends t c =
-    last _ _ _ c.variable_step.result nothing c.variable_step.ensures.spends
+    last _ _ _ _ c.variable_step.result nothing c.variable_step.ensures.spends
     (omega (
       arith,
       c.requires.node.operands.weight,
@@ -4869,6 +5017,7 @@ expressions::step-returns-in-Some-clause-spends t c =
       heavy (expression c.args.cx.p.now c.args.a),
       extra_small c.args.cx.fixed c.args.to,
     ))
+    (omega (arith, c.requires.node.operands.copies))
 
 pub expressions::step-pointer-requires : goal.expressions::step-pointer-requires
 expressions::step-pointer-requires t c = (
@@ -4951,11 +5100,14 @@ expressions::step-returns-in_ok-store-in-None-clause-spends t c =
     c.give.ensures.spent c.give.ensures.there
     (omega (arith, c.requires.node.operands.weight, heavy (expression c.args.cx.p.now c.args.a)))
     (omega (arith, c.requires.node.operands.weight, heavy (expression c.args.cx.p.now c.args.a)))
+    (omega (arith, c.requires.node.operands.copies))
 
 pub expressions::value-returns-in-Call-clause-spends : goal.expressions::value-returns-in-Call-clause-spends
 expressions::value-returns-in-Call-clause-spends t c =
-    last _ _ _ c.call.result nothing c.call.ensures.spends (omega arith) (omega arith)
+    last _ _ _ _ c.call.result nothing c.call.ensures.spends (omega arith) (omega arith)
+    (omega arith)
 
 pub expressions::value-returns-in-Library-clause-spends : goal.expressions::value-returns-in-Library-clause-spends
 expressions::value-returns-in-Library-clause-spends t c =
-    last _ _ _ c.library.result nothing c.library.ensures.spends (omega arith) (omega arith)
+    last _ _ _ _ c.library.result nothing c.library.ensures.spends (omega arith) (omega arith)
+    (omega arith)

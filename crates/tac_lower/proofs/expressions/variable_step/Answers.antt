@@ -20,8 +20,8 @@ returns-then-front-clause-lowered c =
 
 pub returns-then-front-clause-spends : goal.returns-then-front-clause-spends
 returns-then-front-clause-spends c =
-    last_and _ _ _ c.give.result (plainly c.in_ok-stepped.ensures.spent) c.give.ensures.spent (omega arith)
-    (omega arith)
+    last_and _ _ _ _ c.give.result (plainly c.in_ok-stepped.ensures.spent) c.give.ensures.spent (omega arith)
+    (omega arith) (omega arith)
 
 pub give-requires-2 : goal.give-requires-2
 give-requires-2 c = record {
@@ -42,6 +42,6 @@ returns-clause-lowered c =
 pub returns-clause-spends : goal.returns-clause-spends
 returns-clause-spends c =
     let small = extra_small c.args.cx.fixed c.args.to in
-    last_and _ _ _ c.give-2.result (and (and (owned nothing c.in_ok-old.ensures.owns) c.in_ok-copy.ensures.spent)
+    last_and _ _ _ _ c.give-2.result (and (and (owned nothing c.in_ok-old.ensures.owns) c.in_ok-copy.ensures.spent)
     c.in_ok-stepped-2.ensures.spent)
-    c.give-2.ensures.spent (omega (arith, small)) (omega arith)
+    c.give-2.ensures.spent (omega (arith, small)) (omega arith) (omega arith)

@@ -1,7 +1,8 @@
 use Rattle.std.proofs.Common.{length, ap, sym, ◌∙◌, subst, arith}
 use Rattle.tac_lower.specs.Scenes.{Housed}
 use Rattle.c_tree.specs.TreeWeight.{function_weight}
-use Rattle.tac_lower.proofs.Entering.{entered_few, empty_places, empty_words, finished_costs}
+use Rattle.tac_lower.proofs.Entering.{entered_few, empty_places, empty_words, empty_copying, finished_costs}
+use Rattle.tac_lower.proofs.Entering.{finished_copies}
 use Rattle.tac_lower.proofs.Finished.{begins_well}
 use Rattle.tac_lower.proofs.Homes.{body_part, few_parameters, light_parts, parameters_kept, closed_new, formed}
 use Rattle.tac_lower.proofs.functions.function.Goals as goal
@@ -140,3 +141,22 @@ returns-clause-costs c =
     finished_costs (function_weight p d) c.finished.ensures.makes
     (omega (arith, few, none, one.places, two.places, three.places, four.places, five.places))
     (omega (arith, few, once, no_words, one.words, two.words, three.words, four.words, five.words))
+
+pub returns-clause-copies : goal.returns-clause-copies
+returns-clause-copies c =
+    let none = empty_copying c.new-out.result c.new-out.ensures.code in
+    let one = c.in_ok-parameter_temps.ensures.spent in
+    let two = c.in_ok-homes.ensures.spent in
+    let three = c.in_ok-take_parameters.ensures.spent in
+    let four = c.in_ok-statement.ensures.spends.spent (omega (arith, three.grows, c.temps.ensures)) in
+    let five = c.in_ok-end_function.ensures.spent in
+    omega (
+      arith,
+      finished_copies c.finished.ensures.makes,
+      none,
+      one.copies,
+      two.copies,
+      three.copies,
+      four.copies,
+      five.copies,
+    )

@@ -1,9 +1,12 @@
-use Rattle.std.proofs.Common.{◌≡◌, ◌+◌, true, [], take, ap, sym, ◌∙◌, subst}
+use Rattle.std.proofs.Common.{◌≡◌, ◌+◌, ◌≤◌, true, [], take, ap, sym, ◌∙◌, subst, arith}
+use Rattle.std.specs.List.{sum_by}
 use Rattle.std.proofs.lemmas.List.{take_all}
 use Rattle.tac_ir.specs.WellFormed.{functions_fit, is_well_formed}
+use Rattle.tac_ir.specs.Within.{function_copies}
 use Rattle.tac_lower.specs.Lowered.{names_of, names_in}
 use Rattle.tac_lower.specs.Tables.{TableFits}
-use Rattle.tac_lower.proofs.Costing.{CostsTo, costs_none, costs_more}
+use Rattle.tac_lower.proofs.Copying.{copies_of_functions}
+use Rattle.tac_lower.proofs.Costing.{CostsTo, costs_none, costs_more, copied_by, copies_more}
 use Rattle.tac_lower.proofs.Homes.{function_at, named_next, formed_next, light_next, are_functions}
 use Rattle.tac_lower.proofs.lowering.lower.Goals as goal
 
@@ -11,6 +14,7 @@ pub loop-d-init : goal.loop-d-init
 loop-d-init c = record {
   named = ap names_of c.new-funs.ensures.items;
   costs = subst (λ z. CostsTo c.args.p.now z 0) (sym c.new-funs.ensures.items) (costs_none c.args.p.now);
+  copies = omega (arith, ap (sum_by function_copies) c.new-funs.ensures.items);
   formed = ap (λ z. functions_fit c.args.p.now [] z) c.new-funs.ensures.items;
 }
 
@@ -51,6 +55,8 @@ loop-d-preserved c =
       costs = subst (λ z. CostsTo p z (i + 1)) items
           (costs_more p d fs f i c.loop-d.invariant.costs (function_at p xs i d same c.loop-d-test.true c.d-item.is)
           c.in_ok-f.ensures.costs);
+      copies = subst (λ z. sum_by function_copies z ≤ copied_by p (take (i + 1) xs)) items
+          (copies_more p xs i d fs f c.loop-d-test.true c.d-item.is c.loop-d.invariant.copies c.in_ok-f.ensures.copies);
       formed = subst (λ z. functions_fit p (take (i + 1) xs) z ≡ true) items
           (formed_next p xs i d same c.loop-d-test.true c.d-item.is fs f c.loop-d.invariant.formed
           c.in_ok-f.ensures.formed);
@@ -75,3 +81,14 @@ returns-clause-costs c =
       functions = (subst (λ z. CostsTo c.args.p.now z c.loop-d.d-index)
           (sym c.from_vec.ensures) c.loop-d.invariant.costs).each;
     }
+
+pub returns-clause-copies : goal.returns-clause-copies
+returns-clause-copies c =
+    let all = take_all c.loop-d.d-index c.as_slice-defs.result.now c.loop-d-test.false ∙ c.as_slice-defs.ensures in
+    omega (
+      arith,
+      ap (sum_by function_copies) c.from_vec.ensures,
+      c.loop-d.invariant.copies,
+      ap (copied_by c.args.p.now) all,
+      copies_of_functions c.args.p.now c.requires.listed,
+    )

@@ -1,12 +1,15 @@
-use Rattle.std.proofs.Common.{◌≡◌, true, take}
+use Rattle.std.proofs.Common.{◌≡◌, ◌≤◌, true, take}
+use Rattle.std.specs.List.{sum_by}
+use Rattle.tac_ir.specs.Within.{function_copies}
 use Rattle.tac_ir.specs.WellFormed.{functions_fit}
 use Rattle.tac_lower.specs.Lowered.{names_of, names_in}
-use Rattle.tac_lower.proofs.Costing.{CostsTo}
+use Rattle.tac_lower.proofs.Costing.{CostsTo, copied_by}
 use Rattle.tac_lower.proofs.lowering.lower.Given as goal
 
 abbrev pub invariant-loop-d : goal.invariant-loop-d
 invariant-loop-d l = record {
   named : names_of l.funs.items ≡ names_in (take l.d-index l.defs);
   costs : CostsTo l.fn.p l.funs.items l.d-index;
+  copies : sum_by function_copies l.funs.items ≤ copied_by l.fn.p (take l.d-index l.defs);
   formed : functions_fit l.fn.p (take l.d-index l.defs) l.funs.items ≡ true;
 }

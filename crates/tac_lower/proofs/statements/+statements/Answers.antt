@@ -1,5 +1,6 @@
 use Rattle.std.proofs.Common.{◌+◌, ◌*◌, [], ◌∷◌, ◌++◌, length, take, drop, sym, ap, subst, arith}
 use Rattle.c_tree.specs.WellTyped.{AreVars}
+use Rattle.tac_lower.specs.Copied.{part_copies, all_part_copies}
 use Rattle.tac_lower.specs.Nodes.{weight_in, expression}
 use Rattle.tac_lower.specs.Parts.{statement, heft_in, hefts_in, entered, entered_in, all_entered_in, or_none}
 use Rattle.tac_lower.specs.Scenes.{Opened, frame_of}
@@ -11,6 +12,7 @@ use Rattle.tac_lower.proofs.Loops.{tail_behind}
 use Rattle.tac_lower.proofs.Placings.{typed_some, typed_none, evaluates, initialises, blocks, chooses, whiles, does}
 use Rattle.tac_lower.proofs.Placings.{fors, switches, returns_value, are_parts, part_at, exits_lowered, exits_opened}
 use Rattle.tac_lower.proofs.Placings.{exit_opened, at_most_ok, hefts_next, hefts_within, hefts_taken}
+use Rattle.tac_lower.proofs.Placings.{copies_next, copies_taken}
 use Rattle.tac_lower.proofs.Entering.{all_entered_next, all_entered_taken, hefty}
 use Rattle.tac_lower.proofs.Scening.{opened_none}
 use Rattle.tac_lower.proofs.Spending.{nothing, plainly, after, and, within, last, last_and, last_pushed, begun_spent}
@@ -167,7 +169,8 @@ loop_body-returns-clause-behind t c =
 
 pub loop_body-returns-clause-spends : goal.loop_body-returns-clause-spends
 loop_body-returns-clause-spends t c =
-    last_and _ _ _ c.stand.result c.in_ok-statement.ensures.spends c.stand.ensures.spent (omega arith) (omega arith)
+    last_and _ _ _ _ c.stand.result c.in_ok-statement.ensures.spends c.stand.ensures.spent (omega arith) (omega arith)
+    (omega arith)
 
 pub tested_loop-test_loop-requires-clause-scene : goal.tested_loop-test_loop-requires-clause-scene
 tested_loop-test_loop-requires-clause-scene t c = (begun c.requires.scene c.in_ok-circle.ensures.begun).scene
@@ -208,10 +211,10 @@ tested_loop-returns-clause-lowered t c =
 
 pub tested_loop-returns-clause-spends : goal.tested_loop-returns-clause-spends
 tested_loop-returns-clause-spends t c =
-    last_and _ _ _ c.end_loop.result
+    last_and _ _ _ _ c.end_loop.result
     (after (after (after (plainly (begun_spent c.in_ok-circle.ensures.begun)) c.in_ok-test_loop.ensures.spends)
     c.in_ok-loop_body.ensures.spends)
-    c.in_ok-step_loop.ensures.spends) c.end_loop.ensures.spent (omega arith) (omega arith)
+    c.in_ok-step_loop.ensures.spends) c.end_loop.ensures.spent (omega arith) (omega arith) (omega arith)
 
 pub repeated_loop-condition-requires-clause-scene : goal.repeated_loop-condition-requires-clause-scene
 repeated_loop-condition-requires-clause-scene t c =
@@ -243,10 +246,10 @@ repeated_loop-returns-clause-lowered t c =
 
 pub repeated_loop-returns-clause-spends : goal.repeated_loop-returns-clause-spends
 repeated_loop-returns-clause-spends t c =
-    last_and _ _ _ c.end_loop.result
+    last_and _ _ _ _ c.end_loop.result
     (after (after (plainly (begun_spent c.in_ok-circle.ensures.begun)) c.in_ok-loop_body.ensures.spends)
     c.in_ok-condition.ensures.spends)
-    c.end_loop.ensures.spent (omega arith) (omega arith)
+    c.end_loop.ensures.spent (omega arith) (omega arith) (omega arith)
 
 -- ---- choices
 
@@ -283,7 +286,7 @@ choice-returns-clause-spends t c =
     (after (and (after (after (plainly (forked_spent c.fork-fork.ensures.forked)) c.in_ok-condition.ensures.spends)
     c.in_ok-statement.ensures.spends)
     c.in_ok-turn_fork.ensures.spent) c.in_ok-statement-2.ensures.spends) c.join_fork.ensures.stands (omega arith)
-    (omega arith)
+    (omega arith) (omega arith)
 
 pub guarded-condition-requires-clause-scene : goal.guarded-condition-requires-clause-scene
 guarded-condition-requires-clause-scene t c = (label c.requires.scene c.label-label.ensures.labelled).scene
@@ -304,10 +307,10 @@ guarded-returns-clause-lowered t c =
 
 pub guarded-returns-clause-spends : goal.guarded-returns-clause-spends
 guarded-returns-clause-spends t c =
-    last_and _ _ _ c.stand.result
+    last_and _ _ _ _ c.stand.result
     (after (after (plainly (labelled_spent c.label-label.ensures.labelled)) c.in_ok-condition.ensures.spends)
     c.in_ok-statement.ensures.spends)
-    c.stand.ensures.spent (omega arith) (omega arith)
+    c.stand.ensures.spent (omega arith) (omega arith) (omega arith)
 
 -- ---- lists of statements
 
@@ -315,17 +318,18 @@ pub statements-loop-s-init : goal.statements-loop-s-init
 statements-loop-s-init t c =
     record {
       lowered = at_most (start c.requires.scene) (omega arith);
-      spends = within nothing (omega arith) (omega arith);
+      spends = within nothing (omega arith) (omega arith) (omega arith);
     }
 
 pub statements-loop-s-preserved : goal.statements-loop-s-preserved
 statements-loop-s-preserved t c =
     let next = hefts_next c.args.cx.p.now c.args.body.now c.loop-s.s-index (omega arith) in
+    let copied = copies_next c.args.cx.p.now c.args.body.now c.loop-s.s-index (omega arith) in
     let enters = all_entered_next c.args.cx.p.now c.args.cx.d.now c.args.body.now c.loop-s.s-index (omega arith) in
     record {
       lowered = at_most (both c.loop-s.invariant.lowered c.in_ok-statement.ensures.lowered) (omega (arith, next));
       spends = within (after c.loop-s.invariant.spends c.in_ok-statement.ensures.spends) (omega (arith, next))
-          (omega (arith, next, enters));
+          (omega (arith, next, enters)) (omega (arith, copied));
     }
 
 pub statements-returns-clause-lowered : goal.statements-returns-clause-lowered
@@ -336,8 +340,9 @@ statements-returns-clause-lowered t c =
 pub statements-returns-clause-spends : goal.statements-returns-clause-spends
 statements-returns-clause-spends t c =
     let all = hefts_taken c.args.cx.p.now c.args.body.now c.loop-s.s-index in
+    let copied = copies_taken c.args.cx.p.now c.args.body.now c.loop-s.s-index in
     let entered = all_entered_taken c.args.cx.p.now c.args.cx.d.now c.args.body.now c.loop-s.s-index in
-    within c.loop-s.invariant.spends (omega (arith, all)) (omega (arith, all, entered))
+    within c.loop-s.invariant.spends (omega (arith, all)) (omega (arith, all, entered)) (omega (arith, copied))
 
 pub block-returns-clause-lowered : goal.block-returns-clause-lowered
 block-returns-clause-lowered t c =
@@ -346,8 +351,8 @@ block-returns-clause-lowered t c =
 
 pub block-returns-clause-spends : goal.block-returns-clause-spends
 block-returns-clause-spends t c =
-    last _ _ _ c.statements.result (plainly c.in_ok-enter.ensures.spent) c.statements.ensures.spends (omega arith)
-    (omega arith)
+    last _ _ _ _ c.statements.result (plainly c.in_ok-enter.ensures.spent) c.statements.ensures.spends (omega arith)
+    (omega arith) (omega arith)
 
 -- ---- a statement by its kind
 
@@ -373,8 +378,9 @@ statement-returns-in-Expr-clause-spends t c =
     let h = evaluates (frame_of c.args.cx.p.now c.args.cx.d.now) c.args.k c.in-Some.s.now
     c.requires.scene.ready.ordered c.in-Some.ensures c.requires.part c.in-Expr.is in
     let w = h.weight in
+    let few = h.copies in
     let one = heavy (expression c.args.cx.p.now c.in-Expr.a) in
-    last _ _ _ c.effect.result nothing c.effect.ensures.spends (omega arith) (omega arith)
+    last _ _ _ _ c.effect.result nothing c.effect.ensures.spends (omega arith) (omega arith) (omega arith)
 
 pub statement-initialise-requires-clause-typed : goal.statement-initialise-requires-clause-typed
 statement-initialise-requires-clause-typed t c =
@@ -403,7 +409,8 @@ statement-returns-in-Init-clause-spends t c =
     let h = initialises (frame_of c.args.cx.p.now c.args.cx.d.now) c.args.k c.in-Some.s.now
     c.requires.scene.ready.ordered c.in-Some.ensures c.requires.part c.in-Init.is in
     let w = h.weight in
-    last _ _ _ c.initialise.result nothing c.initialise.ensures.spends (omega arith) (omega arith)
+    let few = h.copies in
+    last _ _ _ _ c.initialise.result nothing c.initialise.ensures.spends (omega arith) (omega arith) (omega arith)
 
 pub statement-leave-requires-clause-part : goal.statement-leave-requires-clause-part
 statement-leave-requires-clause-part t c =
@@ -486,10 +493,12 @@ statement-returns-in-Some-b-clause-spends t c =
     let h = chooses (frame_of c.args.cx.p.now c.args.cx.d.now) c.args.k c.in-Some.s.now
     c.requires.scene.ready.ordered c.in-Some.ensures c.requires.part c.in-If.is in
     let w = h.weight in
+    let few = h.copies in
     let enters = h.enters c.args.cx.d.now in
     let n = ap (or_none (heft_in c.args.cx.p.now)) c.in-Some-b.is in
+    let copied = ap (or_none (part_copies c.args.cx.p.now)) c.in-Some-b.is in
     let m = ap (or_none (entered_in c.args.cx.p.now c.args.cx.d.now)) c.in-Some-b.is in
-    last _ _ _ c.choice.result nothing c.choice.ensures.spends (omega arith) (omega arith)
+    last _ _ _ _ c.choice.result nothing c.choice.ensures.spends (omega arith) (omega arith) (omega arith)
 
 pub statement-returns-in-None-clause-lowered : goal.statement-returns-in-None-clause-lowered
 statement-returns-in-None-clause-lowered t c =
@@ -502,8 +511,9 @@ statement-returns-in-None-clause-spends t c =
     let h = chooses (frame_of c.args.cx.p.now c.args.cx.d.now) c.args.k c.in-Some.s.now
     c.requires.scene.ready.ordered c.in-Some.ensures c.requires.part c.in-If.is in
     let w = h.weight in
+    let few = h.copies in
     let enters = h.enters c.args.cx.d.now in
-    last _ _ _ c.guarded.result nothing c.guarded.ensures.spends (omega arith) (omega arith)
+    last _ _ _ _ c.guarded.result nothing c.guarded.ensures.spends (omega arith) (omega arith) (omega arith)
 
 pub statement-repeated_loop-requires : goal.statement-repeated_loop-requires
 statement-repeated_loop-requires t c =
@@ -536,8 +546,9 @@ statement-returns-in-Do-clause-spends t c =
     let h = does (frame_of c.args.cx.p.now c.args.cx.d.now) c.args.k c.in-Some.s.now
     c.requires.scene.ready.ordered c.in-Some.ensures c.requires.part c.in-Do.is in
     let w = h.weight in
+    let few = h.copies in
     let enters = h.enters c.args.cx.d.now in
-    last _ _ _ c.repeated_loop.result nothing c.repeated_loop.ensures.spends (omega arith) (omega arith)
+    last _ _ _ _ c.repeated_loop.result nothing c.repeated_loop.ensures.spends (omega arith) (omega arith) (omega arith)
 
 pub statement-returns-in-While-clause-lowered : goal.statement-returns-in-While-clause-lowered
 statement-returns-in-While-clause-lowered t c =
@@ -550,8 +561,9 @@ statement-returns-in-While-clause-spends t c =
     let h = whiles (frame_of c.args.cx.p.now c.args.cx.d.now) c.args.k c.in-Some.s.now
     c.requires.scene.ready.ordered c.in-Some.ensures c.requires.part c.in-While.is in
     let w = h.weight in
+    let few = h.copies in
     let enters = h.enters c.args.cx.d.now in
-    last _ _ _ c.tested_loop.result nothing c.tested_loop.ensures.spends (omega arith) (omega arith)
+    last _ _ _ _ c.tested_loop.result nothing c.tested_loop.ensures.spends (omega arith) (omega arith) (omega arith)
 
 pub statement-returns-in-Break-clause-lowered : goal.statement-returns-in-Break-clause-lowered
 statement-returns-in-Break-clause-lowered t c =
@@ -560,8 +572,8 @@ statement-returns-in-Break-clause-lowered t c =
 
 pub statement-returns-in-Break-clause-spends : goal.statement-returns-in-Break-clause-spends
 statement-returns-in-Break-clause-spends t c =
-    last_and _ _ _ c.jump_out.result nothing c.jump_out.ensures.spent
-    (omega arith) (omega (arith, hefty (statement c.args.cx.p.now c.args.k)))
+    last_and _ _ _ _ c.jump_out.result nothing c.jump_out.ensures.spent
+    (omega arith) (omega (arith, hefty (statement c.args.cx.p.now c.args.k))) (omega arith)
 
 pub statement-returns-in-Continue-clause-lowered : goal.statement-returns-in-Continue-clause-lowered
 statement-returns-in-Continue-clause-lowered t c =
@@ -570,8 +582,8 @@ statement-returns-in-Continue-clause-lowered t c =
 
 pub statement-returns-in-Continue-clause-spends : goal.statement-returns-in-Continue-clause-spends
 statement-returns-in-Continue-clause-spends t c =
-    last_and _ _ _ c.jump_out-in-Continue.result nothing c.jump_out-in-Continue.ensures.spent
-    (omega arith) (omega (arith, hefty (statement c.args.cx.p.now c.args.k)))
+    last_and _ _ _ _ c.jump_out-in-Continue.result nothing c.jump_out-in-Continue.ensures.spent
+    (omega arith) (omega (arith, hefty (statement c.args.cx.p.now c.args.k))) (omega arith)
 
 pub statement-tested_loop-requires : goal.statement-tested_loop-requires
 statement-tested_loop-requires t c =
@@ -634,11 +646,13 @@ statement-returns-in-Block-clause-spends t c =
     let h = blocks (frame_of c.args.cx.p.now c.args.cx.d.now) c.args.k c.in-Some.s.now
     c.requires.scene.ready.ordered c.in-Some.ensures c.requires.part c.in-Block.is in
     let w = h.weight in
+    let few = h.copies in
     let enters = h.enters c.args.cx.d.now in
     let same = ap (hefts_in c.args.cx.p.now) c.as_slice-in-Block.ensures in
+    let copied = ap (all_part_copies c.args.cx.p.now) c.as_slice-in-Block.ensures in
     let vars = ap (entered c.args.cx.d.now) c.as_slice.ensures in
     let body = ap (all_entered_in c.args.cx.p.now c.args.cx.d.now) c.as_slice-in-Block.ensures in
-    last _ _ _ c.block.result nothing c.block.ensures.spends (omega arith) (omega arith)
+    last _ _ _ _ c.block.result nothing c.block.ensures.spends (omega arith) (omega arith) (omega arith)
 
 pub statement-block-requires-in-For : goal.statement-block-requires-in-For
 statement-block-requires-in-For t c =
@@ -707,12 +721,14 @@ statement-returns-in_ok-block-in-For-clause-spends t c =
     let h = fors (frame_of c.args.cx.p.now c.args.cx.d.now) c.args.k c.in-Some.s.now
     c.requires.scene.ready.ordered c.in-Some.ensures c.requires.part c.in-For.is in
     let w = h.weight in
+    let few = h.copies in
     let enters = h.enters c.args.cx.d.now in
     let same = ap (hefts_in c.args.cx.p.now) c.as_slice-in-For-2.ensures in
+    let copied = ap (all_part_copies c.args.cx.p.now) c.as_slice-in-For-2.ensures in
     let vars = ap (entered c.args.cx.d.now) c.as_slice-in-For.ensures in
     let body = ap (all_entered_in c.args.cx.p.now c.args.cx.d.now) c.as_slice-in-For-2.ensures in
-    last _ _ _ c.tested_loop-in-For.result c.in_ok-block-in-For.ensures.spends
-    c.tested_loop-in-For.ensures.spends (omega arith) (omega arith)
+    last _ _ _ _ c.tested_loop-in-For.result c.in_ok-block-in-For.ensures.spends
+    c.tested_loop-in-For.ensures.spends (omega arith) (omega arith) (omega arith)
 
 pub statement-switch-requires : goal.statement-switch-requires
 statement-switch-requires t c =
@@ -757,12 +773,14 @@ statement-returns-in-Switch-clause-spends t c =
     let h = switches (frame_of c.args.cx.p.now c.args.cx.d.now) c.args.k c.in-Some.s.now
     c.requires.scene.ready.ordered c.in-Some.ensures c.requires.part c.in-Switch.is in
     let w = h.weight in
+    let few = h.copies in
     let enters = h.enters c.args.cx.d.now in
     let same = ap (hefts_in c.args.cx.p.now) c.as_slice-in-Switch-3.ensures in
+    let copied = ap (all_part_copies c.args.cx.p.now) c.as_slice-in-Switch-3.ensures in
     let vars = ap (entered c.args.cx.d.now) c.as_slice-in-Switch.ensures in
     let body = ap (all_entered_in c.args.cx.p.now c.args.cx.d.now) c.as_slice-in-Switch-3.ensures in
     let many = ap length c.as_slice-in-Switch-2.ensures in
-    last _ _ _ c.switch.result nothing c.switch.ensures.spends (omega arith) (omega arith)
+    last _ _ _ _ c.switch.result nothing c.switch.ensures.spends (omega arith) (omega arith) (omega arith)
 
 -- ---- switches
 
@@ -795,7 +813,7 @@ switch-loop-s-init t c =
       spends = within
           (and (and (and c.in_ok-v.ensures.spends c.in_ok-enter.ensures.spent)
           (labelled_spent c.label-end.ensures.labelled))
-          c.in_ok-cases.ensures.spent) (omega (arith, some)) (omega (arith, some));
+          c.in_ok-cases.ensures.spent) (omega (arith, some)) (omega (arith, some)) (omega arith);
     }
 
 pub switch-returns-clause-lowered : goal.switch-returns-clause-lowered
@@ -817,9 +835,10 @@ switch-returns-clause-lowered t c =
 pub switch-returns-clause-spends : goal.switch-returns-clause-spends
 switch-returns-clause-spends t c =
     let all = hefts_taken c.args.cx.p.now c.args.body.now c.loop-s.s-index in
+    let copied = copies_taken c.args.cx.p.now c.args.body.now c.loop-s.s-index in
     let entered = all_entered_taken c.args.cx.p.now c.args.cx.d.now c.args.body.now c.loop-s.s-index in
-    last_and _ _ _ c.stand.result (and c.loop-s.invariant.spends c.in_ok-stand_behind.ensures.spent)
-    c.stand.ensures.spent (omega (arith, all)) (omega (arith, all, entered))
+    last_and _ _ _ _ c.stand.result (and c.loop-s.invariant.spends c.in_ok-stand_behind.ensures.spent)
+    c.stand.ensures.spent (omega (arith, all)) (omega (arith, all, entered)) (omega (arith, copied))
 
 pub switch-statement-requires : goal.switch-statement-requires
 switch-statement-requires t c =
@@ -863,20 +882,21 @@ switch-loop-s-preserved t c =
     let o = c.in_ok-first.ensures.stand.opened p d c.args.cx.types.now c.args.cx.homes.now c.args.out.now
     (c.label-end.result ∷ []) n c.loop-s.invariant.opened in
     let next = hefts_next p c.args.body.now i (omega arith) in
+    let copied = copies_next p c.args.body.now i (omega arith) in
     let enters = all_entered_next p c.args.cx.d.now c.args.body.now i (omega arith) in
     record {
       opened = opened_at_most (opened o c.in_ok-statement.ensures.lowered) (omega (arith, next));
       spends = within (after (and c.loop-s.invariant.spends c.in_ok-first.ensures.spent)
           c.in_ok-statement.ensures.spends)
-          (omega (arith, next)) (omega (arith, next, enters));
+          (omega (arith, next)) (omega (arith, next, enters)) (omega (arith, copied));
     }
 
 pub statement-returns-in-Return-clause-spends : goal.statement-returns-in-Return-clause-spends
 statement-returns-in-Return-clause-spends t c =
-    last _ _ _ c.leave.result nothing c.leave.ensures.spends (omega arith) (omega arith)
+    last _ _ _ _ c.leave.result nothing c.leave.ensures.spends (omega arith) (omega arith) (omega arith)
 
 pub statement-returns-in_default-clause-spends : goal.statement-returns-in_default-clause-spends
-statement-returns-in_default-clause-spends t c = within nothing (omega arith) (omega arith)
+statement-returns-in_default-clause-spends t c = within nothing (omega arith) (omega arith) (omega arith)
 
 pub statement-returns-in-Empty-clause-spends : goal.statement-returns-in-Empty-clause-spends
-statement-returns-in-Empty-clause-spends t c = within nothing (omega arith) (omega arith)
+statement-returns-in-Empty-clause-spends t c = within nothing (omega arith) (omega arith) (omega arith)

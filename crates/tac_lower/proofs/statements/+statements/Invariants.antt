@@ -1,4 +1,5 @@
 use Rattle.std.proofs.Common.{◌+◌, ◌*◌, [], ◌∷◌, ◌++◌, drop, length, take}
+use Rattle.tac_lower.specs.Copied.{copies_in, all_part_copies}
 use Rattle.tac_lower.specs.Nodes.{weight_in}
 use Rattle.tac_lower.specs.Parts.{hefts_in, entered, all_entered_in}
 use Rattle.tac_lower.specs.Scenes.{Lowered, Opened}
@@ -38,6 +39,7 @@ invariant-statements-loop-s l = record {
   lowered : Lowered l.cx.p.now l.cx.d.now l.cx.types.now l.cx.homes.now l.fn.out l.out
       (4 * hefts_in l.cx.p.now (take l.s-index l.body));
   spends : SpendsPart l.cx.fixed (hefts_in l.cx.p.now (take l.s-index l.body))
+      (all_part_copies l.cx.p.now (take l.s-index l.body))
       (all_entered_in l.cx.p.now l.cx.d.now (take l.s-index l.body)) l.fn.out l.out;
 }
 
@@ -49,5 +51,6 @@ invariant-switch-loop-s l = record {
   spends : Spends l.cx.fixed l.fn.out l.out
       (2 * (weight_in l.cx.p.now l.fn.on + hefts_in l.cx.p.now (take l.s-index l.body)) + 1)
       (32 * (weight_in l.cx.p.now l.fn.on + hefts_in l.cx.p.now (take l.s-index l.body) + length l.fn.labels)
-      + 19 * (entered l.cx.d.now l.fn.vars + all_entered_in l.cx.p.now l.cx.d.now (take l.s-index l.body)));
+      + 19 * (entered l.cx.d.now l.fn.vars + all_entered_in l.cx.p.now l.cx.d.now (take l.s-index l.body)))
+      (copies_in l.cx.p.now l.fn.on + all_part_copies l.cx.p.now (take l.s-index l.body));
 }

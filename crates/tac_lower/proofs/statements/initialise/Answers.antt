@@ -15,9 +15,9 @@ returns-in-None-clause-lowered c =
 
 pub returns-in-None-clause-spends : goal.returns-in-None-clause-spends
 returns-in-None-clause-spends c =
-    last _ _ _ c.effect.result nothing c.effect.ensures.spends
+    last _ _ _ _ c.effect.result nothing c.effect.ensures.spends
     (omega (arith, heavy (expression c.args.cx.p.now c.args.a)))
-    (omega (arith, heavy (expression c.args.cx.p.now c.args.a)))
+    (omega (arith, heavy (expression c.args.cx.p.now c.args.a))) (omega arith)
 
 pub value-requires-clause-to : goal.value-requires-clause-to
 value-requires-clause-to c = whole_at c.args.x c.args.offset c.args.a c.in-Some-Temp.t c.in-Some-Temp.field-0-1
@@ -32,13 +32,13 @@ returns-in-Some-Temp-clause-lowered c =
 
 pub returns-in-Some-Temp-clause-spends : goal.returns-in-Some-Temp-clause-spends
 returns-in-Some-Temp-clause-spends c =
-    last _ _ _ c.value.result nothing c.value.ensures.spends
+    last _ _ _ _ c.value.result nothing c.value.ensures.spends
     (omega (arith, heavy (expression c.args.cx.p.now c.args.a), extra_small c.args.cx.fixed (Some c.in-Some-Temp.t)))
     (omega (
       arith,
       heavy (expression c.args.cx.p.now c.args.a),
       extra_small c.args.cx.fixed (Some c.in-Some-Temp.t),
-    ))
+    )) (omega arith)
 
 pub initialise_object-requires-clause-base : goal.initialise_object-requires-clause-base
 initialise_object-requires-clause-base c = pointer_at c.args.x c.in-Some-Object.field-0-0 c.in-Some-Object.base

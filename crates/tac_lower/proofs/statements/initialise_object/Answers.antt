@@ -1,6 +1,7 @@
-use Rattle.std.proofs.Common.{refl, sym, arith}
+use Rattle.std.proofs.Common.{refl, sym, ap, arith}
+use Rattle.c_tree.specs.Counts.{parts}
 use Rattle.tac_lower.specs.Nodes.{expression}
-use Rattle.tac_lower.proofs.Spending.{and, last_and}
+use Rattle.tac_lower.proofs.Spending.{nothing, and, last, last_and}
 use Rattle.tac_lower.proofs.Steps.{heavy, grew, still, as_kind, room, less_room, tail_grew}
 use Rattle.tac_lower.proofs.Wells.{kept, as_capability}
 use Rattle.tac_lower.proofs.statements.initialise_object.Goals as goal
@@ -31,6 +32,11 @@ returns-clause-lowered c =
 
 pub returns-clause-spends : goal.returns-clause-spends
 returns-clause-spends c =
-    last_and _ _ _ c.store.result (and c.in_ok-v.ensures.spends c.in_ok-at.ensures.spent) c.store.ensures.spent
+    last_and _ _ _ _ c.store.result (and c.in_ok-v.ensures.spends c.in_ok-at.ensures.spent) c.store.ensures.spent
     (omega (arith, heavy (expression c.args.cx.p.now c.args.a)))
-    (omega (arith, heavy (expression c.args.cx.p.now c.args.a)))
+    (omega (arith, heavy (expression c.args.cx.p.now c.args.a))) (omega arith)
+
+pub returns-then-facts-clause-spends : goal.returns-then-facts-clause-spends
+returns-then-facts-clause-spends c =
+    last _ _ _ _ c.struct_copy.result nothing c.struct_copy.ensures.spends (omega arith) (omega arith)
+    (omega (arith, c.facts-facts.ensures.copied c.requires.scene.ready, ap parts c.record_size-bytes.ensures))

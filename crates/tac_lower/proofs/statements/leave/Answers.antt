@@ -20,7 +20,8 @@ returns-in_default-clause-spends c =
     let part = subst (λ z. ReturnPart (frame_of c.args.cx.p.now c.args.cx.d.now) c.args.k z) c.in_default.is
     c.requires.part in
     let h = part.weight in
-    last_and _ _ _ c.leave.result nothing c.leave.ensures.spent (omega arith) (omega arith)
+    let few = part.copies in
+    last_and _ _ _ _ c.leave.result nothing c.leave.ensures.spent (omega arith) (omega arith) (omega arith)
 
 pub effect-requires-clause-typed : goal.effect-requires-clause-typed
 effect-requires-clause-typed c = c.requires.part.value c.in-Some.a c.in-Some.is
@@ -46,9 +47,10 @@ returns-in_ok-effect-in-None-clause-spends c =
     let part = subst (λ z. ReturnPart (frame_of c.args.cx.p.now c.args.cx.d.now) c.args.k z) c.in-Some.is
     c.requires.part in
     let h = part.weight in
+    let few = part.copies in
     let one = heavy (expression c.args.cx.p.now c.in-Some.a) in
-    last_and _ _ _ c.leave-in-None.result c.in_ok-effect-in-None.ensures.spends c.leave-in-None.ensures.spent
-    (omega arith) (omega arith)
+    last_and _ _ _ _ c.leave-in-None.result c.in_ok-effect-in-None.ensures.spends c.leave-in-None.ensures.spent
+    (omega arith) (omega arith) (omega arith)
 
 pub operand-requires-clause-typed : goal.operand-requires-clause-typed
 operand-requires-clause-typed c = c.requires.part.value c.in-Some.a c.in-Some.is
@@ -76,6 +78,7 @@ returns-in_ok-v-in-Some-scalar-clause-spends c =
     let part = subst (λ z. ReturnPart (frame_of c.args.cx.p.now c.args.cx.d.now) c.args.k z) c.in-Some.is
     c.requires.part in
     let h = part.weight in
+    let few = part.copies in
     let one = heavy (expression c.args.cx.p.now c.in-Some.a) in
-    last_and _ _ _ c.leave-in-Some-scalar.result c.in_ok-v-in-Some-scalar.ensures.spends
-    c.leave-in-Some-scalar.ensures.spent (omega arith) (omega arith)
+    last_and _ _ _ _ c.leave-in-Some-scalar.result c.in_ok-v-in-Some-scalar.ensures.spends
+    c.leave-in-Some-scalar.ensures.spent (omega arith) (omega arith) (omega arith)

@@ -1,4 +1,5 @@
 use Rattle.std.proofs.Common.{ap, arith}
+use Rattle.tac_lower.specs.Copied.{copies_in}
 use Rattle.tac_lower.specs.Nodes.{weight_in, expression}
 use Rattle.tac_lower.specs.Parts.{or_none}
 use Rattle.tac_lower.proofs.Placings.{at_most_ok}
@@ -12,7 +13,7 @@ returns-in-None-clause-lowered c =
 
 pub returns-in-None-clause-spends : goal.returns-in-None-clause-spends
 returns-in-None-clause-spends c =
-    within nothing (omega arith) (omega arith)
+    within nothing (omega arith) (omega arith) (omega arith)
 
 pub condition-requires-clause-typed : goal.condition-requires-clause-typed
 condition-requires-clause-typed c = c.requires.typed.each c.in-Some.c c.in-Some.is
@@ -30,5 +31,6 @@ returns-in-Some-clause-lowered c =
 pub returns-in-Some-clause-spends : goal.returns-in-Some-clause-spends
 returns-in-Some-clause-spends c =
     let w = ap (or_none (weight_in c.args.cx.p.now)) c.in-Some.is in
+    let few = ap (or_none (copies_in c.args.cx.p.now)) c.in-Some.is in
     let one = heavy (expression c.args.cx.p.now c.in-Some.c) in
-    last _ _ _ c.condition.result nothing c.condition.ensures.spends (omega arith) (omega arith)
+    last _ _ _ _ c.condition.result nothing c.condition.ensures.spends (omega arith) (omega arith) (omega arith)

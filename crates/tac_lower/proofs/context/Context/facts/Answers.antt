@@ -1,6 +1,7 @@
 use Rattle.std.proofs.Common.{◌≡◌, ◌∙◌, ap, sym}
 use Rattle.c_tree.specs.Terms.{type_of}
 use Rattle.c_tree.specs.Types.{Void, Pointer}
+use Rattle.tac_lower.proofs.Copying.{copied_is, copied_past}
 use Rattle.tac_lower.proofs.Signatures.{pointed}
 use Rattle.tac_lower.proofs.Typings.{expression_past, expression_type, facts_kept, facts_point, none_kept, none_points}
 use Rattle.tac_lower.proofs.context.Context.facts.Goals as goal
@@ -27,3 +28,9 @@ pub returns-in-Some-clause-pointed : goal.returns-in-Some-clause-pointed
 returns-in-Some-clause-pointed c = λ t r e.
     let n = pointed _ r.ordered _ t (sym (expression_type _ r.ordered _ _ c.in-Some.ensures) ∙ e) in
     record { type = n.type; is = (c.facts_at.ensures _ r.table).points ∙ n.is; names = n.names }
+
+pub returns-in-None-clause-copied : goal.returns-in-None-clause-copied
+returns-in-None-clause-copied c = λ r. copied_past _ _ c.in-None.ensures
+
+pub returns-in-Some-clause-copied : goal.returns-in-Some-clause-copied
+returns-in-Some-clause-copied c = λ r. copied_is _ _ _ c.in-Some.ensures ∙ (c.facts_at.ensures _ r.table).copied
