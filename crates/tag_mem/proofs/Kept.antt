@@ -1,13 +1,13 @@
 -- An area by its granules and tags.
 use Rattle.std.proofs.Common.{◌≡◌, ℕ, ◌+◌, ◌-◌, ◌*◌, ◌/◌, ◌%◌, ◌<◌, ◌≤◌, leb, Bool, true, rules, inl, inr, false, List}
-use Rattle.std.proofs.Common.{[], ◌∷◌, ◌++◌, length, take, drop, replicate, get_or, set, refl, sym, ap, ◌∙◌, arith}
+use Rattle.std.proofs.Common.{[], ◌++◌, length, take, drop, replicate, get_or, set, refl, sym, ap, ◌∙◌, arith}
 use Rattle.std.specs.Prelude.{All, flat_map, IsTrue}
 use Rattle.std.proofs.lemmas.Bool.{le-leb, cases_Bool}
 use Rattle.tag_mem.proofs.InArea.{LiesIn-holds, IsArea-after}
 use Rattle.std.proofs.lemmas.List.{take_all, append-nil}
 use Rattle.std.proofs.Math.ListN.{drop_of_length-le}
-use Rattle.tag_mem.specs.Areas.{Area, IsArea, end_of, has, bytes_in, tag_in}
-use Rattle.tag_mem.specs.Memory.{replaced, granules_to, area_holding, area_with}
+use Rattle.tag_mem.specs.Areas.{Area, IsArea, end_of, has, bytes_in}
+use Rattle.tag_mem.specs.Memory.{replaced, granules_to, area_with}
 use Rattle.tag_mem.specs.Granules.{granule_bytes, area_of}
 use Rattle.tag_mem.proofs.Granules.{length_granule, length_granules, part_of, replaced_granule, replaced_part}
 use Rattle.tag_mem.proofs.Granules.{replaced_one}

@@ -70,7 +70,7 @@ impl Area {
     pub fn has(&self, at: u64) -> bool
         ensures { result ≡ has self.now at }
     {
-        self.base <= at && at < self.base + (self.granules.len() * GRANULE) as u64
+        at.wrapping_sub(self.base) < (self.granules.len() * GRANULE) as u64
     }
 
     /// The granule of an address.

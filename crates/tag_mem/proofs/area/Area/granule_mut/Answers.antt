@@ -1,4 +1,4 @@
-use Rattle.std.proofs.Common.{◌≡◌, ℕ, ◌-◌, ◌/◌, List, Bool, false, set, refl, sym, ap, ◌∙◌, arith, subst}
+use Rattle.std.proofs.Common.{ℕ, ◌-◌, ◌/◌, List, Bool, false, set, refl, sym, ap, ◌∙◌, arith, subst}
 use Rattle.std.specs.Prelude.{IsTrue}
 use Rattle.tag_mem.specs.Areas.{Area, IsArea, has, bytes_in}
 use Rattle.tag_mem.specs.Memory.{area_with}

@@ -1,4 +1,4 @@
-use Rattle.std.proofs.Common.{◌≡◌, ℕ, List, false, refl, sym, ap, ◌∙◌, subst, rules}
+use Rattle.std.proofs.Common.{List, false, refl, sym, ap, ◌∙◌, subst, rules}
 use Rattle.tag_mem.specs.Areas.{Area, IsMemory, area_at}
 use Rattle.tag_mem.specs.Granules.{granule_bytes}
 use Rattle.tag_mem.specs.Memory.{written}

@@ -1,5 +1,5 @@
 use Rattle.std.specs.Prelude.{bit_and}
-use Rattle.std.proofs.Common.{◌≡◌, ℕ, ◌<◌, ◌/◌, ◌%◌, ◌^◌, List, Bool, false, get_or, length, eqb, sym, ap, ◌∙◌, arith}
+use Rattle.std.proofs.Common.{ℕ, ◌<◌, ◌/◌, ◌%◌, ◌^◌, List, Bool, false, get_or, length, eqb, sym, ap, ◌∙◌, arith}
 use Rattle.std.proofs.lemmas.Nat.Bits.{shr_and_one}
 use Rattle.std.proofs.lemmas.List.{get_or_default}
 use Rattle.tag_mem.proofs.Bits.{long, get_or-unpacked}

@@ -1,8 +1,7 @@
-use Rattle.std.proofs.Common.{◌≡◌, ℕ, ◌*◌, ◌<◌, ◌/◌, ◌%◌, ◌^◌, List, Bool, cond, Some, get_or, set, length, eqb, sym}
+use Rattle.std.proofs.Common.{ℕ, ◌*◌, ◌<◌, ◌/◌, ◌%◌, ◌^◌, List, Bool, cond, get_or, set, length}
 use Rattle.std.proofs.Common.{ap, ◌∙◌, arith}
 use Rattle.std.specs.Prelude.{bit_and, bit_or}
 use Rattle.std.specs.Int.{bit_not, w64}
-use Rattle.tag_mem.specs.Packed.{unpacked}
 use Rattle.std.proofs.lemmas.List.{get_or_default}
 use Rattle.tag_mem.proofs.Bits.{long, set-is, changed}
 use Rattle.tag_mem.proofs.tags.Tags.set.Goals as goal
