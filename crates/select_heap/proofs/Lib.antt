@@ -1,0 +1,5 @@
+pub mod Beside
+pub mod Allocating
+pub mod Masks
+pub mod Rows
+pub mod Heap
