@@ -1,5 +1,5 @@
 -- Compound assignments, and steps by one.
-use Rattle.std.proofs.Common.{◌≡◌, ◌≢◌, ℕ, ◌+◌, ◌≤◌, ◌<◌, Bool, true, false, not, List, [], ◌∷◌, length, Option, Some}
+use Rattle.std.proofs.Common.{◌≡◌, ◌≢◌, ℕ, ◌≤◌, ◌<◌, Bool, true, false, not, List, [], ◌∷◌, length, Option, Some}
 use Rattle.std.proofs.Common.{None, refl, sym, ap, ◌∙◌, arith, if◌then◌else◌, length-set, ◌⊎◌}
 use Rattle.std.proofs.Common.{inl, inr, ⊎_elim}
 use Rattle.std.specs.Prelude.{slice_get, slice_set, ◌&&◌, ◌==◌}
@@ -13,7 +13,8 @@ use Rattle.cheri_c_sem.specs.Meaning.{In, At, value_of, load, store}
 use Rattle.cheri_c_sem.specs.Modes.{Store}
 use Rattle.cheri_c_sem.specs.Operations.{Operations}
 use Rattle.cheri_c_sem.specs.Steps.{State, Fate, Then}
-use Rattle.cheri_c_sem.specs.Tree.{Operation, Ex, Exs, Nil, Cons, Number, Load, Compound, Variable}
+use Rattle.cheri_c_sem.specs.Tree.{Operation, Whole, Derived, Moved, Apart, Ex, Exs, Nil, Cons, Number, Load, Compound}
+use Rattle.cheri_c_sem.specs.Tree.{Variable}
 use Rattle.tac_ir.specs.Effects.{kind_of}
 use Rattle.tac_ir.specs.Meaning.{Running, Runs, turns}
 use Rattle.tac_ir.specs.declared.code.Tac.{Tac}
@@ -489,23 +490,30 @@ module _ (ops : Operations Store) (placed : IsPlaced ops) (w : World) (t : Tac) 
             next rest target room lm (omega arith) new ti ag2 went is go));
       }
 
+  -- a step takes one temp at most
+  few_stepped : (op : Operation) → stepped_temps op ≤ 1
+  few_stepped (Whole op i count) = omega arith
+  few_stepped (Derived op s count right plain) = omega arith
+  few_stepped (Moved size minus left count) = omega arith
+  few_stepped (Apart size) = omega arith
+
   -- the old value stays in the temp that it was loaded into
   pub stepped_object_old : (op : Operation) (computed : Kind) (j : TacKind) (a : Ex) (at own to : ℕ) (q s : Pos)
       (l m n : Mark) (c : Code) → position_in a ≡ Some s → IsStep op j computed →
       PointerRuns ops w t p objects r call g Nil a at l m c → IsOwn g (Some to) own m n →
-      Ints (stepped op j n.temps own (n.temps + 1) [])
+      Ints (stepped op j n.temps own n.temps [])
       → Assignment_runs j (Compound q op (kind_of j) computed true a (Number 1)) (Some to) l
-      (more (1 + stepped_temps op) n) (λ rest. c (instr.Load own at j s
-      ∷ stepped op j n.temps own (n.temps + 1) (instr.Store at n.temps j s ∷ transfer to own rest)))
+      (more 1 n) (λ rest. c (instr.Load own at j s
+      ∷ stepped op j n.temps own n.temps (instr.Store at n.temps j s ∷ transfer to own rest)))
   stepped_object_old op computed j a at own to q s l m n c position step f owned ints =
-      let step_op = stepped_runs ops placed w t p objects r call g scene q op j computed n.temps own (n.temps + 1) step
+      let step_op = stepped_runs ops placed w t p objects r call g scene q op j computed n.temps own n.temps step
       ints in
       let e = Compound q op (kind_of j) computed true a (Number 1) in
-      let extra = 1 + stepped_temps op in
+      let few = few_stepped op in
       let marks = own_marks (Some to) own m n owned in
       record {
-        piece = then_own l m (more extra n) c (λ rest. instr.Load own at j s
-            ∷ stepped op j n.temps own (n.temps + 1) (instr.Store at n.temps j s ∷ transfer to own rest))
+        piece = then_own l m (more 1 n) c (λ rest. instr.Load own at j s
+            ∷ stepped op j n.temps own n.temps (instr.Store at n.temps j s ∷ transfer to own rest))
             (let le = marks.0 in omega arith) marks.1
             (λ i rest. step_op.plain i (instr.Store at n.temps j s ∷ transfer to own rest)
             ∙ transfer_plain to own i rest) f.piece;
@@ -515,22 +523,22 @@ module _ (ops : Operations Store) (placed : IsPlaced ops) (w : World) (t : Tac) 
             change ops placed w t p objects r call g scene q op j computed v one y2
             (λ i y3. store ops w (kind_of j) pl i y3 (λ i2 y4. next v y4))))
             (instr.Load own at j s
-            ∷ stepped op j n.temps own (n.temps + 1) (instr.Store at n.temps j s ∷ transfer to own rest))
+            ∷ stepped op j n.temps own n.temps (instr.Store at n.temps j s ∷ transfer to own rest))
             (record { low = low; high = omega arith }) ag
             (λ pos pointer u us first.
             let mine = own_temp ops placed w t p objects r call g scene (Some to) own m n owned l lm low target in
             let own_below = mine.1 in
             let at_below = stays_below ops g scene Nil l.temps m.temps at (omega arith) first.stays in
-            changed_there e j (λ i. spares i a) (Some to) at own n.temps l m n (more extra n)
+            changed_there e j (λ i. spares i a) (Some to) at own n.temps l m n (more 1 n)
             (λ v. change ops placed w t p objects r call g scene q op j computed v one)
-            (stepped op j n.temps own (n.temps + 1)) true pos s st u ts us pointer next rest (first.position s position)
+            (stepped op j n.temps own n.temps) true pos s st u ts us pointer next rest (first.position s position)
             owned target room lm (omega arith)
             (λ i i2. and_left (spares i a) true (and_right (not (is_variable i a)) (spares i a && true) i2)) first.done
             first.value (stays_apart Nil (Some to) at own l.temps m.temps l m n owned lm low target (omega arith)
-            (omega arith) first.stays) (omega arith) go (n.temps + 1) (omega arith) (inr (refl, omega arith))
+            (omega arith) first.stays) (omega arith) go n.temps (omega arith) (inr (refl, omega arith))
             (λ v vs hv long alike. step_op.runs v u vs hv (let size = first.done.agrees.room in omega arith)
             first.done.agrees.sound)
-            (λ v i y2 ys2 tv ti ag2 went is keep. given_own j e (Some to) own l m n (more extra n) owned st y2 ts ys2 v
+            (λ v i y2 ys2 tv ti ag2 went is keep. given_own j e (Some to) own l m n (more 1 n) owned st y2 ts ys2 v
             false v next rest target room lm (omega arith) refl tv ag2 went
             (keep (λ e2. absurd (omega arith))) go));
       }

@@ -557,10 +557,9 @@ module _ (p : Typed) (signs : ℕ → Signature) (kinds : List TacKind) (g : Sce
       assignment_stepped_object_old :
           {op : Operation} {computed : Kind} {j : TacKind} {a : Ex} {at t to : ℕ} {q s : Pos} {l m n : Mark} {c : Code}
           → position_in a ≡ Some s → IsStep op j computed → IsPointer Nil a at l m c → IsOwn g (Some to) t m n →
-          AreInts kinds (operating.stepped op j n.temps t (n.temps + 1) [])
-          → IsAssignment j (Compound q op (kind_of j) computed true a (Number 1)) (Some to) l
-          (more (1 + stepped_temps op) n)
-          (λ r. c (instr.Load t at j s ∷ operating.stepped op j n.temps t (n.temps + 1)
+          AreInts kinds (operating.stepped op j n.temps t n.temps [])
+          → IsAssignment j (Compound q op (kind_of j) computed true a (Number 1)) (Some to) l (more 1 n)
+          (λ r. c (instr.Load t at j s ∷ operating.stepped op j n.temps t n.temps
           (instr.Store at n.temps j s ∷ transfer to t r)))
 
     -- `struct_assignment`: the temp has the pointer to the place
