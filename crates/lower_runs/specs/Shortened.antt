@@ -1,5 +1,5 @@
 -- Code that lacks what stands behind a return, where no run comes.
-use Rattle.std.specs.Prelude.{◌≡◌, ℕ, List, [], ◌∷◌, Option}
+use Rattle.std.specs.Prelude.{◌≡◌, ℕ, List, [], ◌∷◌, ◌++◌, Option}
 use Rattle.ck_base.specs.World.{World}
 use Rattle.c_tree.specs.declared.typed.Typed.{Typed}
 use Rattle.obj_mem.specs.declared.map.Map.{Map}
@@ -14,11 +14,11 @@ AreUnlabelled [] = Unit {0}
 AreUnlabelled (instr.Label l ∷ is) = ⊥
 AreUnlabelled (i ∷ is) = AreUnlabelled is
 
--- The first list has the instructions of the second, but for those behind a return, where no label stands among these
+-- The lists are one, or the first ends with a return, and the second goes on behind that without a label
 pub data IsShort : List TacInstr → List TacInstr → Type 0 where
-  end : IsShort [] []
-  left : {v : Option ℕ} {is : List TacInstr} → AreUnlabelled is → IsShort (instr.Return v ∷ []) (instr.Return v ∷ is)
-  next : {i : TacInstr} {is js : List TacInstr} → IsShort is js → IsShort (i ∷ is) (i ∷ js)
+  same : {is : List TacInstr} → IsShort is is
+  left : (front is : List TacInstr) (v : Option ℕ) → AreUnlabelled is →
+      IsShort (front ++ instr.Return v ∷ []) (front ++ instr.Return v ∷ is)
 
 pub record IsShortFun (short whole : TacFun) : Type 0 where
   pub name : short.name ≡ whole.name
