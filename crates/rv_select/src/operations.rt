@@ -163,16 +163,6 @@ fn add_op(kind: IntKind) -> ImmOp {
     }
 }
 
-/// The operation on bits with a number.
-fn bit_op(op: IntOp) -> Option<ImmOp> {
-    match op {
-        IntOp::And => Some(ImmOp::Andi),
-        IntOp::Or => Some(ImmOp::Ori),
-        IntOp::Xor => Some(ImmOp::Xori),
-        _ => None,
-    }
-}
-
 /// The operation with a number on either side, where the order doesn't matter.
 fn with_number(f: &Function<'_>, op: ImmOp, a: u32, b: u32) -> Option<Work>
     ensures { IfSome result WorkFits }
