@@ -56,7 +56,7 @@ use Rattle.lower_runs.proofs.Moves.{moved_runs, offset_by, strides, stride_below
 use Rattle.lower_runs.proofs.Words.{converted_bits, converted_truth, plus_one, minus_one}
 
 -- the kinds of integers by their numbers
-same_number : (i j : IntKind) → (kind_number i == kind_number j) ≡ true → i ≡ j
+pub same_number : (i j : IntKind) → (kind_number i == kind_number j) ≡ true → i ≡ j
 same_number int.Bool int.Bool h = refl
 same_number int.I8 int.I8 h = refl
 same_number int.U8 int.U8 h = refl

@@ -38,3 +38,4 @@ pub mod Shortened
 pub mod Needs
 pub mod Starts
 pub mod Programs
+pub mod Fitting

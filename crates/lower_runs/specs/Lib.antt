@@ -10,6 +10,7 @@ pub mod Calling
 pub mod Functions
 pub mod Shortened
 pub mod Programs
+pub mod Fitting
 pub mod Laws
 pub mod StatementLaws
 pub mod Result

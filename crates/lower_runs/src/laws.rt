@@ -9,6 +9,7 @@ ghost use Rattle.lower_runs.specs.Result.{ExpressionsRun, StatementsAreRun};
 ghost use Rattle.lower_runs.specs.Laws.{Everywhere, OperandRules, ValueRules, LoadRules, PlaceRules, ConditionRules};
 ghost use Rattle.lower_runs.specs.Frames.{FramesAreLegal};
 ghost use Rattle.lower_runs.specs.Functions.{ArgumentsAreTaken, CallsAreRun, FunctionsEnd, FunctionsRun};
+ghost use Rattle.lower_runs.specs.Fitting.{SoundCallsFit};
 ghost use Rattle.lower_runs.specs.Programs.{ProgramsRun};
 ghost use Rattle.lower_runs.specs.Shortened.{ShortCodeRuns};
 ghost use Rattle.lower_runs.specs.Laws.{EffectRules, AssignmentRules, OperationsArePlaced};
@@ -129,6 +130,13 @@ pub fn short_code_runs()
 #[tactic(auto, using(crate::proofs::Programs::programs_run))]
 pub fn programs_run()
     ensures { ProgramsRun }
+{}
+
+/// In a sound program a function may be called through each type that is compatible with its own, and takes and gives
+/// what a type says through which it may be called.
+#[tactic(auto, using(crate::proofs::Fitting::sound_calls_fit))]
+pub fn calls_fit()
+    ensures { SoundCallsFit }
 {}
 
 /// Code that the relation makes of expressions does what they mean, given calls, in a world that gives bytes.
