@@ -38,7 +38,7 @@ pub struct Code {
 fn slot_of(at: u64) -> usize
     ensures { result ≡ slot_of at }
 {
-    (at / 4 % 1024) as usize
+    (at / 4) as usize % SLOTS
 }
 
 /// A slot with no instruction, where this address has another one.
@@ -114,7 +114,7 @@ impl Code {
 
     /// Forgets all where a store at this address may write some of them.
     #[inline(always)]
-    fn spare(&mut self, at: u64)
+    fn before_store(&mut self, at: u64)
         ensures { KeepsIf (Spares self.old at) self.old self.new }
     {
         if self.low <= at && at <= self.last {
@@ -124,7 +124,7 @@ impl Code {
 
     /// Forgets all where the counter becomes another capability.
     #[inline(always)]
-    fn enter(&mut self, from: &Cap, to: &Cap)
+    fn before_jump(&mut self, from: &Cap, to: &Cap)
         ensures { KeepsIf (IsAlike from.now to.now) self.old self.new }
     {
         if !is_alike(from, to) {
@@ -138,8 +138,8 @@ impl Code {
         ensures { Current self.old m.now → Current self.new (row m.now i.now).1 }
     {
         match *i {
-            Instr::Store(_, _, rs1, z) => self.spare(plus(m.integer(rs1), z)),
-            Instr::Cjalr(_, rs1, z) => self.enter(&m.pc, &entered(m.register(rs1), z)),
+            Instr::Store(_, _, rs1, z) => self.before_store(plus(m.integer(rs1), z)),
+            Instr::Cjalr(_, rs1, z) => self.before_jump(&m.pc, &entered(m.register(rs1), z)),
             _ => {}
         }
     }

@@ -2,8 +2,8 @@
 //! program counter that is a capability, and tagged memory.
 //!
 //! Promise: a step is its row, a run is its steps, and no run of a contained text leaves it.
-//! Definitions (`specs/`): `State`, `Integers`, `Rows`, `Step`, `ContainedText`, `Containment`.
-//! Main lemmas (`proofs/`): `Containment`, `KeptRows`.
+//! Definitions (`specs/`): `State`, `Integers`, `Rows`, `Step`, `ContainedText`, `Containment`, `Code`.
+//! Main lemmas (`proofs/`): `Containment`, `KeptRows`, `KeptCode`.
 #![tactic(auto)]
 
 mod capability_rows;
