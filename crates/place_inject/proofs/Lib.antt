@@ -4,7 +4,7 @@ pub mod Wrote
 mod Kept
 mod Changed
 mod Checked
-mod Bits
+pub mod Bits
 mod Sound
 mod Known
 mod Reached

@@ -26,3 +26,7 @@ pub mod Services
 pub mod Stretches
 pub mod Epilogue
 pub mod Returning
+pub mod Keeping
+pub mod Saving
+pub mod Taking
+pub mod Prologue

@@ -96,6 +96,53 @@ module _ (g : Ground) where
       (subst (λ n. Gone g m (length a + length b) n Then) f
       (gone_on m (length a) (length b) (at + length a) (at + length a + length b) Has Then h w))
 
+-- ---- stretches that change memory
+
+-- So many acts lead to a word, the code stands there still, and something holds of the machine
+pub record Reached (g : Ground) (m : Machine) (count at : ℕ) (Has : Machine → Type 0) : Type 0 where
+  pub to : Machine
+  pub leads : Leads count m to
+  pub there : IsThere g to at
+  pub has : Has to
+
+module _ (g : Ground) where
+  pub reached_as : (m : Machine) (n at : ℕ) (Has Then : Machine → Type 0) → Reached g m n at Has
+      → ((to : Machine) → Has to → Then to) → Reached g m n at Then
+  reached_as m n at Has Then h y = record { to = h.to; leads = h.leads; there = h.there; has = y h.to h.has }
+
+  pub reached : (m : Machine) (from n at : ℕ) → IsThere g m from → (Has Then : Machine → Type 0) → Gone g m n at Has
+      → ((to : Machine) → to.mem ≡ m.mem → Has to → Then to) → Reached g m n at Then
+  reached m from n at there Has Then h y = record {
+    to = h.to;
+    leads = h.leads;
+    there = stays_there g m h.to from at there h.counter h.registers h.memory;
+    has = y h.to h.memory h.has;
+  }
+
+  pub reached_nowhere : (m : Machine) (at : ℕ) (Has : Machine → Type 0) → IsThere g m at → Has m
+      → Reached g m 0 (at + 0) Has
+  reached_nowhere m at Has there h =
+      let e : at ≡ at + 0 = omega arith in
+      record { to = m; leads = refl; there = subst (IsThere g m) e there; has = h }
+
+  pub reached_on : (m : Machine) (n k mid end : ℕ) (Has Then : Machine → Type 0) → Reached g m n mid Has
+      → ((a : Machine) → IsThere g a mid → Has a → Reached g a k end Then) → Reached g m (n + k) end Then
+  reached_on m n k mid end Has Then h rest =
+      let w = rest h.to h.there h.has in
+      record { to = w.to; leads = join n k m h.to w.to h.leads w.leads; there = w.there; has = w.has }
+
+  pub reached_both : (m : Machine) (at : ℕ) (a b : List Instr) (Has Then : Machine → Type 0)
+      → Reached g m (length a) (at + length a) Has
+      → ((n : Machine) → IsThere g n (at + length a) → Has n
+      → Reached g n (length b) (at + length a + length b) Then)
+      → Reached g m (length (a ++ b)) (at + length (a ++ b)) Then
+  reached_both m at a b Has Then h rest =
+      let e = length-append a b in
+      let f : at + length a + length b ≡ at + length (a ++ b) = omega (arith, e) in
+      subst (λ n. Reached g m n (at + length (a ++ b)) Then) (sym e)
+      (subst (λ n. Reached g m (length a + length b) n Then) f
+      (reached_on m (length a) (length b) (at + length a) (at + length a + length b) Has Then h rest))
+
 -- ---- the place of an element
 
 pub place_here : (test : ℕ → Bool) (x : ℕ) (xs : List ℕ) → test x ≡ true → position test (x ∷ xs) ≡ Some 0

@@ -15,3 +15,4 @@ pub mod Zeroing
 pub mod Copying
 pub mod Services
 pub mod Returning
+pub mod Prologue

@@ -131,3 +131,10 @@ pub fn returns_run()
 pub fn last_returns_run()
     ensures { LastReturnsRun }
 {}
+
+ghost use Rattle.select_runs.specs.Prologue.{ProloguesRun};
+
+/// What a function begins with: it takes its frame, or traps where the stack has no room for it.
+pub fn prologues_run()
+    ensures { ProloguesRun }
+{}
