@@ -7,6 +7,8 @@ pub mod Nodes
 pub mod Constants
 pub mod Labels
 pub mod Instructions
+pub mod Emitting
+pub mod Operating
 pub mod Scening
 pub mod Spending
 pub mod Parts

@@ -8,6 +8,7 @@ pub mod Nodes
 pub mod Parts
 pub mod Scenes
 pub mod Services
+pub mod Shown
 pub mod Signed
 pub mod Spent
 pub mod Statements

@@ -13,6 +13,8 @@ ghost use Rattle.c_tree.specs.Counts.{parts};
 ghost use Rattle.tac_lower.specs.Emitted.{HasKind, HasInt, HasCapability, IsTemp, SameKind, AmountFits, CountFits};
 ghost use Rattle.tac_lower.specs.Emitted.{SameCapability, WorkFits, IsOpen, Stands, Grown, Made, Labelled, Forked};
 ghost use Rattle.tac_lower.specs.Emitted.{Turned, Pushed, Entered, HasLeft, Adds, HasRoom};
+ghost use Rattle.tac_lower.specs.Shown.{Emits, none, one};
+ghost use Rattle.lower_runs.specs.Operating.{transfer, give};
 
 use ck_base::{NoMemory, Pos, Sequence};
 use ck_int::{CmpOp, IntKind, IntOp};
@@ -87,7 +89,7 @@ impl Emitter {
     }
 
     /// A new temp.
-    #[tactic(auto, using(crate::proofs::Wells::made_grown, crate::proofs::Wells::made_has, crate::proofs::Wells::made_adds))]
+    #[tactic(auto, using(crate::proofs::Wells::made_grown, crate::proofs::Wells::made_has, crate::proofs::Wells::made_adds, crate::proofs::Emitting::made_emits))]
     pub fn temp(&mut self, kind: TacKind) -> Result<u32, NoMemory>
         requires room { HasRoom self.old 1 }
         ensures next { IfOk result (λ t. t ≡ length self.old.kinds.items) }
@@ -95,6 +97,7 @@ impl Emitter {
         ensures grown { IfOk result (λ _. Grown self.old self.new) }
         ensures adds { IfOk result (λ _. Adds self.old self.new 1 0) }
         ensures spent { IfOk result (λ _. Spent self.old self.new 1 0) }
+        ensures emits { IfOk result (λ _. Emits self.old self.new 1 none) }
     {
         let t = self.add_temp(kind)?;
         Ok(t)
@@ -140,7 +143,7 @@ impl Emitter {
     }
 
     /// An integer in the 64 bits of its extension, or null with that address.
-    #[tactic(auto, using(crate::proofs::Instructions::const_grown))]
+    #[tactic(auto, using(crate::proofs::Instructions::const_grown, crate::proofs::Emitting::one_emits))]
     pub fn constant(&mut self, to: u32, kind: TacKind, value: u64) -> Result<(), NoMemory>
         requires to { HasKind self.old to kind }
         requires value { constant_fits kind value ≡ true }
@@ -148,32 +151,36 @@ impl Emitter {
         ensures adds { IfOk result (λ _. Adds self.old self.new 0 0) }
         ensures spent { IfOk result (λ _. Spent self.old self.new 0 11) }
         ensures short { number_cost value ≡ 1 → IfOk result (λ _. Spent self.old self.new 0 4) }
+        ensures emits { IfOk result (λ _. Emits self.old self.new 0 (one (instr.Const to kind value))) }
     {
         self.push(TacInstr::Const { to, kind, value })
     }
 
     /// A new temp with a constant.
-    #[tactic(auto, using(crate::proofs::Wells::grown_then, crate::proofs::Wells::kept))]
+    #[tactic(auto, using(crate::proofs::Wells::grown_then, crate::proofs::Wells::kept, crate::proofs::Emitting::emits_then))]
     pub fn fresh_constant(&mut self, kind: TacKind, value: u64) -> Result<u32, NoMemory>
         requires room { HasRoom self.old 1 }
         requires value { constant_fits kind value ≡ true }
+        ensures next { IfOk result (λ t. t ≡ length self.old.kinds.items) }
         ensures has { IfOk result (λ t. HasKind self.new t kind) }
         ensures grown { IfOk result (λ _. Grown self.old self.new) }
         ensures adds { IfOk result (λ _. Adds self.old self.new 1 0) }
         ensures spent { IfOk result (λ _. Spent self.old self.new 1 11) }
         ensures short { number_cost value ≡ 1 → IfOk result (λ _. Spent self.old self.new 1 4) }
+        ensures emits { IfOk result (λ t. Emits self.old self.new 1 (one (instr.Const t kind value))) }
     {
         let t = self.temp(kind)?;
         self.constant(t, kind, value)?;
         Ok(t)
     }
 
-    #[tactic(auto, using(crate::proofs::Instructions::copy_grown))]
+    #[tactic(auto, using(crate::proofs::Instructions::copy_grown, crate::proofs::Emitting::one_emits))]
     pub fn copy(&mut self, to: u32, from: u32) -> Result<(), NoMemory>
         requires same { SameKind self.old to from }
         ensures grown { IfOk result (λ _. Grown self.old self.new) }
         ensures adds { IfOk result (λ _. Adds self.old self.new 0 0) }
         ensures spent { IfOk result (λ _. Spent self.old self.new 0 6) }
+        ensures emits { IfOk result (λ _. Emits self.old self.new 0 (one (instr.Copy to from))) }
     {
         self.push(TacInstr::Copy { to, from })
     }
@@ -186,6 +193,7 @@ impl Emitter {
         ensures adds { IfOk result (λ _. Adds self.old self.new 0 0) }
         ensures spent { IfOk result (λ _. Spent self.old self.new 0 6) }
         ensures there { to ≡ from → IfOk result (λ _. Spent self.old self.new 0 0) }
+        ensures emits { IfOk result (λ _. Emits self.old self.new 0 (transfer to from)) }
     {
         if to == from {
             Ok(())
@@ -202,6 +210,7 @@ impl Emitter {
         ensures adds { IfOk result (λ _. Adds self.old self.new 0 0) }
         ensures spent { IfOk result (λ _. Spent self.old self.new 0 6) }
         ensures there { IfSome to (λ t. t ≡ from) → IfOk result (λ _. Spent self.old self.new 0 0) }
+        ensures emits { IfOk result (λ _. Emits self.old self.new 0 (give to from)) }
     {
         match to {
             None => Ok(()),
@@ -209,7 +218,7 @@ impl Emitter {
         }
     }
 
-    #[tactic(auto, using(crate::proofs::Instructions::int_grown))]
+    #[tactic(auto, using(crate::proofs::Instructions::int_grown, crate::proofs::Emitting::int_emits))]
     pub fn int(&mut self, op: IntOp, kind: IntKind, to: u32, a: u32, b: u32) -> Result<(), NoMemory>
         requires to { HasKind self.old to (kinds.Int kind) }
         requires left { HasKind self.old a (kinds.Int kind) }
@@ -218,11 +227,12 @@ impl Emitter {
         ensures adds { IfOk result (λ _. Adds self.old self.new 0 0) }
         ensures spent { IfOk result (λ _. Spent self.old self.new 0 13) }
         ensures wide { kind ≡ int.U64 → IfOk result (λ _. Spent self.old self.new 0 10) }
+        ensures emits { IfOk result (λ _. Emits self.old self.new 0 (one (instr.Int op kind to a b))) }
     {
         self.push(TacInstr::Int { op, kind, to, a, b })
     }
 
-    #[tactic(auto, using(crate::proofs::Instructions::compare_grown))]
+    #[tactic(auto, using(crate::proofs::Instructions::compare_grown, crate::proofs::Emitting::one_emits))]
     pub fn compare(
         &mut self,
         op: CmpOp,
@@ -237,11 +247,12 @@ impl Emitter {
         ensures grown { IfOk result (λ _. Grown self.old self.new) }
         ensures adds { IfOk result (λ _. Adds self.old self.new 0 0) }
         ensures spent { IfOk result (λ _. Spent self.old self.new 0 11) }
+        ensures emits { IfOk result (λ _. Emits self.old self.new 0 (one (instr.Cmp op kind to a b))) }
     {
         self.push(TacInstr::Cmp { op, kind, to, a, b })
     }
 
-    #[tactic(auto, using(crate::proofs::Instructions::convert_grown))]
+    #[tactic(auto, using(crate::proofs::Instructions::convert_grown, crate::proofs::Emitting::one_emits))]
     pub fn convert(
         &mut self,
         to: u32,
@@ -254,12 +265,13 @@ impl Emitter {
         ensures grown { IfOk result (λ _. Grown self.old self.new) }
         ensures adds { IfOk result (λ _. Adds self.old self.new 0 0) }
         ensures spent { IfOk result (λ _. Spent self.old self.new 0 8) }
+        ensures emits { IfOk result (λ _. Emits self.old self.new 0 (one (instr.Convert to from old new))) }
     {
         self.push(TacInstr::Convert { to, from, old, new })
     }
 
     /// A new temp with a converted value.
-    #[tactic(auto, using(crate::proofs::Wells::grown_then, crate::proofs::Wells::kept))]
+    #[tactic(auto, using(crate::proofs::Wells::grown_then, crate::proofs::Wells::kept, crate::proofs::Emitting::emits_then))]
     pub fn fresh_conversion(
         &mut self,
         from: u32,
@@ -268,27 +280,30 @@ impl Emitter {
     ) -> Result<u32, NoMemory>
         requires room { HasRoom self.old 1 }
         requires from { HasKind self.old from old }
+        ensures next { IfOk result (λ t. t ≡ length self.old.kinds.items) }
         ensures has { IfOk result (λ t. HasKind self.new t new) }
         ensures grown { IfOk result (λ _. Grown self.old self.new) }
         ensures adds { IfOk result (λ _. Adds self.old self.new 1 0) }
         ensures spent { IfOk result (λ _. Spent self.old self.new 1 8) }
+        ensures emits { IfOk result (λ t. Emits self.old self.new 1 (one (instr.Convert t from old new))) }
     {
         let t = self.temp(new)?;
         self.convert(t, from, old, new)?;
         Ok(t)
     }
 
-    #[tactic(auto, using(crate::proofs::Instructions::work_grown))]
+    #[tactic(auto, using(crate::proofs::Instructions::work_grown, crate::proofs::Emitting::one_emits))]
     pub fn work(&mut self, op: CapWork, to: u32, a: u32, b: Option<u32>) -> Result<(), NoMemory>
         requires fits { WorkFits self.old op to a b }
         ensures grown { IfOk result (λ _. Grown self.old self.new) }
         ensures adds { IfOk result (λ _. Adds self.old self.new 0 0) }
         ensures spent { IfOk result (λ _. Spent self.old self.new 0 10) }
+        ensures emits { IfOk result (λ _. Emits self.old self.new 0 (one (instr.Cap op to a b))) }
     {
         self.push(TacInstr::Cap { op, to, a, b })
     }
 
-    #[tactic(auto, using(crate::proofs::Instructions::offset_grown))]
+    #[tactic(auto, using(crate::proofs::Instructions::offset_grown, crate::proofs::Emitting::one_emits))]
     pub fn offset(&mut self, to: u32, base: u32, by: Amount) -> Result<(), NoMemory>
         requires same { SameCapability self.old to base }
         requires by { AmountFits self.old by }
@@ -296,11 +311,12 @@ impl Emitter {
         ensures adds { IfOk result (λ _. Adds self.old self.new 0 0) }
         ensures spent { IfOk result (λ _. Spent self.old self.new 0 15) }
         ensures temp { is_number by ≡ false → IfOk result (λ _. Spent self.old self.new 0 10) }
+        ensures emits { IfOk result (λ _. Emits self.old self.new 0 (one (instr.Offset to base by))) }
     {
         self.push(TacInstr::Offset { to, base, by })
     }
 
-    #[tactic(auto, using(crate::proofs::Instructions::narrow_grown))]
+    #[tactic(auto, using(crate::proofs::Instructions::narrow_grown, crate::proofs::Emitting::one_emits))]
     pub fn narrow(
         &mut self,
         to: u32,
@@ -313,6 +329,7 @@ impl Emitter {
         ensures grown { IfOk result (λ _. Grown self.old self.new) }
         ensures adds { IfOk result (λ _. Adds self.old self.new 0 0) }
         ensures spent { IfOk result (λ _. Spent self.old self.new 0 15) }
+        ensures emits { IfOk result (λ _. Emits self.old self.new 0 (one (instr.Narrow to base length exact))) }
     {
         self.push(TacInstr::Narrow {
             to,
@@ -322,13 +339,14 @@ impl Emitter {
         })
     }
 
-    #[tactic(auto, using(crate::proofs::Instructions::load_grown))]
+    #[tactic(auto, using(crate::proofs::Instructions::load_grown, crate::proofs::Emitting::one_emits))]
     pub fn load(&mut self, to: u32, from: u32, kind: TacKind, pos: Pos) -> Result<(), NoMemory>
         requires to { HasKind self.old to kind }
         requires from { HasCapability self.old from }
         ensures grown { IfOk result (λ _. Grown self.old self.new) }
         ensures adds { IfOk result (λ _. Adds self.old self.new 0 0) }
         ensures spent { IfOk result (λ _. Spent self.old self.new 0 8) }
+        ensures emits { IfOk result (λ _. Emits self.old self.new 0 (one (instr.Load to from kind pos))) }
     {
         self.push(TacInstr::Load {
             to,
@@ -338,13 +356,14 @@ impl Emitter {
         })
     }
 
-    #[tactic(auto, using(crate::proofs::Instructions::store_grown))]
+    #[tactic(auto, using(crate::proofs::Instructions::store_grown, crate::proofs::Emitting::one_emits))]
     pub fn store(&mut self, at: u32, value: u32, kind: TacKind, pos: Pos) -> Result<(), NoMemory>
         requires at { HasCapability self.old at }
         requires value { HasKind self.old value kind }
         ensures grown { IfOk result (λ _. Grown self.old self.new) }
         ensures adds { IfOk result (λ _. Adds self.old self.new 0 0) }
         ensures spent { IfOk result (λ _. Spent self.old self.new 0 7) }
+        ensures emits { IfOk result (λ _. Emits self.old self.new 0 (one (instr.Store at value kind pos))) }
     {
         self.push(TacInstr::Store {
             at,
@@ -382,7 +401,7 @@ impl Emitter {
         self.push(TacInstr::Function { to, fun })
     }
 
-    #[tactic(auto, using(crate::proofs::Instructions::copy_units_grown))]
+    #[tactic(auto, using(crate::proofs::Instructions::copy_units_grown, crate::proofs::Emitting::one_emits))]
     pub fn copy_units(&mut self, c: Copied) -> Result<(), NoMemory>
         requires from { HasCapability self.old c.from }
         requires to { HasCapability self.old c.to }
@@ -390,6 +409,8 @@ impl Emitter {
         ensures grown { IfOk result (λ _. Grown self.old self.new) }
         ensures adds { IfOk result (λ _. Adds self.old self.new 0 0) }
         ensures spent { IfOk result (λ _. Takes self.old self.new 0 14 (parts c.bytes)) }
+        ensures emits { IfOk result (λ _. Emits self.old self.new 0
+            (one (instr.CopyUnits c.from c.to c.bytes c.unit c.from_pos c.to_pos))) }
     {
         self.push(TacInstr::CopyUnits {
             from: c.from,

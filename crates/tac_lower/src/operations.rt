@@ -1,6 +1,6 @@
 //! Operations on values that are in temps.
 
-ghost use Rattle.std.specs.Prelude.{◌≡◌, ℕ, ◌^◌, ◌<◌, true, false, IfOk, IfSome, Some, None};
+ghost use Rattle.std.specs.Prelude.{◌≡◌, ℕ, ◌+◌, ◌*◌, ◌%◌, ◌^◌, ◌<◌, true, false, length, IfOk, IfSome, Some, None};
 ghost use Rattle.ck_int.specs.declared.kinds.IntKind.{IntKind};
 ghost use Rattle.ck_int.specs.declared.kinds.IntKind.TheVariants as int;
 ghost use Rattle.tac_ir.specs.declared.code.TacKind.TheVariants as kinds;
@@ -12,6 +12,17 @@ ghost use Rattle.tac_lower.specs.Spent.{Spent, is_number};
 ghost use Rattle.tac_lower.specs.Emitted.{HasKind, HasInt, HasAddress, IsWide, AmountFits, CountFits, RightFits};
 ghost use Rattle.tac_lower.specs.Emitted.{SameKind, SameCapability, Holds, is_capability, wide_of, Grown, Adds};
 ghost use Rattle.tac_lower.specs.Emitted.{HasRoom, ChangeFits};
+ghost use Rattle.cheri_c_sem.specs.Tree.{Operation, Whole};
+ghost use Rattle.tac_ir.specs.Effects.{kind_of};
+ghost use Rattle.tac_lower.specs.declared.operations.Sign.TheVariants as signs;
+ghost use Rattle.ck_int.specs.declared.kinds.IntOp.TheVariants.{Add, Sub};
+ghost use Rattle.tac_ir.specs.declared.code.Amount.TheVariants as amount;
+ghost use Rattle.tac_ir.specs.declared.code.TacInstr.TheVariants as instr;
+ghost use Rattle.lower_runs.specs.Operating as operating;
+ghost use Rattle.lower_runs.specs.Operating.{sign_temps, signed_temps, right_temps, address_temps, moved_temps};
+ghost use Rattle.lower_runs.specs.Operating.{changed_temps, stepped_temps};
+ghost use Rattle.tac_lower.specs.Shown.{Emits, one, sign_as, count_code, count_temp, count_temps, Changes, Paces};
+ghost use Rattle.tac_lower.specs.Shown.{address_more, bytes_code, bytes_temp};
 
 use crate::emitter::Emitter;
 use crate::types::{LONG, POINTER, WORD, is_capability, same_kind};
@@ -36,6 +47,7 @@ fn is_shift(op: IntOp) -> bool
 fn all_ones(kind: IntKind) -> u64
     ensures fits { constant_fits (kinds.Int kind) result ≡ true }
     ensures short { kind ≡ int.U64 → number_cost result ≡ 1 }
+    ensures is { result ≡ operating.all_ones kind }
 {
     wrap(kind, 0xffff_ffff_ffff_ffff)
 }
@@ -48,6 +60,8 @@ pub fn negated(out: &mut Emitter, to: u32, x: Held) -> Result<(), NoMemory>
     ensures grown { IfOk result (λ _. Grown out.old out.new) }
     ensures adds { IfOk result (λ _. Adds out.old out.new 1 0) }
     ensures spent { IfOk result (λ _. Spent out.old out.new 1 22) }
+    ensures emits { IfOk result (λ _. Emits out.old out.new 1
+        (operating.negated x.kind to x.temp (length out.old.kinds.items))) }
 {
     let zero = out.fresh_constant(x.kind, 0)?;
     out.compare(CmpOp::Eq, x.kind, to, x.temp, zero)
@@ -62,6 +76,8 @@ fn negative(out: &mut Emitter, kind: IntKind, to: u32, a: u32) -> Result<(), NoM
     ensures adds { IfOk result (λ _. Adds out.old out.new 1 0) }
     ensures spent { IfOk result (λ _. Spent out.old out.new 1 17) }
     ensures wide { kind ≡ int.U64 → IfOk result (λ _. Spent out.old out.new 1 14) }
+    ensures emits { IfOk result (λ _. Emits out.old out.new 1
+        (operating.signed_integer (sign_as signs.Negative) kind to a (length out.old.kinds.items))) }
 {
     let zero = out.fresh_constant(TacKind::Int(kind), 0)?;
     out.int(IntOp::Sub, kind, to, zero, a)
@@ -76,6 +92,8 @@ fn complement(out: &mut Emitter, kind: IntKind, to: u32, a: u32) -> Result<(), N
     ensures adds { IfOk result (λ _. Adds out.old out.new 1 0) }
     ensures spent { IfOk result (λ _. Spent out.old out.new 1 24) }
     ensures wide { kind ≡ int.U64 → IfOk result (λ _. Spent out.old out.new 1 14) }
+    ensures emits { IfOk result (λ _. Emits out.old out.new 1
+        (operating.signed_integer (sign_as signs.Complement) kind to a (length out.old.kinds.items))) }
 {
     let ones = out.fresh_constant(TacKind::Int(kind), all_ones(kind))?;
     out.int(IntOp::Xor, kind, to, a, ones)
@@ -103,6 +121,8 @@ fn signed_integer(
     ensures adds { IfOk result (λ _. Adds out.old out.new 1 0) }
     ensures spent { IfOk result (λ _. Spent out.old out.new 1 24) }
     ensures wide { kind ≡ int.U64 → IfOk result (λ _. Spent out.old out.new 1 14) }
+    ensures emits { IfOk result (λ _. Emits out.old out.new (sign_temps (sign_as sign))
+        (operating.signed_integer (sign_as sign) kind to a (length out.old.kinds.items))) }
 {
     match sign {
         Sign::Positive => out.transfer(to, a),
@@ -120,6 +140,8 @@ fn signed_capability(out: &mut Emitter, sign: Sign, to: u32, x: Held) -> Result<
     ensures grown { IfOk result (λ _. Grown out.old out.new) }
     ensures adds { IfOk result (λ _. Adds out.old out.new 2 0) }
     ensures spent { IfOk result (λ _. Spent out.old out.new 2 32) }
+    ensures emits { IfOk result (λ _. Emits out.old out.new (signed_temps (sign_as sign) x.kind)
+        (operating.signed (sign_as sign) x.kind to x.temp (length out.old.kinds.items))) }
 {
     let n = out.fresh_conversion(x.temp, x.kind, WORD)?;
     signed_integer(out, sign, IntKind::U64, n, n)?;
@@ -134,6 +156,8 @@ pub fn signed(out: &mut Emitter, sign: Sign, to: u32, x: Held) -> Result<(), NoM
     ensures grown { IfOk result (λ _. Grown out.old out.new) }
     ensures adds { IfOk result (λ _. Adds out.old out.new 2 0) }
     ensures spent { IfOk result (λ _. Spent out.old out.new 2 32) }
+    ensures emits { IfOk result (λ _. Emits out.old out.new (signed_temps (sign_as sign) x.kind)
+        (operating.signed (sign_as sign) x.kind to x.temp (length out.old.kinds.items))) }
 {
     match x.kind {
         TacKind::Int(kind) => signed_integer(out, sign, kind, to, x.temp),
@@ -149,6 +173,9 @@ fn as_count(out: &mut Emitter, x: Held) -> Result<u32, NoMemory>
     ensures grown { IfOk result (λ _. Grown out.old out.new) }
     ensures adds { IfOk result (λ _. Adds out.old out.new 1 0) }
     ensures spent { IfOk result (λ _. Spent out.old out.new 1 8) }
+    ensures temp { IfOk result (λ t. t ≡ count_temp x.kind x.temp (length out.old.kinds.items)) }
+    ensures emits { IfOk result (λ _. Emits out.old out.new (count_temps x.kind)
+        (count_code x.kind x.temp (length out.old.kinds.items))) }
 {
     if is_capability(x.kind) {
         out.fresh_conversion(x.temp, x.kind, WORD)
@@ -166,6 +193,9 @@ fn right_operand(out: &mut Emitter, op: IntOp, y: Held) -> Result<u32, NoMemory>
     ensures grown { IfOk result (λ _. Grown out.old out.new) }
     ensures adds { IfOk result (λ _. Adds out.old out.new 1 0) }
     ensures spent { IfOk result (λ _. Spent out.old out.new 1 8) }
+    ensures temp { IfOk result (λ t. t ≡ operating.right_temp op y.kind y.temp (length out.old.kinds.items)) }
+    ensures emits { IfOk result (λ _. Emits out.old out.new (right_temps op y.kind)
+        (operating.right_operand op y.kind y.temp (length out.old.kinds.items))) }
 {
     if is_shift(op) {
         as_count(out, y)
@@ -191,6 +221,8 @@ pub fn whole(
     ensures grown { IfOk result (λ _. Grown out.old out.new) }
     ensures adds { IfOk result (λ _. Adds out.old out.new 1 0) }
     ensures spent { IfOk result (λ _. Spent out.old out.new 1 21) }
+    ensures emits { IfOk result (λ _. Emits out.old out.new (right_temps op y.kind)
+        (operating.whole op kind y.kind to a y.temp (length out.old.kinds.items))) }
 {
     let b = right_operand(out, op, y)?;
     out.int(op, kind, to, a, b)
@@ -199,7 +231,8 @@ pub fn whole(
 /// The kind in which the address of a capability is computed. Only a quotient, a remainder and a shift to the right
 /// depend on the sign.
 fn address_kind(op: IntOp, signed: bool) -> IntKind
-    ensures { IsWide (kinds.Int result) }
+    ensures wide { IsWide (kinds.Int result) }
+    ensures is { result ≡ operating.address_kind op signed }
 {
     if signed && matches!(op, IntOp::Div | IntOp::Rem | IntOp::Shr) {
         IntKind::I64
@@ -216,6 +249,9 @@ fn address_operand(out: &mut Emitter, op: IntOp, kind: IntKind, y: Held) -> Resu
     ensures grown { IfOk result (λ _. Grown out.old out.new) }
     ensures adds { IfOk result (λ _. Adds out.old out.new 1 0) }
     ensures spent { IfOk result (λ _. Spent out.old out.new 1 8) }
+    ensures temp { IfOk result (λ t. t ≡ operating.address_temp op y.kind y.temp (length out.old.kinds.items)) }
+    ensures emits { IfOk result (λ _. Emits out.old out.new (address_more op y.kind)
+        (operating.address_operand op kind y.kind y.temp (length out.old.kinds.items))) }
 {
     if is_shift(op) && !is_capability(y.kind) {
         Ok(y.temp)
@@ -240,6 +276,10 @@ fn computed_address(
     ensures grown { IfOk result (λ _. Grown out.old out.new) }
     ensures adds { IfOk result (λ _. Adds out.old out.new 2 0) }
     ensures spent { IfOk result (λ _. Spent out.old out.new 2 29) }
+    ensures next { IfOk result (λ n. n.temp ≡ length out.old.kinds.items) }
+    ensures as_integer { IfOk result (λ n. n.kind ≡ kinds.Int (operating.address_kind op signed)) }
+    ensures emits { IfOk result (λ _. Emits out.old out.new (address_temps op y.kind)
+        (operating.computed_address op signed x.kind y.kind x.temp y.temp (length out.old.kinds.items))) }
 {
     let kind = address_kind(op, signed);
     let n = out.fresh_conversion(x.temp, x.kind, TacKind::Int(kind))?;
@@ -254,7 +294,8 @@ fn computed_address(
 /// The temp of the operand from which a result derives: the right one only where that is asked and it is kept as the
 /// left one is.
 fn origin(right: bool, x: Held, y: Held) -> u32
-    ensures { (e : Emitter) → Holds e x → Holds e y → HasKind e result x.kind }
+    ensures kind { (e : Emitter) → Holds e x → Holds e y → HasKind e result x.kind }
+    ensures is { result ≡ operating.origin right x.kind y.kind x.temp y.temp }
 {
     if !right {
         return x.temp;
@@ -285,6 +326,8 @@ pub fn derived(
     ensures grown { IfOk result (λ _. Grown out.old out.new) }
     ensures adds { IfOk result (λ _. Adds out.old out.new 2 0) }
     ensures spent { IfOk result (λ _. Spent out.old out.new 2 39) }
+    ensures emits { IfOk result (λ _. Emits out.old out.new (address_temps op y.kind)
+        (operating.derived op signed right y.kind to x.temp y.temp (length out.old.kinds.items))) }
 {
     let n = computed_address(out, op, signed, x, y)?;
     let from = origin(right, x, y);
@@ -302,13 +345,16 @@ fn wide_kind(kind: TacKind) -> IntKind
 }
 
 fn is_wide(kind: TacKind) -> bool
-    ensures { result ≡ true → kind ≡ kinds.Int (wide_of kind) }
+    ensures kept { result ≡ true → kind ≡ kinds.Int (wide_of kind) }
+    ensures is { result ≡ operating.is_wide kind }
 {
     matches!(kind, TacKind::Int(IntKind::I64 | IntKind::U64))
 }
 
 /// The size of an element, negative where a pointer is moved down, modulo 2^64.
-pub fn stride(size: u64, minus: bool) -> u64 {
+pub fn stride(size: u64, minus: bool) -> u64
+    ensures { result ≡ operating.stride size minus }
+{
     if minus { size.wrapping_neg() } else { size }
 }
 
@@ -320,6 +366,9 @@ fn scaled(out: &mut Emitter, i: Held, by: u64) -> Result<u32, NoMemory>
     ensures grown { IfOk result (λ _. Grown out.old out.new) }
     ensures adds { IfOk result (λ _. Adds out.old out.new 2 0) }
     ensures spent { IfOk result (λ _. Spent out.old out.new 2 32) }
+    ensures temp { IfOk result (λ t. t ≡ operating.scaled_temp i.kind (length out.old.kinds.items)) }
+    ensures emits { IfOk result (λ _. Emits out.old out.new 2
+        (operating.scaled i.kind by i.temp (length out.old.kinds.items))) }
 {
     let kind = wide_kind(i.kind);
     if is_wide(i.kind) {
@@ -344,6 +393,9 @@ fn bytes_of(out: &mut Emitter, i: Held, by: u64) -> Result<Amount, NoMemory>
     ensures grown { IfOk result (λ _. Grown out.old out.new) }
     ensures adds { IfOk result (λ _. Adds out.old out.new 2 0) }
     ensures spent { IfOk result (λ _. Spent out.old out.new 2 32) }
+    ensures temp_is { IfOk result (λ a. a ≡ amount.Temp (bytes_temp i.kind by i.temp (length out.old.kinds.items))) }
+    ensures emits { IfOk result (λ _. Emits out.old out.new (moved_temps i.kind by)
+        (bytes_code i.kind by i.temp (length out.old.kinds.items))) }
 {
     if by == 1 {
         Ok(Amount::Temp(as_count(out, i)?))
@@ -360,6 +412,8 @@ pub fn moved(out: &mut Emitter, by: u64, to: u32, base: u32, i: Held) -> Result<
     ensures grown { IfOk result (λ _. Grown out.old out.new) }
     ensures adds { IfOk result (λ _. Adds out.old out.new 2 0) }
     ensures spent { IfOk result (λ _. Spent out.old out.new 2 42) }
+    ensures emits { IfOk result (λ _. Emits out.old out.new (moved_temps i.kind by)
+        (operating.moved i.kind by to base i.temp (length out.old.kinds.items))) }
 {
     let by = bytes_of(out, i, by)?;
     out.offset(to, base, by)
@@ -378,6 +432,8 @@ pub fn moved_by(
     ensures grown { IfOk result (λ _. Grown out.old out.new) }
     ensures adds { IfOk result (λ _. Adds out.old out.new 0 0) }
     ensures spent { IfOk result (λ _. Spent out.old out.new 0 15) }
+    ensures emits { IfOk result (λ _. Emits out.old out.new 0
+        (one (instr.Offset to base (amount.Number (operating.stride size minus * n % 2 ^ 64))))) }
 {
     let by = stride(size, minus).wrapping_mul(n);
     out.offset(to, base, Amount::Number(by))
@@ -392,6 +448,8 @@ pub fn difference(out: &mut Emitter, size: u64, to: u32, a: u32, b: u32) -> Resu
     ensures grown { IfOk result (λ _. Grown out.old out.new) }
     ensures adds { IfOk result (λ _. Adds out.old out.new 2 0) }
     ensures spent { IfOk result (λ _. Spent out.old out.new 2 53) }
+    ensures emits { IfOk result (λ _. Emits out.old out.new 2
+        (operating.difference size to a b (length out.old.kinds.items))) }
 {
     let n = out.fresh_conversion(a, POINTER, LONG)?;
     let m = out.fresh_conversion(b, POINTER, LONG)?;
@@ -430,6 +488,9 @@ fn changed_whole(
     ensures grown { IfOk result (λ _. Grown out.old out.new) }
     ensures adds { IfOk result (λ _. Adds out.old out.new 2 0) }
     ensures spent { IfOk result (λ _. Spent out.old out.new 2 37) }
+    ensures emits { IfOk result (λ _. Emits out.old out.new
+        (changed_temps (Whole op kind (kind_of y.kind)) x.kind y.kind)
+        (operating.changed_whole op kind x.kind y.kind to x.temp y.temp (length out.old.kinds.items))) }
 {
     let b = right_operand(out, op, y)?;
     let computed = TacKind::Int(kind);
@@ -458,6 +519,8 @@ fn changed_capability(
     ensures grown { IfOk result (λ _. Grown out.old out.new) }
     ensures adds { IfOk result (λ _. Adds out.old out.new 2 0) }
     ensures spent { IfOk result (λ _. Spent out.old out.new 2 39) }
+    ensures emits { IfOk result (λ _. Emits out.old out.new (address_temps op y.kind)
+        (operating.changed_capability op signed x.kind y.kind to x.temp y.temp (length out.old.kinds.items))) }
 {
     let n = computed_address(out, op, signed, x, y)?;
     if is_capability(x.kind) {
@@ -477,6 +540,9 @@ pub fn changed(out: &mut Emitter, change: Change, to: u32, x: Held, y: Held) -> 
     ensures grown { IfOk result (λ _. Grown out.old out.new) }
     ensures adds { IfOk result (λ _. Adds out.old out.new 2 0) }
     ensures spent { IfOk result (λ _. Spent out.old out.new 2 42) }
+    ensures emits { IfOk result (λ _. (o : Operation) → Changes change o →
+        Emits out.old out.new (changed_temps o x.kind y.kind)
+        (operating.changed o x.kind y.kind to x.temp y.temp (length out.old.kinds.items))) }
 {
     match change.element {
         Some(size) => moved(out, stride(size, change.op == IntOp::Sub), to, x.temp, y),
@@ -495,7 +561,9 @@ pub struct Pace {
 }
 
 fn step_of(pace: Pace) -> IntOp
-    ensures { is_shift result ≡ false }
+    ensures plain { is_shift result ≡ false }
+    ensures up { pace.up ≡ true → result ≡ Add }
+    ensures down { pace.up ≡ false → result ≡ Sub }
 {
     if pace.up { IntOp::Add } else { IntOp::Sub }
 }
@@ -508,6 +576,8 @@ pub fn stepped(out: &mut Emitter, pace: Pace, to: u32, x: Held) -> Result<(), No
     ensures grown { IfOk result (λ _. Grown out.old out.new) }
     ensures adds { IfOk result (λ _. Adds out.old out.new 1 0) }
     ensures spent { IfOk result (λ _. Spent out.old out.new 1 17) }
+    ensures emits { IfOk result (λ _. (o : Operation) → Paces pace x.kind o →
+        Emits out.old out.new (stepped_temps o) (operating.stepped o x.kind to x.temp (length out.old.kinds.items))) }
 {
     match x.kind {
         TacKind::Int(kind) => {
@@ -526,6 +596,9 @@ pub fn stepped_apart(out: &mut Emitter, pace: Pace, x: Held) -> Result<u32, NoMe
     ensures grown { IfOk result (λ _. Grown out.old out.new) }
     ensures adds { IfOk result (λ _. Adds out.old out.new 1 0) }
     ensures spent { IfOk result (λ _. Spent out.old out.new 1 17) }
+    ensures next { IfOk result (λ t. t ≡ length out.old.kinds.items) }
+    ensures emits { IfOk result (λ t. (o : Operation) → Paces pace x.kind o →
+        Emits out.old out.new 1 (operating.stepped o x.kind t x.temp t)) }
 {
     let to = out.temp(x.kind)?;
     match x.kind {

@@ -4,6 +4,7 @@ use Rattle.tac_ir.specs.declared.code.TacKind.TheVariants as kinds
 use Rattle.tac_lower.specs.Emitted.{HasKind}
 use Rattle.tac_lower.proofs.Wells.{grown_then, kept}
 use Rattle.tac_lower.proofs.Constants.{kept_count, kinds_agree}
+use Rattle.tac_lower.proofs.Operating.{changed_alike_emits, changed_apart_emits}
 use Rattle.tac_lower.proofs.operations.changed_whole.Goals as goal
 
 pub int-requires-clause-to : goal.int-requires-clause-to
@@ -40,3 +41,16 @@ returns-clause-grown c = IfOk-weaker c.convert.result _ _
     (λ r g. grown_then _ _ _ (grown_then _ _ _
     (grown_then _ _ _ c.in_ok-b.ensures.grown c.in_ok-u.ensures.grown) c.in_ok-int.ensures.grown) g)
     c.convert.ensures.grown
+
+pub returns-then-same_kind-clause-emits : goal.returns-then-same_kind-clause-emits
+returns-then-same_kind-clause-emits c =
+    IfOk-weaker c.int.result _ _
+    (λ r g. changed_alike_emits _ _ _ (sym c.same_kind.ensures ∙ c.if-same_kind.true) c.in_ok-b.ensures.temp
+    c.in_ok-b.ensures.emits g) c.int.ensures.emits
+
+pub returns-clause-emits : goal.returns-clause-emits
+returns-clause-emits c =
+    IfOk-weaker c.convert.result _ _
+    (λ r g. changed_apart_emits _ _ (sym c.same_kind.ensures ∙ c.if-same_kind.false) c.in_ok-b.ensures.temp
+    c.in_ok-u.ensures.next c.in_ok-b.ensures.emits c.in_ok-u.ensures.emits c.in_ok-int.ensures.emits g)
+    c.convert.ensures.emits

@@ -2,6 +2,7 @@ use Rattle.std.proofs.lemmas.Result.{IfOk-weaker}
 use Rattle.tac_lower.proofs.Wells.{grown_then}
 use Rattle.tac_ir.specs.declared.code.TacKind.TheVariants as kinds
 use Rattle.tac_lower.proofs.Constants.{zero_fits}
+use Rattle.tac_lower.proofs.Operating.{negative_emits}
 use Rattle.tac_lower.proofs.operations.negative.Goals as goal
 
 pub fresh_constant-requires-clause-value : goal.fresh_constant-requires-clause-value
@@ -10,3 +11,8 @@ fresh_constant-requires-clause-value c = zero_fits (kinds.Int c.args.kind)
 pub returns-clause-grown : goal.returns-clause-grown
 returns-clause-grown c = IfOk-weaker c.int.result _ _
     (λ r g. grown_then _ _ _ c.in_ok-zero.ensures.grown g) c.int.ensures.grown
+
+pub returns-clause-emits : goal.returns-clause-emits
+returns-clause-emits c =
+    IfOk-weaker c.int.result _ _
+    (λ r g. negative_emits c.in_ok-zero.ensures.next c.in_ok-zero.ensures.emits g) c.int.ensures.emits

@@ -3,6 +3,8 @@ use Rattle.tac_ir.specs.declared.code.TacKind.TheVariants as kinds
 use Rattle.tac_lower.specs.Emitted.{IsWide}
 use Rattle.tac_lower.proofs.Wells.{grown_then, kept}
 use Rattle.tac_lower.proofs.Constants.{wide_fits, wide_is}
+use Rattle.tac_lower.proofs.Operating.{scaled_wide_emits, scaled_emits}
+use Rattle.std.proofs.Common.{◌∙◌}
 use Rattle.tac_lower.proofs.operations.scaled.Goals as goal
 
 pub fresh_constant-requires-clause-value : goal.fresh_constant-requires-clause-value
@@ -36,3 +38,15 @@ returns-in_ok-int-clause-grown c =
 pub returns-in_ok-int-2-clause-grown : goal.returns-in_ok-int-2-clause-grown
 returns-in_ok-int-2-clause-grown c =
     grown_then _ _ _ (grown_then _ _ _ c.in_ok-n.ensures.grown c.in_ok-size-2.ensures.grown) c.in_ok-int-2.ensures.grown
+
+pub returns-in_ok-int-clause-emits : goal.returns-in_ok-int-clause-emits
+returns-in_ok-int-clause-emits c =
+    scaled_wide_emits _ c.wide_kind-kind.ensures
+    (sym c.is_wide.ensures.is ∙ c.if-is_wide.true) c.in_ok-size.ensures.next c.in_ok-to.ensures.next
+    c.in_ok-size.ensures.emits c.in_ok-to.ensures.emits c.in_ok-int.ensures.emits
+
+pub returns-in_ok-int-2-clause-emits : goal.returns-in_ok-int-2-clause-emits
+returns-in_ok-int-2-clause-emits c =
+    scaled_emits _ c.wide_kind-kind.ensures (sym c.is_wide.ensures.is ∙ c.if-is_wide.false) c.in_ok-n.ensures.next
+    c.in_ok-size-2.ensures.next
+    c.in_ok-n.ensures.emits c.in_ok-size-2.ensures.emits c.in_ok-int-2.ensures.emits
