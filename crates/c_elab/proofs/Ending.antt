@@ -114,6 +114,7 @@ bodies_unseen sc p s k b h =
       scopes = h.scopes;
       tags = h.tags;
       tag_types = h.tag_types;
+      members = h.members;
       objects = h.objects;
       globals = h.globals;
       begun = h.begun ∙ sym (changed_same (λ (f : RoutineState). f.begun) g s.routines k (λ f. refl));

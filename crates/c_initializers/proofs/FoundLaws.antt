@@ -121,6 +121,7 @@ stands-waiting sc p s ps h = record {
   scopes = h.scopes;
   tags = h.tags;
   tag_types = h.tag_types;
+  members = h.members;
   objects = h.objects;
   globals = h.globals;
   begun = h.begun;

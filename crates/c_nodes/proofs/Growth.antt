@@ -142,6 +142,7 @@ stands-exprs sc p xs s h = record {
   scopes = h.scopes;
   tags = h.tags;
   tag_types = h.tag_types;
+  members = h.members;
   objects = h.objects;
   globals = h.globals;
   begun = h.begun;

@@ -87,6 +87,7 @@ statics_changed sc v p gs s k a h b st e f u w o g = record {
   scopes = st.scopes;
   tags = st.tags;
   tag_types = st.tag_types;
+  members = st.members;
   objects = e ∙ ap (λ xs. changed_at a xs k) st.objects ∙ changed_list object_of a b s.statics k o;
   globals = rw f (changed_seen (global_kept sc.file.now (types_of p.types)) static_seen h b p.globals s.statics k
       st.globals g);
@@ -110,6 +111,7 @@ routines_changed sc v p fs s k a h b st e f o g = record {
   scopes = st.scopes;
   tags = st.tags;
   tag_types = st.tag_types;
+  members = st.members;
   objects = st.objects;
   globals = st.globals;
   begun = e ∙ ap (λ xs. changed_at a xs k) st.begun ∙ changed_list (λ (y : RoutineState). y.begun) a b s.routines k o;

@@ -195,6 +195,7 @@ stands_longer sc p s new more e h =
       tags = rw e (tags_more p.types new ts more sc.tags.items s.tags
           (λ n i g. omega (arith, slice_get_within ts i.of _ (h.tag_types n i g), length-types_of p.types)) h.tags);
       tag_types = λ n i g. rw e (slice_get-longer ts more i.of _ (h.tag_types n i g));
+      members = h.members;
       objects = h.objects;
       globals = rw e (map_more (global_kept file ts) (global_kept file (ts ++ more)) static_seen p.globals s.statics
           (λ a b g. declared_more file ts more a.name a.pos a.of b.name b.of g) h.globals);
@@ -224,6 +225,7 @@ stands_numbers sc n p s h =
       scopes = h.scopes;
       tags = h.tags;
       tag_types = h.tag_types;
+      members = h.members;
       objects = h.objects;
       globals = h.globals;
       begun = h.begun;

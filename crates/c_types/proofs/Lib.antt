@@ -1,4 +1,5 @@
 pub mod Looking
+pub mod Membered
 pub mod Sizing
 pub mod Growth
 pub mod Records

@@ -117,6 +117,7 @@ stands_scopes sc v p s ms h x =
       scopes = x;
       tags = h.tags;
       tag_types = h.tag_types;
+      members = h.members;
       objects = h.objects;
       globals = h.globals;
       begun = h.begun;

@@ -1,5 +1,5 @@
 -- Objects of static storage duration that are declared.
-use Rattle.std.proofs.Common.{◌≡◌, ℕ, zero, suc, ◌+◌, ◌<◌, Bool, true, false, cond, length, map, List, [], ◌∷◌, ◌++◌}
+use Rattle.std.proofs.Common.{◌≡◌, ℕ, ◌+◌, ◌<◌, Bool, true, false, cond, length, List, [], ◌∷◌, ◌++◌}
 use Rattle.std.proofs.Common.{Option, Some, None, refl, sym, ap, subst, ◌∙◌, arith}
 use Rattle.std.specs.Prelude.{◌&&◌, ◌||◌, bytes_eq, slice_get}
 use Rattle.std.specs.Map.{lookup}
@@ -15,7 +15,7 @@ use Rattle.c_tree.specs.Views.{types_of}
 use Rattle.c_tree.specs.Scopes as meant
 use Rattle.c_tree.specs.Scopes.{State, StaticState, Aiming, bind_name, change_static, changed_at, or_else}
 use Rattle.c_tree.specs.Declarations.{new_static, known_static, linked_static, linked, linked_from}
-use Rattle.c_interner.specs.Numbers.{AddsTypes, type_named}
+use Rattle.c_interner.specs.Numbers.{type_named}
 use Rattle.c_types.specs.declared.entries.Decl.{Decl}
 use Rattle.c_types.specs.declared.entries.Entry.{Entry}
 use Rattle.c_types.specs.declared.entries.Entry.TheVariants as entries
@@ -63,6 +63,7 @@ objects_same sc v p s h g = record {
   scopes = h.scopes;
   tags = h.tags;
   tag_types = h.tag_types;
+  members = h.members;
   objects = g ∙ h.objects;
   globals = h.globals;
   begun = h.begun;
@@ -79,6 +80,7 @@ linked_same sc sd p s h same g =
       scopes = h.scopes;
       tags = h.tags;
       tag_types = h.tag_types;
+      members = h.members;
       objects = h.objects;
       globals = h.globals;
       begun = h.begun;
@@ -105,6 +107,7 @@ object_added sb sd p gs s x y h same g m u e w =
       scopes = h.scopes;
       tags = h.tags;
       tag_types = h.tag_types;
+      members = h.members;
       objects = g ∙ pushed _ _ _ _ h.objects refl ∙ sym (map_push object_of s.statics y);
       globals = rw e (map_push (global_kept sb.file.now (types_of p.types)) p.globals x ∙ pushed _ _ _ _ h.globals w
           ∙ sym (map_push static_seen s.statics y));

@@ -2,7 +2,7 @@
 use Rattle.std.proofs.Common.{◌≡◌, ℕ, zero, suc, ◌<◌, ◌≤◌, List, [], ◌∷◌, ◌++◌, length, set, take, map, Option, Some}
 use Rattle.std.proofs.Common.{None, Ok, Err, Bool, true, false, refl, sym, ap, subst, ◌∙◌, arith, inl, inr}
 use Rattle.std.proofs.Common.{length-append}
-use Rattle.std.specs.Prelude.{◌⊎◌, slice_get, option_map, reverse, nat_le}
+use Rattle.std.specs.Prelude.{◌⊎◌, slice_get, option_map, reverse, nat_le, nat_eq, if◌then◌else◌}
 use Rattle.std.specs.Global.{Vec}
 use Rattle.std.proofs.lemmas.List.{map_push, map-set, length-set, append-nil}
 use Rattle.std.proofs.lemmas.Option.{slice_get_within, same_Some, none-some, get_or_from_slice_get}
@@ -17,7 +17,7 @@ use Rattle.cap_layout.specs.Answers.{Fits, Exceeds, IsLayout, extent_is}
 use Rattle.cap_layout.specs.Walks.{placing}
 use Rattle.cap_layout.proofs.Steps.{whole_fault, fault_at}
 use Rattle.cap_layout.proofs.Rows.{layout_at}
-use Rattle.std.proofs.lemmas.Bool.{false≢true, le-leb, leb-true}
+use Rattle.std.proofs.lemmas.Bool.{false≢true, le-leb, leb-true, eqb-true, eq-eqb}
 use Rattle.c_types.specs.Sizes.{is_union, completed_type, numbered_extent, room_extent}
 use Rattle.c_tree.specs.declared.typed.CType.{CType}
 use Rattle.c_tree.specs.declared.typed.CType.TheVariants as ctypes
@@ -34,7 +34,8 @@ use Rattle.c_types.specs.declared.scopes.TagInfo.{TagInfo}
 use Rattle.c_types.specs.declared.scopes.Scopes.{Scopes}
 use Rattle.c_interner.specs.Numbers.{AddsTypes}
 use Rattle.c_types.specs.Stands.{Stands, SeenTag, ShowScopes, tag_seen, tag_kept, part_seen, member_kept, members_kept}
-use Rattle.c_types.specs.Stands.{named}
+use Rattle.c_types.specs.Stands.{named, first_named, first_part, member_number}
+use Rattle.c_types.specs.Members.{parts_of}
 use Rattle.c_types.specs.Calls.{Given, Fails, HasParts}
 use Rattle.c_interner.proofs.Growing.{types_of-push, length-types_of, type_at-level}
 use Rattle.c_types.proofs.Growth.{scopes_more, stands_more}
@@ -85,13 +86,15 @@ HaveTypes ts is = (n : ℕ) (i : TagInfo) → slice_get is n ≡ Some i → name
 
 pub stands_tags : (sc : Scopes) (v : Vec TagInfo) (p : Typed) (s : State) (ms : List TagState) → Stands sc p s →
     length sc.tags.items ≤ length v.items → map (tag_kept p.types (types_of p.types)) v.items ≡ map tag_seen ms →
-    HaveTypes (types_of p.types) v.items → Stands (record sc { tags = v }) p (record s { tags = ms })
-stands_tags sc v p s ms h le e t = record {
+    HaveTypes (types_of p.types) v.items → ((n : ℕ) → parts_of (slice_get ms n) ≡ parts_of (slice_get s.tags n)) →
+    Stands (record sc { tags = v }) p (record s { tags = ms })
+stands_tags sc v p s ms h le e t m = record {
   scopes = subst (λ x. ShowScopes x (length v.items) (reverse sc.scopes.items) s.scopes) (append-nil (types_of p.types))
       (scopes_more (types_of p.types) [] (length sc.tags.items) (length v.items)
       (reverse sc.scopes.items) s.scopes le h.scopes);
   tags = e;
   tag_types = t;
+  members = λ n name. h.members n name ∙ ap (λ o. first_part sc.file.now o name) (sym (m n));
   objects = h.objects;
   globals = h.globals;
   begun = h.begun;
@@ -130,7 +133,15 @@ stands_new_tag sc v p q s k n of h a e o m g =
       | inl y ↦ h1.tag_types j x y
       | inr y ↦ rw (← y.1, y.0, ← m) t
     ])
+    (parts_pushed s.tags k)
   where
+    parts_pushed : (tags : List TagState) (k : RecordKind) (n : ℕ) →
+        parts_of (slice_get (tags ++ no_tag k ∷ []) n) ≡ parts_of (slice_get tags n)
+    parts_pushed [] k zero = refl
+    parts_pushed [] k (suc n) = refl
+    parts_pushed (t ∷ tags) k zero = refl
+    parts_pushed (t ∷ tags) k (suc n) = parts_pushed tags k n
+
     tag_kept_with : RecordKind → Option (List (Span × Option Ty)) → SeenTag
     tag_kept_with k ms = record { kind = k; begun = false; members = ms; extent = None }
 
@@ -166,9 +177,9 @@ begun_nothing sc p s n place h e =
 
 pub with_tag : (sc : Scopes) (p : Typed) (s : State) (n : ℕ) (i j : TagInfo) (t : TagState) (v : Vec TagInfo) →
     Stands sc p s → slice_get sc.tags.items n ≡ Some i → j.of ≡ i.of → v.items ≡ set sc.tags.items n j →
-    tag_kept p.types (types_of p.types) j ≡ tag_seen t →
+    tag_kept p.types (types_of p.types) j ≡ tag_seen t → parts_of (slice_get s.tags n) ≡ t.members →
     Stands (record sc { tags = v }) p (record s { tags = set s.tags n t })
-with_tag sc p s n i j t v h e o g k =
+with_tag sc p s n i j t v h e o g k l =
     let le : length sc.tags.items ≤ length v.items = rw g (omega (arith, length-set sc.tags.items n j)) in
     let kept = tag_kept p.types (types_of p.types) in
     stands_tags sc v p s (set s.tags n t) h le
@@ -178,7 +189,16 @@ with_tag sc p s n i j t v h e o g k =
       | inl y ↦ h.tag_types m x y
       | inr y ↦ rw (← y.1, y.0, o) (h.tag_types n i e)
     ])
+    (parts_set s.tags n t l)
   where
+    parts_set : (tags : List TagState) (n : ℕ) (t : TagState) → parts_of (slice_get tags n) ≡ t.members → (m : ℕ) →
+        parts_of (slice_get (set tags n t) m) ≡ parts_of (slice_get tags m)
+    parts_set [] n t e m = refl
+    parts_set (u ∷ tags) zero t e zero = sym e
+    parts_set (u ∷ tags) zero t e (suc m) = refl
+    parts_set (u ∷ tags) (suc n) t e zero = refl
+    parts_set (u ∷ tags) (suc n) t e (suc m) = parts_set tags n t e m
+
     same_set : (xs ys : List SeenTag) (n : ℕ) (x y : SeenTag) → xs ≡ ys → x ≡ y → set xs n x ≡ set ys n y
     same_set xs ys n x y d f = cc
 
@@ -195,7 +215,8 @@ begun_now sc p s n i place v h e b g =
       value = tt;
       state = record s { tags = set s.tags n (record t.0 { begun = true }) };
       is = rw (f, t.1) refl;
-      stands = with_tag sc p s n i (record i { begun = true }) (record t.0 { begun = true }) v h e refl g k;
+      stands = with_tag sc p s n i (record i { begun = true }) (record t.0 { begun = true }) v h e refl g k
+          (ap parts_of t.1);
       fits = tt;
     }
 
@@ -368,13 +389,52 @@ members_of_completed : (ts : List Ty) (k : RecordKind) (n : ℕ) (ms : List Memb
 members_of_completed ts records.Struct n ms = refl
 members_of_completed ts records.Union n ms = refl
 
-pub stands_completed : (sc : Scopes) (v : Vec TagInfo) (p : Typed) (s : State) (n : ℕ) (i : TagInfo) (r : Option Room)
-    (ms : List Member) (parts : List Part) (t : TagState) → Stands sc p s → slice_get sc.tags.items n ≡ Some i →
+-- the members of a tag are found by their names, and those of the others as before
+abbrev pub Notes : (before after : Scopes) → ℕ → List Member → Type 0
+Notes before after n ms = (j : ℕ) (name : List ℕ) → member_number after j name
+    ≡ (if nat_eq n j then first_named before.file.now 0 (map (λ m. m.name) ms) name else member_number before j name)
+
+same_places : (ts : List Ty) (parts : List Part) (ms : List Member) → HasParts ts parts ms →
+    map (λ (m : Member). m.name) ms ≡ map (λ (m : Part). m.name.span) parts
+same_places ts [] [] e = refl
+same_places ts [] (m ∷ ms) e = absurd cc
+same_places ts (r ∷ rs) [] e = absurd cc
+same_places ts (r ∷ rs) (m ∷ ms) e =
+    let a : part_seen r ≡ member_kept ts m = cc in
+    let b : HasParts ts rs ms = cc in
+    let x : r.name.span ≡ m.name = ap (λ (y : Span × Option Ty). y.0) a in
+    let i = same_places ts rs ms b in
+    cc
+
+members_noted : (sc sd : Scopes) (p : Typed) (s : State) (n : ℕ) (ms : List Member) (parts : List Part)
+    (u t : TagState) → Stands sc p s → Notes sc sd n ms → slice_get s.tags n ≡ Some u →
+    HasParts (types_of p.types) parts ms → t.members ≡ Some parts → (j : ℕ) (name : List ℕ) →
+    member_number sd j name ≡ first_part sc.file.now (parts_of (slice_get (set s.tags n t) j)) name
+members_noted sc sd p s n ms parts u t h d e has m j name =
+    d j name ∙ by_number (nat_eq n j) refl
+  where
+    by_number : (b : Bool) → nat_eq n j ≡ b →
+        (if b then first_named sc.file.now 0 (map (λ (x : Member). x.name) ms) name else member_number sc j name)
+        ≡ first_part sc.file.now (parts_of (slice_get (set s.tags n t) j)) name
+    by_number true f =
+        ap (λ xs. first_named sc.file.now 0 xs name) (same_places (types_of p.types) parts ms has)
+        ∙ ap (λ o. first_part sc.file.now o name)
+        (sym (ap (λ k. parts_of (slice_get (set s.tags n t) k)) (sym (eqb-true n j f))
+        ∙ ap parts_of (slice_get-slice_set s.tags n u t e) ∙ m))
+    by_number false f =
+        h.members j name
+        ∙ ap (λ o. first_part sc.file.now (parts_of o) name)
+        (sym (slice_get-set_apart s.tags n j t (λ z. false≢true (sym f ∙ eq-eqb n j (sym z)))))
+
+pub stands_completed : (sc sd : Scopes) (v : Vec TagInfo) (p : Typed) (s : State) (n : ℕ) (i : TagInfo)
+    (r : Option Room)
+    (ms : List Member) (parts : List Part) (u t : TagState) → Stands sc p s → slice_get sc.tags.items n ≡ Some i →
+    sd ≡ record sc { named = sd.named } → Notes sc sd n ms → slice_get s.tags n ≡ Some u →
     v.items ≡ set sc.tags.items n (record i { room = r }) → HasParts (types_of p.types) parts ms → t.kind ≡ i.kind →
     t.begun ≡ i.begun → t.members ≡ Some parts → t.extent ≡ option_map room_extent r →
-    Stands (record sc { tags = v }) (record p { types = set p.types i.of (completed_type i.kind n ms) })
+    Stands (record sd { tags = v }) (record p { types = set p.types i.of (completed_type i.kind n ms) })
     (record s { tags = set s.tags n t })
-stands_completed sc v p s n i r ms parts t h e g has k b m x =
+stands_completed sc sd v p s n i r ms parts u t h e o d w g has k b m x =
     let cs = p.types in
     let ds = set cs i.of (completed_type i.kind n ms) in
     let ts = types_of cs in
@@ -398,7 +458,7 @@ stands_completed sc v p s n i r ms parts t h e g has k b m x =
     tag_parts i.kind t.kind i.begun t.begun _ _ _ _ (sym k) (sym b) a (sym x) in
     let le : length sc.tags.items ≤ length v.items =
     rw g (omega (arith, length-set sc.tags.items n (record i { room = r }))) in
-    record {
+    let all : Stands (record sc { named = sd.named; tags = v }) (record p { types = ds }) (record s { tags = set s.tags n t }) = record {
       scopes = rw same (subst (λ y. ShowScopes y (length v.items) (reverse sc.scopes.items) s.scopes) (append-nil ts)
           (scopes_more ts [] (length sc.tags.items) (length v.items) (reverse sc.scopes.items) s.scopes le h.scopes));
       tags = rw (same, g)
@@ -413,6 +473,7 @@ stands_completed sc v p s n i r ms parts t h e g has k b m x =
             | inl z ↦ h.tag_types j y z
             | inr z ↦ rw (← z.1, z.0) (h.tag_types n i e)
           ]);
+      members = members_noted sc sd p s n ms parts u t h d w has m;
       objects = h.objects;
       globals = rw same h.globals;
       begun = h.begun;
@@ -420,7 +481,9 @@ stands_completed sc v p s n i r ms parts t h e g has k b m x =
       locals = rw same h.locals;
       int = rw same h.int;
       linked = h.linked;
-    }
+    } in
+    subst (λ z. Stands (record z { tags = v }) (record p { types = ds }) (record s { tags = set s.tags n t }))
+    (sym o) all
   where
     numbers_same : (j n : ℕ) → Tagged j ≡ Tagged n → j ≡ n
     numbers_same j n e = cc
@@ -435,13 +498,14 @@ stands_completed sc v p s n i r ms parts t h e g has k b m x =
         j ≡ k → b ≡ c → ms ≡ ns → x ≡ y → record_of j b ms x ≡ record_of k c ns y
     tag_parts j k b c ms ns x y d e f g = cc
 
-pub completed_now : (sc : Scopes) (v : Vec TagInfo) (p : Typed) (s : State) (k : RecordKind) (n : ℕ) (i : TagInfo)
+pub completed_now : (sc sd : Scopes) (v : Vec TagInfo) (p : Typed) (s : State) (k : RecordKind) (n : ℕ) (i : TagInfo)
     (r : Option Room) (ms : List Member) (parts : List Part) (place : Pos) → Stands sc p s →
-    slice_get sc.tags.items n ≡ Some i → kind_at s n k ≡ true → v.items ≡ set sc.tags.items n (record i { room = r }) →
+    slice_get sc.tags.items n ≡ Some i → sd ≡ record sc { named = sd.named } → Notes sc sd n ms → kind_at s n k ≡ true →
+    v.items ≡ set sc.tags.items n (record i { room = r }) →
     HasParts (types_of p.types) parts ms → record_extent s.tags i.kind parts ≡ option_map room_extent r →
-    Given (record sc { tags = v }) (record p { types = set p.types i.of (completed_type i.kind n ms) })
+    Given (record sd { tags = v }) (record p { types = set p.types i.of (completed_type i.kind n ms) })
     (complete_tag k n parts place s) (λ t a. Unit {0})
-completed_now sc v p s k n i r ms parts place h e kk g has x =
+completed_now sc sd v p s k n i r ms parts place h e o d kk g has x =
     let t = seen_at (tag_kept p.types (types_of p.types)) tag_seen sc.tags.items s.tags n i h.tags e in
     let j : i.kind ≡ k = kind_is sc p s n i k h e kk in
     let y : record_extent s.tags k parts ≡ option_map room_extent r =
@@ -454,7 +518,8 @@ completed_now sc v p s k n i r ms parts place h e kk g has x =
       value = tt;
       state = record s { tags = set s.tags n u };
       is = rw f (ap (λ ts. Ok (tt, record s { tags = ts })) c);
-      stands = stands_completed sc v p s n i r ms parts u h e g has (sym (ap (λ (z : SeenTag). z.kind) t.2))
+      stands = stands_completed sc sd v p s n i r ms parts t.0 u h e o d t.1 g has
+          (sym (ap (λ (z : SeenTag). z.kind) t.2))
           (sym (ap (λ (z : SeenTag). z.begun) t.2)) refl y;
       fits = tt;
     }

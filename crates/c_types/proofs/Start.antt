@@ -197,13 +197,15 @@ pub first_is_int : (ts : List Ty) (ns : List ℕ) → KnowsTypes ts ns → named
 first_is_int ts ns h = h.types 0 (omega (arith, h.count)) ∙ ap (λ x. Some x) int_is
 
 pub stands_beginning : (sc : Scopes) (p : Typed) (c : Scope) → sc.scopes.items ≡ c ∷ [] → sc.tags.items ≡ [] →
+    sc.named.entries ≡ [] →
     sc.objects.items ≡ [] → sc.begun.items ≡ [] → sc.linked.entries ≡ [] → sc.locals.items ≡ [] → p.globals ≡ [] →
     p.funs ≡ [] → ShowsScope (types_of p.types) 0 c file_scope → named (types_of p.types) sc.int ≡ Some types.int →
     Stands sc p beginning
-stands_beginning sc p c s t o b l f g u h i = record {
+stands_beginning sc p c s t m o b l f g u h i = record {
   scopes = rw (t, s) (h, tt);
   tags = rw t refl;
   tag_types = λ n x e. absurd (none-some x (rw t at e));
+  members = λ n name. rw m refl;
   objects = rw o refl;
   globals = rw g refl;
   begun = rw b refl;

@@ -1,6 +1,6 @@
 -- What the scopes and the lists of a program stand for: the state of the typing of a file.
 use Rattle.std.specs.Prelude.{◌≡◌, ℕ, ℤ, ◌<◌, Bool, List, [], ◌∷◌, length, min, map, reverse, Option, Some, None}
-use Rattle.std.specs.Prelude.{option_map, slice_get, slice_range, bytes_eq}
+use Rattle.std.specs.Prelude.{◌+◌, if◌then◌else◌, option_map, slice_get, slice_range, bytes_eq, nat_eq}
 use Rattle.std.specs.Map.{lookup}
 use Rattle.ck_base.specs.declared.positions.Pos.{Pos}
 use Rattle.ck_base.specs.declared.positions.Span.{Span}
@@ -26,7 +26,9 @@ use Rattle.c_types.specs.declared.entries.Tagging.TheVariants.{Recorded, Enumera
 use Rattle.c_types.specs.Sizes.{room_extent}
 use Rattle.c_types.specs.declared.scopes.Scope.{Scope}
 use Rattle.c_types.specs.declared.scopes.TagInfo.{TagInfo}
+use Rattle.c_types.specs.declared.scopes.MemberNames.{MemberNames}
 use Rattle.c_types.specs.declared.scopes.ObjectInfo.{ObjectInfo}
+use Rattle.c_types.specs.Members.{parts_of}
 use Rattle.c_types.specs.declared.scopes.Scopes.{Scopes}
 
 -- the type that a number of a list names, if it is in the list
@@ -122,6 +124,30 @@ tag_kept types ts i = record {
   extent = option_map room_extent i.room;
 }
 
+-- ---- members by their names
+
+-- the number of the first of the places whose text in a file is a name
+abbrev pub first_named : List ℕ → ℕ → List Span → List ℕ → Option ℕ
+first_named file k [] name = None
+first_named file k (x ∷ xs) name =
+    (if bytes_eq (text_at file x) name then Some k else first_named file (k + 1) xs name)
+
+-- the number of the first member of a name, once the members are there
+abbrev pub first_part : List ℕ → Option (List Part) → List ℕ → Option ℕ
+first_part file None name = None
+first_part file (Some ms) name = first_named file 0 (map (λ m. m.name.span) ms) name
+
+abbrev pub number_of : MemberNames → List ℕ → Option ℕ
+number_of t name = lookup (λ k. bytes_eq name k.now) t.numbers.entries
+
+abbrev pub number_among : Option MemberNames → List ℕ → Option ℕ
+number_among None name = None
+number_among (Some t) name = number_of t name
+
+-- what is kept of a member of a struct or union by the number of its tag
+abbrev pub member_number : Scopes → ℕ → List ℕ → Option ℕ
+member_number sc n name = number_among (lookup (nat_eq n) sc.named.entries) name
+
 -- ---- objects and functions
 
 -- a name with its place, its text and its type
@@ -167,6 +193,8 @@ pub record Stands (sc : Scopes) (p : Typed) (s : State) : Type 0 where
   pub tags : map (tag_kept p.types (types_of p.types)) sc.tags.items ≡ map tag_seen s.tags
   pub tag_types : (n : ℕ) (i : TagInfo) → slice_get sc.tags.items n ≡ Some i →
       named (types_of p.types) i.of ≡ Some (Tagged n)
+  pub members : (n : ℕ) (name : List ℕ) →
+      member_number sc n name ≡ first_part sc.file.now (parts_of (slice_get s.tags n)) name
   pub objects : sc.objects.items ≡ map object_of s.statics
   pub globals : map (global_kept sc.file.now (types_of p.types)) p.globals ≡ map static_seen s.statics
   pub begun : sc.begun.items ≡ map (λ (f : RoutineState). f.begun) s.routines

@@ -211,6 +211,7 @@ impl<'a> Scopes<'a> {
             file,
             scopes,
             tags: Vec::new(alloc),
+            named: IndexMap::new(alloc),
             objects: Vec::new(alloc),
             begun: Vec::new(alloc),
             linked: IndexMap::new(alloc),

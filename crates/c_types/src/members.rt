@@ -4,7 +4,7 @@ ghost use Rattle.c_tree.specs.Declarations.{has_linkage};
 ghost use Rattle.c_tree.specs.Scopes.{State, TagState, StaticState, RoutineState, LocalState};
 ghost use Rattle.c_tree.specs.Types.{Ty};
 ghost use Rattle.c_tree.specs.Views.{types_of};
-ghost use Rattle.c_types.specs.Stands.{Stands, named, part_seen, member_kept, members_kept};
+ghost use Rattle.c_types.specs.Stands.{Stands, named, part_seen, member_kept, members_kept, first_part};
 ghost use Rattle.c_types.specs.Members.{now, parts_of, is_defined};
 
 use crate::scopes::{ObjectInfo, Scopes};
@@ -41,6 +41,17 @@ impl<'a> Scopes<'a> {
                 None => None,
                 Some(c) => members_of(c),
             },
+        }
+    }
+
+    /// The number of the first member of a name, of a struct or union by the number of its tag, once it is complete.
+    pub fn member(&self, tag: u32, name: &[u8]) -> Option<u32>
+        ensures { (p : Typed) (s : State) → Stands self.now p s →
+            result ≡ first_part self.now.file.now (parts_of (slice_get s.tags tag)) name.now }
+    {
+        match self.named.get(&tag) {
+            None => None,
+            Some(names) => names.numbers.get(name).copied(),
         }
     }
 

@@ -38,6 +38,12 @@ pub(crate) struct TagInfo {
     pub(crate) room: Option<Room>,
 }
 
+/// The members of a complete struct or union: the number of the first of each name.
+#[derive(Drop)]
+pub(crate) struct MemberNames<'a> {
+    pub(crate) numbers: IndexMap<&'a [u8], u32>,
+}
+
 /// What is known of an object of static storage duration beside its name and type.
 #[derive(Clone, Copy)]
 pub(crate) struct ObjectInfo {
@@ -55,6 +61,8 @@ pub struct Scopes<'a> {
     /// The innermost last.
     pub(crate) scopes: Vec<Scope<'a>>,
     pub(crate) tags: Vec<TagInfo>,
+    /// The members of each complete struct or union, by the number of its tag.
+    pub(crate) named: IndexMap<u32, MemberNames<'a>>,
     pub(crate) objects: Vec<ObjectInfo>,
     /// Of each function, whether its definition was begun.
     pub(crate) begun: Vec<bool>,

@@ -1,7 +1,7 @@
 // The tags of structs and unions: their declaration, and their members.
 ghost use Rattle.ck_base.specs.declared.positions.Pos.{Pos};
 ghost use Rattle.std.specs.Prelude.{false, true, Some, ◌≡◌, ℕ, List, Bool, ◌<◌, map, length, IfOk, OnErr, MatchResult};
-ghost use Rattle.std.specs.Prelude.{slice_get};
+ghost use Rattle.std.specs.Prelude.{slice_get, OnOk, nat_eq, if◌then◌else◌};
 ghost use Rattle.c_tree.specs.Layout.{size_limit};
 ghost use Rattle.c_tree.specs.Scopes.{State, Part};
 ghost use Rattle.c_tree.specs.Declarators.{new_tag, begin_tag, complete_tag, is_begun, record_extent};
@@ -9,14 +9,16 @@ ghost use Rattle.c_types.specs.Calls.{Given, Does, Keeps, Answers, HasParts, Com
 ghost use Rattle.c_tree.specs.Views.{types_of};
 ghost use Rattle.c_types.specs.Sizes.{IsRecordRoom, is_union, completed_type};
 ghost use Rattle.c_types.specs.Stands.{Stands, part_seen, member_kept};
+ghost use Rattle.c_types.specs.Stands.{number_of, first_named, member_number};
 
 use crate::extents::{LIMIT, finished};
 use crate::rooms::Room;
-use crate::scopes::{Scopes, TagInfo};
+use crate::scopes::{MemberNames, Scopes, TagInfo};
 use c_interner::{append, next_number, replace};
 use c_tree::{CType, Member, RecordKind, Typed};
 use cap_layout::LayoutFault;
 use ck_base::{NoMemory, Pos, Refusal, Sequence};
+use indexmap::IndexMap;
 
 fn is_union(kind: RecordKind) -> bool
     ensures { result ≡ is_union kind }
@@ -55,6 +57,21 @@ fn is_open(p: &Typed, of: u32, tag: u32) -> bool
         )
         | None => false,
     }
+}
+
+// The members of a struct or union by their names. Of members of one name the first is found.
+fn names_of<'a>(scopes: &Scopes<'a>, members: &[Member]) -> Result<MemberNames<'a>, NoMemory>
+    ensures { IfOk result (λ t. (name : List ℕ) →
+        number_of t name ≡ first_named scopes.now.file.now 0 (map (λ m. m.name) members.now) name) }
+{
+    let mut numbers = IndexMap::new(scopes.alloc);
+    let mut left = next_number(members)?;
+    while left > 0 {
+        left -= 1;
+        let name = scopes.text(members[left as usize].name);
+        numbers.insert(name, left)?;
+    }
+    Ok(MemberNames { numbers })
 }
 
 impl<'a> Scopes<'a> {
@@ -161,6 +178,22 @@ impl<'a> Scopes<'a> {
         }
     }
 
+    // The members of a struct or union are found by their names from here on.
+    fn note_members(&mut self, tag: u32, members: &[Member]) -> Result<(), NoMemory>
+        ensures ok { OnOk result ((n : ℕ) (name : List ℕ) →
+            member_number self.new n name
+            ≡ (if nat_eq tag n then first_named self.old.file.now 0 (map (λ m. m.name) members.now) name
+            else member_number self.old n name)) }
+        ensures err { OnErr result ((n : ℕ) (name : List ℕ) →
+            member_number self.new n name ≡ member_number self.old n name) }
+        ensures others { self.new ≡ record self.old { named = self.new.named } }
+        ensures file { self.new.file.now ≡ self.old.file.now }
+    {
+        let names = names_of(self, members)?;
+        self.named.insert(tag, names)?;
+        Ok(())
+    }
+
     /// A struct or union gets its members, which make it complete (C11 6.7.2.1): 140 at the place if it has more than
     /// 67,108,864 bytes. The members' types are those of the program.
     pub fn complete_tag(
@@ -184,6 +217,7 @@ impl<'a> Scopes<'a> {
                     if !is_open(p, info.of, tag) {
                         return Err(Refusal::NoMemory);
                     }
+                    self.note_members(tag, members.as_slice())?;
                     replace(
                         self.alloc,
                         &mut p.types,

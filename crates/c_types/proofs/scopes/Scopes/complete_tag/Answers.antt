@@ -1,4 +1,5 @@
-use Rattle.std.proofs.Common.{refl, sym, subst}
+use Rattle.std.proofs.Common.{refl, sym, ap, set, subst}
+use Rattle.c_types.specs.declared.scopes.Scopes.{Scopes}
 use Rattle.cap_layout.specs.Answers.{Exceeds}
 use Rattle.c_tree.specs.Declarators.{record_extent}
 use Rattle.c_types.proofs.Extending.{completed_extends}
@@ -15,15 +16,18 @@ returns-in-Err-clause-answers c kind parts has = (
   λ s h. h,
 )
 
-pub returns-else-not-is_open-clause-answers : goal.returns-else-not-is_open-clause-answers
-returns-else-not-is_open-clause-answers c kind parts has s h k =
+pub returns-in_ok-note_members-in-Ok-clause-answers : goal.returns-in_ok-note_members-in-Ok-clause-answers
+returns-in_ok-note_members-in-Ok-clause-answers c kind parts has s h k =
     rw (c.replace.ensures, c.completed.ensures)
-    (completed_now c.args.self.now _ c.args.p.now s kind c.args.tag c.in-Some.info c.in-Ok.room c.args.members.items
-    parts c.args.pos h (sym c.in-Some.ensures) k refl has
+    (completed_now c.args.self.now c.note_members.new.self _ c.args.p.now s kind c.args.tag c.in-Some.info c.in-Ok.room
+    c.args.members.items parts c.args.pos h (sym c.in-Some.ensures) c.note_members.ensures.others
+    (λ j name. rw c.as_slice-in-Ok.ensures.value at c.in_ok-note_members-in-Ok.ensures.ok j name) k
+    (ap (λ (x : Scopes). set x.tags.items c.args.tag (record c.in-Some.info { room = c.in-Ok.room }))
+    c.note_members.ensures.others) has
     (c.in-Ok.ensures s parts h (rw c.as_slice.ensures.value has)))
 
-pub returns-else-not-is_open-clause-extends : goal.returns-else-not-is_open-clause-extends
-returns-else-not-is_open-clause-extends c =
+pub returns-in_ok-note_members-in-Ok-clause-extends : goal.returns-in_ok-note_members-in-Ok-clause-extends
+returns-in_ok-note_members-in-Ok-clause-extends c =
     rw (c.replace.ensures, c.completed.ensures)
     (completed_extends c.args.p.now c.in-Some.info.of c.args.tag c.in-Some.info.kind c.args.members.items
     (c.is_open.ensures c.if-not-is_open.false))

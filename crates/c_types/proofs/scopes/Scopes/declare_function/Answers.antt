@@ -1,4 +1,4 @@
-use Rattle.std.proofs.Common.{ap, ◌∙◌, refl, false, subst}
+use Rattle.std.proofs.Common.{ap, ◌∙◌, refl, false}
 use Rattle.std.specs.Prelude.{not, ◌||◌, option_map}
 use Rattle.c_tree.specs.Scopes.{find_in, innermost, at_file_scope}
 use Rattle.c_tree.specs.Declarations.{linked_routine}

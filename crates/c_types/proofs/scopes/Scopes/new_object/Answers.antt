@@ -1,4 +1,4 @@
-use Rattle.std.proofs.Common.{◌≡◌, false, List, ℕ, [], ◌∷◌, ◌++◌, Some, cond, ap, ◌∙◌, length, subst, refl}
+use Rattle.std.proofs.Common.{◌≡◌, false, [], ◌∷◌, ◌++◌, Some, cond, ap, ◌∙◌, length, subst, refl}
 use Rattle.std.specs.Prelude.{◌&&◌, bytes_eq}
 use Rattle.std.specs.Map.{lookup}
 use Rattle.c_tree.specs.Scopes as meant
