@@ -1,76 +1,63 @@
 -- Members that are found by their names.
-use Rattle.std.proofs.Common.{◌≡◌, ℕ, suc, ◌+◌, true, false, ◌<◌, List, [], ◌∷◌, length, drop, get_or, drop-cons, map}
-use Rattle.std.proofs.Common.{Option, Some, None, Err, refl, sym, ap, subst, ◌∙◌}
+use Rattle.std.proofs.Common.{◌≡◌, ℕ, suc, ◌+◌, Bool, true, false, List, [], ◌∷◌, map, Option, Some, None, Err, refl}
+use Rattle.std.proofs.Common.{sym, ap, ◌∙◌, arith}
 use Rattle.std.specs.Prelude.{option_map, slice_get, bytes_eq, if◌then◌else◌}
 use Rattle.ck_base.specs.declared.positions.Pos.{Pos}
 use Rattle.ck_base.specs.declared.positions.Span.{Span}
 use Rattle.c_tree.specs.declared.typed.Member.{Member}
 use Rattle.c_tree.specs.declared.typed.Typed.{Typed}
 use Rattle.c_tree.specs.Views.{types_of, type_at}
-use Rattle.c_types.proofs.Looking.{type_is}
+use Rattle.c_types.proofs.Looking.{type_is, seen_at}
 use Rattle.c_tree.specs.Types.{Ty, Tagged, bare, is_tagged}
 use Rattle.c_tree.specs.Terms as tree
 use Rattle.c_tree.specs.Terms.{step}
 use Rattle.c_tree.specs.Scopes.{Part, TagState, State, Doing, refuse, some_or, ◌>>=◌}
 use Rattle.c_tree.specs.Conversions.{Operand, operand_type}
 use Rattle.c_tree.specs.Expressions.{gives, as_qualified, member, member_from, members_in, parts_of}
-use Rattle.c_types.specs.Stands.{named, text_at, part_seen, member_kept}
+use Rattle.c_types.specs.Stands.{named, text_at, part_seen, member_kept, first_named, first_part}
 use Rattle.c_types.specs.Members as theirs
 use Rattle.c_work.specs.declared.members.Found.{Found}
-use Rattle.c_work.specs.declared.members.Outcome.{Outcome}
 use Rattle.c_work.specs.declared.members.Outcome.TheVariants.{Incomplete, Missing, At}
 use Rattle.c_work.specs.Work.{MembersAreSpelled}
-use Rattle.c_work.specs.Members.{found_from, sought, IsSought, membering}
+use Rattle.c_work.specs.Members.{found_in, sought, IsSought, membering}
 
 -- members are named as the file has them
 abbrev pub AreNamed : List ℕ → List Part → Type 0
 AreNamed file ps = (k : ℕ) (m : Part) → slice_get ps k ≡ Some m → m.name.text ≡ text_at file m.name.span
 
--- what is found is a member of the typing
-abbrev pub IsMember : List Ty → Option Found → Option (ℕ × Ty) → Type 0
-IsMember ts None None = Unit {0}
-IsMember ts (Some f) (Some m) = (f.number ≡ m.0) × (named ts f.of ≡ Some m.1)
-IsMember ts f m = ⊥
+-- the number of the first place of a name is that of the first member
+first_is : (file : List ℕ) (k : ℕ) (ps : List Part) (name : List ℕ) → AreNamed file ps →
+    first_named file k (map (λ (m : Part). m.name.span) ps) name
+    ≡ option_map (λ (m : ℕ × Ty). m.0) (member_from k ps name)
+first_is file k [] name h = refl
+first_is file k (p ∷ ps) name h =
+    rw (← h 0 p refl) (by_name (bytes_eq p.name.text name) (first_is file (k + 1) ps name (λ j x g. h (suc j) x g)))
+  where
+    by_name : (b : Bool) → first_named file (k + 1) (map (λ (m : Part). m.name.span) ps) name
+        ≡ option_map (λ (m : ℕ × Ty). m.0) (member_from (k + 1) ps name) →
+        (if b then Some k else first_named file (k + 1) (map (λ (m : Part). m.name.span) ps) name)
+        ≡ option_map (λ (m : ℕ × Ty). m.0) (if b then Some (k, p.of) else member_from (k + 1) ps name)
+    by_name true e = refl
+    by_name false e = e
 
-found_is : (file : List ℕ) (ts : List Ty) (k : ℕ) (ms : List Member) (ps : List Part) (name : List ℕ) →
-    map (member_kept ts) ms ≡ map part_seen ps → AreNamed file ps →
-    IsMember ts (found_from file k ms name) (member_from k ps name)
-found_is file ts k [] [] name e h = tt
-found_is file ts k [] (p ∷ ps) name e h = absurd cc
-found_is file ts k (m ∷ ms) [] name e h = absurd cc
-found_is file ts k (m ∷ ms) (p ∷ ps) name e h =
-    let both : member_kept ts m ≡ part_seen p = cc in
-    let others : map (member_kept ts) ms ≡ map part_seen ps = cc in
-    let span : m.name ≡ p.name.span = ap (λ (x : Span × Option Ty). x.0) both in
-    let of : named ts m.of ≡ Some p.of = ap (λ (x : Span × Option Ty). x.1) both in
-    let spelled : text_at file m.name ≡ p.name.text = ap (text_at file) span ∙ sym (h 0 p refl) in
-    let f : Found = record { number = k; of = m.of } in
-    subst (λ (bs : List ℕ). IsMember ts (found_from file k (m ∷ ms) name)
-    (if bytes_eq bs name then Some (k, p.of) else member_from (k + 1) ps name)) spelled
-    (elim (bytes_eq (text_at file m.name) name) as
-    (λ b. IsMember ts (if b then Some f else found_from file (k + 1) ms name)
-    (if b then Some (k, p.of) else member_from (k + 1) ps name))
-    [ true ↦ (refl, of) | false ↦ found_is file ts (k + 1) ms ps name others (λ j x g. h (suc j) x g) ])
-
--- the member at a number is tried before the others
-pub found_step : (file : List ℕ) (ms : List Member) (i k : ℕ) (d : Member) (name : List ℕ) → i < length ms →
-    found_from file k (drop i ms) name ≡ (if bytes_eq (text_at file (get_or ms i d).name) name
-    then Some (record { number = k; of = (get_or ms i d).of })
-    else found_from file (k + 1) (drop (suc i) ms) name)
-found_step file ms i k d name lt = ap (λ xs. found_from file k xs name) (drop-cons ms i d lt)
-
-pub found_next : (file : List ℕ) (ms : List Member) (i k : ℕ) (d : Member) (name : List ℕ) → i < length ms →
-    bytes_eq (text_at file (get_or ms i d).name) name ≡ false →
-    found_from file k (drop i ms) name ≡ found_from file (k + 1) (drop (suc i) ms) name
-found_next file ms i k d name lt e =
-    let f : Found = record { number = k; of = (get_or ms i d).of } in
-    found_step file ms i k d name lt ∙ ap (λ b. if b then Some f else found_from file (k + 1) (drop (suc i) ms) name) e
+-- a member that is found stands at its number
+member_there : (k : ℕ) (ps : List Part) (name : List ℕ) (m : ℕ × Ty) → member_from k ps name ≡ Some m →
+    (i : ℕ) × (p : Part) × (m.0 ≡ k + i) × (slice_get ps i ≡ Some p) × (p.of ≡ m.1)
+member_there k [] name m e = absurd cc
+member_there k (p ∷ ps) name m e = by_name (λ f. member_there (k + 1) ps name m f) (bytes_eq p.name.text name) e
+  where
+    by_name : (member_from (k + 1) ps name ≡ Some m →
+        (i : ℕ) × (q : Part) × (m.0 ≡ k + 1 + i) × (slice_get ps i ≡ Some q) × (q.of ≡ m.1)) → (b : Bool) →
+        (if b then Some (k, p.of) else member_from (k + 1) ps name) ≡ Some m →
+        (i : ℕ) × (q : Part) × (m.0 ≡ k + i) × (slice_get (p ∷ ps) i ≡ Some q) × (q.of ≡ m.1)
+    by_name others true f =
+        let g : (k, p.of) ≡ m = cc in
+        (0, p, omega (arith, ap (λ (x : ℕ × Ty). x.0) (sym g)), refl, ap (λ (x : ℕ × Ty). x.1) g)
+    by_name others false f =
+        let r = others f in
+        (suc r.0, r.1, omega (arith, r.2), r.3, r.4)
 
 -- ---- of a struct or union
-
-abbrev pub outcome_of : Option Found → Outcome
-outcome_of None = Missing
-outcome_of (Some f) = At f
 
 same_parts : (o : Option TagState) → theirs.parts_of o ≡ parts_of o
 same_parts None = refl
@@ -81,22 +68,25 @@ none_there : (ts : List Ty) (name : List ℕ) (o : Option (List Part)) → None 
 none_there ts name None e = tt
 none_there ts name (Some ps) e = absurd cc
 
-outcome_is : (ts : List Ty) (f : Option Found) (m : Option (ℕ × Ty)) → IsMember ts f m →
-    IsSought ts (outcome_of f) (Some m)
-outcome_is ts None None h = h
-outcome_is ts (Some f) (Some m) h = h
-outcome_is ts None (Some m) h = absurd h
-outcome_is ts (Some f) None h = absurd h
+outcome_is : (ts : List Ty) (ms : List Member) (ps : List Part) (name : List ℕ) (r : Option (ℕ × Ty)) →
+    member_from 0 ps name ≡ r → map (member_kept ts) ms ≡ map part_seen ps →
+    IsSought ts (found_in ms (option_map (λ (m : ℕ × Ty). m.0) r)) (Some r)
+outcome_is ts ms ps name None e h = tt
+outcome_is ts ms ps name (Some m) e h =
+    let t = member_there 0 ps name m e in
+    let n : m.0 ≡ t.0 = omega (arith, t.2) in
+    let x = seen_at part_seen (member_kept ts) ps ms t.0 t.1 (sym h) t.3 in
+    let same : named ts x.0.of ≡ Some t.1.of = sym (ap (λ (y : Span × Option Ty). y.1) x.2) in
+    rw (n, x.1) (refl, same ∙ ap (λ y. Some y) t.4)
 
-some_there : (file : List ℕ) (ts : List Ty) (name : List ℕ) (ms : List Member) (f : Option Found)
-    (o : Option (List Part)) → Some (map (member_kept ts) ms) ≡ option_map (map part_seen) o →
-    ((ps : List Part) → o ≡ Some ps → AreNamed file ps) → f ≡ found_from file 0 ms name →
-    IsSought ts (outcome_of f) (option_map (λ ps. member_from 0 ps name) o)
-some_there file ts name ms f None e h g = absurd cc
-some_there file ts name ms f (Some ps) e h g =
+some_there : (file : List ℕ) (ts : List Ty) (name : List ℕ) (ms : List Member) (o : Option (List Part)) →
+    Some (map (member_kept ts) ms) ≡ option_map (map part_seen) o →
+    ((ps : List Part) → o ≡ Some ps → AreNamed file ps) →
+    IsSought ts (found_in ms (first_part file o name)) (option_map (λ ps. member_from 0 ps name) o)
+some_there file ts name ms None e h = absurd cc
+some_there file ts name ms (Some ps) e h =
     let same : map (member_kept ts) ms ≡ map part_seen ps = cc in
-    outcome_is ts f (member_from 0 ps name) (subst (λ (x : Option Found). IsMember ts x (member_from 0 ps name)) (sym g)
-    (found_is file ts 0 ms ps name same (h ps refl)))
+    rw (first_is file 0 ps name (h ps refl)) (outcome_is ts ms ps name (member_from 0 ps name) refl same)
 
 spelled_parts : (file : List ℕ) (s : State) (n : ℕ) (o : Option TagState) → slice_get s.tags n ≡ o →
     MembersAreSpelled file s → (ps : List Part) → parts_of o ≡ Some ps → AreNamed file ps
@@ -110,13 +100,14 @@ incomplete_is ts s n name e =
     (e ∙ ap (option_map (map part_seen)) (same_parts (slice_get s.tags n)))
 
 pub complete_is : (file : List ℕ) (ts : List Ty) (s : State) (n : ℕ) (name : List ℕ) (ms : List Member)
-    (f : Option Found) → Some (map (member_kept ts) ms)
+    (k : Option ℕ) → Some (map (member_kept ts) ms)
     ≡ option_map (map part_seen) (theirs.parts_of (slice_get s.tags n)) → MembersAreSpelled file s →
-    f ≡ found_from file 0 ms name → IsSought ts (outcome_of f) (sought s n name)
-complete_is file ts s n name ms f e h g =
-    some_there file ts name ms f (parts_of (slice_get s.tags n))
-    (e ∙ ap (option_map (map part_seen)) (same_parts (slice_get s.tags n)))
-    (spelled_parts file s n (slice_get s.tags n) refl h) g
+    k ≡ first_part file (theirs.parts_of (slice_get s.tags n)) name → IsSought ts (found_in ms k) (sought s n name)
+complete_is file ts s n name ms k e h g =
+    let same = same_parts (slice_get s.tags n) in
+    rw (g, same)
+    (some_there file ts name ms (parts_of (slice_get s.tags n)) (e ∙ ap (option_map (map part_seen)) same)
+    (spelled_parts file s n (slice_get s.tags n) refl h))
 
 -- ---- what a member gives
 

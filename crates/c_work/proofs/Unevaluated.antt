@@ -46,6 +46,7 @@ stands_literals sc p ls s h = record {
   scopes = h.scopes;
   tags = h.tags;
   tag_types = h.tag_types;
+  members = h.members;
   objects = h.objects;
   globals = h.globals;
   begun = h.begun;

@@ -143,6 +143,7 @@ stands_still sc p s t q a b h = record {
   scopes = rw a h.scopes;
   tags = h.tags ∙ ap (map tag_seen) (sym b);
   tag_types = h.tag_types;
+  members = rw b h.members;
   objects = h.objects ∙ sym (same_through object_of unused_static s.statics t.statics (λ g. refl) q.statics);
   globals = h.globals ∙ sym (same_through static_seen unused_static s.statics t.statics (λ g. refl) q.statics);
   begun = h.begun ∙ sym (same_through (λ (f : RoutineState). f.begun) unused_routine s.routines t.routines

@@ -75,6 +75,7 @@ shows_literal w ls x s e h = record {
         scopes = t.scopes;
         tags = t.tags;
         tag_types = t.tag_types;
+        members = t.members;
         objects = t.objects;
         globals = t.globals;
         begun = t.begun;

@@ -1,6 +1,5 @@
 -- Members of structs and unions, and where they are found.
-use Rattle.std.specs.Prelude.{◌≡◌, ℕ, ◌+◌, if◌then◌else◌, List, [], ◌∷◌, Option, Some, None, option_map, slice_get}
-use Rattle.std.specs.Prelude.{bytes_eq}
+use Rattle.std.specs.Prelude.{◌≡◌, ℕ, List, Option, Some, None, option_map, slice_get}
 use Rattle.ck_base.specs.declared.positions.Pos.{Pos}
 use Rattle.c_tree.specs.declared.typed.Member.{Member}
 use Rattle.c_tree.specs.Types.{Ty}
@@ -9,17 +8,18 @@ use Rattle.c_tree.specs.Terms.{step}
 use Rattle.c_tree.specs.Scopes.{State, Doing, refuse}
 use Rattle.c_tree.specs.Conversions.{Operand, operand_type}
 use Rattle.c_tree.specs.Expressions.{gives, as_qualified, member_from, parts_of}
-use Rattle.c_types.specs.Stands.{named, text_at}
-use Rattle.c_work.specs.declared.members.Found.{Found}
+use Rattle.c_types.specs.Stands.{named}
 use Rattle.c_work.specs.declared.members.Outcome.{Outcome}
 use Rattle.c_work.specs.declared.members.Outcome.TheVariants.{Incomplete, Missing, At}
 
--- the first member that has this name in the file
-abbrev pub found_from : List ℕ → ℕ → List Member → List ℕ → Option Found
-found_from file k [] name = None
-found_from file k (m ∷ ms) name =
-    (if bytes_eq (text_at file m.name) name then Some (record { number = k; of = m.of })
-    else found_from file (k + 1) ms name)
+-- a member by its number, if there is one
+abbrev pub member_at : Option Member → ℕ → Outcome
+member_at None k = Missing
+member_at (Some m) k = At (record { number = k; of = m.of })
+
+abbrev pub found_in : List Member → Option ℕ → Outcome
+found_in ms None = Missing
+found_in ms (Some k) = member_at (slice_get ms k) k
 
 -- the number and the type of a member, of a complete struct or union, if it has one of that name
 abbrev pub sought : State → ℕ → List ℕ → Option (Option (ℕ × Ty))

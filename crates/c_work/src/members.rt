@@ -1,6 +1,6 @@
 //! Members of structs and unions (C11 6.5.2.3).
 
-ghost use Rattle.std.specs.Prelude.{◌≡◌, ◌+◌, ◌<◌, false, IfOk, MatchOption, bytes_eq};
+ghost use Rattle.std.specs.Prelude.{◌≡◌, ◌<◌, false, MatchOption};
 ghost use Rattle.c_tree.specs.Types.{Tagged, bare, is_tagged};
 ghost use Rattle.c_tree.specs.Terms.{Member as The_member, step};
 ghost use Rattle.c_tree.specs.Scopes.{State};
@@ -10,13 +10,13 @@ ghost use Rattle.c_tree.specs.Expressions.{gives, as_qualified, member, member_b
 ghost use Rattle.c_nodes.specs.Nodes.{IsWhole, type_in, type_count};
 ghost use Rattle.c_work.specs.Work.{Shows};
 ghost use Rattle.c_work.specs.Answers.{Answers, quietly, OperandThere, IsOperand, operand_in};
-ghost use Rattle.c_work.specs.Members.{found_from, sought, IsSought};
+ghost use Rattle.c_work.specs.Members.{found_in, sought, IsSought};
 
 use crate::work::Work;
 use c_nodes::{Class, Operand, Step};
 use c_rules::as_qualified;
 use c_tree::Member;
-use ck_base::{NoMemory, Pos, Refusal};
+use ck_base::{Pos, Refusal};
 
 /// A member that has a name.
 #[derive(Clone, Copy)]
@@ -37,48 +37,28 @@ pub(crate) enum Outcome {
     At(Found),
 }
 
-fn same_bytes(a: &[u8], b: &[u8]) -> bool
-    ensures { result ≡ bytes_eq a.now b.now }
+// A member by its number.
+fn found_in(members: &[Member], number: Option<u32>) -> Outcome
+    ensures { result ≡ found_in members.now number }
 {
-    a == b
-}
-
-fn next(number: u32) -> Result<u32, NoMemory>
-    ensures { IfOk result (λ k. k ≡ number + 1) }
-{
-    if number < u32::MAX {
-        Ok(number + 1)
-    } else {
-        Err(NoMemory)
+    match number {
+        None => Outcome::Missing,
+        Some(number) => match members.get(number as usize) {
+            None => Outcome::Missing,
+            Some(m) => Outcome::At(Found { number, of: m.of }),
+        },
     }
 }
 
 impl Work<'_> {
-    // The first member of a name.
-    fn find(&self, members: &[Member], name: &[u8]) -> Result<Option<Found>, NoMemory>
-        ensures { IfOk result (λ f. f ≡ found_from self.now.file.now 0 members.now name.now) }
-    {
-        let mut number = 0u32;
-        for m in members {
-            if same_bytes(self.text(m.name), name) {
-                return Ok(Some(Found { number, of: m.of }));
-            }
-            number = next(number)?;
-        }
-        Ok(None)
-    }
-
-    // The member of a name, of a struct or union by the number of its tag.
-    fn seek(&self, tag: u32, name: &[u8]) -> Result<Outcome, NoMemory>
-        ensures { IfOk result (λ f. (s : State) → Shows self.now s →
-            IsSought (types_of self.now.nodes.p.types) f (sought s tag name.now)) }
+    // The member of a name, of a struct or union by the number of its tag: the first one.
+    fn seek(&self, tag: u32, name: &[u8]) -> Outcome
+        ensures { (s : State) → Shows self.now s →
+            IsSought (types_of self.now.nodes.p.types) result (sought s tag name.now) }
     {
         match self.nodes.scopes.members(&self.nodes.p, tag) {
-            None => Ok(Outcome::Incomplete),
-            Some(members) => match self.find(members, name)? {
-                None => Ok(Outcome::Missing),
-                Some(found) => Ok(Outcome::At(found)),
-            },
+            None => Outcome::Incomplete,
+            Some(members) => found_in(members, self.nodes.scopes.member(tag, name)),
         }
     }
 
@@ -128,8 +108,7 @@ impl Work<'_> {
         ensures { Answers quietly self.old self.new
             (member (operand_in self.old a) name.now pos) OperandThere IsOperand result }
     {
-        let found = self.seek(tag, name)?;
-        match found {
+        match self.seek(tag, name) {
             Outcome::Incomplete => Err(Refusal::Code(132, a.first)),
             Outcome::Missing => Err(Refusal::Code(133, a.first)),
             Outcome::At(member) => {

@@ -14,7 +14,7 @@ returns-in-Incomplete c s h =
     let m = sought s c.args.tag c.args.name.now in
     member_is a c.args.name.now c.args.pos c.args.tag s c.requires.tagged
     ∙ ap (λ o. membering a c.args.pos o s) (sought_none (types_of w.nodes.p.types) m
-    (rw c.in-Incomplete.is at (c.in_ok-found.ensures s h)))
+    (rw c.in-Incomplete.is at (c.seek.ensures s h)))
 
 pub returns-in-Missing : goal.returns-in-Missing
 returns-in-Missing c s h =
@@ -23,7 +23,7 @@ returns-in-Missing c s h =
     let m = sought s c.args.tag c.args.name.now in
     member_is a c.args.name.now c.args.pos c.args.tag s c.requires.tagged
     ∙ ap (λ o. membering a c.args.pos o s) (sought_missing (types_of w.nodes.p.types) m
-    (rw c.in-Missing.is at (c.in_ok-found.ensures s h)))
+    (rw c.in-Missing.is at (c.seek.ensures s h)))
 
 pub returns-in_ok-of-in-At : goal.returns-in_ok-of-in-At
 returns-in_ok-of-in-At c =
@@ -35,6 +35,6 @@ returns-in_ok-of-in-At c =
     IsOperand _
     (λ s h. member_is a c.args.name.now p c.args.tag s c.requires.tagged
     ∙ ap (λ o. membering a p o s) (sought_at w.nodes.p m (sought s c.args.tag c.args.name.now)
-    (rw c.in-At.is at (c.in_ok-found.ensures s h))
+    (rw c.in-At.is at (c.seek.ensures s h))
     ∙ ap (λ (k : ℕ). Some (Some (m.number, type_in w.nodes k))) (sym c.in_ok-of-in-At.ensures.same)))
     c.member_at.ensures
