@@ -10,9 +10,9 @@ use Rattle.c_tree.specs.Scopes.{changed_at, ◌>>=◌, ◌>>◌}
 use Rattle.c_types.proofs.Records.{push_cases}
 use Rattle.c_types.proofs.Steps.{same_result}
 use Rattle.c_types.specs.Stands.{text_at}
-use Rattle.c_work.specs.Work.{MembersAreSpelled}
-use Rattle.c_work.proofs.Extending.{each_changed, changed_length}
-use Rattle.c_work.specs.Answers.{Still, unused_static, unused_routine, untaken_local}
+use Rattle.c_elaborator.specs.Work.{MembersAreSpelled}
+use Rattle.c_elaborator.proofs.Extending.{each_changed, changed_length}
+use Rattle.c_elaborator.specs.Answers.{Still, unused_static, unused_routine, untaken_local}
 
 -- ---- two states
 

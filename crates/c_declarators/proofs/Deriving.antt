@@ -7,8 +7,8 @@ use Rattle.c_tree.specs.Scopes as meant_scopes
 use Rattle.c_tree.specs.Readings as meant
 use Rattle.c_tree.specs.Declarators.{wrapped}
 use Rattle.c_types.specs.declared.scopes.Scope.{Scope}
-use Rattle.c_work.specs.declared.work.Work.{Work}
-use Rattle.c_work.specs.declared.work.Name.{Name}
+use Rattle.c_elaborator.specs.declared.work.Work.{Work}
+use Rattle.c_elaborator.specs.declared.work.Name.{Name}
 use Rattle.c_declarators.specs.declared.parts.Wrap.{Wrap}
 use Rattle.c_declarators.specs.declared.parts.Wrap.TheVariants.{Point, Row, Gives}
 use Rattle.c_declarators.specs.declared.parts.Derived.{Derived}

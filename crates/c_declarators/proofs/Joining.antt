@@ -16,10 +16,10 @@ use Rattle.c_tree.specs.Declarators as meant_types
 use Rattle.c_tree.specs.Declarators.{has_part, formed, judge, is_nothing, is_free, place_of, parameter_from}
 use Rattle.c_types.specs.declared.scopes.Scope.{Scope}
 use Rattle.c_types.specs.Stands.{text_at}
-use Rattle.c_nodes.specs.Nodes.{type_count}
-use Rattle.c_work.specs.declared.work.Work.{Work}
-use Rattle.c_work.specs.Answers.{Keeps}
-use Rattle.c_work.specs.declared.work.Name.{Name}
+use Rattle.c_expressions.specs.Nodes.{type_count}
+use Rattle.c_elaborator.specs.declared.work.Work.{Work}
+use Rattle.c_elaborator.specs.Answers.{Keeps}
+use Rattle.c_elaborator.specs.declared.work.Name.{Name}
 use Rattle.c_declarators.specs.declared.members.Members.{Members}
 use Rattle.c_declarators.specs.declared.parts.Derived.{Derived}
 use Rattle.c_declarators.specs.declared.parts.Wrap.{Wrap}

@@ -17,11 +17,11 @@ use Rattle.c_types.specs.declared.entries.Entity.{Entity}
 use Rattle.c_types.specs.declared.entries.Entity.TheVariants.{Local, Static, Routine, Alias, Enumerator, Library}
 use Rattle.c_types.specs.declared.scopes.Scope.{Scope}
 use Rattle.c_types.specs.Stands.{ShowsScope, local, alias, library, entity_kept, entity_seen, name_in, named, text_at}
-use Rattle.c_nodes.specs.Nodes.{type_in, type_count}
-use Rattle.c_work.specs.declared.work.Work.{Work}
-use Rattle.c_work.specs.declared.work.Name.{Name}
-use Rattle.c_work.specs.Work.{Shows}
-use Rattle.c_work.specs.Answers.{Keeps, Quiet, Still}
+use Rattle.c_expressions.specs.Nodes.{type_in, type_count}
+use Rattle.c_elaborator.specs.declared.work.Work.{Work}
+use Rattle.c_elaborator.specs.declared.work.Name.{Name}
+use Rattle.c_elaborator.specs.Work.{Shows}
+use Rattle.c_elaborator.specs.Answers.{Keeps, Quiet, Still}
 use Rattle.c_declarators.specs.declared.parts.Param.{Param}
 use Rattle.c_declarators.specs.declared.parts.Wrap.{Wrap}
 use Rattle.c_declarators.specs.declared.parts.Wrap.TheVariants.{Point, Row, Gives}

@@ -10,14 +10,14 @@ use Rattle.c_types.specs.declared.scopes.Scopes.{Scopes}
 use Rattle.c_types.specs.Calls as types
 use Rattle.c_types.specs.Stands.{Stands}
 use Rattle.c_types.proofs.Extending.{extends_same}
-use Rattle.c_nodes.specs.declared.nodes.Nodes.{Nodes}
-use Rattle.c_nodes.specs.Nodes.{IsWhole}
-use Rattle.c_work.specs.declared.work.Work.{Work}
-use Rattle.c_work.specs.Work.{Shows, MembersAreSpelled}
-use Rattle.c_work.specs.Answers.{Quiet, quietly, Done, Answers}
-use Rattle.c_work.proofs.Extending.{AreExtended, extends_goes_on, extended_whole, extended_keeps, extended_values}
-use Rattle.c_work.proofs.Extending.{extended_definition, extended_there}
-use Rattle.c_work.proofs.Growing.{begins_same}
+use Rattle.c_expressions.specs.declared.nodes.Nodes.{Nodes}
+use Rattle.c_expressions.specs.Nodes.{IsWhole}
+use Rattle.c_elaborator.specs.declared.work.Work.{Work}
+use Rattle.c_elaborator.specs.Work.{Shows, MembersAreSpelled}
+use Rattle.c_elaborator.specs.Answers.{Quiet, quietly, Done, Answers}
+use Rattle.c_elaborator.proofs.Extending.{AreExtended, extends_goes_on, extended_whole, extended_keeps, extended_values}
+use Rattle.c_elaborator.proofs.Extending.{extended_definition, extended_there}
+use Rattle.c_elaborator.proofs.Growing.{begins_same}
 use Rattle.c_declarators.specs.Calling.{IsDeclared}
 use Rattle.c_declarators.proofs.Declaring.{Declares, declares_still, IsDeclaring}
 

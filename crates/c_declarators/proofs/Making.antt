@@ -9,9 +9,9 @@ use Rattle.c_tree.specs.Views.{tys}
 use Rattle.c_tree.specs.Scopes.{State}
 use Rattle.c_tree.specs.Declarators as meant_types
 use Rattle.c_tree.specs.Declarators.{plainly, is_given}
-use Rattle.c_nodes.specs.declared.nodes.Nodes.{Nodes}
-use Rattle.c_nodes.specs.Nodes.{IsWhole, Keeps, IsType, HasType, type_in, type_count}
-use Rattle.c_nodes.proofs.Keeping.{keeps_same, keeps_then}
+use Rattle.c_expressions.specs.declared.nodes.Nodes.{Nodes}
+use Rattle.c_expressions.specs.Nodes.{IsWhole, Keeps, IsType, HasType, type_in, type_count}
+use Rattle.c_expressions.proofs.Keeping.{keeps_same, keeps_then}
 use Rattle.c_declarators.specs.declared.parts.Param.{Param}
 use Rattle.c_declarators.specs.declared.parts.Wrap.{Wrap}
 use Rattle.c_declarators.specs.declared.parts.Wrap.TheVariants.{Gives}

@@ -3,13 +3,13 @@ use Rattle.std.proofs.Common.{◌≡◌, Ok, Err, ap, ◌∙◌}
 use Rattle.ck_base.specs.declared.refusal.Refusal.{Refusal}
 use Rattle.ck_base.specs.declared.refusal.Refusal.TheVariants.{Code, NoMemory}
 use Rattle.c_tree.specs.Scopes.{State, Doing, continued, ◌>>◌}
-use Rattle.c_nodes.specs.declared.nodes.Nodes.{Nodes}
-use Rattle.c_nodes.specs.Nodes as nodes
-use Rattle.c_work.specs.declared.work.Work.{Work}
-use Rattle.c_work.specs.Work.{Shows}
-use Rattle.c_work.specs.Answers.{quietly, Done, Answers}
-use Rattle.c_work.proofs.Growing.{quiet_nodes, shows_nodes}
-use Rattle.c_work.proofs.Sequencing.{still_same}
+use Rattle.c_expressions.specs.declared.nodes.Nodes.{Nodes}
+use Rattle.c_expressions.specs.Nodes as nodes
+use Rattle.c_elaborator.specs.declared.work.Work.{Work}
+use Rattle.c_elaborator.specs.Work.{Shows}
+use Rattle.c_elaborator.specs.Answers.{quietly, Done, Answers}
+use Rattle.c_elaborator.proofs.Growing.{quiet_nodes, shows_nodes}
+use Rattle.c_elaborator.proofs.Sequencing.{still_same}
 use Rattle.c_declarators.specs.Parts.{IsJudged}
 
 -- what is given, which may hang on the state

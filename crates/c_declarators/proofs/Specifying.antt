@@ -6,9 +6,9 @@ use Rattle.ck_base.specs.declared.positions.Pos.{Pos}
 use Rattle.ck_base.specs.Tokens.{Lexeme}
 use Rattle.c_tree.specs.Types.{Ty}
 use Rattle.c_tree.specs.Scopes.{State}
-use Rattle.c_nodes.specs.declared.nodes.Nodes.{Nodes}
-use Rattle.c_nodes.specs.Nodes.{IsWhole, IsType, IsMaybeType, HasMaybe, type_in, type_count}
-use Rattle.c_nodes.proofs.Keeping.{keeps_same}
+use Rattle.c_expressions.specs.declared.nodes.Nodes.{Nodes}
+use Rattle.c_expressions.specs.Nodes.{IsWhole, IsType, IsMaybeType, HasMaybe, type_in, type_count}
+use Rattle.c_expressions.proofs.Keeping.{keeps_same}
 use Rattle.c_declarators.specs.declared.words.Words.{Words}
 use Rattle.c_declarators.specs.Words.{type_words, storage_words}
 use Rattle.c_declarators.specs.Steps.{specified_type, specified_by, with_const, storage_of}

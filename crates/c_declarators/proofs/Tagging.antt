@@ -37,11 +37,11 @@ use Rattle.c_types.specs.Calls.{Given, HasParts, Completes}
 use Rattle.c_types.specs.Declares.{name_of, declares_tag}
 use Rattle.c_types.specs.Looks.{tag_kind_of, ShowsInnermost}
 use Rattle.c_types.specs.Stands.{Stands, ShowsScope, named, part_seen, member_kept, text_at}
-use Rattle.c_nodes.specs.Nodes.{type_in, type_count}
-use Rattle.c_work.specs.declared.work.Work.{Work}
-use Rattle.c_work.specs.declared.work.Name.{Name}
-use Rattle.c_work.specs.Work.{Shows}
-use Rattle.c_work.specs.Parts.{token_of}
+use Rattle.c_expressions.specs.Nodes.{type_in, type_count}
+use Rattle.c_elaborator.specs.declared.work.Work.{Work}
+use Rattle.c_elaborator.specs.declared.work.Name.{Name}
+use Rattle.c_elaborator.specs.Work.{Shows}
+use Rattle.c_elaborator.specs.Parts.{token_of}
 use Rattle.c_declarators.specs.declared.parts.Param.{Param}
 use Rattle.c_declarators.specs.Parts.{AreMembers, MembersThere, param_in}
 use Rattle.c_declarators.specs.Steps.{tag_there, new_enumeration_of, closing}

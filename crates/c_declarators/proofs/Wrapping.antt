@@ -10,10 +10,10 @@ use Rattle.c_tree.specs.Readings as meant
 use Rattle.c_tree.specs.Declarators as meant_types
 use Rattle.c_tree.specs.Declarators.{wrap_on, form_on, formed, plainly, signature}
 use Rattle.c_types.specs.declared.scopes.Scope.{Scope}
-use Rattle.c_nodes.specs.declared.nodes.Nodes.{Nodes}
-use Rattle.c_nodes.specs.Nodes.{type_in}
-use Rattle.c_work.specs.declared.work.Work.{Work}
-use Rattle.c_work.specs.Work.{Shows}
+use Rattle.c_expressions.specs.declared.nodes.Nodes.{Nodes}
+use Rattle.c_expressions.specs.Nodes.{type_in}
+use Rattle.c_elaborator.specs.declared.work.Work.{Work}
+use Rattle.c_elaborator.specs.Work.{Shows}
 use Rattle.c_declarators.specs.declared.parts.Param.{Param}
 use Rattle.c_declarators.specs.declared.parts.Wrap.{Wrap}
 use Rattle.c_declarators.specs.declared.parts.Wrap.TheVariants.{Point, Row, Gives}

@@ -7,8 +7,8 @@ use Rattle.c_tree.specs.Readings as meant
 use Rattle.c_tree.specs.Declarators as meant_types
 use Rattle.c_tree.specs.Declarators.{wrap_on, is_given}
 use Rattle.c_types.specs.Stands.{Stands}
-use Rattle.c_nodes.specs.declared.nodes.Nodes.{Nodes}
-use Rattle.c_nodes.specs.Nodes.{type_in, type_count, Keeps}
+use Rattle.c_expressions.specs.declared.nodes.Nodes.{Nodes}
+use Rattle.c_expressions.specs.Nodes.{type_in, type_count, Keeps}
 use Rattle.c_declarators.specs.declared.parts.Param.{Param}
 use Rattle.c_declarators.specs.declared.parts.Wrap.{Wrap}
 use Rattle.c_declarators.specs.declared.parts.Wrap.TheVariants.{Point, Row, Gives}

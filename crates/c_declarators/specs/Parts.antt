@@ -16,10 +16,10 @@ use Rattle.c_types.specs.declared.scopes.Scope.{Scope}
 use Rattle.c_types.specs.declared.entries.Faults.{Faults}
 use Rattle.c_types.specs.Declares.{storage_of}
 use Rattle.c_types.specs.Stands.{ShowsScope, text_at}
-use Rattle.c_nodes.specs.Nodes.{type_in, type_count}
-use Rattle.c_work.specs.declared.work.Work.{Work}
-use Rattle.c_work.specs.declared.work.Name.{Name}
-use Rattle.c_work.specs.Parts.{token_of}
+use Rattle.c_expressions.specs.Nodes.{type_in, type_count}
+use Rattle.c_elaborator.specs.declared.work.Work.{Work}
+use Rattle.c_elaborator.specs.declared.work.Name.{Name}
+use Rattle.c_elaborator.specs.Parts.{token_of}
 use Rattle.c_declarators.specs.declared.parts.Specified.{Specified}
 use Rattle.c_declarators.specs.declared.parts.Param.{Param}
 use Rattle.c_declarators.specs.declared.parts.Prototype.{Prototype}

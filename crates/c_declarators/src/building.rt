@@ -3,7 +3,7 @@
 ghost use Rattle.std.specs.Prelude.{◌≡◌, [], ◌∷◌, ◌++◌, IfOk};
 
 use crate::parts::{Derived, Wrap};
-use c_work::Name;
+use c_elaborator::Name;
 use ck_base::NoMemory;
 use std::alloc::Global;
 

@@ -2,13 +2,13 @@
 
 ghost use Rattle.std.specs.Prelude.{◌≡◌, ◌*◌, ◌<◌, ◌≤◌, ◌^◌, nat_lt, pos, ◌-ℤ◌, if◌then◌else◌};
 ghost use Rattle.ck_int.specs.Kinds.{value_of, reduced};
-ghost use Rattle.c_nodes.specs.Nodes.{IsWhole};
-ghost use Rattle.c_work.specs.Answers.{Answers, quietly, OperandThere, operand_in};
+ghost use Rattle.c_expressions.specs.Nodes.{IsWhole};
+ghost use Rattle.c_elaborator.specs.Answers.{Answers, quietly, OperandThere, operand_in};
 ghost use Rattle.c_declarators.specs.Parts.{ConstantThere, IsConstant, CountThere, IsCount, in_any};
 ghost use Rattle.c_declarators.specs.Steps.{constant, array_length};
 
-use c_nodes::Operand;
-use c_work::Work;
+use c_elaborator::Work;
+use c_expressions::Operand;
 use ck_base::{Pos, Refusal};
 use ck_int::IntKind;
 

@@ -7,13 +7,13 @@ ghost use Rattle.c_tree.specs.Readings.{Point, Row};
 ghost use Rattle.c_tree.specs.Views.{tys};
 ghost use Rattle.c_tree.specs.Declarators.{plainly, pointer_to, over_limit, is_given, wrap_on};
 ghost use Rattle.c_types.specs.Stands.{Stands};
-ghost use Rattle.c_nodes.specs.declared.nodes.Nodes.{Nodes as NodeList};
-ghost use Rattle.c_nodes.specs.Nodes.{IsWhole, HasType, type_in, type_count};
+ghost use Rattle.c_expressions.specs.declared.nodes.Nodes.{Nodes as NodeList};
+ghost use Rattle.c_expressions.specs.Nodes.{IsWhole, HasType, type_in, type_count};
 ghost use Rattle.c_declarators.specs.Forming.{Makes, MakesOf, formed_in, HasTypes, ParamIsThere, WrapIsThere};
 ghost use Rattle.c_declarators.specs.Forming.{signature_types, gives_on, made_on, all_on};
 
 use crate::parts::{Formed, Param, Wrap};
-use c_nodes::{Class, Nodes};
+use c_expressions::{Class, Nodes};
 use c_tree::CType;
 use c_types::Faults;
 use cap_layout::LayoutFault;

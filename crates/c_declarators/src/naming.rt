@@ -3,16 +3,16 @@
 ghost use Rattle.std.specs.Prelude.{◌≡◌, true, false, pos, ◌+ℤ◌, MatchOption, FitsSigned};
 ghost use Rattle.std.specs.Int.{w32, w128};
 ghost use Rattle.c_tree.specs.Declarators.{typedef_name, in_int, enumerate};
-ghost use Rattle.c_nodes.specs.Nodes.{IsWhole};
-ghost use Rattle.c_work.specs.Answers.{Answers, quietly, TypeThere, IsType};
-ghost use Rattle.c_work.specs.Parts.{token_of};
+ghost use Rattle.c_expressions.specs.Nodes.{IsWhole};
+ghost use Rattle.c_elaborator.specs.Answers.{Answers, quietly, TypeThere, IsType};
+ghost use Rattle.c_elaborator.specs.Parts.{token_of};
 ghost use Rattle.c_declarators.specs.Parts.{NumberThere, IsNumber, in_any};
 ghost use Rattle.c_declarators.specs.Naming.{IsAlias};
 
 use crate::members::text_of;
 use crate::parameters::is_new;
+use c_elaborator::{Name, Work};
 use c_types::{Decl, DeclKind, Entity, Faults, Storage};
-use c_work::{Name, Work};
 use ck_base::{Pos, Refusal};
 
 // The type that an entity stands for, if it is a typedef name.

@@ -5,11 +5,11 @@ ghost use Rattle.c_tree.specs.Types.{is_void};
 ghost use Rattle.c_tree.specs.Scopes.{State};
 ghost use Rattle.c_tree.specs.Readings.{Specified as MeantSpecified, Derived as MeantDerived};
 ghost use Rattle.c_tree.specs.Declarators.{is_new, is_free, place_of, parameter_from};
-ghost use Rattle.c_nodes.specs.Nodes.{IsWhole, type_in, type_count};
-ghost use Rattle.c_work.specs.declared.work.Work.{Work as Built};
-ghost use Rattle.c_work.specs.Work.{Shows};
-ghost use Rattle.c_work.specs.Answers.{Answers, quietly};
-ghost use Rattle.c_work.specs.Parts.{token_of};
+ghost use Rattle.c_expressions.specs.Nodes.{IsWhole, type_in, type_count};
+ghost use Rattle.c_elaborator.specs.declared.work.Work.{Work as Built};
+ghost use Rattle.c_elaborator.specs.Work.{Shows};
+ghost use Rattle.c_elaborator.specs.Answers.{Answers, quietly};
+ghost use Rattle.c_elaborator.specs.Parts.{token_of};
 ghost use Rattle.c_declarators.specs.Parts.{SpecifiedThere, IsSpecified, DerivedThere, IsDerived, any_scope};
 ghost use Rattle.c_declarators.specs.Parts.{name_token, ParamThere, IsParam, in_any};
 ghost use Rattle.c_declarators.specs.Steps.{has_no_parts};
@@ -18,8 +18,8 @@ use crate::forming::{adjusted, form};
 use crate::judging::judge;
 use crate::members::text_of;
 use crate::parts::{Derived, Param, Specified};
-use c_nodes::Nodes;
-use c_work::{Name, Work};
+use c_elaborator::{Name, Work};
+use c_expressions::Nodes;
 use ck_base::Refusal;
 
 /// Whether the innermost scope does not have a name yet.

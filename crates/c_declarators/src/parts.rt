@@ -1,7 +1,7 @@
 //! What specifiers, parameters and declarators are once their parts are typed (C11 6.7).
 
+use c_elaborator::Name;
 use c_types::{Faults, Scope, Storage};
-use c_work::Name;
 use ck_base::Pos;
 
 /// Declaration specifiers (C11 6.7.1 to 6.7.3).

@@ -2,14 +2,14 @@
 
 ghost use Rattle.c_tree.specs.Scopes.{enter, change};
 ghost use Rattle.c_tree.specs.Declarators.{bind_parameter};
-ghost use Rattle.c_nodes.specs.Nodes.{IsWhole};
-ghost use Rattle.c_work.specs.Answers.{Answers, quietly, NothingThere, IsNothing};
+ghost use Rattle.c_expressions.specs.Nodes.{IsWhole};
+ghost use Rattle.c_elaborator.specs.Answers.{Answers, quietly, NothingThere, IsNothing};
 ghost use Rattle.c_declarators.specs.Parts.{ParamThere, param_in, ScopeThere, ShowsScopeOf};
 ghost use Rattle.c_declarators.specs.Steps.{closing};
 
 use crate::parts::Param;
+use c_elaborator::Work;
 use c_types::Scope;
-use c_work::Work;
 use ck_base::Refusal;
 
 /// A scope for parameters is opened.

@@ -4,17 +4,17 @@ ghost use Rattle.std.specs.Prelude.{◌≡◌, ◌<◌, map, All, IfOk};
 ghost use Rattle.ck_base.specs.Tokens.{Lexeme};
 ghost use Rattle.c_tree.specs.Syntax.{Syns, StandAt};
 ghost use Rattle.c_types.specs.Declares.{storage_of as meant_storage};
-ghost use Rattle.c_nodes.specs.Nodes.{IsWhole, HasType, HasMaybe, type_in, type_count};
-ghost use Rattle.c_work.specs.Answers.{Answers, quietly};
+ghost use Rattle.c_expressions.specs.Nodes.{IsWhole, HasType, HasMaybe, type_in, type_count};
+ghost use Rattle.c_elaborator.specs.Answers.{Answers, quietly};
 ghost use Rattle.c_declarators.specs.Parts.{SpecifiedThere, IsSpecified, in_any};
 ghost use Rattle.c_declarators.specs.Words.{word_type};
 ghost use Rattle.c_declarators.specs.Steps.{storage_of, specified_type, with_const, specified_by, specified};
 
 use crate::parts::Specified;
 use crate::words::Words;
-use c_nodes::Nodes;
+use c_elaborator::Work;
+use c_expressions::Nodes;
 use c_types::Storage;
-use c_work::Work;
 use ck_base::{NoMemory, Pos, Refusal};
 
 // The storage that the words stand for.

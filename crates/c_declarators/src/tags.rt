@@ -9,18 +9,18 @@ ghost use Rattle.c_types.specs.Calls.{Answers as Declared, Does, HasParts, Compl
 ghost use Rattle.c_types.specs.Declares.{declares_tag, name_of};
 ghost use Rattle.c_types.specs.Looks.{tag_kind_of};
 ghost use Rattle.c_types.specs.Stands.{tagging_of};
-ghost use Rattle.c_nodes.specs.Nodes.{IsWhole, IsType};
-ghost use Rattle.c_work.specs.Work.{Shows};
-ghost use Rattle.c_work.specs.Answers.{Answers, quietly, TypeThere, IsType as IsTypeOf, NothingThere, IsNothing};
-ghost use Rattle.c_work.specs.Parts.{token_of};
+ghost use Rattle.c_expressions.specs.Nodes.{IsWhole, IsType};
+ghost use Rattle.c_elaborator.specs.Work.{Shows};
+ghost use Rattle.c_elaborator.specs.Answers.{Answers, quietly, TypeThere, IsType as IsTypeOf, NothingThere, IsNothing};
+ghost use Rattle.c_elaborator.specs.Parts.{token_of};
 ghost use Rattle.c_declarators.specs.Calling.{IsDeclared};
 ghost use Rattle.c_declarators.specs.Parts.{CountThere, IsCount, MembersThere, AreMembers, in_any};
 ghost use Rattle.c_declarators.specs.Steps.{tag_there, new_enumeration_of, named_enumeration_of, tagged};
 
-use c_nodes::{Class, Nodes};
+use c_elaborator::{Name, Work};
+use c_expressions::{Class, Nodes};
 use c_tree::{Member, RecordKind};
 use c_types::{Decl, DeclKind, Entry, Faults, Storage, TagKind, Tagging};
-use c_work::{Name, Work};
 use ck_base::{NoMemory, Pos, Refusal};
 
 // A new struct or union, in what is declared.

@@ -2,8 +2,8 @@
 
 ghost use Rattle.std.specs.Prelude.{◌<◌, List, reverse, All};
 ghost use Rattle.c_tree.specs.Readings.{Wrap as Meant};
-ghost use Rattle.c_nodes.specs.Nodes.{IsWhole, type_in, type_count};
-ghost use Rattle.c_work.specs.Answers.{Answers, quietly, TypeThere, IsType};
+ghost use Rattle.c_expressions.specs.Nodes.{IsWhole, type_in, type_count};
+ghost use Rattle.c_elaborator.specs.Answers.{Answers, quietly, TypeThere, IsType};
 ghost use Rattle.c_declarators.specs.Forming.{WrapIsThere};
 ghost use Rattle.c_declarators.specs.Parts.{FormedThere, IsFormed, AreWraps, any_scope, in_any};
 ghost use Rattle.c_declarators.specs.Steps.{forms, named_type};
@@ -11,7 +11,7 @@ ghost use Rattle.c_declarators.specs.Steps.{forms, named_type};
 use crate::forming::form;
 use crate::judging::judge;
 use crate::parts::{Formed, Wrap};
-use c_work::Work;
+use c_elaborator::Work;
 use ck_base::{Pos, Refusal};
 
 /// The type that the parts of a declarator make of a type, the last of the list first, and the rules that it breaks.

@@ -26,13 +26,13 @@ use Rattle.c_types.specs.Declares.{declares_definition, storage_of, name_of, for
 use Rattle.c_types.specs.declared.entries.Decl.{Decl}
 use Rattle.c_types.specs.declared.entries.DeclKind.TheVariants as kinds
 use Rattle.c_types.proofs.Before.{of_own, defines_body, definition_is}
-use Rattle.c_nodes.specs.Nodes.{type_in}
-use Rattle.c_work.specs.declared.work.Name.{Name}
-use Rattle.c_work.specs.declared.work.Work.{Work}
-use Rattle.c_work.specs.Work.{Shows}
-use Rattle.c_work.specs.Answers.{Keeps, freely, quietly, Given, Done, Answers, NothingThere, IsNothing}
-use Rattle.c_work.specs.Parts.{token_of}
-use Rattle.c_work.proofs.Sequencing.{keeps_then}
+use Rattle.c_expressions.specs.Nodes.{type_in}
+use Rattle.c_elaborator.specs.declared.work.Name.{Name}
+use Rattle.c_elaborator.specs.declared.work.Work.{Work}
+use Rattle.c_elaborator.specs.Work.{Shows}
+use Rattle.c_elaborator.specs.Answers.{Keeps, freely, quietly, Given, Done, Answers, NothingThere, IsNothing}
+use Rattle.c_elaborator.specs.Parts.{token_of}
+use Rattle.c_elaborator.proofs.Sequencing.{keeps_then}
 use Rattle.c_declarators.specs.declared.parts.Specified.{Specified}
 use Rattle.c_declarators.specs.declared.parts.Formed.{Formed}
 use Rattle.c_declarators.specs.declared.parts.Prototype.{Prototype}
@@ -41,9 +41,9 @@ use Rattle.c_declarators.specs.Forming.{formed_in, ParamIsThere}
 use Rattle.c_declarators.specs.Steps.{forms}
 use Rattle.c_declarators.specs.Parts.{IsSpecified, FormedThere, IsFormed, in_any, IsPrototype, AreWraps, param_in}
 use Rattle.c_declarators.specs.Parts.{shown_in}
-use Rattle.c_items.specs.Shown.{AnswersFor}
-use Rattle.c_items.specs.declared.items.Context.{Context}
-use Rattle.c_items.specs.Items.{context_in}
+use Rattle.c_elaborator.specs.Shown.{AnswersFor}
+use Rattle.c_elaborator.specs.declared.items.Context.{Context}
+use Rattle.c_elaborator.specs.Items.{context_in}
 use Rattle.c_statements.specs.Declaring.{begins, FunctionThere, IsFunction}
 use Rattle.c_statements.proofs.Leaving.{definition_leaves}
 use Rattle.c_elab.specs.Functions.{first_prototype, opened, Opens, finishes, types_body, defines}

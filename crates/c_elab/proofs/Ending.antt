@@ -27,18 +27,18 @@ use Rattle.c_types.specs.declared.scopes.Scopes.{Scopes}
 use Rattle.c_types.specs.Stands.{Stands, Declared, named, var_kept, local_seen, routine_seen}
 use Rattle.c_types.specs.Calls.{Does}
 use Rattle.c_types.proofs.Looking.{seen_length, type_is}
-use Rattle.c_nodes.specs.Nodes.{IsWhole, type_in}
-use Rattle.c_work.specs.declared.work.Definition.{Definition}
-use Rattle.c_work.specs.declared.work.Work.{Work}
-use Rattle.c_work.specs.Work.{Shows, DefinitionIsThere, Seen, is_among, is_function, first_place, definition_of}
-use Rattle.c_work.specs.Work.{option_seen, body_seen, seen_of}
-use Rattle.c_work.specs.Answers.{Keeps, Done, Answers, freely, NothingThere, IsNothing, action_in, action_count}
-use Rattle.c_work.specs.Parts.{IsPart, AreParts}
-use Rattle.c_work.proofs.Sequencing.{free_law, changed, then, failed}
-use Rattle.c_work.proofs.Using.{changed_same, set_at}
-use Rattle.c_parts.proofs.Kids.{opened}
-use Rattle.c_items.specs.declared.items.Items.{Items}
-use Rattle.c_items.specs.Items.{AddsAction, ItemsThere, IsItems, items_in}
+use Rattle.c_expressions.specs.Nodes.{IsWhole, type_in}
+use Rattle.c_elaborator.specs.declared.work.Definition.{Definition}
+use Rattle.c_elaborator.specs.declared.work.Work.{Work}
+use Rattle.c_elaborator.specs.Work.{Shows, DefinitionIsThere, Seen, is_among, is_function, first_place, definition_of}
+use Rattle.c_elaborator.specs.Work.{option_seen, body_seen, seen_of}
+use Rattle.c_elaborator.specs.Answers.{Keeps, Done, Answers, freely, NothingThere, IsNothing, action_in, action_count}
+use Rattle.c_elaborator.specs.Parts.{IsPart, AreParts}
+use Rattle.c_elaborator.proofs.Sequencing.{free_law, changed, then, failed}
+use Rattle.c_elaborator.proofs.Using.{changed_same, set_at}
+use Rattle.c_readings.proofs.Kids.{opened}
+use Rattle.c_elaborator.specs.declared.items.Items.{Items}
+use Rattle.c_elaborator.specs.Items.{AddsAction, ItemsThere, IsItems, items_in}
 use Rattle.c_statements.proofs.Standing.{reading_node}
 use Rattle.c_elab.specs.Functions.{variable_in, variables_from, VariableThere, ends, finishes, types_body}
 
@@ -174,7 +174,8 @@ module _ (w : Work) (sc : Scopes) (ds : Vec Definition) (ks : Vec ℕ) (s : Stat
     seen_here : Some (body_seen b) ≡ option_seen (seen_of (types_of w.nodes.p.types) (actions_of w.nodes.p)) (Some d)
     seen_here =
         ap (λ (ps : List ℕ).
-        Some (let x : Seen = record { params = ps; vars = map programs.variable_of s.locals; body = action_in w body } in x)) (sym params)
+        Some (let x : Seen = record { params = ps; vars = map programs.variable_of s.locals; body = action_in w body }
+        in x)) (sym params)
         ∙ ap (λ (vs : List Variable).
         Some (let x : Seen = record { params = d.params.items; vars = vs; body = action_in w body } in x))
         (sym vars)

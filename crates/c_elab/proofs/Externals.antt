@@ -16,16 +16,16 @@ use Rattle.c_tree.specs.Passed.{call_name, calls_in}
 use Rattle.c_tree.specs.Programs.{reading, readings, all_externals, parts, typing, finished, ended, earliest}
 use Rattle.c_tree.specs.Programs.{last_faults, beginning}
 use Rattle.c_tree.specs.Typing.{Reads, IsSpelled}
-use Rattle.c_nodes.specs.Nodes.{IsWhole}
-use Rattle.c_work.specs.declared.work.Work.{Work}
-use Rattle.c_work.specs.Work.{Shows}
-use Rattle.c_work.specs.Answers.{Done, Answers, freely, NothingThere, IsNothing}
-use Rattle.c_work.specs.Parts.{IsPart, AreParts}
-use Rattle.c_work.proofs.Sequencing.{free_law, answers_at, also_then, failed}
-use Rattle.c_parts.proofs.Kids.{cut, no_parts, opened, parts_kept}
+use Rattle.c_expressions.specs.Nodes.{IsWhole}
+use Rattle.c_elaborator.specs.declared.work.Work.{Work}
+use Rattle.c_elaborator.specs.Work.{Shows}
+use Rattle.c_elaborator.specs.Answers.{Done, Answers, freely, NothingThere, IsNothing}
+use Rattle.c_elaborator.specs.Parts.{IsPart, AreParts}
+use Rattle.c_elaborator.proofs.Sequencing.{free_law, answers_at, also_then, failed}
+use Rattle.c_readings.proofs.Kids.{cut, no_parts, opened, parts_kept}
 use Rattle.c_statements.proofs.Stating.{readings_more, readings_nil}
-use Rattle.c_items.specs.declared.items.Items.{Items}
-use Rattle.c_items.specs.Items.{ItemsThere, IsItems}
+use Rattle.c_elaborator.specs.declared.items.Items.{Items}
+use Rattle.c_elaborator.specs.Items.{ItemsThere, IsItems}
 use Rattle.c_finish.specs.Finished.{Finished, IsSyntax}
 use Rattle.c_elab.specs.Elaborated.{Elaborated}
 use Rattle.c_elab.proofs.Written.{written}

@@ -17,12 +17,12 @@ use Rattle.c_tree.specs.Views.{types_of}
 use Rattle.c_types.specs.declared.scopes.Scopes.{Scopes}
 use Rattle.c_types.specs.Stands.{Stands, ShowsScope, Declared, text_at, named, var_kept, local_seen}
 use Rattle.c_types.proofs.Judged.{named_there}
-use Rattle.c_nodes.specs.Nodes.{IsWhole, type_in}
-use Rattle.c_work.specs.declared.work.Name.{Name}
-use Rattle.c_work.specs.declared.work.Work.{Work}
-use Rattle.c_work.specs.Work.{Shows, IsClosed, is_among}
-use Rattle.c_work.specs.Answers.{Keeps}
-use Rattle.c_work.specs.Parts.{token_of}
+use Rattle.c_expressions.specs.Nodes.{IsWhole, type_in}
+use Rattle.c_elaborator.specs.declared.work.Name.{Name}
+use Rattle.c_elaborator.specs.declared.work.Work.{Work}
+use Rattle.c_elaborator.specs.Work.{Shows, IsClosed, is_among}
+use Rattle.c_elaborator.specs.Answers.{Keeps}
+use Rattle.c_elaborator.specs.Parts.{token_of}
 use Rattle.c_declarators.specs.declared.parts.Param.{Param}
 use Rattle.c_declarators.specs.declared.parts.Prototype.{Prototype}
 use Rattle.c_declarators.specs.Forming.{ParamIsThere}

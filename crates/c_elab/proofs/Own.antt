@@ -17,10 +17,10 @@ use Rattle.c_types.specs.declared.entries.Entity.TheVariants as entities
 use Rattle.c_types.specs.Stands.{ShowsScope, named, entity_kept, entity_seen, name_in, text_at}
 use Rattle.c_types.proofs.Judged.{named_there}
 use Rattle.c_types.proofs.Looking.{type_is}
-use Rattle.c_nodes.specs.Nodes.{type_in, type_count}
-use Rattle.c_work.specs.declared.work.Name.{Name}
-use Rattle.c_work.specs.declared.work.Work.{Work}
-use Rattle.c_work.specs.Answers.{Keeps}
+use Rattle.c_expressions.specs.Nodes.{type_in, type_count}
+use Rattle.c_elaborator.specs.declared.work.Name.{Name}
+use Rattle.c_elaborator.specs.declared.work.Work.{Work}
+use Rattle.c_elaborator.specs.Answers.{Keeps}
 use Rattle.c_declarators.specs.declared.parts.Param.{Param}
 use Rattle.c_declarators.specs.declared.parts.Prototype.{Prototype}
 use Rattle.c_declarators.specs.declared.parts.Wrap.{Wrap}

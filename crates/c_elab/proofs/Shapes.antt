@@ -12,17 +12,17 @@ use Rattle.c_tree.specs.Readings as meant
 use Rattle.c_tree.specs.Readings.{Reading}
 use Rattle.c_tree.specs.Scopes.{Doing, give, refuse, ◌>>=◌}
 use Rattle.c_tree.specs.Programs.{reading, readings, external_of, function_definition, define_named}
-use Rattle.c_work.specs.declared.work.Work.{Work}
-use Rattle.c_work.specs.Answers.{Answers, Done, freely, quietly, NothingThere, IsNothing}
-use Rattle.c_work.specs.Parts.{IsPart, AreParts}
-use Rattle.c_work.proofs.Sequencing.{free_law, freed}
+use Rattle.c_elaborator.specs.declared.work.Work.{Work}
+use Rattle.c_elaborator.specs.Answers.{Answers, Done, freely, quietly, NothingThere, IsNothing}
+use Rattle.c_elaborator.specs.Parts.{IsPart, AreParts}
+use Rattle.c_elaborator.proofs.Sequencing.{free_law, freed}
 use Rattle.c_declarators.specs.declared.parts.Specified.{Specified}
 use Rattle.c_declarators.specs.Parts.{SpecifiedThere, IsSpecified, in_any, DerivedThere, ShowsDerived}
 use Rattle.c_declarators.specs.declared.parts.Wrap.{Wrap}
 use Rattle.c_declarators.specs.declared.parts.Wrap.TheVariants.{Point, Row, Gives}
-use Rattle.c_parts.specs.Kids.{HasNot}
-use Rattle.c_parts.proofs.Kids.{opened, cut, no_parts, count, counted}
-use Rattle.c_items.proofs.Shown.{then_for}
+use Rattle.c_readings.specs.Kids.{HasNot}
+use Rattle.c_readings.proofs.Kids.{opened, cut, no_parts, count, counted}
+use Rattle.c_elaborator.proofs.Shown.{then_for}
 use Rattle.c_statements.proofs.Following.{for_each, fails_freed}
 use Rattle.c_statements.proofs.Standing.{reading_node, some_specified, is_some_specified}
 use Rattle.c_elab.specs.Functions.{first_prototype, defines_from}

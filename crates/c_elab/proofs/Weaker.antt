@@ -3,7 +3,7 @@ use Rattle.std.proofs.Common.{List, [], ◌∷◌}
 use Rattle.c_tree.specs.Scopes as meant_scopes
 use Rattle.c_tree.specs.Readings as meant
 use Rattle.c_types.specs.declared.scopes.Scope.{Scope}
-use Rattle.c_work.specs.declared.work.Work.{Work}
+use Rattle.c_elaborator.specs.declared.work.Work.{Work}
 use Rattle.c_declarators.specs.declared.parts.Wrap.{Wrap}
 use Rattle.c_declarators.specs.declared.parts.Wrap.TheVariants.{Point, Row, Gives}
 use Rattle.c_declarators.specs.Parts.{IsWrap, AreWraps}

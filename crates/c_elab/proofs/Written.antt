@@ -22,7 +22,7 @@ use Rattle.c_tree.specs.Grammar.{Initialized, Declaration, Optional, States, Ite
 use Rattle.c_tree.specs.Grammar.{is_declared_by}
 use Rattle.c_tree.specs.Parses
 use Rattle.c_tree.specs.Parses.{DerivesFile, file_start}
-use Rattle.c_work.specs.Parts.{TokenFits, IsWritten, AreWritten}
+use Rattle.c_elaborator.specs.Parts.{TokenFits, IsWritten, AreWritten}
 
 -- ---- what kind of token a symbol is
 

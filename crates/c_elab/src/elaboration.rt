@@ -5,18 +5,18 @@ ghost use Rattle.ck_base.specs.Tokens.{Lexeme};
 ghost use Rattle.c_tree.specs.Syntax.{Syn, Syns};
 ghost use Rattle.c_tree.specs.Programs.{reading, readings, external_of, all_externals};
 ghost use Rattle.c_tree.specs.Typing.{Reads};
-ghost use Rattle.c_nodes.specs.Nodes.{IsWhole};
-ghost use Rattle.c_work.specs.Answers.{Answers, freely, NothingThere, IsNothing};
-ghost use Rattle.c_work.specs.Parts.{IsPart, HasPart, AreParts, HaveParts};
+ghost use Rattle.c_expressions.specs.Nodes.{IsWhole};
+ghost use Rattle.c_elaborator.specs.Answers.{Answers, freely, NothingThere, IsNothing};
+ghost use Rattle.c_elaborator.specs.Parts.{IsPart, HasPart, AreParts, HaveParts};
 ghost use Rattle.c_elab.specs.Elaborated.{HasReading, Elaborated};
 ghost use Rattle.c_elab.specs.Functions.{HasState};
 
 use crate::functions::function_definition;
+use c_elaborator::Work;
 use c_finish::finish;
-use c_parts::{first_of, node_at};
+use c_readings::{first_of, node_at};
 use c_statements::declaration;
 use c_tree::{NodeKind, Tree, Typed};
-use c_work::Work;
 use ck_base::{Pos, Refusal};
 use std::alloc::Global;
 

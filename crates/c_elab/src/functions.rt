@@ -6,22 +6,22 @@ ghost use Rattle.c_tree.specs.Syntax.{Syn, Syns};
 ghost use Rattle.c_tree.specs.Readings as meant;
 ghost use Rattle.c_tree.specs.Scopes.{State};
 ghost use Rattle.c_tree.specs.Programs.{reading, readings, function_definition, define_named, gives_complete};
-ghost use Rattle.c_nodes.specs.Nodes.{IsWhole, type_in, type_count};
-ghost use Rattle.c_work.specs.Work.{Shows};
-ghost use Rattle.c_work.specs.Answers.{Answers, freely, NothingThere, IsNothing};
-ghost use Rattle.c_work.specs.Parts.{IsPart, HasPart, AreParts, HaveParts};
+ghost use Rattle.c_expressions.specs.Nodes.{IsWhole, type_in, type_count};
+ghost use Rattle.c_elaborator.specs.Work.{Shows};
+ghost use Rattle.c_elaborator.specs.Answers.{Answers, freely, NothingThere, IsNothing};
+ghost use Rattle.c_elaborator.specs.Parts.{IsPart, HasPart, AreParts, HaveParts};
 ghost use Rattle.c_declarators.specs.Parts.{SpecifiedThere, IsSpecified, DerivedThere, ShowsDerived};
-ghost use Rattle.c_items.specs.Shown.{AnswersFor};
+ghost use Rattle.c_elaborator.specs.Shown.{AnswersFor};
 ghost use Rattle.c_statements.specs.Declaring.{WrapsThere};
 ghost use Rattle.c_elab.specs.Functions.{HasState, IsDeclarator, first_prototype, defines_from};
 
 use crate::bodies::define_body;
 use c_declarators::{Derived, Formed, Prototype, Specified, Wrap, formed};
-use c_nodes::Class;
-use c_parts::{derived, specified, three};
+use c_elaborator::{Name, Work};
+use c_expressions::Class;
+use c_readings::{derived, specified, three};
 use c_statements::declare_definition;
 use c_types::{Decl, DeclKind, Faults};
-use c_work::{Name, Work};
 use ck_base::{Pos, Refusal};
 
 // The parameters, where the declarator itself is that of a function: what is made last stands first.

@@ -1,15 +1,15 @@
 //! The parameters of a function that is defined, and the scope of its body (C11 6.2.1p4, 6.9.1).
 
 ghost use Rattle.std.specs.Prelude.{All, OnOk};
-ghost use Rattle.c_nodes.specs.Nodes.{IsWhole};
-ghost use Rattle.c_work.specs.declared.work.Work.{Work as Built};
+ghost use Rattle.c_expressions.specs.Nodes.{IsWhole};
+ghost use Rattle.c_elaborator.specs.declared.work.Work.{Work as Built};
 ghost use Rattle.c_declarators.specs.Forming.{ParamIsThere};
 ghost use Rattle.c_elab.specs.Functions.{AddsParameters, IsParameter, IsParameterName, Opens};
 
 use c_declarators::{Param, Prototype};
+use c_elaborator::{Name, Work};
 use c_tree::VarDef;
 use c_types::Scopes;
-use c_work::{Name, Work};
 use ck_base::{NoMemory, Span};
 
 // The name of a parameter. One without a name has an empty one at its first byte (C11 6.9.1p5).

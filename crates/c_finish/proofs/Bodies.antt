@@ -17,7 +17,7 @@ use Rattle.c_tree.specs.Views as views
 use Rattle.c_tree.specs.Programs.{numbers_of, action_with, actions_with, with_body, program_of}
 use Rattle.c_tree.specs.Programs as programs
 use Rattle.c_tree.proofs.Forest.{forest_reads}
-use Rattle.c_work.specs.declared.work.Work.{Work}
+use Rattle.c_elaborator.specs.declared.work.Work.{Work}
 use Rattle.c_passing.specs.Routines.{IsBlock, HaveBodies}
 use Rattle.c_finish.specs.Finished.{BodyFits, IsShown, IsWritten}
 

@@ -5,9 +5,9 @@ use Rattle.std.specs.Prelude.{slice_get, if◌then◌else◌}
 use Rattle.c_tree.specs.Scopes.{Body, RoutineState, State}
 use Rattle.c_tree.specs.Programs.{count_before, is_there}
 use Rattle.c_tree.specs.Views.{types_of, actions_of}
-use Rattle.c_work.specs.declared.work.Work.{Work}
-use Rattle.c_work.specs.declared.work.Definition.{Definition}
-use Rattle.c_work.specs.Work.{Shows, Seen, option_seen, body_seen, seen_of, definition_of}
+use Rattle.c_elaborator.specs.declared.work.Work.{Work}
+use Rattle.c_elaborator.specs.declared.work.Definition.{Definition}
+use Rattle.c_elaborator.specs.Work.{Shows, Seen, option_seen, body_seen, seen_of, definition_of}
 
 pub count_zero : {A : Type 0} (test : A → Bool) (xs : List A) → count_before test xs 0 ≡ 0
 count_zero test [] = refl

@@ -16,8 +16,8 @@ use Rattle.c_tree.specs.Views.{IsOrdered, types_of, routine_of}
 use Rattle.c_tree.specs.Views as views
 use Rattle.c_tree.specs.Programs.{fault, file_begins, has_main, is_main, numbers_of, program_of, ended}
 use Rattle.c_tree.specs.Programs as programs
-use Rattle.c_work.specs.declared.work.Work.{Work}
-use Rattle.c_work.specs.Work.{Shows}
+use Rattle.c_elaborator.specs.declared.work.Work.{Work}
+use Rattle.c_elaborator.specs.Work.{Shows}
 use Rattle.c_copy.specs.declared.numbers.Numbers.{Numbers}
 use Rattle.c_copy.specs.Copying.{actions_in}
 use Rattle.c_passing.specs.Routines.{IsPassedProgram}

@@ -13,9 +13,9 @@ use Rattle.c_tree.specs.Programs.{fault, earlier, earliest, undefined_use, stati
 use Rattle.c_tree.specs.Programs.{pending_faults, last_faults}
 use Rattle.c_types.specs.Stands.{Declared, named, global_kept, static_seen, fun_kept, routine_seen, text_at}
 use Rattle.c_types.proofs.Looking.{seen_at, seen_length}
-use Rattle.c_nodes.specs.Nodes.{type_in}
-use Rattle.c_work.specs.declared.work.Work.{Work}
-use Rattle.c_work.specs.Work.{Shows}
+use Rattle.c_expressions.specs.Nodes.{type_in}
+use Rattle.c_elaborator.specs.declared.work.Work.{Work}
+use Rattle.c_elaborator.specs.Work.{Shows}
 use Rattle.c_finish.specs.Faults.{onto}
 
 -- ---- lists

@@ -9,14 +9,14 @@ use Rattle.std.proofs.lemmas.Option.{none-some}
 use Rattle.std.proofs.lemmas.Bool.{eqb-true}
 use Rattle.std.proofs.lemmas.List.Sums.{fold-append}
 use Rattle.ck_base.specs.declared.positions.Pos.{Pos}
-use Rattle.c_work.specs.declared.work.Use.{Use}
-use Rattle.c_work.specs.declared.work.Used.TheVariants as used
-use Rattle.c_work.specs.declared.work.Definition.{Definition}
-use Rattle.c_work.specs.declared.work.Filling.{Filling}
-use Rattle.c_work.specs.declared.work.Used.{Used}
-use Rattle.c_work.specs.declared.work.Work.{Work}
+use Rattle.c_elaborator.specs.declared.work.Use.{Use}
+use Rattle.c_elaborator.specs.declared.work.Used.TheVariants as used
+use Rattle.c_elaborator.specs.declared.work.Definition.{Definition}
+use Rattle.c_elaborator.specs.declared.work.Filling.{Filling}
+use Rattle.c_elaborator.specs.declared.work.Used.{Used}
+use Rattle.c_elaborator.specs.declared.work.Work.{Work}
 use Rattle.c_tree.specs.Scopes.{State}
-use Rattle.c_work.specs.Work.{Shows, UseIsThere, first_place, is_object, is_function, definition_of}
+use Rattle.c_elaborator.specs.Work.{Shows, UseIsThere, first_place, is_object, is_function, definition_of}
 use Rattle.c_finish.specs.declared.tables.Uses.{Uses}
 use Rattle.c_finish.specs.Tables.{HasUses, IsBlank, item_at, LastDefinitions, LastFillings, last_filling}
 use Rattle.c_finish.proofs.Faulting.{drop_step, drop_past, statics_count, routines_count}

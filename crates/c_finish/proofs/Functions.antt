@@ -17,9 +17,9 @@ use Rattle.c_tree.specs.Views.{types_of, actions_of, action_at, routine_of}
 use Rattle.c_tree.specs.Views as views
 use Rattle.c_tree.specs.Programs.{numbers_of, action_with, with_body}
 use Rattle.c_tree.specs.Programs as programs
-use Rattle.c_work.specs.declared.work.Work.{Work}
-use Rattle.c_work.specs.declared.work.Definition.{Definition}
-use Rattle.c_work.specs.Work.{Shows, Seen, option_seen, body_seen, seen_of, definition_of}
+use Rattle.c_elaborator.specs.declared.work.Work.{Work}
+use Rattle.c_elaborator.specs.declared.work.Definition.{Definition}
+use Rattle.c_elaborator.specs.Work.{Shows, Seen, option_seen, body_seen, seen_of, definition_of}
 use Rattle.c_copy.specs.Copying.{Extends, actions_in}
 use Rattle.c_copy.specs.declared.numbers.Numbers.{Numbers}
 use Rattle.c_copy.specs.Standing.{ActionStands, ActionStandsIn, NamesWithin, NamesThere}

@@ -16,11 +16,11 @@ use Rattle.c_tree.specs.Statics.{aim_length}
 use Rattle.c_tree.specs.Views.{types_of, aim_of}
 use Rattle.c_tree.specs.Views as views
 use Rattle.c_tree.specs.Programs.{numbers_of, aim_with, reach_of, pointing_of, initial_of, object_of}
-use Rattle.c_work.specs.declared.work.Start.{Start}
-use Rattle.c_work.specs.declared.work.Filling.{Filling}
-use Rattle.c_work.specs.declared.work.Work.{Work}
-use Rattle.c_work.specs.Work.{Shows, aiming_of, filling_of}
-use Rattle.c_work.specs.Work as works
+use Rattle.c_elaborator.specs.declared.work.Start.{Start}
+use Rattle.c_elaborator.specs.declared.work.Filling.{Filling}
+use Rattle.c_elaborator.specs.declared.work.Work.{Work}
+use Rattle.c_elaborator.specs.Work.{Shows, aiming_of, filling_of}
+use Rattle.c_elaborator.specs.Work as works
 use Rattle.c_copy.specs.declared.numbers.Numbers.{Numbers}
 use Rattle.c_copy.specs.Standing.{TargetThere}
 use Rattle.c_finish.specs.Finished.{filled, AimFits, IsShown, TargetFits, StartsFit, HaveNumbers}

@@ -11,8 +11,8 @@ use Rattle.c_tree.specs.Scopes.{RoutineState, State}
 use Rattle.c_tree.specs.Views.{types_of, type_at, type_from, tys}
 use Rattle.c_tree.specs.Programs.{is_there, is_main, has_main}
 use Rattle.c_interner.proofs.Growing.{type_at-level, type_at-past, sees_before}
-use Rattle.c_work.specs.declared.work.Work.{Work}
-use Rattle.c_work.specs.Work.{Shows}
+use Rattle.c_elaborator.specs.declared.work.Work.{Work}
+use Rattle.c_elaborator.specs.Work.{Shows}
 use Rattle.c_copy.specs.declared.numbers.Numbers.{Numbers}
 use Rattle.c_finish.specs.Finished.{IsShown, HaveNumbers, IsMain}
 use Rattle.c_finish.proofs.Faulting.{drop_step, drop_past, routines_count}

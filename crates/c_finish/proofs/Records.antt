@@ -12,7 +12,7 @@ use Rattle.c_tree.specs.Views.{types_of, type_at, member_of}
 use Rattle.c_tree.specs.Programs.{tag_of, member_of_tag, members_of_tag}
 use Rattle.c_types.specs.Stands.{named, member_kept, part_seen}
 use Rattle.c_types.specs.Members.{parts_of}
-use Rattle.c_work.specs.declared.work.Work.{Work}
+use Rattle.c_elaborator.specs.declared.work.Work.{Work}
 
 abbrev pair_with : Span → Ty → Span × Ty
 pair_with m t = (m, t)

@@ -27,10 +27,10 @@ use Rattle.c_tree.specs.Views as views
 use Rattle.c_tree.specs.Programs as programs
 use Rattle.c_types.specs.Stands.{member_kept, part_seen}
 use Rattle.c_types.specs.Members.{parts_of}
-use Rattle.c_work.specs.declared.work.Filling.{Filling}
-use Rattle.c_work.specs.declared.work.Start.{Start}
-use Rattle.c_work.specs.declared.work.Work.{Work}
-use Rattle.c_work.specs.Work as works
+use Rattle.c_elaborator.specs.declared.work.Filling.{Filling}
+use Rattle.c_elaborator.specs.declared.work.Start.{Start}
+use Rattle.c_elaborator.specs.declared.work.Work.{Work}
+use Rattle.c_elaborator.specs.Work as works
 use Rattle.c_copy.specs.declared.numbers.Numbers.{Numbers}
 use Rattle.c_copy.specs.Copying.{AreNumbers, actions_in}
 use Rattle.c_copy.specs.Standing.{ActionStands, NamesWithin}

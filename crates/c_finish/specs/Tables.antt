@@ -1,11 +1,11 @@
 -- What counts of all that was said of each object and function.
 use Rattle.std.specs.Prelude.{◌≡◌, ℕ, ◌<◌, ◌==◌, if◌then◌else◌, List, ◌∷◌, length, fold, Option, Some, None, slice_get}
 use Rattle.ck_base.specs.declared.positions.Pos.{Pos}
-use Rattle.c_work.specs.declared.work.Use.{Use}
-use Rattle.c_work.specs.declared.work.Filling.{Filling}
-use Rattle.c_work.specs.declared.work.Definition.{Definition}
-use Rattle.c_work.specs.declared.work.Work.{Work}
-use Rattle.c_work.specs.Work.{first_place, is_object, is_function, definition_of}
+use Rattle.c_elaborator.specs.declared.work.Use.{Use}
+use Rattle.c_elaborator.specs.declared.work.Filling.{Filling}
+use Rattle.c_elaborator.specs.declared.work.Definition.{Definition}
+use Rattle.c_elaborator.specs.declared.work.Work.{Work}
+use Rattle.c_elaborator.specs.Work.{first_place, is_object, is_function, definition_of}
 use Rattle.c_finish.specs.declared.tables.Uses.{Uses}
 
 abbrev pub IsBlank : {A : Type 0} → List (Option A) → Type 0

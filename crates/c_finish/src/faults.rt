@@ -3,7 +3,7 @@
 ghost use Rattle.std.specs.Prelude.{◌≡◌, ◌<◌, IfOk, Some, length, slice_get, flat_map};
 ghost use Rattle.c_tree.specs.Scopes.{State, StaticState, RoutineState};
 ghost use Rattle.c_tree.specs.Programs.{static_faults, routine_faults, pending_faults, last_faults, earliest, reaches};
-ghost use Rattle.c_work.specs.Work.{Shows, pending_of};
+ghost use Rattle.c_elaborator.specs.Work.{Shows, pending_of};
 ghost use Rattle.c_finish.specs.Faults.{found, onto};
 ghost use Rattle.c_finish.specs.Finished.{IsShown};
 ghost use Rattle.c_finish.specs.Tables.{AreUses, HasDefinitions};
@@ -11,7 +11,7 @@ ghost use Rattle.c_finish.specs.Tables.{AreUses, HasDefinitions};
 use crate::found::{Found, earlier, undefined};
 use crate::lengths::object_length;
 use crate::tables::{Uses, count, definition, global_at};
-use c_work::{Waiting, Work};
+use c_elaborator::{Waiting, Work};
 use ck_base::NoMemory;
 
 // What fails of an object: it is not complete (132), or it is used and not defined (130).

@@ -5,8 +5,8 @@ ghost use Rattle.c_tree.specs.Syntax.{Syn};
 ghost use Rattle.c_tree.specs.Scopes.{State};
 ghost use Rattle.c_tree.specs.Passed.{call_name, calls_in};
 ghost use Rattle.c_tree.specs.Programs.{last_faults, earliest, ended};
-ghost use Rattle.c_nodes.specs.Nodes.{IsWhole};
-ghost use Rattle.c_work.specs.Work.{Shows};
+ghost use Rattle.c_expressions.specs.Nodes.{IsWhole};
+ghost use Rattle.c_elaborator.specs.Work.{Shows};
 ghost use Rattle.c_passing.specs.Named.{HasSyntax};
 ghost use Rattle.c_finish.specs.Finished.{Finished, IsShown, IsMain, IsSyntax, IsWritten, IsProgram};
 ghost use Rattle.c_finish.specs.Tables.{HasDefinitions};
@@ -19,9 +19,9 @@ use crate::routines::routines;
 use crate::tables::{first_uses, last_definitions, last_fillings};
 use crate::tags::check_tags;
 use c_copy::{Copied, Numbers, check_order};
+use c_elaborator::Work;
 use c_passing::pass;
 use c_tree::{FunDef, GlobalDef, Typed};
-use c_work::Work;
 use ck_base::{NoMemory, Pos, Refusal, Sequence};
 
 fn number_of_main(numbers: &Numbers, k: u32) -> u32

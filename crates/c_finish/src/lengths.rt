@@ -5,11 +5,11 @@ ghost use Rattle.c_tree.specs.Scopes.{State};
 ghost use Rattle.c_tree.specs.Statics.{static_length, text_length, aim_length};
 ghost use Rattle.c_tree.specs.Views.{aim_of};
 ghost use Rattle.c_tree.specs.declared.typed.Target.TheVariants as targets;
-ghost use Rattle.c_work.specs.Work.{Shows};
+ghost use Rattle.c_elaborator.specs.Work.{Shows};
 ghost use Rattle.c_finish.specs.Finished.{IsShown, TargetFits};
 
+use c_elaborator::Work;
 use c_tree::Target;
-use c_work::Work;
 use cap_layout::{LayoutFault, owned};
 
 /// What an object of static storage duration owns, where its type is complete.

@@ -7,13 +7,13 @@ ghost use Rattle.c_tree.specs.Types.{Ty, Function, no_types, int, same, same_kin
 ghost use Rattle.c_tree.specs.Scopes.{State, RoutineState};
 ghost use Rattle.c_tree.specs.Programs.{is_main};
 ghost use Rattle.c_tree.specs.Views.{types_of, type_at, type_from};
-ghost use Rattle.c_work.specs.Work.{Shows};
+ghost use Rattle.c_elaborator.specs.Work.{Shows};
 ghost use Rattle.c_finish.specs.Finished.{IsMain};
 ghost use Rattle.c_finish.specs.Tables.{HasDefinitions};
 
 use crate::tables::{count, definition, function_at};
+use c_elaborator::Work;
 use c_tree::CType;
-use c_work::Work;
 use ck_base::NoMemory;
 use ck_int::IntKind;
 

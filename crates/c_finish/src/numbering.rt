@@ -3,13 +3,13 @@
 ghost use Rattle.std.specs.Prelude.{IfOk, ◌≡◌, ◌+◌, ◌<◌, ℕ, Some, length, slice_get, if◌then◌else◌};
 ghost use Rattle.c_tree.specs.Scopes.{State};
 ghost use Rattle.c_tree.specs.Programs.{numbers_of, is_there};
-ghost use Rattle.c_work.specs.Work.{Shows, definition_of};
+ghost use Rattle.c_elaborator.specs.Work.{Shows, definition_of};
 ghost use Rattle.c_finish.specs.Finished.{HaveNumbers};
 ghost use Rattle.c_finish.specs.Tables.{HasDefinitions};
 
 use crate::tables::{count, definition};
 use c_copy::Numbers;
-use c_work::Work;
+use c_elaborator::Work;
 use ck_base::NoMemory;
 
 fn one_more(test: bool, n: u32) -> u32

@@ -6,17 +6,17 @@ ghost use Rattle.c_tree.specs.Scopes.{State, StaticState};
 ghost use Rattle.c_tree.specs.Programs.{reach_of, pointing_of, initial_of, object_of};
 ghost use Rattle.c_tree.specs.Views.{types_of};
 ghost use Rattle.c_tree.specs.Views as views;
-ghost use Rattle.c_work.specs.declared.work.Filling.{Filling as Given};
-ghost use Rattle.c_work.specs.Work.{Shows, aiming_of};
-ghost use Rattle.c_work.specs.Work as works;
+ghost use Rattle.c_elaborator.specs.declared.work.Filling.{Filling as Given};
+ghost use Rattle.c_elaborator.specs.Work.{Shows, aiming_of};
+ghost use Rattle.c_elaborator.specs.Work as works;
 ghost use Rattle.c_finish.specs.Finished.{IsShown, TargetFits, StartsFit, HaveNumbers, AreObjects, AddsObject, filled};
 ghost use Rattle.c_finish.specs.Tables.{HasFillings};
 
 use crate::lengths::aim_length;
 use crate::tables::{count, filling, global_at};
 use c_copy::Numbers;
+use c_elaborator::{Bounds, Filling, Start, Work};
 use c_tree::{GlobalDef, Link};
-use c_work::{Bounds, Filling, Start, Work};
 use ck_base::{NoMemory, Sequence};
 
 // Where the bounds of a pointer begin and how long they are.

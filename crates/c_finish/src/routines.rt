@@ -2,16 +2,16 @@
 
 ghost use Rattle.std.specs.Prelude.{◌≡◌, ◌<◌, Some, IfOk, OnOk, length, slice_get};
 ghost use Rattle.c_tree.specs.Scopes.{State};
-ghost use Rattle.c_work.specs.Work.{Shows};
+ghost use Rattle.c_elaborator.specs.Work.{Shows};
 ghost use Rattle.c_copy.specs.Copying.{Extends};
 ghost use Rattle.c_finish.specs.Finished.{IsShown, HaveNumbers, AreRoutines, IsRoutine, AddsRoutine};
 ghost use Rattle.c_finish.specs.Tables.{HasDefinitions};
-ghost use Rattle.c_work.specs.Work.{definition_of};
+ghost use Rattle.c_elaborator.specs.Work.{definition_of};
 
 use crate::tables::{count, definition, function_at};
 use c_copy::{Copied, Numbers, Source, statement};
+use c_elaborator::{Definition, Work};
 use c_tree::{FunDef, VarDef};
-use c_work::{Definition, Work};
 use ck_base::{NoMemory, Sequence};
 use std::alloc::Global;
 

@@ -2,12 +2,12 @@
 //! and the last initial value.
 
 ghost use Rattle.std.specs.Prelude.{◌≡◌, ◌<◌, Some, IfOk, None, length, option_map, slice_set, slice_get};
-ghost use Rattle.c_work.specs.Work.{definition_of, UseIsThere};
+ghost use Rattle.c_elaborator.specs.Work.{definition_of, UseIsThere};
 ghost use Rattle.c_finish.specs.Finished.{IsShown};
 ghost use Rattle.c_finish.specs.Tables.{AreUses, HasDefinitions, HasFillings, last_filling, IsBlank, AddsUse};
 
+use c_elaborator::{Definition, Filling, Use, Used, Work};
 use c_tree::{FunDef, GlobalDef};
-use c_work::{Definition, Filling, Use, Used, Work};
 use ck_base::{NoMemory, Pos};
 use std::alloc::Global;
 

@@ -3,8 +3,8 @@
 ghost use Rattle.std.specs.Prelude.{◌≡◌, Some, IfOk, OnOk};
 ghost use Rattle.c_finish.specs.Finished.{TagsFit, TagFits, IsRecord, IsOpen, HasMembers};
 
+use c_elaborator::Work;
 use c_tree::{CType, Member, RecordKind};
-use c_work::Work;
 use ck_base::NoMemory;
 
 fn check_kind(found: Option<RecordKind>, kind: RecordKind) -> Result<(), NoMemory>

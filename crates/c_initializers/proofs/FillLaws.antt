@@ -21,10 +21,10 @@ use Rattle.c_tree.specs.Readings as meant
 use Rattle.c_tree.specs.Scopes.{State, size, give}
 use Rattle.c_tree.specs.Initializers.{covers, scalar_slot, zero_slot, every_slot, scalars, byte_slots, taken, element}
 use Rattle.c_tree.specs.Initializers.{array_count}
-use Rattle.c_nodes.specs.declared.nodes.Nodes.{Nodes}
-use Rattle.c_nodes.specs.Nodes.{IsWhole, Keeps, HasTerm, type_in, term_in, type_count, term_count}
-use Rattle.c_nodes.proofs.Keeping.{keeps_same, keeps_then, needed, refused}
-use Rattle.c_nodes.specs.Answers.{Given, Refuses}
+use Rattle.c_expressions.specs.declared.nodes.Nodes.{Nodes}
+use Rattle.c_expressions.specs.Nodes.{IsWhole, Keeps, HasTerm, type_in, term_in, type_count, term_count}
+use Rattle.c_expressions.proofs.Keeping.{keeps_same, keeps_then, needed, refused}
+use Rattle.c_expressions.specs.Answers.{Given, Refuses}
 use Rattle.c_initializers.specs.declared.slots.Slot.{Slot}
 use Rattle.c_initializers.specs.declared.slots.Filled.{Filled}
 use Rattle.c_initializers.specs.declared.places.Place.{Place}
@@ -34,10 +34,10 @@ use Rattle.c_initializers.specs.Slots.{slot_in, slots_in, IsSlotThere, AreSlotsT
 use Rattle.c_initializers.specs.Slots.{place_of, extent_of, scalars_given, filled_in, IsFilledIn, string_filled}
 use Rattle.c_initializers.specs.Slots.{HaveExtents, every_slot_of, SlotsThere, AreSlots}
 use Rattle.c_initializers.specs.Places.{ArePartsOf}
-use Rattle.c_work.specs.declared.work.Work.{Work}
-use Rattle.c_work.specs.Answers.{Done, quietly}
-use Rattle.c_work.proofs.Growing.{quiet_nodes, shows_nodes}
-use Rattle.c_work.proofs.Sequencing.{still_same}
+use Rattle.c_elaborator.specs.declared.work.Work.{Work}
+use Rattle.c_elaborator.specs.Answers.{Done, quietly}
+use Rattle.c_elaborator.proofs.Growing.{quiet_nodes, shows_nodes}
+use Rattle.c_elaborator.proofs.Sequencing.{still_same}
 use Rattle.std.specs.Global.{Vec}
 use Rattle.c_initializers.proofs.PlaceLaws.{drop-next, shifted, slice_get-map}
 

@@ -11,9 +11,9 @@ use Rattle.c_tree.specs.Statics.{is_value_start, start_of, or_number, with_known
 use Rattle.c_tree.specs.Statics.{cast_start, summed, derived_sum}
 use Rattle.c_tree.specs.Views.{kind_term, expr_from, types_of, no_term}
 use Rattle.c_tree.proofs.Forest.{forest_reads}
-use Rattle.c_nodes.specs.declared.nodes.Nodes.{Nodes}
-use Rattle.c_nodes.specs.Nodes.{type_in, term_in}
-use Rattle.c_nodes.proofs.Levels.{expr_shows}
+use Rattle.c_expressions.specs.declared.nodes.Nodes.{Nodes}
+use Rattle.c_expressions.specs.Nodes.{type_in, term_in}
+use Rattle.c_expressions.proofs.Levels.{expr_shows}
 use Rattle.c_initializers.specs.declared.forms.Form.{Form}
 use Rattle.c_initializers.specs.declared.forms.Form.TheVariants.{Whole, Entry, Member, Pointed, Same, Converted, Plus}
 use Rattle.c_initializers.specs.declared.forms.Form.TheVariants.{Derived, Other}

@@ -18,13 +18,13 @@ use Rattle.c_initializers.proofs.PlaceLaws.{drop-next}
 use Rattle.c_tree.specs.declared.typed.Typed.{Typed}
 use Rattle.c_types.specs.declared.scopes.Scopes.{Scopes}
 use Rattle.c_types.specs.Stands.{Stands}
-use Rattle.c_nodes.specs.Nodes.{IsWhole, term_in, type_in}
-use Rattle.c_work.specs.declared.work.Work.{Work}
-use Rattle.c_work.specs.declared.work.Waiting.{Waiting}
-use Rattle.c_work.specs.Work.{Shows, pending_of}
-use Rattle.c_work.specs.Answers.{Done, Keeps, freely}
+use Rattle.c_expressions.specs.Nodes.{IsWhole, term_in, type_in}
+use Rattle.c_elaborator.specs.declared.work.Work.{Work}
+use Rattle.c_elaborator.specs.declared.work.Waiting.{Waiting}
+use Rattle.c_elaborator.specs.Work.{Shows, pending_of}
+use Rattle.c_elaborator.specs.Answers.{Done, Keeps, freely}
 use Rattle.c_tree.specs.Scopes.{Aiming, size}
-use Rattle.c_nodes.specs.declared.nodes.Nodes.{Nodes}
+use Rattle.c_expressions.specs.declared.nodes.Nodes.{Nodes}
 use Rattle.c_initializers.specs.declared.slots.Slot.{Slot}
 use Rattle.c_initializers.specs.declared.bytes.Placed.{Placed}
 use Rattle.c_initializers.specs.declared.starts.Value.TheVariants as values

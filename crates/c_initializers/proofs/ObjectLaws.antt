@@ -24,22 +24,24 @@ use Rattle.c_types.specs.Calls.{Extends}
 use Rattle.c_types.specs.Stands.{Stands, named, text_at}
 use Rattle.c_types.proofs.Judged.{named_there}
 use Rattle.c_types.proofs.Records.{push_cases, slice_get-slice_set}
-use Rattle.c_nodes.specs.declared.nodes.Nodes.{Nodes}
-use Rattle.c_nodes.specs.Nodes as nodes
-use Rattle.c_nodes.specs.Nodes.{IsWhole, type_in, type_count}
-use Rattle.c_work.specs.declared.work.Work.{Work}
-use Rattle.c_work.specs.declared.work.Filling.{Filling}
-use Rattle.c_work.specs.declared.work.Name.{Name}
-use Rattle.c_work.specs.declared.work.Start.{Start}
+use Rattle.c_expressions.specs.declared.nodes.Nodes.{Nodes}
+use Rattle.c_expressions.specs.Nodes as nodes
+use Rattle.c_expressions.specs.Nodes.{IsWhole, type_in, type_count}
+use Rattle.c_elaborator.specs.declared.work.Work.{Work}
+use Rattle.c_elaborator.specs.declared.work.Filling.{Filling}
+use Rattle.c_elaborator.specs.declared.work.Name.{Name}
+use Rattle.c_elaborator.specs.declared.work.Start.{Start}
 use Rattle.c_initializers.specs.declared.bytes.Placed.{Placed}
 use Rattle.c_initializers.specs.Placing.{placed_of, pointers_end}
-use Rattle.c_work.specs.Work.{Shows, IsClosed, aiming_of, filling_of, first_place, is_object, is_function, is_among}
-use Rattle.c_work.specs.Parts.{token_of}
-use Rattle.c_work.specs.Rules.{IsObjectType}
-use Rattle.c_work.specs.Answers.{Keeps, Done, Answers, quietly, freely, TypeThere, IsType, NothingThere, IsNothing}
-use Rattle.c_work.proofs.Growing.{keeps_nodes, shows_nodes}
+use Rattle.c_elaborator.specs.Work.{Shows, IsClosed, aiming_of, filling_of, first_place, is_object, is_function}
+use Rattle.c_elaborator.specs.Work.{is_among}
+use Rattle.c_elaborator.specs.Parts.{token_of}
+use Rattle.c_elaborator.specs.Rules.{IsObjectType}
+use Rattle.c_elaborator.specs.Answers.{Keeps, Done, Answers, quietly, freely, TypeThere, IsType, NothingThere}
+use Rattle.c_elaborator.specs.Answers.{IsNothing}
+use Rattle.c_elaborator.proofs.Growing.{keeps_nodes, shows_nodes}
 use Rattle.ck_base.specs.declared.refusal.Refusal.{Refusal}
-use Rattle.c_work.proofs.Sequencing.{keeps_then, answers_at, then, then_by, also_then, freed, failed, free_law}
+use Rattle.c_elaborator.proofs.Sequencing.{keeps_then, answers_at, then, then_by, also_then, freed, failed, free_law}
 use Rattle.c_initializers.specs.declared.slots.Slot.{Slot}
 use Rattle.c_initializers.specs.declared.slots.Filled.{Filled}
 use Rattle.c_initializers.specs.declared.statics.Found.{Found}
@@ -49,9 +51,10 @@ use Rattle.c_initializers.proofs.SlotLaws.{work_slots_kept}
 use Rattle.c_initializers.specs.Objects.{counted, filled, completes_object, object_complete, local_completed}
 use Rattle.c_initializers.specs.Objects.{completes_local, fills_object, fills_found, static_filled, local_filled}
 use Rattle.c_initializers.specs.Objects.{AreBelow}
-use Rattle.c_work.proofs.Using.{set_at}
-use Rattle.c_work.proofs.Extending.{GoesOn, extends_goes_on, AreExtended, extended_whole, extended_values}
-use Rattle.c_work.proofs.Extending.{extended_keeps, extended_definition, extended_there, each_changed, changed_length}
+use Rattle.c_elaborator.proofs.Using.{set_at}
+use Rattle.c_elaborator.proofs.Extending.{GoesOn, extends_goes_on, AreExtended, extended_whole, extended_values}
+use Rattle.c_elaborator.proofs.Extending.{extended_keeps, extended_definition, extended_there, each_changed}
+use Rattle.c_elaborator.proofs.Extending.{changed_length}
 
 -- ---- objects of static storage duration
 

@@ -21,12 +21,12 @@ use Rattle.c_tree.specs.Initializers.{item_place, tag_places, or_none, repeat, s
 use Rattle.c_tree.specs.Initializers.{scalars, with_count}
 use Rattle.c_tree.specs.Statics as statics
 use Rattle.c_tree.specs.Statics.{offset_in, record_offset, tag_offset}
-use Rattle.c_nodes.specs.Nodes.{type_in}
-use Rattle.c_nodes.specs.declared.classes.Class.{Class}
-use Rattle.c_nodes.specs.declared.classes.Class.TheVariants as classes
-use Rattle.c_nodes.specs.Classes.{class_type}
-use Rattle.c_work.specs.declared.work.Work.{Work}
-use Rattle.c_work.specs.Work.{Shows}
+use Rattle.c_expressions.specs.Nodes.{type_in}
+use Rattle.c_expressions.specs.declared.classes.Class.{Class}
+use Rattle.c_expressions.specs.declared.classes.Class.TheVariants as classes
+use Rattle.c_expressions.specs.Classes.{class_type}
+use Rattle.c_elaborator.specs.declared.work.Work.{Work}
+use Rattle.c_elaborator.specs.Work.{Shows}
 use Rattle.c_initializers.specs.declared.places.Place.{Place}
 use Rattle.c_initializers.specs.declared.members.Next.{Next}
 use Rattle.c_initializers.specs.declared.members.Record.{Record}

@@ -11,8 +11,8 @@ use Rattle.c_tree.specs.Scopes.{Part, State, TagState, type_extent}
 use Rattle.c_tree.specs.Initializers.{or_none, struct_places, record_places, known_places, tag_places}
 use Rattle.c_tree.specs.Views.{types_of}
 use Rattle.c_types.specs.Stands.{named, part_seen, member_kept}
-use Rattle.c_nodes.specs.Nodes.{type_in}
-use Rattle.c_work.specs.declared.work.Work.{Work}
+use Rattle.c_expressions.specs.Nodes.{type_in}
+use Rattle.c_elaborator.specs.declared.work.Work.{Work}
 use Rattle.c_initializers.specs.Places.{numbered_places, first_place, places_in, members_of}
 
 type-kept : (w : Work) (p : Part) (m : Member) → part_seen p ≡ member_kept (types_of w.nodes.p.types) m →

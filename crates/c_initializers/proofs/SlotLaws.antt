@@ -1,9 +1,9 @@
 -- The values that an initializer gives are named while the work grows.
 use Rattle.std.proofs.Common.{◌≡◌, ℕ, suc, ◌<◌, ◌≤◌, List, [], ◌∷◌, map, refl, sym, ap, ◌∙◌, arith}
 use Rattle.std.specs.List.{All}
-use Rattle.c_nodes.specs.Nodes.{type_in, term_in, type_count, term_count}
-use Rattle.c_work.specs.declared.work.Work.{Work}
-use Rattle.c_work.specs.Answers.{Keeps}
+use Rattle.c_expressions.specs.Nodes.{type_in, term_in, type_count, term_count}
+use Rattle.c_elaborator.specs.declared.work.Work.{Work}
+use Rattle.c_elaborator.specs.Answers.{Keeps}
 use Rattle.c_initializers.specs.declared.slots.Slot.{Slot}
 use Rattle.c_initializers.specs.Slots.{slot_in, slots_in, IsSlotThere, AreSlotsThere}
 

@@ -23,9 +23,9 @@ use Rattle.c_tree.specs.Views.{types_of, text_of}
 use Rattle.c_types.specs.Stands.{Declared, named, global_kept, static_seen}
 use Rattle.c_types.proofs.Looking.{seen_at}
 use Rattle.c_types.proofs.Records.{seen_none}
-use Rattle.c_nodes.specs.Nodes.{type_in}
-use Rattle.c_work.specs.declared.work.Work.{Work}
-use Rattle.c_work.specs.Work.{Shows}
+use Rattle.c_expressions.specs.Nodes.{type_in}
+use Rattle.c_elaborator.specs.declared.work.Work.{Work}
+use Rattle.c_elaborator.specs.Work.{Shows}
 use Rattle.c_initializers.proofs.PlaceLaws.{slice_get-map}
 
 twice : (n : ℕ) → n % 18446744073709551616 % 18446744073709551616 ≡ n % 18446744073709551616

@@ -10,8 +10,8 @@ use Rattle.c_tree.specs.Statics as meant
 use Rattle.c_tree.specs.Statics.{Known, start_of, or_number, with_known, by_offset, member_offset, pointed_at}
 use Rattle.c_tree.specs.Statics.{cast_start, summed, derived_sum}
 use Rattle.c_tree.specs.Views.{kind_term, aim_of}
-use Rattle.c_nodes.specs.declared.nodes.Nodes.{Nodes}
-use Rattle.c_nodes.specs.Nodes.{term_in}
+use Rattle.c_expressions.specs.declared.nodes.Nodes.{Nodes}
+use Rattle.c_expressions.specs.Nodes.{term_in}
 use Rattle.c_initializers.specs.declared.forms.Form.{Form}
 use Rattle.c_initializers.specs.declared.forms.Form.TheVariants.{Whole, Entry, Member, Pointed, Same, Converted, Plus}
 use Rattle.c_initializers.specs.declared.forms.Form.TheVariants.{Derived, Other}

@@ -10,8 +10,8 @@ use Rattle.c_tree.specs.Readings as meant
 use Rattle.c_tree.specs.Scopes.{All, Pending, State, size}
 use Rattle.c_tree.specs.Statics as statics
 use Rattle.c_tree.specs.Statics.{Number, There, Entry, nothing_found, known_value, start_slots}
-use Rattle.c_work.specs.declared.work.Work.{Work}
-use Rattle.c_work.specs.Work.{Shows, aiming_of, pending_of}
+use Rattle.c_elaborator.specs.declared.work.Work.{Work}
+use Rattle.c_elaborator.specs.Work.{Shows, aiming_of, pending_of}
 use Rattle.c_initializers.specs.declared.slots.Slot.{Slot}
 use Rattle.c_initializers.specs.declared.starts.Known.{Known}
 use Rattle.c_initializers.specs.declared.statics.Found.{Found}

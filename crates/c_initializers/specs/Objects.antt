@@ -9,7 +9,7 @@ use Rattle.c_tree.specs.Scopes.{changed_at, change_static}
 use Rattle.c_tree.specs.Initializers.{every_slot, with_count}
 use Rattle.c_tree.specs.Statics.{Found, start_slots, initial_bytes}
 use Rattle.c_tree.specs.Declarations.{complete_now, static_of}
-use Rattle.c_work.specs.declared.work.Filling.{Filling}
+use Rattle.c_elaborator.specs.declared.work.Filling.{Filling}
 
 -- ---- an object of static storage duration
 

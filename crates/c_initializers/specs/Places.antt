@@ -11,9 +11,9 @@ use Rattle.c_tree.specs.declared.syntax.RecordKind.TheVariants.{Struct, Union}
 use Rattle.c_tree.specs.declared.typed.Member.{Member}
 use Rattle.cap_layout.specs.Answers.{extent_is}
 use Rattle.cap_layout.specs.declared.answers.Layout.{Layout}
-use Rattle.c_nodes.specs.Nodes.{type_in, type_count}
-use Rattle.c_work.specs.declared.work.Work.{Work}
-use Rattle.c_work.specs.Work.{Shows}
+use Rattle.c_expressions.specs.Nodes.{type_in, type_count}
+use Rattle.c_elaborator.specs.declared.work.Work.{Work}
+use Rattle.c_elaborator.specs.Work.{Shows}
 use Rattle.c_initializers.specs.declared.places.Place.{Place}
 use Rattle.c_initializers.specs.declared.members.Record.{Record}
 use Rattle.c_initializers.specs.declared.members.Next.{Next}

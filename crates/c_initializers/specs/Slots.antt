@@ -10,10 +10,10 @@ use Rattle.c_tree.specs.Readings as meant
 use Rattle.c_tree.specs.Scopes.{State, Doing, give, look, need, ◌>>=◌, ◌>>◌}
 use Rattle.c_tree.specs.Conversions.{Operand, assigned}
 use Rattle.c_tree.specs.Initializers.{array_count, byte_slots, element, taken, every_slot, scalar_slot}
-use Rattle.c_nodes.specs.declared.nodes.Nodes.{Nodes}
-use Rattle.c_nodes.specs.Nodes.{Keeps, type_in, term_in, type_count, term_count}
-use Rattle.c_work.specs.declared.work.Work.{Work}
-use Rattle.c_work.specs.Work.{Shows}
+use Rattle.c_expressions.specs.declared.nodes.Nodes.{Nodes}
+use Rattle.c_expressions.specs.Nodes.{Keeps, type_in, term_in, type_count, term_count}
+use Rattle.c_elaborator.specs.declared.work.Work.{Work}
+use Rattle.c_elaborator.specs.Work.{Shows}
 use Rattle.c_tree.specs.Scopes.{size}
 use Rattle.c_initializers.specs.declared.covering.Extent.{Extent}
 use Rattle.c_initializers.specs.Covering.{covers_place}

@@ -3,7 +3,7 @@ use Rattle.std.specs.Prelude.{◌≡◌, ℤ, List, reverse, Option, option_map}
 use Rattle.c_tree.specs.Statics as meant
 use Rattle.c_tree.specs.Statics.{Known}
 use Rattle.c_tree.specs.Views.{aim_of}
-use Rattle.c_work.specs.Work.{reach_of}
+use Rattle.c_elaborator.specs.Work.{reach_of}
 use Rattle.c_initializers.specs.declared.starts.Value.{Value}
 use Rattle.c_initializers.specs.declared.starts.Value.TheVariants.{Number, There, Entry}
 use Rattle.c_initializers.specs.declared.starts.Known.{Known as Kept}

@@ -7,9 +7,9 @@ ghost use Rattle.c_tree.specs.Statics.{known_value, start_of, number_in, by_numb
 ghost use Rattle.c_tree.specs.Statics.{member_offset, pointed_at, cast_start, summed, derived_sum, is_start};
 ghost use Rattle.c_tree.specs.Types.{bare};
 ghost use Rattle.c_tree.specs.Terms.{type_of};
-ghost use Rattle.c_nodes.specs.Nodes.{IsWhole, type_in, term_in, type_count, term_count};
-ghost use Rattle.c_work.specs.Answers.{Answers, quietly, NothingThere, IsNothing};
-ghost use Rattle.c_work.specs.Work.{Shows};
+ghost use Rattle.c_expressions.specs.Nodes.{IsWhole, type_in, term_in, type_count, term_count};
+ghost use Rattle.c_elaborator.specs.Answers.{Answers, quietly, NothingThere, IsNothing};
+ghost use Rattle.c_elaborator.specs.Work.{Shows};
 ghost use Rattle.c_initializers.specs.Forms.{StandsBefore, form_start};
 ghost use Rattle.c_initializers.specs.Slots.{IsSlotThere, slot_in};
 ghost use Rattle.c_initializers.specs.Starts.{IsKnown, known_of};
@@ -19,8 +19,8 @@ use crate::forms::{Form, form_of, reads};
 use crate::known::{member_offset, move_by, pointed_at, target_size};
 use crate::slots::Slot;
 use crate::starts::{Known, Pointer, Value, bytes_moved, number_at};
-use c_nodes::Nodes;
-use c_work::{Bounds, Work};
+use c_elaborator::{Bounds, Work};
+use c_expressions::Nodes;
 use ck_base::{NoMemory, Refusal};
 
 // How deep the expressions of an address may lie in one another.

@@ -2,9 +2,9 @@
 
 ghost use Rattle.std.specs.Prelude.{◌≡◌, ◌<◌, IfOk};
 ghost use Rattle.c_tree.specs.Initializers.{with_count};
-ghost use Rattle.c_nodes.specs.Nodes.{IsWhole, HasType, type_in, type_count};
+ghost use Rattle.c_expressions.specs.Nodes.{IsWhole, HasType, type_in, type_count};
 
-use c_nodes::{Class, Nodes};
+use c_expressions::{Class, Nodes};
 use c_tree::CType;
 use ck_base::NoMemory;
 

@@ -3,8 +3,8 @@
 ghost use Rattle.std.specs.Prelude.{◌≡◌, ◌<◌, ◌∷◌, [], ◌==◌, if◌then◌else◌, length, map, IfOk, IfSome, OnOk};
 ghost use Rattle.std.specs.List.{All};
 ghost use Rattle.c_tree.specs.Initializers.{scalar_slot, zero_slot};
-ghost use Rattle.c_nodes.specs.Nodes.{IsWhole, type_in, type_count};
-ghost use Rattle.c_work.specs.Answers.{Answers, quietly};
+ghost use Rattle.c_expressions.specs.Nodes.{IsWhole, type_in, type_count};
+ghost use Rattle.c_elaborator.specs.Answers.{Answers, quietly};
 ghost use Rattle.c_initializers.specs.Slots.{HasSlots, AddsSlots, IsSlotThere, AreSlotsThere, SlotsThere, AreSlots};
 ghost use Rattle.c_initializers.specs.Slots.{slot_in, slots_in, chosen, HaveExtents, place_of, scalars_given};
 ghost use Rattle.c_initializers.specs.Slots.{every_slot_of};
@@ -14,8 +14,8 @@ use crate::places::Place;
 use crate::scalars::{moved, scalars};
 use crate::sizes::size_of;
 use crate::slots::Slot;
-use c_nodes::{Leaf, Nodes};
-use c_work::Work;
+use c_elaborator::Work;
+use c_expressions::{Leaf, Nodes};
 use ck_base::{NoMemory, Pos, Refusal};
 
 // The bytes that values have.

@@ -6,10 +6,10 @@ ghost use Rattle.c_tree.specs.Types.{Ty};
 ghost use Rattle.c_tree.specs.Terms.{Term};
 ghost use Rattle.c_tree.specs.Statics.{is_value_start};
 ghost use Rattle.c_tree.specs.Views.{kind_term};
-ghost use Rattle.c_nodes.specs.Nodes.{IsWhole, term_in, term_count};
+ghost use Rattle.c_expressions.specs.Nodes.{IsWhole, term_in, term_count};
 ghost use Rattle.c_initializers.specs.Forms.{IsForm, IsFormOf, StandsBefore};
 
-use c_nodes::Nodes;
+use c_expressions::Nodes;
 use c_tree::{ExprKind, Target};
 use ck_base::NoMemory;
 use ck_int::IntOp;

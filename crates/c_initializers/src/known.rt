@@ -7,17 +7,17 @@ ghost use Rattle.c_tree.specs.Scopes.{State};
 ghost use Rattle.c_tree.specs.Statics.{There, static_length, text_length, aim_length, near_all, moved_to, inside};
 ghost use Rattle.c_tree.specs.Statics.{narrowed_in, narrowed, member_offset, move_by, pointed_at, target_size};
 ghost use Rattle.c_tree.specs.Views.{aim_of};
-ghost use Rattle.c_nodes.specs.Nodes.{IsWhole, type_in, term_in, type_count, term_count};
-ghost use Rattle.c_work.specs.Work.{Shows, reach_of};
+ghost use Rattle.c_expressions.specs.Nodes.{IsWhole, type_in, term_in, type_count, term_count};
+ghost use Rattle.c_elaborator.specs.Work.{Shows, reach_of};
 ghost use Rattle.c_initializers.specs.Starts.{IsKnown, known_of};
 
 use crate::members::{LIMIT, all_members, record_of};
 use crate::places::Place;
 use crate::sizes::size_of;
 use crate::starts::{Known, Pointer, Value, is_exact, is_near};
-use c_nodes::Class;
+use c_elaborator::{Bounds, Work};
+use c_expressions::Class;
 use c_tree::{RecordKind, Target};
-use c_work::{Bounds, Work};
 use cap_layout::{LayoutFault, owned};
 use ck_base::NoMemory;
 

@@ -5,14 +5,14 @@ ghost use Rattle.cap_concentrate.specs.Rounding.{rounded_up};
 ghost use Rattle.cap_layout.specs.Answers.{extent_is, greatest_align};
 ghost use Rattle.c_tree.specs.Layout.{size_limit, member_offset, behind, no_members};
 ghost use Rattle.c_tree.specs.Scopes.{State};
-ghost use Rattle.c_nodes.specs.Nodes.{IsWhole};
-ghost use Rattle.c_work.specs.Work.{Shows};
+ghost use Rattle.c_expressions.specs.Nodes.{IsWhole};
+ghost use Rattle.c_elaborator.specs.Work.{Shows};
 ghost use Rattle.c_initializers.specs.Places.{AreMembers, AreMembersOf, ArePlaced, AreAllMembers, AreFirstMembers};
 ghost use Rattle.c_initializers.specs.Places.{IsRecord, IsNext, IsTagCount};
 
 use crate::places::Place;
+use c_elaborator::Work;
 use c_tree::{Member, RecordKind};
-use c_work::Work;
 use cap_layout::{Layout, LayoutFault, owned};
 use ck_base::NoMemory;
 

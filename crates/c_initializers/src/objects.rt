@@ -7,10 +7,10 @@ ghost use Rattle.c_tree.specs.Views.{types_of};
 ghost use Rattle.c_types.specs.Calls.{Extends};
 ghost use Rattle.c_types.specs.Stands.{Stands, named};
 ghost use Rattle.c_tree.specs.Initializers.{with_count};
-ghost use Rattle.c_nodes.specs.Nodes.{IsWhole, type_in, type_count};
-ghost use Rattle.c_work.specs.Answers.{Answers, quietly, freely, TypeThere, IsType, NothingThere, IsNothing};
-ghost use Rattle.c_work.specs.Parts.{token_of};
-ghost use Rattle.c_work.specs.Work.{aiming_of, filling_of};
+ghost use Rattle.c_expressions.specs.Nodes.{IsWhole, type_in, type_count};
+ghost use Rattle.c_elaborator.specs.Answers.{Answers, quietly, freely, TypeThere, IsType, NothingThere, IsNothing};
+ghost use Rattle.c_elaborator.specs.Parts.{token_of};
+ghost use Rattle.c_elaborator.specs.Work.{aiming_of, filling_of};
 ghost use Rattle.c_initializers.specs.Found.{found_seen};
 ghost use Rattle.c_initializers.specs.Objects.{completes_object, object_complete, completes_local, fills_object};
 ghost use Rattle.c_initializers.specs.Objects.{fills_found, static_filled, local_filled, AreBelow};
@@ -22,8 +22,8 @@ use crate::filling::every_slot;
 use crate::sizes::complete_now;
 use crate::slots::{Filled, Slot};
 use crate::statics::{Found, pointers_end, start_slots};
-use c_nodes::Nodes;
-use c_work::{Filling, Name, Start, Work};
+use c_elaborator::{Filling, Name, Start, Work};
+use c_expressions::Nodes;
 use ck_base::{NoMemory, Pos, Refusal};
 
 // An object of static storage duration gets another type.

@@ -1,13 +1,13 @@
 //! The parts of an object that the items of a list in braces initialise (C11 6.7.9p17, p20).
 
 ghost use Rattle.std.specs.Prelude.{◌≡◌, ◌*◌, ◌<◌, IfOk};
-ghost use Rattle.c_nodes.specs.Nodes.{IsWhole, type_count};
+ghost use Rattle.c_expressions.specs.Nodes.{IsWhole, type_count};
 ghost use Rattle.c_initializers.specs.Places.{place_at, ArePlaces};
 
 use crate::members::first_members;
 use crate::sizes::{size_of, stripped};
-use c_nodes::Class;
-use c_work::Work;
+use c_elaborator::Work;
+use c_expressions::Class;
 use ck_base::NoMemory;
 
 /// A part of an object.

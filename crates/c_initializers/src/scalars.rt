@@ -3,14 +3,14 @@
 ghost use Rattle.std.specs.Prelude.{◌≡◌, ◌+◌, ◌<◌, IfOk, OnOk};
 ghost use Rattle.c_tree.specs.Initializers.{scalars, scalars_of, tag_scalars, repeat};
 ghost use Rattle.c_tree.specs.Scopes.{size};
-ghost use Rattle.c_nodes.specs.Nodes.{IsWhole, type_in, type_count};
+ghost use Rattle.c_expressions.specs.Nodes.{IsWhole, type_in, type_count};
 ghost use Rattle.c_initializers.specs.Places.{ArePartsOf, AddsParts};
 
 use crate::members::{all_members, tag_count};
 use crate::places::Place;
 use crate::sizes::size_of;
-use c_nodes::Class;
-use c_work::Work;
+use c_elaborator::Work;
+use c_expressions::Class;
 use ck_base::NoMemory;
 
 // How deep arrays, structs and unions may lie in one another.

@@ -4,13 +4,13 @@ ghost use Rattle.std.specs.Prelude.{◌≡◌, ◌<◌, ◌≤◌, true, IfOk};
 ghost use Rattle.c_tree.specs.Layout.{size_limit};
 ghost use Rattle.c_tree.specs.Scopes.{State, size, is_complete};
 ghost use Rattle.c_tree.specs.Declarations.{complete_now};
-ghost use Rattle.c_nodes.specs.Nodes.{IsWhole, type_in, type_count};
-ghost use Rattle.c_work.specs.Work.{Shows};
-ghost use Rattle.c_work.specs.Answers.{Answers, quietly, NothingThere, IsNothing};
+ghost use Rattle.c_expressions.specs.Nodes.{IsWhole, type_in, type_count};
+ghost use Rattle.c_elaborator.specs.Work.{Shows};
+ghost use Rattle.c_elaborator.specs.Answers.{Answers, quietly, NothingThere, IsNothing};
 ghost use Rattle.c_initializers.specs.Places.{stripped};
 
-use c_nodes::Class;
-use c_work::Work;
+use c_elaborator::Work;
+use c_expressions::Class;
 use cap_layout::LayoutFault;
 use ck_base::{NoMemory, Pos, Refusal};
 

@@ -4,8 +4,8 @@ ghost use Rattle.std.specs.Prelude.{◌≡◌, ◌+◌, ◌≤◌, ◌^◌, pos,
 ghost use Rattle.ck_int.specs.Kinds.{twos_complement, kept_of, value_of, form_of, is_signed};
 ghost use Rattle.c_tree.specs.Statics.{is_near, is_exact, signed_by, bytes_moved};
 
+use c_elaborator::Bounds;
 use c_tree::Target;
-use c_work::Bounds;
 use cap_concentrate::set_bounds;
 use ck_base::NoMemory;
 use ck_int::{IntKind, convert, wrap};

@@ -4,9 +4,9 @@ ghost use Rattle.std.specs.Prelude.{◌≡◌, ◌++◌, ◌∷◌, [], Some, le
 ghost use Rattle.c_tree.specs.Scopes.{State};
 ghost use Rattle.c_tree.specs.Readings as meant;
 ghost use Rattle.c_tree.specs.Statics.{known_value, start_slots};
-ghost use Rattle.c_nodes.specs.Nodes.{IsWhole};
-ghost use Rattle.c_work.specs.Answers.{Answers, freely};
-ghost use Rattle.c_work.specs.Work.{Shows, aiming_of, pending_of};
+ghost use Rattle.c_expressions.specs.Nodes.{IsWhole};
+ghost use Rattle.c_elaborator.specs.Answers.{Answers, freely};
+ghost use Rattle.c_elaborator.specs.Work.{Shows, aiming_of, pending_of};
 ghost use Rattle.c_initializers.specs.Found.{FoundThere, IsFound, Knows, AddsFound, Waits, found_seen, found_of};
 ghost use Rattle.c_initializers.specs.Found.{asked_of, pendings};
 ghost use Rattle.c_initializers.specs.Placing.{pointers_end};
@@ -19,8 +19,8 @@ use crate::scalars::moved;
 use crate::sizes::size_of;
 use crate::slots::Slot;
 use crate::starts::{Known, Value};
+use c_elaborator::{Bounds, Start, Waiting, Work};
 use c_tree::Target;
-use c_work::{Bounds, Start, Waiting, Work};
 use ck_base::{NoMemory, Pos, Refusal};
 
 /// The numbers and the pointers that stand in an object.

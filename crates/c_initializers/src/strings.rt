@@ -2,16 +2,16 @@
 
 ghost use Rattle.std.specs.Prelude.{◌≡◌, ◌+◌, ◌<◌, ◌==◌, nat_le, if◌then◌else◌, IfOk};
 ghost use Rattle.c_tree.specs.Initializers.{takes_string, byte_slots, is_character, element, array_count};
-ghost use Rattle.c_nodes.specs.Nodes.{IsWhole, operand_in, type_in, type_count, term_count};
-ghost use Rattle.c_nodes.specs.Answers.{Answers as Built};
-ghost use Rattle.c_work.specs.Answers.{Answers, quietly};
+ghost use Rattle.c_expressions.specs.Nodes.{IsWhole, operand_in, type_in, type_count, term_count};
+ghost use Rattle.c_expressions.specs.Answers.{Answers as Built};
+ghost use Rattle.c_elaborator.specs.Answers.{Answers, quietly};
 ghost use Rattle.c_initializers.specs.Slots.{HasSlots, SlotThere, IsSlot, FilledThere, IsFilled, string_filled};
 ghost use Rattle.c_initializers.specs.Slots.{plain_slot, IsSlotIn, IsFilledIn};
 
 use crate::scalars::moved;
 use crate::slots::{Filled, Slot};
-use c_nodes::{Class, Leaf, Nodes, Operand};
-use c_work::Work;
+use c_elaborator::Work;
+use c_expressions::{Class, Leaf, Nodes, Operand};
 use ck_base::{NoMemory, Pos, Refusal};
 use ck_int::{IntKind, wrap};
 

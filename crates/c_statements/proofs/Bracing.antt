@@ -4,11 +4,11 @@ use Rattle.c_tree.specs.Readings as meant
 use Rattle.c_tree.specs.Statements as statements
 use Rattle.c_tree.specs.Views.{label_of}
 use Rattle.c_tree.specs.Scopes.{Doing, give, enter, leave, in_scope, ◌>>◌}
-use Rattle.c_work.specs.declared.work.Work.{Work}
-use Rattle.c_work.specs.Answers.{Done, freely}
-use Rattle.c_work.proofs.Sequencing.{free_law, then_by, also_then, gave}
-use Rattle.c_items.specs.Scoped.{Leaves}
-use Rattle.c_items.proofs.Going.{items_kept, actions_there}
+use Rattle.c_elaborator.specs.declared.work.Work.{Work}
+use Rattle.c_elaborator.specs.Answers.{Done, freely}
+use Rattle.c_elaborator.proofs.Sequencing.{free_law, then_by, also_then, gave}
+use Rattle.c_elaborator.specs.Scoped.{Leaves}
+use Rattle.c_elaborator.proofs.Going.{items_kept, actions_there}
 use Rattle.c_statements.specs.declared.labels.Cases.{Cases}
 use Rattle.c_statements.specs.Statements.{CasesThere, IsCases, cases_in, labels_in}
 

@@ -2,9 +2,9 @@
 use Rattle.std.proofs.Common.{◌≡◌, Err}
 use Rattle.ck_base.specs.declared.refusal.Refusal.{Refusal}
 use Rattle.c_tree.specs.Scopes.{State, Doing, ◌>>=◌}
-use Rattle.c_work.specs.declared.work.Work.{Work}
-use Rattle.c_work.specs.Answers.{Done, Answers, quietly, freely}
-use Rattle.c_work.proofs.Sequencing.{free_law, freed, failed, then}
+use Rattle.c_elaborator.specs.declared.work.Work.{Work}
+use Rattle.c_elaborator.specs.Answers.{Done, Answers, quietly, freely}
+use Rattle.c_elaborator.proofs.Sequencing.{free_law, freed, failed, then}
 
 -- the first of them, an expression
 pub quiet_failed : {A B X Z : Type 0} (u v : Work) (d : Doing A) (f : A → Doing B) (There : Work → X → Type 0)

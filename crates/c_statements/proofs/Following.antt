@@ -3,11 +3,11 @@ use Rattle.std.proofs.Common.{◌≡◌, Result, Ok, Err, refl, ap, ◌∙◌}
 use Rattle.ck_base.specs.declared.refusal.Refusal.{Refusal}
 use Rattle.ck_base.specs.declared.refusal.Refusal.TheVariants.{Code, NoMemory}
 use Rattle.c_tree.specs.Scopes.{State, Doing, Fault, ◌>>=◌}
-use Rattle.c_work.specs.declared.work.Work.{Work}
-use Rattle.c_work.specs.Work.{Shows}
-use Rattle.c_work.specs.Answers.{Way, quietly, freely, Done, Answers}
-use Rattle.c_work.proofs.Sequencing.{IsLawful, failed, freed}
-use Rattle.c_items.specs.Shown.{DoneFor, AnswersFor}
+use Rattle.c_elaborator.specs.declared.work.Work.{Work}
+use Rattle.c_elaborator.specs.Work.{Shows}
+use Rattle.c_elaborator.specs.Answers.{Way, quietly, freely, Done, Answers}
+use Rattle.c_elaborator.proofs.Sequencing.{IsLawful, failed, freed}
+use Rattle.c_elaborator.specs.Shown.{DoneFor, AnswersFor}
 
 -- a step that goes on from what another one gives
 pub goes_on : {A B Z : Type 0} (y : Way) → IsLawful y →

@@ -10,16 +10,16 @@ use Rattle.c_tree.specs.Scopes.{State, Doing, Fault, give, continued, ◌>>=◌}
 use Rattle.c_tree.specs.Declarations.{no_items, both, declare_all}
 use Rattle.c_tree.specs.Statements.{all_items}
 use Rattle.c_tree.specs.Programs.{reading, readings}
-use Rattle.c_nodes.specs.Nodes.{IsWhole}
-use Rattle.c_work.specs.declared.work.Work.{Work}
-use Rattle.c_work.specs.Answers.{Done, Answers, freely, action_in}
-use Rattle.c_work.specs.Parts.{IsPart, AreParts}
-use Rattle.c_work.proofs.Sequencing.{free_law, then, failed, gave, answers_at}
-use Rattle.c_items.specs.declared.items.Items.{Items}
-use Rattle.c_items.specs.Items.{ActionsThere, ItemsThere, IsItems, items_in}
+use Rattle.c_expressions.specs.Nodes.{IsWhole}
+use Rattle.c_elaborator.specs.declared.work.Work.{Work}
+use Rattle.c_elaborator.specs.Answers.{Done, Answers, freely, action_in}
+use Rattle.c_elaborator.specs.Parts.{IsPart, AreParts}
+use Rattle.c_elaborator.proofs.Sequencing.{free_law, then, failed, gave, answers_at}
+use Rattle.c_elaborator.specs.declared.items.Items.{Items}
+use Rattle.c_elaborator.specs.Items.{ActionsThere, ItemsThere, IsItems, items_in}
 use Rattle.c_statements.specs.Gather.{gather, SoFar}
-use Rattle.c_parts.proofs.Kids.{cut, no_parts, parts_kept}
-use Rattle.c_items.proofs.Going.{then_from, items_kept, actions_there}
+use Rattle.c_readings.proofs.Kids.{cut, no_parts, parts_kept}
+use Rattle.c_elaborator.proofs.Going.{then_from, items_kept, actions_there}
 use Rattle.c_statements.proofs.Stating.{readings_more, readings_nil}
 
 pub all_items_is : (c : meant.Context) (rs : List Reading) → all_items c rs ≡ gather (λ r. r.item c) rs

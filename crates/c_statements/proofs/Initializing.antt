@@ -22,23 +22,23 @@ use Rattle.c_tree.specs.Initializers.{every_slot, with_count}
 use Rattle.c_tree.specs.Programs.{reading}
 use Rattle.c_tree.specs.Views.{terms_of, kind_action}
 use Rattle.c_types.specs.Stands.{text_at}
-use Rattle.c_nodes.specs.Nodes.{IsWhole, type_in, term_in, type_count, term_count}
-use Rattle.c_work.specs.declared.work.Name.{Name}
-use Rattle.c_work.specs.declared.work.Work.{Work}
-use Rattle.c_work.specs.Work.{Shows}
-use Rattle.c_work.specs.Answers.{Keeps, freely, quietly, Done, Answers, action_in, action_count, NothingThere}
-use Rattle.c_work.specs.Answers.{IsNothing}
-use Rattle.c_work.specs.Parts.{IsPart, token_of}
-use Rattle.c_work.specs.Rules.{IsObjectType}
-use Rattle.c_work.proofs.Sequencing.{free_law, answers_at, then, also_then, failed, freed, gave, keeps_then}
+use Rattle.c_expressions.specs.Nodes.{IsWhole, type_in, term_in, type_count, term_count}
+use Rattle.c_elaborator.specs.declared.work.Name.{Name}
+use Rattle.c_elaborator.specs.declared.work.Work.{Work}
+use Rattle.c_elaborator.specs.Work.{Shows}
+use Rattle.c_elaborator.specs.Answers.{Keeps, freely, quietly, Done, Answers, action_in, action_count, NothingThere}
+use Rattle.c_elaborator.specs.Answers.{IsNothing}
+use Rattle.c_elaborator.specs.Parts.{IsPart, token_of}
+use Rattle.c_elaborator.specs.Rules.{IsObjectType}
+use Rattle.c_elaborator.proofs.Sequencing.{free_law, answers_at, then, also_then, failed, freed, gave, keeps_then}
 use Rattle.c_initializers.specs.declared.slots.Slot.{Slot}
 use Rattle.c_initializers.specs.declared.slots.Filled.{Filled}
 use Rattle.c_initializers.specs.Slots.{slot_in, slots_in, filled_in, IsSlotThere, FilledThere, IsFilled, SlotsThere}
 use Rattle.c_initializers.specs.Slots.{AreSlots}
 use Rattle.c_initializers.specs.Objects.{static_filled, local_filled}
-use Rattle.c_items.specs.declared.items.Items.{Items}
-use Rattle.c_items.specs.Items.{AddsAction, ActionsThere, ItemsThere, IsItems, items_in}
-use Rattle.c_items.proofs.Going.{items_kept, actions_there}
+use Rattle.c_elaborator.specs.declared.items.Items.{Items}
+use Rattle.c_elaborator.specs.Items.{AddsAction, ActionsThere, ItemsThere, IsItems, items_in}
+use Rattle.c_elaborator.proofs.Going.{items_kept, actions_there}
 use Rattle.c_statements.specs.declared.declarations.Behind.{Behind as Standing}
 use Rattle.c_statements.specs.Declaring.{IsBehind, fills_local, fills_static, local_initialized, static_initialized}
 use Rattle.c_statements.specs.Declaring.{init_items}

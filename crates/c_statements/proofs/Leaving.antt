@@ -21,7 +21,7 @@ use Rattle.c_types.specs.Declares.{declares_alias, declares_function, declares_d
 use Rattle.c_types.specs.Declares.{declares_external, declares_internal, declares_local, declares_in_block}
 use Rattle.c_types.specs.Declares.{declares_object, declares_named, denoted, may_wait, is_ready}
 use Rattle.c_types.specs.Naming.{begins}
-use Rattle.c_work.proofs.Using.{changed_same}
+use Rattle.c_elaborator.proofs.Using.{changed_same}
 
 -- what holds of a result and of the state that it leaves
 abbrev pub Holds : {A : Type 0} → (A → State → Type 0) → Result (A × State) Fault → Type 0

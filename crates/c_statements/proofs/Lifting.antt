@@ -28,19 +28,19 @@ use Rattle.c_types.specs.Calls.{Does, Fails, Given, Extends, IsDenoted, Declares
 use Rattle.c_types.specs.Calls as types
 use Rattle.c_types.specs.Declares.{declares_named, declares_definition, denoted, storage_of, name_of, formed_of}
 use Rattle.c_types.proofs.Looking.{seen_at, seen_length}
-use Rattle.c_nodes.specs.declared.nodes.Nodes.{Nodes}
-use Rattle.c_nodes.specs.Nodes.{IsWhole, type_count}
-use Rattle.c_work.specs.declared.work.Used.{Used}
-use Rattle.c_work.specs.declared.work.Used.TheVariants as used
-use Rattle.c_work.specs.declared.work.Use.{Use}
-use Rattle.c_work.specs.declared.work.Filling.{Filling}
-use Rattle.c_work.specs.declared.work.Definition.{Definition}
-use Rattle.c_work.specs.declared.work.Work.{Work}
-use Rattle.c_work.specs.Work.{Shows, IsClosed, DefinitionIsThere, UseIsThere, is_object, is_function, first_place}
-use Rattle.c_work.specs.Work.{is_among, filling_of, definition_of, option_seen, body_seen, seen_of}
-use Rattle.c_work.specs.Answers.{Keeps, freely, Done, Answers}
-use Rattle.c_work.proofs.Extending.{AreExtended, extends_goes_on, extended_whole, extended_keeps, extended_values}
-use Rattle.c_work.proofs.Extending.{extended_definition}
+use Rattle.c_expressions.specs.declared.nodes.Nodes.{Nodes}
+use Rattle.c_expressions.specs.Nodes.{IsWhole, type_count}
+use Rattle.c_elaborator.specs.declared.work.Used.{Used}
+use Rattle.c_elaborator.specs.declared.work.Used.TheVariants as used
+use Rattle.c_elaborator.specs.declared.work.Use.{Use}
+use Rattle.c_elaborator.specs.declared.work.Filling.{Filling}
+use Rattle.c_elaborator.specs.declared.work.Definition.{Definition}
+use Rattle.c_elaborator.specs.declared.work.Work.{Work}
+use Rattle.c_elaborator.specs.Work.{Shows, IsClosed, DefinitionIsThere, UseIsThere, is_object, is_function, first_place}
+use Rattle.c_elaborator.specs.Work.{is_among, filling_of, definition_of, option_seen, body_seen, seen_of}
+use Rattle.c_elaborator.specs.Answers.{Keeps, freely, Done, Answers}
+use Rattle.c_elaborator.proofs.Extending.{AreExtended, extends_goes_on, extended_whole, extended_keeps, extended_values}
+use Rattle.c_elaborator.proofs.Extending.{extended_definition}
 use Rattle.c_statements.specs.Declaring.{DeclaresIn, declares, begins, EntityThere, IsEntity, FunctionThere, IsFunction}
 use Rattle.c_statements.proofs.Leaving.{AddsFresh, static_facts, no_static, routine_facts, no_routine, Enters, Begins}
 use Rattle.c_statements.proofs.Leaving.{named_leaves, definition_leaves, denoted_value}

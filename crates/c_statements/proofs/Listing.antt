@@ -17,13 +17,13 @@ use Rattle.c_tree.specs.Readings.{Reading}
 use Rattle.c_tree.specs.Scopes.{State, Fault, Doing, give, some_or, continued, ◌>>=◌}
 use Rattle.c_tree.specs.Initializers.{item_place, items}
 use Rattle.c_tree.specs.Programs.{reading, readings}
-use Rattle.c_nodes.specs.Nodes.{IsWhole, type_in, type_count}
-use Rattle.c_work.specs.declared.work.Work.{Work}
-use Rattle.c_work.specs.Work.{Shows}
-use Rattle.c_work.specs.Answers.{Keeps, Done, Answers, quietly}
-use Rattle.c_work.specs.Parts.{IsPart, AreParts, HaveParts}
-use Rattle.c_work.proofs.Parting.{cut, no_parts}
-use Rattle.c_work.proofs.Sequencing.{quiet_law, answers_at, then, gave}
+use Rattle.c_expressions.specs.Nodes.{IsWhole, type_in, type_count}
+use Rattle.c_elaborator.specs.declared.work.Work.{Work}
+use Rattle.c_elaborator.specs.Work.{Shows}
+use Rattle.c_elaborator.specs.Answers.{Keeps, Done, Answers, quietly}
+use Rattle.c_elaborator.specs.Parts.{IsPart, AreParts, HaveParts}
+use Rattle.c_elaborator.proofs.Parting.{cut, no_parts}
+use Rattle.c_elaborator.proofs.Sequencing.{quiet_law, answers_at, then, gave}
 use Rattle.c_initializers.specs.declared.places.Place.{Place}
 use Rattle.c_initializers.specs.declared.places.Places.{Places}
 use Rattle.c_initializers.specs.declared.places.Places.TheVariants.{Elements, Members, Alone}

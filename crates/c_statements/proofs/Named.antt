@@ -19,19 +19,19 @@ use Rattle.c_types.specs.declared.entries.DeclKind.TheVariants as kinds
 use Rattle.c_types.specs.declared.entries.Entity.{Entity}
 use Rattle.c_types.specs.declared.entries.Entity.TheVariants as entities
 use Rattle.c_types.specs.Stands.{entity_kept, entity_seen, text_at}
-use Rattle.c_nodes.specs.Nodes.{type_in}
-use Rattle.c_work.specs.declared.work.Work.{Work}
-use Rattle.c_work.specs.declared.work.Name.{Name}
-use Rattle.c_work.specs.Answers.{Keeps, freely, quietly, Done, Answers}
-use Rattle.c_work.specs.Parts.{token_of}
-use Rattle.c_work.proofs.Sequencing.{free_law, answers_at, then, failed, freed}
+use Rattle.c_expressions.specs.Nodes.{type_in}
+use Rattle.c_elaborator.specs.declared.work.Work.{Work}
+use Rattle.c_elaborator.specs.declared.work.Name.{Name}
+use Rattle.c_elaborator.specs.Answers.{Keeps, freely, quietly, Done, Answers}
+use Rattle.c_elaborator.specs.Parts.{token_of}
+use Rattle.c_elaborator.proofs.Sequencing.{free_law, answers_at, then, failed, freed}
 use Rattle.c_declarators.specs.declared.parts.Specified.{Specified}
 use Rattle.c_declarators.specs.declared.parts.Formed.{Formed}
 use Rattle.c_declarators.specs.Forming.{formed_in}
 use Rattle.c_declarators.specs.Parts.{SpecifiedThere, IsSpecified, FormedThere, IsFormed, in_any}
 use Rattle.c_declarators.specs.Steps.{forms}
-use Rattle.c_items.specs.declared.items.Items.{Items}
-use Rattle.c_items.specs.Items.{ItemsThere, IsItems}
+use Rattle.c_elaborator.specs.declared.items.Items.{Items}
+use Rattle.c_elaborator.specs.Items.{ItemsThere, IsItems}
 use Rattle.c_statements.specs.Declaring.{declares, declares_list, EntityThere, IsEntity, initializes}
 use Rattle.c_statements.proofs.Following.{goes_on, fails_with, fails_freed}
 use Rattle.c_statements.proofs.Meaning.{Follows, initialized, named_follows}

@@ -9,15 +9,15 @@ use Rattle.c_tree.specs.Scopes.{State, Doing, give, refuse}
 use Rattle.c_tree.specs.Types.{Ty}
 use Rattle.c_tree.specs.Statements.{case_label}
 use Rattle.c_tree.specs.Programs.{reading, readings}
-use Rattle.c_work.specs.declared.work.Work.{Work}
-use Rattle.c_work.specs.Work.{Shows}
-use Rattle.c_work.specs.Answers.{Way, Answers, freely}
-use Rattle.c_work.specs.Parts.{IsPart, AreParts, HasPart, HaveParts}
-use Rattle.c_parts.specs.Kids.{HasNot}
-use Rattle.c_items.specs.Items.{ItemsThere, IsItems}
-use Rattle.c_items.specs.declared.items.Items.{Items}
+use Rattle.c_elaborator.specs.declared.work.Work.{Work}
+use Rattle.c_elaborator.specs.Work.{Shows}
+use Rattle.c_elaborator.specs.Answers.{Way, Answers, freely}
+use Rattle.c_elaborator.specs.Parts.{IsPart, AreParts, HasPart, HaveParts}
+use Rattle.c_readings.specs.Kids.{HasNot}
+use Rattle.c_elaborator.specs.Items.{ItemsThere, IsItems}
+use Rattle.c_elaborator.specs.declared.items.Items.{Items}
 use Rattle.c_statements.specs.Statements.{for_in, for_with, switch_in, switch_with, case_of}
-use Rattle.c_parts.proofs.Kids.{cut, no_parts, have_first, have_others}
+use Rattle.c_readings.proofs.Kids.{cut, no_parts, have_first, have_others}
 use Rattle.c_statements.proofs.Stating.{readings_more, readings_nil, readings_not}
 
 -- ---- for

@@ -9,13 +9,13 @@ use Rattle.c_tree.specs.declared.syntax.Node.{Node}
 use Rattle.c_tree.specs.Readings as meant
 use Rattle.c_tree.specs.Scopes.{State, Doing}
 use Rattle.c_types.specs.Stands.{text_at}
-use Rattle.c_work.specs.declared.work.Work.{Work}
-use Rattle.c_work.specs.Answers.{Way, Keeps, freely, Answers}
-use Rattle.c_parts.specs.Kids.{HasNode, IsNode}
-use Rattle.c_work.specs.Parts.{AreParts, HaveParts}
-use Rattle.c_parts.proofs.Kids.{parts_kept}
-use Rattle.c_items.specs.declared.items.Items.{Items}
-use Rattle.c_items.specs.Items.{ItemsThere, IsItems}
+use Rattle.c_elaborator.specs.declared.work.Work.{Work}
+use Rattle.c_elaborator.specs.Answers.{Way, Keeps, freely, Answers}
+use Rattle.c_readings.specs.Kids.{HasNode, IsNode}
+use Rattle.c_elaborator.specs.Parts.{AreParts, HaveParts}
+use Rattle.c_readings.proofs.Kids.{parts_kept}
+use Rattle.c_elaborator.specs.declared.items.Items.{Items}
+use Rattle.c_elaborator.specs.Items.{ItemsThere, IsItems}
 
 pub node_kept : (u v : Work) (n : Node) (t : Lexeme) (xs : Syns) → Keeps u v → IsNode u n t xs → IsNode v n t xs
 node_kept u v n t xs k h =

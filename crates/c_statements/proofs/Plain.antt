@@ -13,11 +13,12 @@ use Rattle.ck_base.specs.Tokens.{Lexeme}
 use Rattle.c_tree.specs.Syntax.{Syns}
 use Rattle.c_tree.specs.Expressions.{text_bytes}
 use Rattle.c_tree.specs.Initializers.{plain_initializer, string_initializer}
-use Rattle.c_nodes.specs.declared.nodes.Operand.{Operand}
-use Rattle.c_nodes.specs.Nodes.{IsWhole, type_in, type_count}
-use Rattle.c_work.specs.declared.work.Work.{Work}
-use Rattle.c_work.specs.Answers.{Done, Answers, quietly, OperandThere, IsOperand, operand_in, NothingThere, IsNothing}
-use Rattle.c_work.proofs.Sequencing.{quiet_law, answers_at, then, also_then, gave, failed, quiet_same, still_same}
+use Rattle.c_expressions.specs.declared.nodes.Operand.{Operand}
+use Rattle.c_expressions.specs.Nodes.{IsWhole, type_in, type_count}
+use Rattle.c_elaborator.specs.declared.work.Work.{Work}
+use Rattle.c_elaborator.specs.Answers.{Done, Answers, quietly, OperandThere, IsOperand, operand_in, NothingThere}
+use Rattle.c_elaborator.specs.Answers.{IsNothing}
+use Rattle.c_elaborator.proofs.Sequencing.{quiet_law, answers_at, then, also_then, gave, failed, quiet_same, still_same}
 use Rattle.c_statements.proofs.Reading.{string_is}
 use Rattle.c_initializers.specs.declared.slots.Slot.{Slot}
 use Rattle.c_initializers.specs.declared.slots.Filled.{Filled}

@@ -14,14 +14,14 @@ use Rattle.c_tree.specs.Readings.{Slot, Filled, Reading}
 use Rattle.c_tree.specs.Expressions.{expression_of, pieces, text_bytes}
 use Rattle.c_tree.specs.Initializers.{takes_string, string_initializer, plain_initializer, braced_initializer}
 use Rattle.c_tree.specs.Programs.{reading, readings, initializer_of, is_text}
-use Rattle.c_work.specs.declared.work.Work.{Work}
+use Rattle.c_elaborator.specs.declared.work.Work.{Work}
 use Rattle.ck_base.specs.declared.tokens.TokenKind.TheVariants.{Text}
 use Rattle.ck_base.specs.Lexes.{IsAccepted}
 use Rattle.c_types.specs.Stands.{text_at}
-use Rattle.c_work.specs.declared.work.Part.{Part}
-use Rattle.c_work.specs.Nodes.{IsNode, kind_of, syns_of}
-use Rattle.c_work.specs.Parts.{TokenFits, IsPart, HasPart, AreParts, HaveParts}
-use Rattle.c_work.proofs.Parting.{cut, no_parts}
+use Rattle.c_elaborator.specs.declared.work.Part.{Part}
+use Rattle.c_elaborator.specs.Nodes.{IsNode, kind_of, syns_of}
+use Rattle.c_elaborator.specs.Parts.{TokenFits, IsPart, HasPart, AreParts, HaveParts}
+use Rattle.c_elaborator.proofs.Parting.{cut, no_parts}
 use Rattle.c_initializers.specs.Slots.{string_filled}
 use Rattle.c_statements.specs.Initial.{gives_items}
 

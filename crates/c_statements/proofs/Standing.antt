@@ -17,16 +17,16 @@ use Rattle.c_tree.specs.Programs.{reading, readings, reading_of}
 use Rattle.c_tree.specs.Scopes.{Doing, refuse, ◌>>=◌}
 use Rattle.ck_base.specs.declared.positions.Pos.{Pos}
 use Rattle.c_types.specs.Declares.{storage_of}
-use Rattle.c_nodes.specs.Nodes.{type_in}
-use Rattle.c_work.specs.declared.work.Work.{Work}
-use Rattle.c_work.specs.Answers.{Keeps}
-use Rattle.c_work.specs.Parts.{IsPart, HasPart, AreParts, HaveParts}
+use Rattle.c_expressions.specs.Nodes.{type_in}
+use Rattle.c_elaborator.specs.declared.work.Work.{Work}
+use Rattle.c_elaborator.specs.Answers.{Keeps}
+use Rattle.c_elaborator.specs.Parts.{IsPart, HasPart, AreParts, HaveParts}
 use Rattle.c_declarators.specs.declared.parts.Specified.{Specified}
 use Rattle.c_declarators.specs.declared.parts.Wrap.{Wrap}
 use Rattle.c_declarators.specs.declared.parts.Wrap.TheVariants.{Point, Row, Gives}
 use Rattle.c_declarators.specs.declared.parts.Derived.{Derived}
 use Rattle.c_declarators.specs.Parts.{SpecifiedThere, IsSpecified, IsDerived, AreWraps, any_scope, name_token, param_in}
-use Rattle.c_parts.proofs.Kids.{cut, no_parts, part_kept, has_kept, have_first, opened}
+use Rattle.c_readings.proofs.Kids.{cut, no_parts, part_kept, has_kept, have_first, opened}
 use Rattle.c_statements.specs.declared.declarations.Behind.{Behind}
 use Rattle.c_statements.specs.Declaring.{HasBehind, IsBehind, IsInitializer, behind_in, declares_list}
 use Rattle.c_statements.proofs.Stating.{readings_more, readings_nil}

@@ -8,13 +8,13 @@ use Rattle.c_tree.specs.Syntax.{Syn, Syns, node, nil, more}
 use Rattle.c_tree.specs.Readings.{Reading}
 use Rattle.c_tree.specs.Scopes.{State, Doing, Fault, give, refuse, leave, in_scope, continued, ◌>>=◌, ◌>>◌}
 use Rattle.c_tree.specs.Programs.{reading, readings, reading_of}
-use Rattle.c_work.specs.declared.work.Work.{Work}
-use Rattle.c_work.specs.Work.{Shows}
-use Rattle.c_work.specs.Answers.{Way, Answers}
-use Rattle.c_work.specs.Parts.{IsPart, AreParts, HasPart, HaveParts}
-use Rattle.c_parts.specs.Kids.{HasNot}
+use Rattle.c_elaborator.specs.declared.work.Work.{Work}
+use Rattle.c_elaborator.specs.Work.{Shows}
+use Rattle.c_elaborator.specs.Answers.{Way, Answers}
+use Rattle.c_elaborator.specs.Parts.{IsPart, AreParts, HasPart, HaveParts}
+use Rattle.c_readings.specs.Kids.{HasNot}
 use Rattle.c_statements.specs.Arity.{with_one, with_two, with_three}
-use Rattle.c_parts.proofs.Kids.{cut, no_parts, count, counted, have_first, have_others}
+use Rattle.c_readings.proofs.Kids.{cut, no_parts, count, counted, have_first, have_others}
 
 -- ---- what parts are read
 

@@ -24,28 +24,31 @@ use Rattle.c_tree.specs.Statements.{test, is_absent, optional_test, optional_ste
 use Rattle.c_tree.specs.Statements.{one_action, block_action, all_items, for_action, list_terms, has_one}
 use Rattle.c_tree.specs.Statements as statements
 use Rattle.c_tree.specs.Views.{kind_action, terms_of, term_at, listed, is_some, same_number}
-use Rattle.c_nodes.specs.Nodes.{IsWhole, type_in, term_in, term_count}
-use Rattle.c_nodes.specs.declared.nodes.Operand.{Operand}
-use Rattle.c_nodes.specs.declared.nodes.Nodes.{Nodes}
-use Rattle.c_nodes.specs.Nodes as nodes
-use Rattle.c_nodes.proofs.Keeping.{keeps_then as nodes_then}
-use Rattle.c_work.proofs.Growing.{quiet_nodes, shows_nodes}
-use Rattle.c_work.specs.declared.work.Work.{Work}
-use Rattle.c_work.specs.Work.{ValuesAreThere}
-use Rattle.c_work.specs.Answers.{Keeps, quietly, freely, Done, Answers, OperandThere, IsOperand, operand_in, TermThere}
-use Rattle.c_work.specs.Answers.{IsTerm, action_in}
-use Rattle.c_work.proofs.Sequencing.{quiet_law, free_law, freed, then as and_then, then_by, failed, gave, answers_at}
-use Rattle.c_work.proofs.Sequencing.{keeps_then, still_same, need_true}
-use Rattle.c_items.specs.declared.items.Items.{Items}
+use Rattle.c_expressions.specs.Nodes.{IsWhole, type_in, term_in, term_count}
+use Rattle.c_expressions.specs.declared.nodes.Operand.{Operand}
+use Rattle.c_expressions.specs.declared.nodes.Nodes.{Nodes}
+use Rattle.c_expressions.specs.Nodes as nodes
+use Rattle.c_expressions.proofs.Keeping.{keeps_then as nodes_then}
+use Rattle.c_elaborator.proofs.Growing.{quiet_nodes, shows_nodes}
+use Rattle.c_elaborator.specs.declared.work.Work.{Work}
+use Rattle.c_elaborator.specs.Work.{ValuesAreThere}
+use Rattle.c_elaborator.specs.Answers.{Keeps, quietly, freely, Done, Answers, OperandThere, IsOperand, operand_in}
+use Rattle.c_elaborator.specs.Answers.{TermThere}
+use Rattle.c_elaborator.specs.Answers.{IsTerm, action_in}
+use Rattle.c_elaborator.proofs.Sequencing.{quiet_law, free_law, freed, then as and_then, then_by, failed, gave}
+use Rattle.c_elaborator.proofs.Sequencing.{answers_at}
+use Rattle.c_elaborator.proofs.Sequencing.{keeps_then, still_same, need_true}
+use Rattle.c_elaborator.specs.declared.items.Items.{Items}
 use Rattle.c_statements.specs.declared.heads.Head.{Head}
 use Rattle.c_statements.specs.declared.labels.Cases.{Cases}
 use Rattle.c_statements.specs.declared.labels.Controlling.{Controlling}
-use Rattle.c_items.specs.Items.{ValuesThere, ActionThere, ActionsThere, IsOnlyAction, ItemsThere, IsItems, items_in}
+use Rattle.c_elaborator.specs.Items.{ValuesThere, ActionThere, ActionsThere, IsOnlyAction, ItemsThere, IsItems}
+use Rattle.c_elaborator.specs.Items.{items_in}
 use Rattle.c_statements.specs.Statements.{evaluate_one, IsJump, jump_form, jumping, switched, return_one, MaybeThere}
 use Rattle.c_statements.specs.Statements.{IsMaybe, maybe_term, HeadThere, IsHead, head_in, ForHead, for_of, SwitchedOn}
 use Rattle.c_statements.specs.Statements.{IsPromoted, SwitchedThere, IsSwitched, switched_on, CasesThere, IsCases}
 use Rattle.c_statements.specs.Statements.{cases_in, switch_of}
-use Rattle.c_items.proofs.Going.{none_there, one_there, then_from, items_kept, actions_there, term_there}
+use Rattle.c_elaborator.proofs.Going.{none_there, one_there, then_from, items_kept, actions_there, term_there}
 
 -- the statement of a kind is added to this work
 abbrev pub Adds : Work → Work → StmtKind → Pos → Result Items Refusal → Type 0

@@ -18,19 +18,19 @@ use Rattle.c_tree.specs.Statements as statements
 use Rattle.c_tree.specs.Statements.{switch_item, switch_items, no_cases, add_label, has_label}
 use Rattle.c_tree.specs.Views.{label_of}
 use Rattle.c_tree.specs.Programs.{reading, readings}
-use Rattle.c_nodes.specs.Nodes.{IsWhole}
-use Rattle.c_work.specs.declared.work.Work.{Work}
-use Rattle.c_work.specs.Answers.{Done, Answers, quietly, freely, action_in}
-use Rattle.c_work.specs.Parts.{IsPart, AreParts}
-use Rattle.c_work.proofs.Sequencing.{free_law, freed, then, failed, gave, answers_at, need_true, need_false}
+use Rattle.c_expressions.specs.Nodes.{IsWhole}
+use Rattle.c_elaborator.specs.declared.work.Work.{Work}
+use Rattle.c_elaborator.specs.Answers.{Done, Answers, quietly, freely, action_in}
+use Rattle.c_elaborator.specs.Parts.{IsPart, AreParts}
+use Rattle.c_elaborator.proofs.Sequencing.{free_law, freed, then, failed, gave, answers_at, need_true, need_false}
 use Rattle.c_statements.specs.declared.labels.Cases.{Cases}
-use Rattle.c_items.specs.declared.items.Items.{Items}
-use Rattle.c_items.specs.Items.{ActionsThere, ItemsThere, IsItems, items_in}
+use Rattle.c_elaborator.specs.declared.items.Items.{Items}
+use Rattle.c_elaborator.specs.Items.{ActionsThere, ItemsThere, IsItems, items_in}
 use Rattle.c_statements.specs.Statements.{LabelThere, IsLabel, AddsLabel, CasesThere, IsCases, cases_in, labels_in}
 use Rattle.c_statements.proofs.Gather.{items_joined, there_both}
-use Rattle.c_items.proofs.Going.{then_from, items_kept, actions_there}
+use Rattle.c_elaborator.proofs.Going.{then_from, items_kept, actions_there}
 use Rattle.c_statements.specs.Switching.{CasesSoFar}
-use Rattle.c_parts.proofs.Kids.{cut, no_parts, parts_kept}
+use Rattle.c_readings.proofs.Kids.{cut, no_parts, parts_kept}
 use Rattle.c_statements.proofs.Stating.{readings_more}
 
 abbrev rest_of : meant.Context → Ty → Syns → statements.Cases → Doing statements.Cases

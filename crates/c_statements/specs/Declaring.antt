@@ -19,12 +19,12 @@ use Rattle.c_types.specs.Stands.{entity_kept, entity_seen}
 use Rattle.c_types.specs.Calls.{DeclaresKind}
 use Rattle.c_types.specs.declared.entries.Decl.{Decl}
 use Rattle.c_types.specs.declared.entries.Entry.{Entry}
-use Rattle.c_nodes.specs.declared.nodes.Nodes.{Nodes}
-use Rattle.c_nodes.specs.Nodes.{type_count}
+use Rattle.c_expressions.specs.declared.nodes.Nodes.{Nodes}
+use Rattle.c_expressions.specs.Nodes.{type_count}
 use Rattle.c_types.specs.declared.entries.Entity.{Entity}
 use Rattle.c_types.specs.declared.entries.Entity.TheVariants as entities
-use Rattle.c_work.specs.declared.work.Work.{Work}
-use Rattle.c_work.specs.Parts.{IsPart, HasPart}
+use Rattle.c_elaborator.specs.declared.work.Work.{Work}
+use Rattle.c_elaborator.specs.Parts.{IsPart, HasPart}
 use Rattle.c_declarators.specs.declared.parts.Wrap.{Wrap}
 use Rattle.c_declarators.specs.Forming.{WrapIsThere}
 use Rattle.c_statements.specs.declared.declarations.Behind.{Behind}

@@ -6,11 +6,11 @@ use Rattle.c_tree.specs.Readings.{Reading}
 use Rattle.c_tree.specs.Scopes.{State, Doing, give, ◌>>=◌}
 use Rattle.c_tree.specs.Declarations.{no_items, both}
 use Rattle.c_tree.specs.Programs.{readings}
-use Rattle.c_work.specs.declared.work.Work.{Work}
-use Rattle.c_work.specs.Answers.{Done, freely}
-use Rattle.c_work.specs.Parts.{AreParts}
-use Rattle.c_items.specs.declared.items.Items.{Items}
-use Rattle.c_items.specs.Items.{ItemsThere, IsItems}
+use Rattle.c_elaborator.specs.declared.work.Work.{Work}
+use Rattle.c_elaborator.specs.Answers.{Done, freely}
+use Rattle.c_elaborator.specs.Parts.{AreParts}
+use Rattle.c_elaborator.specs.declared.items.Items.{Items}
+use Rattle.c_elaborator.specs.Items.{ItemsThere, IsItems}
 
 abbrev pub gather : (Reading → Doing meant.Items) → List Reading → Doing meant.Items
 gather step [] = give no_items

@@ -11,11 +11,11 @@ use Rattle.c_tree.specs.Readings.{Slot, Filled, Reading}
 use Rattle.c_tree.specs.Initializers.{items, takes_string}
 use Rattle.c_tree.specs.Programs.{is_text, readings}
 use Rattle.c_tree.specs.Statics.{is_start}
-use Rattle.c_nodes.specs.Nodes.{type_in}
-use Rattle.c_work.specs.declared.work.Work.{Work}
-use Rattle.c_work.specs.Work.{Shows}
-use Rattle.c_work.specs.Answers.{Done, quietly}
-use Rattle.c_work.specs.Parts.{AreParts}
+use Rattle.c_expressions.specs.Nodes.{type_in}
+use Rattle.c_elaborator.specs.declared.work.Work.{Work}
+use Rattle.c_elaborator.specs.Work.{Shows}
+use Rattle.c_elaborator.specs.Answers.{Done, quietly}
+use Rattle.c_elaborator.specs.Parts.{AreParts}
 use Rattle.c_initializers.specs.declared.places.Place.{Place}
 use Rattle.c_initializers.specs.declared.places.Places.{Places}
 use Rattle.c_initializers.specs.declared.slots.Slot.{Slot as Kept}

@@ -26,14 +26,14 @@ use Rattle.c_tree.specs.Statements.{in_a_switch, for_action, first_part, optiona
 use Rattle.c_tree.specs.Statements.{switch_items, no_cases, case_value, case_label, add_label}
 use Rattle.c_tree.specs.Views.{label_of}
 use Rattle.c_tree.specs.declared.typed.SwitchLabel.{SwitchLabel}
-use Rattle.c_nodes.specs.declared.nodes.Nodes.{Nodes}
-use Rattle.c_nodes.specs.Nodes as nodes
-use Rattle.c_nodes.specs.Nodes.{type_in, term_in, type_count, term_count}
-use Rattle.c_work.specs.declared.work.Work.{Work}
+use Rattle.c_expressions.specs.declared.nodes.Nodes.{Nodes}
+use Rattle.c_expressions.specs.Nodes as nodes
+use Rattle.c_expressions.specs.Nodes.{type_in, term_in, type_count, term_count}
+use Rattle.c_elaborator.specs.declared.work.Work.{Work}
 use Rattle.c_statements.specs.declared.labels.Cases.{Cases}
 use Rattle.c_statements.specs.declared.heads.Head.{Head}
 use Rattle.c_statements.specs.declared.labels.Controlling.{Controlling}
-use Rattle.c_items.specs.Items.{ItemsThere, items_in}
+use Rattle.c_elaborator.specs.Items.{ItemsThere, items_in}
 use Rattle.c_statements.specs.Arity.{with_one, with_two, with_three}
 
 -- ---- expressions and jumps

@@ -7,9 +7,9 @@ use Rattle.c_tree.specs.Scopes.{State, Doing, ◌>>=◌}
 use Rattle.c_tree.specs.Statements as statements
 use Rattle.c_tree.specs.Statements.{switch_items, no_cases}
 use Rattle.c_tree.specs.Programs.{readings}
-use Rattle.c_work.specs.declared.work.Work.{Work}
-use Rattle.c_work.specs.Answers.{Done, freely}
-use Rattle.c_work.specs.Parts.{AreParts}
+use Rattle.c_elaborator.specs.declared.work.Work.{Work}
+use Rattle.c_elaborator.specs.Answers.{Done, freely}
+use Rattle.c_elaborator.specs.Parts.{AreParts}
 use Rattle.c_statements.specs.declared.labels.Cases.{Cases}
 use Rattle.c_statements.specs.Statements.{CasesThere, IsCases}
 

@@ -6,21 +6,20 @@ ghost use Rattle.c_tree.specs.Readings as meant;
 ghost use Rattle.c_tree.specs.Programs.{reading, readings};
 ghost use Rattle.c_tree.specs.Declarations.{declaration, declare_all, declare_named};
 ghost use Rattle.c_tree.specs.Declarations as declarations;
-ghost use Rattle.c_nodes.specs.Nodes.{IsWhole};
-ghost use Rattle.c_work.specs.Answers.{Answers, freely};
-ghost use Rattle.c_work.specs.Parts.{IsPart, HasPart, AreParts, HaveParts, token_of};
+ghost use Rattle.c_expressions.specs.Nodes.{IsWhole};
+ghost use Rattle.c_elaborator.specs.Answers.{Answers, freely};
+ghost use Rattle.c_elaborator.specs.Parts.{IsPart, HasPart, AreParts, HaveParts, token_of};
 ghost use Rattle.c_declarators.specs.Parts.{SpecifiedThere, IsSpecified, DerivedThere, IsDerived, AreWraps, any_scope};
-ghost use Rattle.c_items.specs.Items.{ItemsThere, IsItems};
+ghost use Rattle.c_elaborator.specs.Items.{ItemsThere, IsItems};
 ghost use Rattle.c_statements.specs.Declaring.{HasBehind, IsBehind, behind_in, WrapsThere, declares_with};
 ghost use Rattle.c_statements.specs.Declaring.{declares_list};
 
 use crate::declaring::declare_name;
 use crate::filling::initialize;
 use c_declarators::{Derived, Formed, Specified, Wrap, formed};
-use c_items::{Items, join, no_items};
-use c_parts::{derived, first_of, node_at, specified};
+use c_elaborator::{Items, Name, Work, join, no_items};
+use c_readings::{derived, first_of, node_at, specified};
 use c_types::{Decl, DeclKind};
-use c_work::{Name, Work};
 use ck_base::{NoMemory, Pos, Refusal};
 
 /// What stands behind a declarator.

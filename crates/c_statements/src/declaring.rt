@@ -4,15 +4,15 @@ ghost use Rattle.std.specs.Prelude.{◌≡◌, ◌<◌, true, IfOk};
 ghost use Rattle.c_tree.specs.Scopes.{State, find_in, innermost};
 ghost use Rattle.c_types.specs.Calls.{Extends};
 ghost use Rattle.c_types.specs.Stands.{text_at};
-ghost use Rattle.c_nodes.specs.Nodes.{IsWhole, type_count};
-ghost use Rattle.c_work.specs.Work.{Shows};
-ghost use Rattle.c_work.specs.Answers.{Answers, freely};
+ghost use Rattle.c_expressions.specs.Nodes.{IsWhole, type_count};
+ghost use Rattle.c_elaborator.specs.Work.{Shows};
+ghost use Rattle.c_elaborator.specs.Answers.{Answers, freely};
 ghost use Rattle.c_statements.specs.Declaring.{DeclaresIn, declares, begins, EntityThere, IsEntity, FunctionThere};
 ghost use Rattle.c_statements.specs.Declaring.{IsFunction};
 
-use c_nodes::Nodes;
+use c_elaborator::Work;
+use c_expressions::Nodes;
 use c_types::{Decl, DeclKind, Entity};
-use c_work::Work;
 use ck_base::{NoMemory, Refusal, Span};
 
 // What a name of the innermost scope denotes.

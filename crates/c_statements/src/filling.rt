@@ -6,21 +6,20 @@ ghost use Rattle.c_tree.specs.Syntax.{Syn};
 ghost use Rattle.c_tree.specs.Programs.{reading};
 ghost use Rattle.c_tree.specs.Scopes.{give};
 ghost use Rattle.c_tree.specs.Declarations as meant;
-ghost use Rattle.c_nodes.specs.Nodes.{IsWhole, type_in, type_count};
-ghost use Rattle.c_work.specs.Answers.{Answers, freely};
-ghost use Rattle.c_work.specs.Parts.{IsPart, HasPart, token_of};
+ghost use Rattle.c_expressions.specs.Nodes.{IsWhole, type_in, type_count};
+ghost use Rattle.c_elaborator.specs.Answers.{Answers, freely};
+ghost use Rattle.c_elaborator.specs.Parts.{IsPart, HasPart, token_of};
 ghost use Rattle.c_initializers.specs.Slots.{AreSlotsThere, slots_in};
-ghost use Rattle.c_items.specs.Items.{ItemsThere, IsItems};
+ghost use Rattle.c_elaborator.specs.Items.{ItemsThere, IsItems};
 ghost use Rattle.c_statements.specs.Declaring.{HasBehind, IsBehind, fills_local, fills_static, init_items, initializes};
 ghost use Rattle.c_statements.specs.Declaring.{local_initialized, static_initialized};
 
 use crate::declarations::Behind;
 use crate::initial::{Asked, Goal, initializer};
+use c_elaborator::{Items, Name, Work, add_statement, no_items};
 use c_initializers::{Slot, fill_local, fill_static};
-use c_items::{Items, add_statement, no_items};
 use c_tree::StmtKind;
 use c_types::Entity;
-use c_work::{Name, Work};
 use ck_base::{NoMemory, Pos, Refusal};
 use std::alloc::Global;
 

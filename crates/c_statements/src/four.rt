@@ -1,9 +1,9 @@
 //! Four parts of a node.
 
 ghost use Rattle.std.specs.Prelude.{◌≡◌, ◌∷◌, [], MatchOption};
-ghost use Rattle.c_parts.specs.Kids.{HasNot};
+ghost use Rattle.c_readings.specs.Kids.{HasNot};
 
-use c_parts::ThreeParts;
+use c_readings::ThreeParts;
 
 /// Four parts.
 #[derive(Clone, Copy)]

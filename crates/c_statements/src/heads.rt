@@ -4,18 +4,17 @@ ghost use Rattle.std.specs.Prelude.{◌≡◌, true, IfOk};
 ghost use Rattle.c_tree.specs.Syntax.{Syn};
 ghost use Rattle.c_tree.specs.Programs.{reading};
 ghost use Rattle.c_tree.specs.Statements.{is_absent, first_part, optional_test, optional_step};
-ghost use Rattle.c_nodes.specs.Nodes.{IsWhole};
-ghost use Rattle.c_work.specs.Answers.{Answers, quietly, freely};
-ghost use Rattle.c_work.specs.Parts.{IsPart, HasPart};
-ghost use Rattle.c_items.specs.Items.{context_in, ItemsThere, IsItems};
+ghost use Rattle.c_expressions.specs.Nodes.{IsWhole};
+ghost use Rattle.c_elaborator.specs.Answers.{Answers, quietly, freely};
+ghost use Rattle.c_elaborator.specs.Parts.{IsPart, HasPart};
+ghost use Rattle.c_elaborator.specs.Items.{context_in, ItemsThere, IsItems};
 ghost use Rattle.c_statements.specs.Statements.{MaybeThere, IsMaybe, for_head, HeadThere, IsHead, for_of};
 
 use crate::declarations::declaration;
 use crate::simple::{evaluate_one, test};
-use c_items::{Context, Items, no_items};
-use c_parts::{ThreeParts, node_at, value_of};
+use c_elaborator::{Context, Items, Work, no_items};
+use c_readings::{ThreeParts, node_at, value_of};
 use c_tree::{NodeKind, StmtKind};
-use c_work::Work;
 use ck_base::{NoMemory, Refusal, Sequence};
 
 /// What stands in the parentheses of a `for`.

@@ -7,18 +7,18 @@ ghost use Rattle.c_tree.specs.Initializers.{string_initializer, plain_initialize
 ghost use Rattle.c_tree.specs.Syntax.{Syn, Syns};
 ghost use Rattle.c_tree.specs.Programs.{reading, readings, is_text};
 ghost use Rattle.c_types.specs.Stands.{text_at};
-ghost use Rattle.c_nodes.specs.Nodes.{IsWhole, type_in, type_count};
-ghost use Rattle.c_work.specs.Answers.{Answers, quietly, NothingThere, IsNothing};
-ghost use Rattle.c_work.specs.Parts.{IsPart, HasPart, AreParts, HaveParts, token_of};
+ghost use Rattle.c_expressions.specs.Nodes.{IsWhole, type_in, type_count};
+ghost use Rattle.c_elaborator.specs.Answers.{Answers, quietly, NothingThere, IsNothing};
+ghost use Rattle.c_elaborator.specs.Parts.{IsPart, HasPart, AreParts, HaveParts, token_of};
 ghost use Rattle.c_initializers.specs.Places.{ArePlaces};
 ghost use Rattle.c_initializers.specs.Slots.{SlotThere, slot_in, FilledThere, IsFilled};
 ghost use Rattle.c_statements.specs.Initial.{asked_by, gives_items};
 
 use crate::items::{alone, append, counted, lone_text, next_part};
+use c_elaborator::{Name, Work};
 use c_initializers::{Filled, Places, Slot, is_start, places_of, plain, string, takes_string};
-use c_parts::value_of;
+use c_readings::value_of;
 use c_tree::NodeKind;
-use c_work::{Name, Work};
 use ck_base::{NoMemory, Pos, Refusal, TokenKind};
 
 /// What is asked of each value that is written.

@@ -1,14 +1,14 @@
 //! The items of a list in braces (C11 6.7.9p17, p20).
 
 ghost use Rattle.std.specs.Prelude.{◌≡◌, ◌+◌, ◌++◌, ◌<◌, ◌∷◌, [], IfOk, OnOk};
-ghost use Rattle.c_nodes.specs.Nodes.{IsWhole, type_count};
-ghost use Rattle.c_work.specs.Parts.{HasPart, HaveParts};
+ghost use Rattle.c_expressions.specs.Nodes.{IsWhole, type_count};
+ghost use Rattle.c_elaborator.specs.Parts.{HasPart, HaveParts};
 ghost use Rattle.c_statements.specs.Initial.{IsLone, IsNext};
 
 use crate::initial::Goal;
+use c_elaborator::Work;
 use c_initializers::{Places, Slot, takes_string};
 use c_tree::NodeKind;
-use c_work::Work;
 use ck_base::{NoMemory, Pos, Refusal};
 use std::alloc::Global;
 

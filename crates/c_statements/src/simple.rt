@@ -4,16 +4,15 @@ ghost use Rattle.std.specs.Prelude.{[]};
 ghost use Rattle.c_tree.specs.Syntax.{Syn, Syns};
 ghost use Rattle.c_tree.specs.Programs.{reading, readings};
 ghost use Rattle.c_tree.specs.Statements.{test};
-ghost use Rattle.c_nodes.specs.Nodes.{IsWhole};
-ghost use Rattle.c_work.specs.Answers.{Answers, quietly, freely, TermThere, IsTerm};
-ghost use Rattle.c_work.specs.Parts.{IsPart, HasPart, AreParts, HaveParts};
-ghost use Rattle.c_items.specs.Items.{ContextThere, context_in, ItemsThere, IsItems};
+ghost use Rattle.c_expressions.specs.Nodes.{IsWhole};
+ghost use Rattle.c_elaborator.specs.Answers.{Answers, quietly, freely, TermThere, IsTerm};
+ghost use Rattle.c_elaborator.specs.Parts.{IsPart, HasPart, AreParts, HaveParts};
+ghost use Rattle.c_elaborator.specs.Items.{ContextThere, context_in, ItemsThere, IsItems};
 ghost use Rattle.c_statements.specs.Statements.{evaluate_one, evaluated, IsJump, jumping, return_of, return_one};
 
-use c_items::{Context, Items, does};
-use c_parts::{first_of, only, value_of};
+use c_elaborator::{Context, Items, Work, does};
+use c_readings::{first_of, only, value_of};
 use c_tree::StmtKind;
-use c_work::Work;
 use ck_base::{Pos, Refusal};
 
 // The truth value of an expression that is tested (C11 6.8.4.1p1, 6.8.5p2).

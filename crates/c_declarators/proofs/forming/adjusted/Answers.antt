@@ -1,6 +1,6 @@
 use Rattle.std.proofs.Common.{sym}
 use Rattle.std.proofs.lemmas.Result.{IfOk-weaker}
-use Rattle.c_nodes.proofs.Keeping.{has_type_is, has_type_same}
+use Rattle.c_expressions.proofs.Keeping.{has_type_is, has_type_same}
 use Rattle.c_declarators.proofs.forming.adjusted.Goals as goal
 
 pub returns-in-Some : goal.returns-in-Some

@@ -1,6 +1,6 @@
 use Rattle.std.proofs.Common.{◌≤◌, length, drop}
 use Rattle.c_tree.specs.Declarators.{plainly}
-use Rattle.c_nodes.specs.Nodes.{type_in}
+use Rattle.c_expressions.specs.Nodes.{type_in}
 use Rattle.c_declarators.specs.Forming.{MakesOf, all_on}
 use Rattle.c_declarators.proofs.forming.form.Given as goal
 

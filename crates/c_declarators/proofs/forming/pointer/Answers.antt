@@ -2,8 +2,8 @@ use Rattle.std.proofs.Common.{sym, ap, ◌∙◌}
 use Rattle.std.proofs.lemmas.Result.{IfOk-weaker}
 use Rattle.c_tree.specs.Types.{Const}
 use Rattle.c_tree.specs.Declarators.{pointer_to}
-use Rattle.c_nodes.specs.Nodes.{type_in}
-use Rattle.c_nodes.proofs.Keeping.{has_type_then}
+use Rattle.c_expressions.specs.Nodes.{type_in}
+use Rattle.c_expressions.proofs.Keeping.{has_type_then}
 use Rattle.c_declarators.proofs.forming.pointer.Goals as goal
 
 pub returns-then-qualified : goal.returns-then-qualified

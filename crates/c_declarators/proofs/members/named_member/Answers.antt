@@ -7,11 +7,11 @@ use Rattle.c_tree.specs.Scopes.{give}
 use Rattle.c_tree.specs.Declarators as meant
 use Rattle.c_tree.specs.Declarators.{judge, has_part}
 use Rattle.c_types.specs.Stands.{text_at}
-use Rattle.c_nodes.specs.Nodes.{type_in}
-use Rattle.c_work.specs.declared.work.Work.{Work}
-use Rattle.c_work.specs.Answers.{Keeps}
-use Rattle.c_work.specs.Parts.{token_of}
-use Rattle.c_work.proofs.Growing.{keeps_nodes}
+use Rattle.c_expressions.specs.Nodes.{type_in}
+use Rattle.c_elaborator.specs.declared.work.Work.{Work}
+use Rattle.c_elaborator.specs.Answers.{Keeps}
+use Rattle.c_elaborator.specs.Parts.{token_of}
+use Rattle.c_elaborator.proofs.Growing.{keeps_nodes}
 use Rattle.c_declarators.specs.Forming.{formed_in}
 use Rattle.c_declarators.specs.Parts.{any_scope, AllMembersThere, AreAllMembers, has_name}
 use Rattle.c_declarators.proofs.Joining.{has_part_is, member_again, member_step, members_kept, members_push}

@@ -12,9 +12,9 @@ use Rattle.c_types.specs.declared.scopes.Scopes.{Scopes}
 use Rattle.c_types.specs.Calls.{Given, IsDenoted}
 use Rattle.c_types.specs.Declares.{denoted, declares_constant, name_of}
 use Rattle.c_types.specs.Stands.{text_at}
-use Rattle.c_work.specs.declared.work.Work.{Work}
-use Rattle.c_work.specs.Work.{Shows}
-use Rattle.c_work.specs.Parts.{token_of}
+use Rattle.c_elaborator.specs.declared.work.Work.{Work}
+use Rattle.c_elaborator.specs.Work.{Shows}
+use Rattle.c_elaborator.specs.Parts.{token_of}
 use Rattle.c_declarators.proofs.Denoting.{constant_stands, enumerated}
 use Rattle.c_declarators.proofs.Lifting.{declared, scopes_declared}
 use Rattle.c_declarators.proofs.Tagging.{enumerate_declares}

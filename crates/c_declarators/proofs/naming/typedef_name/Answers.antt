@@ -4,9 +4,9 @@ use Rattle.c_tree.specs.Types.{Void}
 use Rattle.c_tree.specs.Views.{types_of}
 use Rattle.c_interner.proofs.Growing.{length-types_of}
 use Rattle.c_types.specs.Stands.{named}
-use Rattle.c_nodes.proofs.Keeping.{keeps_same}
-use Rattle.c_nodes.specs.Nodes.{type_in, type_count}
-use Rattle.c_work.specs.declared.work.Work.{Work}
+use Rattle.c_expressions.proofs.Keeping.{keeps_same}
+use Rattle.c_expressions.specs.Nodes.{type_in, type_count}
+use Rattle.c_elaborator.specs.declared.work.Work.{Work}
 use Rattle.c_declarators.proofs.Denoting.{no_alias, an_alias}
 use Rattle.c_declarators.proofs.Quietly.{given_quietly}
 use Rattle.c_declarators.proofs.naming.typedef_name.Goals as goal

@@ -5,11 +5,11 @@ use Rattle.c_tree.specs.Scopes.{give}
 use Rattle.c_tree.specs.Readings as meant_parts
 use Rattle.c_tree.specs.Declarators as meant
 use Rattle.c_tree.specs.Declarators.{judge, formed, place_of, is_nothing, is_free}
-use Rattle.c_nodes.specs.Nodes.{type_in}
-use Rattle.c_nodes.specs.Nodes as nodes
-use Rattle.c_nodes.proofs.Keeping.{keeps_then}
-use Rattle.c_work.specs.declared.work.Work.{Work}
-use Rattle.c_work.specs.Parts.{token_of}
+use Rattle.c_expressions.specs.Nodes.{type_in}
+use Rattle.c_expressions.specs.Nodes as nodes
+use Rattle.c_expressions.proofs.Keeping.{keeps_then}
+use Rattle.c_elaborator.specs.declared.work.Work.{Work}
+use Rattle.c_elaborator.specs.Parts.{token_of}
 use Rattle.c_declarators.specs.Forming.{formed_in}
 use Rattle.c_declarators.specs.Parts.{any_scope, ParamThere, IsParam, in_any}
 use Rattle.c_declarators.proofs.Joining.{nothing_is, parameter_step}

@@ -5,10 +5,10 @@ use Rattle.c_tree.specs.Types.{Ty}
 use Rattle.c_tree.specs.Declarators.{bind_parameter}
 use Rattle.c_types.specs.declared.scopes.Scopes.{Scopes}
 use Rattle.c_types.specs.Stands.{Stands, text_at}
-use Rattle.c_nodes.proofs.Keeping.{keeps_same}
-use Rattle.c_nodes.specs.Nodes.{type_in}
-use Rattle.c_work.specs.declared.work.Work.{Work}
-use Rattle.c_work.specs.declared.work.Name.{Name}
+use Rattle.c_expressions.proofs.Keeping.{keeps_same}
+use Rattle.c_expressions.specs.Nodes.{type_in}
+use Rattle.c_elaborator.specs.declared.work.Work.{Work}
+use Rattle.c_elaborator.specs.declared.work.Name.{Name}
 use Rattle.c_declarators.specs.Parts.{param_in}
 use Rattle.c_declarators.proofs.Lifting.{declared, scopes_declared}
 use Rattle.c_declarators.proofs.Quietly.{given_quietly}

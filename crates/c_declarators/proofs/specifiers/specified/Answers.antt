@@ -1,6 +1,6 @@
 use Rattle.std.proofs.Common.{subst, map}
-use Rattle.c_nodes.specs.Nodes.{type_in}
-use Rattle.c_work.specs.Answers.{Answers, quietly}
+use Rattle.c_expressions.specs.Nodes.{type_in}
+use Rattle.c_elaborator.specs.Answers.{Answers, quietly}
 use Rattle.c_declarators.specs.declared.words.Words.{Words}
 use Rattle.c_declarators.specs.Steps.{specified_by}
 use Rattle.c_declarators.specs.Parts.{SpecifiedThere, IsSpecified, in_any}

@@ -1,7 +1,7 @@
 use Rattle.std.proofs.Common.{◌≡◌, true, refl, ap, sym, ◌∙◌}
 use Rattle.std.specs.Prelude.{nat_le}
 use Rattle.std.proofs.lemmas.Bool.{lt-leb, le-leb}
-use Rattle.c_nodes.proofs.Keeping.{keeps_then}
+use Rattle.c_expressions.proofs.Keeping.{keeps_then}
 use Rattle.c_declarators.specs.Words.{storage_words}
 use Rattle.c_declarators.specs.Steps.{with_const}
 use Rattle.c_declarators.proofs.Quietly.{given_quietly}

@@ -1,5 +1,5 @@
 use Rattle.std.proofs.Common.{arith}
-use Rattle.c_nodes.proofs.Keeping.{has_type_same}
+use Rattle.c_expressions.proofs.Keeping.{has_type_same}
 use Rattle.c_declarators.proofs.specifiers.with_const.Goals as goal
 
 pub returns : goal.returns

@@ -1,8 +1,8 @@
 use Rattle.c_tree.specs.Scopes.{State}
 use Rattle.c_tree.specs.Declarators.{begin_tag}
 use Rattle.c_types.specs.declared.scopes.Scopes.{Scopes}
-use Rattle.c_work.specs.declared.work.Work.{Work}
-use Rattle.c_work.specs.Answers.{NothingThere, IsNothing}
+use Rattle.c_elaborator.specs.declared.work.Work.{Work}
+use Rattle.c_elaborator.specs.Answers.{NothingThere, IsNothing}
 use Rattle.c_declarators.proofs.Lifting.{lifted, scopes_declared}
 use Rattle.c_declarators.proofs.Tagging.{begin_tag_declares}
 use Rattle.c_declarators.proofs.tags.begin_tag.Goals as goal

@@ -1,9 +1,9 @@
 use Rattle.std.proofs.Common.{sym, ◌∙◌}
 use Rattle.c_tree.specs.Scopes.{State}
 use Rattle.c_tree.specs.Declarators.{complete_tag}
-use Rattle.c_nodes.specs.declared.nodes.Nodes.{Nodes}
-use Rattle.c_work.specs.declared.work.Work.{Work}
-use Rattle.c_work.specs.Answers.{NothingThere, IsNothing}
+use Rattle.c_expressions.specs.declared.nodes.Nodes.{Nodes}
+use Rattle.c_elaborator.specs.declared.work.Work.{Work}
+use Rattle.c_elaborator.specs.Answers.{NothingThere, IsNothing}
 use Rattle.c_declarators.proofs.Lifting.{lifted}
 use Rattle.c_declarators.proofs.Tagging.{complete_tag_declares, parts_there, parts_spelled, completes}
 use Rattle.c_declarators.proofs.tags.complete_tag.Goals as goal

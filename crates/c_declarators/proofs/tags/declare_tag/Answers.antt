@@ -4,9 +4,9 @@ use Rattle.c_tree.specs.Scopes.{State}
 use Rattle.c_tree.specs.Declarators.{declare_tag}
 use Rattle.c_types.specs.Calls.{IsTag}
 use Rattle.c_types.specs.Declares.{name_of}
-use Rattle.c_nodes.specs.declared.nodes.Nodes.{Nodes}
-use Rattle.c_work.specs.declared.work.Work.{Work}
-use Rattle.c_work.specs.Parts.{token_of}
+use Rattle.c_expressions.specs.declared.nodes.Nodes.{Nodes}
+use Rattle.c_elaborator.specs.declared.work.Work.{Work}
+use Rattle.c_elaborator.specs.Parts.{token_of}
 use Rattle.c_declarators.proofs.Lifting.{declared}
 use Rattle.c_declarators.proofs.Tagging.{declare_tag_declares, tag_declared, name_is}
 use Rattle.c_declarators.proofs.tags.declare_tag.Goals as goal

@@ -3,9 +3,9 @@ use Rattle.std.specs.Prelude.{Some, option_map}
 use Rattle.ck_base.specs.Tokens.{Lexeme}
 use Rattle.c_tree.specs.Scopes.{Recorded}
 use Rattle.c_types.specs.Stands.{tagging_of}
-use Rattle.c_nodes.proofs.Keeping.{keeps_same}
-use Rattle.c_work.specs.declared.work.Work.{Work}
-use Rattle.c_work.specs.Parts.{token_of}
+use Rattle.c_expressions.proofs.Keeping.{keeps_same}
+use Rattle.c_elaborator.specs.declared.work.Work.{Work}
+use Rattle.c_elaborator.specs.Parts.{token_of}
 use Rattle.c_declarators.proofs.Quietly.{given_quietly}
 use Rattle.c_declarators.proofs.Tagging.{named_is, of_kind}
 use Rattle.c_declarators.proofs.tags.named_tag.Goals as goal

@@ -3,10 +3,10 @@ use Rattle.c_tree.specs.Scopes.{State}
 use Rattle.c_types.specs.Calls.{IsTag}
 use Rattle.c_types.specs.Declares.{name_of, declares_tag}
 use Rattle.c_types.specs.declared.entries.TagKind.TheVariants.{Enum}
-use Rattle.c_nodes.specs.declared.nodes.Nodes.{Nodes}
-use Rattle.c_work.specs.declared.work.Work.{Work}
-use Rattle.c_work.specs.Parts.{token_of}
-use Rattle.c_work.specs.Answers.{NothingThere, IsNothing}
+use Rattle.c_expressions.specs.declared.nodes.Nodes.{Nodes}
+use Rattle.c_elaborator.specs.declared.work.Work.{Work}
+use Rattle.c_elaborator.specs.Parts.{token_of}
+use Rattle.c_elaborator.specs.Answers.{NothingThere, IsNothing}
 use Rattle.c_declarators.specs.Steps.{new_enumeration_of}
 use Rattle.c_declarators.proofs.Lifting.{declared, refused}
 use Rattle.c_declarators.proofs.Tagging.{enumeration_declares, enumeration_given, enumeration_refused, name_is}

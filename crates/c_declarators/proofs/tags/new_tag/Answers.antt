@@ -1,7 +1,7 @@
 use Rattle.std.proofs.Common.{◌≡◌, ℕ}
 use Rattle.c_tree.specs.Scopes.{State}
 use Rattle.c_tree.specs.Declarators.{new_tag}
-use Rattle.c_work.specs.declared.work.Work.{Work}
+use Rattle.c_elaborator.specs.declared.work.Work.{Work}
 use Rattle.c_declarators.proofs.Lifting.{declared}
 use Rattle.c_declarators.proofs.Tagging.{new_tag_declares}
 use Rattle.c_declarators.proofs.tags.new_tag.Goals as goal

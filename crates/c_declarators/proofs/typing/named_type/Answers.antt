@@ -2,7 +2,7 @@ use Rattle.std.proofs.Common.{refl, ap, ◌∙◌, false}
 use Rattle.c_tree.specs.Scopes.{give, ◌>>◌}
 use Rattle.c_tree.specs.Declarators as meant
 use Rattle.c_tree.specs.Declarators.{judge}
-use Rattle.c_work.specs.Answers.{TypeThere, IsType}
+use Rattle.c_elaborator.specs.Answers.{TypeThere, IsType}
 use Rattle.c_declarators.specs.Parts.{any_scope}
 use Rattle.c_declarators.specs.Forming.{formed_in}
 use Rattle.c_declarators.proofs.Quietly.{given_quietly, judged_err, judged_ok}

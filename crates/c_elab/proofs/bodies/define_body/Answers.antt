@@ -1,7 +1,7 @@
 use Rattle.std.proofs.Common.{Some, sym, ◌∙◌}
-use Rattle.c_work.specs.declared.work.Work.{Work}
-use Rattle.c_parts.proofs.Kids.{part_kept, has_kept}
-use Rattle.c_items.proofs.Going.{context_kept, context_there}
+use Rattle.c_elaborator.specs.declared.work.Work.{Work}
+use Rattle.c_readings.proofs.Kids.{part_kept, has_kept}
+use Rattle.c_elaborator.proofs.Going.{context_kept, context_there}
 use Rattle.c_elab.proofs.Defining.{body_defined, defines_at}
 use Rattle.c_elab.proofs.bodies.define_body.Goals as goal
 

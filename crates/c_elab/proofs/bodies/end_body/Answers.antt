@@ -1,6 +1,6 @@
 use Rattle.std.proofs.Common.{refl}
-use Rattle.c_work.specs.declared.work.Definition.{Definition}
-use Rattle.c_work.specs.declared.work.Work.{Work}
+use Rattle.c_elaborator.specs.declared.work.Definition.{Definition}
+use Rattle.c_elaborator.specs.declared.work.Work.{Work}
 use Rattle.c_elab.proofs.Ending.{body_ends}
 use Rattle.c_elab.proofs.bodies.end_body.Goals as goal
 

@@ -1,4 +1,4 @@
-use Rattle.c_work.specs.declared.work.Work.{Work}
+use Rattle.c_elaborator.specs.declared.work.Work.{Work}
 use Rattle.c_elab.proofs.Ending.{block_is, finish_is}
 use Rattle.c_elab.proofs.bodies.finish_body.Goals as goal
 

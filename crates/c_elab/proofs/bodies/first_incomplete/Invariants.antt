@@ -1,7 +1,7 @@
 use Rattle.std.proofs.Common.{◌≡◌, drop, map}
 use Rattle.c_tree.specs.Programs.{first_incomplete}
 use Rattle.c_tree.specs.Scopes.{State}
-use Rattle.c_work.specs.Work.{Shows}
+use Rattle.c_elaborator.specs.Work.{Shows}
 use Rattle.c_declarators.specs.Parts.{param_in}
 use Rattle.c_elab.proofs.bodies.first_incomplete.Given as goal
 

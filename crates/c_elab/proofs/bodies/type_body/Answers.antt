@@ -1,7 +1,7 @@
 use Rattle.std.proofs.lemmas.Result.{err_from_is_err_and}
-use Rattle.c_work.specs.declared.work.Work.{Work}
-use Rattle.c_parts.proofs.Kids.{have_kids}
-use Rattle.c_items.specs.Items.{context_in}
+use Rattle.c_elaborator.specs.declared.work.Work.{Work}
+use Rattle.c_readings.proofs.Kids.{have_kids}
+use Rattle.c_elaborator.specs.Items.{context_in}
 use Rattle.c_elab.proofs.Ending.{body_typed, body_untyped}
 use Rattle.c_elab.proofs.bodies.type_body.Goals as goal
 

@@ -1,9 +1,9 @@
 use Rattle.std.proofs.lemmas.Result.{err_from_is_err_and}
 use Rattle.std.proofs.Common.{List, ℕ, subst}
-use Rattle.c_work.specs.declared.work.Work.{Work}
-use Rattle.c_work.specs.Parts.{HaveParts}
-use Rattle.c_work.proofs.Sequencing.{keeps_same, keeps_then}
-use Rattle.c_parts.proofs.Kids.{have_first, have_others, have_kept}
+use Rattle.c_elaborator.specs.declared.work.Work.{Work}
+use Rattle.c_elaborator.specs.Parts.{HaveParts}
+use Rattle.c_elaborator.proofs.Sequencing.{keeps_same, keeps_then}
+use Rattle.c_readings.proofs.Kids.{have_first, have_others, have_kept}
 use Rattle.c_elab.proofs.Externals.{FileSoFar, file_begins, file_ends, file_fails, file_steps}
 use Rattle.c_elab.proofs.elaboration.all_externals.Goals as goal
 

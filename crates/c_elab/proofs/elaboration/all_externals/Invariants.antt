@@ -1,8 +1,8 @@
 use Rattle.std.proofs.Common.{length}
 use Rattle.c_tree.specs.Syntax.{Syns}
-use Rattle.c_nodes.specs.Nodes.{IsWhole}
-use Rattle.c_work.specs.Answers.{Keeps}
-use Rattle.c_work.specs.Parts.{AreParts, HaveParts}
+use Rattle.c_expressions.specs.Nodes.{IsWhole}
+use Rattle.c_elaborator.specs.Answers.{Keeps}
+use Rattle.c_elaborator.specs.Parts.{AreParts, HaveParts}
 use Rattle.c_elab.proofs.Externals.{FileSoFar}
 use Rattle.c_elab.proofs.elaboration.all_externals.Given as goal
 

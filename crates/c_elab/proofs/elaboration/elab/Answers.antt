@@ -1,7 +1,7 @@
 use Rattle.std.proofs.lemmas.Result.{err_from_is_err_and}
 use Rattle.c_tree.specs.Programs.{parts, beginning}
-use Rattle.c_work.specs.declared.work.Work.{Work}
-use Rattle.c_parts.proofs.Kids.{have_kids}
+use Rattle.c_elaborator.specs.declared.work.Work.{Work}
+use Rattle.c_readings.proofs.Kids.{have_kids}
 use Rattle.c_elab.proofs.Externals.{elaborated, elaboration_fails, root_is, root_parts, syntax_is}
 use Rattle.c_elab.proofs.Settled.{typed_end}
 use Rattle.c_elab.proofs.elaboration.elab.Goals as goal

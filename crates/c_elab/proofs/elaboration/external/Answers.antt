@@ -2,9 +2,9 @@ use Rattle.std.proofs.Common.{Ok, sym, subst}
 use Rattle.c_tree.specs.declared.syntax.NodeKind.{NodeKind}
 use Rattle.c_tree.specs.Scopes.{Doing}
 use Rattle.c_tree.specs.Programs.{readings, external_of}
-use Rattle.c_work.specs.declared.work.Work.{Work}
-use Rattle.c_work.specs.Answers.{Answers, freely, NothingThere, IsNothing}
-use Rattle.c_parts.proofs.Kids.{have_kids}
+use Rattle.c_elaborator.specs.declared.work.Work.{Work}
+use Rattle.c_elaborator.specs.Answers.{Answers, freely, NothingThere, IsNothing}
+use Rattle.c_readings.proofs.Kids.{have_kids}
 use Rattle.c_elab.proofs.Shapes.{external_answers, other_external}
 use Rattle.c_elab.proofs.Externals.{nothing_done}
 use Rattle.c_elab.proofs.elaboration.external.Goals as goal

@@ -3,12 +3,12 @@ use Rattle.std.proofs.Common.{false, Ok}
 use Rattle.c_tree.specs.Readings as meant
 use Rattle.c_tree.specs.Scopes.{Doing, ◌>>=◌}
 use Rattle.c_tree.specs.Programs.{reading, define_named}
-use Rattle.c_work.specs.declared.work.Work.{Work}
-use Rattle.c_work.specs.Answers.{freely, NothingThere, IsNothing}
-use Rattle.c_work.proofs.Sequencing.{free_law, freed, keeps_then, type_there}
+use Rattle.c_elaborator.specs.declared.work.Work.{Work}
+use Rattle.c_elaborator.specs.Answers.{freely, NothingThere, IsNothing}
+use Rattle.c_elaborator.proofs.Sequencing.{free_law, freed, keeps_then, type_there}
 use Rattle.c_declarators.specs.Parts.{SpecifiedThere, IsSpecified, in_any, DerivedThere, ShowsDerived}
-use Rattle.c_parts.proofs.Kids.{part_kept, has_kept}
-use Rattle.c_items.proofs.Shown.{then_for}
+use Rattle.c_readings.proofs.Kids.{part_kept, has_kept}
+use Rattle.c_elaborator.proofs.Shown.{then_for}
 use Rattle.c_statements.proofs.Following.{for_each}
 use Rattle.c_statements.proofs.Standing.{specified_kept, some_specified, is_some_specified}
 use Rattle.c_elab.proofs.Shapes.{unspecified, underived}

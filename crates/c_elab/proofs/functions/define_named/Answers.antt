@@ -1,8 +1,8 @@
 use Rattle.std.proofs.Common.{ap, ◌∙◌}
 use Rattle.c_tree.specs.Scopes.{Doing, refuse}
 use Rattle.c_tree.specs.Programs.{reading, define_named}
-use Rattle.c_work.specs.declared.work.Work.{Work}
-use Rattle.c_work.specs.Answers.{NothingThere, IsNothing}
+use Rattle.c_elaborator.specs.declared.work.Work.{Work}
+use Rattle.c_elaborator.specs.Answers.{NothingThere, IsNothing}
 use Rattle.c_declarators.specs.Parts.{ShowsDerived, name_token}
 use Rattle.c_elab.specs.Functions.{IsDeclarator}
 use Rattle.c_elab.proofs.Defining.{for_fewer}

@@ -5,15 +5,15 @@ use Rattle.c_tree.specs.Readings as meant
 use Rattle.c_tree.specs.Scopes.{State}
 use Rattle.c_tree.specs.Programs.{reading, define_named}
 use Rattle.c_types.specs.declared.entries.Decl.{Decl}
-use Rattle.c_nodes.specs.Nodes.{type_in}
-use Rattle.c_work.specs.declared.work.Work.{Work}
-use Rattle.c_work.specs.Answers.{NothingThere, IsNothing}
-use Rattle.c_work.proofs.Sequencing.{keeps_then}
+use Rattle.c_expressions.specs.Nodes.{type_in}
+use Rattle.c_elaborator.specs.declared.work.Work.{Work}
+use Rattle.c_elaborator.specs.Answers.{NothingThere, IsNothing}
+use Rattle.c_elaborator.proofs.Sequencing.{keeps_then}
 use Rattle.std.specs.Prelude.{reverse, not, ◌||◌}
 use Rattle.std.specs.Option.{is_some}
 use Rattle.c_declarators.specs.Parts.{any_scope, shown_in}
 use Rattle.c_elab.proofs.Weaker.{wraps_weaker}
-use Rattle.c_parts.proofs.Kids.{has_kept, part_kept}
+use Rattle.c_readings.proofs.Kids.{has_kept, part_kept}
 use Rattle.c_statements.proofs.Standing.{some_wraps, are_some_wraps}
 use Rattle.c_elab.specs.Functions.{IsDeclarator, first_prototype}
 use Rattle.c_elab.proofs.Own.{own_there, params_there}

@@ -1,8 +1,8 @@
 use Rattle.std.proofs.Common.{List, ℕ, [], ◌∷◌, ap, subst, ◌∙◌}
 use Rattle.c_tree.specs.Scopes.{Doing, refuse}
-use Rattle.c_work.specs.declared.work.Work.{Work}
-use Rattle.c_work.specs.Parts.{HaveParts}
-use Rattle.c_parts.proofs.Kids.{have_first, have_others}
+use Rattle.c_elaborator.specs.declared.work.Work.{Work}
+use Rattle.c_elaborator.specs.Parts.{HaveParts}
+use Rattle.c_readings.proofs.Kids.{have_first, have_others}
 use Rattle.c_elab.proofs.Shapes.{from_three, not_three}
 use Rattle.c_elab.proofs.functions.function_definition.Goals as goal
 

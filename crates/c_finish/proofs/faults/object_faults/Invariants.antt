@@ -2,7 +2,7 @@ use Rattle.std.proofs.Common.{◌≡◌, ◌-◌, drop}
 use Rattle.std.specs.Prelude.{flat_map}
 use Rattle.c_tree.specs.Scopes.{State}
 use Rattle.c_tree.specs.Programs.{static_faults}
-use Rattle.c_work.specs.Work.{Shows}
+use Rattle.c_elaborator.specs.Work.{Shows}
 use Rattle.c_finish.specs.Faults.{found, onto}
 use Rattle.c_finish.proofs.faults.object_faults.Given as goal
 

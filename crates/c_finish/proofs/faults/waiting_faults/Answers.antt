@@ -5,7 +5,7 @@ use Rattle.c_finish.proofs.Faulting.{begun, turn_back, over}
 use Rattle.std.proofs.lemmas.Option.{slice_get-map}
 use Rattle.std.proofs.Common.{Some}
 use Rattle.std.specs.Prelude.{option_map}
-use Rattle.c_work.specs.Work.{pending_of}
+use Rattle.c_elaborator.specs.Work.{pending_of}
 use Rattle.std.proofs.lemmas.List.{length-map}
 use Rattle.c_finish.proofs.faults.waiting_faults.Goals as goal
 

@@ -1,6 +1,6 @@
 use Rattle.std.proofs.Common.{◌-◌, drop}
 use Rattle.c_tree.specs.Scopes.{State}
-use Rattle.c_work.specs.Work.{Shows}
+use Rattle.c_elaborator.specs.Work.{Shows}
 use Rattle.c_finish.proofs.MainFunction.{MainFrom}
 use Rattle.c_finish.proofs.main_function.main_of.Given as goal
 

@@ -2,7 +2,7 @@ use Rattle.std.proofs.Common.{◌≡◌, ℕ, ◌≤◌, length, Some}
 use Rattle.std.specs.Prelude.{slice_get}
 use Rattle.c_tree.specs.Scopes.{State}
 use Rattle.c_tree.specs.Programs.{numbers_of}
-use Rattle.c_work.specs.Work.{Shows}
+use Rattle.c_elaborator.specs.Work.{Shows}
 use Rattle.c_finish.proofs.numbering.numbers_of_objects.Given as goal
 
 abbrev pub invariant-loop-k : goal.invariant-loop-k

@@ -3,7 +3,7 @@ use Rattle.std.specs.Borrow.{Bor}
 use Rattle.std.specs.Prelude.{option_map}
 use Rattle.c_tree.specs.Views as views
 use Rattle.c_tree.specs.Programs.{initial_of}
-use Rattle.c_work.specs.declared.work.Filling.{Filling}
+use Rattle.c_elaborator.specs.declared.work.Filling.{Filling}
 use Rattle.c_finish.specs.Finished.{StartsFit, filled}
 use Rattle.c_finish.proofs.Globals.{initial_is}
 use Rattle.c_finish.proofs.objects.initial.Goals as goal

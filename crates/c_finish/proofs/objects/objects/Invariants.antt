@@ -4,7 +4,7 @@ use Rattle.c_tree.specs.Scopes.{State}
 use Rattle.c_tree.specs.Views.{types_of}
 use Rattle.c_tree.specs.Views as views
 use Rattle.c_tree.specs.Programs.{object_of}
-use Rattle.c_work.specs.Work.{Shows}
+use Rattle.c_elaborator.specs.Work.{Shows}
 use Rattle.c_finish.proofs.objects.objects.Given as goal
 
 abbrev pub invariant-loop-k : goal.invariant-loop-k

@@ -1,5 +1,5 @@
 use Rattle.c_tree.specs.Scopes.{State}
-use Rattle.c_work.specs.Work.{Shows}
+use Rattle.c_elaborator.specs.Work.{Shows}
 use Rattle.c_finish.specs.Finished.{AreRoutines}
 use Rattle.c_finish.proofs.routines.routines.Given as goal
 

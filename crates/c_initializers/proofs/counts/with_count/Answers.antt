@@ -1,7 +1,7 @@
 use Rattle.std.proofs.Common.{sym, ap, ◌∙◌}
 use Rattle.c_tree.specs.Initializers.{with_count}
-use Rattle.c_nodes.specs.Nodes.{type_in}
-use Rattle.c_nodes.proofs.Keeping.{has_type_same}
+use Rattle.c_expressions.specs.Nodes.{type_in}
+use Rattle.c_expressions.proofs.Keeping.{has_type_same}
 use Rattle.c_initializers.proofs.PlaceLaws.{with_count-known, with_count-other}
 use Rattle.c_initializers.proofs.counts.with_count.Goals as goal
 

@@ -2,7 +2,7 @@ use Rattle.std.proofs.Common.{◌≡◌, true, false, refl}
 use Rattle.std.specs.Prelude.{◌==◌}
 use Rattle.std.proofs.lemmas.Bool.Decides.{nat_tests}
 use Rattle.std.proofs.Common.{arith}
-use Rattle.c_nodes.proofs.Keeping.{keeps_same}
+use Rattle.c_expressions.proofs.Keeping.{keeps_same}
 use Rattle.c_initializers.specs.Slots.{slot_in}
 use Rattle.c_initializers.proofs.FillLaws.{adds-none, adds-one}
 use Rattle.c_initializers.proofs.filling.add_given.Goals as goal

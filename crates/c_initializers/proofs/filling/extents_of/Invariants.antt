@@ -1,6 +1,6 @@
 use Rattle.std.proofs.Common.{◌≡◌, length, map, take}
 use Rattle.c_tree.specs.Scopes.{State}
-use Rattle.c_work.specs.Work.{Shows}
+use Rattle.c_elaborator.specs.Work.{Shows}
 use Rattle.c_initializers.specs.declared.covering.Extent.{Extent}
 use Rattle.c_initializers.specs.Slots.{extent_of, slots_in}
 use Rattle.c_initializers.proofs.filling.extents_of.Given as goal

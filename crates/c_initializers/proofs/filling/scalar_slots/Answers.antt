@@ -3,7 +3,7 @@ use Rattle.std.specs.Prelude.{position}
 use Rattle.c_tree.specs.Readings as meant
 use Rattle.c_tree.specs.Initializers.{scalar_slot}
 use Rattle.c_initializers.specs.declared.places.Place.{Place}
-use Rattle.c_nodes.proofs.Keeping.{keeps_same, keeps_then}
+use Rattle.c_expressions.proofs.Keeping.{keeps_same, keeps_then}
 use Rattle.c_initializers.specs.Covering.{covers_place}
 use Rattle.c_initializers.specs.Slots.{AddsSlots, slots_in, place_of, scalars_given, chosen}
 use Rattle.c_initializers.proofs.FillLaws.{no-slots, given_kept, scalars-more}

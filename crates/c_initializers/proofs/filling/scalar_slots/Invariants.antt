@@ -1,5 +1,5 @@
 use Rattle.std.proofs.Common.{◌≡◌, ◌++◌, drop, map}
-use Rattle.c_nodes.specs.Nodes.{Keeps}
+use Rattle.c_expressions.specs.Nodes.{Keeps}
 use Rattle.c_initializers.specs.Covering.{IsCursor}
 use Rattle.c_initializers.specs.Slots.{AreSlotsThere, slots_in, place_of, scalars_given}
 use Rattle.c_initializers.proofs.filling.scalar_slots.Given as goal

@@ -1,7 +1,7 @@
 use Rattle.std.proofs.Common.{sym, subst}
 use Rattle.c_tree.specs.declared.typed.Expr.{Expr}
 use Rattle.c_initializers.specs.Forms.{IsFormOf}
-use Rattle.c_nodes.proofs.Levels.{item_at}
+use Rattle.c_expressions.proofs.Levels.{item_at}
 use Rattle.c_initializers.proofs.FormLaws.{form-is}
 use Rattle.c_initializers.proofs.forms.form_of.Goals as goal
 

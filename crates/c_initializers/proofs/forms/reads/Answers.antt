@@ -5,7 +5,7 @@ use Rattle.c_tree.specs.Types.{Ty}
 use Rattle.c_tree.specs.Terms.{Term}
 use Rattle.c_tree.specs.Statics.{is_value_start}
 use Rattle.c_tree.specs.Views.{kind_term}
-use Rattle.c_nodes.proofs.Levels.{item_at}
+use Rattle.c_expressions.proofs.Levels.{item_at}
 use Rattle.c_initializers.proofs.FormLaws.{value-is}
 use Rattle.c_initializers.proofs.forms.reads.Goals as goal
 

@@ -1,7 +1,7 @@
 use Rattle.std.proofs.Common.{sym, ap, ◌∙◌}
 use Rattle.std.specs.Prelude.{option_map, slice_get}
 use Rattle.c_initializers.specs.declared.places.Place.{Place}
-use Rattle.c_nodes.specs.Nodes.{type_in}
+use Rattle.c_expressions.specs.Nodes.{type_in}
 use Rattle.c_initializers.proofs.PlaceLaws.{member-offset}
 use Rattle.c_initializers.proofs.known.member_offset.Goals as goal
 

@@ -1,6 +1,6 @@
 use Rattle.std.specs.List.{All}
 use Rattle.c_tree.specs.Scopes.{State}
-use Rattle.c_work.specs.Work.{Shows}
+use Rattle.c_elaborator.specs.Work.{Shows}
 use Rattle.c_initializers.specs.Places.{IsPlaceThere}
 use Rattle.c_initializers.proofs.PlaceLaws.{PlacedTo}
 use Rattle.c_initializers.proofs.members.struct_places.Given as goal

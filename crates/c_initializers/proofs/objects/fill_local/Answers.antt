@@ -1,6 +1,6 @@
 use Rattle.std.proofs.Common.{List, subst}
-use Rattle.c_nodes.specs.Nodes.{type_in}
-use Rattle.c_work.specs.Answers.{Answers, quietly}
+use Rattle.c_expressions.specs.Nodes.{type_in}
+use Rattle.c_elaborator.specs.Answers.{Answers, quietly}
 use Rattle.c_initializers.specs.declared.slots.Slot.{Slot}
 use Rattle.c_initializers.specs.Slots.{slots_in, every_slot_of, SlotsThere, AreSlots}
 use Rattle.c_initializers.proofs.ObjectLaws.{local_steps, slots_step}

@@ -1,7 +1,7 @@
 use Rattle.std.proofs.Common.{Err, List, subst}
 use Rattle.std.proofs.lemmas.Result.{err_from_is_err_and}
 use Rattle.c_tree.specs.Statics.{start_slots}
-use Rattle.c_work.specs.Answers.{Done, Answers, freely}
+use Rattle.c_elaborator.specs.Answers.{Done, Answers, freely}
 use Rattle.c_initializers.specs.declared.slots.Slot.{Slot}
 use Rattle.c_initializers.specs.Slots.{slots_in}
 use Rattle.c_initializers.specs.Found.{FoundThere, IsFound}

@@ -1,7 +1,7 @@
-use Rattle.c_work.specs.Answers.{quietly, NothingThere, IsNothing}
-use Rattle.c_work.proofs.Sequencing.{answers_at}
+use Rattle.c_elaborator.specs.Answers.{quietly, NothingThere, IsNothing}
+use Rattle.c_elaborator.proofs.Sequencing.{answers_at}
 use Rattle.c_tree.specs.Declarations.{complete_now}
-use Rattle.c_nodes.specs.Nodes.{type_in}
+use Rattle.c_expressions.specs.Nodes.{type_in}
 use Rattle.c_initializers.specs.Objects.{object_complete}
 use Rattle.c_initializers.proofs.ObjectLaws.{object_complete_is}
 use Rattle.c_initializers.proofs.objects.object_complete.Goals as goal

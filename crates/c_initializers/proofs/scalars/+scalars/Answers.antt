@@ -2,7 +2,7 @@ use Rattle.std.proofs.Common.{◌≡◌, ◌+◌, ◌-◌, ◌<◌, ◌++◌, �
 use Rattle.std.proofs.lemmas.List.{append-nil}
 use Rattle.c_tree.specs.Scopes.{size}
 use Rattle.c_tree.specs.Initializers.{repeat, scalars_of, all_scalars, tag_scalars}
-use Rattle.c_nodes.specs.Nodes.{type_in}
+use Rattle.c_expressions.specs.Nodes.{type_in}
 use Rattle.c_initializers.specs.Places.{place_in}
 use Rattle.c_initializers.proofs.PlaceLaws.{elements-more, members-more, members-end, no-depth, one-depth}
 use Rattle.c_initializers.proofs.scalars.+scalars.Goals as goal

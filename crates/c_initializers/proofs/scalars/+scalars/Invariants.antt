@@ -2,8 +2,8 @@ use Rattle.std.proofs.Common.{◌≡◌, ◌+◌, ◌-◌, ◌*◌, ◌++◌, dr
 use Rattle.std.specs.List.{All}
 use Rattle.c_tree.specs.Scopes.{State, size}
 use Rattle.c_tree.specs.Initializers.{repeat, scalars_of, all_scalars, tag_scalars}
-use Rattle.c_nodes.specs.Nodes.{type_in}
-use Rattle.c_work.specs.Work.{Shows}
+use Rattle.c_expressions.specs.Nodes.{type_in}
+use Rattle.c_elaborator.specs.Work.{Shows}
 use Rattle.c_initializers.specs.Places.{IsPlaceThere, place_in}
 use Rattle.c_initializers.proofs.scalars.+scalars.Given as goal
 

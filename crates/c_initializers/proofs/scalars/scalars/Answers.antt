@@ -1,5 +1,5 @@
 use Rattle.std.proofs.Common.{◌∙◌}
-use Rattle.c_nodes.specs.Nodes.{type_in}
+use Rattle.c_expressions.specs.Nodes.{type_in}
 use Rattle.c_initializers.specs.Places.{IsPlaceThere}
 use Rattle.c_initializers.proofs.PlaceLaws.{scalars-all, all-none}
 use Rattle.c_initializers.proofs.scalars.scalars.Goals as goal

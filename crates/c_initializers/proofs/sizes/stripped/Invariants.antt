@@ -1,5 +1,5 @@
 use Rattle.std.proofs.Common.{◌≡◌, ◌<◌}
-use Rattle.c_nodes.specs.Nodes.{type_in, type_count}
+use Rattle.c_expressions.specs.Nodes.{type_in, type_count}
 use Rattle.c_initializers.specs.Places.{stripped}
 use Rattle.c_initializers.proofs.PlaceLaws.{words}
 use Rattle.c_initializers.proofs.sizes.stripped.Given as goal

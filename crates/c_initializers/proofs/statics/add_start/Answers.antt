@@ -1,5 +1,5 @@
 use Rattle.std.proofs.Common.{map}
-use Rattle.c_work.specs.Work.{aiming_of}
+use Rattle.c_elaborator.specs.Work.{aiming_of}
 use Rattle.c_initializers.proofs.FoundLaws.{add-number, add-no-start}
 use Rattle.c_initializers.proofs.statics.add_start.Goals as goal
 

@@ -1,6 +1,6 @@
 use Rattle.std.proofs.Common.{◌≡◌, ◌≤◌, ◌++◌, length, take, map}
 use Rattle.std.specs.Prelude.{reverse}
-use Rattle.c_work.specs.Work.{pending_of}
+use Rattle.c_elaborator.specs.Work.{pending_of}
 use Rattle.c_initializers.specs.Found.{pendings}
 use Rattle.c_initializers.proofs.statics.ask.Given as goal
 

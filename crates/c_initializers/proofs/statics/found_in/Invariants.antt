@@ -1,6 +1,6 @@
 use Rattle.std.proofs.Common.{◌≡◌, ◌++◌, drop, map}
 use Rattle.c_tree.specs.Scopes.{State}
-use Rattle.c_work.specs.Work.{Shows, aiming_of}
+use Rattle.c_elaborator.specs.Work.{Shows, aiming_of}
 use Rattle.c_initializers.specs.Found.{found_of}
 use Rattle.c_initializers.specs.Placing.{placed_of}
 use Rattle.c_initializers.specs.Slots.{slots_in}

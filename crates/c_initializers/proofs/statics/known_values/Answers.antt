@@ -4,7 +4,7 @@ use Rattle.std.proofs.Common.{arith}
 use Rattle.std.proofs.lemmas.Grind.{common_steps}
 use Rattle.c_tree.specs.Scopes.{State}
 use Rattle.c_tree.specs.Statics.{known_value, start_slots}
-use Rattle.c_nodes.specs.Nodes.{term_in}
+use Rattle.c_expressions.specs.Nodes.{term_in}
 use Rattle.c_initializers.specs.declared.slots.Slot.{Slot}
 use Rattle.c_initializers.specs.Slots.{slot_in, slots_in}
 use Rattle.c_initializers.specs.Starts.{known_of}

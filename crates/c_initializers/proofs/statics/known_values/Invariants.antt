@@ -2,7 +2,7 @@ use Rattle.std.proofs.Common.{◌≡◌, Err, Some, length, take, drop, map}
 use Rattle.c_tree.specs.Readings as meant
 use Rattle.c_tree.specs.Scopes.{State, Fault}
 use Rattle.c_tree.specs.Statics.{known_value, start_slots}
-use Rattle.c_work.specs.Work.{Shows}
+use Rattle.c_elaborator.specs.Work.{Shows}
 use Rattle.c_initializers.specs.Slots.{slots_in}
 use Rattle.c_initializers.specs.Starts.{known_of}
 use Rattle.c_initializers.proofs.statics.known_values.Given as goal

@@ -1,8 +1,8 @@
 use Rattle.std.proofs.Common.{◌≡◌, ℕ, ◌+◌, max, fold, take, sym, ap, ◌∙◌}
 use Rattle.std.proofs.lemmas.List.Folds.{fold-map}
 use Rattle.c_tree.specs.Scopes.{Aiming}
-use Rattle.c_work.specs.declared.work.Start.{Start}
-use Rattle.c_work.specs.Work.{aiming_of}
+use Rattle.c_elaborator.specs.declared.work.Start.{Start}
+use Rattle.c_elaborator.specs.Work.{aiming_of}
 use Rattle.c_initializers.proofs.FoundLaws.{front-all}
 use Rattle.c_initializers.proofs.statics.pointers_end.Goals as goal
 

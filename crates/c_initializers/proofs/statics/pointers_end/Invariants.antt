@@ -1,5 +1,5 @@
 use Rattle.std.proofs.Common.{◌≡◌, ◌+◌, max, fold, take}
-use Rattle.c_work.specs.declared.work.Start.{Start}
+use Rattle.c_elaborator.specs.declared.work.Start.{Start}
 use Rattle.c_initializers.proofs.statics.pointers_end.Given as goal
 
 abbrev pub invariant-loop-x : goal.invariant-loop-x

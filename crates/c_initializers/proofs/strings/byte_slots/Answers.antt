@@ -2,10 +2,10 @@ use Rattle.std.proofs.Common.{◌≡◌, get_or, sym, ap, ◌∙◌, ◌++◌, a
 use Rattle.std.proofs.lemmas.Int.{to_z-of_z}
 use Rattle.std.specs.Prelude.{pos}
 use Rattle.ck_int.specs.Kinds.{wrapped}
-use Rattle.c_nodes.proofs.Keeping.{keeps_same}
+use Rattle.c_expressions.proofs.Keeping.{keeps_same}
 use Rattle.c_tree.specs.Constants.{kind_of}
 use Rattle.c_tree.specs.Initializers.{byte_slots}
-use Rattle.c_nodes.specs.Nodes.{type_in}
+use Rattle.c_expressions.specs.Nodes.{type_in}
 use Rattle.c_initializers.specs.Slots.{slots_in}
 use Rattle.c_initializers.proofs.FillLaws.{no-slots, bytes-more}
 use Rattle.c_initializers.proofs.strings.byte_slots.Goals as goal

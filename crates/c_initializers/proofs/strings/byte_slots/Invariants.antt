@@ -1,6 +1,6 @@
 use Rattle.std.proofs.Common.{drop}
 use Rattle.c_tree.specs.Initializers.{byte_slots}
-use Rattle.c_nodes.specs.Nodes.{type_in}
+use Rattle.c_expressions.specs.Nodes.{type_in}
 use Rattle.c_initializers.proofs.FillLaws.{BytesTo}
 use Rattle.c_initializers.proofs.strings.byte_slots.Given as goal
 

@@ -1,5 +1,5 @@
-use Rattle.c_nodes.specs.Nodes.{operand_in, type_in}
-use Rattle.c_work.proofs.Sequencing.{lift}
+use Rattle.c_expressions.specs.Nodes.{operand_in, type_in}
+use Rattle.c_elaborator.proofs.Sequencing.{lift}
 use Rattle.c_initializers.specs.Slots.{plain_slot, IsSlotIn, SlotThere, IsSlot}
 use Rattle.c_initializers.proofs.strings.plain.Goals as goal
 

@@ -3,8 +3,8 @@ use Rattle.c_tree.specs.Types.{bare}
 use Rattle.c_tree.specs.Readings as meant
 use Rattle.c_tree.specs.Conversions.{assigned}
 use Rattle.c_tree.specs.Scopes.{give}
-use Rattle.c_nodes.specs.Nodes.{Keeps, IsTerm, operand_in, type_in, term_in, type_count}
-use Rattle.c_nodes.proofs.Keeping.{answers_err, bind_refuses, bind_gives}
+use Rattle.c_expressions.specs.Nodes.{Keeps, IsTerm, operand_in, type_in, term_in, type_count}
+use Rattle.c_expressions.proofs.Keeping.{answers_err, bind_refuses, bind_gives}
 use Rattle.c_initializers.specs.Slots.{IsSlotIn, slot_of, plain_slot}
 use Rattle.c_initializers.proofs.strings.plain_in.Goals as goal
 

@@ -1,5 +1,5 @@
-use Rattle.c_nodes.specs.Nodes.{type_in}
-use Rattle.c_work.proofs.Sequencing.{lift}
+use Rattle.c_expressions.specs.Nodes.{type_in}
+use Rattle.c_elaborator.proofs.Sequencing.{lift}
 use Rattle.c_initializers.specs.Slots.{string_filled, IsFilledIn, FilledThere, IsFilled}
 use Rattle.c_initializers.proofs.strings.string.Goals as goal
 

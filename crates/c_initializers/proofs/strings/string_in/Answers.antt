@@ -1,6 +1,6 @@
 use Rattle.std.proofs.Common.{◌≡◌, ap, ◌∙◌, length, refl, sym}
 use Rattle.std.specs.Prelude.{◌==◌, if◌then◌else◌}
-use Rattle.c_nodes.specs.Nodes.{type_in}
+use Rattle.c_expressions.specs.Nodes.{type_in}
 use Rattle.c_initializers.specs.declared.slots.Filled.{Filled}
 use Rattle.c_initializers.proofs.FillLaws.{string-given, string-refused}
 use Rattle.c_initializers.proofs.strings.string_in.Goals as goal

@@ -4,11 +4,11 @@ use Rattle.c_tree.specs.Syntax.{Syns, nil, more}
 use Rattle.c_tree.specs.Scopes.{Doing}
 use Rattle.c_tree.specs.Declarations.{declaration}
 use Rattle.c_tree.specs.Programs.{readings}
-use Rattle.c_work.specs.declared.work.Work.{Work}
-use Rattle.c_work.specs.Answers.{Answers, freely}
-use Rattle.c_work.specs.Parts.{AreParts, HaveParts}
-use Rattle.c_parts.proofs.Kids.{cut, no_parts, have_first, have_others}
-use Rattle.c_items.specs.Items.{ItemsThere, IsItems}
+use Rattle.c_elaborator.specs.declared.work.Work.{Work}
+use Rattle.c_elaborator.specs.Answers.{Answers, freely}
+use Rattle.c_elaborator.specs.Parts.{AreParts, HaveParts}
+use Rattle.c_readings.proofs.Kids.{cut, no_parts, have_first, have_others}
+use Rattle.c_elaborator.specs.Items.{ItemsThere, IsItems}
 use Rattle.c_statements.proofs.Standing.{declaration_none, declaration_is}
 use Rattle.c_statements.proofs.declarations.declaration.Goals as goal
 

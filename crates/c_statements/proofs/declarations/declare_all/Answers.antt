@@ -4,10 +4,10 @@ use Rattle.c_tree.specs.Readings as meant
 use Rattle.c_tree.specs.Readings.{Reading}
 use Rattle.c_tree.specs.Declarations.{declare_all}
 use Rattle.c_tree.specs.Programs.{reading, readings}
-use Rattle.c_work.specs.declared.work.Work.{Work}
-use Rattle.c_work.proofs.Sequencing.{keeps_same, keeps_then, type_there}
-use Rattle.c_work.specs.Parts.{HaveParts}
-use Rattle.c_parts.proofs.Kids.{have_first, have_others, have_kept}
+use Rattle.c_elaborator.specs.declared.work.Work.{Work}
+use Rattle.c_elaborator.proofs.Sequencing.{keeps_same, keeps_then, type_there}
+use Rattle.c_elaborator.specs.Parts.{HaveParts}
+use Rattle.c_readings.proofs.Kids.{have_first, have_others, have_kept}
 use Rattle.c_statements.specs.Gather.{SoFar}
 use Rattle.c_statements.proofs.Gather.{declare_all_is, so_far_begins, so_far_ends, so_far_fails, so_far_steps}
 use Rattle.c_statements.proofs.Standing.{specified_kept, some_specified, is_some_specified}

@@ -1,9 +1,9 @@
 use Rattle.std.proofs.Common.{length}
 use Rattle.c_tree.specs.Readings as meant
 use Rattle.c_tree.specs.Syntax.{Syns}
-use Rattle.c_nodes.specs.Nodes.{IsWhole}
-use Rattle.c_work.specs.Answers.{Keeps}
-use Rattle.c_work.specs.Parts.{AreParts, HaveParts}
+use Rattle.c_expressions.specs.Nodes.{IsWhole}
+use Rattle.c_elaborator.specs.Answers.{Keeps}
+use Rattle.c_elaborator.specs.Parts.{AreParts, HaveParts}
 use Rattle.c_declarators.specs.Parts.{IsSpecified}
 use Rattle.c_statements.specs.Gather.{SoFar}
 use Rattle.c_statements.proofs.declarations.declare_all.Given as goal

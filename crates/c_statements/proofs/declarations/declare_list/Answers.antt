@@ -4,14 +4,14 @@ use Rattle.c_tree.specs.Readings as meant
 use Rattle.c_tree.specs.Syntax.{Syns, nil, more}
 use Rattle.c_tree.specs.Declarations.{declaration, declare_all, is_alone}
 use Rattle.c_tree.specs.Programs.{reading, readings}
-use Rattle.c_work.specs.declared.work.Work.{Work}
-use Rattle.c_work.specs.Answers.{Answers, freely, quietly}
-use Rattle.c_work.specs.Parts.{AreParts, HaveParts}
-use Rattle.c_work.proofs.Sequencing.{free_law, freed, failed}
+use Rattle.c_elaborator.specs.declared.work.Work.{Work}
+use Rattle.c_elaborator.specs.Answers.{Answers, freely, quietly}
+use Rattle.c_elaborator.specs.Parts.{AreParts, HaveParts}
+use Rattle.c_elaborator.proofs.Sequencing.{free_law, freed, failed}
 use Rattle.c_declarators.specs.Parts.{SpecifiedThere, IsSpecified, in_any}
-use Rattle.c_parts.proofs.Kids.{cut, no_parts, have_first, have_others, have_kept, parts_kept}
-use Rattle.c_items.specs.Items.{ItemsThere, IsItems}
-use Rattle.c_items.proofs.Shown.{then_for}
+use Rattle.c_readings.proofs.Kids.{cut, no_parts, have_first, have_others, have_kept, parts_kept}
+use Rattle.c_elaborator.specs.Items.{ItemsThere, IsItems}
+use Rattle.c_elaborator.proofs.Shown.{then_for}
 use Rattle.c_statements.proofs.Following.{for_each}
 use Rattle.c_statements.proofs.Named.{list_unspecified}
 use Rattle.c_statements.proofs.Standing.{declaration_none, declaration_is, alone_is, some_specified, is_some_specified}

@@ -2,7 +2,7 @@ use Rattle.std.proofs.Common.{◌≡◌, Some, None, refl, sym, ap, ◌∙◌}
 use Rattle.c_tree.specs.Readings as meant
 use Rattle.c_tree.specs.Scopes.{Doing, refuse}
 use Rattle.c_tree.specs.Declarations.{declare_named}
-use Rattle.c_work.specs.declared.work.Work.{Work}
+use Rattle.c_elaborator.specs.declared.work.Work.{Work}
 use Rattle.c_declarators.specs.Parts.{name_token}
 use Rattle.c_statements.proofs.declarations.declare_named.Goals as goal
 

@@ -5,10 +5,10 @@ use Rattle.c_tree.specs.Readings as meant
 use Rattle.c_tree.specs.Scopes.{refuse}
 use Rattle.c_tree.specs.Declarations.{declare_named}
 use Rattle.c_types.specs.declared.entries.Decl.{Decl}
-use Rattle.c_work.specs.declared.work.Work.{Work}
-use Rattle.c_work.specs.Answers.{Done, Answers, freely, quietly}
-use Rattle.c_work.proofs.Sequencing.{keeps_then, type_there}
-use Rattle.c_nodes.specs.Nodes.{type_in}
+use Rattle.c_elaborator.specs.declared.work.Work.{Work}
+use Rattle.c_elaborator.specs.Answers.{Done, Answers, freely, quietly}
+use Rattle.c_elaborator.proofs.Sequencing.{keeps_then, type_there}
+use Rattle.c_expressions.specs.Nodes.{type_in}
 use Rattle.c_declarators.specs.declared.parts.Wrap.{Wrap}
 use Rattle.c_declarators.specs.Parts.{AreWraps, any_scope, FormedThere, IsFormed, in_any, name_token}
 use Rattle.c_declarators.specs.Steps.{forms}

@@ -4,13 +4,13 @@ use Rattle.c_tree.specs.Readings as meant
 use Rattle.c_tree.specs.Scopes.{State}
 use Rattle.c_tree.specs.Declarations.{declare_named}
 use Rattle.c_tree.specs.Programs.{reading}
-use Rattle.c_work.specs.declared.work.Work.{Work}
-use Rattle.c_work.specs.Answers.{freely}
-use Rattle.c_work.proofs.Sequencing.{free_law, freed, type_there}
+use Rattle.c_elaborator.specs.declared.work.Work.{Work}
+use Rattle.c_elaborator.specs.Answers.{freely}
+use Rattle.c_elaborator.proofs.Sequencing.{free_law, freed, type_there}
 use Rattle.c_declarators.specs.Parts.{DerivedThere, ShowsDerived, IsDerived, any_scope, shown_in}
 use Rattle.c_declarators.proofs.Deriving.{derived_weaker}
-use Rattle.c_items.specs.Items.{ItemsThere, IsItems}
-use Rattle.c_items.proofs.Shown.{then_for}
+use Rattle.c_elaborator.specs.Items.{ItemsThere, IsItems}
+use Rattle.c_elaborator.proofs.Shown.{then_for}
 use Rattle.c_statements.specs.Declaring.{behind_in}
 use Rattle.c_statements.proofs.Following.{for_each, fails_freed}
 use Rattle.c_statements.proofs.Standing.{has_behind_kept, behind_kept, specified_kept, some_derived, is_some_derived}

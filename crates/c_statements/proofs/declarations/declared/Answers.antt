@@ -5,11 +5,11 @@ use Rattle.c_tree.specs.Syntax.{Syn, Syns, nil, more}
 use Rattle.c_tree.specs.Scopes.{refuse}
 use Rattle.c_tree.specs.Declarations.{init_declarator}
 use Rattle.c_tree.specs.Programs.{reading, readings}
-use Rattle.c_work.specs.declared.work.Work.{Work}
-use Rattle.c_work.specs.Answers.{Answers, freely}
-use Rattle.c_work.specs.Parts.{AreParts, HaveParts}
-use Rattle.c_parts.proofs.Kids.{opened, cut, no_parts, have_kids, have_first, have_others}
-use Rattle.c_items.specs.Items.{ItemsThere, IsItems}
+use Rattle.c_elaborator.specs.declared.work.Work.{Work}
+use Rattle.c_elaborator.specs.Answers.{Answers, freely}
+use Rattle.c_elaborator.specs.Parts.{AreParts, HaveParts}
+use Rattle.c_readings.proofs.Kids.{opened, cut, no_parts, have_kids, have_first, have_others}
+use Rattle.c_elaborator.specs.Items.{ItemsThere, IsItems}
 use Rattle.c_statements.specs.Declaring.{declares_with}
 use Rattle.c_statements.proofs.Standing.{reading_node, declarator_is, declarator_none}
 use Rattle.c_statements.proofs.declarations.declared.Goals as goal

@@ -3,10 +3,10 @@ use Rattle.std.proofs.lemmas.Result.{err_from_is_err_and}
 use Rattle.c_tree.specs.Scopes.{State, find_in, innermost}
 use Rattle.c_types.specs.Calls.{IsDenoted}
 use Rattle.c_types.specs.Stands.{text_at}
-use Rattle.c_nodes.specs.declared.nodes.Nodes.{Nodes}
-use Rattle.c_work.specs.declared.work.Work.{Work}
-use Rattle.c_work.specs.Work.{Shows}
-use Rattle.c_work.specs.Answers.{freely, Done}
+use Rattle.c_expressions.specs.declared.nodes.Nodes.{Nodes}
+use Rattle.c_elaborator.specs.declared.work.Work.{Work}
+use Rattle.c_elaborator.specs.Work.{Shows}
+use Rattle.c_elaborator.specs.Answers.{freely, Done}
 use Rattle.c_statements.specs.Declaring.{begins, IsEntity, IsFunction}
 use Rattle.c_statements.proofs.Lifting.{definition_kind, definition_done, definition_failed}
 use Rattle.c_statements.proofs.declaring.declare_definition.Goals as goal

@@ -1,13 +1,13 @@
 use Rattle.std.proofs.Common.{◌≡◌, ◌<◌, ◌≤◌, List, take, get_or, length, refl, sym, ap, subst, ◌∙◌, arith}
 use Rattle.std.proofs.lemmas.List.{take_more}
 use Rattle.c_tree.specs.Scopes.{give}
-use Rattle.c_nodes.specs.Nodes.{term_count}
-use Rattle.c_work.specs.declared.work.Work.{Work}
-use Rattle.c_work.specs.Answers.{Done, freely}
+use Rattle.c_expressions.specs.Nodes.{term_count}
+use Rattle.c_elaborator.specs.declared.work.Work.{Work}
+use Rattle.c_elaborator.specs.Answers.{Done, freely}
 use Rattle.c_initializers.specs.declared.slots.Slot.{Slot}
 use Rattle.c_initializers.specs.Slots.{slots_in}
-use Rattle.c_items.specs.Items.{ItemsThere, IsItems}
-use Rattle.c_items.proofs.Going.{one_there, term_there}
+use Rattle.c_elaborator.specs.Items.{ItemsThere, IsItems}
+use Rattle.c_elaborator.proofs.Going.{one_there, term_there}
 use Rattle.c_statements.specs.Declaring.{init_items}
 use Rattle.c_statements.proofs.Initializing.{items_begin, items_step}
 use Rattle.c_statements.proofs.filling.init_actions.Goals as goal

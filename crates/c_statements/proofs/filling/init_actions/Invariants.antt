@@ -1,8 +1,8 @@
 use Rattle.std.proofs.Common.{take}
 use Rattle.c_tree.specs.Scopes.{give}
-use Rattle.c_work.specs.Answers.{Done, freely}
+use Rattle.c_elaborator.specs.Answers.{Done, freely}
 use Rattle.c_initializers.specs.Slots.{slots_in}
-use Rattle.c_items.specs.Items.{ItemsThere, IsItems}
+use Rattle.c_elaborator.specs.Items.{ItemsThere, IsItems}
 use Rattle.c_statements.specs.Declaring.{init_items}
 use Rattle.c_statements.proofs.filling.init_actions.Given as goal
 

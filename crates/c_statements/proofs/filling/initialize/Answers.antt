@@ -1,10 +1,10 @@
 use Rattle.std.proofs.Common.{◌≡◌, refl, sym, ap, subst}
 use Rattle.c_types.specs.declared.entries.Entity.{Entity}
-use Rattle.c_nodes.specs.Nodes.{type_in}
-use Rattle.c_work.specs.Answers.{Answers, freely}
-use Rattle.c_work.specs.Parts.{token_of}
-use Rattle.c_work.specs.declared.work.Work.{Work}
-use Rattle.c_items.specs.Items.{ItemsThere, IsItems}
+use Rattle.c_expressions.specs.Nodes.{type_in}
+use Rattle.c_elaborator.specs.Answers.{Answers, freely}
+use Rattle.c_elaborator.specs.Parts.{token_of}
+use Rattle.c_elaborator.specs.declared.work.Work.{Work}
+use Rattle.c_elaborator.specs.Items.{ItemsThere, IsItems}
 use Rattle.c_statements.specs.Declaring.{initializes}
 use Rattle.c_statements.proofs.Initializing.{nothing_given}
 use Rattle.c_statements.proofs.filling.initialize.Goals as goal

@@ -1,8 +1,8 @@
 use Rattle.std.proofs.lemmas.Result.{err_from_is_err_and}
 use Rattle.std.proofs.Common.{◌≡◌, refl, sym, ap, subst, ◌∙◌}
 use Rattle.c_tree.specs.Programs.{reading}
-use Rattle.c_work.specs.declared.work.Work.{Work}
-use Rattle.c_work.proofs.Sequencing.{type_there}
+use Rattle.c_elaborator.specs.declared.work.Work.{Work}
+use Rattle.c_elaborator.proofs.Sequencing.{type_there}
 use Rattle.c_statements.proofs.Initializing.{local_unfilled, local_incomplete, local_filled_so}
 use Rattle.c_statements.proofs.filling.initialize_local.Goals as goal
 

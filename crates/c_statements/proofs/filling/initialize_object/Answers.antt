@@ -1,6 +1,6 @@
 use Rattle.std.proofs.Common.{Option, subst}
-use Rattle.c_work.specs.Parts.{token_of}
-use Rattle.c_work.specs.declared.work.Work.{Work}
+use Rattle.c_elaborator.specs.Parts.{token_of}
+use Rattle.c_elaborator.specs.declared.work.Work.{Work}
 use Rattle.c_statements.specs.declared.declarations.Behind.{Behind}
 use Rattle.c_statements.specs.Declaring.{IsBehind}
 use Rattle.c_statements.proofs.Initializing.{object_alone, object_given}

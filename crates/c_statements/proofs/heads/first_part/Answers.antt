@@ -8,10 +8,10 @@ use Rattle.c_tree.specs.Readings as meant
 use Rattle.c_tree.specs.Scopes.{Doing}
 use Rattle.c_tree.specs.Statements.{first_part}
 use Rattle.c_tree.specs.Syntax.{Syn, node}
-use Rattle.c_work.specs.Answers.{Answers, freely}
-use Rattle.c_work.specs.Parts.{AreParts}
-use Rattle.c_parts.proofs.Kids.{opened, has_node}
-use Rattle.c_items.specs.Items.{context_in, ItemsThere, IsItems}
+use Rattle.c_elaborator.specs.Answers.{Answers, freely}
+use Rattle.c_elaborator.specs.Parts.{AreParts}
+use Rattle.c_readings.proofs.Kids.{opened, has_node}
+use Rattle.c_elaborator.specs.Items.{context_in, ItemsThere, IsItems}
 use Rattle.c_statements.specs.Statements.{evaluate_one}
 use Rattle.c_statements.proofs.Inside.{declares_first, evaluates_first, is_expression}
 use Rattle.c_statements.proofs.Placing.{kids_of, at_place}

@@ -3,12 +3,12 @@ use Rattle.c_tree.specs.Statements.{first_part, optional_test, optional_step}
 use Rattle.std.proofs.Common.{Ok, Err}
 use Rattle.std.proofs.lemmas.Result.{err_from_is_err_and}
 use Rattle.c_tree.specs.Scopes.{give, ◌>>=◌}
-use Rattle.c_work.proofs.Sequencing.{keeps_then, failed, freed}
+use Rattle.c_elaborator.proofs.Sequencing.{keeps_then, failed, freed}
 use Rattle.c_statements.specs.Statements.{ForHead, MaybeThere, IsMaybe, maybe_term, HeadThere, IsHead}
 use Rattle.c_statements.proofs.Failing.{second_failed, third_failed}
-use Rattle.c_work.specs.Answers.{freely}
-use Rattle.c_items.specs.Items.{context_in, ItemsThere, IsItems, items_in}
-use Rattle.c_parts.proofs.Kids.{part_kept, has_kept}
+use Rattle.c_elaborator.specs.Answers.{freely}
+use Rattle.c_elaborator.specs.Items.{context_in, ItemsThere, IsItems, items_in}
+use Rattle.c_readings.proofs.Kids.{part_kept, has_kept}
 use Rattle.c_statements.proofs.Steps.{heads}
 use Rattle.c_statements.proofs.heads.for_head.Goals as goal
 

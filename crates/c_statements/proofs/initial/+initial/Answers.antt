@@ -8,11 +8,11 @@ use Rattle.c_tree.specs.Readings.{Filled}
 use Rattle.c_tree.specs.Scopes.{Doing}
 use Rattle.c_tree.specs.Programs.{reading, readings, is_text}
 use Rattle.c_tree.specs.Syntax.{own_token}
-use Rattle.c_nodes.specs.Nodes.{type_in}
-use Rattle.c_work.specs.Answers.{Answers, quietly}
-use Rattle.c_work.specs.Nodes.{syns_of}
-use Rattle.c_work.specs.Parts.{AreParts, token_of}
-use Rattle.c_work.proofs.Sequencing.{keeps_same, keeps_then}
+use Rattle.c_expressions.specs.Nodes.{type_in}
+use Rattle.c_elaborator.specs.Answers.{Answers, quietly}
+use Rattle.c_elaborator.specs.Nodes.{syns_of}
+use Rattle.c_elaborator.specs.Parts.{AreParts, token_of}
+use Rattle.c_elaborator.proofs.Sequencing.{keeps_same, keeps_then}
 use Rattle.c_initializers.specs.declared.slots.Slot.{Slot}
 use Rattle.c_initializers.specs.declared.slots.Filled.{Filled as Kept}
 use Rattle.c_initializers.specs.Slots.{FilledThere, IsFilled}

@@ -1,8 +1,8 @@
 use Rattle.std.proofs.Common.{◌≡◌, ◌+◌, ◌*◌, drop}
 use Rattle.c_tree.specs.Syntax.{Syns}
-use Rattle.c_nodes.specs.Nodes.{IsWhole}
-use Rattle.c_work.specs.Answers.{Keeps}
-use Rattle.c_work.specs.Parts.{AreParts}
+use Rattle.c_expressions.specs.Nodes.{IsWhole}
+use Rattle.c_elaborator.specs.Answers.{Keeps}
+use Rattle.c_elaborator.specs.Parts.{AreParts}
 use Rattle.c_statements.specs.Initial.{SoFar}
 use Rattle.c_statements.proofs.initial.+initial.Given as goal
 

@@ -1,5 +1,5 @@
 use Rattle.std.proofs.Common.{Ok, sym, subst}
-use Rattle.c_work.specs.Answers.{Answers, quietly, NothingThere, IsNothing}
+use Rattle.c_elaborator.specs.Answers.{Answers, quietly, NothingThere, IsNothing}
 use Rattle.c_initializers.specs.Slots.{slot_in}
 use Rattle.c_statements.specs.declared.initial.Asked.{Asked}
 use Rattle.c_statements.specs.Initial.{asked_by}

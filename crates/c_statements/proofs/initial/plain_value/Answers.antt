@@ -1,8 +1,8 @@
 use Rattle.std.proofs.Common.{◌≡◌, ◌<◌, ◌≤◌, ◌++◌, ◌∷◌, [], List, Ok, Err, ap, ◌∙◌, refl, arith}
 use Rattle.std.proofs.lemmas.Result.{err_from_is_err_and}
 use Rattle.c_tree.specs.Programs.{reading}
-use Rattle.c_nodes.specs.Nodes.{type_in, type_count}
-use Rattle.c_work.specs.Answers.{operand_in}
+use Rattle.c_expressions.specs.Nodes.{type_in, type_count}
+use Rattle.c_elaborator.specs.Answers.{operand_in}
 use Rattle.c_initializers.specs.declared.slots.Filled.{Filled}
 use Rattle.c_statements.specs.Initial.{asked_by}
 use Rattle.c_initializers.specs.Slots.{slot_in}

@@ -1,5 +1,5 @@
-use Rattle.c_nodes.specs.Nodes.{type_in}
-use Rattle.c_work.specs.Parts.{token_of}
+use Rattle.c_expressions.specs.Nodes.{type_in}
+use Rattle.c_elaborator.specs.Parts.{token_of}
 use Rattle.c_statements.proofs.Plain.{text_given}
 use Rattle.c_statements.proofs.initial.text_value.Goals as goal
 

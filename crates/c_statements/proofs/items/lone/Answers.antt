@@ -1,5 +1,5 @@
 use Rattle.std.proofs.Common.{refl, sym, ◌∙◌}
-use Rattle.c_nodes.specs.Nodes.{type_in}
+use Rattle.c_expressions.specs.Nodes.{type_in}
 use Rattle.c_statements.proofs.Reading.{one_part, lone_text, lone_other}
 use Rattle.c_statements.proofs.items.lone.Goals as goal
 

@@ -1,6 +1,6 @@
 use Rattle.std.proofs.Common.{◌≡◌, ◌<◌, ◌≤◌, ℕ, length, arith}
-use Rattle.c_nodes.specs.Nodes.{type_in}
-use Rattle.c_work.proofs.Parting.{have_at}
+use Rattle.c_expressions.specs.Nodes.{type_in}
+use Rattle.c_elaborator.proofs.Parting.{have_at}
 use Rattle.c_statements.proofs.Reading.{not_alone}
 use Rattle.c_statements.proofs.items.lone_text.Goals as goal
 

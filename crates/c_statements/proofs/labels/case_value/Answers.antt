@@ -5,10 +5,10 @@ use Rattle.c_tree.specs.Declarators.{constant}
 use Rattle.c_tree.specs.Programs.{reading}
 use Rattle.c_tree.specs.Scopes.{give}
 use Rattle.c_tree.specs.Statements.{case_value}
-use Rattle.c_nodes.specs.Nodes.{type_in}
-use Rattle.c_work.specs.Answers.{quietly}
+use Rattle.c_expressions.specs.Nodes.{type_in}
+use Rattle.c_elaborator.specs.Answers.{quietly}
 use Rattle.std.proofs.lemmas.Result.{err_from_is_err_and}
-use Rattle.c_work.proofs.Sequencing.{quiet_law, then_by, gave, failed, type_there}
+use Rattle.c_elaborator.proofs.Sequencing.{quiet_law, then_by, gave, failed, type_there}
 use Rattle.c_declarators.specs.Parts.{ConstantThere, IsConstant, in_any}
 use Rattle.c_statements.specs.Statements.{LabelThere, IsLabel}
 use Rattle.c_statements.proofs.labels.case_value.Goals as goal

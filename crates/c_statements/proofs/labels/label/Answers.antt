@@ -1,12 +1,12 @@
-use Rattle.c_work.specs.Parts.{HaveParts}
+use Rattle.c_elaborator.specs.Parts.{HaveParts}
 use Rattle.std.proofs.Common.{ℕ, List, Option, None, Ok, subst, sym}
 use Rattle.c_tree.specs.Scopes.{Doing}
 use Rattle.c_tree.specs.Statements.{case_label}
-use Rattle.c_nodes.specs.Nodes.{type_in}
-use Rattle.c_work.specs.Answers.{Answers, quietly}
-use Rattle.c_work.proofs.Sequencing.{quiet_law, gave}
+use Rattle.c_expressions.specs.Nodes.{type_in}
+use Rattle.c_elaborator.specs.Answers.{Answers, quietly}
+use Rattle.c_elaborator.proofs.Sequencing.{quiet_law, gave}
 use Rattle.c_statements.specs.Statements.{LabelThere, IsLabel}
-use Rattle.c_parts.proofs.Kids.{have_first}
+use Rattle.c_readings.proofs.Kids.{have_first}
 use Rattle.c_statements.proofs.Parting.{at_none, at_some, label_none_is, label_some_is}
 use Rattle.c_statements.proofs.labels.label.Goals as goal
 

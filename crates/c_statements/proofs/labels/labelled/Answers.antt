@@ -1,7 +1,7 @@
 use Rattle.std.proofs.lemmas.Result.{err_from_is_err_and}
 use Rattle.c_tree.specs.Programs.{readings}
 use Rattle.c_tree.specs.Statements.{case_label, add_label}
-use Rattle.c_nodes.specs.Nodes.{type_in}
+use Rattle.c_expressions.specs.Nodes.{type_in}
 use Rattle.c_statements.specs.Statements.{LabelThere, IsLabel, CasesThere, IsCases, cases_in}
 use Rattle.c_statements.proofs.Failing.{quiet_failed}
 use Rattle.c_statements.proofs.Switching.{labelled}

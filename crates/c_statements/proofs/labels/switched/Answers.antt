@@ -5,8 +5,8 @@ use Rattle.c_tree.specs.Expressions.{read_value}
 use Rattle.c_tree.specs.Programs.{reading}
 use Rattle.c_tree.specs.Scopes.{need, give, ◌>>◌}
 use Rattle.c_tree.specs.Types.{is_integer, promoted}
-use Rattle.c_work.specs.Answers.{quietly, OperandThere, IsOperand}
-use Rattle.c_work.proofs.Sequencing.{failed}
+use Rattle.c_elaborator.specs.Answers.{quietly, OperandThere, IsOperand}
+use Rattle.c_elaborator.proofs.Sequencing.{failed}
 use Rattle.c_statements.specs.Statements.{SwitchedOn, SwitchedThere, IsSwitched}
 use Rattle.c_statements.proofs.Steps.{switched_done, switched_refused}
 use Rattle.c_statements.proofs.labels.switched.Goals as goal

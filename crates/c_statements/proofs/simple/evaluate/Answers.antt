@@ -1,5 +1,5 @@
-use Rattle.c_work.specs.Answers.{freely}
-use Rattle.c_items.specs.Items.{ItemsThere, IsItems}
+use Rattle.c_elaborator.specs.Answers.{freely}
+use Rattle.c_elaborator.specs.Items.{ItemsThere, IsItems}
 use Rattle.c_statements.specs.Statements.{evaluate_one}
 use Rattle.c_statements.proofs.Stating.{from_one, not_one, have_one}
 use Rattle.c_statements.proofs.simple.evaluate.Goals as goal

@@ -3,10 +3,10 @@ use Rattle.c_tree.specs.Expressions.{read_value}
 use Rattle.c_tree.specs.Programs.{reading}
 use Rattle.c_tree.specs.Statements.{does, one_term}
 use Rattle.c_tree.specs.Terms.{Evaluate, no_actions}
-use Rattle.c_nodes.specs.Nodes.{term_count}
-use Rattle.c_work.specs.Answers.{OperandThere, IsOperand}
-use Rattle.c_items.specs.Items.{ItemsThere, IsItems}
-use Rattle.c_items.proofs.Going.{one_there}
+use Rattle.c_expressions.specs.Nodes.{term_count}
+use Rattle.c_elaborator.specs.Answers.{OperandThere, IsOperand}
+use Rattle.c_elaborator.specs.Items.{ItemsThere, IsItems}
+use Rattle.c_elaborator.proofs.Going.{one_there}
 use Rattle.c_statements.proofs.Failing.{quiet_failed}
 use Rattle.c_statements.proofs.Steps.{evaluates}
 use Rattle.c_statements.proofs.simple.evaluate_one.Goals as goal

@@ -1,8 +1,8 @@
 use Rattle.c_tree.specs.Terms.{no_terms, no_actions}
 use Rattle.c_tree.specs.Statements.{does}
-use Rattle.c_work.proofs.Sequencing.{need_false}
+use Rattle.c_elaborator.proofs.Sequencing.{need_false}
 use Rattle.c_statements.specs.Statements.{jump_form}
-use Rattle.c_nodes.specs.Nodes.{term_count}
+use Rattle.c_expressions.specs.Nodes.{term_count}
 use Rattle.c_statements.proofs.Steps.{jumps, jumps_name_nothing}
 use Rattle.c_statements.proofs.simple.jump.Goals as goal
 

@@ -1,9 +1,9 @@
-use Rattle.c_work.specs.Parts.{HaveParts}
+use Rattle.c_elaborator.specs.Parts.{HaveParts}
 use Rattle.std.proofs.Common.{ℕ, List, subst}
-use Rattle.c_work.specs.Answers.{freely}
-use Rattle.c_items.specs.Items.{context_in, ItemsThere, IsItems}
+use Rattle.c_elaborator.specs.Answers.{freely}
+use Rattle.c_elaborator.specs.Items.{context_in, ItemsThere, IsItems}
 use Rattle.c_statements.specs.Statements.{return_of}
-use Rattle.c_parts.proofs.Kids.{have_first}
+use Rattle.c_readings.proofs.Kids.{have_first}
 use Rattle.c_statements.proofs.Parting.{at_none, at_some}
 use Rattle.c_statements.proofs.simple.return_at.Goals as goal
 

@@ -2,11 +2,11 @@ use Rattle.std.proofs.Common.{◌∙◌}
 use Rattle.c_tree.specs.Terms.{Return, no_terms, no_actions}
 use Rattle.c_tree.specs.Types.{is_void}
 use Rattle.c_tree.specs.Statements.{does}
-use Rattle.c_work.specs.Answers.{freely}
-use Rattle.c_work.proofs.Sequencing.{answers_at, need_true, need_false}
-use Rattle.c_nodes.specs.Nodes.{term_count}
-use Rattle.c_items.proofs.Going.{none_there}
-use Rattle.c_items.specs.Items.{context_in, ItemsThere, IsItems}
+use Rattle.c_elaborator.specs.Answers.{freely}
+use Rattle.c_elaborator.proofs.Sequencing.{answers_at, need_true, need_false}
+use Rattle.c_expressions.specs.Nodes.{term_count}
+use Rattle.c_elaborator.proofs.Going.{none_there}
+use Rattle.c_elaborator.specs.Items.{context_in, ItemsThere, IsItems}
 use Rattle.c_statements.proofs.simple.return_nothing.Goals as goal
 
 pub returns-then-is_void : goal.returns-then-is_void

@@ -8,10 +8,10 @@ use Rattle.c_tree.specs.Statements.{does, one_term}
 use Rattle.c_tree.specs.Terms.{Return, no_actions}
 use Rattle.c_tree.specs.Types.{Ty, is_void}
 use Rattle.std.specs.Prelude.{not}
-use Rattle.c_nodes.specs.Nodes.{term_count}
-use Rattle.c_work.specs.Answers.{Answers, quietly, OperandThere, IsOperand, operand_in, TermThere, IsTerm}
-use Rattle.c_work.proofs.Sequencing.{type_there}
-use Rattle.c_items.specs.Items.{context_in, ItemsThere, IsItems}
+use Rattle.c_expressions.specs.Nodes.{term_count}
+use Rattle.c_elaborator.specs.Answers.{Answers, quietly, OperandThere, IsOperand, operand_in, TermThere, IsTerm}
+use Rattle.c_elaborator.proofs.Sequencing.{type_there}
+use Rattle.c_elaborator.specs.Items.{context_in, ItemsThere, IsItems}
 use Rattle.c_statements.proofs.Failing.{quiet_failed}
 use Rattle.c_statements.proofs.Placing.{at_same}
 use Rattle.c_statements.proofs.Steps.{returns_value, returns_none, returns_failed, returned_there}

@@ -1,8 +1,8 @@
 use Rattle.std.proofs.lemmas.Result.{err_from_is_err_and}
 use Rattle.c_tree.specs.Expressions.{condition, read_value}
 use Rattle.c_tree.specs.Programs.{reading}
-use Rattle.c_work.specs.Answers.{quietly, OperandThere, IsOperand, TermThere, IsTerm, operand_in}
-use Rattle.c_work.proofs.Sequencing.{quiet_law, then, failed}
+use Rattle.c_elaborator.specs.Answers.{quietly, OperandThere, IsOperand, TermThere, IsTerm, operand_in}
+use Rattle.c_elaborator.proofs.Sequencing.{quiet_law, then, failed}
 use Rattle.c_statements.proofs.simple.test.Goals as goal
 
 pub condition-requires : goal.condition-requires

@@ -8,16 +8,17 @@ use Rattle.c_tree.specs.Programs.{reading, readings}
 use Rattle.c_tree.specs.Scopes.{Doing, give, refuse, in_scope, ◌>>=◌}
 use Rattle.c_tree.specs.Statements.{all_items, substatement, statement_of, does, case_label, add_label, test, one_term}
 use Rattle.c_tree.specs.Statements.{one_action, for_action, in_a_loop, in_a_switch, switch_item, switch_items, no_cases}
-use Rattle.c_nodes.specs.Nodes.{type_in, term_in, term_count}
-use Rattle.c_work.specs.Answers.{Answers, freely, TermThere, IsTerm, action_in}
-use Rattle.c_work.specs.Parts.{AreParts, HaveParts}
-use Rattle.c_work.proofs.Sequencing.{answers_at, failed, freed, keeps_same, keeps_then, type_there}
-use Rattle.c_items.proofs.Going.{context_kept, context_there, none_there, one_there, term_there}
+use Rattle.c_expressions.specs.Nodes.{type_in, term_in, term_count}
+use Rattle.c_elaborator.specs.Answers.{Answers, freely, TermThere, IsTerm, action_in}
+use Rattle.c_elaborator.specs.Parts.{AreParts, HaveParts}
+use Rattle.c_elaborator.proofs.Sequencing.{answers_at, failed, freed, keeps_same, keeps_then, type_there}
+use Rattle.c_elaborator.proofs.Going.{context_kept, context_there, none_there, one_there, term_there}
 use Rattle.c_statements.proofs.Placing.{node_kept, has_node_kept, kids_of, of_kind, at_place, at_same}
 use Rattle.c_statements.proofs.Failing.{second_failed, third_failed}
 use Rattle.std.proofs.lemmas.Result.{err_from_is_err_and}
-use Rattle.c_items.specs.declared.items.Context.{Context}
-use Rattle.c_items.specs.Items.{ContextThere, ValuesThere, context_in, ItemsThere, IsItems, ActionThere, IsOnlyAction}
+use Rattle.c_elaborator.specs.declared.items.Context.{Context}
+use Rattle.c_elaborator.specs.Items.{ContextThere, ValuesThere, context_in, ItemsThere, IsItems, ActionThere}
+use Rattle.c_elaborator.specs.Items.{IsOnlyAction}
 use Rattle.c_statements.specs.Gather.{SoFar}
 use Rattle.c_statements.specs.Switching.{CasesSoFar}
 use Rattle.c_statements.proofs.Switching.{cases_begin, cases_end, cases_fail, cases_step, more_items}
@@ -33,11 +34,12 @@ use Rattle.c_statements.specs.Statements.{for_head, for_in, switch_in, if_with, 
 use Rattle.c_statements.specs.Statements.{inside_of, HeadThere, head_in, switched, SwitchedThere, IsSwitched}
 use Rattle.c_statements.specs.Statements.{switched_on, CasesThere, IsCases, cases_in, switch_label}
 use Rattle.c_statements.proofs.Gather.{gathered, so_far_begins, so_far_ends, so_far_fails, so_far_steps}
-use Rattle.c_parts.proofs.Kids.{opened, has_node, have_kept, has_kept, have_first, have_others, part_kept, parts_kept}
+use Rattle.c_readings.proofs.Kids.{opened, has_node, have_kept, has_kept, have_first, have_others, part_kept}
+use Rattle.c_readings.proofs.Kids.{parts_kept}
 use Rattle.c_statements.proofs.Inside.{scope_is, is_scoped, nothing_inside, evaluated_is, returned_is, case_item}
 use Rattle.c_statements.proofs.Inside.{default_item, other_item}
 use Rattle.c_statements.proofs.Parting.{for_refused, for_answers, have_four, switch_refused, switch_answers}
-use Rattle.c_items.proofs.Scoping.{in_scope_items, in_scope_failed, enter_failed, alone_in_scope}
+use Rattle.c_elaborator.proofs.Scoping.{in_scope_items, in_scope_failed, enter_failed, alone_in_scope}
 use Rattle.c_statements.proofs.Bracing.{in_scope_cases}
 use Rattle.c_statements.proofs.Stating.{reading_node, from_two, from_three, not_two, not_three, have_two, have_three}
 use Rattle.c_statements.proofs.Steps.{Adds, for_names_values, maybe_there, same_block, blocks, ifs, ifs_else, whiles}
@@ -619,14 +621,16 @@ pub statement-declaration-requires : goal.statement-declaration-requires
 statement-declaration-requires t c =
     record {
       whole = c.requires.whole;
-      parts = kids_of c.args.work.now c.args.node.now c.as_slice-kids.result.now c.requires.node c.as_slice-kids.ensures;
+      parts = kids_of c.args.work.now c.args.node.now c.as_slice-kids.result.now c.requires.node
+          c.as_slice-kids.ensures;
     }
 
 pub statement-evaluate-requires : goal.statement-evaluate-requires
 statement-evaluate-requires t c =
     record {
       whole = c.requires.whole;
-      parts = kids_of c.args.work.now c.args.node.now c.as_slice-kids.result.now c.requires.node c.as_slice-kids.ensures;
+      parts = kids_of c.args.work.now c.args.node.now c.as_slice-kids.result.now c.requires.node
+          c.as_slice-kids.ensures;
     }
 
 pub statement-return_at-requires : goal.statement-return_at-requires
@@ -634,7 +638,8 @@ statement-return_at-requires t c =
     record {
       whole = c.requires.whole;
       context = c.requires.context;
-      parts = kids_of c.args.work.now c.args.node.now c.as_slice-kids.result.now c.requires.node c.as_slice-kids.ensures;
+      parts = kids_of c.args.work.now c.args.node.now c.as_slice-kids.result.now c.requires.node
+          c.as_slice-kids.ensures;
     }
 
 pub statement-does-requires : goal.statement-does-requires

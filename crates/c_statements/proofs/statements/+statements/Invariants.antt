@@ -1,11 +1,11 @@
 use Rattle.std.proofs.Common.{length, ◌+◌, ◌*◌}
 use Rattle.c_tree.specs.Syntax.{Syns}
-use Rattle.c_nodes.specs.Nodes.{IsWhole, type_in}
-use Rattle.c_work.specs.Answers.{Keeps}
-use Rattle.c_work.specs.Parts.{AreParts, HaveParts}
+use Rattle.c_expressions.specs.Nodes.{IsWhole, type_in}
+use Rattle.c_elaborator.specs.Answers.{Keeps}
+use Rattle.c_elaborator.specs.Parts.{AreParts, HaveParts}
 use Rattle.c_statements.specs.Gather.{SoFar}
 use Rattle.c_statements.specs.Switching.{CasesSoFar}
-use Rattle.c_items.specs.Items.{context_in}
+use Rattle.c_elaborator.specs.Items.{context_in}
 use Rattle.c_statements.proofs.statements.+statements.Given as goal
 
 abbrev pub decreases-item : goal.decreases-item

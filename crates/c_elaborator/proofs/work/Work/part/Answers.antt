@@ -1,0 +1,10 @@
+use Rattle.c_types.proofs.Looking.{there_at}
+use Rattle.c_elaborator.proofs.Reading.{part_read}
+use Rattle.c_elaborator.proofs.work.Work.part.Goals as goal
+
+pub returns-in-Some : goal.returns-in-Some
+returns-in-Some c x h =
+    let w = c.args.self.now in
+    part_read w c.args.k c.in-Some.node.now c.as_slice-in-Some.result x
+    (there_at w.tree.now.nodes _ c.args.k c.in-Some.node.now c.as_slice.ensures c.in-Some.ensures.lookup.0
+    c.in-Some.ensures.lookup.1) c.as_slice-in-Some.ensures h

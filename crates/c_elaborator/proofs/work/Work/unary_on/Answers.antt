@@ -1,0 +1,5 @@
+use Rattle.c_elaborator.proofs.Sequencing.{lift_operand}
+use Rattle.c_elaborator.proofs.work.Work.unary_on.Goals as goal
+
+pub returns : goal.returns
+returns c = lift_operand c.args.self.now _ _ _ c.unary_on.ensures

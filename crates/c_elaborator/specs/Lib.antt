@@ -1,0 +1,10 @@
+pub mod Answers
+pub mod Items
+pub mod Marks
+pub mod Members
+pub mod Nodes
+pub mod Parts
+pub mod Rules
+pub mod Scoped
+pub mod Shown
+pub mod Work

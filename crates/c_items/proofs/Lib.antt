@@ -1,4 +1,0 @@
-pub mod Adding
-pub mod Going
-pub mod Scoping
-pub mod Shown

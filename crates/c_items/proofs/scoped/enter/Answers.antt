@@ -1,7 +1,0 @@
-use Rattle.std.proofs.Common.{◌∷◌, []}
-use Rattle.c_items.proofs.Scoping.{changes_scopes}
-use Rattle.c_items.proofs.scoped.enter.Goals as goal
-
-pub returns-in-Ok : goal.returns-in-Ok
-returns-in-Ok c = changes_scopes c.args.work.now _
-    (λ cs. record { names = []; tags = [] } ∷ cs) c.requires.whole c.enter.ensures.file c.in-Ok.ensures.ok

@@ -1,7 +1,0 @@
--- The innermost scope is dropped.
-use Rattle.c_tree.specs.Scopes.{leave}
-use Rattle.c_work.specs.declared.work.Work.{Work}
-use Rattle.c_work.specs.Answers.{Done, freely}
-
-abbrev pub Leaves : Work → Work → Type 0
-Leaves u v = Done freely u v leave (Unit {0}) (λ s a. Unit {0})

@@ -1,4 +1,0 @@
-use Rattle.c_nodes.proofs.nodes.Nodes.step.Goals as goal
-
-pub add-requires-clause-typed : goal.add-requires-clause-typed
-add-requires-clause-typed c = record { of = c.requires.of; kind = c.step_kind.ensures.typed _ }

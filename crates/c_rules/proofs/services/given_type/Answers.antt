@@ -1,6 +1,0 @@
-use Rattle.c_nodes.proofs.Keeping.{keeps_same}
-use Rattle.c_rules.proofs.services.given_type.Goals as goal
-
-pub returns-in-Argument : goal.returns-in-Argument
-returns-in-Argument c = rw c.in-Argument.is
-    (record { keeps = keeps_same c.args.nodes.now c.requires.whole; is = c.first_type.ensures })

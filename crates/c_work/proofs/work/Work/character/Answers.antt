@@ -1,5 +1,0 @@
-use Rattle.c_work.proofs.Sequencing.{lift_operand}
-use Rattle.c_work.proofs.work.Work.character.Goals as goal
-
-pub returns : goal.returns
-returns c = rw (← c.text-text.ensures) (lift_operand c.args.self.now _ _ _ c.character.ensures)

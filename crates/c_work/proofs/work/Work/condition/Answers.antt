@@ -1,5 +1,0 @@
-use Rattle.c_work.proofs.Sequencing.{lift_term}
-use Rattle.c_work.proofs.work.Work.condition.Goals as goal
-
-pub returns : goal.returns
-returns c = lift_term c.args.self.now _ _ _ c.condition.ensures

@@ -1,5 +1,0 @@
-use Rattle.c_work.proofs.Sequencing.{lift_operand}
-use Rattle.c_work.proofs.work.Work.library_call.Goals as goal
-
-pub returns : goal.returns
-returns c = lift_operand c.args.self.now _ _ _ c.library_call.ensures
