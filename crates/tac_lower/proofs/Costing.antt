@@ -10,6 +10,7 @@ use Rattle.c_tree.specs.declared.typed.Typed.{Typed}
 use Rattle.obj_mem.specs.Needs.{weight_by, weight_in}
 use Rattle.tac_ir.specs.Within.{FunctionCosts, function_copies}
 use Rattle.tac_lower.specs.Copied.{part_copies}
+use Rattle.tac_lower.specs.Zeroed.{ZeroesOnce}
 use Rattle.tac_ir.specs.declared.code.TacFun.{TacFun}
 
 -- the first functions, so many
@@ -56,3 +57,14 @@ copies_more p xs i d fs f lt there h q =
       sum_by_more (λ (e : FunDef). part_copies p e.body) xs i d lt,
       ap (λ (e : FunDef). part_copies p e.body) there,
     )
+
+-- ---- no object becomes zero twice
+
+abbrev pub AllZeroOnce : List TacFun → Type 0
+AllZeroOnce fs = (k : ℕ) (f : TacFun) → slice_get fs k ≡ Some f → ZeroesOnce f
+
+pub zeros_none : AllZeroOnce []
+zeros_none k f e = absurd cc
+
+pub zeros_more : (fs : List TacFun) (f : TacFun) → AllZeroOnce fs → ZeroesOnce f → AllZeroOnce (fs ++ f ∷ [])
+zeros_more fs f h q = pushed fs f (λ k g. ZeroesOnce g) h q

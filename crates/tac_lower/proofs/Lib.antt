@@ -27,5 +27,6 @@ pub mod Nothing
 pub mod Keeping
 pub mod Calling
 pub mod Copying
+pub mod Zeroing
 pub mod Entering
 pub mod Costing

@@ -5,7 +5,6 @@ use Rattle.std.specs.Prelude.{slice_get, sum_by}
 use Rattle.std.proofs.lemmas.List.{length-map}
 use Rattle.std.proofs.lemmas.List.Sums.{sum_by-append, sum_by-cons}
 use Rattle.ck_base.specs.declared.positions.Pos.{Pos}
-use Rattle.c_tree.specs.declared.typed.FunDef.{FunDef}
 use Rattle.c_tree.specs.declared.typed.Stmt.{Stmt}
 use Rattle.c_tree.specs.declared.typed.StmtKind.{StmtKind}
 use Rattle.c_tree.specs.declared.typed.StmtKind.TheVariants as stmts
@@ -24,7 +23,7 @@ use Rattle.c_tree.proofs.Forest.{forest_reads}
 use Rattle.tac_lower.proofs.Copying.{part_by}
 use Rattle.tac_lower.specs.Copied.{copied_in, copies_in, part_copies}
 use Rattle.tac_lower.specs.Nodes.{expression, weight_in, IsTyped}
-use Rattle.tac_lower.specs.Parts.{statement, heft_in, hefts_in, is_entered, entered, entered_in, all_entered_in}
+use Rattle.tac_lower.specs.Parts.{statement, heft_in, hefts_in, declared_by, all_declared_by}
 use Rattle.tac_lower.specs.Parts.{or_none, IsPlaced, TestFits, EvaluatePart, InitPart, BlockPart, IfPart, LoopPart}
 use Rattle.tac_lower.specs.Parts.{ForPart, SwitchPart, ReturnPart, PartFits}
 
@@ -75,8 +74,8 @@ module _ (p : Typed) (o : IsOrdered p) where
       r.is ∙ parts_same (terms_of p) s.kind s.pos (λ j. get_or r.seen j no_action) (statement p)
       (λ j a e. r.before a (o.parts_before k j a s h e))
 
-both_entered : (d : FunDef) (xs ys : List ℕ) → entered d (xs ++ ys) ≡ entered d xs + entered d ys
-both_entered d xs ys = sum_by-append (is_entered (length d.params) (length d.vars)) xs ys
+both_entered : (g : ℕ → ℕ) (xs ys : List ℕ) → sum_by g (xs ++ ys) ≡ sum_by g xs + sum_by g ys
+both_entered g xs ys = sum_by-append g xs ys
 
 module _ (f : Frame) (o : IsOrdered f.program) where
   abbrev x : ℕ → Term
@@ -130,26 +129,26 @@ module _ (f : Frame) (o : IsOrdered f.program) where
   hefts_last [] y = omega arith
   hefts_last (k ∷ ks) y = omega (arith, sum_by-cons (λ j. heft_in f.program j) k ks, hefts_last ks y)
 
-  all_entered : (d : FunDef) (ks : List ℕ) →
-      entered d (all_declared (actions (map st ks))) ≡ all_entered_in f.program d ks
-  all_entered d [] = refl
-  all_entered d (k ∷ ks) = omega (
+  all_entered : (g : ℕ → ℕ) (ks : List ℕ) →
+      sum_by g (all_declared (actions (map st ks))) ≡ all_declared_by f.program g ks
+  all_entered g [] = refl
+  all_entered g (k ∷ ks) = omega (
     arith,
-    both_entered d (declared (st k)) (all_declared (actions (map st ks))),
-    sum_by-cons (λ j. entered_in f.program d j) k ks,
-    all_entered d ks,
+    both_entered g (declared (st k)) (all_declared (actions (map st ks))),
+    sum_by-cons (λ j. declared_by f.program g j) k ks,
+    all_entered g ks,
   )
 
-  entered_last : (d : FunDef) (ks : List ℕ) (y : ℕ) →
-      entered d (all_declared (actions (map st ks ++ st y ∷ [])))
-      ≡ all_entered_in f.program d ks + entered_in f.program d y
-  entered_last d [] y = omega (arith, both_entered d (declared (st y)) [])
-  entered_last d (k ∷ ks) y =
+  entered_last : (g : ℕ → ℕ) (ks : List ℕ) (y : ℕ) →
+      sum_by g (all_declared (actions (map st ks ++ st y ∷ [])))
+      ≡ all_declared_by f.program g ks + declared_by f.program g y
+  entered_last g [] y = omega (arith, both_entered g (declared (st y)) [])
+  entered_last g (k ∷ ks) y =
       omega (
         arith,
-        both_entered d (declared (st k)) (all_declared (actions (map st ks ++ st y ∷ []))),
-        sum_by-cons (λ j. entered_in f.program d j) k ks,
-        entered_last d ks y,
+        both_entered g (declared (st k)) (all_declared (actions (map st ks ++ st y ∷ []))),
+        sum_by-cons (λ j. declared_by f.program g j) k ks,
+        entered_last g ks y,
       )
 
   module _ (i : Inside) (k : ℕ) (s : Stmt) (there : slice_get f.program.stmts k ≡ Some s) (w : IsPlaced f i k) where
@@ -163,9 +162,9 @@ module _ (f : Frame) (o : IsOrdered f.program) where
         heft_in f.program k ≡ action_weight (kind_action (terms_of f.program) kd s.pos st)
     weighs kd is = ap action_weight (same kd is)
 
-    enters : (d : FunDef) (kd : StmtKind) → Is kd →
-        entered_in f.program d k ≡ entered d (declared (kind_action (terms_of f.program) kd s.pos st))
-    enters d kd is = ap (λ z. entered d (declared z)) (same kd is)
+    enters : (g : ℕ → ℕ) (kd : StmtKind) → Is kd →
+        declared_by f.program g k ≡ sum_by g (declared (kind_action (terms_of f.program) kd s.pos st))
+    enters g kd is = ap (λ z. sum_by g (declared z)) (same kd is)
 
     -- what it copies, by its expressions and the statements in it
     copies : (kd : StmtKind) → Is kd →
@@ -214,11 +213,11 @@ module _ (f : Frame) (o : IsOrdered f.program) where
           body_fits = record { each = each_placed i body h.2 };
           weight = omega (arith, weighs (stmts.Block vars body) is, hefts body);
           copies = omega (arith, copies (stmts.Block vars body) is);
-          enters = λ d. omega (
+          enters = λ g. omega (
             arith,
-            enters d (stmts.Block vars body) is,
-            both_entered d vars (all_declared (actions (map st body))),
-            all_entered d body,
+            enters g (stmts.Block vars body) is,
+            both_entered g vars (all_declared (actions (map st body))),
+            all_entered g body,
           );
         }
 
@@ -234,7 +233,7 @@ module _ (f : Frame) (o : IsOrdered f.program) where
           second = λ j e. absurd cc;
           weight = omega (arith, weighs (stmts.If c a None) is);
           copies = omega (arith, copies (stmts.If c a None) is);
-          enters = λ d. omega (arith, enters d (stmts.If c a None) is, both_entered d (declared (st a)) []);
+          enters = λ g. omega (arith, enters g (stmts.If c a None) is, both_entered g (declared (st a)) []);
         }
     if_part c a (Some b) is =
         let h = fits tree.If (one c) (actions (st a ∷ st b ∷ [])) (same (stmts.If c a (Some b)) is) in
@@ -246,11 +245,11 @@ module _ (f : Frame) (o : IsOrdered f.program) where
               (record { fits = (of_first i (st b) (actions []) r.1).0 });
           weight = omega (arith, weighs (stmts.If c a (Some b)) is);
           copies = omega (arith, copies (stmts.If c a (Some b)) is);
-          enters = λ d. omega (
+          enters = λ g. omega (
             arith,
-            enters d (stmts.If c a (Some b)) is,
-            both_entered d (declared (st a)) (declared (st b) ++ []),
-            both_entered d (declared (st b)) [],
+            enters g (stmts.If c a (Some b)) is,
+            both_entered g (declared (st a)) (declared (st b) ++ []),
+            both_entered g (declared (st b)) [],
           );
         }
 
@@ -262,7 +261,7 @@ module _ (f : Frame) (o : IsOrdered f.program) where
           body_fits = record { fits = (of_first in_loop (st a) (actions []) h.2).0 };
           weight = omega (arith, weighs (stmts.While c a) is);
           copies = omega (arith, copies (stmts.While c a) is);
-          enters = λ d. omega (arith, enters d (stmts.While c a) is, both_entered d (declared (st a)) []);
+          enters = λ g. omega (arith, enters g (stmts.While c a) is, both_entered g (declared (st a)) []);
         }
 
     do_part : (a c : ℕ) → Is (stmts.Do a c) → LoopPart f k c a
@@ -273,7 +272,7 @@ module _ (f : Frame) (o : IsOrdered f.program) where
           body_fits = record { fits = (of_first in_loop (st a) (actions []) h.2).0 };
           weight = omega (arith, weighs (stmts.Do a c) is);
           copies = omega (arith, copies (stmts.Do a c) is);
-          enters = λ d. omega (arith, enters d (stmts.Do a c) is, both_entered d (declared (st a)) []);
+          enters = λ g. omega (arith, enters g (stmts.Do a c) is, both_entered g (declared (st a)) []);
         }
 
     tests_typed : (a b : Option ℕ) → TermsFit f (terms (listed x a ++ listed x b)) →
@@ -325,11 +324,11 @@ module _ (f : Frame) (o : IsOrdered f.program) where
             tests_copy a b,
             sum_by-append (part_copies f.program) first (y ∷ []),
           );
-          enters = λ d. omega (
+          enters = λ g. omega (
             arith,
-            enters d (stmts.For vars first a b y) is,
-            both_entered d vars (all_declared (actions (map st first ++ st y ∷ []))),
-            entered_last d first y,
+            enters g (stmts.For vars first a b y) is,
+            both_entered g vars (all_declared (actions (map st first ++ st y ∷ []))),
+            entered_last g first y,
           );
         }
 
@@ -345,11 +344,11 @@ module _ (f : Frame) (o : IsOrdered f.program) where
           body_fits = record { each = each_placed (in_switch i) body h.2 };
           weight = omega (arith, weighs (stmts.Switch on vars labels body) is, length-map labels label_of, hefts body);
           copies = omega (arith, copies (stmts.Switch on vars labels body) is);
-          enters = λ d. omega (
+          enters = λ g. omega (
             arith,
-            enters d (stmts.Switch on vars labels body) is,
-            both_entered d vars (all_declared (actions (map st body))),
-            all_entered d body,
+            enters g (stmts.Switch on vars labels body) is,
+            both_entered g vars (all_declared (actions (map st body))),
+            all_entered g body,
           );
         }
 

@@ -13,3 +13,4 @@ pub mod Signed
 pub mod Spent
 pub mod Statements
 pub mod Tables
+pub mod Zeroed

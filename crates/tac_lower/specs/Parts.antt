@@ -31,7 +31,13 @@ is_entered n m x = if nat_lt x n then 0 else (if nat_lt x m then 1 else 0)
 abbrev pub entered : FunDef → List ℕ → ℕ
 entered d xs = sum_by (is_entered (length d.params) (length d.vars)) xs
 
--- those that blocks in a statement declare
+-- a measure of the variables that blocks in a statement declare
+abbrev pub declared_by : Typed → (ℕ → ℕ) → ℕ → ℕ
+declared_by p g k = sum_by g (declared (statement p k))
+
+abbrev pub all_declared_by : Typed → (ℕ → ℕ) → List ℕ → ℕ
+all_declared_by p g ks = sum_by (λ k. declared_by p g k) ks
+
 abbrev pub entered_in : Typed → FunDef → ℕ → ℕ
 entered_in p d k = entered d (declared (statement p k))
 
@@ -73,7 +79,7 @@ pub record BlockPart (f : Frame) (i : Inside) (k : ℕ) (vars body : List ℕ) :
   pub body_fits : ArePlaced f i body
   pub weight : heft_in f.program k ≡ 1 + hefts_in f.program body
   pub copies : all_part_copies f.program body ≤ part_copies f.program k
-  pub enters : (d : FunDef) → entered d vars + all_entered_in f.program d body ≡ entered_in f.program d k
+  pub enters : (g : ℕ → ℕ) → sum_by g vars + all_declared_by f.program g body ≡ declared_by f.program g k
 
 pub record IfPart (f : Frame) (i : Inside) (k c a : ℕ) (b : Option ℕ) : Type 0 where
   pub test : TestFits f c
@@ -82,14 +88,15 @@ pub record IfPart (f : Frame) (i : Inside) (k c a : ℕ) (b : Option ℕ) : Type
   pub weight : heft_in f.program k ≡ 1 + weight_in f.program c + heft_in f.program a + or_none (heft_in f.program) b
   pub copies : copies_in f.program c + part_copies f.program a + or_none (part_copies f.program) b
       ≤ part_copies f.program k
-  pub enters : (d : FunDef) → entered_in f.program d a + or_none (entered_in f.program d) b ≡ entered_in f.program d k
+  pub enters : (g : ℕ → ℕ) →
+      declared_by f.program g a + or_none (declared_by f.program g) b ≡ declared_by f.program g k
 
 pub record LoopPart (f : Frame) (k c a : ℕ) : Type 0 where
   pub test : TestFits f c
   pub body_fits : IsPlaced f in_loop a
   pub weight : heft_in f.program k ≡ 1 + weight_in f.program c + heft_in f.program a
   pub copies : copies_in f.program c + part_copies f.program a ≤ part_copies f.program k
-  pub enters : (d : FunDef) → entered_in f.program d a ≡ entered_in f.program d k
+  pub enters : (g : ℕ → ℕ) → declared_by f.program g a ≡ declared_by f.program g k
 
 pub record ForPart (f : Frame) (k : ℕ) (vars first : List ℕ) (test step : Option ℕ) (a : ℕ) : Type 0 where
   pub vars_there : AreVars f vars
@@ -101,8 +108,8 @@ pub record ForPart (f : Frame) (k : ℕ) (vars first : List ℕ) (test step : Op
       + hefts_in f.program first + heft_in f.program a
   pub copies : or_none (copies_in f.program) test + or_none (copies_in f.program) step
       + all_part_copies f.program first + part_copies f.program a ≤ part_copies f.program k
-  pub enters : (d : FunDef) →
-      entered d vars + all_entered_in f.program d first + entered_in f.program d a ≡ entered_in f.program d k
+  pub enters : (g : ℕ → ℕ) →
+      sum_by g vars + all_declared_by f.program g first + declared_by f.program g a ≡ declared_by f.program g k
 
 pub record SwitchPart (f : Frame) (i : Inside) (k on : ℕ) (vars : List ℕ) (labels : List SwitchLabel) (body : List ℕ) :
     Type 0 where
@@ -112,7 +119,7 @@ pub record SwitchPart (f : Frame) (i : Inside) (k on : ℕ) (vars : List ℕ) (l
   pub body_fits : ArePlaced f (in_switch i) body
   pub weight : heft_in f.program k ≡ 1 + length labels + weight_in f.program on + hefts_in f.program body
   pub copies : copies_in f.program on + all_part_copies f.program body ≤ part_copies f.program k
-  pub enters : (d : FunDef) → entered d vars + all_entered_in f.program d body ≡ entered_in f.program d k
+  pub enters : (g : ℕ → ℕ) → sum_by g vars + all_declared_by f.program g body ≡ declared_by f.program g k
 
 -- a Return gives what the function gives
 pub record ReturnPart (f : Frame) (k : ℕ) (a : Option ℕ) : Type 0 where

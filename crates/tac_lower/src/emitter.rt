@@ -1,13 +1,15 @@
 //! The code of a function while it is made.
 
-ghost use Rattle.std.specs.Prelude.{◌≡◌, ℕ, ◌+◌, ◌^◌, ◌<◌, [], length, true, false, IfOk, IfSome, Some, None};
+ghost use Rattle.std.specs.Prelude.{◌≡◌, ℕ, ◌+◌, ◌^◌, ◌<◌, ◌==◌, [], length, true, false, IfOk, IfSome, Some, None};
+ghost use Rattle.std.specs.Prelude.{if◌then◌else◌};
 ghost use Rattle.tac_ir.specs.declared.code.TacKind.TheVariants as kinds;
 ghost use Rattle.tac_ir.specs.declared.code.TacInstr.TheVariants as instr;
 ghost use Rattle.tac_ir.specs.WellFormed.{constant_fits, units_fit, is_unit};
 ghost use Rattle.cheri_c_sem.specs.Types.{is_shift};
 ghost use Rattle.ck_int.specs.declared.kinds.IntKind.TheVariants as int;
 ghost use Rattle.tac_ir.specs.Costs.{cost, outgoing_by, number_cost};
-ghost use Rattle.tac_lower.specs.Spent.{Takes, Spent, is_number};
+ghost use Rattle.tac_lower.specs.Spent.{Takes, Spent, Enters, is_number};
+ghost use Rattle.tac_ir.specs.Temps.{locals, zeros};
 ghost use Rattle.tac_ir.specs.Within.{copied_parts};
 ghost use Rattle.c_tree.specs.Counts.{parts};
 ghost use Rattle.tac_lower.specs.Emitted.{HasKind, HasInt, HasCapability, IsTemp, SameKind, AmountFits, CountFits};
@@ -61,10 +63,22 @@ impl Emitter {
         }
     }
 
+    /// An instruction that names no local.
     fn push(&mut self, i: TacInstr) -> Result<(), NoMemory>
+        requires locals { locals i ≡ [] }
+        requires zeros { zeros i ≡ [] }
         ensures pushed { IfOk result (λ _. Pushed self.old self.new i) }
         ensures adds { IfOk result (λ _. Adds self.old self.new 0 0) }
         ensures spent { IfOk result (λ _. Takes self.old self.new (outgoing_by i) (cost i) (copied_parts i)) }
+    {
+        self.code.push(i)?;
+        Ok(())
+    }
+
+    /// An instruction that may name a local.
+    fn add(&mut self, i: TacInstr) -> Result<(), NoMemory>
+        ensures pushed { IfOk result (λ _. Pushed self.old self.new i) }
+        ensures adds { IfOk result (λ _. Adds self.old self.new 0 0) }
     {
         self.code.push(i)?;
         Ok(())
@@ -376,11 +390,11 @@ impl Emitter {
     /// The block of an object is entered: its bytes become zero, and the pointer to it is made.
     pub fn enter_object(&mut self, to: u32, var: u32) -> Result<(), NoMemory>
         ensures entered { IfOk result (λ _. Entered self.old self.new to var) }
-        ensures spent { IfOk result (λ _. Spent self.old self.new 0 19) }
+        ensures spent { IfOk result (λ _. Enters self.old self.new 0 19 0 (λ v. if var == v then 1 else 0)) }
         ensures adds { IfOk result (λ _. Adds self.old self.new 0 0) }
     {
-        self.push(TacInstr::Zero { var })?;
-        self.push(TacInstr::Local { to, var })
+        self.add(TacInstr::Zero { var })?;
+        self.add(TacInstr::Local { to, var })
     }
 
     pub fn global(&mut self, to: u32, number: u32, literal: bool) -> Result<(), NoMemory>

@@ -1,6 +1,7 @@
 //! The code of a function.
 
 ghost use Rattle.std.specs.Prelude.{◌≡◌, ℕ, ◌+◌, ◌*◌, ◌^◌, ◌<◌, ◌≤◌, [], true, false, length, IfOk, Some, slice_get};
+ghost use Rattle.std.specs.Prelude.{◌==◌, if◌then◌else◌, sum_by};
 ghost use Rattle.c_tree.specs.TreeWeight.{function_weight};
 ghost use Rattle.c_tree.specs.Types.{Ty, Tys, Function};
 ghost use Rattle.c_tree.specs.WellTyped.{FunctionFits, type_in};
@@ -16,7 +17,8 @@ ghost use Rattle.tac_lower.specs.Nodes.{kept_as, or_int};
 ghost use Rattle.tac_lower.specs.Scenes.{Ready, HomeFits, Housed, Scene, Lowered};
 ghost use Rattle.tac_ir.specs.Within.{FunctionCosts, function_copies};
 ghost use Rattle.tac_lower.specs.Copied.{part_copies};
-ghost use Rattle.tac_lower.specs.Spent.{Spent};
+ghost use Rattle.tac_lower.specs.Spent.{Enters, Spent};
+ghost use Rattle.tac_lower.specs.Zeroed.{is_object, is_taken, taken, ZeroesOnce};
 ghost use Rattle.tac_lower.specs.Signed.{kept_parameter, ReturnFits};
 
 use crate::context::{Context, Home};
@@ -113,6 +115,7 @@ fn object_home(n: u32, out: &mut Emitter) -> Result<Home, NoMemory>
     ensures grown { IfOk result (λ _. Grown out.old out.new) }
     ensures adds { IfOk result (λ _. Adds out.old out.new 1 0) }
     ensures spent { IfOk result (λ _. Spent out.old out.new 1 0) }
+    ensures numbered { IfOk result (λ h. (v : ℕ) → is_object v (Some h) ≡ (if n == v then 1 else 0)) }
 {
     let t = out.temp(POINTER)?;
     Ok(Home::Object(n, t))
@@ -153,6 +156,8 @@ fn next_home(
     ensures grown { IfOk result (λ _. Grown out.old out.new) }
     ensures adds { IfOk result (λ _. Adds out.old out.new 1 0) }
     ensures spent { IfOk result (λ _. Spent out.old out.new 1 0) }
+    ensures numbered { IfOk result (λ h. (w : ℕ) → is_object w (Some h)
+        ≤ (if v.now.simple then 0 else (if count.objects == w then 1 else 0))) }
 {
     if v.simple {
         let kind = program.kind_of_type(v.of);
@@ -174,6 +179,7 @@ fn homes(program: Program, d: &FunDef, out: &mut Emitter) -> Result<Vec<Home>, N
     ensures grown { IfOk result (λ _. Grown out.old out.new) }
     ensures adds { IfOk result (λ _. Adds out.old out.new (length d.now.vars) 0) }
     ensures spent { IfOk result (λ _. Spent out.old out.new (length d.now.vars) 0) }
+    ensures apart { IfOk result (λ hs. (v : ℕ) → sum_by (λ h. is_object v (Some h)) hs.items ≤ 1) }
 {
     let mut found = Vec::new(program.alloc);
     let mut count = Count {
@@ -204,7 +210,7 @@ fn take_object(
     requires value { HasKind out.old t (kept_parameter cx.p.now d.now x) }
     ensures lowered { IfOk result (λ _. Lowered cx.entry.p.now d.now cx.entry.types.now cx.entry.homes.now
         out.old out.new 0) }
-    ensures spent { IfOk result (λ _. Spent out.old out.new 0 26) }
+    ensures spent { IfOk result (λ _. Enters out.old out.new 0 26 0 (λ v. is_taken cx.entry.homes.now v x)) }
 {
     out.enter_object(at, n)?;
     let kind = cx.kind_of_type(type_of_variable(d, x));
@@ -223,7 +229,7 @@ fn take_parameter(
     requires value { HasKind out.old t (kept_parameter cx.p.now d.now x) }
     ensures lowered { IfOk result (λ _. Lowered cx.entry.p.now d.now cx.entry.types.now cx.entry.homes.now
         out.old out.new 0) }
-    ensures spent { IfOk result (λ _. Spent out.old out.new 0 26) }
+    ensures spent { IfOk result (λ _. Enters out.old out.new 0 26 0 (λ v. is_taken cx.entry.homes.now v x)) }
 {
     match cx.home(x) {
         Some(Home::Object(n, at)) => take_object(cx, d, x, n, at, t, out),
@@ -237,7 +243,8 @@ fn take_parameters(cx: Context, d: &FunDef, out: &mut Emitter) -> Result<(), NoM
     requires few { length d.now.params < 2 ^ 32 }
     ensures lowered { IfOk result (λ _. Lowered cx.entry.p.now d.now cx.entry.types.now cx.entry.homes.now
         out.old out.new 0) }
-    ensures spent { IfOk result (λ _. Spent out.old out.new 0 (26 * length d.now.params)) }
+    ensures spent { IfOk result (λ _. Enters out.old out.new 0 (26 * length d.now.params) 0
+        (taken cx.entry.homes.now d.now.params)) }
 {
     let mut t: u32 = 0;
     for x in d.params.as_slice() {
@@ -321,6 +328,7 @@ pub fn function(program: Program, d: &FunDef) -> Result<TacFun, NoMemory>
     ensures formed { IfOk result (λ f. function_fits program.entry.p.now d.now f ≡ true) }
     ensures costs { IfOk result (λ f. FunctionCosts (function_weight program.entry.p.now d.now) f) }
     ensures copies { IfOk result (λ f. function_copies f ≤ part_copies program.entry.p.now d.now.body) }
+    ensures zeros { IfOk result ZeroesOnce }
 {
     let mut out = Emitter::new(program.alloc);
     parameter_temps(program, d, &mut out)?;

@@ -1,10 +1,11 @@
 //! Lowering: from typed programs to three-address code.
 //!
 //! Promise: `lower` gives well-formed code for every sound program of weight at most 7,780, function by function, which
-//! costs no more than the weight of each function allows, and copies no more than the program does. Each operation on
-//! values in temps adds the code that `lower_runs` has for it (`Shown`). Definitions (`specs/`): `Lowered`; `WellFormed`
-//! and `Within` of `tac_ir`; on the way `Scenes`, `Emitted`, `Shown`, `Spent`, `Copied`, `Nodes`, `Functions`. Main
-//! lemmas (`proofs/`): `Bodies`, `Scening`, `Housing`, `Operating`, `Spending`, `Copying`.
+//! costs no more than the weight of each function allows, copies no more than the program does, and lets no object
+//! become zero twice, nor makes its pointer before. Each operation on values in temps adds the code that `lower_runs`
+//! has for it (`Shown`). Definitions (`specs/`): `Lowered`; `WellFormed` and `Within` of `tac_ir`; on the way `Scenes`,
+//! `Emitted`, `Shown`, `Spent`, `Copied`, `Zeroed`, `Nodes`, `Functions`. Main lemmas (`proofs/`): `Bodies`, `Scening`,
+//! `Housing`, `Operating`, `Spending`, `Copying`, `Zeroing`.
 #![tactic(auto)]
 
 mod calls;

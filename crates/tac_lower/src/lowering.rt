@@ -1,6 +1,8 @@
 //! Lowering: from typed programs to three-address code.
 
-ghost use Rattle.std.specs.Prelude.{◌≡◌, ◌≤◌, true, IfOk, sum_by};
+ghost use Rattle.std.specs.Prelude.{◌≡◌, ◌≤◌, true, IfOk, sum_by, ℕ, Some, slice_get};
+ghost use Rattle.tac_ir.specs.declared.code.TacFun.{TacFun};
+ghost use Rattle.tac_lower.specs.Zeroed.{ZeroesOnce};
 ghost use Rattle.c_tree.specs.Views.{IsOrdered};
 ghost use Rattle.c_tree.specs.Weight.{weight};
 ghost use Rattle.cheri_c_sem.specs.Order.{Ordered};
@@ -29,6 +31,7 @@ pub fn lower(alloc: Global, p: &Typed) -> Result<Tac, NoMemory>
     ensures formed { IfOk result (λ t. is_well_formed t p.now ≡ true) }
     ensures costs { IfOk result (λ t. WithinCosts t p.now) }
     ensures copies { IfOk result (λ t. sum_by function_copies t.funs ≤ copies p.now) }
+    ensures zeros { IfOk result (λ t. (k : ℕ) (f : TacFun) → slice_get t.funs k ≡ Some f → ZeroesOnce f) }
 {
     let types = type_table(alloc, p)?;
     let writes = writes_table(alloc, p)?;

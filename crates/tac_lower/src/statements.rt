@@ -11,7 +11,8 @@ ghost use Rattle.tac_lower.specs.Known.{AreBelow};
 ghost use Rattle.tac_lower.specs.Nodes.{expression, weight_in, IsTyped};
 ghost use Rattle.tac_lower.specs.Parts.{heft_in, hefts_in, entered, entered_in, all_entered_in, or_none, ReturnPart};
 ghost use Rattle.tac_lower.specs.Scenes.{Scene, Lowered, frame_of};
-ghost use Rattle.tac_lower.specs.Spent.{Spent, Spends, SpendsCopy, SpendsPart};
+ghost use Rattle.tac_lower.specs.Spent.{Enters, Spent, Consumes, SpendsCopy, SpendsFlat, SpendsPart};
+ghost use Rattle.tac_lower.specs.Zeroed.{zeroed, zeroed_in, all_zeroed_in};
 ghost use Rattle.tac_lower.specs.Statements.{IsPart, AreParts, IsTypedIfAny, IsExit, AreExits, Begun, Behind};
 
 use crate::conditions::{Jump, condition};
@@ -38,7 +39,8 @@ fn enter_variable(cx: Context, x: u32, out: &mut Emitter) -> Result<(), NoMemory
     requires there { x < length cx.d.now.vars }
     ensures lowered { IfOk result (λ _. Lowered cx.entry.p.now cx.entry.d.now cx.entry.types.now cx.entry.homes.now
         out.old out.new 0) }
-    ensures spent { IfOk result (λ _. Spent out.old out.new 0 (19 * entered cx.entry.d.now (x ∷ []))) }
+    ensures spent { IfOk result (λ _. Enters out.old out.new 0 (19 * entered cx.entry.d.now (x ∷ [])) 0
+        (zeroed cx.entry.d.now cx.entry.homes.now (x ∷ []))) }
 {
     if cx.is_parameter(x) {
         return Ok(());
@@ -56,7 +58,8 @@ fn enter(cx: Context, vars: &[u32], out: &mut Emitter) -> Result<(), NoMemory>
     requires there { AreVars (frame_of cx.p.now cx.d.now) vars.now }
     ensures lowered { IfOk result (λ _. Lowered cx.entry.p.now cx.entry.d.now cx.entry.types.now cx.entry.homes.now
         out.old out.new 0) }
-    ensures spent { IfOk result (λ _. Spent out.old out.new 0 (19 * entered cx.entry.d.now vars.now)) }
+    ensures spent { IfOk result (λ _. Enters out.old out.new 0 (19 * entered cx.entry.d.now vars.now) 0
+        (zeroed cx.entry.d.now cx.entry.homes.now vars.now)) }
 {
     for x in vars {
         enter_variable(cx, *x, out)?;
@@ -147,8 +150,8 @@ fn leave(cx: Context, k: u32, a: Option<u32>, out: &mut Emitter) -> Result<(), N
     requires room { HasRoom out.old (4 * heft_in cx.p.now k) }
     ensures lowered { IfOk result (λ _. Lowered cx.entry.p.now cx.entry.d.now cx.entry.types.now cx.entry.homes.now
         out.old out.new (4 * heft_in cx.entry.p.now k)) }
-    ensures spends { IfOk result (λ _. SpendsPart cx.entry.fixed (heft_in cx.entry.p.now k)
-        (part_copies cx.entry.p.now k) 0
+    ensures spends { IfOk result (λ _. SpendsFlat cx.entry.fixed (heft_in cx.entry.p.now k)
+        (part_copies cx.entry.p.now k)
         out.old out.new) }
 {
     let Some(a) = a else {
@@ -203,8 +206,9 @@ fn test_loop(
     requires room { HasRoom out.old (4 * or_none (weight_in cx.p.now) test) }
     ensures lowered { IfOk result (λ _. Lowered cx.entry.p.now cx.entry.d.now cx.entry.types.now cx.entry.homes.now
         out.old out.new (4 * or_none (weight_in cx.entry.p.now) test)) }
-    ensures spends { IfOk result (λ _. SpendsPart cx.entry.fixed
-        (or_none (weight_in cx.entry.p.now) test) (or_none (copies_in cx.entry.p.now) test) 0 out.old out.new) }
+    ensures spends { IfOk result (λ _. SpendsFlat cx.entry.fixed
+        (or_none (weight_in cx.entry.p.now) test) (or_none (copies_in cx.entry.p.now) test)
+        out.old out.new) }
 {
     match test {
         None => Ok(()),
@@ -226,8 +230,9 @@ fn step_loop(cx: Context, step: Option<u32>, out: &mut Emitter) -> Result<(), No
     requires room { HasRoom out.old (4 * or_none (weight_in cx.p.now) step) }
     ensures lowered { IfOk result (λ _. Lowered cx.entry.p.now cx.entry.d.now cx.entry.types.now cx.entry.homes.now
         out.old out.new (4 * or_none (weight_in cx.entry.p.now) step)) }
-    ensures spends { IfOk result (λ _. SpendsPart cx.entry.fixed
-        (or_none (weight_in cx.entry.p.now) step) (or_none (copies_in cx.entry.p.now) step) 0 out.old out.new) }
+    ensures spends { IfOk result (λ _. SpendsFlat cx.entry.fixed
+        (or_none (weight_in cx.entry.p.now) step) (or_none (copies_in cx.entry.p.now) step)
+        out.old out.new) }
 {
     match step {
         None => Ok(()),
@@ -260,7 +265,7 @@ fn loop_body(cx: Context, body: u32, circle: Circle, out: &mut Emitter) -> Resul
         out.old out.new circle.next (4 * heft_in cx.entry.p.now body)) }
     ensures spends { IfOk result (λ _. SpendsPart cx.entry.fixed (heft_in cx.entry.p.now body)
         (part_copies cx.entry.p.now body) (entered_in cx.entry.p.now cx.entry.d.now body)
-        out.old out.new) }
+        (zeroed_in cx.entry.p.now cx.entry.d.now cx.entry.homes.now body) out.old out.new) }
 {
     let exits = Exits {
         break_to: Some(circle.end),
@@ -290,14 +295,14 @@ fn tested_loop(
     ensures lowered { IfOk result (λ _. Lowered cx.entry.p.now cx.entry.d.now cx.entry.types.now cx.entry.homes.now
         out.old out.new (4 * (or_none (weight_in cx.entry.p.now) test + or_none (weight_in cx.entry.p.now) step
         + heft_in cx.entry.p.now body) + 3)) }
-    ensures spends { IfOk result (λ _. Spends cx.entry.fixed out.old out.new
+    ensures spends { IfOk result (λ _. Consumes cx.entry.fixed out.old out.new
         (2 * (or_none (weight_in cx.entry.p.now) test + or_none (weight_in cx.entry.p.now) step
         + heft_in cx.entry.p.now body))
         (32 * (or_none (weight_in cx.entry.p.now) test + or_none (weight_in cx.entry.p.now) step
         + heft_in cx.entry.p.now body)
         + 19 * entered_in cx.entry.p.now cx.entry.d.now body + 1)
         (or_none (copies_in cx.entry.p.now) test + or_none (copies_in cx.entry.p.now) step
-        + part_copies cx.entry.p.now body)) }
+        + part_copies cx.entry.p.now body) (zeroed_in cx.entry.p.now cx.entry.d.now cx.entry.homes.now body)) }
 {
     let circle = begin_loop(out)?;
     test_loop(cx, test, circle, out)?;
@@ -317,11 +322,12 @@ fn repeated_loop(cx: Context, body: u32, test: u32, out: &mut Emitter) -> Result
     requires room { HasRoom out.old (4 * (weight_in cx.p.now test + heft_in cx.p.now body) + 3) }
     ensures lowered { IfOk result (λ _. Lowered cx.entry.p.now cx.entry.d.now cx.entry.types.now cx.entry.homes.now
         out.old out.new (4 * (weight_in cx.entry.p.now test + heft_in cx.entry.p.now body) + 3)) }
-    ensures spends { IfOk result (λ _. Spends cx.entry.fixed out.old out.new
+    ensures spends { IfOk result (λ _. Consumes cx.entry.fixed out.old out.new
         (2 * (weight_in cx.entry.p.now test + heft_in cx.entry.p.now body))
         (32 * (weight_in cx.entry.p.now test + heft_in cx.entry.p.now body)
         + 19 * entered_in cx.entry.p.now cx.entry.d.now body + 1)
-        (copies_in cx.entry.p.now test + part_copies cx.entry.p.now body)) }
+        (copies_in cx.entry.p.now test + part_copies cx.entry.p.now body)
+        (zeroed_in cx.entry.p.now cx.entry.d.now cx.entry.homes.now body)) }
 {
     let circle = begin_loop(out)?;
     loop_body(cx, body, circle, out)?;
@@ -356,11 +362,13 @@ fn choice(
     requires room { HasRoom out.old (4 * (weight_in cx.p.now c + heft_in cx.p.now a + heft_in cx.p.now b) + 2) }
     ensures lowered { IfOk result (λ _. Lowered cx.entry.p.now cx.entry.d.now cx.entry.types.now cx.entry.homes.now
         out.old out.new (4 * (weight_in cx.entry.p.now c + heft_in cx.entry.p.now a + heft_in cx.entry.p.now b) + 2)) }
-    ensures spends { IfOk result (λ _. Spends cx.entry.fixed out.old out.new
+    ensures spends { IfOk result (λ _. Consumes cx.entry.fixed out.old out.new
         (2 * (weight_in cx.entry.p.now c + heft_in cx.entry.p.now a + heft_in cx.entry.p.now b))
         (32 * (weight_in cx.entry.p.now c + heft_in cx.entry.p.now a + heft_in cx.entry.p.now b)
         + 19 * (entered_in cx.entry.p.now cx.entry.d.now a + entered_in cx.entry.p.now cx.entry.d.now b) + 1)
-        (copies_in cx.entry.p.now c + part_copies cx.entry.p.now a + part_copies cx.entry.p.now b)) }
+        (copies_in cx.entry.p.now c + part_copies cx.entry.p.now a + part_copies cx.entry.p.now b)
+        (λ v. zeroed_in cx.entry.p.now cx.entry.d.now cx.entry.homes.now a v
+        + zeroed_in cx.entry.p.now cx.entry.d.now cx.entry.homes.now b v)) }
 {
     let fork = out.fork();
     let jump = Jump {
@@ -386,11 +394,12 @@ fn guarded(cx: Context, c: u32, a: u32, exits: Exits, out: &mut Emitter) -> Resu
     requires room { HasRoom out.old (4 * (weight_in cx.p.now c + heft_in cx.p.now a) + 1) }
     ensures lowered { IfOk result (λ _. Lowered cx.entry.p.now cx.entry.d.now cx.entry.types.now cx.entry.homes.now
         out.old out.new (4 * (weight_in cx.entry.p.now c + heft_in cx.entry.p.now a) + 1)) }
-    ensures spends { IfOk result (λ _. Spends cx.entry.fixed out.old out.new
+    ensures spends { IfOk result (λ _. Consumes cx.entry.fixed out.old out.new
         (2 * (weight_in cx.entry.p.now c + heft_in cx.entry.p.now a))
         (32 * (weight_in cx.entry.p.now c + heft_in cx.entry.p.now a)
         + 19 * entered_in cx.entry.p.now cx.entry.d.now a)
-        (copies_in cx.entry.p.now c + part_copies cx.entry.p.now a)) }
+        (copies_in cx.entry.p.now c + part_copies cx.entry.p.now a)
+        (zeroed_in cx.entry.p.now cx.entry.d.now cx.entry.homes.now a)) }
 {
     let label = out.label();
     condition(cx, c, Jump { when: false, label }, out)?;
@@ -419,7 +428,7 @@ fn statements(
         out.old out.new (4 * hefts_in cx.entry.p.now body.now)) }
     ensures spends { IfOk result (λ _. SpendsPart cx.entry.fixed (hefts_in cx.entry.p.now body.now)
         (all_part_copies cx.entry.p.now body.now) (all_entered_in cx.entry.p.now cx.entry.d.now body.now)
-        out.old out.new) }
+        (all_zeroed_in cx.entry.p.now cx.entry.d.now cx.entry.homes.now body.now) out.old out.new) }
 {
     for s in body {
         statement(cx, *s, exits, out)?;
@@ -449,7 +458,9 @@ fn block(
         out.old out.new (4 * hefts_in cx.entry.p.now body.now)) }
     ensures spends { IfOk result (λ _. SpendsPart cx.entry.fixed (hefts_in cx.entry.p.now body.now)
         (all_part_copies cx.entry.p.now body.now)
-        (entered cx.entry.d.now vars.now + all_entered_in cx.entry.p.now cx.entry.d.now body.now) out.old out.new) }
+        (entered cx.entry.d.now vars.now + all_entered_in cx.entry.p.now cx.entry.d.now body.now)
+        (λ v. zeroed cx.entry.d.now cx.entry.homes.now vars.now v
+        + all_zeroed_in cx.entry.p.now cx.entry.d.now cx.entry.homes.now body.now v) out.old out.new) }
 {
     enter(cx, vars, out)?;
     statements(cx, k, body, exits, out)
@@ -482,11 +493,13 @@ fn switch(
     ensures lowered { IfOk result (λ _. Lowered cx.entry.p.now cx.entry.d.now cx.entry.types.now cx.entry.homes.now
         out.old out.new (4 * (weight_in cx.entry.p.now on + hefts_in cx.entry.p.now body.now)
         + length labels.now + 3)) }
-    ensures spends { IfOk result (λ _. Spends cx.entry.fixed out.old out.new
+    ensures spends { IfOk result (λ _. Consumes cx.entry.fixed out.old out.new
         (2 * (weight_in cx.entry.p.now on + hefts_in cx.entry.p.now body.now) + 1)
         (32 * (weight_in cx.entry.p.now on + hefts_in cx.entry.p.now body.now + length labels.now)
         + 19 * (entered cx.entry.d.now vars.now + all_entered_in cx.entry.p.now cx.entry.d.now body.now))
-        (copies_in cx.entry.p.now on + all_part_copies cx.entry.p.now body.now)) }
+        (copies_in cx.entry.p.now on + all_part_copies cx.entry.p.now body.now)
+        (λ v. zeroed cx.entry.d.now cx.entry.homes.now vars.now v
+        + all_zeroed_in cx.entry.p.now cx.entry.d.now cx.entry.homes.now body.now v)) }
 {
     let v = operand(cx, on, Written::Nothing, out)?;
     enter(cx, vars, out)?;
@@ -521,7 +534,7 @@ pub fn statement(cx: Context, k: u32, exits: Exits, out: &mut Emitter) -> Result
         out.old out.new (4 * heft_in cx.entry.p.now k)) }
     ensures spends { IfOk result (λ _. SpendsPart cx.entry.fixed (heft_in cx.entry.p.now k)
         (part_copies cx.entry.p.now k) (entered_in cx.entry.p.now cx.entry.d.now k)
-        out.old out.new) }
+        (zeroed_in cx.entry.p.now cx.entry.d.now cx.entry.homes.now k) out.old out.new) }
 {
     let Some(s) = cx.stmt(k) else {
         return Ok(());

@@ -347,7 +347,7 @@ conditions::joined_around-returns-clause-spends t c =
       heavy (expression c.args.cx.p.now c.args.j.a),
       heavy (expression c.args.cx.p.now c.args.j.b),
     ))
-    (omega (arith, c.requires.node.copies))
+    (omega (arith, c.requires.node.copies)) refl refl
 
 pub places::pointer-operand-requires : goal.places::pointer-operand-requires
 places::pointer-operand-requires t c =
@@ -553,7 +553,7 @@ places::place-returns-in-Global-clause-spends t c =
     last_pushed _ (instr.Global c.args.to c.in-Global.g false) c.global.result nothing c.global.ensures.pushed
     (omega (arith, heavy (expression c.args.cx.p.now c.args.k), extra_small c.args.cx.fixed (Some c.args.to)))
     (omega (arith, heavy (expression c.args.cx.p.now c.args.k), extra_small c.args.cx.fixed (Some c.args.to)))
-    (omega arith)
+    (omega arith) refl refl
 
 pub places::place-returns-in-Literal-clause-lowered : goal.places::place-returns-in-Literal-clause-lowered
 places::place-returns-in-Literal-clause-lowered t c =
@@ -569,7 +569,7 @@ places::place-returns-in-Literal-clause-spends t c =
     c.global-in-Literal.ensures.pushed (omega
     (arith, heavy (expression c.args.cx.p.now c.args.k), extra_small c.args.cx.fixed (Some c.args.to)))
     (omega (arith, heavy (expression c.args.cx.p.now c.args.k), extra_small c.args.cx.fixed (Some c.args.to)))
-    (omega arith)
+    (omega arith) refl refl
 
 pub places::place-returns-in-Fun-clause-lowered : goal.places::place-returns-in-Fun-clause-lowered
 places::place-returns-in-Fun-clause-lowered t c =
@@ -584,7 +584,7 @@ places::place-returns-in-Fun-clause-spends t c =
     last_pushed _ (instr.Function c.args.to c.in-Fun.f) c.function.result nothing c.function.ensures.pushed
     (omega (arith, heavy (expression c.args.cx.p.now c.args.k), extra_small c.args.cx.fixed (Some c.args.to)))
     (omega (arith, heavy (expression c.args.cx.p.now c.args.k), extra_small c.args.cx.fixed (Some c.args.to)))
-    (omega arith)
+    (omega arith) refl refl
 
 pub places::place-value-requires : goal.places::place-value-requires
 places::place-value-requires t c =
@@ -1021,7 +1021,7 @@ places::place_choice-returns-clause-spends t c =
       heavy (expression c.args.cx.p.now c.args.b),
       extra_small c.args.cx.fixed (Some c.args.to),
     ))
-    (omega (arith, c.requires.node.copies))
+    (omega (arith, c.requires.node.copies)) refl refl
 
 pub places::member-offset-requires-clause-same : goal.places::member-offset-requires-clause-same
 places::member-offset-requires-clause-same t c =
@@ -1511,7 +1511,7 @@ places::chosen_copy-returns-clause-spends t c =
       c.facts.ensures.copied c.requires.scene.ready,
       c.limited-chosen.ensures.bytes,
       c.limited-chosen.ensures.value,
-    ))
+    )) refl refl
 
 pub places::plain_copy-pointer-requires : goal.places::plain_copy-pointer-requires
 places::plain_copy-pointer-requires t c = (
@@ -1598,7 +1598,7 @@ calls::call-returns-in_ok-temps-in-Some-clause-spends t c =
           c.in_ok-temps-in-Some.ensures.kinds,
       places_small (length c.in_ok-temps-in-Some.temps.items),
     ))
-    (omega (arith, c.requires.node.copies))
+    (omega (arith, c.requires.node.copies)) refl refl
 
 pub calls::call-operand-requires : goal.calls::call-operand-requires
 calls::call-operand-requires t c = (
@@ -1669,7 +1669,7 @@ calls::call-returns-in_ok-temps-in-None-clause-spends t c =
       places_small (length c.in_ok-temps-in-None.temps.items),
       heavy (expression c.args.cx.p.now c.args.f),
     ))
-    (omega (arith, c.requires.node.copies))
+    (omega (arith, c.requires.node.copies)) refl refl
 
 pub calls::library-arguments-requires : goal.calls::library-arguments-requires
 calls::library-arguments-requires t c = (
@@ -1712,7 +1712,7 @@ calls::library-returns-in-Library-clause-spends t c =
       weights_heavy c.args.cx.p.now c.args.args.now,
       service_small c.in-Library.op,
     ))
-    (omega (arith, c.requires.node.copies))
+    (omega (arith, c.requires.node.copies)) refl refl
 
 pub calls::library-returns-in-Exit-clause-lowered : goal.calls::library-returns-in-Exit-clause-lowered
 calls::library-returns-in-Exit-clause-lowered t c =
@@ -1728,7 +1728,7 @@ calls::library-returns-in-Exit-clause-spends t c =
     last_pushed _ _ c.service-in-Exit.result c.in_ok-temps.ensures.spends c.service-in-Exit.ensures.pushed
     (omega (arith, c.requires.node.weight, weights_heavy c.args.cx.p.now c.args.args.now))
     (omega (arith, c.requires.node.weight, weights_heavy c.args.cx.p.now c.args.args.now))
-    (omega (arith, c.requires.node.copies))
+    (omega (arith, c.requires.node.copies)) refl refl
 
 pub calls::library-intrinsic_value-requires : goal.calls::library-intrinsic_value-requires
 calls::library-intrinsic_value-requires t c =
@@ -2601,7 +2601,7 @@ expressions::choice-returns-clause-spends t c =
       heavy (expression c.args.cx.p.now c.args.b),
       extra_small c.args.cx.fixed (Some c.args.to),
     ))
-    (omega (arith, c.requires.node.operands.copies))
+    (omega (arith, c.requires.node.operands.copies)) refl refl
 
 pub expressions::comma-effect-requires : goal.expressions::comma-effect-requires
 expressions::comma-effect-requires t c = (
@@ -3297,7 +3297,8 @@ expressions::effect-returns-in-Call-clause-lowered t c =
 
 pub expressions::effect-returns-in-Call-clause-spends : goal.expressions::effect-returns-in-Call-clause-spends
 expressions::effect-returns-in-Call-clause-spends t c =
-    last _ _ _ _ c.call.result nothing c.call.ensures.spends (omega (arith, heavy (expression c.args.cx.p.now c.args.k)))
+    last _ _ _ _ c.call.result nothing c.call.ensures.spends
+    (omega (arith, heavy (expression c.args.cx.p.now c.args.k)))
     (omega (arith, heavy (expression c.args.cx.p.now c.args.k)))
     (omega arith)
 
@@ -3540,7 +3541,7 @@ expressions::chosen_effect-returns-clause-spends t c =
       heavy (expression c.args.cx.p.now c.args.a),
       heavy (expression c.args.cx.p.now c.args.b),
     ))
-    (omega (arith, c.requires.node.copies))
+    (omega (arith, c.requires.node.copies)) refl refl
 
 pub expressions::guarded_effect-label-label-requires : goal.expressions::guarded_effect-label-label-requires
 expressions::guarded_effect-label-label-requires t c =
@@ -3607,7 +3608,7 @@ expressions::guarded_effect-returns-clause-spends t c =
       heavy (expression c.args.cx.p.now c.args.a),
       heavy (expression c.args.cx.p.now c.args.b),
     ))
-    (omega (arith, c.requires.node.copies))
+    (omega (arith, c.requires.node.copies)) refl refl
 
 pub expressions::read_effect-effect-requires : goal.expressions::read_effect-effect-requires
 expressions::read_effect-effect-requires t c = (
@@ -4247,7 +4248,7 @@ expressions::truth-returns-clause-spends t c =
       heavy (expression c.args.cx.p.now c.args.j.b),
       extra_small c.args.cx.fixed (Some c.args.to),
     ))
-    (omega (arith, c.requires.node.operands.copies))
+    (omega (arith, c.requires.node.operands.copies)) refl refl
 
 pub expressions::sum-pointer_first-requires : goal.expressions::sum-pointer_first-requires
 expressions::sum-pointer_first-requires t c = (

@@ -1,10 +1,14 @@
-use Rattle.std.proofs.Common.{length, ap, sym, ◌∙◌, subst, arith}
+use Rattle.std.proofs.Common.{◌≤◌, Some, length, ap, sym, ◌∙◌, subst, arith}
+use Rattle.std.specs.List.{sum_by}
+use Rattle.c_tree.specs.Views.{times_in}
+use Rattle.tac_lower.specs.Zeroed.{is_object}
 use Rattle.tac_lower.specs.Scenes.{Housed}
 use Rattle.c_tree.specs.TreeWeight.{function_weight}
 use Rattle.tac_lower.proofs.Entering.{entered_few, empty_places, empty_words, empty_copying, finished_costs}
 use Rattle.tac_lower.proofs.Entering.{finished_copies}
 use Rattle.tac_lower.proofs.Finished.{begins_well}
 use Rattle.tac_lower.proofs.Homes.{body_part, few_parameters, light_parts, parameters_kept, closed_new, formed}
+use Rattle.tac_lower.proofs.Zeroing.{objects_once, empty_zeroing, empty_lone, finished_zeroes}
 use Rattle.tac_lower.proofs.functions.function.Goals as goal
 
 pub parameter_temps-requires-clause-room : goal.parameter_temps-requires-clause-room
@@ -160,3 +164,36 @@ returns-clause-copies c =
       four.copies,
       five.copies,
     )
+
+pub returns-clause-zeros : goal.returns-clause-zeros
+returns-clause-zeros c =
+    let few = few_parameters c.requires.fits in
+    let one = c.in_ok-parameter_temps.ensures.spent in
+    let two = c.in_ok-homes.ensures.spent in
+    let three = c.in_ok-take_parameters.ensures.spent in
+    let four = c.in_ok-statement.ensures.spends.spent (omega (arith, three.grows, c.temps.ensures)) in
+    let five = c.in_ok-end_function.ensures.spent in
+    let same = c.as_slice.ensures.value in
+    let apart = c.in_ok-homes.ensures.apart in
+    let many = ap length same ∙ c.in_ok-homes.ensures.housed.many in
+    finished_zeroes c.finished.ensures.makes
+    (λ v. omega (
+      arith,
+      ap (times_in v) (empty_zeroing c.new-out.result c.new-out.ensures.code),
+      ap (times_in v) one.zeros,
+      ap (times_in v) two.zeros,
+      three.zeros v,
+      four.zeros v,
+      ap (times_in v) five.zeros,
+      objects_once c.requires.fits c.as_slice.result.now many few v
+          (subst (λ z. sum_by (λ h. is_object v (Some h)) z ≤ 1) (sym same) (apart v)),
+    ))
+    (omega (
+      arith,
+      empty_lone c.new-out.result c.new-out.ensures.code,
+      one.lone,
+      two.lone,
+      three.lone,
+      four.lone,
+      five.lone,
+    ))

@@ -2,6 +2,7 @@ use Rattle.std.proofs.Common.{◌+◌, length, refl, ap, sym, subst, arith}
 use Rattle.tac_lower.proofs.Homes.{HomesTo, variable_at, object_among, objects_at, homes_none, homes_at, homes_all}
 use Rattle.tac_lower.proofs.Homes.{homes_add, parameters_kept, taken_few}
 use Rattle.tac_lower.proofs.Spending.{spent_within}
+use Rattle.tac_lower.proofs.Zeroing.{Apart, apart_none, apart_more}
 use Rattle.tac_lower.proofs.functions.homes.Goals as goal
 
 pub loop-v-init : goal.loop-v-init
@@ -12,6 +13,7 @@ loop-v-init c =
     record {
       homes = subst (λ z. HomesTo p d a a z 0) (sym c.new-found.ensures.items) (homes_none p d a);
       parameters = c.requires.parameters;
+      apart = subst (λ z. Apart z 0) (sym c.new-found.ensures.items) (apart_none 0);
       variable = refl;
       objects = refl;
     }
@@ -64,6 +66,9 @@ loop-v-preserved c =
           (homes_at p _ d.vars i _ same c.loop-v-test.true d c.args.out.now c.loop-v.out e c.loop-v.found.items
           c.in_ok-home.home refl so_far.homes given.grown given.adds given.home given.spent);
       parameters = parameters_kept p d c.loop-v.out e so_far.parameters given.grown.keeps;
+      apart = subst (λ z. Apart z c.with-count.result.objects) (sym c.in_ok-push.ensures.items)
+          (apart_more c.loop-v.found.items c.in_ok-home.home _ c.loop-v.count.objects c.with-count.result.objects
+          so_far.apart given.numbered one.simple one.object);
       variable = omega (arith, one.variable, so_far.variable);
       objects = objects_at p _ d.vars i _ same c.loop-v-test.true c.loop-v.count.objects c.with-count.result.objects
           one.simple one.object so_far.objects;
@@ -88,3 +93,6 @@ pub returns-clause-spent : goal.returns-clause-spent
 returns-clause-spent c =
     let same = ap length c.as_slice-v-items.ensures in
     spent_within c.loop-v.invariant.homes.spent (omega arith) (omega arith)
+
+pub returns-clause-apart : goal.returns-clause-apart
+returns-clause-apart c = c.loop-v.invariant.apart.once

@@ -1,4 +1,5 @@
-use Rattle.std.proofs.Common.{length, ap, sym, arith}
+use Rattle.std.proofs.Common.{ℕ, length, ap, sym, arith}
+use Rattle.std.specs.Prelude.{◌==◌, if◌then◌else◌}
 use Rattle.std.proofs.lemmas.Result.{IfOk-weaker}
 use Rattle.tac_lower.proofs.Homes.{parameter_temp}
 use Rattle.tac_lower.proofs.functions.next_home.Goals as goal
@@ -18,3 +19,13 @@ returns-else-v-clause-home c =
     IfOk-weaker c.object_home.result _ _
     (λ h f. f c.args.program.p.now c.args.d.now c.args.v.now (c.requires.object c.if-v.false))
     c.object_home.ensures.home
+
+pub returns-else-v-clause-numbered : goal.returns-else-v-clause-numbered
+returns-else-v-clause-numbered c =
+    IfOk-weaker c.object_home.result _ _
+    (λ h f w. omega (
+      arith,
+      f w,
+      ap {B = ℕ} (λ b. if b then 0 else (if c.args.count.objects == w then 1 else 0)) c.if-v.false,
+    ))
+    c.object_home.ensures.numbered

@@ -2,7 +2,10 @@ use Rattle.std.proofs.Common.{refl, ap, sym, ◌∙◌, arith}
 use Rattle.c_tree.specs.WellTyped.{type_in}
 use Rattle.tac_lower.specs.Nodes.{kept_as, or_int}
 use Rattle.tac_lower.proofs.Bodies.{pointer_at, entered}
+use Rattle.std.proofs.lemmas.Result.{IfOk-weaker}
+use Rattle.tac_lower.proofs.Spending.{taken_enters, enters_then, enters_within}
 use Rattle.tac_lower.proofs.Steps.{still, as_kind, tail_grew}
+use Rattle.tac_lower.proofs.Zeroing.{taken_one}
 use Rattle.tac_lower.proofs.Wells.{as_capability}
 use Rattle.tac_lower.proofs.functions.take_object.Goals as goal
 
@@ -25,3 +28,11 @@ returns-clause-lowered c =
     let here = entered c.args.x c.args.n c.args.at c.requires.scene c.requires.home
     c.in_ok-enter_object.ensures.entered in
     tail_grew _ _ c.store.result here c.store.ensures.grown c.store.ensures.adds (omega arith)
+
+pub returns-clause-spent : goal.returns-clause-spent
+returns-clause-spent c =
+    IfOk-weaker c.store.result _ _
+    (λ r h. enters_within (enters_then c.in_ok-enter_object.ensures.spent (taken_enters h)) (omega arith) (omega arith)
+    (omega arith)
+    (λ v. omega (arith, taken_one c.args.cx.homes.now c.args.x c.args.n c.args.at v c.requires.home)))
+    c.store.ensures.spent

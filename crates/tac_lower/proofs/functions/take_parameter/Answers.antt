@@ -1,5 +1,5 @@
 use Rattle.std.proofs.Common.{arith}
-use Rattle.tac_lower.proofs.Spending.{spent_same, spent_within}
+use Rattle.tac_lower.proofs.Spending.{spent_same, taken_enters, enters_within}
 use Rattle.tac_lower.proofs.Steps.{start}
 use Rattle.tac_lower.proofs.functions.take_parameter.Goals as goal
 
@@ -12,4 +12,4 @@ returns-in_default-clause-lowered c =
 
 pub returns-in_default-clause-spent : goal.returns-in_default-clause-spent
 returns-in_default-clause-spent c =
-    spent_within (spent_same _ 0) (omega arith) (omega arith)
+    enters_within (taken_enters (spent_same _ 0)) (omega arith) (omega arith) (omega arith) (λ v. omega arith)

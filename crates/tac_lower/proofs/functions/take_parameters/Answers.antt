@@ -2,12 +2,19 @@ use Rattle.std.proofs.Common.{get_or, length, ap, sym, subst, refl, arith}
 use Rattle.tac_lower.specs.Emitted.{HasKind}
 use Rattle.tac_lower.specs.Signed.{kept_parameter}
 use Rattle.tac_lower.proofs.Homes.{number_of}
-use Rattle.tac_lower.proofs.Spending.{spent_same, spent_then, spent_within}
+use Rattle.tac_lower.proofs.Spending.{spent_same, taken_enters, enters_then, enters_within}
+use Rattle.tac_lower.specs.Zeroed.{is_taken}
 use Rattle.tac_lower.proofs.Steps.{start, both, at_most, still}
+use Rattle.tac_lower.proofs.Zeroing.{taken_next, taken_some}
 use Rattle.tac_lower.proofs.functions.take_parameters.Goals as goal
 
 pub loop-x-init : goal.loop-x-init
-loop-x-init c = record { lowered = start c.requires.scene; spent = spent_same _ _; number = refl }
+loop-x-init c = record {
+  lowered = start c.requires.scene;
+  spent = enters_within (taken_enters (spent_same _ 0)) (omega arith) (omega arith) (omega arith)
+      (λ v. omega arith);
+  number = refl;
+}
 
 pub take_parameter-requires-clause-scene : goal.take_parameter-requires-clause-scene
 take_parameter-requires-clause-scene c = c.loop-x.invariant.lowered.scene
@@ -29,8 +36,13 @@ loop-x-preserved c =
     record {
       lowered = at_most (both c.loop-x.invariant.lowered c.in_ok-take_parameter.ensures.lowered)
           (omega arith);
-      spent = spent_within (spent_then c.loop-x.invariant.spent c.in_ok-take_parameter.ensures.spent) (omega arith)
-          (omega arith);
+      spent = enters_within (enters_then c.loop-x.invariant.spent c.in_ok-take_parameter.ensures.spent) (omega arith)
+          (omega arith) (omega arith)
+          (λ v. omega (
+            arith,
+            taken_next c.args.cx.homes.now c.args.d.now.params c.loop-x.x-index v (omega arith),
+            ap (λ z. is_taken c.args.cx.homes.now v (get_or z c.loop-x.x-index 0)) c.as_slice-x-items.ensures,
+          ));
       number = omega arith;
     }
 
@@ -40,4 +52,5 @@ returns-clause-lowered c = c.loop-x.invariant.lowered
 pub returns-clause-spent : goal.returns-clause-spent
 returns-clause-spent c =
     let same = ap length c.as_slice-x-items.ensures in
-    spent_within c.loop-x.invariant.spent (omega arith) (omega arith)
+    enters_within c.loop-x.invariant.spent (omega arith) (omega arith) (omega arith)
+    (λ v. omega (arith, taken_some c.args.cx.homes.now c.args.d.now.params c.loop-x.x-index v))

@@ -1,11 +1,12 @@
-use Rattle.std.proofs.Common.{◌≡◌, ◌*◌}
+use Rattle.std.proofs.Common.{◌≡◌, ◌*◌, take}
 use Rattle.tac_lower.specs.Scenes.{Lowered}
-use Rattle.tac_lower.specs.Spent.{Spent}
+use Rattle.tac_lower.specs.Spent.{Enters}
+use Rattle.tac_lower.specs.Zeroed.{taken}
 use Rattle.tac_lower.proofs.functions.take_parameters.Given as goal
 
 abbrev pub invariant-loop-x : goal.invariant-loop-x
 invariant-loop-x l = record {
   lowered : Lowered l.cx.p.now l.d l.cx.types.now l.cx.homes.now l.fn.out l.out 0;
-  spent : Spent l.fn.out l.out 0 (26 * l.x-index);
+  spent : Enters l.fn.out l.out 0 (26 * l.x-index) 0 (taken l.cx.homes.now (take l.x-index l.d.params));
   number : l.t ≡ l.x-index;
 }

@@ -7,6 +7,7 @@ use Rattle.tac_lower.specs.Lowered.{names_of, names_in}
 use Rattle.tac_lower.specs.Tables.{TableFits}
 use Rattle.tac_lower.proofs.Copying.{copies_of_functions}
 use Rattle.tac_lower.proofs.Costing.{CostsTo, costs_none, costs_more, copied_by, copies_more}
+use Rattle.tac_lower.proofs.Costing.{AllZeroOnce, zeros_none, zeros_more}
 use Rattle.tac_lower.proofs.Homes.{function_at, named_next, formed_next, light_next, are_functions}
 use Rattle.tac_lower.proofs.lowering.lower.Goals as goal
 
@@ -15,6 +16,7 @@ loop-d-init c = record {
   named = ap names_of c.new-funs.ensures.items;
   costs = subst (λ z. CostsTo c.args.p.now z 0) (sym c.new-funs.ensures.items) (costs_none c.args.p.now);
   copies = omega (arith, ap (sum_by function_copies) c.new-funs.ensures.items);
+  zeros = subst AllZeroOnce (sym c.new-funs.ensures.items) zeros_none;
   formed = ap (λ z. functions_fit c.args.p.now [] z) c.new-funs.ensures.items;
 }
 
@@ -57,6 +59,7 @@ loop-d-preserved c =
           c.in_ok-f.ensures.costs);
       copies = subst (λ z. sum_by function_copies z ≤ copied_by p (take (i + 1) xs)) items
           (copies_more p xs i d fs f c.loop-d-test.true c.d-item.is c.loop-d.invariant.copies c.in_ok-f.ensures.copies);
+      zeros = subst AllZeroOnce items (zeros_more fs f c.loop-d.invariant.zeros c.in_ok-f.ensures.zeros);
       formed = subst (λ z. functions_fit p (take (i + 1) xs) z ≡ true) items
           (formed_next p xs i d same c.loop-d-test.true c.d-item.is fs f c.loop-d.invariant.formed
           c.in_ok-f.ensures.formed);
@@ -92,3 +95,6 @@ returns-clause-copies c =
       ap (copied_by c.args.p.now) all,
       copies_of_functions c.args.p.now c.requires.listed,
     )
+
+pub returns-clause-zeros : goal.returns-clause-zeros
+returns-clause-zeros c = subst AllZeroOnce (sym c.from_vec.ensures) c.loop-d.invariant.zeros

@@ -1,10 +1,12 @@
-use Rattle.std.proofs.Common.{◌+◌, ◌*◌, [], ◌∷◌, ◌++◌, length, take, drop, sym, ap, subst, arith}
+use Rattle.std.proofs.Common.{◌+◌, ◌*◌, [], ◌∷◌, ◌++◌, length, take, drop, refl, sym, ap, subst, arith}
 use Rattle.c_tree.specs.WellTyped.{AreVars}
 use Rattle.tac_lower.specs.Copied.{part_copies, all_part_copies}
 use Rattle.tac_lower.specs.Nodes.{weight_in, expression}
-use Rattle.tac_lower.specs.Parts.{statement, heft_in, hefts_in, entered, entered_in, all_entered_in, or_none}
+use Rattle.tac_lower.specs.Parts.{statement, heft_in, hefts_in, is_entered, entered, entered_in, all_entered_in}
+use Rattle.tac_lower.specs.Parts.{declared_by, or_none}
 use Rattle.tac_lower.specs.Scenes.{Opened, frame_of}
 use Rattle.tac_lower.specs.Statements.{AreParts, labels_in}
+use Rattle.tac_lower.specs.Zeroed.{is_zeroed, zeroed, all_zeroed_in}
 use Rattle.tac_lower.proofs.Below.{below, block_body, if_first, if_second, while_body, do_body, for_first, for_body}
 use Rattle.tac_lower.proofs.Below.{switch_body}
 use Rattle.tac_lower.proofs.Loops.{begun, begun_stands, stands_still, stands_behind, behind_second, tail_turned}
@@ -14,9 +16,11 @@ use Rattle.tac_lower.proofs.Placings.{fors, switches, returns_value, are_parts, 
 use Rattle.tac_lower.proofs.Placings.{exit_opened, at_most_ok, hefts_next, hefts_within, hefts_taken}
 use Rattle.tac_lower.proofs.Placings.{copies_next, copies_taken}
 use Rattle.tac_lower.proofs.Entering.{all_entered_next, all_entered_taken, hefty}
+use Rattle.tac_lower.proofs.Zeroing.{all_zeroed_next, all_zeroed_taken}
 use Rattle.tac_lower.proofs.Scening.{opened_none}
-use Rattle.tac_lower.proofs.Spending.{nothing, plainly, after, and, within, last, last_and, last_pushed, begun_spent}
-use Rattle.tac_lower.proofs.Spending.{forked_spent, labelled_spent}
+use Rattle.tac_lower.proofs.Spending.{nothing, of_code, of_entry, of_expression, parts_after, parts_within, parts_last}
+use Rattle.tac_lower.proofs.Spending.{parts_last_of, parts_last_and, parts_last_pushed, begun_spent, forked_spent}
+use Rattle.tac_lower.proofs.Spending.{labelled_spent}
 use Rattle.tac_lower.proofs.Steps.{heavy, start, both, at_most, still, as_kind, room, less_room, tail, tail_grew}
 use Rattle.tac_lower.proofs.Steps.{tail_stands, fork, label, opened, turned, first_open, second_open, opened_has}
 use Rattle.tac_lower.proofs.Steps.{opened_room}
@@ -169,8 +173,9 @@ loop_body-returns-clause-behind t c =
 
 pub loop_body-returns-clause-spends : goal.loop_body-returns-clause-spends
 loop_body-returns-clause-spends t c =
-    last_and _ _ _ _ c.stand.result c.in_ok-statement.ensures.spends c.stand.ensures.spent (omega arith) (omega arith)
+    parts_last_and _ _ _ _ c.stand.result c.in_ok-statement.ensures.spends c.stand.ensures.spent (omega arith)
     (omega arith)
+    (omega arith) (λ w. omega arith)
 
 pub tested_loop-test_loop-requires-clause-scene : goal.tested_loop-test_loop-requires-clause-scene
 tested_loop-test_loop-requires-clause-scene t c = (begun c.requires.scene c.in_ok-circle.ensures.begun).scene
@@ -211,10 +216,12 @@ tested_loop-returns-clause-lowered t c =
 
 pub tested_loop-returns-clause-spends : goal.tested_loop-returns-clause-spends
 tested_loop-returns-clause-spends t c =
-    last_and _ _ _ _ c.end_loop.result
-    (after (after (after (plainly (begun_spent c.in_ok-circle.ensures.begun)) c.in_ok-test_loop.ensures.spends)
+    parts_last_and _ _ _ _ c.end_loop.result
+    (parts_after (parts_after (parts_after (of_code (begun_spent c.in_ok-circle.ensures.begun))
+    (of_expression c.in_ok-test_loop.ensures.spends))
     c.in_ok-loop_body.ensures.spends)
-    c.in_ok-step_loop.ensures.spends) c.end_loop.ensures.spent (omega arith) (omega arith) (omega arith)
+    (of_expression c.in_ok-step_loop.ensures.spends)) c.end_loop.ensures.spent (omega arith) (omega arith) (omega arith)
+    (λ w. omega arith)
 
 pub repeated_loop-condition-requires-clause-scene : goal.repeated_loop-condition-requires-clause-scene
 repeated_loop-condition-requires-clause-scene t c =
@@ -246,10 +253,10 @@ repeated_loop-returns-clause-lowered t c =
 
 pub repeated_loop-returns-clause-spends : goal.repeated_loop-returns-clause-spends
 repeated_loop-returns-clause-spends t c =
-    last_and _ _ _ _ c.end_loop.result
-    (after (after (plainly (begun_spent c.in_ok-circle.ensures.begun)) c.in_ok-loop_body.ensures.spends)
-    c.in_ok-condition.ensures.spends)
-    c.end_loop.ensures.spent (omega arith) (omega arith) (omega arith)
+    parts_last_and _ _ _ _ c.end_loop.result
+    (parts_after (parts_after (of_code (begun_spent c.in_ok-circle.ensures.begun)) c.in_ok-loop_body.ensures.spends)
+    (of_expression c.in_ok-condition.ensures.spends))
+    c.end_loop.ensures.spent (omega arith) (omega arith) (omega arith) (λ w. omega arith)
 
 -- ---- choices
 
@@ -282,11 +289,12 @@ choice-returns-clause-lowered t c =
 
 pub choice-returns-clause-spends : goal.choice-returns-clause-spends
 choice-returns-clause-spends t c =
-    last_pushed _ _ c.join_fork.result
-    (after (and (after (after (plainly (forked_spent c.fork-fork.ensures.forked)) c.in_ok-condition.ensures.spends)
-    c.in_ok-statement.ensures.spends)
-    c.in_ok-turn_fork.ensures.spent) c.in_ok-statement-2.ensures.spends) c.join_fork.ensures.stands (omega arith)
-    (omega arith) (omega arith)
+    parts_last_pushed _ _ c.join_fork.result
+    (parts_after (parts_after (parts_after (parts_after (of_code (forked_spent c.fork-fork.ensures.forked))
+    (of_expression c.in_ok-condition.ensures.spends)) c.in_ok-statement.ensures.spends)
+    (of_code c.in_ok-turn_fork.ensures.spent)) c.in_ok-statement-2.ensures.spends) c.join_fork.ensures.stands
+    (omega arith)
+    (omega arith) (omega arith) (λ w. omega arith) refl refl
 
 pub guarded-condition-requires-clause-scene : goal.guarded-condition-requires-clause-scene
 guarded-condition-requires-clause-scene t c = (label c.requires.scene c.label-label.ensures.labelled).scene
@@ -307,10 +315,11 @@ guarded-returns-clause-lowered t c =
 
 pub guarded-returns-clause-spends : goal.guarded-returns-clause-spends
 guarded-returns-clause-spends t c =
-    last_and _ _ _ _ c.stand.result
-    (after (after (plainly (labelled_spent c.label-label.ensures.labelled)) c.in_ok-condition.ensures.spends)
+    parts_last_and _ _ _ _ c.stand.result
+    (parts_after (parts_after (of_code (labelled_spent c.label-label.ensures.labelled))
+    (of_expression c.in_ok-condition.ensures.spends))
     c.in_ok-statement.ensures.spends)
-    c.stand.ensures.spent (omega arith) (omega arith) (omega arith)
+    c.stand.ensures.spent (omega arith) (omega arith) (omega arith) (λ w. omega arith)
 
 -- ---- lists of statements
 
@@ -318,7 +327,7 @@ pub statements-loop-s-init : goal.statements-loop-s-init
 statements-loop-s-init t c =
     record {
       lowered = at_most (start c.requires.scene) (omega arith);
-      spends = within nothing (omega arith) (omega arith) (omega arith);
+      spends = parts_within (of_expression nothing) (omega arith) (omega arith) (omega arith) (λ w. omega arith);
     }
 
 pub statements-loop-s-preserved : goal.statements-loop-s-preserved
@@ -328,8 +337,14 @@ statements-loop-s-preserved t c =
     let enters = all_entered_next c.args.cx.p.now c.args.cx.d.now c.args.body.now c.loop-s.s-index (omega arith) in
     record {
       lowered = at_most (both c.loop-s.invariant.lowered c.in_ok-statement.ensures.lowered) (omega (arith, next));
-      spends = within (after c.loop-s.invariant.spends c.in_ok-statement.ensures.spends) (omega (arith, next))
-          (omega (arith, next, enters)) (omega (arith, copied));
+      spends = parts_within (parts_after c.loop-s.invariant.spends c.in_ok-statement.ensures.spends)
+          (omega (arith, next))
+          (omega (arith, next, enters)) (omega (arith, copied))
+          (λ w. omega (
+            arith,
+            all_zeroed_next c.args.cx.p.now c.args.cx.d.now c.args.cx.homes.now c.args.body.now
+                c.loop-s.s-index w (omega arith),
+          ));
     }
 
 pub statements-returns-clause-lowered : goal.statements-returns-clause-lowered
@@ -342,7 +357,12 @@ statements-returns-clause-spends t c =
     let all = hefts_taken c.args.cx.p.now c.args.body.now c.loop-s.s-index in
     let copied = copies_taken c.args.cx.p.now c.args.body.now c.loop-s.s-index in
     let entered = all_entered_taken c.args.cx.p.now c.args.cx.d.now c.args.body.now c.loop-s.s-index in
-    within c.loop-s.invariant.spends (omega (arith, all)) (omega (arith, all, entered)) (omega (arith, copied))
+    parts_within c.loop-s.invariant.spends (omega (arith, all)) (omega (arith, all, entered)) (omega (arith, copied))
+    (λ w. omega (
+      arith,
+      all_zeroed_taken c.args.cx.p.now c.args.cx.d.now c.args.cx.homes.now c.args.body.now
+          c.loop-s.s-index w,
+    ))
 
 pub block-returns-clause-lowered : goal.block-returns-clause-lowered
 block-returns-clause-lowered t c =
@@ -351,8 +371,9 @@ block-returns-clause-lowered t c =
 
 pub block-returns-clause-spends : goal.block-returns-clause-spends
 block-returns-clause-spends t c =
-    last _ _ _ _ c.statements.result (plainly c.in_ok-enter.ensures.spent) c.statements.ensures.spends (omega arith)
-    (omega arith) (omega arith)
+    parts_last _ _ _ _ _ c.statements.result (of_entry c.in_ok-enter.ensures.spent) c.statements.ensures.spends
+    (omega arith)
+    (omega arith) (omega arith) (λ w. omega arith)
 
 -- ---- a statement by its kind
 
@@ -380,7 +401,8 @@ statement-returns-in-Expr-clause-spends t c =
     let w = h.weight in
     let few = h.copies in
     let one = heavy (expression c.args.cx.p.now c.in-Expr.a) in
-    last _ _ _ _ c.effect.result nothing c.effect.ensures.spends (omega arith) (omega arith) (omega arith)
+    parts_last_of _ _ _ _ c.effect.result (of_expression nothing) c.effect.ensures.spends (omega arith) (omega arith)
+    (omega arith) (λ w. omega arith)
 
 pub statement-initialise-requires-clause-typed : goal.statement-initialise-requires-clause-typed
 statement-initialise-requires-clause-typed t c =
@@ -410,7 +432,8 @@ statement-returns-in-Init-clause-spends t c =
     c.requires.scene.ready.ordered c.in-Some.ensures c.requires.part c.in-Init.is in
     let w = h.weight in
     let few = h.copies in
-    last _ _ _ _ c.initialise.result nothing c.initialise.ensures.spends (omega arith) (omega arith) (omega arith)
+    parts_last_of _ _ _ _ c.initialise.result (of_expression nothing) c.initialise.ensures.spends (omega arith)
+    (omega arith) (omega arith) (λ w. omega arith)
 
 pub statement-leave-requires-clause-part : goal.statement-leave-requires-clause-part
 statement-leave-requires-clause-part t c =
@@ -494,11 +517,18 @@ statement-returns-in-Some-b-clause-spends t c =
     c.requires.scene.ready.ordered c.in-Some.ensures c.requires.part c.in-If.is in
     let w = h.weight in
     let few = h.copies in
-    let enters = h.enters c.args.cx.d.now in
+    let enters = h.enters (is_entered (length c.args.cx.d.now.params) (length c.args.cx.d.now.vars)) in
     let n = ap (or_none (heft_in c.args.cx.p.now)) c.in-Some-b.is in
     let copied = ap (or_none (part_copies c.args.cx.p.now)) c.in-Some-b.is in
     let m = ap (or_none (entered_in c.args.cx.p.now c.args.cx.d.now)) c.in-Some-b.is in
-    last _ _ _ _ c.choice.result nothing c.choice.ensures.spends (omega arith) (omega arith) (omega arith)
+    parts_last _ _ _ _ _ c.choice.result (of_expression nothing) c.choice.ensures.spends (omega arith) (omega arith)
+    (omega arith)
+    (λ w. omega (
+      arith,
+      h.enters (is_zeroed (length c.args.cx.d.now.params) c.args.cx.homes.now w),
+      ap (or_none (declared_by c.args.cx.p.now (is_zeroed (length c.args.cx.d.now.params) c.args.cx.homes.now w)))
+          c.in-Some-b.is,
+    ))
 
 pub statement-returns-in-None-clause-lowered : goal.statement-returns-in-None-clause-lowered
 statement-returns-in-None-clause-lowered t c =
@@ -512,8 +542,10 @@ statement-returns-in-None-clause-spends t c =
     c.requires.scene.ready.ordered c.in-Some.ensures c.requires.part c.in-If.is in
     let w = h.weight in
     let few = h.copies in
-    let enters = h.enters c.args.cx.d.now in
-    last _ _ _ _ c.guarded.result nothing c.guarded.ensures.spends (omega arith) (omega arith) (omega arith)
+    let enters = h.enters (is_entered (length c.args.cx.d.now.params) (length c.args.cx.d.now.vars)) in
+    parts_last _ _ _ _ _ c.guarded.result (of_expression nothing) c.guarded.ensures.spends (omega arith) (omega arith)
+    (omega arith)
+    (λ w. omega (arith, h.enters (is_zeroed (length c.args.cx.d.now.params) c.args.cx.homes.now w)))
 
 pub statement-repeated_loop-requires : goal.statement-repeated_loop-requires
 statement-repeated_loop-requires t c =
@@ -547,8 +579,10 @@ statement-returns-in-Do-clause-spends t c =
     c.requires.scene.ready.ordered c.in-Some.ensures c.requires.part c.in-Do.is in
     let w = h.weight in
     let few = h.copies in
-    let enters = h.enters c.args.cx.d.now in
-    last _ _ _ _ c.repeated_loop.result nothing c.repeated_loop.ensures.spends (omega arith) (omega arith) (omega arith)
+    let enters = h.enters (is_entered (length c.args.cx.d.now.params) (length c.args.cx.d.now.vars)) in
+    parts_last _ _ _ _ _ c.repeated_loop.result (of_expression nothing) c.repeated_loop.ensures.spends (omega arith)
+    (omega arith) (omega arith)
+    (λ w. omega (arith, h.enters (is_zeroed (length c.args.cx.d.now.params) c.args.cx.homes.now w)))
 
 pub statement-returns-in-While-clause-lowered : goal.statement-returns-in-While-clause-lowered
 statement-returns-in-While-clause-lowered t c =
@@ -562,8 +596,10 @@ statement-returns-in-While-clause-spends t c =
     c.requires.scene.ready.ordered c.in-Some.ensures c.requires.part c.in-While.is in
     let w = h.weight in
     let few = h.copies in
-    let enters = h.enters c.args.cx.d.now in
-    last _ _ _ _ c.tested_loop.result nothing c.tested_loop.ensures.spends (omega arith) (omega arith) (omega arith)
+    let enters = h.enters (is_entered (length c.args.cx.d.now.params) (length c.args.cx.d.now.vars)) in
+    parts_last _ _ _ _ _ c.tested_loop.result (of_expression nothing) c.tested_loop.ensures.spends (omega arith)
+    (omega arith) (omega arith)
+    (λ w. omega (arith, h.enters (is_zeroed (length c.args.cx.d.now.params) c.args.cx.homes.now w)))
 
 pub statement-returns-in-Break-clause-lowered : goal.statement-returns-in-Break-clause-lowered
 statement-returns-in-Break-clause-lowered t c =
@@ -572,8 +608,8 @@ statement-returns-in-Break-clause-lowered t c =
 
 pub statement-returns-in-Break-clause-spends : goal.statement-returns-in-Break-clause-spends
 statement-returns-in-Break-clause-spends t c =
-    last_and _ _ _ _ c.jump_out.result nothing c.jump_out.ensures.spent
-    (omega arith) (omega (arith, hefty (statement c.args.cx.p.now c.args.k))) (omega arith)
+    parts_last_and _ _ _ _ c.jump_out.result (of_expression nothing) c.jump_out.ensures.spent
+    (omega arith) (omega (arith, hefty (statement c.args.cx.p.now c.args.k))) (omega arith) (λ w. omega arith)
 
 pub statement-returns-in-Continue-clause-lowered : goal.statement-returns-in-Continue-clause-lowered
 statement-returns-in-Continue-clause-lowered t c =
@@ -582,8 +618,8 @@ statement-returns-in-Continue-clause-lowered t c =
 
 pub statement-returns-in-Continue-clause-spends : goal.statement-returns-in-Continue-clause-spends
 statement-returns-in-Continue-clause-spends t c =
-    last_and _ _ _ _ c.jump_out-in-Continue.result nothing c.jump_out-in-Continue.ensures.spent
-    (omega arith) (omega (arith, hefty (statement c.args.cx.p.now c.args.k))) (omega arith)
+    parts_last_and _ _ _ _ c.jump_out-in-Continue.result (of_expression nothing) c.jump_out-in-Continue.ensures.spent
+    (omega arith) (omega (arith, hefty (statement c.args.cx.p.now c.args.k))) (omega arith) (λ w. omega arith)
 
 pub statement-tested_loop-requires : goal.statement-tested_loop-requires
 statement-tested_loop-requires t c =
@@ -647,12 +683,20 @@ statement-returns-in-Block-clause-spends t c =
     c.requires.scene.ready.ordered c.in-Some.ensures c.requires.part c.in-Block.is in
     let w = h.weight in
     let few = h.copies in
-    let enters = h.enters c.args.cx.d.now in
+    let enters = h.enters (is_entered (length c.args.cx.d.now.params) (length c.args.cx.d.now.vars)) in
     let same = ap (hefts_in c.args.cx.p.now) c.as_slice-in-Block.ensures in
     let copied = ap (all_part_copies c.args.cx.p.now) c.as_slice-in-Block.ensures in
     let vars = ap (entered c.args.cx.d.now) c.as_slice.ensures in
     let body = ap (all_entered_in c.args.cx.p.now c.args.cx.d.now) c.as_slice-in-Block.ensures in
-    last _ _ _ _ c.block.result nothing c.block.ensures.spends (omega arith) (omega arith) (omega arith)
+    parts_last _ _ _ _ _ c.block.result (of_expression nothing) c.block.ensures.spends (omega arith) (omega arith)
+    (omega arith)
+    (λ w. omega (
+      arith,
+      h.enters (is_zeroed (length c.args.cx.d.now.params) c.args.cx.homes.now w),
+      ap (λ xs. zeroed c.args.cx.d.now c.args.cx.homes.now xs w) c.as_slice.ensures,
+      ap (λ xs. all_zeroed_in c.args.cx.p.now c.args.cx.d.now c.args.cx.homes.now xs w)
+          c.as_slice-in-Block.ensures,
+    ))
 
 pub statement-block-requires-in-For : goal.statement-block-requires-in-For
 statement-block-requires-in-For t c =
@@ -722,13 +766,20 @@ statement-returns-in_ok-block-in-For-clause-spends t c =
     c.requires.scene.ready.ordered c.in-Some.ensures c.requires.part c.in-For.is in
     let w = h.weight in
     let few = h.copies in
-    let enters = h.enters c.args.cx.d.now in
+    let enters = h.enters (is_entered (length c.args.cx.d.now.params) (length c.args.cx.d.now.vars)) in
     let same = ap (hefts_in c.args.cx.p.now) c.as_slice-in-For-2.ensures in
     let copied = ap (all_part_copies c.args.cx.p.now) c.as_slice-in-For-2.ensures in
     let vars = ap (entered c.args.cx.d.now) c.as_slice-in-For.ensures in
     let body = ap (all_entered_in c.args.cx.p.now c.args.cx.d.now) c.as_slice-in-For-2.ensures in
-    last _ _ _ _ c.tested_loop-in-For.result c.in_ok-block-in-For.ensures.spends
+    parts_last _ _ _ _ _ c.tested_loop-in-For.result c.in_ok-block-in-For.ensures.spends
     c.tested_loop-in-For.ensures.spends (omega arith) (omega arith) (omega arith)
+    (λ w. omega (
+      arith,
+      h.enters (is_zeroed (length c.args.cx.d.now.params) c.args.cx.homes.now w),
+      ap (λ xs. zeroed c.args.cx.d.now c.args.cx.homes.now xs w) c.as_slice-in-For.ensures,
+      ap (λ xs. all_zeroed_in c.args.cx.p.now c.args.cx.d.now c.args.cx.homes.now xs w)
+          c.as_slice-in-For-2.ensures,
+    ))
 
 pub statement-switch-requires : goal.statement-switch-requires
 statement-switch-requires t c =
@@ -774,13 +825,21 @@ statement-returns-in-Switch-clause-spends t c =
     c.requires.scene.ready.ordered c.in-Some.ensures c.requires.part c.in-Switch.is in
     let w = h.weight in
     let few = h.copies in
-    let enters = h.enters c.args.cx.d.now in
+    let enters = h.enters (is_entered (length c.args.cx.d.now.params) (length c.args.cx.d.now.vars)) in
     let same = ap (hefts_in c.args.cx.p.now) c.as_slice-in-Switch-3.ensures in
     let copied = ap (all_part_copies c.args.cx.p.now) c.as_slice-in-Switch-3.ensures in
     let vars = ap (entered c.args.cx.d.now) c.as_slice-in-Switch.ensures in
     let body = ap (all_entered_in c.args.cx.p.now c.args.cx.d.now) c.as_slice-in-Switch-3.ensures in
     let many = ap length c.as_slice-in-Switch-2.ensures in
-    last _ _ _ _ c.switch.result nothing c.switch.ensures.spends (omega arith) (omega arith) (omega arith)
+    parts_last _ _ _ _ _ c.switch.result (of_expression nothing) c.switch.ensures.spends (omega arith) (omega arith)
+    (omega arith)
+    (λ w. omega (
+      arith,
+      h.enters (is_zeroed (length c.args.cx.d.now.params) c.args.cx.homes.now w),
+      ap (λ xs. zeroed c.args.cx.d.now c.args.cx.homes.now xs w) c.as_slice-in-Switch.ensures,
+      ap (λ xs. all_zeroed_in c.args.cx.p.now c.args.cx.d.now c.args.cx.homes.now xs w)
+          c.as_slice-in-Switch-3.ensures,
+    ))
 
 -- ---- switches
 
@@ -810,10 +869,12 @@ switch-loop-s-init t c =
           opened_at_most
           (opened_beside (c.label-end.result ∷ []) (labels_in c.in_ok-cases.cases) one c.in_ok-cases.ensures.opened)
           (omega arith);
-      spends = within
-          (and (and (and c.in_ok-v.ensures.spends c.in_ok-enter.ensures.spent)
-          (labelled_spent c.label-end.ensures.labelled))
-          c.in_ok-cases.ensures.spent) (omega (arith, some)) (omega (arith, some)) (omega arith);
+      spends = parts_within
+          (parts_after (parts_after (parts_after (of_expression c.in_ok-v.ensures.spends)
+          (of_entry c.in_ok-enter.ensures.spent))
+          (of_code (labelled_spent c.label-end.ensures.labelled)))
+          (of_code c.in_ok-cases.ensures.spent)) (omega (arith, some)) (omega (arith, some)) (omega arith)
+          (λ w. omega arith);
     }
 
 pub switch-returns-clause-lowered : goal.switch-returns-clause-lowered
@@ -837,8 +898,14 @@ switch-returns-clause-spends t c =
     let all = hefts_taken c.args.cx.p.now c.args.body.now c.loop-s.s-index in
     let copied = copies_taken c.args.cx.p.now c.args.body.now c.loop-s.s-index in
     let entered = all_entered_taken c.args.cx.p.now c.args.cx.d.now c.args.body.now c.loop-s.s-index in
-    last_and _ _ _ _ c.stand.result (and c.loop-s.invariant.spends c.in_ok-stand_behind.ensures.spent)
+    parts_last_and _ _ _ _ c.stand.result (parts_after c.loop-s.invariant.spends
+    (of_code c.in_ok-stand_behind.ensures.spent))
     c.stand.ensures.spent (omega (arith, all)) (omega (arith, all, entered)) (omega (arith, copied))
+    (λ w. omega (
+      arith,
+      all_zeroed_taken c.args.cx.p.now c.args.cx.d.now c.args.cx.homes.now c.args.body.now
+          c.loop-s.s-index w,
+    ))
 
 pub switch-statement-requires : goal.switch-statement-requires
 switch-statement-requires t c =
@@ -886,17 +953,25 @@ switch-loop-s-preserved t c =
     let enters = all_entered_next p c.args.cx.d.now c.args.body.now i (omega arith) in
     record {
       opened = opened_at_most (opened o c.in_ok-statement.ensures.lowered) (omega (arith, next));
-      spends = within (after (and c.loop-s.invariant.spends c.in_ok-first.ensures.spent)
+      spends = parts_within (parts_after (parts_after c.loop-s.invariant.spends (of_code c.in_ok-first.ensures.spent))
           c.in_ok-statement.ensures.spends)
-          (omega (arith, next)) (omega (arith, next, enters)) (omega (arith, copied));
+          (omega (arith, next)) (omega (arith, next, enters)) (omega (arith, copied))
+          (λ w. omega (
+            arith,
+            all_zeroed_next c.args.cx.p.now c.args.cx.d.now c.args.cx.homes.now c.args.body.now i w
+                (omega arith),
+          ));
     }
 
 pub statement-returns-in-Return-clause-spends : goal.statement-returns-in-Return-clause-spends
 statement-returns-in-Return-clause-spends t c =
-    last _ _ _ _ c.leave.result nothing c.leave.ensures.spends (omega arith) (omega arith) (omega arith)
+    parts_last_of _ _ _ _ c.leave.result (of_expression nothing) c.leave.ensures.spends (omega arith) (omega arith)
+    (omega arith) (λ w. omega arith)
 
 pub statement-returns-in_default-clause-spends : goal.statement-returns-in_default-clause-spends
-statement-returns-in_default-clause-spends t c = within nothing (omega arith) (omega arith) (omega arith)
+statement-returns-in_default-clause-spends t c =
+    parts_within (of_expression nothing) (omega arith) (omega arith) (omega arith) (λ w. omega arith)
 
 pub statement-returns-in-Empty-clause-spends : goal.statement-returns-in-Empty-clause-spends
-statement-returns-in-Empty-clause-spends t c = within nothing (omega arith) (omega arith) (omega arith)
+statement-returns-in-Empty-clause-spends t c =
+    parts_within (of_expression nothing) (omega arith) (omega arith) (omega arith) (λ w. omega arith)

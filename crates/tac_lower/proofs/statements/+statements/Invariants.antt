@@ -3,7 +3,8 @@ use Rattle.tac_lower.specs.Copied.{copies_in, all_part_copies}
 use Rattle.tac_lower.specs.Nodes.{weight_in}
 use Rattle.tac_lower.specs.Parts.{hefts_in, entered, all_entered_in}
 use Rattle.tac_lower.specs.Scenes.{Lowered, Opened}
-use Rattle.tac_lower.specs.Spent.{Spends, SpendsPart}
+use Rattle.tac_lower.specs.Spent.{Consumes, SpendsPart}
+use Rattle.tac_lower.specs.Zeroed.{zeroed, all_zeroed_in}
 use Rattle.tac_lower.specs.Statements.{labels_in}
 use Rattle.tac_lower.proofs.statements.+statements.Given as goal
 
@@ -40,7 +41,8 @@ invariant-statements-loop-s l = record {
       (4 * hefts_in l.cx.p.now (take l.s-index l.body));
   spends : SpendsPart l.cx.fixed (hefts_in l.cx.p.now (take l.s-index l.body))
       (all_part_copies l.cx.p.now (take l.s-index l.body))
-      (all_entered_in l.cx.p.now l.cx.d.now (take l.s-index l.body)) l.fn.out l.out;
+      (all_entered_in l.cx.p.now l.cx.d.now (take l.s-index l.body))
+      (all_zeroed_in l.cx.p.now l.cx.d.now l.cx.homes.now (take l.s-index l.body)) l.fn.out l.out;
 }
 
 abbrev pub invariant-switch-loop-s : goal.invariant-switch-loop-s
@@ -48,9 +50,11 @@ invariant-switch-loop-s l = record {
   opened : Opened l.cx.p.now l.cx.d.now l.cx.types.now l.cx.homes.now l.fn.out l.out
       (drop l.first (labels_in l.cases) ++ l.end ∷ [])
       (4 * weight_in l.cx.p.now l.fn.on + (length l.fn.labels + 3) + 4 * hefts_in l.cx.p.now (take l.s-index l.body));
-  spends : Spends l.cx.fixed l.fn.out l.out
+  spends : Consumes l.cx.fixed l.fn.out l.out
       (2 * (weight_in l.cx.p.now l.fn.on + hefts_in l.cx.p.now (take l.s-index l.body)) + 1)
       (32 * (weight_in l.cx.p.now l.fn.on + hefts_in l.cx.p.now (take l.s-index l.body) + length l.fn.labels)
       + 19 * (entered l.cx.d.now l.fn.vars + all_entered_in l.cx.p.now l.cx.d.now (take l.s-index l.body)))
-      (copies_in l.cx.p.now l.fn.on + all_part_copies l.cx.p.now (take l.s-index l.body));
+      (copies_in l.cx.p.now l.fn.on + all_part_copies l.cx.p.now (take l.s-index l.body))
+      (λ v. zeroed l.cx.d.now l.cx.homes.now l.fn.vars v
+      + all_zeroed_in l.cx.p.now l.cx.d.now l.cx.homes.now (take l.s-index l.body) v);
 }

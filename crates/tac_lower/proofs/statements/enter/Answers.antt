@@ -1,11 +1,16 @@
 use Rattle.std.proofs.Common.{arith}
 use Rattle.tac_lower.proofs.Entering.{entered_next, entered_taken}
-use Rattle.tac_lower.proofs.Spending.{spent_same, spent_then, spent_within}
+use Rattle.tac_lower.proofs.Spending.{spent_same, taken_enters, enters_then, enters_within}
 use Rattle.tac_lower.proofs.Steps.{start, both, at_most}
+use Rattle.tac_lower.proofs.Zeroing.{zeroed_next, zeroed_some}
 use Rattle.tac_lower.proofs.statements.enter.Goals as goal
 
 pub loop-x-init : goal.loop-x-init
-loop-x-init c = record { lowered = start c.requires.scene; spent = spent_same _ _ }
+loop-x-init c = record {
+  lowered = start c.requires.scene;
+  spent = enters_within (taken_enters (spent_same _ 0)) (omega arith) (omega arith) (omega arith)
+      (λ v. omega arith);
+}
 
 pub enter_variable-requires-clause-scene : goal.enter_variable-requires-clause-scene
 enter_variable-requires-clause-scene c = c.loop-x.invariant.lowered.scene
@@ -15,8 +20,13 @@ loop-x-preserved c =
     let next = entered_next c.args.cx.d.now c.args.vars.now c.loop-x.x-index (omega arith) in
     record {
       lowered = at_most (both c.loop-x.invariant.lowered c.in_ok-enter_variable.ensures.lowered) (omega arith);
-      spent = spent_within (spent_then c.loop-x.invariant.spent c.in_ok-enter_variable.ensures.spent) (omega arith)
-          (omega (arith, next));
+      spent = enters_within (enters_then c.loop-x.invariant.spent c.in_ok-enter_variable.ensures.spent) (omega arith)
+          (omega (arith, next)) (omega arith)
+          (λ v. omega (
+            arith,
+            zeroed_next c.args.cx.d.now c.args.cx.homes.now c.args.vars.now c.loop-x.x-index v
+                (omega arith),
+          ));
     }
 
 pub returns-clause-lowered : goal.returns-clause-lowered
@@ -25,4 +35,5 @@ returns-clause-lowered c = c.loop-x.invariant.lowered
 pub returns-clause-spent : goal.returns-clause-spent
 returns-clause-spent c =
     let all = entered_taken c.args.cx.d.now c.args.vars.now c.loop-x.x-index in
-    spent_within c.loop-x.invariant.spent (omega arith) (omega (arith, all))
+    enters_within c.loop-x.invariant.spent (omega arith) (omega (arith, all)) (omega arith)
+    (λ v. omega (arith, zeroed_some c.args.cx.d.now c.args.cx.homes.now c.args.vars.now c.loop-x.x-index v))

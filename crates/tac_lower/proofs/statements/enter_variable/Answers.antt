@@ -4,7 +4,8 @@ use Rattle.tac_lower.proofs.Bodies.{temp_at, tail_entered}
 use Rattle.tac_lower.proofs.Constants.{zero_fits}
 use Rattle.tac_lower.proofs.Steps.{start, tail_grew}
 use Rattle.tac_lower.proofs.Entering.{entered_one}
-use Rattle.tac_lower.proofs.Spending.{spent_same, spent_within}
+use Rattle.tac_lower.proofs.Spending.{spent_same, taken_enters, enters_within}
+use Rattle.tac_lower.proofs.Zeroing.{zeroed_one}
 use Rattle.tac_lower.proofs.statements.enter_variable.Goals as goal
 
 pub returns-in-None-clause-lowered : goal.returns-in-None-clause-lowered
@@ -13,7 +14,7 @@ returns-in-None-clause-lowered c =
 
 pub returns-in-None-clause-spent : goal.returns-in-None-clause-spent
 returns-in-None-clause-spent c =
-    spent_same _ _
+    enters_within (taken_enters (spent_same _ 0)) (omega arith) (omega arith) (omega arith) (λ v. omega arith)
 
 pub constant-requires-clause-to : goal.constant-requires-clause-to
 constant-requires-clause-to c = temp_at c.args.x c.in-Some-Temp.t c.in-Some-Temp.kind c.requires.scene.housed (cc)
@@ -30,7 +31,8 @@ pub returns-in-Some-Temp-clause-spent : goal.returns-in-Some-Temp-clause-spent
 returns-in-Some-Temp-clause-spent c =
     let one = entered_one c.args.cx.d.now c.args.x
     (c.is_parameter.ensures.other c.if-is_parameter.false) c.requires.there in
-    IfOk-weaker c.constant.result _ _ (λ r h. spent_within h (omega arith) (omega (arith, one)))
+    IfOk-weaker c.constant.result _ _
+    (λ r h. enters_within (taken_enters h) (omega arith) (omega (arith, one)) (omega arith) (λ v. omega arith))
     c.constant.ensures.spent
 
 pub returns-in-Some-Object-clause-lowered : goal.returns-in-Some-Object-clause-lowered
@@ -42,11 +44,18 @@ pub returns-in-Some-Object-clause-spent : goal.returns-in-Some-Object-clause-spe
 returns-in-Some-Object-clause-spent c =
     let one = entered_one c.args.cx.d.now c.args.x
     (c.is_parameter.ensures.other c.if-is_parameter.false) c.requires.there in
-    IfOk-weaker c.enter_object.result _ _ (λ r h. spent_within h (omega arith) (omega (arith, one)))
+    IfOk-weaker c.enter_object.result _ _
+    (λ r h. enters_within h (omega arith) (omega (arith, one)) (omega arith)
+    (λ v. omega (
+      arith,
+      zeroed_one c.args.cx.d.now c.args.cx.homes.now c.args.x c.in-Some-Object.n c.in-Some-Object.t v
+          (c.is_parameter.ensures.other c.if-is_parameter.false) (cc),
+    )))
     c.enter_object.ensures.spent
 
 pub returns-then-is_parameter-clause-lowered : goal.returns-then-is_parameter-clause-lowered
 returns-then-is_parameter-clause-lowered c = start c.requires.scene
 
 pub returns-then-is_parameter-clause-spent : goal.returns-then-is_parameter-clause-spent
-returns-then-is_parameter-clause-spent c = spent_same _ _
+returns-then-is_parameter-clause-spent c =
+    enters_within (taken_enters (spent_same _ 0)) (omega arith) (omega arith) (omega arith) (λ v. omega arith)
