@@ -39,3 +39,4 @@ pub mod Needs
 pub mod Starts
 pub mod Programs
 pub mod Fitting
+mod Rows
