@@ -39,4 +39,5 @@ pub mod Needs
 pub mod Starts
 pub mod Programs
 pub mod Fitting
+pub mod Units
 mod Rows

@@ -9,7 +9,7 @@ ghost use Rattle.lower_runs.specs.Result.{ExpressionsRun, StatementsAreRun};
 ghost use Rattle.lower_runs.specs.Laws.{Everywhere, OperandRules, ValueRules, LoadRules, PlaceRules, ConditionRules};
 ghost use Rattle.lower_runs.specs.Frames.{FramesAreLegal};
 ghost use Rattle.lower_runs.specs.Functions.{ArgumentsAreTaken, CallsAreRun, FunctionsEnd, FunctionsRun};
-ghost use Rattle.lower_runs.specs.Fitting.{SoundCallsFit};
+ghost use Rattle.lower_runs.specs.Fitting.{CopiesFit, SoundCallsFit};
 ghost use Rattle.lower_runs.specs.Programs.{ProgramsRun};
 ghost use Rattle.lower_runs.specs.Shortened.{ShortCodeRuns};
 ghost use Rattle.lower_runs.specs.Laws.{EffectRules, AssignmentRules, OperationsArePlaced};
@@ -137,6 +137,12 @@ pub fn programs_run()
 #[tactic(auto, using(crate::proofs::Fitting::sound_calls_fit))]
 pub fn calls_fit()
     ensures { SoundCallsFit }
+{}
+
+/// A struct or union is whole units of the length in which it is copied.
+#[tactic(auto, using(crate::proofs::Units::copies_fit))]
+pub fn copies_fit()
+    ensures { CopiesFit }
 {}
 
 /// Code that the relation makes of expressions does what they mean, given calls, in a world that gives bytes.
