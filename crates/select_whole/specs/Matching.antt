@@ -1,0 +1,87 @@
+-- Whole runs: the machine's run of selected code and the run of three-address code match, in both directions.
+use Rattle.std.specs.Prelude.{◌≡◌, ◌≢◌, ◌⊎◌, ℕ, ◌+◌, ◌*◌, ◌<◌, ◌≤◌, Bool, true, false, List, [], ◌∷◌, length, Option}
+use Rattle.std.specs.Prelude.{Some, None, slice_get}
+use Rattle.ck_base.specs.Agreement.{SameEnd, GoesOn}
+use Rattle.ck_base.specs.Calls.{BeginsWith}
+use Rattle.ck_base.specs.Runs.{outcome, ending_alone}
+use Rattle.ck_base.specs.World.{World, Outcome}
+use Rattle.cap_machine.specs.declared.end.End.{End}
+use Rattle.cap_machine.specs.declared.end.End.TheVariants as end
+use Rattle.cap_machine.specs.declared.machine.Machine.{Machine}
+use Rattle.cap_machine.specs.Step.{act, limits}
+use Rattle.obj_mem.specs.Endings.{is_turns, is_outside}
+use Rattle.obj_mem.specs.declared.ending.Ending.{Ending}
+use Rattle.obj_mem.specs.declared.ending.Ending.TheVariants as ending
+use Rattle.tac_ir.specs.Meaning.{tac, name_of}
+use Rattle.tac_ir.specs.WellFormed.{ends_well, turns_fit}
+use Rattle.tac_ir.specs.declared.code.TacInstr.{TacInstr}
+use Rattle.select_runs.specs.Results.{Arrives}
+use Rattle.select_runs.specs.Results as at_place
+use Rattle.int_select.specs.Selected.{IsReport}
+use Rattle.select_whole.specs.Visited.{Whole, ops_of, tac_at, main_of, entry_of, first_running}
+use Rattle.select_whole.specs.Runs.{InstructionsRun, StopsBy}
+
+-- ---- what is asked of the code
+
+-- the acts that instructions take at most
+abbrev pub dear_of : Whole → (fun : ℕ) → List TacInstr → ℕ
+dear_of g fun [] = 0
+dear_of g fun (i ∷ is) = g.dear fun i + dear_of g fun is
+
+-- the end of a function's code: Turns stand before jumps and branches alone, and its last instruction ends it
+pub record IsFine (g : Whole) (fun : ℕ) (b : Bool) (is : List TacInstr) : Type 0 where
+  pub ends : ends_well is ≡ true
+  pub turned : turns_fit b is ≡ true
+  pub cheap : dear_of g fun is ≤ g.most
+
+abbrev pub AreFine : Whole → Type 0
+AreFine g = (fun : ℕ) → fun < length g.setting.code.funs → IsFine g fun false (tac_at g fun)
+
+-- ---- the start
+
+abbrev pub Started : Whole → World → (most turns : ℕ) → Option ℕ → Machine → Type 0
+Started g w most turns (Some address) m =
+    Arrives g.setting g.code (at_place.behind (first_running g) (tac_at g (main_of g))) 0 most
+    (g.word (main_of g) (tac_at g (main_of g))) (entry_of g w address turns) m
+Started g w most turns None m =
+    (e : End) × StopsBy g w most m e
+    × (g.report e ≡ Some (ending.Stack (name_of (slice_get g.setting.code.funs (main_of g)))))
+
+-- The machine's first state leads to the first function, in at most so many acts
+pub record Starts (g : Whole) (w : World) (most : ℕ) (m : Machine) : Type 0 where
+  pub main : main_of g < length g.setting.code.funs
+  pub each : (turns : ℕ) → Started g w most turns ((ops_of g).enter (main_of g) (ops_of g).stack_top) m
+
+-- ---- what is then known
+
+abbrev pub done_in : World → Machine → (acts : ℕ) → Outcome End
+done_in w m n = outcome limits act ending_alone m n w
+
+abbrev pub meant_in : Whole → World → (turns : ℕ) → Outcome Ending
+meant_in g w n = tac g.setting.code g.program g.setting.map w n
+
+-- In a world, for each number: unless the meaning ends outside, a machine of as many acts as the meaning has turns goes
+-- on, and has put a front of what is meant, or it has done what is meant and ended so. Where the meaning ends outside
+-- one of the outputs is a front of the other, and a machine that has ended has put all of it first. With so many acts
+-- for each turn, and as many again, the machine puts all that is meant, and it has ended unless the meaning needs one
+-- more turn or ends outside
+pub record MatchesIn (g : Whole) (w : World) (count : ℕ) (m : Machine) : Type 0 where
+  pub same_run : (n : ℕ) → is_outside (meant_in g w n).ending ≡ false
+      → GoesOn end.Steps (done_in w m n) (meant_in g w n) ⊎ SameEnd g.report (done_in w m n) (meant_in g w n)
+  pub going : (n : ℕ) → is_outside (meant_in g w n).ending ≡ true
+      → BeginsWith (meant_in g w n).output (done_in w m n).output
+      ⊎ BeginsWith (done_in w m n).output (meant_in g w n).output
+  pub ended : (n : ℕ) → is_outside (meant_in g w n).ending ≡ true → (done_in w m n).ending ≢ end.Steps
+      → BeginsWith (done_in w m n).output (meant_in g w n).output
+  pub enough : (n : ℕ) → BeginsWith (done_in w m ((n + 1) * count)).output (meant_in g w n).output
+  pub ends : (n : ℕ) → is_turns (meant_in g w n).ending ≡ false → is_outside (meant_in g w n).ending ≡ false
+      → (done_in w m ((n + 1) * count)).ending ≢ end.Steps
+
+-- the input is bytes
+abbrev pub IsOfBytes : World → Type 0
+IsOfBytes w = (k b : ℕ) → slice_get w.bytes k ≡ Some b → b < 256
+
+-- Where each instruction runs, whole runs match
+abbrev pub WholeRunsMatch : Type 0
+WholeRunsMatch = (g : Whole) → IsReport g.report → AreFine g → (w : World) → IsOfBytes w → InstructionsRun g w
+    → (first count : ℕ) → first + g.most ≤ count → (m : Machine) → Starts g w first m → MatchesIn g w count m
