@@ -3,9 +3,9 @@ use Rattle.std.proofs.Common.{◌≡◌, ℕ, ◌+◌, ◌*◌, ◌/◌, ◌%◌
 use Rattle.std.proofs.Common.{false, List}
 use Rattle.std.proofs.Common.{length, Option, Some, None, Result, Ok, Err, refl, sym, ap, ◌∙◌, subst, arith}
 use mathlib.Core.Bool.{beq}
-use Rattle.std.specs.Prelude.{slice_index_or, slice_set, replicate, if◌then◌else◌}
+use Rattle.std.specs.Prelude.{slice_index_or, slice_set, if◌then◌else◌}
 use Rattle.std.proofs.lemmas.Bool.{false≢true, eqb-true, and_parts, cases_eq}
-use Rattle.std.proofs.lemmas.List.{get_or-set_same, get_or-set_other, get_or-replicate, length-replicate}
+use Rattle.std.proofs.lemmas.List.{get_or-set_same, get_or-set_other, length-set}
 use Rattle.std.proofs.lemmas.Option.{same_Some}
 use Rattle.ck_base.specs.Runs.{Puts, Reads, Ends}
 use Rattle.ck_base.specs.Calls.{Seen, Acted}
@@ -325,25 +325,28 @@ module _ (at : ℕ) where
       subst (λ (s : Decoded). (if s.at == at then Some s.instruction else None) ≡ None) (sym is)
       (not_there slot at (slot.at == at) refl other)
 
-  -- nothing is kept where each slot has the address of another
-  pub none_found : (other first : Decoded) → other ≡ vacant 0 → first ≡ vacant 4 →
-      found_in (slice_set (replicate 1024 other) 0 first) at ≡ None
-  none_found other first is first_is =
-      elim (cases_eq (slot_of at) 0) as (λ _. found_in (slice_set (replicate 1024 other) 0 first) at ≡ None) [
-        | inl e ↦
-            let four : first.at ≡ 4 = ap (λ (s : Decoded). s.at) first_is in
-            by_slot_none (slice_set (replicate 1024 other) 0 first) first
-            (ap (λ k. slice_index_or (slice_set (replicate 1024 other) 0 first) k (vacant 0)) e
-            ∙ get_or-set_same (replicate 1024 other) 0 first (vacant 0)
-            (subst (λ n. 0 < n) (sym (length-replicate 1024 other)) (omega arith)))
-            (λ h. omega (arith, e, four, h))
-        | inr away ↦
-            let zero : other.at ≡ 0 = ap (λ (s : Decoded). s.at) is in
-            by_slot_none (slice_set (replicate 1024 other) 0 first) other
-            (get_or-set_other (replicate 1024 other) 0 (slot_of at) first (vacant 0) away
-            ∙ get_or-replicate 1024 (slot_of at) other (vacant 0) (omega arith))
-            (λ h. away (omega (arith, zero, h)))
-      ]
+-- the first slots have no instruction
+pub record AreVacant (slots : List Decoded) (k : ℕ) : Type 0 where
+  pub count : length slots ≡ 1024
+  pub first : (j : ℕ) → j < k → slice_index_or slots j (vacant 0) ≡ vacant (4 * (j + 1))
+
+pub more_vacant : (slots : List Decoded) (k : ℕ) (slot : Decoded) → k < 1024 → slot ≡ vacant (4 * (k + 1)) →
+    AreVacant slots k → AreVacant (slice_set slots k slot) (k + 1)
+more_vacant slots k slot below is so_far = record {
+  count = length-set slots k slot ∙ so_far.count;
+  first = λ j lt. elim (cases_eq j k) as
+      (λ _. slice_index_or (slice_set slots k slot) j (vacant 0) ≡ vacant (4 * (j + 1))) [
+        | inl e ↦ ap (λ n. slice_index_or (slice_set slots k slot) n (vacant 0)) e
+            ∙ get_or-set_same slots k slot (vacant 0) (omega (arith, so_far.count))
+            ∙ is ∙ ap (λ n. vacant (4 * (n + 1))) (sym e)
+        | inr other ↦ get_or-set_other slots k j slot (vacant 0) other ∙ so_far.first j (omega (arith, other))
+      ];
+}
+
+-- where no slot has an instruction none is found
+pub all_vacant : (slots : List Decoded) (k at : ℕ) → 1024 ≤ k → AreVacant slots k → found_in slots at ≡ None
+all_vacant slots k at all are =
+    by_slot_none at slots (vacant (4 * (slot_of at + 1))) (are.first (slot_of at) (omega arith)) (λ h. omega (arith, h))
 
 -- what is found is the new one or was there before
 module _ (slots : List Decoded) (at x : ℕ) (j i : Instr) where

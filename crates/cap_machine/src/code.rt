@@ -41,7 +41,7 @@ fn slot_of(at: u64) -> usize
     (at / 4) as usize % SLOTS
 }
 
-/// A slot with no instruction, where this address has another one.
+/// A slot with no instruction: this address has another slot.
 fn vacant(at: u64) -> Decoded
     ensures { result ≡ vacant at }
 {
@@ -62,18 +62,18 @@ fn is_alike(c: &Cap, d: &Cap) -> bool
 }
 
 impl Code {
-    /// None so far: the address of each slot is that of another one.
+    /// None so far.
     pub fn new() -> Code
         ensures { IsEmpty result }
     {
-        let mut slots = [vacant(0); SLOTS];
-        slots[0] = vacant(4);
-        Code {
+        let mut code = Code {
             reach: Reach::new(),
-            low: u64::MAX,
+            low: 0,
             last: 0,
-            slots,
-        }
+            slots: [vacant(0); SLOTS],
+        };
+        code.forget_all();
+        code
     }
 
     #[cold]
@@ -81,7 +81,11 @@ impl Code {
     fn forget_all(&mut self)
         ensures { IsEmpty self.new }
     {
-        *self = Code::new();
+        self.low = u64::MAX;
+        self.last = 0;
+        for k in 0..SLOTS {
+            self.slots[k] = vacant(4 * (k as u64 + 1));
+        }
     }
 
     /// The instruction at an address, where it was decoded.
