@@ -36,16 +36,20 @@ pub struct Destination {
 impl Destination {
     /// That of a value of a type, which has no more bytes than the type.
     fn limited(self, facts: TypeFacts) -> Destination
+        ensures same { self.bytes ≤ record_size facts → result ≡ self }
         ensures fits { (e : Emitter) → DestinationFits e self → DestinationFits e result }
         ensures bytes { parts result.bytes ≤ parts self.bytes }
         ensures value { parts result.bytes ≤ parts (record_size facts) }
     {
-        let bytes = self.bytes.min(facts.record_size());
+        let size = facts.record_size();
+        if self.bytes <= size {
+            return self;
+        }
         Destination {
             to: self.to,
             pos: self.pos,
-            bytes,
-            unit: unit_of(bytes, facts.align),
+            bytes: size,
+            unit: unit_of(size, facts.align),
         }
     }
 }
