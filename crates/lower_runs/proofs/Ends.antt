@@ -114,7 +114,10 @@ module _ (ops : Operations Store) (placed : IsPlaced ops) (w : World) (t : Tac) 
       leaves nothing u us came (subst (λ z. IsGiven z nothing) (sym e) tt)
       ∙ ap (λ z. returned (given_back z nothing) u us) e
   ends None Gives_zero e h u us room came = absurd h
-  ends None (Lacks j) e h u us room came = absurd h
+  ends None (Lacks j) e h u us room came =
+      ap (λ z. (answer f.name z >>= λ v. close ops w f >> (calls.back ops w caller >> give v)) u k) (placed.falls j)
+      ∙ leaves (zero_of j) u us came (subst (λ z. IsGiven z (zero_of j)) (sym e) tt)
+      ∙ ap (λ z. returned (given_back z (zero_of j)) u us) e
   ends (Some j) Gives_nothing e h u us room came = absurd h
   ends (Some j) Gives_zero e h u us room came =
       ap (λ z. k z (closed u)) (ap (λ z. constant z 0) (sym h)) ∙ gives_zero j e u us room came

@@ -6,7 +6,8 @@ use Rattle.lower_runs.proofs.Calls.{no_arguments, one_argument, named_call, valu
 use Rattle.lower_runs.specs.Laws.{Everywhere, OperandRules, ValueRules, LoadRules, PlaceRules, ConditionRules}
 use Rattle.lower_runs.specs.Laws.{EffectRules, AssignmentRules}
 use Rattle.lower_runs.proofs.Operands.{operand_in_place, operand_fresh, operand_in_place_of, operand_there, pair}
-use Rattle.lower_runs.proofs.Values.{number_value, null_value, variable_value, kept_value, converted_value}
+use Rattle.lower_runs.proofs.Values.{unplaced_value, number_value, null_value, variable_value, kept_value}
+use Rattle.lower_runs.proofs.Values.{converted_value}
 use Rattle.lower_runs.proofs.Values.{discarded_value, opposite_value, sign_value, whole_value, compare_value}
 use Rattle.lower_runs.proofs.Values.{truth_value, comma_value}
 use Rattle.lower_runs.proofs.Conditions.{chosen_value, branch_condition, opposite_condition, both_condition}
@@ -51,6 +52,7 @@ pub loads_law : Everywhere LoadRules
 loads_law ops placed w t p objects r call g scene = record {
   load = load_value ops placed w t p objects r call g scene;
   address = address_value ops placed w t p objects r call g scene;
+  unplaced = unplaced_value ops placed w t p objects r call g scene;
   narrowed = narrowed_value ops placed w t p objects r call g scene;
 }
 

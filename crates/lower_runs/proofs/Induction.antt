@@ -25,7 +25,8 @@ use Rattle.lower_runs.specs.Expressions.{IsOperand, IsOperandIn, IsPair, IsValue
 use Rattle.lower_runs.specs.Expressions.{IsCondition, IsPointer, IsPlace, IsAssignment, IsStructAssignment, IsCopy}
 use Rattle.lower_runs.specs.Expressions.{IsArguments, IsCall, operand_in_place, operand_fresh, given_in_place}
 use Rattle.lower_runs.specs.Expressions.{given_there, pair, value_number, value_null, value_variable, value_load}
-use Rattle.lower_runs.specs.Expressions.{value_address, value_narrowed, value_kept, value_converted, value_discarded}
+use Rattle.lower_runs.specs.Expressions.{value_address, value_unplaced, value_narrowed, value_kept, value_converted}
+use Rattle.lower_runs.specs.Expressions.{value_discarded}
 use Rattle.lower_runs.specs.Expressions.{value_opposite, value_sign, value_whole, value_derived, value_moved}
 use Rattle.lower_runs.specs.Expressions.{value_moved_right, value_displaced, value_displaced_right, value_difference}
 use Rattle.lower_runs.specs.Expressions.{value_compare, value_truth, value_choice, value_comma, value_assignment}
@@ -51,7 +52,8 @@ use Rattle.lower_runs.specs.Simulation.{ConditionRuns, PointerRuns, PlaceRuns, A
 use Rattle.lower_runs.specs.Calling.{CallsRun, ArgumentsRun, CallRuns, IsAsked}
 use Rattle.lower_runs.proofs.Operands.{operand_in_place as operand_in_place_law, operand_fresh as operand_fresh_law}
 use Rattle.lower_runs.proofs.Operands.{operand_in_place_of, operand_there, pair as pair_law}
-use Rattle.lower_runs.proofs.Values.{number_value, null_value, variable_value, kept_value, converted_value}
+use Rattle.lower_runs.proofs.Values.{unplaced_value, number_value, null_value, variable_value, kept_value}
+use Rattle.lower_runs.proofs.Values.{converted_value}
 use Rattle.lower_runs.proofs.Values.{discarded_value, opposite_value, sign_value, whole_value, compare_value}
 use Rattle.lower_runs.proofs.Values.{truth_value, comma_value}
 use Rattle.lower_runs.proofs.Conditions.{chosen_value, opposite_condition, both_condition, either_condition}
@@ -212,6 +214,8 @@ module _ (ops : Operations Store) (placed : IsPlaced ops) (world : World) (all :
           (pointer_ok Nil e t m n c h1)
       value_ok i0 i1 i2 i3 i4 i5 (value_address {e = e} {to = to} {q = q} {m = m} {n = n} {c = c} h0) =
           address_value ops placed world all p objects running call g scene e to q m n c (place_ok e to m n c h0)
+      value_ok i0 i1 i2 i3 i4 i5 (value_unplaced {x = x} {to = to} {q = q} {s = s} {m = m}) =
+          unplaced_value ops placed world all p objects running call g scene x to q s m
       value_ok i0 i1 i2 i3 i4 i5 (value_narrowed {e = e} {to = to} {q = q} {w = w} {m = m} {n = n} {c = c} h0) =
           narrowed_value ops placed world all p objects running call g scene e to q w m n c (place_ok e to m n c h0)
       value_ok i0 i1 i2 i3 i4 i5 (value_kept {k = k} {e = e} {to = to} {q = q} {plain = plain} {m = m} {n = n}

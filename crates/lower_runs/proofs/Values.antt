@@ -1,5 +1,5 @@
 -- Values that come into a temp.
-use Rattle.std.proofs.Common.{◌≡◌, ℕ, ◌+◌, ◌<◌, Bool, true, false, not, List, [], ◌∷◌, Option, Some}
+use Rattle.std.proofs.Common.{◌≡◌, ℕ, ◌+◌, ◌<◌, Bool, true, false, not, List, [], ◌∷◌, Option, Some, None}
 use Rattle.std.proofs.Common.{refl, sym, ap, subst, ◌∙◌, arith, if◌then◌else◌}
 use Rattle.std.specs.Prelude.{slice_set, ◌&&◌, ◌^◌}
 use Rattle.ck_base.specs.World.{World}
@@ -17,7 +17,7 @@ use Rattle.cheri_c_sem.specs.Meaning.{value_of, test, operate_by, sign_by}
 use Rattle.cheri_c_sem.specs.Operations.{Operations, convert_by, compare_by}
 use Rattle.cheri_c_sem.specs.Steps.{State, Fate, Then, ◌>>=◌, answer, ask, give}
 use Rattle.cheri_c_sem.specs.Tree.{Ex, Exs, Nil, Number, Null, Load, Convert, Discard, Unary, Not, Binary, Whole, Sign}
-use Rattle.cheri_c_sem.specs.Tree.{Compare, Comma, Variable}
+use Rattle.cheri_c_sem.specs.Tree.{Compare, Comma, Pointer_to, Variable}
 use Rattle.cheri_c_sem.specs.Types.{is_shift}
 use Rattle.tac_ir.specs.Effects.{kind_of}
 use Rattle.tac_ir.specs.Meaning.{Running}
@@ -29,7 +29,7 @@ use Rattle.tac_ir.specs.declared.code.TacKind.TheVariants as kind
 use Rattle.lower_runs.specs.States.{Scene, IsScene, IsPlaced}
 use Rattle.lower_runs.specs.Operating.{Code, AreInts, transfer, negated, signed_integer, sign_temps, whole, right_temps}
 use Rattle.lower_runs.specs.Expressions as code
-use Rattle.lower_runs.specs.Expressions.{Mark, more, labelled, spares, int_kind, IsRight, is_junction}
+use Rattle.lower_runs.specs.Expressions.{pointer_kind, Mark, more, labelled, spares, int_kind, IsRight, is_junction}
 use Rattle.lower_runs.specs.Simulation.{IsPiece, ValueRuns, OperandRuns, OperandInRuns}
 use Rattle.lower_runs.specs.Simulation.{PairRuns, EffectRuns, ConditionRuns, goes, kinds}
 use Rattle.lower_runs.proofs.Agreement.{and_left, and_right, done_start, done_valued, done_labelled}
@@ -83,6 +83,11 @@ module _ (ops : Operations Store) (placed : IsPlaced ops) (w : World) (t : Tac) 
         (lands ops w t p objects r call g scene (kind.Cap z) (λ i. true) (λ i. true) to m m s s ts ts (null_at v)
         (λ i e. refl) target room (omega arith) lt (done_start ops g scene (λ i. true) m s ts ag));
   }
+
+  pub unplaced_value : (x to : ℕ) (q s : Pos) (m : Mark) →
+      Value_runs pointer_kind (Pointer_to q None (Variable s x)) to m m (λ rest. instr.Const to pointer_kind 0 ∷ rest)
+  unplaced_value x to q s m = let null = null_value false 0 to m (omega arith) in
+      record { piece = null.piece; runs = null.runs }
 
   pub variable_value : (x at to : ℕ) (k : TacKind) (q : Pos) (m : Mark) →
       g.home x ≡ Some (record { temp = at; kind = k }) →

@@ -337,6 +337,9 @@ module _ (p : Typed) (signs : ℕ → Signature) (kinds : List TacKind) (g : Sce
           → IsValue k (Load (kind_of k) e) to m n (λ r. c (instr.Load to t k q ∷ r))
       value_address : {e : Ex} {to : ℕ} {q : Pos} {m n : Mark} {c : Code} → IsPlace e to m n c →
           IsValue pointer_kind (Pointer_to q None e) to m n c
+      -- a variable that is no object has no address (in no sound program one is asked for)
+      value_unplaced : {x to : ℕ} {q s : Pos} {m : Mark} →
+          IsValue pointer_kind (Pointer_to q None (Variable s x)) to m m (λ r. instr.Const to pointer_kind 0 ∷ r)
       value_narrowed : {e : Ex} {to : ℕ} {q : Pos} {w : Narrowing} {m n : Mark} {c : Code} → IsPlace e to m n c
           → IsValue pointer_kind (Pointer_to q (Some w) e) to m n
           (λ r. c (instr.Narrow to to (amount.Number w.owned) true ∷ r))

@@ -39,11 +39,11 @@ abbrev pub HasEndTemp : Option TacKind → (at size : ℕ) → Type 0
 HasEndTemp None at size = Unit {0}
 HasEndTemp (Some k) at size = at < size
 
--- what a function gives whose body was gone through has the kind that it gives
+-- what a function gives whose body was gone through has the kind that it gives, if it gives a value
 abbrev pub IsEnd : Option TacKind → At_end → Type 0
 IsEnd None Gives_nothing = Unit {0}
 IsEnd None Gives_zero = ⊥
-IsEnd None (Lacks j) = ⊥
+IsEnd None (Lacks j) = Unit {0}
 IsEnd (Some k) Gives_nothing = ⊥
 IsEnd (Some k) Gives_zero = k ≡ int_kind
 IsEnd (Some k) (Lacks j) = kind_of k ≡ j

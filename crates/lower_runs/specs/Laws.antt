@@ -147,6 +147,8 @@ module _ (ops : Operations Store) (w : World) (t : Tac) (p : Typed) (objects : �
         Pointer_runs Nil e at m n c → Value_runs k (Load (kind_of k) e) to m n (λ rest. c (instr.Load to at k q ∷ rest))
     pub address : (e : Ex) (to : ℕ) (q : Pos) (m n : Mark) (c : Code) → Place_runs e to m n c →
         Value_runs pointer_kind (Pointer_to q None e) to m n c
+    pub unplaced : (x to : ℕ) (q s : Pos) (m : Mark) →
+        Value_runs pointer_kind (Pointer_to q None (Variable s x)) to m m (λ rest. instr.Const to pointer_kind 0 ∷ rest)
     pub narrowed : (e : Ex) (to : ℕ) (q : Pos) (i : Narrowing) (m n : Mark) (c : Code) → Place_runs e to m n c →
         Value_runs pointer_kind (Pointer_to q (Some i) e) to m n
         (λ rest. c (instr.Narrow to to (amount.Number i.owned) true ∷ rest))
