@@ -6,7 +6,7 @@ mod Changed
 mod Checked
 pub mod Bits
 mod Sound
-mod Known
+pub mod Known
 mod Reached
 pub mod Storing
 mod Numbered
@@ -41,3 +41,4 @@ pub mod Growing
 pub mod Wholes
 pub mod Tables
 mod Rows
+pub mod Outgoing

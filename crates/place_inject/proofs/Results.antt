@@ -89,7 +89,7 @@ home_is (h ∷ hs) (suc t) r e = ap (λ b. is_register r h || b) (home_is hs t r
   or_true true = refl
   or_true false = refl
 
-saved : (homes : List Home) (t r : ℕ) → slice_get homes t ≡ Some (Register r) → IsKept r
+pub saved : (homes : List Home) (t r : ℕ) → slice_get homes t ≡ Some (Register r) → IsKept r
     → position (λ x. x == r) (kept_homes homes) ≡ None → ⊥
 unfolding kept_homes
 saved homes t r e k none =

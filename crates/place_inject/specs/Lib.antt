@@ -22,3 +22,4 @@ pub mod Tables
 pub mod Registers
 pub mod Leaving
 pub mod Entering
+pub mod Outgoing

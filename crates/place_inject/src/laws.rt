@@ -204,3 +204,10 @@ pub fn table_reads_back()
 pub fn extents_are_apart()
     ensures { ExtentsAreApartWhereFits }
 {}
+
+ghost use Rattle.place_inject.specs.Outgoing.{OutgoingKeepsFits};
+
+/// An argument past eight that is stored in the caller's frame keeps the injection.
+pub fn outgoing_keeps_fits()
+    ensures { OutgoingKeepsFits }
+{}

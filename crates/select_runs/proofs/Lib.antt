@@ -30,3 +30,5 @@ pub mod Keeping
 pub mod Saving
 pub mod Taking
 pub mod Prologue
+pub mod Moves
+pub mod Entries

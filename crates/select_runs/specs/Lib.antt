@@ -16,3 +16,4 @@ pub mod Copying
 pub mod Services
 pub mod Returning
 pub mod Prologue
+pub mod Entries

@@ -138,3 +138,10 @@ ghost use Rattle.select_runs.specs.Prologue.{ProloguesRun};
 pub fn prologues_run()
     ensures { ProloguesRun }
 {}
+
+ghost use Rattle.select_runs.specs.Entries.{ParametersCome};
+
+/// Behind what a function begins with its parameters come to their homes.
+pub fn parameters_come()
+    ensures { ParametersCome }
+{}
