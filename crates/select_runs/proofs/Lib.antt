@@ -32,3 +32,4 @@ pub mod Taking
 pub mod Prologue
 pub mod Moves
 pub mod Entries
+pub mod Passing

@@ -119,6 +119,22 @@ module _ (g : Ground) where
     has = y h.to h.memory h.has;
   }
 
+  -- with what is known of the machine there
+  pub reached_with : (m : Machine) (n at : ℕ) (Has Then : Machine → Type 0) → Reached g m n at Has
+      → ((to : Machine) → IsThere g to at → Has to → Then to) → Reached g m n at Then
+  reached_with m n at Has Then h y =
+      record { to = h.to; leads = h.leads; there = h.there; has = y h.to h.there h.has }
+
+  pub reached_full : (m : Machine) (from n at : ℕ) → IsThere g m from → (Has Then : Machine → Type 0)
+      → Gone g m n at Has → ((to : Machine) → length to.regs ≡ 32 → to.mem ≡ m.mem → Has to → Then to)
+      → Reached g m n at Then
+  reached_full m from n at there Has Then h y = record {
+    to = h.to;
+    leads = h.leads;
+    there = stays_there g m h.to from at there h.counter h.registers h.memory;
+    has = y h.to h.registers h.memory h.has;
+  }
+
   pub reached_nowhere : (m : Machine) (at : ℕ) (Has : Machine → Type 0) → IsThere g m at → Has m
       → Reached g m 0 (at + 0) Has
   reached_nowhere m at Has there h =

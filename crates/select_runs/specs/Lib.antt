@@ -17,3 +17,4 @@ pub mod Services
 pub mod Returning
 pub mod Prologue
 pub mod Entries
+pub mod Passing

@@ -145,3 +145,10 @@ ghost use Rattle.select_runs.specs.Entries.{ParametersCome};
 pub fn parameters_come()
     ensures { ParametersCome }
 {}
+
+ghost use Rattle.select_runs.specs.Passing.{ArgumentsPass};
+
+/// Arguments of a call come to their registers and to the caller's frame.
+pub fn arguments_pass()
+    ensures { ArgumentsPass }
+{}

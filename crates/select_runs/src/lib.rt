@@ -5,15 +5,15 @@
 //! meaning does; so far of all instructions but calls and `malloc`.
 //! Definitions (`specs/`): `Acts`, `Numbers`, `Emitted`, `Operands`, `Kinds`, `Results`, `Words`, `Forms`,
 //! `Capabilities`, `Operations`, `Instructions`, `Jumps`, `Accesses`, `Zeroing`, `Copying`, `Services`, `Returning`,
-//! `Prologue`, `Entries`.
+//! `Prologue`, `Entries`, `Passing`.
 //! Main lemmas (`proofs/`): `Acts`, `Operands`, `Results`, `Far`, `Working`, `Arithmetic`, `Loops`, `Bringing`.
 #![tactic(auto)]
 
 mod laws;
 
 pub use laws::{
-    accesses_run, branches_run, comparisons_run, constants_run, conversions_run, copies_run,
-    exits_run, intrinsics_run, jumps_run, labels_run, last_returns_run, narrows_run,
+    accesses_run, arguments_pass, branches_run, comparisons_run, constants_run, conversions_run,
+    copies_run, exits_run, intrinsics_run, jumps_run, labels_run, last_returns_run, narrows_run,
     numbers_are_made, offsets_run, operands_come, operations_run, parameters_come, pointers_run,
     prologues_run, puts_run, results_go_home, returns_run, struct_copies_run, takes_run,
     zeroes_run,
