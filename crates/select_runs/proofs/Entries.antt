@@ -393,7 +393,7 @@ module _ (s : Setting) (code : List Instr) (x : IsText s code) (stack : StackIsT
       (Come (k + 1))
   one_register_come k r l far i n mid there b has =
       let u = params.usable k r l i in let r_from = u.0 in let r_to = u.1 in let za = e.aligned in
-      let place = passed.room in let from = e.from in let top_is = x.legal.in_range.2.2.2.1 in
+      let place = passed.room (omega arith) in let from = e.from in let top_is = x.legal.in_range.2.2.2.1 in
       reached g n mid (length (load_code r 28 (stack_place k) 29))
       (mid + length (load_code r 28 (stack_place k) 29)) there
       (λ to. (register to r ≡ c k) × ((q : ℕ) → (q ≡ r → ⊥) → (q ≡ 29 → ⊥) → register to q ≡ register n q))
@@ -412,7 +412,7 @@ module _ (s : Setting) (code : List Instr) (x : IsText s code) (stack : StackIsT
     where
       few_stack : stack_place k < 2 ^ 31 - 2048
       few_stack =
-          let place = passed.room in let top_is = x.legal.stack_most in let from = e.from in omega arith
+          let place = passed.room (omega arith) in let top_is = x.legal.stack_most in let from = e.from in omega arith
 
       slots_by : (to : Machine) → to.mem ≡ n.mem → (j : ℕ) → j < k + 1 → j < count → ((j ≡ k) ⊎ (j ≡ k → ⊥))
           → Slot_has to j
@@ -438,7 +438,7 @@ module _ (s : Setting) (code : List Instr) (x : IsText s code) (stack : StackIsT
       → Reached g n (length (load_code 30 28 (stack_place k) 29 ++ store_code 30 2 offset 31))
       (mid + length (load_code 30 28 (stack_place k) 29 ++ store_code 30 2 offset 31)) (Come (k + 1))
   one_slot_come k offset l far sp n mid there b has =
-      let za = e.aligned in let place = passed.room in let from = e.from in
+      let za = e.aligned in let place = passed.room (omega arith) in let from = e.from in
       let top_is = x.legal.in_range.2.2.2.1 in
       reached_both g n mid (load_code 30 28 (stack_place k) 29) (store_code 30 2 offset 31) Loaded_it (Come (k + 1))
       (reached g n mid (length (load_code 30 28 (stack_place k) 29)) (mid + length (load_code 30 28 (stack_place k) 29))
@@ -461,7 +461,7 @@ module _ (s : Setting) (code : List Instr) (x : IsText s code) (stack : StackIsT
     where
       few_stack : stack_place k < 2 ^ 31 - 2048
       few_stack =
-          let place = passed.room in let top_is = x.legal.stack_most in let from = e.from in omega arith
+          let place = passed.room (omega arith) in let top_is = x.legal.stack_most in let from = e.from in omega arith
 
       Loaded_it : Machine → Type 0
       Loaded_it to =

@@ -33,3 +33,4 @@ pub mod Prologue
 pub mod Moves
 pub mod Entries
 pub mod Passing
+pub mod Calling

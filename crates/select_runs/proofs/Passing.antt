@@ -164,13 +164,13 @@ module _ (s : Setting) (code : List Instr) (x : IsText s code) (stack : StackIsT
 
   -- ---- where the frame lies
 
-  record Numbers : Type 0 where
-    low : s.map.stack.0 ≤ t.frame
-    up : t.frame + stack_place (length args) ≤ stack_top s
-    even : t.frame % 16 ≡ 0
-    small : stack_place (length args) < 2 ^ 31 - 2048
+  pub record Numbers : Type 0 where
+    pub low : s.map.stack.0 ≤ t.frame
+    pub up : t.frame + stack_place (length args) ≤ stack_top s
+    pub even : t.frame % 16 ≡ 0
+    pub small : stack_place (length args) < 2 ^ 31 - 2048
 
-  numbers : Numbers
+  pub numbers : Numbers
   numbers =
       let own = newest s t.mem.memory.shapes m.mem (registers_in m) p.running.fun t.first t.frame p.running.callers
       fits.calls.2 in

@@ -95,7 +95,7 @@ pub record AreParameters (s : Setting) (fun count : ℕ) : Type 0 where
 
 -- arguments stand where the caller put them, its stack at an address
 pub record ArePassed (s : Setting) (above count : ℕ) (c : ℕ → Cap) (m : Machine) : Type 0 where
-  pub room : above + stack_place count ≤ stack_top s
+  pub room : 8 < count → above + stack_place count ≤ stack_top s
   pub registers : (k : ℕ) → k < count → k < 8 → register m (10 + k) ≡ c k
   pub stack : (k : ℕ) → k < count → 8 ≤ k → kept_at m.mem (above + stack_place k) ≡ Some (c k)
   pub words : (k : ℕ) → k < count → (c k).fields.address < 2 ^ 64

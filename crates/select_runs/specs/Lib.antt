@@ -18,3 +18,4 @@ pub mod Returning
 pub mod Prologue
 pub mod Entries
 pub mod Passing
+pub mod Calling

@@ -152,3 +152,15 @@ ghost use Rattle.select_runs.specs.Passing.{ArgumentsPass};
 pub fn arguments_pass()
     ensures { ArgumentsPass }
 {}
+
+ghost use Rattle.select_runs.specs.Calling.{CallsRun, FirstIsEntered};
+
+/// Calls of a function: its arguments are passed, and it is entered, or traps where the stack has no room for it.
+pub fn calls_run()
+    ensures { CallsRun }
+{}
+
+/// The first function is entered.
+pub fn first_is_entered()
+    ensures { FirstIsEntered }
+{}
