@@ -1,5 +1,5 @@
 -- Calls and the first entry: the machine jumps to the function and is in it.
-use Rattle.std.proofs.Common.{◌≡◌, ℕ, zero, suc, ◌+◌, ◌*◌, ◌<◌, ◌≤◌, ℤ, List, [], ◌∷◌, ◌++◌}
+use Rattle.std.proofs.Common.{◌≡◌, ℕ, zero, suc, ◌+◌, ◌*◌, ◌%◌, ◌<◌, ◌≤◌, ℤ, true, List, [], ◌∷◌, ◌++◌}
 use Rattle.std.proofs.Common.{length}
 use Rattle.std.proofs.Common.{refl, sym, ap, ◌∙◌, subst, arith, Option, Some, None, inl, inr}
 use Rattle.std.specs.Prelude.{slice_get, slice_set, slice_index_or, map, drop}
@@ -40,8 +40,9 @@ use Rattle.tac_ir.specs.declared.code.TacInstr.{TacInstr}
 use Rattle.tac_ir.specs.declared.code.TacInstr.TheVariants as instr
 use Rattle.tac_ir.specs.declared.code.TacKind.{TacKind}
 use Rattle.place_inject.specs.Values.{IsKnown}
+use Rattle.place_inject.specs.Parts.{kept_at}
 use Rattle.place_inject.specs.Frames.{Setting, Point, IsLive, Waits, HomesFit, homes_of, functions_of, slots_from}
-use Rattle.place_inject.specs.Frames.{return_sentry}
+use Rattle.place_inject.specs.Frames.{stack_top, return_sentry}
 use Rattle.place_inject.specs.Fits.{Fits, registers_in}
 use Rattle.place_inject.specs.Homes.{CallersKeep}
 use Rattle.place_inject.specs.Entering.{HasEntered, caller_of, entry_of, first_of, entered}
@@ -52,7 +53,7 @@ use Rattle.select_runs.specs.Acts.{Ground, HasText, HasAt, IsThere, Leads, count
 use Rattle.select_runs.specs.Calling.{Begins, begin_words, HasWords, SinksWithin, EntersWithin, CallWords, MayCall}
 use Rattle.select_runs.specs.Calling.{values}
 use Rattle.select_runs.specs.Calling.{CallsRun, FirstIsEntered}
-use Rattle.select_runs.specs.Entries.{ArePassed, HasParameters}
+use Rattle.select_runs.specs.Entries.{stack_place, ArePassed, HasParameters}
 use Rattle.select_runs.specs.Jumps.{LeadsTo}
 use Rattle.select_runs.specs.Operands.{ground_of, IsText, IsAtPoint}
 use Rattle.select_runs.specs.Passing.{GoesOnAside, PassesArguments}
@@ -63,7 +64,7 @@ use Rattle.select_runs.proofs.Acts.{has_front, has_back, join, set_same, set_oth
 use Rattle.select_runs.proofs.Acts.{counter_moved}
 use Rattle.select_runs.proofs.Entries.{parameters_come_law}
 use Rattle.select_runs.proofs.Epilogue.{kept_range}
-use Rattle.select_runs.proofs.Passing.{Numbers, numbers, value_small, arguments_pass_law}
+use Rattle.select_runs.proofs.Passing.{numbers, value_small, arguments_pass_law}
 use Rattle.select_runs.proofs.Points.{laid, there}
 use Rattle.select_runs.proofs.Prologue.{prologues_run_law}
 use Rattle.select_runs.proofs.Returning.{waits}
@@ -112,7 +113,7 @@ callers_aside s (c ∷ cs) k = (λ t r l e. kept_aside r (k.0 t r l e), callers_
 
 -- ---- the jump
 
-sealed_is : (low high at : ℕ) → sealed (bounded low high code_permissions UNSEALED at)
+pub sealed_is : (low high at : ℕ) → sealed (bounded low high code_permissions UNSEALED at)
     ≡ bounded low high code_permissions SENTRY at
 unfolding sealed with_bounds with_otype
 sealed_is low high at = refl
@@ -177,27 +178,34 @@ module _ (s : Setting) (code : List Instr) (x : IsText s code) where
         e.kept r k ∙ ap (λ c. Some c) (others_there m at to r (λ q. absurd (omega (arith, q, from))));
   }
 
--- ---- a call
+-- ---- from the jump on
+
+-- the caller goes on behind a call
+abbrev pub awaiting : Running → Option ℕ → List TacInstr → Point
+awaiting running to rest = record { running = running; rest = taking to ∷ rest }
 
 module _ (s : Setting) (code : List Instr) (x : IsText s code) (stack : StackIsThere s) (running : Running)
-    (to : Option ℕ) (fun : ℕ) (args : List ℕ) (rest body : List TacInstr) (at : ℕ) (t : State Store) (m : Machine)
-    (point : IsAtPoint s code (before running (instr.Call to fun args) rest) at t m) (words64 : HasWords m)
+    (to : Option ℕ) (fun : ℕ) (args : List ℕ) (rest body : List TacInstr) (t : State Store) (m : Machine)
+    (words64 : HasWords m)
     (b : Begins s code fun (length args) body
-    (IsLive s (entry_of fun (caller_of running rest to t) running.callers body))) (z : ℤ) (words : List Instr)
-    (form : CallWords s running.fun args z words) (has : HasAt code at words)
-    (leads : LeadsTo s code (at + length form.passes) b.entry z)
-    (may : MayCall s code running to args rest (at + length words) t) where
+    (IsLive s (entry_of fun (caller_of running rest to t) running.callers body)))
+    (keeps : CallersKeep s (caller_of running rest to t ∷ running.callers))
+    (known_each : (temp : ℕ) → IsAmong temp args → IsKnown t.mem.memory.shapes (functions_of s) (temp_in t temp))
+    (low_is : s.map.stack.0 ≤ t.frame) (up : t.frame + stack_place (length args) ≤ stack_top s)
+    (even : t.frame % 16 ≡ 0) (begun : ℕ) (n : Machine) (leads_to : Leads begun m n) (mid : ℕ)
+    (point : IsAtPoint s code (awaiting running to rest) mid t n)
+    (registers : (k temp : ℕ) → k < 8 → slice_get args k ≡ Some temp
+    → register n (10 + k) ≡ capability_of (addresses_of s.map) (base_in t.mem.memory.shapes) (temp_in t temp))
+    (on_stack : (k temp : ℕ) → 8 ≤ k → slice_get args k ≡ Some temp → kept_at n.mem (t.frame + stack_place k)
+    ≡ Some (capability_of (addresses_of s.map) (base_in t.mem.memory.shapes) (temp_in t temp)))
+    (goes : act n ≡ Goes (jumped s code x n mid b.entry))
+    (back_is : s.back running.fun rest ≡ place (ground_of s code) (mid + 1)) (most : ℕ)
+    (few : begun + 1 + length (begin_words s fun b.frame b.words) ≤ most) where
   abbrev ground : Ground
   ground = ground_of s code
 
-  abbrev p : Point
-  p = before running (instr.Call to fun args) rest
-
   abbrev c : Caller
   c = caller_of running rest to t
-
-  abbrev left : List TacInstr
-  left = taking to ∷ rest
 
   abbrev bits : Value → Cap
   bits = capability_of (addresses_of s.map) (base_in t.mem.memory.shapes)
@@ -205,94 +213,45 @@ module _ (s : Setting) (code : List Instr) (x : IsText s code) (stack : StackIsT
   abbrev count : ℕ
   count = length args
 
-  -- ---- what waits
-
-  left_waits : (temp : ℕ) → IsLive s (record { running = running; rest = left }) temp → Waits s c temp
-  left_waits temp l = waits s c running.callers temp l
-
-  waits_left : (temp : ℕ) → Waits s c temp → IsLive s (record { running = running; rest = left }) temp
+  waits_left : (temp : ℕ) → Waits s c temp → IsLive s (awaiting running to rest) temp
   waits_left temp w = temps.onward refl (λ h. w.0 (in_some to temp h)) w.1
-
-  waits_here : (temp : ℕ) → Waits s c temp → IsLive s p temp
-  waits_here temp w = temps.onward refl (λ h. w.0 (in_some to temp h)) w.1
-
-  aside : GoesOnAside s p left
-  aside = record {
-    reads = λ temp l. waits_here temp (left_waits temp l);
-    own = λ temp r l e. kept_aside r (may.keeps.0 temp r (left_waits temp l) e);
-    callers = callers_aside s running.callers may.keeps.1;
-  }
-
-  lives : (temp : ℕ) → IsAmong temp args → IsLive s p temp
-  lives temp h = now h
-
-  -- ---- the arguments
-
-  all_words : HasAt code at (form.passes ++ Cjal 1 z ∷ [])
-  all_words = subst (HasAt code at) form.are has
-
-  abbrev mid : ℕ
-  mid = at + length form.passes
-
-  long_words : length words ≡ length form.passes + 1
-  long_words = ap (λ ws. length ws) form.are ∙ length-append form.passes (Cjal 1 z ∷ [])
-
-  jump_here : slice_get code mid ≡ Some (Cjal 1 z)
-  jump_here = (has_back code at form.passes (Cjal 1 z ∷ []) all_words).0
-
-  passed : PassesArguments s code p left args mid (length form.passes) t m
-  passed = arguments_pass_law s code x stack p left aside may.frame may.is args lives may.room at t m point form.passes
-      form.passed (has_front code at form.passes (Cjal 1 z ∷ []) all_words)
-
-  abbrev n : Machine
-  n = passed.to
 
   abbrev n' : Machine
   n' = jumped s code x n mid b.entry
 
   n_there : IsThere ground n mid
-  n_there = there s code x (record { running = running; rest = left }) mid t n passed.point
+  n_there = there s code x (awaiting running to rest) mid t n point
 
-  leads_on : Leads (passed.count + 1) m n'
-  leads_on = join passed.count 1 m n n' passed.leads (n', links s code x n mid b.entry z n_there jump_here leads, refl)
-
-  lie : Numbers s code x stack p left aside may.frame may.is args lives may.room t m point.fits
-  lie = numbers s code x stack p left aside may.frame may.is args lives may.room t m point.fits
-
-  link_is : return_sentry s (place ground (mid + 1)) ≡ return_sentry s (s.back running.fun rest)
-  link_is =
-      let e : mid + 1 ≡ at + length words = let l = long_words in omega (arith, l) in
-      ap (λ i. return_sentry s (place ground i)) e ∙ ap (return_sentry s) (sym may.back)
+  leads_on : Leads (begun + 1) m n'
+  leads_on = join begun 1 m n n' leads_to (n', goes, refl)
 
   at_entry : IsEntered s code t.frame (s.back running.fun rest) b.entry n'
-  at_entry =
-      let y = lie in let u = y.up in
-      record {
-        there = jumped_there s code x n mid b.entry n_there;
-        areas = passed.point.fits.objects.areas;
-        places = passed.point.fits.places;
-        stack = others_there s code x n mid b.entry 2 (λ q. absurd (omega (arith, q))) ∙ passed.point.fits.stack.stack;
-        link_is = link_there s code x n mid b.entry n_there.registers ∙ link_is;
-        words = words64 (passed.count + 1) n' leads_on;
-        from = y.low;
-        to = omega arith;
-        aligned = y.even;
-      }
+  at_entry = record {
+    there = jumped_there s code x n mid b.entry n_there;
+    areas = point.fits.objects.areas;
+    places = point.fits.places;
+    stack = others_there s code x n mid b.entry 2 (λ q. absurd (omega (arith, q))) ∙ point.fits.stack.stack;
+    link_is = link_there s code x n mid b.entry n_there.registers ∙ ap (return_sentry s) (sym back_is);
+    words = words64 (begun + 1) n' leads_on;
+    from = low_is;
+    to = omega (arith, up);
+    aligned = even;
+  }
 
   abbrev argument : ℕ → ℕ
   argument k = slice_index_or args k 0
 
   known : (k : ℕ) → k < count → IsKnown t.mem.memory.shapes (functions_of s) (temp_in t (argument k))
-  known k l = point.fits.calls.1.known (argument k) (lives (argument k) (k, element args k l))
+  known k l = known_each (argument k) (k, element args k l)
 
   are_passed : ArePassed s t.frame count (λ k. bits (temp_in t (argument k))) n'
   are_passed = record {
-    room = λ some. let y = lie in y.up;
-    registers = λ k l few.
+    room = λ some. up;
+    registers = λ k l less.
         others_there s code x n mid b.entry (10 + k) (λ q. absurd (omega (arith, q)))
-        ∙ passed.registers k (argument k) few (element args k l);
-    stack = λ k l far. passed.stack k (argument k) far (element args k l);
-    words = λ k l. value_small s (Some p) t m point.fits (temp_in t (argument k)) (known k l);
+        ∙ registers k (argument k) less (element args k l);
+    stack = λ k l far. on_stack k (argument k) far (element args k l);
+    words = λ k l. value_small s (Some (awaiting running to rest)) t n point.fits (temp_in t (argument k)) (known k l);
   }
 
   -- ---- there is room
@@ -339,62 +298,122 @@ module _ (s : Setting) (code : List Instr) (x : IsText s code) (stack : StackIsT
             omega (arith, a, d, e, f, h, one, enough)
 
     arrives : Arrives s code (entry_of fun c running.callers body) 1
-        (length words + length (begin_words s fun b.frame b.words))
-        (b.entry + length (begin_words s fun b.frame b.words)) (entered s fun place' b.lengths vars t) m
+        most (b.entry + length (begin_words s fun b.frame b.words)) (entered s fun place' b.lengths vars t) m
     arrives =
         let r = has_parameters in
-        let fits = enters_fit_law s x.legal running left rest to t n passed.point.fits may.keeps waits_left fun
+        let fits = enters_fit_law s x.legal running (taking to ∷ rest) rest to t n point.fits keeps waits_left fun
         b.lengths b.frame b.is_frame place' room r.after
         (entered_before s code x fun place' t.frame (s.back running.fun rest) b.frame n mid b.entry r.after r.entered)
-        body
-        vars homes_fit in
-        let few = passed.few in let most = r.few in let l = long_words in
+        body vars homes_fit in
+        let acts_few = r.few in
         record {
-          count = passed.count + 1 + r.acts;
+          count = begun + 1 + r.acts;
           to = r.after;
           ge = omega arith;
           le = omega arith;
-          leads = join (passed.count + 1) r.acts m n' r.after leads_on r.leads;
+          leads = join (begun + 1) r.acts m n' r.after leads_on r.leads;
           point = record { fits = fits; counter = r.there.counter };
         }
 
   -- ---- there is none
 
   sinks : frame_within s.map.stack.0 t.frame (Some b.frame) ≡ None
-      → SinksWithin s code (length words + length (begin_words s fun b.frame b.words)) b.entry b.frame m
+      → SinksWithin s code most b.entry b.frame m
   sinks none =
       let k = subst (FrameIsTaken s code fun b.frame t.frame (s.back running.fun rest) b.entry n') none
       (prologues_run_law s code x stack fun b.frame b.is_frame.is b.is_frame.for_homes t.frame
       (s.back running.fun rest) b.entry n' at_entry
       (has_front code b.entry (prologue_code (homes_of s fun) b.frame) b.words b.has)) in
-      let few = passed.few in let l = long_words in
+      let first = store_first (homes_of s fun) b.frame b.words in
       record {
-        count = passed.count + 1 + length (before_store b.frame);
-        few = few_store (homes_of s fun) b.frame b.words passed.count few l;
+        count = begun + 1 + length (before_store b.frame);
+        few = omega (arith, few, first);
         sinks = k.sinks;
-        leads = join (passed.count + 1) (length (before_store b.frame)) m n' k.sinks leads_on k.leads;
+        leads = join (begun + 1) (length (before_store b.frame)) m n' k.sinks leads_on k.leads;
         cause = k.cause;
         ends = k.ends;
       }
-    where
-      few_store : (homes : List Home) (f : Frame) (ws : List Instr) (k : ℕ) → k ≤ length form.passes
-          → length words ≡ length form.passes + 1
-          → k + 1 + length (before_store f) ≤ length words + length (prologue_code homes f ++ ws)
-      few_store homes f ws k few l = omega (arith, few, l, store_first homes f ws)
 
-  whole : (o : Option ℕ) → frame_within s.map.stack.0 t.frame (Some b.frame) ≡ o
-      → EntersWithin s code (length words + length (begin_words s fun b.frame b.words)) b.entry
+  pub whole : (o : Option ℕ) → frame_within s.map.stack.0 t.frame (Some b.frame) ≡ o
+      → EntersWithin s code most b.entry
       (b.entry + length (begin_words s fun b.frame b.words)) b.frame (entry_of fun c running.callers body)
       (λ place'. entered s fun place' b.lengths vars t) m o
   whole (Some place') q = arrives place' q
   whole None q = sinks q
 
+-- ---- what waits behind a call
+
+module _ (s : Setting) (running : Running) (i : TacInstr) (to : Option ℕ) (rest : List TacInstr) (t : State Store)
+    (keeps : CallersKeep s (caller_of running rest to t ∷ running.callers)) (falls_on : temps.falls i ≡ true)
+    (wrote : temps.writes i ≡ in_option to) where
+  abbrev own : Caller
+  own = caller_of running rest to t
+
+  left_waits : (temp : ℕ) → IsLive s (awaiting running to rest) temp → Waits s own temp
+  left_waits temp l = waits s own running.callers temp l
+
+  waits_here : (temp : ℕ) → Waits s own temp → IsLive s (before running i rest) temp
+  waits_here temp w = temps.onward falls_on (λ h. w.0 (in_some to temp (subst (IsAmong temp) wrote h))) w.1
+
+  pub goes_aside : GoesOnAside s (before running i rest) (taking to ∷ rest)
+  goes_aside = record {
+    reads = λ temp l. waits_here temp (left_waits temp l);
+    own = λ temp r l e. kept_aside r (keeps.0 temp r (left_waits temp l) e);
+    callers = callers_aside s running.callers keeps.1;
+  }
+
+-- ---- a call of a function
+
+module _ (s : Setting) (code : List Instr) (x : IsText s code) (stack : StackIsThere s) (running : Running)
+    (to : Option ℕ) (fun : ℕ) (args : List ℕ) (rest body : List TacInstr) (at : ℕ) (t : State Store) (m : Machine)
+    (point : IsAtPoint s code (before running (instr.Call to fun args) rest) at t m) (words64 : HasWords m)
+    (b : Begins s code fun (length args) body
+    (IsLive s (entry_of fun (caller_of running rest to t) running.callers body))) (z : ℤ) (words : List Instr)
+    (form : CallWords s running.fun args z words) (has : HasAt code at words)
+    (leads : LeadsTo s code (at + length form.passes) b.entry z)
+    (may : MayCall s code running to args rest (at + length words) t) where
+  abbrev p : Point
+  p = before running (instr.Call to fun args) rest
+
+  aside : GoesOnAside s p (taking to ∷ rest)
+  aside = goes_aside s running (instr.Call to fun args) to rest t may.keeps refl refl
+
+  all_words : HasAt code at (form.passes ++ Cjal 1 z ∷ [])
+  all_words = subst (HasAt code at) form.are has
+
+  long_words : length words ≡ length form.passes + 1
+  long_words = ap (λ ws. length ws) form.are ∙ length-append form.passes (Cjal 1 z ∷ [])
+
+  passed : PassesArguments s code p (taking to ∷ rest) args (at + length form.passes) (length form.passes) t m
+  passed = arguments_pass_law s code x stack p (taking to ∷ rest) aside may.frame may.is args
+      (λ temp h. now h) may.room at
+      t m point form.passes form.passed (has_front code at form.passes (Cjal 1 z ∷ []) all_words)
+
+  pub calls : EntersWithin s code (length words + length (begin_words s fun b.frame b.words)) b.entry
+      (b.entry + length (begin_words s fun b.frame b.words)) b.frame
+      (entry_of fun (caller_of running rest to t) running.callers body)
+      (λ place'. entered s fun place' b.lengths (entry_temps b.kinds (values t args)) t) m
+      (frame_within s.map.stack.0 t.frame (Some b.frame))
+  calls =
+      let y = numbers s code x stack p (taking to ∷ rest) aside may.frame may.is args (λ temp h. now h) may.room t m
+      point.fits in
+      let there_now = there s code x (awaiting running to rest) (at + length form.passes) t passed.to passed.point in
+      let l = long_words in let less = passed.few in
+      let back_place : at + length words ≡ at + length form.passes + 1 = omega (arith, l) in
+      whole s code x stack running to fun args rest body t m words64 b may.keeps
+      (λ temp h. point.fits.calls.1.known temp (now h)) y.low y.up y.even passed.count passed.to passed.leads
+      (at + length form.passes) passed.point passed.registers passed.stack
+      (links s code x passed.to (at + length form.passes) b.entry z there_now
+      (has_back code at form.passes (Cjal 1 z ∷ []) all_words).0 leads)
+      (may.back ∙ ap (place (ground_of s code)) back_place)
+      (length words + length (begin_words s fun b.frame b.words)) (omega (arith, l, less))
+      (frame_within s.map.stack.0 t.frame (Some b.frame)) refl
+
 pub calls_run_law : CallsRun
 calls_run_law s code x stack w p running to fun args rest body at t m point words64 b z words form has leads may =
     record {
       means = λ k. refl;
-      does = whole s code x stack running to fun args rest body at t m point words64 b z words form has leads may
-          (frame_within s.map.stack.0 t.frame (Some b.frame)) refl;
+      does = calls s code x stack running to fun args rest body at t m point words64 b z words form has leads may;
     }
 
 -- ---- the first entry

@@ -34,3 +34,4 @@ pub mod Moves
 pub mod Entries
 pub mod Passing
 pub mod Calling
+pub mod Through

@@ -19,3 +19,4 @@ pub mod Prologue
 pub mod Entries
 pub mod Passing
 pub mod Calling
+pub mod Through

@@ -164,3 +164,10 @@ pub fn calls_run()
 pub fn first_is_entered()
     ensures { FirstIsEntered }
 {}
+
+ghost use Rattle.select_runs.specs.Through.{CallsThroughValuesRun};
+
+/// Calls through values: of a function, or of what is none.
+pub fn calls_through_values_run()
+    ensures { CallsThroughValuesRun }
+{}
