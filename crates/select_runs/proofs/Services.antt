@@ -32,10 +32,12 @@ use Rattle.purecap_abi.specs.Numbers as numbers
 use Rattle.purecap_abi.specs.Numbers.{number_after}
 use Rattle.tac_ir.specs.Effects.{kind_at, temp_in}
 use Rattle.tac_ir.specs.Meaning.{Running, with_result}
-use Rattle.tac_ir.specs.Temps.{falls, reads, writes, in_option, now, IsIn as IsAmong}
+use Rattle.tac_ir.specs.Temps.{Awaits, falls, reads, writes, in_option, now, IsIn as IsAmong}
+use Rattle.tac_ir.specs.Temps as temps
 use Rattle.tac_ir.specs.WellFormed.{has, int_result, result_fits, all_have}
 use Rattle.tac_ir.specs.declared.code.TacInstr.{TacInstr}
 use Rattle.place_inject.specs.Frames.{Setting, Point, IsLive}
+use Rattle.place_inject.specs.Fits.{Fits}
 use Rattle.place_inject.specs.Spills.{StackIsThere}
 use Rattle.place_inject.proofs.Registers.{registers_keep, done_keeps_fits_law}
 use Rattle.place_inject.proofs.Results.{moves_on_law}
@@ -77,12 +79,30 @@ module _ (m : Machine) where
   unfolding call
   call_is n e = ap by_number e
 
+-- ---- temps that wait for the call
+
+-- what is to be read from a call of that shape on is to be read behind it, and isn't its result
+pub waits_by : (whole is : List TacInstr) (k : ℕ) → Awaits reads writes whole is k → (to : Option ℕ)
+    (rest : List TacInstr) → is ≡ taking to ∷ rest
+    → (IsAmong k (in_option to) → ⊥) × Awaits reads writes whole rest k
+waits_by whole is k (now {i = i} {is = r} h) to rest e =
+    let q : ◌≡◌ {A = TacInstr} i (taking to) = cc in
+    absurd (let z : IsAmong k [] = subst (λ j. IsAmong k (reads j)) q h in let y = z.1 in cc)
+waits_by whole is k (temps.onward {i = i} {is = r} f w live) to rest e =
+    let q : ◌≡◌ {A = TacInstr} i (taking to) = cc in
+    let y : ◌≡◌ {A = List TacInstr} r rest = cc in
+    (λ h. w (subst (λ j. IsAmong k (writes j)) (sym q) h), subst (λ z. Awaits reads writes whole z k) y live)
+waits_by whole is k (temps.ahead {i = i} {is = r} l h live) to rest e =
+    let q : ◌≡◌ {A = TacInstr} i (taking to) = cc in
+    absurd (let z : IsAmong l [] = subst (λ j. IsAmong l (temps.goes_to j)) q h in let y = z.1 in cc)
+waits_by whole is k (temps.back l h live) to rest e = absurd cc
+
 -- ---- up to the call, and behind it
 
 module _ (s : Setting) (code : List Instr) (x : IsText s code) (stack : StackIsThere s) (p : Typed) (running : Running)
     (args : List ℕ) (k : ℕ) (few : k < 4) (i : TacInstr) (to : Option ℕ) (falls_on : falls i ≡ true)
     (wrote : writes i ≡ in_option to) (reads_all : reads i ≡ args) (no_constant : (n : ℕ) → IsConstant i n → ⊥)
-    (rest : List TacInstr) (sel : IsSelectable s p running i rest) (aside : StandsAside s (before running i rest))
+    (rest : List TacInstr) (sel : IsSelectable s p running i rest) (aside : StandsAside s running to rest)
     (at : ℕ) (t : State Store) (m : Machine) (point : IsAtPoint s code (before running i rest) at t m)
     (words : List Instr) (form : Asks s running.fun args k to words) (has_words : HasAt code at words) where
   abbrev g : Ground
@@ -90,6 +110,18 @@ module _ (s : Setting) (code : List Instr) (x : IsText s code) (stack : StackIsT
 
   abbrev here : Point
   here = before running i rest
+
+  -- what is to be read behind the call, but for its result, is to be read from here on
+  abbrev waiting : Point
+  waiting = before running (taking to) rest
+
+  waits : (k : ℕ) → IsLive s waiting k → (IsAmong k (in_option to) → ⊥) × IsLive s (behind running rest) k
+  waits k live = waits_by (code_in s running) (taking to ∷ rest) k live to rest refl
+
+  waiting_fits : Fits s (Some waiting) t m
+  waiting_fits =
+      moves_on_law s here t m point.fits (taking to ∷ rest)
+      (λ k live. let w = waits k live in temps.onward falls_on (λ h. w.0 (subst (IsAmong k) wrote h)) w.1)
 
   abbrev bits : Value → Cap
   bits = capability_of (addresses_of s.map) (base_in t.mem.memory.shapes)
@@ -188,15 +220,15 @@ module _ (s : Setting) (code : List Instr) (x : IsText s code) (stack : StackIsT
       c.stands.counter inside
 
   answer_fits : (n : ℕ) (done : Done)
-      → IsAtPoint s code here (mid + 1 + 1) (record t { done = done }) (answer_of n)
+      → IsAtPoint s code waiting (mid + 1 + 1) (record t { done = done }) (answer_of n)
   answer_fits n done =
       let c = at_call in
       let long = c.stands.registers in
-      let fits = registers_keep s IsAside (inl (omega arith)) (inl (omega arith)) here t m point.fits aside.own
-      aside.callers (answer_of n) (length-set c.asks.regs 10 (null_at n) ∙ long) c.memory
+      let fits = registers_keep s IsAside (inl (omega arith)) (inl (omega arith)) waiting t m waiting_fits
+      (λ k r live e. aside.own k r (waits k live) e) aside.callers (answer_of n) (length-set c.asks.regs 10 (null_at n) ∙ long) c.memory
       (λ q l. set_other c.asks (counter_at g (mid + 1 + 1)) c.asks.mem 10 q (null_at n)
       (aside_of q 10 l (omega arith) (omega arith)) ∙ c.others q l) in
-      record { fits = done_keeps_fits_law s (Some here) t (answer_of n) fits done t.left; counter = refl }
+      record { fits = done_keeps_fits_law s (Some waiting) t (answer_of n) fits done t.left; counter = refl }
 
   -- the answer is kept
   goes_on : (n : ℕ) (done : Done) → n < 2 ^ 64 → (o : Option ℕ) → to ≡ o → KeepSome s running.fun o form.keep
@@ -212,8 +244,8 @@ module _ (s : Setting) (code : List Instr) (x : IsText s code) (stack : StackIsT
         le = omega arith;
         leads = refl;
         point = record {
-          fits = moves_on_law s here (record t { done = done }) (answer_of n) p'.fits rest
-              (λ temp live. reads_as_before s running i rest falls_on (wrote ∙ ap in_option none) temp live);
+          fits = moves_on_law s waiting (record t { done = done }) (answer_of n) p'.fits rest
+              (λ temp live. reads_as_before s running (taking to) rest refl (ap in_option none) temp live);
           counter = p'.counter ∙ ap (counter_at g) e;
         };
       }
@@ -239,9 +271,9 @@ module _ (s : Setting) (code : List Instr) (x : IsText s code) (stack : StackIsT
       let has_keep = has_back code mid (ask k) form.keep asked in
       let place_is : mid + length (ask k) ≡ mid + 1 + 1 = omega arith in
       let t' = record t { done = done } in
-      let a = results_go_home_law s code x stack here (mid + 1 + 1) t' (answer_of n) p' rest temp
+      let a = results_go_home_law s code x stack waiting (mid + 1 + 1) t' (answer_of n) p' rest temp
       (may_take s p running i rest temp sel among no_constant)
-      (reads_no_more s running i rest temp falls_on (wrote ∙ ap in_option is)) (Int n) small 0 (mid + 1 + 1) 28 10
+      (reads_no_more s running (taking to) rest temp refl (ap in_option is)) (Int n) small 0 (mid + 1 + 1) 28 10
       (inl (omega arith)) (λ e. absurd (omega (arith, e))) computed form.keep kept
       (subst (λ y. HasAt code y form.keep) place_is has_keep) in
       let keep_less = keep_few s running.fun temp 10 form.keep kept in

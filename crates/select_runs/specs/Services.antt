@@ -16,10 +16,11 @@ use Rattle.cheri_c_sem.specs.Steps.{State, Fate, over, put, get, byte_or_end}
 use Rattle.tac_ir.specs.Costs.{cost}
 use Rattle.tac_ir.specs.Effects.{Next, effect, set_optional}
 use Rattle.tac_ir.specs.Meaning.{Running, with_result}
+use Rattle.tac_ir.specs.Temps.{IsIn as IsAmong, in_option}
 use Rattle.tac_ir.specs.declared.code.LibOp.TheVariants as lib
 use Rattle.tac_ir.specs.declared.code.TacInstr.{TacInstr}
 use Rattle.tac_ir.specs.declared.code.TacInstr.TheVariants as instr
-use Rattle.place_inject.specs.Frames.{Setting, Point, IsLive, homes_of}
+use Rattle.place_inject.specs.Frames.{Setting, IsLive, homes_of}
 use Rattle.place_inject.specs.Registers.{UsesOnly, CallersUseOnly}
 use Rattle.place_inject.specs.Spills.{StackIsThere}
 use Rattle.select_runs.specs.Acts.{HasAt, Leads}
@@ -58,10 +59,12 @@ pub record Asks (s : Setting) (fun : ℕ) (args : List ℕ) (k : ℕ) (to : Opti
 abbrev pub IsAside : ℕ → Type 0
 IsAside r = (r < 10) ⊎ (17 < r)
 
--- the temps that are to be read from the call on stand in no register of an argument, nor do those of the callers
-pub record StandsAside (s : Setting) (p : Point) : Type 0 where
-  pub own : UsesOnly IsAside (homes_of s p.running.fun) (IsLive s p)
-  pub callers : CallersUseOnly s IsAside p.running.callers
+-- the temps that are to be read behind the call, but for that of the result, stand in no register of an argument, nor do
+-- those of the callers
+pub record StandsAside (s : Setting) (running : Running) (to : Option ℕ) (rest : List TacInstr) : Type 0 where
+  pub own : UsesOnly IsAside (homes_of s running.fun)
+      (λ k. (IsAmong k (in_option to) → ⊥) × IsLive s (behind running rest) k)
+  pub callers : CallersUseOnly s IsAside running.callers
 
 -- ---- what they do
 
@@ -125,7 +128,7 @@ abbrev pub Serves : (args : List ℕ) → (k : ℕ) → TacInstr → Option ℕ 
     → List TacInstr → List Instr → ℕ → State Store → Machine → Type 0) → Type 0
 Serves args k i to Does =
     (s : Setting) (code : List Instr) → IsText s code → StackIsThere s → (w : World) (p : Typed) (running : Running)
-    (rest : List TacInstr) → IsSelectable s p running i rest → StandsAside s (before running i rest)
+    (rest : List TacInstr) → IsSelectable s p running i rest → StandsAside s running to rest
     → (at : ℕ) (t : State Store) (m : Machine) → IsAtPoint s code (before running i rest) at t m
     → AreOfKinds (kinds_in s running) t.vars
     → (words : List Instr) → Asks s running.fun args k to words → HasAt code at words
