@@ -42,3 +42,4 @@ pub mod Wholes
 pub mod Tables
 mod Rows
 pub mod Outgoing
+pub mod Older

@@ -27,7 +27,7 @@ use Rattle.place_inject.proofs.ReadBack.{loads_kept}
 
 -- ---- one base for each object
 
-as_many : (needs : List ObjectNeed) (bases : List ℕ) → AreAligned needs bases → length needs ≡ length bases
+pub as_many : (needs : List ObjectNeed) (bases : List ℕ) → AreAligned needs bases → length needs ≡ length bases
 as_many [] [] h = refl
 as_many [] (b ∷ bs) h = absurd h
 as_many (n ∷ ns) [] h = absurd h

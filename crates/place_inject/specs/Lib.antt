@@ -23,3 +23,4 @@ pub mod Registers
 pub mod Leaving
 pub mod Entering
 pub mod Outgoing
+pub mod Older

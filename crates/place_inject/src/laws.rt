@@ -211,3 +211,15 @@ ghost use Rattle.place_inject.specs.Outgoing.{OutgoingKeepsFits};
 pub fn outgoing_keeps_fits()
     ensures { OutgoingKeepsFits }
 {}
+
+ghost use Rattle.place_inject.specs.Older.{OthersAreOlderAtEntries, GlobalsAreOlderAtStart};
+
+/// At a call the objects of the callers, the globals and the literals have lower numbers than the callee's locals.
+pub fn others_are_older_at_entries()
+    ensures { OthersAreOlderAtEntries }
+{}
+
+/// So have the globals and literals at the entry of the first function.
+pub fn globals_are_older_at_start()
+    ensures { GlobalsAreOlderAtStart }
+{}
