@@ -1,5 +1,5 @@
 -- What a jump meets in the work that is left.
-use Rattle.std.specs.Prelude.{◌≡◌, List, [], ◌∷◌, slice_get}
+use Rattle.std.specs.Prelude.{◌≡◌, List, ◌∷◌, slice_get}
 use Rattle.c_tree.specs.declared.typed.Typed.{Typed}
 use Rattle.obj_mem.specs.Values.{Value}
 use Rattle.cheri_c_sem.specs.Modes.{Store}

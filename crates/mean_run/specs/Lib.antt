@@ -8,3 +8,4 @@ pub mod Jumps
 pub mod Choices
 pub mod Locals
 pub mod Variables
+pub mod Begun

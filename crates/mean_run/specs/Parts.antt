@@ -1,5 +1,5 @@
 -- What parts of a run and its steps do, against what is meant.
-use Rattle.std.specs.Prelude.{◌≡◌, ℕ, Result, Ok, Err}
+use Rattle.std.specs.Prelude.{◌≡◌, Result, Ok, Err}
 use Rattle.ck_base.specs.Runs.{Act, Goes, Ends}
 use Rattle.c_tree.specs.declared.typed.Typed.{Typed}
 use Rattle.ck_base.specs.declared.positions.Pos.{Pos}

@@ -8,7 +8,7 @@ use Rattle.c_tree.specs.declared.typed.ExprKind.TheVariants as exprs
 use Rattle.c_tree.specs.declared.typed.VarDef.{VarDef}
 use Rattle.cheri_c_sem.specs.Expressions.{bare_type}
 use Rattle.cheri_c_sem.specs.Types.{scalar_of, is_void}
-use Rattle.ck_base.specs.Runs.{Act, Goes}
+use Rattle.ck_base.specs.Runs.{Goes}
 use Rattle.c_tree.specs.declared.typed.Typed.{Typed}
 use Rattle.cheri_c_sem.specs.Modes.{Store}
 use Rattle.cheri_c_sem.specs.Operations.{Operations}

@@ -1,5 +1,5 @@
 //! `&&`, `||` and `?:` (C11 6.5.13 to 6.5.15).
-ghost use Rattle.std.specs.Prelude.{◌≡◌, List, OnOk, map};
+ghost use Rattle.std.specs.Prelude.{◌≡◌, ◌∷◌, List, OnOk, map};
 ghost use Rattle.c_tree.specs.declared.typed.VarDef.{VarDef};
 ghost use Rattle.obj_mem.specs.Values.{value_of};
 ghost use Rattle.cheri_c_sem.specs.Expressions.{kind_at, expr_tree};
@@ -7,7 +7,7 @@ ghost use Rattle.cheri_c_sem.specs.Kinds.{nothing};
 ghost use Rattle.cheri_c_sem.specs.Meaning.{first_of, nowhere};
 ghost use Rattle.cheri_c_sem.specs.Tree.{Fun};
 ghost use Rattle.mean_types.specs.Views.{kind_of};
-ghost use Rattle.mean_steps.specs.Machine.{choose_item, choose_place, decide, less_value, with_value, with_place};
+ghost use Rattle.mean_steps.specs.Machine.{behind, choose_item, choose_place, decide};
 ghost use Rattle.mean_steps.specs.Parts.{test};
 ghost use Rattle.mean_run.specs.Views.{now_of, moment_of, vars_at};
 ghost use Rattle.mean_run.specs.Parts.{Becomes, Gives, Does};
@@ -31,7 +31,9 @@ pub fn kind_at(s: &Source<'_>, k: u32) -> Kind
 
 impl State {
     /// The truth of the value on top, which goes.
-    pub fn take_truth<B: Operations>(&mut self, m: &B, kind: Kind, pos: Pos) -> Result<bool, Stop> {
+    pub fn take_truth<B: Operations>(&mut self, m: &B, kind: Kind, pos: Pos) -> Result<bool, Stop>
+        ensures { self.new ≡ record self.old { values = behind self.old.values } }
+    {
         let v = self.take();
         match is_true(m, kind, v) {
             Err(f) => Err(Stop::Ended(fault_end(f, pos))),
@@ -91,7 +93,10 @@ impl State {
         }
     }
 
-    fn no_choice(&mut self) -> Result<(), NoMemory> {
+    fn no_choice(&mut self) -> Result<(), NoMemory>
+        ensures { OnOk result (self.new
+            ≡ record self.old { values = NOTHING ∷ behind self.old.values }) }
+    {
         self.take();
         self.give(NOTHING)
     }
@@ -134,7 +139,10 @@ impl State {
         }
     }
 
-    fn no_place(&mut self) -> Result<(), NoMemory> {
+    fn no_place(&mut self) -> Result<(), NoMemory>
+        ensures { OnOk result (self.new
+            ≡ record self.old { values = behind self.old.values; places = NOWHERE ∷ self.old.places }) }
+    {
         self.take();
         self.designate(NOWHERE)
     }

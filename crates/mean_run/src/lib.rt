@@ -1,10 +1,12 @@
 //! Runs of the meaning of programs, by a machine with a small step over the numbers of a typed program's nodes.
 //!
 //! Promise: every part is safe and ends, whatever the program is; the state's lists, turns and variables change as the
-//! machine of `mean_steps` says of its view. That a step is an act of that machine is tested, and not proved. `run`
-//! answers `Turns` after 2^64 - 1 acts. Definitions (`specs/`): `Views` (what the state is in that machine's words),
-//! `Parts` (what a part came to); `Steps`, `Jumps`, `Sources` and `Choices` are the words for what a step is yet to
-//! promise. Main lemmas (`proofs/`): `Tops`, `Turns`, `Kept`.
+//! machine of `mean_steps` says of its view, and what an expression whose value is wanted, a loop at its test and
+//! statements one after another ask for first is what that machine does first. That every other step is an act of it is
+//! tested, and not proved. `run` answers `Turns` after 2^64 - 1 acts. Definitions (`specs/`): `Views` (what the state
+//! is in that machine's words), `Begun` (what a node asks for first), `Parts` (what a part came to); `Jumps` and
+//! `Choices` are the words for what a step is yet to promise. Main lemmas (`proofs/`): `Begins`, `Executes`, `Nodes`,
+//! `Turns`.
 #![tactic(auto)]
 
 mod blocks;

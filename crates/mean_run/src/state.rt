@@ -3,7 +3,7 @@ ghost use Rattle.std.specs.Prelude.{◌≡◌, ◌<◌, ◌^◌, ◌+◌, ◌∷
 ghost use Rattle.obj_mem.specs.Values.{value_of};
 ghost use Rattle.cheri_c_sem.specs.Meaning.{first_of};
 ghost use Rattle.cheri_c_sem.specs.Modes.{Store};
-ghost use Rattle.mean_steps.specs.Machine.{first_place, less_value, less_place};
+ghost use Rattle.mean_steps.specs.Machine.{first_place, behind};
 ghost use Rattle.mean_steps.specs.Parts.{turn};
 ghost use Rattle.mean_run.specs.Parts.{Becomes, Did};
 ghost use Rattle.mean_run.specs.Views.{place_of};
@@ -104,10 +104,9 @@ impl State {
     }
 
     /// The value on top goes.
-    #[tactic(auto, using(crate::proofs::Tops::map_behind))]
     pub fn take(&mut self) -> Value
         ensures value { value_of result ≡ first_of (map value_of self.old.values) }
-        ensures state { Becomes self.old self.new (λ p m. less_value m) }
+        ensures state { self.new ≡ record self.old { values = behind self.old.values } }
     {
         match self.values.pop() {
             None => NOTHING,
@@ -116,10 +115,9 @@ impl State {
     }
 
     /// The place on top goes.
-    #[tactic(auto, using(crate::proofs::Tops::map_behind))]
     pub fn take_place(&mut self) -> Place
         ensures place { place_of result ≡ first_place (map place_of self.old.places) }
-        ensures state { Becomes self.old self.new (λ p m. less_place m) }
+        ensures state { self.new ≡ record self.old { places = behind self.old.places } }
     {
         match self.places.pop() {
             None => NOWHERE,

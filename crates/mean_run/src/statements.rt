@@ -1,18 +1,15 @@
 //! Statements (C11 6.8).
-ghost use Rattle.std.specs.Prelude.{◌≡◌, ◌∷◌, ◌+◌, ◌<◌, ◌^◌, List, OnOk, option_map, slice_get};
-ghost use Rattle.c_tree.specs.declared.typed.Typed.{Typed};
-ghost use Rattle.cheri_c_sem.specs.Modes.{Store};
-ghost use Rattle.cheri_c_sem.specs.Operations.{Operations};
-ghost use Rattle.cheri_c_sem.specs.Tree.{Fun};
-ghost use Rattle.cheri_c_sem.specs.Programs.{stmt_tree, statements};
-ghost use Rattle.mean_steps.specs.Machine.{execute, initialize, branch, tested, again, choose_label, turned_to};
-ghost use Rattle.mean_steps.specs.Machine.{execs_behind, Test};
-ghost use Rattle.mean_steps.specs.Parts.{leave, On};
+ghost use Rattle.std.specs.Prelude.{◌≡◌, ◌∷◌, ◌&&◌, not, OnOk, option_map, slice_get};
+ghost use Rattle.c_tree.specs.Layout.{bare};
+ghost use Rattle.cheri_c_sem.specs.Expressions.{type_of};
 ghost use Rattle.cheri_c_sem.specs.Order.{Ordered};
-ghost use Rattle.mean_run.specs.Views.{now_of, moment_of, vars_at, loop_of, parts_of, declared_of, funs_of};
+ghost use Rattle.cheri_c_sem.specs.Programs.{stmt_tree};
+ghost use Rattle.cheri_c_sem.specs.Types.{is_record, is_simple};
+ghost use Rattle.mean_steps.specs.Machine.{behind, execs_behind};
+ghost use Rattle.mean_run.specs.Begun.{Executed, assigned, next_one, parts_in, tests};
+ghost use Rattle.mean_run.specs.Views.{vars_at, loop_of, parts_of};
 ghost use Rattle.mean_run.specs.Steps.{Proceeds, ComesToTest};
-ghost use Rattle.mean_run.specs.Parts.{Does};
-ghost use Rattle.mean_run.specs.Sources.{IsFit, IsSource, IsStatement};
+ghost use Rattle.mean_run.specs.Sources.{IsSource};
 
 use crate::blocks::{enter_block, leave_block};
 use crate::choices::kind_at;
@@ -69,6 +66,7 @@ impl State {
     /// A statement that neither enters a block nor jumps.
     fn plain_statement(&mut self, s: &Source<'_>, f: u32, k: u32, a: &Stmt) -> Result<(), NoMemory>
         requires { IsSource s.now }
+        ensures { OnOk result (Executed s.now.p.now f k a.now.kind self.old self.new) }
     {
         match &a.kind {
             StmtKind::Empty => Ok(()),
@@ -78,8 +76,12 @@ impl State {
             StmtKind::While(_, _) => self.push(Work::Test(f, k)),
             StmtKind::Do(b, _) => self.then(Work::Statement(f, *b), Work::Again(f, k)),
             StmtKind::Switch { on, .. } => self.then(Work::Value(f, *on), Work::Switch(f, k)),
-            StmtKind::Return(Some(e)) => self.then(Work::Value(f, *e), Work::Give),
-            _ => Ok(()),
+            StmtKind::Return(value) => match value {
+                None => Ok(()),
+                Some(e) => self.then(Work::Value(f, *e), Work::Give),
+            },
+            StmtKind::Block { .. } | StmtKind::For { .. } | StmtKind::Break | StmtKind::Continue =>
+                Ok(()),
         }
     }
 
@@ -115,20 +117,40 @@ impl State {
     }
 
     /// The statements of a block or `switch`, or those before the first test of a `for`, from number n on.
-    pub fn rest(&mut self, p: &Typed, f: u32, k: u32, n: usize) -> Result<(), NoMemory> {
+    pub fn rest(&mut self, p: &Typed, f: u32, k: u32, n: usize) -> Result<(), NoMemory>
+        ensures { Ordered p.now → OnOk result (Proceeds p.now
+            (execs_behind (parts_of (stmt_tree p.now (vars_at p.now f) k)) n) self.old self.new) }
+    {
         match statement_at(p, k) {
             None => Ok(()),
-            Some(a) => match &a.kind {
-                StmtKind::Block { body, .. } | StmtKind::Switch { body, .. } => {
-                    self.one_of(f, k, n, body.as_slice())
-                }
-                StmtKind::For { first, .. } => self.one_of(f, k, n, first.as_slice()),
-                _ => Ok(()),
-            },
+            Some(a) => self.rest_of(f, k, n, a),
         }
     }
 
-    fn one_of(&mut self, f: u32, k: u32, n: usize, parts: &[u32]) -> Result<(), NoMemory> {
+    fn rest_of(&mut self, f: u32, k: u32, n: usize, a: &Stmt) -> Result<(), NoMemory>
+        ensures { OnOk result (self.new
+            ≡ record self.old { work = next_one f k n (slice_get (parts_in a.now.kind) n) self.old.work }) }
+    {
+        match &a.kind {
+            StmtKind::Block { body, .. } => self.one_of(f, k, n, body.as_slice()),
+            StmtKind::Switch { body, .. } => self.one_of(f, k, n, body.as_slice()),
+            StmtKind::For { first, .. } => self.one_of(f, k, n, first.as_slice()),
+            StmtKind::Expr(_)
+            | StmtKind::Init { .. }
+            | StmtKind::If(_, _, _)
+            | StmtKind::While(_, _)
+            | StmtKind::Do(_, _)
+            | StmtKind::Break
+            | StmtKind::Continue
+            | StmtKind::Return(_)
+            | StmtKind::Empty => Ok(()),
+        }
+    }
+
+    fn one_of(&mut self, f: u32, k: u32, n: usize, parts: &[u32]) -> Result<(), NoMemory>
+        ensures { OnOk result (self.new
+            ≡ record self.old { work = next_one f k n (slice_get parts.now n) self.old.work }) }
+    {
         match parts.get(n) {
             None => Ok(()),
             Some(a) => self.then(Work::Statement(f, *a), Work::Rest(f, k, n + 1)),
@@ -146,8 +168,33 @@ impl State {
         value: u32,
     ) -> Result<(), NoMemory>
         requires { IsSource s.now }
+        ensures { OnOk result (self.new ≡ record self.old {
+          work = assigned f value (not (is_simple (slice_get (vars_at s.now.p.now f) var))
+              && is_record (bare s.now.p.now.types (type_of (slice_get s.now.p.now.exprs value))))
+              ∷ Work.Initialize f k ∷ self.old.work;
+        }) }
     {
-        if is_object(s.p, f, var) && s.types.facts(s.p, type_of(s.p, value)).record {
+        if is_object(s.p, f, var) {
+            self.object_initialization(s, f, k, value)
+        } else {
+            self.then(Work::Value(f, value), Work::Initialize(f, k))
+        }
+    }
+
+    fn object_initialization(
+        &mut self,
+        s: &Source<'_>,
+        f: u32,
+        k: u32,
+        value: u32,
+    ) -> Result<(), NoMemory>
+        requires { IsSource s.now }
+        ensures { OnOk result (self.new ≡ record self.old {
+          work = assigned f value (is_record (bare s.now.p.now.types (type_of (slice_get s.now.p.now.exprs value))))
+              ∷ Work.Initialize f k ∷ self.old.work;
+        }) }
+    {
+        if s.types.facts(s.p, type_of(s.p, value)).record {
             self.then(Work::Place(f, value), Work::Initialize(f, k))
         } else {
             self.then(Work::Value(f, value), Work::Initialize(f, k))
@@ -262,20 +309,35 @@ impl State {
     }
 
     /// A loop is at its test.
-    pub fn test(&mut self, p: &Typed, f: u32, k: u32) -> Result<(), NoMemory> {
+    pub fn test(&mut self, p: &Typed, f: u32, k: u32) -> Result<(), NoMemory>
+        ensures { Ordered p.now → OnOk result (ComesToTest p.now
+            (loop_of (stmt_tree p.now (vars_at p.now f) k)) self.old self.new) }
+    {
         match statement_at(p, k) {
             None => self.then(Work::Nothing, Work::Again(f, k)),
-            Some(a) => match &a.kind {
-                StmtKind::While(c, _) | StmtKind::Do(_, c) => self.then(
-                    Work::Value(f, *c),
-                    Work::Tested(f, k),
-                ),
-                StmtKind::For { test, body, .. } => match test {
-                    Some(c) => self.then(Work::Value(f, *c), Work::Tested(f, k)),
-                    None => self.then(Work::Statement(f, *body), Work::Again(f, k)),
-                },
-                _ => self.then(Work::Nothing, Work::Again(f, k)),
+            Some(a) => self.test_of(f, k, a),
+        }
+    }
+
+    fn test_of(&mut self, f: u32, k: u32, a: &Stmt) -> Result<(), NoMemory>
+        ensures { OnOk result (self.new ≡ record self.old { work = tests f k a.now.kind self.old.work }) }
+    {
+        match &a.kind {
+            StmtKind::While(c, _) => self.then(Work::Value(f, *c), Work::Tested(f, k)),
+            StmtKind::Do(_, c) => self.then(Work::Value(f, *c), Work::Tested(f, k)),
+            StmtKind::For { test, body, .. } => match test {
+                Some(c) => self.then(Work::Value(f, *c), Work::Tested(f, k)),
+                None => self.then(Work::Statement(f, *body), Work::Again(f, k)),
             },
+            StmtKind::Expr(_)
+            | StmtKind::Init { .. }
+            | StmtKind::Block { .. }
+            | StmtKind::If(_, _, _)
+            | StmtKind::Switch { .. }
+            | StmtKind::Break
+            | StmtKind::Continue
+            | StmtKind::Return(_)
+            | StmtKind::Empty => self.then(Work::Nothing, Work::Again(f, k)),
         }
     }
 
@@ -314,7 +376,10 @@ impl State {
         }
     }
 
-    fn untested(&mut self, f: u32, k: u32) -> Result<(), Stop> {
+    fn untested(&mut self, f: u32, k: u32) -> Result<(), Stop>
+        ensures { OnOk result (self.new ≡ record self.old
+            { values = behind self.old.values; work = Work.Nothing ∷ Work.Again f k ∷ self.old.work }) }
+    {
         self.take();
         Ok(self.then(Work::Nothing, Work::Again(f, k))?)
     }
