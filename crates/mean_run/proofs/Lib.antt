@@ -6,3 +6,6 @@ pub mod Casts
 pub mod Begins
 pub mod Nodes
 pub mod Executes
+pub mod Doing
+pub mod Chooses
+pub mod Branching

@@ -9,3 +9,4 @@ pub mod Choices
 pub mod Locals
 pub mod Variables
 pub mod Begun
+pub mod Branches

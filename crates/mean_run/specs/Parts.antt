@@ -40,6 +40,12 @@ Does a m (Ok u) = a ≡ Goes m
 Does a m (Err (stop.Ended e)) = a ≡ Ends e
 Does a m (Err stop.NoMemory) = Unit {0}
 
+-- X, unless memory was wanting
+abbrev pub Unless_wanting : Result (Unit {0}) Stop → Type 0 → Type 0
+Unless_wanting (Ok u) X = X
+Unless_wanting (Err stop.NoMemory) X = Unit {0}
+Unless_wanting (Err (stop.Ended e)) X = ⊥
+
 -- the answer of an operation at a position, or how the run ends there
 abbrev pub answered : {A : Type 0} → Pos → Result A Fault → Result A Stop
 answered pos (Ok x) = Ok x

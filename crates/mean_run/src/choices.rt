@@ -1,25 +1,26 @@
 //! `&&`, `||` and `?:` (C11 6.5.13 to 6.5.15).
-ghost use Rattle.std.specs.Prelude.{◌≡◌, ◌∷◌, List, OnOk, map};
+ghost use Rattle.std.specs.Prelude.{◌≡◌, ◌∷◌, true, false, List, map};
 ghost use Rattle.c_tree.specs.declared.typed.VarDef.{VarDef};
 ghost use Rattle.obj_mem.specs.Values.{value_of};
 ghost use Rattle.cheri_c_sem.specs.Expressions.{kind_at, expr_tree};
-ghost use Rattle.cheri_c_sem.specs.Kinds.{nothing};
-ghost use Rattle.cheri_c_sem.specs.Meaning.{first_of, nowhere};
-ghost use Rattle.cheri_c_sem.specs.Tree.{Fun};
+ghost use Rattle.cheri_c_sem.specs.Kinds as sem;
+ghost use Rattle.cheri_c_sem.specs.Meaning.{first_of};
 ghost use Rattle.mean_types.specs.Views.{kind_of};
 ghost use Rattle.mean_steps.specs.Machine.{behind, choose_item, choose_place, decide};
 ghost use Rattle.mean_steps.specs.Parts.{test};
-ghost use Rattle.mean_run.specs.Views.{now_of, moment_of, vars_at};
-ghost use Rattle.mean_run.specs.Parts.{Becomes, Gives, Does};
-ghost use Rattle.mean_run.specs.Sources.{IsFit, IsSource, IsNode};
+ghost use Rattle.mean_run.specs.Branches.{Branched, ChosenBy, DecidedBy, PlaceChosenBy};
+ghost use Rattle.mean_run.specs.Parts.{Does, Unless_wanting};
+ghost use Rattle.mean_run.specs.Sources.{IsFit, IsSource};
+ghost use Rattle.mean_run.specs.Views.{now_of, moment_of, vars_at, funs_of};
 
+use crate::branches::Next;
 use crate::places::type_of;
 use crate::state::{Source, State};
-use crate::work::{NOWHERE, Stop, Work, fault_end};
+use crate::work::{NOWHERE, Stop, Work};
 use c_tree::{Expr, ExprKind};
-use ck_base::{NoMemory, Pos};
-use mean_operations::{Operations, is_true};
-use mean_types::{Kind, NOTHING, truth};
+use ck_base::Pos;
+use mean_operations::Operations;
+use mean_types::{Kind, NOTHING};
 
 /// The kind of an expression.
 pub fn kind_at(s: &Source<'_>, k: u32) -> Kind
@@ -30,17 +31,6 @@ pub fn kind_at(s: &Source<'_>, k: u32) -> Kind
 }
 
 impl State {
-    /// The truth of the value on top, which goes.
-    pub fn take_truth<B: Operations>(&mut self, m: &B, kind: Kind, pos: Pos) -> Result<bool, Stop>
-        ensures { self.new ≡ record self.old { values = behind self.old.values } }
-    {
-        let v = self.take();
-        match is_true(m, kind, v) {
-            Err(f) => Err(Stop::Ended(fault_end(f, pos))),
-            Ok(b) => Ok(b),
-        }
-    }
-
     /// The first operand of expression k stands on top.
     pub fn choose<B: Operations>(
         &mut self,
@@ -50,9 +40,12 @@ impl State {
         k: u32,
     ) -> Result<(), Stop>
         requires { IsSource s.now }
+        ensures { IsFit s.now.p.now → Does (choose_item (B.meaning m.now) (funs_of s.now.p.now)
+            (expr_tree s.now.p.now (vars_at s.now.p.now f) k) (moment_of s.now.p.now self.old (B.held m.now)))
+            (moment_of s.now.p.now self.new (B.held m.now)) result }
     {
         match s.p.exprs.as_slice().get(k as usize) {
-            None => Ok(self.no_choice()?),
+            None => self.no_choice(),
             Some(e) => self.choose_of(m, s, f, k, e),
         }
     }
@@ -66,39 +59,63 @@ impl State {
         e: &Expr,
     ) -> Result<(), Stop>
         requires { IsSource s.now }
+        ensures { ChosenBy (B.meaning m.now) (B.held m.now) s.now.p.now f k e.now.pos self.old self.new result
+            e.now.kind }
     {
         match &e.kind {
-            ExprKind::And(a, b) => {
-                if self.take_truth(m, kind_at(s, *a), e.pos)? {
-                    Ok(self.then(Work::Value(f, *b), Work::Decide(f, k))?)
-                } else {
-                    Ok(self.give(truth(false))?)
-                }
-            }
-            ExprKind::Or(a, b) => {
-                if self.take_truth(m, kind_at(s, *a), e.pos)? {
-                    Ok(self.give(truth(true))?)
-                } else {
-                    Ok(self.then(Work::Value(f, *b), Work::Decide(f, k))?)
-                }
-            }
-            ExprKind::Conditional(c, a, b) => {
-                if self.take_truth(m, kind_at(s, *c), e.pos)? {
-                    Ok(self.push(Work::Value(f, *a))?)
-                } else {
-                    Ok(self.push(Work::Value(f, *b))?)
-                }
-            }
-            _ => Ok(self.no_choice()?),
+            ExprKind::And(a, b) => self.by_truth(
+                m,
+                kind_at(s, *a),
+                e.pos,
+                Next::Two(Work::Value(f, *b), Work::Decide(f, k)),
+                Next::Truth(false),
+            ),
+            ExprKind::Or(a, b) => self.by_truth(
+                m,
+                kind_at(s, *a),
+                e.pos,
+                Next::Truth(true),
+                Next::Two(Work::Value(f, *b), Work::Decide(f, k)),
+            ),
+            ExprKind::Conditional(c, a, b) => self.by_truth(
+                m,
+                kind_at(s, *c),
+                e.pos,
+                Next::One(Work::Value(f, *a)),
+                Next::One(Work::Value(f, *b)),
+            ),
+            ExprKind::Constant(_)
+            | ExprKind::Literal(_)
+            | ExprKind::Var(_)
+            | ExprKind::Global(_)
+            | ExprKind::Fun(_)
+            | ExprKind::Load(_)
+            | ExprKind::Decay(_)
+            | ExprKind::Deref(_)
+            | ExprKind::Member(_, _)
+            | ExprKind::Address(_)
+            | ExprKind::Convert(_)
+            | ExprKind::Unary(_, _)
+            | ExprKind::Int(_, _, _)
+            | ExprKind::Capability(_, _, _, _)
+            | ExprKind::Plus(_, _, _)
+            | ExprKind::Difference(_, _)
+            | ExprKind::Compare(_, _, _)
+            | ExprKind::Comma(_, _)
+            | ExprKind::Assign(_, _)
+            | ExprKind::Compound(_, _, _, _)
+            | ExprKind::Step(_, _, _)
+            | ExprKind::Call(_, _)
+            | ExprKind::Library(_, _) => self.no_choice(),
         }
     }
 
-    fn no_choice(&mut self) -> Result<(), NoMemory>
-        ensures { OnOk result (self.new
+    fn no_choice(&mut self) -> Result<(), Stop>
+        ensures { Unless_wanting result (self.new
             ≡ record self.old { values = NOTHING ∷ behind self.old.values }) }
     {
         self.take();
-        self.give(NOTHING)
+        Ok(self.give(NOTHING)?)
     }
 
     /// The condition of a `?:` that designates a place stands on top.
@@ -110,9 +127,12 @@ impl State {
         k: u32,
     ) -> Result<(), Stop>
         requires { IsSource s.now }
+        ensures { IsFit s.now.p.now → Does (choose_place (B.meaning m.now) (funs_of s.now.p.now)
+            (expr_tree s.now.p.now (vars_at s.now.p.now f) k) (moment_of s.now.p.now self.old (B.held m.now)))
+            (moment_of s.now.p.now self.new (B.held m.now)) result }
     {
         match s.p.exprs.as_slice().get(k as usize) {
-            None => Ok(self.no_place()?),
+            None => self.no_place(),
             Some(e) => self.choose_place_of(m, s, f, k, e),
         }
     }
@@ -126,25 +146,51 @@ impl State {
         e: &Expr,
     ) -> Result<(), Stop>
         requires { IsSource s.now }
+        ensures { PlaceChosenBy (B.meaning m.now) (B.held m.now) s.now.p.now f k e.now.pos self.old self.new result
+            e.now.kind }
     {
         match &e.kind {
-            ExprKind::Conditional(c, a, b) => {
-                if self.take_truth(m, kind_at(s, *c), e.pos)? {
-                    Ok(self.push(Work::Place(f, *a))?)
-                } else {
-                    Ok(self.push(Work::Place(f, *b))?)
-                }
-            }
-            _ => Ok(self.no_place()?),
+            ExprKind::Conditional(c, a, b) => self.by_truth(
+                m,
+                kind_at(s, *c),
+                e.pos,
+                Next::One(Work::Place(f, *a)),
+                Next::One(Work::Place(f, *b)),
+            ),
+            ExprKind::Constant(_)
+            | ExprKind::Literal(_)
+            | ExprKind::Var(_)
+            | ExprKind::Global(_)
+            | ExprKind::Fun(_)
+            | ExprKind::Load(_)
+            | ExprKind::Decay(_)
+            | ExprKind::Deref(_)
+            | ExprKind::Member(_, _)
+            | ExprKind::Address(_)
+            | ExprKind::Convert(_)
+            | ExprKind::Unary(_, _)
+            | ExprKind::Int(_, _, _)
+            | ExprKind::Capability(_, _, _, _)
+            | ExprKind::Plus(_, _, _)
+            | ExprKind::Difference(_, _)
+            | ExprKind::Compare(_, _, _)
+            | ExprKind::And(_, _)
+            | ExprKind::Or(_, _)
+            | ExprKind::Comma(_, _)
+            | ExprKind::Assign(_, _)
+            | ExprKind::Compound(_, _, _, _)
+            | ExprKind::Step(_, _, _)
+            | ExprKind::Call(_, _)
+            | ExprKind::Library(_, _) => self.no_place(),
         }
     }
 
-    fn no_place(&mut self) -> Result<(), NoMemory>
-        ensures { OnOk result (self.new
+    fn no_place(&mut self) -> Result<(), Stop>
+        ensures { Unless_wanting result (self.new
             ≡ record self.old { values = behind self.old.values; places = NOWHERE ∷ self.old.places }) }
     {
         self.take();
-        self.designate(NOWHERE)
+        Ok(self.designate(NOWHERE)?)
     }
 
     /// The second operand of `&&` or `||` stands on top.
@@ -156,9 +202,12 @@ impl State {
         k: u32,
     ) -> Result<(), Stop>
         requires { IsSource s.now }
+        ensures { IsFit s.now.p.now → Does (decide (B.meaning m.now) (funs_of s.now.p.now)
+            (expr_tree s.now.p.now (vars_at s.now.p.now f) k) (moment_of s.now.p.now self.old (B.held m.now)))
+            (moment_of s.now.p.now self.new (B.held m.now)) result }
     {
         match s.p.exprs.as_slice().get(k as usize) {
-            None => Ok(self.no_choice()?),
+            None => self.no_choice(),
             Some(e) => self.decide_of(m, s, f, k, e),
         }
     }
@@ -172,13 +221,44 @@ impl State {
         e: &Expr,
     ) -> Result<(), Stop>
         requires { IsSource s.now }
+        ensures { DecidedBy (B.meaning m.now) (B.held m.now) s.now.p.now f k e.now.pos self.old self.new result
+            e.now.kind }
     {
         match &e.kind {
-            ExprKind::And(_, b) | ExprKind::Or(_, b) => {
-                let holds = self.take_truth(m, kind_at(s, *b), e.pos)?;
-                Ok(self.give(truth(holds))?)
-            }
-            _ => Ok(self.no_choice()?),
+            ExprKind::And(_, b) => self.decided(m, kind_at(s, *b), e.pos),
+            ExprKind::Or(_, b) => self.decided(m, kind_at(s, *b), e.pos),
+            ExprKind::Constant(_)
+            | ExprKind::Literal(_)
+            | ExprKind::Var(_)
+            | ExprKind::Global(_)
+            | ExprKind::Fun(_)
+            | ExprKind::Load(_)
+            | ExprKind::Decay(_)
+            | ExprKind::Deref(_)
+            | ExprKind::Member(_, _)
+            | ExprKind::Address(_)
+            | ExprKind::Convert(_)
+            | ExprKind::Unary(_, _)
+            | ExprKind::Int(_, _, _)
+            | ExprKind::Capability(_, _, _, _)
+            | ExprKind::Plus(_, _, _)
+            | ExprKind::Difference(_, _)
+            | ExprKind::Compare(_, _, _)
+            | ExprKind::Conditional(_, _, _)
+            | ExprKind::Comma(_, _)
+            | ExprKind::Assign(_, _)
+            | ExprKind::Compound(_, _, _, _)
+            | ExprKind::Step(_, _, _)
+            | ExprKind::Call(_, _)
+            | ExprKind::Library(_, _) => self.no_choice(),
         }
+    }
+
+    fn decided<B: Operations>(&mut self, m: &B, kind: Kind, pos: Pos) -> Result<(), Stop>
+        ensures { (k : sem.Kind) → kind_of kind ≡ k → Branched (test (B.meaning m.now) pos k
+            (first_of (map value_of self.old.values)) (now_of self.old (B.held m.now)))
+            (now_of self.old (B.held m.now)) (Next.Truth true) (Next.Truth false) self.old self.new result }
+    {
+        self.by_truth(m, kind, pos, Next::Truth(true), Next::Truth(false))
     }
 }

@@ -1,17 +1,30 @@
 //! Statements (C11 6.8).
-ghost use Rattle.std.specs.Prelude.{◌≡◌, ◌∷◌, ◌&&◌, not, OnOk, option_map, slice_get};
+ghost use Rattle.std.specs.Prelude.{◌≡◌, ◌∷◌, ◌&&◌, not, map, OnOk, option_map, slice_get, if◌then◌else◌};
+ghost use Rattle.ck_base.specs.Runs.{Goes};
 ghost use Rattle.c_tree.specs.Layout.{bare};
+ghost use Rattle.c_tree.specs.declared.typed.Typed.{Typed};
+ghost use Rattle.obj_mem.specs.Values.{value_of};
 ghost use Rattle.cheri_c_sem.specs.Expressions.{type_of};
+ghost use Rattle.cheri_c_sem.specs.Kinds as sem;
+ghost use Rattle.cheri_c_sem.specs.Meaning.{first_of};
+ghost use Rattle.cheri_c_sem.specs.Modes.{Store};
+ghost use Rattle.cheri_c_sem.specs.Operations.{Operations};
 ghost use Rattle.cheri_c_sem.specs.Order.{Ordered};
 ghost use Rattle.cheri_c_sem.specs.Programs.{stmt_tree};
+ghost use Rattle.cheri_c_sem.specs.Tree.{Ex};
 ghost use Rattle.cheri_c_sem.specs.Types.{is_record, is_simple};
-ghost use Rattle.mean_steps.specs.Machine.{behind, execs_behind};
+ghost use Rattle.mean_types.specs.Views.{kind_of};
+ghost use Rattle.mean_steps.specs.Machine.{behind, branch, tested, turned_to, execs_behind, Behind};
+ghost use Rattle.mean_steps.specs.Parts.{test};
 ghost use Rattle.mean_run.specs.Begun.{Executed, assigned, next_one, parts_in, tests};
-ghost use Rattle.mean_run.specs.Views.{vars_at, loop_of, parts_of};
+ghost use Rattle.mean_run.specs.Branches.{Branched, BranchedBy, ForTested, TestedBy, other_branch};
+ghost use Rattle.mean_run.specs.Parts.{Does, Unless_wanting};
+ghost use Rattle.mean_run.specs.Views.{now_of, moment_of, funs_of, item_of, vars_at, loop_of, parts_of};
 ghost use Rattle.mean_run.specs.Steps.{Proceeds, ComesToTest};
 ghost use Rattle.mean_run.specs.Sources.{IsSource};
 
 use crate::blocks::{enter_block, leave_block};
+use crate::branches::Next;
 use crate::choices::kind_at;
 use crate::locals::is_object;
 use crate::places::{copy, type_of, unit};
@@ -21,7 +34,7 @@ use crate::work::{Stop, Work, fault_end};
 use c_tree::{Stmt, StmtKind, SwitchLabel, Typed};
 use ck_base::{NoMemory, Pos};
 use ck_int::CmpOp;
-use mean_operations::{Operations, compared};
+use mean_operations::{Operations, compared, is_true};
 use mean_types::{Kind, NOTHING, constant_of};
 use obj_mem::Value;
 
@@ -60,6 +73,16 @@ fn default_of(labels: &[SwitchLabel]) -> Option<u32> {
         }
     }
     None
+}
+
+/// The other branch of an `if`, or nothing.
+fn other_branch(f: u32, no: Option<u32>) -> Work
+    ensures { result ≡ other_branch f no }
+{
+    match no {
+        None => Work::Nothing,
+        Some(b) => Work::Statement(f, b),
+    }
 }
 
 impl State {
@@ -270,12 +293,12 @@ impl State {
         k: u32,
     ) -> Result<(), Stop>
         requires { IsSource s.now }
+        ensures { Ordered s.now.p.now → Does (branch (B.meaning m.now) (funs_of s.now.p.now)
+            (stmt_tree s.now.p.now (vars_at s.now.p.now f) k) (moment_of s.now.p.now self.old (B.held m.now)))
+            (moment_of s.now.p.now self.new (B.held m.now)) result }
     {
         match statement_at(s.p, k) {
-            None => {
-                self.take();
-                Ok(())
-            }
+            None => self.lose(),
             Some(a) => self.branch_of(m, s, f, k, a),
         }
     }
@@ -289,23 +312,36 @@ impl State {
         a: &Stmt,
     ) -> Result<(), Stop>
         requires { IsSource s.now }
+        ensures { BranchedBy (B.meaning m.now) (B.held m.now) s.now.p.now f k a.now.pos self.old self.new result
+            a.now.kind }
     {
         match &a.kind {
-            StmtKind::If(c, yes, no) => {
-                if self.take_truth(m, kind_at(s, *c), a.pos)? {
-                    Ok(self.push(Work::Statement(f, *yes))?)
-                } else {
-                    match no {
-                        None => Ok(self.push(Work::Nothing)?),
-                        Some(b) => Ok(self.push(Work::Statement(f, *b))?),
-                    }
-                }
-            }
-            _ => {
-                self.take();
-                Ok(())
-            }
+            StmtKind::If(c, first, second) => self.by_truth(
+                m,
+                kind_at(s, *c),
+                a.pos,
+                Next::One(Work::Statement(f, *first)),
+                Next::One(other_branch(f, *second)),
+            ),
+            StmtKind::Expr(_)
+            | StmtKind::Init { .. }
+            | StmtKind::Block { .. }
+            | StmtKind::While(_, _)
+            | StmtKind::Do(_, _)
+            | StmtKind::For { .. }
+            | StmtKind::Switch { .. }
+            | StmtKind::Break
+            | StmtKind::Continue
+            | StmtKind::Return(_)
+            | StmtKind::Empty => self.lose(),
         }
+    }
+
+    fn lose(&mut self) -> Result<(), Stop>
+        ensures { Unless_wanting result (self.new ≡ record self.old { values = behind self.old.values }) }
+    {
+        self.take();
+        Ok(())
     }
 
     /// A loop is at its test.
@@ -350,57 +386,143 @@ impl State {
         k: u32,
     ) -> Result<(), Stop>
         requires { IsSource s.now }
+        ensures { Ordered s.now.p.now → Does (tested (B.meaning m.now) (funs_of s.now.p.now)
+            (loop_of (stmt_tree s.now.p.now (vars_at s.now.p.now f) k))
+            (moment_of s.now.p.now self.old (B.held m.now)))
+            (moment_of s.now.p.now self.new (B.held m.now)) result }
     {
-        let a = match statement_at(s.p, k) {
-            None => return self.untested(f, k),
-            Some(a) => a,
-        };
-        match &a.kind {
-            StmtKind::While(c, body) => self.tested_before(m, s, f, k, *c, a.pos, *body),
-            StmtKind::For { test, body, .. } => match test {
-                Some(c) => self.tested_before(m, s, f, k, *c, a.pos, *body),
-                None => {
-                    self.take();
-                    Ok(self.then(Work::Statement(f, *body), Work::Again(f, k))?)
-                }
-            },
-            StmtKind::Do(body, c) => {
-                if self.take_truth(m, kind_at(s, *c), a.pos)? {
-                    self.turn()?;
-                    Ok(self.then(Work::Statement(f, *body), Work::Again(f, k))?)
-                } else {
-                    Ok(())
-                }
-            }
-            _ => self.untested(f, k),
+        match statement_at(s.p, k) {
+            None => self.untested(Work::Nothing, f, k),
+            Some(a) => self.tested_of(m, s, f, k, a),
         }
     }
 
-    fn untested(&mut self, f: u32, k: u32) -> Result<(), Stop>
-        ensures { OnOk result (self.new ≡ record self.old
-            { values = behind self.old.values; work = Work.Nothing ∷ Work.Again f k ∷ self.old.work }) }
-    {
-        self.take();
-        Ok(self.then(Work::Nothing, Work::Again(f, k))?)
-    }
-
-    fn tested_before<B: Operations>(
+    fn tested_of<B: Operations>(
         &mut self,
         m: &B,
         s: &Source<'_>,
         f: u32,
         k: u32,
-        test: u32,
-        pos: Pos,
-        body: u32,
+        a: &Stmt,
     ) -> Result<(), Stop>
         requires { IsSource s.now }
+        ensures { TestedBy (B.meaning m.now) (B.held m.now) s.now.p.now f k a.now.pos self.old self.new result
+            a.now.kind }
     {
-        if self.take_truth(m, kind_at(s, test), pos)? {
-            Ok(self.then(Work::Statement(f, body), Work::Again(f, k))?)
+        match &a.kind {
+            StmtKind::While(c, body) => self.tested_before(m, kind_at(s, *c), a.pos, *body, f, k),
+            StmtKind::For { test, body, .. } => self.tested_for(m, s, *test, a.pos, *body, f, k),
+            StmtKind::Do(body, c) => self.tested_behind(m, kind_at(s, *c), a.pos, *body, f, k),
+            StmtKind::Expr(_)
+            | StmtKind::Init { .. }
+            | StmtKind::Block { .. }
+            | StmtKind::If(_, _, _)
+            | StmtKind::Switch { .. }
+            | StmtKind::Break
+            | StmtKind::Continue
+            | StmtKind::Return(_)
+            | StmtKind::Empty => self.untested(Work::Nothing, f, k),
+        }
+    }
+
+    /// A `for`, by its test.
+    fn tested_for<B: Operations>(
+        &mut self,
+        m: &B,
+        s: &Source<'_>,
+        test: Option<u32>,
+        pos: Pos,
+        body: u32,
+        f: u32,
+        k: u32,
+    ) -> Result<(), Stop>
+        requires { IsSource s.now }
+        ensures { ForTested (B.meaning m.now) (B.held m.now) s.now.p.now f k pos self.old self.new result test body }
+    {
+        match test {
+            None => self.untested(Work::Statement(f, body), f, k),
+            Some(c) => self.tested_before(m, kind_at(s, c), pos, body, f, k),
+        }
+    }
+
+    /// A loop with no test.
+    fn untested(&mut self, body: Work, f: u32, k: u32) -> Result<(), Stop>
+        ensures { Unless_wanting result (self.new ≡ record self.old
+            { values = behind self.old.values; work = body ∷ Work.Again f k ∷ self.old.work }) }
+    {
+        self.take();
+        Ok(self.then(body, Work::Again(f, k))?)
+    }
+
+    fn tested_before<B: Operations>(
+        &mut self,
+        m: &B,
+        kind: Kind,
+        pos: Pos,
+        body: u32,
+        f: u32,
+        k: u32,
+    ) -> Result<(), Stop>
+        ensures { (j : sem.Kind) → kind_of kind ≡ j → Branched (test (B.meaning m.now) pos j
+            (first_of (map value_of self.old.values)) (now_of self.old (B.held m.now)))
+            (now_of self.old (B.held m.now)) (Next.Two (Work.Statement f body) (Work.Again f k)) Next.Skip
+            self.old self.new result }
+    {
+        let next = Next::Two(Work::Statement(f, body), Work::Again(f, k));
+        self.by_truth(m, kind, pos, next, Next::Skip)
+    }
+
+    /// The turn of a `do` comes after a true test.
+    fn tested_behind<B: Operations>(
+        &mut self,
+        m: &B,
+        kind: Kind,
+        pos: Pos,
+        body: u32,
+        f: u32,
+        k: u32,
+    ) -> Result<(), Stop>
+        ensures { (p : Typed) (j : sem.Kind) (e : Ex) → kind_of kind ≡ j →
+            loop_of (stmt_tree p (vars_at p f) k) ≡ Behind pos j e (stmt_tree p (vars_at p f) body) →
+            Does (tested (B.meaning m.now) (funs_of p) (loop_of (stmt_tree p (vars_at p f) k))
+            (moment_of p self.old (B.held m.now))) (moment_of p self.new (B.held m.now)) result }
+    {
+        let v = self.take();
+        match is_true(m, kind, v) {
+            Err(fault) => Err(Stop::Ended(fault_end(fault, pos))),
+            Ok(holds) => self.round_if(holds, f, k, body),
+        }
+    }
+
+    fn round_if(&mut self, holds: bool, f: u32, k: u32, body: u32) -> Result<(), Stop>
+        ensures { (p : Typed) (ops : Operations Store) (held : Store) → Does (if holds then turned_to ops (funs_of p)
+            (item_of p (Work.Statement f body) ∷ item_of p (Work.Again f k) ∷ map (item_of p) self.old.work)
+            (moment_of p self.old held) else Goes (moment_of p self.old held)) (moment_of p self.new held) result }
+    {
+        if holds {
+            self.goes_round(f, k, body)
         } else {
             Ok(())
         }
+    }
+
+    /// A turn is used, and the body comes again.
+    fn goes_round(&mut self, f: u32, k: u32, body: u32) -> Result<(), Stop>
+        ensures { (p : Typed) (ops : Operations Store) (held : Store) → Does (turned_to ops (funs_of p)
+            (item_of p (Work.Statement f body) ∷ item_of p (Work.Again f k) ∷ map (item_of p) self.old.work)
+            (moment_of p self.old held)) (moment_of p self.new held) result }
+    {
+        match self.turn() {
+            Err(stop) => Err(stop),
+            Ok(_) => self.body_again(f, k, body),
+        }
+    }
+
+    fn body_again(&mut self, f: u32, k: u32, body: u32) -> Result<(), Stop>
+        ensures { Unless_wanting result (self.new
+            ≡ record self.old { work = Work.Statement f body ∷ Work.Again f k ∷ self.old.work }) }
+    {
+        Ok(self.then(Work::Statement(f, body), Work::Again(f, k))?)
     }
 
     /// The body of a loop was left. In a `while` and a `for` the turn comes after the step.
