@@ -22,7 +22,7 @@ use Rattle.cheri_c_sem.specs.Tree.{Ex, St, Empty}
 use Rattle.cheri_c_sem.specs.Types.{is_record, is_simple}
 use Rattle.mean_steps.specs.Machine.{Loop, Before, Behind, Item, Execute, Again, Moment, behind, branch, less_value}
 use Rattle.mean_steps.specs.Machine.{one}
-use Rattle.mean_steps.specs.Machine.{two, tested, turned_to}
+use Rattle.mean_steps.specs.Machine.{two, again, tested, turned_to}
 use Rattle.mean_steps.specs.Parts.{Came, On, Over, test, turn}
 use Rattle.mean_run.specs.declared.branches.Next.TheVariants as next
 use Rattle.mean_run.specs.declared.state.State.{State}
@@ -30,7 +30,7 @@ use Rattle.mean_run.specs.declared.work.Stop.{Stop}
 use Rattle.mean_run.specs.declared.work.Stop.TheVariants as stop
 use Rattle.mean_run.specs.declared.work.Work.{Work}
 use Rattle.mean_run.specs.declared.work.Work.TheVariants as work
-use Rattle.mean_run.specs.Branches.{BranchedBy, ForTested, IsLoop, TestedBy, other_branch}
+use Rattle.mean_run.specs.Branches.{AgainBy, BranchedBy, ForAgain, ForTested, IsLoop, TestAgain, TestedBy, other_branch}
 use Rattle.mean_run.specs.Parts.{Did, Does, Unless_wanting}
 use Rattle.mean_run.specs.Sources.{IsStatement}
 use Rattle.mean_run.specs.Views.{item_of, loop_of, vars_at, moment_of, now_of, funs_of}
@@ -199,26 +199,90 @@ module _ (ops : Operations Store) (held : Store) (p : Typed) (f k a : ℕ) (old 
   do_test_ends e l h = rw l
       (over (less_value (moment_of p old held)) (again_or_not (Behind pos j x (stmt_tree p (vars_at p f) a))) truth e h)
 
--- a turn is used, and the body comes again
-module _ (ops : Operations Store) (p : Typed) (held : Store) (f k a : ℕ) (old t new : State) where
-  abbrev come : List Item
-  come = Execute (stmt_tree p (vars_at p f) a) ∷ Again (loop_of (stmt_tree p (vars_at p f) k))
-      ∷ map (item_of p) old.work
+-- a turn is used, and then work is more
+module _ (ops : Operations Store) (p : Typed) (held : Store) (old t new : State) (more : List Work → List Work)
+    (items : List Item → List Item) (same : (ws : List Work) → map (item_of p) (more ws) ≡ items (map (item_of p) ws))
+  where
+    abbrev come : List Item
+    come = items (map (item_of p) old.work)
 
-  pub turn_ends : (s : Stop) → Did turn (λ u. u) p old t held held (Err s) →
-      Does (turned_to ops (funs_of p) come (moment_of p old held)) (moment_of p t held) (Err s)
-  turn_ends stop.NoMemory d = tt
-  turn_ends (stop.Ended e) d = over (moment_of p old held) (λ _ m. Goes (record m { work = come })) _ e d
+    pub turn_ends : (s : Stop) → Did turn (λ u. u) p old t held held (Err s) →
+        Does (turned_to ops (funs_of p) come (moment_of p old held)) (moment_of p t held) (Err s)
+    turn_ends stop.NoMemory d = tt
+    turn_ends (stop.Ended e) d = over (moment_of p old held) (λ _ m. Goes (record m { work = come })) _ e d
 
-  pub turn_used : (u : Unit {0}) (r : Result (Unit {0}) Stop) → Did turn (λ u. u) p old t held held (Ok u) →
-      Unless_wanting r (new ≡ record t { work = work.Statement f a ∷ work.Again f k ∷ t.work }) →
-      Does (turned_to ops (funs_of p) come (moment_of p old held)) (moment_of p new held) r
-  turn_used u (Err stop.NoMemory) d q = tt
-  turn_used u (Err (stop.Ended e)) d q = absurd q
-  turn_used u (Ok v) d q =
-      let i = Execute (stmt_tree p (vars_at p f) a) in
-      let l = Again (loop_of (stmt_tree p (vars_at p f) k)) in
-      let more : Moment Store → Act (Moment Store) Ending = λ m. Goes (record m { work = i ∷ l ∷ m.work }) in
-      let n : more (moment_of p t held) ≡ Goes (moment_of p new held) = rw q refl in
-      on (moment_of p old held) (λ _ m. Goes (record m { work = come })) _ tt (now_of t held) d.0
-      ∙ (ap more (sym d.1) ∙ n)
+    pub turn_used : (u : Unit {0}) (r : Result (Unit {0}) Stop) → Did turn (λ u. u) p old t held held (Ok u) →
+        Unless_wanting r (new ≡ record t { work = more t.work }) →
+        Does (turned_to ops (funs_of p) come (moment_of p old held)) (moment_of p new held) r
+    turn_used u (Err stop.NoMemory) d q = tt
+    turn_used u (Err (stop.Ended e)) d q = absurd q
+    turn_used u (Ok v) d q =
+        let with_more : Moment Store → Act (Moment Store) Ending = λ m. Goes (record m { work = items m.work }) in
+        let n : with_more (moment_of p t held) ≡ Goes (moment_of p new held) = rw (q, same t.work) refl in
+        on (moment_of p old held) (λ _ m. Goes (record m { work = come })) _ tt (now_of t held) d.0
+        ∙ (ap with_more (sym d.1) ∙ n)
+
+-- ---- what comes behind the body of a loop
+
+module _ (ops : Operations Store) (held : Store) (p : Typed) (f k : ℕ) (old new : State)
+    (r : Result (Unit {0}) Stop) where
+  abbrev there : ℕ → St
+  there = stmt_tree p (vars_at p f)
+
+  abbrev before : Moment Store
+  before = moment_of p old held
+
+  abbrev Agains : Type 0
+  Agains = Does (again ops (funs_of p) (loop_of (there k)) before) (moment_of p new held) r
+
+  turned_again : (t : Option (Pos × Kind × Ex)) (a : St) → loop_of (there k) ≡ Before t None a →
+      TestAgain f k old new r → Agains
+  turned_again t a l b = let d = b p ops held in rw l (rw l at d)
+
+  stepped : (s : Result (Unit {0}) Stop) (t : Option (Pos × Kind × Ex)) (e : ℕ) (a : St) →
+      loop_of (there k) ≡ Before t (Some (expr_tree p (vars_at p f) e)) a →
+      Unless_wanting s (new ≡ record old { work = work.Value f e ∷ work.Drop ∷ work.Turn f k ∷ old.work }) →
+      Does (again ops (funs_of p) (loop_of (there k)) before) (moment_of p new held) s
+  stepped (Ok u) t e a l q = rw (q, l) refl
+  stepped (Err stop.NoMemory) t e a l q = tt
+  stepped (Err (stop.Ended x)) t e a l q = absurd q
+
+  to_test : (s : Result (Unit {0}) Stop) (pos : Pos) (j : Kind) (x : Ex) (a : St) →
+      loop_of (there k) ≡ Behind pos j x a → Unless_wanting s (new ≡ record old { work = work.Test f k ∷ old.work }) →
+      Does (again ops (funs_of p) (loop_of (there k)) before) (moment_of p new held) s
+  to_test (Ok u) pos j x a l q = rw (q, l) refl
+  to_test (Err stop.NoMemory) pos j x a l q = tt
+  to_test (Err (stop.Ended e)) pos j x a l q = absurd q
+
+  agains_for : (t : Option (Pos × Kind × Ex)) (step : Option ℕ) (a : St) →
+      loop_of (there k) ≡ Before t (expression_of (expr_tree p (vars_at p f)) step) a →
+      ForAgain f k old new r step → Agains
+  agains_for t None a l b = turned_again t a l b
+  agains_for t (Some e) a l b = stepped r t e a l b
+
+  agains_by : (pos : Pos) (kind : StmtKind) →
+      there k ≡ stmt_kind_tree p (vars_at p f) (expr_tree p (vars_at p f)) there pos kind →
+      AgainBy f k old new r kind → Agains
+  agains_by pos (stmts.While c a) e b =
+      turned_again (Some (pos, kind_at p (vars_at p f) c, expr_tree p (vars_at p f) c)) (there a) (rw e refl) b
+  agains_by pos (stmts.For xs first t step a) e b =
+      agains_for (test_in p (vars_at p f) pos (expr_tree p (vars_at p f)) t) step (there a) (rw e refl) b
+  agains_by pos (stmts.Do a c) e b =
+      to_test r pos (kind_at p (vars_at p f) c) (expr_tree p (vars_at p f) c) (there a) (rw e refl) b
+  agains_by pos (stmts.Init x offset v) e b =
+      turned_again None Empty (rw e (of_either loop_of _ (is_simple (slice_get (vars_at p f) x))
+      (is_record (bare p.types (type_of (slice_get p.exprs v)))) _ _ _ refl refl refl)) b
+  agains_by pos (stmts.Expr v) e b = turned_again None Empty (rw e refl) b
+  agains_by pos (stmts.Block xs ks) e b = turned_again None Empty (rw e refl) b
+  agains_by pos (stmts.If c x y) e b = turned_again None Empty (rw e refl) b
+  agains_by pos (stmts.Switch q xs labels ks) e b = turned_again None Empty (rw e refl) b
+  agains_by pos stmts.Break e b = turned_again None Empty (rw e refl) b
+  agains_by pos stmts.Continue e b = turned_again None Empty (rw e refl) b
+  agains_by pos (stmts.Return a) e b = turned_again None Empty (rw e refl) b
+  agains_by pos stmts.Empty e b = turned_again None Empty (rw e refl) b
+
+  pub agains : (a : Stmt) → IsStatement p k a → AgainBy f k old new r a.kind → Agains
+  agains a at b = agains_by a.pos a.kind (at (vars_at p f)) b
+
+  pub agains_none : slice_get p.stmts k ≡ None → TestAgain f k old new r → Agains
+  agains_none e b = turned_again None Empty (rw (no_statement p (vars_at p f) k e) refl) b

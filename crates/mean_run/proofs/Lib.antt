@@ -9,3 +9,5 @@ pub mod Executes
 pub mod Doing
 pub mod Chooses
 pub mod Branching
+pub mod Counts
+pub mod Designates

@@ -16,7 +16,7 @@ use Rattle.cheri_c_sem.specs.Modes.{Store}
 use Rattle.cheri_c_sem.specs.Operations.{Operations}
 use Rattle.cheri_c_sem.specs.Programs.{stmt_tree}
 use Rattle.cheri_c_sem.specs.Tree.{Ex}
-use Rattle.mean_steps.specs.Machine.{behind, tested, Behind}
+use Rattle.mean_steps.specs.Machine.{behind, tested, turned_to, Behind, Test}
 use Rattle.mean_steps.specs.Parts.{Now, Came, On, Over, test}
 use Rattle.mean_run.specs.declared.branches.Next.{Next}
 use Rattle.mean_run.specs.declared.branches.Next.TheVariants as next
@@ -27,7 +27,7 @@ use Rattle.mean_run.specs.declared.work.TheConstants.{NOWHERE}
 use Rattle.mean_run.specs.declared.work.Work.{Work}
 use Rattle.mean_run.specs.declared.work.Work.TheVariants as work
 use Rattle.mean_run.specs.Parts.{Does, Unless_wanting}
-use Rattle.mean_run.specs.Views.{now_of, moment_of, funs_of, loop_of, vars_at}
+use Rattle.mean_run.specs.Views.{now_of, moment_of, funs_of, item_of, loop_of, vars_at}
 
 -- the other branch of an `if`, or nothing
 abbrev pub other_branch : ℕ → Option ℕ → Work
@@ -110,3 +110,23 @@ module _ (ops : Operations Store) (held : Store) (p : Typed) (f k : ℕ) (pos : 
       Does (tested ops (funs_of p) (loop_of (stmt_tree p (vars_at p f) k)) (moment_of p old held))
       (moment_of p new held) r
   TestedBy s = Untested work.Nothing
+
+-- ---- what comes behind the body of a loop
+
+module _ (f k : ℕ) (old new : State) (r : Result (Unit {0}) Stop) where
+  -- a turn was used, and the test comes again
+  abbrev pub TestAgain : Type 0
+  TestAgain =
+      (p : Typed) (ops : Operations Store) (held : Store) → Does (turned_to ops (funs_of p)
+      (Test (loop_of (stmt_tree p (vars_at p f) k)) ∷ map (item_of p) old.work) (moment_of p old held))
+      (moment_of p new held) r
+
+  abbrev pub ForAgain : Option ℕ → Type 0
+  ForAgain None = TestAgain
+  ForAgain (Some e) =
+      Unless_wanting r (new ≡ record old { work = work.Value f e ∷ work.Drop ∷ work.Turn f k ∷ old.work })
+
+  abbrev pub AgainBy : StmtKind → Type 0
+  AgainBy (stmts.For xs first t step a) = ForAgain step
+  AgainBy (stmts.Do a c) = Unless_wanting r (new ≡ record old { work = work.Test f k ∷ old.work })
+  AgainBy s = TestAgain

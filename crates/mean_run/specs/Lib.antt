@@ -10,3 +10,4 @@ pub mod Locals
 pub mod Variables
 pub mod Begun
 pub mod Branches
+pub mod Placed

@@ -1,5 +1,5 @@
 -- What is asked of a program and of what is known of it.
-use Rattle.std.specs.Prelude.{◌≡◌, ℕ, ◌≤◌, List, Some, slice_get}
+use Rattle.std.specs.Prelude.{◌≡◌, ℕ, ◌^◌, ◌<◌, ◌≤◌, List, length, Some, slice_get}
 use Rattle.c_tree.specs.Layout.{size_limit}
 use Rattle.c_tree.specs.declared.typed.Expr.{Expr}
 use Rattle.c_tree.specs.declared.typed.Typed.{Typed}
@@ -12,18 +12,21 @@ use Rattle.cheri_c_sem.specs.Types.{size_in, align_in, unit_of}
 use Rattle.mean_operations.specs.Answers.{IsAccess}
 use Rattle.mean_types.specs.Facts.{AreTypesOf}
 use Rattle.mean_run.specs.declared.state.Source.{Source}
+use Rattle.mean_run.specs.Locals.{AreLocals}
 use Rattle.mean_run.specs.Steps.{IsPeeled}
 
 -- A program that typing gives: operands and parts of statements stand before what has them, no conversion is one of a
--- struct or union to its own type, no type is larger than an object may be
+-- struct or union to its own type, no type is larger than an object may be, and there are few globals
 pub record IsFit (p : Typed) : Type 0 where
   pub order : Ordered p
   pub peeled : (vars : List VarDef) (k : ℕ) (e : Expr) → slice_get p.exprs k ≡ Some e → IsPeeled p vars e
   pub sizes : (t : ℕ) → size_in p.types t ≤ size_limit
   pub units : (t : ℕ) → IsAccess (unit_of (align_in p.types t))
+  pub globals : length p.globals < 2 ^ 32
 
 pub record IsSource (s : Source) : Type 0 where
   pub types : AreTypesOf s.p.now.types s.types.now
+  pub locals : AreLocals s.p.now.funs s.locals.now
 
 -- a node is the expression of its number
 abbrev pub IsNode : Typed → ℕ → Expr → Type 0

@@ -24,6 +24,9 @@ use mean_types::{NOTHING, bytes_of};
 use obj_mem::{Ending, Value};
 use std::alloc::Global;
 
+/// No memory has room for so many objects.
+const MOST_OBJECTS: u64 = 0x8000_0000_0000_0000;
+
 /// So many variables that have no value.
 fn no_values(alloc: Global, count: usize) -> Result<Vec<Option<Value>>, NoMemory> {
     let mut variables = Vec::with_capacity(alloc, count)?;
@@ -173,9 +176,13 @@ impl State {
             Some(address) => address,
         };
         let vars = d.vars.as_slice();
+        let first = m.count();
+        if first >= MOST_OBJECTS {
+            return Err(Stop::NoMemory);
+        }
         let fresh = Call {
             variables: no_values(s.alloc, vars.len())?,
-            first: m.count(),
+            first,
             frame: address,
         };
         let caller = std::mem::replace(&mut self.call, fresh);

@@ -1,28 +1,28 @@
 //! Places that expressions designate (C11 6.3.2.1, 6.5.3.2), and what is read and written there.
 
-ghost use Rattle.std.specs.Prelude.{◌≡◌, ◌<◌, ◌≤◌, ◌^◌, OnOk, option_map, slice_get, if◌then◌else◌};
+ghost use Rattle.std.specs.Prelude.{◌≡◌, ◌+◌, ◌<◌, ◌≤◌, ◌^◌, List, length, map, OnOk, option_map, slice_get};
+ghost use Rattle.cap_ops.specs.Permissions.{const_permissions};
+ghost use Rattle.c_tree.specs.Layout.{bare};
 ghost use Rattle.c_tree.specs.declared.typed.Typed.{Typed};
 ghost use Rattle.c_tree.specs.declared.typed.VarDef.{VarDef};
+ghost use Rattle.ck_base.specs.Runs.{Goes};
 ghost use Rattle.obj_mem.specs.Values.{value_of};
 ghost use Rattle.cheri_c_sem.specs.Expressions.{type_of, permissions_of, expr_tree, variable};
-ghost use Rattle.std.specs.Prelude.{◌*◌};
-ghost use Rattle.cheri_c_sem.specs.Meaning.{capability_of, position_of, further};
+ghost use Rattle.cheri_c_sem.specs.Meaning.{further};
 ghost use Rattle.cheri_c_sem.specs.Modes.{Store};
-ghost use Rattle.cheri_c_sem.specs.Tree.{Deref, Member, Ex, Fun};
-ghost use Rattle.cheri_c_sem.specs.Types.{unit_of};
-ghost use Rattle.std.specs.Prelude.{List, map};
-ghost use Rattle.ck_base.specs.Runs.{Goes};
 ghost use Rattle.cheri_c_sem.specs.Operations.{Operations};
+ghost use Rattle.cheri_c_sem.specs.Tree.{Deref, Member, Object, Ex};
+ghost use Rattle.cheri_c_sem.specs.Types.{is_record, unit_of};
 ghost use Rattle.mean_types.specs.Facts.{AreTypesOf};
-ghost use Rattle.mean_run.specs.Variables.{variable_at};
 ghost use Rattle.mean_types.specs.Views.{kind_of};
-ghost use Rattle.mean_steps.specs.Machine.{finish_place, designate};
-ghost use Rattle.mean_steps.specs.Parts.{Now, load, store, copy, copy_units, part_of_local};
+ghost use Rattle.mean_steps.specs.Machine.{finish_place};
+ghost use Rattle.mean_steps.specs.Parts.{Now, load, store, copy, part_of_local};
 ghost use Rattle.mean_operations.specs.Answers.{seen, IsAccess};
-ghost use Rattle.mean_run.specs.Views.{place_of, now_of, moment_of, vars_at};
-ghost use Rattle.mean_run.specs.Parts.{Gives, Did, Does, LeavesIt, UnitCopied};
-ghost use Rattle.mean_run.specs.Sources.{IsFit, IsSource, IsNode};
-ghost use Rattle.mean_run.specs.Steps.{IsPeeled};
+ghost use Rattle.mean_run.specs.Parts.{Gives, Did, Does, LeavesIt};
+ghost use Rattle.mean_run.specs.Placed.{Designates, Placed, taken_from, assigned_to};
+ghost use Rattle.mean_run.specs.Sources.{IsFit, IsSource};
+ghost use Rattle.mean_run.specs.Variables.{variable_at};
+ghost use Rattle.mean_run.specs.Views.{place_of, now_of, moment_of, vars_at, funs_of};
 
 use crate::locals::is_object;
 use crate::state::{Source, State};
@@ -103,7 +103,9 @@ impl State {
         place: Place,
         v: Value,
     ) -> Result<(), Stop>
-        ensures { B.meaning m.new ≡ B.meaning m.old }
+        ensures same { B.meaning m.new ≡ B.meaning m.old }
+        ensures did { (p : Typed) → Did (store (B.meaning m.old) (kind_of kind) (place_of place) (value_of v))
+            (λ u. u) p self.old self.new (B.held m.old) (B.held m.new) result }
     {
         match place {
             Place::In(_, x) => {
@@ -124,8 +126,12 @@ impl State {
         pos: Pos,
         n: u64,
         offset: u64,
-    ) -> Result<Place, Stop> {
-        match m.offset(m.whole(self.object(n), DATA), offset) {
+    ) -> Result<Place, Stop>
+        ensures { n < 2 ^ 63 → Gives (part_of_local (B.meaning m.now) pos n offset (now_of self.now (B.held m.now)))
+            place_of (now_of self.now (B.held m.now)) result }
+    {
+        let object = self.object(n);
+        match m.offset(m.whole(object, DATA), offset) {
             Err(f) => Err(Stop::Ended(fault_end(f, pos))),
             Ok(v) => Ok(Place::At(pos, v)),
         }
@@ -140,6 +146,8 @@ impl State {
         k: u32,
     ) -> Result<(), NoMemory>
         requires { IsSource s.now }
+        ensures { IsFit s.now.p.now → OnOk result (Designates (B.meaning m.now) (B.held m.now) s.now.p.now
+            (expr_tree s.now.p.now (vars_at s.now.p.now f) k) self.old self.new) }
     {
         match s.p.exprs.as_slice().get(k as usize) {
             None => self.designate(NOWHERE),
@@ -156,37 +164,103 @@ impl State {
         e: &Expr,
     ) -> Result<(), NoMemory>
         requires { IsSource s.now }
+        ensures { OnOk result (Placed (B.meaning m.now) (B.held m.now) s.now.p.now f k e.now.of e.now.pos e.now.kind
+            self.old self.new) }
     {
         match &e.kind {
             ExprKind::Var(x) => self.variable_place(m, s, f, *x, e.pos),
-            ExprKind::Global(g) => {
-                let permissions = global_permissions(s.p, s.types, *g);
-                self.designate(Place::At(e.pos, m.whole(u64::from(*g), permissions)))
-            }
-            ExprKind::Literal(n) => {
-                let globals = s.p.globals.as_slice().len() as u64;
-                self.designate(Place::At(
-                    e.pos,
-                    m.whole(globals.wrapping_add(u64::from(*n)), CONST),
-                ))
-            }
+            ExprKind::Global(g) => self.global_place(m, s, *g, e.pos),
+            ExprKind::Literal(n) => self.literal_place(m, s, *n, e.pos),
             ExprKind::Fun(g) => self.designate(Place::At(e.pos, Value::Fun(*g))),
             ExprKind::Deref(a) => self.then(Work::Value(f, *a), Work::FinishPlace(f, k)),
             ExprKind::Member(a, _) => self.then(Work::Place(f, *a), Work::FinishPlace(f, k)),
-            ExprKind::Conditional(c, _, _) => self.then(
-                Work::Value(f, *c),
-                Work::ChoosePlace(f, k),
-            ),
-            ExprKind::Comma(a, b) => self.both(Work::Value(f, *a), Work::Drop, Work::Place(f, *b)),
-            ExprKind::Load(a) if s.types.facts(s.p, e.of).record => self.push(Work::Place(f, *a)),
-            ExprKind::Assign(a, b) if s.types.facts(s.p, e.of).record => {
-                self.both(
-                    Work::Place(f, *a),
-                    Work::Place(f, *b),
-                    Work::FinishPlace(f, k),
-                )
+            ExprKind::Conditional(c, _, _) => {
+                self.then(Work::Value(f, *c), Work::ChoosePlace(f, k))
             }
-            _ => self.designate(NOWHERE),
+            ExprKind::Comma(a, b) => self.both(Work::Value(f, *a), Work::Drop, Work::Place(f, *b)),
+            ExprKind::Load(a) => self.taken_from(s, f, e.of, *a),
+            ExprKind::Assign(a, b) => self.assigned_to(s, f, k, e.of, *a, *b),
+            ExprKind::Constant(_)
+            | ExprKind::Decay(_)
+            | ExprKind::Address(_)
+            | ExprKind::Convert(_)
+            | ExprKind::Unary(_, _)
+            | ExprKind::Int(_, _, _)
+            | ExprKind::Capability(_, _, _, _)
+            | ExprKind::Plus(_, _, _)
+            | ExprKind::Difference(_, _)
+            | ExprKind::Compare(_, _, _)
+            | ExprKind::And(_, _)
+            | ExprKind::Or(_, _)
+            | ExprKind::Compound(_, _, _, _)
+            | ExprKind::Step(_, _, _)
+            | ExprKind::Call(_, _)
+            | ExprKind::Library(_, _) => self.designate(NOWHERE),
+        }
+    }
+
+    fn global_place<B: Operations>(
+        &mut self,
+        m: &B,
+        s: &Source<'_>,
+        g: u32,
+        pos: Pos,
+    ) -> Result<(), NoMemory>
+        requires { IsSource s.now }
+        ensures { OnOk result ((vars : List VarDef) → Designates (B.meaning m.now) (B.held m.now) s.now.p.now
+            (Object pos g (permissions_of s.now.p.now vars (slice_get s.now.p.now.globals g))) self.old self.new) }
+    {
+        let permissions = global_permissions(s.p, s.types, g);
+        self.designate(Place::At(pos, m.whole(u64::from(g), permissions)))
+    }
+
+    fn literal_place<B: Operations>(
+        &mut self,
+        m: &B,
+        s: &Source<'_>,
+        n: u32,
+        pos: Pos,
+    ) -> Result<(), NoMemory>
+        ensures { OnOk result (length s.now.p.now.globals < 2 ^ 32 → Designates (B.meaning m.now) (B.held m.now)
+            s.now.p.now (Object pos (length s.now.p.now.globals + n) const_permissions) self.old self.new) }
+    {
+        let globals = s.p.globals.as_slice().len() as u64;
+        self.designate(Place::At(pos, m.whole(globals.wrapping_add(u64::from(n)), CONST)))
+    }
+
+    /// A struct or union stands for the object that it is taken from.
+    fn taken_from(&mut self, s: &Source<'_>, f: u32, of: u32, a: u32) -> Result<(), NoMemory>
+        requires { IsSource s.now }
+        ensures { OnOk result (self.new ≡ taken_from f a (is_record (bare s.now.p.now.types of)) self.old) }
+    {
+        if s.types.facts(s.p, of).record {
+            self.push(Work::Place(f, a))
+        } else {
+            self.designate(NOWHERE)
+        }
+    }
+
+    /// And an assigned one for the object that it is assigned to.
+    fn assigned_to(
+        &mut self,
+        s: &Source<'_>,
+        f: u32,
+        k: u32,
+        of: u32,
+        a: u32,
+        b: u32,
+    ) -> Result<(), NoMemory>
+        requires { IsSource s.now }
+        ensures { OnOk result (self.new ≡ assigned_to f k a b (is_record (bare s.now.p.now.types of)) self.old) }
+    {
+        if s.types.facts(s.p, of).record {
+            self.both(
+                Work::Place(f, a),
+                Work::Place(f, b),
+                Work::FinishPlace(f, k),
+            )
+        } else {
+            self.designate(NOWHERE)
         }
     }
 
@@ -199,6 +273,8 @@ impl State {
         pos: Pos,
     ) -> Result<(), NoMemory>
         requires { IsSource s.now }
+        ensures { OnOk result (Designates (B.meaning m.now) (B.held m.now) s.now.p.now
+            (variable s.now.p.now (vars_at s.now.p.now f) pos x) self.old self.new) }
     {
         if is_object(s.p, f, x) {
             let object = self.object(s.locals.before(f, x));
@@ -224,7 +300,10 @@ impl State {
         }
     }
 
-    fn deref_place(&mut self, pos: Pos) -> Result<(), NoMemory> {
+    fn deref_place(&mut self, pos: Pos) -> Result<(), NoMemory>
+        ensures { OnOk result ((p : Typed) (ops : Operations Store) (held : Store) (x : Ex) →
+            finish_place ops (funs_of p) (Deref pos x) (moment_of p self.old held) ≡ Goes (moment_of p self.new held)) }
+    {
         let v = self.take();
         self.designate(Place::At(pos, v))
     }
@@ -249,7 +328,10 @@ impl State {
         }
     }
 
-    fn member_place<B: Operations>(&mut self, m: &B, pos: Pos, offset: u64) -> Result<(), Stop> {
+    fn member_place<B: Operations>(&mut self, m: &B, pos: Pos, offset: u64) -> Result<(), Stop>
+        ensures { (p : Typed) (x : Ex) → Does (finish_place (B.meaning m.now) (funs_of p) (Member pos offset x)
+            (moment_of p self.old (B.held m.now))) (moment_of p self.new (B.held m.now)) result }
+    {
         let from = self.take_place();
         match m.offset(from.capability(), offset) {
             Err(f) => Err(Stop::Ended(fault_end(f, pos))),

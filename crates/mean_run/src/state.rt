@@ -151,7 +151,7 @@ impl State {
 
     /// The number of an object of the current call.
     pub fn object(&self, n: u64) -> u64
-        ensures { self.now.call.first + n < 2 ^ 64 → result ≡ self.now.call.first + n }
+        ensures { n < 2 ^ 63 → result ≡ self.now.call.first + n }
     {
         self.call.first.wrapping_add(n)
     }

@@ -14,10 +14,11 @@ ghost use Rattle.cheri_c_sem.specs.Programs.{stmt_tree};
 ghost use Rattle.cheri_c_sem.specs.Tree.{Ex};
 ghost use Rattle.cheri_c_sem.specs.Types.{is_record, is_simple};
 ghost use Rattle.mean_types.specs.Views.{kind_of};
-ghost use Rattle.mean_steps.specs.Machine.{behind, branch, tested, turned_to, execs_behind, Behind};
+ghost use Rattle.mean_steps.specs.Machine.{again, behind, branch, tested, turned_to, execs_behind, Behind};
 ghost use Rattle.mean_steps.specs.Parts.{test};
 ghost use Rattle.mean_run.specs.Begun.{Executed, assigned, next_one, parts_in, tests};
-ghost use Rattle.mean_run.specs.Branches.{Branched, BranchedBy, ForTested, TestedBy, other_branch};
+ghost use Rattle.mean_run.specs.Branches.{AgainBy, Branched, BranchedBy, ForAgain, ForTested, TestAgain, TestedBy};
+ghost use Rattle.mean_run.specs.Branches.{other_branch};
 ghost use Rattle.mean_run.specs.Parts.{Does, Unless_wanting};
 ghost use Rattle.mean_run.specs.Views.{now_of, moment_of, funs_of, item_of, vars_at, loop_of, parts_of};
 ghost use Rattle.mean_run.specs.Steps.{Proceeds, ComesToTest};
@@ -526,24 +527,60 @@ impl State {
     }
 
     /// The body of a loop was left. In a `while` and a `for` the turn comes after the step.
-    pub fn again(&mut self, p: &Typed, f: u32, k: u32) -> Result<(), Stop> {
+    pub fn again(&mut self, p: &Typed, f: u32, k: u32) -> Result<(), Stop>
+        ensures { Ordered p.now → (ops : Operations Store) (held : Store) → Does (again ops (funs_of p.now)
+            (loop_of (stmt_tree p.now (vars_at p.now f) k)) (moment_of p.now self.old held))
+            (moment_of p.now self.new held) result }
+    {
         match statement_at(p, k) {
             None => self.turned(f, k),
-            Some(a) => match &a.kind {
-                StmtKind::For { step, .. } => match step {
-                    Some(e) => Ok(self.both(Work::Value(f, *e), Work::Drop, Work::Turn(f, k))?),
-                    None => self.turned(f, k),
-                },
-                StmtKind::Do(_, _) => Ok(self.push(Work::Test(f, k))?),
-                _ => self.turned(f, k),
-            },
+            Some(a) => self.again_of(f, k, a),
         }
     }
 
-    /// The step of a loop was done.
-    pub fn turned(&mut self, f: u32, k: u32) -> Result<(), Stop> {
-        self.turn()?;
+    fn again_of(&mut self, f: u32, k: u32, a: &Stmt) -> Result<(), Stop>
+        ensures { AgainBy f k self.old self.new result a.now.kind }
+    {
+        match &a.kind {
+            StmtKind::For { step, .. } => self.again_for(*step, f, k),
+            StmtKind::Do(_, _) => self.to_test(f, k),
+            StmtKind::Expr(_)
+            | StmtKind::Init { .. }
+            | StmtKind::Block { .. }
+            | StmtKind::If(_, _, _)
+            | StmtKind::While(_, _)
+            | StmtKind::Switch { .. }
+            | StmtKind::Break
+            | StmtKind::Continue
+            | StmtKind::Return(_)
+            | StmtKind::Empty => self.turned(f, k),
+        }
+    }
+
+    /// The body of a `for`, by its step.
+    fn again_for(&mut self, step: Option<u32>, f: u32, k: u32) -> Result<(), Stop>
+        ensures { ForAgain f k self.old self.new result step }
+    {
+        match step {
+            None => self.turned(f, k),
+            Some(e) => Ok(self.both(Work::Value(f, e), Work::Drop, Work::Turn(f, k))?),
+        }
+    }
+
+    fn to_test(&mut self, f: u32, k: u32) -> Result<(), Stop>
+        ensures { Unless_wanting result (self.new ≡ record self.old { work = Work.Test f k ∷ self.old.work }) }
+    {
         Ok(self.push(Work::Test(f, k))?)
+    }
+
+    /// The step of a loop was done.
+    pub fn turned(&mut self, f: u32, k: u32) -> Result<(), Stop>
+        ensures { TestAgain f k self.old self.new result }
+    {
+        match self.turn() {
+            Err(stop) => Err(stop),
+            Ok(_) => self.to_test(f, k),
+        }
     }
 
     // ---- `switch` (C11 6.8.4.2)
