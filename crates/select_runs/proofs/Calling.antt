@@ -32,6 +32,7 @@ use Rattle.reg_alloc.specs.Placed.{IsKept}
 use Rattle.purecap_abi.specs.declared.ends.Way.TheVariants.{ToFrame}
 use Rattle.purecap_abi.specs.Ends.{before_store, link_store, stack_code, keep_code, prologue_code}
 use Rattle.purecap_abi.specs.Saving.{registers_at, kept_homes, stack_at}
+use Rattle.tac_ir.specs.Costs.{cost, prologue_cost}
 use Rattle.tac_ir.specs.Effects.{kind_of, temp_in, held}
 use Rattle.tac_ir.specs.Meaning.{Caller, Running, entry_temps}
 use Rattle.tac_ir.specs.Temps.{now, in_option, IsIn as IsAmong}
@@ -62,6 +63,7 @@ use Rattle.select_runs.specs.Results.{Arrives, before}
 use Rattle.select_runs.specs.Services.{IsAside, taking}
 use Rattle.select_runs.proofs.Acts.{has_front, has_back, join, set_same, set_other, act_on_row, fetched_here}
 use Rattle.select_runs.proofs.Acts.{counter_moved}
+use Rattle.select_runs.proofs.Costs.{arguments_few, begins_few}
 use Rattle.select_runs.proofs.Entries.{parameters_come_law}
 use Rattle.select_runs.proofs.Epilogue.{kept_range}
 use Rattle.select_runs.proofs.Passing.{numbers, value_small, arguments_pass_law}
@@ -389,7 +391,7 @@ module _ (s : Setting) (code : List Instr) (x : IsText s code) (stack : StackIsT
       (λ temp h. now h) may.room at
       t m point form.passes form.passed (has_front code at form.passes (Cjal 1 z ∷ []) all_words)
 
-  pub calls : EntersWithin s code (length words + length (begin_words s fun b.frame b.words)) b.entry
+  pub calls : EntersWithin s code (cost (instr.Call to fun args) + prologue_cost (length args)) b.entry
       (b.entry + length (begin_words s fun b.frame b.words)) b.frame
       (entry_of fun (caller_of running rest to t) running.callers body)
       (λ place'. entered s fun place' b.lengths (entry_temps b.kinds (values t args)) t) m
@@ -399,6 +401,8 @@ module _ (s : Setting) (code : List Instr) (x : IsText s code) (stack : StackIsT
       point.fits in
       let there_now = there s code x (awaiting running to rest) (at + length form.passes) t passed.to passed.point in
       let l = long_words in let less = passed.few in
+      let passing_few = arguments_few s running.fun args form.passes form.passed in
+      let begin_few = begins_few s fun (homes_of s fun) b.frame (length args) b.words b.parameter_words in
       let back_place : at + length words ≡ at + length form.passes + 1 = omega (arith, l) in
       whole s code x stack running to fun args rest body t m words64 b may.keeps
       (λ temp h. point.fits.calls.1.known temp (now h)) y.low y.up y.even passed.count passed.to passed.leads
@@ -406,7 +410,7 @@ module _ (s : Setting) (code : List Instr) (x : IsText s code) (stack : StackIsT
       (links s code x passed.to (at + length form.passes) b.entry z there_now
       (has_back code at form.passes (Cjal 1 z ∷ []) all_words).0 leads)
       (may.back ∙ ap (place (ground_of s code)) back_place)
-      (length words + length (begin_words s fun b.frame b.words)) (omega (arith, l, less))
+      (cost (instr.Call to fun args) + prologue_cost (length args)) (omega (arith, less, passing_few, begin_few))
       (frame_within s.map.stack.0 t.frame (Some b.frame)) refl
 
 pub calls_run_law : CallsRun
@@ -484,11 +488,12 @@ module _ (s : Setting) (code : List Instr) (x : IsText s code) (stack : StackIsT
       known = λ k live. let l = b.reads k live in absurd (omega (arith, l));
     }
 
-    first_arrives : Arrives s code (first_of fun body) 1 (1 + length (begin_words s fun b.frame b.words))
+    first_arrives : Arrives s code (first_of fun body) 1 (prologue_cost 0)
         (b.entry + length (begin_words s fun b.frame b.words))
         (entered s fun place' b.lengths (entry_temps b.kinds []) t) m
     first_arrives =
         let r = first_has in let most = r.few in
+        let begin_few = begins_few s fun (homes_of s fun) b.frame 0 b.words b.parameter_words in
         record {
           count = 1 + r.acts;
           to = r.after;
@@ -504,16 +509,17 @@ module _ (s : Setting) (code : List Instr) (x : IsText s code) (stack : StackIsT
         }
 
   first_sinks : frame_within s.map.stack.0 t.frame (Some b.frame) ≡ None
-      → SinksWithin s code (1 + length (begin_words s fun b.frame b.words)) b.entry b.frame m
+      → SinksWithin s code (prologue_cost 0) b.entry b.frame m
   first_sinks none =
       let k = subst (FrameIsTaken s code fun b.frame t.frame s.stub b.entry m') none
       (prologues_run_law s code x stack fun b.frame b.is_frame.is b.is_frame.for_homes t.frame s.stub b.entry m'
       first_entry
       (has_front code b.entry (prologue_code (homes_of s fun) b.frame) b.words b.has)) in
       let few = store_first (homes_of s fun) b.frame b.words in
+      let begin_few = begins_few s fun (homes_of s fun) b.frame 0 b.words b.parameter_words in
       record {
         count = 1 + length (before_store b.frame);
-        few = omega (arith, few);
+        few = omega (arith, few, begin_few);
         sinks = k.sinks;
         leads = join 1 (length (before_store b.frame)) m m' k.sinks first_leads k.leads;
         cause = k.cause;
@@ -521,7 +527,7 @@ module _ (s : Setting) (code : List Instr) (x : IsText s code) (stack : StackIsT
       }
 
   first_whole : (o : Option ℕ) → frame_within s.map.stack.0 t.frame (Some b.frame) ≡ o
-      → EntersWithin s code (1 + length (begin_words s fun b.frame b.words)) b.entry
+      → EntersWithin s code (prologue_cost 0) b.entry
       (b.entry + length (begin_words s fun b.frame b.words)) b.frame (first_of fun body)
       (λ place'. entered s fun place' b.lengths (entry_temps b.kinds []) t) m o
   first_whole (Some place') q = first_arrives place' q

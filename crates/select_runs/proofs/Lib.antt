@@ -33,5 +33,6 @@ pub mod Prologue
 pub mod Moves
 pub mod Entries
 pub mod Passing
+pub mod Costs
 pub mod Calling
 pub mod Through

@@ -26,12 +26,13 @@ use Rattle.obj_mem.specs.Comparisons.{callee}
 use Rattle.obj_mem.specs.Objects.{base_in}
 use Rattle.obj_mem.specs.Table.{addresses_of}
 use Rattle.obj_mem.specs.Values.{Value, Int, Live, Fun, Raw, capability_of}
+use Rattle.tac_ir.specs.Costs.{cost, prologue_cost}
 use Rattle.tac_ir.specs.Effects.{Next, Into, effect, fits, temp_in}
 use Rattle.tac_ir.specs.Meaning.{Running}
 use Rattle.tac_ir.specs.Temps.{now, IsIn as IsAmong}
 use Rattle.tac_ir.specs.declared.code.TacInstr.{TacInstr}
 use Rattle.place_inject.specs.Calling.{EntriesLie, code_at, CallAnswers}
-use Rattle.place_inject.specs.Frames.{Setting, Point, IsLive, functions_of, return_sentry}
+use Rattle.place_inject.specs.Frames.{Setting, Point, IsLive, functions_of, homes_of, return_sentry}
 use Rattle.place_inject.specs.Spills.{StackIsThere}
 use Rattle.place_inject.proofs.Calling.{callees_fit_law}
 use Rattle.select_runs.specs.Accesses.{TrapsWithin}
@@ -46,6 +47,8 @@ use Rattle.select_runs.specs.Through.{CallsThroughValuesRun}
 use Rattle.select_runs.proofs.Acts.{has_front, has_back, join, act_on_row, fetched_here, counter_moved}
 use Rattle.select_runs.proofs.Bringing.{brings}
 use Rattle.select_runs.proofs.Calling.{sealed_is, jumped, awaiting, goes_aside, whole}
+use Rattle.select_runs.proofs.Costs.{arguments_few, begins_few}
+use Rattle.select_runs.proofs.Simple.{bring_few}
 use Rattle.select_runs.proofs.Passing.{numbers, arguments_pass_law}
 use Rattle.select_runs.proofs.Points.{laid, there, traps_at}
 use Rattle.select_runs.proofs.Working.{Got}
@@ -131,16 +134,18 @@ module _ (s : Setting) (code : List Instr) (x : IsText s code) (stack : StackIsT
   stops : (c : Cause) → cjalr_row n 1 31 (pos 0) ≡ trap n c
       → ((k : Next → State Store → Fate)
       → effect (operations (placed_plan s.map)) w p (kinds_in s running) i t k ≡ over (ending.Trap c source) t)
-      → TrapsWithin (length words) s code w p running i source mid t m
+      → TrapsWithin (cost i) s code w p running i source mid t m
   unfolding row
   stops c does means =
-      let few = passed.few in let l = long_words in
+      let few = passed.few in
+      let finding_few = bring_few s running.fun v 31 form.finds form.found in
+      let passing_few = arguments_few s running.fun args form.passes form.passed in
       record {
         cause = c;
         means = means;
         count = (0 + length form.finds) + passed.count;
         to = n;
-        lt = omega (arith, few, l);
+        lt = omega (arith, few, finding_few, passing_few);
         leads = join (0 + length form.finds) passed.count m found.to n found.leads passed.leads;
         ends = traps_at s code x (awaiting running to rest) mid t n passed.point
             (Cjalr 1 31 (pos 0)) jump_here refl c does;
@@ -173,7 +178,7 @@ module _ (s : Setting) (code : List Instr) (x : IsText s code) (stack : StackIsT
         })) own.leads
 
     enters : Rattle.select_runs.specs.Calling.EntersWithin s code
-        (length words + length (begin_words s f own.begins.frame own.begins.words)) own.begins.entry
+        (cost i + prologue_cost (length args)) own.begins.entry
         (own.begins.entry + length (begin_words s f own.begins.frame own.begins.words)) own.begins.frame
         (Rattle.place_inject.specs.Entering.entry_of f (Rattle.place_inject.specs.Entering.caller_of running rest to t)
         running.callers own.body)
@@ -184,19 +189,23 @@ module _ (s : Setting) (code : List Instr) (x : IsText s code) (stack : StackIsT
         let y = numbers s code x stack here (taking to ∷ rest) aside may.frame may.is args lives may.room t found.to
         found.point.fits in
         let l = long_words in let less = passed.few in
+        let finding_few = bring_few s running.fun v 31 form.finds form.found in
+        let passing_few = arguments_few s running.fun args form.passes form.passed in
+        let begin_few = begins_few s f (homes_of s f) own.begins.frame (length args) own.begins.words
+        own.begins.parameter_words in
         let back_place : at + length words ≡ mid + 1 = omega (arith, l) in
         whole s code x stack running to f args rest own.body t m words64 own.begins may.keeps
         (λ temp h. point.fits.calls.1.known temp (lives temp h)) y.low y.up y.even
         ((0 + length form.finds) + passed.count)
         n (join (0 + length form.finds) passed.count m found.to n found.leads passed.leads) mid passed.point
         passed.registers passed.stack goes (may.back ∙ ap (place ground) back_place)
-        (length words + length (begin_words s f own.begins.frame own.begins.words)) (omega (arith, l, less))
+        (cost i + prologue_cost (length args)) (omega (arith, less, finding_few, passing_few, begin_few))
         (frame_within s.map.stack.0 t.frame (Some own.begins.frame)) refl
 
   -- ---- by the value
 
   abbrev Result_is : Type 0
-  Result_is = CallsThrough s code w p running i to args rest source mid (length words) t m
+  Result_is = CallsThrough s code w p running i to args rest source mid t m
 
   -- what the meaning does of a value
   abbrev means_of : (k : Next → State Store → Fate) → Value → Fate

@@ -17,6 +17,7 @@ use Rattle.obj_mem.specs.declared.map.Frame.{Frame}
 use Rattle.obj_mem.specs.Values.{Value}
 use Rattle.purecap_abi.specs.Ends.{before_store, prologue_code}
 use Rattle.purecap_abi.specs.Saving.{registers_at}
+use Rattle.tac_ir.specs.Costs.{cost, prologue_cost}
 use Rattle.tac_ir.specs.Effects.{Next, Into, effect, temp_in}
 use Rattle.tac_ir.specs.Meaning.{Running, entry_temps}
 use Rattle.tac_ir.specs.declared.code.TacInstr.{TacInstr}
@@ -121,7 +122,7 @@ CallsRun = (s : Setting) (code : List Instr) → IsText s code → StackIsThere 
     → HasAt code at words → LeadsTo s code (at + length form.passes) b.entry z
     → MayCall s code running to args rest (at + length words) t
     → CallsInto s code w p running (instr.Call to fun args) to fun args rest body
-    (length words + length (begin_words s fun b.frame b.words)) t m b
+    (cost (instr.Call to fun args) + prologue_cost (length args)) t m b
 
 -- ---- the first function
 
@@ -132,7 +133,7 @@ FirstIsEntered = (s : Setting) (code : List Instr) → IsText s code → StackIs
     → HasWords m → (b : Begins s code fun 0 body (IsLive s (first_of fun body)))
     → (z : ℤ) → slice_get code at ≡ Some (Cjal 1 z) → LeadsTo s code at b.entry z
     → s.stub ≡ place (ground_of s code) (at + 1)
-    → EntersWithin s code (1 + length (begin_words s fun b.frame b.words)) b.entry
+    → EntersWithin s code (prologue_cost 0) b.entry
     (b.entry + length (begin_words s fun b.frame b.words)) b.frame (first_of fun body)
     (λ place. entered s fun place b.lengths (entry_temps b.kinds []) t) m
     (frame_within s.map.stack.0 t.frame (Some b.frame))

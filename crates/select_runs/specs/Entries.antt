@@ -80,6 +80,7 @@ pub record ParameterWords (s : Setting) (fun count : ℕ) (words : List Instr) :
   pub own : AreMovesTo (MayGet s fun count) moves
   pub moved : (k r : ℕ) → k < min count 8 → IsIn s fun k r → moved_from moves r ≡ 10 + k
   pub loaded : ForEach (StackWords s fun) 8 (count - 8) loads
+  pub few : length stores + length moves ≤ 3 * min count 8
   pub are : words ≡ stores ++ (moves ++ loads)
 
 -- ---- what is asked of homes

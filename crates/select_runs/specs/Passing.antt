@@ -1,5 +1,5 @@
 -- Arguments of a call: eight come to registers, and the others to the caller's frame.
-use Rattle.std.specs.Prelude.{◌≡◌, ℕ, ◌+◌, ◌-◌, ◌<◌, ◌≤◌, ◌⊎◌, min, List, [], ◌++◌, length, Some, slice_get}
+use Rattle.std.specs.Prelude.{◌≡◌, ℕ, ◌+◌, ◌-◌, ◌*◌, ◌<◌, ◌≤◌, ◌⊎◌, min, List, [], ◌++◌, length, Some, slice_get}
 use Rattle.rv_instr.specs.declared.instr.Instr.{Instr}
 use Rattle.cap_machine.specs.declared.machine.Machine.{Machine}
 use Rattle.cap_machine.specs.State.{register}
@@ -61,6 +61,7 @@ pub record ArgumentWords (s : Setting) (fun : ℕ) (args : List ℕ) (words : Li
   pub moved : (k temp q : ℕ) → k < 8 → slice_get args k ≡ Some temp → IsIn s fun temp q → IsPassing q
       → moved_from moves (10 + k) ≡ q
   pub brought : ForEach (BroughtWords s fun args) 0 (min (length args) 8) brings
+  pub few : length moves + length brings ≤ 3 * min (length args) 8
   pub are : words ≡ stores ++ (moves ++ brings)
 
 -- ---- what they do

@@ -12,6 +12,7 @@ use Rattle.cheri_c_sem.specs.Steps.{State, Fate, over}
 use Rattle.obj_mem.specs.declared.ending.Ending.TheVariants as ending
 use Rattle.obj_mem.specs.Table.{addresses_of}
 use Rattle.obj_mem.specs.Values.{Fun}
+use Rattle.tac_ir.specs.Costs.{cost, prologue_cost}
 use Rattle.tac_ir.specs.Effects.{Next, Into, effect, fits, temp_in}
 use Rattle.tac_ir.specs.Meaning.{Running, entry_temps}
 use Rattle.tac_ir.specs.declared.code.TacInstr.{TacInstr}
@@ -56,23 +57,22 @@ through to v of args source = instr.CallValue to v of args source
 -- The function is entered, or its first store traps; the jump traps as the meaning does; or the meaning leaves what it
 -- speaks of, where the function's type is another
 pub data CallsThrough (s : Setting) (code : List Instr) (w : World) (p : Typed) (running : Running) (i : TacInstr)
-    (to : Option ℕ) (args : List ℕ) (rest : List TacInstr) (source : Pos) (word long : ℕ) (t : State Store)
+    (to : Option ℕ) (args : List ℕ) (rest : List TacInstr) (source : Pos) (word : ℕ) (t : State Store)
     (m : Machine) : Type 0 where
   Enters : (f : ℕ) → (callee : IsCallee s code running to args rest t f)
       → ((k : Next → State Store → Fate)
       → effect (operations (placed_plan s.map)) w p (kinds_in s running) i t k ≡ k (Into f (values t args) to) t)
-      → EntersWithin s code (long + length (begin_words s f callee.begins.frame callee.begins.words))
-      callee.begins.entry
+      → EntersWithin s code (cost i + prologue_cost (length args)) callee.begins.entry
       (callee.begins.entry + length (begin_words s f callee.begins.frame callee.begins.words)) callee.begins.frame
       (entry_of f (caller_of running rest to t) running.callers callee.body)
       (λ place'. entered s f place' callee.begins.lengths (entry_temps callee.begins.kinds (values t args)) t) m
       (frame_within s.map.stack.0 t.frame (Some callee.begins.frame))
-      → CallsThrough s code w p running i to args rest source word long t m
-  Stops : TrapsWithin long s code w p running i source word t m
-      → CallsThrough s code w p running i to args rest source word long t m
+      → CallsThrough s code w p running i to args rest source word t m
+  Stops : TrapsWithin (cost i) s code w p running i source word t m
+      → CallsThrough s code w p running i to args rest source word t m
   Leaves : ((k : Next → State Store → Fate)
       → effect (operations (placed_plan s.map)) w p (kinds_in s running) i t k ≡ over (ending.Outside source) t)
-      → CallsThrough s code w p running i to args rest source word long t m
+      → CallsThrough s code w p running i to args rest source word t m
 
 abbrev pub CallsThroughValuesRun : Type 0
 CallsThroughValuesRun = (s : Setting) (code : List Instr) → IsText s code → StackIsThere s
@@ -85,4 +85,4 @@ CallsThroughValuesRun = (s : Setting) (code : List Instr) → IsText s code → 
     → (words : List Instr) (form : ThroughWords s running.fun v args words) → HasAt code at words
     → MayCall s code running to args rest (at + length words) t
     → CallsThrough s code w p running (through to v of args source) to args rest source
-    (at + length form.finds + length form.passes) (length words) t m
+    (at + length form.finds + length form.passes) t m

@@ -7,7 +7,7 @@
 //! `Capabilities`, `Operations`, `Instructions`, `Jumps`, `Accesses`, `Zeroing`, `Copying`, `Services`, `Returning`,
 //! `Prologue`, `Entries`, `Passing`, `Calling`, `Through`.
 //! Main lemmas (`proofs/`): `Acts`, `Operands`, `Results`, `Far`, `Working`, `Arithmetic`, `Loops`, `Bringing`,
-//! `Stretches`, `Keeping`, `Saving`, `Moves`.
+//! `Stretches`, `Keeping`, `Saving`, `Moves`, `Costs`.
 #![tactic(auto)]
 
 mod laws;
