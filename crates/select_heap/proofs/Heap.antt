@@ -77,6 +77,7 @@ use Rattle.select_runs.proofs.Numbers.{null_address, number_at}
 use Rattle.select_runs.proofs.Pointing.{pointer_kind, same_capability}
 use Rattle.select_runs.proofs.Points.{laid, there}
 use Rattle.select_runs.proofs.Results.{reads_as_before, reads_no_more, results_go_home_law}
+use Rattle.select_runs.proofs.Services.{waits_by}
 use Rattle.select_runs.proofs.Simple.{bring_few, keep_few, may_take}
 use Rattle.select_runs.proofs.Working.{integer_bits, integer_of}
 use Rattle.select_heap.specs.Allocating.{heap_place, placed_at, free_behind, allocation_of, with_allocation}
@@ -89,24 +90,6 @@ use Rattle.select_heap.proofs.Masks.{unmasked, aligned_by, owned_small}
 use Rattle.select_heap.proofs.Rows.{heap_end, heap_encodable, heap_keeps, heap_base, heap_address, heap_long}
 use Rattle.select_heap.proofs.Rows.{heap_moved, op_does, imm_does, length_does, base_does, owned_does, mask_does}
 use Rattle.select_heap.proofs.Rows.{moved_does, narrowed_does, branch_does}
-
--- ---- temps that wait for the call
-
--- what is to be read from a call of that shape on is to be read behind it, and isn't its result
-pub waits_by : (whole is : List TacInstr) (k : ℕ) → Awaits reads writes whole is k → (to : Option ℕ)
-    (rest : List TacInstr) → is ≡ taking to ∷ rest
-    → (IsAmong k (in_option to) → ⊥) × Awaits reads writes whole rest k
-waits_by whole is k (temps.now {i = i} {is = r} h) to rest e =
-    let q : ◌≡◌ {A = TacInstr} i (taking to) = cc in
-    absurd (let z : IsAmong k [] = subst (λ j. IsAmong k (reads j)) q h in let y = z.1 in cc)
-waits_by whole is k (temps.onward {i = i} {is = r} f w live) to rest e =
-    let q : ◌≡◌ {A = TacInstr} i (taking to) = cc in
-    let y : ◌≡◌ {A = List TacInstr} r rest = cc in
-    (λ h. w (subst (λ j. IsAmong k (writes j)) (sym q) h), subst (λ z. Awaits reads writes whole z k) y live)
-waits_by whole is k (temps.ahead {i = i} {is = r} l h live) to rest e =
-    let q : ◌≡◌ {A = TacInstr} i (taking to) = cc in
-    absurd (let z : IsAmong l [] = subst (λ j. IsAmong l (temps.goes_to j)) q h in let y = z.1 in cc)
-waits_by whole is k (temps.back l h live) to rest e = absurd cc
 
 -- ---- the words
 

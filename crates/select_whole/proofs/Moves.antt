@@ -36,6 +36,7 @@ use Rattle.select_runs.specs.Accesses.{Accesses, TrapsWithin}
 use Rattle.select_runs.specs.Copying as copying
 use Rattle.select_runs.specs.Copying.{StructCopied, copy_cost}
 use Rattle.select_runs.specs.Jumps.{Branches, Taken, Passed}
+use Rattle.select_runs.specs.Kinds.{AreOfKinds}
 use Rattle.select_runs.specs.Operands.{ground_of, IsAtPoint}
 use Rattle.select_runs.specs.Results.{Arrives, GoesOnWithin}
 use Rattle.select_runs.specs.Results as at_place
@@ -142,16 +143,15 @@ module _ (g : Whole) (reports : IsReport g.report) (w : World) (bytes : IsOfByte
 
   pub data Did (r : Running) (b : Bool) (i : TacInstr) (rest : List TacInstr) (t : State Store) (m : Machine) :
       Type 0 where
-    Onward : (u : State Store) → Means g w r.fun i t On u → Comes (least b) (g.dear r.fun i) m t.done r rest u
+    Onward : (u : State Store) → Means g w r.fun i t On u → AreOfKinds (kinds_at g r.fun) u.vars →
+        Comes (least b) (g.dear r.fun i) m t.done r rest u
         → (b ≡ true → u.done ≡ t.done) → ends_there i ≡ false → is_turn i ≡ false → Did r b i rest t m
-    Jumps : (l : ℕ) (u : State Store) → Means g w r.fun i t (To l) u
-        → has_label (searched g w r.fun b rest) l ≡ true
-        → Comes 1 (g.dear r.fun i) m t.done r (behind l (searched g w r.fun b rest)) u → u.done ≡ t.done
-        → Did r b i rest t m
+    Jumps : (l : ℕ) → Means g w r.fun i t (To l) t → has_label (searched g w r.fun b rest) l ≡ true
+        → Comes 1 (g.dear r.fun i) m t.done r (behind l (searched g w r.fun b rest)) t → Did r b i rest t m
     Pauses : i ≡ instr.Turn → b ≡ false → here g w r (i ∷ rest) ≡ here g w r rest → Did r b i rest t m
     Enters : b ≡ false → Called g w r i rest t m → ends_there i ≡ false → is_turn i ≡ false → Did r b i rest t m
     Returns : b ≡ false → (c : Caller) (cs : List Caller) → r.callers ≡ c ∷ cs → (v : Value)
-        → Means g w r.fun i t (Back v) t
+        → Means g w r.fun i t (Back v) t → AreOfKinds (kinds_at g c.fun) (with_result c.vars c.to v)
         → Comes 1 (g.dear r.fun i) m t.done (record { fun = c.fun; callers = cs }) c.rest (back_in g r.fun c v t)
         → Did r b i rest t m
     Leaves : b ≡ false → r.callers ≡ [] → (v : Value) → Means g w r.fun i t (Back v) t
@@ -174,7 +174,7 @@ module _ (g : Whole) (reports : IsReport g.report) (w : World) (bytes : IsOfByte
       → GoesOnWithin most g.setting g.code w g.program r i rest words (here g w r (i ∷ rest)) t m
       → Did r false i rest t m
   goes_within r i rest t m most less inside falls plain words there d =
-      Onward d.next d.means
+      Onward d.next d.means d.kinded
       (comes_by 0 most (g.dear r.fun i) (here g w r (i ∷ rest) + length words) m t.done r rest d.next
       (quiet r.fun i t d.next On inside d.means) less there d.does)
       (λ e. absurd cc) falls plain
@@ -236,9 +236,9 @@ module _ (g : Whole) (reports : IsReport g.report) (w : World) (bytes : IsOfByte
       → runs.Jumped g w b l r rest t m → Did r b (instr.Jump l) rest t m
   from_jump b l r rest t m x =
       let to = behind l (searched g w r.fun b rest) in
-      Jumps l t x.does.means x.has
+      Jumps l x.does.means x.has
       (comes_by 1 (cost (instr.Jump l)) (g.dear r.fun (instr.Jump l)) (here g w r to) m t.done r to t refl x.dear refl
-      x.does.does) refl
+      x.does.does)
 
   -- some act leads to another word
   some_acts : (n : ℕ) (m to : Machine) (at next : ℕ) → at < next
@@ -266,13 +266,13 @@ module _ (g : Whole) (reports : IsReport g.report) (w : World) (bytes : IsOfByte
           → Did r b (instr.Branch on when l) rest t m
       by (Taken d) =
           let to = behind l (searched g w r.fun b rest) in
-          Jumps l t d.means x.has
+          Jumps l d.means x.has
           (comes_by 1 (cost (instr.Branch on when l)) (g.dear r.fun (instr.Branch on when l)) (here g w r to) m t.done r
-          to t refl x.dear refl d.does) refl
+          to t refl x.dear refl d.does)
       by (Passed means a) =
           let le = a.le in
           let dear = x.dear in
-          Onward t means (record {
+          Onward t means h.kinded (record {
             count = a.count;
             to = a.to;
             ge = least_le b a.count
@@ -347,6 +347,7 @@ module _ (g : Whole) (reports : IsReport g.report) (w : World) (bytes : IsOfByte
           Onward (served t to done' (Int x.does.byte))
           (λ k. x.does.means k ∙ ap (puts_by k) e
           ∙ optional_is to (Int x.does.byte) (record t { done = done' }) k)
+          x.does.kinded
           (comes_behind r rest m x.does.asks x.does.after t.done done' x.does.count x.does.most
           (g.dear r.fun (putting to a)) (served t to done' (Int x.does.byte)) refl (omega arith) x.does.leads
           (ap (stepped limits w t.done) x.does.puts ∙ ap steps_by e)
@@ -394,6 +395,7 @@ module _ (g : Whole) (reports : IsReport g.report) (w : World) (bytes : IsOfByte
           Onward (served t to done' (byte_or_end b))
           (λ k. x.does.means k ∙ ap (takes_by k) e
           ∙ optional_is to (byte_or_end b) (record t { done = done' }) k)
+          (x.does.kinded b (byte_or b (bytes t.done.reads)))
           (comes_behind r rest m x.does.asks (x.does.after b) t.done done' x.does.count x.does.most
           (g.dear r.fun (taking to)) (served t to done' (byte_or_end b)) refl (omega arith) x.does.leads
           (ap (stepped limits w t.done) x.does.reads ∙ ap steps_by e)
@@ -441,7 +443,7 @@ module _ (g : Whole) (reports : IsReport g.report) (w : World) (bytes : IsOfByte
       by (c ∷ cs) e =
           let x = run.returns r.fun c cs v rest t m
           (subst (λ y. Here g w (record { fun = r.fun; callers = y }) false (instr.Return v ∷ rest) t m) e h) in
-          Returns refl c cs e x.value x.means
+          Returns refl c cs e x.value x.means x.kinded
           (comes_by 1 (g.dear r.fun (instr.Return v)) (g.dear r.fun (instr.Return v)) (g.word c.fun c.rest) m t.done
           (record { fun = c.fun; callers = cs }) c.rest (back_in g r.fun c x.value t) refl (omega arith) refl x.does)
 
@@ -500,9 +502,13 @@ module _ (g : Whole) (reports : IsReport g.report) (w : World) (bytes : IsOfByte
   does false (instr.CallValue to v of args pos) rest r t m h turned =
       from_value_call r (instr.CallValue to v of args pos) rest t m refl refl
       (run.value_calls r (instr.CallValue to v of args pos) rest t m tt h)
-  does false (instr.Lib lib.Malloc to args) rest r t m h turned =
-      from_goes r (instr.Lib lib.Malloc to args) rest t m tt refl refl
-      (run.allocations r (instr.Lib lib.Malloc to args) rest t m tt h)
+  does false (instr.Lib lib.Malloc to (a ∷ [])) rest r t m h turned =
+      from_goes r (instr.Lib lib.Malloc to (a ∷ [])) rest t m tt refl refl
+      (run.allocations r (instr.Lib lib.Malloc to (a ∷ [])) rest t m tt h)
+  does false (instr.Lib lib.Malloc to []) rest r t m h turned =
+      absurd (run.strange r (instr.Lib lib.Malloc to []) rest t m tt h)
+  does false (instr.Lib lib.Malloc to (a ∷ c ∷ more)) rest r t m h turned =
+      absurd (run.strange r (instr.Lib lib.Malloc to (a ∷ c ∷ more)) rest t m tt h)
   does false (instr.Lib lib.PutChar to (a ∷ [])) rest r t m h turned =
       from_put to a r rest t m (run.puts to a r rest t m h)
   does false (instr.Lib lib.PutChar to []) rest r t m h turned =

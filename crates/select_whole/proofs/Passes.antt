@@ -14,12 +14,13 @@ use Rattle.cheri_c_sem.specs.Modes.{Store}
 use Rattle.cheri_c_sem.specs.Steps.{State, Fate}
 use Rattle.tac_ir.specs.Effects.{Next, On, To, Back, Into, effect}
 use Rattle.tac_ir.specs.Meaning.{Caller, Running, Going, Runs, Seeks, Turned, Sinks, follow, turned, pass, behind_turn}
-use Rattle.tac_ir.specs.Meaning.{turns, seek, is_label, back, enters, name_of}
+use Rattle.tac_ir.specs.Meaning.{turns, seek, is_label, back, enters, name_of, with_result}
 use Rattle.tac_ir.specs.Temps.{behind}
 use Rattle.tac_ir.specs.WellFormed.{is_turn, has_label, turns_fit, turn_fits, ends_well, ends_there}
 use Rattle.tac_ir.specs.declared.code.TacInstr.{TacInstr}
 use Rattle.tac_ir.specs.declared.code.TacInstr.TheVariants as instr
 use Rattle.place_inject.proofs.Registers.{done_keeps_fits_law}
+use Rattle.select_runs.specs.Kinds.{AreOfKinds}
 use Rattle.select_runs.specs.Operands.{IsAtPoint}
 use Rattle.select_runs.specs.Results as at_place
 use Rattle.int_select.specs.Selected.{IsReport}
@@ -29,7 +30,7 @@ use Rattle.int_select.proofs.Meets.{course_of, course_by, Reports}
 use Rattle.select_whole.specs.Visited as visit
 use Rattle.select_whole.specs.Visited.{Whole, Means, Visited, ops_of, kinds_at, tac_at, locals_of, called_by}
 use Rattle.select_whole.specs.Visited.{in_frame_of, back_in, looked_at}
-use Rattle.select_whole.specs.Runs.{here, Here, Called, Entered, InstructionsRun}
+use Rattle.select_whole.specs.Runs.{CallersKinded, here, Here, Called, Entered, InstructionsRun}
 use Rattle.select_whole.specs.Matching.{dear_of, IsFine, AreFine, IsOfBytes}
 use Rattle.select_whole.proofs.Moves.{Comes, Stops, Did, Onward, Jumps, Pauses, Enters, Returns, Leaves, Over, Outside}
 use Rattle.select_whole.proofs.Moves.{leads_reach, stops_by, does}
@@ -123,6 +124,8 @@ module _ (g : Whole) (reports : IsReport g.report) (fine : AreFine g) (w : World
   with_left r b is t m left s = record {
     at = record {
       visited = visit.turn left s.at.visited;
+      kinded = s.at.kinded;
+      callers = s.at.callers;
       point = record {
         fits = done_keeps_fits_law g.setting (Some (at_place.behind r (looked_at b is))) t m s.at.point.fits t.done
             left;
@@ -197,9 +200,6 @@ module _ (g : Whole) (reports : IsReport g.report) (fine : AreFine g) (w : World
         by_means t t (Into c.fun c.vs c.to) (follow_of again is r) s c.means
         (by ((ops_of g).enter c.fun t.frame) refl c.does)
       where
-        callee : Running
-        callee = called_by c.fun r is c.to t
-
         by : (o : Option ℕ) → (ops_of g).enter c.fun t.frame ≡ o
             → Entered g w (g.dear r.fun i) c.fun (called_by c.fun r is c.to t) o c.vs t s
             → Follows m all (enters (ops_of g) w g.setting.code g.program (locals_of g) again o c.fun c.vs
@@ -210,7 +210,12 @@ module _ (g : Whole) (reports : IsReport g.report) (fine : AreFine g) (w : World
             ok.runs (called_by c.fun r is c.to t) (tac_at g c.fun) u s a.to a.count all a.ge
             (leads_reach g reports w bytes run a.count s a.to t.done a.leads)
             (record {
-              at = record { visited = visit.called c.fun c.vs c.to address h.at.visited c.means e; point = a.point };
+              at = record {
+                visited = visit.called c.fun c.vs c.to address h.at.visited c.means e;
+                point = a.point;
+                kinded = c.kinded;
+                callers = (h.at.kinded, h.at.callers);
+              };
               is_function = c.is;
               fine_code = known;
               callers = (h.is_function, fine_rest g r.fun false i is h.fine_code falls plain, h.callers);
@@ -227,11 +232,12 @@ module _ (g : Whole) (reports : IsReport g.report) (fine : AreFine g) (w : World
 
     returns : (t : State Store) (s : Machine) → Stands r false (i ∷ is) t s → (c : Caller) (cs : List Caller)
         → r.callers ≡ c ∷ cs → (v : Value) → Means_so t (Back v) t
+        → AreOfKinds (kinds_at g c.fun) (with_result c.vars c.to v)
         → Comes g reports w bytes run 1 (g.dear r.fun i) s t.done (record { fun = c.fun; callers = cs }) c.rest
         (back_in g r.fun c v t)
         → Follows m all (effect (ops_of g) w g.program (kinds_at g r.fun) i t (follow_of again is r))
         (moment s t.done)
-    returns t s h c cs e v means a =
+    returns t s h c cs e v means kinded a =
         let u = back_in g r.fun c v t in
         let caller : Running = record { fun = c.fun; callers = cs } in
         let callers = subst CallersFine e h.callers in
@@ -241,7 +247,12 @@ module _ (g : Whole) (reports : IsReport g.report) (fine : AreFine g) (w : World
         (moment s t.done)) (sym e)
         (ok.runs caller c.rest u s a.to a.count all a.ge a.steps
         (record {
-          at = record { visited = visit.returned v there means; point = a.point };
+          at = record {
+            visited = visit.returned v there means;
+            point = a.point;
+            kinded = kinded;
+            callers = (subst (CallersKinded g w) e h.at.callers).1;
+          };
           is_function = callers.0;
           fine_code = callers.1;
           callers = callers.2;
@@ -282,10 +293,16 @@ module _ (g : Whole) (reports : IsReport g.report) (fine : AreFine g) (w : World
     -- ---- one instruction
 
     on_stands : (b : Bool) (t u : State Store) (s to : Machine) → Stands r b (i ∷ is) t s → Means_so t On u
+        → AreOfKinds (kinds_at g r.fun) u.vars
         → IsAtPoint g.setting g.code (at_place.behind r is) (g.word r.fun is) u to → ends_there i ≡ false
         → is_turn i ≡ false → Stands r false is u to
-    on_stands b t u s to h means there falls plain = record {
-      at = record { visited = visit.on h.at.visited means; point = there };
+    on_stands b t u s to h means kinded there falls plain = record {
+      at = record {
+        visited = visit.on h.at.visited means;
+        point = there;
+        kinded = kinded;
+        callers = h.at.callers;
+      };
       is_function = h.is_function;
       fine_code = fine_rest g r.fun b i is h.fine_code falls plain;
       callers = h.callers;
@@ -295,19 +312,24 @@ module _ (g : Whole) (reports : IsReport g.report) (fine : AreFine g) (w : World
         → Did g reports w bytes run r false i is t s
         → Follows m all (effect (ops_of g) w g.program (kinds_at g r.fun) i t (follow_of again is r))
         (moment s t.done)
-    run_plain rest t s h (Onward u means c quiet falls plain) =
+    run_plain rest t s h (Onward u means kinded c quiet falls plain) =
         let le = c.le in
         by_means t u On (follow_of again is r) s means
         (stretch m m (dear_of g r.fun is + m * most) all c.count (pass_of again is Runs r u) (moment s t.done)
         (moment c.to u.done) (omega arith) (omega arith) c.steps
-        (rest.runs false u c.to (on_stands false t u s c.to h means c.point falls plain)))
-    run_plain rest t s h (Jumps l u means has c same) =
+        (rest.runs false u c.to (on_stands false t u s c.to h means kinded c.point falls plain)))
+    run_plain rest t s h (Jumps l means has c) =
         let le = c.le in
-        by_means t u (To l) (follow_of again is r) s means
-        (stretch m m (dear_of g r.fun is + m * most) all c.count (pass_of again is (Seeks l) r u) (moment s t.done)
-        (moment c.to u.done) (omega arith) (omega arith) c.steps
-        (rest.seeks l u c.to (record {
-          at = record { visited = visit.ahead l h.at.visited means; point = c.point };
+        by_means t t (To l) (follow_of again is r) s means
+        (stretch m m (dear_of g r.fun is + m * most) all c.count (pass_of again is (Seeks l) r t) (moment s t.done)
+        (moment c.to t.done) (omega arith) (omega arith) c.steps
+        (rest.seeks l t c.to (record {
+          at = record {
+            visited = visit.ahead l h.at.visited means;
+            point = c.point;
+            kinded = h.at.kinded;
+            callers = h.at.callers;
+          };
           is_function = h.is_function;
           fine_code = fine_there g r.fun l (is_turn i) is
               (fine_tail g r.fun false i is h.fine_code (ends_some i is l has h.fine_code.ends)) has;
@@ -330,6 +352,8 @@ module _ (g : Whole) (reports : IsReport g.report) (fine : AreFine g) (w : World
             (rest.runs true t s (record {
               at = record {
                 visited = visit.paused h''.at.visited (λ k. refl);
+                kinded = h''.at.kinded;
+                callers = h''.at.callers;
                 point = record {
                   fits = h''.at.point.fits;
                   counter = h''.at.point.counter
@@ -343,7 +367,7 @@ module _ (g : Whole) (reports : IsReport g.report) (fine : AreFine g) (w : World
               callers = h''.callers;
             })))
     run_plain rest t s h (Enters b c falls plain) = calls t s h c falls plain
-    run_plain rest t s h (Returns b c cs e v means a) = returns t s h c cs e v means a
+    run_plain rest t s h (Returns b c cs e v means kinded a) = returns t s h c cs e v means kinded a
     run_plain rest t s h (Leaves b e v means a) = ends_run t s e v means a
     run_plain rest t s h (Over e d final means a) = over_by t s (follow_of again is r) e d final means a
     run_plain rest t s h (Outside pos means) = outside_by t s (follow_of again is r) pos means
@@ -358,31 +382,34 @@ module _ (g : Whole) (reports : IsReport g.report) (fine : AreFine g) (w : World
         → Did g reports w bytes run r true i is t s
         → Follows m all (effect (ops_of g) w g.program (kinds_at g r.fun) i t (turned_of again is r))
         (moment s t.done)
-    run_turned t s h (Onward u means c quiet falls plain) =
+    run_turned t s h (Onward u means kinded c quiet falls plain) =
         let same = quiet refl in
-        let there = on_stands true t u s c.to h means c.point falls plain in
+        let there = on_stands true t u s c.to h means kinded c.point falls plain in
         by_means t u On (turned_of again is r) s means
         (same_start u t (again is Runs r u) s same
         (ok.runs r is u s c.to c.count all c.ge
         (subst (λ d. Reaches limits act w c.count (moment s d) (moment c.to u.done)) (sym same) c.steps) there
         (λ n q. most_turn n m c.count (g.dear r.fun i) (dear_of g r.fun is) (dear_of g r.fun is) q c.le
         there.fine_code.cheap)))
-    run_turned t s h (Jumps l u means has c same) =
+    run_turned t s h (Jumps l means has c) =
         let known = fine r.fun h.is_function in
-        by_means t u (To l) (turned_of again is r) s means
-        (same_start u t (again (tac_at g r.fun) (Seeks l) r u) s same
-        (ok.seeks r l u s c.to c.count all c.ge
-        (subst (λ d. Reaches limits act w c.count (moment s d) (moment c.to u.done)) (sym same) c.steps)
+        by_means t t (To l) (turned_of again is r) s means
+        (ok.seeks r l t s c.to c.count all c.ge c.steps
         (record {
-          at = record { visited = visit.again l h.at.visited means; point = c.point };
+          at = record {
+            visited = visit.again l h.at.visited means;
+            point = c.point;
+            kinded = h.at.kinded;
+            callers = h.at.callers;
+          };
           is_function = h.is_function;
           fine_code = fine_there g r.fun l false (tac_at g r.fun) known has;
           callers = h.callers;
         }) has
-        (λ n q. most_turn n m c.count (g.dear r.fun i) most (dear_of g r.fun is) q c.le (omega arith))))
+        (λ n q. most_turn n m c.count (g.dear r.fun i) most (dear_of g r.fun is) q c.le (omega arith)))
     run_turned t s h (Pauses turn plain there) = absurd (let e : true ≡ false = plain in cc)
     run_turned t s h (Enters b c falls plain) = absurd (let e : true ≡ false = b in cc)
-    run_turned t s h (Returns b c cs e v means a) = absurd (let e : true ≡ false = b in cc)
+    run_turned t s h (Returns b c cs e v means kinded a) = absurd (let e : true ≡ false = b in cc)
     run_turned t s h (Leaves b e v means a) = absurd (let e : true ≡ false = b in cc)
     run_turned t s h (Over e d final means a) = over_by t s (turned_of again is r) e d final means a
     run_turned t s h (Outside pos means) = outside_by t s (turned_of again is r) pos means

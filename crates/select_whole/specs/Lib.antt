@@ -1,3 +1,4 @@
 pub mod Visited
 pub mod Runs
 pub mod Matching
+pub mod Chosen

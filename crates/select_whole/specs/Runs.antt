@@ -17,7 +17,7 @@ use Rattle.cheri_c_sem.specs.Modes.{Store}
 use Rattle.cheri_c_sem.specs.Steps.{State, Fate, over}
 use Rattle.tac_ir.specs.Costs.{cost}
 use Rattle.tac_ir.specs.Effects.{Next, Back, Into, effect}
-use Rattle.tac_ir.specs.Meaning.{Caller, Running, name_of}
+use Rattle.tac_ir.specs.Meaning.{Caller, Running, name_of, entry_temps, with_result}
 use Rattle.tac_ir.specs.Temps.{behind}
 use Rattle.tac_ir.specs.WellFormed.{has_label}
 use Rattle.tac_ir.specs.declared.code.LibOp.TheVariants as lib
@@ -28,15 +28,54 @@ use Rattle.select_runs.specs.Acts.{Leads, place}
 use Rattle.select_runs.specs.Capabilities.{IsNarrow, IsOffset, IsIntrinsic, IsPointing}
 use Rattle.select_runs.specs.Copying.{StructCopied, copy_cost}
 use Rattle.select_runs.specs.Jumps.{GoesTo, Branches}
+use Rattle.select_runs.specs.Kinds.{AreOfKinds}
 use Rattle.select_runs.specs.Operands.{ground_of, IsAtPoint}
 use Rattle.select_runs.specs.Operations.{IsComparison, IsConversion}
 use Rattle.select_runs.specs.Results.{Arrives, GoesOnWithin}
 use Rattle.select_runs.specs.Results as at_place
 use Rattle.select_runs.specs.Services.{PutsByte, TakesByte, ExitsBy, putting, taking, leaving}
 use Rattle.select_runs.specs.Words.{IsConst, IsCopy, IsPassed}
-use Rattle.select_whole.specs.Visited.{Whole, Means, Visited, ops_of, tac_at, locals_of, called_by, in_frame_of}
+use Rattle.select_whole.specs.Visited.{Whole, Means, Visited, ops_of, tac_at, called_by, in_frame_of}
 use Rattle.select_whole.specs.Visited.{back_in}
-use Rattle.select_whole.specs.Visited.{looked_at}
+use Rattle.select_whole.specs.Visited.{kinds_at, looked_at}
+
+-- ---- kinds of instructions
+
+abbrev pub IsInteger : TacInstr → Type 0
+IsInteger (instr.Int op k to a b) = Unit {0}
+IsInteger i = ⊥
+
+abbrev pub IsZero : TacInstr → Type 0
+IsZero (instr.Zero var) = Unit {0}
+IsZero i = ⊥
+
+abbrev pub IsAllocation : TacInstr → Type 0
+IsAllocation (instr.Lib lib.Malloc to (a ∷ [])) = Unit {0}
+IsAllocation i = ⊥
+
+abbrev pub IsStructCopy : TacInstr → Type 0
+IsStructCopy (instr.CopyUnits from to bytes unit from_pos to_pos) = Unit {0}
+IsStructCopy i = ⊥
+
+abbrev pub IsCall : TacInstr → Type 0
+IsCall (instr.Call to fun args) = Unit {0}
+IsCall i = ⊥
+
+abbrev pub IsValueCall : TacInstr → Type 0
+IsValueCall (instr.CallValue to v of args pos) = Unit {0}
+IsValueCall i = ⊥
+
+-- a call of the library with other arguments than it takes
+abbrev pub IsStrange : TacInstr → Type 0
+IsStrange (instr.Lib lib.PutChar to (a ∷ [])) = ⊥
+IsStrange (instr.Lib lib.PutChar to args) = Unit {0}
+IsStrange (instr.Lib lib.GetChar to []) = ⊥
+IsStrange (instr.Lib lib.GetChar to args) = Unit {0}
+IsStrange (instr.Lib lib.Malloc to (a ∷ [])) = ⊥
+IsStrange (instr.Lib lib.Malloc to args) = Unit {0}
+IsStrange (instr.Lib lib.Exit None (a ∷ [])) = ⊥
+IsStrange (instr.Lib lib.Exit to args) = Unit {0}
+IsStrange i = ⊥
 
 -- ---- places
 
@@ -44,10 +83,17 @@ module _ (g : Whole) (w : World) where
   abbrev pub here : Running → List TacInstr → ℕ
   here r is = g.word r.fun is
 
-  -- a run comes there, and the machine stands for its state
+  -- the temps of each caller are of their kinds
+  abbrev pub CallersKinded : List Caller → Type 0
+  CallersKinded [] = Unit {0}
+  CallersKinded (c ∷ cs) = AreOfKinds (kinds_at g c.fun) c.vars × CallersKinded cs
+
+  -- a run comes there, with temps of their kinds, and the machine stands for its state
   pub record Here (r : Running) (b : Bool) (is : List TacInstr) (t : State Store) (m : Machine) : Type 0 where
     pub visited : Visited g w r b is t
     pub point : IsAtPoint g.setting g.code (at_place.behind r (looked_at b is)) (here r is) t m
+    pub kinded : AreOfKinds (kinds_at g r.fun) t.vars
+    pub callers : CallersKinded r.callers
 
   -- the words of an instruction lead to those of the rest
   pub record Leads_on (r : Running) (i : TacInstr) (rest : List TacInstr) (words : List Instr) : Type 0 where
@@ -166,6 +212,7 @@ module _ (g : Whole) (w : World) where
     pub to : Option ℕ
     pub is : fun < length g.setting.code.funs
     pub means : Means g w r.fun i t (Into fun vs to) t
+    pub kinded : AreOfKinds (kinds_at g fun) (entry_temps (kinds_at g fun) vs)
     pub does : Entered (g.dear r.fun i) fun (called_by fun r rest to t) ((ops_of g).enter fun t.frame) vs t m
 
   -- a call through a value may trap, or leave what the meaning speaks of
@@ -174,12 +221,12 @@ module _ (g : Whole) (w : World) where
     Calls : Called r i rest t m → ValueCalled r i rest t m
     Traps : (c : Cause) (source : Pos) (e : End)
         → ((k : Next → State Store → Fate)
-        → effect (ops_of g) w g.program (Rattle.select_whole.specs.Visited.kinds_at g r.fun) i t k
+        → effect (ops_of g) w g.program (kinds_at g r.fun) i t k
         ≡ over (ending.Trap c source) t)
         → StopsBy (g.dear r.fun i) m e → g.report e ≡ Some (ending.Trap c source) → ValueCalled r i rest t m
     Leaves : (source : Pos)
         → ((k : Next → State Store → Fate)
-        → effect (ops_of g) w g.program (Rattle.select_whole.specs.Visited.kinds_at g r.fun) i t k
+        → effect (ops_of g) w g.program (kinds_at g r.fun) i t k
         ≡ over (ending.Outside source) t)
         → ValueCalled r i rest t m
 
@@ -188,6 +235,7 @@ module _ (g : Whole) (w : World) where
       Type 0 where
     pub value : Value
     pub means : Means g w fun (instr.Return v) t (Back value) t
+    pub kinded : AreOfKinds (kinds_at g c.fun) (with_result c.vars c.to value)
     pub does : Arrives g.setting g.code (at_place.behind (record { fun = c.fun; callers = cs }) c.rest) 1
         (g.dear fun (instr.Return v)) (g.word c.fun c.rest) (back_in g fun c value t) m
 
@@ -198,40 +246,6 @@ module _ (g : Whole) (w : World) where
     pub does : StopsBy (g.dear fun (instr.Return v)) m (end.Exit (number_of value % 256))
 
   -- ---- all instructions
-
-  abbrev pub IsInteger : TacInstr → Type 0
-  IsInteger (instr.Int op k to a b) = Unit {0}
-  IsInteger i = ⊥
-
-  abbrev pub IsZero : TacInstr → Type 0
-  IsZero (instr.Zero var) = Unit {0}
-  IsZero i = ⊥
-
-  abbrev pub IsAllocation : TacInstr → Type 0
-  IsAllocation (instr.Lib lib.Malloc to args) = Unit {0}
-  IsAllocation i = ⊥
-
-  abbrev pub IsStructCopy : TacInstr → Type 0
-  IsStructCopy (instr.CopyUnits from to bytes unit from_pos to_pos) = Unit {0}
-  IsStructCopy i = ⊥
-
-  abbrev pub IsCall : TacInstr → Type 0
-  IsCall (instr.Call to fun args) = Unit {0}
-  IsCall i = ⊥
-
-  abbrev pub IsValueCall : TacInstr → Type 0
-  IsValueCall (instr.CallValue to v of args pos) = Unit {0}
-  IsValueCall i = ⊥
-
-  -- a call of the library with other arguments than it takes
-  abbrev pub IsStrange : TacInstr → Type 0
-  IsStrange (instr.Lib lib.PutChar to (a ∷ [])) = ⊥
-  IsStrange (instr.Lib lib.PutChar to args) = Unit {0}
-  IsStrange (instr.Lib lib.GetChar to []) = ⊥
-  IsStrange (instr.Lib lib.GetChar to args) = Unit {0}
-  IsStrange (instr.Lib lib.Exit None (a ∷ [])) = ⊥
-  IsStrange (instr.Lib lib.Exit to args) = Unit {0}
-  IsStrange i = ⊥
 
   pub record InstructionsRun : Type 0 where
     pub constants : Each IsConst Goes

@@ -1,0 +1,394 @@
+-- Where selection chose words as the laws ask for, each instruction runs.
+use Rattle.std.proofs.Common.{pos, ℕ, ◌+◌, ◌<◌, ◌≤◌, Bool, true, false, List, [], ◌∷◌, length, Option, ap}
+use Rattle.std.proofs.Common.{subst, arith, ◌≡◌, ◌∙◌, sym, Some, None}
+use Rattle.std.specs.Prelude.{slice_get}
+use Rattle.std.proofs.lemmas.List.{length-append}
+use Rattle.ck_base.specs.World.{World}
+use Rattle.rv_instr.specs.declared.instr.Instr.{Instr}
+use Rattle.rv_instr.specs.declared.instr.Instr.TheVariants.{Branch, Cjal}
+use Rattle.cap_machine.specs.declared.machine.Machine.{Machine}
+use Rattle.cap_machine.specs.declared.end.End.TheVariants as end
+use Rattle.cheri_c_sem.specs.Modes.{Store, operations, frame_within}
+use Rattle.cheri_c_sem.specs.Steps.{State}
+use Rattle.tac_ir.specs.Costs.{cost, prologue_cost}
+use Rattle.obj_mem.specs.declared.map.Frame.{Frame}
+use Rattle.obj_mem.specs.Values.{Value}
+use Rattle.purecap_abi.specs.Ends.{before_store}
+use Rattle.tac_ir.specs.Meaning.{Caller, Running, entry_temps}
+use Rattle.tac_ir.specs.Temps.{behind}
+use Rattle.tac_ir.specs.declared.code.LibOp.TheVariants as lib
+use Rattle.tac_ir.specs.declared.code.TacInstr.{TacInstr}
+use Rattle.tac_ir.specs.declared.code.TacInstr.TheVariants as instr
+use Rattle.tac_ir.specs.declared.code.TacKind.{TacKind}
+use Rattle.place_inject.specs.Entering.{caller_of, entered, entry_of}
+use Rattle.place_inject.specs.Frames.{Setting}
+use Rattle.place_inject.specs.Leaving.{caller_at}
+use Rattle.select_runs.specs.Accesses.{IsAccess, place_of}
+use Rattle.select_runs.specs.Acts.{place}
+use Rattle.select_runs.specs.Calling.{begin_words, values, EntersWithin}
+use Rattle.select_runs.specs.Operands.{ground_of, IsAtPoint}
+use Rattle.select_runs.specs.Returning.{value_of}
+use Rattle.select_runs.specs.Capabilities.{IsNarrow, NarrowWords, IsOffset, OffsetWords, IsIntrinsic, CapWords}
+use Rattle.select_runs.specs.Capabilities.{IsPointing}
+use Rattle.select_runs.specs.Jumps.{Branches, inverted}
+use Rattle.select_runs.specs.Operations.{OperationWords, IsOperation, IsComparison, CompareWords, IsConversion}
+use Rattle.select_runs.specs.Operations.{ConversionWords}
+use Rattle.select_runs.specs.Results.{EachGoesOn, GoesOnWithin}
+use Rattle.select_runs.specs.Services.{putting, taking, leaving}
+use Rattle.select_runs.specs.Words as words
+use Rattle.select_runs.specs.Words.{IsConst, ConstantWords, IsCopy, IsPassed, NoWords}
+use Rattle.select_heap.specs.Heap.{allocating}
+use Rattle.select_whole.specs.Visited.{Whole, ops_of, tac_at, kinds_at, locals_of, in_frame_of, called_by, back_in}
+use Rattle.select_whole.specs.Runs.{Here, here, Each, searched, IsAllocation, IsInteger, IsZero, IsStructCopy, Goes}
+use Rattle.select_whole.specs.Runs.{Accessed, Copied, IsCall, Called, Entered, Returned, Left}
+use Rattle.select_whole.specs.Runs.{Jumped, Branched, Put, Taken, Exited, InstructionsRun}
+use Rattle.select_whole.specs.Chosen.{KnownLaws, CallStands, EachStands, BranchStands, Chosen, ChosenCodeRuns}
+
+within_more : (most more : ℕ) (s : Setting) (code : List Instr) (w : World) (p : _) (r : Running) (i : TacInstr)
+    (rest : List TacInstr) (ws : List Instr) (at : ℕ) (t : State Store) (m : Machine) → most ≤ more
+    → GoesOnWithin most s code w p r i rest ws at t m → GoesOnWithin more s code w p r i rest ws at t m
+within_more most more s code w p r i rest ws at t m less d =
+    let le = d.does.le in
+    record {
+      next = d.next;
+      means = d.means;
+      kinded = d.kinded;
+      does = record {
+        count = d.does.count;
+        to = d.does.to;
+        ge = d.does.ge;
+        le = omega arith;
+        leads = d.does.leads;
+        point = d.does.point;
+      };
+    }
+
+module _ (laws : KnownLaws) (g : Whole) (w : World) (c : Chosen g w) where
+  plain : (Is : TacInstr → Type 0) (Form : Setting → ℕ → TacInstr → List Instr → Type 0) → EachGoesOn Is Form
+      → EachStands g w Is (Form g.setting) → Each g w Is (Goes g w)
+  plain Is Form law stands r i rest t m is h =
+      let x = stands r i rest t m is h in
+      record {
+        words = x.words;
+        then_on = x.then_on;
+        does = within_more (cost i) (g.dear r.fun i) g.setting g.code w g.program r i rest x.words
+            (here g w r (i ∷ rest)) t m x.cheap
+            (law g.setting g.code c.text c.stack w g.program r i rest is (c.selectable r false i rest t m h)
+            (here g w r (i ∷ rest)) t m h.point h.kinded x.words x.form x.has);
+      }
+
+  integers : Each g w IsInteger (Goes g w)
+  integers r i rest t m is h =
+      plain IsOperation OperationWords laws.operations c.operations r i rest t m (c.promoted r i rest t m is h) h
+
+  pointers : Each g w IsPointing (Goes g w)
+  pointers r i rest t m is h =
+      let x = c.pointers r i rest t m is h in
+      record {
+        words = x.words;
+        then_on = x.then_on;
+        does = within_more (cost i) (g.dear r.fun i) g.setting g.code w g.program r i rest x.words
+            (here g w r (i ∷ rest)) t m x.cheap
+            (laws.pointers g.setting g.code c.text c.stack c.table w g.program c.asked r i rest is
+            (c.selectable r false i rest t m h) (here g w r (i ∷ rest)) t m h.point h.kinded x.words x.form x.has);
+      }
+
+  zeroes : Each g w IsZero (Goes g w)
+  zeroes r (instr.Zero var) rest t m is h =
+      let i = instr.Zero var in
+      let x = c.zeroes var r rest t m h in
+      record {
+        words = x.words;
+        then_on = x.then_on;
+        does = within_more _ (g.dear r.fun i) g.setting g.code w g.program r i rest x.words (here g w r (i ∷ rest)) t m
+            x.cheap
+            (laws.zeroes g.setting g.code c.text c.stack w g.program c.asked r var rest
+            (c.selectable r false i rest t m h) (here g w r (i ∷ rest)) t m h.point h.kinded x.words x.form x.has);
+      }
+  zeroes r i rest t m is h = absurd is
+
+  accesses : Each g w IsAccess (Accessed g w)
+  accesses r i rest t m is h =
+      let x = c.accesses r i rest t m is h in
+      record {
+        words = x.words;
+        then_on = x.then_on;
+        source = place_of i;
+        word = here g w r (i ∷ rest) + x.skip;
+        does = laws.accesses g.setting g.code c.text c.stack w g.program r i rest is (c.selectable r false i rest t m h)
+            (here g w r (i ∷ rest)) t m h.point h.kinded x.skip x.words x.form x.has;
+        reports = x.reports;
+        dear = x.cheap;
+      }
+
+  struct_copies : Each g w IsStructCopy (Copied g w)
+  struct_copies r (instr.CopyUnits from to bytes unit from_pos to_pos) rest t m is h =
+      let i = instr.CopyUnits from to bytes unit from_pos to_pos in
+      let x = c.struct_copies from to bytes unit from_pos to_pos r rest t m h in
+      record {
+        words = x.words;
+        then_on = x.then_on;
+        from_pos = from_pos;
+        to_pos = to_pos;
+        word = here g w r (i ∷ rest) + x.skip;
+        does = laws.struct_copies g.setting g.code c.text w g.program r from to bytes unit from_pos to_pos rest
+            (c.selectable r false i rest t m h) (here g w r (i ∷ rest)) t m h.point h.kinded x.skip x.words x.form
+            x.has;
+        reports_reading = x.reports_reading;
+        reports_writing = x.reports_writing;
+        dear = x.cheap;
+      }
+  struct_copies r i rest t m is h = absurd is
+
+  jumps : (b : Bool) (l : ℕ) (r : Running) (rest : List TacInstr) (t : State Store) (m : Machine)
+      → Here g w r b (instr.Jump l ∷ rest) t m → Jumped g w b l r rest t m
+  jumps true l r rest t m h =
+      let x = c.jumps true l r rest t m h in
+      record {
+        has = x.has_it;
+        does = (laws.jumps g.setting g.code c.text w g.program r l rest (here g w r (instr.Jump l ∷ rest))
+            (here g w r (behind l (searched g w r.fun true rest))) x.offset x.leads x.has t m).back h.point;
+        dear = x.cheap;
+      }
+  jumps false l r rest t m h =
+      let x = c.jumps false l r rest t m h in
+      record {
+        has = x.has_it;
+        does = (laws.jumps g.setting g.code c.text w g.program r l rest (here g w r (instr.Jump l ∷ rest))
+            (here g w r (behind l rest)) x.offset x.leads x.has t m).ahead h.point;
+        dear = x.cheap;
+      }
+
+  -- a branch has words
+  further : (b : Bool) (on : ℕ) (when : Bool) (l : ℕ) (r : Running) (rest : List TacInstr)
+      → BranchStands g w b on when l r rest → here g w r (instr.Branch on when l ∷ rest) < here g w r rest
+  further b on when l r rest x =
+      let next = x.then_on.next in
+      let long = ap length x.form.are in
+      let sum = length-append x.finds (Branch (inverted when) x.form.a 0 (pos 8) ∷ Cjal 0 x.offset ∷ []) in
+      omega (arith, next, long, sum)
+
+  branches : (b : Bool) (on : ℕ) (when : Bool) (l : ℕ) (r : Running) (rest : List TacInstr) (t : State Store)
+      (m : Machine) → Here g w r b (instr.Branch on when l ∷ rest) t m → Branched g w b on when l r rest t m
+  branches true on when l r rest t m h =
+      let i = instr.Branch on when l in
+      let x = c.branches true on when l r rest t m h in
+      let to = behind l (searched g w r.fun true rest) in
+      record {
+        has = x.has_it;
+        further = further true on when l r rest x;
+        does = subst (λ k. Branches g.setting g.code w g.program r i l to rest (here g w r to) k t m) x.then_on.next
+            ((laws.branches g.setting g.code c.text w g.program r on when l rest x.is_temp (here g w r (i ∷ rest))
+            (here g w r to) x.offset x.finds x.words x.form x.has x.leads t m h.kinded).back h.point);
+        dear = x.cheap;
+      }
+  branches false on when l r rest t m h =
+      let i = instr.Branch on when l in
+      let x = c.branches false on when l r rest t m h in
+      let to = behind l rest in
+      record {
+        has = x.has_it;
+        further = further false on when l r rest x;
+        does = subst (λ k. Branches g.setting g.code w g.program r i l to rest (here g w r to) k t m) x.then_on.next
+            ((laws.branches g.setting g.code c.text w g.program r on when l rest x.is_temp (here g w r (i ∷ rest))
+            (here g w r to) x.offset x.finds x.words x.form x.has x.leads t m h.kinded).ahead h.point);
+        dear = x.cheap;
+      }
+
+  puts : (to : Option ℕ) (a : ℕ) (r : Running) (rest : List TacInstr) (t : State Store) (m : Machine)
+      → Here g w r false (putting to a ∷ rest) t m → Put g w to a r rest t m
+  puts to a r rest t m h =
+      let i = putting to a in
+      let x = c.puts to a r rest t m h in
+      record {
+        words = x.words;
+        then_on = x.then_on;
+        does = laws.puts to a g.setting g.code c.text c.stack w g.program r rest (c.selectable r false i rest t m h)
+            x.aside (here g w r (i ∷ rest)) t m h.point h.kinded x.words x.form x.has;
+        dear = x.cheap;
+      }
+
+  takes : (to : Option ℕ) (r : Running) (rest : List TacInstr) (t : State Store) (m : Machine)
+      → Here g w r false (taking to ∷ rest) t m → Taken g w to r rest t m
+  takes to r rest t m h =
+      let i = taking to in
+      let x = c.takes to r rest t m h in
+      record {
+        words = x.words;
+        then_on = x.then_on;
+        does = laws.takes to g.setting g.code c.text c.stack w g.program r rest (c.selectable r false i rest t m h)
+            x.aside (here g w r (i ∷ rest)) t m h.point h.kinded x.words x.form x.has;
+        dear = x.cheap;
+      }
+
+  exits : (a : ℕ) (r : Running) (rest : List TacInstr) (t : State Store) (m : Machine)
+      → Here g w r false (leaving a ∷ rest) t m → Exited g w a r t m
+  exits a r rest t m h =
+      let i = leaving a in
+      let x = c.exits a r rest t m h in
+      record {
+        does = laws.exits a g.setting g.code c.text c.stack w g.program r rest (c.selectable r false i rest t m h)
+            x.aside (here g w r (i ∷ rest)) t m h.point h.kinded x.words x.form x.has;
+        dear = x.cheap;
+      }
+
+  allocations : Each g w IsAllocation (Goes g w)
+  allocations r (instr.Lib lib.Malloc to (a ∷ [])) rest t m is h =
+      let i = allocating to a in
+      let x = c.allocations to a r rest t m h in
+      record {
+        words = x.words;
+        then_on = x.then_on;
+        does = within_more (cost i) (g.dear r.fun i) g.setting g.code w g.program r i rest x.words
+            (here g w r (i ∷ rest)) t m x.cheap
+            (laws.allocations to a g.setting g.code c.text c.stack c.table w g.program r rest
+            (c.selectable r false i rest t m h) x.beside (here g w r (i ∷ rest)) t m h.point h.kinded x.words x.form
+            x.has);
+      }
+  allocations r i rest t m is h = absurd is
+
+  -- ---- calls and returns
+
+  -- the callee's state, in both words
+  entry_is : (fun place : ℕ) (lengths : List ℕ) (kinds : List TacKind) (vs : List Value) (t : State Store)
+      → lengths ≡ locals_of g fun → kinds ≡ kinds_at g fun
+      → entered g.setting fun place lengths (entry_temps kinds vs) t ≡ in_frame_of g w place fun vs t
+  unfolding operations
+  entry_is fun place lengths kinds vs t e f =
+      ap (λ xs. entered g.setting fun place xs (entry_temps kinds vs) t) e
+      ∙ ap (λ ks. entered g.setting fun place (locals_of g fun) (entry_temps ks vs) t) f
+
+  enter_is : (fun at : ℕ) (frame : Frame) → slice_get g.setting.map.frames fun ≡ Some frame
+      → (ops_of g).enter fun at ≡ frame_within g.setting.map.stack.0 at (Some frame)
+  unfolding operations
+  enter_is fun at frame e = ap (frame_within g.setting.map.stack.0 at) e
+
+  module _ (to : Option ℕ) (fun : ℕ) (args : List ℕ) (r : Running) (rest : List TacInstr) (t : State Store)
+      (m : Machine) (x : CallStands g w to fun args r rest t m) where
+    abbrev most : ℕ
+    most = cost (instr.Call to fun args) + prologue_cost (length args)
+
+    abbrev entry_end : ℕ
+    entry_end = x.begins.entry + length (begin_words g.setting fun x.begins.frame x.begins.words)
+
+    entered_by : (o : Option ℕ) → EntersWithin g.setting g.code most x.begins.entry entry_end x.begins.frame
+        (entry_of fun (caller_of r rest to t) r.callers (tac_at g fun))
+        (λ place. entered g.setting fun place x.begins.lengths (entry_temps x.begins.kinds (values t args)) t) m o
+        → Entered g w (g.dear r.fun (instr.Call to fun args)) fun (called_by fun r rest to t) o (values t args) t m
+    entered_by (Some place) a =
+        let le = a.le in
+        let less = x.cheap in
+        let same = entry_is fun place x.begins.lengths x.begins.kinds (values t args) t x.lengths x.kinds in
+        record {
+          count = a.count;
+          to = a.to;
+          ge = a.ge;
+          le = omega arith;
+          leads = a.leads;
+          point = subst (λ k. IsAtPoint g.setting g.code
+              (entry_of fun (caller_of r rest to t) r.callers (tac_at g fun)) k
+              (in_frame_of g w place fun (values t args) t) a.to) x.there
+              (subst (λ u. IsAtPoint g.setting g.code
+              (entry_of fun (caller_of r rest to t) r.callers (tac_at g fun)) entry_end u a.to) same a.point);
+        }
+    entered_by None a =
+        let few = a.few in
+        let less = x.cheap in (
+          end.Trap a.cause
+              (place (ground_of g.setting g.code) (x.begins.entry + length (before_store x.begins.frame))),
+          record { count = a.count; to = a.sinks; lt = omega arith; leads = a.leads; ends = a.ends },
+          x.reports a.cause,
+        )
+
+  calls : Each g w IsCall (Called g w)
+  calls r (instr.Call to fun args) rest t m is h =
+      let i = instr.Call to fun args in
+      let x = c.calls to fun args r rest t m h in
+      let d = laws.calls g.setting g.code c.text c.stack w g.program r to fun args rest (tac_at g fun)
+      (here g w r (i ∷ rest)) t m h.point x.addresses x.begins x.offset x.words x.form x.has x.leads x.may in
+      record {
+        fun = fun;
+        vs = values t args;
+        to = to;
+        is = x.is;
+        means = d.means;
+        kinded = x.kinded;
+        does = subst (λ o. Entered g w (g.dear r.fun i) fun (called_by fun r rest to t) o (values t args) t m)
+            (sym (enter_is fun t.frame x.begins.frame x.begins.is_frame.is))
+            (entered_by to fun args r rest t m x
+            (frame_within g.setting.map.stack.0 t.frame (Some x.begins.frame)) d.does);
+      }
+  calls r i rest t m is h = absurd is
+
+  returns : (fun : ℕ) (b : Caller) (bs : List Caller) (v : Option ℕ) (rest : List TacInstr) (t : State Store)
+      (m : Machine) → Here g w (record { fun = fun; callers = b ∷ bs }) false (instr.Return v ∷ rest) t m
+      → Returned g w fun b bs v t m
+  returns fun b bs v rest t m h =
+      let x = c.returns fun b bs v rest t m h in
+      let d = laws.returns g.setting g.code c.text c.stack w g.program fun v b bs rest
+      (g.word fun (instr.Return v ∷ rest)) t m h.point x.keeps x.older x.gives x.words x.form x.has x.to x.keep
+      x.resumes in
+      let a = d.does (locals_of g fun) x.locals in
+      let le = a.le in
+      let less = x.cheap in
+      record {
+        value = value_of t v;
+        means = d.means;
+        kinded = x.kinded;
+        does = record {
+          count = a.count;
+          to = a.to;
+          ge = a.ge;
+          le = omega arith;
+          leads = a.leads;
+          point = subst (λ k. IsAtPoint g.setting g.code (caller_at b bs b.rest) k (back_in g fun b (value_of t v) t)
+              a.to) x.there a.point;
+        };
+      }
+
+  last_returns : (fun : ℕ) (v : Option ℕ) (rest : List TacInstr) (t : State Store) (m : Machine)
+      → Here g w (record { fun = fun; callers = [] }) false (instr.Return v ∷ rest) t m → Left g w fun v t m
+  last_returns fun v rest t m h =
+      let x = c.last_returns fun v rest t m h in
+      let h' = subst (λ y. Here g w (record { fun = fun; callers = [] }) false (instr.Return y ∷ rest) t m) x.is h in
+      let d = laws.last_returns g.setting g.code c.text c.stack w g.program fun x.temp rest
+      (g.word fun (instr.Return (Some x.temp) ∷ rest)) t m h'.point x.integer x.words x.form x.has x.to x.stub in
+      let few = d.few in
+      let less = x.cheap in
+      subst (λ y. Left g w fun y t m) (sym x.is) (record {
+        value = value_of t (Some x.temp);
+        means = d.means;
+        does = record { count = d.count; to = d.asks; lt = omega arith; leads = d.leads; ends = d.ends };
+      })
+
+  runs : InstructionsRun g w
+  runs = record {
+    constants = plain IsConst ConstantWords laws.constants c.constants;
+    copies = plain IsCopy words.CopyWords laws.copies c.copies;
+    labels = plain IsPassed NoWords laws.labels c.labels;
+    operations = integers;
+    comparisons = plain IsComparison CompareWords laws.comparisons c.comparisons;
+    conversions = plain IsConversion ConversionWords laws.conversions c.conversions;
+    intrinsics = plain IsIntrinsic CapWords laws.intrinsics c.intrinsics;
+    offsets = plain IsOffset OffsetWords laws.offsets c.offsets;
+    narrows = plain IsNarrow NarrowWords laws.narrows c.narrows;
+    pointers = pointers;
+    zeroes = zeroes;
+    allocations = allocations;
+    accesses = accesses;
+    struct_copies = struct_copies;
+    jumps = jumps;
+    branches = branches;
+    turns = c.turns;
+    puts = puts;
+    takes = takes;
+    exits = exits;
+    strange = c.strange;
+    calls = calls;
+    value_calls = c.value_calls;
+    returns = returns;
+    last_returns = last_returns;
+  }
+
+pub chosen_code_runs_law : ChosenCodeRuns
+chosen_code_runs_law laws g w c = runs laws g w c

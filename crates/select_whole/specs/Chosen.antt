@@ -1,0 +1,269 @@
+-- What selection chose: at each place to which a run comes the words of the instruction stand, in the form that the
+-- laws of selected code ask for.
+use Rattle.std.specs.Prelude.{◌≡◌, ℕ, ◌+◌, ◌*◌, ◌/◌, ◌<◌, ◌≤◌, ℤ, Bool, true, false, List, [], ◌∷◌, length}
+use Rattle.std.specs.Prelude.{Option, Some, None, slice_get}
+use Rattle.ck_base.specs.World.{World}
+use Rattle.ck_base.specs.declared.positions.Pos.{Pos}
+use Rattle.rv_instr.specs.declared.instr.Instr.{Instr}
+use Rattle.rv_instr.specs.declared.instr.Instr.TheVariants.{Cjal}
+use Rattle.cap_machine.specs.declared.machine.Machine.{Machine}
+use Rattle.cap_machine.specs.declared.end.End.TheVariants as end
+use Rattle.cap_ops.specs.declared.access.Cause.{Cause}
+use Rattle.cheri_c_sem.specs.Kinds.{number_of}
+use Rattle.cheri_c_sem.specs.Modes.{Store}
+use Rattle.cheri_c_sem.specs.Steps.{State}
+use Rattle.tac_ir.specs.Costs.{cost, prologue_cost}
+use Rattle.obj_mem.specs.Values.{Int}
+use Rattle.obj_mem.specs.declared.ending.Ending.TheVariants as ending
+use Rattle.purecap_abi.specs.Ends.{before_store}
+use Rattle.tac_ir.specs.Meaning.{Caller, Running, entry_temps, name_of, with_result}
+use Rattle.tac_ir.specs.Temps.{behind}
+use Rattle.tac_ir.specs.WellFormed.{has_label}
+use Rattle.tac_ir.specs.declared.code.TacInstr.{TacInstr}
+use Rattle.tac_ir.specs.declared.code.TacInstr.TheVariants as instr
+use Rattle.place_inject.specs.Entering.{caller_of, entry_of}
+use Rattle.place_inject.specs.Frames.{IsLive, locals_by}
+use Rattle.place_inject.specs.Homes.{CallersKeep}
+use Rattle.place_inject.specs.Leaving.{OthersAreOlder}
+use Rattle.place_inject.specs.Spills.{StackIsThere}
+use Rattle.place_inject.specs.Tables.{TableIsThere}
+use Rattle.select_runs.specs.Accesses.{AccessesRun, AccessWords, IsAccess, place_of}
+use Rattle.select_runs.specs.Acts.{HasAt, place}
+use Rattle.select_runs.specs.Calling.{Begins, begin_words, HasWords, CallWords, MayCall, values, CallsRun}
+use Rattle.select_runs.specs.Capabilities.{IsNarrow, NarrowWords, IsOffset, OffsetWords, IsIntrinsic, CapWords}
+use Rattle.select_runs.specs.Capabilities.{IsPointing, PointingWords}
+use Rattle.select_runs.specs.Copying.{StructCopiesRun, CopyWords, copy_cost}
+use Rattle.select_runs.specs.Instructions.{ConstantsRun, CopiesRun, LabelsRun, NarrowsRun, OffsetsRun, IntrinsicsRun}
+use Rattle.select_runs.specs.Instructions.{IsAskedBy, PointersRun, OperationsRun, ComparisonsRun, ConversionsRun}
+use Rattle.select_runs.specs.Jumps.{LeadsTo, JumpsRun, BranchWords, BranchesRun}
+use Rattle.select_runs.specs.Kinds.{AreOfKinds}
+use Rattle.select_runs.specs.Operands.{IsText, ground_of}
+use Rattle.select_runs.specs.Returning.{ReturnWords, ResumesAt, Gives, value_of, ReturnsRun, StubAt, LastReturnsRun}
+use Rattle.select_runs.specs.Operations.{IsOperation, OperationWords, IsComparison, CompareWords, IsConversion}
+use Rattle.select_runs.specs.Operations.{ConversionWords}
+use Rattle.select_runs.specs.Results.{IsSelectable}
+use Rattle.select_runs.specs.Services.{Asks, StandsAside, PutsRun, TakesRun, ExitsRun, putting, taking, leaving}
+use Rattle.select_runs.specs.Words as words
+use Rattle.select_runs.specs.Words.{IsConst, ConstantWords, IsCopy, IsPassed, NoWords}
+use Rattle.select_runs.specs.Zeroing.{ZeroesRun, ZeroWords, granules}
+use Rattle.select_heap.specs.Heap.{Mallocs, StandsBeside, AllocationsRun, allocating}
+use Rattle.select_whole.specs.Visited.{Whole, kinds_at, tac_at, locals_of}
+use Rattle.select_whole.specs.Runs.{Here, here, Leads_on, Each, Reports_at, searched, IsInteger, IsStrange}
+use Rattle.select_whole.specs.Runs.{IsValueCall, ValueCalled, InstructionsRun}
+
+-- ---- the laws
+
+-- what the laws of selected code say
+pub record KnownLaws : Type 0 where
+  pub constants : ConstantsRun
+  pub copies : CopiesRun
+  pub labels : LabelsRun
+  pub operations : OperationsRun
+  pub comparisons : ComparisonsRun
+  pub conversions : ConversionsRun
+  pub intrinsics : IntrinsicsRun
+  pub offsets : OffsetsRun
+  pub narrows : NarrowsRun
+  pub pointers : PointersRun
+  pub zeroes : ZeroesRun
+  pub accesses : AccessesRun
+  pub struct_copies : StructCopiesRun
+  pub jumps : JumpsRun
+  pub branches : BranchesRun
+  pub puts : PutsRun
+  pub takes : TakesRun
+  pub exits : ExitsRun
+  pub allocations : AllocationsRun
+  pub calls : CallsRun
+  pub returns : ReturnsRun
+  pub last_returns : LastReturnsRun
+
+-- ---- what stands at the places
+
+module _ (g : Whole) (w : World) where
+  -- the words of an instruction stand there in their form, and it takes no more acts than are counted
+  pub record Stand (Form : ℕ → TacInstr → List Instr → Type 0) (r : Running) (i : TacInstr)
+      (rest : List TacInstr) : Type 0 where
+    pub words : List Instr
+    pub form : Form r.fun i words
+    pub has : HasAt g.code (here g w r (i ∷ rest)) words
+    pub then_on : Leads_on g w r i rest words
+    pub cheap : cost i ≤ g.dear r.fun i
+
+  abbrev pub EachStands : (TacInstr → Type 0) → (ℕ → TacInstr → List Instr → Type 0) → Type 0
+  EachStands Is Form = Each g w Is (λ r i rest t m. Stand Form r i rest)
+
+  pub record ZeroStands (var : ℕ) (r : Running) (rest : List TacInstr) : Type 0 where
+    pub words : List Instr
+    pub form : ZeroWords g.setting r.fun var words
+    pub has : HasAt g.code (here g w r (instr.Zero var ∷ rest)) words
+    pub then_on : Leads_on g w r (instr.Zero var) rest words
+    pub cheap : cost (instr.Zero var) + 8 * granules form.slot ≤ g.dear r.fun (instr.Zero var)
+
+  pub record AccessStands (r : Running) (i : TacInstr) (rest : List TacInstr) : Type 0 where
+    pub skip : ℕ
+    pub words : List Instr
+    pub form : AccessWords g.setting r.fun i skip words
+    pub has : HasAt g.code (here g w r (i ∷ rest)) words
+    pub then_on : Leads_on g w r i rest words
+    pub cheap : cost i ≤ g.dear r.fun i
+    pub reports : Reports_at g w (here g w r (i ∷ rest) + skip) (place_of i)
+
+  pub record CopyStands (from to bytes unit : ℕ) (from_pos to_pos : Pos) (r : Running) (i : TacInstr)
+      (rest : List TacInstr) : Type 0 where
+    pub skip : ℕ
+    pub words : List Instr
+    pub form : CopyWords g.setting r.fun from to (bytes / unit) unit skip words
+    pub has : HasAt g.code (here g w r (i ∷ rest)) words
+    pub then_on : Leads_on g w r i rest words
+    pub cheap : copy_cost i ≤ g.dear r.fun i
+    pub reports_reading : Reports_at g w (here g w r (i ∷ rest) + skip) from_pos
+    pub reports_writing : Reports_at g w (here g w r (i ∷ rest) + skip + 1) to_pos
+
+  abbrev pub copying : (from to bytes unit : ℕ) → Pos → Pos → TacInstr
+  copying from to bytes unit from_pos to_pos = instr.CopyUnits from to bytes unit from_pos to_pos
+
+  pub record JumpStands (b : Bool) (l : ℕ) (r : Running) (rest : List TacInstr) : Type 0 where
+    pub has_it : has_label (searched g w r.fun b rest) l ≡ true
+    pub offset : ℤ
+    pub leads : LeadsTo g.setting g.code (here g w r (instr.Jump l ∷ rest))
+        (here g w r (behind l (searched g w r.fun b rest))) offset
+    pub has : HasAt g.code (here g w r (instr.Jump l ∷ rest)) (Cjal 0 offset ∷ [])
+    pub cheap : cost (instr.Jump l) ≤ g.dear r.fun (instr.Jump l)
+
+  pub record BranchStands (b : Bool) (on : ℕ) (when : Bool) (l : ℕ) (r : Running) (rest : List TacInstr) : Type 0 where
+    pub has_it : has_label (searched g w r.fun b rest) l ≡ true
+    pub is_temp : on < length (kinds_at g r.fun)
+    pub offset : ℤ
+    pub finds : List Instr
+    pub words : List Instr
+    pub form : BranchWords g.setting r.fun on when offset finds words
+    pub has : HasAt g.code (here g w r (instr.Branch on when l ∷ rest)) words
+    pub leads : LeadsTo g.setting g.code (here g w r (instr.Branch on when l ∷ rest) + length finds + 1)
+        (here g w r (behind l (searched g w r.fun b rest))) offset
+    pub then_on : Leads_on g w r (instr.Branch on when l) rest words
+    pub cheap : cost (instr.Branch on when l) ≤ g.dear r.fun (instr.Branch on when l)
+
+  -- a call of the library, for which the environment is asked for a service
+  pub record ServiceStands (args : List ℕ) (service : ℕ) (to : Option ℕ) (r : Running) (i : TacInstr)
+      (rest : List TacInstr) : Type 0 where
+    pub words : List Instr
+    pub form : Asks g.setting r.fun args service to words
+    pub aside : StandsAside g.setting r to rest
+    pub has : HasAt g.code (here g w r (i ∷ rest)) words
+    pub then_on : Leads_on g w r i rest words
+    pub cheap : cost i ≤ g.dear r.fun i
+
+  pub record MallocStands (to : Option ℕ) (a : ℕ) (r : Running) (rest : List TacInstr) : Type 0 where
+    pub words : List Instr
+    pub form : Mallocs g.setting r.fun a to words
+    pub beside : StandsBeside g.setting r to rest
+    pub has : HasAt g.code (here g w r (allocating to a ∷ rest)) words
+    pub then_on : Leads_on g w r (allocating to a) rest words
+    pub cheap : cost (allocating to a) ≤ g.dear r.fun (allocating to a)
+
+  -- ---- calls and returns
+
+  -- the callee's code stands where the call leads, and the caller may call
+  pub record CallStands (to : Option ℕ) (fun : ℕ) (args : List ℕ) (r : Running) (rest : List TacInstr)
+      (t : State Store) (m : Machine) : Type 0 where
+    pub is : fun < length g.setting.code.funs
+    pub begins : Begins g.setting g.code fun (length args) (tac_at g fun)
+        (IsLive g.setting (entry_of fun (caller_of r rest to t) r.callers (tac_at g fun)))
+    pub lengths : begins.lengths ≡ locals_of g fun
+    pub kinds : begins.kinds ≡ kinds_at g fun
+    pub there : begins.entry + length (begin_words g.setting fun begins.frame begins.words) ≡ g.word fun (tac_at g fun)
+    pub kinded : AreOfKinds (kinds_at g fun) (entry_temps (kinds_at g fun) (values t args))
+    pub offset : ℤ
+    pub words : List Instr
+    pub form : CallWords g.setting r.fun args offset words
+    pub has : HasAt g.code (here g w r (instr.Call to fun args ∷ rest)) words
+    pub leads : LeadsTo g.setting g.code (here g w r (instr.Call to fun args ∷ rest) + length form.passes) begins.entry
+        offset
+    pub may : MayCall g.setting g.code r to args rest (here g w r (instr.Call to fun args ∷ rest) + length words) t
+    pub addresses : HasWords m
+    pub cheap : cost (instr.Call to fun args) + prologue_cost (length args) < g.dear r.fun (instr.Call to fun args)
+    pub reports : (c : Cause)
+        → g.report (end.Trap c (place (ground_of g.setting g.code) (begins.entry + length (before_store begins.frame))))
+        ≡ Some (ending.Stack (name_of (slice_get g.setting.code.funs fun)))
+
+  pub record ReturnStands (fun : ℕ) (c : Caller) (cs : List Caller) (v : Option ℕ) (rest : List TacInstr)
+      (t : State Store) : Type 0 where
+    pub keeps : CallersKeep g.setting (c ∷ cs)
+    pub older : OthersAreOlder g.setting t.first (c ∷ cs)
+    pub gives : Gives v c.to
+    pub kinded : AreOfKinds (kinds_at g c.fun) (with_result c.vars c.to (value_of t v))
+    pub words : List Instr
+    pub form : ReturnWords g.setting fun v words
+    pub has : HasAt g.code (g.word fun (instr.Return v ∷ rest)) words
+    pub to : ℕ
+    pub keep : List Instr
+    pub resumes : ResumesAt g.setting g.code c cs to keep
+    pub there : to + length keep ≡ g.word c.fun c.rest
+    pub locals : length (locals_of g fun) ≡ length (locals_by (slice_get g.setting.needs.functions fun))
+    pub cheap : cost (instr.Return v) + 3 ≤ g.dear fun (instr.Return v)
+
+  pub record LastStands (fun : ℕ) (v : Option ℕ) (rest : List TacInstr) (t : State Store) : Type 0 where
+    pub temp : ℕ
+    pub is : v ≡ Some temp
+    pub integer : value_of t (Some temp) ≡ Int (number_of (value_of t (Some temp)))
+    pub words : List Instr
+    pub form : ReturnWords g.setting fun (Some temp) words
+    pub has : HasAt g.code (g.word fun (instr.Return (Some temp) ∷ rest)) words
+    pub to : ℕ
+    pub stub : StubAt g.setting g.code to
+    pub cheap : cost (instr.Return (Some temp)) + 1 < g.dear fun (instr.Return (Some temp))
+
+  -- The code is loaded as the text of a legal map, with its stack and its table, for the program; and the words of each
+  -- instruction stand at its place. Of calls through values it is said that they run
+  pub record Chosen : Type 0 where
+    pub text : IsText g.setting g.code
+    pub stack : StackIsThere g.setting
+    pub table : TableIsThere g.setting
+    pub asked : IsAskedBy g.setting g.program
+    pub selectable : (r : Running) (b : Bool) (i : TacInstr) (rest : List TacInstr) (t : State Store) (m : Machine)
+        → Here g w r b (i ∷ rest) t m → IsSelectable g.setting g.program r i rest
+    pub constants : EachStands IsConst (ConstantWords g.setting)
+    pub copies : EachStands IsCopy (words.CopyWords g.setting)
+    pub labels : EachStands IsPassed (NoWords g.setting)
+    pub promoted : Each g w IsInteger (λ r i rest t m. IsOperation i)
+    pub operations : EachStands IsOperation (OperationWords g.setting)
+    pub comparisons : EachStands IsComparison (CompareWords g.setting)
+    pub conversions : EachStands IsConversion (ConversionWords g.setting)
+    pub intrinsics : EachStands IsIntrinsic (CapWords g.setting)
+    pub offsets : EachStands IsOffset (OffsetWords g.setting)
+    pub narrows : EachStands IsNarrow (NarrowWords g.setting)
+    pub pointers : EachStands IsPointing (PointingWords g.setting)
+    pub zeroes : (var : ℕ) (r : Running) (rest : List TacInstr) (t : State Store) (m : Machine)
+        → Here g w r false (instr.Zero var ∷ rest) t m → ZeroStands var r rest
+    pub accesses : Each g w IsAccess (λ r i rest t m. AccessStands r i rest)
+    pub struct_copies : (from to bytes unit : ℕ) (from_pos to_pos : Pos) (r : Running) (rest : List TacInstr)
+        (t : State Store) (m : Machine) → Here g w r false (copying from to bytes unit from_pos to_pos ∷ rest) t m
+        → CopyStands from to bytes unit from_pos to_pos r (copying from to bytes unit from_pos to_pos) rest
+    pub jumps : (b : Bool) (l : ℕ) (r : Running) (rest : List TacInstr) (t : State Store) (m : Machine)
+        → Here g w r b (instr.Jump l ∷ rest) t m → JumpStands b l r rest
+    pub branches : (b : Bool) (on : ℕ) (when : Bool) (l : ℕ) (r : Running) (rest : List TacInstr) (t : State Store)
+        (m : Machine) → Here g w r b (instr.Branch on when l ∷ rest) t m → BranchStands b on when l r rest
+    pub turns : (r : Running) (rest : List TacInstr) (t : State Store) (m : Machine)
+        → Here g w r false (instr.Turn ∷ rest) t m → here g w r (instr.Turn ∷ rest) ≡ here g w r rest
+    pub puts : (to : Option ℕ) (a : ℕ) (r : Running) (rest : List TacInstr) (t : State Store) (m : Machine)
+        → Here g w r false (putting to a ∷ rest) t m → ServiceStands (a ∷ []) 1 to r (putting to a) rest
+    pub takes : (to : Option ℕ) (r : Running) (rest : List TacInstr) (t : State Store) (m : Machine)
+        → Here g w r false (taking to ∷ rest) t m → ServiceStands [] 2 to r (taking to) rest
+    pub exits : (a : ℕ) (r : Running) (rest : List TacInstr) (t : State Store) (m : Machine)
+        → Here g w r false (leaving a ∷ rest) t m → ServiceStands (a ∷ []) 3 None r (leaving a) rest
+    pub strange : Each g w IsStrange (λ r i rest t m. ⊥)
+    pub allocations : (to : Option ℕ) (a : ℕ) (r : Running) (rest : List TacInstr) (t : State Store) (m : Machine)
+        → Here g w r false (allocating to a ∷ rest) t m → MallocStands to a r rest
+    pub calls : (to : Option ℕ) (fun : ℕ) (args : List ℕ) (r : Running) (rest : List TacInstr) (t : State Store)
+        (m : Machine) → Here g w r false (instr.Call to fun args ∷ rest) t m → CallStands to fun args r rest t m
+    pub value_calls : Each g w IsValueCall (ValueCalled g w)
+    pub returns : (fun : ℕ) (c : Caller) (cs : List Caller) (v : Option ℕ) (rest : List TacInstr) (t : State Store)
+        (m : Machine) → Here g w (record { fun = fun; callers = c ∷ cs }) false (instr.Return v ∷ rest) t m
+        → ReturnStands fun c cs v rest t
+    pub last_returns : (fun : ℕ) (v : Option ℕ) (rest : List TacInstr) (t : State Store) (m : Machine)
+        → Here g w (record { fun = fun; callers = [] }) false (instr.Return v ∷ rest) t m → LastStands fun v rest t
+
+-- By the laws, where selection chose so each instruction runs
+abbrev pub ChosenCodeRuns : Type 0
+ChosenCodeRuns = KnownLaws → (g : Whole) (w : World) → Chosen g w → InstructionsRun g w
