@@ -1,6 +1,6 @@
 -- Calls through values.
 use Rattle.std.proofs.Common.{◌≡◌, ℕ, ◌+◌, ◌%◌, ◌^◌, ◌≤◌, ◌==◌, ◌&&◌, ◌||◌, true, false, not, ltb, refl, ap, ◌∙◌, arith}
-use Rattle.std.proofs.Common.{Some}
+use Rattle.std.proofs.Common.{Some, ◌<◌, subst}
 use Rattle.std.specs.Prelude.{find, ℤ, pos, Ok}
 use Rattle.std.proofs.lemmas.Bool.{cond_both, le-ltb, eq-eqb, or_from}
 use Rattle.ck_int.specs.Kinds.{kept_of}
@@ -19,10 +19,13 @@ use Rattle.cap_machine.specs.declared.machine.Machine.{Machine}
 use Rattle.cap_machine.specs.Integers.{extended}
 use Rattle.cap_machine.specs.State.{register}
 use Rattle.cap_machine.specs.Rows.{plus, trap, jump, unsealed, entered, cjalr_checked, cjalr_row}
-use Rattle.obj_mem.specs.Values.{Int, Live, Fun, Raw, Addresses, capability_of}
-use Rattle.obj_mem.specs.Objects.{base_in}
+use Rattle.obj_mem.specs.Values.{Value, Int, Live, Fun, Raw, Addresses, capability_of}
+use Rattle.obj_mem.specs.Comparisons.{callee}
+use Rattle.obj_mem.specs.Objects.{Memory, base_in}
+use Rattle.place_inject.specs.Values.{IsKnown}
+use Rattle.place_inject.specs.Objects.{ObjectsFit}
 use Rattle.obj_mem.specs.Access.{misses}
-use Rattle.place_inject.specs.Calling.{CalleesFit}
+use Rattle.place_inject.specs.Calling.{CallAnswers, CalleesFit}
 use Rattle.place_inject.proofs.Checked.{Points, pointer, pointer_checked, untagged_checked}
 use Rattle.place_inject.proofs.Known.{pointer_is, plus_zero, integer_tag, raw_tag, points}
 use Rattle.place_inject.proofs.ReadBack.{none_fails}
@@ -137,15 +140,34 @@ module _ (b low high at perms : ℕ) (p : Points b low high at perms) (no_execut
 
 -- ---- the law
 
-pub callees_fit_law : CalleesFit
-callees_fit_law functions a objects m fit lie link rs (Int n) k holds =
+-- the first word of a function lies in the text
+pub record FirstLies (a : Addresses) (f : ℕ) : Type 0 where
+  pub exact : Encodable a.text a.text_end
+  pub within : a.entry f + 4 ≤ a.text_end
+  pub aligned : a.entry f % 4 ≡ 0
+
+pub callees_answer : (functions : ℕ) (a : Addresses) (objects : Memory) (m : Machine)
+    → ObjectsFit functions a objects m.mem → (link rs : ℕ) (v : Value) → IsKnown objects.shapes functions v
+    → ((f : ℕ) → v ≡ Fun f → FirstLies a f) → register m rs ≡ capability_of a (base_in objects.shapes) v
+    → CallAnswers m link a (callee v) (cjalr_row m link rs (pos 0))
+callees_answer functions a objects m fit link rs (Int n) k lies holds =
     untagged_called m link rs _ holds (integer_tag a (base_in objects.shapes) n)
-callees_fit_law functions a objects m fit lie link rs (Raw address upper) k holds =
+callees_answer functions a objects m fit link rs (Raw address upper) k lies holds =
     untagged_called m link rs _ holds (raw_tag a (base_in objects.shapes) address upper)
-callees_fit_law functions a objects m fit lie link rs (Fun f) k holds =
-    sentry_enters a.text a.text_end (a.entry f) lie.exact (fit.spread.in_text f k).0 (lie.within f k) (lie.aligned f k)
+callees_answer functions a objects m fit link rs (Fun f) k lies holds =
+    let l = lies f refl in
+    sentry_enters a.text a.text_end (a.entry f) l.exact (fit.spread.in_text f k).0 l.within l.aligned
     fit.spread.text_to m link rs (holds ∙ function_is a (base_in objects.shapes) f)
-callees_fit_law functions a objects m fit lie link rs (Live o low high at perms) k holds =
+callees_answer functions a objects m fit link rs (Live o low high at perms) k lies holds =
     pointer_called k.shape.base low high at perms
     (points functions a objects m.mem fit o low high at perms k) k.no_execute
     m link rs (holds ∙ pointer_is a objects.shapes o low high at perms k.shape k.there)
+
+pub callees_fit_law : CalleesFit
+callees_fit_law functions a objects m fit lie link rs v k holds =
+    callees_answer functions a objects m fit link rs v k (lies v k) holds
+  where
+    lies : (v : Value) → IsKnown objects.shapes functions v → (f : ℕ) → v ≡ Fun f → FirstLies a f
+    lies v k f e =
+        let known : f < functions = subst (IsKnown objects.shapes functions) e k in
+        record { exact = lie.exact; within = lie.within f known; aligned = lie.aligned f known }

@@ -1,6 +1,6 @@
 -- Calls through values.
 use Rattle.std.proofs.Common.{◌≡◌, ℕ, zero, suc, ◌+◌, Bool, true, false, pos, List, [], ◌∷◌, ◌++◌, length}
-use Rattle.std.proofs.Common.{refl, ap, ◌∙◌, subst, arith, Option, Some}
+use Rattle.std.proofs.Common.{refl, sym, ap, ◌∙◌, subst, arith, Option, Some}
 use Rattle.std.specs.Prelude.{slice_get, slice_set, slice_index_or}
 use Rattle.std.proofs.lemmas.List.{length-append}
 use Rattle.std.proofs.lemmas.Option.{slice_get_within}
@@ -12,7 +12,8 @@ use Rattle.cap_ops.specs.declared.access.Cause.TheVariants as cause
 use Rattle.cap_ops.specs.declared.capability.Cap.{Cap}
 use Rattle.cap_ops.specs.Capability.{sealed, added}
 use Rattle.rv_instr.specs.declared.instr.Instr.{Instr}
-use Rattle.rv_instr.specs.declared.instr.Instr.TheVariants.{Cjalr}
+use Rattle.rv_instr.specs.declared.instr.Instr.TheVariants.{Cjalr, CapGet}
+use Rattle.rv_instr.specs.declared.ops.CapGetOp.TheVariants.{Cmove}
 use Rattle.cap_machine.specs.declared.machine.Machine.{Machine}
 use Rattle.cap_machine.specs.State.{register}
 use Rattle.cap_machine.specs.Rows.{row, cjalr_row, trap}
@@ -31,10 +32,10 @@ use Rattle.tac_ir.specs.Effects.{Next, Into, effect, fits, temp_in}
 use Rattle.tac_ir.specs.Meaning.{Running}
 use Rattle.tac_ir.specs.Temps.{now, IsIn as IsAmong}
 use Rattle.tac_ir.specs.declared.code.TacInstr.{TacInstr}
-use Rattle.place_inject.specs.Calling.{EntriesLie, code_at, CallAnswers}
+use Rattle.place_inject.specs.Calling.{code_at, CallAnswers}
 use Rattle.place_inject.specs.Frames.{Setting, Point, IsLive, functions_of, homes_of, return_sentry}
 use Rattle.place_inject.specs.Spills.{StackIsThere}
-use Rattle.place_inject.proofs.Calling.{callees_fit_law}
+use Rattle.place_inject.proofs.Calling.{FirstLies, callees_answer}
 use Rattle.select_runs.specs.Accesses.{TrapsWithin}
 use Rattle.select_runs.specs.Acts.{Ground, HasAt, IsThere, counter_at, place}
 use Rattle.select_runs.specs.Calling.{begin_words, HasWords, MayCall, values}
@@ -53,8 +54,12 @@ use Rattle.select_runs.proofs.Passing.{numbers, arguments_pass_law}
 use Rattle.select_runs.proofs.Points.{laid, there, traps_at}
 use Rattle.select_runs.proofs.Working.{Got}
 
+abbrev function_of : Value → ℕ
+function_of (Fun f) = f
+function_of v = 0
+
 module _ (s : Setting) (code : List Instr) (x : IsText s code) (stack : StackIsThere s)
-    (lie : EntriesLie (functions_of s) (addresses_of s.map)) (w : World) (p : Typed) (running : Running) (to : Option ℕ)
+    (w : World) (p : Typed) (running : Running) (to : Option ℕ)
     (v of : ℕ) (args : List ℕ) (source : Pos) (rest : List TacInstr) (at : ℕ) (t : State Store) (m : Machine)
     (point : IsAtPoint s code (before running (through to v of args source) rest) at t m) (words64 : HasWords m)
     (callees : (f : ℕ) → temp_in t v ≡ Fun f
@@ -125,9 +130,12 @@ module _ (s : Setting) (code : List Instr) (x : IsText s code) (stack : StackIsT
   holds : register n 31 ≡ bits (temp_in t v)
   holds = passed.way ∙ found.holds
 
-  answers : CallAnswers n 1 (addresses_of s.map) (callee (temp_in t v)) (cjalr_row n 1 31 (pos 0))
-  answers = callees_fit_law (functions_of s) (addresses_of s.map) t.mem.memory n passed.point.fits.objects lie 1 31
-      (temp_in t v) (point.fits.calls.1.known v live_callee) holds
+  abbrev Answers : Value → Type 0
+  Answers y = CallAnswers n 1 (addresses_of s.map) (callee y) (cjalr_row n 1 31 (pos 0))
+
+  answers : ((f : ℕ) → temp_in t v ≡ Fun f → FirstLies (addresses_of s.map) f) → Answers (temp_in t v)
+  answers lies = callees_answer (functions_of s) (addresses_of s.map) t.mem.memory n passed.point.fits.objects 1 31
+      (temp_in t v) (point.fits.calls.1.known v live_callee) lies holds
 
   -- ---- a trap
 
@@ -154,9 +162,21 @@ module _ (s : Setting) (code : List Instr) (x : IsText s code) (stack : StackIsT
   -- ---- a function
 
   module _ (f : ℕ) (is : temp_in t v ≡ Fun f) (own : IsCallee s code running to args rest t f) where
+    own_lies : FirstLies (addresses_of s.map) f
+    own_lies =
+        let l = slice_get_within code own.begins.entry (CapGet Cmove 28 2) own.begins.has.0 in
+        let room = x.room in let even = x.legal.text_aligned in let place_is = own.leads in
+        record { exact = x.legal.text_exact; within = omega arith; aligned = omega arith }
+
     row_is : cjalr_row n 1 31 (pos 0) ≡ Rattle.cap_machine.specs.Rows.jump n 1
         (code_at (addresses_of s.map) ((addresses_of s.map).entry f))
-    row_is = subst (λ y. CallAnswers n 1 (addresses_of s.map) (callee y) (cjalr_row n 1 31 (pos 0))) is answers
+    row_is = subst Answers is (answers lies)
+      where
+        same_function : (g : ℕ) → temp_in t v ≡ Fun g → f ≡ g
+        same_function g e = ap function_of (sym is ∙ e)
+
+        lies : (g : ℕ) → temp_in t v ≡ Fun g → FirstLies (addresses_of s.map) g
+        lies g e = subst (FirstLies (addresses_of s.map)) (same_function g e) own_lies
 
     goes : act n ≡ Goes (jumped s code x n mid own.begins.entry)
     unfolding row
@@ -216,15 +236,15 @@ module _ (s : Setting) (code : List Instr) (x : IsText s code) (stack : StackIsT
   by_value : (y : Value) → temp_in t v ≡ y → Result_is
   by_value (Int a) e =
       Stops (stops cause.Tag
-      (subst (λ y. CallAnswers n 1 (addresses_of s.map) (callee y) (cjalr_row n 1 31 (pos 0))) e answers)
+      (subst Answers e (answers (λ f q. let z = sym e ∙ q in absurd cc)))
       (λ k. ap (means_of k) e))
   by_value (Raw a upper) e =
       Stops (stops cause.Tag
-      (subst (λ y. CallAnswers n 1 (addresses_of s.map) (callee y) (cjalr_row n 1 31 (pos 0))) e answers)
+      (subst Answers e (answers (λ f q. let z = sym e ∙ q in absurd cc)))
       (λ k. ap (means_of k) e))
   by_value (Live object low high offset permissions) e =
       Stops (stops cause.Execute
-      (subst (λ y. CallAnswers n 1 (addresses_of s.map) (callee y) (cjalr_row n 1 31 (pos 0))) e answers)
+      (subst Answers e (answers (λ f q. let z = sym e ∙ q in absurd cc)))
       (λ k. ap (means_of k) e))
   by_value (Fun f) e = by (slice_index_or (fits (operations (placed_plan s.map)) w p of) f false) refl
     where
@@ -238,7 +258,7 @@ module _ (s : Setting) (code : List Instr) (x : IsText s code) (stack : StackIsT
           (operations (placed_plan s.map)) w source f b t (λ g u. k (Into g (values t args) to) u)) q)
 
 pub calls_through_values_run_law : CallsThroughValuesRun
-calls_through_values_run_law s code x stack lie w p running to v of args source rest at t m point words64 callees words
+calls_through_values_run_law s code x stack w p running to v of args source rest at t m point words64 callees words
     form has may =
-    by_value s code x stack lie w p running to v of args source rest at t m point words64 callees words form has may
+    by_value s code x stack w p running to v of args source rest at t m point words64 callees words form has may
     (temp_in t v) refl

@@ -17,8 +17,7 @@ use Rattle.tac_ir.specs.Effects.{Next, Into, effect, fits, temp_in}
 use Rattle.tac_ir.specs.Meaning.{Running, entry_temps}
 use Rattle.tac_ir.specs.declared.code.TacInstr.{TacInstr}
 use Rattle.tac_ir.specs.declared.code.TacInstr.TheVariants as instr
-use Rattle.place_inject.specs.Calling.{EntriesLie}
-use Rattle.place_inject.specs.Frames.{Setting, IsLive, functions_of}
+use Rattle.place_inject.specs.Frames.{Setting, IsLive}
 use Rattle.place_inject.specs.Entering.{caller_of, entry_of, entered}
 use Rattle.place_inject.specs.Spills.{StackIsThere}
 use Rattle.select_runs.specs.Accesses.{TrapsWithin}
@@ -76,7 +75,7 @@ pub data CallsThrough (s : Setting) (code : List Instr) (w : World) (p : Typed) 
 
 abbrev pub CallsThroughValuesRun : Type 0
 CallsThroughValuesRun = (s : Setting) (code : List Instr) → IsText s code → StackIsThere s
-    → EntriesLie (functions_of s) (addresses_of s.map) → (w : World) (p : Typed) (running : Running) (to : Option ℕ)
+    → (w : World) (p : Typed) (running : Running) (to : Option ℕ)
     (v of : ℕ) (args : List ℕ) (source : Pos) (rest : List TacInstr) (at : ℕ) (t : State Store) (m : Machine)
     → IsAtPoint s code (before running (through to v of args source) rest) at t m → HasWords m
     → ((f : ℕ) → temp_in t v ≡ Fun f
