@@ -1,0 +1,11 @@
+pub mod Declarators
+pub mod Declared
+pub mod Expressions
+pub mod Files
+pub mod Made
+pub mod Passing
+pub mod Readings
+pub mod Sorts
+pub mod Stated
+pub mod Stepping
+pub mod Whole

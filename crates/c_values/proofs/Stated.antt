@@ -1,0 +1,178 @@
+-- Statements as typing makes them (C11 6.8).
+use Rattle.std.proofs.Common.{false, List, [], ◌∷◌, ◌++◌}
+use Rattle.ck_base.specs.Tokens.{Lexeme}
+use Rattle.c_tree.specs.declared.syntax.NodeKind.{NodeKind}
+use Rattle.c_tree.specs.declared.syntax.NodeKind.TheVariants as Kinds
+use Rattle.c_tree.specs.Syntax.{Syn, Syns, node, nil, more}
+use Rattle.c_tree.specs.Types.{Ty}
+use Rattle.c_tree.specs.Terms.{Term, actions}
+use Rattle.c_tree.specs.Readings.{Context, Reading}
+use Rattle.c_tree.specs.Statements.{all_items, substatement, test, in_a_loop, in_a_switch, is_absent, is_declaration}
+use Rattle.c_tree.specs.Statements.{first_part, optional_test, optional_step, list_terms, for_of, Cases}
+use Rattle.c_tree.specs.Statements.{case_label, labels, switch_item, switch_items, no_cases, switch_of, return_of}
+use Rattle.c_tree.specs.Statements.{statement_of}
+use Rattle.c_tree.specs.Programs.{reading_of, reading, readings}
+use Rattle.c_values.proofs.Made.{TermWorth, TermsMade, ActionsMade, actions_append, converted_made}
+use Rattle.c_values.proofs.Stepping.{Keeps, Any, give_keeps, refuse_goes, goes_then, goes_next, need_keeps}
+use Rattle.c_values.proofs.Stepping.{if_goes, in_scope_keeps}
+use Rattle.c_values.proofs.Expressions.{assigned_keeps, condition_keeps}
+use Rattle.c_values.proofs.Readings.{ItemsMade, Reads, AllReads, read_keeps, expression_keeps}
+use Rattle.c_values.proofs.Declarators.{constant_keeps, specifiers_keep, kind_keeps, declarator_keeps, prototype_keeps}
+use Rattle.c_values.proofs.Declarators.{parameter_of_keeps, member_of_keeps, enumerator_keeps}
+use Rattle.c_values.proofs.Declared.{initializer_keeps, init_declarator_goes, both_made, declaration_goes}
+
+-- what a part keeps as a statement or declaration
+pub record Stated (r : Reading) : Type 0 where
+  pub reads : Reads r
+  pub item : (c : Context) → Keeps ItemsMade (r.item c)
+  pub body : (c : Context) → Keeps ItemsMade (r.body c)
+
+abbrev pub AllStated : List Reading → Type 0
+AllStated [] = Unit {0}
+AllStated (r ∷ rs) = Stated r × AllStated rs
+
+pub all_read : (rs : List Reading) → AllStated rs → AllReads rs
+all_read [] h = tt
+all_read (r ∷ rs) h = (h.0.reads, all_read rs h.1)
+
+-- ---- statements
+
+list_append : (xs ys : List Term) → TermsMade false (list_terms xs) → TermsMade false (list_terms ys) →
+    TermsMade false (list_terms (xs ++ ys))
+list_append [] ys h k = k
+list_append (x ∷ xs) ys h k = (h.0, list_append xs ys h.1 k)
+
+substatement_keeps : (c : Context) (r : Reading) → Stated r →
+    Keeps (λ xs. ActionsMade (actions xs)) (substatement c r)
+substatement_keeps c r h = goes_then (in_scope_keeps (h.item c)) λ i g. give_keeps g
+
+test_keeps : (r : Reading) → Reads r → Keeps TermWorth (test r)
+test_keeps r h = goes_then (read_keeps r h) λ a i. condition_keeps a i
+
+optional_test_keeps : (x : Syn) (r : Reading) → Reads r →
+    Keeps (λ ts. TermsMade false (list_terms ts)) (optional_test x r)
+optional_test_keeps x r h =
+    if_goes (is_absent x) _ _ (give_keeps tt) (goes_then (test_keeps r h) λ a i. give_keeps (i, tt))
+
+optional_step_keeps : (x : Syn) (r : Reading) → Reads r →
+    Keeps (λ ts. TermsMade false (list_terms ts)) (optional_step x r)
+optional_step_keeps x r h =
+    if_goes (is_absent x) _ _ (give_keeps tt) (goes_then (read_keeps r h) λ a i. give_keeps (i, tt))
+
+first_goes : (c : Context) (x : Syn) (r : Reading) → Stated r → Keeps ItemsMade (first_part c x r)
+first_goes c x r h =
+    if_goes (is_declaration x) _ _ (h.item c)
+    (if_goes (is_absent x) _ _ (give_keeps tt)
+    (goes_then (read_keeps r h.reads) λ a i. give_keeps (((i, tt), tt), tt)))
+
+all_items_goes : (c : Context) (rs : List Reading) → AllStated rs → Keeps ItemsMade (all_items c rs)
+all_items_goes c [] h = give_keeps tt
+all_items_goes c (r ∷ rs) h =
+    goes_then (h.0.item c) λ a i. goes_then (all_items_goes c rs h.1) λ b j. give_keeps (both_made a b i j)
+
+for_goes : (c : Context) (t : Lexeme) (x y z : Syn) (r q p b : Reading) → Stated r → Reads q → Reads p → Stated b →
+    Keeps ItemsMade (for_of c t x y z r q p b)
+for_goes c t x y z r q p b h g f l =
+    goes_then (first_goes c x r h) λ i o. goes_then (optional_test_keeps y q g) λ ts u.
+    goes_then (optional_step_keeps z p f) λ ss v. goes_then (substatement_keeps (in_a_loop c) b l) λ body w.
+    give_keeps ((list_append ts ss u v, actions_append i.actions body o w), tt)
+
+-- ---- switch
+
+abbrev CasesMade : Cases → Type 0
+CasesMade cs = ItemsMade cs.items
+
+switch_item_goes : (c : Context) (of : Ty) (x : Syn) (r : Reading) (cs : Cases) → Stated r → CasesMade cs →
+    Keeps CasesMade (switch_item c of x r cs)
+switch_item_goes c of x r cs h g =
+    if_goes (labels x) _ _
+    (goes_then (h.reads.label of) λ v u. goes_next (need_keeps _ _ _) (give_keeps g))
+    (goes_then (h.item c) λ i o. give_keeps (both_made cs.items i g o))
+
+switch_items_goes : (c : Context) (of : Ty) (xs : Syns) (rs : List Reading) (cs : Cases) → AllStated rs →
+    CasesMade cs → Keeps CasesMade (switch_items c of xs rs cs)
+switch_items_goes c of (more x xs) (r ∷ rs) cs h g =
+    goes_then (switch_item_goes c of x r cs h.0 g) λ ds i. switch_items_goes c of xs rs ds h.1 i
+switch_items_goes c of nil rs cs h g = give_keeps g
+switch_items_goes c of (more x xs) [] cs h g = give_keeps g
+
+switch_keeps : (c : Context) (t : Lexeme) (xs : Syns) (r : Reading) (rs : List Reading) → Reads r → AllStated rs →
+    Keeps ItemsMade (switch_of c t xs r rs)
+switch_keeps c t xs r rs h g =
+    goes_then (read_keeps r h) λ a i. goes_next (need_keeps _ _ _)
+    (goes_then (in_scope_keeps (switch_items_goes (in_a_switch c) _ xs rs no_cases g tt)) λ cs o.
+    give_keeps (((converted_made _ a.is i, tt), o), tt))
+
+return_keeps : (c : Context) (t : Lexeme) (rs : List Reading) → AllReads rs → Keeps ItemsMade (return_of c t rs)
+return_keeps c t [] h = goes_next (need_keeps _ _ _) (give_keeps ((tt, tt), tt))
+return_keeps c t (r ∷ rs) h =
+    goes_then (read_keeps r h.0) λ a i. goes_then (goes_next (need_keeps _ _ _) (assigned_keeps c.gives a i))
+    λ x j. give_keeps (((j, tt), tt), tt)
+
+statement_keeps : (k : NodeKind) (t : Lexeme) (xs : Syns) (rs : List Reading) (c : Context) → AllStated rs →
+    Keeps ItemsMade (statement_of k t xs rs c)
+statement_keeps Kinds.Declaration t xs rs c h = declaration_goes t.pos rs (all_read rs h)
+statement_keeps Kinds.Block t xs rs c h =
+    goes_then (in_scope_keeps (all_items_goes c rs h)) λ i g. give_keeps ((tt, g), tt)
+statement_keeps Kinds.EmptyStatement t xs rs c h = give_keeps ((tt, tt), tt)
+statement_keeps Kinds.ExpressionStatement t xs (r ∷ []) c h =
+    goes_then (read_keeps r h.0.reads) λ a i. give_keeps (((i, tt), tt), tt)
+statement_keeps Kinds.If t xs (r ∷ q ∷ []) c h =
+    in_scope_keeps (goes_then (test_keeps r h.0.reads) λ a i. goes_then (substatement_keeps c q h.1.0) λ x j.
+    give_keeps (((i, tt), j), tt))
+statement_keeps Kinds.IfElse t xs (r ∷ q ∷ p ∷ []) c h =
+    in_scope_keeps (goes_then (test_keeps r h.0.reads) λ a i. goes_then (substatement_keeps c q h.1.0) λ x j.
+    goes_then (substatement_keeps c p h.1.1.0) λ y l. give_keeps (((i, tt), actions_append x y j l), tt))
+statement_keeps Kinds.While t xs (r ∷ q ∷ []) c h =
+    in_scope_keeps (goes_then (test_keeps r h.0.reads) λ a i.
+    goes_then (substatement_keeps (in_a_loop c) q h.1.0) λ x j. give_keeps (((i, tt), j), tt))
+statement_keeps Kinds.Do t xs (r ∷ q ∷ []) c h =
+    in_scope_keeps (goes_then (substatement_keeps (in_a_loop c) r h.0) λ x j.
+    goes_then (test_keeps q h.1.0.reads) λ a i. give_keeps (((i, tt), j), tt))
+statement_keeps Kinds.For t (more x (more y (more z ws))) (r ∷ q ∷ p ∷ b ∷ []) c h =
+    in_scope_keeps (for_goes c t x y z r q p b h.0 h.1.0.reads h.1.1.0.reads h.1.1.1.0)
+statement_keeps Kinds.Switch t (more x xs) (r ∷ rs) c h = in_scope_keeps (switch_keeps c t xs r rs h.0.reads h.1)
+statement_keeps Kinds.Break t xs rs c h = goes_next (need_keeps _ _ _) (give_keeps ((tt, tt), tt))
+statement_keeps Kinds.Continue t xs rs c h = goes_next (need_keeps _ _ _) (give_keeps ((tt, tt), tt))
+statement_keeps Kinds.Return t xs rs c h = return_keeps c t rs (all_read rs h)
+statement_keeps k t xs rs c h = refuse_goes
+
+-- ---- all of them
+
+label_keeps : (rs : List Reading) (of : Ty) → AllReads rs → Keeps Any (case_label rs of)
+unfolding case_label
+label_keeps [] of h = give_keeps tt
+label_keeps (r ∷ rs) of h = goes_then (constant_keeps r h.0) λ k i. give_keeps tt
+
+reads_node : (k : NodeKind) (t : Lexeme) (xs : Syns) (rs : List Reading) → AllReads rs → Reads (reading_of k t xs rs)
+reads_node k t xs rs h = record {
+  operand = expression_keeps k t xs rs h;
+  type = λ alone. kind_keeps k t xs rs alone h;
+  specified = λ alone. specifiers_keep alone t xs rs h;
+  derived = declarator_keeps k t xs rs h;
+  prototype = prototype_keeps rs h;
+  parameter = λ only. parameter_of_keeps t rs only h;
+  members = λ ms. member_of_keeps t xs rs ms h;
+  enumerator = λ z. enumerator_keeps t rs z h;
+  initializer = λ asked p of at a. initializer_keeps k t xs rs asked p of at h a;
+  declared = λ s. init_declarator_goes xs rs s h;
+  label = λ of. label_keeps rs of h;
+}
+
+stated_node : (k : NodeKind) (t : Lexeme) (xs : Syns) (rs : List Reading) → AllStated rs →
+    Stated (reading_of k t xs rs)
+stated_node k t xs rs h = record {
+  reads = reads_node k t xs rs (all_read rs h);
+  item = λ c. statement_keeps k t xs rs c h;
+  body = λ c. all_items_goes c rs h;
+}
+
+mutual
+  unfolding reading readings
+
+  pub stated : (x : Syn) → Stated (reading x)
+  stated (node k t xs) = stated_node k t xs (readings xs) (all_stated xs)
+
+  pub all_stated : (xs : Syns) → AllStated (readings xs)
+  all_stated nil = tt
+  all_stated (more x xs) = (stated x, all_stated xs)
