@@ -23,7 +23,8 @@ use Rattle.c_facts.proofs.PassingTypes.{tagged_passed}
 use Rattle.c_facts.proofs.PassedStates.{written, passed_whole}
 use Rattle.c_values.specs.Valued.{IsValue, IsPlace, AreAsked, ActionValued, ActionsValued}
 use Rattle.c_values.proofs.Made.{is_read, TermMade, TermsMade, TermWorth, ActionMade, ActionsMade}
-use Rattle.c_values.proofs.Sorts.{AreFunctions, member_read, function_read, unstored, is_site, designates_site}
+use Rattle.c_values.proofs.Sorts.{AreFunctions, library_untagged, member_read, function_read, unstored, is_site}
+use Rattle.c_values.proofs.Sorts.{designates_site}
 use Rattle.c_values.proofs.Sorts.{decays_site, address_site, modifiable_site, unread_site}
 
 -- ---- expressions
@@ -95,6 +96,8 @@ module _ (names : Names) (number : ℕ → ℕ) (s : State) (functions : AreFunc
         (passed_arguments e own inner xs p) t p (value_passed n f h.0.1.0 o.0.0)
         (arguments_passed own inner xs p h.0.1.1 o.0.1)
     value_passed n (term tree.Call no_terms t p) h o = absurd o.1
+    value_passed n (term (tree.Library k) xs t p) h o =
+        (tagged_passed t ∙ library_untagged s k xs t o.1, values_passed n xs h.0.1 o.0)
     value_passed n (term x xs t p) h o = (tt, values_passed n xs h.0.1 o.0)
 
     place_passed : (n : ℕ) (x : Term) → TermMade x → TermOk true s x → is_site x ≡ true → IsPlace (passed_term e n x)

@@ -17,7 +17,7 @@ use Rattle.c_tree.specs.Expressions.{is_modifiable, given_type}
 use Rattle.c_tree.specs.Libraries.{Asked, Any_capability, A, Given, Of, As_argument, Service, services}
 use Rattle.c_tree.specs.WellTyped.{UnaryFits, Decays, AllAskedFit, list_of}
 use Rattle.c_facts.proofs.Agreeing.{refines}
-use Rattle.c_facts.proofs.Facts.{IsValue, scalar, nothing, tagged, TermOk}
+use Rattle.c_facts.proofs.Facts.{IsValue, scalar, nothing, tagged, ShapeOk, TermOk}
 use Rattle.c_values.proofs.Made.{is_read, TermWorth}
 
 abbrev pub is_stored : Ty → Bool
@@ -44,11 +44,6 @@ tagged_unstored : (t : Ty) → is_tagged t ≡ true → is_stored t ≡ false
 tagged_unstored (Tagged n) e = refl
 tagged_unstored t e = absurd (false≢true e)
 
-capability_unstored : (t : Ty) → is_capability t ≡ true → is_stored t ≡ false
-capability_unstored (Cap s) e = refl
-capability_unstored (Pointer t) e = refl
-capability_unstored t e = absurd (false≢true e)
-
 value_unstored : (ts : List TagState) (t : Ty) → IsValue ts t → is_stored t ≡ false
 value_unstored ts t (scalar h) = scalar_unstored t h
 value_unstored ts t (nothing e) = ap is_stored e
@@ -64,18 +59,36 @@ function_stored t e = absurd (false≢true e)
 
 -- ---- library functions
 
-abbrev GivesUnstored : List Asked → Given → Type 0
-GivesUnstored asks (Of t) = is_stored t ≡ false
-GivesUnstored (Any_capability ∷ rest) As_argument = Unit {0}
-GivesUnstored asks As_argument = ⊥
+-- void or a scalar
+abbrev is_plain : Ty → Bool
+is_plain t = is_void t || is_scalar t
 
-abbrev AllUnstored : List Service → Type 0
-AllUnstored [] = Unit {0}
-AllUnstored (f ∷ fs) = GivesUnstored f.takes f.gives × AllUnstored fs
+plain_unstored : (t : Ty) → is_plain t ≡ true → is_stored t ≡ false
+plain_unstored (Array t n) e = absurd (false≢true e)
+plain_unstored (Function r ps) e = absurd (false≢true e)
+plain_unstored t e = refl
 
-services_unstored : AllUnstored services
+plain_untagged : (t : Ty) → is_plain t ≡ true → is_tagged t ≡ false
+plain_untagged (Tagged n) e = absurd (false≢true e)
+plain_untagged t e = refl
+
+capability_plain : (t : Ty) → is_capability t ≡ true → is_plain t ≡ true
+capability_plain (Cap s) e = refl
+capability_plain (Pointer t) e = refl
+capability_plain t e = absurd (false≢true e)
+
+abbrev GivesPlain : List Asked → Given → Type 0
+GivesPlain asks (Of t) = is_plain t ≡ true
+GivesPlain (Any_capability ∷ rest) As_argument = Unit {0}
+GivesPlain asks As_argument = ⊥
+
+abbrev AllPlain : List Service → Type 0
+AllPlain [] = Unit {0}
+AllPlain (f ∷ fs) = GivesPlain f.takes f.gives × AllPlain fs
+
+services_plain : AllPlain services
 unfolding services
-services_unstored = (
+services_plain = (
   refl,
   (
     refl,
@@ -122,19 +135,28 @@ services_unstored = (
   ),
 )
 
-service_there : (fs : List Service) → AllUnstored fs → (k : ℕ) (f : Service) → slice_get fs k ≡ Some f →
-    GivesUnstored f.takes f.gives
+service_there : (fs : List Service) → AllPlain fs → (k : ℕ) (f : Service) → slice_get fs k ≡ Some f →
+    GivesPlain f.takes f.gives
 service_there [] h k f e = absurd cc
-service_there (g ∷ fs) h zero f e = subst (λ (f : Service). GivesUnstored f.takes f.gives) (same_Some g f e) h.0
+service_there (g ∷ fs) h zero f e = subst (λ (f : Service). GivesPlain f.takes f.gives) (same_Some g f e) h.0
 service_there (g ∷ fs) h (suc k) f e = service_there fs h.1 k f e
 
-given_unstored : (asks : List Asked) (g : Given) (xs : Terms) → GivesUnstored asks g → AllAskedFit asks xs →
-    is_stored (given_type g (list_of xs)) ≡ false
-given_unstored asks (Of t) xs h q = h
-given_unstored (Any_capability ∷ rest) As_argument (with_term x xs) h q = capability_unstored (type_of x) q.0
-given_unstored (Any_capability ∷ rest) As_argument no_terms h q = absurd q
-given_unstored [] As_argument xs h q = absurd h
-given_unstored (A t ∷ rest) As_argument xs h q = absurd h
+given_plain : (asks : List Asked) (g : Given) (xs : Terms) → GivesPlain asks g → AllAskedFit asks xs →
+    is_plain (given_type g (list_of xs)) ≡ true
+given_plain asks (Of t) xs h q = h
+given_plain (Any_capability ∷ rest) As_argument (with_term x xs) h q = capability_plain (type_of x) q.0
+given_plain (Any_capability ∷ rest) As_argument no_terms h q = absurd q
+given_plain [] As_argument xs h q = absurd h
+given_plain (A t ∷ rest) As_argument xs h q = absurd h
+
+library_plain : (s : State) (k : ℕ) (xs : Terms) (t : Ty) → ShapeOk true s (tree.Library k) xs t → is_plain t ≡ true
+library_plain s k xs t o =
+    ap is_plain o.3
+    ∙ given_plain o.0.takes o.0.gives xs (service_there services services_plain k o.0 o.1) o.2
+
+pub library_untagged : (s : State) (k : ℕ) (xs : Terms) (t : Ty) → ShapeOk true s (tree.Library k) xs t →
+    is_tagged t ≡ false
+library_untagged s k xs t o = plain_untagged t (library_plain s k xs t o)
 
 -- ---- functions
 
@@ -193,9 +215,7 @@ module _ (s : State) (functions : AreFunctions s) where
   unstored (term tree.Conditional (with_term a (with_term b (with_term c no_terms))) t p) h o =
       ap is_stored (sym o.1.1) ∙ unstored b h.0.1.1.0 o.0.1.0
   unstored (term tree.Call (with_term g xs) t p) h o = value_unstored s.tags t o.1.5
-  unstored (term (tree.Library k) xs t p) h o =
-      ap is_stored o.1.3
-      ∙ given_unstored o.1.0.takes o.1.0.gives xs (service_there services services_unstored k o.1.0 o.1.1) o.1.2
+  unstored (term (tree.Library k) xs t p) h o = plain_unstored t (library_plain s k xs t o.1)
   unstored (term n xs t p) h o = absurd o.1
 
 -- ---- where a place is asked for

@@ -29,6 +29,7 @@ GivesValue (tree.Fun k) t = ⊥
 GivesValue tree.Deref t = ⊥
 GivesValue (tree.Member k) t = ⊥
 GivesValue tree.Call t = is_tagged t ≡ false
+GivesValue (tree.Library k) t = is_tagged t ≡ false
 GivesValue (tree.Capability o from_right) t = from_right ≡ true → is_shift o ≡ false
 GivesValue x t = Unit {0}
 
