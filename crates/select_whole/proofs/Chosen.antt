@@ -38,11 +38,28 @@ use Rattle.select_runs.specs.Services.{putting, taking, leaving}
 use Rattle.select_runs.specs.Words as words
 use Rattle.select_runs.specs.Words.{IsConst, ConstantWords, IsCopy, IsPassed, NoWords}
 use Rattle.select_heap.specs.Heap.{allocating}
+use Rattle.select_runs.proofs.Simple.{constants_run_law, copies_run_law, labels_run_law}
+use Rattle.select_runs.proofs.Integers.{operations_run_law}
+use Rattle.select_runs.proofs.Comparisons.{comparisons_run_law}
+use Rattle.select_runs.proofs.Conversions.{conversions_run_law}
+use Rattle.select_runs.proofs.Intrinsics.{intrinsics_run_law}
+use Rattle.select_runs.proofs.Pointing.{offsets_run_law, narrows_run_law}
+use Rattle.select_runs.proofs.Pointers.{pointers_run_law}
+use Rattle.select_runs.proofs.Zeroing.{zeroes_run_law}
+use Rattle.select_runs.proofs.Accesses.{accesses_run_law}
+use Rattle.select_runs.proofs.Copying.{struct_copies_run_law}
+use Rattle.select_runs.proofs.Jumps.{jumps_run_law, branches_run_law}
+use Rattle.select_runs.proofs.Services.{puts_run_law, takes_run_law, exits_run_law}
+use Rattle.select_runs.proofs.Calling.{calls_run_law}
+use Rattle.select_runs.proofs.Returning.{returns_run_law, last_returns_run_law}
+use Rattle.select_heap.proofs.Heap.{allocations_run_law}
 use Rattle.select_whole.specs.Visited.{Whole, ops_of, tac_at, kinds_at, locals_of, in_frame_of, called_by, back_in}
 use Rattle.select_whole.specs.Runs.{Here, here, Each, searched, IsAllocation, IsInteger, IsZero, IsStructCopy, Goes}
 use Rattle.select_whole.specs.Runs.{Accessed, Copied, IsCall, Called, Entered, Returned, Left}
 use Rattle.select_whole.specs.Runs.{Jumped, Branched, Put, Taken, Exited, InstructionsRun}
-use Rattle.select_whole.specs.Chosen.{KnownLaws, CallStands, EachStands, BranchStands, Chosen, ChosenCodeRuns}
+use Rattle.select_whole.specs.Chosen.{CallStands, EachStands, BranchStands, Chosen, ChosenCodeRuns}
+use Rattle.select_whole.specs.Chosen.{ChosenCodeMatches}
+use Rattle.select_whole.proofs.Matching.{whole_runs_match_law}
 
 within_more : (most more : ℕ) (s : Setting) (code : List Instr) (w : World) (p : _) (r : Running) (i : TacInstr)
     (rest : List TacInstr) (ws : List Instr) (at : ℕ) (t : State Store) (m : Machine) → most ≤ more
@@ -63,7 +80,7 @@ within_more most more s code w p r i rest ws at t m less d =
       };
     }
 
-module _ (laws : KnownLaws) (g : Whole) (w : World) (c : Chosen g w) where
+module _ (g : Whole) (w : World) (c : Chosen g w) where
   plain : (Is : TacInstr → Type 0) (Form : Setting → ℕ → TacInstr → List Instr → Type 0) → EachGoesOn Is Form
       → EachStands g w Is (Form g.setting) → Each g w Is (Goes g w)
   plain Is Form law stands r i rest t m is h =
@@ -79,7 +96,7 @@ module _ (laws : KnownLaws) (g : Whole) (w : World) (c : Chosen g w) where
 
   integers : Each g w IsInteger (Goes g w)
   integers r i rest t m is h =
-      plain IsOperation OperationWords laws.operations c.operations r i rest t m (c.promoted r i rest t m is h) h
+      plain IsOperation OperationWords operations_run_law c.operations r i rest t m (c.promoted r i rest t m is h) h
 
   pointers : Each g w IsPointing (Goes g w)
   pointers r i rest t m is h =
@@ -89,7 +106,7 @@ module _ (laws : KnownLaws) (g : Whole) (w : World) (c : Chosen g w) where
         then_on = x.then_on;
         does = within_more (cost i) (g.dear r.fun i) g.setting g.code w g.program r i rest x.words
             (here g w r (i ∷ rest)) t m x.cheap
-            (laws.pointers g.setting g.code c.text c.stack c.table w g.program c.asked r i rest is
+            (pointers_run_law g.setting g.code c.text c.stack c.table w g.program c.asked r i rest is
             (c.selectable r false i rest t m h) (here g w r (i ∷ rest)) t m h.point h.kinded x.words x.form x.has);
       }
 
@@ -102,7 +119,7 @@ module _ (laws : KnownLaws) (g : Whole) (w : World) (c : Chosen g w) where
         then_on = x.then_on;
         does = within_more _ (g.dear r.fun i) g.setting g.code w g.program r i rest x.words (here g w r (i ∷ rest)) t m
             x.cheap
-            (laws.zeroes g.setting g.code c.text c.stack w g.program c.asked r var rest
+            (zeroes_run_law g.setting g.code c.text c.stack w g.program c.asked r var rest
             (c.selectable r false i rest t m h) (here g w r (i ∷ rest)) t m h.point h.kinded x.words x.form x.has);
       }
   zeroes r i rest t m is h = absurd is
@@ -115,7 +132,8 @@ module _ (laws : KnownLaws) (g : Whole) (w : World) (c : Chosen g w) where
         then_on = x.then_on;
         source = place_of i;
         word = here g w r (i ∷ rest) + x.skip;
-        does = laws.accesses g.setting g.code c.text c.stack w g.program r i rest is (c.selectable r false i rest t m h)
+        does = accesses_run_law g.setting g.code c.text c.stack w g.program r i rest is
+            (c.selectable r false i rest t m h)
             (here g w r (i ∷ rest)) t m h.point h.kinded x.skip x.words x.form x.has;
         reports = x.reports;
         dear = x.cheap;
@@ -131,7 +149,7 @@ module _ (laws : KnownLaws) (g : Whole) (w : World) (c : Chosen g w) where
         from_pos = from_pos;
         to_pos = to_pos;
         word = here g w r (i ∷ rest) + x.skip;
-        does = laws.struct_copies g.setting g.code c.text w g.program r from to bytes unit from_pos to_pos rest
+        does = struct_copies_run_law g.setting g.code c.text w g.program r from to bytes unit from_pos to_pos rest
             (c.selectable r false i rest t m h) (here g w r (i ∷ rest)) t m h.point h.kinded x.skip x.words x.form
             x.has;
         reports_reading = x.reports_reading;
@@ -146,7 +164,7 @@ module _ (laws : KnownLaws) (g : Whole) (w : World) (c : Chosen g w) where
       let x = c.jumps true l r rest t m h in
       record {
         has = x.has_it;
-        does = (laws.jumps g.setting g.code c.text w g.program r l rest (here g w r (instr.Jump l ∷ rest))
+        does = (jumps_run_law g.setting g.code c.text w g.program r l rest (here g w r (instr.Jump l ∷ rest))
             (here g w r (behind l (searched g w r.fun true rest))) x.offset x.leads x.has t m).back h.point;
         dear = x.cheap;
       }
@@ -154,7 +172,7 @@ module _ (laws : KnownLaws) (g : Whole) (w : World) (c : Chosen g w) where
       let x = c.jumps false l r rest t m h in
       record {
         has = x.has_it;
-        does = (laws.jumps g.setting g.code c.text w g.program r l rest (here g w r (instr.Jump l ∷ rest))
+        does = (jumps_run_law g.setting g.code c.text w g.program r l rest (here g w r (instr.Jump l ∷ rest))
             (here g w r (behind l rest)) x.offset x.leads x.has t m).ahead h.point;
         dear = x.cheap;
       }
@@ -178,7 +196,7 @@ module _ (laws : KnownLaws) (g : Whole) (w : World) (c : Chosen g w) where
         has = x.has_it;
         further = further true on when l r rest x;
         does = subst (λ k. Branches g.setting g.code w g.program r i l to rest (here g w r to) k t m) x.then_on.next
-            ((laws.branches g.setting g.code c.text w g.program r on when l rest x.is_temp (here g w r (i ∷ rest))
+            ((branches_run_law g.setting g.code c.text w g.program r on when l rest x.is_temp (here g w r (i ∷ rest))
             (here g w r to) x.offset x.finds x.words x.form x.has x.leads t m h.kinded).back h.point);
         dear = x.cheap;
       }
@@ -190,7 +208,7 @@ module _ (laws : KnownLaws) (g : Whole) (w : World) (c : Chosen g w) where
         has = x.has_it;
         further = further false on when l r rest x;
         does = subst (λ k. Branches g.setting g.code w g.program r i l to rest (here g w r to) k t m) x.then_on.next
-            ((laws.branches g.setting g.code c.text w g.program r on when l rest x.is_temp (here g w r (i ∷ rest))
+            ((branches_run_law g.setting g.code c.text w g.program r on when l rest x.is_temp (here g w r (i ∷ rest))
             (here g w r to) x.offset x.finds x.words x.form x.has x.leads t m h.kinded).ahead h.point);
         dear = x.cheap;
       }
@@ -203,7 +221,7 @@ module _ (laws : KnownLaws) (g : Whole) (w : World) (c : Chosen g w) where
       record {
         words = x.words;
         then_on = x.then_on;
-        does = laws.puts to a g.setting g.code c.text c.stack w g.program r rest (c.selectable r false i rest t m h)
+        does = puts_run_law to a g.setting g.code c.text c.stack w g.program r rest (c.selectable r false i rest t m h)
             x.aside (here g w r (i ∷ rest)) t m h.point h.kinded x.words x.form x.has;
         dear = x.cheap;
       }
@@ -216,7 +234,7 @@ module _ (laws : KnownLaws) (g : Whole) (w : World) (c : Chosen g w) where
       record {
         words = x.words;
         then_on = x.then_on;
-        does = laws.takes to g.setting g.code c.text c.stack w g.program r rest (c.selectable r false i rest t m h)
+        does = takes_run_law to g.setting g.code c.text c.stack w g.program r rest (c.selectable r false i rest t m h)
             x.aside (here g w r (i ∷ rest)) t m h.point h.kinded x.words x.form x.has;
         dear = x.cheap;
       }
@@ -227,7 +245,7 @@ module _ (laws : KnownLaws) (g : Whole) (w : World) (c : Chosen g w) where
       let i = leaving a in
       let x = c.exits a r rest t m h in
       record {
-        does = laws.exits a g.setting g.code c.text c.stack w g.program r rest (c.selectable r false i rest t m h)
+        does = exits_run_law a g.setting g.code c.text c.stack w g.program r rest (c.selectable r false i rest t m h)
             x.aside (here g w r (i ∷ rest)) t m h.point h.kinded x.words x.form x.has;
         dear = x.cheap;
       }
@@ -241,7 +259,7 @@ module _ (laws : KnownLaws) (g : Whole) (w : World) (c : Chosen g w) where
         then_on = x.then_on;
         does = within_more (cost i) (g.dear r.fun i) g.setting g.code w g.program r i rest x.words
             (here g w r (i ∷ rest)) t m x.cheap
-            (laws.allocations to a g.setting g.code c.text c.stack c.table w g.program r rest
+            (allocations_run_law to a g.setting g.code c.text c.stack c.table w g.program r rest
             (c.selectable r false i rest t m h) x.beside (here g w r (i ∷ rest)) t m h.point h.kinded x.words x.form
             x.has);
       }
@@ -304,7 +322,7 @@ module _ (laws : KnownLaws) (g : Whole) (w : World) (c : Chosen g w) where
   calls r (instr.Call to fun args) rest t m is h =
       let i = instr.Call to fun args in
       let x = c.calls to fun args r rest t m h in
-      let d = laws.calls g.setting g.code c.text c.stack w g.program r to fun args rest (tac_at g fun)
+      let d = calls_run_law g.setting g.code c.text c.stack w g.program r to fun args rest (tac_at g fun)
       (here g w r (i ∷ rest)) t m h.point x.addresses x.begins x.offset x.words x.form x.has x.leads x.may in
       record {
         fun = fun;
@@ -325,7 +343,7 @@ module _ (laws : KnownLaws) (g : Whole) (w : World) (c : Chosen g w) where
       → Returned g w fun b bs v t m
   returns fun b bs v rest t m h =
       let x = c.returns fun b bs v rest t m h in
-      let d = laws.returns g.setting g.code c.text c.stack w g.program fun v b bs rest
+      let d = returns_run_law g.setting g.code c.text c.stack w g.program fun v b bs rest
       (g.word fun (instr.Return v ∷ rest)) t m h.point x.keeps x.older x.gives x.words x.form x.has x.to x.keep
       x.resumes in
       let a = d.does (locals_of g fun) x.locals in
@@ -351,7 +369,7 @@ module _ (laws : KnownLaws) (g : Whole) (w : World) (c : Chosen g w) where
   last_returns fun v rest t m h =
       let x = c.last_returns fun v rest t m h in
       let h' = subst (λ y. Here g w (record { fun = fun; callers = [] }) false (instr.Return y ∷ rest) t m) x.is h in
-      let d = laws.last_returns g.setting g.code c.text c.stack w g.program fun x.temp rest
+      let d = last_returns_run_law g.setting g.code c.text c.stack w g.program fun x.temp rest
       (g.word fun (instr.Return (Some x.temp) ∷ rest)) t m h'.point x.integer x.words x.form x.has x.to x.stub in
       let few = d.few in
       let less = x.cheap in
@@ -363,15 +381,15 @@ module _ (laws : KnownLaws) (g : Whole) (w : World) (c : Chosen g w) where
 
   runs : InstructionsRun g w
   runs = record {
-    constants = plain IsConst ConstantWords laws.constants c.constants;
-    copies = plain IsCopy words.CopyWords laws.copies c.copies;
-    labels = plain IsPassed NoWords laws.labels c.labels;
+    constants = plain IsConst ConstantWords constants_run_law c.constants;
+    copies = plain IsCopy words.CopyWords copies_run_law c.copies;
+    labels = plain IsPassed NoWords labels_run_law c.labels;
     operations = integers;
-    comparisons = plain IsComparison CompareWords laws.comparisons c.comparisons;
-    conversions = plain IsConversion ConversionWords laws.conversions c.conversions;
-    intrinsics = plain IsIntrinsic CapWords laws.intrinsics c.intrinsics;
-    offsets = plain IsOffset OffsetWords laws.offsets c.offsets;
-    narrows = plain IsNarrow NarrowWords laws.narrows c.narrows;
+    comparisons = plain IsComparison CompareWords comparisons_run_law c.comparisons;
+    conversions = plain IsConversion ConversionWords conversions_run_law c.conversions;
+    intrinsics = plain IsIntrinsic CapWords intrinsics_run_law c.intrinsics;
+    offsets = plain IsOffset OffsetWords offsets_run_law c.offsets;
+    narrows = plain IsNarrow NarrowWords narrows_run_law c.narrows;
     pointers = pointers;
     zeroes = zeroes;
     allocations = allocations;
@@ -391,4 +409,7 @@ module _ (laws : KnownLaws) (g : Whole) (w : World) (c : Chosen g w) where
   }
 
 pub chosen_code_runs_law : ChosenCodeRuns
-chosen_code_runs_law laws g w c = runs laws g w c
+chosen_code_runs_law g w c = runs g w c
+
+pub chosen_code_matches_law : ChosenCodeMatches
+chosen_code_matches_law g reports fine w bytes c = whole_runs_match_law g reports fine w bytes (runs g w c)

@@ -27,56 +27,30 @@ use Rattle.place_inject.specs.Homes.{CallersKeep}
 use Rattle.place_inject.specs.Leaving.{OthersAreOlder}
 use Rattle.place_inject.specs.Spills.{StackIsThere}
 use Rattle.place_inject.specs.Tables.{TableIsThere}
-use Rattle.select_runs.specs.Accesses.{AccessesRun, AccessWords, IsAccess, place_of}
+use Rattle.select_runs.specs.Accesses.{AccessWords, IsAccess, place_of}
 use Rattle.select_runs.specs.Acts.{HasAt, place}
-use Rattle.select_runs.specs.Calling.{Begins, begin_words, HasWords, CallWords, MayCall, values, CallsRun}
+use Rattle.select_runs.specs.Calling.{Begins, begin_words, HasWords, CallWords, MayCall, values}
 use Rattle.select_runs.specs.Capabilities.{IsNarrow, NarrowWords, IsOffset, OffsetWords, IsIntrinsic, CapWords}
 use Rattle.select_runs.specs.Capabilities.{IsPointing, PointingWords}
-use Rattle.select_runs.specs.Copying.{StructCopiesRun, CopyWords, copy_cost}
-use Rattle.select_runs.specs.Instructions.{ConstantsRun, CopiesRun, LabelsRun, NarrowsRun, OffsetsRun, IntrinsicsRun}
-use Rattle.select_runs.specs.Instructions.{IsAskedBy, PointersRun, OperationsRun, ComparisonsRun, ConversionsRun}
-use Rattle.select_runs.specs.Jumps.{LeadsTo, JumpsRun, BranchWords, BranchesRun}
+use Rattle.select_runs.specs.Copying.{CopyWords, copy_cost}
+use Rattle.select_runs.specs.Instructions.{IsAskedBy}
+use Rattle.select_runs.specs.Jumps.{LeadsTo, BranchWords}
 use Rattle.select_runs.specs.Kinds.{AreOfKinds}
 use Rattle.select_runs.specs.Operands.{IsText, ground_of}
-use Rattle.select_runs.specs.Returning.{ReturnWords, ResumesAt, Gives, value_of, ReturnsRun, StubAt, LastReturnsRun}
+use Rattle.select_runs.specs.Returning.{ReturnWords, ResumesAt, Gives, value_of, StubAt}
 use Rattle.select_runs.specs.Operations.{IsOperation, OperationWords, IsComparison, CompareWords, IsConversion}
 use Rattle.select_runs.specs.Operations.{ConversionWords}
 use Rattle.select_runs.specs.Results.{IsSelectable}
-use Rattle.select_runs.specs.Services.{Asks, StandsAside, PutsRun, TakesRun, ExitsRun, putting, taking, leaving}
+use Rattle.select_runs.specs.Services.{Asks, StandsAside, putting, taking, leaving}
 use Rattle.select_runs.specs.Words as words
 use Rattle.select_runs.specs.Words.{IsConst, ConstantWords, IsCopy, IsPassed, NoWords}
-use Rattle.select_runs.specs.Zeroing.{ZeroesRun, ZeroWords, granules}
-use Rattle.select_heap.specs.Heap.{Mallocs, StandsBeside, AllocationsRun, allocating}
+use Rattle.select_runs.specs.Zeroing.{ZeroWords, granules}
+use Rattle.select_heap.specs.Heap.{Mallocs, StandsBeside, allocating}
+use Rattle.int_select.specs.Selected.{IsReport}
+use Rattle.select_whole.specs.Matching.{AreFine, IsOfBytes, Starts, MatchesIn}
 use Rattle.select_whole.specs.Visited.{Whole, kinds_at, tac_at, locals_of}
 use Rattle.select_whole.specs.Runs.{Here, here, Leads_on, Each, Reports_at, searched, IsInteger, IsStrange}
 use Rattle.select_whole.specs.Runs.{IsValueCall, ValueCalled, InstructionsRun}
-
--- ---- the laws
-
--- what the laws of selected code say
-pub record KnownLaws : Type 0 where
-  pub constants : ConstantsRun
-  pub copies : CopiesRun
-  pub labels : LabelsRun
-  pub operations : OperationsRun
-  pub comparisons : ComparisonsRun
-  pub conversions : ConversionsRun
-  pub intrinsics : IntrinsicsRun
-  pub offsets : OffsetsRun
-  pub narrows : NarrowsRun
-  pub pointers : PointersRun
-  pub zeroes : ZeroesRun
-  pub accesses : AccessesRun
-  pub struct_copies : StructCopiesRun
-  pub jumps : JumpsRun
-  pub branches : BranchesRun
-  pub puts : PutsRun
-  pub takes : TakesRun
-  pub exits : ExitsRun
-  pub allocations : AllocationsRun
-  pub calls : CallsRun
-  pub returns : ReturnsRun
-  pub last_returns : LastReturnsRun
 
 -- ---- what stands at the places
 
@@ -266,4 +240,9 @@ module _ (g : Whole) (w : World) where
 
 -- By the laws, where selection chose so each instruction runs
 abbrev pub ChosenCodeRuns : Type 0
-ChosenCodeRuns = KnownLaws → (g : Whole) (w : World) → Chosen g w → InstructionsRun g w
+ChosenCodeRuns = (g : Whole) (w : World) → Chosen g w → InstructionsRun g w
+
+-- Whole runs match there
+abbrev pub ChosenCodeMatches : Type 0
+ChosenCodeMatches = (g : Whole) → IsReport g.report → AreFine g → (w : World) → IsOfBytes w → Chosen g w
+    → (first count : ℕ) → first + g.most ≤ count → (m : Machine) → Starts g w first m → MatchesIn g w count m

@@ -1,6 +1,6 @@
 //! Laws of whole runs.
 
-ghost use Rattle.select_whole.specs.Chosen.{ChosenCodeRuns};
+ghost use Rattle.select_whole.specs.Chosen.{ChosenCodeMatches, ChosenCodeRuns};
 ghost use Rattle.select_whole.specs.Matching.{WholeRunsMatch};
 
 /// Where the words of each instruction do on the machine what it means, at each place to which a run comes, the
@@ -9,8 +9,12 @@ pub fn whole_runs_match()
     ensures { WholeRunsMatch }
 {}
 
-/// They do so, by the laws of selected code, where they stand there in the forms that selection chooses; of calls
-/// through values it is asked.
+/// They do so where they stand there in the forms that selection chooses; of calls through values it is asked.
 pub fn chosen_code_runs()
     ensures { ChosenCodeRuns }
+{}
+
+/// Where the words stand in these forms, whole runs match.
+pub fn chosen_code_matches()
+    ensures { ChosenCodeMatches }
 {}
