@@ -16,6 +16,7 @@ use Rattle.obj_mem.specs.Values.{Value}
 use Rattle.purecap_abi.specs.Ends.{before_store}
 use Rattle.tac_ir.specs.Meaning.{Caller, Running, entry_temps}
 use Rattle.tac_ir.specs.Temps.{behind}
+use Rattle.tac_ir.specs.WellFormed.{signature_of, signature_of_def, signature_of_function}
 use Rattle.tac_ir.specs.declared.code.LibOp.TheVariants as lib
 use Rattle.tac_ir.specs.declared.code.TacInstr.{TacInstr}
 use Rattle.tac_ir.specs.declared.code.TacInstr.TheVariants as instr
@@ -54,11 +55,13 @@ use Rattle.select_runs.proofs.Calling.{calls_run_law}
 use Rattle.select_runs.proofs.Returning.{returns_run_law, last_returns_run_law}
 use Rattle.select_heap.proofs.Heap.{allocations_run_law}
 use Rattle.select_whole.specs.Visited.{Whole, ops_of, tac_at, kinds_at, locals_of, in_frame_of, called_by, back_in}
+use Rattle.select_whole.specs.Visited.{gives_by}
 use Rattle.select_whole.specs.Runs.{Here, here, Each, searched, IsAllocation, IsInteger, IsZero, IsStructCopy, Goes}
-use Rattle.select_whole.specs.Runs.{Accessed, Copied, IsCall, Called, Entered, Returned, Left}
+use Rattle.select_whole.specs.Runs.{Accessed, Copied, IsCall, Called, Entered, Returned, Left, Takes}
 use Rattle.select_whole.specs.Runs.{Jumped, Branched, Put, Taken, Exited, InstructionsRun}
 use Rattle.select_whole.specs.Chosen.{CallStands, EachStands, BranchStands, Chosen, ChosenCodeRuns}
 use Rattle.select_whole.specs.Chosen.{ChosenCodeMatches}
+use Rattle.select_whole.proofs.Kinded.{call_kinded, return_kinded}
 use Rattle.select_whole.proofs.Matching.{whole_runs_match_law}
 
 within_more : (most more : ℕ) (s : Setting) (code : List Instr) (w : World) (p : _) (r : Running) (i : TacInstr)
@@ -322,6 +325,9 @@ module _ (g : Whole) (w : World) (c : Chosen g w) where
   calls r (instr.Call to fun args) rest t m is h =
       let i = instr.Call to fun args in
       let x = c.calls to fun args r rest t m h in
+      let own = c.selectable r false i rest t m h in
+      let k = call_kinded g.program own.d (kinds_at g r.fun) (tac_at g r.fun) t h.kinded (kinds_at g fun)
+      (signature_of_function g.program fun) to args own.fits (c.parameters fun) in
       let d = calls_run_law g.setting g.code c.text c.stack w g.program r to fun args rest (tac_at g fun)
       (here g w r (i ∷ rest)) t m h.point x.addresses x.begins x.offset x.words x.form x.has x.leads x.may in
       record {
@@ -330,7 +336,8 @@ module _ (g : Whole) (w : World) (c : Chosen g w) where
         to = to;
         is = x.is;
         means = d.means;
-        kinded = x.kinded;
+        kinded = k.0;
+        takes = k.1;
         does = subst (λ o. Entered g w (g.dear r.fun i) fun (called_by fun r rest to t) o (values t args) t m)
             (sym (enter_is fun t.frame x.begins.frame x.begins.is_frame.is))
             (entered_by to fun args r rest t m x
@@ -343,8 +350,13 @@ module _ (g : Whole) (w : World) (c : Chosen g w) where
       → Returned g w fun b bs v t m
   returns fun b bs v rest t m h =
       let x = c.returns fun b bs v rest t m h in
+      let own = c.selectable (record { fun = fun; callers = b ∷ bs }) false (instr.Return v) rest t m h in
+      let kept = h.callers.0 in
+      let k = return_kinded g.program own.d (kinds_at g fun) (tac_at g fun) t h.kinded (kinds_at g b.fun) b.vars
+      kept.kinded (signature_of g.program own.d.of) v b.to own.fits
+      (subst (λ o. Takes (kinds_at g b.fun) b.to (gives_by (signature_of_def g.program o))) own.is kept.takes) in
       let d = returns_run_law g.setting g.code c.text c.stack w g.program fun v b bs rest
-      (g.word fun (instr.Return v ∷ rest)) t m h.point x.keeps x.older x.gives x.words x.form x.has x.to x.keep
+      (g.word fun (instr.Return v ∷ rest)) t m h.point x.keeps x.older k.1 x.words x.form x.has x.to x.keep
       x.resumes in
       let a = d.does (locals_of g fun) x.locals in
       let le = a.le in
@@ -352,7 +364,7 @@ module _ (g : Whole) (w : World) (c : Chosen g w) where
       record {
         value = value_of t v;
         means = d.means;
-        kinded = x.kinded;
+        kinded = k.0;
         does = record {
           count = a.count;
           to = a.to;

@@ -1,3 +1,4 @@
+pub mod Kinded
 pub mod Moves
 pub mod Passes
 pub mod Matching

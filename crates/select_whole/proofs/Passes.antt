@@ -30,7 +30,7 @@ use Rattle.int_select.proofs.Meets.{course_of, course_by, Reports}
 use Rattle.select_whole.specs.Visited as visit
 use Rattle.select_whole.specs.Visited.{Whole, Means, Visited, ops_of, kinds_at, tac_at, locals_of, called_by}
 use Rattle.select_whole.specs.Visited.{in_frame_of, back_in, looked_at}
-use Rattle.select_whole.specs.Runs.{CallersKinded, here, Here, Called, Entered, InstructionsRun}
+use Rattle.select_whole.specs.Runs.{CallersKept, here, Here, Called, Entered, InstructionsRun}
 use Rattle.select_whole.specs.Matching.{dear_of, IsFine, AreFine, IsOfBytes}
 use Rattle.select_whole.proofs.Moves.{Comes, Stops, Did, Onward, Jumps, Pauses, Enters, Returns, Leaves, Over, Outside}
 use Rattle.select_whole.proofs.Moves.{leads_reach, stops_by, does}
@@ -214,7 +214,7 @@ module _ (g : Whole) (reports : IsReport g.report) (fine : AreFine g) (w : World
                 visited = visit.called c.fun c.vs c.to address h.at.visited c.means e;
                 point = a.point;
                 kinded = c.kinded;
-                callers = (h.at.kinded, h.at.callers);
+                callers = (record { kinded = h.at.kinded; takes = c.takes }, h.at.callers);
               };
               is_function = c.is;
               fine_code = known;
@@ -251,7 +251,7 @@ module _ (g : Whole) (reports : IsReport g.report) (fine : AreFine g) (w : World
             visited = visit.returned v there means;
             point = a.point;
             kinded = kinded;
-            callers = (subst (CallersKinded g w) e h.at.callers).1;
+            callers = (subst (CallersKept g w r.fun) e h.at.callers).1;
           };
           is_function = callers.0;
           fine_code = callers.1;

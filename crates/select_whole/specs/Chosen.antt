@@ -16,9 +16,9 @@ use Rattle.tac_ir.specs.Costs.{cost, prologue_cost}
 use Rattle.obj_mem.specs.Values.{Int}
 use Rattle.obj_mem.specs.declared.ending.Ending.TheVariants as ending
 use Rattle.purecap_abi.specs.Ends.{before_store}
-use Rattle.tac_ir.specs.Meaning.{Caller, Running, entry_temps, name_of, with_result}
+use Rattle.tac_ir.specs.Meaning.{Caller, Running, name_of}
 use Rattle.tac_ir.specs.Temps.{behind}
-use Rattle.tac_ir.specs.WellFormed.{has_label}
+use Rattle.tac_ir.specs.WellFormed.{Signature, begins_with, has_label, signature_of_function}
 use Rattle.tac_ir.specs.declared.code.TacInstr.{TacInstr}
 use Rattle.tac_ir.specs.declared.code.TacInstr.TheVariants as instr
 use Rattle.place_inject.specs.Entering.{caller_of, entry_of}
@@ -29,15 +29,14 @@ use Rattle.place_inject.specs.Spills.{StackIsThere}
 use Rattle.place_inject.specs.Tables.{TableIsThere}
 use Rattle.select_runs.specs.Accesses.{AccessWords, IsAccess, place_of}
 use Rattle.select_runs.specs.Acts.{HasAt, place}
-use Rattle.select_runs.specs.Calling.{Begins, begin_words, HasWords, CallWords, MayCall, values}
+use Rattle.select_runs.specs.Calling.{Begins, begin_words, HasWords, CallWords, MayCall}
 use Rattle.select_runs.specs.Capabilities.{IsNarrow, NarrowWords, IsOffset, OffsetWords, IsIntrinsic, CapWords}
 use Rattle.select_runs.specs.Capabilities.{IsPointing, PointingWords}
 use Rattle.select_runs.specs.Copying.{CopyWords, copy_cost}
 use Rattle.select_runs.specs.Instructions.{IsAskedBy}
 use Rattle.select_runs.specs.Jumps.{LeadsTo, BranchWords}
-use Rattle.select_runs.specs.Kinds.{AreOfKinds}
 use Rattle.select_runs.specs.Operands.{IsText, ground_of}
-use Rattle.select_runs.specs.Returning.{ReturnWords, ResumesAt, Gives, value_of, StubAt}
+use Rattle.select_runs.specs.Returning.{ReturnWords, ResumesAt, value_of, StubAt}
 use Rattle.select_runs.specs.Operations.{IsOperation, OperationWords, IsComparison, CompareWords, IsConversion}
 use Rattle.select_runs.specs.Operations.{ConversionWords}
 use Rattle.select_runs.specs.Results.{IsSelectable}
@@ -147,7 +146,6 @@ module _ (g : Whole) (w : World) where
     pub lengths : begins.lengths ≡ locals_of g fun
     pub kinds : begins.kinds ≡ kinds_at g fun
     pub there : begins.entry + length (begin_words g.setting fun begins.frame begins.words) ≡ g.word fun (tac_at g fun)
-    pub kinded : AreOfKinds (kinds_at g fun) (entry_temps (kinds_at g fun) (values t args))
     pub offset : ℤ
     pub words : List Instr
     pub form : CallWords g.setting r.fun args offset words
@@ -165,8 +163,6 @@ module _ (g : Whole) (w : World) where
       (t : State Store) : Type 0 where
     pub keeps : CallersKeep g.setting (c ∷ cs)
     pub older : OthersAreOlder g.setting t.first (c ∷ cs)
-    pub gives : Gives v c.to
-    pub kinded : AreOfKinds (kinds_at g c.fun) (with_result c.vars c.to (value_of t v))
     pub words : List Instr
     pub form : ReturnWords g.setting fun v words
     pub has : HasAt g.code (g.word fun (instr.Return v ∷ rest)) words
@@ -189,7 +185,8 @@ module _ (g : Whole) (w : World) where
     pub cheap : cost (instr.Return (Some temp)) + 1 < g.dear fun (instr.Return (Some temp))
 
   -- The code is loaded as the text of a legal map, with its stack and its table, for the program; and the words of each
-  -- instruction stand at its place. Of calls through values it is said that they run
+  -- instruction stand at its place; a function's first temps are of the kinds of its parameters. Of calls through
+  -- values it is said that they run
   pub record Chosen : Type 0 where
     pub text : IsText g.setting g.code
     pub stack : StackIsThere g.setting
@@ -197,6 +194,8 @@ module _ (g : Whole) (w : World) where
     pub asked : IsAskedBy g.setting g.program
     pub selectable : (r : Running) (b : Bool) (i : TacInstr) (rest : List TacInstr) (t : State Store) (m : Machine)
         → Here g w r b (i ∷ rest) t m → IsSelectable g.setting g.program r i rest
+    pub parameters : (fun : ℕ) (x : Signature) → signature_of_function g.program fun ≡ Some x
+        → begins_with (kinds_at g fun) x.params ≡ true
     pub constants : EachStands IsConst (ConstantWords g.setting)
     pub copies : EachStands IsCopy (words.CopyWords g.setting)
     pub labels : EachStands IsPassed (NoWords g.setting)

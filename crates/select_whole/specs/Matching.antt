@@ -12,14 +12,13 @@ use Rattle.cap_machine.specs.Step.{act, limits}
 use Rattle.obj_mem.specs.Endings.{is_turns, is_outside}
 use Rattle.obj_mem.specs.declared.ending.Ending.{Ending}
 use Rattle.obj_mem.specs.declared.ending.Ending.TheVariants as ending
-use Rattle.tac_ir.specs.Meaning.{tac, name_of, entry_temps}
+use Rattle.tac_ir.specs.Meaning.{tac, name_of}
 use Rattle.tac_ir.specs.WellFormed.{ends_well, turns_fit}
 use Rattle.tac_ir.specs.declared.code.TacInstr.{TacInstr}
-use Rattle.select_runs.specs.Kinds.{AreOfKinds}
 use Rattle.select_runs.specs.Results.{Arrives}
 use Rattle.select_runs.specs.Results as at_place
 use Rattle.int_select.specs.Selected.{IsReport}
-use Rattle.select_whole.specs.Visited.{Whole, ops_of, tac_at, kinds_at, main_of, entry_of, first_running}
+use Rattle.select_whole.specs.Visited.{Whole, ops_of, tac_at, main_of, entry_of, first_running}
 use Rattle.select_whole.specs.Runs.{InstructionsRun, StopsBy}
 
 -- ---- what is asked of the code
@@ -51,7 +50,6 @@ Started g w most turns None m =
 -- The machine's first state leads to the first function, in at most so many acts
 pub record Starts (g : Whole) (w : World) (most : ℕ) (m : Machine) : Type 0 where
   pub main : main_of g < length g.setting.code.funs
-  pub kinded : AreOfKinds (kinds_at g (main_of g)) (entry_temps (kinds_at g (main_of g)) [])
   pub each : (turns : ℕ) → Started g w most turns ((ops_of g).enter (main_of g) (ops_of g).stack_top) m
 
 -- ---- what is then known

@@ -12,17 +12,18 @@ use Rattle.cap_machine.specs.declared.machine.Machine.{Machine}
 use Rattle.cap_machine.specs.Step.{act}
 use Rattle.obj_mem.specs.Values.{Value}
 use Rattle.obj_mem.specs.declared.ending.Ending.TheVariants as ending
-use Rattle.cheri_c_sem.specs.Kinds.{number_of}
+use Rattle.cheri_c_sem.specs.Kinds.{Kind, number_of}
 use Rattle.cheri_c_sem.specs.Modes.{Store}
 use Rattle.cheri_c_sem.specs.Steps.{State, Fate, over}
 use Rattle.tac_ir.specs.Costs.{cost}
-use Rattle.tac_ir.specs.Effects.{Next, Back, Into, effect}
+use Rattle.tac_ir.specs.Effects.{Next, Back, Into, effect, kind_at}
 use Rattle.tac_ir.specs.Meaning.{Caller, Running, name_of, entry_temps, with_result}
 use Rattle.tac_ir.specs.Temps.{behind}
-use Rattle.tac_ir.specs.WellFormed.{has_label}
+use Rattle.tac_ir.specs.WellFormed.{has_label, same_kind}
 use Rattle.tac_ir.specs.declared.code.LibOp.TheVariants as lib
 use Rattle.tac_ir.specs.declared.code.TacInstr.{TacInstr}
 use Rattle.tac_ir.specs.declared.code.TacInstr.TheVariants as instr
+use Rattle.tac_ir.specs.declared.code.TacKind.{TacKind}
 use Rattle.select_runs.specs.Accesses.{Accesses, IsAccess}
 use Rattle.select_runs.specs.Acts.{Leads, place}
 use Rattle.select_runs.specs.Capabilities.{IsNarrow, IsOffset, IsIntrinsic, IsPointing}
@@ -37,7 +38,7 @@ use Rattle.select_runs.specs.Services.{PutsByte, TakesByte, ExitsBy, putting, ta
 use Rattle.select_runs.specs.Words.{IsConst, IsCopy, IsPassed}
 use Rattle.select_whole.specs.Visited.{Whole, Means, Visited, ops_of, tac_at, called_by, in_frame_of}
 use Rattle.select_whole.specs.Visited.{back_in}
-use Rattle.select_whole.specs.Visited.{kinds_at, looked_at}
+use Rattle.select_whole.specs.Visited.{kinds_at, gives_at, looked_at}
 
 -- ---- kinds of instructions
 
@@ -77,23 +78,33 @@ IsStrange (instr.Lib lib.Exit None (a ∷ [])) = ⊥
 IsStrange (instr.Lib lib.Exit to args) = Unit {0}
 IsStrange i = ⊥
 
+-- a temp for a result is of the kind that is given
+abbrev pub Takes : List TacKind → Option ℕ → Option Kind → Type 0
+Takes kinds None k = Unit {0}
+Takes kinds (Some t) None = ⊥
+Takes kinds (Some t) (Some k) = (t < length kinds) × (same_kind (kind_at kinds t) k ≡ true)
+
 -- ---- places
 
 module _ (g : Whole) (w : World) where
   abbrev pub here : Running → List TacInstr → ℕ
   here r is = g.word r.fun is
 
-  -- the temps of each caller are of their kinds
-  abbrev pub CallersKinded : List Caller → Type 0
-  CallersKinded [] = Unit {0}
-  CallersKinded (c ∷ cs) = AreOfKinds (kinds_at g c.fun) c.vars × CallersKinded cs
+  -- a function's caller: its temps are of their kinds, and the one for the result of the kind that the function gives
+  pub record CallerKept (fun : ℕ) (c : Caller) : Type 0 where
+    pub kinded : AreOfKinds (kinds_at g c.fun) c.vars
+    pub takes : Takes (kinds_at g c.fun) c.to (gives_at g fun)
+
+  abbrev pub CallersKept : (fun : ℕ) → List Caller → Type 0
+  CallersKept fun [] = Unit {0}
+  CallersKept fun (c ∷ cs) = CallerKept fun c × CallersKept c.fun cs
 
   -- a run comes there, with temps of their kinds, and the machine stands for its state
   pub record Here (r : Running) (b : Bool) (is : List TacInstr) (t : State Store) (m : Machine) : Type 0 where
     pub visited : Visited g w r b is t
     pub point : IsAtPoint g.setting g.code (at_place.behind r (looked_at b is)) (here r is) t m
     pub kinded : AreOfKinds (kinds_at g r.fun) t.vars
-    pub callers : CallersKinded r.callers
+    pub callers : CallersKept r.fun r.callers
 
   -- the words of an instruction lead to those of the rest
   pub record Leads_on (r : Running) (i : TacInstr) (rest : List TacInstr) (words : List Instr) : Type 0 where
@@ -213,6 +224,7 @@ module _ (g : Whole) (w : World) where
     pub is : fun < length g.setting.code.funs
     pub means : Means g w r.fun i t (Into fun vs to) t
     pub kinded : AreOfKinds (kinds_at g fun) (entry_temps (kinds_at g fun) vs)
+    pub takes : Takes (kinds_at g r.fun) to (gives_at g fun)
     pub does : Entered (g.dear r.fun i) fun (called_by fun r rest to t) ((ops_of g).enter fun t.frame) vs t m
 
   -- a call through a value may trap, or leave what the meaning speaks of

@@ -1,6 +1,6 @@
 -- Where a run of three-address code comes: to a function with the calls in progress, the instructions that it goes on
 -- with, and a state.
-use Rattle.std.specs.Prelude.{◌≡◌, ℕ, Bool, true, false, List, [], ◌∷◌, Option, Some, slice_get}
+use Rattle.std.specs.Prelude.{◌≡◌, ℕ, Bool, true, false, List, [], ◌∷◌, Option, Some, None, slice_get}
 use Rattle.ck_base.specs.World.{World}
 use Rattle.rv_instr.specs.declared.instr.Instr.{Instr}
 use Rattle.cap_machine.specs.declared.end.End.{End}
@@ -8,6 +8,7 @@ use Rattle.c_tree.specs.declared.typed.Typed.{Typed}
 use Rattle.obj_mem.specs.Values.{Value}
 use Rattle.obj_mem.specs.declared.ending.Ending.{Ending}
 use Rattle.cheri_c_sem.specs.Calls.{end_locals}
+use Rattle.cheri_c_sem.specs.Kinds.{Kind}
 use Rattle.cheri_c_sem.specs.Modes.{Store, operations, placed_plan}
 use Rattle.cheri_c_sem.specs.Operations.{Operations}
 use Rattle.cheri_c_sem.specs.Programs.{program_tree}
@@ -15,6 +16,7 @@ use Rattle.cheri_c_sem.specs.Steps.{State, Fate}
 use Rattle.tac_ir.specs.Effects.{Next, On, To, Pause, Back, Into, effect}
 use Rattle.tac_ir.specs.Meaning.{Caller, Running, code_of, kinds_of, with_result, in_frame, first_state, objects_in}
 use Rattle.tac_ir.specs.Temps.{behind}
+use Rattle.tac_ir.specs.WellFormed.{Signature, signature_of_function}
 use Rattle.tac_ir.specs.declared.code.TacInstr.{TacInstr}
 use Rattle.tac_ir.specs.declared.code.TacInstr.TheVariants as instr
 use Rattle.tac_ir.specs.declared.code.TacKind.{TacKind}
@@ -48,6 +50,14 @@ main_of g = (program_tree g.program).main
 
 abbrev pub locals_of : Whole → ℕ → List ℕ
 locals_of g = objects_in (program_tree g.program)
+
+-- what a function type gives
+abbrev pub gives_by : Option Signature → Option Kind
+gives_by None = None
+gives_by (Some x) = x.gives
+
+abbrev pub gives_at : Whole → ℕ → Option Kind
+gives_at g fun = gives_by (signature_of_function g.program fun)
 
 -- the first function, with no call in progress
 abbrev pub first_running : Whole → Running
