@@ -1,5 +1,5 @@
 -- Where selection chose words as the laws ask for, each instruction runs.
-use Rattle.std.proofs.Common.{pos, ℕ, ◌+◌, ◌<◌, ◌≤◌, Bool, true, false, List, [], ◌∷◌, length, Option, ap}
+use Rattle.std.proofs.Common.{pos, refl, ℕ, ◌+◌, ◌<◌, ◌≤◌, Bool, true, false, List, [], ◌∷◌, length, Option, ap}
 use Rattle.std.proofs.Common.{subst, arith, ◌≡◌, ◌∙◌, sym, Some, None}
 use Rattle.std.specs.Prelude.{slice_get}
 use Rattle.std.proofs.lemmas.List.{length-append}
@@ -23,7 +23,8 @@ use Rattle.tac_ir.specs.declared.code.TacInstr.TheVariants as instr
 use Rattle.tac_ir.specs.declared.code.TacKind.{TacKind}
 use Rattle.place_inject.specs.Entering.{caller_of, entered, entry_of}
 use Rattle.place_inject.specs.Frames.{Setting}
-use Rattle.place_inject.specs.Leaving.{caller_at}
+use Rattle.place_inject.specs.Leaving.{OthersAreOlder, caller_at}
+use Rattle.place_inject.proofs.Older.{others_are_older_at_entries_law}
 use Rattle.select_runs.specs.Accesses.{IsAccess, place_of}
 use Rattle.select_runs.specs.Acts.{place}
 use Rattle.select_runs.specs.Calling.{begin_words, values, EntersWithin}
@@ -34,7 +35,7 @@ use Rattle.select_runs.specs.Capabilities.{IsPointing}
 use Rattle.select_runs.specs.Jumps.{Branches, inverted}
 use Rattle.select_runs.specs.Operations.{OperationWords, IsOperation, IsComparison, CompareWords, IsConversion}
 use Rattle.select_runs.specs.Operations.{ConversionWords}
-use Rattle.select_runs.specs.Results.{EachGoesOn, GoesOnWithin}
+use Rattle.select_runs.specs.Results.{before, EachGoesOn, GoesOnWithin}
 use Rattle.select_runs.specs.Services.{putting, taking, leaving}
 use Rattle.select_runs.specs.Words as words
 use Rattle.select_runs.specs.Words.{IsConst, ConstantWords, IsCopy, IsPassed, NoWords}
@@ -284,6 +285,10 @@ module _ (g : Whole) (w : World) (c : Chosen g w) where
   unfolding operations
   enter_is fun at frame e = ap (frame_within g.setting.map.stack.0 at) e
 
+  count_is : (t : State Store) → length t.mem.memory.shapes ≡ (ops_of g).count t.mem
+  unfolding operations
+  count_is t = refl
+
   module _ (to : Option ℕ) (fun : ℕ) (args : List ℕ) (r : Running) (rest : List TacInstr) (t : State Store)
       (m : Machine) (x : CallStands g w to fun args r rest t m) where
     abbrev most : ℕ
@@ -338,6 +343,8 @@ module _ (g : Whole) (w : World) (c : Chosen g w) where
         means = d.means;
         kinded = k.0;
         takes = k.1;
+        older = subst (λ n. OthersAreOlder g.setting n (caller_of r rest to t ∷ r.callers)) (count_is t)
+            (others_are_older_at_entries_law g.setting c.text.legal (before r i rest) t m h.point.fits rest to);
         does = subst (λ o. Entered g w (g.dear r.fun i) fun (called_by fun r rest to t) o (values t args) t m)
             (sym (enter_is fun t.frame x.begins.frame x.begins.is_frame.is))
             (entered_by to fun args r rest t m x
@@ -356,7 +363,7 @@ module _ (g : Whole) (w : World) (c : Chosen g w) where
       kept.kinded (signature_of g.program own.d.of) v b.to own.fits
       (subst (λ o. Takes (kinds_at g b.fun) b.to (gives_by (signature_of_def g.program o))) own.is kept.takes) in
       let d = returns_run_law g.setting g.code c.text c.stack w g.program fun v b bs rest
-      (g.word fun (instr.Return v ∷ rest)) t m h.point x.keeps x.older k.1 x.words x.form x.has x.to x.keep
+      (g.word fun (instr.Return v ∷ rest)) t m h.point x.keeps kept.older k.1 x.words x.form x.has x.to x.keep
       x.resumes in
       let a = d.does (locals_of g fun) x.locals in
       let le = a.le in

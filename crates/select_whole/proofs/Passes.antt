@@ -34,6 +34,7 @@ use Rattle.select_whole.specs.Runs.{CallersKept, here, Here, Called, Entered, In
 use Rattle.select_whole.specs.Matching.{dear_of, IsFine, AreFine, IsOfBytes}
 use Rattle.select_whole.proofs.Moves.{Comes, Stops, Did, Onward, Jumps, Pauses, Enters, Returns, Leaves, Over, Outside}
 use Rattle.select_whole.proofs.Moves.{leads_reach, stops_by, does}
+use Rattle.select_whole.proofs.Steady.{first_stays}
 
 abbrev mode_of : Bool → Going
 mode_of true = Turned
@@ -214,7 +215,7 @@ module _ (g : Whole) (reports : IsReport g.report) (fine : AreFine g) (w : World
                 visited = visit.called c.fun c.vs c.to address h.at.visited c.means e;
                 point = a.point;
                 kinded = c.kinded;
-                callers = (record { kinded = h.at.kinded; takes = c.takes }, h.at.callers);
+                callers = (record { kinded = h.at.kinded; takes = c.takes; older = c.older }, h.at.callers);
               };
               is_function = c.is;
               fine_code = known;
@@ -251,7 +252,7 @@ module _ (g : Whole) (reports : IsReport g.report) (fine : AreFine g) (w : World
             visited = visit.returned v there means;
             point = a.point;
             kinded = kinded;
-            callers = (subst (CallersKept g w r.fun) e h.at.callers).1;
+            callers = (subst (CallersKept g w r.fun t.first) e h.at.callers).1;
           };
           is_function = callers.0;
           fine_code = callers.1;
@@ -301,7 +302,8 @@ module _ (g : Whole) (reports : IsReport g.report) (fine : AreFine g) (w : World
         visited = visit.on h.at.visited means;
         point = there;
         kinded = kinded;
-        callers = h.at.callers;
+        callers = subst (λ k. CallersKept g w r.fun k r.callers) (sym (first_stays g w r.fun i t u On means))
+            h.at.callers;
       };
       is_function = h.is_function;
       fine_code = fine_rest g r.fun b i is h.fine_code falls plain;

@@ -24,6 +24,7 @@ use Rattle.tac_ir.specs.declared.code.LibOp.TheVariants as lib
 use Rattle.tac_ir.specs.declared.code.TacInstr.{TacInstr}
 use Rattle.tac_ir.specs.declared.code.TacInstr.TheVariants as instr
 use Rattle.tac_ir.specs.declared.code.TacKind.{TacKind}
+use Rattle.place_inject.specs.Leaving.{OthersAreOlder}
 use Rattle.select_runs.specs.Accesses.{Accesses, IsAccess}
 use Rattle.select_runs.specs.Acts.{Leads, place}
 use Rattle.select_runs.specs.Capabilities.{IsNarrow, IsOffset, IsIntrinsic, IsPointing}
@@ -36,7 +37,7 @@ use Rattle.select_runs.specs.Results.{Arrives, GoesOnWithin}
 use Rattle.select_runs.specs.Results as at_place
 use Rattle.select_runs.specs.Services.{PutsByte, TakesByte, ExitsBy, putting, taking, leaving}
 use Rattle.select_runs.specs.Words.{IsConst, IsCopy, IsPassed}
-use Rattle.select_whole.specs.Visited.{Whole, Means, Visited, ops_of, tac_at, called_by, in_frame_of}
+use Rattle.select_whole.specs.Visited.{Whole, Means, Visited, ops_of, tac_at, caller_from, called_by, in_frame_of}
 use Rattle.select_whole.specs.Visited.{back_in}
 use Rattle.select_whole.specs.Visited.{kinds_at, gives_at, looked_at}
 
@@ -90,21 +91,23 @@ module _ (g : Whole) (w : World) where
   abbrev pub here : Running → List TacInstr → ℕ
   here r is = g.word r.fun is
 
-  -- a function's caller: its temps are of their kinds, and the one for the result of the kind that the function gives
-  pub record CallerKept (fun : ℕ) (c : Caller) : Type 0 where
+  -- a function's caller: its temps are of their kinds, the one for the result is of the kind that the function gives,
+  -- and the objects of others have lower numbers than the function's own, the first of which has this one
+  pub record CallerKept (fun first : ℕ) (c : Caller) (cs : List Caller) : Type 0 where
     pub kinded : AreOfKinds (kinds_at g c.fun) c.vars
     pub takes : Takes (kinds_at g c.fun) c.to (gives_at g fun)
+    pub older : OthersAreOlder g.setting first (c ∷ cs)
 
-  abbrev pub CallersKept : (fun : ℕ) → List Caller → Type 0
-  CallersKept fun [] = Unit {0}
-  CallersKept fun (c ∷ cs) = CallerKept fun c × CallersKept c.fun cs
+  abbrev pub CallersKept : (fun first : ℕ) → List Caller → Type 0
+  CallersKept fun first [] = Unit {0}
+  CallersKept fun first (c ∷ cs) = CallerKept fun first c cs × CallersKept c.fun c.first cs
 
   -- a run comes there, with temps of their kinds, and the machine stands for its state
   pub record Here (r : Running) (b : Bool) (is : List TacInstr) (t : State Store) (m : Machine) : Type 0 where
     pub visited : Visited g w r b is t
     pub point : IsAtPoint g.setting g.code (at_place.behind r (looked_at b is)) (here r is) t m
     pub kinded : AreOfKinds (kinds_at g r.fun) t.vars
-    pub callers : CallersKept r.fun r.callers
+    pub callers : CallersKept r.fun t.first r.callers
 
   -- the words of an instruction lead to those of the rest
   pub record Leads_on (r : Running) (i : TacInstr) (rest : List TacInstr) (words : List Instr) : Type 0 where
@@ -225,6 +228,7 @@ module _ (g : Whole) (w : World) where
     pub means : Means g w r.fun i t (Into fun vs to) t
     pub kinded : AreOfKinds (kinds_at g fun) (entry_temps (kinds_at g fun) vs)
     pub takes : Takes (kinds_at g r.fun) to (gives_at g fun)
+    pub older : OthersAreOlder g.setting ((ops_of g).count t.mem) (caller_from r rest to t ∷ r.callers)
     pub does : Entered (g.dear r.fun i) fun (called_by fun r rest to t) ((ops_of g).enter fun t.frame) vs t m
 
   -- a call through a value may trap, or leave what the meaning speaks of
