@@ -345,6 +345,7 @@ module _ (g : Whole) (w : World) (c : Chosen g w) where
         takes = k.1;
         older = subst (λ n. OthersAreOlder g.setting n (caller_of r rest to t ∷ r.callers)) (count_is t)
             (others_are_older_at_entries_law g.setting c.text.legal (before r i rest) t m h.point.fits rest to);
+        keeps = x.may.keeps;
         does = subst (λ o. Entered g w (g.dear r.fun i) fun (called_by fun r rest to t) o (values t args) t m)
             (sym (enter_is fun t.frame x.begins.frame x.begins.is_frame.is))
             (entered_by to fun args r rest t m x
@@ -363,7 +364,7 @@ module _ (g : Whole) (w : World) (c : Chosen g w) where
       kept.kinded (signature_of g.program own.d.of) v b.to own.fits
       (subst (λ o. Takes (kinds_at g b.fun) b.to (gives_by (signature_of_def g.program o))) own.is kept.takes) in
       let d = returns_run_law g.setting g.code c.text c.stack w g.program fun v b bs rest
-      (g.word fun (instr.Return v ∷ rest)) t m h.point x.keeps kept.older k.1 x.words x.form x.has x.to x.keep
+      (g.word fun (instr.Return v ∷ rest)) t m h.point kept.keeps kept.older k.1 x.words x.form x.has x.to x.keep
       x.resumes in
       let a = d.does (locals_of g fun) x.locals in
       let le = a.le in

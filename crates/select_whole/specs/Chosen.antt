@@ -23,7 +23,6 @@ use Rattle.tac_ir.specs.declared.code.TacInstr.{TacInstr}
 use Rattle.tac_ir.specs.declared.code.TacInstr.TheVariants as instr
 use Rattle.place_inject.specs.Entering.{caller_of, entry_of}
 use Rattle.place_inject.specs.Frames.{IsLive, locals_by}
-use Rattle.place_inject.specs.Homes.{CallersKeep}
 use Rattle.place_inject.specs.Spills.{StackIsThere}
 use Rattle.place_inject.specs.Tables.{TableIsThere}
 use Rattle.select_runs.specs.Accesses.{AccessWords, IsAccess, place_of}
@@ -160,7 +159,6 @@ module _ (g : Whole) (w : World) where
 
   pub record ReturnStands (fun : ℕ) (c : Caller) (cs : List Caller) (v : Option ℕ) (rest : List TacInstr)
       (t : State Store) : Type 0 where
-    pub keeps : CallersKeep g.setting (c ∷ cs)
     pub words : List Instr
     pub form : ReturnWords g.setting fun v words
     pub has : HasAt g.code (g.word fun (instr.Return v ∷ rest)) words

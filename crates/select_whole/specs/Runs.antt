@@ -24,6 +24,7 @@ use Rattle.tac_ir.specs.declared.code.LibOp.TheVariants as lib
 use Rattle.tac_ir.specs.declared.code.TacInstr.{TacInstr}
 use Rattle.tac_ir.specs.declared.code.TacInstr.TheVariants as instr
 use Rattle.tac_ir.specs.declared.code.TacKind.{TacKind}
+use Rattle.place_inject.specs.Homes.{CallersKeep}
 use Rattle.place_inject.specs.Leaving.{OthersAreOlder}
 use Rattle.select_runs.specs.Accesses.{Accesses, IsAccess}
 use Rattle.select_runs.specs.Acts.{Leads, place}
@@ -92,11 +93,13 @@ module _ (g : Whole) (w : World) where
   here r is = g.word r.fun is
 
   -- a function's caller: its temps are of their kinds, the one for the result is of the kind that the function gives,
-  -- and the objects of others have lower numbers than the function's own, the first of which has this one
+  -- the objects of others have lower numbers than the function's own, the first of which has this one, and what callers
+  -- still read waits where functions keep it
   pub record CallerKept (fun first : ℕ) (c : Caller) (cs : List Caller) : Type 0 where
     pub kinded : AreOfKinds (kinds_at g c.fun) c.vars
     pub takes : Takes (kinds_at g c.fun) c.to (gives_at g fun)
     pub older : OthersAreOlder g.setting first (c ∷ cs)
+    pub keeps : CallersKeep g.setting (c ∷ cs)
 
   abbrev pub CallersKept : (fun first : ℕ) → List Caller → Type 0
   CallersKept fun first [] = Unit {0}
@@ -229,6 +232,7 @@ module _ (g : Whole) (w : World) where
     pub kinded : AreOfKinds (kinds_at g fun) (entry_temps (kinds_at g fun) vs)
     pub takes : Takes (kinds_at g r.fun) to (gives_at g fun)
     pub older : OthersAreOlder g.setting ((ops_of g).count t.mem) (caller_from r rest to t ∷ r.callers)
+    pub keeps : CallersKeep g.setting (caller_from r rest to t ∷ r.callers)
     pub does : Entered (g.dear r.fun i) fun (called_by fun r rest to t) ((ops_of g).enter fun t.frame) vs t m
 
   -- a call through a value may trap, or leave what the meaning speaks of

@@ -5,8 +5,8 @@
 //! stand there in the forms that selection chooses, but for calls through values, of which it is asked.
 //! Definitions (`specs/`): `Visited` (the places to which runs come), `Runs` (what is known of each kind of
 //! instruction), `Matching` (what is asked of the code, and what is then known), `Chosen` (the forms).
-//! Main lemmas (`proofs/`): `Kinded`, `Moves` (each instruction does one of few moves), `Passes` (by turns),
-//! `Matching`, `Chosen`.
+//! Main lemmas (`proofs/`): `Kinded`, `Steady` (which object is the first of a function stays), `Moves` (each
+//! instruction does one of few moves), `Passes` (by turns), `Matching`, `Chosen`.
 #![tactic(auto)]
 
 mod laws;
