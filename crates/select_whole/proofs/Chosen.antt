@@ -8,15 +8,16 @@ use Rattle.rv_instr.specs.declared.instr.Instr.{Instr}
 use Rattle.rv_instr.specs.declared.instr.Instr.TheVariants.{Branch, Cjal}
 use Rattle.cap_machine.specs.declared.machine.Machine.{Machine}
 use Rattle.cap_machine.specs.declared.end.End.TheVariants as end
+use Rattle.cheri_c_sem.specs.Kinds.{number_of}
 use Rattle.cheri_c_sem.specs.Modes.{Store, operations, frame_within}
 use Rattle.cheri_c_sem.specs.Steps.{State}
 use Rattle.tac_ir.specs.Costs.{cost, prologue_cost}
 use Rattle.obj_mem.specs.declared.map.Frame.{Frame}
-use Rattle.obj_mem.specs.Values.{Value}
+use Rattle.obj_mem.specs.Values.{Value, Int}
 use Rattle.purecap_abi.specs.Ends.{before_store}
 use Rattle.tac_ir.specs.Meaning.{Caller, Running, entry_temps}
 use Rattle.tac_ir.specs.Temps.{behind}
-use Rattle.tac_ir.specs.WellFormed.{signature_of, signature_of_def, signature_of_function}
+use Rattle.tac_ir.specs.WellFormed.{int_result, signature_of, signature_of_def, signature_of_function}
 use Rattle.tac_ir.specs.declared.code.LibOp.TheVariants as lib
 use Rattle.tac_ir.specs.declared.code.TacInstr.{TacInstr}
 use Rattle.tac_ir.specs.declared.code.TacInstr.TheVariants as instr
@@ -56,13 +57,13 @@ use Rattle.select_runs.proofs.Calling.{calls_run_law}
 use Rattle.select_runs.proofs.Returning.{returns_run_law, last_returns_run_law}
 use Rattle.select_heap.proofs.Heap.{allocations_run_law}
 use Rattle.select_whole.specs.Visited.{Whole, ops_of, tac_at, kinds_at, locals_of, in_frame_of, called_by, back_in}
-use Rattle.select_whole.specs.Visited.{gives_by}
+use Rattle.select_whole.specs.Visited.{gives_by, gives_at}
 use Rattle.select_whole.specs.Runs.{Here, here, Each, searched, IsAllocation, IsInteger, IsZero, IsStructCopy, Goes}
 use Rattle.select_whole.specs.Runs.{Accessed, Copied, IsCall, Called, Entered, Returned, Left, Takes}
 use Rattle.select_whole.specs.Runs.{Jumped, Branched, Put, Taken, Exited, InstructionsRun}
 use Rattle.select_whole.specs.Chosen.{CallStands, EachStands, BranchStands, Chosen, ChosenCodeRuns}
 use Rattle.select_whole.specs.Chosen.{ChosenCodeMatches}
-use Rattle.select_whole.proofs.Kinded.{call_kinded, return_kinded}
+use Rattle.select_whole.proofs.Kinded.{call_kinded, int_given, return_kinded}
 use Rattle.select_whole.proofs.Matching.{whole_runs_match_law}
 
 within_more : (most more : ℕ) (s : Setting) (code : List Instr) (w : World) (p : _) (r : Running) (i : TacInstr)
@@ -384,20 +385,32 @@ module _ (g : Whole) (w : World) (c : Chosen g w) where
         };
       }
 
+  last_by : (fun temp : ℕ) (rest : List TacInstr) (t : State Store) (m : Machine)
+      → Here g w (record { fun = fun; callers = [] }) false (instr.Return (Some temp) ∷ rest) t m
+      → value_of t (Some temp) ≡ Int (number_of (value_of t (Some temp))) → Left g w fun (Some temp) t m
+  last_by fun temp rest t m h integer =
+      let x = c.last_returns fun (Some temp) rest t m h in
+      let d = last_returns_run_law g.setting g.code c.text c.stack w g.program fun temp rest
+      (g.word fun (instr.Return (Some temp) ∷ rest)) t m h.point integer x.words x.form x.has x.to x.stub in
+      let few = d.few in
+      let less = x.cheap in
+      record {
+        value = value_of t (Some temp);
+        means = d.means;
+        does = record { count = d.count; to = d.asks; lt = omega arith; leads = d.leads; ends = d.ends };
+      }
+
   last_returns : (fun : ℕ) (v : Option ℕ) (rest : List TacInstr) (t : State Store) (m : Machine)
       → Here g w (record { fun = fun; callers = [] }) false (instr.Return v ∷ rest) t m → Left g w fun v t m
   last_returns fun v rest t m h =
-      let x = c.last_returns fun v rest t m h in
-      let h' = subst (λ y. Here g w (record { fun = fun; callers = [] }) false (instr.Return y ∷ rest) t m) x.is h in
-      let d = last_returns_run_law g.setting g.code c.text c.stack w g.program fun x.temp rest
-      (g.word fun (instr.Return (Some x.temp) ∷ rest)) t m h'.point x.integer x.words x.form x.has x.to x.stub in
-      let few = d.few in
-      let less = x.cheap in
-      subst (λ y. Left g w fun y t m) (sym x.is) (record {
-        value = value_of t (Some x.temp);
-        means = d.means;
-        does = record { count = d.count; to = d.asks; lt = omega arith; leads = d.leads; ends = d.ends };
-      })
+      let own = c.selectable (record { fun = fun; callers = [] }) false (instr.Return v) rest t m h in
+      let gives = subst (λ o. gives_by (signature_of_def g.program o) ≡ Some int_result) own.is
+      (ap (gives_at g) h.callers ∙ c.main_gives) in
+      let k = int_given g.program own.d (kinds_at g fun) (tac_at g fun) t h.kinded (signature_of g.program own.d.of) v
+      own.fits gives in
+      subst (λ y. Left g w fun y t m) (sym k.1)
+      (last_by fun k.0 rest t m
+      (subst (λ y. Here g w (record { fun = fun; callers = [] }) false (instr.Return y ∷ rest) t m) k.1 h) k.2)
 
   runs : InstructionsRun g w
   runs = record {

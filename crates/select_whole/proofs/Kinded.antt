@@ -1,7 +1,7 @@
 -- Temps are of their kinds at the entry of a function, and behind a return.
 use Rattle.std.proofs.Common.{pos, ◌≡◌, ℕ, zero, suc, ◌<◌, true, List, [], ◌∷◌, length, map, Option, Some, None, refl}
 use Rattle.std.proofs.Common.{ap}
-use Rattle.std.proofs.Common.{arith}
+use Rattle.std.proofs.Common.{subst, arith}
 use Rattle.std.specs.Prelude.{slice_get}
 use Rattle.std.proofs.lemmas.Bool.{and_parts}
 use Rattle.ck_int.specs.Kinds.{wrapped, reduced, kept_of}
@@ -9,15 +9,15 @@ use Rattle.ck_int.specs.declared.kinds.IntKind.{IntKind}
 use Rattle.ck_int.specs.declared.kinds.IntKind.TheVariants as int
 use Rattle.c_tree.specs.declared.typed.FunDef.{FunDef}
 use Rattle.c_tree.specs.declared.typed.Typed.{Typed}
-use Rattle.obj_mem.specs.Values.{Value}
-use Rattle.cheri_c_sem.specs.Kinds.{Kind, zero_of}
+use Rattle.obj_mem.specs.Values.{Value, Int}
+use Rattle.cheri_c_sem.specs.Kinds.{Kind, Plain, number_of, zero_of}
 use Rattle.cheri_c_sem.specs.Modes.{Store}
 use Rattle.cheri_c_sem.specs.Steps.{State}
 use Rattle.tac_ir.specs.Effects.{kind_of, kind_at, held, temp_in}
 use Rattle.tac_ir.specs.Meaning.{entry_temps, with_result}
 use Rattle.tac_ir.specs.WellFormed.{Signature, same_kind, has, all_have, begins_with, call_fits, result_fits}
 use Rattle.tac_ir.specs.WellFormed.{return_fits}
-use Rattle.tac_ir.specs.WellFormed.{return_by}
+use Rattle.tac_ir.specs.WellFormed.{int_result, return_by}
 use Rattle.tac_ir.specs.declared.code.TacInstr.{TacInstr}
 use Rattle.tac_ir.specs.declared.code.TacKind.{TacKind}
 use Rattle.tac_ir.specs.declared.code.TacKind.TheVariants as kind
@@ -104,6 +104,24 @@ module _ (p : Typed) (d : FunDef) (kinds : List TacKind) (code : List TacInstr) 
   takes None o e = tt
   takes (Some temp) None e = cc
   takes (Some temp) (Some k) e = has_kind p d kinds code temp k e
+
+  integer_is : (k : IntKind) (v : Value) → IsOfKind (Plain k) v → v ≡ Int (number_of v)
+  integer_is k (Int n) o = refl
+  integer_is k v o = absurd o
+
+  -- a return from a function that gives an int
+  abbrev GivesInteger : Option ℕ → Type 0
+  GivesInteger v =
+      (temp : ℕ) × (v ≡ Some temp) × (value_of t (Some temp) ≡ Int (number_of (value_of t (Some temp))))
+
+  int_returned : (v : Option ℕ) → return_by p d kinds code (Some int_result) v ≡ true → GivesInteger v
+  int_returned None e = cc
+  int_returned (Some temp) e = (temp, refl, integer_is int.I32 (temp_in t temp) (of_kind temp int_result e))
+
+  pub int_given : (o : Option Signature) (v : Option ℕ) → return_fits p d kinds code o v ≡ true
+      → gives_by o ≡ Some int_result → GivesInteger v
+  int_given None v e q = cc
+  int_given (Some x) v e q = int_returned v (subst (λ z. return_by p d kinds code z v ≡ true) q e)
 
   module _ (others : List TacKind) where
     -- the callee, whose temps have these kinds

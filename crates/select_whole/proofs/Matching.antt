@@ -133,7 +133,7 @@ module _ (g : Whole) (reports : IsReport g.report) (fine : AreFine g) (w : World
       (leads_reach g reports w bytes run a.count m a.to nothing_done a.leads)
       (turns_ok g reports fine w bytes run n (first_running g) (tac_at g (main_of g)) (entry_of g w address n) a.to
       (record {
-        at = record { visited = visit.begun address n e; point = a.point; kinded = zeros_kinded _; callers = tt };
+        at = record { visited = visit.begun address n e; point = a.point; kinded = zeros_kinded _; callers = refl };
         is_function = starts.main;
         fine_code = known;
         callers = tt;

@@ -215,7 +215,10 @@ module _ (g : Whole) (reports : IsReport g.report) (fine : AreFine g) (w : World
                 visited = visit.called c.fun c.vs c.to address h.at.visited c.means e;
                 point = a.point;
                 kinded = c.kinded;
-                callers = (record { kinded = h.at.kinded; takes = c.takes; older = c.older; keeps = c.keeps }, h.at.callers);
+                callers = (
+                  record { kinded = h.at.kinded; takes = c.takes; older = c.older; keeps = c.keeps },
+                  h.at.callers,
+                );
               };
               is_function = c.is;
               fine_code = known;

@@ -9,16 +9,14 @@ use Rattle.rv_instr.specs.declared.instr.Instr.TheVariants.{Cjal}
 use Rattle.cap_machine.specs.declared.machine.Machine.{Machine}
 use Rattle.cap_machine.specs.declared.end.End.TheVariants as end
 use Rattle.cap_ops.specs.declared.access.Cause.{Cause}
-use Rattle.cheri_c_sem.specs.Kinds.{number_of}
 use Rattle.cheri_c_sem.specs.Modes.{Store}
 use Rattle.cheri_c_sem.specs.Steps.{State}
 use Rattle.tac_ir.specs.Costs.{cost, prologue_cost}
-use Rattle.obj_mem.specs.Values.{Int}
 use Rattle.obj_mem.specs.declared.ending.Ending.TheVariants as ending
 use Rattle.purecap_abi.specs.Ends.{before_store}
 use Rattle.tac_ir.specs.Meaning.{Caller, Running, name_of}
 use Rattle.tac_ir.specs.Temps.{behind}
-use Rattle.tac_ir.specs.WellFormed.{Signature, begins_with, has_label, signature_of_function}
+use Rattle.tac_ir.specs.WellFormed.{Signature, begins_with, has_label, int_result, signature_of_function}
 use Rattle.tac_ir.specs.declared.code.TacInstr.{TacInstr}
 use Rattle.tac_ir.specs.declared.code.TacInstr.TheVariants as instr
 use Rattle.place_inject.specs.Entering.{caller_of, entry_of}
@@ -34,7 +32,7 @@ use Rattle.select_runs.specs.Copying.{CopyWords, copy_cost}
 use Rattle.select_runs.specs.Instructions.{IsAskedBy}
 use Rattle.select_runs.specs.Jumps.{LeadsTo, BranchWords}
 use Rattle.select_runs.specs.Operands.{IsText, ground_of}
-use Rattle.select_runs.specs.Returning.{ReturnWords, ResumesAt, value_of, StubAt}
+use Rattle.select_runs.specs.Returning.{ReturnWords, ResumesAt, StubAt}
 use Rattle.select_runs.specs.Operations.{IsOperation, OperationWords, IsComparison, CompareWords, IsConversion}
 use Rattle.select_runs.specs.Operations.{ConversionWords}
 use Rattle.select_runs.specs.Results.{IsSelectable}
@@ -45,7 +43,7 @@ use Rattle.select_runs.specs.Zeroing.{ZeroWords, granules}
 use Rattle.select_heap.specs.Heap.{Mallocs, StandsBeside, allocating}
 use Rattle.int_select.specs.Selected.{IsReport}
 use Rattle.select_whole.specs.Matching.{AreFine, IsOfBytes, Starts, MatchesIn}
-use Rattle.select_whole.specs.Visited.{Whole, kinds_at, tac_at, locals_of}
+use Rattle.select_whole.specs.Visited.{Whole, kinds_at, tac_at, locals_of, gives_at, main_of}
 use Rattle.select_whole.specs.Runs.{Here, here, Leads_on, Each, Reports_at, searched, IsInteger, IsStrange}
 use Rattle.select_whole.specs.Runs.{IsValueCall, ValueCalled, InstructionsRun}
 
@@ -169,20 +167,17 @@ module _ (g : Whole) (w : World) where
     pub locals : length (locals_of g fun) ≡ length (locals_by (slice_get g.setting.needs.functions fun))
     pub cheap : cost (instr.Return v) + 3 ≤ g.dear fun (instr.Return v)
 
-  pub record LastStands (fun : ℕ) (v : Option ℕ) (rest : List TacInstr) (t : State Store) : Type 0 where
-    pub temp : ℕ
-    pub is : v ≡ Some temp
-    pub integer : value_of t (Some temp) ≡ Int (number_of (value_of t (Some temp)))
+  pub record LastStands (fun : ℕ) (v : Option ℕ) (rest : List TacInstr) : Type 0 where
     pub words : List Instr
-    pub form : ReturnWords g.setting fun (Some temp) words
-    pub has : HasAt g.code (g.word fun (instr.Return (Some temp) ∷ rest)) words
+    pub form : ReturnWords g.setting fun v words
+    pub has : HasAt g.code (g.word fun (instr.Return v ∷ rest)) words
     pub to : ℕ
     pub stub : StubAt g.setting g.code to
-    pub cheap : cost (instr.Return (Some temp)) + 1 < g.dear fun (instr.Return (Some temp))
+    pub cheap : cost (instr.Return v) + 1 < g.dear fun (instr.Return v)
 
   -- The code is loaded as the text of a legal map, with its stack and its table, for the program; and the words of each
-  -- instruction stand at its place; a function's first temps are of the kinds of its parameters. Of calls through
-  -- values it is said that they run
+  -- instruction stand at its place; a function's first temps are of the kinds of its parameters, and the first
+  -- function gives an int. Of calls through values it is said that they run
   pub record Chosen : Type 0 where
     pub text : IsText g.setting g.code
     pub stack : StackIsThere g.setting
@@ -192,6 +187,7 @@ module _ (g : Whole) (w : World) where
         → Here g w r b (i ∷ rest) t m → IsSelectable g.setting g.program r i rest
     pub parameters : (fun : ℕ) (x : Signature) → signature_of_function g.program fun ≡ Some x
         → begins_with (kinds_at g fun) x.params ≡ true
+    pub main_gives : gives_at g (main_of g) ≡ Some int_result
     pub constants : EachStands IsConst (ConstantWords g.setting)
     pub copies : EachStands IsCopy (words.CopyWords g.setting)
     pub labels : EachStands IsPassed (NoWords g.setting)
@@ -231,7 +227,7 @@ module _ (g : Whole) (w : World) where
         (m : Machine) → Here g w (record { fun = fun; callers = c ∷ cs }) false (instr.Return v ∷ rest) t m
         → ReturnStands fun c cs v rest t
     pub last_returns : (fun : ℕ) (v : Option ℕ) (rest : List TacInstr) (t : State Store) (m : Machine)
-        → Here g w (record { fun = fun; callers = [] }) false (instr.Return v ∷ rest) t m → LastStands fun v rest t
+        → Here g w (record { fun = fun; callers = [] }) false (instr.Return v ∷ rest) t m → LastStands fun v rest
 
 -- By the laws, where selection chose so each instruction runs
 abbrev pub ChosenCodeRuns : Type 0

@@ -38,7 +38,8 @@ use Rattle.select_runs.specs.Results.{Arrives, GoesOnWithin}
 use Rattle.select_runs.specs.Results as at_place
 use Rattle.select_runs.specs.Services.{PutsByte, TakesByte, ExitsBy, putting, taking, leaving}
 use Rattle.select_runs.specs.Words.{IsConst, IsCopy, IsPassed}
-use Rattle.select_whole.specs.Visited.{Whole, Means, Visited, ops_of, tac_at, caller_from, called_by, in_frame_of}
+use Rattle.select_whole.specs.Visited.{Whole, Means, Visited, ops_of, tac_at, main_of, caller_from, called_by}
+use Rattle.select_whole.specs.Visited.{in_frame_of}
 use Rattle.select_whole.specs.Visited.{back_in}
 use Rattle.select_whole.specs.Visited.{kinds_at, gives_at, looked_at}
 
@@ -102,7 +103,7 @@ module _ (g : Whole) (w : World) where
     pub keeps : CallersKeep g.setting (c ∷ cs)
 
   abbrev pub CallersKept : (fun first : ℕ) → List Caller → Type 0
-  CallersKept fun first [] = Unit {0}
+  CallersKept fun first [] = fun ≡ main_of g
   CallersKept fun first (c ∷ cs) = CallerKept fun first c cs × CallersKept c.fun c.first cs
 
   -- a run comes there, with temps of their kinds, and the machine stands for its state
