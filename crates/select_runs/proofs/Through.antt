@@ -43,7 +43,7 @@ use Rattle.select_runs.specs.Operands.{ground_of, IsText, IsAtPoint}
 use Rattle.select_runs.specs.Passing.{GoesOnAside, PassesArguments}
 use Rattle.select_runs.specs.Results.{before, kinds_in}
 use Rattle.select_runs.specs.Services.{taking}
-use Rattle.select_runs.specs.Through.{ThroughWords, IsCallee, through, CallsThrough, Enters, Stops, Leaves}
+use Rattle.select_runs.specs.Through.{ThroughWords, IsCallee, IsCalled, through, CallsThrough, Enters, Stops, Leaves}
 use Rattle.select_runs.specs.Through.{CallsThroughValuesRun}
 use Rattle.select_runs.proofs.Acts.{has_front, has_back, join, act_on_row, fetched_here, counter_moved}
 use Rattle.select_runs.proofs.Bringing.{brings}
@@ -62,9 +62,7 @@ module _ (s : Setting) (code : List Instr) (x : IsText s code) (stack : StackIsT
     (w : World) (p : Typed) (running : Running) (to : Option ℕ)
     (v of : ℕ) (args : List ℕ) (source : Pos) (rest : List TacInstr) (at : ℕ) (t : State Store) (m : Machine)
     (point : IsAtPoint s code (before running (through to v of args source) rest) at t m) (words64 : HasWords m)
-    (callees : (f : ℕ) → temp_in t v ≡ Fun f
-    → slice_index_or (fits (operations (placed_plan s.map)) w p of) f false ≡ true
-    → IsCallee s code running to args rest t f)
+    (callees : (f : ℕ) → IsCalled s w p v of t f → IsCallee s code running to args rest t f)
     (words : List Instr) (form : ThroughWords s running.fun v args words) (has : HasAt code at words)
     (may : MayCall s code running to args rest (at + length words) t) where
   abbrev ground : Ground
@@ -225,7 +223,7 @@ module _ (s : Setting) (code : List Instr) (x : IsText s code) (stack : StackIsT
   -- ---- by the value
 
   abbrev Result_is : Type 0
-  Result_is = CallsThrough s code w p running i to args rest source mid t m
+  Result_is = CallsThrough s code w p running i to args rest source mid t m (IsCalled s w p v of t) callees
 
   -- what the meaning does of a value
   abbrev means_of : (k : Next → State Store → Fate) → Value → Fate
@@ -250,8 +248,8 @@ module _ (s : Setting) (code : List Instr) (x : IsText s code) (stack : StackIsT
     where
       by : (b : Bool) → slice_index_or (fits (operations (placed_plan s.map)) w p of) f false ≡ b → Result_is
       by true q =
-          let own = callees f e q in
-          Enters f own (λ k. ap (means_of k) e ∙ ap (λ b. Rattle.cheri_c_sem.specs.Meaning.compatible
+          let own = callees f (e, q) in
+          Enters f (e, q) (λ k. ap (means_of k) e ∙ ap (λ b. Rattle.cheri_c_sem.specs.Meaning.compatible
           (operations (placed_plan s.map)) w source f b t (λ g u. k (Into g (values t args) to) u)) q) (enters f e own)
       by false q =
           Leaves (λ k. ap (means_of k) e ∙ ap (λ b. Rattle.cheri_c_sem.specs.Meaning.compatible

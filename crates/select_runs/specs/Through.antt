@@ -48,40 +48,46 @@ pub record IsCallee (s : Setting) (code : List Instr) (running : Running) (to : 
       (IsLive s (entry_of f (caller_of running rest to t) running.callers body))
   pub leads : (addresses_of s.map).entry f ≡ place (ground_of s code) begins.entry
 
+-- the value is the function's, and its type is compatible with that of the call
+abbrev pub IsCalled : Setting → World → Typed → (v of : ℕ) → State Store → (f : ℕ) → Type 0
+IsCalled s w p v of t f =
+    (temp_in t v ≡ Fun f) × (slice_index_or (fits (operations (placed_plan s.map)) w p of) f false ≡ true)
+
 abbrev pub through : Option ℕ → (v of : ℕ) → List ℕ → Pos → TacInstr
 through to v of args source = instr.CallValue to v of args source
 
 -- ---- what a call does
 
--- The function is entered, or its first store traps; the jump traps as the meaning does; or the meaning leaves what it
--- speaks of, where the function's type is another
+-- The function is entered, at what is given of it, or its first store traps; the jump traps as the meaning does; or the
+-- meaning leaves what it speaks of, where the function's type is another
 pub data CallsThrough (s : Setting) (code : List Instr) (w : World) (p : Typed) (running : Running) (i : TacInstr)
     (to : Option ℕ) (args : List ℕ) (rest : List TacInstr) (source : Pos) (word : ℕ) (t : State Store)
-    (m : Machine) : Type 0 where
-  Enters : (f : ℕ) → (callee : IsCallee s code running to args rest t f)
+    (m : Machine) (Called : ℕ → Type 0)
+    (callees : (f : ℕ) → Called f → IsCallee s code running to args rest t f) : Type 0 where
+  Enters : (f : ℕ) (is : Called f)
       → ((k : Next → State Store → Fate)
       → effect (operations (placed_plan s.map)) w p (kinds_in s running) i t k ≡ k (Into f (values t args) to) t)
-      → EntersWithin s code (cost i + prologue_cost (length args)) callee.begins.entry
-      (callee.begins.entry + length (begin_words s f callee.begins.frame callee.begins.words)) callee.begins.frame
-      (entry_of f (caller_of running rest to t) running.callers callee.body)
-      (λ place'. entered s f place' callee.begins.lengths (entry_temps callee.begins.kinds (values t args)) t) m
-      (frame_within s.map.stack.0 t.frame (Some callee.begins.frame))
-      → CallsThrough s code w p running i to args rest source word t m
+      → EntersWithin s code (cost i + prologue_cost (length args)) (callees f is).begins.entry
+      ((callees f is).begins.entry
+      + length (begin_words s f (callees f is).begins.frame (callees f is).begins.words)) (callees f is).begins.frame
+      (entry_of f (caller_of running rest to t) running.callers (callees f is).body)
+      (λ place'. entered s f place' (callees f is).begins.lengths
+      (entry_temps (callees f is).begins.kinds (values t args)) t) m
+      (frame_within s.map.stack.0 t.frame (Some (callees f is).begins.frame))
+      → CallsThrough s code w p running i to args rest source word t m Called callees
   Stops : TrapsWithin (cost i) s code w p running i source word t m
-      → CallsThrough s code w p running i to args rest source word t m
+      → CallsThrough s code w p running i to args rest source word t m Called callees
   Leaves : ((k : Next → State Store → Fate)
       → effect (operations (placed_plan s.map)) w p (kinds_in s running) i t k ≡ over (ending.Outside source) t)
-      → CallsThrough s code w p running i to args rest source word t m
+      → CallsThrough s code w p running i to args rest source word t m Called callees
 
 abbrev pub CallsThroughValuesRun : Type 0
 CallsThroughValuesRun = (s : Setting) (code : List Instr) → IsText s code → StackIsThere s
     → (w : World) (p : Typed) (running : Running) (to : Option ℕ)
     (v of : ℕ) (args : List ℕ) (source : Pos) (rest : List TacInstr) (at : ℕ) (t : State Store) (m : Machine)
     → IsAtPoint s code (before running (through to v of args source) rest) at t m → HasWords m
-    → ((f : ℕ) → temp_in t v ≡ Fun f
-    → slice_index_or (fits (operations (placed_plan s.map)) w p of) f false ≡ true
-    → IsCallee s code running to args rest t f)
+    → (callees : (f : ℕ) → IsCalled s w p v of t f → IsCallee s code running to args rest t f)
     → (words : List Instr) (form : ThroughWords s running.fun v args words) → HasAt code at words
     → MayCall s code running to args rest (at + length words) t
     → CallsThrough s code w p running (through to v of args source) to args rest source
-    (at + length form.finds + length form.passes) t m
+    (at + length form.finds + length form.passes) t m (IsCalled s w p v of t) callees
