@@ -3,7 +3,9 @@ use Rattle.std.proofs.Common.{pos, refl, ℕ, ◌+◌, ◌<◌, ◌≤◌, Bool,
 use Rattle.std.proofs.Common.{subst, arith, ◌≡◌, ◌∙◌, sym, Some, None}
 use Rattle.std.specs.Prelude.{slice_get}
 use Rattle.std.proofs.lemmas.List.{length-append}
+use Rattle.std.proofs.lemmas.Bool.{and_parts}
 use Rattle.ck_base.specs.World.{World}
+use Rattle.ck_base.specs.declared.positions.Pos.{Pos}
 use Rattle.rv_instr.specs.declared.instr.Instr.{Instr}
 use Rattle.rv_instr.specs.declared.instr.Instr.TheVariants.{Branch, Cjal}
 use Rattle.cap_machine.specs.declared.machine.Machine.{Machine}
@@ -17,13 +19,16 @@ use Rattle.obj_mem.specs.Values.{Value, Int}
 use Rattle.purecap_abi.specs.Ends.{before_store}
 use Rattle.tac_ir.specs.Meaning.{Caller, Running, entry_temps}
 use Rattle.tac_ir.specs.Temps.{behind}
-use Rattle.tac_ir.specs.WellFormed.{int_result, signature_of, signature_of_def, signature_of_function}
+use Rattle.tac_ir.specs.Effects.{Into}
+use Rattle.tac_ir.specs.WellFormed.{call_fits, has_capability, int_result, signature_of, signature_of_def}
+use Rattle.tac_ir.specs.WellFormed.{signature_of_function}
 use Rattle.tac_ir.specs.declared.code.LibOp.TheVariants as lib
 use Rattle.tac_ir.specs.declared.code.TacInstr.{TacInstr}
 use Rattle.tac_ir.specs.declared.code.TacInstr.TheVariants as instr
 use Rattle.tac_ir.specs.declared.code.TacKind.{TacKind}
 use Rattle.place_inject.specs.Entering.{caller_of, entered, entry_of}
 use Rattle.place_inject.specs.Frames.{Setting}
+use Rattle.place_inject.specs.Homes.{CallersKeep}
 use Rattle.place_inject.specs.Leaving.{OthersAreOlder, caller_at}
 use Rattle.place_inject.proofs.Older.{others_are_older_at_entries_law}
 use Rattle.select_runs.specs.Accesses.{IsAccess, place_of}
@@ -38,6 +43,10 @@ use Rattle.select_runs.specs.Operations.{OperationWords, IsOperation, IsComparis
 use Rattle.select_runs.specs.Operations.{ConversionWords}
 use Rattle.select_runs.specs.Results.{before, EachGoesOn, GoesOnWithin}
 use Rattle.select_runs.specs.Services.{putting, taking, leaving}
+use Rattle.select_runs.specs.Kinds.{AreOfKinds}
+use Rattle.select_runs.specs.Through as through
+use Rattle.select_runs.specs.Through.{IsCalled, IsCallee, CallsThrough, Enters, Stops, through}
+use Rattle.select_runs.proofs.Through.{calls_through_values_run_law}
 use Rattle.select_runs.specs.Words as words
 use Rattle.select_runs.specs.Words.{IsConst, ConstantWords, IsCopy, IsPassed, NoWords}
 use Rattle.select_heap.specs.Heap.{allocating}
@@ -57,11 +66,12 @@ use Rattle.select_runs.proofs.Calling.{calls_run_law}
 use Rattle.select_runs.proofs.Returning.{returns_run_law, last_returns_run_law}
 use Rattle.select_heap.proofs.Heap.{allocations_run_law}
 use Rattle.select_whole.specs.Visited.{Whole, ops_of, tac_at, kinds_at, locals_of, in_frame_of, called_by, back_in}
-use Rattle.select_whole.specs.Visited.{gives_by, gives_at}
+use Rattle.select_whole.specs.Visited.{Means, gives_by, gives_at}
 use Rattle.select_whole.specs.Runs.{Here, here, Each, searched, IsAllocation, IsInteger, IsZero, IsStructCopy, Goes}
 use Rattle.select_whole.specs.Runs.{Accessed, Copied, IsCall, Called, Entered, Returned, Left, Takes}
+use Rattle.select_whole.specs.Runs.{IsValueCall, ValueCalled, Calls, Traps, Leaves}
 use Rattle.select_whole.specs.Runs.{Jumped, Branched, Put, Taken, Exited, InstructionsRun}
-use Rattle.select_whole.specs.Chosen.{CallStands, EachStands, BranchStands, Chosen, ChosenCodeRuns}
+use Rattle.select_whole.specs.Chosen.{CalleeStands, ValueCallStands, EachStands, BranchStands, Chosen, ChosenCodeRuns}
 use Rattle.select_whole.specs.Chosen.{ChosenCodeMatches}
 use Rattle.select_whole.proofs.Kinded.{call_kinded, int_given, return_kinded}
 use Rattle.select_whole.proofs.Matching.{whole_runs_match_law}
@@ -290,21 +300,21 @@ module _ (g : Whole) (w : World) (c : Chosen g w) where
   unfolding operations
   count_is t = refl
 
-  module _ (to : Option ℕ) (fun : ℕ) (args : List ℕ) (r : Running) (rest : List TacInstr) (t : State Store)
-      (m : Machine) (x : CallStands g w to fun args r rest t m) where
-    abbrev most : ℕ
-    most = cost (instr.Call to fun args) + prologue_cost (length args)
-
+  module _ (most : ℕ) (to : Option ℕ) (fun : ℕ) (args : List ℕ) (r : Running) (rest : List TacInstr) (t : State Store)
+      (x : CalleeStands g w to fun args r rest t) where
     abbrev entry_end : ℕ
     entry_end = x.begins.entry + length (begin_words g.setting fun x.begins.frame x.begins.words)
 
-    entered_by : (o : Option ℕ) → EntersWithin g.setting g.code most x.begins.entry entry_end x.begins.frame
+    abbrev EntersAs : Machine → Option ℕ → Type 0
+    EntersAs m o =
+        EntersWithin g.setting g.code most x.begins.entry entry_end x.begins.frame
         (entry_of fun (caller_of r rest to t) r.callers (tac_at g fun))
         (λ place. entered g.setting fun place x.begins.lengths (entry_temps x.begins.kinds (values t args)) t) m o
-        → Entered g w (g.dear r.fun (instr.Call to fun args)) fun (called_by fun r rest to t) o (values t args) t m
-    entered_by (Some place) a =
+
+    entered_by : (m : Machine) (more : ℕ) → most < more → (o : Option ℕ) → EntersAs m o
+        → Entered g w more fun (called_by fun r rest to t) o (values t args) t m
+    entered_by m more less (Some place) a =
         let le = a.le in
-        let less = x.cheap in
         let same = entry_is fun place x.begins.lengths x.begins.kinds (values t args) t x.lengths x.kinds in
         record {
           count = a.count;
@@ -318,41 +328,98 @@ module _ (g : Whole) (w : World) (c : Chosen g w) where
               (subst (λ u. IsAtPoint g.setting g.code
               (entry_of fun (caller_of r rest to t) r.callers (tac_at g fun)) entry_end u a.to) same a.point);
         }
-    entered_by None a =
-        let few = a.few in
-        let less = x.cheap in (
+    entered_by m more less None a =
+        let few = a.few in (
           end.Trap a.cause
               (place (ground_of g.setting g.code) (x.begins.entry + length (before_store x.begins.frame))),
           record { count = a.count; to = a.sinks; lt = omega arith; leads = a.leads; ends = a.ends },
           x.reports a.cause,
         )
 
+    -- a call of it, at an instruction whose arguments are of their kinds
+    called_so : (i : TacInstr) (m : Machine) → most < g.dear r.fun i → Here g w r false (i ∷ rest) t m
+        → Means g w r.fun i t (Into fun (values t args) to) t
+        → (AreOfKinds (kinds_at g fun) (entry_temps (kinds_at g fun) (values t args))
+        × Takes (kinds_at g r.fun) to (gives_at g fun))
+        → CallersKeep g.setting (caller_of r rest to t ∷ r.callers)
+        → EntersAs m (frame_within g.setting.map.stack.0 t.frame (Some x.begins.frame)) → Called g w r i rest t m
+    called_so i m less h means k keeps does = record {
+      fun = fun;
+      vs = values t args;
+      to = to;
+      is = x.is;
+      means = means;
+      kinded = k.0;
+      takes = k.1;
+      older = subst (λ n. OthersAreOlder g.setting n (caller_of r rest to t ∷ r.callers)) (count_is t)
+          (others_are_older_at_entries_law g.setting c.text.legal (before r i rest) t m h.point.fits rest to);
+      keeps = keeps;
+      does = subst (λ o. Entered g w (g.dear r.fun i) fun (called_by fun r rest to t) o (values t args) t m)
+          (sym (enter_is fun t.frame x.begins.frame x.begins.is_frame.is))
+          (entered_by m (g.dear r.fun i) less
+          (frame_within g.setting.map.stack.0 t.frame (Some x.begins.frame)) does);
+    }
+
   calls : Each g w IsCall (Called g w)
   calls r (instr.Call to fun args) rest t m is h =
       let i = instr.Call to fun args in
       let x = c.calls to fun args r rest t m h in
       let own = c.selectable r false i rest t m h in
-      let k = call_kinded g.program own.d (kinds_at g r.fun) (tac_at g r.fun) t h.kinded (kinds_at g fun)
-      (signature_of_function g.program fun) to args own.fits (c.parameters fun) in
       let d = calls_run_law g.setting g.code c.text c.stack w g.program r to fun args rest (tac_at g fun)
-      (here g w r (i ∷ rest)) t m h.point x.addresses x.begins x.offset x.words x.form x.has x.leads x.may in
-      record {
-        fun = fun;
-        vs = values t args;
-        to = to;
-        is = x.is;
-        means = d.means;
-        kinded = k.0;
-        takes = k.1;
-        older = subst (λ n. OthersAreOlder g.setting n (caller_of r rest to t ∷ r.callers)) (count_is t)
-            (others_are_older_at_entries_law g.setting c.text.legal (before r i rest) t m h.point.fits rest to);
-        keeps = x.may.keeps;
-        does = subst (λ o. Entered g w (g.dear r.fun i) fun (called_by fun r rest to t) o (values t args) t m)
-            (sym (enter_is fun t.frame x.begins.frame x.begins.is_frame.is))
-            (entered_by to fun args r rest t m x
-            (frame_within g.setting.map.stack.0 t.frame (Some x.begins.frame)) d.does);
-      }
+      (here g w r (i ∷ rest)) t m h.point x.addresses x.callee.begins x.offset x.words x.form x.has x.leads x.may in
+      called_so (cost i + prologue_cost (length args)) to fun args r rest t x.callee i m x.cheap h d.means
+      (call_kinded g.program own.d (kinds_at g r.fun) (tac_at g r.fun) t h.kinded (kinds_at g fun)
+      (signature_of_function g.program fun) to args own.fits (c.parameters fun)) x.may.keeps d.does
   calls r i rest t m is h = absurd is
+
+  module _ (to : Option ℕ) (v of : ℕ) (args : List ℕ) (source : Pos) (r : Running) (rest : List TacInstr)
+      (t : State Store) (m : Machine) (h : Here g w r false (through to v of args source ∷ rest) t m) where
+    abbrev i : TacInstr
+    i = through to v of args source
+
+    abbrev stands : ValueCallStands g w to v of args source r rest t m
+    stands = c.value_calls to v of args source r rest t m h
+
+    abbrev callees : (f : ℕ) → IsCalled g.setting w g.program v of t f → IsCallee g.setting g.code r to args rest t f
+    callees f is = record {
+      body = tac_at g f;
+      begins = (stands.callees f is).begins;
+      leads = stands.leads f is;
+    }
+
+    abbrev jump : ℕ
+    jump = here g w r (i ∷ rest) + length stands.form.finds + length stands.form.passes
+
+    value_called : CallsThrough g.setting g.code w g.program r i to args rest source jump t m
+        (IsCalled g.setting w g.program v of t) callees → ValueCalled g w r i rest t m
+    value_called (Enters f is means does) =
+        let own = c.selectable r false i rest t m h in
+        let alike = c.alike f of is.1 in
+        let fit = (and_parts (has_capability g.program own.d (kinds_at g r.fun) (tac_at g r.fun) v)
+        (call_fits g.program own.d (kinds_at g r.fun) (tac_at g r.fun) (signature_of g.program of) to args)
+        own.fits).1 in
+        Calls (called_so (cost i + prologue_cost (length args)) to f args r rest t (stands.callees f is) i m
+        stands.cheap h means
+        (call_kinded g.program own.d (kinds_at g r.fun) (tac_at g r.fun) t h.kinded (kinds_at g f)
+        (signature_of_function g.program f) to args
+        (subst (λ o. call_fits g.program own.d (kinds_at g r.fun) (tac_at g r.fun) o to args ≡ true) (sym alike) fit)
+        (c.parameters f)) stands.may.keeps does)
+    value_called (Stops x) =
+        let lt = x.lt in
+        let less = stands.cheap in
+        Traps x.cause source (end.Trap x.cause (place (ground_of g.setting g.code) jump)) x.means
+        (record { count = x.count; to = x.to; lt = omega arith; leads = x.leads; ends = x.ends })
+        (stands.reports x.cause)
+    value_called (through.Leaves means) = Leaves source means
+
+  value_calls : Each g w IsValueCall (ValueCalled g w)
+  value_calls r (instr.CallValue to v of args source) rest t m is h =
+      let x = stands to v of args source r rest t m h in
+      value_called to v of args source r rest t m h
+      (calls_through_values_run_law g.setting g.code c.text c.stack w g.program r to v of args source rest
+      (here g w r (through to v of args source ∷ rest)) t m h.point x.addresses
+      (callees to v of args source r rest t m h) x.words x.form x.has x.may)
+  value_calls r i rest t m is h = absurd is
 
   returns : (fun : ℕ) (b : Caller) (bs : List Caller) (v : Option ℕ) (rest : List TacInstr) (t : State Store)
       (m : Machine) → Here g w (record { fun = fun; callers = b ∷ bs }) false (instr.Return v ∷ rest) t m
@@ -436,7 +503,7 @@ module _ (g : Whole) (w : World) (c : Chosen g w) where
     exits = exits;
     strange = c.strange;
     calls = calls;
-    value_calls = c.value_calls;
+    value_calls = value_calls;
     returns = returns;
     last_returns = last_returns;
   }

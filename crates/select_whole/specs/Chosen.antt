@@ -1,7 +1,7 @@
 -- What selection chose: at each place to which a run comes the words of the instruction stand, in the form that the
 -- laws of selected code ask for.
 use Rattle.std.specs.Prelude.{◌≡◌, ℕ, ◌+◌, ◌*◌, ◌/◌, ◌<◌, ◌≤◌, ℤ, Bool, true, false, List, [], ◌∷◌, length}
-use Rattle.std.specs.Prelude.{Option, Some, None, slice_get}
+use Rattle.std.specs.Prelude.{Option, Some, None, slice_get, slice_index_or}
 use Rattle.ck_base.specs.World.{World}
 use Rattle.ck_base.specs.declared.positions.Pos.{Pos}
 use Rattle.rv_instr.specs.declared.instr.Instr.{Instr}
@@ -12,11 +12,14 @@ use Rattle.cap_ops.specs.declared.access.Cause.{Cause}
 use Rattle.cheri_c_sem.specs.Modes.{Store}
 use Rattle.cheri_c_sem.specs.Steps.{State}
 use Rattle.tac_ir.specs.Costs.{cost, prologue_cost}
+use Rattle.obj_mem.specs.Table.{addresses_of}
 use Rattle.obj_mem.specs.declared.ending.Ending.TheVariants as ending
 use Rattle.purecap_abi.specs.Ends.{before_store}
+use Rattle.tac_ir.specs.Effects.{fits}
 use Rattle.tac_ir.specs.Meaning.{Caller, Running, name_of}
 use Rattle.tac_ir.specs.Temps.{behind}
-use Rattle.tac_ir.specs.WellFormed.{Signature, begins_with, has_label, int_result, signature_of_function}
+use Rattle.tac_ir.specs.WellFormed.{Signature, begins_with, has_label, int_result, signature_of}
+use Rattle.tac_ir.specs.WellFormed.{signature_of_function}
 use Rattle.tac_ir.specs.declared.code.TacInstr.{TacInstr}
 use Rattle.tac_ir.specs.declared.code.TacInstr.TheVariants as instr
 use Rattle.place_inject.specs.Entering.{caller_of, entry_of}
@@ -37,15 +40,16 @@ use Rattle.select_runs.specs.Operations.{IsOperation, OperationWords, IsComparis
 use Rattle.select_runs.specs.Operations.{ConversionWords}
 use Rattle.select_runs.specs.Results.{IsSelectable}
 use Rattle.select_runs.specs.Services.{Asks, StandsAside, putting, taking, leaving}
+use Rattle.select_runs.specs.Through.{IsCalled, ThroughWords, through}
 use Rattle.select_runs.specs.Words as words
 use Rattle.select_runs.specs.Words.{IsConst, ConstantWords, IsCopy, IsPassed, NoWords}
 use Rattle.select_runs.specs.Zeroing.{ZeroWords, granules}
 use Rattle.select_heap.specs.Heap.{Mallocs, StandsBeside, allocating}
 use Rattle.int_select.specs.Selected.{IsReport}
 use Rattle.select_whole.specs.Matching.{AreFine, IsOfBytes, Starts, MatchesIn}
-use Rattle.select_whole.specs.Visited.{Whole, kinds_at, tac_at, locals_of, gives_at, main_of}
+use Rattle.select_whole.specs.Visited.{Whole, ops_of, kinds_at, tac_at, locals_of, gives_at, main_of}
 use Rattle.select_whole.specs.Runs.{Here, here, Leads_on, Each, Reports_at, searched, IsInteger, IsStrange}
-use Rattle.select_whole.specs.Runs.{IsValueCall, ValueCalled, InstructionsRun}
+use Rattle.select_whole.specs.Runs.{InstructionsRun}
 
 -- ---- what stands at the places
 
@@ -133,27 +137,49 @@ module _ (g : Whole) (w : World) where
 
   -- ---- calls and returns
 
-  -- the callee's code stands where the call leads, and the caller may call
-  pub record CallStands (to : Option ℕ) (fun : ℕ) (args : List ℕ) (r : Running) (rest : List TacInstr)
-      (t : State Store) (m : Machine) : Type 0 where
+  -- a function that is called with such arguments: its code stands there
+  pub record CalleeStands (to : Option ℕ) (fun : ℕ) (args : List ℕ) (r : Running) (rest : List TacInstr)
+      (t : State Store) : Type 0 where
     pub is : fun < length g.setting.code.funs
     pub begins : Begins g.setting g.code fun (length args) (tac_at g fun)
         (IsLive g.setting (entry_of fun (caller_of r rest to t) r.callers (tac_at g fun)))
     pub lengths : begins.lengths ≡ locals_of g fun
     pub kinds : begins.kinds ≡ kinds_at g fun
     pub there : begins.entry + length (begin_words g.setting fun begins.frame begins.words) ≡ g.word fun (tac_at g fun)
+    pub reports : (c : Cause)
+        → g.report (end.Trap c (place (ground_of g.setting g.code) (begins.entry + length (before_store begins.frame))))
+        ≡ Some (ending.Stack (name_of (slice_get g.setting.code.funs fun)))
+
+  -- the callee's code stands where the call leads, and the caller may call
+  pub record CallStands (to : Option ℕ) (fun : ℕ) (args : List ℕ) (r : Running) (rest : List TacInstr)
+      (t : State Store) (m : Machine) : Type 0 where
+    pub callee : CalleeStands to fun args r rest t
     pub offset : ℤ
     pub words : List Instr
     pub form : CallWords g.setting r.fun args offset words
     pub has : HasAt g.code (here g w r (instr.Call to fun args ∷ rest)) words
-    pub leads : LeadsTo g.setting g.code (here g w r (instr.Call to fun args ∷ rest) + length form.passes) begins.entry
-        offset
+    pub leads : LeadsTo g.setting g.code (here g w r (instr.Call to fun args ∷ rest) + length form.passes)
+        callee.begins.entry offset
     pub may : MayCall g.setting g.code r to args rest (here g w r (instr.Call to fun args ∷ rest) + length words) t
     pub addresses : HasWords m
     pub cheap : cost (instr.Call to fun args) + prologue_cost (length args) < g.dear r.fun (instr.Call to fun args)
-    pub reports : (c : Cause)
-        → g.report (end.Trap c (place (ground_of g.setting g.code) (begins.entry + length (before_store begins.frame))))
-        ≡ Some (ending.Stack (name_of (slice_get g.setting.code.funs fun)))
+
+  -- the code of each function that may be called so stands where its sentry leads
+  pub record ValueCallStands (to : Option ℕ) (v of : ℕ) (args : List ℕ) (source : Pos) (r : Running)
+      (rest : List TacInstr) (t : State Store) (m : Machine) : Type 0 where
+    pub callees : (f : ℕ) → IsCalled g.setting w g.program v of t f → CalleeStands to f args r rest t
+    pub leads : (f : ℕ) (is : IsCalled g.setting w g.program v of t f)
+        → (addresses_of g.setting.map).entry f ≡ place (ground_of g.setting g.code) (callees f is).begins.entry
+    pub words : List Instr
+    pub form : ThroughWords g.setting r.fun v args words
+    pub has : HasAt g.code (here g w r (through to v of args source ∷ rest)) words
+    pub may : MayCall g.setting g.code r to args rest
+        (here g w r (through to v of args source ∷ rest) + length words) t
+    pub addresses : HasWords m
+    pub cheap : cost (through to v of args source) + prologue_cost (length args)
+        < g.dear r.fun (through to v of args source)
+    pub reports : Reports_at g w
+        (here g w r (through to v of args source ∷ rest) + length form.finds + length form.passes) source
 
   pub record ReturnStands (fun : ℕ) (c : Caller) (cs : List Caller) (v : Option ℕ) (rest : List TacInstr)
       (t : State Store) : Type 0 where
@@ -176,8 +202,8 @@ module _ (g : Whole) (w : World) where
     pub cheap : cost (instr.Return v) + 1 < g.dear fun (instr.Return v)
 
   -- The code is loaded as the text of a legal map, with its stack and its table, for the program; and the words of each
-  -- instruction stand at its place; a function's first temps are of the kinds of its parameters, and the first
-  -- function gives an int. Of calls through values it is said that they run
+  -- instruction stand at its place. A function's first temps are of the kinds of its parameters, the first function
+  -- gives an int, and functions that may be called through a type have its signature
   pub record Chosen : Type 0 where
     pub text : IsText g.setting g.code
     pub stack : StackIsThere g.setting
@@ -188,6 +214,8 @@ module _ (g : Whole) (w : World) where
     pub parameters : (fun : ℕ) (x : Signature) → signature_of_function g.program fun ≡ Some x
         → begins_with (kinds_at g fun) x.params ≡ true
     pub main_gives : gives_at g (main_of g) ≡ Some int_result
+    pub alike : (fun of : ℕ) → slice_index_or (fits (ops_of g) w g.program of) fun false ≡ true
+        → signature_of_function g.program fun ≡ signature_of g.program of
     pub constants : EachStands IsConst (ConstantWords g.setting)
     pub copies : EachStands IsCopy (words.CopyWords g.setting)
     pub labels : EachStands IsPassed (NoWords g.setting)
@@ -222,7 +250,9 @@ module _ (g : Whole) (w : World) where
         → Here g w r false (allocating to a ∷ rest) t m → MallocStands to a r rest
     pub calls : (to : Option ℕ) (fun : ℕ) (args : List ℕ) (r : Running) (rest : List TacInstr) (t : State Store)
         (m : Machine) → Here g w r false (instr.Call to fun args ∷ rest) t m → CallStands to fun args r rest t m
-    pub value_calls : Each g w IsValueCall (ValueCalled g w)
+    pub value_calls : (to : Option ℕ) (v of : ℕ) (args : List ℕ) (source : Pos) (r : Running) (rest : List TacInstr)
+        (t : State Store) (m : Machine) → Here g w r false (through to v of args source ∷ rest) t m
+        → ValueCallStands to v of args source r rest t m
     pub returns : (fun : ℕ) (c : Caller) (cs : List Caller) (v : Option ℕ) (rest : List TacInstr) (t : State Store)
         (m : Machine) → Here g w (record { fun = fun; callers = c ∷ cs }) false (instr.Return v ∷ rest) t m
         → ReturnStands fun c cs v rest t

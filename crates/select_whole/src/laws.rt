@@ -9,7 +9,7 @@ pub fn whole_runs_match()
     ensures { WholeRunsMatch }
 {}
 
-/// They do so where they stand there in the forms that selection chooses; of calls through values it is asked.
+/// They do so where they stand there in the forms that selection chooses.
 pub fn chosen_code_runs()
     ensures { ChosenCodeRuns }
 {}

@@ -2,7 +2,7 @@
 //!
 //! Promise: laws: where the words of each instruction do on the machine what it means, at each place to which a run
 //! comes, whole runs match in both directions, within a count of acts for each turn; and so they do where the words
-//! stand there in the forms that selection chooses, but for calls through values, of which it is asked.
+//! stand there in the forms that selection chooses.
 //! Definitions (`specs/`): `Visited` (the places to which runs come), `Runs` (what is known of each kind of
 //! instruction), `Matching` (what is asked of the code, and what is then known), `Chosen` (the forms).
 //! Main lemmas (`proofs/`): `Kinded`, `Steady` (which object is the first of a function stays), `Moves` (each
