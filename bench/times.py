@@ -8,8 +8,9 @@
 - long: files of 4,194,304 bytes, tokens and declarations, beside `gcc -fsyntax-only` and `tcc`;
 - hostile: files that are large in one thing, as chains of typedef names, unions in one another and an initialiser of a million values.
 
-A file over the limit of weight ends with `refused 142 1:1` after the front end. A peer that is not there is left out. The memory is the peak of resident bytes of the one process. It needs what ./cheric needs. It proves nothing and is no part of
-the gate."""
+A file over the limit of weight ends with `refused 142 1:1` after the front end. A peer that is not there is left out.
+The memory is the peak of resident bytes of the one process. It needs what ./cheric needs. It proves nothing and is no
+part of the gate."""
 import os
 import shutil
 import statistics
