@@ -1,43 +1,40 @@
 -- Expressions as typing makes them (C11 6.5).
-use Rattle.std.proofs.Common.{◌≡◌, ℕ, Bool, false, List, [], ◌∷◌, Option, Some, None, refl}
+use Rattle.std.proofs.Common.{true, Result, Ok, Err, ◌≡◌, ℕ, Bool, false, List, [], ◌∷◌, Option, Some, None, refl}
 use Rattle.std.proofs.lemmas.Bool.{false≢true}
 use Rattle.std.specs.Prelude.{not, nat_le, length, ◌&&◌, ◌||◌}
-use Rattle.c_tree.specs.Layout.{size_limit}
-use Rattle.ck_base.specs.declared.positions.Pos.{Pos}
 use Rattle.ck_base.specs.Tokens.{Lexeme}
+use Rattle.ck_base.specs.declared.positions.Pos.{Pos}
+use Rattle.ck_int.specs.declared.kinds.CmpOp.{CmpOp}
 use Rattle.ck_int.specs.declared.kinds.IntOp.{IntOp}
 use Rattle.ck_int.specs.declared.kinds.IntOp.TheVariants.{Add, Sub, Shl, Shr}
-use Rattle.ck_int.specs.declared.kinds.CmpOp.{CmpOp}
-use Rattle.c_tree.specs.declared.typed.UnaryOp.{UnaryOp}
-use Rattle.c_tree.specs.declared.typed.UnaryOp.TheVariants as unary
+use Rattle.c_tree.specs.Constants.{is_null_constant}
+use Rattle.c_tree.specs.Conversions.{Operand, value, assigned}
+use Rattle.c_tree.specs.Expressions.{denoted, text_bytes, named, text, integer_join, arithmetic, shift_join, shift}
+use Rattle.c_tree.specs.Expressions.{unary_on, promoted_term, sum_of, sum, difference_of, difference, int_join}
+use Rattle.c_tree.specs.Expressions.{compared, condition, infix_join, conditional, assign, right_of, compound, stepped}
+use Rattle.c_tree.specs.Expressions.{taken, address, pointed, dereference, index, members_in, member, member_behind}
+use Rattle.c_tree.specs.Expressions.{cast, sized, unevaluated, arguments, call_of, call, asked, all_asked, library_call}
+use Rattle.c_tree.specs.Expressions.{is_shift, moves, differ, both_agree, is_void_pointer, is_counted, arms_type}
+use Rattle.c_tree.specs.Expressions.{is_additive, is_modifiable, compounds, points_to_function}
+use Rattle.c_tree.specs.Layout.{size_limit}
+use Rattle.c_tree.specs.Libraries.{Asked, Any_capability, A, Service}
+use Rattle.c_tree.specs.Scopes.{Fault, continued, change, give, ◌>>◌, Entity, Local, Static, Routine, Alias, Enumerator}
+use Rattle.c_tree.specs.Scopes.{State, Doing, find_name, is_complete}
+use Rattle.c_tree.specs.Scopes as scopes
+use Rattle.c_tree.specs.Syntax.{Syns}
+use Rattle.c_tree.specs.Terms as tree
+use Rattle.c_tree.specs.Terms.{Shape, Term, Terms, term, terms, no_terms, with_term, type_of, pos_of, step, join}
+use Rattle.c_tree.specs.Types.{Ty, Cap, Pointer, Tagged, Function, Tys, no_types, also, bare, promoted, is_integer}
+use Rattle.c_tree.specs.Types.{is_pointer, is_scalar, is_function}
 use Rattle.c_tree.specs.declared.syntax.InfixOperator.{InfixOperator}
 use Rattle.c_tree.specs.declared.syntax.InfixOperator.TheVariants as infixes
 use Rattle.c_tree.specs.declared.syntax.StepOperator.{StepOperator}
-use Rattle.c_tree.specs.Syntax.{Syns}
-use Rattle.c_tree.specs.Types.{Ty, Cap, Pointer, Tagged, Function, Tys, no_types, also, bare}
-use Rattle.c_tree.specs.Types.{promoted, is_integer, is_pointer, is_scalar, is_function}
-use Rattle.c_tree.specs.Constants.{is_null_constant}
-use Rattle.c_tree.specs.Terms as tree
-use Rattle.c_tree.specs.Terms.{Shape, Term, Terms, term, terms, no_terms, with_term, type_of, pos_of, step, join}
-use Rattle.c_tree.specs.Scopes.{Entity, Local, Static, Routine, Alias, Enumerator, State, Doing, find_name}
-use Rattle.c_tree.specs.Scopes.{is_complete}
-use Rattle.c_tree.specs.Scopes as scopes
-use Rattle.c_tree.specs.Conversions.{Operand, value, assigned}
-use Rattle.c_tree.specs.Libraries.{Asked, Any_capability, A, Service}
-use Rattle.c_tree.specs.Expressions.{denoted, text_bytes, named, text, integer_join, arithmetic}
-use Rattle.c_tree.specs.Expressions.{shift_join}
-use Rattle.c_tree.specs.Expressions.{shift, unary_on, promoted_term, sum_of, sum, difference_of, difference, int_join}
-use Rattle.c_tree.specs.Expressions.{compared, condition, infix_join, conditional, assign, right_of, compound}
-use Rattle.c_tree.specs.Expressions.{stepped, taken, address, pointed, dereference, index, members_in, member}
-use Rattle.c_tree.specs.Expressions.{member_behind, cast, sized, unevaluated, arguments, call_of, call, asked}
-use Rattle.c_tree.specs.Expressions.{all_asked}
-use Rattle.c_tree.specs.Expressions.{library_call, is_shift}
-use Rattle.c_tree.specs.Expressions.{moves, differ, both_agree, is_void_pointer, is_counted}
-use Rattle.c_tree.specs.Expressions.{arms_type, is_additive, is_modifiable, compounds, points_to_function}
+use Rattle.c_tree.specs.declared.typed.UnaryOp.{UnaryOp}
+use Rattle.c_tree.specs.declared.typed.UnaryOp.TheVariants as unary
 use Rattle.c_values.proofs.Made.{TermMade, TermsMade, TermWorth, if_worth, value_made, converted_made}
-use Rattle.c_values.proofs.Stepping.{BodiesMade, Keeps, Any, going, run_give, run_kept, run_need, run_then, run_next}
-use Rattle.c_values.proofs.Stepping.{less, give_keeps, refuse_goes, goes_then, goes_next, need_keeps, some_keeps}
-use Rattle.c_values.proofs.Stepping.{if_goes, bodies_changed}
+use Rattle.c_values.proofs.Stepping.{LocalsKept, Runs, run_refuse, changed_locals, still, BodiesMade, Keeps, Any, going}
+use Rattle.c_values.proofs.Stepping.{run_give, run_kept, run_need, run_then, run_next, less, give_keeps, refuse_goes}
+use Rattle.c_values.proofs.Stepping.{goes_then, goes_next, need_keeps, some_keeps, if_goes, bodies_changed}
 
 abbrev pub Made : Operand → Type 0
 Made a = TermMade a.is
@@ -70,7 +67,7 @@ pub two_made : {B C : Type 0} → B → C → Unit {0} × (B × (C × Unit {0}))
 two_made h g = (tt, (h, (g, tt)))
 
 pub value_keeps : (a : Operand) → Made a → Keeps Worth (value a)
-value_keeps a h = going λ s at. run_next (run_need _ _ _ _ at) λ q at. run_give at (value_made a.is h)
+value_keeps a h = going λ s at. run_next (run_need _ _ _ _ at) λ q at. run_give still at (value_made a.is h)
 
 pub assigned_keeps : (t : Ty) (a : Operand) → Worth a → Keeps TermWorth (assigned t a)
 assigned_keeps t a h = goes_next (need_keeps _ _ _) (give_keeps (converted_made (bare t) a.is h))
@@ -81,9 +78,9 @@ denoted_keeps : (o : Option Entity) (t : Lexeme) → Keeps Made (denoted o t)
 denoted_keeps None t = refuse_goes
 denoted_keeps (Some (Local k of)) t = give_keeps (tt, tt)
 denoted_keeps (Some (Static k)) t =
-    going λ s at. run_give at (tt, tt)
+    going λ s at. run_give still at (tt, tt)
 denoted_keeps (Some (Routine k)) t =
-    going λ s at. run_give (bodies_changed _ (λ r. refl) s.routines k at) (tt, tt)
+    going λ s at. run_give still (bodies_changed _ (λ r. refl) s.routines k at) (tt, tt)
 denoted_keeps (Some (Alias of)) t = refuse_goes
 denoted_keeps (Some (Enumerator n)) t = give_keeps (tt, tt)
 denoted_keeps (Some (scopes.Library k of)) t = refuse_goes
@@ -96,7 +93,7 @@ pub text_keeps : (t : Lexeme) (xs : Syns) → Keeps Made (text t xs)
 unfolding text
 text_keeps t xs =
     going λ s at. run_next (run_next (run_need _ (nat_le (length (text_bytes t xs)) size_limit) 140 t.pos at) λ q at.
-    run_kept at) λ q at. run_give at (tt, tt)
+    run_kept still at) λ q at. run_give still at (tt, tt)
 
 -- ---- integers
 
@@ -222,7 +219,7 @@ compound_keeps o a b p h g =
     going λ s at. run_next (run_next
     (run_need _ (not (is_additive o && is_pointer t && is_integer u) || is_counted s t) 132 a.first at) λ q at.
     run_need _ (is_modifiable a.is && compounds o t u) 133 a.first at) λ q at.
-    run_give at (two_made h (right_made o t b.is g))
+    run_give still at (two_made h (right_made o t b.is g))
 
 pub stepped_keeps : (o : StepOperator) (in_front : Bool) (a : Operand) (p first : Pos) → Made a →
     Keeps Made (stepped o in_front a p first)
@@ -230,7 +227,7 @@ stepped_keeps o in_front a p first h =
     let t = bare (type_of a.is) in
     going λ s at. run_next (run_next (run_need _ (is_counted s t) 132 first at) λ q at.
     run_need _ (is_modifiable a.is && is_scalar t && not (points_to_function t)) 133 first at) λ q at.
-    run_give at (one_made h)
+    run_give still at (one_made h)
 
 -- ---- addresses and places
 
@@ -238,14 +235,19 @@ taken_bodies : (x : Term) (s : State) → BodiesMade s.routines → BodiesMade (
 taken_bodies (term (tree.Var k) xs t p) s b = b
 taken_bodies x s b = b
 
+taken_locals : (x : Term) (s : State) → LocalsKept s.locals (taken x s).locals
+taken_locals (term (tree.Var k) xs t p) s =
+    changed_locals (λ v. record v { addressed = true }) s.locals k (λ v e. refl)
+taken_locals x s = still
+
 pub address_keeps : (a : Operand) (p : Pos) → Made a → Keeps Made (address a p)
 address_keeps a p h =
     going λ s at. run_next (run_next (run_need _ _ _ _ at) λ q at.
-    run_kept (taken_bodies a.is q at)) λ q at. run_give at (one_made h)
+    run_kept (taken_locals a.is q) (taken_bodies a.is q at)) λ q at. run_give still at (one_made h)
 
 pointed_keeps : (t : Ty) (p : Pos) → Keeps Any (pointed t p)
 pointed_keeps (Pointer t) p =
-    going λ s at. run_next (run_need _ (is_function t || is_complete s t) 132 p at) λ q at. run_give at tt
+    going λ s at. run_next (run_need _ (is_function t || is_complete s t) 132 p at) λ q at. run_give still at tt
 pointed_keeps t p = refuse_goes
 
 pub dereference_keeps : (a : Operand) (p first : Pos) → Worth a → Keeps Made (dereference a p first)
@@ -275,11 +277,19 @@ cast_keeps t a p h = goes_next (need_keeps _ _ _) (give_keeps (tt, (h, tt)))
 
 pub sized_keeps : (t : Ty) (p : Pos) → Keeps Made (sized t p)
 sized_keeps t p =
-    going λ s at. run_next (run_need _ (is_complete s t) 132 p at) λ q at. run_give at (tt, tt)
+    going λ s at. run_next (run_need _ (is_complete s t) 132 p at) λ q at. run_give still at (tt, tt)
+
+unevaluated_runs : {B : Type 0} {P : B → Type 0} (s : State) (r : Result (B × State) Fault) → BodiesMade s.routines →
+    Runs P s.locals r
+    → Runs P s.locals (continued r (λ a. change (λ q.
+    record q { texts = s.texts; statics = s.statics; routines = s.routines; locals = s.locals })
+    >> give a))
+unevaluated_runs s (Ok y) old h = run_give still old (h.post y refl)
+unevaluated_runs s (Err f) old h = run_refuse
 
 pub unevaluated_keeps : {B : Type 0} {P : B → Type 0} {d : Doing B} → Keeps P d → Keeps P (unevaluated d)
 unevaluated_keeps h =
-    going λ s old. run_then (h.run s old) λ a q at i. run_give old i
+    going λ s old. unevaluated_runs s _ old (h.run s old)
 
 -- ---- calls
 

@@ -1,52 +1,49 @@
 -- The bodies of a file's functions as typing makes them (C11 6.9).
-use Rattle.std.proofs.Common.{◌≡◌, ℕ, Bool, true, false, List, [], ◌∷◌, length, Option, Some, None, Result, Ok}
-use Rattle.std.proofs.Common.{Err, refl, sym, ap, subst, ◌∙◌, ⊎_elim}
+use Rattle.std.proofs.Common.{◌<◌, zero, suc, arith, map, ◌≡◌, ℕ, Bool, true, false, List, [], ◌∷◌, length, Option}
+use Rattle.std.proofs.Common.{Some, None, Result, Ok, Err, refl, sym, ap, subst, ◌∙◌, ⊎_elim}
 use Rattle.std.specs.Prelude.{slice_get, map, not, ◌||◌, if◌then◌else◌}
 use Rattle.std.proofs.lemmas.Option.{none-some, same_Some}
-use Rattle.ck_base.specs.declared.positions.Pos.{Pos}
 use Rattle.ck_base.specs.Tokens.{Lexeme}
+use Rattle.ck_base.specs.declared.positions.Pos.{Pos}
+use Rattle.c_tree.specs.Declarations.{declaration, definition_agrees}
+use Rattle.c_tree.specs.Declarators.{formed}
+use Rattle.c_tree.specs.Expressions.{routine_type}
+use Rattle.c_tree.specs.Passed.{Names, passed_program, call_name, calls_in}
+use Rattle.c_tree.specs.Programs.{fault, file_begins, own_prototype, is_typedef, is_there, parameter_local, params_of}
+use Rattle.c_tree.specs.Programs.{scope_of, body_context, gives_complete, first_incomplete, refused_at, define_body}
+use Rattle.c_tree.specs.Programs.{define_named, function_definition, external_of, reading, readings, beginning}
+use Rattle.c_tree.specs.Programs.{last_faults, earliest, program_of, has_main, ended, all_externals, finished, typing}
+use Rattle.c_tree.specs.Readings.{Param, Wrap, Point, Row, Gives, Specified, Prototype, Derived, Context, Items}
+use Rattle.c_tree.specs.Readings.{Reading}
+use Rattle.c_tree.specs.Scopes.{LocalState, RoutineState, Body, State, Fault, Doing, give, look, change, leave, ◌>>=◌}
+use Rattle.c_tree.specs.Scopes.{◌>>◌, continued, find_in, innermost, changed_at, change_routine}
+use Rattle.c_tree.specs.Statements.{block_action}
+use Rattle.c_tree.specs.Syntax.{Syn, Syns, node, nil, more, first_token}
+use Rattle.c_tree.specs.Terms.{Program, numbers_from}
+use Rattle.c_tree.specs.Types.{Ty, is_function}
 use Rattle.c_tree.specs.declared.syntax.NodeKind.{NodeKind}
 use Rattle.c_tree.specs.declared.syntax.NodeKind.TheVariants as Kinds
-use Rattle.c_tree.specs.Syntax.{Syn, Syns, node, nil, more, first_token}
-use Rattle.c_tree.specs.Types.{Ty, is_function}
-use Rattle.c_tree.specs.Terms.{Program, numbers_from}
-use Rattle.c_tree.specs.Scopes.{RoutineState, Body, State}
-use Rattle.c_tree.specs.Programs.{fault, file_begins}
-use Rattle.c_tree.specs.Scopes.{Fault, Doing, give, look, change, leave, ◌>>=◌, ◌>>◌, continued, find_in}
-use Rattle.c_tree.specs.Scopes.{innermost}
-use Rattle.c_tree.specs.Scopes.{changed_at, change_routine}
-use Rattle.c_tree.specs.Readings.{Specified, Prototype, Derived, Context, Items, Reading}
-use Rattle.c_tree.specs.Expressions.{routine_type}
-use Rattle.c_tree.specs.Declarators.{formed}
-use Rattle.c_tree.specs.Declarations.{declaration, definition_agrees}
-use Rattle.c_tree.specs.Statements.{block_action}
-use Rattle.c_tree.specs.Passed.{Names, passed_program, call_name, calls_in}
-use Rattle.c_tree.specs.Programs.{own_prototype, is_typedef, is_there, parameter_local, params_of, scope_of}
-use Rattle.c_tree.specs.Programs.{body_context}
-use Rattle.c_tree.specs.Programs.{gives_complete, first_incomplete, refused_at, define_body, define_named}
-use Rattle.c_tree.specs.Programs.{function_definition, external_of, reading, readings, beginning, last_faults, earliest}
-use Rattle.c_tree.specs.Programs.{program_of, has_main, ended, all_externals, finished, typing}
 use Rattle.c_facts.specs.Fitting.{IsFit, AreFit}
-use Rattle.c_facts.proofs.Steps.{given, first_then, changed_from}
+use Rattle.c_facts.proofs.PassedVariables.{numbers_length}
+use Rattle.c_facts.proofs.Steps.{ok_is, refused, given, first_then, changed_from}
 use Rattle.c_facts.proofs.Functions.{Outside}
 use Rattle.c_facts.proofs.Readable.{good}
 use Rattle.c_facts.proofs.Ended.{outside_beginning}
-use Rattle.c_values.proofs.Made.{ActionMade}
-use Rattle.c_values.proofs.Stepping.{BodiesMade, Runs, Keeps, Any, going, run_give, run_refuse, run_then, run_next}
-use Rattle.c_values.proofs.Stepping.{give_keeps, refuse_goes, goes_then, bodies_changed}
-use Rattle.c_values.proofs.Readings.{ItemsMade}
+use Rattle.c_values.proofs.Readings.{ParamsMade, WrapsMade, DerivedMade, ItemsMade}
+use Rattle.c_values.proofs.Sorts.{is_stored}
+use Rattle.c_values.proofs.Stepping.{BodyMade, AreAdjusted, LocalsKept, bodies_then, BodiesMade, Runs, Keeps, Any}
+use Rattle.c_values.proofs.Stepping.{run_next, give_keeps, refuse_goes, bodies_changed}
 use Rattle.c_values.proofs.Declared.{checked, linked_routine_keeps, declaration_goes}
 use Rattle.c_values.proofs.Stated.{AllStated, all_read, all_stated}
 
 -- ---- bodies
 
-bodies_set : (b : Body) → ActionMade b.action → (fs : List RoutineState) (k : ℕ) → BodiesMade fs →
+bodies_set : (b : Body) → BodyMade b → (fs : List RoutineState) (k : ℕ) → BodiesMade fs →
     BodiesMade (changed_at (λ (f : RoutineState). record f { body = Some b }) fs k)
 bodies_set b h fs k o j y c e q =
     let x = changed_from (λ (f : RoutineState). record f { body = Some b }) fs k j y e in
     ⊎_elim (λ i. o j x.0 c x.1 (ap (λ (r : RoutineState). r.body) (sym i) ∙ q))
-    (λ i. subst (λ (d : Body). ActionMade d.action)
-    (same_Some b c (ap (λ (r : RoutineState). r.body) (sym i.1) ∙ q)) h) x.2
+    (λ i. subst BodyMade (same_Some b c (ap (λ (r : RoutineState). r.body) (sym i.1) ∙ q)) h) x.2
 
 refused_keeps : (code : ℕ) (o : Option Pos) → Keeps Any (refused_at code o)
 refused_keeps code None = give_keeps tt
@@ -73,42 +70,72 @@ stored k p block i = look >>= λ s.
     leave >> change (λ s. change_routine k (λ f. record f { body = Some body }) (record s { locals = [] }))
 
 module _ (k : ℕ) (t : Lexeme) (p : Option Prototype) (block : Syn) where
-  stored_runs : (r : Result (Items × State) Fault) → Runs ItemsMade r → Runs Any (continued r (stored k p block))
-  stored_runs (Ok y) h =
-      run_give (bodies_set (body_of p block y.0 y.1) (tt, h.post y refl) y.1.routines k (h.bodies y refl)) tt
-  stored_runs (Err f) h = run_refuse
+  param_at : (ps : List Param) → ParamsMade ps → (j : ℕ) → j < length ps →
+      (v : LocalState) × (slice_get (map parameter_local ps) j ≡ Some v) × (is_stored v.of ≡ false)
+  param_at [] h j l = absurd (omega (arith, l))
+  param_at (q ∷ ps) h zero l = (parameter_local q, refl, h.0)
+  param_at (q ∷ ps) h (suc j) l = param_at ps h.1 j (omega (arith, l))
 
-  define_body_keeps : (of : Ty) (r : Reading) → HasItems r → Keeps Any (define_body k t of p block r)
-  define_body_keeps of r g =
-      going λ q at. let a = started k t p q in
-      stored_runs _ (run_next ((refused_keeps 132 (first_incomplete a.tags (params_of p))).run a
-      (bodies_changed _ (λ r. refl) q.routines k at)) λ q at. (g (body_context of)).run q at)
+  -- the parameters are the first locals in the end
+  body_adjusted : (i : Items) (s : State) → ParamsMade (params_of p) →
+      LocalsKept (map parameter_local (params_of p)) s.locals → AreAdjusted (body_of p block i s)
+  body_adjusted i s h l j v lt e =
+      let a = param_at (params_of p) h j
+      (let z = numbers_length 0 (length (params_of p)) in omega (arith, lt, z)) in
+      let b = l.at j a.0 a.1 in
+      ap (λ (v : LocalState). is_stored v.of) (same_Some v b.0 (sym e ∙ b.1)) ∙ b.2 ∙ a.2
+
+  stored_bodies : ParamsMade (params_of p) → (r : Result (Items × State) Fault) →
+      Runs ItemsMade (map parameter_local (params_of p)) r → (x : Unit {0} × State) →
+      continued r (stored k p block) ≡ Ok x → BodiesMade x.1.routines
+  stored_bodies made (Ok y) h x e =
+      subst (λ (z : Unit {0} × State). BodiesMade z.1.routines) (ok_is _ x e)
+      (bodies_set (body_of p block y.0 y.1) ((tt, tt, h.post y refl), body_adjusted y.0 y.1 made (h.locals y refl))
+      y.1.routines k (h.bodies y refl))
+  stored_bodies made (Err f) h x e = refused _ x e
+
+  define_body_bodies : (of : Ty) (r : Reading) → HasItems r → ParamsMade (params_of p) → (q : State) →
+      BodiesMade q.routines → (x : Unit {0} × State) → define_body k t of p block r q ≡ Ok x →
+      BodiesMade x.1.routines
+  define_body_bodies of r g made q at x e =
+      let a = started k t p q in
+      stored_bodies made _ (run_next ((refused_keeps 132 (first_incomplete a.tags (params_of p))).run a
+      (bodies_changed _ (λ r. refl) q.routines k at)) λ q at. (g (body_context of)).run q at) x e
+
+own_made : (ws : List Wrap) → WrapsMade ws → ParamsMade (params_of (own_prototype ws))
+own_made [] h = tt
+own_made (Gives p ∷ []) h = h.0
+own_made (Point c ∷ []) h = tt
+own_made (Row n ∷ []) h = tt
+own_made (w ∷ v ∷ ws) h = own_made (v ∷ ws) h.1
+
+define_named_bodies : (s : Specified) (d : Derived) (name : Option Lexeme) (block : Syn) (r : Reading) → HasItems r →
+    DerivedMade d → (st : State) → BodiesMade st.routines → (x : Unit {0} × State) →
+    define_named s d name block r st ≡ Ok x → BodiesMade x.1.routines
+define_named_bodies s d None block r g made st at x e = refused _ x e
+define_named_bodies s d (Some t) block r g made st at x e =
+    let f = formed st s.of d.wraps in
+    let i = find_in (innermost st.scopes).names t.text in
+    let p = own_prototype d.wraps in
+    bodies_then (checked _ (definition_agrees st i t.text f.of) t.pos f (not (gives_complete st f.of))
+    (is_typedef s.storage || (not (is_function f.of) || not (is_there p))) _ (linked_routine_keeps t f.of i) at)
+    (λ k now at j x e. define_body_bodies k t p block (routine_type (slice_get now.routines k)) r g
+    (own_made d.wraps made) now at x e) x e
 
 -- ---- definitions
 
-define_named_keeps : (s : Specified) (d : Derived) (name : Option Lexeme) (block : Syn) (r : Reading) → HasItems r →
-    Keeps Any (define_named s d name block r)
-define_named_keeps s d None block r g = refuse_goes
-define_named_keeps s d (Some t) block r g =
-    going λ st at.
-    let f = formed st s.of d.wraps in
-    let e = find_in (innermost st.scopes).names t.text in
-    let p = own_prototype d.wraps in
-    run_then (checked _ (definition_agrees st e t.text f.of) t.pos f (not (gives_complete st f.of))
-    (is_typedef s.storage || (not (is_function f.of) || not (is_there p))) _ (linked_routine_keeps t f.of e) at)
-    λ k now at i. (define_body_keeps k t p block (routine_type (slice_get now.routines k)) r g).run now at
-
-definition_keeps : (t : Lexeme) (xs : Syns) (rs : List Reading) → AllStated rs →
-    Keeps Any (function_definition t xs rs)
+definition_bodies : (t : Lexeme) (xs : Syns) (rs : List Reading) → AllStated rs → (s : State) →
+    BodiesMade s.routines → (x : Unit {0} × State) → function_definition t xs rs s ≡ Ok x → BodiesMade x.1.routines
 unfolding function_definition
-definition_keeps t (more x (more y (more z nil))) (r ∷ q ∷ p ∷ []) h =
-    goes_then (h.0.reads.specified false) λ s i. goes_then h.1.0.reads.derived λ d j.
-    define_named_keeps s d d.name z p h.1.1.0.body
-definition_keeps t xs rs h = refuse_goes
+definition_bodies t (more x (more y (more z nil))) (r ∷ q ∷ p ∷ []) h s at w e =
+    bodies_then ((h.0.reads.specified false).run s at) (λ sp s at i w e.
+    bodies_then (h.1.0.reads.derived.run s at) (λ d s at j w e.
+    define_named_bodies sp d d.name z p h.1.1.0.body j s at w e) w e) w e
+definition_bodies t xs rs h s at w e = refused _ w e
 
 external_bodies : (k : NodeKind) (t : Lexeme) (xs : Syns) (rs : List Reading) (s : State) (x : Unit {0} × State) →
     AllStated rs → BodiesMade s.routines → external_of k t xs rs s ≡ Ok x → BodiesMade x.1.routines
-external_bodies Kinds.FunctionDefinition t xs rs s x h at e = ((definition_keeps t xs rs h).run s at).bodies x e
+external_bodies Kinds.FunctionDefinition t xs rs s x h at e = definition_bodies t xs rs h s at x e
 external_bodies Kinds.Declaration t xs rs s x h at e =
     let y = first_then (declaration t.pos rs s) (λ i. give tt) x e in
     given (λ (z : Unit {0} × State). BodiesMade z.1.routines) tt y.0.1 x y.2

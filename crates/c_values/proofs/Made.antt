@@ -1,13 +1,13 @@
 -- What typing sees to while it makes expressions: where a value is asked for, a place has been read.
-use Rattle.std.proofs.Common.{◌≡◌, Bool, true, false, refl, ap, List, [], ◌∷◌, ◌++◌}
+use Rattle.std.proofs.Common.{◌≡◌, Bool, true, false, refl, ap, List, [], ◌∷◌, ◌++◌, length}
 use Rattle.std.specs.Prelude.{not, if◌then◌else◌}
-use Rattle.c_tree.specs.Types.{Ty, Array, Function, bare, same, is_function}
-use Rattle.c_tree.specs.Terms as tree
-use Rattle.c_tree.specs.Terms.{Shape, Term, Terms, term, no_terms, with_term, type_of, pos_of, step, Action, Actions}
-use Rattle.c_tree.specs.Terms.{action, actions, no_actions, with_action}
 use Rattle.c_tree.specs.Conversions.{designates, value_term, converted_term}
 use Rattle.c_tree.specs.Expressions.{is_shift}
-use Rattle.c_values.specs.Valued.{asks_place}
+use Rattle.c_tree.specs.Terms as tree
+use Rattle.c_tree.specs.Terms.{Shape, Term, Terms, term, no_terms, with_term, type_of, pos_of, step, Action, Actions}
+use Rattle.c_tree.specs.Terms.{Form, action, actions, no_actions, with_action}
+use Rattle.c_tree.specs.Types.{Ty, Array, Function, bare, same, is_function}
+use Rattle.c_values.specs.Valued.{asks_place, AreOnce, Begins, FirstBegin}
 
 -- no place, and no function
 abbrev pub is_read : Term → Bool
@@ -36,13 +36,35 @@ abbrev mutual
 abbrev pub TermWorth : Term → Type 0
 TermWorth x = TermMade x × (is_read x ≡ true)
 
+abbrev pub FormMade : Form → Actions → Type 0
+FormMade (tree.Switch vars ls) ys = AreOnce ls
+FormMade (tree.For vars n a b) ys = FirstBegin n ys
+FormMade x ys = Unit {0}
+
 abbrev mutual
   pub ActionMade : Action → Type 0
-  ActionMade (action x xs ys p) = TermsMade false xs × ActionsMade ys
+  ActionMade (action x xs ys p) = FormMade x ys × TermsMade false xs × ActionsMade ys
 
   pub ActionsMade : Actions → Type 0
   ActionsMade no_actions = Unit {0}
   ActionsMade (with_action x xs) = ActionMade x × ActionsMade xs
+
+-- what a declaration does
+abbrev pub InitsMade : List Action → Type 0
+InitsMade [] = Unit {0}
+InitsMade (x ∷ xs) = (Begins x × ActionMade x) × InitsMade xs
+
+pub inits_are : (xs : List Action) → InitsMade xs → ActionsMade (actions xs)
+inits_are [] h = tt
+inits_are (x ∷ xs) h = (h.0.1, inits_are xs h.1)
+
+pub inits_append : (xs ys : List Action) → InitsMade xs → InitsMade ys → InitsMade (xs ++ ys)
+inits_append [] ys h k = k
+inits_append (x ∷ xs) ys h k = (h.0, inits_append xs ys h.1 k)
+
+pub inits_begin : (xs ys : List Action) → InitsMade xs → FirstBegin (length xs) (actions (xs ++ ys))
+inits_begin [] ys h = tt
+inits_begin (x ∷ xs) ys h = (h.0.0, inits_begin xs ys h.1)
 
 pub actions_append : (xs ys : List Action) → ActionsMade (actions xs) → ActionsMade (actions ys) →
     ActionsMade (actions (xs ++ ys))

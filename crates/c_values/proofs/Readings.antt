@@ -1,24 +1,24 @@
 -- What a part of the syntax gives, and the expressions among them (C11 6.5).
-use Rattle.std.proofs.Common.{ℕ, ℤ, Bool, true, false, List, [], ◌∷◌, Option, Some, None}
-use Rattle.ck_base.specs.declared.positions.Pos.{Pos}
+use Rattle.std.proofs.Common.{ℕ, ℤ, Bool, true, false, List, [], ◌∷◌, Option, Some, None, ◌≡◌}
 use Rattle.ck_base.specs.Tokens.{Lexeme}
+use Rattle.ck_base.specs.declared.positions.Pos.{Pos}
 use Rattle.ck_int.specs.declared.kinds.IntOp.{IntOp}
+use Rattle.c_tree.specs.Conversions.{operand_type}
+use Rattle.c_tree.specs.Expressions.{read_value, read_values, called, prefixed, assignment, selected, expression_of}
+use Rattle.c_tree.specs.Expressions.{called_library, called_name}
+use Rattle.c_tree.specs.Readings.{Specified, Slot, Filled, Items, Param, Prototype, Wrap, Gives, Derived, Reading}
+use Rattle.c_tree.specs.Scopes.{Part, Doing}
+use Rattle.c_tree.specs.Syntax.{Syn, Syns, node, nil, more}
+use Rattle.c_tree.specs.Terms.{actions}
+use Rattle.c_tree.specs.Types.{Ty}
 use Rattle.c_tree.specs.declared.syntax.NodeKind.{NodeKind}
 use Rattle.c_tree.specs.declared.syntax.NodeKind.TheVariants as Kinds
 use Rattle.c_tree.specs.declared.syntax.PrefixOperator.{PrefixOperator}
 use Rattle.c_tree.specs.declared.syntax.PrefixOperator.TheVariants as prefixes
 use Rattle.c_tree.specs.declared.syntax.Selection.{Selection}
 use Rattle.c_tree.specs.declared.syntax.Selection.TheVariants.{Direct, Indirect}
-use Rattle.c_tree.specs.Syntax.{Syn, Syns, node, nil, more}
-use Rattle.c_tree.specs.Types.{Ty}
-use Rattle.c_tree.specs.Terms.{actions}
-use Rattle.c_tree.specs.Scopes.{Part, Doing}
-use Rattle.c_tree.specs.Conversions.{operand_type}
-use Rattle.c_tree.specs.Readings.{Specified, Slot, Filled, Items}
-use Rattle.c_tree.specs.Readings.{Reading}
-use Rattle.c_tree.specs.Expressions.{read_value, read_values, called, prefixed, assignment, selected, expression_of}
-use Rattle.c_tree.specs.Expressions.{called_library, called_name}
-use Rattle.c_values.proofs.Made.{TermWorth, ActionsMade}
+use Rattle.c_values.proofs.Sorts.{is_stored}
+use Rattle.c_values.proofs.Made.{TermWorth, ActionsMade, InitsMade}
 use Rattle.c_values.proofs.Stepping.{Keeps, Any, give_keeps, refuse_goes, goes_then, going}
 use Rattle.c_values.proofs.Expressions.{Made, Worth, AllWorth, value_keeps, named_keeps, text_keeps, unary_keeps}
 use Rattle.c_values.proofs.Expressions.{infix_keeps, conditional_keeps, assign_keeps, compound_keeps, stepped_keeps}
@@ -38,20 +38,46 @@ FilledMade f = SlotsMade f.slots
 abbrev pub ItemsMade : Items → Type 0
 ItemsMade i = ActionsMade (actions i.actions)
 
+-- those of declarations
+abbrev pub ItemsBegin : Items → Type 0
+ItemsBegin i = InitsMade i.actions
+
+-- parameters of no array and no function type, as they are adjusted
+abbrev pub ParamMade : Param → Type 0
+ParamMade p = is_stored p.of ≡ false
+
+abbrev pub ParamsMade : List Param → Type 0
+ParamsMade [] = Unit {0}
+ParamsMade (p ∷ ps) = ParamMade p × ParamsMade ps
+
+abbrev pub PrototypeMade : Prototype → Type 0
+PrototypeMade p = ParamsMade p.params
+
+abbrev pub WrapMade : Wrap → Type 0
+WrapMade (Gives p) = PrototypeMade p
+WrapMade w = Unit {0}
+
+abbrev pub WrapsMade : List Wrap → Type 0
+WrapsMade [] = Unit {0}
+WrapsMade (w ∷ ws) = WrapMade w × WrapsMade ws
+
+abbrev pub DerivedMade : Derived → Type 0
+DerivedMade d = WrapsMade d.wraps
+
 -- ---- a part of the syntax
 
 pub record Reads (r : Reading) : Type 0 where
   pub operand : Keeps Made r.operand
   pub type : (alone : Bool) → Keeps Any (r.type alone)
   pub specified : (alone : Bool) → Keeps Any (r.specified alone)
-  pub derived : Keeps Any r.derived
-  pub prototype : Keeps Any r.prototype
-  pub parameter : (only : Bool) → Keeps Any (r.parameter only)
+  pub derived : Keeps DerivedMade r.derived
+  pub prototype : Keeps PrototypeMade r.prototype
+  pub parameter : (only : Bool) → Keeps ParamMade (r.parameter only)
   pub members : (ms : List Part) → Keeps Any (r.members ms)
   pub enumerator : (z : ℤ) → Keeps Any (r.enumerator z)
   pub initializer : (asked : Slot → Doing Unit) (p : Pos) (t : Ty) (n : ℕ) → ((x : Slot) → Keeps Any (asked x)) →
       Keeps FilledMade (r.initializer asked p t n)
-  pub declared : (s : Specified) → Keeps ItemsMade (r.declared s)
+  pub declared : (s : Specified) → Keeps ItemsBegin (r.declared s)
   pub label : (t : Ty) → Keeps Any (r.label t)
 
 abbrev pub AllReads : List Reading → Type 0

@@ -1,29 +1,35 @@
 -- What follows of the type of a value: it is no array and no function.
-use Rattle.std.proofs.Common.{◌≡◌, ℕ, zero, suc, Bool, true, false, List, [], ◌∷◌, Some, refl, sym, ap, subst, ◌∙◌}
-use Rattle.std.proofs.Common.{◌⊎◌, ⊎_elim}
+use Rattle.std.proofs.Common.{◌≡◌, ℕ, zero, suc, Bool, true, false, List, [], ◌∷◌, Some, refl, sym, ap, subst, ◌∙◌, ◌⊎◌}
+use Rattle.std.proofs.Common.{⊎_elim}
 use Rattle.std.specs.Prelude.{slice_get, not, ◌&&◌, ◌||◌}
 use Rattle.std.proofs.lemmas.Bool.{false≢true}
 use Rattle.std.proofs.lemmas.Option.{same_Some}
 use Rattle.ck_base.specs.declared.positions.Pos.{Pos}
-use Rattle.c_tree.specs.declared.typed.UnaryOp.{UnaryOp}
-use Rattle.c_tree.specs.declared.typed.UnaryOp.TheVariants as unary
-use Rattle.c_tree.specs.Types.{Ty, Void, Int, Cap, Pointer, Array, Tagged, Function, is_integer, is_scalar, is_void}
-use Rattle.c_tree.specs.Types.{is_tagged, is_function, is_capability}
-use Rattle.c_tree.specs.Terms as tree
-use Rattle.c_tree.specs.Terms.{Term, Terms, term, no_terms, with_term, type_of}
-use Rattle.c_tree.specs.Scopes.{TagState, RoutineState, State}
 use Rattle.c_tree.specs.Conversions.{is_place, designates}
 use Rattle.c_tree.specs.Expressions.{is_modifiable, given_type}
 use Rattle.c_tree.specs.Libraries.{Asked, Any_capability, A, Given, Of, As_argument, Service, services}
+use Rattle.c_tree.specs.Scopes.{TagState, RoutineState, State}
+use Rattle.c_tree.specs.Terms as tree
+use Rattle.c_tree.specs.Terms.{Term, Terms, term, no_terms, with_term, type_of}
+use Rattle.c_tree.specs.Types.{Ty, Void, Int, Cap, Pointer, Array, Tagged, Function, is_integer, is_scalar, adjusted}
+use Rattle.c_tree.specs.Types.{is_void, is_tagged, is_function, is_capability}
 use Rattle.c_tree.specs.WellTyped.{UnaryFits, Decays, AllAskedFit, list_of}
+use Rattle.c_tree.specs.declared.typed.UnaryOp.{UnaryOp}
+use Rattle.c_tree.specs.declared.typed.UnaryOp.TheVariants as unary
 use Rattle.c_facts.proofs.Agreeing.{refines}
 use Rattle.c_facts.proofs.Facts.{IsValue, scalar, nothing, tagged, ShapeOk, TermOk}
+use Rattle.c_values.specs.Valued.{is_plain}
 use Rattle.c_values.proofs.Made.{is_read, TermWorth}
 
 abbrev pub is_stored : Ty → Bool
 is_stored (Array t n) = true
 is_stored (Function r ps) = true
 is_stored t = false
+
+pub adjusted_unstored : (t : Ty) → is_stored (adjusted t) ≡ false
+adjusted_unstored (Array t n) = refl
+adjusted_unstored (Function r ps) = refl
+adjusted_unstored t = refl
 
 integer_unstored : (t : Ty) → is_integer t ≡ true → is_stored t ≡ false
 integer_unstored (Int k n) e = refl
@@ -59,18 +65,10 @@ function_stored t e = absurd (false≢true e)
 
 -- ---- library functions
 
--- void or a scalar
-abbrev is_plain : Ty → Bool
-is_plain t = is_void t || is_scalar t
-
 plain_unstored : (t : Ty) → is_plain t ≡ true → is_stored t ≡ false
 plain_unstored (Array t n) e = absurd (false≢true e)
 plain_unstored (Function r ps) e = absurd (false≢true e)
 plain_unstored t e = refl
-
-plain_untagged : (t : Ty) → is_plain t ≡ true → is_tagged t ≡ false
-plain_untagged (Tagged n) e = absurd (false≢true e)
-plain_untagged t e = refl
 
 capability_plain : (t : Ty) → is_capability t ≡ true → is_plain t ≡ true
 capability_plain (Cap s) e = refl
@@ -149,14 +147,10 @@ given_plain (Any_capability ∷ rest) As_argument no_terms h q = absurd q
 given_plain [] As_argument xs h q = absurd h
 given_plain (A t ∷ rest) As_argument xs h q = absurd h
 
-library_plain : (s : State) (k : ℕ) (xs : Terms) (t : Ty) → ShapeOk true s (tree.Library k) xs t → is_plain t ≡ true
+pub library_plain : (s : State) (k : ℕ) (xs : Terms) (t : Ty) → ShapeOk true s (tree.Library k) xs t → is_plain t ≡ true
 library_plain s k xs t o =
     ap is_plain o.3
     ∙ given_plain o.0.takes o.0.gives xs (service_there services services_plain k o.0 o.1) o.2
-
-pub library_untagged : (s : State) (k : ℕ) (xs : Terms) (t : Ty) → ShapeOk true s (tree.Library k) xs t →
-    is_tagged t ≡ false
-library_untagged s k xs t o = plain_untagged t (library_plain s k xs t o)
 
 -- ---- functions
 
@@ -227,7 +221,7 @@ or_first : (a b : Bool) → a ≡ true → (a || b) ≡ true
 or_first true b e = refl
 or_first false b e = absurd (false≢true e)
 
-or_second : (a b : Bool) → b ≡ true → (a || b) ≡ true
+pub or_second : (a b : Bool) → b ≡ true → (a || b) ≡ true
 or_second true b e = refl
 or_second false b e = e
 

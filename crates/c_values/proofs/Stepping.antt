@@ -1,66 +1,133 @@
 -- How a step of typing goes on where the bodies so far are made.
-use Rattle.std.proofs.Common.{◌≡◌, ℕ, Bool, true, false, List, [], ◌∷◌, ◌++◌, Option, Some, None}
-use Rattle.std.proofs.Common.{Result, Ok, Err, refl, sym, ap, subst, ◌∙◌, ⊎_elim}
+use Rattle.std.proofs.Common.{◌≡◌, ℕ, ◌<◌, Bool, true, false, List, [], ◌∷◌, ◌++◌, length, Option, Some, None, Result}
+use Rattle.std.proofs.Common.{Ok, Err, refl, sym, ap, subst, ◌∙◌, ⊎_elim}
 use Rattle.std.specs.Prelude.{slice_get, if◌then◌else◌}
 use Rattle.std.proofs.lemmas.Option.{none-some}
 use Rattle.ck_base.specs.declared.positions.Pos.{Pos}
-use Rattle.c_tree.specs.Scopes.{RoutineState, Body, State, Doing, give, refuse, need, look, some_or, continued}
-use Rattle.c_tree.specs.Scopes.{◌>>=◌, ◌>>◌, changed_at, leave, in_scope}
+use Rattle.c_tree.specs.Scopes.{LocalState, RoutineState, Body, State, Doing, give, refuse, need, look, some_or}
+use Rattle.c_tree.specs.Scopes.{continued, ◌>>=◌, ◌>>◌, changed_at, leave, in_scope}
 use Rattle.c_tree.specs.Scopes as scopes
-use Rattle.c_facts.proofs.Steps.{ok_is, refused, changed_from}
-use Rattle.c_facts.proofs.Tags.{there_from}
+use Rattle.c_facts.proofs.Steps.{ok_is, refused, changed_from, changed_to}
+use Rattle.c_facts.proofs.Tags.{there_from, there_in}
 use Rattle.c_values.proofs.Made.{ActionMade}
+use Rattle.c_values.proofs.Sorts.{is_stored}
+
+-- the parameters are of no array and no function type (C11 6.7.6.3p7, p8)
+abbrev pub AreAdjusted : Body → Type 0
+AreAdjusted b = (k : ℕ) (v : LocalState) → k < length b.params → slice_get b.vars k ≡ Some v → is_stored v.of ≡ false
+
+abbrev pub BodyMade : Body → Type 0
+BodyMade b = ActionMade b.action × AreAdjusted b
 
 -- the bodies so far
 abbrev pub BodiesMade : List RoutineState → Type 0
-BodiesMade fs = (k : ℕ) (f : RoutineState) (b : Body) → slice_get fs k ≡ Some f → f.body ≡ Some b → ActionMade b.action
+BodiesMade fs = (k : ℕ) (f : RoutineState) (b : Body) → slice_get fs k ≡ Some f → f.body ≡ Some b → BodyMade b
 
--- what is done gives this, where it succeeds
-pub record Runs {A : Type 0} (P : A → Type 0) (r : Result (A × State) scopes.Fault) : Type 0 where
-  pub bodies : (x : A × State) → r ≡ Ok x → BodiesMade x.1.routines
-  pub post : (x : A × State) → r ≡ Ok x → P x.0
+-- locals stay, but that an array gets its length
+pub record LocalsKept (vs ws : List LocalState) : Type 0 where
+  pub at : (k : ℕ) (v : LocalState) → slice_get vs k ≡ Some v →
+      (w : LocalState) × (slice_get ws k ≡ Some w) × (is_stored w.of ≡ is_stored v.of)
+
+pub still : {vs : List LocalState} → LocalsKept vs vs
+still = record { at = λ k v e. (v, e, refl) }
+
+pub kept_then : {us vs ws : List LocalState} → LocalsKept us vs → LocalsKept vs ws → LocalsKept us ws
+kept_then h g = record {
+  at = λ k v e. let a = h.at k v e in let b = g.at k a.0 a.1 in (b.0, b.1, b.2 ∙ a.2);
+}
+
+pub changed_locals : (f : LocalState → LocalState) (vs : List LocalState) (k : ℕ) →
+    ((v : LocalState) → slice_get vs k ≡ Some v → is_stored (f v).of ≡ is_stored v.of) →
+    LocalsKept vs (changed_at f vs k)
+changed_locals f vs k h = record {
+  at = λ j v e. let c = changed_to f vs k j v e in (
+    c.0,
+    c.1,
+    ⊎_elim (λ i. ap (λ (w : LocalState). is_stored w.of) i)
+        (λ i. ap (λ (w : LocalState). is_stored w.of) i.1 ∙ h v (ap (slice_get vs) (sym i.0) ∙ e)) c.2,
+  );
+}
+
+pub pushed_locals : (vs : List LocalState) (v : LocalState) → LocalsKept vs (vs ++ v ∷ [])
+pushed_locals vs v = record { at = λ k w e. (w, there_in vs (v ∷ []) k w e, refl) }
+
+-- what is done where these are the locals gives this, where it succeeds
+pub record Runs {A : Type 0} (P : A → Type 0) (vs : List LocalState) (r : Result (A × State) scopes.Fault) : Type 0
+  where
+    pub bodies : (x : A × State) → r ≡ Ok x → BodiesMade x.1.routines
+    pub post : (x : A × State) → r ≡ Ok x → P x.0
+    pub locals : (x : A × State) → r ≡ Ok x → LocalsKept vs x.1.locals
 
 -- a step
 pub record Keeps {A : Type 0} (P : A → Type 0) (d : Doing A) : Type 0 where
-  pub run : (q : State) → BodiesMade q.routines → Runs P (d q)
+  pub run : (q : State) → BodiesMade q.routines → Runs P q.locals (d q)
 
 abbrev pub Any : {A : Type 0} → A → Type 0
 Any a = Unit {0}
 
 pub going : {A : Type 0} {P : A → Type 0} {d : Doing A} →
-    ((q : State) → BodiesMade q.routines → Runs P (d q)) → Keeps P d
+    ((q : State) → BodiesMade q.routines → Runs P q.locals (d q)) → Keeps P d
 going h = record { run = h }
 
-pub run_give : {A : Type 0} {P : A → Type 0} {q : State} {a : A} → BodiesMade q.routines → P a → Runs P (Ok (a, q))
-run_give {A} {P} {q} {a} at h = record {
+pub run_give : {A : Type 0} {P : A → Type 0} {vs : List LocalState} {q : State} {a : A} → LocalsKept vs q.locals →
+    BodiesMade q.routines → P a → Runs P vs (Ok (a, q))
+run_give {A} {P} {vs} {q} {a} l at h = record {
   bodies = λ x e. subst (λ (y : A × State). BodiesMade y.1.routines) (ok_is (a, q) x e) at;
   post = λ x e. subst (λ (y : A × State). P y.0) (ok_is (a, q) x e) h;
+  locals = λ x e. subst (λ (y : A × State). LocalsKept vs y.1.locals) (ok_is (a, q) x e) l;
 }
 
-pub run_kept : {q : State} → BodiesMade q.routines → Runs {A = Unit} Any (Ok (tt, q))
-run_kept at = run_give at tt
+pub run_kept : {vs : List LocalState} {q : State} → LocalsKept vs q.locals → BodiesMade q.routines →
+    Runs {A = Unit} Any vs (Ok (tt, q))
+run_kept l at = run_give l at tt
 
-pub run_refuse : {A : Type 0} {P : A → Type 0} {f : scopes.Fault} → Runs {A = A} P (Err f)
-run_refuse = record { bodies = λ x e. refused _ x e; post = λ x e. refused _ x e }
+pub run_refuse : {A : Type 0} {P : A → Type 0} {vs : List LocalState} {f : scopes.Fault} → Runs {A = A} P vs (Err f)
+run_refuse = record {
+  bodies = λ x e. refused _ x e;
+  post = λ x e. refused _ x e;
+  locals = λ x e. refused _ x e;
+}
 
-pub run_need : (q : State) (c : Bool) (code : ℕ) (p : Pos) → BodiesMade q.routines → Runs Any (need c code p q)
-run_need q true code p at = run_kept at
+pub run_need : (q : State) (c : Bool) (code : ℕ) (p : Pos) → BodiesMade q.routines →
+    Runs Any q.locals (need c code p q)
+run_need q true code p at = run_kept still at
 run_need q false code p at = run_refuse
 
-pub run_then : {A B : Type 0} {P : A → Type 0} {Q : B → Type 0} {r : Result (A × State) scopes.Fault}
-    {f : A → Doing B} → Runs P r → ((a : A) (q : State) → BodiesMade q.routines → P a → Runs Q (f a q)) →
-    Runs Q (continued r f)
-run_then {r = Ok y} h g = g y.0 y.1 (h.bodies y refl) (h.post y refl)
-run_then {r = Err k} h g = run_refuse
+pub run_on : {A B : Type 0} {P : A → Type 0} {Q : B → Type 0} {vs : List LocalState}
+    {r : Result (A × State) scopes.Fault} {f : A → Doing B} → Runs P vs r →
+    ((a : A) (q : State) → BodiesMade q.routines → P a → LocalsKept vs q.locals → Runs Q q.locals (f a q)) →
+    Runs Q vs (continued r f)
+run_on {r = Ok y} h g =
+    let l = h.locals y refl in
+    let z = g y.0 y.1 (h.bodies y refl) (h.post y refl) l in
+    record { bodies = z.bodies; post = z.post; locals = λ x e. kept_then l (z.locals x e) }
+run_on {r = Err k} h g = run_refuse
 
-pub run_next : {A B : Type 0} {P : A → Type 0} {Q : B → Type 0} {r : Result (A × State) scopes.Fault} {f : Doing B} →
-    Runs P r → ((q : State) → BodiesMade q.routines → Runs Q (f q)) → Runs Q (continued r (λ _. f))
+pub run_then : {A B : Type 0} {P : A → Type 0} {Q : B → Type 0} {vs : List LocalState}
+    {r : Result (A × State) scopes.Fault} {f : A → Doing B} → Runs P vs r →
+    ((a : A) (q : State) → BodiesMade q.routines → P a → Runs Q q.locals (f a q)) → Runs Q vs (continued r f)
+run_then h g = run_on h λ a q at p l. g a q at p
+
+pub run_from : {A : Type 0} {P : A → Type 0} {us vs : List LocalState} {r : Result (A × State) scopes.Fault} →
+    LocalsKept us vs → Runs P vs r → Runs P us r
+run_from l h = record { bodies = h.bodies; post = h.post; locals = λ x e. kept_then l (h.locals x e) }
+
+pub run_next : {A B : Type 0} {P : A → Type 0} {Q : B → Type 0} {vs : List LocalState}
+    {r : Result (A × State) scopes.Fault} {f : Doing B} → Runs P vs r →
+    ((q : State) → BodiesMade q.routines → Runs Q q.locals (f q)) → Runs Q vs (continued r (λ _. f))
 run_next h g = run_then h λ a q at p. g q at
+
+-- the bodies alone
+pub bodies_then : {A B : Type 0} {P : A → Type 0} {vs : List LocalState} {r : Result (A × State) scopes.Fault}
+    {f : A → Doing B} → Runs P vs r → ((a : A) (q : State) → BodiesMade q.routines → P a → (x : B × State) →
+    f a q ≡ Ok x → BodiesMade x.1.routines) → (x : B × State) → continued r f ≡ Ok x → BodiesMade x.1.routines
+bodies_then {r = Ok y} h g x e = g y.0 y.1 (h.bodies y refl) (h.post y refl) x e
+bodies_then {r = Err k} h g x e = refused _ x e
 
 -- ---- steps put together
 
 pub give_keeps : {A : Type 0} {P : A → Type 0} {a : A} → P a → Keeps P (give a)
-give_keeps h = going λ q at. run_give at h
+give_keeps h = going λ q at. run_give still at h
 
 pub refuse_goes : {A : Type 0} {P : A → Type 0} {code : ℕ} {p : Pos} → Keeps {A = A} P (refuse code p)
 refuse_goes = going λ q at. run_refuse
@@ -76,10 +143,15 @@ goes_next h g = going λ q at. run_next (h.run q at) λ r at. g.run r at
 
 -- what is given is more than what is asked
 pub less : {A : Type 0} {P Q : A → Type 0} {d : Doing A} → ((a : A) → P a → Q a) → Keeps P d → Keeps Q d
-less w h = going λ q at. let r = h.run q at in record { bodies = r.bodies; post = λ x e. w x.0 (r.post x e) }
+less w h = going λ q at. let r = h.run q at in
+    record { bodies = r.bodies; post = λ x e. w x.0 (r.post x e); locals = r.locals }
 
 pub need_keeps : (c : Bool) (code : ℕ) (p : Pos) → Keeps Any (need c code p)
 need_keeps c code p = going λ q at. run_need q c code p at
+
+pub need_true : (c : Bool) (code : ℕ) (p : Pos) → Keeps (λ _. c ≡ true) (need c code p)
+need_true true code p = give_keeps refl
+need_true false code p = refuse_goes
 
 pub some_keeps : {A : Type 0} (o : Option A) (code : ℕ) (p : Pos) → Keeps Any (some_or o code p)
 some_keeps (Some a) code p = give_keeps tt
@@ -89,6 +161,11 @@ pub if_goes : {A : Type 0} {P : A → Type 0} (c : Bool) (d e : Doing A) → Kee
     Keeps P (if c then d else e)
 if_goes true d e h g = h
 if_goes false d e h g = g
+
+pub if_known : {A : Type 0} {P : A → Type 0} (c : Bool) (d e : Doing A) → (c ≡ true → Keeps P d) → Keeps P e →
+    Keeps P (if c then d else e)
+if_known true d e h g = h refl
+if_known false d e h g = g
 
 -- ---- bodies
 
@@ -112,9 +189,9 @@ bodies_added fs r none h j y b e q =
 abbrev pub entered : State → State
 entered s = record s { scopes = record { names = []; tags = [] } ∷ s.scopes }
 
-left_runs : {A : Type 0} {P : A → Type 0} (r : Result (A × State) scopes.Fault) → Runs P r →
-    Runs P (continued r (λ a. leave >> give a))
-left_runs (Ok y) h = run_give (h.bodies y refl) (h.post y refl)
+left_runs : {A : Type 0} {P : A → Type 0} {vs : List LocalState} (r : Result (A × State) scopes.Fault) → Runs P vs r →
+    Runs P vs (continued r (λ a. leave >> give a))
+left_runs (Ok y) h = run_give (h.locals y refl) (h.bodies y refl) (h.post y refl)
 left_runs (Err f) h = run_refuse
 
 pub in_scope_keeps : {A : Type 0} {P : A → Type 0} {d : Doing A} → Keeps P d → Keeps P (in_scope d)

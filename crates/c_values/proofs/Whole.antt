@@ -1,37 +1,54 @@
 -- The law that other crates cite: in what typing gives, values and places stand where they are asked for.
-use Rattle.std.proofs.Common.{◌≡◌, ℕ, zero, suc, List, [], ◌∷◌, ◌++◌, Option, Some, None}
-use Rattle.std.proofs.Common.{Bool, true, false, refl, sym, ap, subst, ◌∙◌, inl, inr, ⊎_elim}
+use Rattle.std.proofs.Common.{◌<◌, length, false, ◌≡◌, ℕ, zero, suc, List, [], ◌∷◌, ◌++◌, Option, Some, None, Bool}
+use Rattle.std.proofs.Common.{true, refl, sym, ap, subst, ◌∙◌, inl, inr, ⊎_elim}
+use Rattle.std.proofs.lemmas.Bool.{false≢true}
+use Rattle.std.proofs.lemmas.Option.{slice_get-map, same_Some}
 use Rattle.std.specs.Prelude.{slice_get, map, option_map, flat_map}
-use Rattle.std.proofs.lemmas.Option.{same_Some}
-use Rattle.c_tree.specs.declared.typed.FunDef.{FunDef}
-use Rattle.c_tree.specs.declared.typed.Typed.{Typed}
-use Rattle.c_tree.specs.Types.{Ty}
-use Rattle.c_tree.specs.Terms as tree
-use Rattle.c_tree.specs.Terms.{Shape, Term, Terms, term, no_terms, with_term, Form, Action, Actions, action, no_actions}
-use Rattle.c_tree.specs.Terms.{with_action, Routine}
-use Rattle.c_tree.specs.Scopes.{RoutineState, Body, State}
 use Rattle.c_tree.specs.Passed.{Names}
-use Rattle.c_tree.specs.Programs.{Numbers, numbers_of, shape_with, term_with, terms_with, action_with, actions_with}
-use Rattle.c_tree.specs.Programs.{with_body, routine_of, program_of}
+use Rattle.c_tree.specs.Programs.{variable_of, Numbers, numbers_of, shape_with, term_with, terms_with, action_with}
+use Rattle.c_tree.specs.Programs.{actions_with, with_body, routine_of, program_of}
+use Rattle.c_tree.specs.Scopes.{RoutineState, Body, State}
+use Rattle.c_tree.specs.Terms.{Variable, Shape, Term, Terms, term, no_terms, with_term, type_of, Form, Action, Actions}
+use Rattle.c_tree.specs.Terms.{action, no_actions, with_action, Routine}
+use Rattle.c_tree.specs.Terms as tree
+use Rattle.c_tree.specs.Types.{Array, Function, adjusted, Ty, is_scalar, is_tagged}
+use Rattle.c_tree.specs.Typing.{Sound}
 use Rattle.c_tree.specs.Views.{types_of, actions_of, action_at, Shows}
 use Rattle.c_tree.specs.Views as views
-use Rattle.c_tree.specs.Typing.{Sound}
+use Rattle.c_tree.specs.WellTyped.{type_in}
+use Rattle.c_tree.specs.declared.typed.FunDef.{FunDef}
+use Rattle.c_tree.specs.declared.typed.Typed.{Typed}
 use Rattle.c_facts.proofs.Accepted.{fit_of_reads}
 use Rattle.c_facts.proofs.Wholes.{mapped_from}
 use Rattle.c_facts.proofs.PassedStates.{passed_whole, passed_function, passed_state}
 use Rattle.c_facts.proofs.PassingShown.{passed_shown}
-use Rattle.c_values.specs.Valued.{GivesValue, IsValue, IsPlace, AreAsked, ActionValued, ActionsValued, AreValues}
+use Rattle.c_values.specs.Valued.{AreAdjusted, ParametersFit, AreDirect, AreScalars, Begins, FirstBegin, GivesValue}
+use Rattle.c_values.specs.Valued.{IsValue, IsPlace, AreAsked, FormValued, ActionValued, ActionsValued, AreValues}
 use Rattle.c_values.specs.Valued.{asks_place}
+use Rattle.c_values.proofs.Sorts.{is_stored}
+use Rattle.c_values.proofs.Stepping as stepping
+use Rattle.c_values.proofs.Passing.{whole_adjusted, whole_valued}
 use Rattle.c_values.proofs.Files.{Bodied, typed_bodies}
-use Rattle.c_values.proofs.Passing.{whole_valued}
 
 -- ---- other numbers of objects and functions
 
 module _ (n : Numbers) where
-  gives_value : (x : Shape) (t : Ty) → GivesValue x t → GivesValue (shape_with n x) t
-  gives_value (tree.Global k) t h = absurd h
-  gives_value (tree.Fun k) t h = absurd h
-  gives_value x t h = h
+  type_with : (x : Term) → type_of (term_with n x) ≡ type_of x
+  type_with (term x xs t p) = refl
+
+  direct_with : (xs : Terms) → AreDirect xs → AreDirect (terms_with n xs)
+  direct_with no_terms h = tt
+  direct_with (with_term x xs) h = (ap is_tagged (type_with x) ∙ h.0, direct_with xs h.1)
+
+  scalars_with : (xs : Terms) → AreScalars xs → AreScalars (terms_with n xs)
+  scalars_with no_terms h = tt
+  scalars_with (with_term x xs) h = (ap is_scalar (type_with x) ∙ h.0, scalars_with xs h.1)
+
+  gives_value : (x : Shape) (xs : Terms) (t : Ty) → GivesValue x xs t → GivesValue (shape_with n x) (terms_with n xs) t
+  gives_value (tree.Global k) xs t h = absurd h
+  gives_value (tree.Fun k) xs t h = absurd h
+  gives_value tree.Call xs t h = (h.0, scalars_with xs h.1)
+  gives_value x xs t h = h
 
   asks_same : (x : Shape) → asks_place (shape_with n x) ≡ asks_place x
   asks_same (tree.Global k) = refl
@@ -41,13 +58,13 @@ module _ (n : Numbers) where
   mutual
     value_valued : (x : Term) → IsValue x → IsValue (term_with n x)
     value_valued (term x xs t p) h = (
-      gives_value x t h.0,
+      gives_value x xs t h.0,
       subst (λ b. AreAsked b (terms_with n xs)) (sym (asks_same x))
           (asked_valued (asks_place x) xs h.1),
     )
 
     place_valued : (x : Term) → IsPlace x → IsPlace (term_with n x)
-    place_valued (term (tree.Literal k) xs t p) h = tt
+    place_valued (term (tree.Literal k) xs t p) h = h
     place_valued (term (tree.Var k) xs t p) h = tt
     place_valued (term (tree.Global k) xs t p) h = tt
     place_valued (term (tree.Fun k) xs t p) h = tt
@@ -61,9 +78,27 @@ module _ (n : Numbers) where
     asked_valued true (with_term x xs) h = (place_valued x h.0, asked_valued false xs h.1)
     asked_valued false (with_term x xs) h = (value_valued x h.0, asked_valued false xs h.1)
 
+  begins_with : (x : Action) → Begins x → Begins (action_with n x)
+  begins_with (action tree.Evaluate xs ys p) h = tt
+  begins_with (action (tree.Init k offset) xs ys p) h = tt
+  begins_with (action f xs ys p) h = absurd h
+
+  begin_with : (k : ℕ) (ys : Actions) → FirstBegin k ys → FirstBegin k (actions_with n ys)
+  begin_with (suc k) (with_action x ys) h = (begins_with x h.0, begin_with k ys h.1)
+  begin_with (suc k) no_actions h = tt
+  begin_with zero ys h = tt
+
+  form_valued : (f : Form) (xs : Terms) (ys : Actions) → FormValued f xs ys →
+      FormValued f (terms_with n xs) (actions_with n ys)
+  form_valued tree.Return xs ys h = direct_with xs h
+  form_valued (tree.Switch vars ls) xs ys h = h
+  form_valued (tree.For vars k a b) xs ys h = begin_with k ys h
+  form_valued f xs ys h = tt
+
   mutual
     action_valued : (x : Action) → ActionValued x → ActionValued (action_with n x)
-    action_valued (action f xs ys p) h = (asked_valued false xs h.0, actions_valued ys h.1)
+    action_valued (action f xs ys p) h =
+        (form_valued f xs ys h.0, asked_valued false xs h.1, actions_valued ys h.2)
 
     actions_valued : (xs : Actions) → ActionsValued xs → ActionsValued (actions_with n xs)
     actions_valued no_actions h = tt
@@ -71,22 +106,38 @@ module _ (n : Numbers) where
 
 -- ---- the functions of a program
 
+unstored_adjusted : (t : Ty) → is_stored t ≡ false → adjusted t ≡ t
+unstored_adjusted (Array t n) e = absurd (false≢true (sym e))
+unstored_adjusted (Function r ps) e = absurd (false≢true (sym e))
+unstored_adjusted t e = refl
+
 abbrev BodiesValued : List RoutineState → Type 0
 BodiesValued fs = (k : ℕ) (f : RoutineState) (b : Body) → slice_get fs k ≡ Some f → f.body ≡ Some b →
-    ActionValued b.action
+    ActionValued b.action × stepping.AreAdjusted b
+
+-- the parameters of a function of the program
+abbrev Adjusted : Routine → Type 0
+Adjusted r = (k : ℕ) (v : Variable) → k < length r.params → slice_get r.vars k ≡ Some v → is_stored v.of ≡ false
 
 abbrev RoutinesValued : List Routine → Type 0
 RoutinesValued [] = Unit {0}
-RoutinesValued (f ∷ fs) = ActionValued f.body × RoutinesValued fs
+RoutinesValued (f ∷ fs) = (ActionValued f.body × Adjusted f) × RoutinesValued fs
 
 both_valued : (fs gs : List Routine) → RoutinesValued fs → RoutinesValued gs → RoutinesValued (fs ++ gs)
 both_valued [] gs h k = k
 both_valued (f ∷ fs) gs h k = (h.0, both_valued fs gs h.1 k)
 
 body_valued : (s : State) (f : RoutineState) (o : Option Body) →
-    ((b : Body) → o ≡ Some b → ActionValued b.action) → RoutinesValued (with_body s f o)
+    ((b : Body) → o ≡ Some b → ActionValued b.action × stepping.AreAdjusted b) → RoutinesValued (with_body s f o)
 body_valued s f None h = tt
-body_valued s f (Some b) h = (action_valued (numbers_of s) b.action (h b refl), tt)
+body_valued s f (Some b) h = (
+  (
+    action_valued (numbers_of s) b.action (h b refl).0,
+    λ k v l e. let u = mapped_from variable_of b.vars k v e in
+        ap (λ (v : Variable). is_stored v.of) (sym u.2) ∙ (h b refl).1 k u.0 l u.1,
+  ),
+  tt,
+)
 
 routines_valued : (s : State) (fs : List RoutineState) → BodiesValued fs →
     RoutinesValued (flat_map (routine_of s) fs)
@@ -97,10 +148,15 @@ routines_valued s (f ∷ fs) h =
 
 function_valued : (p : Typed) (fs : List FunDef) →
     RoutinesValued (map (views.routine_of (types_of p.types) (actions_of p)) fs) → (k : ℕ) (f : FunDef) →
-    slice_get fs k ≡ Some f → ActionValued (action_at (actions_of p) f.body)
+    slice_get fs k ≡ Some f → ActionValued (action_at (actions_of p) f.body) × AreAdjusted p f
 function_valued p [] h k f e = absurd cc
 function_valued p (g ∷ fs) h zero f e =
-    subst (λ (f : FunDef). ActionValued (action_at (actions_of p) f.body)) (same_Some g f e) h.0
+    subst (λ (f : FunDef). ActionValued (action_at (actions_of p) f.body) × AreAdjusted p f) (same_Some g f e) (
+      h.0.0,
+      λ k v l e. unstored_adjusted (type_in p v.of) (h.0.1 k (views.variable_of (types_of p.types) v) l
+          (slice_get-map (views.variable_of (types_of p.types)) g.vars k
+          ∙ ap (option_map (views.variable_of (types_of p.types))) e)),
+    )
 function_valued p (g ∷ fs) h (suc k) f e = function_valued p fs h.1 k f e
 
 -- ---- the program as it is run
@@ -115,19 +171,28 @@ passed_bodies names s h k f c e q =
     let g = mapped_from (passed_function names) s.routines k f e in
     let b = option_from (passed_whole names g.0) g.0.body c (ap (λ (f : RoutineState). f.body) g.2 ∙ q) in
     let inv = h.outside.inv in
-    subst (λ (c : Body). ActionValued c.action) b.2
-    (whole_valued names s inv g.0 b.0 (h.outside.strict.bodies k g.0 b.0 g.1 b.1) (h.bodies k g.0 b.0 g.1 b.1))
+    let ok = h.outside.strict.bodies k g.0 b.0 g.1 b.1 in
+    let made = h.bodies k g.0 b.0 g.1 b.1 in
+    subst (λ (c : Body). ActionValued c.action × stepping.AreAdjusted c) b.2
+    (whole_valued names s inv g.0 b.0 ok made.0, whole_adjusted names s g.0 b.0 ok made.1)
 
 shown_routines : (p : Typed) (s : State) → Shows p (program_of s) →
     map (views.routine_of (types_of p.types) (actions_of p)) p.funs ≡ flat_map (routine_of s) s.routines
 unfolding program_of
 shown_routines p s h = h.routines
 
-pub valued : (p : Typed) → Sound p → AreValues p
-valued p h =
+functions_valued : (p : Typed) → Sound p → (k : ℕ) (f : FunDef) → slice_get p.funs k ≡ Some f →
+    ActionValued (action_at (actions_of p) f.body) × AreAdjusted p f
+functions_valued p h =
     let t = h.types.types in
     let z = typed_bodies h.types.syntax t.program (fit_of_reads h.tree h.bytes h.types.syntax h.types.reads) t.given in
     let run = passed_state z.0 z.1 in
     let shows = subst (Shows p) (sym (passed_shown z.0 z.1 ∙ z.3)) t.shows in
     function_valued p p.funs (subst RoutinesValued (sym (shown_routines p run shows))
     (routines_valued run run.routines (passed_bodies z.0 z.1 z.2)))
+
+pub valued : (p : Typed) → Sound p → AreValues p
+valued p h k f e = (functions_valued p h k f e).0
+
+pub parameters_fit : (p : Typed) → Sound p → ParametersFit p
+parameters_fit p h k f e = (functions_valued p h k f e).1
