@@ -4,6 +4,7 @@ pub mod Frames
 pub mod Operating
 pub mod Expressions
 pub mod Statements
+pub mod Trees
 pub mod Simulation
 pub mod Following
 pub mod Calling

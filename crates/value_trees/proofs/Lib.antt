@@ -1,0 +1,13 @@
+pub mod Nodes
+pub mod Values
+pub mod Sorts
+pub mod Standing
+pub mod Uses
+pub mod Places
+pub mod Blocks
+pub mod Held
+pub mod Statements
+pub mod Records
+pub mod Fitting
+pub mod Sizes
+pub mod Limits

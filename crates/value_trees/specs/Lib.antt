@@ -1,0 +1,4 @@
+pub mod Standing
+pub mod Nodes
+pub mod Statements
+pub mod Types
