@@ -1,0 +1,11 @@
+pub mod Waiting
+pub mod Straight
+pub mod Pieces
+pub mod Expressions
+pub mod Parts
+pub mod Loops
+pub mod Blocks
+pub mod Switches
+pub mod Statements
+pub mod Functions
+pub mod Scopes
