@@ -20,7 +20,7 @@ use Rattle.tac_lower.specs.declared.context.Home.TheVariants as home
 use Rattle.tac_lower.specs.declared.emitter.Emitter.{Emitter}
 use Rattle.tac_lower.specs.declared.types.TypeFacts.{TypeFacts}
 use Rattle.tac_lower.specs.Emitted.{HasKind, Pushed, Entered}
-use Rattle.tac_lower.specs.Nodes.{expression, kept_as, or_int, scalar_in, kind_in}
+use Rattle.tac_lower.specs.Nodes.{expression, kept_as, or_int, scalar_in, kind_in, IsScalar}
 use Rattle.tac_lower.specs.Parts.{ReturnPart}
 use Rattle.tac_lower.specs.Scenes.{HomeFits, Housed, Scene, Lowered, frame_of, given_in}
 use Rattle.tac_lower.specs.Signed.{ReturnFits}
@@ -35,6 +35,12 @@ use Rattle.tac_lower.proofs.Steps as steps
 kept_bare : (t : Ty) → kept_as (ty.bare t) ≡ kept_as t
 kept_bare (ty.Const t) = refl
 kept_bare t = refl
+
+pub scalar_kept : (t : Ty) → ty.is_scalar t ≡ true → (j : TacKind) × (kept_as t ≡ Some j)
+scalar_kept (ty.Int j n) h = (kinds.Int j, refl)
+scalar_kept (ty.Cap s) h = (kinds.Cap s, refl)
+scalar_kept (ty.Pointer t) h = (kinds.Cap false, refl)
+scalar_kept t h = absurd cc
 
 void_kept : (t : Ty) → ty.is_void t ≡ true → kept_as t ≡ None
 void_kept ty.Void h = refl
@@ -111,6 +117,21 @@ module _ {p : Typed} {d : FunDef} {homes : List Home} {e : Emitter} where
       let kind : kind_in p a ≡ k = ap (λ z. or_int (kept_as z)) type ∙ ap or_int (kept_bare (type_in p v.of))
       ∙ subst (λ (z : VarDef). or_int (kept_as (type_in p z.of)) ≡ k) same f.2.1 in
       steps.as_kind f.2.0 (sym kind)
+
+  -- and it is a scalar
+  pub whole_scalar : (x offset a t : ℕ) (k : TacKind) → Housed p d homes e → slice_get homes x ≡ Some (home.Temp t k)
+      → InitFits (frame_of p d) x offset (type_of (expression p a)) → FunctionFits p d → IsScalar p a k
+  whole_scalar x offset a t k housed is lies fits =
+      let f = fits_at x (home.Temp t k) housed is in
+      let v = lies.0 in
+      let same : f.0 ≡ v = same_def f.0 v (slice_get d.vars x) f.1 lies.3 in
+      let simple : v.simple ≡ true = subst (λ (z : VarDef). z.simple ≡ true) same f.2.2 in
+      let type : type_of (expression p a) ≡ ty.bare (type_in p v.of) = (lies.7 simple).1 in
+      let kept = scalar_kept (ty.bare (type_in p v.of)) (fits.simple_scalar x v lies.3 simple) in
+      let whole : or_int (kept_as (type_in p v.of)) ≡ k =
+      subst (λ (z : VarDef). or_int (kept_as (type_in p z.of)) ≡ k) same f.2.1 in
+      let kind : kept.0 ≡ k = ap or_int (sym kept.1 ∙ kept_bare (type_in p v.of)) ∙ whole in
+      record { is = ap kept_as type ∙ kept.1 ∙ ap Some kind }
 
   pub object_at : (x n t : ℕ) → Housed p d homes e → slice_get homes x ≡ Some (home.Object n t)
       → n < length (lengths_of p d.vars)

@@ -1,8 +1,8 @@
 -- Calls: the function that is named, the arguments so far, and intrinsics.
-use Rattle.std.proofs.Common.{◌≡◌, ℕ, zero, suc, ◌+◌, ◌-◌, ◌*◌, ◌<◌, ◌≤◌, ◌⊎◌, ⊎_elim, Bool, true, false, List, [], ◌∷◌}
+use Rattle.std.proofs.Common.{◌≡◌, ℕ, suc, ◌+◌, ◌-◌, ◌*◌, ◌<◌, ◌≤◌, ⊎_elim, Bool, true, false, List, [], ◌∷◌}
 use Rattle.std.proofs.Common.{◌++◌, map, length, take, get_or, Option, Some, None, IfSome, refl, sym, ap, ◌∙◌, subst}
 use Rattle.std.proofs.Common.{arith, unwrap_or, length-append}
-use Rattle.std.specs.Prelude.{slice_get, sum_by, ◌==◌, ◌||◌}
+use Rattle.std.specs.Prelude.{slice_get, ◌==◌, ◌||◌}
 use Rattle.std.proofs.lemmas.List.{map-append, take_more}
 use Rattle.std.proofs.lemmas.List.Sums.{sum_by-append, sum_by-cons, sum_by-take-le}
 use Rattle.ck_int.specs.declared.kinds.IntKind.TheVariants as int
@@ -29,7 +29,7 @@ use Rattle.tac_lower.specs.declared.context.Home.{Home}
 use Rattle.tac_lower.specs.declared.emitter.Emitter.{Emitter}
 use Rattle.tac_lower.specs.declared.types.TypeFacts.{TypeFacts}
 use Rattle.tac_lower.specs.Copied.{copies_in, all_copies_in}
-use Rattle.tac_lower.specs.Emitted.{HasKind, HasInt, HasCapability, HasRoom}
+use Rattle.tac_lower.specs.Emitted.{HasKind, HasCapability, HasRoom}
 use Rattle.tac_lower.specs.Nodes.{expression, kind_in, scalar_in, kept_as, or_int, weight_in, weights_in, IsTyped}
 use Rattle.tac_lower.specs.Scenes.{Ready, Scene, Lowered, frame_of}
 use Rattle.tac_lower.specs.Services.{ServiceAsks, IntrinsicFits}
@@ -49,7 +49,7 @@ pointer_same : (s t : Ty) → Pointer s ≡ Pointer t → s ≡ t
 pointer_same s t e = cc
 
 -- an array agrees with no function
-no_array : (lengths : ℕ → ℕ → Bool) (u t : Ty) (m : ℕ) → ty.is_function t ≡ true →
+pub no_array : (lengths : ℕ → ℕ → Bool) (u t : Ty) (m : ℕ) → ty.is_function t ≡ true →
     ty.agree lengths (ty.Array u m) t ≡ true → ⊥
 no_array l u (Function r ps) m f h = cc
 no_array l u ty.Void m f h = cc

@@ -3,7 +3,7 @@ use Rattle.std.proofs.Common.{◌≡◌, ℕ, zero, suc, ◌+◌, ◌<◌, ◌�
 use Rattle.std.proofs.Common.{sym, ap, subst, arith, length-append}
 use Rattle.std.specs.List.{sum_by}
 use Rattle.std.proofs.lemmas.List.Sums.{sum_by_push, sum_by_more}
-use Rattle.std.specs.Prelude.{slice_get}
+use Rattle.std.specs.Prelude.{slice_get, ◌^◌}
 use Rattle.c_tree.specs.TreeWeight.{function_weight}
 use Rattle.c_tree.specs.declared.typed.FunDef.{FunDef}
 use Rattle.c_tree.specs.declared.typed.Typed.{Typed}
@@ -62,6 +62,17 @@ copies_more p xs i d fs f lt there h q =
 
 abbrev pub AllZeroOnce : List TacFun → Type 0
 AllZeroOnce fs = (k : ℕ) (f : TacFun) → slice_get fs k ≡ Some f → ZeroesOnce f
+
+-- nor is any code too long
+
+abbrev pub AllShort : List TacFun → Type 0
+AllShort fs = (k : ℕ) (f : TacFun) → slice_get fs k ≡ Some f → length f.code < 2 ^ 32
+
+pub short_none : AllShort []
+short_none k f e = absurd cc
+
+pub short_more : (fs : List TacFun) (f : TacFun) → AllShort fs → length f.code < 2 ^ 32 → AllShort (fs ++ f ∷ [])
+short_more fs f h q = pushed fs f (λ k g. length g.code < 2 ^ 32) h q
 
 pub zeros_none : AllZeroOnce []
 zeros_none k f e = absurd cc

@@ -146,3 +146,13 @@ pub else_code : (x : Bool) {a b : Emitter} {n : ℕ} (c : Code) {d : Code} → x
     Emits a b n (λ r. if x then c r else d r)
 else_code true c h f = absurd cc
 else_code false c h f = f
+
+-- a jump, and a label
+pub turn_emits : (a b e : Emitter) (l m : ℕ) → Emits a b 0 (one (instr.Jump m)) → Pushed b e (instr.Label l) →
+    Emits a e 0 (λ r. instr.Jump m ∷ instr.Label l ∷ r)
+turn_emits a b e l m f h = emits_then f (one_emits b e (instr.Label l) refl h)
+
+-- a turn, and a jump back
+pub back_emits : (a b e : Emitter) (l : ℕ) → Pushed a b instr.Turn → Pushed b e (instr.Jump l) →
+    Emits a e 0 (λ r. instr.Turn ∷ instr.Jump l ∷ r)
+back_emits a b e l f h = emits_then (one_emits a b instr.Turn refl f) (one_emits b e (instr.Jump l) refl h)

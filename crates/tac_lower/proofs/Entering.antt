@@ -1,6 +1,6 @@
 -- The variables that blocks enter, and what is spent at a function's begin and end.
-use Rattle.std.proofs.Common.{◌≡◌, ℕ, zero, suc, ◌+◌, ◌-◌, ◌*◌, ◌<◌, ◌≤◌, Bool, true, false, List, [], ◌∷◌, ◌++◌}
-use Rattle.std.proofs.Common.{length, take, get_or, refl, sym, ap, ◌⊎◌, ⊎_elim, inl, inr, ◌∙◌, subst, arith}
+use Rattle.std.proofs.Common.{◌≡◌, ℕ, zero, suc, ◌+◌, ◌-◌, ◌*◌, ◌<◌, ◌≤◌, Bool, true, false, List, [], ◌∷◌}
+use Rattle.std.proofs.Common.{length, take, get_or, refl, ap, ◌⊎◌, ⊎_elim, inl, inr, ◌∙◌, subst, arith}
 use Rattle.std.specs.Prelude.{nat_lt, ◌==◌, if◌then◌else◌}
 use Rattle.std.specs.List.{sum_by}
 use Rattle.std.proofs.lemmas.Bool.{cases_lt}
@@ -8,12 +8,12 @@ use Rattle.std.proofs.lemmas.Bool.Decides.{nat_tests}
 use Rattle.std.proofs.lemmas.List.Sums.{sum_by-cons, sum_by_more, sum_by-take-le}
 use Rattle.c_tree.specs.Terms.{Terms, Form, Action, Actions, action}
 use Rattle.c_tree.specs.Terms as tree
-use Rattle.c_tree.specs.TreeWeight.{form_weight, terms_weight, actions_weight, action_weight, function_weight}
+use Rattle.c_tree.specs.TreeWeight.{form_weight, terms_weight, actions_weight, action_weight}
 use Rattle.c_tree.specs.Views.{times_in, actions_of, action_at}
 use Rattle.c_tree.specs.WellTyped.{FunctionFits, declared}
 use Rattle.c_tree.specs.declared.typed.FunDef.{FunDef}
 use Rattle.c_tree.specs.declared.typed.Typed.{Typed}
-use Rattle.tac_ir.specs.Costs.{cost, outgoing, prologue_cost, function_cost}
+use Rattle.tac_ir.specs.Costs.{cost, outgoing}
 use Rattle.tac_ir.specs.Within.{FunctionCosts, copied_parts, function_copies}
 use Rattle.tac_ir.specs.declared.code.TacFun.{TacFun}
 use Rattle.tac_lower.specs.declared.emitter.Emitter.{Emitter}

@@ -37,6 +37,10 @@ use Rattle.tac_lower.specs.Scenes.{HomeFits, Housed, frame_of, given_in}
 use Rattle.tac_lower.specs.Signed.{kept_parameter, signature_as, ReturnFits}
 use Rattle.tac_lower.specs.Statements.{IsPart}
 use Rattle.tac_lower.specs.Tables.{kept_by, given_by}
+use Rattle.tac_lower.specs.Programs.{AreHomes, IsNext}
+use Rattle.tac_lower.specs.Shown.{none, Added}
+use Rattle.tac_lower.proofs.Emitting.{added_then}
+use Rattle.tac_lower.proofs.Homed.{before_is, homed_none, homed_more, home_below}
 use Rattle.tac_lower.proofs.Called.{return_lasts}
 use Rattle.tac_lower.proofs.Finished.{ends_whole, function_is}
 use Rattle.tac_lower.proofs.Labels.{closed_past}
@@ -61,6 +65,7 @@ pub record ParametersTo (p : Typed) (d : FunDef) (a e : Emitter) (i : ℕ) : Typ
   pub grown : Grown a e
   pub labels : e.labels ≤ a.labels
   pub spent : Spent a e i 0
+  pub added : Added a e none
 
 pub parameters_none : (p : Typed) (d : FunDef) (a : Emitter) → a.kinds.items ≡ [] → ParametersTo p d a a 0
 parameters_none p d a e = record {
@@ -69,6 +74,7 @@ parameters_none p d a e = record {
   grown = grown_same a;
   labels = omega arith;
   spent = spent_same a 0;
+  added = record { is = λ rest. refl };
 }
 
 same_some : {A : Type 0} (x y : A) → Some x ≡ Some y → x ≡ y
@@ -76,8 +82,9 @@ same_some x y e = cc
 
 pub parameters_more : (p : Typed) (d : FunDef) (a b e : Emitter) (i t y : ℕ) (k : TacKind) → ParametersTo p d a b i
     → Grown b e → Adds b e 1 0 → t ≡ length b.kinds.items → HasKind e t k
-    → k ≡ kept_parameter p d y → slice_get d.params i ≡ Some y → Spent b e 1 0 → ParametersTo p d a e (i + 1)
-parameters_more p d a b e i t y k h g q at has kind there one =
+    → k ≡ kept_parameter p d y → slice_get d.params i ≡ Some y → Spent b e 1 0 → Added b e none
+    → ParametersTo p d a e (i + 1)
+parameters_more p d a b e i t y k h g q at has kind there one more =
     let lt = slice_get_within e.kinds.items t k has.there in
     let m = h.many in
     record {
@@ -95,6 +102,7 @@ parameters_more p d a b e i t y k h g q at has kind there one =
       grown = grown_then a b e h.grown g;
       labels = let n = q.labels in let o = h.labels in omega arith;
       spent = spent_then h.spent one;
+      added = added_then h.added more;
     }
 
 pub parameters_all : (p : Typed) (d : FunDef) (a e : Emitter) (i : ℕ) → ParametersTo p d a e i → length d.params ≤ i
@@ -215,6 +223,8 @@ pub record HomesTo (p : Typed) (d : FunDef) (a e : Emitter) (homes : List Home) 
   pub temps : length e.kinds.items ≤ length a.kinds.items + i
   pub labels : e.labels ≤ a.labels
   pub spent : Spent a e i 0
+  pub added : Added a e none
+  pub homed : AreHomes p d homes (length e.kinds.items)
 
 pub homes_none : (p : Typed) (d : FunDef) (a : Emitter) → HomesTo p d a a [] 0
 homes_none p d a =
@@ -225,7 +235,16 @@ homes_none p d a =
       temps = omega arith;
       labels = omega arith;
       spent = spent_same a 0;
+      added = record { is = λ rest. refl };
+      homed = homed_none p d (length a.kinds.items);
     }
+
+pub kinds_more : {xs ys : List TacKind} → Keeps xs ys → length xs ≤ length ys
+kinds_more {xs = []} k = omega arith
+kinds_more {xs = x ∷ xs} {ys = ys} k =
+    let n : ℕ = length xs in
+    let last = slice_get-get_or (x ∷ xs) n x (omega arith) in
+    let lt = slice_get_within ys n _ (k.kept n _ last) in omega arith
 
 get_pushed : (xs : List Home) (y : Home) (P : ℕ → Home → Type 0)
     → ((t : ℕ) (f : Home) → slice_get xs t ≡ Some f → P t f) → P (length xs) y → (t : ℕ) (f : Home)
@@ -237,8 +256,9 @@ get_pushed (x ∷ xs) y P h q (suc t) f e = get_pushed xs y (λ n. P (suc n)) (�
 
 pub homes_more : (p : Typed) (d : FunDef) (a b e : Emitter) (hs : List Home) (i : ℕ) (v : VarDef) (h : Home)
     → HomesTo p d a b hs i → Grown b e → Adds b e 1 0 → slice_get d.vars i ≡ Some v → HomeFits p d e v h → Spent b e 1 0
-    → HomesTo p d a e (hs ++ h ∷ []) (i + 1)
-homes_more p d a b e hs i v h so_far g q there fits one =
+    → Added b e none → (n : ℕ) → n ≡ length (lengths_of p (take i d.vars)) → length d.params ≤ length b.kinds.items
+    → IsNext (length d.params) i n (length b.kinds.items) v h → HomesTo p d a e (hs ++ h ∷ []) (i + 1)
+homes_more p d a b e hs i v h so_far g q there fits one more n number few next =
     let m = so_far.many in
     record {
       many = omega (arith, length-append hs (h ∷ []));
@@ -252,6 +272,9 @@ homes_more p d a b e hs i v h so_far g q there fits one =
       temps = let s = q.temps in let t = so_far.temps in omega arith;
       labels = let s = q.labels in let t = so_far.labels in omega arith;
       spent = spent_then so_far.spent one;
+      added = added_then so_far.added more;
+      homed = homed_more p d hs i n (length b.kinds.items) (length e.kinds.items) v h e so_far.homed m there
+          (number ∙ sym (before_is p d.vars i)) few next fits (home_below p d v h e fits) (kinds_more g.keeps);
     }
 
 pub homes_all : (p : Typed) (d : FunDef) (a e : Emitter) (hs : List Home) (i : ℕ) → HomesTo p d a e hs i
@@ -282,10 +305,13 @@ module _ (p : Typed) (xs vs : List VarDef) (i : ℕ) (u : VarDef) (e : xs ≡ vs
 
   pub homes_at : (d : FunDef) (a b c : Emitter) (hs : List Home) (h : Home) → vs ≡ d.vars → HomesTo p d a b hs i
       → Grown b c → Adds b c 1 0 → HomeFits p d c (get_or xs i u) h → Spent b c 1 0
-      → HomesTo p d a c (hs ++ h ∷ []) (i + 1)
-  homes_at d a b c hs h is so_far g q fits one =
+      → Added b c none → (j n : ℕ) → j ≡ i → n ≡ length (lengths_of p (take i d.vars))
+      → length d.params ≤ length b.kinds.items
+      → IsNext (length d.params) j n (length b.kinds.items) (get_or xs i u) h → HomesTo p d a c (hs ++ h ∷ []) (i + 1)
+  homes_at d a b c hs h is so_far g q fits one more j n at number few next =
       homes_more p d a b c hs i (get_or xs i u) h so_far g q
-      (subst (λ z. slice_get z i ≡ Some (get_or xs i u)) is (variable_at i refl)) fits one
+      (subst (λ z. slice_get z i ≡ Some (get_or xs i u)) is (variable_at i refl)) fits one more n number few
+      (subst (λ z. IsNext (length d.params) z n (length b.kinds.items) (get_or xs i u) h) at next)
 
 -- ---- the end of the code
 

@@ -1,6 +1,6 @@
 -- What stays true while code is added: which temps have values of which kinds, and where structs and unions are copied
 -- to.
-use Rattle.std.proofs.Common.{◌≡◌, ℕ, ◌+◌, ◌≤◌, ◌⊎◌, ⊎_elim, Bool, true, false, List, Option, Some, None, IfSome}
+use Rattle.std.proofs.Common.{◌≡◌, ℕ, ◌≤◌, ◌⊎◌, ⊎_elim, Bool, true, false, List, Option, Some, None, IfSome}
 use Rattle.std.proofs.Common.{Result, Ok, Err, IfOk, refl, sym, ap, ◌∙◌, subst, arith}
 use Rattle.std.specs.Option.{is_some as has_some}
 use Rattle.std.specs.Prelude.{slice_get}
@@ -28,7 +28,7 @@ use Rattle.tac_lower.specs.Destinations.{TargetFits, DestinationFits}
 use Rattle.tac_lower.specs.Emitted.{HasKind, HasCapability, IsTemp, SameKind, SameCapability, Keeps, Pushed}
 use Rattle.tac_lower.specs.Emitted.{is_capability, RightFits, ComputedFits, ElementFits, ChangeFits}
 use Rattle.tac_lower.specs.Nodes.{IsTyped, IsScalar, NodeFits, HasOne, SumNode, UnaryNode, NotNode, expression, points}
-use Rattle.tac_lower.specs.Nodes.{kept_as, scalar_in, kind_in, or_int}
+use Rattle.tac_lower.specs.Nodes.{kept_as, kind_in, or_int}
 use Rattle.tac_lower.specs.Scenes.{Ready, Lowered, Opened, frame_of}
 use Rattle.tac_lower.specs.Signed.{ResultFits, ProgramFits}
 use Rattle.tac_lower.specs.Tables.{is_some}

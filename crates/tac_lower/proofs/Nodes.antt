@@ -1,8 +1,9 @@
 -- What typing gives of each expression of a function.
 use Rattle.std.proofs.Common.{◌≡◌, ℕ, zero, suc, ◌+◌, ◌≤◌, Bool, true, false, List, [], ◌∷◌, map, length, get_or, Some}
+use Rattle.std.proofs.Common.{None}
 use Rattle.std.proofs.Common.{refl}
 use Rattle.std.proofs.Common.{sym, ap, ◌∙◌, subst, arith, ⊎_elim, inl, inr, ◌⊎◌}
-use Rattle.std.specs.Prelude.{slice_get, sum_by, ◌==◌, ◌||◌}
+use Rattle.std.specs.Prelude.{slice_get, sum_by, ◌==◌, ◌||◌, ◌&&◌, not}
 use Rattle.std.proofs.lemmas.Option.{slice_get_within}
 use Rattle.std.proofs.lemmas.List.Sums.{sum_by-cons}
 use Rattle.ck_base.specs.declared.positions.Pos.{Pos}
@@ -17,6 +18,7 @@ use Rattle.c_tree.specs.declared.typed.ExprKind.TheVariants as exprs
 use Rattle.c_tree.specs.declared.typed.Typed.{Typed}
 use Rattle.c_tree.specs.declared.typed.UnaryOp.{UnaryOp}
 use Rattle.c_tree.specs.declared.typed.UnaryOp.TheVariants as unary
+use Rattle.c_tree.specs.Conversions.{is_place}
 use Rattle.c_tree.specs.Expressions as typing
 use Rattle.cheri_c_sem.specs.Types.{is_shift}
 use Rattle.c_tree.specs.Terms as term
@@ -26,7 +28,7 @@ use Rattle.c_tree.specs.Types as ty
 use Rattle.c_tree.specs.Types.{Ty}
 use Rattle.c_tree.specs.Views.{types_of, kind_term, expr_from, no_term, terms_of, term_at, operands, IsOrdered}
 use Rattle.c_tree.specs.WellTyped.{Frame, type_in, TermFits, TermsFit, ShapeFits, OperandsFit, ConstantFits, UnaryFits}
-use Rattle.c_tree.specs.WellTyped.{Decays, PointsToComplete, holds}
+use Rattle.c_tree.specs.WellTyped.{Decays, PointsToComplete, IsComplete, CompoundFits, holds}
 use Rattle.c_tree.proofs.Forest.{forest_reads}
 use Rattle.tac_ir.specs.declared.code.TacKind.{TacKind}
 use Rattle.tac_ir.specs.declared.code.TacKind.TheVariants as kind
@@ -251,6 +253,17 @@ module _ (f : Frame) (o : IsOrdered f.program) where
     as_scalar : (a : ℕ) (s : Ty) (j : TacKind) → t a ≡ s → kept_as s ≡ Some j → IsScalar f.program a j
     as_scalar a s j q r = record { is = ap kept_as q ∙ r }
 
+    integer_kept : (s : Ty) → ty.is_integer s ≡ true → (j : TacKind) × (kept_as s ≡ Some j)
+    integer_kept (ty.Int j n) h = (kind.Int j, refl)
+    integer_kept (ty.Cap s) h = (kind.Cap s, refl)
+    integer_kept s h = absurd cc
+
+    scalar_kept : (s : Ty) → ty.is_scalar s ≡ true → (j : TacKind) × (kept_as s ≡ Some j)
+    scalar_kept (ty.Int j n) h = (kind.Int j, refl)
+    scalar_kept (ty.Cap s) h = (kind.Cap s, refl)
+    scalar_kept (ty.Pointer t) h = (kind.Cap false, refl)
+    scalar_kept s h = absurd cc
+
     pub constant_node : (n : ℕ) → Is (exprs.Constant n) → ConstantNode f k n
     constant_node n is = by of (of_none (term.Constant n) of e.pos (fits (exprs.Constant n) is)) of_is
       where
@@ -280,6 +293,27 @@ module _ (f : Frame) (o : IsOrdered f.program) where
               scalar (ty.Pointer (t a)) (kind.Cap false) (of_is ∙ d.1) refl) h.1;
         }
 
+    pub loads : (a : ℕ) → Is (exprs.Load a) → t k ≡ ty.bare (t a)
+    loads a is = of_is ∙ (of_one term.Load (x a) of e.pos (fits (exprs.Load a) is)).1.1
+
+    pub commas : (a b : ℕ) → Is (exprs.Comma a b) → t k ≡ t b
+    commas a b is = of_is ∙ (of_two term.Comma (x a) (x b) of e.pos (fits (exprs.Comma a b) is)).2
+
+    void_is : (s : Ty) → ty.is_void s ≡ true → s ≡ ty.Void
+    void_is ty.Void h = refl
+    void_is s h = absurd cc
+
+    -- what is converted is dropped, or a scalar, and so is what it becomes
+    pub conversions : (a : ℕ) → Is (exprs.Convert a) →
+        (of ≡ ty.Void) ⊎ (((j : TacKind) × IsScalar f.program k j) × ((j : TacKind) × IsScalar f.program a j))
+    conversions a is =
+        ⊎_elim (λ (d : holds (ty.is_void of)). inl (void_is of d))
+        (λ (d : holds (ty.is_scalar of) × holds (ty.is_scalar (t a))).
+        let j = scalar_kept of d.0 in
+        let i = scalar_kept (t a) d.1 in
+        inr ((j.0, record { is = ap kept_as of_is ∙ j.1 }), (i.0, record { is = i.1 })))
+        (of_one term.Convert (x a) of e.pos (fits (exprs.Convert a) is)).1
+
     pub decays : (a : ℕ) → Is (exprs.Decay a) → Decays (t a) (t k)
     decays a is = subst (λ z. Decays (t a) z) (sym of_is) (of_one term.Decay (x a) of e.pos (fits (exprs.Decay a) is)).1
 
@@ -305,12 +339,69 @@ module _ (f : Frame) (o : IsOrdered f.program) where
     pub convert_node : (a : ℕ) → Is (exprs.Convert a) → HasOne f k a
     convert_node a is = one term.Convert a refl (same (exprs.Convert a) is) (few (exprs.Convert a) is)
 
+    void_kept : (s : Ty) → ty.is_void s ≡ true → kept_as s ≡ None
+    void_kept ty.Void h = refl
+    void_kept s h = absurd cc
+
+    -- what is converted to a scalar is one
+    pub converted : (a : ℕ) (j : TacKind) → Is (exprs.Convert a) → IsScalar f.program k j →
+        (i : TacKind) × IsScalar f.program a i
+    converted a j is h =
+        ⊎_elim (λ (d : holds (ty.is_void of)).
+        absurd (let q : None ≡ Some j = sym (void_kept of d) ∙ sym (ap kept_as of_is) ∙ h.is in cc))
+        (λ (d : holds (ty.is_scalar of) × holds (ty.is_scalar (t a))).
+        let i = scalar_kept (t a) d.1 in (i.0, record { is = i.1 }))
+        (of_one term.Convert (x a) of e.pos (fits (exprs.Convert a) is)).1
+
+    -- a scalar, or a struct or union that is complete
+    abbrev pub IsWhole : Type 0
+    IsWhole = ((j : TacKind) × IsScalar f.program k j) ⊎ (holds (ty.is_tagged (t k)) × IsComplete f.program (t k))
+
+    whole : holds (ty.is_scalar of) ⊎ holds (ty.is_tagged of) → IsComplete f.program of → IsWhole
+    whole h c =
+        ⊎_elim (λ (d : holds (ty.is_scalar of)).
+        let j = scalar_kept of d in inl (j.0, record { is = ap kept_as of_is ∙ j.1 }))
+        (λ (d : holds (ty.is_tagged of)).
+        inr (ap ty.is_tagged of_is ∙ d, subst (λ z. IsComplete f.program z) (sym of_is) c)) h
+
+    pub load_whole : (a : ℕ) → Is (exprs.Load a) → IsWhole
+    load_whole a is = let h = of_one term.Load (x a) of e.pos (fits (exprs.Load a) is) in whole h.1.2 h.1.3
+
+    pub assign_whole : (a b : ℕ) → Is (exprs.Assign a b) → IsWhole
+    assign_whole a b is =
+        let h = (of_two term.Assign (x a) (x b) of e.pos (fits (exprs.Assign a b) is)).2 in whole h.3 h.4
+
+    pub unary_scalar : (u : UnaryOp) (a : ℕ) → Is (exprs.Unary u a) → (j : TacKind) × IsScalar f.program k j
+    unary_scalar u a is = by u (of_one (term.Unary u) (x a) of e.pos (fits (exprs.Unary u a) is)).1
+      where
+        integer : holds (ty.is_integer of) → (j : TacKind) × IsScalar f.program k j
+        integer h = let j = integer_kept of h in (j.0, record { is = ap kept_as of_is ∙ j.1 })
+
+        by : (u : UnaryOp) → UnaryFits u (t a) of → (j : TacKind) × IsScalar f.program k j
+        by unary.LogicalNot h = (kind.Int int.I32, scalar ty.int (kind.Int int.I32) (of_is ∙ h.1) refl)
+        by unary.Plus h = integer h.0
+        by unary.Minus h = integer h.0
+        by unary.Complement h = integer h.0
+
+    pub compound_scalar : (q : IntOp) (a b s : ℕ) → Is (exprs.Compound q a b s) →
+        (j : TacKind) × IsScalar f.program k j
+    compound_scalar q a b s is =
+        ⊎_elim (λ (d : PointsToComplete f.program of × (type_in f.program s ≡ of) × holds (ty.is_integer (t b))).
+        (kind.Cap false, scalar (ty.Pointer d.0.0) (kind.Cap false) (of_is ∙ d.0.1) refl))
+        (λ (d : holds (ty.is_integer of) × OperandsFit q (type_in f.program s) (t b) (type_in f.program s) ×
+        holds (ty.is_integer (type_in f.program s))).
+        let j = integer_kept of d.0 in (j.0, record { is = ap kept_as of_is ∙ j.1 }))
+        (of_two (term.Compound q (type_in f.program s)) (x a) (x b) of e.pos (fits (exprs.Compound q a b s) is)).2.2
+
     pub not_node : (a : ℕ) → Is (exprs.Unary unary.LogicalNot a) → NotNode f k a
     not_node a is =
         let h = of_one (term.Unary unary.LogicalNot) (x a) of e.pos (fits (exprs.Unary unary.LogicalNot a) is) in
+        let j = scalar_kept (t a) h.1.0 in
         record {
           operands = one (term.Unary unary.LogicalNot) a refl (same (exprs.Unary unary.LogicalNot a) is)
               (few (exprs.Unary unary.LogicalNot a) is);
+          kind = j.0;
+          value = record { is = j.1 };
           is = scalar ty.int (kind.Int int.I32) (of_is ∙ h.1.1) refl;
         }
 
@@ -332,11 +423,6 @@ module _ (f : Frame) (o : IsOrdered f.program) where
     shift_same ops.Shl = refl
     shift_same ops.Shr = refl
     shift_same q = refl
-
-    integer_kept : (s : Ty) → ty.is_integer s ≡ true → (j : TacKind) × (kept_as s ≡ Some j)
-    integer_kept (ty.Int j n) h = (kind.Int j, refl)
-    integer_kept (ty.Cap s) h = (kind.Cap s, refl)
-    integer_kept s h = absurd cc
 
     right_by : (q : IntOp) (j : IntKind) (n : ℕ) (s u : Ty) (c : TacKind) → s ≡ ty.Int j n → kept_as u ≡ Some c →
         (u ≡ s) ⊎ holds (typing.is_shift q) → RightFits (is_shift q) j c
@@ -397,6 +483,16 @@ module _ (f : Frame) (o : IsOrdered f.program) where
         record {
           operands = two (term.Plus m) a b refl (same (exprs.Plus a b m) is) (few (exprs.Plus a b m) is);
           is = scalar (ty.Pointer h.0.0) (kind.Cap false) (of_is ∙ p) refl;
+          indexed = λ e. ⊎_elim (λ (d : (t a ≡ of) × holds (ty.is_integer (t b))).
+              let c = integer_kept (t b) d.1 in
+              (subst (λ z. PointsToComplete f.program z) (sym d.0) h.0, (c.0, record { is = c.1 })))
+              (λ (d : (m ≡ false) × holds (ty.is_integer (t a)) × (t b ≡ of)).
+              absurd (let q : true ≡ false = sym e ∙ not_pointer (t a) d.1 in cc)) h.1;
+          indexes = λ e. ⊎_elim (λ (d : (t a ≡ of) × holds (ty.is_integer (t b))).
+              absurd (let q : true ≡ false = sym (ap points (d.0 ∙ p)) ∙ e in cc))
+              (λ (d : (m ≡ false) × holds (ty.is_integer (t a)) × (t b ≡ of)).
+              let c = integer_kept (t a) d.1 in
+              (subst (λ z. PointsToComplete f.program z) (sym d.2) h.0, (c.0, record { is = c.1 }))) h.1;
           pointer =
               ⊎_elim (λ (d : (t a ≡ of) × holds (ty.is_integer (t b))).
               inl (ap points (d.0 ∙ p), as_scalar a (ty.Pointer h.0.0) (kind.Cap false) (d.0 ∙ p) refl))
@@ -410,6 +506,7 @@ module _ (f : Frame) (o : IsOrdered f.program) where
         record {
           operands = two term.Difference a b refl (same (exprs.Difference a b) is) (few (exprs.Difference a b) is);
           is = scalar ty.long (kind.Int int.I64) (of_is ∙ h.2) refl;
+          pointed = h.0;
           left = as_scalar a (ty.Pointer h.0.0) (kind.Cap false) h.0.1 refl;
           right = as_scalar b (ty.Pointer h.1.0) (kind.Cap false) h.1.1 refl;
         }
@@ -421,8 +518,14 @@ module _ (f : Frame) (o : IsOrdered f.program) where
     pub compare_node : (q : CmpOp) (a b : ℕ) → Is (exprs.Compare q a b) → CompareNode f k a b
     compare_node q a b is =
         let h = (of_two (term.Compare q) (x a) (x b) of e.pos (fits (exprs.Compare q a b) is)).2 in
+        let j : (z : TacKind) × (kept_as (t a) ≡ Some z) =
+        ⊎_elim (λ (d : holds (ty.is_integer (t a)) × (t a ≡ t b)). integer_kept (t a) d.0)
+        (λ (d : holds (ty.is_pointer (t a)) × holds (ty.is_pointer (t b))).
+        (kind.Cap false, pointer_kept (t a) d.0)) h.1 in
         record {
           operands = two (term.Compare q) a b refl (same (exprs.Compare q a b) is) (few (exprs.Compare q a b) is);
+          kind = j.0;
+          left = record { is = j.1 };
           is = scalar ty.int (kind.Int int.I32) (of_is ∙ h.0) refl;
           same =
               ⊎_elim (λ (d : holds (ty.is_integer (t a)) × (t a ≡ t b)). ap kept_as d.1)
@@ -433,17 +536,29 @@ module _ (f : Frame) (o : IsOrdered f.program) where
     pub and_node : (a b : ℕ) → Is (exprs.And a b) → TruthNode f k a b
     and_node a b is =
         let h = (of_two term.And (x a) (x b) of e.pos (fits (exprs.And a b) is)).2 in
+        let i = scalar_kept (t a) h.1 in
+        let j = scalar_kept (t b) h.2 in
         record {
           operands = two term.And a b refl (same (exprs.And a b) is) (few (exprs.And a b) is);
           is = scalar ty.int (kind.Int int.I32) (of_is ∙ h.0) refl;
+          left_kind = i.0;
+          left = record { is = i.1 };
+          right_kind = j.0;
+          right = record { is = j.1 };
         }
 
     pub or_node : (a b : ℕ) → Is (exprs.Or a b) → TruthNode f k a b
     or_node a b is =
         let h = (of_two term.Or (x a) (x b) of e.pos (fits (exprs.Or a b) is)).2 in
+        let i = scalar_kept (t a) h.1 in
+        let j = scalar_kept (t b) h.2 in
         record {
           operands = two term.Or a b refl (same (exprs.Or a b) is) (few (exprs.Or a b) is);
           is = scalar ty.int (kind.Int int.I32) (of_is ∙ h.0) refl;
+          left_kind = i.0;
+          left = record { is = i.1 };
+          right_kind = j.0;
+          right = record { is = j.1 };
         }
 
     pub comma_node : (a b : ℕ) → Is (exprs.Comma a b) → CommaNode f k a b
@@ -454,6 +569,10 @@ module _ (f : Frame) (o : IsOrdered f.program) where
           right = ap kept_as (sym h ∙ sym of_is);
         }
 
+    placed : (a b c d : Bool) → (a && b && c && d) ≡ true → a ≡ true
+    placed true b c d h = refl
+    placed false b c d h = h
+
     pub assign_node : (a b : ℕ) → Is (exprs.Assign a b) → AssignNode f k a b
     assign_node a b is =
         let h = (of_two term.Assign (x a) (x b) of e.pos (fits (exprs.Assign a b) is)).2 in
@@ -462,11 +581,16 @@ module _ (f : Frame) (o : IsOrdered f.program) where
           copies = omega (arith, copied_is f.program k e there, copies_by f.program o k e (exprs.Assign a b) there is);
           left = sym (bare_kept (t a)) ∙ sym (ap kept_as h.1) ∙ sym (ap kept_as of_is);
           right = ap kept_as (h.2 ∙ sym of_is);
+          named = placed _ _ _ _ h.0;
+          place = of_is ∙ h.1;
+          value = h.2 ∙ sym of_is;
+          complete = subst (λ z. Rattle.c_tree.specs.WellTyped.IsComplete f.program z) (sym of_is) h.4;
         }
 
     pub conditional_node : (a b c : ℕ) → Is (exprs.Conditional a b c) → ConditionalNode f k a b c
     conditional_node a b c is =
         let h = (of_three term.Conditional (x a) (x b) (x c) of e.pos (fits (exprs.Conditional a b c) is)).3 in
+        let j = scalar_kept (t a) h.0 in
         record {
           operands = three term.Conditional a b c refl (same (exprs.Conditional a b c) is)
               (few (exprs.Conditional a b c) is);
@@ -475,15 +599,32 @@ module _ (f : Frame) (o : IsOrdered f.program) where
             copied_is f.program k e there,
             copies_by f.program o k e (exprs.Conditional a b c) there is,
           );
+          kind = j.0;
+          test = record { is = j.1 };
           left = ap kept_as (h.1 ∙ sym of_is);
           right = ap kept_as (h.2 ∙ sym of_is);
+          one_way = h.1 ∙ sym of_is;
+          other_way = h.2 ∙ sym of_is;
         }
+
+    not_const : (s : Ty) → ty.is_const s ≡ false → ty.bare s ≡ s
+    not_const (ty.Const s) h = absurd cc
+    not_const s h = refl
+
+    modified_bare : (a : Term) → holds (typing.is_modifiable a) → ty.bare (type_of a) ≡ type_of a
+    modified_bare a h = not_const (type_of a) (by (is_place a) (ty.is_const (type_of a))
+        (ty.is_array (type_of a)) (ty.is_function (type_of a)) h)
+      where
+        by : (p c r f : Bool) → (p && not c && not r && not f) ≡ true → c ≡ false
+        by p false r f h = refl
+        by true true r f h = absurd cc
+        by false true r f h = absurd cc
 
     pub step_node : (a : ℕ) (adds front : Bool) → Is (exprs.Step a adds front) → StepNode f k a
     step_node a adds front is =
         let h = (of_one (term.Step adds front) (x a) of e.pos (fits (exprs.Step a adds front) is)).1 in
         let j = ⊎_elim (λ (d : holds (ty.is_integer of)). integer_kept of d)
-        (λ (d : (u : Ty) × (of ≡ ty.Pointer u) × Rattle.c_tree.specs.WellTyped.IsComplete f.program u).
+        (λ (d : (u : Ty) × (of ≡ ty.Pointer u) × IsComplete f.program u).
         (kind.Cap false, ap kept_as d.1)) h.2 in
         record {
           operands = one (term.Step adds front) a refl (same (exprs.Step a adds front) is)
@@ -491,6 +632,11 @@ module _ (f : Frame) (o : IsOrdered f.program) where
           kind = j.0;
           is = record { is = ap kept_as of_is ∙ j.1 };
           left = sym (bare_kept (t a)) ∙ sym (ap kept_as h.1) ∙ sym (ap kept_as of_is);
+          pointed = λ e.
+              let is : of ≡ t a = h.1 ∙ modified_bare (x a) h.0 in
+              ⊎_elim (λ (d : holds (ty.is_integer of)).
+              absurd (let z : true ≡ false = sym e ∙ (sym (ap points is) ∙ not_pointer of d) in cc))
+              (λ (d : PointsToComplete f.program of). subst (λ z. PointsToComplete f.program z) is d) h.2;
         }
 
     computed_by : (q : IntOp) (s u : Ty) → holds (ty.is_integer s) → (u ≡ s) ⊎ holds (typing.is_shift q) →
@@ -501,15 +647,41 @@ module _ (f : Frame) (o : IsOrdered f.program) where
     computed_by q (ty.Cap s) u i h g = tt
     computed_by q s u i h g = absurd cc
 
+    right_integer : (q : IntOp) (s u : Ty) → CompoundFits f.program q s u of → holds (ty.is_integer u)
+    right_integer q s u h = ⊎_elim (λ (d : PointsToComplete f.program of × (s ≡ of) × holds (ty.is_integer u)). d.2)
+        (λ (d : holds (ty.is_integer of) × OperandsFit q s u s × holds (ty.is_integer s)). d.1.1) h
+
+    pointed_by : (q : IntOp) (s u : Ty) → CompoundFits f.program q s u of → points s ≡ true →
+        PointsToComplete f.program s
+    pointed_by q s u h e = ⊎_elim (λ (d : PointsToComplete f.program of × (s ≡ of) × holds (ty.is_integer u)).
+        subst (λ z. PointsToComplete f.program z) (sym d.1) d.0)
+        (λ (d : holds (ty.is_integer of) × OperandsFit q s u s × holds (ty.is_integer s)).
+        absurd (let z : true ≡ false = sym e ∙ not_pointer s d.2 in cc)) h
+
+    -- but in a shift, integers are computed in the right operand's type
+    alike_by : (q : IntOp) (s u : Ty) → CompoundFits f.program q s u of → is_shift q ≡ false → points s ≡ false →
+        kept_as s ≡ kept_as u
+    alike_by q s u h other number = ⊎_elim (λ (d : PointsToComplete f.program of × (s ≡ of) × holds (ty.is_integer u)).
+        absurd (let z : true ≡ false = sym (ap points (d.1 ∙ d.0.1)) ∙ number in cc))
+        (λ (d : holds (ty.is_integer of) × OperandsFit q s u s × holds (ty.is_integer s)).
+        ⊎_elim (λ (g : u ≡ s). ap kept_as (sym g))
+        (λ (g : holds (typing.is_shift q)). absurd (let z : true ≡ false = sym g ∙ (shift_same q ∙ other) in cc))
+        d.1.2) h
+
     pub compound_node : (q : IntOp) (a b s : ℕ) → Is (exprs.Compound q a b s) → CompoundNode f k q a b s
     compound_node q a b s is =
         let h = (of_two (term.Compound q (type_in f.program s)) (x a) (x b) of e.pos
         (fits (exprs.Compound q a b s) is)).2 in
         let left = sym (bare_kept (t a)) ∙ sym (ap kept_as h.1) ∙ sym (ap kept_as of_is) in
+        let c = integer_kept (t b) (right_integer q (type_in f.program s) (t b) h.2) in
         record {
           operands = two (term.Compound q (type_in f.program s)) a b refl (same (exprs.Compound q a b s) is)
               (few (exprs.Compound q a b s) is);
           left = left;
+          count = c.0;
+          right = record { is = c.1 };
+          pointed = λ e. pointed_by q (type_in f.program s) (t b) h.2 e;
+          alike = λ other number. alike_by q (type_in f.program s) (t b) h.2 other number ∙ c.1;
           fits =
               ⊎_elim (λ (d : PointsToComplete f.program of × (type_in f.program s ≡ of) × holds (ty.is_integer (t b))).
               inl (

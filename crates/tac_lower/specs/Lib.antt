@@ -14,3 +14,11 @@ pub mod Spent
 pub mod Statements
 pub mod Tables
 pub mod Zeroed
+pub mod Writing
+pub mod Trees
+pub mod Assigning
+pub mod Stating
+pub mod Callees
+pub mod Programs
+pub mod Cases
+pub mod Runs

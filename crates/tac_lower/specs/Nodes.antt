@@ -14,13 +14,15 @@ use Rattle.c_tree.specs.declared.typed.FunDef.{FunDef}
 use Rattle.c_tree.specs.declared.typed.Typed.{Typed}
 use Rattle.c_tree.specs.declared.typed.VarDef.{VarDef}
 use Rattle.cheri_c_sem.specs.Types.{is_shift}
+use Rattle.c_tree.specs.Conversions.{is_place}
 use Rattle.c_tree.specs.Expressions.{given_type}
 use Rattle.c_tree.specs.Libraries.{Service, services}
 use Rattle.c_tree.specs.Terms.{Term, type_of, terms}
 use Rattle.c_tree.specs.TreeWeight.{term_weight}
-use Rattle.c_tree.specs.Types.{Ty, Tys, Int, Cap, Pointer, Function, Const, compatible}
+use Rattle.c_tree.specs.Types.{Ty, Tys, Int, Cap, Pointer, Function, Const, bare, compatible}
 use Rattle.c_tree.specs.Views.{terms_of, term_at}
-use Rattle.c_tree.specs.WellTyped.{Frame, TermFits, type_in, ArgumentsFit, AllAskedFit, list_of}
+use Rattle.c_tree.specs.WellTyped.{PointsToComplete}
+use Rattle.c_tree.specs.WellTyped.{Frame, TermFits, type_in, ArgumentsFit, AllAskedFit, IsComplete, list_of}
 use Rattle.tac_ir.specs.WellFormed.{constant_fits}
 use Rattle.tac_ir.specs.declared.code.TacKind.{TacKind}
 use Rattle.tac_ir.specs.declared.code.TacKind.TheVariants as kinds
@@ -132,6 +134,8 @@ pub record SameNode (f : Frame) (k a : ℕ) : Type 0 where
 -- `!`
 pub record NotNode (f : Frame) (k a : ℕ) : Type 0 where
   pub operands : HasOne f k a
+  pub kind : TacKind
+  pub value : IsScalar f.program a kind
   pub is : IsScalar f.program k (kinds.Int int.I32)
 
 abbrev pub UnaryNode : Frame → ℕ → UnaryOp → ℕ → Type 0
@@ -154,6 +158,12 @@ pub record DerefNode (f : Frame) (k a : ℕ) : Type 0 where
 pub record SumNode (f : Frame) (k a b : ℕ) : Type 0 where
   pub operands : HasTwo f k a b
   pub is : IsScalar f.program k (kinds.Cap false)
+  pub indexed :
+      points (type_of (expression f.program a)) ≡ true →
+      PointsToComplete f.program (type_of (expression f.program a)) × ((j : TacKind) × IsScalar f.program b j)
+  pub indexes :
+      points (type_of (expression f.program a)) ≡ false →
+      PointsToComplete f.program (type_of (expression f.program b)) × ((j : TacKind) × IsScalar f.program a j)
   pub pointer :
       ((points (type_of (expression f.program a)) ≡ true) × IsScalar f.program a (kinds.Cap false))
       ⊎ ((points (type_of (expression f.program a)) ≡ false) × IsScalar f.program b (kinds.Cap false))
@@ -161,6 +171,8 @@ pub record SumNode (f : Frame) (k a b : ℕ) : Type 0 where
 -- a comparison
 pub record CompareNode (f : Frame) (k a b : ℕ) : Type 0 where
   pub operands : HasTwo f k a b
+  pub kind : TacKind
+  pub left : IsScalar f.program a kind
   pub is : IsScalar f.program k (kinds.Int int.I32)
   pub same : scalar_in f.program a ≡ scalar_in f.program b
 
@@ -168,11 +180,16 @@ pub record CompareNode (f : Frame) (k a b : ℕ) : Type 0 where
 pub record TruthNode (f : Frame) (k a b : ℕ) : Type 0 where
   pub operands : HasTwo f k a b
   pub is : IsScalar f.program k (kinds.Int int.I32)
+  pub left_kind : TacKind
+  pub left : IsScalar f.program a left_kind
+  pub right_kind : TacKind
+  pub right : IsScalar f.program b right_kind
 
 -- the difference of two pointers
 pub record DifferenceNode (f : Frame) (k a b : ℕ) : Type 0 where
   pub operands : HasTwo f k a b
   pub is : IsScalar f.program k (kinds.Int int.I64)
+  pub pointed : PointsToComplete f.program (type_of (expression f.program a))
   pub left : IsScalar f.program a (kinds.Cap false)
   pub right : IsScalar f.program b (kinds.Cap false)
 
@@ -187,11 +204,19 @@ pub record AssignNode (f : Frame) (k a b : ℕ) : Type 0 where
   pub copies : copied_in f.program k + copies_in f.program a + copies_in f.program b ≡ copies_in f.program k
   pub left : scalar_in f.program a ≡ scalar_in f.program k
   pub right : scalar_in f.program b ≡ scalar_in f.program k
+  pub named : is_place (expression f.program a) ≡ true
+  pub place : type_of (expression f.program k) ≡ bare (type_of (expression f.program a))
+  pub value : type_of (expression f.program b) ≡ type_of (expression f.program k)
+  pub complete : IsComplete f.program (type_of (expression f.program k))
 
 -- a compound assignment: a pointer is moved by elements, and else integers are computed in a type
 pub record CompoundNode (f : Frame) (k : ℕ) (o : IntOp) (a b t : ℕ) : Type 0 where
   pub operands : HasTwo f k a b
   pub left : scalar_in f.program a ≡ scalar_in f.program k
+  pub count : TacKind
+  pub right : IsScalar f.program b count
+  pub pointed : points (type_in f.program t) ≡ true → PointsToComplete f.program (type_in f.program t)
+  pub alike : is_shift o ≡ false → points (type_in f.program t) ≡ false → kept_as (type_in f.program t) ≡ Some count
   pub fits :
       ((points (type_in f.program t) ≡ true) × IsScalar f.program a (kinds.Cap false))
       ⊎ ((points (type_in f.program t) ≡ false) ×
@@ -203,14 +228,20 @@ pub record StepNode (f : Frame) (k a : ℕ) : Type 0 where
   pub kind : TacKind
   pub is : IsScalar f.program k kind
   pub left : scalar_in f.program a ≡ scalar_in f.program k
+  pub pointed :
+      points (type_of (expression f.program a)) ≡ true → PointsToComplete f.program (type_of (expression f.program a))
 
 -- the operands of a conditional expression are kept as its value, which may be copied
 pub record ConditionalNode (f : Frame) (k a b c : ℕ) : Type 0 where
   pub operands : HasThree f k a b c
   pub copies : copied_in f.program k + copies_in f.program a + copies_in f.program b + copies_in f.program c
       ≡ copies_in f.program k
+  pub kind : TacKind
+  pub test : IsScalar f.program a kind
   pub left : scalar_in f.program b ≡ scalar_in f.program k
   pub right : scalar_in f.program c ≡ scalar_in f.program k
+  pub one_way : type_of (expression f.program b) ≡ type_of (expression f.program k)
+  pub other_way : type_of (expression f.program c) ≡ type_of (expression f.program k)
 
 -- a name, by its number
 pub record NameNode (f : Frame) (k n count : ℕ) : Type 0 where

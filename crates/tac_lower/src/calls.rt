@@ -14,6 +14,12 @@ ghost use Rattle.tac_lower.specs.Known.{AreBelow};
 ghost use Rattle.tac_lower.specs.Nodes.{scalar_in, kind_in, expression, weight_in, weights_in, IsTyped, AreTyped};
 ghost use Rattle.tac_lower.specs.Nodes.{CallNode, LibraryNode};
 ghost use Rattle.tac_lower.specs.Spent.{Spent, Spends, SpendsValue};
+ghost use Rattle.c_tree.specs.declared.typed.ExprKind.TheVariants as exprs;
+ghost use Rattle.tac_lower.specs.Trees.{setting, IsNode, ShowsArguments, ShowsCall};
+ghost use Rattle.cheri_c_sem.specs.Types as meaning;
+ghost use Rattle.lower_runs.specs.Expressions as relation;
+ghost use Rattle.tac_lower.specs.Shown.{Emits};
+ghost use Rattle.tac_lower.specs.Callees.{NamesFunction, intrinsic_as, service_as, HasLength};
 ghost use Rattle.tac_lower.specs.Scenes.{Ready, Scene, Lowered, frame_of};
 ghost use Rattle.tac_lower.specs.Services.{ServiceAsks, IntrinsicFits};
 ghost use Rattle.tac_lower.specs.Signed.{HaveKinds, ResultFits, signature_as};
@@ -31,8 +37,10 @@ use tac_ir::{Amount, CapWork, LibOp, TacKind};
 fn named_function(cx: Context, f: u32) -> Option<u32>
     requires ready { Ready cx.p.now cx.types.now }
     requires typed { IsTyped (frame_of cx.p.now cx.d.now) f }
-    ensures { IfSome result (λ n. (r : Ty) (ps : Tys) → type_of (expression cx.entry.p.now f) ≡ Pointer (Function r ps)
+    ensures signed { IfSome result (λ n. (r : Ty) (ps : Tys) →
+        type_of (expression cx.entry.p.now f) ≡ Pointer (Function r ps)
         → signature_of_function cx.entry.p.now n ≡ Some (signature_as r ps)) }
+    ensures names { IfSome result (λ n. NamesFunction cx.entry.p.now f n) }
 {
     let e = cx.node(f)?;
     let ExprKind::Decay(a) = e.kind else {
@@ -59,6 +67,7 @@ fn arguments(cx: Context, k: u32, args: &[u32], out: &mut Emitter) -> Result<Vec
     ensures spends { IfOk result (λ _. Spends cx.entry.fixed out.old out.new
         (2 * weights_in cx.entry.p.now args.now - length args.now)
         (32 * weights_in cx.entry.p.now args.now - 21 * length args.now) (all_copies_in cx.entry.p.now args.now)) }
+    ensures is { IfOk result (λ ts. ShowsArguments (setting cx.entry) args.now ts.items out.old out.new) }
 {
     let mut behind = written_behind(cx.alloc, cx.writes, args)?;
     let mut temps = Vec::new(cx.alloc);
@@ -92,6 +101,8 @@ pub fn call(
     ensures spends { IfOk result (λ _. SpendsValue cx.entry.fixed (weight_in cx.entry.p.now k)
         (copies_in cx.entry.p.now k) 0
         out.old out.new) }
+    ensures is { IfOk result (λ _. IsNode cx.entry.p.now k (exprs.Call f args.now) →
+        ShowsCall (setting cx.entry) k to out.old out.new) }
 {
     match named_function(cx, f) {
         Some(n) => {
@@ -128,6 +139,8 @@ pub fn library(
     ensures spends { IfOk result (λ _. SpendsValue cx.entry.fixed (weight_in cx.entry.p.now k)
         (copies_in cx.entry.p.now k) 0
         out.old out.new) }
+    ensures is { IfOk result (λ _. IsNode cx.entry.p.now k (exprs.Library number args.now) →
+        ShowsCall (setting cx.entry) k to out.old out.new) }
 {
     let temps = arguments(cx, k, args, out)?;
     match service_of(number) {
@@ -145,7 +158,8 @@ pub fn library(
 /// The kind of the first of some arguments; where there is none, that of an `int`.
 fn first_kind(cx: Context, args: &[u32]) -> TacKind
     requires ready { Ready cx.p.now cx.types.now }
-    ensures { (x : ℕ) → slice_get args.now 0 ≡ Some x → result ≡ kind_in cx.entry.p.now x }
+    ensures first { (x : ℕ) → slice_get args.now 0 ≡ Some x → result ≡ kind_in cx.entry.p.now x }
+    ensures is { result ≡ relation.first_kind (map (kind_in cx.entry.p.now) args.now) }
 {
     match args.first() {
         None => INT,
@@ -187,7 +201,8 @@ enum Intrinsic {
 
 /// The library functions, and then the intrinsics.
 fn service_of(number: u8) -> Service
-    ensures { (s : libraries.Service) → slice_get services number ≡ Some s → ServiceAsks result s.takes s.gives }
+    ensures asks { (s : libraries.Service) → slice_get services number ≡ Some s → ServiceAsks result s.takes s.gives }
+    ensures is { service_as result ≡ meaning.service_of number }
 {
     match number {
         0 => Service::Library(LibOp::PutChar),
@@ -224,6 +239,8 @@ fn intrinsic_value(
     ensures grown { IfOk result (λ _. Grown out.old out.new) }
     ensures adds { IfOk result (λ _. Adds out.old out.new 0 0) }
     ensures spent { IfOk result (λ _. Spent out.old out.new 0 15) }
+    ensures emits { HasLength i b → IfOk result (λ _. Emits out.old out.new 0
+        (relation.intrinsic (intrinsic_as i) to kind a b)) }
 {
     let Some(to) = to else {
         return Ok(());

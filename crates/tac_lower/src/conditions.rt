@@ -7,6 +7,15 @@ ghost use Rattle.tac_lower.specs.Emitted.{IsOpen, Grown, Adds, HasRoom};
 ghost use Rattle.tac_lower.specs.Nodes.{weight_in, IsTyped, HasOne, HasTwo};
 ghost use Rattle.tac_lower.specs.Spent.{Spent, SpendsCondition, SpendsJunction};
 ghost use Rattle.tac_lower.specs.Scenes.{Scene, Lowered, frame_of};
+ghost use Rattle.c_tree.specs.declared.typed.ExprKind.TheVariants as exprs;
+ghost use Rattle.c_tree.specs.declared.typed.UnaryOp.TheVariants as unary;
+ghost use Rattle.ck_int.specs.declared.kinds.IntKind.TheVariants as int;
+ghost use Rattle.tac_ir.specs.declared.code.TacKind.TheVariants as kinds;
+ghost use Rattle.tac_ir.specs.declared.code.TacKind.{TacKind};
+ghost use Rattle.tac_lower.specs.Nodes.{IsScalar};
+ghost use Rattle.tac_lower.specs.Shown.{Emits};
+ghost use Rattle.lower_runs.specs.Expressions as relation;
+ghost use Rattle.tac_lower.specs.Trees.{setting, ShowsCondition, HasScalar, IsNode, joined};
 
 use crate::context::Context;
 use crate::emitter::Emitter;
@@ -50,6 +59,8 @@ fn jump_if(out: &mut Emitter, truth: bool, jump: Jump) -> Result<(), NoMemory>
     ensures grown { IfOk result (λ _. Grown out.old out.new) }
     ensures adds { IfOk result (λ _. Adds out.old out.new 0 0) }
     ensures spent { IfOk result (λ _. Spent out.old out.new 0 1) }
+    ensures emits { IfOk result (λ _. Emits out.old out.new 0
+        (relation.jump_if (relation.same jump.when truth) jump.label)) }
 {
     if truth == jump.when {
         out.jump(jump.label)
@@ -71,6 +82,7 @@ pub fn condition(cx: Context, k: u32, jump: Jump, out: &mut Emitter) -> Result<(
     ensures spends { IfOk result (λ _. SpendsCondition cx.entry.fixed (weight_in cx.entry.p.now k)
         (copies_in cx.entry.p.now k)
         out.old out.new) }
+    ensures is { IfOk result (λ _. ShowsCondition (setting cx.entry) k jump.when jump.label out.old out.new) }
 {
     let Some(e) = cx.node(k) else {
         return jump_if(out, false, jump);
@@ -110,6 +122,9 @@ fn opposite_condition(
     ensures spends { IfOk result (λ _. SpendsCondition cx.entry.fixed (weight_in cx.entry.p.now k)
         (copies_in cx.entry.p.now k)
         out.old out.new) }
+    ensures is { IfOk result (λ _. IsScalar cx.entry.p.now k (kinds.Int int.I32) →
+        HasScalar cx.entry.p.now a → IsNode cx.entry.p.now k (exprs.Unary unary.LogicalNot a) →
+        ShowsCondition (setting cx.entry) k jump.when jump.label out.old out.new) }
 {
     let jump = Jump {
         when: !jump.when,
@@ -139,6 +154,9 @@ pub fn joined_condition(
     ensures spends { IfOk result (λ _. SpendsJunction cx.entry.fixed (weight_in cx.entry.p.now k)
         (copies_in cx.entry.p.now k)
         out.old out.new) }
+    ensures is { IfOk result (λ _. IsScalar cx.entry.p.now k (kinds.Int int.I32) → HasScalar cx.entry.p.now j.a →
+        HasScalar cx.entry.p.now j.b → IsNode cx.entry.p.now k (joined j.both j.a j.b) →
+        ShowsCondition (setting cx.entry) k jump.when jump.label out.old out.new) }
 {
     if j.both == jump.when {
         return joined_around(cx, k, j, jump, out);
@@ -159,6 +177,7 @@ fn joined_around(
     requires ordered { Ordered cx.p.now }
     requires a_before { j.a < k }
     requires b_before { j.b < k }
+    requires around { j.both ≡ jump.when }
     requires scene { Scene cx.p.now cx.d.now cx.types.now cx.homes.now out.old }
     requires node { HasTwo (frame_of cx.p.now cx.d.now) k j.a j.b }
     requires open { IsOpen out.old jump.label }
@@ -168,6 +187,9 @@ fn joined_around(
     ensures spends { IfOk result (λ _. SpendsJunction cx.entry.fixed (weight_in cx.entry.p.now k)
         (copies_in cx.entry.p.now k)
         out.old out.new) }
+    ensures is { IfOk result (λ _. IsScalar cx.entry.p.now k (kinds.Int int.I32) → HasScalar cx.entry.p.now j.a →
+        HasScalar cx.entry.p.now j.b → IsNode cx.entry.p.now k (joined j.both j.a j.b) →
+        ShowsCondition (setting cx.entry) k jump.when jump.label out.old out.new) }
 {
     let around = Jump {
         when: !jump.when,

@@ -1,6 +1,7 @@
 //! The code of a function while it is made.
 
-ghost use Rattle.std.specs.Prelude.{◌≡◌, ℕ, ◌+◌, ◌^◌, ◌<◌, ◌==◌, [], length, true, false, IfOk, IfSome, Some, None};
+ghost use Rattle.std.specs.Prelude.{◌≡◌, ℕ, ◌+◌, ◌^◌, ◌<◌, ◌==◌, [], ◌∷◌, length, true, false, IfOk, IfSome, Some};
+ghost use Rattle.std.specs.Prelude.{None};
 ghost use Rattle.std.specs.Prelude.{if◌then◌else◌};
 ghost use Rattle.tac_ir.specs.declared.code.TacKind.TheVariants as kinds;
 ghost use Rattle.tac_ir.specs.declared.code.TacInstr.TheVariants as instr;
@@ -138,11 +139,14 @@ impl Emitter {
     }
 
     /// The first way of a choice ends, and the second begins.
+    #[tactic(auto, using(crate::proofs::Emitting::turn_emits))]
     pub fn turn_fork(&mut self, fork: Fork) -> Result<(), NoMemory>
         requires end { IsOpen self.old fork.end }
         ensures turned { IfOk result (λ _. Turned self.old self.new fork.other) }
         ensures adds { IfOk result (λ _. Adds self.old self.new 0 0) }
         ensures spent { IfOk result (λ _. Spent self.old self.new 0 1) }
+        ensures emits { IfOk result (λ _. Emits self.old self.new 0
+            (λ r. instr.Jump fork.end ∷ instr.Label fork.other ∷ r)) }
     {
         self.jump(fork.end)?;
         self.stand(fork.other)
@@ -445,23 +449,25 @@ impl Emitter {
         self.push(TacInstr::Label(label))
     }
 
-    #[tactic(auto, using(crate::proofs::Labels::jump_grown))]
+    #[tactic(auto, using(crate::proofs::Labels::jump_grown, crate::proofs::Emitting::one_emits))]
     pub fn jump(&mut self, label: u32) -> Result<(), NoMemory>
         requires open { IsOpen self.old label }
         ensures grown { IfOk result (λ _. Grown self.old self.new) }
         ensures adds { IfOk result (λ _. Adds self.old self.new 0 0) }
         ensures spent { IfOk result (λ _. Spent self.old self.new 0 1) }
+        ensures emits { IfOk result (λ _. Emits self.old self.new 0 (one (instr.Jump label))) }
     {
         self.push(TacInstr::Jump(label))
     }
 
-    #[tactic(auto, using(crate::proofs::Labels::branch_grown))]
+    #[tactic(auto, using(crate::proofs::Labels::branch_grown, crate::proofs::Emitting::one_emits))]
     pub fn branch(&mut self, on: u32, when: bool, label: u32) -> Result<(), NoMemory>
         requires open { IsOpen self.old label }
         requires temp { IsTemp self.old on }
         ensures grown { IfOk result (λ _. Grown self.old self.new) }
         ensures adds { IfOk result (λ _. Adds self.old self.new 0 0) }
         ensures spent { IfOk result (λ _. Spent self.old self.new 0 5) }
+        ensures emits { IfOk result (λ _. Emits self.old self.new 0 (one (instr.Branch on when label))) }
     {
         self.push(TacInstr::Branch { on, when, label })
     }
@@ -504,12 +510,13 @@ impl Emitter {
     }
 
     /// One turn is used, and a loop begins again.
-    #[tactic(auto, using(crate::proofs::Labels::back_grown))]
+    #[tactic(auto, using(crate::proofs::Labels::back_grown, crate::proofs::Emitting::back_emits))]
     pub fn turn_back(&mut self, top: u32) -> Result<(), NoMemory>
         requires stands { Stands self.old top }
         ensures grown { IfOk result (λ _. Grown self.old self.new) }
         ensures adds { IfOk result (λ _. Adds self.old self.new 0 0) }
         ensures spent { IfOk result (λ _. Spent self.old self.new 0 1) }
+        ensures emits { IfOk result (λ _. Emits self.old self.new 0 (λ r. instr.Turn ∷ instr.Jump top ∷ r)) }
     {
         self.push(TacInstr::Turn)?;
         self.push(TacInstr::Jump(top))

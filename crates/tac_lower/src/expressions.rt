@@ -17,6 +17,19 @@ ghost use Rattle.tac_lower.specs.Nodes.{HasOne, HasTwo, HasThree, UnaryNode, Sam
 ghost use Rattle.tac_lower.specs.Nodes.{DifferenceNode, CompareNode, TruthNode, SumNode, CommaNode, AssignNode};
 ghost use Rattle.tac_lower.specs.Nodes.{CompoundNode, StepNode, ConditionalNode};
 ghost use Rattle.tac_lower.specs.Scenes.{Ready, Housed, Scene, Lowered, frame_of};
+ghost use Rattle.c_tree.specs.declared.typed.ExprKind.TheVariants as exprs;
+ghost use Rattle.tac_lower.specs.Trees.{setting, IsNode, ShowsInPlace, ShowsOperand, ShowsOperandIn, ShowsPair};
+ghost use Rattle.tac_lower.specs.Trees.{ShowsAssignment, ShowsSomeStruct, ShowsPlaceEffect, HasRecord, IsWhole};
+ghost use Rattle.tac_lower.specs.Trees.{ShowsValue, ShowsEffect, Peels, IsSpared, Signs, joined, HasScalar};
+ghost use Rattle.std.specs.Prelude.{not};
+ghost use Rattle.tac_lower.specs.Shown.{sign_as};
+ghost use Rattle.tac_lower.specs.Assigning.{IsIndex, IsSum, ShowsMoved, ShowsOwn, ShowsAssigned, IsChangeOf, Steps};
+ghost use Rattle.tac_lower.specs.Assigning.{Renews, RenewsApart};
+ghost use Rattle.lower_runs.specs.Expressions.{asks_old};
+ghost use Rattle.tac_lower.specs.Trees.{IsVariable, Located};
+ghost use Rattle.ck_int.specs.declared.kinds.IntOp.{IntOp};
+ghost use Rattle.c_tree.specs.declared.typed.UnaryOp.{UnaryOp};
+ghost use Rattle.tac_ir.specs.declared.code.TacKind.{TacKind};
 
 use crate::calls::{call, library};
 use crate::conditions::{Jump, Junction, condition, joined_condition};
@@ -54,6 +67,7 @@ fn kept_operand(cx: Context, k: u32) -> Option<u32>
     ensures before { IfSome result (λ a. a < k) }
     ensures typed { IfSome result (λ a. IsTyped (frame_of cx.entry.p.now cx.entry.d.now) a) }
     ensures kept { IfSome result (λ a. scalar_in cx.entry.p.now a ≡ scalar_in cx.entry.p.now k) }
+    ensures peels { IfSome result (λ a. Peels (setting cx.entry) k a) }
 {
     let Some(e) = cx.node(k) else {
         return None;
@@ -71,6 +85,7 @@ fn peeled(cx: Context, k: u32) -> u32
     requires typed { IsTyped (frame_of cx.p.now cx.d.now) k }
     ensures typed { IsTyped (frame_of cx.entry.p.now cx.entry.d.now) result }
     ensures kept { scalar_in cx.entry.p.now result ≡ scalar_in cx.entry.p.now k }
+    ensures peels { Peels (setting cx.entry) k result }
 {
     match kept_operand(cx, k) {
         None => k,
@@ -82,7 +97,8 @@ fn peeled(cx: Context, k: u32) -> u32
 fn spared_variable(cx: Context, a: u32, later: Written) -> Option<u32>
     requires ready { Ready cx.p.now cx.types.now }
     requires typed { IsTyped (frame_of cx.p.now cx.d.now) a }
-    ensures { (e : Emitter) → Housed cx.entry.p.now cx.entry.d.now cx.entry.homes.now e
+    ensures stands { IfSome result (λ t. IsSpared cx.entry.p.now cx.entry.homes.now later a t) }
+    ensures has { (e : Emitter) → Housed cx.entry.p.now cx.entry.d.now cx.entry.homes.now e
         → IfSome result (λ t. HasKind e t (kind_in cx.entry.p.now a)) }
 {
     match cx.named_variable(a) {
@@ -97,8 +113,9 @@ pub fn in_place(cx: Context, k: u32, later: Written) -> Option<u32>
     requires ordered { Ordered cx.p.now }
     requires ready { Ready cx.p.now cx.types.now }
     requires typed { IsTyped (frame_of cx.p.now cx.d.now) k }
-    ensures { (e : Emitter) → Housed cx.entry.p.now cx.entry.d.now cx.entry.homes.now e
+    ensures has { (e : Emitter) → Housed cx.entry.p.now cx.entry.d.now cx.entry.homes.now e
         → IfSome result (λ t. HasKind e t (kind_in cx.entry.p.now k)) }
+    ensures is { IfSome result (λ t. ShowsInPlace (setting cx.entry) later k t) }
 {
     let j = peeled(cx, k);
     let e = cx.node(j)?;
@@ -115,6 +132,7 @@ fn constant_index(cx: Context, k: u32) -> Option<u64>
     requires ordered { Ordered cx.p.now }
     requires ready { Ready cx.p.now cx.types.now }
     requires typed { IsTyped (frame_of cx.p.now cx.d.now) k }
+    ensures is { IfSome result (λ n. IsIndex (setting cx.entry) k n) }
 {
     match cx.scalar(k)? {
         TacKind::Cap(_) => None,
@@ -135,6 +153,7 @@ fn own(cx: Context, to: Option<u32>, kind: TacKind, out: &mut Emitter) -> Result
     ensures lowered { IfOk result (λ _. Lowered cx.entry.p.now cx.entry.d.now cx.entry.types.now cx.entry.homes.now
         out.old out.new (1)) }
     ensures owns { IfOk result (λ t. Owns cx.entry.fixed to out.old out.new t) }
+    ensures is { IfOk result (λ t. ShowsOwn (setting cx.entry) to t out.old out.new) }
 {
     let Some(t) = to else {
         return out.temp(kind);
@@ -158,6 +177,7 @@ pub fn operand(cx: Context, k: u32, later: Written, out: &mut Emitter) -> Result
     ensures spends { IfOk result (λ _. SpendsOperand cx.entry.fixed (weight_in cx.entry.p.now k)
         (copies_in cx.entry.p.now k)
         out.old out.new) }
+    ensures is { IfOk result (λ t. ShowsOperand (setting cx.entry) later k t out.old out.new) }
 {
     match in_place(cx, k, later) {
         Some(t) => Ok(t),
@@ -185,6 +205,7 @@ fn operand_in(cx: Context, k: u32, to: u32, out: &mut Emitter) -> Result<Held, N
         (copies_in cx.entry.p.now k)
         (extra cx.entry.fixed (Some to))
         out.old out.new) }
+    ensures is { IfOk result (λ x. ShowsOperandIn (setting cx.entry) k to x.temp out.old out.new) }
 {
     let kind = cx.kind(k);
     match in_place(cx, k, Written::Nothing) {
@@ -210,6 +231,7 @@ fn held(cx: Context, k: u32, later: Written, out: &mut Emitter) -> Result<Held, 
     ensures spends { IfOk result (λ _. SpendsOperand cx.entry.fixed (weight_in cx.entry.p.now k)
         (copies_in cx.entry.p.now k)
         out.old out.new) }
+    ensures is { IfOk result (λ x. ShowsOperand (setting cx.entry) later k x.temp out.old out.new) }
 {
     let temp = operand(cx, k, later, out)?;
     Ok(Held {
@@ -235,6 +257,7 @@ fn pair(cx: Context, k: u32, a: u32, b: u32, out: &mut Emitter) -> Result<(Held,
         out.old out.new (4 * weight_in cx.entry.p.now k - 4)) }
     ensures spends { IfOk result (λ _. Spends cx.entry.fixed out.old out.new (2 * weight_in cx.entry.p.now k - 4)
         (32 * weight_in cx.entry.p.now k - 74) (copies_in cx.entry.p.now k)) }
+    ensures is { IfOk result (λ x. ShowsPair (setting cx.entry) a x.0.temp b x.1.temp out.old out.new) }
 {
     let x = held(cx, a, cx.written(b), out)?;
     let y = held(cx, b, Written::Nothing, out)?;
@@ -244,8 +267,9 @@ fn pair(cx: Context, k: u32, a: u32, b: u32, out: &mut Emitter) -> Result<(Held,
 /// The temp for the value of expression `k`, where it has one.
 fn asked(cx: Context, k: u32, to: u32) -> Option<u32>
     requires ready { Ready cx.p.now cx.types.now }
-    ensures { (e : Emitter) → HasKind e to (kind_in cx.entry.p.now k) →
+    ensures fits { (e : Emitter) → HasKind e to (kind_in cx.entry.p.now k) →
         ResultFits e result (scalar_in cx.entry.p.now k) }
+    ensures given { (j : TacKind) → IsScalar cx.entry.p.now k j → result ≡ Some to }
 {
     if cx.scalar(k).is_some() {
         Some(to)
@@ -268,6 +292,7 @@ pub fn value(cx: Context, k: u32, to: u32, out: &mut Emitter) -> Result<(), NoMe
         (copies_in cx.entry.p.now k)
         (extra cx.entry.fixed (Some to))
         out.old out.new) }
+    ensures is { IfOk result (λ _. ShowsValue (setting cx.entry) k to out.old out.new) }
 {
     let kind = cx.kind(k);
     let Some(e) = cx.node(k) else {
@@ -356,6 +381,8 @@ fn choice(
         (copies_in cx.entry.p.now k)
         (extra cx.entry.fixed (Some to))
         out.old out.new) }
+    ensures is { IfOk result (λ _. IsNode cx.entry.p.now k (exprs.Conditional c a b) →
+        ShowsValue (setting cx.entry) k to out.old out.new) }
 {
     let fork = out.fork();
     let jump = Jump {
@@ -385,6 +412,8 @@ fn comma(cx: Context, k: u32, a: u32, b: u32, to: u32, out: &mut Emitter) -> Res
         (copies_in cx.entry.p.now k)
         (extra cx.entry.fixed (Some to))
         out.old out.new) }
+    ensures is { IfOk result (λ _. IsNode cx.entry.p.now k (exprs.Comma a b) →
+        ShowsValue (setting cx.entry) k to out.old out.new) }
 {
     effect(cx, a, out)?;
     value(cx, b, to, out)
@@ -414,6 +443,8 @@ fn integer(
         (copies_in cx.entry.p.now k)
         (extra cx.entry.fixed (Some to))
         out.old out.new) }
+    ensures is { IfOk result (λ _. IsNode cx.entry.p.now k (exprs.Int op a b) →
+        ShowsValue (setting cx.entry) k to out.old out.new) }
 {
     let (x, y) = pair(cx, k, a, b, out)?;
     whole(out, op, int_kind(cx.kind(k)), to, x.temp, y)
@@ -450,6 +481,8 @@ fn capability(
         (copies_in cx.entry.p.now k)
         (extra cx.entry.fixed (Some to))
         out.old out.new) }
+    ensures is { IfOk result (λ _. IsNode cx.entry.p.now k (exprs.Capability from.op a b from.right) →
+        ShowsValue (setting cx.entry) k to out.old out.new) }
 {
     let (x, y) = pair(cx, k, a, b, out)?;
     let signed = is_signed(cx.kind(k));
@@ -472,6 +505,8 @@ fn distance(cx: Context, k: u32, a: u32, b: u32, to: u32, out: &mut Emitter) -> 
         (copies_in cx.entry.p.now k)
         (extra cx.entry.fixed (Some to))
         out.old out.new) }
+    ensures is { IfOk result (λ _. IsNode cx.entry.p.now k (exprs.Difference a b) →
+        ShowsValue (setting cx.entry) k to out.old out.new) }
 {
     let (x, y) = pair(cx, k, a, b, out)?;
     let size = cx.pointed_size(a).unwrap_or(0);
@@ -490,6 +525,8 @@ pub fn effect(cx: Context, k: u32, out: &mut Emitter) -> Result<(), NoMemory>
     ensures spends { IfOk result (λ _. SpendsValue cx.entry.fixed (weight_in cx.entry.p.now k)
         (copies_in cx.entry.p.now k) 1
         out.old out.new) }
+    ensures is { IfOk result (λ _. ShowsEffect (setting cx.entry) k out.old out.new) }
+    ensures places { IfOk result (λ _. ShowsPlaceEffect (setting cx.entry) k out.old out.new) }
 {
     let Some(e) = cx.node(k) else {
         return Ok(());
@@ -568,6 +605,10 @@ fn chosen_effect(
     ensures spends { IfOk result (λ _. SpendsValue cx.entry.fixed (weight_in cx.entry.p.now k)
         (copies_in cx.entry.p.now k) 1
         out.old out.new) }
+    ensures is { IfOk result (λ _. HasScalar cx.entry.p.now c →
+        IsNode cx.entry.p.now k (exprs.Conditional c a b) → ShowsEffect (setting cx.entry) k out.old out.new) }
+    ensures places { IfOk result (λ _. HasScalar cx.entry.p.now c →
+        IsNode cx.entry.p.now k (exprs.Conditional c a b) → ShowsPlaceEffect (setting cx.entry) k out.old out.new) }
 {
     let fork = out.fork();
     let jump = Jump {
@@ -602,6 +643,8 @@ fn guarded_effect(
     ensures spends { IfOk result (λ _. SpendsValue cx.entry.fixed (weight_in cx.entry.p.now k)
         (copies_in cx.entry.p.now k) 1
         out.old out.new) }
+    ensures is { IfOk result (λ _. HasScalar cx.entry.p.now a →
+        IsNode cx.entry.p.now k (joined (not when) a b) → ShowsEffect (setting cx.entry) k out.old out.new) }
 {
     let label = out.label();
     condition(cx, a, Jump { when, label }, out)?;
@@ -622,6 +665,10 @@ fn read_effect(cx: Context, k: u32, a: u32, out: &mut Emitter) -> Result<(), NoM
     ensures spends { IfOk result (λ _. SpendsValue cx.entry.fixed (weight_in cx.entry.p.now k)
         (copies_in cx.entry.p.now k) 1
         out.old out.new) }
+    ensures is { IfOk result (λ _. IsNode cx.entry.p.now k (exprs.Load a) → IsWhole cx.entry.p.now k →
+        ShowsEffect (setting cx.entry) k out.old out.new) }
+    ensures places { IfOk result (λ _. IsNode cx.entry.p.now k (exprs.Load a) → IsWhole cx.entry.p.now k →
+        ShowsPlaceEffect (setting cx.entry) k out.old out.new) }
 {
     match cx.scalar(k) {
         None => effect(cx, a, out),
@@ -650,6 +697,8 @@ fn load(cx: Context, k: u32, a: u32, to: u32, out: &mut Emitter) -> Result<(), N
         (copies_in cx.entry.p.now k)
         (extra cx.entry.fixed (Some to))
         out.old out.new) }
+    ensures is { IfOk result (λ _. IsNode cx.entry.p.now k (exprs.Load a) →
+        ShowsValue (setting cx.entry) k to out.old out.new) }
 {
     match cx.variable(a) {
         Some(t) => out.transfer(to, t),
@@ -675,6 +724,9 @@ fn conversion(cx: Context, k: u32, a: u32, to: u32, out: &mut Emitter) -> Result
         (copies_in cx.entry.p.now k)
         (extra cx.entry.fixed (Some to))
         out.old out.new) }
+    ensures is { IfOk result (λ _. ((j : TacKind) → IsScalar cx.entry.p.now k j →
+        HasScalar cx.entry.p.now a) → IsNode cx.entry.p.now k (exprs.Convert a) →
+        ShowsValue (setting cx.entry) k to out.old out.new) }
 {
     let new = cx.kind(k);
     if cx.scalar(k).is_none() {
@@ -711,6 +763,8 @@ fn unary(
         (copies_in cx.entry.p.now k)
         (extra cx.entry.fixed (Some to))
         out.old out.new) }
+    ensures is { IfOk result (λ _. IsNode cx.entry.p.now k (exprs.Unary op a) →
+        ShowsValue (setting cx.entry) k to out.old out.new) }
 {
     match op {
         UnaryOp::LogicalNot => {
@@ -745,6 +799,9 @@ fn signed_value(
         (copies_in cx.entry.p.now k)
         (extra cx.entry.fixed (Some to))
         out.old out.new) }
+    ensures is { IfOk result (λ _. (op : UnaryOp) → Signs op (sign_as sign) →
+        IsNode cx.entry.p.now k (exprs.Unary op a) →
+        ShowsValue (setting cx.entry) k to out.old out.new) }
 {
     let x = operand_in(cx, a, to, out)?;
     signed(out, sign, to, x)
@@ -774,6 +831,8 @@ fn comparison(
         (copies_in cx.entry.p.now k)
         (extra cx.entry.fixed (Some to))
         out.old out.new) }
+    ensures is { IfOk result (λ _. IsNode cx.entry.p.now k (exprs.Compare op a b) →
+        ShowsValue (setting cx.entry) k to out.old out.new) }
 {
     let (x, y) = pair(cx, k, a, b, out)?;
     out.compare(op, x.kind, to, x.temp, y.temp)
@@ -795,6 +854,9 @@ fn truth(cx: Context, k: u32, j: Junction, to: u32, out: &mut Emitter) -> Result
         (copies_in cx.entry.p.now k)
         (extra cx.entry.fixed (Some to))
         out.old out.new) }
+    ensures is { IfOk result (λ _. HasScalar cx.entry.p.now j.a → HasScalar cx.entry.p.now j.b →
+        IsNode cx.entry.p.now k (joined j.both j.a j.b) →
+        ShowsValue (setting cx.entry) k to out.old out.new) }
 {
     let fork = out.fork();
     let jump = Jump {
@@ -832,6 +894,8 @@ fn sum(
         (copies_in cx.entry.p.now k)
         (extra cx.entry.fixed (Some to))
         out.old out.new) }
+    ensures is { IfOk result (λ _. IsNode cx.entry.p.now k (exprs.Plus a b minus) →
+        ShowsValue (setting cx.entry) k to out.old out.new) }
 {
     match cx.pointed_size(a) {
         Some(size) => pointer_first(cx, k, a, b, stride(size, minus), to, out),
@@ -867,6 +931,8 @@ fn pointer_first(
         (copies_in cx.entry.p.now k)
         (extra cx.entry.fixed (Some to))
         out.old out.new) }
+    ensures is { IfOk result (λ _. IsSum (setting cx.entry) k a b false by →
+        ShowsValue (setting cx.entry) k to out.old out.new) }
 {
     match constant_index(cx, b) {
         Some(n) => displaced(cx, a, by.wrapping_mul(n), to, out),
@@ -902,6 +968,8 @@ fn pointer_second(
         (copies_in cx.entry.p.now k)
         (extra cx.entry.fixed (Some to))
         out.old out.new) }
+    ensures is { IfOk result (λ _. IsSum (setting cx.entry) k a b true by →
+        ShowsValue (setting cx.entry) k to out.old out.new) }
 {
     match constant_index(cx, a) {
         Some(n) => displaced(cx, b, by.wrapping_mul(n), to, out),
@@ -926,6 +994,7 @@ fn displaced(cx: Context, k: u32, by: u64, to: u32, out: &mut Emitter) -> Result
     ensures spends { IfOk result (λ _. Spends cx.entry.fixed out.old out.new
         (2 * weight_in cx.entry.p.now k - 2 + extra cx.entry.fixed (Some to))
         (32 * weight_in cx.entry.p.now k - 6 + 6 * extra cx.entry.fixed (Some to)) (copies_in cx.entry.p.now k)) }
+    ensures is { IfOk result (λ _. ShowsMoved (setting cx.entry) k by to out.old out.new) }
 {
     let base = operand_in(cx, k, to, out)?;
     out.offset(to, base.temp, Amount::Number(by))
@@ -953,6 +1022,10 @@ fn assignment(
     ensures spends { IfOk result (λ _. SpendsValue cx.entry.fixed (weight_in cx.entry.p.now k)
         (copies_in cx.entry.p.now k) (extra cx.entry.fixed to)
         out.old out.new) }
+    ensures is { IfOk result (λ _. IsNode cx.entry.p.now k (exprs.Assign a b) →
+        ShowsAssignment (setting cx.entry) k to out.old out.new) }
+    ensures copies { IfOk result (λ _. IsNode cx.entry.p.now k (exprs.Assign a b) → HasRecord cx.entry.p.now k →
+        ShowsSomeStruct (setting cx.entry) k out.old out.new) }
 {
     if cx.facts(k).record {
         struct_assignment(cx, k, a, b, out)?;
@@ -989,6 +1062,8 @@ fn object_assignment(
     ensures spends { IfOk result (λ _. SpendsValue cx.entry.fixed (weight_in cx.entry.p.now k)
         (copies_in cx.entry.p.now k) (extra cx.entry.fixed to)
         out.old out.new) }
+    ensures is { IfOk result (λ _. Located (setting cx.entry) a → IsNode cx.entry.p.now k (exprs.Assign a b) →
+        ShowsAssignment (setting cx.entry) k to out.old out.new) }
 {
     let kind = cx.kind(a);
     let at = pointer(cx, a, cx.written(b), out)?;
@@ -1018,6 +1093,7 @@ fn assigned(
     ensures spends { IfOk result (λ _. SpendsOperand cx.entry.fixed (weight_in cx.entry.p.now k)
         (copies_in cx.entry.p.now k)
         out.old out.new) }
+    ensures is { IfOk result (λ t. ShowsAssigned (setting cx.entry) k to t out.old out.new) }
 {
     match to {
         None => operand(cx, k, Written::Nothing, out),
@@ -1035,6 +1111,7 @@ fn change_of(cx: Context, op: IntOp, of: u32) -> Change
     ensures op { result.op ≡ op }
     ensures computed { result.computed ≡ or_int (kept_as (type_in cx.entry.p.now of)) }
     ensures element { is_some result.element ≡ points (type_in cx.entry.p.now of) }
+    ensures is { IsChangeOf cx.entry.p.now op of result }
 {
     Change {
         op,
@@ -1068,6 +1145,9 @@ fn compound(
     ensures spends { IfOk result (λ _. SpendsValue cx.entry.fixed (weight_in cx.entry.p.now k)
         (copies_in cx.entry.p.now k) (extra cx.entry.fixed to)
         out.old out.new) }
+    ensures is { IfOk result (λ _. (op : IntOp) (of : ℕ) → IsNode cx.entry.p.now k (exprs.Compound op a b of) →
+        CompoundNode (frame_of cx.entry.p.now cx.entry.d.now) k op a b of → IsChangeOf cx.entry.p.now op of change →
+        ShowsAssignment (setting cx.entry) k to out.old out.new) }
 {
     let kind = cx.kind(a);
     match cx.variable(a) {
@@ -1110,6 +1190,8 @@ fn step(
     ensures spends { IfOk result (λ _. SpendsValue cx.entry.fixed (weight_in cx.entry.p.now k)
         (copies_in cx.entry.p.now k) (extra cx.entry.fixed to)
         out.old out.new) }
+    ensures is { IfOk result (λ _. IsNode cx.entry.p.now k (exprs.Step a up front) →
+        ShowsAssignment (setting cx.entry) k to out.old out.new) }
 {
     let kind = cx.kind(a);
     let size = cx.pointed_size(a).unwrap_or(1);
@@ -1120,11 +1202,18 @@ fn step(
             let at = pointer(cx, a, Written::Nothing, out)?;
             let old = own(cx, to, kind, out)?;
             out.load(old, at, kind, cx.pos(a))?;
-            let new = renewed(out, pace, front || to.is_none(), Held { temp: old, kind })?;
+            let new = renewed(out, pace, drops_old(front, to), Held { temp: old, kind })?;
             out.store(at, new, kind, cx.pos(a))?;
             out.give(to, old)
         }
     }
+}
+
+/// The old value of a place that is moved is not asked for.
+fn drops_old(front: bool, to: Option<u32>) -> bool
+    ensures { asks_old (not front) to ≡ not result }
+{
+    front || to.is_none()
 }
 
 /// The new value of a place that is moved: in the temp of the old one, where this is not asked for.
@@ -1135,6 +1224,8 @@ fn renewed(out: &mut Emitter, pace: Pace, same: bool, old: Held) -> Result<u32, 
     ensures grown { IfOk result (λ _. Grown out.old out.new) }
     ensures adds { IfOk result (λ _. Adds out.old out.new 1 0) }
     ensures spent { IfOk result (λ _. Spent out.old out.new 1 17) }
+    ensures same { same ≡ true → IfOk result (λ t. Renews pace old t out.old out.new) }
+    ensures apart { same ≡ false → IfOk result (λ t. RenewsApart pace old t out.old out.new) }
 {
     if !same {
         return stepped_apart(out, pace, old);
@@ -1159,8 +1250,11 @@ fn variable_step(
     ensures lowered { IfOk result (λ _. Lowered cx.entry.p.now cx.entry.d.now cx.entry.types.now cx.entry.homes.now
         out.old out.new (2)) }
     ensures spends { IfOk result (λ _. Spends cx.entry.fixed out.old out.new 2 35 0) }
+    ensures is { IfOk result (λ _. (k a : ℕ) → IsTyped (frame_of cx.entry.p.now cx.entry.d.now) a →
+        Steps (setting cx.entry) k a front pace → IsVariable cx.entry.p.now cx.entry.homes.now a v.temp →
+        v.kind ≡ kind_in cx.entry.p.now a → ShowsAssignment (setting cx.entry) k to out.old out.new) }
 {
-    if front || to.is_none() {
+    if drops_old(front, to) {
         stepped(out, pace, v.temp, v)?;
         return out.give(to, v.temp);
     }

@@ -1,7 +1,8 @@
 //! The code of a function.
 
-ghost use Rattle.std.specs.Prelude.{◌≡◌, ℕ, ◌+◌, ◌*◌, ◌^◌, ◌<◌, ◌≤◌, [], true, false, length, IfOk, Some, slice_get};
-ghost use Rattle.std.specs.Prelude.{◌==◌, if◌then◌else◌, sum_by};
+ghost use Rattle.std.specs.Prelude.{◌≡◌, ℕ, ◌+◌, ◌*◌, ◌^◌, ◌<◌, ◌≤◌, List, [], true, false, length, IfOk, Some};
+ghost use Rattle.std.specs.Prelude.{slice_get};
+ghost use Rattle.std.specs.Prelude.{◌==◌, if◌then◌else◌, nat_lt, sum_by};
 ghost use Rattle.c_tree.specs.TreeWeight.{function_weight};
 ghost use Rattle.c_tree.specs.Types.{Ty, Tys, Function};
 ghost use Rattle.c_tree.specs.WellTyped.{FunctionFits, type_in};
@@ -11,7 +12,8 @@ ghost use Rattle.c_tree.specs.declared.typed.VarDef.{VarDef};
 ghost use Rattle.cheri_c_sem.specs.Programs.{lengths_of};
 ghost use Rattle.tac_ir.specs.WellFormed.{function_fits, type_of_param};
 ghost use Rattle.tac_lower.specs.declared.context.Home.TheVariants as homes;
-ghost use Rattle.tac_lower.specs.Emitted.{HasKind, WellListed, Keeps, Grown, Adds, HasRoom, open_labels};
+ghost use Rattle.tac_lower.specs.Emitted.{HasKind, Pushed, WellListed, Keeps, Grown, Adds, HasRoom, Stands};
+ghost use Rattle.tac_lower.specs.Emitted.{open_labels};
 ghost use Rattle.tac_lower.specs.Functions.{AreParameters, Makes};
 ghost use Rattle.tac_lower.specs.Nodes.{kept_as, or_int};
 ghost use Rattle.tac_lower.specs.Scenes.{Ready, HomeFits, Housed, Scene, Lowered};
@@ -20,6 +22,12 @@ ghost use Rattle.tac_lower.specs.Copied.{part_copies};
 ghost use Rattle.tac_lower.specs.Spent.{Enters, Spent};
 ghost use Rattle.tac_lower.specs.Zeroed.{is_object, is_taken, taken, ZeroesOnce};
 ghost use Rattle.tac_lower.specs.Signed.{kept_parameter, ReturnFits};
+ghost use Rattle.tac_ir.specs.declared.code.TacInstr.TheVariants as instr;
+ghost use Rattle.tac_lower.specs.Programs.{gives_in, taken_code, taking, IsNext, AreHomes, EndsWith, Standing};
+ghost use Rattle.cheri_c_sem.specs.Expressions.{expr_tree};
+ghost use Rattle.lower_runs.specs.Programs.{IsCodeOf};
+ghost use Rattle.tac_lower.specs.Trees.{signatures, AreCovered};
+ghost use Rattle.tac_lower.specs.Shown.{none, Added, Emits};
 
 use crate::context::{Context, Home};
 use crate::emitter::Emitter;
@@ -64,6 +72,7 @@ fn parameter_temps(program: Program, d: &FunDef, out: &mut Emitter) -> Result<()
     requires none { out.old.kinds.items ≡ [] }
     requires room { HasRoom out.old (length d.now.params) }
     ensures parameters { IfOk result (λ _. AreParameters program.entry.p.now d.now out.new) }
+    ensures added { IfOk result (λ _. Added out.old out.new none) }
     ensures grown { IfOk result (λ _. Grown out.old out.new) }
     ensures adds { IfOk result (λ _. Adds out.old out.new (length d.now.params) 0) }
     ensures spent { IfOk result (λ _. Spent out.old out.new (length d.now.params) 0) }
@@ -112,6 +121,9 @@ fn object_home(n: u32, out: &mut Emitter) -> Result<Home, NoMemory>
     requires room { HasRoom out.old 1 }
     ensures home { IfOk result (λ h. (p : Typed) (d : FunDef) (v : VarDef) → n < length (lengths_of p d.vars)
         → HomeFits p d out.new v h) }
+    ensures next { IfOk result (λ h. (params i : ℕ) (v : VarDef) → v.simple ≡ false
+        → IsNext params i n (length out.old.kinds.items) v h) }
+    ensures added { IfOk result (λ _. Added out.old out.new none) }
     ensures grown { IfOk result (λ _. Grown out.old out.new) }
     ensures adds { IfOk result (λ _. Adds out.old out.new 1 0) }
     ensures spent { IfOk result (λ _. Spent out.old out.new 1 0) }
@@ -127,6 +139,8 @@ fn value_temp(x: u32, params: usize, kind: TacKind, out: &mut Emitter) -> Result
     requires parameter { x < params → HasKind out.old x kind }
     requires room { HasRoom out.old 1 }
     ensures has { IfOk result (λ t. HasKind out.new t kind) }
+    ensures next { IfOk result (λ t. t ≡ (if nat_lt x params then x else length out.old.kinds.items)) }
+    ensures added { IfOk result (λ _. Added out.old out.new none) }
     ensures grown { IfOk result (λ _. Grown out.old out.new) }
     ensures adds { IfOk result (λ _. Adds out.old out.new 1 0) }
     ensures spent { IfOk result (λ _. Spent out.old out.new 1 0) }
@@ -153,6 +167,9 @@ fn next_home(
     requires object { v.now.simple ≡ false → count.objects < length (lengths_of program.p.now d.now.vars) }
     requires room { HasRoom out.old 1 }
     ensures home { IfOk result (λ h. HomeFits program.entry.p.now d.now out.new v.now h) }
+    ensures next { IfOk result (λ h. IsNext (length d.now.params) count.variable count.objects
+        (length out.old.kinds.items) v.now h) }
+    ensures added { IfOk result (λ _. Added out.old out.new none) }
     ensures grown { IfOk result (λ _. Grown out.old out.new) }
     ensures adds { IfOk result (λ _. Adds out.old out.new 1 0) }
     ensures spent { IfOk result (λ _. Spent out.old out.new 1 0) }
@@ -176,6 +193,8 @@ fn homes(program: Program, d: &FunDef, out: &mut Emitter) -> Result<Vec<Home>, N
     requires few { length d.now.vars < 2 ^ 32 }
     requires room { HasRoom out.old (length d.now.vars) }
     ensures housed { IfOk result (λ hs. Housed program.entry.p.now d.now hs.items out.new) }
+    ensures homes { IfOk result (λ hs. AreHomes program.entry.p.now d.now hs.items (length out.new.kinds.items)) }
+    ensures added { IfOk result (λ _. Added out.old out.new none) }
     ensures grown { IfOk result (λ _. Grown out.old out.new) }
     ensures adds { IfOk result (λ _. Adds out.old out.new (length d.now.vars) 0) }
     ensures spent { IfOk result (λ _. Spent out.old out.new (length d.now.vars) 0) }
@@ -211,6 +230,8 @@ fn take_object(
     ensures lowered { IfOk result (λ _. Lowered cx.entry.p.now d.now cx.entry.types.now cx.entry.homes.now
         out.old out.new 0) }
     ensures spent { IfOk result (λ _. Enters out.old out.new 0 26 0 (λ v. is_taken cx.entry.homes.now v x)) }
+    ensures takes { IfOk result (λ _. Emits out.old out.new 0 (taken_code (Some (homes.Object n at)) t
+        (kept_parameter cx.entry.p.now d.now x) d.now.pos)) }
 {
     out.enter_object(at, n)?;
     let kind = cx.kind_of_type(type_of_variable(d, x));
@@ -230,6 +251,8 @@ fn take_parameter(
     ensures lowered { IfOk result (λ _. Lowered cx.entry.p.now d.now cx.entry.types.now cx.entry.homes.now
         out.old out.new 0) }
     ensures spent { IfOk result (λ _. Enters out.old out.new 0 26 0 (λ v. is_taken cx.entry.homes.now v x)) }
+    ensures takes { IfOk result (λ _. Emits out.old out.new 0 (taken_code (slice_get cx.entry.homes.now x) t
+        (kept_parameter cx.entry.p.now d.now x) d.now.pos)) }
 {
     match cx.home(x) {
         Some(Home::Object(n, at)) => take_object(cx, d, x, n, at, t, out),
@@ -245,6 +268,8 @@ fn take_parameters(cx: Context, d: &FunDef, out: &mut Emitter) -> Result<(), NoM
         out.old out.new 0) }
     ensures spent { IfOk result (λ _. Enters out.old out.new 0 (26 * length d.now.params) 0
         (taken cx.entry.homes.now d.now.params)) }
+    ensures takes { IfOk result (λ _. Emits out.old out.new 0 (taking cx.entry.homes.now
+        (kept_parameter cx.entry.p.now d.now) d.now.pos d.now.params 0)) }
 {
     let mut t: u32 = 0;
     for x in d.params.as_slice() {
@@ -269,6 +294,7 @@ fn gives(types: &[TypeFacts], d: &FunDef) -> Option<TacKind>
 fn end_value(kind: Option<TacKind>, out: &mut Emitter) -> Result<Option<u32>, NoMemory>
     requires room { HasRoom out.old 1 }
     ensures value { IfOk result (λ v. ReturnFits out.new kind v) }
+    ensures ends { IfOk result (λ v. (b : Emitter) → Pushed out.new b (instr.Return v) → EndsWith kind out.old b) }
     ensures grown { IfOk result (λ _. Grown out.old out.new) }
     ensures adds { IfOk result (λ _. Adds out.old out.new 1 0) }
     ensures spent { IfOk result (λ _. Spent out.old out.new 1 11) }
@@ -292,6 +318,8 @@ fn end_function(cx: Context, out: &mut Emitter) -> Result<(), NoMemory>
     ensures whole { IfOk result (λ _. WellListed cx.entry.p.now cx.entry.d.now out.new.kinds.items
         out.new.code.items out.new.code.items) }
     ensures keeps { IfOk result (λ _. Keeps out.old.kinds.items out.new.kinds.items) }
+    ensures made { IfOk result (λ _. (l : ℕ) → Stands out.new l → l < out.new.labels) }
+    ensures ends { IfOk result (λ _. EndsWith (gives_in cx.entry.p.now cx.entry.d.now) out.old out.new) }
     ensures adds { IfOk result (λ _. Adds out.old out.new 1 0) }
     ensures spent { IfOk result (λ _. Spent out.old out.new 1 35) }
 {
@@ -324,11 +352,16 @@ pub fn function(program: Program, d: &FunDef) -> Result<TacFun, NoMemory>
     requires ready { Ready program.p.now program.types.now }
     requires fits { FunctionFits program.p.now d.now }
     requires light { function_weight program.p.now d.now ≤ 7780 }
+    requires covered { (vars : List VarDef) → AreCovered program.writes.now (expr_tree program.p.now vars) }
     ensures named { IfOk result (λ f. f.name ≡ d.now.pos) }
     ensures formed { IfOk result (λ f. function_fits program.entry.p.now d.now f ≡ true) }
     ensures costs { IfOk result (λ f. FunctionCosts (function_weight program.entry.p.now d.now) f) }
     ensures copies { IfOk result (λ f. function_copies f ≤ part_copies program.entry.p.now d.now.body) }
     ensures zeros { IfOk result ZeroesOnce }
+    ensures short { IfOk result (λ f. length f.code < 2 ^ 32) }
+    ensures is { IfOk result (λ f. Standing program.entry.p.now → (n : ℕ)
+        → slice_get program.entry.p.now.funs n ≡ Some d.now
+        → IsCodeOf program.entry.p.now (signatures program.entry.p.now) n d.now f) }
 {
     let mut out = Emitter::new(program.alloc);
     parameter_temps(program, d, &mut out)?;

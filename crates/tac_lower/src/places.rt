@@ -1,24 +1,34 @@
 //! Places, and struct and union values: their pointers.
 
-ghost use Rattle.std.specs.Prelude.{◌≡◌, ◌+◌, ◌-◌, ◌*◌, ◌<◌, ◌≤◌, false, IfOk, IfSome, Some};
+ghost use Rattle.std.specs.Prelude.{◌≡◌, ℕ, ◌+◌, ◌-◌, ◌*◌, ◌<◌, ◌≤◌, true, false, IfOk, IfSome, Some};
 ghost use Rattle.tac_ir.specs.declared.code.TacKind.TheVariants as kinds;
 ghost use Rattle.tac_lower.specs.declared.emitter.Emitter.{Emitter};
 ghost use Rattle.tac_lower.specs.Destinations.{TargetFits, DestinationFits};
 ghost use Rattle.tac_lower.specs.Emitted.{HasKind, Grown, Adds, HasRoom};
 ghost use Rattle.tac_lower.specs.Nodes.{weight_in, kind_in, IsTyped, AddressNode, HasOne, HasTwo, HasThree};
-ghost use Rattle.tac_lower.specs.Nodes.{AssignNode, ConditionalNode};
+ghost use Rattle.tac_lower.specs.Nodes.{AssignNode, ConditionalNode, VarNode};
 ghost use Rattle.c_tree.specs.Counts.{parts};
 ghost use Rattle.tac_lower.specs.Copied.{copies_in};
 ghost use Rattle.tac_lower.specs.Tables.{record_size};
+ghost use Rattle.tac_ir.specs.WellFormed.{units_fit};
+ghost use Rattle.cheri_c_sem.specs.Types.{unit_of};
 ghost use Rattle.tac_lower.specs.Spent.{Spent, Spends, SpendsValue, SpendsPlace, SpendsPointer, SpendsCopy, extra};
 ghost use Rattle.tac_lower.specs.Scenes.{Ready, Housed, Scene, Lowered, frame_of};
 ghost use Rattle.cheri_c_sem.specs.Order.{Ordered};
+ghost use Rattle.c_tree.specs.declared.typed.ExprKind.TheVariants as exprs;
+ghost use Rattle.tac_lower.specs.declared.writes.Written.{Written};
+ghost use Rattle.tac_lower.specs.Trees.{setting, target_as, IsNode, IsAddress, HasScalar, IsPlain, StandsAt};
+ghost use Rattle.tac_lower.specs.Trees.{ShowsValue, ShowsPointer, ShowsPlace, ShowsStruct, ShowsCopy, ShowsBase};
+ghost use Rattle.tac_lower.specs.Trees.{Reached, frame_in};
+ghost use Rattle.c_tree.specs.Types.{Ty};
+ghost use Rattle.c_tree.specs.Views.{IsOrdered};
+ghost use Rattle.lower_runs.specs.Expressions.{Within};
 
 use crate::conditions::{Jump, condition};
 use crate::context::Context;
 use crate::emitter::{Copied, Emitter};
 use crate::expressions::{effect, in_place, operand, value};
-use crate::types::{POINTER, TypeFacts, owned_length, unit_of};
+use crate::types::{POINTER, TypeFacts, owned_length};
 use crate::writes::Written;
 use c_tree::ExprKind;
 use ck_base::{NoMemory, Pos};
@@ -36,6 +46,7 @@ pub struct Destination {
 impl Destination {
     /// That of a value of a type, which has no more bytes than the type.
     fn limited(self, facts: TypeFacts) -> Destination
+        requires units { units_fit (record_size facts) (unit_of facts.align) ≡ true }
         ensures same { self.bytes ≤ record_size facts → result ≡ self }
         ensures fits { (e : Emitter) → DestinationFits e self → DestinationFits e result }
         ensures bytes { parts result.bytes ≤ parts self.bytes }
@@ -49,7 +60,7 @@ impl Destination {
             to: self.to,
             pos: self.pos,
             bytes: size,
-            unit: unit_of(size, facts.align),
+            unit: facts.unit(),
         }
     }
 }
@@ -71,6 +82,7 @@ impl Target {
         ensures grown { IfOk result (λ _. Grown out.old out.new) }
         ensures adds { IfOk result (λ _. Adds out.old out.new 1 0) }
         ensures spent { IfOk result (λ _. Spent out.old out.new 1 15) }
+        ensures is { IfOk result (λ t. Reached (target_as self) t out.old out.new) }
     {
         match self {
             Target::At(t) => Ok(t),
@@ -87,6 +99,7 @@ pub fn within(out: &mut Emitter, base: u32, offset: u64) -> Result<u32, NoMemory
     ensures grown { IfOk result (λ _. Grown out.old out.new) }
     ensures adds { IfOk result (λ _. Adds out.old out.new 1 0) }
     ensures spent { IfOk result (λ _. Spent out.old out.new 1 15) }
+    ensures is { IfOk result (λ t. Reached (Within base offset) t out.old out.new) }
 {
     if offset == 0 {
         return Ok(base);
@@ -103,6 +116,8 @@ fn variable_pointer(cx: Context, x: u32, to: u32, out: &mut Emitter) -> Result<(
     ensures lowered { IfOk result (λ _. Lowered cx.entry.p.now cx.entry.d.now cx.entry.types.now cx.entry.homes.now
         out.old out.new (0)) }
     ensures spent { IfOk result (λ _. Spent out.old out.new 0 6) }
+    ensures is { IfOk result (λ _. (k : ℕ) → IsNode cx.entry.p.now k (exprs.Var x) →
+        VarNode (frame_of cx.entry.p.now cx.entry.d.now) k x → ShowsPlace (setting cx.entry) k to out.old out.new) }
 {
     match cx.pointer_to_variable(x) {
         Some(t) => out.transfer(to, t),
@@ -116,8 +131,9 @@ fn base_in_place(cx: Context, k: u32) -> Option<u32>
     requires ordered { Ordered cx.p.now }
     requires ready { Ready cx.p.now cx.types.now }
     requires typed { IsTyped (frame_of cx.p.now cx.d.now) k }
-    ensures { (e : Emitter) → Housed cx.entry.p.now cx.entry.d.now cx.entry.homes.now e
+    ensures has { (e : Emitter) → Housed cx.entry.p.now cx.entry.d.now cx.entry.homes.now e
         → IfSome result (λ t. HasKind e t (kinds.Cap false)) }
+    ensures is { IfSome result (λ t. ShowsBase (setting cx.entry) k t) }
 {
     let Some(e) = cx.node(k) else {
         return None;
@@ -143,6 +159,7 @@ pub fn pointer(cx: Context, k: u32, later: Written, out: &mut Emitter) -> Result
     ensures spends { IfOk result (λ _. SpendsPointer cx.entry.fixed (weight_in cx.entry.p.now k)
         (copies_in cx.entry.p.now k)
         out.old out.new) }
+    ensures is { IfOk result (λ t. ShowsPointer (setting cx.entry) later k t out.old out.new) }
 {
     let Some(e) = cx.node(k) else {
         return fresh_place(cx, k, out);
@@ -173,6 +190,7 @@ fn fresh_place(cx: Context, k: u32, out: &mut Emitter) -> Result<u32, NoMemory>
     ensures spends { IfOk result (λ _. SpendsPointer cx.entry.fixed (weight_in cx.entry.p.now k)
         (copies_in cx.entry.p.now k)
         out.old out.new) }
+    ensures is { IfOk result (λ t. (later : Written) → ShowsPointer (setting cx.entry) later k t out.old out.new) }
 {
     let t = out.temp(POINTER)?;
     place(cx, k, t, out)?;
@@ -192,6 +210,7 @@ pub fn place(cx: Context, k: u32, to: u32, out: &mut Emitter) -> Result<(), NoMe
     ensures spends { IfOk result (λ _. SpendsPlace cx.entry.fixed (weight_in cx.entry.p.now k)
         (copies_in cx.entry.p.now k)
         out.old out.new) }
+    ensures is { IfOk result (λ _. ShowsPlace (setting cx.entry) k to out.old out.new) }
 {
     let Some(e) = cx.node(k) else {
         return out.constant(to, POINTER, 0);
@@ -242,6 +261,8 @@ fn place_behind(
     ensures spends { IfOk result (λ _. SpendsPlace cx.entry.fixed (weight_in cx.entry.p.now k)
         (copies_in cx.entry.p.now k)
         out.old out.new) }
+    ensures is { IfOk result (λ _. IsNode cx.entry.p.now k (exprs.Comma a b) →
+        ShowsPlace (setting cx.entry) k to out.old out.new) }
 {
     effect(cx, a, out)?;
     place(cx, b, to, out)
@@ -271,6 +292,8 @@ fn place_choice(
     ensures spends { IfOk result (λ _. SpendsPlace cx.entry.fixed (weight_in cx.entry.p.now k)
         (copies_in cx.entry.p.now k)
         out.old out.new) }
+    ensures is { IfOk result (λ _. HasScalar cx.entry.p.now c →
+        IsNode cx.entry.p.now k (exprs.Conditional c a b) → ShowsPlace (setting cx.entry) k to out.old out.new) }
 {
     let fork = out.fork();
     let jump = Jump {
@@ -298,6 +321,8 @@ fn member(cx: Context, k: u32, a: u32, m: u32, to: u32, out: &mut Emitter) -> Re
     ensures spends { IfOk result (λ _. SpendsPlace cx.entry.fixed (weight_in cx.entry.p.now k)
         (copies_in cx.entry.p.now k)
         out.old out.new) }
+    ensures is { IfOk result (λ _. IsNode cx.entry.p.now k (exprs.Member a m) →
+        ShowsPlace (setting cx.entry) k to out.old out.new) }
 {
     let offset = Amount::Number(cx.member_offset(a, m));
     match base_in_place(cx, a) {
@@ -324,6 +349,7 @@ pub fn address(cx: Context, k: u32, a: u32, to: u32, out: &mut Emitter) -> Resul
         (copies_in cx.entry.p.now k)
         (extra cx.entry.fixed (Some to))
         out.old out.new) }
+    ensures is { IfOk result (λ _. IsAddress cx.entry.p.now k a → ShowsValue (setting cx.entry) k to out.old out.new) }
 {
     place(cx, a, to, out)?;
     match cx.member_size(a) {
@@ -352,6 +378,8 @@ pub fn struct_assignment(
         out.old out.new (4 * weight_in cx.entry.p.now k - 1)) }
     ensures spends { IfOk result (λ _. Spends cx.entry.fixed out.old out.new (2 * weight_in cx.entry.p.now k - 2)
         (32 * weight_in cx.entry.p.now k - 32) (copies_in cx.entry.p.now k)) }
+    ensures is { IfOk result (λ t. IsNode cx.entry.p.now k (exprs.Assign a b) →
+        ShowsStruct (setting cx.entry) k t out.old out.new) }
 {
     let facts = cx.facts(k);
     let bytes = facts.record_size();
@@ -360,7 +388,7 @@ pub fn struct_assignment(
         to: Target::At(t),
         pos: place_pos(cx, a),
         bytes,
-        unit: unit_of(bytes, facts.align),
+        unit: facts.unit(),
     };
     struct_copy(cx, b, destination, out)?;
     Ok(t)
@@ -383,6 +411,8 @@ pub fn struct_copy(
         out.old out.new (4 * weight_in cx.entry.p.now k + 1)) }
     ensures spends { IfOk result (λ _. SpendsCopy cx.entry.fixed (weight_in cx.entry.p.now k)
         (parts destination.bytes + copies_in cx.entry.p.now k) out.old out.new) }
+    ensures is { IfOk result (λ _. ShowsCopy (setting cx.entry) (target_as destination.to) destination.pos
+        destination.bytes destination.unit k out.old out.new) }
 {
     let Some(e) = cx.node(k) else {
         return plain_copy(cx, k, destination, out);
@@ -424,6 +454,9 @@ fn chosen_copy(
         out.old out.new (4 * weight_in cx.entry.p.now k + 1)) }
     ensures spends { IfOk result (λ _. SpendsCopy cx.entry.fixed (weight_in cx.entry.p.now k)
         (parts destination.bytes + copies_in cx.entry.p.now k) out.old out.new) }
+    ensures is { IfOk result (λ _. IsNode cx.entry.p.now k (exprs.Conditional c a b) →
+        ShowsCopy (setting cx.entry) (target_as destination.to) destination.pos destination.bytes destination.unit k
+        out.old out.new) }
 {
     let fork = out.fork();
     let jump = Jump {
@@ -455,6 +488,9 @@ fn plain_copy(
         out.old out.new (4 * weight_in cx.entry.p.now k + 1)) }
     ensures spends { IfOk result (λ _. SpendsCopy cx.entry.fixed (weight_in cx.entry.p.now k)
         (parts destination.bytes + copies_in cx.entry.p.now k) out.old out.new) }
+    ensures is { IfOk result (λ _. IsPlain (setting cx.entry) k →
+        ShowsCopy (setting cx.entry) (target_as destination.to) destination.pos destination.bytes destination.unit k
+        out.old out.new) }
 {
     let from = pointer(cx, k, Written::Nothing, out)?;
     let to = destination.to.pointer(out)?;
@@ -472,11 +508,14 @@ fn plain_copy(
 #[tactic(auto, using(crate::proofs::Below::load, crate::proofs::Below::assign_left, crate::proofs::Below::comma_right))]
 pub fn place_pos(cx: Context, k: u32) -> Pos
     requires ordered { Ordered cx.p.now }
+    ensures { (t : Ty) → IsOrdered cx.entry.p.now → IsTyped (frame_in (setting cx.entry) t) k →
+        StandsAt (setting cx.entry) k result }
 {
     match cx.node(k) {
         None => Pos { line: 0, col: 0 },
         Some(e) => match e.kind {
-            ExprKind::Load(a) | ExprKind::Assign(a, _) => place_pos(cx, a),
+            ExprKind::Load(a) => place_pos(cx, a),
+            ExprKind::Assign(a, _) => place_pos(cx, a),
             ExprKind::Comma(_, b) => place_pos(cx, b),
             _ => e.pos,
         },

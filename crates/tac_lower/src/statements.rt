@@ -14,6 +14,15 @@ ghost use Rattle.tac_lower.specs.Scenes.{Scene, Lowered, frame_of};
 ghost use Rattle.tac_lower.specs.Spent.{Enters, Spent, Consumes, SpendsCopy, SpendsFlat, SpendsPart};
 ghost use Rattle.tac_lower.specs.Zeroed.{zeroed, zeroed_in, all_zeroed_in};
 ghost use Rattle.tac_lower.specs.Statements.{IsPart, AreParts, IsTypedIfAny, IsExit, AreExits, Begun, Behind};
+ghost use Rattle.std.specs.Prelude.{ℕ, ◌≡◌, Some, None};
+ghost use Rattle.c_tree.specs.declared.typed.StmtKind.TheVariants as stmts;
+ghost use Rattle.tac_ir.specs.declared.code.TacInstr.TheVariants as instr;
+ghost use Rattle.tac_lower.specs.Shown.{Emits, one};
+ghost use Rattle.tac_lower.specs.Trees.{setting, HasScalar};
+ghost use Rattle.tac_lower.specs.Stating.{routine, exits_as, IsStmt, ShowsStatement, ShowsStatements};
+ghost use Rattle.tac_lower.specs.Stating.{ShowsTest, ShowsStep, ShowsBehind, ShowsLoop, ShowsJump, ShowsEntered};
+ghost use Rattle.tac_lower.specs.Stating.{Points, ShowsBlock, ShowsInit};
+ghost use Rattle.lower_runs.specs.Statements.{Exits as Ways, in_loop};
 
 use crate::conditions::{Jump, condition};
 use crate::context::{Context, Home};
@@ -21,7 +30,6 @@ use crate::emitter::Emitter;
 use crate::expressions::{effect, operand, value};
 use crate::places::{Destination, Target, struct_copy, within};
 use crate::switches::compared_cases;
-use crate::types::unit_of;
 use crate::writes::Written;
 use c_tree::{StmtKind, SwitchLabel};
 use ck_base::{NoMemory, Pos};
@@ -41,6 +49,7 @@ fn enter_variable(cx: Context, x: u32, out: &mut Emitter) -> Result<(), NoMemory
         out.old out.new 0) }
     ensures spent { IfOk result (λ _. Enters out.old out.new 0 (19 * entered cx.entry.d.now (x ∷ [])) 0
         (zeroed cx.entry.d.now cx.entry.homes.now (x ∷ []))) }
+    ensures is { IfOk result (λ _. ShowsEntered (routine cx.entry) (x ∷ []) out.old out.new) }
 {
     if cx.is_parameter(x) {
         return Ok(());
@@ -60,6 +69,7 @@ fn enter(cx: Context, vars: &[u32], out: &mut Emitter) -> Result<(), NoMemory>
         out.old out.new 0) }
     ensures spent { IfOk result (λ _. Enters out.old out.new 0 (19 * entered cx.entry.d.now vars.now) 0
         (zeroed cx.entry.d.now cx.entry.homes.now vars.now)) }
+    ensures is { IfOk result (λ _. ShowsEntered (routine cx.entry) vars.now out.old out.new) }
 {
     for x in vars {
         enter_variable(cx, *x, out)?;
@@ -85,6 +95,8 @@ fn initialise_object(
         out.old out.new (4 * weight_in cx.entry.p.now a + 1)) }
     ensures spends { IfOk result (λ _. SpendsCopy cx.entry.fixed (weight_in cx.entry.p.now a)
         (copied_in cx.entry.p.now a + copies_in cx.entry.p.now a) out.old out.new) }
+    ensures is { IfOk result (λ _. (x n : ℕ) → Points (setting cx.entry) x n base →
+        ShowsInit (routine cx.entry) x offset a pos out.old out.new) }
 {
     let facts = cx.facts(a);
     if facts.record {
@@ -93,7 +105,7 @@ fn initialise_object(
             to: Target::Within(base, offset),
             pos,
             bytes,
-            unit: unit_of(bytes, facts.align),
+            unit: facts.unit(),
         };
         return struct_copy(cx, a, destination, out);
     }
@@ -120,6 +132,8 @@ fn initialise(
         out.old out.new (4 * weight_in cx.entry.p.now a + 1)) }
     ensures spends { IfOk result (λ _. SpendsCopy cx.entry.fixed (weight_in cx.entry.p.now a)
         (copied_in cx.entry.p.now a + copies_in cx.entry.p.now a) out.old out.new) }
+    ensures is { IfOk result (λ _. FunctionFits cx.entry.p.now cx.entry.d.now →
+        ShowsInit (routine cx.entry) x offset a pos out.old out.new) }
 {
     match cx.home(x) {
         None => effect(cx, a, out),
@@ -134,6 +148,7 @@ fn jump_out(out: &mut Emitter, to: Option<u32>) -> Result<(), NoMemory>
     ensures grown { IfOk result (λ _. Grown out.old out.new) }
     ensures adds { IfOk result (λ _. Adds out.old out.new 0 0) }
     ensures spent { IfOk result (λ _. Spent out.old out.new 0 1) }
+    ensures is { IfOk result (λ _. ShowsJump to out.old out.new) }
 {
     match to {
         None => Ok(()),
@@ -153,6 +168,8 @@ fn leave(cx: Context, k: u32, a: Option<u32>, out: &mut Emitter) -> Result<(), N
     ensures spends { IfOk result (λ _. SpendsFlat cx.entry.fixed (heft_in cx.entry.p.now k)
         (part_copies cx.entry.p.now k)
         out.old out.new) }
+    ensures is { IfOk result (λ _. (x : Ways) → IsStmt cx.entry.p.now k (stmts.Return a) →
+        ShowsStatement (routine cx.entry) k x out.old out.new) }
 {
     let Some(a) = a else {
         return out.leave(None);
@@ -209,6 +226,7 @@ fn test_loop(
     ensures spends { IfOk result (λ _. SpendsFlat cx.entry.fixed
         (or_none (weight_in cx.entry.p.now) test) (or_none (copies_in cx.entry.p.now) test)
         out.old out.new) }
+    ensures is { IfOk result (λ _. ShowsTest (routine cx.entry) test circle.end out.old out.new) }
 {
     match test {
         None => Ok(()),
@@ -233,6 +251,7 @@ fn step_loop(cx: Context, step: Option<u32>, out: &mut Emitter) -> Result<(), No
     ensures spends { IfOk result (λ _. SpendsFlat cx.entry.fixed
         (or_none (weight_in cx.entry.p.now) step) (or_none (copies_in cx.entry.p.now) step)
         out.old out.new) }
+    ensures is { IfOk result (λ _. ShowsStep (routine cx.entry) step out.old out.new) }
 {
     match step {
         None => Ok(()),
@@ -246,6 +265,8 @@ fn end_loop(out: &mut Emitter, circle: Circle) -> Result<(), NoMemory>
     ensures turned { IfOk result (λ _. Turned out.old out.new circle.end) }
     ensures adds { IfOk result (λ _. Adds out.old out.new 0 0) }
     ensures spent { IfOk result (λ _. Spent out.old out.new 0 1) }
+    ensures emits { IfOk result (λ _. Emits out.old out.new 0
+        (λ r. instr.Turn ∷ instr.Jump circle.top ∷ instr.Label circle.end ∷ r)) }
 {
     out.turn_back(circle.top)?;
     out.stand(circle.end)
@@ -266,6 +287,8 @@ fn loop_body(cx: Context, body: u32, circle: Circle, out: &mut Emitter) -> Resul
     ensures spends { IfOk result (λ _. SpendsPart cx.entry.fixed (heft_in cx.entry.p.now body)
         (part_copies cx.entry.p.now body) (entered_in cx.entry.p.now cx.entry.d.now body)
         (zeroed_in cx.entry.p.now cx.entry.d.now cx.entry.homes.now body) out.old out.new) }
+    ensures is { IfOk result (λ _. ShowsBehind (routine cx.entry) body
+        (in_loop circle.end circle.next) circle.next out.old out.new) }
 {
     let exits = Exits {
         break_to: Some(circle.end),
@@ -303,6 +326,7 @@ fn tested_loop(
         + 19 * entered_in cx.entry.p.now cx.entry.d.now body + 1)
         (or_none (copies_in cx.entry.p.now) test + or_none (copies_in cx.entry.p.now) step
         + part_copies cx.entry.p.now body) (zeroed_in cx.entry.p.now cx.entry.d.now cx.entry.homes.now body)) }
+    ensures is { IfOk result (λ _. ShowsLoop (routine cx.entry) test step body out.old out.new) }
 {
     let circle = begin_loop(out)?;
     test_loop(cx, test, circle, out)?;
@@ -328,6 +352,9 @@ fn repeated_loop(cx: Context, body: u32, test: u32, out: &mut Emitter) -> Result
         + 19 * entered_in cx.entry.p.now cx.entry.d.now body + 1)
         (copies_in cx.entry.p.now test + part_copies cx.entry.p.now body)
         (zeroed_in cx.entry.p.now cx.entry.d.now cx.entry.homes.now body)) }
+    ensures is { IfOk result (λ _. (k : ℕ) (x : Ways) → IsStmt cx.entry.p.now k (stmts.Do body test) →
+        HasScalar cx.entry.p.now test →
+        ShowsStatement (routine cx.entry) k x out.old out.new) }
 {
     let circle = begin_loop(out)?;
     loop_body(cx, body, circle, out)?;
@@ -369,6 +396,8 @@ fn choice(
         (copies_in cx.entry.p.now c + part_copies cx.entry.p.now a + part_copies cx.entry.p.now b)
         (λ v. zeroed_in cx.entry.p.now cx.entry.d.now cx.entry.homes.now a v
         + zeroed_in cx.entry.p.now cx.entry.d.now cx.entry.homes.now b v)) }
+    ensures is { IfOk result (λ _. IsStmt cx.entry.p.now k (stmts.If c a (Some b)) → HasScalar cx.entry.p.now c →
+        ShowsStatement (routine cx.entry) k (exits_as exits) out.old out.new) }
 {
     let fork = out.fork();
     let jump = Jump {
@@ -400,6 +429,8 @@ fn guarded(cx: Context, c: u32, a: u32, exits: Exits, out: &mut Emitter) -> Resu
         + 19 * entered_in cx.entry.p.now cx.entry.d.now a)
         (copies_in cx.entry.p.now c + part_copies cx.entry.p.now a)
         (zeroed_in cx.entry.p.now cx.entry.d.now cx.entry.homes.now a)) }
+    ensures is { IfOk result (λ _. (k : ℕ) → IsStmt cx.entry.p.now k (stmts.If c a None) → HasScalar cx.entry.p.now c →
+        ShowsStatement (routine cx.entry) k (exits_as exits) out.old out.new) }
 {
     let label = out.label();
     condition(cx, c, Jump { when: false, label }, out)?;
@@ -429,6 +460,7 @@ fn statements(
     ensures spends { IfOk result (λ _. SpendsPart cx.entry.fixed (hefts_in cx.entry.p.now body.now)
         (all_part_copies cx.entry.p.now body.now) (all_entered_in cx.entry.p.now cx.entry.d.now body.now)
         (all_zeroed_in cx.entry.p.now cx.entry.d.now cx.entry.homes.now body.now) out.old out.new) }
+    ensures is { IfOk result (λ _. ShowsStatements (routine cx.entry) body.now (exits_as exits) out.old out.new) }
 {
     for s in body {
         statement(cx, *s, exits, out)?;
@@ -461,6 +493,7 @@ fn block(
         (entered cx.entry.d.now vars.now + all_entered_in cx.entry.p.now cx.entry.d.now body.now)
         (λ v. zeroed cx.entry.d.now cx.entry.homes.now vars.now v
         + all_zeroed_in cx.entry.p.now cx.entry.d.now cx.entry.homes.now body.now v) out.old out.new) }
+    ensures is { IfOk result (λ _. ShowsBlock (routine cx.entry) vars.now body.now (exits_as exits) out.old out.new) }
 {
     enter(cx, vars, out)?;
     statements(cx, k, body, exits, out)
@@ -500,6 +533,8 @@ fn switch(
         (copies_in cx.entry.p.now on + all_part_copies cx.entry.p.now body.now)
         (λ v. zeroed cx.entry.d.now cx.entry.homes.now vars.now v
         + all_zeroed_in cx.entry.p.now cx.entry.d.now cx.entry.homes.now body.now v)) }
+    ensures is { IfOk result (λ _. IsStmt cx.entry.p.now k (stmts.Switch on vars.now labels.now body.now) →
+        HasScalar cx.entry.p.now on → ShowsStatement (routine cx.entry) k (exits_as exits) out.old out.new) }
 {
     let v = operand(cx, on, Written::Nothing, out)?;
     enter(cx, vars, out)?;
@@ -535,6 +570,7 @@ pub fn statement(cx: Context, k: u32, exits: Exits, out: &mut Emitter) -> Result
     ensures spends { IfOk result (λ _. SpendsPart cx.entry.fixed (heft_in cx.entry.p.now k)
         (part_copies cx.entry.p.now k) (entered_in cx.entry.p.now cx.entry.d.now k)
         (zeroed_in cx.entry.p.now cx.entry.d.now cx.entry.homes.now k) out.old out.new) }
+    ensures is { IfOk result (λ _. ShowsStatement (routine cx.entry) k (exits_as exits) out.old out.new) }
 {
     let Some(s) = cx.stmt(k) else {
         return Ok(());

@@ -1,10 +1,13 @@
 //! The labels of a `switch` (C11 6.8.4.2).
 
-ghost use Rattle.std.specs.Prelude.{◌≡◌, ◌+◌, ◌*◌, true, length, slice_get, IfOk};
+ghost use Rattle.std.specs.Prelude.{◌≡◌, ℕ, ◌+◌, ◌*◌, true, [], length, drop, slice_get, Some, IfOk};
+ghost use Rattle.lower_runs.specs.Statements.{kept_number};
 ghost use Rattle.tac_ir.specs.WellFormed.{constant_fits};
 ghost use Rattle.tac_lower.specs.Emitted.{HasKind, IsOpen, Grown, Adds, HasRoom};
 ghost use Rattle.tac_lower.specs.Scenes.{Scene, Opened};
 ghost use Rattle.tac_lower.specs.Spent.{Spent};
+ghost use Rattle.tac_lower.specs.Cases.{labels_as, compare_code, standing, Compared, StandAt, ShowsCases};
+ghost use Rattle.tac_lower.specs.Shown.{Emits};
 ghost use Rattle.tac_lower.specs.Statements.{labels_in, IsSwitched, StandUpTo};
 
 use crate::context::Context;
@@ -38,6 +41,7 @@ impl Cases {
     /// The labels from number `first` on that stand before statement `before` stand here: the number of the next one.
     pub fn stand_at(&self, first: usize, before: u32, out: &mut Emitter) -> Result<usize, NoMemory>
         ensures stand { IfOk result (λ at. StandUpTo (labels_in self.now) first at out.old out.new) }
+        ensures is { IfOk result (λ at. StandAt self.now.cases.items first before at out.old out.new) }
         ensures spent { IfOk result (λ _. Spent out.old out.new 0 0) }
     {
         let mut at = first;
@@ -55,6 +59,7 @@ impl Cases {
     pub fn stand_behind(&self, first: usize, out: &mut Emitter) -> Result<(), NoMemory>
         ensures stand { IfOk result (λ _. StandUpTo (labels_in self.now) first (length self.now.cases.items)
             out.old out.new) }
+        ensures is { IfOk result (λ _. Emits out.old out.new 0 (standing (drop first self.now.cases.items))) }
         ensures spent { IfOk result (λ _. Spent out.old out.new 0 0) }
     {
         let mut at = first;
@@ -77,7 +82,8 @@ struct Switched {
 
 /// A label's value as the kind of a `switch` keeps it (C11 6.8.4.2p5).
 fn kept(kind: TacKind, n: u64) -> u64
-    ensures { constant_fits kind result ≡ true }
+    ensures fits { constant_fits kind result ≡ true }
+    ensures is { result ≡ kept_number kind n }
 {
     match kind {
         TacKind::Int(k) => wrap(k, i128::from(n)),
@@ -93,6 +99,7 @@ fn comparison_temps(temp: u32, kind: TacKind, out: &mut Emitter) -> Result<Switc
     ensures grown { IfOk result (λ _. Grown out.old out.new) }
     ensures adds { IfOk result (λ _. Adds out.old out.new 2 0) }
     ensures spent { IfOk result (λ _. Spent out.old out.new 2 0) }
+    ensures is { IfOk result (λ s. (end : ℕ) → Compared [] kind temp end s end [] out.old out.new) }
 {
     let value = out.temp(kind)?;
     let answer = out.temp(INT)?;
@@ -111,6 +118,7 @@ fn compare(s: Switched, n: u64, label: u32, out: &mut Emitter) -> Result<(), NoM
     ensures grown { IfOk result (λ _. Grown out.old out.new) }
     ensures adds { IfOk result (λ _. Adds out.old out.new 0 0) }
     ensures spent { IfOk result (λ _. Spent out.old out.new 0 27) }
+    ensures emits { IfOk result (λ _. Emits out.old out.new 0 (compare_code s (Some n) label)) }
 {
     out.constant(s.value, s.kind, kept(s.kind, n))?;
     out.compare(CmpOp::Eq, s.kind, s.answer, s.temp, s.value)?;
@@ -129,6 +137,7 @@ fn compare_label(
     ensures grown { IfOk result (λ _. Grown out.old out.new) }
     ensures adds { IfOk result (λ _. Adds out.old out.new 0 0) }
     ensures spent { IfOk result (λ _. Spent out.old out.new 0 27) }
+    ensures emits { IfOk result (λ _. Emits out.old out.new 0 (compare_code s value label)) }
 {
     match value {
         None => Ok(()),
@@ -153,6 +162,7 @@ pub fn compared_cases(
     ensures opened { IfOk result (λ c. Opened cx.entry.p.now cx.entry.d.now cx.entry.types.now cx.entry.homes.now
         out.old out.new (labels_in c) (length labels.now + 2)) }
     ensures spent { IfOk result (λ _. Spent out.old out.new 2 (27 * length labels.now + 1)) }
+    ensures is { IfOk result (λ c. ShowsCases (labels_as labels.now) kind temp end c out.old out.new) }
 {
     let switched = comparison_temps(temp, kind, out)?;
     let mut cases = Vec::new(cx.alloc);

@@ -2,16 +2,22 @@
 
 ghost use Rattle.ck_int.specs.declared.kinds.IntKind.{IntKind};
 ghost use Rattle.tac_ir.specs.declared.code.TacKind.TheVariants as kinds;
-ghost use Rattle.std.specs.Prelude.{◌≡◌, true, Bool, List, IfOk, Some, None, MatchOption, slice_get};
+ghost use Rattle.std.specs.Prelude.{◌≡◌, ℕ, ◌+◌, ◌^◌, ◌<◌, ◌≤◌, Bool, List, Option, IfOk, Some, None, MatchOption};
+ghost use Rattle.std.specs.Prelude.{slice_get};
 ghost use Rattle.cheri_c_sem.specs.Compatible.{kind_number};
 ghost use Rattle.tac_ir.specs.Effects.{kind_of};
-ghost use Rattle.tac_ir.specs.WellFormed.{same_kind, units_fit};
+ghost use Rattle.tac_ir.specs.WellFormed.{same_kind};
 ghost use Rattle.tac_lower.specs.Emitted.{is_capability};
 ghost use Rattle.tac_lower.specs.Nodes.{or_int};
-ghost use Rattle.tac_lower.specs.Tables.{kept_by, target_by, given_by, record_size, FactsFit, TableFits};
+ghost use Rattle.tac_lower.specs.Tables.{kept_by, target_by, given_by, record_size, AreOwn, AreSmall, FactsFit};
+ghost use Rattle.tac_lower.specs.Tables.{HasLayout, TableFits};
 ghost use Rattle.cap_layout.specs.Kept.{AreLayoutsOf};
-ghost use Rattle.c_tree.specs.Counts.{is_record, size_of};
-ghost use Rattle.c_tree.specs.Layout.{extent};
+ghost use Rattle.cap_concentrate.specs.Rounding.{owned, rounded_up};
+ghost use Rattle.cap_layout.specs.Answers.{greatest_align};
+ghost use Rattle.cheri_c_sem.specs.Types.{is_record, offset_in, offset_or_zero, unit_of};
+ghost use Rattle.c_tree.specs.Layout.{Extent, bare, extent, members_of, no_members, offset_of_member, size_limit};
+ghost use Rattle.c_tree.specs.Layout.{struct_offset};
+ghost use Rattle.c_tree.specs.declared.typed.Member.{Member};
 ghost use Rattle.c_tree.specs.declared.typed.CType.{CType};
 
 use c_tree::{CType, Member, Typed};
@@ -47,6 +53,8 @@ pub struct TypeFacts {
     pub gives: Option<u32>,
     /// It is a struct or union.
     pub record: bool,
+    /// It has a size and an alignment.
+    pub complete: bool,
     pub size: u64,
     pub align: u64,
 }
@@ -58,6 +66,17 @@ impl TypeFacts {
     {
         if self.record { self.size } else { 0 }
     }
+
+    /// The length of a unit in which a struct or union is copied: at most 16 bytes, and at most its alignment.
+    pub fn unit(self) -> u8
+        ensures { result ≡ unit_of self.align }
+    {
+        if self.align < 16 {
+            self.align as u8
+        } else {
+            16
+        }
+    }
 }
 
 /// What is known of a number without a type.
@@ -66,6 +85,7 @@ pub const NO_FACTS: TypeFacts = TypeFacts {
     target: None,
     gives: None,
     record: false,
+    complete: false,
     size: 0,
     align: 1,
 };
@@ -105,73 +125,114 @@ fn is_record(c: &CType) -> bool
     matches!(c, CType::Struct(_, _) | CType::Union(_, _))
 }
 
-/// The members of a struct; none, where a type is another one.
-fn struct_members(types: &[CType], t: u32) -> &[Member] {
-    match bare(types, t) {
-        Some(CType::Struct(_, members)) => members.as_slice(),
+fn members_of(c: &CType) -> &[Member]
+    ensures among { (k : ℕ) (m : Member) → slice_get result.now k ≡ Some m
+        → slice_get (members_of (Some c.now)) k ≡ Some m }
+    ensures offset { (go : ℕ → Option Extent) (k : ℕ) → offset_or_zero (offset_of_member (Some c.now) go k)
+        ≡ offset_or_zero (struct_offset go result.now k no_members) }
+{
+    match c {
+        CType::Struct(_, members) => members.as_slice(),
         _ => &[],
     }
 }
 
-/// The least multiple of an alignment that is not below a number.
-fn aligned(end: u64, align: u64) -> u64 {
-    if align == 0 {
-        end
-    } else {
-        end.div_ceil(align).saturating_mul(align)
+/// The members of a struct; none, where a type is another one.
+fn struct_members(p: &Typed, t: u32) -> &[Member]
+    ensures offset { (k : ℕ) → offset_in p.now.types t k
+        ≡ offset_or_zero (struct_offset (extent p.now.types) result.now k no_members) }
+    ensures among { (k : ℕ) (m : Member) → slice_get result.now k ≡ Some m
+        → slice_get (members_of (bare p.now.types t)) k ≡ Some m }
+{
+    match bare(p.types.as_slice(), t) {
+        None => &[],
+        Some(c) => members_of(c),
     }
+}
+
+/// The least multiple of an alignment that is not below a number.
+fn aligned(end: u64, align: u64) -> u64
+    requires positive { 0 < align }
+    requires align { align ≤ greatest_align }
+    requires end { end ≤ 2 ^ 60 }
+    ensures is { result ≡ rounded_up end align }
+    ensures below { result < end + align }
+{
+    (end + (align - 1)) / align * align
 }
 
 /// Where a member of a struct or union begins (C11 6.7.2.1). In a struct it stands at the least multiple of its
 /// alignment, and of that with which bounds of its length are exact, that is not below the end of the member before it,
 /// which owns its padding; in a union at 0.
-pub fn member_offset(p: &Typed, table: &[TypeFacts], t: u32, member: u32) -> u64 {
+pub fn member_offset(p: &Typed, table: &[TypeFacts], t: u32, member: u32) -> u64
+    requires { TableFits p.now.types table.now }
+    ensures { AreSmall p.now.types t → result ≡ offset_in p.now.types t member }
+{
+    let members = struct_members(p, t);
     let mut end: u64 = 0;
     let mut left = member;
-    for m in struct_members(p.types.as_slice(), t) {
+    for m in members {
         let f = facts_at(table, m.of);
-        let own = owned(f.size.min(LIMIT));
+        if !f.complete {
+            return 0;
+        }
+        let own = owned(f.size);
         let start = aligned(end, f.align.max(own.align));
         if left == 0 {
             return start;
         }
         left -= 1;
-        end = start.saturating_add(own.length);
+        end = start + own.length;
     }
     0
 }
 
-/// The facts of a type that has a layout.
-fn facts_of(types: &[CType], t: u32, layout: Layout) -> TypeFacts
-    requires size { layout.size ≡ size_of (extent types.now t) }
-    ensures { FactsFit types.now t result }
+/// The layout of a type, if it has one.
+fn layout_of(layouts: &Layouts, p: &Typed, t: u32) -> Option<Layout>
+    requires { AreLayoutsOf p.now.types layouts.now }
+    ensures { HasLayout (extent p.now.types t) result }
 {
-    let Layout { size, align } = layout;
+    match layouts.layout(p, t) {
+        Ok(layout) => Some(layout),
+        Err(_) => None,
+    }
+}
+
+/// What a type is.
+fn own_facts(types: &[CType], t: u32) -> TypeFacts
+    ensures { AreOwn (bare types.now t) result }
+{
     match bare(types, t) {
-        None => TypeFacts {
-            size,
-            align,
-            ..NO_FACTS
-        },
+        None => NO_FACTS,
         Some(c) => TypeFacts {
             kind: kind_of(c),
             target: target_of(c),
             gives: gives_of(c),
             record: is_record(c),
-            size,
-            align,
+            ..NO_FACTS
         },
     }
 }
 
-/// The layout of a type; nothing, where it has none.
-fn layout_of(layouts: &Layouts, p: &Typed, t: u32) -> Layout
-    requires { AreLayoutsOf p.now.types layouts.now }
-    ensures { result.size ≡ size_of (extent p.now.types t) }
+/// The facts of a type, by its layout.
+fn facts_of(types: &[CType], t: u32, layout: Option<Layout>) -> TypeFacts
+    requires { HasLayout (extent types.now t) layout }
+    ensures { FactsFit types.now t result }
 {
-    match layouts.layout(p, t) {
-        Ok(layout) => layout,
-        Err(_) => Layout { size: 0, align: 1 },
+    let own = own_facts(types, t);
+    match layout {
+        None => TypeFacts {
+            complete: false,
+            size: 0,
+            align: 1,
+            ..own
+        },
+        Some(Layout { size, align }) => TypeFacts {
+            complete: true,
+            size,
+            align,
+            ..own
+        },
     }
 }
 
@@ -218,25 +279,10 @@ pub fn or_int(kind: Option<TacKind>) -> TacKind
 }
 
 /// What a member of so many bytes owns.
-pub fn owned_length(size: u64) -> u64 {
-    owned(size.min(LIMIT)).length
-}
-
-/// The length of a unit in which so many bytes are copied: at most 16 bytes, and at most their alignment.
-pub fn unit_of(size: u64, align: u64) -> u8
-    ensures { units_fit size result ≡ true }
+pub fn owned_length(size: u64) -> u64
+    ensures { size ≤ size_limit → result ≡ owned size }
 {
-    if align >= 16 && size % 16 == 0 {
-        16
-    } else if align >= 8 && size % 8 == 0 {
-        8
-    } else if align >= 4 && size % 4 == 0 {
-        4
-    } else if align >= 2 && size % 2 == 0 {
-        2
-    } else {
-        1
-    }
+    owned(size.min(LIMIT)).length
 }
 
 /// A kind is that of a capability.

@@ -1,6 +1,5 @@
 //! The homes of the temps of a program's functions.
-ghost use Rattle.std.specs.Prelude.{◌≡◌, ◌<◌, ◌^◌, ℕ, IsTrue, IfOk, Some, length, slice_get, vec_len};
-ghost use Rattle.tac_ir.specs.declared.code.TacFun.{TacFun as Function};
+ghost use Rattle.std.specs.Prelude.{◌≡◌, IfOk, length, vec_len};
 ghost use Rattle.typed_build.specs.Frames.{IsCountable, AreCountable, HasHomes, HaveHomes};
 
 use ck_base::NoMemory;
@@ -8,18 +7,6 @@ use reg_alloc::{Places, allocate};
 use std::alloc::Global;
 use tac_ir::{Tac, TacFun};
 use tac_live::{calls, intervals};
-
-/// Whether the instructions of each function can be counted in 32 bits.
-pub fn is_short(t: &Tac) -> bool
-    ensures { IsTrue result → (k : ℕ) (f : Function) → slice_get t.now.funs k ≡ Some f → length f.code < 2 ^ 32 }
-{
-    for f in t.funs.as_slice() {
-        if f.code.as_slice().len() > u32::MAX as usize {
-            return false;
-        }
-    }
-    true
-}
 
 /// The homes of a function's temps: by linear scan over their live intervals.
 fn homes_of(alloc: Global, f: &TacFun, temps: u32) -> Result<Places, NoMemory>

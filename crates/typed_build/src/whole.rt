@@ -14,7 +14,7 @@ ghost use Rattle.typed_build.specs.Frames.{HaveHomes};
 use crate::building::Built;
 use crate::counts::count_of;
 use crate::frames::frames_of;
-use crate::homes::{is_short, places_of};
+use crate::homes::places_of;
 use crate::written::{Selected, Written, write_program};
 use bounds_place::Sizes;
 use c_tree::Typed;
@@ -32,11 +32,7 @@ fn code_of(alloc: Global, p: &Typed) -> Result<Tac, NoMemory>
     requires light { weight p.now ≤ 7780 }
     ensures { IfOk result (IsCode p.now) }
 {
-    let code = lower(alloc, p)?;
-    if !is_short(&code) {
-        return Err(NoMemory);
-    }
-    Ok(code)
+    lower(alloc, p)
 }
 
 /// The frames and the machine code for three-address code and homes.

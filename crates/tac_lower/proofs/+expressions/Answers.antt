@@ -1,22 +1,28 @@
-use Rattle.std.proofs.Common.{◌≡◌, ℕ, ◌+◌, ◌-◌, ◌*◌, ◌<◌, ◌≤◌, Some, None, [], ◌∷◌, ◌++◌, map, length, take, get_or}
-use Rattle.std.proofs.Common.{true, false, refl, sym, ap, subst, ◌∙◌, arith, rules}
-use Rattle.std.proofs.lemmas.List.{take_more}
-use Rattle.std.proofs.lemmas.Option.{slice_get_within, slice_get-get_or}
-use Rattle.std.proofs.lemmas.Result.{IfOk-weaker}
 use Rattle.ck_int.specs.declared.kinds.IntKind.TheVariants as int
+use Rattle.tac_ir.specs.declared.code.LibOp.TheVariants as lib
+use Rattle.tac_ir.specs.declared.code.TacInstr.TheVariants as instr
+use Rattle.tac_ir.specs.declared.code.TacKind.TheVariants as kinds
+use Rattle.tac_lower.proofs.Below as below
+use Rattle.c_tree.specs.declared.typed.ExprKind.TheVariants as exprs
+use Rattle.cheri_c_sem.specs.Tree as sem
+use Rattle.tac_lower.proofs.+expressions.Goals as goal
+use Rattle.tac_lower.specs.declared.writes.Written.TheVariants as write
+use Rattle.tac_lower.specs.declared.calls.Service.TheVariants as called_services
+use Rattle.std.proofs.Common.{◌≡◌, ◌+◌, ◌<◌, Some, None, [], ◌∷◌, ◌++◌, map, length, take, get_or}
+use Rattle.std.proofs.Common.{true, false, refl, sym, ap, subst, ◌∙◌, arith, rules, drop, unwrap_or}
+use Rattle.std.proofs.lemmas.List.{take_more, append-nil, drop_all}
+use Rattle.std.proofs.lemmas.Option.{slice_get_within, slice_get-get_or, MatchOption-at_none}
+use Rattle.std.proofs.lemmas.Result.{IfOk-weaker}
 use Rattle.c_tree.specs.Counts.{parts}
 use Rattle.c_tree.specs.Types.{Function}
 use Rattle.cheri_c_sem.specs.Types.{is_shift}
 use Rattle.tac_ir.specs.WellFormed.{constant_fits}
-use Rattle.tac_ir.specs.declared.code.LibOp.TheVariants as lib
-use Rattle.tac_ir.specs.declared.code.TacInstr.TheVariants as instr
-use Rattle.tac_ir.specs.declared.code.TacKind.TheVariants as kinds
 use Rattle.tac_lower.specs.declared.conditions.Junction.{Junction}
 use Rattle.tac_lower.specs.Nodes.{expression, kind_in, or_int, HasTwo, TruthNode, UnaryNode, CallNode, LibraryNode}
+use Rattle.tac_lower.specs.Nodes.{IsScalar}
 use Rattle.tac_lower.specs.Scenes.{frame_of}
 use Rattle.tac_lower.specs.Services.{ServiceAsks}
-use Rattle.tac_lower.specs.Tables.{is_some}
-use Rattle.tac_lower.proofs.Below as below
+use Rattle.tac_lower.specs.Tables.{is_some, type_at, IsPointed}
 use Rattle.tac_lower.proofs.Called.{taken, call_lowered, call_value_lowered, service_lowered}
 use Rattle.tac_lower.proofs.Calling.{ArgumentsTo, kinds_count, weights_heavy, places_small, service_small}
 use Rattle.tac_lower.proofs.Calling.{arguments_none, arguments_more, argument_room, called_value, named_type}
@@ -27,14 +33,50 @@ use Rattle.tac_lower.proofs.Keeping.{change_as, not_node, unary_operand, pointer
 use Rattle.tac_lower.proofs.Keeping.{maybe_kept, maybe_kind, maybe_same, result_as, destination_kept}
 use Rattle.tac_lower.proofs.Keeping.{destination_opened, tail_pushed, tail_part}
 use Rattle.tac_lower.proofs.Services.{library_fits, exit_fits}
-use Rattle.tac_lower.proofs.Spending.{forked_spent, labelled_spent, spent_within, nothing, plainly, after, and, within}
-use Rattle.tac_lower.proofs.Spending.{extra_small, extra_none, in_fresh, in_own, owned, last, last_and, last_pushed}
-use Rattle.tac_lower.proofs.Spending.{last_fresh, last_given}
-use Rattle.tac_lower.proofs.Steps.{start, both, grew, at_most, still, as_kind, room, less_room, still_open, heavy, tail}
-use Rattle.tac_lower.proofs.Steps.{tail_grew, tail_stands, fork, label, opened, turned, first_open, second_open}
+use Rattle.tac_lower.proofs.Spending.{forked_spent, labelled_spent, nothing, plainly, after, and}
+use Rattle.tac_lower.proofs.Spending.{within, extra_small, extra_none, in_fresh, in_own, owned, last, last_and}
+use Rattle.tac_lower.proofs.Spending.{last_pushed, last_fresh, last_given}
+use Rattle.tac_lower.proofs.Steps.{start, both, grew, at_most, still, as_kind, room, less_room, still_open, heavy}
+use Rattle.tac_lower.proofs.Steps.{tail, tail_grew, tail_stands, fork, label, opened, turned, first_open, second_open}
 use Rattle.tac_lower.proofs.Steps.{others_open, opened_has, opened_room}
 use Rattle.tac_lower.proofs.Wells.{grown_then, kept}
-use Rattle.tac_lower.proofs.+expressions.Goals as goal
+use Rattle.tac_lower.proofs.Deriving.{operand_held, operand_made, operand_in_held, operand_in_there, pair_both}
+use Rattle.tac_lower.proofs.Deriving.{value_constant, value_no_node, value_no_value, value_integer, value_capability}
+use Rattle.tac_lower.proofs.Deriving.{value_comma, value_comparison, value_choice}
+use Rattle.tac_lower.proofs.Emitting.{one_emits}
+use Rattle.tac_lower.proofs.Reading.{value_signed, value_read, value_loaded, value_not}
+use Rattle.tac_lower.specs.Trees.{Signs, setting, HasScalar, IsNode, joined, ShowsArguments}
+use Rattle.tac_lower.proofs.Below.{load as below_load, member as below_member, comma_right as below_comma}
+use Rattle.tac_lower.proofs.Nodes.{loads, commas}
+use Rattle.lower_runs.specs.Expressions.{place_global, place_literal, place_function}
+use Rattle.tac_lower.proofs.Unplaced.{another, never_place, none_place}
+use Rattle.tac_lower.proofs.Structs.{plain_own, plain_none, copy_chosen, copy_comma, copy_plain, copy_read}
+use Rattle.tac_lower.proofs.Structs.{struct_assigned}
+use Rattle.tac_lower.proofs.Pointing.{value_pointer, value_part, no_place, place_comma, place_chosen, place_named}
+use Rattle.tac_lower.proofs.Pointing.{place_pointed, place_read, place_stored, place_part, place_part_made}
+use Rattle.tac_lower.proofs.Pointing.{pointer_held, pointer_read, pointer_object, pointer_made}
+use Rattle.tac_lower.proofs.Assigning.{given_is, points_there, value_distance, sum_first, sum_second, value_moved}
+use Rattle.tac_lower.proofs.Assigning.{value_moved_right, value_displaced, value_displaced_right}
+use Rattle.tac_lower.proofs.Assigned.{no_copies, assigns_record, assigned_plain, assigned_own, assigns_variable}
+use Rattle.tac_lower.proofs.Assigned.{assigns_object, compounds_variable, compounds_object, steps_are, steps_place}
+use Rattle.tac_lower.proofs.Junctions.{effect_choice, effect_guarded, place_effect_choice, effect_comma}
+use Rattle.tac_lower.proofs.Junctions.{place_effect_comma}
+use Rattle.tac_lower.proofs.Branching.{condition_branch, condition_constant, condition_no_node, condition_opposite}
+use Rattle.tac_lower.proofs.Branching.{condition_through, condition_around, value_truth, opposite_of}
+use Rattle.tac_lower.proofs.Converting.{value_dropped, value_kept, value_converted, none_is, effect_converted}
+use Rattle.tac_lower.proofs.Converting.{place_effect_converted}
+use Rattle.tac_lower.proofs.Effects.{effect_no_node, place_effect_no_node, effect_leaf, place_effect_leaf, leaf_of}
+use Rattle.tac_lower.proofs.Effects.{worked_of, worked_no_place, place_effect_never, effect_of_value, effect_changed}
+use Rattle.tac_lower.proofs.Effects.{effect_called, effect_deref, place_effect_deref, effect_member}
+use Rattle.tac_lower.proofs.Effects.{place_effect_member, effect_assigned, place_effect_assigned, effect_unread}
+use Rattle.tac_lower.proofs.Effects.{place_effect_unread, place_effect_read, effect_variable, effect_read}
+use Rattle.tac_lower.proofs.Wholes.{has_converted, has_compound, whole_load, whole_assign, both_weaker}
+use Rattle.tac_lower.proofs.Wholes.{is_node, has_worked}
+use Rattle.tac_lower.proofs.Valued.{place_of, never_value, value_changed, value_called}
+use Rattle.tac_lower.proofs.Passing.{ArgumentsSo, arguments_start, arguments_step, arguments_end, dropped}
+use Rattle.tac_lower.proofs.Callees.{call_named, call_by_value}
+use Rattle.tac_lower.proofs.Served.{is_served, call_served, has_length, intrinsic_serves, library_serves}
+use Rattle.tac_lower.specs.Callees.{service_as}
 
 pub conditions::condition-returns-in_default-clause-lowered :
     goal.conditions::condition-returns-in_default-clause-lowered
@@ -466,7 +508,7 @@ places::pointer-returns-in-Load-clause-spends t c =
 pub places::pointer-returns-in-Some-pointer_to_variable-clause-has :
     goal.places::pointer-returns-in-Some-pointer_to_variable-clause-has
 places::pointer-returns-in-Some-pointer_to_variable-clause-has t c =
-    c.in-Some-pointer_to_variable.ensures _ _ c.requires.scene.housed
+    c.in-Some-pointer_to_variable.ensures.has _ _ c.requires.scene.housed
 
 pub places::pointer-returns-in-Some-pointer_to_variable-clause-lowered :
     goal.places::pointer-returns-in-Some-pointer_to_variable-clause-lowered
@@ -1025,7 +1067,7 @@ places::place_choice-returns-clause-spends t c =
 
 pub places::member-offset-requires-clause-same : goal.places::member-offset-requires-clause-same
 places::member-offset-requires-clause-same t c =
-    two_pointers c.requires.to (c.in-Some.ensures _ c.requires.scene.housed)
+    two_pointers c.requires.to (c.in-Some.ensures.has _ c.requires.scene.housed)
 
 pub places::member-returns-in-Some-clause-lowered : goal.places::member-returns-in-Some-clause-lowered
 places::member-returns-in-Some-clause-lowered t c =
@@ -1178,7 +1220,11 @@ places::struct_assignment-struct_copy-requires t c = (
       (
         c.requires.node.operands.right,
         (
-          record { target = c.in_ok-t.ensures.has; units = c.unit_of.ensures },
+          record {
+            target = c.in_ok-t.ensures.has;
+            units = rw (c.record_size-bytes.ensures, c.unit.ensures)
+                (c.facts-facts.ensures.units c.requires.scene.ready);
+          },
           room c.requires.room c.in_ok-t.ensures.lowered (omega (arith, c.requires.node.operands.weight)),
         ),
       ),
@@ -1574,7 +1620,7 @@ calls::call-returns-in_ok-temps-in-Some-clause-lowered t c =
     tail_pushed _ c.call.result _ c.in_ok-temps-in-Some.ensures.lowered c.call.ensures.pushed
     (λ g. call_lowered _ _ _ _ _ _ c.in_ok-temps-in-Some.ensures.lowered.scene c.args.to c.in-Some.n
     c.in_ok-temps-in-Some.temps.items (map (kind_in c.args.cx.p.now) c.args.args.now) c.requires.node.result
-    c.requires.node.takes (c.in-Some.ensures _ _ c.requires.node.of) c.in_ok-temps-in-Some.ensures.kinds
+    c.requires.node.takes (c.in-Some.ensures.signed _ _ c.requires.node.of) c.in_ok-temps-in-Some.ensures.kinds
     (taken c.args.cx.p.now c.requires.node.takes c.args.args.now c.requires.node.fit)
     (result_as c.args.to _ _ c.in_ok-temps-in-Some.ensures.lowered c.requires.node.gives c.requires.to) g)
     (omega (arith, c.requires.node.weight))
@@ -1693,7 +1739,7 @@ calls::library-returns-in-Library-clause-lowered t c =
     (library_fits c.args.cx.p.now _ c.in-Library.op c.requires.node.service.takes c.requires.node.service.gives
     c.args.args.now _ c.args.to c.args.k (subst
     (λ z. ServiceAsks z c.requires.node.service.takes c.requires.node.service.gives) c.in-Library.is
-    (c.service_of.ensures c.requires.node.service c.requires.node.there)) c.requires.node.fit
+    (c.service_of.ensures.asks c.requires.node.service c.requires.node.there)) c.requires.node.fit
     c.requires.node.gives c.in_ok-temps.ensures.kinds
     (result_as c.args.to _ _ c.in_ok-temps.ensures.lowered refl c.requires.to)) g)
     (omega (arith, c.requires.node.weight))
@@ -1720,7 +1766,7 @@ calls::library-returns-in-Exit-clause-lowered t c =
     (λ g. service_lowered _ _ _ _ _ _ c.in_ok-temps.ensures.lowered.scene lib.Exit None _
     (exit_fits c.args.cx.p.now _ c.requires.node.service.takes c.requires.node.service.gives c.args.args.now _
     (subst (λ z. ServiceAsks z c.requires.node.service.takes c.requires.node.service.gives) c.in-Exit.is
-    (c.service_of.ensures c.requires.node.service c.requires.node.there)) c.requires.node.fit
+    (c.service_of.ensures.asks c.requires.node.service c.requires.node.there)) c.requires.node.fit
     c.in_ok-temps.ensures.kinds) g) (omega (arith, c.requires.node.weight))
 
 pub calls::library-returns-in-Exit-clause-spends : goal.calls::library-returns-in-Exit-clause-spends
@@ -1736,9 +1782,9 @@ calls::library-intrinsic_value-requires t c =
       fits = intrinsic_fits c.args.cx.p.now _ c.requires.node.service.takes c.requires.node.service.gives
           c.args.args.now c.in_ok-temps.temps.items c.args.k c.first_temp-a.result c.second_temp-b.result
           c.first_kind-kind.result c.requires.node.fit c.requires.node.gives c.in_ok-temps.ensures.kinds (cc)
-          (cc) c.first_kind-kind.ensures c.in-Intrinsic.i c.args.to
+          (cc) c.first_kind-kind.ensures.first c.in-Intrinsic.i c.args.to
           (subst (λ z. ServiceAsks z c.requires.node.service.takes c.requires.node.service.gives) c.in-Intrinsic.is
-          (c.service_of.ensures c.requires.node.service c.requires.node.there))
+          (c.service_of.ensures.asks c.requires.node.service c.requires.node.there))
           (result_as c.args.to _ _ c.in_ok-temps.ensures.lowered refl c.requires.to);
     }
 
@@ -1755,9 +1801,13 @@ calls::library-returns-in-Intrinsic-clause-spends t c =
     (omega (arith, c.requires.node.copies))
 
 pub calls::arguments-loop-a-init : goal.calls::arguments-loop-a-init
-calls::arguments-loop-a-init t c =
-    subst (λ z. ArgumentsTo c.args.cx.fixed c.args.cx.p.now c.args.cx.d.now c.args.cx.types.now c.args.cx.homes.now
-    c.args.out.now c.args.out.now [] z) (sym c.new-temps.ensures.items) (arguments_none c.requires.scene)
+calls::arguments-loop-a-init t c = (
+  subst (λ z. ArgumentsTo c.args.cx.fixed c.args.cx.p.now c.args.cx.d.now c.args.cx.types.now c.args.cx.homes.now
+      c.args.out.now c.args.out.now [] z) (sym c.new-temps.ensures.items) (arguments_none c.requires.scene),
+  subst (λ z. ArgumentsSo (setting c.args.cx) c.args.args.now c.args.out.now c.args.out.now c.args.args.now z
+      c.in_ok-behind.behind.items) (sym c.new-temps.ensures.items)
+      (arguments_start (setting c.args.cx) c.args.out.now c.in_ok-behind.ensures),
+)
 
 pub calls::arguments-operand-requires : goal.calls::arguments-operand-requires
 calls::arguments-operand-requires t c =
@@ -1767,29 +1817,39 @@ calls::arguments-operand-requires t c =
       (
         c.requires.ordered,
         (
-          c.loop-a.invariant.lowered.scene,
+          c.loop-a.invariant.0.lowered.scene,
           (
             c.requires.typed.each c.loop-a.a-index (get_or c.args.args.now c.loop-a.a-index 0)
                 (slice_get-get_or c.args.args.now c.loop-a.a-index 0 (omega arith)),
-            argument_room c.args.args.now c.loop-a.a-index 0 c.requires.room c.loop-a.invariant (omega arith),
+            argument_room c.args.args.now c.loop-a.a-index 0 c.requires.room c.loop-a.invariant.0 (omega arith),
           ),
         ),
       ),
     )
 
 pub calls::arguments-loop-a-preserved : goal.calls::arguments-loop-a-preserved
-calls::arguments-loop-a-preserved t c =
-    subst (λ z. ArgumentsTo c.args.cx.fixed c.args.cx.p.now c.args.cx.d.now c.args.cx.types.now c.args.cx.homes.now
-    c.args.out.now c.operand.new.out z c.push.new.self.items)
-    (sym (take_more c.args.args.now c.loop-a.a-index 0 (omega arith)))
-    (subst (λ z. ArgumentsTo c.args.cx.fixed c.args.cx.p.now c.args.cx.d.now c.args.cx.types.now c.args.cx.homes.now
-    c.args.out.now c.operand.new.out (take c.loop-a.a-index c.args.args.now
-    ++ get_or c.args.args.now c.loop-a.a-index 0 ∷ []) z) (sym c.in_ok-push.ensures.items)
-    (arguments_more (get_or c.args.args.now c.loop-a.a-index 0) _ c.loop-a.invariant c.in_ok-t.ensures.has
-    c.in_ok-t.ensures.lowered c.in_ok-t.ensures.spends))
+calls::arguments-loop-a-preserved t c = (
+  subst (λ z. ArgumentsTo c.args.cx.fixed c.args.cx.p.now c.args.cx.d.now c.args.cx.types.now c.args.cx.homes.now
+      c.args.out.now c.operand.new.out z c.push.new.self.items)
+      (sym (take_more c.args.args.now c.loop-a.a-index 0 (omega arith)))
+      (subst (λ z. ArgumentsTo c.args.cx.fixed c.args.cx.p.now c.args.cx.d.now c.args.cx.types.now c.args.cx.homes.now
+      c.args.out.now c.operand.new.out (take c.loop-a.a-index c.args.args.now
+      ++ get_or c.args.args.now c.loop-a.a-index 0 ∷ []) z) (sym c.in_ok-push.ensures.items)
+      (arguments_more (get_or c.args.args.now c.loop-a.a-index 0) _ c.loop-a.invariant.0 c.in_ok-t.ensures.has
+      c.in_ok-t.ensures.lowered c.in_ok-t.ensures.spends)),
+  let s = setting c.args.cx in
+      let all = c.args.args.now in
+      let left = subst (λ z. ArgumentsSo s all c.args.out.now c.loop-a.out z c.loop-a.temps.items c.loop-a.behind.items)
+      (dropped all c.loop-a.a-index 0 (omega arith)) c.loop-a.invariant.1 in
+      subst (λ z. ArgumentsSo s all c.args.out.now c.operand.new.out (drop (c.loop-a.a-index + 1) all) z
+      c.pop.new.self.items) (sym c.in_ok-push.ensures.items)
+      (arguments_step s left c.pop.ensures.items
+      (λ e. omega (arith, c.loop-a.behind.ok.0, (MatchOption-at_none _ _ e c.pop.ensures.cases).0))
+      (λ v e. c.unwrap_or-later.ensures ∙ ap (λ z. unwrap_or z write.Any) e) c.in_ok-t.ensures.is),
+)
 
 pub expressions::operand-returns-in-Some-clause-has : goal.expressions::operand-returns-in-Some-clause-has
-expressions::operand-returns-in-Some-clause-has t c = c.in-Some.ensures _ c.requires.scene.housed
+expressions::operand-returns-in-Some-clause-has t c = c.in-Some.ensures.has _ c.requires.scene.housed
 
 pub expressions::operand-returns-in-Some-clause-lowered : goal.expressions::operand-returns-in-Some-clause-lowered
 expressions::operand-returns-in-Some-clause-lowered t c = at_most (start c.requires.scene) (omega arith)
@@ -1845,7 +1905,7 @@ expressions::operand-returns-in_ok-value-in-None-clause-spends t c =
 
 pub expressions::operand_in-returns-in-Some-clause-holds : goal.expressions::operand_in-returns-in-Some-clause-holds
 expressions::operand_in-returns-in-Some-clause-holds t c =
-    as_kind (c.in-Some.ensures _ c.requires.scene.housed) (sym (c.kind-kind.ensures c.requires.scene.ready))
+    as_kind (c.in-Some.ensures.has _ c.requires.scene.housed) (sym (c.kind-kind.ensures c.requires.scene.ready))
 
 pub expressions::operand_in-returns-in-Some-clause-kind : goal.expressions::operand_in-returns-in-Some-clause-kind
 expressions::operand_in-returns-in-Some-clause-kind t c = c.kind-kind.ensures c.requires.scene.ready
@@ -2350,7 +2410,7 @@ expressions::value-call-requires t c =
                 subst (λ z. CallNode
                     (frame_of c.args.cx.p.now c.args.cx.d.now) c.args.k c.in-Call.f z) (sym c.as_slice.ensures)
                     (node_at c.args.cx.d.now c.requires.scene.ready c.requires.typed c.in-Some.ensures c.in-Call.is),
-                (c.asked.ensures _ c.requires.to, c.requires.room),
+                (c.asked.ensures.fits _ c.requires.to, c.requires.room),
               ),
             ),
           ),
@@ -2372,7 +2432,7 @@ expressions::value-library-requires t c = (
           subst (λ z. LibraryNode
               (frame_of c.args.cx.p.now c.args.cx.d.now) c.args.k c.in-Library.n z) (sym c.as_slice-in-Library.ensures)
               (node_at c.args.cx.d.now c.requires.scene.ready c.requires.typed c.in-Some.ensures c.in-Library.is),
-          (c.asked-in-Library.ensures _ c.requires.to, c.requires.room),
+          (c.asked-in-Library.ensures.fits _ c.requires.to, c.requires.room),
         ),
       ),
     ),
@@ -3709,7 +3769,7 @@ pub expressions::load-transfer-requires : goal.expressions::load-transfer-requir
 expressions::load-transfer-requires t c =
     record {
       same = two_values c.requires.to (as_kind
-          (c.in-Some.ensures _ c.requires.scene.ready c.requires.node.operands.operand c.requires.scene.housed)
+          (c.in-Some.ensures.has _ c.requires.scene.ready c.requires.node.operands.operand c.requires.scene.housed)
           (ap or_int c.requires.node.same));
     }
 
@@ -4265,7 +4325,7 @@ expressions::sum-pointer_first-requires t c = (
             c.requires.node.operands,
             (
               first_pointer _ _ _ _ c.requires.node
-                  (sym (c.pointed_size.ensures c.requires.scene.ready) ∙ ap is_some c.in-Some.is),
+                  (sym (c.pointed_size.ensures.is c.requires.scene.ready) ∙ ap is_some c.in-Some.is),
               (as_kind c.requires.to (scalar_kind c.requires.node.is), c.requires.room),
             ),
           ),
@@ -4290,7 +4350,7 @@ expressions::sum-pointer_second-requires t c = (
             c.requires.node.operands,
             (
               second_pointer _ _ _ _ c.requires.node
-                  (sym (c.pointed_size.ensures c.requires.scene.ready) ∙ ap is_some c.in-None.is),
+                  (sym (c.pointed_size.ensures.is c.requires.scene.ready) ∙ ap is_some c.in-None.is),
               (as_kind c.requires.to (scalar_kind c.requires.node.is), c.requires.room),
             ),
           ),
@@ -4599,7 +4659,7 @@ expressions::assignment-value-requires t c = (
       (
         c.requires.node.operands.right,
         (
-          as_kind (c.in-Some.ensures _ c.requires.scene.ready c.requires.node.operands.left
+          as_kind (c.in-Some.ensures.has _ c.requires.scene.ready c.requires.node.operands.left
               c.requires.scene.housed) ((ap or_int c.requires.node.left) ∙ sym (ap or_int c.requires.node.right)),
           less_room c.requires.room (omega (arith, c.requires.node.operands.weight)),
         ),
@@ -4613,7 +4673,7 @@ expressions::assignment-give-requires t c =
     record {
       same = maybe_same _ c.args.to _ _
           (maybe_kept _ c.args.to c.in_ok-value-in-Some.ensures.lowered c.requires.to)
-          (as_kind (still (c.in-Some.ensures _ c.requires.scene.ready c.requires.node.operands.left
+          (as_kind (still (c.in-Some.ensures.has _ c.requires.scene.ready c.requires.node.operands.left
           c.requires.scene.housed)
           c.in_ok-value-in-Some.ensures.lowered) (ap or_int c.requires.node.left));
     }
@@ -4795,12 +4855,12 @@ expressions::compound-changed-requires-clause-room t c =
 
 pub expressions::compound-changed-requires-clause-to : goal.expressions::compound-changed-requires-clause-to
 expressions::compound-changed-requires-clause-to t c =
-    as_kind (still (c.in-Some.ensures _ c.requires.scene.ready c.requires.node.left c.requires.scene.housed)
+    as_kind (still (c.in-Some.ensures.has _ c.requires.scene.ready c.requires.node.left c.requires.scene.housed)
     c.in_ok-y-in-Some.ensures.lowered) (sym (c.kind-kind.ensures c.requires.scene.ready))
 
 pub expressions::compound-changed-requires-clause-x : goal.expressions::compound-changed-requires-clause-x
 expressions::compound-changed-requires-clause-x t c =
-    as_kind (still (c.in-Some.ensures _ c.requires.scene.ready c.requires.node.left c.requires.scene.housed)
+    as_kind (still (c.in-Some.ensures.has _ c.requires.scene.ready c.requires.node.left c.requires.scene.housed)
     c.in_ok-y-in-Some.ensures.lowered) (sym (c.kind-kind.ensures c.requires.scene.ready))
 
 pub expressions::compound-changed-requires-clause-change : goal.expressions::compound-changed-requires-clause-change
@@ -4814,7 +4874,7 @@ expressions::compound-give-requires t c =
       same = maybe_same _ c.args.to _ _
           (maybe_kept _ c.args.to (grew c.in_ok-y-in-Some.ensures.lowered c.in_ok-changed-in-Some.ensures.grown
           c.in_ok-changed-in-Some.ensures.adds) c.requires.to)
-          (as_kind (still (c.in-Some.ensures _ c.requires.scene.ready c.requires.node.left c.requires.scene.housed)
+          (as_kind (still (c.in-Some.ensures.has _ c.requires.scene.ready c.requires.node.left c.requires.scene.housed)
           (grew c.in_ok-y-in-Some.ensures.lowered c.in_ok-changed-in-Some.ensures.grown
           c.in_ok-changed-in-Some.ensures.adds)) (ap or_int c.requires.left));
     }
@@ -4984,7 +5044,7 @@ expressions::compound-returns-in_ok-store-in-None-clause-spends t c =
 
 pub expressions::step-variable_step-requires-clause-v : goal.expressions::step-variable_step-requires-clause-v
 expressions::step-variable_step-requires-clause-v t c =
-    as_kind (c.in-Some.ensures _ c.requires.scene.ready c.requires.node.operands.operand c.requires.scene.housed)
+    as_kind (c.in-Some.ensures.has _ c.requires.scene.ready c.requires.node.operands.operand c.requires.scene.housed)
     (sym (c.kind-kind.ensures c.requires.scene.ready))
 
 pub expressions::step-variable_step-requires-clause-to : goal.expressions::step-variable_step-requires-clause-to
@@ -5112,3 +5172,1079 @@ pub expressions::value-returns-in-Library-clause-spends : goal.expressions::valu
 expressions::value-returns-in-Library-clause-spends t c =
     last _ _ _ _ c.library.result nothing c.library.ensures.spends (omega arith) (omega arith)
     (omega arith)
+
+pub expressions::operand-returns-in-Some-clause-is : goal.expressions::operand-returns-in-Some-clause-is
+expressions::operand-returns-in-Some-clause-is t c = operand_held _ _ c.in-Some.ensures.is
+
+pub expressions::operand-returns-in_ok-value-in-None-clause-is :
+    goal.expressions::operand-returns-in_ok-value-in-None-clause-is
+expressions::operand-returns-in_ok-value-in-None-clause-is t c =
+    operand_made _ _ c.in_ok-t-in-None.ensures.next c.in_ok-t-in-None.ensures.emits c.in_ok-value-in-None.ensures.is
+
+pub expressions::operand_in-returns-in-Some-clause-is : goal.expressions::operand_in-returns-in-Some-clause-is
+expressions::operand_in-returns-in-Some-clause-is t c = operand_in_held _ _ c.in-Some.ensures.is
+
+pub expressions::operand_in-returns-in_ok-value-in-None-clause-is :
+    goal.expressions::operand_in-returns-in_ok-value-in-None-clause-is
+expressions::operand_in-returns-in_ok-value-in-None-clause-is t c =
+    operand_in_there _ c.in_ok-value-in-None.ensures.is
+
+pub expressions::pair-returns-clause-is : goal.expressions::pair-returns-clause-is
+expressions::pair-returns-clause-is t c =
+    pair_both _ c.written.ensures c.in_ok-x.ensures.is c.in_ok-y.ensures.is
+
+pub expressions::value-returns-in_default-clause-is : goal.expressions::value-returns-in_default-clause-is
+expressions::value-returns-in_default-clause-is t c =
+    IfOk-weaker c.constant.result _ _ (λ r f. value_no_node _ c.requires.ordered c.requires.scene.ready.ordered
+    c.in_default.ensures f) c.constant.ensures.emits
+
+pub expressions::value-returns-in-Constant-clause-is : goal.expressions::value-returns-in-Constant-clause-is
+expressions::value-returns-in-Constant-clause-is t c =
+    let n = node_at c.args.cx.d.now c.requires.scene.ready c.requires.typed c.in-Some.ensures c.in-Constant.is in
+    let kind = c.kind-kind.ensures c.requires.scene.ready in
+    let fits = subst (λ z. constant_fits z c.in-Constant.n ≡ true) (sym (kind ∙ scalar_kind n.is)) n.fits in
+    IfOk-weaker c.constant-in-Constant.result _ _
+    (λ r f. value_constant _ c.requires.ordered c.requires.scene.ready.ordered
+    (record { node = _; there = c.in-Some.ensures; is = c.in-Constant.is }) kind fits (omega arith) f)
+    c.constant-in-Constant.ensures.emits
+
+pub expressions::value-returns-in-Int-clause-is : goal.expressions::value-returns-in-Int-clause-is
+expressions::value-returns-in-Int-clause-is t c = IfOk-weaker c.integer.result _ _
+    (λ r h. h (record { node = _; there = c.in-Some.ensures; is = c.in-Int.is })) c.integer.ensures.is
+
+pub expressions::integer-returns-clause-is : goal.expressions::integer-returns-clause-is
+expressions::integer-returns-clause-is t c =
+    IfOk-weaker c.whole.result _ _
+    (λ r f n. value_integer _ c.requires.ordered c.requires.scene.ready.ordered c.args.cx.d.now n c.requires.node
+    (λ z e. c.int_kind.ensures z (c.kind.ensures c.requires.scene.ready ∙ e)) c.in_ok-x.ensures.right_kind
+    c.in_ok-x.ensures.is f) c.whole.ensures.emits
+
+pub expressions::capability-returns-clause-is : goal.expressions::capability-returns-clause-is
+expressions::capability-returns-clause-is t c =
+    IfOk-weaker c.derived.result _ _
+    (λ r f n. value_capability _ c.requires.ordered c.requires.scene.ready.ordered c.args.cx.d.now n c.requires.node
+    (λ y e. c.is_signed-signed.ensures y (c.kind.ensures c.requires.scene.ready ∙ e)) c.in_ok-x.ensures.right_kind
+    c.in_ok-x.ensures.is f) c.derived.ensures.emits
+
+pub expressions::comma-returns-clause-is : goal.expressions::comma-returns-clause-is
+expressions::comma-returns-clause-is t c =
+    IfOk-weaker c.value.result _ _
+    (λ r h n. value_comma _ c.requires.ordered c.requires.scene.ready.ordered c.args.cx.d.now n c.requires.node
+    c.in_ok-effect.ensures.is h) c.value.ensures.is
+
+pub expressions::comparison-returns-clause-is : goal.expressions::comparison-returns-clause-is
+expressions::comparison-returns-clause-is t c =
+    IfOk-weaker c.compare.result _ _
+    (λ r f n. value_comparison _ c.requires.ordered c.requires.scene.ready.ordered c.args.cx.d.now n c.requires.node
+    c.in_ok-x.ensures.left_kind c.in_ok-x.ensures.is f) c.compare.ensures.emits
+
+pub expressions::choice-returns-clause-is : goal.expressions::choice-returns-clause-is
+expressions::choice-returns-clause-is t c =
+    IfOk-weaker c.join_fork.result _ _
+    (λ r f n. value_choice _ c.requires.ordered c.requires.scene.ready.ordered c.args.cx.d.now n c.requires.node
+    c.fork-fork.ensures.forked c.in_ok-condition.ensures.is c.in_ok-value.ensures.is c.in_ok-turn_fork.ensures.emits
+    c.in_ok-value-2.ensures.is (one_emits _ _ _ refl f)) c.join_fork.ensures.stands
+
+pub expressions::signed_value-returns-clause-is : goal.expressions::signed_value-returns-clause-is
+expressions::signed_value-returns-clause-is t c =
+    IfOk-weaker c.signed.result _ _
+    (λ r f op g n. value_signed _ c.requires.ordered c.requires.scene.ready.ordered c.args.cx.d.now op _ g n
+    c.requires.node
+    c.in_ok-x.ensures.kind c.in_ok-x.ensures.is f) c.signed.ensures.emits
+
+pub expressions::load-returns-in-Some-clause-is : goal.expressions::load-returns-in-Some-clause-is
+expressions::load-returns-in-Some-clause-is t c =
+    IfOk-weaker c.transfer.result _ _
+    (λ r f n. value_read _ c.requires.ordered c.requires.scene.ready.ordered c.args.cx.d.now refl n c.requires.node
+    (λ x m. node_at c.args.cx.d.now c.requires.scene.ready c.requires.node.operands.operand m.there m.is)
+    c.in-Some.ensures.stands f) c.transfer.ensures.emits
+
+pub expressions::load-returns-in_ok-from-in-None-clause-is : goal.expressions::load-returns-in_ok-from-in-None-clause-is
+expressions::load-returns-in_ok-from-in-None-clause-is t c =
+    IfOk-weaker c.load.result _ _
+    (λ r f n. value_loaded _ c.requires.ordered c.requires.scene.ready.ordered c.args.cx.d.now n c.requires.node
+    (c.kind.ensures c.requires.scene.ready) c.pos.ensures c.in-None.ensures.other c.in_ok-from-in-None.ensures.is f)
+    c.load.ensures.emits
+
+pub expressions::unary-returns-in_ok-x-in-LogicalNot-clause-is :
+    goal.expressions::unary-returns-in_ok-x-in-LogicalNot-clause-is
+expressions::unary-returns-in_ok-x-in-LogicalNot-clause-is t c =
+    let node = subst (λ z. UnaryNode (frame_of c.args.cx.p.now c.args.cx.d.now) c.args.k z c.args.a) c.in-LogicalNot.is
+    c.requires.node in
+    IfOk-weaker c.negated.result _ _
+    (λ r f n. value_not _ c.requires.ordered c.requires.scene.ready.ordered c.args.cx.d.now
+    (record { node = n.node; there = n.there; is = n.is ∙ ap (λ z. exprs.Unary z c.args.a) c.in-LogicalNot.is }) node
+    c.in_ok-x-in-LogicalNot.ensures.kind c.in_ok-x-in-LogicalNot.ensures.is f) c.negated.ensures.emits
+
+pub expressions::unary-returns-in-Plus-clause-is : goal.expressions::unary-returns-in-Plus-clause-is
+expressions::unary-returns-in-Plus-clause-is t c =
+    IfOk-weaker c.signed_value.result _ _
+    (λ r h. h c.args.op (subst (λ z. Signs z sem.Positive) (sym c.in-Plus.is) tt)) c.signed_value.ensures.is
+
+pub expressions::unary-returns-in-Minus-clause-is : goal.expressions::unary-returns-in-Minus-clause-is
+expressions::unary-returns-in-Minus-clause-is t c =
+    IfOk-weaker c.signed_value-in-Minus.result _ _
+    (λ r h. h c.args.op (subst (λ z. Signs z sem.Negative) (sym c.in-Minus.is) tt)) c.signed_value-in-Minus.ensures.is
+
+pub expressions::unary-returns-in-Complement-clause-is : goal.expressions::unary-returns-in-Complement-clause-is
+expressions::unary-returns-in-Complement-clause-is t c =
+    IfOk-weaker c.signed_value-in-Complement.result _ _
+    (λ r h. h c.args.op (subst (λ z. Signs z sem.Complement) (sym c.in-Complement.is) tt))
+    c.signed_value-in-Complement.ensures.is
+
+pub places::fresh_place-returns-clause-is : goal.places::fresh_place-returns-clause-is
+places::fresh_place-returns-clause-is t c = λ later.
+    pointer_made _ c.requires.ordered c.requires.scene.ready.ordered later c.in_ok-t.ensures.next
+    c.in_ok-t.ensures.emits c.in_ok-place.ensures.is
+
+pub places::pointer-returns-in-Deref-clause-is : goal.places::pointer-returns-in-Deref-clause-is
+places::pointer-returns-in-Deref-clause-is t c =
+    IfOk-weaker c.operand.result _ _
+    (λ v h. pointer_held _ c.requires.ordered c.requires.scene.ready.ordered c.args.cx.d.now c.args.later
+    (record { node = _; there = c.in-Some.ensures; is = c.in-Deref.is })
+    (node_at c.args.cx.d.now c.requires.scene.ready c.requires.typed c.in-Some.ensures c.in-Deref.is) h)
+    c.operand.ensures.is
+
+pub places::pointer-returns-in-Load-clause-is : goal.places::pointer-returns-in-Load-clause-is
+places::pointer-returns-in-Load-clause-is t c =
+    let n = node_at c.args.cx.d.now c.requires.scene.ready c.requires.typed c.in-Some.ensures c.in-Load.is in
+    IfOk-weaker c.pointer.result _ _
+    (λ v h. pointer_read _ c.requires.ordered c.requires.scene.ready.ordered _ c.args.later
+    (below_load c.args.cx.p.now c.args.k _ c.in-Load.a c.requires.ordered c.in-Some.ensures c.in-Load.is)
+    n.operands.operand
+    (loads (frame_of c.args.cx.p.now c.args.cx.d.now) c.requires.scene.ready.ordered c.args.k _ c.in-Some.ensures
+    c.requires.typed c.in-Load.a c.in-Load.is)
+    (record { node = _; there = c.in-Some.ensures; is = c.in-Load.is }) h) c.pointer.ensures.is
+
+pub places::pointer-returns-in-Some-pointer_to_variable-clause-is :
+    goal.places::pointer-returns-in-Some-pointer_to_variable-clause-is
+places::pointer-returns-in-Some-pointer_to_variable-clause-is t c =
+    pointer_object _ c.requires.ordered c.requires.scene.ready.ordered c.args.later _
+    (record { node = _; there = c.in-Some.ensures; is = c.in-Var.is }) c.in-Some-pointer_to_variable.ensures.stands.1
+
+pub places::member-returns-in-Some-clause-is : goal.places::member-returns-in-Some-clause-is
+places::member-returns-in-Some-clause-is t c =
+    IfOk-weaker c.offset.result _ _
+    (λ r f n. place_part _ c.requires.ordered c.requires.scene.ready.ordered n
+    c.member_offset.ensures c.in-Some.ensures.is f) c.offset.ensures.emits
+
+pub places::member-returns-in_ok-place-in-None-clause-is : goal.places::member-returns-in_ok-place-in-None-clause-is
+places::member-returns-in_ok-place-in-None-clause-is t c =
+    IfOk-weaker c.offset-in-None.result _ _
+    (λ r f n. place_part_made _ c.requires.ordered c.requires.scene.ready.ordered _ c.requires.node.operand n
+    c.member_offset.ensures c.in_ok-place-in-None.ensures.is f) c.offset-in-None.ensures.emits
+
+pub places::place-returns-in-Var-clause-is : goal.places::place-returns-in-Var-clause-is
+places::place-returns-in-Var-clause-is t c =
+    IfOk-weaker c.variable_pointer.result _ _
+    (λ r h. h _ (record { node = _; there = c.in-Some.ensures; is = c.in-Var.is })
+    (node_at c.args.cx.d.now c.requires.scene.ready c.requires.typed c.in-Some.ensures c.in-Var.is))
+    c.variable_pointer.ensures.is
+
+pub places::place-returns-in-Global-clause-is : goal.places::place-returns-in-Global-clause-is
+places::place-returns-in-Global-clause-is t c =
+    IfOk-weaker c.global.result _ _
+    (λ r h. place_named _ c.requires.ordered c.requires.scene.ready.ordered
+    (record { node = _; there = c.in-Some.ensures; is = c.in-Global.is })
+    (λ g kinds m. place_global) (one_emits _ _ _ refl h)) c.global.ensures.pushed
+
+pub places::place-returns-in-Literal-clause-is : goal.places::place-returns-in-Literal-clause-is
+places::place-returns-in-Literal-clause-is t c =
+    IfOk-weaker c.global-in-Literal.result _ _
+    (λ r h. place_named _ c.requires.ordered c.requires.scene.ready.ordered
+    (record { node = _; there = c.in-Some.ensures; is = c.in-Literal.is })
+    (λ g kinds m. place_literal) (one_emits _ _ _ refl h)) c.global-in-Literal.ensures.pushed
+
+pub places::place-returns-in-Fun-clause-is : goal.places::place-returns-in-Fun-clause-is
+places::place-returns-in-Fun-clause-is t c =
+    IfOk-weaker c.function.result _ _
+    (λ r h. place_named _ c.requires.ordered c.requires.scene.ready.ordered
+    (record { node = _; there = c.in-Some.ensures; is = c.in-Fun.is })
+    (λ g kinds m. place_function) (one_emits _ _ _ refl h)) c.function.ensures.pushed
+
+pub places::place-returns-in-Deref-clause-is : goal.places::place-returns-in-Deref-clause-is
+places::place-returns-in-Deref-clause-is t c =
+    IfOk-weaker c.value.result _ _
+    (λ r h. place_pointed _ c.requires.ordered c.requires.scene.ready.ordered c.args.cx.d.now
+    (record { node = _; there = c.in-Some.ensures; is = c.in-Deref.is })
+    (node_at c.args.cx.d.now c.requires.scene.ready c.requires.typed c.in-Some.ensures c.in-Deref.is) h)
+    c.value.ensures.is
+
+pub places::place-returns-in-Load-clause-is : goal.places::place-returns-in-Load-clause-is
+places::place-returns-in-Load-clause-is t c =
+    let n = node_at c.args.cx.d.now c.requires.scene.ready c.requires.typed c.in-Some.ensures c.in-Load.is in
+    IfOk-weaker c.place.result _ _
+    (λ v h. place_read _ c.requires.ordered c.requires.scene.ready.ordered _
+    (below_load c.args.cx.p.now c.args.k _ c.in-Load.a c.requires.ordered c.in-Some.ensures c.in-Load.is)
+    n.operands.operand
+    (loads (frame_of c.args.cx.p.now c.args.cx.d.now) c.requires.scene.ready.ordered c.args.k _ c.in-Some.ensures
+    c.requires.typed c.in-Load.a c.in-Load.is)
+    (record { node = _; there = c.in-Some.ensures; is = c.in-Load.is }) h) c.place.ensures.is
+
+pub places::place-returns-in-Conditional-clause-is : goal.places::place-returns-in-Conditional-clause-is
+places::place-returns-in-Conditional-clause-is t c =
+    let n = node_at c.args.cx.d.now c.requires.scene.ready c.requires.typed c.in-Some.ensures c.in-Conditional.is in
+    IfOk-weaker c.place_choice.result _ _
+    (λ r h. h (record { kind = n.kind; is = n.test })
+    (record { node = _; there = c.in-Some.ensures; is = c.in-Conditional.is })) c.place_choice.ensures.is
+
+pub places::place-returns-in_ok-t-in-Assign-clause-is : goal.places::place-returns-in_ok-t-in-Assign-clause-is
+places::place-returns-in_ok-t-in-Assign-clause-is t c =
+    IfOk-weaker c.transfer.result _ _
+    (λ r f. place_stored _ c.requires.ordered c.requires.scene.ready.ordered
+    (c.in_ok-t-in-Assign.ensures.is (record { node = _; there = c.in-Some.ensures; is = c.in-Assign.is })) f)
+    c.transfer.ensures.emits
+
+pub places::place-returns-in_default-clause-is : goal.places::place-returns-in_default-clause-is
+places::place-returns-in_default-clause-is t c =
+    IfOk-weaker c.constant.result _ _
+    (λ r f. no_place _ c.requires.ordered c.requires.scene.ready.ordered
+    (none_place (setting c.args.cx) c.requires.ordered c.requires.scene.ready.ordered c.args.k c.in_default.ensures) f)
+    c.constant.ensures.emits
+
+pub places::place-returns-in_default-kind-clause-is : goal.places::place-returns-in_default-kind-clause-is
+places::place-returns-in_default-kind-clause-is t c =
+    let s = setting c.args.cx in
+    let r = c.requires.scene.ready.ordered in
+    let i = c.in_default-kind in
+    let other = another s c.requires.ordered r c.in-Some.e.now.kind i.not-Literal i.not-Var i.not-Global i.not-Fun
+    i.not-Load i.not-Deref i.not-Member i.not-Conditional i.not-Comma i.not-Assign in
+    IfOk-weaker c.constant-in_default-kind.result _ _
+    (λ r f. no_place _ c.requires.ordered c.requires.scene.ready.ordered
+    (never_place s c.requires.ordered c.requires.scene.ready.ordered _ c.in-Some.e.now.kind
+    c.requires.typed (record { node = _; there = c.in-Some.ensures; is = refl }) other) f)
+    c.constant-in_default-kind.ensures.emits
+
+pub places::place_behind-returns-clause-is : goal.places::place_behind-returns-clause-is
+places::place_behind-returns-clause-is t c =
+    IfOk-weaker c.place.result _ _
+    (λ r h n. place_comma _ c.requires.ordered c.requires.scene.ready.ordered _ c.requires.node.right n
+    c.in_ok-effect.ensures.is h) c.place.ensures.is
+
+pub places::place_choice-returns-clause-is : goal.places::place_choice-returns-clause-is
+places::place_choice-returns-clause-is t c =
+    IfOk-weaker c.join_fork.result _ _
+    (λ r f scalar n. place_chosen _ c.requires.ordered c.requires.scene.ready.ordered _ c.requires.node.second
+    c.requires.node.third n scalar c.fork-fork.ensures.forked c.in_ok-condition.ensures.is c.in_ok-place.ensures.is
+    c.in_ok-turn_fork.ensures.emits c.in_ok-place-2.ensures.is (one_emits _ _ _ refl f)) c.join_fork.ensures.stands
+
+pub places::address-returns-in-None-clause-is : goal.places::address-returns-in-None-clause-is
+places::address-returns-in-None-clause-is t c = λ at.
+    value_pointer _ c.requires.ordered c.requires.scene.ready.ordered c.args.cx.d.now c.requires.node
+    (c.in-None.ensures c.args.cx.d.now.vars c.requires.scene.ready) at c.in_ok-place.ensures.is
+
+pub places::address-returns-in-Some-clause-is : goal.places::address-returns-in-Some-clause-is
+places::address-returns-in-Some-clause-is t c =
+    IfOk-weaker c.narrow.result _ _
+    (λ r f at. value_part _ c.requires.ordered c.requires.scene.ready.ordered c.args.cx.d.now _ c.requires.node
+    c.requires.node.operands.operand (c.in-Some.ensures c.args.cx.d.now.vars c.requires.scene.ready)
+    c.owned_length.ensures at c.in_ok-place.ensures.is f) c.narrow.ensures.emits
+
+pub places::struct_assignment-returns-clause-is : goal.places::struct_assignment-returns-clause-is
+places::struct_assignment-returns-clause-is t c = λ n.
+    struct_assigned _ c.requires.ordered c.requires.scene.ready.ordered c.args.cx.d.now _ c.requires.a_before
+    c.requires.b_before c.requires.node.operands.left c.requires.node.operands.right c.requires.node
+    (λ e there. c.facts-facts.ensures.fits e c.requires.scene.ready there) c.record_size-bytes.ensures c.unit.ensures
+    c.written.ensures
+    (c.place_pos.ensures _ c.requires.scene.ready.ordered c.requires.node.operands.left) n c.in_ok-t.ensures.is
+    c.in_ok-struct_copy.ensures.is
+
+pub places::chosen_copy-returns-clause-is : goal.places::chosen_copy-returns-clause-is
+places::chosen_copy-returns-clause-is t c =
+    IfOk-weaker c.join_fork.result _ _
+    (λ r f n. copy_chosen _ c.requires.ordered c.requires.scene.ready.ordered c.args.cx.d.now c.requires.a_before
+    c.requires.b_before c.requires.node (λ e there. c.facts.ensures.fits e c.requires.scene.ready there)
+    c.limited-chosen.ensures.same n c.fork-fork.ensures.forked c.in_ok-condition.ensures.is
+    c.in_ok-struct_copy.ensures.is
+    c.in_ok-turn_fork.ensures.emits c.in_ok-struct_copy-2.ensures.is (one_emits _ _ _ refl f))
+    c.join_fork.ensures.stands
+
+pub places::plain_copy-returns-clause-is : goal.places::plain_copy-returns-clause-is
+places::plain_copy-returns-clause-is t c =
+    IfOk-weaker c.copy_units.result _ _
+    (λ r f plain. copy_plain _ c.requires.ordered c.requires.scene.ready.ordered _ c.requires.typed
+    (c.place_pos.ensures _ c.requires.scene.ready.ordered c.requires.typed) plain c.in_ok-from.ensures.is
+    c.in_ok-to.ensures.is f) c.copy_units.ensures.emits
+
+pub places::struct_copy-returns-in_default-clause-is : goal.places::struct_copy-returns-in_default-clause-is
+places::struct_copy-returns-in_default-clause-is t c =
+    IfOk-weaker c.plain_copy.result _ _
+    (λ r h. h (plain_none (setting c.args.cx) c.requires.ordered c.requires.scene.ready.ordered c.args.k
+    c.in_default.ensures)) c.plain_copy.ensures.is
+
+pub places::struct_copy-returns-in-Conditional-clause-is : goal.places::struct_copy-returns-in-Conditional-clause-is
+places::struct_copy-returns-in-Conditional-clause-is t c =
+    IfOk-weaker c.chosen_copy.result _ _
+    (λ r h. h (record { node = _; there = c.in-Some.ensures; is = c.in-Conditional.is })) c.chosen_copy.ensures.is
+
+pub places::struct_copy-returns-in_ok-effect-in-Comma-clause-is :
+    goal.places::struct_copy-returns-in_ok-effect-in-Comma-clause-is
+places::struct_copy-returns-in_ok-effect-in-Comma-clause-is t c =
+    IfOk-weaker c.struct_copy.result _ _
+    (λ r h. copy_comma _ c.requires.ordered c.requires.scene.ready.ordered
+    (below_comma c.args.cx.p.now c.args.k _ _ c.in-Comma.b c.requires.ordered c.in-Some.ensures c.in-Comma.is)
+    (commas (frame_of c.args.cx.p.now c.args.cx.d.now) c.requires.scene.ready.ordered c.args.k _ c.in-Some.ensures
+    c.requires.typed _ c.in-Comma.b c.in-Comma.is)
+    (record { node = _; there = c.in-Some.ensures; is = c.in-Comma.is }) c.in_ok-effect-in-Comma.ensures.is h)
+    c.struct_copy.ensures.is
+
+pub places::struct_copy-returns-in-Load-clause-is : goal.places::struct_copy-returns-in-Load-clause-is
+places::struct_copy-returns-in-Load-clause-is t c =
+    IfOk-weaker c.struct_copy-in-Load.result _ _
+    (λ r h. copy_read _ c.requires.ordered c.requires.scene.ready.ordered
+    (below_load c.args.cx.p.now c.args.k _ c.in-Load.a c.requires.ordered c.in-Some.ensures c.in-Load.is)
+    (loads (frame_of c.args.cx.p.now c.args.cx.d.now) c.requires.scene.ready.ordered c.args.k _ c.in-Some.ensures
+    c.requires.typed c.in-Load.a c.in-Load.is)
+    (record { node = _; there = c.in-Some.ensures; is = c.in-Load.is }) h) c.struct_copy-in-Load.ensures.is
+
+pub places::struct_copy-returns-in_default-kind-clause-is : goal.places::struct_copy-returns-in_default-kind-clause-is
+places::struct_copy-returns-in_default-kind-clause-is t c =
+    IfOk-weaker c.plain_copy-in_default-kind.result _ _
+    (λ r h. h (plain_own (setting c.args.cx) c.requires.ordered c.requires.scene.ready.ordered _
+    c.in-Some.e.now.kind c.requires.typed (record { node = _; there = c.in-Some.ensures; is = refl })
+    c.in_default-kind.not-Conditional c.in_default-kind.not-Comma c.in_default-kind.not-Load))
+    c.plain_copy-in_default-kind.ensures.is
+
+pub expressions::distance-returns-clause-is : goal.expressions::distance-returns-clause-is
+expressions::distance-returns-clause-is t c =
+    let ready = c.requires.scene.ready in
+    IfOk-weaker c.difference.result _ _
+    (λ r f n. value_distance _ c.requires.ordered ready.ordered c.args.cx.d.now n c.requires.node
+    (subst (IsPointed c.args.cx.p.now.types (type_at c.args.cx.p.now c.args.a)) (sym c.unwrap_or-size.ensures)
+    (given_is _ c.pointed_size.result 0 (c.pointed_size.ensures.is ready ∙ points_there c.requires.node.pointed)
+    (c.pointed_size.ensures.size ready))) c.in_ok-x.ensures.is f) c.difference.ensures.emits
+
+pub expressions::displaced-returns-clause-is : goal.expressions::displaced-returns-clause-is
+expressions::displaced-returns-clause-is t c =
+    IfOk-weaker c.offset.result _ _
+    (λ r f. record { middle = _; base = _; operand = c.in_ok-base.ensures.is; moved = f }) c.offset.ensures.emits
+
+pub expressions::sum-returns-in-Some-clause-is : goal.expressions::sum-returns-in-Some-clause-is
+expressions::sum-returns-in-Some-clause-is t c =
+    let ready = c.requires.scene.ready in
+    let points = sym (c.in-Some.ensures.is ready) in
+    IfOk-weaker c.pointer_first.result _ _
+    (λ r h n. h (sum_first _ c.requires.ordered ready.ordered c.args.cx.d.now n c.requires.node
+    (first_pointer _ _ _ _ c.requires.node points) points (c.in-Some.ensures.size ready) c.stride.ensures))
+    c.pointer_first.ensures.is
+
+pub expressions::sum-returns-in-None-clause-is : goal.expressions::sum-returns-in-None-clause-is
+expressions::sum-returns-in-None-clause-is t c =
+    let ready = c.requires.scene.ready in
+    let points = sym (c.in-None.ensures.is ready) in
+    IfOk-weaker c.pointer_second.result _ _
+    (λ r h n. h (sum_second _ c.requires.ordered ready.ordered c.args.cx.d.now n c.requires.node points
+    (subst (IsPointed c.args.cx.p.now.types (type_at c.args.cx.p.now c.args.b)) (sym c.unwrap_or-size.ensures)
+    (given_is _ c.pointed_size-in-None.result 0 (c.pointed_size-in-None.ensures.is ready
+    ∙ points_there (c.requires.node.indexes points).0) (c.pointed_size-in-None.ensures.size ready)))
+    c.stride-in-None.ensures))
+    c.pointer_second.ensures.is
+
+pub expressions::assigned-returns-in-None-clause-is : goal.expressions::assigned-returns-in-None-clause-is
+expressions::assigned-returns-in-None-clause-is t c =
+    IfOk-weaker c.operand.result _ _ (λ r h. assigned_plain _ c.in-None.is h) c.operand.ensures.is
+
+pub expressions::assigned-returns-in_ok-value-in-Some-clause-is :
+    goal.expressions::assigned-returns-in_ok-value-in-Some-clause-is
+expressions::assigned-returns-in_ok-value-in-Some-clause-is t c =
+    assigned_own _ c.in-Some.is c.in_ok-v-in-Some.ensures.is c.in_ok-value-in-Some.ensures.is
+
+pub expressions::object_assignment-returns-clause-is : goal.expressions::object_assignment-returns-clause-is
+expressions::object_assignment-returns-clause-is t c =
+    let ready = c.requires.scene.ready in
+    IfOk-weaker c.give.result _ _
+    (λ r f there n. assigns_object _ c.requires.ordered ready.ordered c.args.cx.d.now c.args.to n c.requires.node
+    c.written.ensures (c.kind-kind.ensures ready) c.pos.ensures there c.in_ok-at.ensures.is c.in_ok-v.ensures.is
+    c.in_ok-store.ensures.emits f) c.give.ensures.emits
+
+pub expressions::compound-returns-in_ok-changed-in-Some-clause-is :
+    goal.expressions::compound-returns-in_ok-changed-in-Some-clause-is
+expressions::compound-returns-in_ok-changed-in-Some-clause-is t c =
+    let ready = c.requires.scene.ready in
+    IfOk-weaker c.give.result _ _
+    (λ r f op of n node by. compounds_variable _ c.requires.ordered ready.ordered c.args.cx.d.now n node by
+    c.args.to refl (λ x m. node_at c.args.cx.d.now ready c.requires.node.left m.there m.is) c.in-Some.ensures.stands
+    (c.kind-kind.ensures ready) c.in_ok-y-in-Some.ensures.kind c.in_ok-y-in-Some.ensures.is
+    c.in_ok-changed-in-Some.ensures.emits f) c.give.ensures.emits
+
+pub expressions::compound-returns-in_ok-store-in-None-clause-is :
+    goal.expressions::compound-returns-in_ok-store-in-None-clause-is
+expressions::compound-returns-in_ok-store-in-None-clause-is t c =
+    let ready = c.requires.scene.ready in
+    IfOk-weaker c.give-in-None.result _ _
+    (λ r f op of n node by. compounds_object _ c.requires.ordered ready.ordered c.args.cx.d.now n node by c.args.to
+    c.written.ensures (c.kind-kind.ensures ready) c.in_ok-y-in-None.ensures.kind c.pos.ensures
+    c.pos-in-None.ensures c.in-None.ensures.other c.in_ok-at-in-None.ensures.is c.in_ok-y-in-None.ensures.is
+    c.in_ok-temp-in-None.ensures.is
+    c.in_ok-load-in-None.ensures.emits c.in_ok-changed-in-None.ensures.emits c.in_ok-store-in-None.ensures.emits f)
+    c.give-in-None.ensures.emits
+
+pub expressions::step-returns-in-Some-clause-is : goal.expressions::step-returns-in-Some-clause-is
+expressions::step-returns-in-Some-clause-is t c =
+    let ready = c.requires.scene.ready in
+    IfOk-weaker c.variable_step.result _ _
+    (λ r h n. h c.args.k c.args.a c.requires.node.operands.operand
+    (steps_are _ c.requires.ordered ready.ordered c.args.cx.d.now c.pointed_size.result n c.requires.node
+    (c.pointed_size.ensures.is ready) (c.pointed_size.ensures.size ready) c.unwrap_or-size.ensures)
+    c.in-Some.ensures.stands (c.kind-kind.ensures ready)) c.variable_step.ensures.is
+
+pub expressions::step-returns-in_ok-store-in-None-clause-is :
+    goal.expressions::step-returns-in_ok-store-in-None-clause-is
+expressions::step-returns-in_ok-store-in-None-clause-is t c =
+    let ready = c.requires.scene.ready in
+    IfOk-weaker c.give.result _ _
+    (λ r f n. steps_place _ c.requires.ordered ready.ordered
+    (steps_are _ c.requires.ordered ready.ordered c.args.cx.d.now c.pointed_size.result n c.requires.node
+    (c.pointed_size.ensures.is ready) (c.pointed_size.ensures.size ready) c.unwrap_or-size.ensures) n c.args.to
+    _ _ _ _ _ _ _ (c.kind-kind.ensures ready) c.pos.ensures c.pos-in-None.ensures c.in-None.ensures.other
+    c.in_ok-at-in-None.ensures.is c.in_ok-old-in-None.ensures.is c.in_ok-load-in-None.ensures.emits
+    c.drops_old.result c.drops_old.ensures
+    c.in_ok-new-in-None.ensures.same c.in_ok-new-in-None.ensures.apart c.in_ok-store-in-None.ensures.emits f)
+    c.give.ensures.emits
+
+pub expressions::assignment-returns-in_ok-value-in-Some-clause-is :
+    goal.expressions::assignment-returns-in_ok-value-in-Some-clause-is
+expressions::assignment-returns-in_ok-value-in-Some-clause-is t c =
+    let ready = c.requires.scene.ready in
+    IfOk-weaker c.give.result _ _
+    (λ r f n. assigns_variable _ c.requires.ordered ready.ordered c.args.cx.d.now c.args.to refl n c.requires.node
+    (λ x m. node_at c.args.cx.d.now ready c.requires.node.operands.left m.there m.is) c.in-Some.ensures.stands
+    c.in_ok-value-in-Some.ensures.is f) c.give.ensures.emits
+
+pub expressions::assignment-returns-then-facts-clause-is : goal.expressions::assignment-returns-then-facts-clause-is
+expressions::assignment-returns-then-facts-clause-is t c = λ n.
+    let ready = c.requires.scene.ready in
+    assigns_record _ c.requires.ordered ready.ordered n
+    (sym (c.facts.ensures.record n.node ready n.there) ∙ c.if-facts.true) (c.in_ok-struct_assignment.ensures.is n)
+
+pub expressions::assignment-returns-then-facts-clause-copies :
+    goal.expressions::assignment-returns-then-facts-clause-copies
+expressions::assignment-returns-then-facts-clause-copies t c = λ n h.
+    record { temp = _; is = c.in_ok-struct_assignment.ensures.is n }
+
+pub expressions::assignment-returns-in_ok-value-in-Some-clause-copies :
+    goal.expressions::assignment-returns-in_ok-value-in-Some-clause-copies
+expressions::assignment-returns-in_ok-value-in-Some-clause-copies t c =
+    IfOk-weaker c.give.result _ _
+    (λ r f n h. no_copies n c.if-facts.false (c.facts.ensures.record n.node c.requires.scene.ready n.there) h)
+    c.give.ensures.emits
+
+pub expressions::assignment-returns-in-None-clause-copies : goal.expressions::assignment-returns-in-None-clause-copies
+expressions::assignment-returns-in-None-clause-copies t c =
+    IfOk-weaker c.object_assignment.result _ _
+    (λ r f n h. no_copies n c.if-facts.false (c.facts.ensures.record n.node c.requires.scene.ready n.there) h)
+    c.object_assignment.ensures.is
+
+pub expressions::assignment-returns-in-None-clause-is : goal.expressions::assignment-returns-in-None-clause-is
+expressions::assignment-returns-in-None-clause-is t c =
+    IfOk-weaker c.object_assignment.result _ _ (λ r h. h c.in-None.ensures.other) c.object_assignment.ensures.is
+
+pub expressions::pointer_first-returns-in-Some-clause-is : goal.expressions::pointer_first-returns-in-Some-clause-is
+expressions::pointer_first-returns-in-Some-clause-is t c =
+    IfOk-weaker c.displaced.result _ _
+    (λ r h n. value_displaced _ c.requires.ordered c.requires.scene.ready.ordered n c.requires.pointer
+    c.in-Some.ensures.is refl h) c.displaced.ensures.is
+
+pub expressions::pointer_first-returns-in_ok-base-in-None-clause-is :
+    goal.expressions::pointer_first-returns-in_ok-base-in-None-clause-is
+expressions::pointer_first-returns-in_ok-base-in-None-clause-is t c =
+    IfOk-weaker c.moved.result _ _
+    (λ r f n. value_moved _ c.requires.ordered c.requires.scene.ready.ordered n c.requires.pointer
+    c.in_ok-base-in-None.ensures.right_kind c.in_ok-base-in-None.ensures.is f) c.moved.ensures.emits
+
+pub expressions::pointer_second-returns-in-Some-clause-is : goal.expressions::pointer_second-returns-in-Some-clause-is
+expressions::pointer_second-returns-in-Some-clause-is t c =
+    IfOk-weaker c.displaced.result _ _
+    (λ r h n. value_displaced_right _ c.requires.ordered c.requires.scene.ready.ordered n c.requires.pointer
+    c.in-Some.ensures.is refl h) c.displaced.ensures.is
+
+pub expressions::pointer_second-returns-in_ok-i-in-None-clause-is :
+    goal.expressions::pointer_second-returns-in_ok-i-in-None-clause-is
+expressions::pointer_second-returns-in_ok-i-in-None-clause-is t c =
+    IfOk-weaker c.moved.result _ _
+    (λ r f n. value_moved_right _ c.requires.ordered c.requires.scene.ready.ordered n c.requires.pointer
+    c.in_ok-i-in-None.ensures.left_kind c.in_ok-i-in-None.ensures.is f) c.moved.ensures.emits
+
+pub expressions::guarded_effect-returns-clause-is : goal.expressions::guarded_effect-returns-clause-is
+expressions::guarded_effect-returns-clause-is t c =
+    IfOk-weaker c.stand.result _ _
+    (λ r f h n. effect_guarded _ c.requires.ordered c.requires.scene.ready.ordered _ _ _ c.args.when n h
+    c.label-label.ensures.labelled c.in_ok-condition.ensures.is c.in_ok-effect.ensures.is (one_emits _ _ _ refl f))
+    c.stand.ensures.stands
+
+pub conditions::condition-returns-in_default-clause-is : goal.conditions::condition-returns-in_default-clause-is
+conditions::condition-returns-in_default-clause-is t c =
+    IfOk-weaker c.jump_if.result _ _ (λ r f. condition_no_node _ c.requires.ordered c.requires.scene.ready.ordered
+    c.in_default.ensures f) c.jump_if.ensures.emits
+
+pub conditions::condition-returns-in-Constant-clause-is : goal.conditions::condition-returns-in-Constant-clause-is
+conditions::condition-returns-in-Constant-clause-is t c =
+    let n = node_at c.args.cx.d.now c.requires.scene.ready c.requires.typed c.in-Some.ensures c.in-Constant.is in
+    IfOk-weaker c.jump_if-in-Constant.result _ _
+    (λ r f. condition_constant _ c.requires.ordered c.requires.scene.ready.ordered
+    (record { node = _; there = c.in-Some.ensures; is = c.in-Constant.is }) n.is n.fits f)
+    c.jump_if-in-Constant.ensures.emits
+
+pub conditions::condition-returns-in-Unary-LogicalNot-default-clause-is :
+    goal.conditions::condition-returns-in-Unary-LogicalNot-default-clause-is
+conditions::condition-returns-in-Unary-LogicalNot-default-clause-is t c =
+    let w = c.in-Unary-LogicalNot-default in
+    let is = w.is ∙ ap (λ z. exprs.Unary z w.a) (rw w.is at w.field-0-is) in
+    let n = node_at c.args.cx.d.now c.requires.scene.ready c.requires.typed c.in-Some.ensures is in
+    IfOk-weaker c.opposite_condition.result _ _
+    (λ r h. h n.is (record { kind = n.kind; is = n.value })
+    (record { node = _; there = c.in-Some.ensures; is = is })) c.opposite_condition.ensures.is
+
+pub conditions::condition-returns-in-And-clause-is : goal.conditions::condition-returns-in-And-clause-is
+conditions::condition-returns-in-And-clause-is t c =
+    let n = node_at c.args.cx.d.now c.requires.scene.ready c.requires.typed c.in-Some.ensures c.in-And.is in
+    IfOk-weaker c.joined_condition.result _ _
+    (λ r h. h n.is
+    (subst (λ (j : Junction). HasScalar c.args.cx.p.now j.a) (sym c.and.ensures)
+    (record { kind = n.left_kind; is = n.left }))
+    (subst (λ (j : Junction). HasScalar c.args.cx.p.now j.b) (sym c.and.ensures)
+    (record { kind = n.right_kind; is = n.right }))
+    (subst (λ (j : Junction). IsNode c.args.cx.p.now c.args.k (joined j.both j.a j.b)) (sym c.and.ensures)
+    (record { node = _; there = c.in-Some.ensures; is = c.in-And.is }))) c.joined_condition.ensures.is
+
+pub conditions::condition-returns-in-Or-clause-is : goal.conditions::condition-returns-in-Or-clause-is
+conditions::condition-returns-in-Or-clause-is t c =
+    let n = node_at c.args.cx.d.now c.requires.scene.ready c.requires.typed c.in-Some.ensures c.in-Or.is in
+    IfOk-weaker c.joined_condition-in-Or.result _ _
+    (λ r h. h n.is
+    (subst (λ (j : Junction). HasScalar c.args.cx.p.now j.a) (sym c.or.ensures)
+    (record { kind = n.left_kind; is = n.left }))
+    (subst (λ (j : Junction). HasScalar c.args.cx.p.now j.b) (sym c.or.ensures)
+    (record { kind = n.right_kind; is = n.right }))
+    (subst (λ (j : Junction). IsNode c.args.cx.p.now c.args.k (joined j.both j.a j.b)) (sym c.or.ensures)
+    (record { node = _; there = c.in-Some.ensures; is = c.in-Or.is }))) c.joined_condition-in-Or.ensures.is
+
+pub conditions::condition-returns-in_ok-on-in_default-kind-clause-is :
+    goal.conditions::condition-returns-in_ok-on-in_default-kind-clause-is
+conditions::condition-returns-in_ok-on-in_default-kind-clause-is t c =
+    IfOk-weaker c.branch-out.result _ _
+    (λ r f. condition_branch _ c.requires.ordered c.requires.scene.ready.ordered
+    c.in_ok-on-in_default-kind.ensures.has c.in_ok-on-in_default-kind.ensures.is f) c.branch-out.ensures.emits
+
+pub conditions::opposite_condition-returns-clause-is : goal.conditions::opposite_condition-returns-clause-is
+conditions::opposite_condition-returns-clause-is t c =
+    IfOk-weaker c.condition.result _ _
+    (λ r h s v n. condition_opposite _ c.requires.ordered c.requires.scene.ready.ordered s v n h) c.condition.ensures.is
+
+pub conditions::joined_around-returns-clause-is : goal.conditions::joined_around-returns-clause-is
+conditions::joined_around-returns-clause-is t c =
+    IfOk-weaker c.stand.result _ _
+    (λ r f s a b n. condition_around _ c.requires.ordered c.requires.scene.ready.ordered _ _ _ a b c.args.jump.when s
+    (subst (λ z. IsNode c.args.cx.p.now c.args.k (joined z c.args.j.a c.args.j.b)) c.requires.around n)
+    c.label.ensures.labelled c.in_ok-condition.ensures.is c.in_ok-condition-2.ensures.is (one_emits _ _ _ refl f))
+    c.stand.ensures.stands
+
+pub conditions::joined_condition-returns-clause-is : goal.conditions::joined_condition-returns-clause-is
+conditions::joined_condition-returns-clause-is t c =
+    let e = opposite_of c.args.j.both c.args.jump.when c.if-j-jump.false in
+    IfOk-weaker c.condition-2.result _ _
+    (λ r h s a b n. condition_through _ c.requires.ordered c.requires.scene.ready.ordered _ _ _ a b c.args.jump.when s
+    (subst (λ z. IsNode c.args.cx.p.now c.args.k (joined z c.args.j.a c.args.j.b)) e n)
+    c.in_ok-condition.ensures.is h) c.condition-2.ensures.is
+
+pub expressions::truth-returns-clause-is : goal.expressions::truth-returns-clause-is
+expressions::truth-returns-clause-is t c =
+    IfOk-weaker c.join_fork.result _ _
+    (λ r f a b n. value_truth _ c.requires.ordered c.requires.scene.ready.ordered _ _ _ a b c.args.j.both
+    c.requires.node.is n c.fork-fork.ensures.forked
+    (c.in_ok-joined_condition.ensures.is c.requires.node.is a b n) c.in_ok-constant.ensures.emits
+    c.in_ok-turn_fork.ensures.emits c.in_ok-constant-2.ensures.emits (one_emits _ _ _ refl f))
+    c.join_fork.ensures.stands
+
+pub expressions::conversion-returns-then-is_none-clause-is : goal.expressions::conversion-returns-then-is_none-clause-is
+expressions::conversion-returns-then-is_none-clause-is t c =
+    let none = sym (c.scalar.ensures c.requires.scene.ready) ∙ none_is _ c.if-is_none.ensures in
+    IfOk-weaker c.constant.result _ _
+    (λ r f w n. value_dropped _ c.requires.ordered c.requires.scene.ready.ordered _ _ n w none
+    c.in_ok-effect.ensures.is f) c.constant.ensures.emits
+
+pub expressions::conversion-returns-then-same_kind-clause-is :
+    goal.expressions::conversion-returns-then-same_kind-clause-is
+expressions::conversion-returns-then-same_kind-clause-is t c =
+    let same = kinds_agree _ _ (sym c.same_kind.ensures ∙ c.if-same_kind.true) in
+    let alike = sym (c.kind-old.ensures c.requires.scene.ready) ∙ same ∙ c.kind-new.ensures c.requires.scene.ready in
+    IfOk-weaker c.value.result _ _
+    (λ r h w n. value_kept _ c.requires.ordered c.requires.scene.ready.ordered _ _ n w alike h) c.value.ensures.is
+
+pub expressions::conversion-returns-clause-is : goal.expressions::conversion-returns-clause-is
+expressions::conversion-returns-clause-is t c =
+    IfOk-weaker c.convert.result _ _
+    (λ r f w n. value_converted _ c.requires.ordered c.requires.scene.ready.ordered _ _ n w
+    (c.kind-old.ensures c.requires.scene.ready) (c.kind-new.ensures c.requires.scene.ready) c.in_ok-x.ensures.is f)
+    c.convert.ensures.emits
+
+pub expressions::chosen_effect-returns-clause-is : goal.expressions::chosen_effect-returns-clause-is
+expressions::chosen_effect-returns-clause-is t c =
+    IfOk-weaker c.join_fork.result _ _
+    (λ r f h n. effect_choice _ c.requires.ordered c.requires.scene.ready.ordered n h c.fork-fork.ensures.forked
+    c.in_ok-condition.ensures.is c.in_ok-effect.ensures.is c.in_ok-turn_fork.ensures.emits
+    c.in_ok-effect-2.ensures.is (one_emits _ _ _ refl f)) c.join_fork.ensures.stands
+
+pub expressions::chosen_effect-returns-clause-places : goal.expressions::chosen_effect-returns-clause-places
+expressions::chosen_effect-returns-clause-places t c =
+    IfOk-weaker c.join_fork.result _ _
+    (λ r f h n. place_effect_choice _ c.requires.ordered c.requires.scene.ready.ordered n h c.fork-fork.ensures.forked
+    c.in_ok-condition.ensures.is c.in_ok-effect.ensures.places c.in_ok-turn_fork.ensures.emits
+    c.in_ok-effect-2.ensures.places (one_emits _ _ _ refl f)) c.join_fork.ensures.stands
+
+pub expressions::effect-returns-in_default-clause-is : goal.expressions::effect-returns-in_default-clause-is
+expressions::effect-returns-in_default-clause-is t c =
+    effect_no_node _ c.requires.ordered c.requires.scene.ready.ordered _ _ c.in_default.ensures
+
+pub expressions::effect-returns-in_default-clause-places : goal.expressions::effect-returns-in_default-clause-places
+expressions::effect-returns-in_default-clause-places t c =
+    place_effect_no_node _ c.requires.ordered c.requires.scene.ready.ordered _ _ c.in_default.ensures
+
+pub expressions::effect-returns-in-Convert-clause-is : goal.expressions::effect-returns-in-Convert-clause-is
+expressions::effect-returns-in-Convert-clause-is t c =
+    IfOk-weaker c.effect.result _ _
+    (λ r h. effect_converted _ c.requires.ordered c.requires.scene.ready.ordered
+    (record { node = _; there = c.in-Some.ensures; is = c.in-Convert.is }) h) c.effect.ensures.is
+
+pub expressions::effect-returns-in-Convert-clause-places : goal.expressions::effect-returns-in-Convert-clause-places
+expressions::effect-returns-in-Convert-clause-places t c =
+    IfOk-weaker c.effect.result _ _
+    (λ r h. place_effect_converted _ c.requires.ordered c.requires.scene.ready.ordered
+    (record { node = _; there = c.in-Some.ensures; is = c.in-Convert.is }) h) c.effect.ensures.places
+
+pub expressions::effect-returns-in_ok-effect-in-Comma-clause-is :
+    goal.expressions::effect-returns-in_ok-effect-in-Comma-clause-is
+expressions::effect-returns-in_ok-effect-in-Comma-clause-is t c =
+    IfOk-weaker c.effect-in-Comma-2.result _ _
+    (λ r h. effect_comma _ c.requires.ordered c.requires.scene.ready.ordered
+    (record { node = _; there = c.in-Some.ensures; is = c.in-Comma.is }) c.in_ok-effect-in-Comma.ensures.is h)
+    c.effect-in-Comma-2.ensures.is
+
+pub expressions::effect-returns-in_ok-effect-in-Comma-clause-places :
+    goal.expressions::effect-returns-in_ok-effect-in-Comma-clause-places
+expressions::effect-returns-in_ok-effect-in-Comma-clause-places t c =
+    IfOk-weaker c.effect-in-Comma-2.result _ _
+    (λ r h. place_effect_comma _ c.requires.ordered c.requires.scene.ready.ordered
+    (record { node = _; there = c.in-Some.ensures; is = c.in-Comma.is }) c.in_ok-effect-in-Comma.ensures.is h)
+    c.effect-in-Comma-2.ensures.places
+
+pub expressions::effect-returns-in-Conditional-clause-is : goal.expressions::effect-returns-in-Conditional-clause-is
+expressions::effect-returns-in-Conditional-clause-is t c =
+    let n = node_at c.args.cx.d.now c.requires.scene.ready c.requires.typed c.in-Some.ensures c.in-Conditional.is in
+    IfOk-weaker c.chosen_effect.result _ _
+    (λ r h. h (record { kind = n.kind; is = n.test })
+    (record { node = _; there = c.in-Some.ensures; is = c.in-Conditional.is })) c.chosen_effect.ensures.is
+
+pub expressions::effect-returns-in-Conditional-clause-places :
+    goal.expressions::effect-returns-in-Conditional-clause-places
+expressions::effect-returns-in-Conditional-clause-places t c =
+    let n = node_at c.args.cx.d.now c.requires.scene.ready c.requires.typed c.in-Some.ensures c.in-Conditional.is in
+    IfOk-weaker c.chosen_effect.result _ _
+    (λ r h. h (record { kind = n.kind; is = n.test })
+    (record { node = _; there = c.in-Some.ensures; is = c.in-Conditional.is })) c.chosen_effect.ensures.places
+
+pub expressions::effect-returns-in-And-clause-is : goal.expressions::effect-returns-in-And-clause-is
+expressions::effect-returns-in-And-clause-is t c =
+    let n = node_at c.args.cx.d.now c.requires.scene.ready c.requires.typed c.in-Some.ensures c.in-And.is in
+    IfOk-weaker c.guarded_effect.result _ _
+    (λ r h. h (record { kind = n.left_kind; is = n.left })
+    (record { node = _; there = c.in-Some.ensures; is = c.in-And.is })) c.guarded_effect.ensures.is
+
+pub expressions::effect-returns-in-And-clause-places : goal.expressions::effect-returns-in-And-clause-places
+expressions::effect-returns-in-And-clause-places t c =
+    let n = node_at c.args.cx.d.now c.requires.scene.ready c.requires.typed c.in-Some.ensures c.in-And.is in
+    let there = is_node c.in-Some.ensures c.in-And.is in
+    IfOk-weaker c.guarded_effect.result _ _
+    (λ r h. place_effect_never _ c.requires.ordered c.requires.scene.ready.ordered there refl
+    (h (record { kind = n.left_kind; is = n.left }) there)) c.guarded_effect.ensures.is
+
+pub expressions::effect-returns-in-Or-clause-is : goal.expressions::effect-returns-in-Or-clause-is
+expressions::effect-returns-in-Or-clause-is t c =
+    let n = node_at c.args.cx.d.now c.requires.scene.ready c.requires.typed c.in-Some.ensures c.in-Or.is in
+    IfOk-weaker c.guarded_effect-in-Or.result _ _
+    (λ r h. h (record { kind = n.left_kind; is = n.left })
+    (record { node = _; there = c.in-Some.ensures; is = c.in-Or.is })) c.guarded_effect-in-Or.ensures.is
+
+pub expressions::effect-returns-in-Or-clause-places : goal.expressions::effect-returns-in-Or-clause-places
+expressions::effect-returns-in-Or-clause-places t c =
+    let n = node_at c.args.cx.d.now c.requires.scene.ready c.requires.typed c.in-Some.ensures c.in-Or.is in
+    let there = is_node c.in-Some.ensures c.in-Or.is in
+    IfOk-weaker c.guarded_effect-in-Or.result _ _
+    (λ r h. place_effect_never _ c.requires.ordered c.requires.scene.ready.ordered there refl
+    (h (record { kind = n.left_kind; is = n.left }) there)) c.guarded_effect-in-Or.ensures.is
+
+pub expressions::effect-returns-in-Load-clause-is : goal.expressions::effect-returns-in-Load-clause-is
+expressions::effect-returns-in-Load-clause-is t c =
+    IfOk-weaker c.read_effect.result _ _
+    (λ r h. h (record { node = _; there = c.in-Some.ensures; is = c.in-Load.is })
+    (whole_load c.args.cx.d.now c.requires.scene.ready c.requires.typed c.in-Some.ensures _ c.in-Load.is))
+    c.read_effect.ensures.is
+
+pub expressions::effect-returns-in-Load-clause-places : goal.expressions::effect-returns-in-Load-clause-places
+expressions::effect-returns-in-Load-clause-places t c =
+    IfOk-weaker c.read_effect.result _ _
+    (λ r h. h (record { node = _; there = c.in-Some.ensures; is = c.in-Load.is })
+    (whole_load c.args.cx.d.now c.requires.scene.ready c.requires.typed c.in-Some.ensures _ c.in-Load.is))
+    c.read_effect.ensures.places
+
+pub expressions::effect-returns-in-Deref-clause-is : goal.expressions::effect-returns-in-Deref-clause-is
+expressions::effect-returns-in-Deref-clause-is t c =
+    IfOk-weaker c.effect-in-Deref.result _ _
+    (λ r h. effect_deref _ c.requires.ordered c.requires.scene.ready.ordered
+    (record { node = _; there = c.in-Some.ensures; is = c.in-Deref.is }) h) c.effect-in-Deref.ensures.is
+
+pub expressions::effect-returns-in-Deref-clause-places : goal.expressions::effect-returns-in-Deref-clause-places
+expressions::effect-returns-in-Deref-clause-places t c =
+    IfOk-weaker c.effect-in-Deref.result _ _
+    (λ r h. place_effect_deref _ c.requires.ordered c.requires.scene.ready.ordered
+    (record { node = _; there = c.in-Some.ensures; is = c.in-Deref.is }) h) c.effect-in-Deref.ensures.is
+
+pub expressions::effect-returns-in-Member-clause-is : goal.expressions::effect-returns-in-Member-clause-is
+expressions::effect-returns-in-Member-clause-is t c =
+    IfOk-weaker c.effect-in-Member.result _ _
+    (λ r h. effect_member _ c.requires.ordered c.requires.scene.ready.ordered
+    (record { node = _; there = c.in-Some.ensures; is = c.in-Member.is }) h) c.effect-in-Member.ensures.places
+
+pub expressions::effect-returns-in-Member-clause-places : goal.expressions::effect-returns-in-Member-clause-places
+expressions::effect-returns-in-Member-clause-places t c =
+    IfOk-weaker c.effect-in-Member.result _ _
+    (λ r h. place_effect_member _ c.requires.ordered c.requires.scene.ready.ordered
+    (record { node = _; there = c.in-Some.ensures; is = c.in-Member.is }) h) c.effect-in-Member.ensures.places
+
+pub expressions::effect-returns-in-Assign-clause-is : goal.expressions::effect-returns-in-Assign-clause-is
+expressions::effect-returns-in-Assign-clause-is t c =
+    let n = is_node c.in-Some.ensures c.in-Assign.is in
+    let whole = whole_assign c.args.cx.d.now c.requires.scene.ready c.requires.typed c.in-Some.ensures _ _
+    c.in-Assign.is in
+    both_weaker c.assignment.result _ _ _
+    (λ r h f. effect_assigned _ c.requires.ordered c.requires.scene.ready.ordered n whole (h n) (f n))
+    c.assignment.ensures.is c.assignment.ensures.copies
+
+pub expressions::effect-returns-in-Assign-clause-places : goal.expressions::effect-returns-in-Assign-clause-places
+expressions::effect-returns-in-Assign-clause-places t c =
+    let n = is_node c.in-Some.ensures c.in-Assign.is in
+    let whole = whole_assign c.args.cx.d.now c.requires.scene.ready c.requires.typed c.in-Some.ensures _ _
+    c.in-Assign.is in
+    both_weaker c.assignment.result _ _ _
+    (λ r h f. place_effect_assigned _ c.requires.ordered c.requires.scene.ready.ordered n whole (h n) (f n))
+    c.assignment.ensures.is c.assignment.ensures.copies
+
+pub expressions::effect-returns-in-Step-clause-is : goal.expressions::effect-returns-in-Step-clause-is
+expressions::effect-returns-in-Step-clause-is t c =
+    let n = node_at c.args.cx.d.now c.requires.scene.ready c.requires.typed c.in-Some.ensures c.in-Step.is in
+    let there = is_node c.in-Some.ensures c.in-Step.is in
+    IfOk-weaker c.step.result _ _
+    (λ r h. effect_changed _ c.requires.ordered c.requires.scene.ready.ordered there refl
+    (record { kind = n.kind; is = n.is }) (h there)) c.step.ensures.is
+
+pub expressions::effect-returns-in-Step-clause-places : goal.expressions::effect-returns-in-Step-clause-places
+expressions::effect-returns-in-Step-clause-places t c =
+    let there = is_node c.in-Some.ensures c.in-Step.is in
+    IfOk-weaker c.step.result _ _
+    (λ r h. place_effect_never _ c.requires.ordered c.requires.scene.ready.ordered there refl (h there))
+    c.step.ensures.is
+
+pub expressions::effect-returns-in-Compound-clause-is : goal.expressions::effect-returns-in-Compound-clause-is
+expressions::effect-returns-in-Compound-clause-is t c =
+    let n = node_at c.args.cx.d.now c.requires.scene.ready c.requires.typed c.in-Some.ensures c.in-Compound.is in
+    let there = is_node c.in-Some.ensures c.in-Compound.is in
+    let w = has_compound c.args.cx.d.now c.requires.scene.ready c.requires.typed c.in-Some.ensures _ _ _ _
+    c.in-Compound.is in
+    IfOk-weaker c.compound.result _ _
+    (λ r h. effect_changed _ c.requires.ordered c.requires.scene.ready.ordered there refl w
+    (h _ _ there n c.change_of-change.ensures.is)) c.compound.ensures.is
+
+pub expressions::effect-returns-in-Compound-clause-places : goal.expressions::effect-returns-in-Compound-clause-places
+expressions::effect-returns-in-Compound-clause-places t c =
+    let n = node_at c.args.cx.d.now c.requires.scene.ready c.requires.typed c.in-Some.ensures c.in-Compound.is in
+    let there = is_node c.in-Some.ensures c.in-Compound.is in
+    IfOk-weaker c.compound.result _ _
+    (λ r h. place_effect_never _ c.requires.ordered c.requires.scene.ready.ordered there refl
+    (h _ _ there n c.change_of-change.ensures.is)) c.compound.ensures.is
+
+pub expressions::effect-returns-in-Call-clause-is : goal.expressions::effect-returns-in-Call-clause-is
+expressions::effect-returns-in-Call-clause-is t c =
+    let there = is_node c.in-Some.ensures c.in-Call.is in
+    IfOk-weaker c.call.result _ _
+    (λ r h. effect_called _ c.requires.ordered c.requires.scene.ready.ordered there refl
+    (h (subst (λ z. IsNode c.args.cx.p.now c.args.k (exprs.Call c.in-Call.f z)) (sym c.as_slice.ensures) there)))
+    c.call.ensures.is
+
+pub expressions::effect-returns-in-Call-clause-places : goal.expressions::effect-returns-in-Call-clause-places
+expressions::effect-returns-in-Call-clause-places t c =
+    let there = is_node c.in-Some.ensures c.in-Call.is in
+    IfOk-weaker c.call.result _ _
+    (λ r h. place_effect_never _ c.requires.ordered c.requires.scene.ready.ordered there refl
+    (h (subst (λ z. IsNode c.args.cx.p.now c.args.k (exprs.Call c.in-Call.f z)) (sym c.as_slice.ensures) there)))
+    c.call.ensures.is
+
+pub expressions::effect-returns-in-Library-clause-is : goal.expressions::effect-returns-in-Library-clause-is
+expressions::effect-returns-in-Library-clause-is t c =
+    let there = is_node c.in-Some.ensures c.in-Library.is in
+    IfOk-weaker c.library.result _ _
+    (λ r h. effect_called _ c.requires.ordered c.requires.scene.ready.ordered there refl
+    (h (subst (λ z. IsNode c.args.cx.p.now c.args.k (exprs.Library c.in-Library.n z))
+    (sym c.as_slice-in-Library.ensures) there))) c.library.ensures.is
+
+pub expressions::effect-returns-in-Library-clause-places : goal.expressions::effect-returns-in-Library-clause-places
+expressions::effect-returns-in-Library-clause-places t c =
+    let there = is_node c.in-Some.ensures c.in-Library.is in
+    IfOk-weaker c.library.result _ _
+    (λ r h. place_effect_never _ c.requires.ordered c.requires.scene.ready.ordered there refl
+    (h (subst (λ z. IsNode c.args.cx.p.now c.args.k (exprs.Library c.in-Library.n z))
+    (sym c.as_slice-in-Library.ensures) there))) c.library.ensures.is
+
+pub expressions::effect-returns-in-Constant-clause-is : goal.expressions::effect-returns-in-Constant-clause-is
+expressions::effect-returns-in-Constant-clause-is t c =
+    effect_leaf _ c.requires.ordered c.requires.scene.ready.ordered
+    (is_node c.in-Some.ensures refl) (leaf_of _ c.in-Constant.is) _
+
+pub expressions::effect-returns-in-Constant-clause-places : goal.expressions::effect-returns-in-Constant-clause-places
+expressions::effect-returns-in-Constant-clause-places t c =
+    place_effect_leaf _ c.requires.ordered c.requires.scene.ready.ordered
+    (is_node c.in-Some.ensures refl) (leaf_of _ c.in-Constant.is) _
+
+pub expressions::effect-returns-in-Constant-2-clause-is : goal.expressions::effect-returns-in-Constant-2-clause-is
+expressions::effect-returns-in-Constant-2-clause-is t c =
+    effect_leaf _ c.requires.ordered c.requires.scene.ready.ordered
+    (is_node c.in-Some.ensures refl) (leaf_of _ c.in-Constant.is) _
+
+pub expressions::effect-returns-in-Constant-2-clause-places :
+    goal.expressions::effect-returns-in-Constant-2-clause-places
+expressions::effect-returns-in-Constant-2-clause-places t c =
+    place_effect_leaf _ c.requires.ordered c.requires.scene.ready.ordered
+    (is_node c.in-Some.ensures refl) (leaf_of _ c.in-Constant.is) _
+
+pub expressions::effect-returns-in-Constant-3-clause-is : goal.expressions::effect-returns-in-Constant-3-clause-is
+expressions::effect-returns-in-Constant-3-clause-is t c =
+    effect_leaf _ c.requires.ordered c.requires.scene.ready.ordered
+    (is_node c.in-Some.ensures refl) (leaf_of _ c.in-Constant.is) _
+
+pub expressions::effect-returns-in-Constant-3-clause-places :
+    goal.expressions::effect-returns-in-Constant-3-clause-places
+expressions::effect-returns-in-Constant-3-clause-places t c =
+    place_effect_leaf _ c.requires.ordered c.requires.scene.ready.ordered
+    (is_node c.in-Some.ensures refl) (leaf_of _ c.in-Constant.is) _
+
+pub expressions::effect-returns-in-Constant-4-clause-is : goal.expressions::effect-returns-in-Constant-4-clause-is
+expressions::effect-returns-in-Constant-4-clause-is t c =
+    effect_leaf _ c.requires.ordered c.requires.scene.ready.ordered
+    (is_node c.in-Some.ensures refl) (leaf_of _ c.in-Constant.is) _
+
+pub expressions::effect-returns-in-Constant-4-clause-places :
+    goal.expressions::effect-returns-in-Constant-4-clause-places
+expressions::effect-returns-in-Constant-4-clause-places t c =
+    place_effect_leaf _ c.requires.ordered c.requires.scene.ready.ordered
+    (is_node c.in-Some.ensures refl) (leaf_of _ c.in-Constant.is) _
+
+pub expressions::effect-returns-in-Constant-5-clause-is : goal.expressions::effect-returns-in-Constant-5-clause-is
+expressions::effect-returns-in-Constant-5-clause-is t c =
+    effect_leaf _ c.requires.ordered c.requires.scene.ready.ordered
+    (is_node c.in-Some.ensures refl) (leaf_of _ c.in-Constant.is) _
+
+pub expressions::effect-returns-in-Constant-5-clause-places :
+    goal.expressions::effect-returns-in-Constant-5-clause-places
+expressions::effect-returns-in-Constant-5-clause-places t c =
+    place_effect_leaf _ c.requires.ordered c.requires.scene.ready.ordered
+    (is_node c.in-Some.ensures refl) (leaf_of _ c.in-Constant.is) _
+
+pub expressions::effect-returns-in_ok-t-in-Decay-clause-is :
+    goal.expressions::effect-returns-in_ok-t-in-Decay-clause-is
+expressions::effect-returns-in_ok-t-in-Decay-clause-is t c =
+    let works = worked_of _ c.in-Decay.is in
+    IfOk-weaker c.value.result _ _
+    (λ r h. effect_of_value _ c.requires.ordered c.requires.scene.ready.ordered
+    (is_node c.in-Some.ensures refl) (worked_no_place _ works)
+    (has_worked c.args.cx.d.now c.requires.scene.ready c.requires.typed c.in-Some.ensures _ works refl)
+    c.in_ok-t-in-Decay.ensures.next c.in_ok-t-in-Decay.ensures.emits h) c.value.ensures.is
+
+pub expressions::effect-returns-in_ok-t-in-Decay-clause-places :
+    goal.expressions::effect-returns-in_ok-t-in-Decay-clause-places
+expressions::effect-returns-in_ok-t-in-Decay-clause-places t c =
+    let works = worked_of _ c.in-Decay.is in
+    IfOk-weaker c.value.result _ _
+    (λ r h. place_effect_never _ c.requires.ordered c.requires.scene.ready.ordered
+    (is_node c.in-Some.ensures refl) (worked_no_place _ works)
+    (effect_of_value _ c.requires.ordered c.requires.scene.ready.ordered
+    (is_node c.in-Some.ensures refl) (worked_no_place _ works)
+    (has_worked c.args.cx.d.now c.requires.scene.ready c.requires.typed c.in-Some.ensures _ works refl)
+    c.in_ok-t-in-Decay.ensures.next c.in_ok-t-in-Decay.ensures.emits h)) c.value.ensures.is
+
+pub expressions::read_effect-returns-in-None-clause-is : goal.expressions::read_effect-returns-in-None-clause-is
+expressions::read_effect-returns-in-None-clause-is t c =
+    IfOk-weaker c.effect.result _ _
+    (λ r h n w. effect_unread _ c.requires.ordered c.requires.scene.ready.ordered n
+    (sym (c.scalar.ensures c.requires.scene.ready) ∙ c.in-None.is) w h) c.effect.ensures.places
+
+pub expressions::read_effect-returns-in-None-clause-places :
+    goal.expressions::read_effect-returns-in-None-clause-places
+expressions::read_effect-returns-in-None-clause-places t c =
+    IfOk-weaker c.effect.result _ _
+    (λ r h n w. place_effect_unread _ c.requires.ordered c.requires.scene.ready.ordered n
+    (sym (c.scalar.ensures c.requires.scene.ready) ∙ c.in-None.is) w h) c.effect.ensures.places
+
+pub expressions::read_effect-returns-in-Some-variable-clause-is :
+    goal.expressions::read_effect-returns-in-Some-variable-clause-is
+expressions::read_effect-returns-in-Some-variable-clause-is t c =
+    let scalar : IsScalar c.args.cx.p.now c.args.k c.in-Some.kind =
+    record { is = sym (c.scalar.ensures c.requires.scene.ready) ∙ c.in-Some.is } in
+    λ n w. effect_variable _ c.requires.ordered c.requires.scene.ready.ordered n scalar _
+    c.in-Some-variable.ensures.stands
+
+pub expressions::read_effect-returns-in-Some-variable-clause-places :
+    goal.expressions::read_effect-returns-in-Some-variable-clause-places
+expressions::read_effect-returns-in-Some-variable-clause-places t c =
+    let scalar : IsScalar c.args.cx.p.now c.args.k c.in-Some.kind =
+    record { is = sym (c.scalar.ensures c.requires.scene.ready) ∙ c.in-Some.is } in
+    λ n w. place_effect_read _ c.requires.ordered c.requires.scene.ready.ordered n scalar
+    (effect_variable _ c.requires.ordered c.requires.scene.ready.ordered n scalar _ c.in-Some-variable.ensures.stands)
+
+pub expressions::read_effect-returns-in_ok-t-in-None-variable-clause-is :
+    goal.expressions::read_effect-returns-in_ok-t-in-None-variable-clause-is
+expressions::read_effect-returns-in_ok-t-in-None-variable-clause-is t c =
+    let scalar : IsScalar c.args.cx.p.now c.args.k c.in-Some.kind =
+    record { is = sym (c.scalar.ensures c.requires.scene.ready) ∙ c.in-Some.is } in
+    IfOk-weaker c.load.result _ _
+    (λ r h n w. effect_read _ c.requires.ordered c.requires.scene.ready.ordered n scalar
+    c.in_ok-t-in-None-variable.ensures.next c.in_ok-t-in-None-variable.ensures.emits (h n)) c.load.ensures.is
+
+pub expressions::read_effect-returns-in_ok-t-in-None-variable-clause-places :
+    goal.expressions::read_effect-returns-in_ok-t-in-None-variable-clause-places
+expressions::read_effect-returns-in_ok-t-in-None-variable-clause-places t c =
+    let scalar : IsScalar c.args.cx.p.now c.args.k c.in-Some.kind =
+    record { is = sym (c.scalar.ensures c.requires.scene.ready) ∙ c.in-Some.is } in
+    IfOk-weaker c.load.result _ _
+    (λ r h n w. place_effect_read _ c.requires.ordered c.requires.scene.ready.ordered n scalar
+    (effect_read _ c.requires.ordered c.requires.scene.ready.ordered n scalar
+    c.in_ok-t-in-None-variable.ensures.next c.in_ok-t-in-None-variable.ensures.emits (h n))) c.load.ensures.is
+
+pub expressions::value-returns-in-Convert-clause-is : goal.expressions::value-returns-in-Convert-clause-is
+expressions::value-returns-in-Convert-clause-is t c =
+    IfOk-weaker c.conversion.result _ _
+    (λ r h. h (has_converted c.args.cx.d.now c.requires.scene.ready c.requires.typed c.in-Some.ensures _
+    c.in-Convert.is)
+    (is_node c.in-Some.ensures c.in-Convert.is)) c.conversion.ensures.is
+
+pub expressions::value-returns-in-And-clause-is : goal.expressions::value-returns-in-And-clause-is
+expressions::value-returns-in-And-clause-is t c =
+    let n = node_at c.args.cx.d.now c.requires.scene.ready c.requires.typed c.in-Some.ensures c.in-And.is in
+    IfOk-weaker c.truth.result _ _
+    (λ r h. h (subst (λ (j : Junction). HasScalar c.args.cx.p.now j.a) (sym c.and.ensures)
+    (record { kind = n.left_kind; is = n.left }))
+    (subst (λ (j : Junction). HasScalar c.args.cx.p.now j.b) (sym c.and.ensures)
+    (record { kind = n.right_kind; is = n.right }))
+    (subst (λ (j : Junction). IsNode c.args.cx.p.now c.args.k (joined j.both j.a j.b)) (sym c.and.ensures)
+    (is_node c.in-Some.ensures c.in-And.is))) c.truth.ensures.is
+
+pub expressions::value-returns-in-Or-clause-is : goal.expressions::value-returns-in-Or-clause-is
+expressions::value-returns-in-Or-clause-is t c =
+    let n = node_at c.args.cx.d.now c.requires.scene.ready c.requires.typed c.in-Some.ensures c.in-Or.is in
+    IfOk-weaker c.truth-in-Or.result _ _
+    (λ r h. h (subst (λ (j : Junction). HasScalar c.args.cx.p.now j.a) (sym c.or.ensures)
+    (record { kind = n.left_kind; is = n.left }))
+    (subst (λ (j : Junction). HasScalar c.args.cx.p.now j.b) (sym c.or.ensures)
+    (record { kind = n.right_kind; is = n.right }))
+    (subst (λ (j : Junction). IsNode c.args.cx.p.now c.args.k (joined j.both j.a j.b)) (sym c.or.ensures)
+    (is_node c.in-Some.ensures c.in-Or.is))) c.truth-in-Or.ensures.is
+
+pub expressions::value-returns-in-Assign-clause-is : goal.expressions::value-returns-in-Assign-clause-is
+expressions::value-returns-in-Assign-clause-is t c =
+    IfOk-weaker c.assignment.result _ _ (λ r h. value_changed _ (h (is_node c.in-Some.ensures c.in-Assign.is)))
+    c.assignment.ensures.is
+
+pub expressions::value-returns-in-Compound-clause-is : goal.expressions::value-returns-in-Compound-clause-is
+expressions::value-returns-in-Compound-clause-is t c =
+    let n = node_at c.args.cx.d.now c.requires.scene.ready c.requires.typed c.in-Some.ensures c.in-Compound.is in
+    IfOk-weaker c.compound.result _ _
+    (λ r h. value_changed _ (h _ _ (is_node c.in-Some.ensures c.in-Compound.is) n c.change_of-change.ensures.is))
+    c.compound.ensures.is
+
+pub expressions::value-returns-in-Step-clause-is : goal.expressions::value-returns-in-Step-clause-is
+expressions::value-returns-in-Step-clause-is t c =
+    IfOk-weaker c.step.result _ _ (λ r h. value_changed _ (h (is_node c.in-Some.ensures c.in-Step.is)))
+    c.step.ensures.is
+
+pub expressions::value-returns-in-Call-clause-is : goal.expressions::value-returns-in-Call-clause-is
+expressions::value-returns-in-Call-clause-is t c =
+    IfOk-weaker c.call.result _ _
+    (λ r h. value_called _ c.asked.ensures.given
+    (h (subst (λ z. IsNode c.args.cx.p.now c.args.k (exprs.Call c.in-Call.f z)) (sym c.as_slice.ensures)
+    (is_node c.in-Some.ensures c.in-Call.is)))) c.call.ensures.is
+
+pub expressions::value-returns-in-Library-clause-is : goal.expressions::value-returns-in-Library-clause-is
+expressions::value-returns-in-Library-clause-is t c =
+    IfOk-weaker c.library.result _ _
+    (λ r h. value_called _ c.asked-in-Library.ensures.given
+    (h (subst (λ z. IsNode c.args.cx.p.now c.args.k (exprs.Library c.in-Library.n z))
+    (sym c.as_slice-in-Library.ensures) (is_node c.in-Some.ensures c.in-Library.is)))) c.library.ensures.is
+
+pub expressions::value-returns-in-Literal-clause-is : goal.expressions::value-returns-in-Literal-clause-is
+expressions::value-returns-in-Literal-clause-is t c =
+    IfOk-weaker c.constant-in-Literal.result _ _
+    (λ r f. value_no_value _ c.requires.ordered c.requires.scene.ready.ordered (is_node c.in-Some.ensures refl)
+    (never_value (setting c.args.cx) _ (place_of _ c.in-Literal.is)) f) c.constant-in-Literal.ensures.emits
+
+pub calls::call-returns-in_ok-temps-in-Some-clause-is : goal.calls::call-returns-in_ok-temps-in-Some-clause-is
+calls::call-returns-in_ok-temps-in-Some-clause-is t c =
+    IfOk-weaker c.call.result _ _
+    (λ r f n. call_named _ c.requires.ordered c.requires.scene.ready c.args.cx.d.now _ _ _ n c.requires.node
+    c.in-Some.n c.in-Some.ensures.names (c.in-Some.ensures.signed _ _ c.requires.node.of)
+    c.in_ok-temps-in-Some.ensures.is (one_emits _ _ _ refl f)) c.call.ensures.pushed
+
+pub calls::call-returns-in_ok-temps-in-None-clause-is : goal.calls::call-returns-in_ok-temps-in-None-clause-is
+calls::call-returns-in_ok-temps-in-None-clause-is t c =
+    IfOk-weaker c.call_value.result _ _
+    (λ r f n. call_by_value _ c.requires.ordered c.requires.scene.ready c.args.cx.d.now _ _ _ n c.requires.node
+    c.written_by.ensures.spares (λ e h. c.unwrap_or-of.ensures ∙ c.facts.ensures.target e c.requires.scene.ready h)
+    c.pos.ensures c.in_ok-v-in-None.ensures.is c.in_ok-temps-in-None.ensures.is (one_emits _ _ _ refl f))
+    c.call_value.ensures.pushed
+
+pub calls::library-returns-in-Library-clause-is : goal.calls::library-returns-in-Library-clause-is
+calls::library-returns-in-Library-clause-is t c =
+    let p = c.args.cx.p.now in
+    let asks = subst (λ z. ServiceAsks z c.requires.node.service.takes c.requires.node.service.gives) c.in-Library.is
+    (c.service_of.ensures.asks c.requires.node.service c.requires.node.there) in
+    let served = is_served p c.args.k c.requires.node.service.takes c.requires.node.service.gives c.args.args.now
+    c.requires.node.fit c.requires.node.gives (called_services.Library c.in-Library.op) asks in
+    IfOk-weaker c.service.result _ _
+    (λ r f n. call_served _ c.requires.ordered c.requires.scene.ready.ordered
+    (service_as (called_services.Library c.in-Library.op)) n
+    (sym (ap service_as c.in-Library.is) ∙ c.service_of.ensures.is) served c.in_ok-temps.ensures.is
+    (library_serves c.in-Library.op _ _ _ asks (one_emits _ _ _ refl f))) c.service.ensures.pushed
+
+pub calls::library-returns-in-Exit-clause-is : goal.calls::library-returns-in-Exit-clause-is
+calls::library-returns-in-Exit-clause-is t c =
+    let p = c.args.cx.p.now in
+    let asks = subst (λ z. ServiceAsks z c.requires.node.service.takes c.requires.node.service.gives) c.in-Exit.is
+    (c.service_of.ensures.asks c.requires.node.service c.requires.node.there) in
+    let served = is_served p c.args.k c.requires.node.service.takes c.requires.node.service.gives c.args.args.now
+    c.requires.node.fit c.requires.node.gives called_services.Exit asks in
+    IfOk-weaker c.service-in-Exit.result _ _
+    (λ r f n. call_served _ c.requires.ordered c.requires.scene.ready.ordered (service_as called_services.Exit) n
+    (sym (ap service_as c.in-Exit.is) ∙ c.service_of.ensures.is) served c.in_ok-temps.ensures.is
+    (one_emits _ _ _ refl f)) c.service-in-Exit.ensures.pushed
+
+pub calls::library-returns-in-Intrinsic-clause-is : goal.calls::library-returns-in-Intrinsic-clause-is
+calls::library-returns-in-Intrinsic-clause-is t c =
+    let p = c.args.cx.p.now in
+    let i = c.in-Intrinsic.i in
+    let asks = subst (λ z. ServiceAsks z c.requires.node.service.takes c.requires.node.service.gives) c.in-Intrinsic.is
+    (c.service_of.ensures.asks c.requires.node.service c.requires.node.there) in
+    let served = is_served p c.args.k c.requires.node.service.takes c.requires.node.service.gives c.args.args.now
+    c.requires.node.fit c.requires.node.gives (called_services.Intrinsic i) asks in
+    let long = has_length p _ c.requires.node.service.takes c.requires.node.service.gives c.args.args.now
+    c.in_ok-temps.temps.items c.second_temp-b.result i asks c.requires.node.fit c.in_ok-temps.ensures.kinds (cc) in
+    IfOk-weaker c.intrinsic_value.result _ _
+    (λ r f n. call_served _ c.requires.ordered c.requires.scene.ready.ordered
+    (service_as (called_services.Intrinsic i)) n
+    (sym (ap service_as c.in-Intrinsic.is) ∙ c.service_of.ensures.is) served c.in_ok-temps.ensures.is
+    (intrinsic_serves i _ _ c.first_kind-kind.ensures.is (cc) (cc) f)) (c.intrinsic_value.ensures.emits long)
+
+pub calls::arguments-returns-clause-is : goal.calls::arguments-returns-clause-is
+calls::arguments-returns-clause-is t c =
+    let s = setting c.args.cx in
+    let none = drop_all c.loop-a.a-index c.args.args.now c.loop-a-test.false in
+    let done = subst (λ z. ArgumentsSo s c.args.args.now c.args.out.now c.loop-a.out z c.loop-a.temps.items
+    c.loop-a.behind.items) none c.loop-a.invariant.1 in
+    subst (λ z. ShowsArguments s c.args.args.now z c.args.out.now c.loop-a.out) (append-nil c.loop-a.temps.items)
+    (arguments_end s done)

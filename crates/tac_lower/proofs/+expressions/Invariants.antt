@@ -1,5 +1,7 @@
-use Rattle.std.proofs.Common.{◌+◌, ◌*◌, take}
+use Rattle.std.proofs.Common.{◌+◌, ◌*◌, take, drop}
+use Rattle.tac_lower.specs.Trees.{setting}
 use Rattle.tac_lower.proofs.Calling.{ArgumentsTo}
+use Rattle.tac_lower.proofs.Passing.{ArgumentsSo}
 use Rattle.tac_lower.proofs.+expressions.Given as goal
 
 abbrev pub decreases-conditions::condition : goal.decreases-conditions::condition
@@ -54,6 +56,7 @@ abbrev pub invariant-calls::arguments-loop-a : goal.invariant-calls::arguments-l
 invariant-calls::arguments-loop-a l =
     ArgumentsTo l.cx.fixed l.cx.p.now l.cx.d.now l.cx.types.now l.cx.homes.now l.initial.out l.out
     (take l.a-index l.args) l.temps.items
+    × ArgumentsSo (setting l.cx) l.args l.initial.out l.out (drop l.a-index l.args) l.temps.items l.behind.items
 
 abbrev pub decreases-calls::call : goal.decreases-calls::call
 decreases-calls::call l = 16 * l.k + 3

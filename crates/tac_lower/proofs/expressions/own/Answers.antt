@@ -1,4 +1,5 @@
 use Rattle.std.proofs.Common.{arith}
+use Rattle.tac_lower.proofs.Assigning.{own_new, own_kept}
 use Rattle.tac_lower.proofs.Spending.{own_none, own_given, own_other}
 use Rattle.tac_lower.proofs.Steps.{start, tail_grew}
 use Rattle.tac_lower.proofs.expressions.own.Goals as goal
@@ -21,3 +22,12 @@ returns-clause-lowered c =
 pub returns-clause-owns : goal.returns-clause-owns
 returns-clause-owns c = own_other c.args.cx.fixed _ _ c.temp-2.result c.in-Some.t c.in-Some.is
     (c.is_own.ensures.other c.if-is_own.false) c.temp-2.ensures.next c.temp-2.ensures.spent
+
+pub returns-in_default-clause-is : goal.returns-in_default-clause-is
+returns-in_default-clause-is c = own_new _ _ _ _ c.temp.result c.temp.ensures.next c.temp.ensures.emits
+
+pub returns-then-is_own-clause-is : goal.returns-then-is_own-clause-is
+returns-then-is_own-clause-is c = own_kept _ _ c.in-Some.is (c.is_own.ensures.own c.if-is_own.true)
+
+pub returns-clause-is : goal.returns-clause-is
+returns-clause-is c = own_new _ _ _ _ c.temp-2.result c.temp-2.ensures.next c.temp-2.ensures.emits

@@ -1,5 +1,7 @@
-use Rattle.std.proofs.Common.{arith}
-use Rattle.tac_lower.proofs.Keeping.{maybe_kept, maybe_same}
+use Rattle.std.proofs.Common.{arith, not, refl, ap, ◌∙◌}
+use Rattle.std.proofs.lemmas.Result.{IfOk-weaker}
+use Rattle.tac_lower.proofs.Assigned.{steps_variable, steps_variable_old}
+use Rattle.tac_lower.proofs.Keeping.{maybe_kept, maybe_same, node_at}
 use Rattle.tac_lower.proofs.Spending.{nothing, plainly, and, extra_small, owned, last_and}
 use Rattle.tac_lower.proofs.Steps.{start, grew, tail_grew}
 use Rattle.tac_lower.proofs.Wells.{kept}
@@ -13,13 +15,13 @@ give-requires c = record {
       (kept _ _ _ _ c.requires.v c.in_ok-stepped.ensures.grown);
 }
 
-pub returns-then-front-clause-lowered : goal.returns-then-front-clause-lowered
-returns-then-front-clause-lowered c =
+pub returns-then-drops_old-clause-lowered : goal.returns-then-drops_old-clause-lowered
+returns-then-drops_old-clause-lowered c =
     tail_grew _ _ c.give.result (grew (start c.requires.scene) c.in_ok-stepped.ensures.grown
     c.in_ok-stepped.ensures.adds) c.give.ensures.grown c.give.ensures.adds (omega arith)
 
-pub returns-then-front-clause-spends : goal.returns-then-front-clause-spends
-returns-then-front-clause-spends c =
+pub returns-then-drops_old-clause-spends : goal.returns-then-drops_old-clause-spends
+returns-then-drops_old-clause-spends c =
     last_and _ _ _ _ c.give.result (plainly c.in_ok-stepped.ensures.spent) c.give.ensures.spent (omega arith)
     (omega arith) (omega arith)
 
@@ -45,3 +47,19 @@ returns-clause-spends c =
     last_and _ _ _ _ c.give-2.result (and (and (owned nothing c.in_ok-old.ensures.owns) c.in_ok-copy.ensures.spent)
     c.in_ok-stepped-2.ensures.spent)
     c.give-2.ensures.spent (omega (arith, small)) (omega arith) (omega arith)
+
+pub returns-then-drops_old-clause-is : goal.returns-then-drops_old-clause-is
+returns-then-drops_old-clause-is c =
+    let ready = c.requires.scene.ready in
+    IfOk-weaker c.give.result _ _
+    (λ r f k a typed st v ik. steps_variable _ ready.order ready.ordered st c.args.cx.d.now c.args.to refl
+    (λ x m. node_at c.args.cx.d.now ready typed m.there m.is) v ik
+    (c.drops_old.ensures ∙ ap not c.if-drops_old.true) c.in_ok-stepped.ensures.emits f) c.give.ensures.emits
+
+pub returns-clause-is : goal.returns-clause-is
+returns-clause-is c =
+    let ready = c.requires.scene.ready in
+    IfOk-weaker c.give-2.result _ _
+    (λ r f k a typed st v ik. steps_variable_old _ ready.order ready.ordered st c.args.cx.d.now c.args.to _ _ _ _ _ refl
+    (λ x m. node_at c.args.cx.d.now ready typed m.there m.is) v ik (c.drops_old.ensures ∙ ap not c.if-drops_old.false)
+    c.in_ok-old.ensures.is c.in_ok-copy.ensures.emits c.in_ok-stepped-2.ensures.emits f) c.give-2.ensures.emits

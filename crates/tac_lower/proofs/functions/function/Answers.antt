@@ -9,6 +9,11 @@ use Rattle.tac_lower.proofs.Entering.{finished_copies}
 use Rattle.tac_lower.proofs.Finished.{begins_well}
 use Rattle.tac_lower.proofs.Homes.{body_part, few_parameters, light_parts, parameters_kept, closed_new, formed}
 use Rattle.tac_lower.proofs.Zeroing.{objects_once, empty_zeroing, empty_lone, finished_zeroes}
+use Rattle.tac_lower.proofs.Shortness.{short_code}
+use Rattle.tac_lower.specs.Programs.{AreHomes}
+use Rattle.tac_lower.proofs.Homes.{parameters_there}
+use Rattle.tac_lower.proofs.Wells.{keeps_then}
+use Rattle.tac_lower.proofs.Whole.{function_is, code_none}
 use Rattle.tac_lower.proofs.functions.function.Goals as goal
 
 pub parameter_temps-requires-clause-room : goal.parameter_temps-requires-clause-room
@@ -197,3 +202,44 @@ returns-clause-zeros c =
       four.lone,
       five.lone,
     ))
+
+pub returns-clause-short : goal.returns-clause-short
+returns-clause-short c =
+    let p = c.args.program.p.now in
+    let d = c.args.d.now in
+    let few = few_parameters c.requires.fits in
+    let light = light_parts p d c.requires.light in
+    let one = c.in_ok-parameter_temps.ensures.adds in
+    let two = c.in_ok-homes.ensures.adds in
+    let three = c.in_ok-take_parameters.ensures.lowered.adds in
+    let four = c.in_ok-statement.ensures.lowered.adds in
+    let end = c.in_ok-end_function.ensures in
+    short_code (function_weight p d) c.requires.light c.finished.ensures.makes (returns-clause-costs c)
+    end.whole.differ end.whole.turns end.made
+    (omega (arith, c.new-out.ensures.labels, one.labels, two.labels, three.labels, four.labels, end.adds.labels))
+
+pub returns-clause-is : goal.returns-clause-is
+returns-clause-is c = λ standing n there.
+    let p = c.args.program.p.now in
+    let d = c.args.d.now in
+    let same = c.as_slice.ensures.value in
+    let many = ap length same ∙ c.in_ok-homes.ensures.housed.many in
+    let a = c.homes.new.out in
+    let m = c.take_parameters.new.out in
+    let z = c.statement.new.out in
+    let e = c.end_function.new.out in
+    let first = parameters_kept p d c.parameter_temps.new.out a c.in_ok-parameter_temps.ensures.parameters
+    c.in_ok-homes.ensures.grown.keeps in
+    let ending = c.in_ok-end_function.ensures.keeps in
+    let keeps = keeps_then a.kinds.items z.kinds.items e.kinds.items
+    (keeps_then a.kinds.items m.kinds.items z.kinds.items c.in_ok-take_parameters.ensures.lowered.built.keeps
+    c.in_ok-statement.ensures.lowered.built.keeps) ending in
+    let homed = subst (λ t. AreHomes p d c.as_slice.result.now t) (sym c.temps.ensures)
+    (subst (λ hs. AreHomes p d hs (length a.kinds.items)) (sym same) c.in_ok-homes.ensures.homes) in
+    function_is p d n c.requires.fits c.requires.ready.ordered there standing c.args.program.writes.now
+    c.as_slice.result.now c.temps.result (c.requires.covered d.vars) homed many (few_parameters c.requires.fits) a m z e
+    c.finished.result (subst (λ hs. Housed p d hs a) (sym same) c.in_ok-homes.ensures.housed)
+    (code_none c.in_ok-parameter_temps.ensures.added c.in_ok-homes.ensures.added c.new-out.ensures.code)
+    (sym c.temps.ensures) (omega (arith, parameters_there p d a first, c.temps.ensures))
+    c.in_ok-take_parameters.ensures.takes c.in_ok-statement.ensures.is keeps ending c.in_ok-end_function.ensures.ends
+    c.finished.ensures.makes

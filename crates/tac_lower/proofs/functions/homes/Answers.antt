@@ -1,6 +1,6 @@
 use Rattle.std.proofs.Common.{◌+◌, length, refl, ap, sym, subst, arith}
 use Rattle.tac_lower.proofs.Homes.{HomesTo, variable_at, object_among, objects_at, homes_none, homes_at, homes_all}
-use Rattle.tac_lower.proofs.Homes.{homes_add, parameters_kept, taken_few}
+use Rattle.tac_lower.proofs.Homes.{homes_add, parameters_kept, parameters_there, taken_few}
 use Rattle.tac_lower.proofs.Spending.{spent_within}
 use Rattle.tac_lower.proofs.Zeroing.{Apart, apart_none, apart_more}
 use Rattle.tac_lower.proofs.functions.homes.Goals as goal
@@ -64,7 +64,9 @@ loop-v-preserved c =
       homes =
           subst (λ z. HomesTo p d c.args.out.now e z (i + 1)) (sym c.in_ok-push.ensures.items)
           (homes_at p _ d.vars i _ same c.loop-v-test.true d c.args.out.now c.loop-v.out e c.loop-v.found.items
-          c.in_ok-home.home refl so_far.homes given.grown given.adds given.home given.spent);
+          c.in_ok-home.home refl so_far.homes given.grown given.adds given.home given.spent
+          given.added c.loop-v.count.variable c.loop-v.count.objects so_far.variable so_far.objects
+          (parameters_there p d c.loop-v.out so_far.parameters) given.next);
       parameters = parameters_kept p d c.loop-v.out e so_far.parameters given.grown.keeps;
       apart = subst (λ z. Apart z c.with-count.result.objects) (sym c.in_ok-push.ensures.items)
           (apart_more c.loop-v.found.items c.in_ok-home.home _ c.loop-v.count.objects c.with-count.result.objects
@@ -96,3 +98,9 @@ returns-clause-spent c =
 
 pub returns-clause-apart : goal.returns-clause-apart
 returns-clause-apart c = c.loop-v.invariant.apart.once
+
+pub returns-clause-homes : goal.returns-clause-homes
+returns-clause-homes c = c.loop-v.invariant.homes.homed
+
+pub returns-clause-added : goal.returns-clause-added
+returns-clause-added c = c.loop-v.invariant.homes.added

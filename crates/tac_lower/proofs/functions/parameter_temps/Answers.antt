@@ -27,7 +27,7 @@ loop-x-preserved c =
     c.in_ok-temp.ensures.adds
     c.in_ok-temp.ensures.next c.in_ok-temp.ensures.has kind
     (number_of c.as_slice-x-items.result.now d.params c.loop-x.x-index c.as_slice-x-items.ensures (omega arith))
-    c.in_ok-temp.ensures.spent
+    c.in_ok-temp.ensures.spent c.in_ok-temp.ensures.emits.added
 
 pub returns-clause-parameters : goal.returns-clause-parameters
 returns-clause-parameters c =
@@ -48,3 +48,6 @@ pub returns-clause-spent : goal.returns-clause-spent
 returns-clause-spent c =
     let same = ap length c.as_slice-x-items.ensures in
     spent_within c.loop-x.invariant.spent (omega arith) (omega arith)
+
+pub returns-clause-added : goal.returns-clause-added
+returns-clause-added c = c.loop-x.invariant.added

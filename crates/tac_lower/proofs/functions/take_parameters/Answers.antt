@@ -1,6 +1,11 @@
 use Rattle.std.proofs.Common.{get_or, length, ap, sym, subst, refl, arith}
 use Rattle.tac_lower.specs.Emitted.{HasKind}
 use Rattle.tac_lower.specs.Signed.{kept_parameter}
+use Rattle.std.proofs.lemmas.List.{take_all}
+use Rattle.tac_lower.specs.Programs.{taking}
+use Rattle.tac_lower.specs.Shown.{Emits}
+use Rattle.tac_lower.proofs.Emitting.{none_emits}
+use Rattle.tac_lower.proofs.Taking.{takes_more}
 use Rattle.tac_lower.proofs.Homes.{number_of}
 use Rattle.tac_lower.proofs.Spending.{spent_same, taken_enters, enters_then, enters_within}
 use Rattle.tac_lower.specs.Zeroed.{is_taken}
@@ -14,6 +19,7 @@ loop-x-init c = record {
   spent = enters_within (taken_enters (spent_same _ 0)) (omega arith) (omega arith) (omega arith)
       (λ v. omega arith);
   number = refl;
+  takes = none_emits c.args.out.now;
 }
 
 pub take_parameter-requires-clause-scene : goal.take_parameter-requires-clause-scene
@@ -44,6 +50,11 @@ loop-x-preserved c =
             ap (λ z. is_taken c.args.cx.homes.now v (get_or z c.loop-x.x-index 0)) c.as_slice-x-items.ensures,
           ));
       number = omega arith;
+      takes = takes_more c.args.cx.homes.now (kept_parameter c.args.cx.p.now c.args.d.now) c.args.d.now.pos
+          c.args.d.now.params c.loop-x.x-index c.loop-x.t (get_or c.as_slice-x-items.result.now c.loop-x.x-index 0)
+          number (number_of c.as_slice-x-items.result.now c.args.d.now.params c.loop-x.x-index
+          c.as_slice-x-items.ensures
+          (omega arith)) c.loop-x.invariant.takes c.in_ok-take_parameter.ensures.takes;
     }
 
 pub returns-clause-lowered : goal.returns-clause-lowered
@@ -54,3 +65,10 @@ returns-clause-spent c =
     let same = ap length c.as_slice-x-items.ensures in
     enters_within c.loop-x.invariant.spent (omega arith) (omega arith) (omega arith)
     (λ v. omega (arith, taken_some c.args.cx.homes.now c.args.d.now.params c.loop-x.x-index v))
+
+pub returns-clause-takes : goal.returns-clause-takes
+returns-clause-takes c =
+    let same = ap length c.as_slice-x-items.ensures in
+    subst (λ xs. Emits c.args.out.now c.loop-x.out 0 (taking c.args.cx.homes.now
+    (kept_parameter c.args.cx.p.now c.args.d.now) c.args.d.now.pos xs 0))
+    (take_all c.loop-x.x-index c.args.d.now.params (omega arith)) c.loop-x.invariant.takes

@@ -7,8 +7,13 @@ use Rattle.tac_lower.specs.Lowered.{names_of, names_in}
 use Rattle.tac_lower.specs.Tables.{TableFits}
 use Rattle.tac_lower.proofs.Copying.{copies_of_functions}
 use Rattle.tac_lower.proofs.Costing.{CostsTo, costs_none, costs_more, copied_by, copies_more}
-use Rattle.tac_lower.proofs.Costing.{AllZeroOnce, zeros_none, zeros_more}
+use Rattle.tac_lower.proofs.Costing.{AllZeroOnce, AllShort, short_none, short_more, zeros_none, zeros_more}
 use Rattle.tac_lower.proofs.Homes.{function_at, named_next, formed_next, light_next, are_functions}
+use Rattle.lower_runs.specs.Programs.{AreCodeOf}
+use Rattle.tac_lower.specs.Trees.{AreCovered, signatures}
+use Rattle.cheri_c_sem.specs.Expressions.{expr_tree}
+use Rattle.tac_lower.proofs.Whole.{codes_next}
+use Rattle.tac_lower.proofs.Sound.{runs_as, is_within}
 use Rattle.tac_lower.proofs.lowering.lower.Goals as goal
 
 pub loop-d-init : goal.loop-d-init
@@ -17,7 +22,9 @@ loop-d-init c = record {
   costs = subst (λ z. CostsTo c.args.p.now z 0) (sym c.new-funs.ensures.items) (costs_none c.args.p.now);
   copies = omega (arith, ap (sum_by function_copies) c.new-funs.ensures.items);
   zeros = subst AllZeroOnce (sym c.new-funs.ensures.items) zeros_none;
+  short = subst AllShort (sym c.new-funs.ensures.items) short_none;
   formed = ap (λ z. functions_fit c.args.p.now [] z) c.new-funs.ensures.items;
+  is = λ st. subst (λ z. AreCodeOf c.args.p.now (signatures c.args.p.now) 0 [] z) (sym c.new-funs.ensures.items) tt;
 }
 
 pub function-requires-clause-ready : goal.function-requires-clause-ready
@@ -60,9 +67,13 @@ loop-d-preserved c =
       copies = subst (λ z. sum_by function_copies z ≤ copied_by p (take (i + 1) xs)) items
           (copies_more p xs i d fs f c.loop-d-test.true c.d-item.is c.loop-d.invariant.copies c.in_ok-f.ensures.copies);
       zeros = subst AllZeroOnce items (zeros_more fs f c.loop-d.invariant.zeros c.in_ok-f.ensures.zeros);
+      short = subst AllShort items (short_more fs f c.loop-d.invariant.short c.in_ok-f.ensures.short);
       formed = subst (λ z. functions_fit p (take (i + 1) xs) z ≡ true) items
           (formed_next p xs i d same c.loop-d-test.true c.d-item.is fs f c.loop-d.invariant.formed
           c.in_ok-f.ensures.formed);
+      is = λ st. subst (λ z. AreCodeOf p (signatures p) 0 (take (i + 1) xs) z) items
+          (codes_next p (signatures p) xs i d fs f c.loop-d-test.true c.d-item.is (c.loop-d.invariant.is st)
+          (c.in_ok-f.ensures.is st i (function_at p xs i d same c.loop-d-test.true c.d-item.is)));
     }
 
 pub returns-clause-named : goal.returns-clause-named
@@ -98,3 +109,29 @@ returns-clause-copies c =
 
 pub returns-clause-zeros : goal.returns-clause-zeros
 returns-clause-zeros c = subst AllZeroOnce (sym c.from_vec.ensures) c.loop-d.invariant.zeros
+
+pub returns-clause-short : goal.returns-clause-short
+returns-clause-short c = subst AllShort (sym c.from_vec.ensures) c.loop-d.invariant.short
+
+pub function-requires-clause-covered : goal.function-requires-clause-covered
+function-requires-clause-covered c = λ vars.
+    subst (λ z. AreCovered z (expr_tree c.args.p.now vars)) (sym c.as_slice-2.ensures.value)
+    (c.in_ok-writes.ensures c.requires.ordered vars)
+
+pub returns-clause-is : goal.returns-clause-is
+returns-clause-is c = λ st.
+    let p = c.args.p.now in
+    let all = take_all c.loop-d.d-index c.as_slice-defs.result.now c.loop-d-test.false ∙ c.as_slice-defs.ensures in
+    record {
+      signs = signatures p;
+      functions = subst (λ z. AreCodeOf p (signatures p) 0 p.funs z) (sym c.from_vec.ensures)
+          (subst (λ z. AreCodeOf p (signatures p) 0 z c.loop-d.funs.items) all (c.loop-d.invariant.is st));
+    }
+
+pub returns-clause-same : goal.returns-clause-same
+returns-clause-same c = λ sound. runs_as c.args.p.now sound _ (returns-clause-is c)
+
+pub returns-clause-within : goal.returns-clause-within
+returns-clause-within c = λ sound.
+    is_within c.args.p.now sound _ (returns-clause-is c) (returns-clause-formed c) (returns-clause-costs c)
+    (returns-clause-copies c) (returns-clause-zeros c)

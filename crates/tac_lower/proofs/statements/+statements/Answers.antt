@@ -1,10 +1,10 @@
-use Rattle.std.proofs.Common.{◌+◌, ◌*◌, [], ◌∷◌, ◌++◌, length, take, drop, refl, sym, ap, subst, arith}
-use Rattle.c_tree.specs.WellTyped.{AreVars}
+use Rattle.std.proofs.Common.{◌+◌, ◌*◌, [], ◌∷◌, ◌++◌, length, take, drop, refl, sym, ap, ◌∙◌, subst, arith}
+use Rattle.c_tree.specs.WellTyped.{AreVars, type_in}
 use Rattle.tac_lower.specs.Copied.{part_copies, all_part_copies}
-use Rattle.tac_lower.specs.Nodes.{weight_in, expression}
+use Rattle.tac_lower.specs.Nodes.{weight_in, expression, or_int}
 use Rattle.tac_lower.specs.Parts.{statement, heft_in, hefts_in, is_entered, entered, entered_in, all_entered_in}
 use Rattle.tac_lower.specs.Parts.{declared_by, or_none}
-use Rattle.tac_lower.specs.Scenes.{Opened, frame_of}
+use Rattle.tac_lower.specs.Scenes.{Opened, frame_of, given_in}
 use Rattle.tac_lower.specs.Statements.{AreParts, labels_in}
 use Rattle.tac_lower.specs.Zeroed.{is_zeroed, zeroed, all_zeroed_in}
 use Rattle.tac_lower.proofs.Below.{below, block_body, if_first, if_second, while_body, do_body, for_first, for_body}
@@ -25,6 +25,16 @@ use Rattle.tac_lower.proofs.Steps.{heavy, start, both, at_most, still, as_kind, 
 use Rattle.tac_lower.proofs.Steps.{tail_stands, fork, label, opened, turned, first_open, second_open, opened_has}
 use Rattle.tac_lower.proofs.Steps.{opened_room}
 use Rattle.tac_lower.proofs.Switching.{opened_beside, opened_at_most, opened_label, open_last, none_behind}
+use Rattle.std.proofs.lemmas.Result.{IfOk-weaker}
+use Rattle.std.proofs.lemmas.List.{length-take-le, take_more, take_all}
+use Rattle.c_tree.specs.declared.typed.StmtKind.TheVariants as stmts
+use Rattle.tac_lower.specs.Stating.{exits_as, routine}
+use Rattle.tac_lower.proofs.Stated.{states_choice, states_guarded, states_loop, states_repeated, states_none}
+use Rattle.tac_lower.proofs.Stated.{states_evaluated, states_block, states_nothing, states_break, states_continue}
+use Rattle.tac_lower.proofs.Stated.{states_while, states_counted, states_seq, states_same, states_end, test_scalar}
+use Rattle.tac_lower.proofs.Stated.{test_scalar_if_any, integer_scalar, fewer_statements}
+use Rattle.tac_lower.proofs.Beginning.{states_init}
+use Rattle.tac_lower.proofs.Switched.{switch_begun, switch_more, switch_same, states_switch}
 use Rattle.tac_lower.proofs.statements.+statements.Goals as goal
 
 -- ---- calls among statements
@@ -328,6 +338,7 @@ statements-loop-s-init t c =
     record {
       lowered = at_most (start c.requires.scene) (omega arith);
       spends = parts_within (of_expression nothing) (omega arith) (omega arith) (omega arith) (λ w. omega arith);
+      is = states_end (routine c.args.cx) c.requires.ordered c.requires.scene.ready.ordered _ _;
     }
 
 pub statements-loop-s-preserved : goal.statements-loop-s-preserved
@@ -345,6 +356,9 @@ statements-loop-s-preserved t c =
             all_zeroed_next c.args.cx.p.now c.args.cx.d.now c.args.cx.homes.now c.args.body.now
                 c.loop-s.s-index w (omega arith),
           ));
+      is = states_seq _ c.requires.ordered c.requires.scene.ready.ordered _ _
+          (take_more c.args.body.now c.loop-s.s-index 0 (omega arith)) c.loop-s.invariant.is
+          c.in_ok-statement.ensures.is;
     }
 
 pub statements-returns-clause-lowered : goal.statements-returns-clause-lowered
@@ -875,6 +889,10 @@ switch-loop-s-init t c =
           (of_code (labelled_spent c.label-end.ensures.labelled)))
           (of_code c.in_ok-cases.ensures.spent)) (omega (arith, some)) (omega (arith, some)) (omega arith)
           (λ w. omega arith);
+      count = refl;
+      is = switch_begun (routine c.args.cx) c.requires.ordered c.requires.scene.ready.ordered
+          c.in_ok-cases.cases (c.kind.ensures c.requires.scene.ready) c.in_ok-v.ensures.is c.in_ok-enter.ensures.is
+          c.label-end.ensures.labelled c.in_ok-cases.ensures.is;
     }
 
 pub switch-returns-clause-lowered : goal.switch-returns-clause-lowered
@@ -961,6 +979,11 @@ switch-loop-s-preserved t c =
             all_zeroed_next c.args.cx.p.now c.args.cx.d.now c.args.cx.homes.now c.args.body.now i w
                 (omega arith),
           ));
+      count = omega (arith, c.loop-s.invariant.count, fewer_statements p c.args.body.now, c.requires.room.temps);
+      is = switch_more (routine c.args.cx) c.requires.ordered c.requires.scene.ready.ordered _
+          (take_more c.args.body.now i 0 (omega arith))
+          (c.loop-s.invariant.count ∙ sym (length-take-le i c.args.body.now (omega arith)))
+          c.loop-s.invariant.is c.in_ok-first.ensures.is c.in_ok-statement.ensures.is;
     }
 
 pub statement-returns-in-Return-clause-spends : goal.statement-returns-in-Return-clause-spends
@@ -975,3 +998,166 @@ statement-returns-in_default-clause-spends t c =
 pub statement-returns-in-Empty-clause-spends : goal.statement-returns-in-Empty-clause-spends
 statement-returns-in-Empty-clause-spends t c =
     parts_within (of_expression nothing) (omega arith) (omega arith) (omega arith) (λ w. omega arith)
+
+-- ---- whose code it is
+
+pub choice-returns-clause-is : goal.choice-returns-clause-is
+choice-returns-clause-is t c = IfOk-weaker c.join_fork.result _ _
+    (λ q h n scalar. states_choice _ c.requires.ordered c.requires.scene.ready.ordered n scalar
+    c.fork-fork.ensures.forked c.in_ok-condition.ensures.is c.in_ok-statement.ensures.is
+    c.in_ok-turn_fork.ensures.emits c.in_ok-statement-2.ensures.is h) c.join_fork.ensures.stands
+
+pub guarded-returns-clause-is : goal.guarded-returns-clause-is
+guarded-returns-clause-is t c = IfOk-weaker c.stand.result _ _
+    (λ q h k n scalar. states_guarded _ c.requires.ordered c.requires.scene.ready.ordered n scalar
+    c.label-label.ensures.labelled c.in_ok-condition.ensures.is c.in_ok-statement.ensures.is h) c.stand.ensures.stands
+
+pub tested_loop-returns-clause-is : goal.tested_loop-returns-clause-is
+tested_loop-returns-clause-is t c = IfOk-weaker c.end_loop.result _ _
+    (λ q h. states_loop _ c.requires.ordered c.requires.scene.ready.ordered c.in_ok-circle.ensures.begun
+    c.in_ok-test_loop.ensures.is c.in_ok-loop_body.ensures.is c.in_ok-step_loop.ensures.is h)
+    c.end_loop.ensures.emits
+
+pub repeated_loop-returns-clause-is : goal.repeated_loop-returns-clause-is
+repeated_loop-returns-clause-is t c = IfOk-weaker c.end_loop.result _ _
+    (λ q h k x n scalar. states_repeated _ c.requires.ordered c.requires.scene.ready.ordered n scalar
+    c.in_ok-circle.ensures.begun c.in_ok-loop_body.ensures.is c.in_ok-condition.ensures.is h)
+    c.end_loop.ensures.emits
+
+pub loop_body-returns-clause-is : goal.loop_body-returns-clause-is
+loop_body-returns-clause-is t c = IfOk-weaker c.stand.result _ _
+    (λ q h. record { middle = c.statement.new.out; body = c.in_ok-statement.ensures.is; stands = h })
+    c.stand.ensures.stands
+
+pub block-returns-clause-is : goal.block-returns-clause-is
+block-returns-clause-is t c = IfOk-weaker c.statements.result _ _
+    (λ q h. record { entry = c.enter.new.out; entered = c.in_ok-enter.ensures.is; body = h }) c.statements.ensures.is
+
+pub statement-returns-in_default-clause-is : goal.statement-returns-in_default-clause-is
+statement-returns-in_default-clause-is t c =
+    states_none _ c.requires.ordered c.requires.scene.ready.ordered c.args.k c.in_default.ensures
+
+pub statement-returns-in-Expr-clause-is : goal.statement-returns-in-Expr-clause-is
+statement-returns-in-Expr-clause-is t c = IfOk-weaker c.effect.result _ _
+    (λ q h. states_evaluated _ c.requires.ordered c.requires.scene.ready.ordered
+    (record { node = _; there = c.in-Some.ensures; is = c.in-Expr.is }) h) c.effect.ensures.is
+
+pub statement-returns-in-Block-clause-is : goal.statement-returns-in-Block-clause-is
+statement-returns-in-Block-clause-is t c = IfOk-weaker c.block.result _ _
+    (λ q h. states_block _ c.requires.ordered c.requires.scene.ready.ordered
+    (record {
+      node = _;
+      there = c.in-Some.ensures;
+      is = c.in-Block.is ∙ ap (λ z. stmts.Block z c.in-Block.body) (sym c.as_slice.ensures)
+          ∙ ap (stmts.Block c.as_slice.result.now) (sym c.as_slice-in-Block.ensures);
+    }) h) c.block.ensures.is
+
+pub statement-returns-in-Empty-clause-is : goal.statement-returns-in-Empty-clause-is
+statement-returns-in-Empty-clause-is t c =
+    states_nothing _ c.requires.ordered c.requires.scene.ready.ordered
+    (record { node = _; there = c.in-Some.ensures; is = c.in-Empty.is })
+
+pub statement-returns-in-Break-clause-is : goal.statement-returns-in-Break-clause-is
+statement-returns-in-Break-clause-is t c = IfOk-weaker c.jump_out.result _ _
+    (λ q h. states_break _ c.requires.ordered c.requires.scene.ready.ordered
+    (record { node = _; there = c.in-Some.ensures; is = c.in-Break.is }) h) c.jump_out.ensures.is
+
+pub statement-returns-in-Continue-clause-is : goal.statement-returns-in-Continue-clause-is
+statement-returns-in-Continue-clause-is t c = IfOk-weaker c.jump_out-in-Continue.result _ _
+    (λ q h. states_continue _ c.requires.ordered c.requires.scene.ready.ordered
+    (record { node = _; there = c.in-Some.ensures; is = c.in-Continue.is }) h) c.jump_out-in-Continue.ensures.is
+
+pub statement-returns-in-Some-b-clause-is : goal.statement-returns-in-Some-b-clause-is
+statement-returns-in-Some-b-clause-is t c = IfOk-weaker c.choice.result _ _
+    (λ q h. h (record {
+      node = _;
+      there = c.in-Some.ensures;
+      is = c.in-If.is
+          ∙ ap (stmts.If c.in-If.c c.in-If.a) c.in-Some-b.is;
+    })
+    (test_scalar (chooses (frame_of c.args.cx.p.now c.args.cx.d.now) c.args.k c.in-Some.s.now
+    c.requires.scene.ready.ordered c.in-Some.ensures c.requires.part c.in-If.is).test)) c.choice.ensures.is
+
+pub statement-returns-in-None-clause-is : goal.statement-returns-in-None-clause-is
+statement-returns-in-None-clause-is t c = IfOk-weaker c.guarded.result _ _
+    (λ q h. h c.args.k (record {
+      node = _;
+      there = c.in-Some.ensures;
+      is = c.in-If.is
+          ∙ ap (stmts.If c.in-If.c c.in-If.a) c.in-None.is;
+    })
+    (test_scalar (chooses (frame_of c.args.cx.p.now c.args.cx.d.now) c.args.k c.in-Some.s.now
+    c.requires.scene.ready.ordered c.in-Some.ensures c.requires.part c.in-If.is).test)) c.guarded.ensures.is
+
+pub statement-returns-in-Do-clause-is : goal.statement-returns-in-Do-clause-is
+statement-returns-in-Do-clause-is t c = IfOk-weaker c.repeated_loop.result _ _
+    (λ q h. h c.args.k (exits_as c.args.exits) (record { node = _; there = c.in-Some.ensures; is = c.in-Do.is })
+    (test_scalar (does (frame_of c.args.cx.p.now c.args.cx.d.now) c.args.k c.in-Some.s.now
+    c.requires.scene.ready.ordered c.in-Some.ensures c.requires.part c.in-Do.is).test)) c.repeated_loop.ensures.is
+
+pub statement-returns-in-While-clause-is : goal.statement-returns-in-While-clause-is
+statement-returns-in-While-clause-is t c = IfOk-weaker c.tested_loop.result _ _
+    (λ q h. states_while _ c.requires.ordered c.requires.scene.ready.ordered
+    (record { node = _; there = c.in-Some.ensures; is = c.in-While.is })
+    (test_scalar (whiles (frame_of c.args.cx.p.now c.args.cx.d.now) c.args.k c.in-Some.s.now
+    c.requires.scene.ready.ordered c.in-Some.ensures c.requires.part c.in-While.is).test) h) c.tested_loop.ensures.is
+
+pub statement-returns-in-Return-clause-is : goal.statement-returns-in-Return-clause-is
+statement-returns-in-Return-clause-is t c = IfOk-weaker c.leave.result _ _
+    (λ q h. h (exits_as c.args.exits) (record { node = _; there = c.in-Some.ensures; is = c.in-Return.is }))
+    c.leave.ensures.is
+
+pub statement-returns-in_ok-block-in-For-clause-is : goal.statement-returns-in_ok-block-in-For-clause-is
+statement-returns-in_ok-block-in-For-clause-is t c = IfOk-weaker c.tested_loop-in-For.result _ _
+    (λ q h. states_counted _ c.requires.ordered c.requires.scene.ready.ordered
+    (record {
+      node = _;
+      there = c.in-Some.ensures;
+      is = c.in-For.is
+          ∙ ap (λ z. stmts.For z c.in-For.first c.in-For.test c.in-For.step c.in-For.body)
+          (sym c.as_slice-in-For.ensures)
+          ∙ ap (λ z. stmts.For c.as_slice-in-For.result.now z c.in-For.test c.in-For.step c.in-For.body)
+          (sym c.as_slice-in-For-2.ensures);
+    })
+    (test_scalar_if_any c.in-For.test (fors (frame_of c.args.cx.p.now c.args.cx.d.now) c.args.k c.in-Some.s.now
+    c.requires.scene.ready.ordered c.in-Some.ensures c.requires.part c.in-For.is).test_fits)
+    c.in_ok-block-in-For.ensures.is h) c.tested_loop-in-For.ensures.is
+
+pub statements-returns-clause-is : goal.statements-returns-clause-is
+statements-returns-clause-is t c =
+    states_same (routine c.args.cx) c.requires.ordered c.requires.scene.ready.ordered (exits_as c.args.exits)
+    (take_all c.loop-s.s-index c.args.body.now (omega arith)) c.loop-s.invariant.is
+
+pub switch-returns-clause-is : goal.switch-returns-clause-is
+switch-returns-clause-is t c = IfOk-weaker c.stand.result _ _
+    (λ q h n scalar. states_switch (routine c.args.cx) c.requires.ordered c.requires.scene.ready.ordered n scalar
+    (ap or_int scalar.is.is) refl c.requires.scene.housed c.requires.there
+    (switch_same (routine c.args.cx) c.requires.ordered c.requires.scene.ready.ordered
+    (take_all c.loop-s.s-index c.args.body.now (omega arith)) c.loop-s.invariant.is)
+    c.in_ok-stand_behind.ensures.is h) c.stand.ensures.stands
+
+pub statement-returns-in-Switch-clause-is : goal.statement-returns-in-Switch-clause-is
+statement-returns-in-Switch-clause-is t c = IfOk-weaker c.switch.result _ _
+    (λ q h. h (record {
+      node = _;
+      there = c.in-Some.ensures;
+      is = c.in-Switch.is
+          ∙ ap (λ z. stmts.Switch c.in-Switch.on z c.in-Switch.labels c.in-Switch.body)
+          (sym c.as_slice-in-Switch.ensures)
+          ∙ ap (λ z. stmts.Switch c.in-Switch.on c.as_slice-in-Switch.result.now z c.in-Switch.body)
+          (sym c.as_slice-in-Switch-2.ensures)
+          ∙ ap (stmts.Switch c.in-Switch.on c.as_slice-in-Switch.result.now c.as_slice-in-Switch-2.result.now)
+          (sym c.as_slice-in-Switch-3.ensures);
+    })
+    (integer_scalar (switches (frame_of c.args.cx.p.now c.args.cx.d.now) c.args.k c.in-Some.s.now
+    c.requires.scene.ready.ordered c.in-Some.ensures c.requires.part c.in-Switch.is).integer)) c.switch.ensures.is
+
+pub statement-returns-in-Init-clause-is : goal.statement-returns-in-Init-clause-is
+statement-returns-in-Init-clause-is t c =
+    let p = c.args.cx.p.now in
+    let part = initialises (frame_of p c.args.cx.d.now) c.args.k c.in-Some.s.now c.requires.scene.ready.ordered
+    c.in-Some.ensures c.requires.part c.in-Init.is in
+    IfOk-weaker c.initialise.result _ _
+    (λ q h. states_init (routine c.args.cx) c.requires.ordered c.requires.scene.ready.ordered
+    (record { node = _; there = c.in-Some.ensures; is = c.in-Init.is }) (given_in (type_in p c.args.cx.d.now.of))
+    part.value (h c.requires.fits)) c.initialise.ensures.is

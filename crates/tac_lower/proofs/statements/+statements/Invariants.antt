@@ -1,11 +1,13 @@
-use Rattle.std.proofs.Common.{◌+◌, ◌*◌, [], ◌∷◌, ◌++◌, drop, length, take}
+use Rattle.std.proofs.Common.{◌≡◌, ◌+◌, ◌*◌, [], ◌∷◌, ◌++◌, drop, length, take}
 use Rattle.tac_lower.specs.Copied.{copies_in, all_part_copies}
-use Rattle.tac_lower.specs.Nodes.{weight_in}
+use Rattle.tac_lower.specs.Cases.{labels_as, ShowsSwitch}
+use Rattle.tac_lower.specs.Nodes.{weight_in, kind_in}
 use Rattle.tac_lower.specs.Parts.{hefts_in, entered, all_entered_in}
 use Rattle.tac_lower.specs.Scenes.{Lowered, Opened}
 use Rattle.tac_lower.specs.Spent.{Consumes, SpendsPart}
 use Rattle.tac_lower.specs.Zeroed.{zeroed, all_zeroed_in}
 use Rattle.tac_lower.specs.Statements.{labels_in}
+use Rattle.tac_lower.specs.Stating.{ShowsStatements, exits_as, routine}
 use Rattle.tac_lower.proofs.statements.+statements.Given as goal
 
 abbrev pub decreases-loop_body : goal.decreases-loop_body
@@ -43,6 +45,7 @@ invariant-statements-loop-s l = record {
       (all_part_copies l.cx.p.now (take l.s-index l.body))
       (all_entered_in l.cx.p.now l.cx.d.now (take l.s-index l.body))
       (all_zeroed_in l.cx.p.now l.cx.d.now l.cx.homes.now (take l.s-index l.body)) l.fn.out l.out;
+  is : ShowsStatements (routine l.cx) (take l.s-index l.body) (exits_as l.exits) l.fn.out l.out;
 }
 
 abbrev pub invariant-switch-loop-s : goal.invariant-switch-loop-s
@@ -57,4 +60,7 @@ invariant-switch-loop-s l = record {
       (copies_in l.cx.p.now l.fn.on + all_part_copies l.cx.p.now (take l.s-index l.body))
       (λ v. zeroed l.cx.d.now l.cx.homes.now l.fn.vars v
       + all_zeroed_in l.cx.p.now l.cx.d.now l.cx.homes.now (take l.s-index l.body) v);
+  count : l.before ≡ l.s-index;
+  is : ShowsSwitch (routine l.cx) l.fn.on l.fn.vars (labels_as l.fn.labels) (exits_as l.fn.exits)
+      (kind_in l.cx.p.now l.fn.on) l.v l.end (drop l.first l.cases.cases.items) (take l.s-index l.body) l.fn.out l.out;
 }

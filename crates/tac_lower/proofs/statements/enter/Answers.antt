@@ -1,4 +1,6 @@
 use Rattle.std.proofs.Common.{arith}
+use Rattle.std.proofs.lemmas.List.{take_more, take_all}
+use Rattle.tac_lower.proofs.Sites.{entered_none, entered_same, entered_more}
 use Rattle.tac_lower.proofs.Entering.{entered_next, entered_taken}
 use Rattle.tac_lower.proofs.Spending.{spent_same, taken_enters, enters_then, enters_within}
 use Rattle.tac_lower.proofs.Steps.{start, both, at_most}
@@ -10,6 +12,7 @@ loop-x-init c = record {
   lowered = start c.requires.scene;
   spent = enters_within (taken_enters (spent_same _ 0)) (omega arith) (omega arith) (omega arith)
       (λ v. omega arith);
+  is = entered_none _ _;
 }
 
 pub enter_variable-requires-clause-scene : goal.enter_variable-requires-clause-scene
@@ -27,6 +30,8 @@ loop-x-preserved c =
             zeroed_next c.args.cx.d.now c.args.cx.homes.now c.args.vars.now c.loop-x.x-index v
                 (omega arith),
           ));
+      is = entered_more _ (take_more c.args.vars.now c.loop-x.x-index 0 (omega arith)) c.loop-x.invariant.is
+          c.in_ok-enter_variable.ensures.is;
     }
 
 pub returns-clause-lowered : goal.returns-clause-lowered
@@ -37,3 +42,7 @@ returns-clause-spent c =
     let all = entered_taken c.args.cx.d.now c.args.vars.now c.loop-x.x-index in
     enters_within c.loop-x.invariant.spent (omega arith) (omega (arith, all)) (omega arith)
     (λ v. omega (arith, zeroed_some c.args.cx.d.now c.args.cx.homes.now c.args.vars.now c.loop-x.x-index v))
+
+pub returns-clause-is : goal.returns-clause-is
+returns-clause-is c =
+    entered_same _ (take_all c.loop-x.x-index c.args.vars.now (omega arith)) c.loop-x.invariant.is

@@ -6,6 +6,7 @@ use Rattle.tac_lower.proofs.Steps.{start, tail_grew}
 use Rattle.tac_lower.proofs.Entering.{entered_one}
 use Rattle.tac_lower.proofs.Spending.{spent_same, taken_enters, enters_within}
 use Rattle.tac_lower.proofs.Zeroing.{zeroed_one}
+use Rattle.tac_lower.proofs.Sites.{entered_parameter, entered_value, entered_object, no_home}
 use Rattle.tac_lower.proofs.statements.enter_variable.Goals as goal
 
 pub returns-in-None-clause-lowered : goal.returns-in-None-clause-lowered
@@ -59,3 +60,18 @@ returns-then-is_parameter-clause-lowered c = start c.requires.scene
 pub returns-then-is_parameter-clause-spent : goal.returns-then-is_parameter-clause-spent
 returns-then-is_parameter-clause-spent c =
     enters_within (taken_enters (spent_same _ 0)) (omega arith) (omega arith) (omega arith) (λ v. omega arith)
+
+pub returns-then-is_parameter-clause-is : goal.returns-then-is_parameter-clause-is
+returns-then-is_parameter-clause-is c = entered_parameter _ _ (c.is_parameter.ensures.parameter c.if-is_parameter.true)
+
+pub returns-in-None-clause-is : goal.returns-in-None-clause-is
+returns-in-None-clause-is c =
+    no_home c.args.x c.requires.scene.housed c.requires.there (cc)
+
+pub returns-in-Some-Temp-clause-is : goal.returns-in-Some-Temp-clause-is
+returns-in-Some-Temp-clause-is c = IfOk-weaker c.constant.result _ _ (λ q h. entered_value _ (cc) h)
+    c.constant.ensures.emits
+
+pub returns-in-Some-Object-clause-is : goal.returns-in-Some-Object-clause-is
+returns-in-Some-Object-clause-is c = IfOk-weaker c.enter_object.result _ _ (λ q h. entered_object _ (cc) h)
+    c.enter_object.ensures.entered

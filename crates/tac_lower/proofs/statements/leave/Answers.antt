@@ -5,6 +5,11 @@ use Rattle.tac_lower.specs.Scenes.{frame_of}
 use Rattle.tac_lower.proofs.Bodies.{none_returned, value_returned, return_of_none, return_of, tail_left}
 use Rattle.tac_lower.proofs.Spending.{nothing, last_and}
 use Rattle.tac_lower.proofs.Steps.{heavy, start, less_room}
+use Rattle.std.proofs.lemmas.Result.{IfOk-weaker}
+use Rattle.tac_lower.specs.Stating.{IsStmt}
+use Rattle.c_tree.specs.declared.typed.StmtKind.TheVariants as stmts
+use Rattle.tac_lower.proofs.Bodies.{given_kept}
+use Rattle.tac_lower.proofs.Stated.{states_returned, states_left, states_given}
 use Rattle.tac_lower.proofs.statements.leave.Goals as goal
 
 pub returns-in_default-clause-lowered : goal.returns-in_default-clause-lowered
@@ -82,3 +87,35 @@ returns-in_ok-v-in-Some-scalar-clause-spends c =
     let one = heavy (expression c.args.cx.p.now c.in-Some.a) in
     last_and _ _ _ _ c.leave-in-Some-scalar.result c.in_ok-v-in-Some-scalar.ensures.spends
     c.leave-in-Some-scalar.ensures.spent (omega arith) (omega arith) (omega arith)
+
+pub returns-in_default-clause-is : goal.returns-in_default-clause-is
+returns-in_default-clause-is c =
+    let part = subst (λ z. ReturnPart (frame_of c.args.cx.p.now c.args.cx.d.now) c.args.k z) c.in_default.is
+    c.requires.part in
+    IfOk-weaker c.leave.result _ _
+    (λ q h x n. states_returned _ c.requires.ordered c.requires.scene.ready.ordered
+    (subst (λ z. IsStmt c.args.cx.p.now c.args.k (stmts.Return z)) c.in_default.is n)
+    (given_kept c.requires.fits ∙ none_returned c.requires.fits c.args.k part) h) c.leave.ensures.pushed
+
+pub returns-in_ok-effect-in-None-clause-is : goal.returns-in_ok-effect-in-None-clause-is
+returns-in_ok-effect-in-None-clause-is c =
+    let part = subst (λ z. ReturnPart (frame_of c.args.cx.p.now c.args.cx.d.now) c.args.k z) c.in-Some.is
+    c.requires.part in
+    let none = sym (value_returned c.requires.fits c.args.k c.in-Some.a part)
+    ∙ sym (c.scalar.ensures c.requires.scene.ready) ∙ c.in-None.is in
+    IfOk-weaker c.leave-in-None.result _ _
+    (λ q h x n. states_left _ c.requires.ordered c.requires.scene.ready.ordered
+    (subst (λ z. IsStmt c.args.cx.p.now c.args.k (stmts.Return z)) c.in-Some.is n)
+    (given_kept c.requires.fits ∙ none) c.in_ok-effect-in-None.ensures.is h) c.leave-in-None.ensures.pushed
+
+pub returns-in_ok-v-in-Some-scalar-clause-is : goal.returns-in_ok-v-in-Some-scalar-clause-is
+returns-in_ok-v-in-Some-scalar-clause-is c =
+    let part = subst (λ z. ReturnPart (frame_of c.args.cx.p.now c.args.cx.d.now) c.args.k z) c.in-Some.is
+    c.requires.part in
+    let same = value_returned c.requires.fits c.args.k c.in-Some.a part in
+    let some = sym (c.scalar.ensures c.requires.scene.ready) ∙ c.in-Some-scalar.is in
+    IfOk-weaker c.leave-in-Some-scalar.result _ _
+    (λ q h x n. states_given _ c.requires.ordered c.requires.scene.ready.ordered
+    (subst (λ z. IsStmt c.args.cx.p.now c.args.k (stmts.Return z)) c.in-Some.is n)
+    (given_kept c.requires.fits ∙ sym same ∙ some) (record { is = some }) c.in_ok-v-in-Some-scalar.ensures.is h)
+    c.leave-in-Some-scalar.ensures.pushed

@@ -5,6 +5,8 @@ use Rattle.tac_lower.specs.Parts.{or_none}
 use Rattle.tac_lower.proofs.Placings.{at_most_ok}
 use Rattle.tac_lower.proofs.Spending.{nothing, within, last}
 use Rattle.tac_lower.proofs.Steps.{heavy, start, at_most, less_room}
+use Rattle.std.proofs.lemmas.Result.{IfOk-weaker}
+use Rattle.tac_lower.proofs.Stated.{states_stepped, states_unstepped}
 use Rattle.tac_lower.proofs.statements.step_loop.Goals as goal
 
 pub returns-in-None-clause-lowered : goal.returns-in-None-clause-lowered
@@ -34,3 +36,10 @@ returns-in-Some-clause-spends c =
     let few = ap (or_none (copies_in c.args.cx.p.now)) c.in-Some.is in
     let one = heavy (expression c.args.cx.p.now c.in-Some.e) in
     last _ _ _ _ c.effect.result nothing c.effect.ensures.spends (omega arith) (omega arith) (omega arith)
+
+pub returns-in-None-clause-is : goal.returns-in-None-clause-is
+returns-in-None-clause-is c = states_unstepped _ c.requires.ordered c.requires.scene.ready.ordered c.in-None.is
+
+pub returns-in-Some-clause-is : goal.returns-in-Some-clause-is
+returns-in-Some-clause-is c = IfOk-weaker c.effect.result _ _
+    (λ q h. states_stepped _ c.requires.ordered c.requires.scene.ready.ordered c.in-Some.is h) c.effect.ensures.is

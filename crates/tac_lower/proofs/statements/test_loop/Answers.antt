@@ -1,3 +1,4 @@
+use Rattle.tac_lower.specs.Stating.{routine}
 use Rattle.std.proofs.Common.{ap, arith}
 use Rattle.tac_lower.specs.Copied.{copies_in}
 use Rattle.tac_lower.specs.Nodes.{weight_in, expression}
@@ -5,6 +6,8 @@ use Rattle.tac_lower.specs.Parts.{or_none}
 use Rattle.tac_lower.proofs.Placings.{at_most_ok}
 use Rattle.tac_lower.proofs.Spending.{nothing, within, last}
 use Rattle.tac_lower.proofs.Steps.{heavy, start, at_most, less_room}
+use Rattle.std.proofs.lemmas.Result.{IfOk-weaker}
+use Rattle.tac_lower.proofs.Stated.{states_tested, states_untested}
 use Rattle.tac_lower.proofs.statements.test_loop.Goals as goal
 
 pub returns-in-None-clause-lowered : goal.returns-in-None-clause-lowered
@@ -34,3 +37,12 @@ returns-in-Some-clause-spends c =
     let few = ap (or_none (copies_in c.args.cx.p.now)) c.in-Some.is in
     let one = heavy (expression c.args.cx.p.now c.in-Some.c) in
     last _ _ _ _ c.condition.result nothing c.condition.ensures.spends (omega arith) (omega arith) (omega arith)
+
+pub returns-in-None-clause-is : goal.returns-in-None-clause-is
+returns-in-None-clause-is c =
+    states_untested (routine c.args.cx) c.requires.ordered c.requires.scene.ready.ordered c.in-None.is
+
+pub returns-in-Some-clause-is : goal.returns-in-Some-clause-is
+returns-in-Some-clause-is c = IfOk-weaker c.condition.result _ _
+    (λ q h. states_tested (routine c.args.cx) c.requires.ordered c.requires.scene.ready.ordered c.in-Some.is h)
+    c.condition.ensures.is

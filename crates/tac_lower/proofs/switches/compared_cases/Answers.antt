@@ -1,5 +1,11 @@
-use Rattle.std.proofs.Common.{◌+◌, [], ◌∷◌, ◌++◌, ap, sym, ◌∙◌, subst, arith}
+use Rattle.std.proofs.Common.{◌≡◌, true, false, not, ◌+◌, [], ◌∷◌, ◌++◌, ap, sym, ◌∙◌, subst, arith}
 use Rattle.std.proofs.lemmas.List.Sorted.{IsPermutation-sym, IsPermutation-to_front, IsPermutation-map}
+use Rattle.std.specs.Option.{is_some}
+use Rattle.std.proofs.Common.{rules}
+use Rattle.std.proofs.lemmas.List.{take_more, take_all}
+use Rattle.std.proofs.lemmas.List.Sorted.{IsNonDecreasingBy-from_sort_by_key, answers_always}
+use Rattle.tac_lower.specs.Cases.{Compared, labels_as}
+use Rattle.tac_lower.proofs.Cases.{labels_both, compared_more, shows_cases}
 use Rattle.tac_lower.specs.declared.switches.Case.{Case}
 use Rattle.tac_lower.specs.Emitted.{IsOpen}
 use Rattle.tac_lower.specs.Scenes.{Opened}
@@ -30,6 +36,8 @@ loop-l-init c =
       spent = spent_within made.spent (omega arith) (omega arith);
       switched = made.switched;
       otherwise = open_grown c.requires.end made.grown;
+      is = subst (λ z. Compared [] c.args.kind c.args.temp c.args.end c.in_ok-switched.switched c.args.end z a b)
+          (sym c.new-cases.ensures.items) (made.is c.args.end);
     }
 
 pub compare_label-requires-clause-open : goal.compare_label-requires-clause-open
@@ -64,6 +72,19 @@ loop-l-preserved c =
         | else-is_none w ↦ subst (λ z. IsOpen b z) (sym w.otherwise-is)
             (open_grown (open_beside so_far.scene c.loop-l.invariant.otherwise made) grown)
       ];
+      is = compared_more c.loop-l.invariant.is made _ _ _ c.in_ok-compare_label.ensures.emits
+          (λ none. elim c.if-is_none.branch [
+            | then-is_none w ↦ w.otherwise-is
+            | else-is_none w ↦ absurd (let q : false ≡ true = ap is_some (sym none) ∙ c.is_none.ensures
+                ∙ ap not w.if-is_none.false in cc)
+          ])
+          (λ n some. elim c.if-is_none.branch [
+            | then-is_none w ↦ absurd (let q : true ≡ false = ap is_some (sym some) ∙ c.is_none.ensures
+                ∙ ap not w.if-is_none.true in cc)
+            | else-is_none w ↦ w.otherwise-is
+          ])
+          (ap labels_as (take_more c.args.labels.now c.loop-l.l-index _ (omega arith)) ∙ labels_both _ _)
+          c.in_ok-push.ensures.items;
     }
 
 pub returns-clause-opened : goal.returns-clause-opened
@@ -76,3 +97,10 @@ returns-clause-opened c =
 pub returns-clause-spent : goal.returns-clause-spent
 returns-clause-spent c = spent_within (spent_then c.loop-l.invariant.spent c.in_ok-jump.ensures.spent) (omega arith)
     (omega arith)
+
+pub returns-clause-is : goal.returns-clause-is
+returns-clause-is c = shows_cases _ c.loop-l.invariant.is
+    (ap labels_as (sym (take_all c.loop-l.l-index c.args.labels.now (omega arith)))) c.in_ok-jump.ensures.emits
+    (IsNonDecreasingBy-from_sort_by_key (λ (c : Case). c.before) _ c.in_ok-sort_by_key.ensures.sorted
+    (λ a r q k. search rules))
+    (c.sort_by_key.ensures.stable (λ (c : Case). c.before) (answers_always _ _ _ (λ f a r g h. search rules)))

@@ -1,4 +1,5 @@
-use Rattle.std.proofs.Common.{◌+◌, ◌*◌}
+use Rattle.std.proofs.Common.{◌+◌, ◌*◌, take}
+use Rattle.tac_lower.specs.Cases.{Compared, labels_as}
 use Rattle.tac_lower.specs.Emitted.{IsOpen}
 use Rattle.tac_lower.specs.Scenes.{Opened}
 use Rattle.tac_lower.specs.Spent.{Spent}
@@ -12,4 +13,7 @@ invariant-loop-l l = record {
   spent : Spent l.fn.out l.out 2 (27 * l.l-index);
   switched : IsSwitched l.out l.switched;
   otherwise : IsOpen l.out l.otherwise;
+  is : Compared (labels_as (take l.l-index l.fn.labels)) l.fn.kind l.fn.temp l.fn.end l.switched l.otherwise
+      l.cases.items
+      l.fn.out l.out;
 }

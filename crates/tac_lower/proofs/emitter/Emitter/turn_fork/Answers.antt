@@ -1,4 +1,5 @@
 use Rattle.std.proofs.lemmas.Result.{IfOk-weaker}
+use Rattle.tac_lower.proofs.Emitting.{turn_emits}
 use Rattle.tac_lower.proofs.emitter.Emitter.turn_fork.Goals as goal
 
 pub returns-clause-turned : goal.returns-clause-turned
@@ -8,3 +9,7 @@ returns-clause-turned c =
       leads = c.in_ok-jump.ensures.grown;
       stands = g;
     }) c.stand.ensures.stands
+
+pub returns-clause-emits : goal.returns-clause-emits
+returns-clause-emits c =
+    IfOk-weaker c.stand.result _ _ (λ r g. turn_emits _ _ _ _ _ c.in_ok-jump.ensures.emits g) c.stand.ensures.stands
