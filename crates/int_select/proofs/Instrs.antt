@@ -38,7 +38,7 @@ use Rattle.tac_ir.specs.declared.code.TacInstr.TheVariants as instr
 use Rattle.tac_ir.specs.declared.code.TacKind.TheVariants as kind
 use Rattle.int_select.specs.Form.{IsPromoted, IsPromotedKind, AllIntegers}
 use Rattle.int_select.specs.Code.{words, instr_code, number_code, number_words, reduce_code, reduce_words, compare_code}
-use Rattle.int_select.specs.Code.{compare_words, reg_op, store}
+use Rattle.int_select.specs.Code.{compare_words, store}
 use Rattle.int_select.specs.Selected.{IsReport}
 use Rattle.int_select.specs.Tracking.{Moment}
 use Rattle.int_select.proofs.Fits.{Plan, Laid, Fits, counter_at, kept_value, kind_in}
@@ -52,6 +52,7 @@ use Rattle.int_select.proofs.Rows.{do_op}
 use Rattle.int_select.proofs.Stores.{Arrives, stores}
 use Rattle.int_select.proofs.Values.{Made, numbered}
 use Rattle.int_select.proofs.Values as values
+use Rattle.select_words.specs.Integers.{reg_op}
 
 -- ---- numbers
 

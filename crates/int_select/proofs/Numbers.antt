@@ -29,7 +29,8 @@ use Rattle.rv_instr.specs.declared.ops.RegOp.TheVariants as regs
 use Rattle.rv_instr.specs.declared.ops.RegOp.TheVariants.{Add, Sub, And, Xor, Sll, Srl, Sra, Slt, Sltu}
 use Rattle.cap_machine.specs.Integers.{result_of, one_where, word, upper, extended}
 use Rattle.int_select.specs.Form.{IsPromoted}
-use Rattle.int_select.specs.Code.{reg_op, short_op, long_op, unsigned_op, less, upper_part}
+use Rattle.int_select.specs.Code.{upper_part}
+use Rattle.select_words.specs.Integers.{reg_op, short_op, long_op, unsigned_op, less}
 
 -- ---- 64 bits
 

@@ -20,13 +20,14 @@ use Rattle.tag_mem.specs.Areas.{Area}
 use Rattle.cap_machine.specs.declared.machine.Machine.{Machine}
 use Rattle.cap_machine.specs.Integers.{result_of, shift_op, one_where, extended}
 use Rattle.int_select.specs.Code.{number_code, number_words, is_short, upper_part, reduce_code, reduce_words, shifts}
-use Rattle.int_select.specs.Code.{compare_code, compare_words, less}
+use Rattle.int_select.specs.Code.{compare_code, compare_words}
 use Rattle.int_select.specs.Tracking.{Moment}
 use Rattle.int_select.proofs.Fits.{Plan, Laid, HasText}
 use Rattle.int_select.proofs.Places.{HasAt}
 use Rattle.int_select.proofs.Rows.{Going, do_op, do_imm, do_shift, do_upper, zero_is}
 use Rattle.int_select.proofs.Numbers.{reduce_unsigned, reduce_8, reduce_16, reduce_32, reduce_truth, less_is}
 use Rattle.int_select.proofs.Numbers.{turned_round, equal_is, unequal_is, one_extended, short_is, long_is}
+use Rattle.select_words.specs.Integers.{less}
 
 module _ (g : Plan) (laid : Laid g) (s : Moment Machine) (d : Done) (frame : ℕ) (mem : List Area)
     (text : HasText g mem) where

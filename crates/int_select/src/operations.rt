@@ -1,7 +1,8 @@
 // The instructions for operations and comparisons of each kind.
 ghost use Rattle.std.specs.Prelude.{◌≡◌};
 ghost use Rattle.ck_int.specs.Kinds.{form_of, is_signed};
-ghost use Rattle.int_select.specs.Code.{long_op, short_op, unsigned_op, reg_op, less, inverted};
+ghost use Rattle.select_words.specs.Integers.{long_op, short_op, unsigned_op, reg_op, less};
+ghost use Rattle.int_select.specs.Code.{inverted};
 
 use ck_int::{IntKind, IntOp};
 use rv_instr::{BranchOp, RegOp};

@@ -13,7 +13,7 @@ use Rattle.rv_instr.specs.declared.ops.ImmOp.{ImmOp}
 use Rattle.rv_instr.specs.declared.ops.ImmOp.TheVariants.{Addi, Addiw}
 use Rattle.rv_instr.specs.declared.ops.ShiftOp.TheVariants.{Slli}
 use Rattle.purecap_abi.specs.Words.{low, high, is_short, is_word, upper, low_code}
-use Rattle.purecap_abi.specs.Numbers.{signed_word, plus, set_by, number_after, SetsOnly, Makes}
+use Rattle.purecap_abi.specs.Numbers.{signed_word, plus, set_by, number_after, IsNumberWord, Makes}
 
 -- ---- sums of 64 bits
 
@@ -91,10 +91,11 @@ word_made n h w =
 
 -- ---- lists of words
 
-own_none : (to : ℕ) → All (SetsOnly to) []
+own_none : (to : ℕ) → All (IsNumberWord to) []
 own_none to k d h = absurd (omega arith)
 
-own_cons : (to : ℕ) (i : Instr) (is : List Instr) → SetsOnly to i → All (SetsOnly to) is → All (SetsOnly to) (i ∷ is)
+own_cons : (to : ℕ) (i : Instr) (is : List Instr) → IsNumberWord to i → All (IsNumberWord to) is →
+    All (IsNumberWord to) (i ∷ is)
 own_cons to i is h a zero d j = h
 own_cons to i is h a (suc k) d j = a k d (omega arith)
 
@@ -103,11 +104,11 @@ unfolding number_after
 after_append [] js x = refl
 after_append (i ∷ is) js x = after_append is js (set_by i x)
 
-own_low : (op : ImmOp) (to n : ℕ) → All (SetsOnly to) (low_code op to n)
-own_low op to n = by (nat_lt 0 (n % 4096))
+own_low : (op : ImmOp) (to n : ℕ) → IsNumberWord to (Imm op to to (low n)) → All (IsNumberWord to) (low_code op to n)
+own_low op to n own = by (nat_lt 0 (n % 4096))
   where
-    by : (b : Bool) → All (SetsOnly to) (if b then Imm op to to (low n) ∷ [] else [])
-    by true = own_cons to (Imm op to to (low n)) [] (refl, inl refl) (own_none to)
+    by : (b : Bool) → All (IsNumberWord to) (if b then Imm op to to (low n) ∷ [] else [])
+    by true = own_cons to (Imm op to to (low n)) [] own (own_none to)
     by false = own_none to
 
 other : (to x : ℕ) → 0 < to → (if to == 0 then 0 else x) ≡ x
@@ -149,8 +150,8 @@ makes_word to n old mid new i h w u e f = record {
   added = upper to n ∷ [] ++ low_code Addiw to n;
   is = f ∙ ap (λ v. v ++ low_code Addiw to n) (e ∙ ap (λ x. old ++ x ∷ []) u)
       ∙ append_assoc old (upper to n ∷ []) (low_code Addiw to n);
-  own = All-append (SetsOnly to) (upper to n ∷ []) (low_code Addiw to n)
-      (own_cons to (upper to n) [] refl (own_none to)) (own_low Addiw to n);
+  own = All-append (IsNumberWord to) (upper to n ∷ []) (low_code Addiw to n)
+      (own_cons to (upper to n) [] refl (own_none to)) (own_low Addiw to n (refl, inl refl));
   made = λ x p. low_word_added to n (signed_word (high n % 2 ^ 20 * 4096)) p (word_whole n h w) (word_made n h w);
 }
 
@@ -164,8 +165,9 @@ makes_wide to n old mid next new h m e f =
       is =
           f ∙ ap (λ v. v ++ low_code Addi to n) e ∙ append_assoc mid (Shift Slli to to 12 ∷ []) (low_code Addi to n)
           ∙ ap (λ v. v ++ rest) m.is ∙ append_assoc old m.added rest;
-      own = All-append (SetsOnly to) m.added rest m.own
-          (own_cons to (Shift Slli to to 12) (low_code Addi to n) (refl, refl) (own_low Addi to n));
+      own = All-append (IsNumberWord to) m.added rest m.own
+          (own_cons to (Shift Slli to to 12) (low_code Addi to n) (refl, refl, refl)
+          (own_low Addi to n (refl, inl refl)));
       made = λ x p.
           after_append m.added rest x
           ∙ ap (λ y. number_after (low_code Addi to n) ((y * 2 ^ 12) % 2 ^ 64)) (m.made x p)

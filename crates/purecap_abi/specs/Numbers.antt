@@ -30,16 +30,21 @@ unfoldable pub number_after : List Instr → ℕ → ℕ
 number_after [] x = x
 number_after (i ∷ is) x = number_after is (set_by i x)
 
--- a word that sets this register, and reads no other but x0
-abbrev pub SetsOnly : ℕ → Instr → Type 0
-SetsOnly to (Upper op r field) = r ≡ to
-SetsOnly to (Imm op r from z) = (r ≡ to) × ((from ≡ to) ⊎ (from ≡ 0))
-SetsOnly to (Shift op r from n) = (r ≡ to) × (from ≡ to)
-SetsOnly to i = ⊥
+-- a register's own number, or 0
+abbrev pub ReadsOwn : (to from : ℕ) → Type 0
+ReadsOwn to from = (from ≡ to) ⊎ (from ≡ 0)
+
+-- a word of which numbers are made, that sets this register
+abbrev pub IsNumberWord : ℕ → Instr → Type 0
+IsNumberWord to (Upper Lui r field) = r ≡ to
+IsNumberWord to (Imm Addi r from z) = (r ≡ to) × ReadsOwn to from
+IsNumberWord to (Imm Addiw r from z) = (r ≡ to) × ReadsOwn to from
+IsNumberWord to (Shift Slli r from n) = (r ≡ to) × (from ≡ to) × (n ≡ 12)
+IsNumberWord to i = ⊥
 
 -- Words were appended that set this register alone, to this number whatever it was
 pub record Makes (to value : ℕ) (old new : List Instr) : Type 0 where
   pub added : List Instr
   pub is : new ≡ old ++ added
-  pub own : All (SetsOnly to) added
+  pub own : All (IsNumberWord to) added
   pub made : (x : ℕ) → 0 < to → number_after added x ≡ value

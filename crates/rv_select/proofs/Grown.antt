@@ -132,7 +132,7 @@ fits_word : (z : ℤ) → FitsBits 21 z → SFits w32 z
 fits_word (pos n) h = let high = h.1 in record { sfits = omega (arith, ints, high) }
 fits_word (negsuc n) h = let low = h.0 in record { sfits = omega (arith, ints, low) }
 
-word_again : (z : ℤ) → FitsBits 21 z → to_z w32 (of_z w32 z) ≡ z
+pub word_again : (z : ℤ) → FitsBits 21 z → to_z w32 (of_z w32 z) ≡ z
 word_again z h = to_z-of_z w32 z (fits_word z h)
 
 pub sound_ask : (z : ℤ) (n : ℕ) → z ≡ pos n → 1 ≤ n → n ≤ 3

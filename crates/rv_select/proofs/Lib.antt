@@ -2,5 +2,14 @@ pub mod Contained
 pub mod Texts
 pub mod Entries
 pub mod Grown
+pub mod Led
 pub mod KindCosts
 pub mod TakeSums
+pub mod WordNumbers
+pub mod MadeNumbers
+pub mod Choices
+pub mod Formed
+pub mod Landed
+pub mod Zeroed
+pub mod Units
+pub mod Taken

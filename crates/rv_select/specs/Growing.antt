@@ -1,5 +1,6 @@
 -- The code that selection makes, as it grows.
-use Rattle.std.specs.Prelude.{◌≡◌, ℕ, ◌+◌, ◌*◌, ◌%◌, ◌<◌, ◌≤◌, true, List, length, Some, slice_get, slice_index}
+use Rattle.std.specs.Prelude.{◌≡◌, ℕ, ◌+◌, ◌-◌, ◌*◌, ◌%◌, ◌^◌, ◌<◌, ◌≤◌, true, List, [], ◌∷◌, ◌++◌, length, Some}
+use Rattle.std.specs.Prelude.{slice_get, slice_index}
 use Rattle.std.specs.List.{All}
 use Rattle.ck_int.specs.declared.kinds.IntKind.{IntKind}
 use Rattle.ck_int.specs.declared.kinds.IntKind.TheVariants as int
@@ -10,6 +11,10 @@ use Rattle.elf_file.specs.Image.{lines_ok}
 use Rattle.obj_mem.specs.declared.map.Frame.{Frame}
 use Rattle.reg_alloc.specs.declared.places.Places.{Places}
 use Rattle.purecap_abi.specs.Saving.{IsFor}
+use Rattle.tac_ir.specs.Costs.{number_cost}
+use Rattle.select_words.specs.Numbers.{MakesNumber}
+use Rattle.rv_select.specs.declared.jumps.Jump.{Jump}
+use Rattle.rv_select.specs.declared.jumps.Mark.{Mark}
 
 -- Each instruction has a word, and the lines ascend strictly and stand in the code
 pub record IsText (code : List Instr) (places : List Line) : Type 0 where
@@ -22,24 +27,79 @@ pub record AreEntries (words : ℕ) (entries : List ℕ) : Type 0 where
   pub inside : (k : ℕ) → k < length entries → slice_index entries k < 4 * words
   pub ascend : (j k : ℕ) → j < k → k < length entries → slice_index entries j < slice_index entries k
 
--- ---- its size
+-- ---- what is seen of it
 
--- the words, and the functions that are entered
+-- What leads elsewhere: the labels of the function at hand, the jumps to them, the calls, and where functions are
+-- entered, in bytes
+pub record Links : Type 0 where
+  pub marks : List Mark
+  pub jumps : List Jump
+  pub calls : List Jump
+  pub entered : List ℕ
+
+-- the number of its words, the words, what leads elsewhere, and the word with which the loop at hand begins
 pub record Size : Type 0 where
   pub words : ℕ
-  pub entries : ℕ
+  pub text : List Instr
+  pub links : Links
+  pub top : ℕ
 
--- No word is taken back, at most so many are added, and no function is entered
+-- a label stands before the next word
+abbrev pub marking : Size → (label : ℕ) → Links
+marking c l = record (c.links) { marks = c.links.marks ++ (record { label = l; at = length c.text }) ∷ [] }
+
+-- the next word jumps to a label, or calls a function
+abbrev pub jumping : Size → (label : ℕ) → Links
+jumping c l = record (c.links) { jumps = c.links.jumps ++ (record { at = length c.text; to = l }) ∷ [] }
+
+abbrev pub calling : Size → (fun : ℕ) → Links
+calling c f = record (c.links) { calls = c.links.calls ++ (record { at = length c.text; to = f }) ∷ [] }
+
+-- a function is entered at the next word
+abbrev pub entering : Size → Links
+entering c = record (c.links) { entered = c.links.entered ++ 4 * length c.text ∷ [] }
+
+-- the function at hand has ended
+abbrev pub ended : Size → Links
+ended c = record (c.links) { marks = []; jumps = [] }
+
+-- No word is taken back, at most so many are added, and none of them leads elsewhere
 abbrev pub Grows : (most : ℕ) (old new : Size) → Type 0
-Grows most old new = (old.words ≤ new.words) × (new.words ≤ old.words + most) × (new.entries ≡ old.entries)
+Grows most old new = (old.words ≤ new.words) × (new.words ≤ old.words + most) × (new.links ≡ old.links)
 
--- so many words are added
+-- some may, but no function is entered
+abbrev pub Extends : (most : ℕ) (old new : Size) → Type 0
+Extends most old new =
+    (old.words ≤ new.words) × (new.words ≤ old.words + most) × (new.links.entered ≡ old.links.entered)
+
+-- so many words are added, and none of them leads elsewhere
 abbrev pub Adds : (count : ℕ) (old new : Size) → Type 0
-Adds count old new = (new.words ≡ old.words + count) × (new.entries ≡ old.entries)
+Adds count old new = (new.words ≡ old.words + count) × (new.links ≡ old.links)
 
 -- at most so many words are added, one at least, and one function is entered
 abbrev pub Enters : (most : ℕ) (old new : Size) → Type 0
-Enters most old new = (old.words < new.words) × (new.words ≤ old.words + most) × (new.entries ≡ old.entries + 1)
+Enters most old new =
+    (old.words < new.words) × (new.words ≤ old.words + most)
+    × (length new.links.entered ≡ length old.links.entered + 1)
+
+-- words of such a kind are added
+pub record Puts (Words : List Instr → Type 0) (old new : Size) : Type 0 where
+  pub added : List Instr
+  pub is : new.text ≡ old.text ++ added
+  pub are : Words added
+
+-- those of a number, of 32 bits or of any
+pub record IsWordNumber (to value : ℕ) (words : List Instr) : Type 0 where
+  pub makes : MakesNumber to value words
+  pub few : length words ≤ 2
+
+pub record IsLongNumber (to value : ℕ) (words : List Instr) : Type 0 where
+  pub makes : MakesNumber to value words
+  pub few : length words ≤ number_cost value
+
+-- two words lead to offsets below it
+abbrev pub reach : ℕ
+reach = 2 ^ 31 - 2048
 
 -- the words that a text has at most: those of 128 bytes for each unit of the greatest weight, 7,780, and of 4,096
 -- more are fewer

@@ -1,4 +1,7 @@
+pub mod Choosing
 pub mod ContainedCode
 pub mod Growing
 pub mod Leading
+pub mod Objects
+pub mod Selected
 pub mod Work

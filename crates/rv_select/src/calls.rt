@@ -1,11 +1,16 @@
 // Calls and returns.
 ghost use Rattle.std.specs.Prelude.{◌≡◌, ◌+◌, ◌-◌, ◌*◌, ◌≤◌, ◌<◌, min, OnOk, IfOk, length, vec_len};
 ghost use Rattle.purecap_abi.specs.Saving.{IsFor};
-ghost use Rattle.rv_select.specs.Growing.{Grows, room};
+ghost use Rattle.tac_ir.specs.Temps.{in_option};
+ghost use Rattle.select_words.specs.Returning.{ReturnWords};
+ghost use Rattle.select_words.specs.Services.{Argument};
+ghost use Rattle.rv_select.specs.Choosing.{chosen, ChoosesSome};
+ghost use Rattle.rv_select.specs.Growing.{Grows, Extends, Puts, room};
 ghost use Rattle.tac_ir.specs.Costs.{places_cost};
 
 use crate::emit::Code;
-use crate::homes::{Function, Place, bring, keep_some, operand, register};
+use crate::function::Function;
+use crate::homes::{Place, bring, keep_some, operand, register};
 use crate::instructions as instr;
 use crate::moves::{Move, move_all};
 use crate::registers::{left, right, way};
@@ -105,7 +110,7 @@ pub fn call(
     fun: u32,
     args: &[u32],
 ) -> Result<(), NoMemory>
-    ensures { OnOk result (Grows (4 + places_cost (length args.now)) code.old code.new) }
+    ensures { OnOk result (Extends (4 + places_cost (length args.now)) code.old code.new) }
 {
     arguments(alloc, code, f, args)?;
     code.call(fun)?;
@@ -137,6 +142,18 @@ pub fn call_value(
     keep_some(code, f, to, Reg::RESULT)
 }
 
+/// Brings the value that is returned to c10, where there is one.
+fn bring_result(code: &mut Code, f: &Function<'_>, value: Option<u32>) -> Result<(), NoMemory>
+    ensures size { OnOk result (Grows 3 code.old code.new) }
+    ensures words { OnOk result (ChoosesSome f.now value →
+        Puts (Argument (chosen f.now) (in_option value)) code.old code.new) }
+{
+    match value {
+        None => Ok(()),
+        Some(t) => bring(code, f, Reg::RESULT, t),
+    }
+}
+
 /// A return, with the value in c10.
 pub fn leave(
     alloc: Global,
@@ -145,11 +162,11 @@ pub fn leave(
     value: Option<u32>,
 ) -> Result<(), NoMemory>
     requires { IsFor f.now.places.now.homes f.now.frame.now }
-    ensures { OnOk result (Grows 24 code.old code.new) }
+    ensures size { OnOk result (Grows 24 code.old code.new) }
+    ensures words { OnOk result (ChoosesSome f.now value →
+        Puts (ReturnWords (chosen f.now) value) code.old code.new) }
 {
-    if let Some(t) = value {
-        bring(code, f, Reg::RESULT, t)?;
-    }
+    bring_result(code, f, value)?;
     let end = purecap_abi::epilogue(alloc, f.frame, f.places)?;
     code.put_all(end.as_slice())
 }

@@ -1,10 +1,14 @@
 // Comparisons, and branches on a truth value.
-ghost use Rattle.std.specs.Prelude.{◌+◌, ◌≤◌, OnOk};
+ghost use Rattle.std.specs.Prelude.{◌≡◌, ◌+◌, ◌≤◌, [], ◌∷◌, ◌++◌, OnOk};
 ghost use Rattle.rv_instr.specs.Range.{FitsBits};
-ghost use Rattle.rv_select.specs.Growing.{Grows};
+ghost use Rattle.select_words.specs.Integers.{less};
+ghost use Rattle.select_words.specs.Operations.{compares_signed, less_number, turn_round, is_zero, is_some};
+ghost use Rattle.select_words.specs.Operations.{compare_code};
+ghost use Rattle.rv_select.specs.Growing.{Grows, Extends};
 
 use crate::emit::Code;
-use crate::homes::{Function, keep, operand};
+use crate::function::Function;
+use crate::homes::{keep, operand};
 use crate::instructions as instr;
 use crate::operations::is_signed;
 use crate::registers::{left, right};
@@ -14,45 +18,55 @@ use rv_instr::{BranchOp, ImmOp, Reg, RegOp};
 use tac_ir::TacKind;
 
 /// Whether values of a kind are compared with their signs.
-fn compares_signed(kind: TacKind) -> bool {
+fn compares_signed(kind: TacKind) -> bool
+    ensures { result ≡ compares_signed kind }
+{
     match kind {
         TacKind::Int(k) => is_signed(k),
         TacKind::Cap(signed) => signed,
     }
 }
 
-fn less(signed: bool) -> RegOp {
+fn less(signed: bool) -> RegOp
+    ensures { result ≡ less signed }
+{
     if signed { RegOp::Slt } else { RegOp::Sltu }
 }
 
-fn less_than_number(signed: bool) -> ImmOp {
+fn less_than_number(signed: bool) -> ImmOp
+    ensures { result ≡ less_number signed }
+{
     if signed { ImmOp::Slti } else { ImmOp::Sltiu }
 }
 
 /// Turns a truth value round.
 fn turn_round(code: &mut Code, r: Reg) -> Result<(), NoMemory>
-    ensures { OnOk result (Grows 1 code.old code.new) }
+    ensures size { OnOk result (Grows 1 code.old code.new) }
+    ensures text { OnOk result (code.new.text ≡ code.old.text ++ turn_round r ∷ []) }
 {
     code.put(instr::immediate(ImmOp::Xori, r, r, 1))
 }
 
 /// Whether a register is zero.
 fn is_zero(code: &mut Code, to: Reg, a: Reg) -> Result<(), NoMemory>
-    ensures { OnOk result (Grows 1 code.old code.new) }
+    ensures size { OnOk result (Grows 1 code.old code.new) }
+    ensures text { OnOk result (code.new.text ≡ code.old.text ++ is_zero to a ∷ []) }
 {
     code.put(instr::immediate(ImmOp::Sltiu, to, a, 1))
 }
 
 /// Whether a register is not zero.
 fn is_not_zero(code: &mut Code, to: Reg, a: Reg) -> Result<(), NoMemory>
-    ensures { OnOk result (Grows 1 code.old code.new) }
+    ensures size { OnOk result (Grows 1 code.old code.new) }
+    ensures text { OnOk result (code.new.text ≡ code.old.text ++ is_some to a ∷ []) }
 {
     code.put(instr::operation(RegOp::Sltu, to, Reg::ZERO, a))
 }
 
 /// Compares two registers.
 fn compare(code: &mut Code, op: CmpOp, signed: bool, r: Reg, a: Reg, b: Reg) -> Result<(), NoMemory>
-    ensures { OnOk result (Grows 2 code.old code.new) }
+    ensures size { OnOk result (Grows 2 code.old code.new) }
+    ensures text { OnOk result (code.new.text ≡ code.old.text ++ compare_code op signed r a b) }
 {
     match op {
         CmpOp::Lt => code.put(instr::operation(less(signed), r, a, b)),
@@ -160,7 +174,7 @@ pub fn branch(
     when: bool,
     label: u32,
 ) -> Result<(), NoMemory>
-    ensures { OnOk result (Grows 5 code.old code.new) }
+    ensures { OnOk result (Extends 5 code.old code.new) }
 {
     let r = operand(code, f, on, left())?;
     let over = code.branch(inverted(when), r, Reg::ZERO)?;

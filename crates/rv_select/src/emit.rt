@@ -1,11 +1,17 @@
 // The code as it grows.
-ghost use Rattle.std.specs.Prelude.{◌≡◌, ℕ, ◌+◌, ◌-◌, ◌*◌, ◌^◌, ◌<◌, ◌≤◌, pos, length, OnOk, IfOk, Some, vec_len};
+ghost use Rattle.std.specs.Prelude.{◌≡◌, ℕ, ◌+◌, ◌-◌, ◌*◌, ◌^◌, ◌<◌, ◌≤◌, pos, [], ◌∷◌, ◌++◌, length};
+ghost use Rattle.std.specs.Prelude.{OnOk, IfOk, Some, vec_len};
 ghost use Rattle.std.specs.List.{All};
-ghost use Rattle.purecap_abi.specs.Words.{IsPlainWord};
+ghost use Rattle.cap_machine.specs.Integers.{extended};
+ghost use Rattle.rv_instr.specs.declared.instr.Instr.TheVariants.{Branch, Cjal};
+ghost use Rattle.purecap_abi.specs.Words.{IsPlainWord, load_code, store_code, moved_code};
+ghost use Rattle.select_words.specs.Services.{ask};
 ghost use Rattle.tac_ir.specs.Costs.{number_cost};
 ghost use Rattle.rv_select.specs.ContainedCode.{IsContainedCode};
-ghost use Rattle.rv_select.specs.Leading.{IsStill};
-ghost use Rattle.rv_select.specs.Growing.{IsText, AreEntries, Grows, Adds, room};
+ghost use Rattle.rv_select.specs.Leading.{IsStill, IsLedTo, StandsAt, AreLedTo, IsCompleted};
+ghost use Rattle.rv_select.specs.Growing.{IsText, AreEntries, Grows, Adds, Puts, reach, room};
+ghost use Rattle.rv_select.specs.Growing.{marking, jumping, calling, entering, ended};
+ghost use Rattle.rv_select.specs.Growing.{IsWordNumber, IsLongNumber};
 
 use crate::instructions::{branch, jump};
 use crate::jumps::{Jump, Mark, lead, lead_to_entries, lead_to_marks};
@@ -17,8 +23,8 @@ use std::alloc::Global;
 use std::marker::Model;
 
 /// The code so far, with the places in the source of its accesses and calls, and the jumps that lead nowhere yet. A
-/// clause sees the numbers of its words and of the functions that it enters. Each word is one of the machine, and all
-/// of them obey the rules of contained code, where they may lead to the next word; the lines ascend and lie in the
+/// clause sees its words, its labels and jumps, and where it enters functions. Each word is one of the machine, and
+/// all of them obey the rules of contained code, where they may lead to the next word; the lines ascend and lie in the
 /// code.
 #[derive(Drop)]
 pub struct Code {
@@ -37,12 +43,22 @@ pub struct Code {
 
 impl Model for Code {
     ghost use Rattle.std.specs.Prelude.{vec_len};
-    ghost use Rattle.rv_select.specs.Growing.{Size};
+    ghost use Rattle.rv_select.specs.Growing.{Size, Links};
     ghost use Rattle.rv_select.specs.Leading.{IsGrowing};
 
     ghost Value = { Size };
 
-    ghost view = { λ c. record { words = vec_len c.words; entries = vec_len c.entries } };
+    ghost view = { λ c. record {
+      words = vec_len c.words;
+      text = c.words.items;
+      links = record {
+        marks = c.marks.items;
+        jumps = c.jumps.items;
+        calls = c.calls.items;
+        entered = c.entries.items;
+      };
+      top = c.top;
+    } };
 
     ghost invariant = { λ c. IsGrowing c.words.items c.lines.items c.marks.items c.entries.items c.top };
 }
@@ -58,7 +74,12 @@ pub struct Complete {
 impl Code {
     /// No code.
     pub fn new(alloc: Global) -> Code
-        ensures { result ≡ record { words = 0; entries = 0 } }
+        ensures { result ≡ record {
+          words = 0;
+          text = [];
+          links = record { marks = []; jumps = []; calls = []; entered = [] };
+          top = 0;
+        } }
     {
         Code {
             alloc,
@@ -82,7 +103,9 @@ impl Code {
     /// Appends an instruction.
     pub fn put(&mut self, i: Instr) -> Result<(), NoMemory>
         requires { IsPlainWord i }
-        ensures { OnOk result (Adds 1 self.old self.new) }
+        ensures size { OnOk result (Adds 1 self.old self.new) }
+        ensures text { OnOk result (self.new.text ≡ self.old.text ++ i ∷ []) }
+        ensures top { OnOk result (self.new.top ≡ self.old.top) }
     {
         self.words.push(i)?;
         Ok(())
@@ -91,7 +114,9 @@ impl Code {
     /// Appends instructions.
     pub fn put_all(&mut self, all: &[Instr]) -> Result<(), NoMemory>
         requires { All IsPlainWord all.now }
-        ensures { OnOk result (Adds (length all.now) self.old self.new) }
+        ensures size { OnOk result (Adds (length all.now) self.old self.new) }
+        ensures text { OnOk result (self.new.text ≡ self.old.text ++ all.now) }
+        ensures top { OnOk result (self.new.top ≡ self.old.top) }
     {
         self.words.extend_from_slice(all)?;
         Ok(())
@@ -103,7 +128,9 @@ impl Code {
         requires plain { IsPlainWord i }
         requires room { self.old.words < room }
         requires kind { kind < 2 }
-        ensures { OnOk result (Adds 1 self.old self.new) }
+        ensures size { OnOk result (Adds 1 self.old self.new) }
+        ensures text { OnOk result (self.new.text ≡ self.old.text ++ i ∷ []) }
+        ensures top { OnOk result (self.new.top ≡ self.old.top) }
     {
         let at = 4 * (self.words.as_slice().len() as u32);
         self.words.push(i)?;
@@ -121,7 +148,8 @@ impl Code {
         requires plain { IsPlainWord i }
         requires room { self.old.words < room }
         ensures words { OnOk result (self.new.words ≡ self.old.words + 1) }
-        ensures entries { OnOk result (self.new.entries ≡ self.old.entries + 1) }
+        ensures text { OnOk result (self.new.text ≡ self.old.text ++ i ∷ []) }
+        ensures entries { OnOk result (self.new.links ≡ entering self.old) }
     {
         let at = 4 * (self.words.as_slice().len() as u32);
         self.words.push(i)?;
@@ -133,7 +161,8 @@ impl Code {
     pub fn ask(&mut self, service: u8) -> Result<(), NoMemory>
         requires least { 1 ≤ service }
         requires most { service ≤ 3 }
-        ensures { OnOk result (Adds 2 self.old self.new) }
+        ensures size { OnOk result (Adds 2 self.old self.new) }
+        ensures text { OnOk result (self.new.text ≡ self.old.text ++ ask service) }
     {
         let sets = Instr::Imm(ImmOp::Addi, Reg::SERVICE, Reg::ZERO, i32::from(service));
         self.words.extend_from_slice(&[sets, Instr::Ecall])?;
@@ -142,7 +171,8 @@ impl Code {
 
     /// A register becomes a number of 32 bits.
     pub fn number(&mut self, to: Reg, value: i32) -> Result<(), NoMemory>
-        ensures { OnOk result (Grows 2 self.old self.new) }
+        ensures size { OnOk result (Grows 2 self.old self.new) }
+        ensures text { OnOk result (0 < to → Puts (IsWordNumber to (extended value)) self.old self.new) }
     {
         let part = word_part(self.alloc, to, i64::from(value).cast_unsigned())?;
         self.put_all(part.as_slice())
@@ -150,7 +180,8 @@ impl Code {
 
     /// A register becomes a number.
     pub fn long_number(&mut self, to: Reg, value: u64) -> Result<(), NoMemory>
-        ensures { OnOk result (Grows (number_cost value) self.old self.new) }
+        ensures size { OnOk result (Grows (number_cost value) self.old self.new) }
+        ensures text { OnOk result (0 < to → Puts (IsLongNumber to value) self.old self.new) }
     {
         let part = number_part(self.alloc, to, value)?;
         self.put_all(part.as_slice())
@@ -164,7 +195,9 @@ impl Code {
         offset: u64,
         scratch: Reg,
     ) -> Result<(), NoMemory>
-        ensures { OnOk result (Grows 3 self.old self.new) }
+        ensures size { OnOk result (Grows 3 self.old self.new) }
+        ensures text { OnOk result (offset < reach →
+            self.new.text ≡ self.old.text ++ load_code to base offset scratch) }
     {
         let part = load_part(self.alloc, to, base, offset, scratch)?;
         self.put_all(part.as_slice())
@@ -179,7 +212,9 @@ impl Code {
         offset: u64,
         scratch: Reg,
     ) -> Result<(), NoMemory>
-        ensures { OnOk result (Grows 3 self.old self.new) }
+        ensures size { OnOk result (Grows 3 self.old self.new) }
+        ensures text { OnOk result (offset < reach →
+            self.new.text ≡ self.old.text ++ store_code from base offset scratch) }
     {
         let part = store_part(self.alloc, from, base, offset, scratch)?;
         self.put_all(part.as_slice())
@@ -187,7 +222,8 @@ impl Code {
 
     /// A register becomes a base moved by an offset. It is not the base.
     pub fn moved(&mut self, to: Reg, base: Reg, offset: u64) -> Result<(), NoMemory>
-        ensures { OnOk result (Grows 3 self.old self.new) }
+        ensures size { OnOk result (Grows 3 self.old self.new) }
+        ensures text { OnOk result (offset < reach → self.new.text ≡ self.old.text ++ moved_code to base offset) }
     {
         let part = moved_part(self.alloc, to, base, offset)?;
         self.put_all(part.as_slice())
@@ -196,7 +232,9 @@ impl Code {
     /// Appends a jump or a branch, which leads to itself until it is led elsewhere.
     fn put_still(&mut self, i: Instr) -> Result<(), NoMemory>
         requires { IsStill i }
-        ensures { OnOk result (Adds 1 self.old self.new) }
+        ensures size { OnOk result (Adds 1 self.old self.new) }
+        ensures text { OnOk result (self.new.text ≡ self.old.text ++ i ∷ []) }
+        ensures top { OnOk result (self.new.top ≡ self.old.top) }
     {
         self.words.push(i)?;
         Ok(())
@@ -204,7 +242,10 @@ impl Code {
 
     /// Branches to where `land` says. The answer is the place of the branch.
     pub fn branch(&mut self, op: BranchOp, a: Reg, b: Reg) -> Result<usize, NoMemory>
-        ensures { OnOk result (Adds 1 self.old self.new) }
+        ensures size { OnOk result (Adds 1 self.old self.new) }
+        ensures at { IfOk result (λ at. at ≡ length self.old.text) }
+        ensures text { OnOk result (self.new.text ≡ self.old.text ++ Branch op a b (pos 0) ∷ []) }
+        ensures top { OnOk result (self.new.top ≡ self.old.top) }
     {
         let at = self.words.len();
         self.put_still(branch(op, a, b, 0))?;
@@ -213,7 +254,9 @@ impl Code {
 
     /// Jumps to where `land` says. The answer is the place of the jump.
     pub fn skip(&mut self) -> Result<usize, NoMemory>
-        ensures { OnOk result (Adds 1 self.old self.new) }
+        ensures size { OnOk result (Adds 1 self.old self.new) }
+        ensures at { IfOk result (λ at. at ≡ length self.old.text) }
+        ensures text { OnOk result (self.new.text ≡ self.old.text ++ Cjal 0 (pos 0) ∷ []) }
     {
         let at = self.words.len();
         self.put_still(jump(Reg::ZERO, 0))?;
@@ -222,7 +265,8 @@ impl Code {
 
     /// Leads the jump or branch at a place to the next word.
     pub fn land(&mut self, at: usize)
-        ensures { self.new ≡ self.old }
+        ensures size { Adds 0 self.old self.new }
+        ensures led { IsLedTo self.old.text self.new.text at (length self.old.text) }
     {
         let next = self.words.len();
         lead(&mut self.words, at, next);
@@ -230,14 +274,17 @@ impl Code {
 
     /// A loop begins with the next word.
     pub fn open_loop(&mut self)
-        ensures { self.new ≡ self.old }
+        ensures same { self.new ≡ record (self.old) { top = self.new.top } }
+        ensures top { self.new.top ≡ length self.old.text }
     {
         self.top = self.words.len();
     }
 
     /// Branches to the first word of the loop.
     pub fn close_loop(&mut self, op: BranchOp, a: Reg, b: Reg) -> Result<(), NoMemory>
-        ensures { OnOk result (Adds 1 self.old self.new) }
+        ensures size { OnOk result (Adds 1 self.old self.new) }
+        ensures led { OnOk result (IsLedTo (self.old.text ++ Branch op a b (pos 0) ∷ []) self.new.text
+            (length self.old.text) self.old.top) }
     {
         let at = self.branch(op, a, b)?;
         lead(&mut self.words, at, self.top);
@@ -246,7 +293,10 @@ impl Code {
 
     /// A label stands here.
     pub fn label(&mut self, label: u32) -> Result<(), NoMemory>
-        ensures { self.new ≡ self.old }
+        ensures size { self.new.words ≡ self.old.words }
+        ensures entered { self.new.links.entered ≡ self.old.links.entered }
+        ensures text { self.new.text ≡ self.old.text }
+        ensures links { OnOk result (self.new.links ≡ marking self.old label) }
     {
         let at = self.words.len();
         self.marks.push(Mark { label, at })?;
@@ -255,7 +305,9 @@ impl Code {
 
     /// Jumps to a label of the function.
     pub fn jump(&mut self, label: u32) -> Result<(), NoMemory>
-        ensures { OnOk result (Adds 1 self.old self.new) }
+        ensures size { OnOk result (self.new.words ≡ self.old.words + 1) }
+        ensures text { OnOk result (self.new.text ≡ self.old.text ++ Cjal 0 (pos 0) ∷ []) }
+        ensures links { OnOk result (self.new.links ≡ jumping self.old label) }
     {
         let at = self.words.len();
         self.jumps.push(Jump { at, to: label })?;
@@ -264,7 +316,9 @@ impl Code {
 
     /// Calls a function by its number.
     pub fn call(&mut self, fun: u32) -> Result<(), NoMemory>
-        ensures { OnOk result (Adds 1 self.old self.new) }
+        ensures size { OnOk result (self.new.words ≡ self.old.words + 1) }
+        ensures text { OnOk result (self.new.text ≡ self.old.text ++ Cjal 1 (pos 0) ∷ []) }
+        ensures links { OnOk result (self.new.links ≡ calling self.old fun) }
     {
         let at = self.words.len();
         self.calls.push(Jump { at, to: fun })?;
@@ -273,7 +327,9 @@ impl Code {
 
     /// Leads the jumps of the function at hand to its labels, and forgets both.
     pub fn lead_to_labels(&mut self) -> Result<(), NoMemory>
-        ensures { self.new ≡ self.old }
+        ensures size { OnOk result (self.new.words ≡ self.old.words) }
+        ensures links { OnOk result (self.new.links ≡ ended self.old) }
+        ensures led { OnOk result (AreLedTo (StandsAt self.old.links.marks) self.old.links.jumps self.old.text self.new.text) }
     {
         self.marks.sort_by_key(|m| m.label)?;
         lead_to_marks(
@@ -290,10 +346,11 @@ impl Code {
     /// end.
     pub fn complete(self) -> Result<Complete, NoMemory>
         ensures len { IfOk result (λ c. vec_len c.words ≡ self.words + 1) }
-        ensures each { IfOk result (λ c. vec_len c.entries ≡ self.entries) }
+        ensures each { IfOk result (λ c. c.entries.items ≡ self.links.entered) }
         ensures text { IfOk result (λ c. IsText c.words.items c.lines.items) }
         ensures entries { IfOk result (λ c. AreEntries (vec_len c.words) c.entries.items) }
         ensures contained { IfOk result (λ c. IsContainedCode c.words.items c.entries.items 0) }
+        ensures led { IfOk result (λ c. IsCompleted self c.words.items) }
     {
         let Code {
             alloc: _,

@@ -4,13 +4,14 @@ ghost use Rattle.std.specs.List.{All};
 ghost use Rattle.purecap_abi.specs.Words.{IsPlainWord};
 ghost use Rattle.purecap_abi.specs.Saving.{IsFor};
 ghost use Rattle.tac_ir.specs.Costs.{cost, function_cost, places_cost};
-ghost use Rattle.rv_select.specs.Growing.{Grows, Enters, room};
+ghost use Rattle.rv_select.specs.Growing.{Grows, Extends, Enters, room};
 
 use crate::calls::{Callee, call, call_value, leave, stack_place};
 use crate::comparisons::{branch, comparison};
 use crate::conversions::conversion;
 use crate::emit::Code;
-use crate::homes::{Function, Place, keep, register};
+use crate::function::Function;
+use crate::homes::{Place, keep, register};
 use crate::instructions as instr;
 use crate::memory::{
     Ends, capability, copy_units, function, global, load, local, narrow, offset, store, zero,
@@ -105,7 +106,7 @@ fn access(code: &mut Code, f: &Function<'_>, i: &TacInstr) -> Result<(), NoMemor
 fn control(alloc: Global, code: &mut Code, f: &Function<'_>, i: &TacInstr) -> Result<(), NoMemory>
     requires framed { IsFor f.now.places.now.homes f.now.frame.now }
     requires room { code.old.words + cost i.now ≤ room }
-    ensures { OnOk result (Grows (cost i.now) code.old code.new) }
+    ensures { OnOk result (Extends (cost i.now) code.old code.new) }
 {
     match i {
         TacInstr::Label(label) => code.label(*label),
@@ -140,7 +141,7 @@ fn instruction(
 ) -> Result<(), NoMemory>
     requires framed { IsFor f.now.places.now.homes f.now.frame.now }
     requires room { code.old.words + cost i.now ≤ room }
-    ensures { OnOk result (Grows (cost i.now) code.old code.new) }
+    ensures { OnOk result (Extends (cost i.now) code.old code.new) }
 {
     match i {
         TacInstr::Const { .. }
@@ -205,7 +206,7 @@ fn register_parameters(
     requires { vec_len moves.old ≤ 0 }
     ensures kept { OnOk result (code.old.words ≤ code.new.words) }
     ensures few { OnOk result (code.new.words + 2 * vec_len moves.new ≤ code.old.words + 3 * min params 8) }
-    ensures entries { OnOk result (code.new.entries ≡ code.old.entries) }
+    ensures links { OnOk result (code.new.links ≡ code.old.links) }
 {
     for k in 0u8..8 {
         if u32::from(k) < params {

@@ -1,16 +1,22 @@
 // Where the temps of the function at hand stand: from an operand to a register, and from a register to a home.
-ghost use Rattle.std.specs.Prelude.{◌+◌, ◌^◌, ◌<◌, ◌≤◌, OnOk, IfSome};
+ghost use Rattle.std.specs.Prelude.{◌≡◌, ◌+◌, ◌^◌, ◌<◌, ◌≤◌, length, slice_get, OnOk, IfOk, IfSome, Some};
+ghost use Rattle.std.specs.Option.{option_map};
+ghost use Rattle.cap_machine.specs.Integers.{extended};
 ghost use Rattle.rv_instr.specs.Range.{FitsBits};
-ghost use Rattle.rv_select.specs.Growing.{Grows};
+ghost use Rattle.select_words.specs.Emitted.{Operand, Target, Keep};
+ghost use Rattle.select_words.specs.Words.{Bring};
+ghost use Rattle.select_words.specs.Services.{KeepSome};
+ghost use Rattle.rv_select.specs.Choosing.{chosen, number_in, AreReached, HasHome, IsFound, Chooses, ChoosesSome};
+ghost use Rattle.rv_select.specs.Growing.{Grows, Puts};
 
 use crate::emit::Code;
+use crate::function::Function;
 use crate::instructions as instr;
 use crate::numbers::Written;
 use crate::registers::{left, way};
 use ck_base::NoMemory;
-use obj_mem::{Frame, Slot};
-use purecap_abi::Saved;
-use reg_alloc::{Home, Places};
+use obj_mem::Slot;
+use reg_alloc::Home;
 use rv_instr::Reg;
 
 /// Where a temp is found.
@@ -24,28 +30,10 @@ pub enum Place {
     Slot(u64),
 }
 
-/// The table of the program's capabilities: how many entries stand before those of the literals, of the functions,
-/// and of the heap.
-#[derive(Clone, Copy, Debug)]
-pub struct Entries {
-    pub literals: u64,
-    pub functions: u64,
-    pub heap: u64,
-}
-
-/// The function at hand.
-#[derive(Clone, Copy)]
-pub struct Function<'a> {
-    pub places: &'a Places,
-    pub frame: &'a Frame,
-    pub saved: Saved,
-    pub written: &'a [Written],
-    pub entries: Entries,
-    pub ghost near: { saved.slots_at < 2 ^ 32 },
-}
-
 /// The register of that number. No home has a number past the last register's.
-pub fn register(number: u8) -> Reg {
+pub fn register(number: u8) -> Reg
+    ensures { number < 32 → result ≡ number }
+{
     match Reg::new(number) {
         Some(r) => r,
         None => Reg::ZERO,
@@ -54,7 +42,9 @@ pub fn register(number: u8) -> Reg {
 
 impl Function<'_> {
     /// The number that a temp is, where it is one.
-    pub fn number(&self, t: u32) -> Option<i32> {
+    pub fn number(&self, t: u32) -> Option<i32>
+        ensures { option_map extended result ≡ number_in (slice_get self.now.written.now t) }
+    {
         match self.written.get(t as usize) {
             Some(Written::Number(v)) => Some(*v),
             _ => None,
@@ -72,7 +62,10 @@ impl Function<'_> {
     }
 
     /// Where the home of a temp is.
-    pub fn home(&self, t: u32) -> Place {
+    pub fn home(&self, t: u32) -> Place
+        ensures { t < length self.now.places.now.homes →
+            HasHome self.now.places.now.homes self.now.frame.now t result }
+    {
         match self.places.homes.as_slice().get(t as usize) {
             Some(Home::Register(r)) => Place::Register(*r),
             Some(Home::Slot(s)) => Place::Slot(self.saved.slot(*s)),
@@ -81,7 +74,9 @@ impl Function<'_> {
     }
 
     /// Where a temp is found.
-    pub fn place(&self, t: u32) -> Place {
+    pub fn place(&self, t: u32) -> Place
+        ensures { t < length self.now.places.now.homes → IsFound (chosen self.now) t result }
+    {
         match self.number(t) {
             Some(v) => Place::Number(v),
             None => self.home(t),
@@ -89,7 +84,9 @@ impl Function<'_> {
     }
 
     /// The register in which a temp is computed.
-    pub fn target(&self, t: u32) -> Reg {
+    pub fn target(&self, t: u32) -> Reg
+        ensures { Chooses self.now t → Target (chosen self.now) t result }
+    {
         match self.place(t) {
             Place::Register(r) => register(r),
             _ => left(),
@@ -97,7 +94,9 @@ impl Function<'_> {
     }
 
     /// Where an object stands in the frame.
-    pub fn object(&self, var: u32) -> Slot {
+    pub fn object(&self, var: u32) -> Slot
+        ensures { IfSome (slice_get self.now.frame.now.slots var) (λ s. result ≡ s) }
+    {
         match self.frame.slots.as_slice().get(var as usize) {
             Some(s) => *s,
             None => Slot {
@@ -111,7 +110,10 @@ impl Function<'_> {
 
 /// The register that holds a temp: its home, or the scratch register after at most three words.
 pub fn operand(code: &mut Code, f: &Function<'_>, t: u32, scratch: Reg) -> Result<Reg, NoMemory>
-    ensures { OnOk result (Grows 3 code.old code.new) }
+    requires { 0 < scratch }
+    ensures size { OnOk result (Grows 3 code.old code.new) }
+    ensures words { IfOk result (λ r. Chooses f.now t →
+        Puts (λ ws. Operand (chosen f.now) t scratch ws r) code.old code.new) }
 {
     match f.place(t) {
         Place::Number(0) => Ok(Reg::ZERO),
@@ -129,7 +131,8 @@ pub fn operand(code: &mut Code, f: &Function<'_>, t: u32, scratch: Reg) -> Resul
 
 /// Brings a temp to a register, in at most three words.
 pub fn bring(code: &mut Code, f: &Function<'_>, to: Reg, t: u32) -> Result<(), NoMemory>
-    ensures { OnOk result (Grows 3 code.old code.new) }
+    ensures size { OnOk result (Grows 3 code.old code.new) }
+    ensures words { OnOk result (0 < to → Chooses f.now t → Puts (Bring (chosen f.now) t to) code.old code.new) }
 {
     match f.place(t) {
         Place::Number(v) => code.number(to, v),
@@ -141,7 +144,8 @@ pub fn bring(code: &mut Code, f: &Function<'_>, to: Reg, t: u32) -> Result<(), N
 
 /// Keeps a register as a temp, in at most three words.
 pub fn keep(code: &mut Code, f: &Function<'_>, t: u32, from: Reg) -> Result<(), NoMemory>
-    ensures { OnOk result (Grows 3 code.old code.new) }
+    ensures size { OnOk result (Grows 3 code.old code.new) }
+    ensures words { OnOk result (Chooses f.now t → Puts (Keep (chosen f.now) t from) code.old code.new) }
 {
     match f.place(t) {
         Place::Number(_) => Ok(()),
@@ -158,7 +162,9 @@ pub fn keep_some(
     t: Option<u32>,
     from: Reg,
 ) -> Result<(), NoMemory>
-    ensures { OnOk result (Grows 3 code.old code.new) }
+    ensures size { OnOk result (Grows 3 code.old code.new) }
+    ensures words { OnOk result (from ≡ 10 → ChoosesSome f.now t →
+        Puts (KeepSome (chosen f.now) t) code.old code.new) }
 {
     match t {
         None => Ok(()),

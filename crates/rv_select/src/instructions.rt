@@ -2,8 +2,12 @@
 // anywhere in a text.
 #![tactic(auto, unfolding(rv_instr::specs::Range::InRange))]
 
-ghost use Rattle.std.specs.Prelude.{◌≡◌, ◌^◌, ◌<◌, Some, false};
+ghost use Rattle.std.specs.Prelude.{◌≡◌, ◌%◌, ◌^◌, ◌<◌, pos, Some, false};
 ghost use Rattle.rv_instr.specs.Range.{InRange, FitsBits, IsEven, count_bits};
+ghost use Rattle.rv_instr.specs.declared.instr.Instr.TheVariants.{Branch, Cjal, Cjalr, Load, Store, Clc, Imm, Shift};
+ghost use Rattle.rv_instr.specs.declared.instr.Instr.TheVariants.{Op, CapImm, CapReg, CapGet};
+ghost use Rattle.rv_instr.specs.declared.ops.CapImmOp.TheVariants.{Cincoffsetimm};
+ghost use Rattle.rv_instr.specs.declared.ops.CapGetOp.TheVariants.{Cmove};
 ghost use Rattle.purecap_abi.specs.Words.{IsPlainWord};
 ghost use Rattle.rv_select.specs.ContainedCode.{offset_of};
 ghost use Rattle.rv_select.specs.Work.{seals};
@@ -21,7 +25,8 @@ fn known(r: Reg)
 
 /// An operation on two integers.
 pub fn operation(op: RegOp, to: Reg, a: Reg, b: Reg) -> Instr
-    ensures { IsPlainWord result }
+    ensures plain { IsPlainWord result }
+    ensures is { result ≡ Op op to a b }
 {
     known(to);
     known(a);
@@ -32,7 +37,8 @@ pub fn operation(op: RegOp, to: Reg, a: Reg, b: Reg) -> Instr
 /// An operation on an integer and a number of 12 bits.
 pub fn immediate(op: ImmOp, to: Reg, a: Reg, number: i32) -> Instr
     requires { FitsBits 12 number }
-    ensures { IsPlainWord result }
+    ensures plain { IsPlainWord result }
+    ensures is { result ≡ Imm op to a number }
 {
     known(to);
     known(a);
@@ -51,7 +57,8 @@ fn width(op: ShiftOp) -> u8
 
 /// A shift by a count, of which the bits count that the shift has.
 pub fn shift(op: ShiftOp, to: Reg, a: Reg, count: u8) -> Instr
-    ensures { IsPlainWord result }
+    ensures plain { IsPlainWord result }
+    ensures is { result ≡ Shift op to a (count % 2 ^ count_bits op) }
 {
     let count = count % width(op);
     known(to);
@@ -62,7 +69,8 @@ pub fn shift(op: ShiftOp, to: Reg, a: Reg, count: u8) -> Instr
 /// What one register tells, or a register without its tag. No register is sealed.
 pub fn of_one(op: CapGetOp, to: Reg, a: Reg) -> Instr
     requires { seals op ≡ false }
-    ensures { IsPlainWord result }
+    ensures plain { IsPlainWord result }
+    ensures is { result ≡ CapGet op to a }
 {
     known(to);
     known(a);
@@ -71,14 +79,16 @@ pub fn of_one(op: CapGetOp, to: Reg, a: Reg) -> Instr
 
 /// A register that becomes another.
 pub fn moving(to: Reg, from: Reg) -> Instr
-    ensures { IsPlainWord result }
+    ensures plain { IsPlainWord result }
+    ensures is { result ≡ CapGet Cmove to from }
 {
     of_one(CapGetOp::Cmove, to, from)
 }
 
 /// A capability, changed by a register.
 pub fn of_two(op: CapRegOp, to: Reg, a: Reg, b: Reg) -> Instr
-    ensures { IsPlainWord result }
+    ensures plain { IsPlainWord result }
+    ensures is { result ≡ CapReg op to a b }
 {
     known(to);
     known(a);
@@ -89,7 +99,8 @@ pub fn of_two(op: CapRegOp, to: Reg, a: Reg, b: Reg) -> Instr
 /// A capability, moved by a number of 12 bits.
 pub fn advance(to: Reg, a: Reg, bytes: i32) -> Instr
     requires { FitsBits 12 bytes }
-    ensures { IsPlainWord result }
+    ensures plain { IsPlainWord result }
+    ensures is { result ≡ CapImm Cincoffsetimm to a bytes }
 {
     known(to);
     known(a);
@@ -98,7 +109,8 @@ pub fn advance(to: Reg, a: Reg, bytes: i32) -> Instr
 
 /// Loads an integer from where a capability points.
 pub fn load(op: LoadOp, to: Reg, at: Reg) -> Instr
-    ensures { IsPlainWord result }
+    ensures plain { IsPlainWord result }
+    ensures is { result ≡ Load op to at (pos 0) }
 {
     known(to);
     known(at);
@@ -107,7 +119,8 @@ pub fn load(op: LoadOp, to: Reg, at: Reg) -> Instr
 
 /// Loads a capability from where a capability points.
 pub fn load_capability(to: Reg, at: Reg) -> Instr
-    ensures { IsPlainWord result }
+    ensures plain { IsPlainWord result }
+    ensures is { result ≡ Clc to at (pos 0) }
 {
     known(to);
     known(at);
@@ -117,7 +130,8 @@ pub fn load_capability(to: Reg, at: Reg) -> Instr
 /// Stores a register at a number of 12 bits behind a capability.
 pub fn store(op: StoreOp, from: Reg, at: Reg, bytes: i32) -> Instr
     requires { FitsBits 12 bytes }
-    ensures { IsPlainWord result }
+    ensures plain { IsPlainWord result }
+    ensures is { result ≡ Store op from at bytes }
 {
     known(from);
     known(at);
@@ -130,6 +144,7 @@ pub fn branch(op: BranchOp, a: Reg, b: Reg, bytes: i32) -> Instr
     requires even { IsEven bytes }
     ensures in_range { InRange result }
     ensures leads { offset_of result ≡ Some bytes }
+    ensures is { result ≡ Branch op a b bytes }
 {
     known(a);
     known(b);
@@ -142,6 +157,7 @@ pub fn jump(link: Reg, bytes: i32) -> Instr
     requires even { IsEven bytes }
     ensures in_range { InRange result }
     ensures leads { offset_of result ≡ Some bytes }
+    ensures is { result ≡ Cjal link bytes }
 {
     known(link);
     Instr::Cjal(link, bytes)
@@ -149,7 +165,8 @@ pub fn jump(link: Reg, bytes: i32) -> Instr
 
 /// A jump through a register, that links.
 pub fn jump_through(link: Reg, to: Reg) -> Instr
-    ensures { IsPlainWord result }
+    ensures plain { IsPlainWord result }
+    ensures is { result ≡ Cjalr link to (pos 0) }
 {
     known(link);
     known(to);

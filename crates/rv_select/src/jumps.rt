@@ -1,7 +1,8 @@
 // Jumps and branches, and where they lead.
-ghost use Rattle.std.specs.Prelude.{◌≡◌, ◌+◌, ◌*◌, pos, ◌+ℤ◌, IfSome};
+ghost use Rattle.std.specs.Prelude.{◌≡◌, ℕ, ◌+◌, ◌*◌, ◌<◌, ◌≤◌, ◌≤ℤ◌, ◌<ℤ◌, pos, neg_ℤ, IfSome, IfNone};
 ghost use Rattle.rv_instr.specs.Range.{InRange, FitsBits, IsEven};
 ghost use Rattle.rv_select.specs.Leading.{AreSound, IsSoFar, AreMarks, AreEntered, IsLed, IsMarked, AreLed};
+ghost use Rattle.rv_select.specs.Leading.{leading, span, IsHop, IsLedTo, AreOrdered, StandsAt, IsEnteredAt, IsJumpLed, AreLedTo};
 
 use crate::instructions::{branch, jump};
 use rv_instr::Instr;
@@ -24,7 +25,8 @@ pub struct Mark {
 fn hop(from: usize, to: usize) -> Option<i32>
     ensures range { IfSome result (FitsBits 21) }
     ensures even { IfSome result IsEven }
-    ensures there { IfSome result (λ bytes. pos (4 * to) ≡ pos (4 * from) +ℤ bytes) }
+    ensures there { IfSome result (IsHop from to) }
+    ensures far { IfNone result (to < from + 262144 → to + 262144 < from) }
 {
     if to >= from {
         let words = to - from;
@@ -50,6 +52,8 @@ fn led(i: Instr, bytes: i32) -> Option<Instr>
     requires even { IsEven bytes }
     ensures in_range { IfSome result InRange }
     ensures led { IfSome result (IsLed i bytes) }
+    ensures is { IfSome result (λ j. j ≡ leading i bytes) }
+    ensures far { IfNone result (neg_ℤ (pos (4 * span i)) ≤ℤ bytes → pos (4 * span i) ≤ℤ bytes) }
 {
     match i {
         Instr::Cjal(link, _) => Some(jump(link, bytes)),
@@ -62,18 +66,23 @@ fn led(i: Instr, bytes: i32) -> Option<Instr>
 
 /// Where a label stands, among labels in ascending order.
 fn place_of(marks: &[Mark], label: u32) -> Option<usize>
-    ensures { IfSome result (IsMarked marks.now) }
+    requires { AreOrdered marks.now }
+    ensures marked { IfSome result (IsMarked marks.now) }
+    ensures found { IfSome result (λ at. (place : ℕ) → StandsAt marks.now label place → place ≡ at) }
+    ensures none { IfNone result ((place : ℕ) → StandsAt marks.now label place → ⊥) }
 {
-    let k = marks.binary_search_by_key(&label, |m| m.label).ok()?;
-    let mark = marks.get(k)?;
-    Some(mark.at)
+    match marks.binary_search_by_key(&label, |m| m.label) {
+        Ok(k) => Some(marks[k].at),
+        Err(_) => None,
+    }
 }
 
 /// Leads the jump or branch at a word to another word, where it can reach it.
 pub fn lead(words: &mut Vec<Instr>, at: usize, to: usize)
     requires sound { AreSound words.old.items }
     requires target { IsSoFar words.old.items to }
-    ensures { AreLed words.old.items words.new.items }
+    ensures led { AreLed words.old.items words.new.items }
+    ensures there { IsLedTo words.old.items words.new.items at to }
 {
     if at < words.len()
         && let Some(bytes) = hop(at, to)
@@ -87,7 +96,9 @@ pub fn lead(words: &mut Vec<Instr>, at: usize, to: usize)
 fn lead_to_mark(words: &mut Vec<Instr>, jump: Jump, marks: &[Mark])
     requires sound { AreSound words.old.items }
     requires marks { AreMarks words.old.items marks.now }
-    ensures { AreLed words.old.items words.new.items }
+    requires ordered { AreOrdered marks.now }
+    ensures led { AreLed words.old.items words.new.items }
+    ensures there { IsJumpLed (StandsAt marks.now) jump words.old.items words.new.items }
 {
     if let Some(to) = place_of(marks, jump.to) {
         lead(words, jump.at, to);
@@ -98,7 +109,9 @@ fn lead_to_mark(words: &mut Vec<Instr>, jump: Jump, marks: &[Mark])
 pub fn lead_to_marks(words: &mut Vec<Instr>, jumps: &[Jump], marks: &[Mark])
     requires sound { AreSound words.old.items }
     requires marks { AreMarks words.old.items marks.now }
-    ensures { AreLed words.old.items words.new.items }
+    requires ordered { AreOrdered marks.now }
+    ensures led { AreLed words.old.items words.new.items }
+    ensures there { AreLedTo (StandsAt marks.now) jumps.now words.old.items words.new.items }
 {
     for jump in jumps {
         lead_to_mark(words, *jump, marks);
@@ -109,7 +122,8 @@ pub fn lead_to_marks(words: &mut Vec<Instr>, jumps: &[Jump], marks: &[Mark])
 fn lead_to_entry(words: &mut Vec<Instr>, call: Jump, entries: &[u32])
     requires sound { AreSound words.old.items }
     requires entries { AreEntered words.old.items entries.now }
-    ensures { AreLed words.old.items words.new.items }
+    ensures led { AreLed words.old.items words.new.items }
+    ensures there { IsJumpLed (IsEnteredAt entries.now) call words.old.items words.new.items }
 {
     if let Some(to) = entries.get(call.to as usize) {
         lead(words, call.at, (*to / 4) as usize);
@@ -120,7 +134,8 @@ fn lead_to_entry(words: &mut Vec<Instr>, call: Jump, entries: &[u32])
 pub fn lead_to_entries(words: &mut Vec<Instr>, calls: &[Jump], entries: &[u32])
     requires sound { AreSound words.old.items }
     requires entries { AreEntered words.old.items entries.now }
-    ensures { AreLed words.old.items words.new.items }
+    ensures led { AreLed words.old.items words.new.items }
+    ensures there { AreLedTo (IsEnteredAt entries.now) calls.now words.old.items words.new.items }
 {
     for call in calls {
         lead_to_entry(words, *call, entries);

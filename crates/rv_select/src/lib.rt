@@ -2,7 +2,7 @@
 //!
 //! Promise: each instruction has a word, the size is within the costs, lines ascend, entries are distinct, and the
 //! code is contained.
-//! Definitions (`specs/`): `Growing`, `ContainedCode`.
+//! Definitions (`specs/`): `Growing`, `Choosing`, `ContainedCode`.
 //! Main lemmas (`proofs/`): `Texts`, `KindCosts`, `Contained`.
 #![tactic(auto)]
 
@@ -10,6 +10,7 @@ mod calls;
 mod comparisons;
 mod conversions;
 mod emit;
+mod function;
 mod functions;
 mod homes;
 mod instructions;

@@ -1,12 +1,22 @@
 // Capabilities, objects, and what is loaded, stored and copied.
-ghost use Rattle.std.specs.Prelude.{◌+◌, ◌-◌, ◌≤◌, ◌<◌, OnOk, IfSome};
+ghost use Rattle.std.specs.Prelude.{◌≡◌, ◌+◌, ◌-◌, ◌*◌, ◌^◌, ◌/◌, ◌≤◌, ◌<◌, [], ◌∷◌, ◌++◌, pos};
+ghost use Rattle.std.specs.Prelude.{OnOk, IfOk, IfSome, if◌then◌else◌};
 ghost use Rattle.rv_instr.specs.Range.{FitsBits};
-ghost use Rattle.rv_select.specs.Growing.{Grows, room};
-ghost use Rattle.rv_select.specs.Work.{NeverSeals};
+ghost use Rattle.select_words.specs.Forms.{OfOne, OfTwo, Amounts};
+ghost use Rattle.select_words.specs.Accesses.{load_op, store_op, load_words, Loads, StoreWords};
+ghost use Rattle.select_words.specs.Capabilities.{exact_op, OneOfTwo, Seconds, IntrinsicWords, intrinsic_of};
+ghost use Rattle.select_words.specs.Capabilities.{EntryWords, LocalWords};
+ghost use Rattle.select_words.specs.Zeroing.{stores_at, Zeroes, ZeroWords};
+ghost use Rattle.select_words.specs.Copying.{unit_load, unit_store, unit_words};
+ghost use Rattle.rv_select.specs.Choosing.{chosen, Chooses, ChoosesSome, ChoosesAmount};
+ghost use Rattle.rv_select.specs.Growing.{Grows, Puts, reach, room};
+ghost use Rattle.rv_select.specs.Objects.{HasObject, CopiesUnits, RoundWords};
+ghost use Rattle.rv_select.specs.Work.{NeverSeals, IsOfForm};
 ghost use Rattle.tac_ir.specs.Costs.{amount_cost, load_cost};
 
 use crate::emit::Code;
-use crate::homes::{Function, bring, keep, operand};
+use crate::function::Function;
+use crate::homes::{bring, keep, operand};
 use crate::instructions as instr;
 use crate::registers::{count, left, right, way};
 use ck_base::{NoMemory, Pos};
@@ -22,7 +32,8 @@ enum Intrinsic {
 }
 
 fn instruction_of(op: CapWork) -> Intrinsic
-    ensures { NeverSeals result }
+    ensures never { NeverSeals result }
+    ensures is { IsOfForm (intrinsic_of op) result }
 {
     match op {
         CapWork::Base => Intrinsic::OfOne(CapGetOp::Cgetbase),
@@ -41,7 +52,9 @@ fn instruction_of(op: CapWork) -> Intrinsic
 
 /// The register of the second operand, where there is one.
 fn second(code: &mut Code, f: &Function<'_>, b: Option<u32>) -> Result<Reg, NoMemory>
-    ensures { OnOk result (Grows 3 code.old code.new) }
+    ensures size { OnOk result (Grows 3 code.old code.new) }
+    ensures words { IfOk result (λ r. ChoosesSome f.now b →
+        Puts (λ ws. Seconds (chosen f.now) b ws r) code.old code.new) }
 {
     match b {
         None => Ok(Reg::ZERO),
@@ -58,7 +71,9 @@ pub fn capability(
     a: u32,
     b: Option<u32>,
 ) -> Result<(), NoMemory>
-    ensures { OnOk result (Grows 10 code.old code.new) }
+    ensures size { OnOk result (Grows 10 code.old code.new) }
+    ensures words { OnOk result (Chooses f.now to → Chooses f.now a → ChoosesSome f.now b →
+        Puts (IntrinsicWords (chosen f.now) to a b (intrinsic_of op)) code.old code.new) }
 {
     let a = operand(code, f, a, left())?;
     let r = f.target(to);
@@ -74,7 +89,9 @@ pub fn capability(
 
 /// The register that holds an amount.
 fn amount(code: &mut Code, f: &Function<'_>, by: Amount) -> Result<Reg, NoMemory>
-    ensures { OnOk result (Grows (amount_cost by - 1) code.old code.new) }
+    ensures size { OnOk result (Grows (amount_cost by - 1) code.old code.new) }
+    ensures words { IfOk result (λ b. ChoosesAmount f.now by →
+        Puts (λ ws. Amounts (chosen f.now) by ws b) code.old code.new) }
 {
     match by {
         Amount::Temp(t) => operand(code, f, t, right()),
@@ -120,6 +137,17 @@ pub fn offset(
     keep(code, f, to, r)
 }
 
+/// How bounds are set.
+fn exact_op(exact: bool) -> CapRegOp
+    ensures { result ≡ exact_op exact }
+{
+    if exact {
+        CapRegOp::Csetboundsexact
+    } else {
+        CapRegOp::Csetbounds
+    }
+}
+
 /// A capability with narrower bounds.
 pub fn narrow(
     code: &mut Code,
@@ -129,22 +157,22 @@ pub fn narrow(
     length: Amount,
     exact: bool,
 ) -> Result<(), NoMemory>
-    ensures { OnOk result (Grows (6 + amount_cost length) code.old code.new) }
+    ensures size { OnOk result (Grows (6 + amount_cost length) code.old code.new) }
+    ensures words { OnOk result (Chooses f.now to → Chooses f.now base → ChoosesAmount f.now length →
+        Puts (OfTwo (chosen f.now) to base (Amounts (chosen f.now) length) (OneOfTwo (exact_op exact)))
+        code.old code.new) }
 {
     let a = operand(code, f, base, left())?;
     let b = amount(code, f, length)?;
     let r = f.target(to);
-    let op = if exact {
-        CapRegOp::Csetboundsexact
-    } else {
-        CapRegOp::Csetbounds
-    };
-    code.put(instr::of_two(op, r, a, b))?;
+    code.put(instr::of_two(exact_op(exact), r, a, b))?;
     keep(code, f, to, r)
 }
 
 /// How a kind is loaded.
-fn load_op(kind: IntKind) -> LoadOp {
+fn load_op(kind: IntKind) -> LoadOp
+    ensures { result ≡ load_op kind }
+{
     match kind {
         IntKind::Bool | IntKind::U8 => LoadOp::Lbu,
         IntKind::I8 => LoadOp::Lb,
@@ -157,7 +185,9 @@ fn load_op(kind: IntKind) -> LoadOp {
 }
 
 /// How a kind is stored.
-fn store_op(kind: TacKind) -> StoreOp {
+fn store_op(kind: TacKind) -> StoreOp
+    ensures { result ≡ store_op kind }
+{
     match kind {
         TacKind::Int(IntKind::Bool | IntKind::I8 | IntKind::U8) => StoreOp::Sb,
         TacKind::Int(IntKind::I16 | IntKind::U16) => StoreOp::Sh,
@@ -167,7 +197,23 @@ fn store_op(kind: TacKind) -> StoreOp {
     }
 }
 
-/// A value is loaded. A truth value is 1 for any byte but zero.
+/// A register becomes what is loaded from where another points. A truth value is 1 for any byte but zero.
+fn load_words(code: &mut Code, kind: TacKind, r: Reg, a: Reg, pos: Pos) -> Result<(), NoMemory>
+    requires { code.old.words + 1 ≤ room }
+    ensures size { OnOk result (Grows (load_cost kind - 6) code.old code.new) }
+    ensures text { OnOk result (code.new.text ≡ code.old.text ++ load_words kind r a) }
+{
+    match kind {
+        TacKind::Cap(_) => code.put_at(instr::load_capability(r, a), pos, 0),
+        TacKind::Int(IntKind::Bool) => {
+            code.put_at(instr::load(LoadOp::Lbu, r, a), pos, 0)?;
+            code.put(instr::operation(RegOp::Sltu, r, Reg::ZERO, r))
+        }
+        TacKind::Int(k) => code.put_at(instr::load(load_op(k), r, a), pos, 0),
+    }
+}
+
+/// A value is loaded.
 pub fn load(
     code: &mut Code,
     f: &Function<'_>,
@@ -177,17 +223,13 @@ pub fn load(
     pos: Pos,
 ) -> Result<(), NoMemory>
     requires { code.old.words + 7 ≤ room }
-    ensures { OnOk result (Grows (load_cost kind) code.old code.new) }
+    ensures size { OnOk result (Grows (load_cost kind) code.old code.new) }
+    ensures words { OnOk result (Chooses f.now to → Chooses f.now from →
+        Puts (OfOne (chosen f.now) to from (Loads kind)) code.old code.new) }
 {
     let a = operand(code, f, from, left())?;
     let r = f.target(to);
-    match kind {
-        TacKind::Cap(_) => code.put_at(instr::load_capability(r, a), pos, 0)?,
-        TacKind::Int(k) => code.put_at(instr::load(load_op(k), r, a), pos, 0)?,
-    }
-    if let TacKind::Int(IntKind::Bool) = kind {
-        code.put(instr::operation(RegOp::Sltu, r, Reg::ZERO, r))?;
-    }
+    load_words(code, kind, r, a, pos)?;
     keep(code, f, to, r)
 }
 
@@ -201,7 +243,9 @@ pub fn store(
     pos: Pos,
 ) -> Result<(), NoMemory>
     requires { code.old.words + 7 ≤ room }
-    ensures { OnOk result (Grows 7 code.old code.new) }
+    ensures size { OnOk result (Grows 7 code.old code.new) }
+    ensures words { OnOk result (Chooses f.now at → Chooses f.now value →
+        Puts (StoreWords (chosen f.now) at value kind) code.old code.new) }
 {
     let a = operand(code, f, at, left())?;
     let b = operand(code, f, value, right())?;
@@ -209,13 +253,17 @@ pub fn store(
 }
 
 /// A length or a count as a number of 32 bits. No object has more bytes.
-fn number_of(n: u64) -> i32 {
+fn number_of(n: u64) -> i32
+    ensures { n < 2 ^ 31 → result ≡ pos n }
+{
     i32::try_from(n).unwrap_or(i32::MAX)
 }
 
 /// The pointer to a local.
 pub fn local(code: &mut Code, f: &Function<'_>, to: u32, var: u32) -> Result<(), NoMemory>
-    ensures { OnOk result (Grows 9 code.old code.new) }
+    ensures size { OnOk result (Grows 9 code.old code.new) }
+    ensures words { OnOk result (Chooses f.now to → HasObject f.now.frame.now var →
+        Puts (LocalWords (chosen f.now) to var) code.old code.new) }
 {
     let object = f.object(var);
     let r = f.target(to);
@@ -227,7 +275,9 @@ pub fn local(code: &mut Code, f: &Function<'_>, to: u32, var: u32) -> Result<(),
 
 /// An entry of the table.
 fn entry(code: &mut Code, f: &Function<'_>, to: u32, number: u64) -> Result<(), NoMemory>
-    ensures { OnOk result (Grows 6 code.old code.new) }
+    ensures size { OnOk result (Grows 6 code.old code.new) }
+    ensures words { OnOk result (Chooses f.now to → 16 * number < reach →
+        Puts (EntryWords (chosen f.now) to number) code.old code.new) }
 {
     let r = f.target(to);
     code.load_far(r, Reg::TABLE, number.saturating_mul(16), r)?;
@@ -242,7 +292,10 @@ pub fn global(
     number: u32,
     literal: bool,
 ) -> Result<(), NoMemory>
-    ensures { OnOk result (Grows 6 code.old code.new) }
+    ensures size { OnOk result (Grows 6 code.old code.new) }
+    ensures words { let entry = if literal then f.now.entries.literals + number else number in
+        OnOk result (Chooses f.now to → 16 * entry < reach →
+        Puts (EntryWords (chosen f.now) to entry) code.old code.new) }
 {
     let before = if literal { f.entries.literals } else { 0 };
     entry(code, f, to, before.saturating_add(u64::from(number)))
@@ -250,7 +303,9 @@ pub fn global(
 
 /// The sentry of a function.
 pub fn function(code: &mut Code, f: &Function<'_>, to: u32, fun: u32) -> Result<(), NoMemory>
-    ensures { OnOk result (Grows 6 code.old code.new) }
+    ensures size { OnOk result (Grows 6 code.old code.new) }
+    ensures words { OnOk result (Chooses f.now to → 16 * (f.now.entries.functions + fun) < reach →
+        Puts (EntryWords (chosen f.now) to (f.now.entries.functions + fun)) code.old code.new) }
 {
     entry(
         code,
@@ -262,7 +317,9 @@ pub fn function(code: &mut Code, f: &Function<'_>, to: u32, fun: u32) -> Result<
 
 /// Makes so many parts of 16 bytes zero, one or more, from an offset in the frame on.
 fn zero_loop(code: &mut Code, at: u64, parts: u64) -> Result<(), NoMemory>
-    ensures { OnOk result (Grows 9 code.old code.new) }
+    ensures size { OnOk result (Grows 9 code.old code.new) }
+    ensures words { OnOk result (at < reach → 0 < parts → parts < 2 ^ 31 →
+        Puts (Zeroes at parts) code.old code.new) }
 {
     code.moved(left(), Reg::STACK, at)?;
     code.number(right(), number_of(parts))?;
@@ -273,30 +330,40 @@ fn zero_loop(code: &mut Code, at: u64, parts: u64) -> Result<(), NoMemory>
     code.close_loop(BranchOp::Bne, right(), Reg::ZERO)
 }
 
+/// Makes each of so many parts of 16 bytes zero, from an offset in the frame on.
+fn zero_each(code: &mut Code, at: u64, parts: u64) -> Result<(), NoMemory>
+    requires few { parts ≤ 4 }
+    requires near { at ≤ 1984 }
+    ensures size { OnOk result (Grows parts code.old code.new) }
+    ensures text { OnOk result (code.new.text ≡ code.old.text ++ stores_at at parts) }
+{
+    for k in 0..parts {
+        code.put(instr::store(StoreOp::Csc, Reg::ZERO, Reg::STACK, (at + 16 * k) as i32))?;
+    }
+    Ok(())
+}
+
 /// The bytes of a local become zero.
 pub fn zero(code: &mut Code, f: &Function<'_>, var: u32) -> Result<(), NoMemory>
-    ensures { OnOk result (Grows 10 code.old code.new) }
+    ensures size { OnOk result (Grows 10 code.old code.new) }
+    ensures words { OnOk result (HasObject f.now.frame.now var →
+        Puts (ZeroWords (chosen f.now) var) code.old code.new) }
 {
     let object = f.object(var);
     let parts = object.length / 16 + u64::from(object.length % 16 != 0);
     if parts > 4 || object.at > 1984 {
-        return zero_loop(code, object.at, parts);
+        zero_loop(code, object.at, parts)
+    } else {
+        zero_each(code, object.at, parts)
     }
-    for k in 0..parts {
-        code.put(instr::store(
-            StoreOp::Csc,
-            Reg::ZERO,
-            Reg::STACK,
-            (object.at + 16 * k) as i32,
-        ))?;
-    }
-    Ok(())
 }
 
 /// Loads a unit of so many bytes to c31 from where c28 points.
 fn load_unit(code: &mut Code, unit: u8, pos: Pos) -> Result<(), NoMemory>
     requires { code.old.words + 1 ≤ room }
-    ensures { OnOk result (Grows 1 code.old code.new) }
+    ensures size { OnOk result (Grows 1 code.old code.new) }
+    ensures text { OnOk result (code.new.text ≡ code.old.text ++ unit_load unit ∷ []) }
+    ensures top { OnOk result (code.new.top ≡ code.old.top) }
 {
     match unit {
         1 => code.put_at(instr::load(LoadOp::Lbu, way(), left()), pos, 0),
@@ -310,22 +377,25 @@ fn load_unit(code: &mut Code, unit: u8, pos: Pos) -> Result<(), NoMemory>
 /// Stores a unit of so many bytes from c31 where c29 points.
 fn store_unit(code: &mut Code, unit: u8, pos: Pos) -> Result<(), NoMemory>
     requires { code.old.words + 1 ≤ room }
-    ensures { OnOk result (Grows 1 code.old code.new) }
+    ensures size { OnOk result (Grows 1 code.old code.new) }
+    ensures text { OnOk result (code.new.text ≡ code.old.text ++ unit_store unit ∷ []) }
+    ensures top { OnOk result (code.new.top ≡ code.old.top) }
 {
-    let op = match unit {
-        1 => StoreOp::Sb,
-        2 => StoreOp::Sh,
-        4 => StoreOp::Sw,
-        8 => StoreOp::Sd,
-        _ => StoreOp::Csc,
-    };
-    code.put_at(instr::store(op, way(), right(), 0), pos, 0)
+    match unit {
+        1 => code.put_at(instr::store(StoreOp::Sb, way(), right(), 0), pos, 0),
+        2 => code.put_at(instr::store(StoreOp::Sh, way(), right(), 0), pos, 0),
+        4 => code.put_at(instr::store(StoreOp::Sw, way(), right(), 0), pos, 0),
+        8 => code.put_at(instr::store(StoreOp::Sd, way(), right(), 0), pos, 0),
+        _ => code.put_at(instr::store(StoreOp::Csc, way(), right(), 0), pos, 0),
+    }
 }
 
 /// Copies one unit.
 fn copy_unit(code: &mut Code, unit: u8, from: Pos, to: Pos) -> Result<(), NoMemory>
     requires { code.old.words + 2 ≤ room }
-    ensures { OnOk result (Grows 2 code.old code.new) }
+    ensures size { OnOk result (Grows 2 code.old code.new) }
+    ensures text { OnOk result (code.new.text ≡ code.old.text ++ unit_words unit) }
+    ensures top { OnOk result (code.new.top ≡ code.old.top) }
 {
     load_unit(code, unit, from)?;
     store_unit(code, unit, to)
@@ -340,6 +410,32 @@ pub struct Ends {
     pub to_pos: Pos,
 }
 
+/// Copies so many units, one or more, from where c28 points to where c29 does.
+fn copy_loop(code: &mut Code, units: u64, unit: u8, from: Pos, to: Pos) -> Result<(), NoMemory>
+    requires { code.old.words + 8 ≤ room }
+    ensures size { OnOk result (Grows 8 code.old code.new) }
+    ensures words { OnOk result (units < 2 ^ 31 → Puts (RoundWords units unit) code.old code.new) }
+{
+    code.number(count(), number_of(units))?;
+    code.open_loop();
+    copy_unit(code, unit, from, to)?;
+    code.put(instr::advance(left(), left(), i32::from(unit)))?;
+    code.put(instr::advance(right(), right(), i32::from(unit)))?;
+    code.put(instr::immediate(ImmOp::Addi, count(), count(), -1))?;
+    code.close_loop(BranchOp::Bne, count(), Reg::ZERO)
+}
+
+/// The number of units of a size, if it is one.
+fn units_of(bytes: u64, unit: u8) -> u64
+    ensures { 0 < unit → result ≡ bytes / unit }
+{
+    if unit == 0 {
+        0
+    } else {
+        bytes / u64::from(unit)
+    }
+}
+
 /// Copies a struct in units.
 pub fn copy_units(
     code: &mut Code,
@@ -349,13 +445,12 @@ pub fn copy_units(
     unit: u8,
 ) -> Result<(), NoMemory>
     requires { code.old.words + 14 ≤ room }
-    ensures { OnOk result (Grows 14 code.old code.new) }
+    ensures size { OnOk result (Grows 14 code.old code.new) }
+    ensures words { let units = bytes / unit in
+        OnOk result (Chooses f.now ends.from → Chooses f.now ends.to → 0 < unit → units < 2 ^ 31 →
+        Puts (CopiesUnits (chosen f.now) ends.from ends.to units unit) code.old code.new) }
 {
-    let units = if unit == 0 {
-        0
-    } else {
-        bytes / u64::from(unit)
-    };
+    let units = units_of(bytes, unit);
     if units == 0 {
         return Ok(());
     }
@@ -364,11 +459,5 @@ pub fn copy_units(
     if units == 1 {
         return copy_unit(code, unit, ends.from_pos, ends.to_pos);
     }
-    code.number(count(), number_of(units))?;
-    code.open_loop();
-    copy_unit(code, unit, ends.from_pos, ends.to_pos)?;
-    code.put(instr::advance(left(), left(), i32::from(unit)))?;
-    code.put(instr::advance(right(), right(), i32::from(unit)))?;
-    code.put(instr::immediate(ImmOp::Addi, count(), count(), -1))?;
-    code.close_loop(BranchOp::Bne, count(), Reg::ZERO)
+    copy_loop(code, units, unit, ends.from_pos, ends.to_pos)
 }

@@ -1,11 +1,19 @@
 // Constants, copies and operations on integers.
-ghost use Rattle.std.specs.Prelude.{◌≡◌, ◌+◌, OnOk, IfSome};
-ghost use Rattle.rv_select.specs.Growing.{Grows, reduce_words};
+ghost use Rattle.std.specs.Prelude.{◌≡◌, ◌+◌, ◌%◌, ◌^◌, [], ◌∷◌, ◌++◌, OnOk, IfSome};
+ghost use Rattle.ck_int.specs.Kinds.{form_of, is_signed};
+ghost use Rattle.select_words.specs.Words.{Constant, Copied};
+ghost use Rattle.select_words.specs.Operations.{reduce_code};
+ghost use Rattle.rv_instr.specs.declared.instr.Instr.TheVariants.{Shift};
+ghost use Rattle.rv_instr.specs.declared.ops.ShiftOp.TheVariants.{Slli};
+ghost use Rattle.rv_instr.specs.Range.{count_bits};
+ghost use Rattle.rv_select.specs.Choosing.{chosen, Chooses, IsOnly, Stands};
+ghost use Rattle.rv_select.specs.Growing.{Grows, Puts, reduce_words};
 ghost use Rattle.rv_select.specs.Work.{WorkFits};
 ghost use Rattle.tac_ir.specs.Costs.{number_cost, operation_cost, is_wide};
 
 use crate::emit::Code;
-use crate::homes::{Function, Place, bring, keep, operand, register};
+use crate::function::Function;
+use crate::homes::{Place, bring, keep, operand, register};
 use crate::instructions as instr;
 use crate::registers::{left, right};
 use ck_base::NoMemory;
@@ -14,7 +22,9 @@ use rv_instr::{ImmOp, Reg, RegOp, ShiftOp};
 
 /// A temp becomes a constant.
 pub fn constant(code: &mut Code, f: &Function<'_>, to: u32, value: u64) -> Result<(), NoMemory>
-    ensures { OnOk result (Grows (3 + number_cost value) code.old code.new) }
+    ensures size { OnOk result (Grows (3 + number_cost value) code.old code.new) }
+    ensures words { OnOk result (Chooses f.now to → IsOnly (chosen f.now) to value →
+        Puts (Constant (chosen f.now) to value) code.old code.new) }
 {
     match f.number(to) {
         Some(_) => Ok(()),
@@ -28,7 +38,9 @@ pub fn constant(code: &mut Code, f: &Function<'_>, to: u32, value: u64) -> Resul
 
 /// A temp becomes another.
 pub fn copy(code: &mut Code, f: &Function<'_>, to: u32, from: u32) -> Result<(), NoMemory>
-    ensures { OnOk result (Grows 6 code.old code.new) }
+    ensures size { OnOk result (Grows 6 code.old code.new) }
+    ensures words { OnOk result (Chooses f.now to → Stands (chosen f.now) to → Chooses f.now from →
+        Puts (Copied (chosen f.now) to from) code.old code.new) }
 {
     if to == from {
         return Ok(());
@@ -43,7 +55,9 @@ pub fn copy(code: &mut Code, f: &Function<'_>, to: u32, from: u32) -> Result<(),
 }
 
 /// Whether a kind has a sign.
-pub fn is_signed(kind: IntKind) -> bool {
+pub fn is_signed(kind: IntKind) -> bool
+    ensures { result ≡ is_signed (form_of kind) }
+{
     matches!(
         kind,
         IntKind::I8 | IntKind::I16 | IntKind::I32 | IntKind::I64
@@ -68,7 +82,9 @@ pub fn bits_of(kind: IntKind) -> u8 {
 }
 
 fn shift_twice(code: &mut Code, back: ShiftOp, count: u8, r: Reg, from: Reg) -> Result<(), NoMemory>
-    ensures { OnOk result (Grows 2 code.old code.new) }
+    ensures size { OnOk result (Grows 2 code.old code.new) }
+    ensures text { OnOk result (code.new.text ≡ code.old.text ++
+        Shift Slli r from (count % 2 ^ 6) ∷ Shift back r r (count % 2 ^ count_bits back) ∷ []) }
 {
     code.put(instr::shift(ShiftOp::Slli, r, from, count))?;
     code.put(instr::shift(back, r, r, count))
@@ -76,7 +92,8 @@ fn shift_twice(code: &mut Code, back: ShiftOp, count: u8, r: Reg, from: Reg) -> 
 
 /// A register becomes another, reduced to a kind. A kind of 64 bits has nothing to be reduced.
 pub fn reduce(code: &mut Code, kind: IntKind, r: Reg, from: Reg) -> Result<(), NoMemory>
-    ensures { OnOk result (Grows (reduce_words kind) code.old code.new) }
+    ensures size { OnOk result (Grows (reduce_words kind) code.old code.new) }
+    ensures text { OnOk result (code.new.text ≡ code.old.text ++ reduce_code kind r from) }
 {
     match kind {
         IntKind::Bool => code.put(instr::operation(RegOp::Sltu, r, Reg::ZERO, from)),

@@ -4,11 +4,11 @@ ghost use Rattle.std.specs.List.{sum_by};
 ghost use Rattle.purecap_abi.specs.Saving.{IsFor};
 ghost use Rattle.tac_ir.specs.Costs.{function_cost};
 ghost use Rattle.rv_select.specs.ContainedCode.{IsContainedCode};
-ghost use Rattle.rv_select.specs.Growing.{Grows, Enters, room, IsText, AreFramed, AreEntries};
+ghost use Rattle.rv_select.specs.Growing.{Extends, Enters, room, IsText, AreFramed, AreEntries};
 
 use crate::emit::{Code, Complete};
+use crate::function::{Entries, Function};
 use crate::functions::select_function;
-use crate::homes::{Entries, Function};
 use crate::numbers::all_written;
 use c_tree::Typed;
 use ck_base::NoMemory;
@@ -45,7 +45,7 @@ fn entries_of(p: &Typed) -> Entries {
 
 /// Calls `main`, and exits with its result.
 fn begin(code: &mut Code, main: u32) -> Result<(), NoMemory>
-    ensures { OnOk result (Grows 3 code.old code.new) }
+    ensures { OnOk result (Extends 3 code.old code.new) }
 {
     code.call(main)?;
     code.ask(3)
@@ -89,7 +89,7 @@ fn all_functions(
     requires framed { AreFramed places.now frames.now }
     requires room { code.old.words + sum_by function_cost funs.now ≤ room }
     ensures few { OnOk result (code.new.words ≤ code.old.words + sum_by function_cost funs.now) }
-    ensures each { OnOk result (code.new.entries ≡ code.old.entries + length funs.now) }
+    ensures each { OnOk result (length code.new.links.entered ≡ length code.old.links.entered + length funs.now) }
 {
     for k in 0..funs.len() {
         one_function(alloc, code, &funs[k], &places[k], &frames[k], table)?;

@@ -1,8 +1,8 @@
 -- The words of `malloc`: the heap's entry is read, the object is placed as the meaning places it, and the entry is
 -- stored back behind it; or c10 is null.
-use Rattle.std.proofs.Common.{◌≡◌, ℕ, zero, suc, ◌+◌, ◌-◌, ◌*◌, ◌/◌, ◌%◌, ◌^◌, ◌<◌, ◌≤◌, ℤ, pos, negsuc, Bool}
-use Rattle.std.proofs.Common.{true, false, nat_lt, List, [], ◌∷◌, ◌++◌, length, Option, Some, None, refl, sym, ap}
-use Rattle.std.proofs.Common.{◌∙◌, subst, arith, inl, inr, if◌then◌else◌}
+use Rattle.std.proofs.Common.{◌≡◌, ℕ, zero, suc, ◌+◌, ◌-◌, ◌*◌, ◌/◌, ◌%◌, ◌^◌, ◌<◌, ◌≤◌, ℤ, pos, negsuc, Bool, true}
+use Rattle.std.proofs.Common.{false, nat_lt, List, [], ◌∷◌, ◌++◌, length, Option, Some, None, refl, sym, ap, ◌∙◌, subst}
+use Rattle.std.proofs.Common.{arith, inl, inr, if◌then◌else◌}
 use Rattle.std.specs.Prelude.{slice_get, ◌==◌}
 use Rattle.std.proofs.Math.Nat.{pow-le-pow_right}
 use Rattle.std.proofs.lemmas.Bool.{and_parts, eq-eqb, le-ltb, ltb-true, ltb-false, lt-ltb}
@@ -62,13 +62,14 @@ use Rattle.place_inject.proofs.Registers.{registers_keep}
 use Rattle.place_inject.proofs.Results.{moves_on_law}
 use Rattle.place_inject.proofs.StoresKeep.{scratch_keeps_law}
 use Rattle.place_inject.proofs.Wholes.{whole_pointers_fit_law}
-use Rattle.select_runs.specs.Acts.{Ground, HasAt, Holds, IsThere, Leads, counter_at, place}
+use Rattle.select_words.specs.Standing.{HasAt}
+use Rattle.select_words.specs.Services.{KeepSome, taking}
+use Rattle.select_words.specs.Heap.{gives_null, takes_by, malloc_code, Mallocs, allocating}
+use Rattle.select_runs.specs.Acts.{Ground, Holds, IsThere, Leads, counter_at, place}
 use Rattle.select_runs.specs.Kinds.{AreOfKinds}
 use Rattle.select_runs.specs.Operands.{ground_of, IsText, IsAtPoint}
 use Rattle.select_runs.specs.Results.{Computed, Arrives, IsSelectable, before, behind, kinds_in, code_in}
-use Rattle.select_runs.specs.Services.{KeepSome, taking}
-use Rattle.select_runs.proofs.Acts.{act_on_row, after, fetched_here, has_back, has_front, join, next_is, one_set}
-use Rattle.select_runs.proofs.Acts.{still}
+use Rattle.select_runs.proofs.Acts.{act_on_row, after, fetched_here, has_back, has_front, join, next_is, one_set, still}
 use Rattle.select_runs.proofs.Bringing.{brought}
 use Rattle.select_runs.proofs.Far.{Reach, far, far_low, near_low, near}
 use Rattle.select_runs.proofs.Jumps.{hops, landed}
@@ -81,15 +82,14 @@ use Rattle.select_runs.proofs.Services.{waits_by}
 use Rattle.select_runs.proofs.Simple.{bring_few, keep_few, may_take}
 use Rattle.select_runs.proofs.Working.{integer_bits, integer_of}
 use Rattle.select_heap.specs.Allocating.{heap_place, placed_at, free_behind, allocation_of, with_allocation}
-use Rattle.select_heap.specs.Heap.{gives_null, takes_by, malloc_code}
-use Rattle.select_heap.specs.Heap.{Mallocs, IsBeside, StandsBeside, allocating, AllocationsRun}
+use Rattle.select_heap.specs.Heap.{IsBeside, StandsBeside, AllocationsRun}
 use Rattle.select_heap.proofs.Allocating.{heap_reads_back_law, heap_moves_on_law}
 use Rattle.select_heap.proofs.Masks.{Alignment, add_is, sub_is, and_is, xor_is, below_is, all_ones, all_but_four}
-use Rattle.select_heap.proofs.Masks.{masked}
-use Rattle.select_heap.proofs.Masks.{unmasked, aligned_by, owned_small}
+use Rattle.select_heap.proofs.Masks.{masked, unmasked, aligned_by, owned_small}
 use Rattle.select_heap.proofs.Rows.{heap_end, heap_encodable, heap_keeps, heap_base, heap_address, heap_long}
 use Rattle.select_heap.proofs.Rows.{heap_moved, op_does, imm_does, length_does, base_does, owned_does, mask_does}
 use Rattle.select_heap.proofs.Rows.{moved_does, narrowed_does, branch_does}
+use Rattle.select_runs.specs.Selecting.{selecting}
 
 -- ---- the words
 
@@ -664,7 +664,7 @@ module _ (s : Setting) (code : List Instr) (x : IsText s code) (stack : StackIsT
 
   module _ (p : Typed) (sel : IsSelectable s p running (allocating into a) rest)
       (kinded : AreOfKinds (kinds_in s running) t.vars) (words : List Instr)
-      (form : Mallocs s running.fun a into words) (has_words : HasAt code at words) where
+      (form : Mallocs (selecting s running.fun) a into words) (has_words : HasAt code at words) where
     abbrev n : ℕ
     n = number_of (temp_in t a)
 
@@ -781,7 +781,7 @@ module _ (s : Setting) (code : List Instr) (x : IsText s code) (stack : StackIsT
         (now_at : IsAtPoint s code waiting (null_word + 1) state u) (v : Value)
         (known : IsKnown state.mem.memory.shapes (functions_of s) v)
         (holds : register u 10 ≡ capability_of (addresses_of s.map) (base_in state.mem.memory.shapes) v) where
-      keeps_by : (o : Option ℕ) → into ≡ o → KeepSome s running.fun o form.keep
+      keeps_by : (o : Option ℕ) → into ≡ o → KeepSome (selecting s running.fun) o form.keep
           → Arrives s code (behind running rest) 0 34 (at + length words)
           (record state { vars = with_result state.vars o v }) m
       keeps_by None none kept =

@@ -58,10 +58,11 @@ use Rattle.place_inject.specs.Spills.{StackIsThere}
 use Rattle.place_inject.proofs.Loading.{loads_fit_law}
 use Rattle.place_inject.proofs.Results.{moves_on_law}
 use Rattle.place_inject.proofs.StoresKeep.{stores_keep_law}
-use Rattle.select_runs.specs.Acts.{HasAt, Leads, counter_at, place}
-use Rattle.select_runs.specs.Accesses.{load_op, store_op, load_words, Loads, StoreWords, AccessesRun, Accesses, Goes}
-use Rattle.select_runs.specs.Accesses.{Stops, Leaves}
-use Rattle.select_runs.specs.Forms.{OfOne}
+use Rattle.select_words.specs.Standing.{HasAt}
+use Rattle.select_words.specs.Accesses.{load_op, store_op, load_words, Loads, StoreWords}
+use Rattle.select_words.specs.Forms.{OfOne}
+use Rattle.select_runs.specs.Acts.{Leads, counter_at, place}
+use Rattle.select_runs.specs.Accesses.{AccessesRun, Accesses, Goes, Stops, Leaves}
 use Rattle.select_runs.specs.Kinds.{IsOfKind, AreOfKinds}
 use Rattle.select_runs.specs.Operands.{ground_of, IsText, IsAtPoint}
 use Rattle.select_runs.specs.Results.{Computed, before, behind, kinds_in, code_in, IsSelectable}
@@ -72,6 +73,7 @@ use Rattle.select_runs.proofs.Points.{laid, there, traps_at}
 use Rattle.select_runs.proofs.Results.{reads_as_before}
 use Rattle.select_runs.proofs.Simple.{operand_few}
 use Rattle.select_runs.proofs.Working.{operand_got, integer_bits, unsecond, one_only, two_words, within, of_one}
+use Rattle.select_runs.specs.Selecting.{selecting}
 
 next_or_end : {e : Rattle.cap_machine.specs.declared.end.End.End} → Ended e ≡ Next → ⊥
 next_or_end e = absurd cc
@@ -226,7 +228,7 @@ module _ (s : Setting) (code : List Instr) (x : IsText s code) (stack : StackIsT
     (sel : IsSelectable s p running (instr.Load to from k source) rest) (at : ℕ) (t : State modes.Store) (m : Machine)
     (point : IsAtPoint s code (before running (instr.Load to from k source) rest) at t m)
     (kinded : AreOfKinds (kinds_in s running) t.vars) (words : List Instr)
-    (form : OfOne s running.fun to from (Loads k) words) (has_words : HasAt code at words) where
+    (form : OfOne (selecting s running.fun) to from (Loads k) words) (has_words : HasAt code at words) where
   abbrev load_i : TacInstr
   load_i = instr.Load to from k source
 
@@ -331,7 +333,7 @@ load_capability : (s : Setting) (code : List Instr) (x : IsText s code) (stack :
     (t : State modes.Store) (m : Machine)
     (point : IsAtPoint s code (before running (instr.Load to from (kind.Cap signed) source) rest) at t m)
     (kinded : AreOfKinds (kinds_in s running) t.vars) (words : List Instr)
-    (form : OfOne s running.fun to from (Loads (kind.Cap signed)) words) (has_words : HasAt code at words)
+    (form : OfOne (selecting s running.fun) to from (Loads (kind.Cap signed)) words) (has_words : HasAt code at words)
     → Accesses s code w p running (instr.Load to from (kind.Cap signed) source) rest words source
     (at + length form.finds) at t m
 load_capability s code x stack w p running to from signed source rest sel at t m point kinded words form has_words =
@@ -383,7 +385,7 @@ load_integer : (s : Setting) (code : List Instr) (x : IsText s code) (stack : St
     (m : Machine)
     (point : IsAtPoint s code (before running (instr.Load to from (kind.Int k) source) rest) at t m)
     (kinded : AreOfKinds (kinds_in s running) t.vars) (words : List Instr)
-    (form : OfOne s running.fun to from (Loads (kind.Int k)) words) (has_words : HasAt code at words)
+    (form : OfOne (selecting s running.fun) to from (Loads (kind.Int k)) words) (has_words : HasAt code at words)
     → Accesses s code w p running (instr.Load to from (kind.Int k) source) rest words source
     (at + length form.finds) at t m
 load_integer s code x stack w p running to from k source rest sel at t m point kinded words form has_words =
@@ -494,7 +496,7 @@ module _ (s : Setting) (code : List Instr) (x : IsText s code) (stack : StackIsT
     (sel : IsSelectable s p running (instr.Store to value k source) rest) (at : ℕ) (t : State modes.Store) (m : Machine)
     (point : IsAtPoint s code (before running (instr.Store to value k source) rest) at t m)
     (kinded : AreOfKinds (kinds_in s running) t.vars) (words : List Instr)
-    (form : StoreWords s running.fun to value k words) (has_words : HasAt code at words) where
+    (form : StoreWords (selecting s running.fun) to value k words) (has_words : HasAt code at words) where
   abbrev store_i : TacInstr
   store_i = instr.Store to value k source
 

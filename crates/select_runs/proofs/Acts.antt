@@ -25,7 +25,8 @@ use Rattle.cap_machine.specs.declared.machine.Machine.{Machine}
 use Rattle.cap_machine.specs.State.{register, with_register, next, counter}
 use Rattle.cap_machine.specs.Rows.{row, set}
 use Rattle.cap_machine.specs.Step.{act, fetched, fetch_checked, read, decoded, act_of, act_on, act_fetched, is_call}
-use Rattle.select_runs.specs.Acts.{Ground, Laid, place, counter_at, HasText, HasAt, Leads, Holds, IsThere}
+use Rattle.select_words.specs.Standing.{HasAt}
+use Rattle.select_runs.specs.Acts.{Ground, Laid, place, counter_at, HasText, Leads, Holds, IsThere}
 
 -- ---- capabilities
 

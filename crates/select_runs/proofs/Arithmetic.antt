@@ -28,10 +28,10 @@ use Rattle.cap_machine.specs.Integers.{result_of, immediate_op, shift_op, extend
 use Rattle.cheri_c_sem.specs.Types.{is_shift}
 use Rattle.tac_ir.specs.Costs.{is_wide}
 use Rattle.int_select.specs.Form.{IsPromoted}
-use Rattle.int_select.specs.Code.{reg_op}
 use Rattle.int_select.proofs.Numbers.{op_is, kept_low, result_below, small_extended}
-use Rattle.select_runs.specs.Operations.{is_exact, selected_op, add_op, immediate_by, shift_by}
 use Rattle.purecap_abi.specs.Numbers.{signed_word}
+use Rattle.select_words.specs.Integers.{reg_op}
+use Rattle.select_words.specs.Operations.{is_exact, selected_op, add_op, immediate_by, shift_by}
 use Rattle.select_runs.proofs.Numbers.{wrapped_word, signed_small, signed_great}
 
 -- ---- 32 bits with their sign, in 64

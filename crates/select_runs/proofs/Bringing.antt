@@ -15,15 +15,17 @@ use Rattle.obj_mem.specs.Values.{capability_of}
 use Rattle.tac_ir.specs.Effects.{temp_in}
 use Rattle.place_inject.specs.Frames.{Setting, Point, IsLive}
 use Rattle.place_inject.proofs.Results.{numbers_read_back_law, registers_read_back_law}
-use Rattle.select_runs.specs.Acts.{Ground, HasAt, Holds, Leads}
+use Rattle.select_words.specs.Standing.{HasAt}
+use Rattle.select_words.specs.Words as words
+use Rattle.select_words.specs.Words.{Bring}
+use Rattle.select_runs.specs.Acts.{Ground, Holds, Leads}
 use Rattle.select_runs.specs.Operands.{ground_of, IsText, IsAtPoint}
-use Rattle.select_runs.specs.Words as words
-use Rattle.select_runs.specs.Words.{Bring}
 use Rattle.select_runs.proofs.Acts.{begins, one_set}
 use Rattle.select_runs.proofs.Numbers.{numbers_are_made_law}
 use Rattle.select_runs.proofs.Operands.{load_slot}
 use Rattle.select_runs.proofs.Points.{laid, there}
 use Rattle.select_runs.proofs.Working.{Got, got}
+use Rattle.select_runs.specs.Selecting.{selecting}
 
 module _ (s : Setting) (code : List Instr) (x : IsText s code) (p : Point) (t : State Store) (n : Machine) (at : ℕ)
     (point : IsAtPoint s code p at t n) (temp r : ℕ) (live : IsLive s p temp) (above : 2 < r) (below : r < 32) where
@@ -40,7 +42,7 @@ module _ (s : Setting) (code : List Instr) (x : IsText s code) (p : Point) (t : 
       (subst (Holds g n 0 at r r) is (begins g (laid s code x) n at r r (there s code x p at t n point)))
 
   -- to any register but x0 to c2
-  pub brought : (ws : List Instr) → Bring s p.running.fun temp r ws → HasAt code at ws
+  pub brought : (ws : List Instr) → Bring (selecting s p.running.fun) temp r ws → HasAt code at ws
       → Holds g n (length ws) (at + length ws) r r value
   unfolding row cap_get_row
   brought ws (words.Made v e makes few) has =
@@ -63,7 +65,7 @@ module _ (s : Setting) (code : List Instr) (x : IsText s code) (p : Point) (t : 
 -- to a scratch register, which the machine still stands for the state behind
 pub brings : (s : Setting) (code : List Instr) (x : IsText s code) (p : Point) (t : State Store) (m n : Machine)
     (count at : ℕ) → Leads count m n → IsAtPoint s code p at t n → (temp r : ℕ) → IsLive s p temp → 28 ≤ r → r < 32
-    → (ws : List Instr) → Bring s p.running.fun temp r ws → HasAt code at ws
+    → (ws : List Instr) → Bring (selecting s p.running.fun) temp r ws → HasAt code at ws
     → Got s code p t m n (count + length ws) (at + length ws) r r
     (capability_of (addresses_of s.map) (base_in t.mem.memory.shapes) (temp_in t temp))
 brings s code x p t m n count at leads point temp r live above below ws b has =

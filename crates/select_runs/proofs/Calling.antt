@@ -1,7 +1,6 @@
 -- Calls and the first entry: the machine jumps to the function and is in it.
-use Rattle.std.proofs.Common.{◌≡◌, ℕ, zero, suc, ◌+◌, ◌*◌, ◌%◌, ◌<◌, ◌≤◌, ℤ, true, List, [], ◌∷◌, ◌++◌}
-use Rattle.std.proofs.Common.{length}
-use Rattle.std.proofs.Common.{refl, sym, ap, ◌∙◌, subst, arith, Option, Some, None, inl, inr}
+use Rattle.std.proofs.Common.{◌≡◌, ℕ, zero, suc, ◌+◌, ◌*◌, ◌%◌, ◌<◌, ◌≤◌, ℤ, true, List, [], ◌∷◌, ◌++◌, length, refl}
+use Rattle.std.proofs.Common.{sym, ap, ◌∙◌, subst, arith, Option, Some, None, inl, inr}
 use Rattle.std.specs.Prelude.{slice_get, slice_set, slice_index_or, map, drop}
 use Rattle.std.proofs.lemmas.List.{length-append, length-map, length-drop, length-set}
 use Rattle.std.proofs.lemmas.Option.{same_Some, none-some, slice_get_within}
@@ -50,17 +49,19 @@ use Rattle.place_inject.specs.Entering.{HasEntered, caller_of, entry_of, first_o
 use Rattle.place_inject.specs.Registers.{CallersUseOnly}
 use Rattle.place_inject.specs.Spills.{StackIsThere}
 use Rattle.place_inject.proofs.Entering.{enters_fit_law, first_enters_fit_law}
-use Rattle.select_runs.specs.Acts.{Ground, HasText, HasAt, IsThere, Leads, counter_at, place}
-use Rattle.select_runs.specs.Calling.{Begins, begin_words, HasWords, SinksWithin, EntersWithin, CallWords, MayCall}
-use Rattle.select_runs.specs.Calling.{values}
+use Rattle.select_words.specs.Standing.{HasAt}
+use Rattle.select_words.specs.Calling.{CallWords}
+use Rattle.select_words.specs.Entries.{stack_place}
+use Rattle.select_words.specs.Services.{IsAside, taking}
+use Rattle.select_runs.specs.Acts.{Ground, HasText, IsThere, Leads, counter_at, place}
+use Rattle.select_runs.specs.Calling.{Begins, begin_words, HasWords, SinksWithin, EntersWithin, MayCall, values}
 use Rattle.select_runs.specs.Calling.{CallsRun, FirstIsEntered}
-use Rattle.select_runs.specs.Entries.{stack_place, ArePassed, HasParameters}
+use Rattle.select_runs.specs.Entries.{ArePassed, HasParameters}
 use Rattle.select_runs.specs.Jumps.{LeadsTo}
 use Rattle.select_runs.specs.Operands.{ground_of, IsText, IsAtPoint}
 use Rattle.select_runs.specs.Passing.{GoesOnAside, PassesArguments}
 use Rattle.select_runs.specs.Prologue.{IsEntered, FrameIsTaken}
 use Rattle.select_runs.specs.Results.{Arrives, before}
-use Rattle.select_runs.specs.Services.{IsAside, taking}
 use Rattle.select_runs.proofs.Acts.{has_front, has_back, join, set_same, set_other, act_on_row, fetched_here}
 use Rattle.select_runs.proofs.Acts.{counter_moved}
 use Rattle.select_runs.proofs.Costs.{arguments_few, begins_few}
@@ -70,6 +71,7 @@ use Rattle.select_runs.proofs.Passing.{numbers, value_small, arguments_pass_law}
 use Rattle.select_runs.proofs.Points.{laid, there}
 use Rattle.select_runs.proofs.Prologue.{prologues_run_law}
 use Rattle.select_runs.proofs.Returning.{waits}
+use Rattle.select_runs.specs.Selecting.{selecting}
 
 -- ---- lists
 
@@ -371,7 +373,7 @@ module _ (s : Setting) (code : List Instr) (x : IsText s code) (stack : StackIsT
     (point : IsAtPoint s code (before running (instr.Call to fun args) rest) at t m) (words64 : HasWords m)
     (b : Begins s code fun (length args) body
     (IsLive s (entry_of fun (caller_of running rest to t) running.callers body))) (z : ℤ) (words : List Instr)
-    (form : CallWords s running.fun args z words) (has : HasAt code at words)
+    (form : CallWords (selecting s running.fun) args z words) (has : HasAt code at words)
     (leads : LeadsTo s code (at + length form.passes) b.entry z)
     (may : MayCall s code running to args rest (at + length words) t) where
   abbrev p : Point

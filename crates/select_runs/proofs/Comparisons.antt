@@ -38,7 +38,6 @@ use Rattle.cheri_c_sem.specs.Modes as modes
 use Rattle.cheri_c_sem.specs.Modes.{operations, placed_plan}
 use Rattle.cheri_c_sem.specs.Operations.{compare_by}
 use Rattle.cheri_c_sem.specs.Steps.{State, answer}
-use Rattle.int_select.specs.Code.{less}
 use Rattle.int_select.proofs.Numbers.{is_some, is_none, turned_round, one_extended}
 use Rattle.tac_ir.specs.Effects.{kind_of, kind_at, temp_in, no_position, set as set_temp}
 use Rattle.tac_ir.specs.Meaning.{Running}
@@ -52,14 +51,15 @@ use Rattle.place_inject.specs.Values.{IsKnown}
 use Rattle.place_inject.specs.Frames.{Setting, Point, functions_of}
 use Rattle.place_inject.specs.Spills.{StackIsThere}
 use Rattle.place_inject.proofs.Results.{numbers_read_back_law}
-use Rattle.select_runs.specs.Acts.{HasAt}
-use Rattle.select_runs.specs.Emitted.{IsNumber}
-use Rattle.select_runs.specs.Forms.{Other}
+use Rattle.select_words.specs.Integers.{less}
+use Rattle.select_words.specs.Standing.{HasAt}
+use Rattle.select_words.specs.Emitted.{IsNumber}
+use Rattle.select_words.specs.Forms.{Other}
+use Rattle.select_words.specs.Operations.{compares_signed, compare_code, compare_number, compare_zero, less_number}
+use Rattle.select_words.specs.Operations.{turn_round, ComparisonWords, Both, Number, Zero}
+use Rattle.select_words.specs.Operations as forms
 use Rattle.select_runs.specs.Instructions.{ComparisonsRun}
 use Rattle.select_runs.specs.Kinds.{IsOfKind, AreOfKinds}
-use Rattle.select_runs.specs.Operations.{compares_signed, compare_code, compare_number, compare_zero, less_number}
-use Rattle.select_runs.specs.Operations.{turn_round, ComparisonWords, Both, Number, Zero}
-use Rattle.select_runs.specs.Operations as forms
 use Rattle.select_runs.specs.Operands.{IsText, IsAtPoint}
 use Rattle.select_runs.specs.Results.{Computed, Arrives, before, behind, kinds_in, code_in, IsSelectable}
 use Rattle.select_runs.proofs.Arithmetic.{xor_is}
@@ -68,6 +68,7 @@ use Rattle.select_runs.proofs.Jumps.{address_there, address_below}
 use Rattle.select_runs.proofs.Kinded.{kind_passes, same_turned, kinded_set, has_kind}
 use Rattle.select_runs.proofs.Numbers.{number_at, null_address}
 use Rattle.select_runs.proofs.Working.{one_only, two_words, within, of_one, of_two, other_comes}
+use Rattle.select_runs.specs.Selecting.{selecting}
 
 -- ---- comparisons of 64 bits
 
@@ -418,7 +419,7 @@ module _ (s : Setting) (code : List Instr) (x : IsText s code) (stack : StackIsT
       (temp_in t b) known_right
 
   -- a temp that is a number has it as its address
-  number_right : (n : ℕ) → IsNumber s running.fun b n → right ≡ n
+  number_right : (n : ℕ) → IsNumber (selecting s running.fun) b n → right ≡ n
   number_right n is =
       sym (address_there s code x here at t m point (temp_in t b) known_right)
       ∙ ap (λ (c : Cap). c.fields.address) (numbers_read_back_law s here t m point.fits b n (now
@@ -440,12 +441,13 @@ module _ (s : Setting) (code : List Instr) (x : IsText s code) (stack : StackIsT
         (Some (truth holds));
   }) m
 
-  comparisons : (ws : List Instr) → ComparisonWords s running.fun o k to a b ws → HasAt code at ws → Result_home ws
+  comparisons : (ws : List Instr) → ComparisonWords (selecting s running.fun) o k to a b ws → HasAt code at ws →
+      Result_home ws
   comparisons ws (Both form) has =
       within s code (behind running rest) 0 (3 + 2 + 6) 11 (at + length ws) _ m (omega arith)
       (of_two s code x stack p running i rest to refl refl (λ n h. h) sel t m at point a (zero, refl)
       (truth holds) result_known
-      (Other s running.fun b) (bits (temp_in t b)) 3
+      (Other (selecting s running.fun) b) (bits (temp_in t b)) 3
       (other_comes s code x stack p running i rest to refl refl (λ n h. h) sel t m at point a (zero, refl) b
       (suc zero, refl))
       (λ r y z us. us ≡ compare_code o (compares_signed k) r y z)

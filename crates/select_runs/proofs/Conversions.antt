@@ -45,14 +45,14 @@ use Rattle.tac_ir.specs.declared.code.TacKind.TheVariants as kind
 use Rattle.place_inject.specs.Values.{IsKnown}
 use Rattle.place_inject.specs.Frames.{Setting, Point, functions_of}
 use Rattle.place_inject.specs.Spills.{StackIsThere}
-use Rattle.select_runs.specs.Acts.{HasAt}
-use Rattle.select_runs.specs.Forms.{OfOne}
+use Rattle.select_words.specs.Standing.{HasAt}
+use Rattle.select_words.specs.Forms.{OfOne}
+use Rattle.select_words.specs.Operations.{kept_code, is_widening, Reduces, CopiedOr, ConversionBy}
+use Rattle.select_words.specs.Words.{Copied}
 use Rattle.select_runs.specs.Instructions.{ConversionsRun}
 use Rattle.select_runs.specs.Kinds.{IsOfKind, AreOfKinds}
-use Rattle.select_runs.specs.Operations.{kept_code, is_widening, Reduces, CopiedOr, ConversionBy}
 use Rattle.select_runs.specs.Operands.{IsText, IsAtPoint}
 use Rattle.select_runs.specs.Results.{Computed, Arrives, before, behind, kinds_in, code_in, IsSelectable}
-use Rattle.select_runs.specs.Words.{Copied}
 use Rattle.select_runs.proofs.Arithmetic.{mask_is, sum_with_zero}
 use Rattle.select_runs.proofs.Integers.{kept_integer}
 use Rattle.select_runs.proofs.Jumps.{address_there, address_below, truth_is, zero_kept}
@@ -60,6 +60,7 @@ use Rattle.select_runs.proofs.Kinded.{kind_passes, raw_null, same_turned, kinded
 use Rattle.select_runs.proofs.Numbers.{number_at, null_address}
 use Rattle.select_runs.proofs.Simple.{copies}
 use Rattle.select_runs.proofs.Working.{integer_bits, one_only, two_words, within, of_one}
+use Rattle.select_runs.specs.Selecting.{selecting}
 
 -- ---- numbers of one kind as those of another
 
@@ -418,7 +419,7 @@ module _ (s : Setting) (code : List Instr) (x : IsText s code) (stack : StackIsT
   -- a value that has the same capability is copied
   copied : (v : Value) → bits value ≡ bits v → IsKnown t.mem.memory.shapes (functions_of s) v
       → (to ≡ from → slice_get t.vars from ≡ Some (Some v)) → 6 ≤ conversion_cost old new → (ws : List Instr)
-      → Copied s running.fun to from ws
+      → Copied (selecting s running.fun) to from ws
       → HasAt code at ws → Home ws v
   copied v same v_known itself dear ws form has =
       within s code (behind running rest) 0 6 (conversion_cost old new) (at + length ws) _ m dear
@@ -429,7 +430,8 @@ module _ (s : Setting) (code : List Instr) (x : IsText s code) (stack : StackIsT
   kept_home : (k : IntKind) (n most : ℕ) → ((u : Machine) (q : ℕ) → register u q ≡ bits value → integer u q ≡ n)
       → n < 2 ^ 64
       → ((r y : ℕ) → length (kept_code k r y) ≤ most) → most + 6 ≤ conversion_cost old new
-      → (ws : List Instr) → OfOne s running.fun to from (Reduces k) ws → HasAt code at ws → Home ws (Int (wrapped k
+      → (ws : List Instr) → OfOne (selecting s running.fun) to from (Reduces k) ws → HasAt code at ws →
+      Home ws (Int (wrapped k
       (pos n)))
   kept_home k n most there_is small few dear ws form has =
       within s code (behind running rest) 0 (most + 6) (conversion_cost old new) (at + length ws) _ m dear
@@ -447,7 +449,8 @@ module _ (s : Setting) (code : List Instr) (x : IsText s code) (stack : StackIsT
     value : Value
     converts : convert_by (operations (placed_plan s.map)) t.mem (kind_of old) (kind_of new) (temp_in t from) ≡ Ok value
     kind_is : IsOfKind (kind_of new) value
-    does : (ws : List Instr) → ConversionBy s running.fun to from old new ws → HasAt code at ws → Home ws value
+    does : (ws : List Instr) → ConversionBy (selecting s running.fun) to from old new ws → HasAt code at ws →
+        Home ws value
 
 made : (s : Setting) (code : List Instr) (x : IsText s code) (stack : StackIsThere s) (p : Typed) (running : Running)
     (to from : ℕ) (old new : TacKind) (rest : List TacInstr)
@@ -474,7 +477,7 @@ made s code x stack p running to from (kind.Int j) (kind.Int k) rest sel at t m 
   where
     by : (b : Bool) → is_widening j k ≡ b → (n : ℕ) → temp_in t from ≡ Int n → IsKept j n
         → capability_of (addresses_of s.map) (base_in t.mem.memory.shapes) (temp_in t from) ≡ null_at n
-        → (ws : List Instr) → CopiedOr s running.fun to from k b ws → HasAt code at ws
+        → (ws : List Instr) → CopiedOr (selecting s running.fun) to from k b ws → HasAt code at ws
         → Home s code x stack p running to from (kind.Int j) (kind.Int k) rest sel at t m point kinded ws (Int
         (converted j k n))
     by true e n is kept bits_are ws form has =

@@ -1,7 +1,6 @@
 -- Structs are copied: for each unit the machine loads and stores as the meaning does, or both stop there.
-use Rattle.std.proofs.Common.{◌≡◌, ℕ, zero, suc, ◌+◌, ◌-◌, ◌*◌, ◌/◌, ◌%◌, ◌^◌, ◌<◌, ◌≤◌, ◌==◌, ◌&&◌, pos, negsuc}
-use Rattle.std.proofs.Common.{true, false, List, [], ◌∷◌, ◌++◌, length, Some, refl, sym, ap, ◌∙◌, subst, arith}
-use Rattle.std.proofs.Common.{inl, inr}
+use Rattle.std.proofs.Common.{◌≡◌, ℕ, zero, suc, ◌+◌, ◌-◌, ◌*◌, ◌/◌, ◌%◌, ◌^◌, ◌<◌, ◌≤◌, ◌==◌, ◌&&◌, pos, negsuc, true}
+use Rattle.std.proofs.Common.{false, List, [], ◌∷◌, ◌++◌, length, Some, refl, sym, ap, ◌∙◌, subst, arith, inl, inr}
 use Rattle.std.specs.Prelude.{slice_get, Result, Ok, Err}
 use Rattle.std.proofs.lemmas.Bool.{and_parts, eqb-true, or_cases}
 use Rattle.std.proofs.lemmas.List.{length-append}
@@ -60,13 +59,14 @@ use Rattle.place_inject.proofs.Results.{moves_on_law}
 use Rattle.place_inject.proofs.Stepping.{Spans, loads_span, stores_span, stepped, steps_on}
 use Rattle.place_inject.proofs.Storing.{stores_fit_law}
 use Rattle.place_inject.proofs.StoresKeep.{kept}
-use Rattle.select_runs.specs.Acts.{Ground, HasAt, Leads, counter_at, place}
-use Rattle.select_runs.specs.Copying.{unit_load, unit_store, unit_words, copy_loop, Brings, CopyWords, Nothing, One}
-use Rattle.select_runs.specs.Copying.{Round}
+use Rattle.select_words.specs.Standing.{HasAt}
+use Rattle.select_words.specs.Copying.{unit_load, unit_store, unit_words, copy_loop, Brings, CopyWords, Nothing, One}
+use Rattle.select_words.specs.Copying.{Round}
+use Rattle.select_words.specs.Numbers.{MakesNumber}
+use Rattle.select_runs.specs.Acts.{Ground, Leads, counter_at, place}
 use Rattle.select_runs.specs.Copying.{copy_cost, StructCopied, Goes, StopsReading, StopsWriting, Leaves}
 use Rattle.select_runs.specs.Copying.{StructCopiesRun}
 use Rattle.select_runs.specs.Kinds.{AreOfKinds}
-use Rattle.select_runs.specs.Numbers.{MakesNumber}
 use Rattle.select_runs.specs.Operands.{ground_of, IsText, IsAtPoint}
 use Rattle.select_runs.specs.Results.{IsSelectable, before, kinds_in, code_in}
 use Rattle.select_runs.proofs.Acts.{fetched_here, next_is, has_front, has_back, join, one_set}
@@ -77,6 +77,7 @@ use Rattle.select_runs.proofs.Points.{laid, there, traps_at}
 use Rattle.select_runs.proofs.Results.{reads_as_before}
 use Rattle.select_runs.proofs.Simple.{bring_few}
 use Rattle.select_runs.proofs.Working.{Got, got, number_got, integer_bits, bits}
+use Rattle.select_runs.specs.Selecting.{selecting}
 
 minus_twenty : extended (negsuc 19) ≡ 18446744073709551596
 unfolding kept_of
@@ -699,7 +700,8 @@ module _ (s : Setting) (code : List Instr) (x : IsText s code) (w : World) (p : 
     writes : register there_now 29 ≡ bits s code x start t (temp_in t to)
     few : length front ≤ 6
 
-  pointers : (front : List Instr) → Brings s running.fun from to front → HasAt code at front → Pointers front
+  pointers : (front : List Instr) → Brings (selecting s running.fun) from to front → HasAt code at front →
+      Pointers front
   pointers front b has =
       let q = subst (HasAt code at) b.are has in
       let first = brings s code x start t m m 0 at refl point from 28 (now (zero, refl)) (omega arith) (omega arith)
@@ -767,7 +769,7 @@ module _ (s : Setting) (code : List Instr) (x : IsText s code) (w : World) (p : 
         };
       })
 
-  one_unit : units ≡ 1 → (front : List Instr) → Brings s running.fun from to front → skip ≡ length front
+  one_unit : units ≡ 1 → (front : List Instr) → Brings (selecting s running.fun) from to front → skip ≡ length front
       → ws ≡ front ++ unit_words unit → Result_is
   one_unit e front b skips are =
       let q = subst (HasAt code at) are has_words in
@@ -781,7 +783,7 @@ module _ (s : Setting) (code : List Instr) (x : IsText s code) (w : World) (p : 
       (alone s code x w p running from to bytes unit from_pos to_pos rest t is_unit_of f.there_now top 0 t.mem.memory
       (begun f.there_now top f.now_at f.reads f.writes) (has_back code at front (unit_words unit) q)))
 
-  by_rounds : 0 < units → (front number : List Instr) → Brings s running.fun from to front
+  by_rounds : 0 < units → (front number : List Instr) → Brings (selecting s running.fun) from to front
       → MakesNumber 30 units number → length number ≤ 2 → skip ≡ length front + length number
       → ws ≡ front ++ (number ++ copy_loop unit) → units < 2 ^ 31 → Result_is
   by_rounds some front number b makes number_few skips are small =
@@ -813,7 +815,7 @@ pub struct_copies_run_law : StructCopiesRun
 struct_copies_run_law s code x w p running from to bytes unit from_pos to_pos rest sel at t m point kinded skip ws form
     has = by form
   where
-    by : CopyWords s running.fun from to (bytes / unit) unit skip ws
+    by : CopyWords (selecting s running.fun) from to (bytes / unit) unit skip ws
         → StructCopied s code w p running (instr.CopyUnits from to bytes unit from_pos to_pos) rest ws from_pos to_pos
         (at + skip) at t m
     by (Nothing e none) =

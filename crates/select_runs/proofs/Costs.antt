@@ -1,6 +1,5 @@
 -- What a call and an entry cost at most.
-use Rattle.std.proofs.Common.{ℕ, zero, suc, ◌+◌, ◌-◌, ◌*◌, ◌≤◌, Bool, true, false, pos, List, [], ◌∷◌, ◌++◌}
-use Rattle.std.proofs.Common.{length}
+use Rattle.std.proofs.Common.{ℕ, zero, suc, ◌+◌, ◌-◌, ◌*◌, ◌≤◌, Bool, true, false, pos, List, [], ◌∷◌, ◌++◌, length}
 use Rattle.std.proofs.Common.{sym, subst, arith, if◌then◌else◌}
 use Rattle.std.specs.Prelude.{nat_lt}
 use Rattle.std.proofs.Math.Nat.{mul-suc}
@@ -15,10 +14,11 @@ use Rattle.purecap_abi.specs.Words.{low, near_code, load_code, store_code}
 use Rattle.purecap_abi.proofs.EndLaws.{prologue_most}
 use Rattle.tac_ir.specs.Costs.{places_cost}
 use Rattle.place_inject.specs.Frames.{Setting}
-use Rattle.select_runs.specs.Entries as entries
-use Rattle.select_runs.specs.Entries.{ForEach, StackWords, ParameterWords}
-use Rattle.select_runs.specs.Passing.{StackedWords, ArgumentWords}
+use Rattle.select_words.specs.Entries as entries
+use Rattle.select_words.specs.Entries.{ForEach, StackWords, ParameterWords}
+use Rattle.select_words.specs.Passing.{StackedWords, ArgumentWords}
 use Rattle.select_runs.proofs.Simple.{operand_few}
+use Rattle.select_runs.specs.Selecting.{selecting}
 
 -- so many words for each
 for_each_few : (Words : ℕ → List Instr → Type 0) (most : ℕ)
@@ -48,21 +48,22 @@ far_loads to base offset scratch = by (nat_lt offset 2048)
     by false = omega arith
 
 module _ (s : Setting) (fun : ℕ) where
-  stacked_few : (args : List ℕ) (k : ℕ) (ws : List Instr) → StackedWords s fun args k ws → length ws ≤ 6
+  stacked_few : (args : List ℕ) (k : ℕ) (ws : List Instr) → StackedWords (selecting s fun) args k ws → length ws ≤ 6
   stacked_few args k ws f =
       let a = operand_few s fun f.temp 28 f.finds f.r f.found in
       let b = far_stores f.r 2 (entries.stack_place k) 29 in
       let l = length-append f.finds (store_code f.r 2 (entries.stack_place k) 29) in
       subst (λ y. length y ≤ 6) (sym f.are) (omega (arith, a, b, l))
 
-  pub arguments_few : (args : List ℕ) (ws : List Instr) → ArgumentWords s fun args ws
+  pub arguments_few : (args : List ℕ) (ws : List Instr) → ArgumentWords (selecting s fun) args ws
       → length ws ≤ places_cost (length args)
   arguments_few args ws f =
-      let a = for_each_few (StackedWords s fun args) 6 (stacked_few args) (length args - 8) 8 f.stores f.stacked in
+      let a = for_each_few (StackedWords (selecting s fun) args) 6 (stacked_few args)
+      (length args - 8) 8 f.stores f.stacked in
       let b = f.few in let l = length-append f.stores (f.moves ++ f.brings) in let d = length-append f.moves f.brings in
       subst (λ y. length y ≤ places_cost (length args)) (sym f.are) (omega (arith, a, b, l, d))
 
-  loaded_few : (k : ℕ) (ws : List Instr) → StackWords s fun k ws → length ws ≤ 6
+  loaded_few : (k : ℕ) (ws : List Instr) → StackWords (selecting s fun) k ws → length ws ≤ 6
   loaded_few k ws (entries.Loaded r i e) =
       let a = far_loads r 28 (entries.stack_place k) 29 in
       subst (λ y. length y ≤ 6) (sym e) (omega (arith, a))
@@ -71,15 +72,16 @@ module _ (s : Setting) (fun : ℕ) where
       let l = length-append (load_code 30 28 (entries.stack_place k) 29) (store_code 30 2 offset 31) in
       subst (λ y. length y ≤ 6) (sym e) (omega (arith, a, b, l))
 
-  pub parameters_few : (count : ℕ) (ws : List Instr) → ParameterWords s fun count ws → length ws ≤ places_cost count
+  pub parameters_few : (count : ℕ) (ws : List Instr) → ParameterWords (selecting s fun) count ws →
+      length ws ≤ places_cost count
   parameters_few count ws f =
-      let a = for_each_few (StackWords s fun) 6 loaded_few (count - 8) 8 f.loads f.loaded in
+      let a = for_each_few (StackWords (selecting s fun)) 6 loaded_few (count - 8) 8 f.loads f.loaded in
       let b = f.few in let l = length-append f.stores (f.moves ++ f.loads) in let d = length-append f.moves f.loads in
       subst (λ y. length y ≤ places_cost count) (sym f.are) (omega (arith, a, b, l, d))
 
 -- what a function begins with
 pub begins_few : (s : Setting) (fun : ℕ) (homes : List Home) (f : Frame) (count : ℕ) (ws : List Instr)
-    → ParameterWords s fun count ws → length (prologue_code homes f ++ ws) ≤ 27 + places_cost count
+    → ParameterWords (selecting s fun) count ws → length (prologue_code homes f ++ ws) ≤ 27 + places_cost count
 begins_few s fun homes f count ws form =
     let a = (prologue_most homes f).few in let b = parameters_few s fun count ws form in
     let l = length-append (prologue_code homes f) ws in omega (arith, a, b, l)

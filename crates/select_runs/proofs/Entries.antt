@@ -1,9 +1,7 @@
 -- Parameters come to their homes: some are stored in slots, some are moved among registers, and the rest come from the
 -- caller's frame.
-use Rattle.std.proofs.Common.{◌≡◌, ℕ, zero, suc, ◌+◌, ◌-◌, ◌*◌, ◌/◌, ◌%◌, ◌^◌, ◌<◌, ◌≤◌, ◌==◌, ◌⊎◌}
-use Rattle.std.proofs.Common.{List}
-use Rattle.std.proofs.Common.{◌++◌, length, refl, sym, ap, ◌∙◌, subst, arith, Option, Some, None, inl, inr}
-use Rattle.std.proofs.Common.{if◌then◌else◌}
+use Rattle.std.proofs.Common.{◌≡◌, ℕ, zero, suc, ◌+◌, ◌-◌, ◌*◌, ◌/◌, ◌%◌, ◌^◌, ◌<◌, ◌≤◌, ◌==◌, ◌⊎◌, List, ◌++◌, length}
+use Rattle.std.proofs.Common.{refl, sym, ap, ◌∙◌, subst, arith, Option, Some, None, inl, inr, if◌then◌else◌}
 use Rattle.std.specs.Prelude.{min, position, slice_get}
 use Rattle.std.specs.Option.{option_map}
 use Rattle.std.proofs.lemmas.Bool.{cases_eq, cases_lt}
@@ -25,8 +23,8 @@ use Rattle.purecap_abi.specs.Words.{load_code, store_code}
 use Rattle.purecap_abi.proofs.Counts.{slot_count_each}
 use Rattle.place_inject.specs.Objects.{SameOutside}
 use Rattle.place_inject.specs.Parts.{kept_at}
-use Rattle.place_inject.specs.Frames.{Setting, homes_of, at_home, stack_top, stack_pointer, return_sentry}
-use Rattle.place_inject.specs.Frames.{from_place, kept_place, behind_return}
+use Rattle.place_inject.specs.Frames.{Setting, homes_of, at_home, stack_top, stack_pointer, return_sentry, from_place}
+use Rattle.place_inject.specs.Frames.{kept_place, behind_return}
 use Rattle.place_inject.specs.Fits.{registers_in}
 use Rattle.place_inject.specs.Spills.{StackIsThere}
 use Rattle.place_inject.proofs.FramesKept.{stack_multiple, position_within}
@@ -34,10 +32,11 @@ use Rattle.place_inject.proofs.Growing.{power_sixteen}
 use Rattle.place_inject.proofs.Locals.{multiple_sixteen}
 use Rattle.place_inject.proofs.Lying.{Lies, within}
 use Rattle.place_inject.proofs.Results.{saved}
-use Rattle.select_runs.specs.Acts.{Ground, HasAt, IsThere}
-use Rattle.select_runs.specs.Emitted.{IsIn, IsSpilled}
-use Rattle.select_runs.specs.Entries as entries
-use Rattle.select_runs.specs.Entries.{moved_from, stack_place, ForEach, SlotWords, StackWords, MayGet, ParameterWords}
+use Rattle.select_words.specs.Standing.{HasAt}
+use Rattle.select_words.specs.Emitted.{IsIn, IsSpilled}
+use Rattle.select_words.specs.Entries as entries
+use Rattle.select_words.specs.Entries.{moved_from, stack_place, ForEach, SlotWords, StackWords, MayGet, ParameterWords}
+use Rattle.select_runs.specs.Acts.{Ground, IsThere}
 use Rattle.select_runs.specs.Entries.{AreParameters, ArePassed, HasParameters, ParametersCome}
 use Rattle.select_runs.specs.Operands.{ground_of, IsText}
 use Rattle.select_runs.specs.Prologue.{IsEntered, TakesFrame, FrameIsTaken}
@@ -49,6 +48,7 @@ use Rattle.select_runs.proofs.Points.{laid}
 use Rattle.select_runs.proofs.Prologue.{prologues_run_law}
 use Rattle.select_runs.proofs.Saving.{Stores, Ready, stores_far}
 use Rattle.select_runs.proofs.Stretches.{Reached, reached, reached_as, reached_both, reached_nowhere}
+use Rattle.select_runs.specs.Selecting.{selecting}
 
 -- the slot of a home is one
 abbrev slot_in : Home → ℕ
@@ -117,13 +117,13 @@ module _ (s : Setting) (code : List Instr) (x : IsText s code) (stack : StackIsT
   -- ---- homes
 
   abbrev Is_home : ℕ → Type 0
-  Is_home r = (k : ℕ) × (k < count) × IsIn s fun k r
+  Is_home r = (k : ℕ) × (k < count) × IsIn (selecting s fun) k r
 
   not_home : (r : ℕ) → (r < 5) ⊎ (27 < r) → Is_home r → ⊥
   not_home r (inl l) h = let u = params.usable h.0 r h.1 h.2 in let from = u.0 in absurd (omega (arith, l, from))
   not_home r (inr l) h = let u = params.usable h.0 r h.1 h.2 in let to = u.1 in absurd (omega (arith, l, to))
 
-  slot_place : (k offset : ℕ) → (sp : IsSpilled s fun k offset) → offset ≡ slots_at homes f + 16 * sp.slot
+  slot_place : (k offset : ℕ) → (sp : IsSpilled (selecting s fun) k offset) → offset ≡ slots_at homes f + 16 * sp.slot
   slot_place k offset sp =
       sp.there ∙ ap (λ i. slots_at homes i + 16 * sp.slot) (same_Some sp.frame f (sym sp.is ∙ is))
 
@@ -133,7 +133,7 @@ module _ (s : Setting) (code : List Instr) (x : IsText s code) (stack : StackIsT
     inside : offset + 16 ≤ f.saved
     whole : offset % 16 ≡ 0
 
-  slot_lies : (k offset : ℕ) → IsSpilled s fun k offset → Slot_lies offset
+  slot_lies : (k offset : ℕ) → IsSpilled (selecting s fun) k offset → Slot_lies offset
   slot_lies k offset sp =
       let place = slot_place k offset sp in
       let l : sp.slot < slot_count homes = slot_count_each homes k sp.slot sp.home in
@@ -141,22 +141,23 @@ module _ (s : Setting) (code : List Instr) (x : IsText s code) (stack : StackIsT
       record { past = omega arith; inside = omega arith; whole = omega arith }
 
   -- those of two parameters are apart
-  slots_apart : (j k a b : ℕ) → j < count → k < count → (j ≡ k → ⊥) → IsSpilled s fun j a → IsSpilled s fun k b
+  slots_apart : (j k a b : ℕ) → j < count → k < count → (j ≡ k → ⊥) → IsSpilled (selecting s fun) j a →
+      IsSpilled (selecting s fun) k b
       → (a ≡ b → ⊥)
   slots_apart j k a b lj lk d p q e =
       let pa = slot_place j a p in let qb = slot_place k b q in
       let same : p.slot ≡ q.slot = omega (arith, pa, qb, e) in
       params.apart j k lj lk d (p.home ∙ ap (λ i. Some (Slot i)) same ∙ sym q.home)
 
-  one_slot : (k a b : ℕ) → IsSpilled s fun k a → IsSpilled s fun k b → a ≡ b
+  one_slot : (k a b : ℕ) → IsSpilled (selecting s fun) k a → IsSpilled (selecting s fun) k b → a ≡ b
   one_slot k a b p q =
       let same : p.slot ≡ q.slot = ap slot_in (same_Some (Slot p.slot) (Slot q.slot) (sym p.home ∙ q.home)) in
       slot_place k a p ∙ ap (λ i. slots_at homes f + 16 * i) same ∙ sym (slot_place k b q)
 
-  one_register : (k a b : ℕ) → IsIn s fun k a → IsIn s fun k b → a ≡ b
+  one_register : (k a b : ℕ) → IsIn (selecting s fun) k a → IsIn (selecting s fun) k b → a ≡ b
   one_register k a b p q = ap register_in (same_Some (Register a) (Register b) (sym p.home ∙ q.home))
 
-  either : (k r offset : ℕ) → IsIn s fun k r → IsSpilled s fun k offset → ⊥
+  either : (k r offset : ℕ) → IsIn (selecting s fun) k r → IsSpilled (selecting s fun) k offset → ⊥
   either k r offset i sp = no_slot r sp.slot (same_Some (Register r) (Slot sp.slot) (sym i.home ∙ sp.home))
 
   -- ---- the frame stays
@@ -221,7 +222,8 @@ module _ (s : Setting) (code : List Instr) (x : IsText s code) (stack : StackIsT
           ∙ ap (kept_at n.mem) (sym place)
 
   -- a slot is stored
-  slot_on : (n to : Machine) (k offset changed : ℕ) (v : Cap) → IsMemory n.mem → IsSpilled s fun k offset → 28 < changed
+  slot_on : (n to : Machine) (k offset changed : ℕ) (v : Cap) → IsMemory n.mem → IsSpilled (selecting s fun) k offset →
+      28 < changed
       → Stores (at' + offset) changed v n to → Goes_on n to
   slot_on n to k offset changed v areas sp scratch w =
       let y = slot_lies k offset sp in let past = y.past in let inside = y.inside in let whole = y.whole in
@@ -248,10 +250,10 @@ module _ (s : Setting) (code : List Instr) (x : IsText s code) (stack : StackIsT
   -- ---- the first eight, to slots
 
   abbrev Slot_has : Machine → ℕ → Type 0
-  Slot_has n k = (offset : ℕ) → IsSpilled s fun k offset → kept_at n.mem (at' + offset) ≡ Some (c k)
+  Slot_has n k = (offset : ℕ) → IsSpilled (selecting s fun) k offset → kept_at n.mem (at' + offset) ≡ Some (c k)
 
   abbrev Register_has : Machine → ℕ → Type 0
-  Register_has n k = (r : ℕ) → IsIn s fun k r → register n r ≡ c k
+  Register_has n k = (r : ℕ) → IsIn (selecting s fun) k r → register n r ≡ c k
 
   record Begun (k : ℕ) (n : Machine) : Type 0 where
     frame : In_frame n
@@ -266,7 +268,8 @@ module _ (s : Setting) (code : List Instr) (x : IsText s code) (stack : StackIsT
   }
 
   other_slot : (n to : Machine) (j k a offset changed : ℕ) (v : Cap) → IsMemory n.mem → j < count → k < count
-      → (j ≡ k → ⊥) → IsSpilled s fun j a → IsSpilled s fun k offset → Stores (at' + offset) changed v n to
+      → (j ≡ k → ⊥) → IsSpilled (selecting s fun) j a → IsSpilled (selecting s fun) k offset →
+      Stores (at' + offset) changed v n to
       → kept_at to.mem (at' + a) ≡ kept_at n.mem (at' + a)
   other_slot n to j k a offset changed v areas lj lk d p q w =
       let y = slot_lies k offset q in let whole = y.whole in
@@ -284,7 +287,7 @@ module _ (s : Setting) (code : List Instr) (x : IsText s code) (stack : StackIsT
           let ne = slots_apart j k a offset lj lk d p q in inl (omega (arith, l, ne, whole, whole_a))
 
   one_stored : (k : ℕ) → k < min count 8 → (n : Machine) (mid : ℕ) → IsThere g n mid → Begun k n → (ws : List Instr)
-      → SlotWords s fun k ws → HasAt code mid ws → Reached g n (length ws) (mid + length ws) (Begun (k + 1))
+      → SlotWords (selecting s fun) k ws → HasAt code mid ws → Reached g n (length ws) (mid + length ws) (Begun (k + 1))
   one_stored k l n mid there b ws (entries.Later r i none) has =
       subst (λ y. Reached g n (length y) (mid + length y) (Begun (k + 1))) (sym none)
       (reached_nowhere g n mid (Begun (k + 1)) there (record {
@@ -294,7 +297,8 @@ module _ (s : Setting) (code : List Instr) (x : IsText s code) (stack : StackIsT
       }))
     where
       by : (j : ℕ) → j < k + 1 → ((j ≡ k) ⊎ (j ≡ k → ⊥)) → Slot_has n j
-      by j lj (inl same) offset sp = absurd (either k r offset i (subst (λ y. IsSpilled s fun y offset) same sp))
+      by j lj (inl same) offset sp =
+          absurd (either k r offset i (subst (λ y. IsSpilled (selecting s fun) y offset) same sp))
       by j lj (inr d) offset sp = b.slots j (omega (arith, lj, d)) offset sp
   one_stored k l n mid there b ws (entries.Stored offset sp words) has =
       let y = slot_lies k offset sp in let past = y.past in let inside = y.inside in let whole = y.whole in
@@ -319,7 +323,7 @@ module _ (s : Setting) (code : List Instr) (x : IsText s code) (stack : StackIsT
           (j : ℕ)
           → j < k + 1 → ((j ≡ k) ⊎ (j ≡ k → ⊥)) → Slot_has to j
       stored_by to w value j lj (inl same) a p =
-          let place = one_slot k a offset (subst (λ y. IsSpilled s fun y a) same p) sp in
+          let place = one_slot k a offset (subst (λ y. IsSpilled (selecting s fun) y a) same p) sp in
           ap (λ y. kept_at to.mem (at' + y)) place ∙ w.kept ∙ ap (λ v. Some v) (value ∙ ap c (sym same))
       stored_by to w value j lj (inr d) a p =
           other_slot n to j k a offset 29 (register n (10 + k)) b.frame.areas (omega (arith, lj, l))
@@ -327,7 +331,7 @@ module _ (s : Setting) (code : List Instr) (x : IsText s code) (stack : StackIsT
           sp w ∙ b.slots j (omega (arith, lj, d)) a p
 
   all_stored : (cnt k : ℕ) → k + cnt ≡ min count 8 → (n : Machine) (mid : ℕ) → IsThere g n mid → Begun k n
-      → (ws : List Instr) → ForEach (SlotWords s fun) k cnt ws → HasAt code mid ws
+      → (ws : List Instr) → ForEach (SlotWords (selecting s fun)) k cnt ws → HasAt code mid ws
       → Reached g n (length ws) (mid + length ws) (Begun (min count 8))
   all_stored zero k sum n mid there b ws none has =
       let all : k ≡ min count 8 = omega arith in
@@ -348,24 +352,25 @@ module _ (s : Setting) (code : List Instr) (x : IsText s code) (stack : StackIsT
     slots : (j : ℕ) → j < k → j < count → Slot_has n j
     registers : (j : ℕ) → j < k → j < count → Register_has n j
 
-  usable_target : (r : ℕ) → MayGet s fun count r → (0 < r) × (r < 32)
+  usable_target : (r : ℕ) → MayGet (selecting s fun) count r → (0 < r) × (r < 32)
   usable_target r (inl q) = (omega (arith, q), omega (arith, q))
   usable_target r (inr h) =
       let less_count = h.1 in
       let u = params.usable h.0 r (omega (arith, less_count)) h.2 in let from = u.0 in let to = u.1 in
       (omega (arith, from), omega (arith, to))
 
-  moved : (ws : List Instr) → entries.AreMovesTo (MayGet s fun count) ws
-      → ((k r : ℕ) → k < min count 8 → IsIn s fun k r → moved_from ws r ≡ 10 + k) → (n : Machine) (mid : ℕ)
+  moved : (ws : List Instr) → entries.AreMovesTo (MayGet (selecting s fun) count) ws
+      → ((k r : ℕ) → k < min count 8 → IsIn (selecting s fun) k r → moved_from ws r ≡ 10 + k) → (n : Machine) (mid : ℕ)
       → IsThere g n mid → Begun (min count 8) n → HasAt code mid ws
       → Reached g n (length ws) (mid + length ws) (Come 8)
   moved ws own made n mid there b has =
       reached g n mid (length ws) (mid + length ws) there
-      (Moved g (laid s code x) (MayGet s fun count) usable_target ws n) (Come 8)
-      (moves_run g (laid s code x) (MayGet s fun count) usable_target ws own n mid there has)
+      (Moved g (laid s code x) (MayGet (selecting s fun) count) usable_target ws n) (Come 8)
+      (moves_run g (laid s code x) (MayGet (selecting s fun) count) usable_target ws own n mid there has)
       (λ to mem w. record {
         frame = frame_on n to b.frame (registers_on n to b.frame.areas mem
-            (λ r l d. w r ∙ ap (register n) (not_moved g (laid s code x) (MayGet s fun count) usable_target ws own r
+            (λ r l d. w r ∙ ap (register n) (not_moved g (laid s code x)
+            (MayGet (selecting s fun) count) usable_target ws own r
             (λ h. target_home r l d h))));
         slots = λ j l lc offset sp. ap (λ v. kept_at v (at' + offset)) mem ∙ b.slots j (omega arith) offset sp;
         registers = λ j l lc r i.
@@ -373,7 +378,7 @@ module _ (s : Setting) (code : List Instr) (x : IsText s code) (stack : StackIsT
             ∙ b.registers (10 + j) (omega arith) (λ q. absurd (omega (arith, q))) ∙ passed.registers j lc l;
       })
     where
-      target_home : (r : ℕ) → r < 29 → (Is_home r → ⊥) → MayGet s fun count r → ⊥
+      target_home : (r : ℕ) → r < 29 → (Is_home r → ⊥) → MayGet (selecting s fun) count r → ⊥
       target_home r l d (inl q) = absurd (omega (arith, l, q))
       target_home r l d (inr h) = let lc = h.1 in d (h.0, omega (arith, lc), h.2)
 
@@ -387,7 +392,8 @@ module _ (s : Setting) (code : List Instr) (x : IsText s code) (stack : StackIsT
       ∙ passed.stack k l far
 
   -- to a register
-  one_register_come : (k r : ℕ) → k < count → 8 ≤ k → IsIn s fun k r → (n : Machine) (mid : ℕ) → IsThere g n mid
+  one_register_come : (k r : ℕ) → k < count → 8 ≤ k → IsIn (selecting s fun) k r → (n : Machine) (mid : ℕ) →
+      IsThere g n mid
       → Come k n → HasAt code mid (load_code r 28 (stack_place k) 29)
       → Reached g n (length (load_code r 28 (stack_place k) 29)) (mid + length (load_code r 28 (stack_place k) 29))
       (Come (k + 1))
@@ -404,7 +410,7 @@ module _ (s : Setting) (code : List Instr) (x : IsText s code) (stack : StackIsT
       (omega arith) (omega arith) (omega arith) (λ q. absurd (omega (arith, q))) has)
       (λ to mem w. record {
         frame = frame_on n to b.frame (registers_on n to b.frame.areas mem
-            (λ q lq d. w.1 q (λ same. d (k, l, subst (IsIn s fun k) (sym same) i))
+            (λ q lq d. w.1 q (λ same. d (k, l, subst (IsIn (selecting s fun) k) (sym same) i))
             (λ z. absurd (omega (arith, z, lq)))));
         slots = λ j lj lc. slots_by to mem j lj lc (cases_eq j k);
         registers = λ j lj lc. registers_by to w.0 w.1 j lj lc (cases_eq j k);
@@ -417,7 +423,7 @@ module _ (s : Setting) (code : List Instr) (x : IsText s code) (stack : StackIsT
       slots_by : (to : Machine) → to.mem ≡ n.mem → (j : ℕ) → j < k + 1 → j < count → ((j ≡ k) ⊎ (j ≡ k → ⊥))
           → Slot_has to j
       slots_by to mem j lj lc (inl same) offset sp =
-          absurd (either k r offset i (subst (λ y. IsSpilled s fun y offset) same sp))
+          absurd (either k r offset i (subst (λ y. IsSpilled (selecting s fun) y offset) same sp))
       slots_by to mem j lj lc (inr d) offset sp =
           ap (λ v. kept_at v (at' + offset)) mem ∙ b.slots j (omega (arith, lj, d)) lc offset sp
 
@@ -425,14 +431,15 @@ module _ (s : Setting) (code : List Instr) (x : IsText s code) (stack : StackIsT
           → ((q : ℕ) → (q ≡ r → ⊥) → (q ≡ 29 → ⊥) → register to q ≡ register n q) → (j : ℕ) → j < k + 1 → j < count
           → ((j ≡ k) ⊎ (j ≡ k → ⊥)) → Register_has to j
       registers_by to got others j lj lc (inl same) q ij =
-          ap (register to) (one_register k q r (subst (λ y. IsIn s fun y q) same ij) i) ∙ got ∙ ap c (sym same)
+          ap (register to) (one_register k q r (subst (λ y. IsIn (selecting s fun) y q) same ij) i) ∙ got
+          ∙ ap c (sym same)
       registers_by to got others j lj lc (inr d) q ij =
           let uq = params.usable j q lc ij in let q_to = uq.1 in
           others q (λ same. params.apart j k lc l d (ij.home ∙ ap (λ y. Some (Register y)) same ∙ sym i.home))
           (λ z. absurd (omega (arith, z, q_to))) ∙ b.registers j (omega (arith, lj, d)) lc q ij
 
   -- to a slot, by c30
-  one_slot_come : (k offset : ℕ) → k < count → 8 ≤ k → IsSpilled s fun k offset → (n : Machine) (mid : ℕ)
+  one_slot_come : (k offset : ℕ) → k < count → 8 ≤ k → IsSpilled (selecting s fun) k offset → (n : Machine) (mid : ℕ)
       → IsThere g n mid → Come k n
       → HasAt code mid (load_code 30 28 (stack_place k) 29 ++ store_code 30 2 offset 31)
       → Reached g n (length (load_code 30 28 (stack_place k) 29 ++ store_code 30 2 offset 31))
@@ -471,7 +478,7 @@ module _ (s : Setting) (code : List Instr) (x : IsText s code) (stack : StackIsT
       slots_by : (a to : Machine) → Loaded_it a → Stores (at' + offset) 31 (register a 30) a to → (j : ℕ) → j < k + 1
           → j < count → ((j ≡ k) ⊎ (j ≡ k → ⊥)) → Slot_has to j
       slots_by a to h w j lj lc (inl same) o p =
-          let place = one_slot k o offset (subst (λ y. IsSpilled s fun y o) same p) sp in
+          let place = one_slot k o offset (subst (λ y. IsSpilled (selecting s fun) y o) same p) sp in
           ap (λ y. kept_at to.mem (at' + y)) place ∙ w.kept ∙ ap (λ v. Some v) (h.2 ∙ ap c (sym same))
       slots_by a to h w j lj lc (inr d) o p =
           other_slot a to j k o offset 31 (register a 30) h.0.areas lc l d p sp w
@@ -481,7 +488,7 @@ module _ (s : Setting) (code : List Instr) (x : IsText s code) (stack : StackIsT
           j < k + 1
           → j < count → ((j ≡ k) ⊎ (j ≡ k → ⊥)) → Register_has to j
       registers_by a to h w j lj lc (inl same) q ij =
-          absurd (either k q offset (subst (λ y. IsIn s fun y q) same ij) sp)
+          absurd (either k q offset (subst (λ y. IsIn (selecting s fun) y q) same ij) sp)
       registers_by a to h w j lj lc (inr d) q ij =
           let uq = params.usable j q lc ij in let q_to = uq.1 in
           w.registers q (λ z. absurd (omega (arith, z, q_to)))
@@ -505,7 +512,7 @@ module _ (s : Setting) (code : List Instr) (x : IsText s code) (stack : StackIsT
           })
 
   one_come : (k : ℕ) → k < count → 8 ≤ k → (n : Machine) (mid : ℕ) → IsThere g n mid → Come k n → (ws : List Instr)
-      → StackWords s fun k ws → HasAt code mid ws → Reached g n (length ws) (mid + length ws) (Come (k + 1))
+      → StackWords (selecting s fun) k ws → HasAt code mid ws → Reached g n (length ws) (mid + length ws) (Come (k + 1))
   one_come k l far n mid there b ws (entries.Loaded r i words) has =
       subst (λ v. Reached g n (length v) (mid + length v) (Come (k + 1))) (sym words)
       (one_register_come k r l far i n mid there b (subst (HasAt code mid) words has))
@@ -514,7 +521,8 @@ module _ (s : Setting) (code : List Instr) (x : IsText s code) (stack : StackIsT
       (one_slot_come k offset l far sp n mid there b (subst (HasAt code mid) words has))
 
   all_come : (cnt k : ℕ) → 8 ≤ k → (0 < cnt → k + cnt ≡ count) → count ≤ k + cnt → (n : Machine) (mid : ℕ)
-      → IsThere g n mid → Come k n → (ws : List Instr) → ForEach (StackWords s fun) k cnt ws → HasAt code mid ws
+      → IsThere g n mid → Come k n → (ws : List Instr) → ForEach (StackWords (selecting s fun)) k cnt ws →
+      HasAt code mid ws
       → Reached g n (length ws) (mid + length ws) (Come count)
   all_come zero k far sum end n mid there b ws none has =
       subst (λ y. Reached g n (length y) (mid + length y) (Come count)) (sym none)
@@ -534,7 +542,7 @@ module _ (s : Setting) (code : List Instr) (x : IsText s code) (stack : StackIsT
 
   -- ---- all of it
 
-  module _ (words : List Instr) (form : ParameterWords s fun count words)
+  module _ (words : List Instr) (form : ParameterWords (selecting s fun) count words)
       (has : HasAt code at (prologue_code homes f ++ words)) where
     taken : TakesFrame s code fun f above link (at + length (prologue_code homes f)) at' m
     taken = subst (FrameIsTaken s code fun f above link at m) room

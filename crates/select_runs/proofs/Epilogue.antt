@@ -1,8 +1,7 @@
 -- The words with which a function ends: the registers that it kept, the link and the caller's stack come back, and the
 -- machine goes to the link.
-use Rattle.std.proofs.Common.{◌≡◌, ℕ, ◌+◌, ◌-◌, ◌*◌, ◌/◌, ◌%◌, ◌^◌, ◌<◌, ◌≤◌, ◌==◌, ℤ, pos, Bool, true, false}
-use Rattle.std.proofs.Common.{List, [], ◌∷◌, ◌++◌, length, refl, sym, ap, ◌∙◌, subst, arith, Option, Some, None, inl}
-use Rattle.std.proofs.Common.{inr}
+use Rattle.std.proofs.Common.{◌≡◌, ℕ, ◌+◌, ◌-◌, ◌*◌, ◌/◌, ◌%◌, ◌^◌, ◌<◌, ◌≤◌, ◌==◌, ℤ, pos, Bool, true, false, List, []}
+use Rattle.std.proofs.Common.{◌∷◌, ◌++◌, length, refl, sym, ap, ◌∙◌, subst, arith, Option, Some, None, inl, inr}
 use Rattle.std.proofs.Common.{if◌then◌else◌, ◌⊎◌}
 use Rattle.std.specs.Prelude.{nat_lt, nat_le, position, slice_get}
 use Rattle.std.specs.List.{filter}
@@ -35,8 +34,7 @@ use Rattle.purecap_abi.specs.declared.ends.Way.TheVariants.{FromFrame}
 use Rattle.purecap_abi.specs.Ends.{keep_from, keep_code, give_plain, give_code, epilogue_code}
 use Rattle.purecap_abi.specs.Numbers.{number_after}
 use Rattle.purecap_abi.specs.Saving.{kept_homes, kept_registers, is_home, keeps_stack, stack_bytes, registers_at}
-use Rattle.purecap_abi.specs.Saving.{stack_at}
-use Rattle.purecap_abi.specs.Saving.{behind_registers}
+use Rattle.purecap_abi.specs.Saving.{stack_at, behind_registers}
 use Rattle.purecap_abi.specs.Words.{low, high, is_word, wide_code, load_code, near_code, moved_code}
 use Rattle.purecap_abi.proofs.FrameLaws.{kept_most}
 use Rattle.purecap_abi.proofs.Numbers.{word_made}
@@ -49,19 +47,15 @@ use Rattle.place_inject.proofs.FramesKept.{stack_multiple}
 use Rattle.place_inject.proofs.Lying.{Lies, within}
 use Rattle.place_inject.proofs.ReadBack.{loads_kept}
 use Rattle.place_inject.proofs.Reaching.{stack_reaches_law}
-use Rattle.select_runs.specs.Acts.{Ground, HasAt, Holds, IsThere, Leads, place, counter_at}
-use Rattle.select_runs.specs.Numbers.{MakesNumber}
+use Rattle.select_words.specs.Standing.{HasAt}
+use Rattle.select_words.specs.Numbers.{MakesNumber}
+use Rattle.select_runs.specs.Acts.{Ground, Holds, IsThere, Leads, place, counter_at}
 use Rattle.select_runs.specs.Operands.{ground_of, IsText}
 use Rattle.select_runs.proofs.Acts.{has_front, has_back, join, one_set, act_on_row, fetched_here}
-use Rattle.select_runs.proofs.Far.{far, far_low, near_low, Reach, pointer_moved, moves}
-use Rattle.select_runs.proofs.Far.{near as far_near}
+use Rattle.select_runs.proofs.Far.{far, far_low, near_low, Reach, pointer_moved, moves, near as far_near}
 use Rattle.select_runs.proofs.Numbers.{null_address, numbers_are_made_law}
 use Rattle.select_runs.proofs.Points.{laid}
-use Rattle.select_runs.proofs.Stretches.{Gone, Sets, gone_nowhere, gone, gone_as, gone_both, place_here}
-use Rattle.select_runs.proofs.Stretches.{stays_there}
-use Rattle.select_runs.proofs.Stretches.{place_later}
-use Rattle.select_runs.proofs.Stretches.{Gone, Sets, gone_nowhere, gone, gone_as, gone_both, place_here}
-use Rattle.select_runs.proofs.Stretches.{stays_there}
+use Rattle.select_runs.proofs.Stretches.{Gone, Sets, gone_nowhere, gone, gone_as, gone_both, place_here, stays_there}
 use Rattle.select_runs.proofs.Stretches.{place_later}
 
 -- ---- registers in rising order

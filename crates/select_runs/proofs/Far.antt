@@ -23,7 +23,8 @@ use Rattle.obj_mem.specs.Pointers.{keeps}
 use Rattle.purecap_abi.specs.Words.{low, high, near_code, moved_code}
 use Rattle.purecap_abi.proofs.Numbers.{plus_low, plus_high}
 use Rattle.place_inject.proofs.Reaching.{kept_bounds}
-use Rattle.select_runs.specs.Acts.{Ground, Laid, HasAt, IsThere, Holds}
+use Rattle.select_words.specs.Standing.{HasAt}
+use Rattle.select_runs.specs.Acts.{Ground, Laid, IsThere, Holds}
 use Rattle.select_runs.proofs.Acts.{still, one_set, after}
 use Rattle.select_runs.proofs.Numbers.{null_address, word_is, signed_small, plus_extended}
 

@@ -45,14 +45,14 @@ use Rattle.place_inject.specs.Values.{IsKnown}
 use Rattle.place_inject.specs.Frames.{Setting, Point, IsLive, functions_of}
 use Rattle.place_inject.specs.Spills.{StackIsThere}
 use Rattle.place_inject.proofs.Results.{numbers_read_back_law}
-use Rattle.select_runs.specs.Acts.{HasAt}
-use Rattle.select_runs.specs.Emitted.{IsNumber}
-use Rattle.select_runs.specs.Forms.{OfOne, Other}
+use Rattle.select_words.specs.Standing.{HasAt}
+use Rattle.select_words.specs.Emitted.{IsNumber}
+use Rattle.select_words.specs.Forms.{OfOne, Other}
+use Rattle.select_words.specs.Operations.{is_exact, finish_code, selected_op, add_op, shift_by, OneThen, TwoThen}
+use Rattle.select_words.specs.Operations.{IntegerWords, Registers, WithNumber, NumberWith, LessNumber, Shifted, Times}
+use Rattle.select_words.specs.Operations.{TimesFirst}
 use Rattle.select_runs.specs.Instructions.{OperationsRun}
 use Rattle.select_runs.specs.Kinds.{IsOfKind, AreOfKinds}
-use Rattle.select_runs.specs.Operations.{is_exact, finish_code, selected_op, add_op, shift_by, OneThen, TwoThen}
-use Rattle.select_runs.specs.Operations.{IntegerWords, Registers, WithNumber, NumberWith, LessNumber, Shifted, Times}
-use Rattle.select_runs.specs.Operations.{TimesFirst}
 use Rattle.select_runs.specs.Operands.{IsText, IsAtPoint}
 use Rattle.select_runs.specs.Results.{Computed, Arrives, before, behind, kinds_in, code_in, IsSelectable}
 use Rattle.select_runs.proofs.Arithmetic.{Gives, registers_give, immediate_is, no_shift, commutes, less_is, shift_gives}
@@ -62,6 +62,7 @@ use Rattle.select_runs.proofs.Numbers.{number_at, null_address}
 use Rattle.select_runs.proofs.Intrinsics.{same_int}
 use Rattle.select_runs.proofs.Working.{integer_of, integer_bits, first_word, next_word, within, of_one, of_two}
 use Rattle.select_runs.proofs.Working.{other_comes}
+use Rattle.select_runs.specs.Selecting.{selecting}
 
 -- ---- integers in registers
 
@@ -110,7 +111,7 @@ number_by_int s t (Capability signed) v h = cc
 module _ (s : Setting) (code : List Instr) (x : IsText s code) (p : Point) (t : State modes.Store) where
   -- a temp that is a number holds it
   pub number_is : (at : ℕ) (m : Machine) → IsAtPoint s code p at t m → (temp n v : ℕ) → IsLive s p temp
-      → IsNumber s p.running.fun temp n → temp_in t temp ≡ Int v → v ≡ n
+      → IsNumber (selecting s p.running.fun) temp n → temp_in t temp ≡ Int v → v ≡ n
   number_is at m point temp n v live is e =
       let c = (numbers_read_back_law s p t m point.fits temp n live is).0 in
       sym (null_address v)
@@ -325,7 +326,8 @@ module _ (s : Setting) (code : List Instr) (x : IsText s code) (stack : StackIsT
       → ((r y : ℕ) → is_call (word r y) ≡ false)
       → (made : ℕ) → Gives k o by_number made result
       → ((u : Machine) (r y : ℕ) → register u y ≡ bits (temp_in t from) → row u (word r y) ≡ set_integer u r made)
-      → (ws : List Instr) → OfOne s running.fun to from (OneThen word ends) ws → HasAt code at ws → Result_home ws
+      → (ws : List Instr) → OfOne (selecting s running.fun) to from (OneThen word ends) ws → HasAt code at ws →
+      Result_home ws
   unfolding few
   by_one from read by_number word ends same plain made gives does ws form has =
       let costs = finish_costs s code x here t k in
@@ -344,7 +346,8 @@ module _ (s : Setting) (code : List Instr) (x : IsText s code) (stack : StackIsT
       one_more : (n m : ℕ) → n ≤ m → suc n ≤ 1 + m
       one_more n m h = omega arith
 
-  integers : (ws : List Instr) → IntegerWords s running.fun o k to a b ws → HasAt code at ws → Result_home ws
+  integers : (ws : List Instr) → IntegerWords (selecting s running.fun) o k to a b ws → HasAt code at ws →
+      Result_home ws
   unfolding few row op_row imm_row shift_row
   integers ws (Registers form) has =
       let costs = finish_costs s code x here t k in
@@ -352,7 +355,7 @@ module _ (s : Setting) (code : List Instr) (x : IsText s code) (stack : StackIsT
       within s code (behind running rest) 0 (3 + few + 6) (operation_cost k) (at + length ws) _ m (omega arith)
       (of_two s code x stack p running i rest to refl refl (λ n h. h) sel t m at point a (zero, refl)
       (Int result) result_known
-      (Other s running.fun b) (bits (temp_in t b)) 3
+      (Other (selecting s running.fun) b) (bits (temp_in t b)) 3
       (other_comes s code x stack p running i rest to refl refl (λ n h. h) sel t m at point a (zero, refl) b
       (suc zero, refl))
       (TwoThen (Op (selected_op k o)) (finish_code k o false))

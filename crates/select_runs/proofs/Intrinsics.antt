@@ -48,9 +48,9 @@ use Rattle.place_inject.specs.Getting.{GettersFit, GettingFits}
 use Rattle.place_inject.specs.Frames.{Setting, functions_of}
 use Rattle.place_inject.specs.Spills.{StackIsThere}
 use Rattle.place_inject.proofs.Getting.{getting_fits_law}
-use Rattle.select_runs.specs.Acts.{HasAt}
-use Rattle.select_runs.specs.Forms.{OfOne, OfTwo}
-use Rattle.select_runs.specs.Capabilities.{OneOfOne, OneOfTwo, Seconds, IntrinsicWords, intrinsic_of}
+use Rattle.select_words.specs.Standing.{HasAt}
+use Rattle.select_words.specs.Forms.{OfOne, OfTwo}
+use Rattle.select_words.specs.Capabilities.{OneOfOne, OneOfTwo, Seconds, IntrinsicWords, intrinsic_of}
 use Rattle.select_runs.specs.Kinds.{IsOfKind, AreOfKinds}
 use Rattle.select_runs.specs.Operands.{IsText, IsAtPoint}
 use Rattle.select_runs.specs.Results.{Arrives, before, behind, kinds_in, code_in, IsSelectable}
@@ -59,6 +59,7 @@ use Rattle.select_runs.proofs.Numbers.{null_address}
 use Rattle.select_runs.proofs.Kinded.{kind_passes, kinded_set, has_kind}
 use Rattle.select_runs.proofs.Working.{integer_of, integer_bits, one_only, within, of_one, of_two, other_comes}
 use Rattle.select_runs.proofs.Pointing.{pointer_of, fitting, base_pointer, pointer_kinded, three_parts}
+use Rattle.select_runs.specs.Selecting.{selecting}
 
 -- ---- numbers
 
@@ -148,12 +149,12 @@ module _ (s : Setting) (code : List Instr) (x : IsText s code) (stack : StackIsT
     value : Value
     means : (operations (placed_plan s.map)).work t.mem (work_of op) (temp_in t a) (second_in t b) ≡ Ok value
     kind_is : AreOfKinds (kinds_in s running) (slice_set t.vars to (Some value))
-    does : (ws : List Instr) → IntrinsicWords s running.fun to a b (intrinsic_of op) ws → HasAt code at ws
+    does : (ws : List Instr) → IntrinsicWords (selecting s running.fun) to a b (intrinsic_of op) ws → HasAt code at ws
         → Goes_home ws value
 
   one_does : (get : CapGetOp) (v : Value) → IsKnown t.mem.memory.shapes (functions_of s) v
       → ((u : Machine) (r q : ℕ) → register u q ≡ bits (temp_in t a) → row u (CapGet get r q) ≡ set u r (bits v))
-      → (ws : List Instr) → OfOne s running.fun to a (OneOfOne get) ws → HasAt code at ws → Goes_home ws v
+      → (ws : List Instr) → OfOne (selecting s running.fun) to a (OneOfOne get) ws → HasAt code at ws → Goes_home ws v
   one_does get v known makes ws o has =
       within s code (behind running rest) 0 (1 + 6) 10 (at + length ws) _ m (omega arith)
       (of_one s code x stack p running here_i rest to refl refl (λ n h. h) sel t m at point a (zero, refl) v known
@@ -166,16 +167,17 @@ module _ (s : Setting) (code : List Instr) (x : IsText s code) (stack : StackIsT
   two_does : (get : CapRegOp) (y : ℕ) → b ≡ Some y → (v : Value) → IsKnown t.mem.memory.shapes (functions_of s) v
       → ((u : Machine) (r q z : ℕ) → register u q ≡ bits (temp_in t a) → register u z ≡ bits (temp_in t y)
       → row u (CapReg get r q z) ≡ set u r (bits v))
-      → (ws : List Instr) → OfTwo s running.fun to a (Seconds s running.fun b) (OneOfTwo get) ws → HasAt code at ws
+      → (ws : List Instr) → OfTwo (selecting s running.fun) to a (Seconds (selecting s running.fun) b)
+      (OneOfTwo get) ws → HasAt code at ws
       → Goes_home ws v
   two_does get y is_some v known makes ws o has =
       within s code (behind running rest) 0 (3 + 1 + 6) 10 (at + length ws) _ m (omega arith)
       (of_two s code x stack p running here_i rest to refl refl (λ n h. h) sel t m at point a (zero, refl) v known
-      (Seconds s running.fun b) (bits (temp_in t y)) 3
+      (Seconds (selecting s running.fun) b) (bits (temp_in t y)) 3
       (λ n count mid leads here us z o' hs.
       other_comes s code x stack p running here_i rest to refl refl (λ n' h. h) sel t m at point a
       (zero, refl) y read_y n count mid leads here us z
-      (subst (λ o. Seconds s running.fun o us z) is_some o') hs)
+      (subst (λ o. Seconds (selecting s running.fun) o us z) is_some o') hs)
       (OneOfTwo get)
       (λ u mid q z here e f r us is range hs.
       one_only s code x (before running here_i rest) t u mid here (CapReg get r q z) r _ us is hs refl range

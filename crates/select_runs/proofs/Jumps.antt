@@ -41,17 +41,20 @@ use Rattle.place_inject.specs.Homes.{onward}
 use Rattle.place_inject.proofs.Getting.{getting_fits_law}
 use Rattle.place_inject.proofs.Results.{moves_on_law}
 use Rattle.place_inject.proofs.StoresKeep.{scratch_keeps_law}
-use Rattle.select_runs.specs.Acts.{Ground, HasAt, IsThere, Leads, counter_at, place}
+use Rattle.select_words.specs.Standing.{HasAt}
+use Rattle.select_words.specs.Jumps.{inverted, BranchWords}
+use Rattle.select_runs.specs.Acts.{Ground, IsThere, Leads, counter_at, place}
 use Rattle.select_runs.specs.Kinds.{IsOfKind, AreOfKinds}
 use Rattle.select_runs.specs.Operands.{ground_of, IsText, IsAtPoint}
 use Rattle.select_runs.specs.Results.{Arrives, before, behind, code_in, kinds_in}
-use Rattle.select_runs.specs.Jumps.{LeadsTo, JumpsRun, inverted, BranchWords, Branches, Taken, Passed, BranchesRun}
+use Rattle.select_runs.specs.Jumps.{LeadsTo, JumpsRun, Branches, Taken, Passed, BranchesRun}
 use Rattle.select_runs.proofs.Acts.{counter_moved, fetched_here, act_on_row, has_front, has_back, join}
 use Rattle.select_runs.proofs.Numbers.{null_address}
 use Rattle.select_runs.proofs.Points.{laid, there}
 use Rattle.select_runs.proofs.Results.{reads_as_before}
 use Rattle.select_runs.proofs.Simple.{operand_few}
 use Rattle.select_runs.proofs.Working.{Got, operand_got, integer_bits}
+use Rattle.select_runs.specs.Selecting.{selecting}
 
 module _ (s : Setting) (code : List Instr) (x : IsText s code) where
   abbrev g : Ground
@@ -201,7 +204,7 @@ module _ (s : Setting) (code : List Instr) (x : IsText s code) (w : World) (p : 
     (when : Bool)
     (l : ℕ) (rest : List TacInstr) (below : on < length (kinds_in s running)) (at to : ℕ) (z : ℤ)
     (finds words : List Instr)
-    (form : BranchWords s running.fun on when z finds words) (has : HasAt code at words)
+    (form : BranchWords (selecting s running.fun) on when z finds words) (has : HasAt code at words)
     (leads : LeadsTo s code (at + length finds + 1) to z) (t : State Store) (m : Machine)
     (kinded : AreOfKinds (kinds_in s running) t.vars) where
   abbrev branch : TacInstr

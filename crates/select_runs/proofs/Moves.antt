@@ -1,6 +1,6 @@
 -- Moves among registers, and loads from the frame of a caller.
-use Rattle.std.proofs.Common.{◌≡◌, ℕ, ◌+◌, ◌-◌, ◌%◌, ◌^◌, ◌<◌, ◌≤◌, ◌==◌, pos, Bool, true, false, List, [], ◌∷◌}
-use Rattle.std.proofs.Common.{◌++◌, length, refl, sym, ap, ◌∙◌, subst, arith, Some, inl, inr, if◌then◌else◌}
+use Rattle.std.proofs.Common.{◌≡◌, ℕ, ◌+◌, ◌-◌, ◌%◌, ◌^◌, ◌<◌, ◌≤◌, ◌==◌, pos, Bool, true, false, List, [], ◌∷◌, ◌++◌}
+use Rattle.std.proofs.Common.{length, refl, sym, ap, ◌∙◌, subst, arith, Some, inl, inr, if◌then◌else◌}
 use Rattle.std.specs.Prelude.{nat_lt, slice_get}
 use Rattle.std.proofs.lemmas.Bool.{cases_eq, eq-eqb, ne_eqb}
 use Rattle.cap_ops.specs.declared.capability.Cap.{Cap}
@@ -18,13 +18,13 @@ use Rattle.place_inject.specs.Parts.{kept_at}
 use Rattle.place_inject.specs.Frames.{Setting, stack_top, stack_pointer}
 use Rattle.place_inject.specs.Spills.{StackIsThere}
 use Rattle.place_inject.proofs.Reaching.{stack_reaches_law}
-use Rattle.select_runs.specs.Acts.{Ground, Laid, HasAt, Holds, IsThere}
-use Rattle.select_runs.specs.Entries.{moved_from, AreMovesTo}
+use Rattle.select_words.specs.Standing.{HasAt}
+use Rattle.select_words.specs.Entries.{moved_from, AreMovesTo}
+use Rattle.select_runs.specs.Acts.{Ground, Laid, Holds, IsThere}
 use Rattle.select_runs.specs.Operands.{ground_of, IsText}
 use Rattle.select_runs.proofs.Acts.{has_back, one_set}
 use Rattle.select_runs.proofs.Epilogue.{one_load}
-use Rattle.select_runs.proofs.Far.{far, far_low, near_low}
-use Rattle.select_runs.proofs.Far.{near as far_near}
+use Rattle.select_runs.proofs.Far.{far, far_low, near_low, near as far_near}
 use Rattle.select_runs.proofs.Points.{laid}
 use Rattle.select_runs.proofs.Stretches.{Gone, Sets, gone, gone_as, gone_both, gone_nowhere}
 

@@ -26,9 +26,11 @@ use Rattle.cap_machine.specs.declared.machine.Machine.{Machine}
 use Rattle.cap_machine.specs.Integers.{result_of, word, upper, extended}
 use Rattle.cap_machine.specs.State.{register, integer}
 use Rattle.cap_machine.specs.Rows.{row, upper_row, imm_row, shift_row, set_integer}
-use Rattle.purecap_abi.specs.Numbers.{signed_word, plus, set_by, number_after}
-use Rattle.select_runs.specs.Acts.{Ground, Laid, HasAt, Holds, IsThere}
-use Rattle.select_runs.specs.Numbers.{ReadsOwn, IsNumberWord, AreNumberWords, MakesNumber, NumbersAreMade}
+use Rattle.purecap_abi.specs.Numbers.{signed_word, plus, set_by, number_after, ReadsOwn, IsNumberWord}
+use Rattle.select_words.specs.Standing.{HasAt}
+use Rattle.select_words.specs.Numbers.{AreNumberWords, MakesNumber}
+use Rattle.select_runs.specs.Acts.{Ground, Laid, Holds, IsThere}
+use Rattle.select_runs.specs.Numbers.{NumbersAreMade}
 use Rattle.select_runs.proofs.Acts.{still, one_set, after}
 
 -- ---- arithmetic of the words

@@ -26,14 +26,15 @@ use Rattle.place_inject.specs.Fits.{Fits, registers_in}
 use Rattle.place_inject.proofs.ReadBack.{newest, under, slots_read_back_law}
 use Rattle.place_inject.proofs.Reaching.{stack_reaches_law}
 use Rattle.place_inject.proofs.Results.{registers_read_back_law, numbers_read_back_law}
-use Rattle.select_runs.specs.Acts.{Ground, HasAt, IsThere, Holds}
-use Rattle.select_runs.specs.Emitted.{IsSpilled, Operand, Nothing, Made, AtHome, Loaded}
+use Rattle.select_words.specs.Standing.{HasAt}
+use Rattle.select_words.specs.Emitted.{IsSpilled, Operand, Nothing, Made, AtHome, Loaded}
+use Rattle.select_runs.specs.Acts.{Ground, IsThere, Holds}
 use Rattle.select_runs.specs.Operands.{ground_of, IsText, IsAtPoint, OperandsCome}
 use Rattle.select_runs.proofs.Acts.{begins, still, one_set, after}
-use Rattle.select_runs.proofs.Far.{far, far_low, near_low, Reach}
-use Rattle.select_runs.proofs.Far.{near as far_near}
+use Rattle.select_runs.proofs.Far.{far, far_low, near_low, Reach, near as far_near}
 use Rattle.select_runs.proofs.Numbers.{numbers_are_made_law}
 use Rattle.select_runs.proofs.Points.{laid, there}
+use Rattle.select_runs.specs.Selecting.{selecting}
 
 -- ---- slots
 
@@ -45,7 +46,7 @@ pub record Lies (s : Setting) (p : Point) (t : State Store) (offset : ℕ) : Typ
   pub top : stack_top s ≤ 2 ^ 40
 
 pub slot_lies : (s : Setting) (code : List Instr) (x : IsText s code) (p : Point) (t : State Store) (m : Machine)
-    → Fits s (Some p) t m → (temp offset : ℕ) → IsSpilled s p.running.fun temp offset → Lies s p t offset
+    → Fits s (Some p) t m → (temp offset : ℕ) → IsSpilled (selecting s p.running.fun) temp offset → Lies s p t offset
 slot_lies s code x p t m f temp offset spilled =
     let homes = homes_of s p.running.fun in
     let calls = f.calls in
@@ -74,7 +75,7 @@ slot_lies s code x p t m f temp offset spilled =
 -- The words of a load from a slot, in a machine that has the point's memory and stack
 module _ (s : Setting) (code : List Instr) (x : IsText s code) (p : Point) (t : State Store) (m : Machine)
     (f : Fits s (Some p) t m) (temp scratch offset : ℕ) (above : 2 < scratch) (below : scratch < 32)
-    (spilled : IsSpilled s p.running.fun temp offset) where
+    (spilled : IsSpilled (selecting s p.running.fun) temp offset) where
   abbrev pub g : Ground
   g = ground_of s code
 
@@ -194,7 +195,7 @@ module _ (s : Setting) (code : List Instr) (x : IsText s code) (p : Point) (at :
       (subst (Holds here m 0 at scratch r) (ap (register m) e ∙ is)
       (begins here (laid s code x) m at scratch r (there s code x p at t m point))))
 
-  pub holds_by : Operand s p.running.fun temp scratch words r → Holds here m (length words)
+  pub holds_by : Operand (selecting s p.running.fun) temp scratch words r → Holds here m (length words)
       (at + length words) scratch r own
   holds_by (Nothing n none e) = already 0 e none (sym (numbers_read_back_law s p t m point.fits temp 0 live n).0)
   holds_by (AtHome i none) = already r refl none (registers_read_back_law s p t m point.fits temp r live i.stands

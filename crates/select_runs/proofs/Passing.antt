@@ -1,6 +1,6 @@
 -- Arguments come to their places.
-use Rattle.std.proofs.Common.{◌≡◌, ℕ, zero, suc, ◌+◌, ◌-◌, ◌%◌, ◌^◌, ◌<◌, ◌≤◌, ◌⊎◌, Bool, true, false, List, []}
-use Rattle.std.proofs.Common.{◌∷◌, ◌++◌, length, refl, sym, ap, ◌∙◌, subst, arith, Option, Some, None, inl, inr}
+use Rattle.std.proofs.Common.{◌≡◌, ℕ, zero, suc, ◌+◌, ◌-◌, ◌%◌, ◌^◌, ◌<◌, ◌≤◌, ◌⊎◌, Bool, true, false, List, [], ◌∷◌}
+use Rattle.std.proofs.Common.{◌++◌, length, refl, sym, ap, ◌∙◌, subst, arith, Option, Some, None, inl, inr}
 use Rattle.std.proofs.Common.{if◌then◌else◌}
 use Rattle.std.specs.Prelude.{min, nat_lt, slice_get, ◌||◌}
 use Rattle.std.specs.List.{filter}
@@ -41,17 +41,18 @@ use Rattle.place_inject.proofs.Outgoing.{outgoing_keeps_fits_law}
 use Rattle.place_inject.proofs.ReadBack.{newest, under}
 use Rattle.place_inject.proofs.Registers.{registers_keep}
 use Rattle.place_inject.proofs.Results.{moves_on_law, numbers_read_back_law, registers_read_back_law}
-use Rattle.select_runs.specs.Acts.{Ground, HasAt, IsThere, Holds}
-use Rattle.select_runs.specs.Emitted.{IsIn, Operand}
-use Rattle.select_runs.specs.Emitted as emitted
-use Rattle.select_runs.specs.Entries.{stack_place, ForEach, AreMovesTo, moved_from}
+use Rattle.select_words.specs.Standing.{HasAt}
+use Rattle.select_words.specs.Emitted.{IsIn, Operand}
+use Rattle.select_words.specs.Emitted as emitted
+use Rattle.select_words.specs.Entries.{stack_place, ForEach, AreMovesTo, moved_from}
+use Rattle.select_words.specs.Passing as passing
+use Rattle.select_words.specs.Passing.{StackedWords, IsPassing, BroughtWords, MayCarry, ArgumentWords}
+use Rattle.select_words.specs.Services.{IsAside}
+use Rattle.select_words.specs.Words as words
+use Rattle.select_words.specs.Words.{Bring}
+use Rattle.select_runs.specs.Acts.{Ground, IsThere, Holds}
 use Rattle.select_runs.specs.Operands.{ground_of, IsText, IsAtPoint}
-use Rattle.select_runs.specs.Passing as passing
-use Rattle.select_runs.specs.Passing.{StackedWords, IsPassing, BroughtWords, MayCarry, ArgumentWords, GoesOnAside}
-use Rattle.select_runs.specs.Passing.{PassesArguments, ArgumentsPass}
-use Rattle.select_runs.specs.Services.{IsAside}
-use Rattle.select_runs.specs.Words as words
-use Rattle.select_runs.specs.Words.{Bring}
+use Rattle.select_runs.specs.Passing.{GoesOnAside, PassesArguments, ArgumentsPass}
 use Rattle.select_runs.proofs.Acts.{has_front, has_back}
 use Rattle.select_runs.proofs.Bringing.{brought}
 use Rattle.select_runs.proofs.Keeping.{kept_still}
@@ -62,6 +63,7 @@ use Rattle.select_runs.proofs.Points.{laid, there}
 use Rattle.select_runs.proofs.Saving.{Stores, stores_far}
 use Rattle.select_runs.proofs.Stretches.{Reached, Sets, gone, reached, reached_with, reached_full, reached_both}
 use Rattle.select_runs.proofs.Stretches.{reached_nowhere}
+use Rattle.select_runs.specs.Selecting.{selecting}
 
 -- ---- members that pass a test
 
@@ -199,7 +201,7 @@ module _ (s : Setting) (code : List Instr) (x : IsText s code) (stack : StackIsT
     stacked : Stacked k n
 
   one_stacked : (k : ℕ) → 8 ≤ k → k < length args → (n : Machine) (mid : ℕ) → IsThere g n mid → Begun k n
-      → (ws : List Instr) → StackedWords s p.running.fun args k ws → HasAt code mid ws
+      → (ws : List Instr) → StackedWords (selecting s p.running.fun) args k ws → HasAt code mid ws
       → Reached g n (length ws) (mid + length ws) (Begun (k + 1))
   one_stacked k far l n mid there b ws form has =
       let q = subst (HasAt code mid) form.are has in
@@ -234,7 +236,7 @@ module _ (s : Setting) (code : List Instr) (x : IsText s code) (stack : StackIsT
       Found : Machine → Type 0
       Found a = (a.mem ≡ n.mem) × Sets n 28 form.r (bits (temp_in t form.temp)) a
 
-      unscratched : (r : ℕ) (finds : List Instr) → Operand s p.running.fun form.temp 28 finds r → r ≡ 29 → ⊥
+      unscratched : (r : ℕ) (finds : List Instr) → Operand (selecting s p.running.fun) form.temp 28 finds r → r ≡ 29 → ⊥
       unscratched r finds (emitted.Nothing z e q) y = absurd (omega (arith, q, y))
       unscratched r finds (emitted.Made v z makes few e) y = absurd (omega (arith, e, y))
       unscratched r finds (emitted.AtHome i e) y = let u = x.usable p.running.fun form.temp r i.home in
@@ -275,7 +277,8 @@ module _ (s : Setting) (code : List Instr) (x : IsText s code) (stack : StackIsT
 
   all_stacked : (cnt k : ℕ) → 8 ≤ k → (0 < cnt → k + cnt ≡ length args) → length args ≤ k + cnt →
       (n : Machine) (mid : ℕ)
-      → IsThere g n mid → Begun k n → (ws : List Instr) → ForEach (StackedWords s p.running.fun args) k cnt ws
+      → IsThere g n mid → Begun k n → (ws : List Instr) →
+      ForEach (StackedWords (selecting s p.running.fun) args) k cnt ws
       → HasAt code mid ws → Reached g n (length ws) (mid + length ws) (Begun (length args))
   all_stacked zero k far sum end n mid there b ws none has =
       subst (λ y. Reached g n (length y) (mid + length y) (Begun (length args))) (sym none)
@@ -341,7 +344,8 @@ module _ (s : Setting) (code : List Instr) (x : IsText s code) (stack : StackIsT
     fits_there : Fits s (Some p') t n
     way : register n 31 ≡ register m 31
     stacked : Stacked (length args) n
-    moved : (j temp q : ℕ) → j < 8 → slice_get args j ≡ Some temp → IsIn s p.running.fun temp q → IsPassing q
+    moved : (j temp q : ℕ) → j < 8 → slice_get args j ≡ Some temp → IsIn (selecting s p.running.fun) temp q →
+        IsPassing q
         → register n (10 + j) ≡ bits (temp_in t temp)
     done : (j temp : ℕ) → j < k → j < 8 → slice_get args j ≡ Some temp → register n (10 + j) ≡ bits (temp_in t temp)
 
@@ -358,7 +362,7 @@ module _ (s : Setting) (code : List Instr) (x : IsText s code) (stack : StackIsT
   way_stays (inr q) = absurd (omega (arith, q))
 
   carried : (ws : List Instr) → AreMovesTo MayCarry ws
-      → ((k temp q : ℕ) → k < 8 → slice_get args k ≡ Some temp → IsIn s p.running.fun temp q → IsPassing q
+      → ((k temp q : ℕ) → k < 8 → slice_get args k ≡ Some temp → IsIn (selecting s p.running.fun) temp q → IsPassing q
       → moved_from ws (10 + k) ≡ q) → (n : Machine) (mid : ℕ) → IsThere g n mid → Begun (length args) n
       → HasAt code mid ws → Reached g n (length ws) (mid + length ws) (Carried 0)
   carried ws own made n mid there b has =
@@ -382,19 +386,21 @@ module _ (s : Setting) (code : List Instr) (x : IsText s code) (stack : StackIsT
   among_others temp k e passes_it = among_filter stands_aside args temp (k, e) passes_it
 
   module _ (k temp : ℕ) (few : k < 8) (e : slice_get args k ≡ Some temp)
-      (apart : (q : ℕ) → IsIn s p.running.fun temp q → IsAside q) (n : Machine) (mid : ℕ) (there_n : IsThere g n mid)
+      (apart : (q : ℕ) → IsIn (selecting s p.running.fun) temp q → IsAside q) (n : Machine) (mid : ℕ)
+      (there_n : IsThere g n mid)
       (c : Carried k n) where
     point : IsAtPoint s code p' mid t n
     point = record { fits = c.fits_there; counter = there_n.counter }
 
-    by_point : stands_aside temp ≡ true → (ws : List Instr) → Bring s p.running.fun temp (10 + k) ws → HasAt code mid ws
+    by_point : stands_aside temp ≡ true → (ws : List Instr) → Bring (selecting s p.running.fun) temp (10 + k) ws →
+        HasAt code mid ws
         → Holds g n (length ws) (mid + length ws) (10 + k) (10 + k) (bits (temp_in t temp))
     by_point passes_it ws b has =
         brought s code x p' t n mid point temp (10 + k) (now (among_others temp k e passes_it)) (omega arith)
         (omega arith) ws b
         has
 
-    holds : (ws : List Instr) → Bring s p.running.fun temp (10 + k) ws → HasAt code mid ws
+    holds : (ws : List Instr) → Bring (selecting s p.running.fun) temp (10 + k) ws → HasAt code mid ws
         → Holds g n (length ws) (mid + length ws) (10 + k) (10 + k) (bits (temp_in t temp))
     holds ws (words.Made v z makes less) has =
         subst (Holds g n (length ws) (mid + length ws) (10 + k) (10 + k))
@@ -406,7 +412,7 @@ module _ (s : Setting) (code : List Instr) (x : IsText s code) (stack : StackIsT
         by_point (ap aside_home i.home ∙ aside_true q (apart q i)) ws (words.Moved q i d z) has
     holds ws (words.Loaded offset i z) has = by_point (ap aside_home i.home) ws (words.Loaded offset i z) has
 
-    brings : (ws : List Instr) → Bring s p.running.fun temp (10 + k) ws → HasAt code mid ws
+    brings : (ws : List Instr) → Bring (selecting s p.running.fun) temp (10 + k) ws → HasAt code mid ws
         → Reached g n (length ws) (mid + length ws) (Carried (k + 1))
     brings ws b has =
         reached_full g n mid (length ws) (mid + length ws) there_n
@@ -425,10 +431,12 @@ module _ (s : Setting) (code : List Instr) (x : IsText s code) (stack : StackIsT
         same_temp j temp' q e' = same_Some temp' temp (sym e' ∙ ap (slice_get args) q ∙ e)
 
         moved_by : (to : Machine) → Sets n (10 + k) (10 + k) (bits (temp_in t temp)) to → (j temp' q : ℕ) → j < 8
-            → slice_get args j ≡ Some temp' → IsIn s p.running.fun temp' q → IsPassing q → ((j ≡ k) ⊎ (j ≡ k → ⊥))
+            → slice_get args j ≡ Some temp' → IsIn (selecting s p.running.fun) temp' q → IsPassing q →
+            ((j ≡ k) ⊎ (j ≡ k → ⊥))
             → register to (10 + j) ≡ bits (temp_in t temp')
         moved_by to h j temp' q l e' i pass (inl same) =
-            absurd (not_passing q (apart q (subst (λ y. IsIn s p.running.fun y q) (same_temp j temp' same e') i)) pass)
+            absurd (not_passing q (apart q (subst (λ y. IsIn (selecting s p.running.fun) y q)
+            (same_temp j temp' same e') i)) pass)
         moved_by to h j temp' q l e' i pass (inr d) =
             h.1 (10 + j) (λ z. d (let w : j ≡ k = omega (arith, z) in w)) ∙ c.moved j temp' q l e' i pass
 
@@ -442,7 +450,7 @@ module _ (s : Setting) (code : List Instr) (x : IsText s code) (stack : StackIsT
             h.1 (10 + j) (λ z. d (let w : j ≡ k = omega (arith, z) in w)) ∙ c.done j temp' (omega (arith, lj, d)) l e'
 
   one_brought : (k : ℕ) → k < 8 → (n : Machine) (mid : ℕ) → IsThere g n mid → Carried k n → (ws : List Instr)
-      → BroughtWords s p.running.fun args k ws → HasAt code mid ws
+      → BroughtWords (selecting s p.running.fun) args k ws → HasAt code mid ws
       → Reached g n (length ws) (mid + length ws) (Carried (k + 1))
   one_brought k few n mid there c ws (passing.Moved temp q e i pass none) has =
       subst (λ y. Reached g n (length y) (mid + length y) (Carried (k + 1))) (sym none)
@@ -458,13 +466,13 @@ module _ (s : Setting) (code : List Instr) (x : IsText s code) (stack : StackIsT
           → register n (10 + j) ≡ bits (temp_in t temp')
       done_by j temp' lj l e' (inl same) =
           let one : temp ≡ temp' = same_Some temp temp' (sym e ∙ ap (slice_get args) (sym same) ∙ e') in
-          c.moved j temp' q l e' (subst (λ y. IsIn s p.running.fun y q) one i) pass
+          c.moved j temp' q l e' (subst (λ y. IsIn (selecting s p.running.fun) y q) one i) pass
       done_by j temp' lj l e' (inr d) = c.done j temp' (omega (arith, lj, d)) l e'
   one_brought k few n mid there c ws (passing.Brought temp e apart b) has =
       brings k temp few e apart n mid there c ws b has
 
   all_brought : (cnt k : ℕ) → k + cnt ≡ min (length args) 8 → (n : Machine) (mid : ℕ) → IsThere g n mid → Carried k n
-      → (ws : List Instr) → ForEach (BroughtWords s p.running.fun args) k cnt ws → HasAt code mid ws
+      → (ws : List Instr) → ForEach (BroughtWords (selecting s p.running.fun) args) k cnt ws → HasAt code mid ws
       → Reached g n (length ws) (mid + length ws) (Carried (min (length args) 8))
   all_brought zero k sum n mid there c ws none has =
       let all : k ≡ min (length args) 8 = omega arith in
@@ -480,7 +488,8 @@ module _ (s : Setting) (code : List Instr) (x : IsText s code) (stack : StackIsT
 
   -- ---- all of it
 
-  all : (at : ℕ) → IsThere g m at → (ws : List Instr) → ArgumentWords s p.running.fun args ws → HasAt code at ws
+  all : (at : ℕ) → IsThere g m at → (ws : List Instr) → ArgumentWords (selecting s p.running.fun) args ws →
+      HasAt code at ws
       → Reached g m (length ws) (at + length ws) (Carried (min (length args) 8))
   all at there ws form has =
       let q = subst (HasAt code at) form.are has in
@@ -498,7 +507,7 @@ module _ (s : Setting) (code : List Instr) (x : IsText s code) (stack : StackIsT
       all_brought (min (length args) 8) 0 (omega arith) b (at + length form.stores + length form.moves) there_b cb
       form.brings form.brought (has_back code (at + length form.stores) form.moves form.brings h1))))
 
-  passes : (at : ℕ) → IsAtPoint s code p at t m → (ws : List Instr) → ArgumentWords s p.running.fun args ws
+  passes : (at : ℕ) → IsAtPoint s code p at t m → (ws : List Instr) → ArgumentWords (selecting s p.running.fun) args ws
       → HasAt code at ws → PassesArguments s code p left args (at + length ws) (length ws) t m
   passes at point ws form has =
       let r = all at (there s code x p at t m point) ws form has in

@@ -56,8 +56,9 @@ use Rattle.place_inject.specs.Whole.{WholeFits}
 use Rattle.place_inject.proofs.Reaching.{kept_bounds, stack_encodable, table_reaches_law}
 use Rattle.place_inject.proofs.Tables.{object_stands, table_reads_back_law}
 use Rattle.place_inject.proofs.Wholes.{whole_pointers_fit_law}
-use Rattle.select_runs.specs.Acts.{HasAt, IsThere, Holds}
-use Rattle.select_runs.specs.Capabilities.{Local, LocalWords, Entry, EntryWords}
+use Rattle.select_words.specs.Standing.{HasAt}
+use Rattle.select_words.specs.Capabilities.{Local, LocalWords, Entry, EntryWords}
+use Rattle.select_runs.specs.Acts.{IsThere, Holds}
 use Rattle.select_runs.specs.Instructions.{IsAskedBy, PointersRun}
 use Rattle.select_runs.specs.Kinds.{AreOfKinds}
 use Rattle.select_runs.specs.Operands.{ground_of, IsText, IsAtPoint}
@@ -70,6 +71,7 @@ use Rattle.select_runs.proofs.Numbers.{null_address, numbers_are_made_law}
 use Rattle.select_runs.proofs.Points.{laid, there}
 use Rattle.select_runs.proofs.Pointing.{pointer_kind, same_capability}
 use Rattle.select_runs.proofs.Working.{stretch, computed_there, and_then, and_scratch, of_none}
+use Rattle.select_runs.specs.Selecting.{selecting}
 
 -- ---- what the program asks for
 
@@ -241,7 +243,8 @@ module _ (s : Setting) (code : List Instr) (x : IsText s code) (stack : StackIsT
       by false = omega arith
 
   entry_comes : (entry : ℕ) (v : Value) → IsKnown t.mem.memory.shapes (functions_of s) v → 16 * entry < s.map.table.1
-      → Reads (16 * entry) v → (words : List Instr) → EntryWords s running.fun to entry words → HasAt code at words
+      → Reads (16 * entry) v → (words : List Instr) → EntryWords (selecting s running.fun) to entry words →
+      HasAt code at words
       → Arrives s code (behind running rest) 0 6 (at + length words) (record t {
         vars = slice_set t.vars to
             (Some v);
@@ -259,7 +262,7 @@ module _ (s : Setting) (code : List Instr) (x : IsText s code) (stack : StackIsT
     (running : Running) (to var : ℕ) (rest : List TacInstr) (sel : IsSelectable s p running (instr.Local to var) rest)
     (at : ℕ)
     (t : State modes.Store) (m : Machine) (point : IsAtPoint s code (before running (instr.Local to var) rest) at t m)
-    (words : List Instr) (form : LocalWords s running.fun to var words) (hs : HasAt code at words) where
+    (words : List Instr) (form : LocalWords (selecting s running.fun) to var words) (hs : HasAt code at words) where
   abbrev local_i : TacInstr
   local_i = instr.Local to var
 

@@ -38,10 +38,10 @@ use Rattle.place_inject.specs.Frames.{Setting, functions_of}
 use Rattle.place_inject.specs.Spills.{StackIsThere}
 use Rattle.place_inject.proofs.Pointing.{pointers_fit_law}
 use Rattle.place_inject.proofs.Results.{numbers_read_back_law}
-use Rattle.select_runs.specs.Acts.{HasAt}
-use Rattle.select_runs.specs.Emitted.{IsNumber}
-use Rattle.select_runs.specs.Forms.{OfOne, OfTwo, Amounts}
-use Rattle.select_runs.specs.Capabilities.{exact_op, OneOfTwo, Advance, Offsets, Far, Near, NearTemp}
+use Rattle.select_words.specs.Standing.{HasAt}
+use Rattle.select_words.specs.Emitted.{IsNumber}
+use Rattle.select_words.specs.Forms.{OfOne, OfTwo, Amounts}
+use Rattle.select_words.specs.Capabilities.{exact_op, OneOfTwo, Advance, Offsets, Far, Near, NearTemp}
 use Rattle.select_runs.specs.Kinds.{IsOfKind, AreOfKinds}
 use Rattle.select_runs.specs.Operands.{IsText, IsAtPoint}
 use Rattle.select_runs.specs.Results.{Arrives, before, behind, kinds_in, code_in, IsSelectable}
@@ -50,6 +50,7 @@ use Rattle.select_runs.proofs.Numbers.{null_address}
 use Rattle.select_runs.proofs.Kinded.{kinded_set, has_kind}
 use Rattle.select_runs.proofs.Working.{integer_of, integer_bits, one_only, within, of_one, of_two, amount_in}
 use Rattle.select_runs.proofs.Working.{amount_words, amount_comes}
+use Rattle.select_runs.specs.Selecting.{selecting}
 
 -- ---- values by their kinds
 
@@ -176,7 +177,8 @@ module _ (s : Setting) (code : List Instr) (x : IsText s code) (stack : StackIsT
             ∙ ap (λ k. set n r (narrowed wide k)) (null_address (amount_in t by)) ∙ ap (set n r) f.2,
       )
 
-  narrow_does : (ws : List Instr) → OfTwo s running.fun to base (Amounts s running.fun by) (OneOfTwo
+  narrow_does : (ws : List Instr) →
+      OfTwo (selecting s running.fun) to base (Amounts (selecting s running.fun) by) (OneOfTwo
       (exact_op exact)) ws
       → HasAt code at ws
       → Arrives s code (behind running rest) 0 (cost narrow_i) (at + length ws) (record t {
@@ -189,7 +191,7 @@ module _ (s : Setting) (code : List Instr) (x : IsText s code) (stack : StackIsT
       (amount_dear by)
       (of_two s code x stack p running narrow_i rest to refl refl (λ n h. h) sel t m at point base
       (zero, refl) narrower f.1
-      (Amounts s running.fun by) (null_at (amount_in t by)) (amount_words by)
+      (Amounts (selecting s running.fun) by) (null_at (amount_in t by)) (amount_words by)
       (amount_comes s code x stack p running narrow_i rest to refl refl (λ n h. h) sel t m at point base
       (zero, refl) kinded by narrow_parts.2
       (among_amount base by))
@@ -251,7 +253,8 @@ module _ (s : Setting) (code : List Instr) (x : IsText s code) (stack : StackIsT
   Offset_behind ws = Arrives s code (behind running rest) 0 (cost offset_i) (at + length ws)
       (record t { vars = slice_set t.vars to (Some further) }) m
 
-  far_does : (ws : List Instr) → OfTwo s running.fun to base (Amounts s running.fun by) (OneOfTwo Cincoffset) ws
+  far_does : (ws : List Instr) →
+      OfTwo (selecting s running.fun) to base (Amounts (selecting s running.fun) by) (OneOfTwo Cincoffset) ws
       → HasAt code at ws
       → Offset_behind ws
   unfolding row cap_reg_row
@@ -260,7 +263,7 @@ module _ (s : Setting) (code : List Instr) (x : IsText s code) (stack : StackIsT
       (amount_dear by)
       (of_two s code x stack p running offset_i rest to refl refl (λ n h. h) sel t m at point base
       (zero, refl) further offset_fits.1
-      (Amounts s running.fun by) (null_at (amount_in t by)) (amount_words by)
+      (Amounts (selecting s running.fun) by) (null_at (amount_in t by)) (amount_words by)
       (amount_comes s code x stack p running offset_i rest to refl refl (λ n h. h) sel t m at point base
       (zero, refl) kinded by offset_parts.2
       (among_amount base by))
@@ -272,7 +275,7 @@ module _ (s : Setting) (code : List Instr) (x : IsText s code) (stack : StackIsT
       ∙ ap (λ k. set n r (added unmoved k)) (null_address (amount_in t by)) ∙ ap (set n r) offset_fits.2))
       1 (λ r a b us e. subst (λ y. length y ≤ 1) (sym e) (omega arith)) ws o has)
 
-  near_does : (n : ℕ) → n ≡ amount_in t by → (ws : List Instr) → OfOne s running.fun to base (Advance n) ws
+  near_does : (n : ℕ) → n ≡ amount_in t by → (ws : List Instr) → OfOne (selecting s running.fun) to base (Advance n) ws
       → HasAt code at ws
       → Offset_behind ws
   unfolding row cap_imm_row
@@ -289,7 +292,7 @@ module _ (s : Setting) (code : List Instr) (x : IsText s code) (stack : StackIsT
       1 (λ r a us e. subst (λ y. length y ≤ 1) (sym e.2) (omega arith)) ws o has)
 
   -- a temp that is a number holds it
-  numbered : (k n : ℕ) → by ≡ amount.Temp k → IsNumber s running.fun k n → n ≡ amount_in t by
+  numbered : (k n : ℕ) → by ≡ amount.Temp k → IsNumber (selecting s running.fun) k n → n ≡ amount_in t by
   numbered k n e is =
       let live = now (among_amount base by k e) in
       let c = (numbers_read_back_law s (before running offset_i rest) t m point.fits k n live is).0 in
@@ -303,7 +306,8 @@ module _ (s : Setting) (code : List Instr) (x : IsText s code) (stack : StackIsT
       (temp_in t k)))
       ∙ null_address (number_of (temp_in t k)) ∙ sym (ap (amount_in t) e)
 
-  offset_does : (ws : List Instr) → Offsets s running.fun to base by ws → HasAt code at ws → Offset_behind ws
+  offset_does : (ws : List Instr) → Offsets (selecting s running.fun) to base by ws → HasAt code at ws →
+      Offset_behind ws
   offset_does ws (Far o) has = far_does ws o has
   offset_does ws (Near n e o) has = near_does n (sym (ap (amount_in t) e)) ws o has
   offset_does ws (NearTemp k n e is o) has = near_does n (numbered k n e is) ws o has

@@ -2,8 +2,7 @@
 -- or the store of the link traps.
 use Rattle.std.proofs.Common.{◌≡◌, ℕ, ◌+◌, ◌-◌, ◌*◌, ◌/◌, ◌%◌, ◌^◌, ◌<◌, ◌≤◌, ◌==◌, ◌||◌, ◌⊎◌, pos, Bool, true, false}
 use Rattle.std.proofs.Common.{List, [], ◌∷◌, ◌++◌, length, refl, sym, ap, ◌∙◌, subst, arith, Option, Some, None, inl}
-use Rattle.std.proofs.Common.{inr}
-use Rattle.std.proofs.Common.{if◌then◌else◌}
+use Rattle.std.proofs.Common.{inr, if◌then◌else◌}
 use Rattle.std.specs.Prelude.{nat_lt, position, slice_get, Result, Ok, Err}
 use Rattle.std.specs.Option.{option_map}
 use Rattle.std.proofs.lemmas.Bool.{cases_eq, ltb-true, ltb-false}
@@ -40,8 +39,7 @@ use Rattle.purecap_abi.proofs.FrameLaws.{kept_most}
 use Rattle.place_inject.specs.Objects.{SameOutside}
 use Rattle.place_inject.specs.Parts.{kept_at}
 use Rattle.place_inject.specs.Frames.{Setting, homes_of, stack_top, stack_pointer, return_sentry, from_place}
-use Rattle.place_inject.specs.Frames.{kept_place}
-use Rattle.place_inject.specs.Frames.{behind_return}
+use Rattle.place_inject.specs.Frames.{kept_place, behind_return}
 use Rattle.place_inject.specs.Fits.{registers_in}
 use Rattle.place_inject.specs.Spills.{StackIsThere}
 use Rattle.place_inject.proofs.FramesKept.{stack_multiple}
@@ -50,7 +48,8 @@ use Rattle.place_inject.proofs.Locals.{multiple_sixteen}
 use Rattle.place_inject.proofs.Lying.{Lies, within}
 use Rattle.place_inject.proofs.ReadBack.{address_of}
 use Rattle.place_inject.proofs.Reaching.{kept_bounds, stack_reaches_law}
-use Rattle.select_runs.specs.Acts.{Ground, HasAt, IsThere}
+use Rattle.select_words.specs.Standing.{HasAt}
+use Rattle.select_runs.specs.Acts.{Ground, IsThere}
 use Rattle.select_runs.specs.Operands.{ground_of, IsText}
 use Rattle.select_runs.specs.Prologue.{IsEntered, TakesFrame, Sinks, FrameIsTaken, ProloguesRun}
 use Rattle.select_runs.proofs.Acts.{has_front, has_back, act_on_row, counter_place, fetched_here}

@@ -36,15 +36,17 @@ use Rattle.place_inject.specs.Spills.{StackIsThere}
 use Rattle.place_inject.proofs.Results.{results_fit_law}
 use Rattle.place_inject.proofs.Spilling.{spills_fit_law}
 use Rattle.place_inject.proofs.StoresKeep.{scratch_keeps_law}
-use Rattle.select_runs.specs.Acts.{Ground, HasAt, IsThere, Holds, Leads, counter_at}
-use Rattle.select_runs.specs.Emitted.{IsSpilled, Keep}
-use Rattle.select_runs.specs.Emitted as emitted
+use Rattle.select_words.specs.Standing.{HasAt}
+use Rattle.select_words.specs.Emitted.{IsSpilled, Keep}
+use Rattle.select_words.specs.Emitted as emitted
+use Rattle.select_runs.specs.Acts.{Ground, IsThere, Holds, Leads, counter_at}
 use Rattle.select_runs.specs.Operands.{ground_of, IsText, IsAtPoint}
 use Rattle.select_runs.specs.Results.{Computed, MayChange, MayTake, Arrives, ResultsGoHome, before, behind}
 use Rattle.select_runs.proofs.Acts.{one_set, still, join, fetched_here, next_is}
 use Rattle.select_runs.proofs.Points.{laid, text_there}
 use Rattle.select_runs.proofs.Far.{far, near_low, far_low}
 use Rattle.select_runs.proofs.Operands.{slot_lies, frame_kept, far_kept, place_is, near}
+use Rattle.select_runs.specs.Selecting.{selecting}
 
 -- ---- what is read from the next instruction on
 
@@ -97,7 +99,8 @@ module _ (s : Setting) (code : List Instr) (x : IsText s code) (stack : StackIsT
   }
 
   -- the same home
-  one_home : (i j : ℕ) → emitted.IsIn s p.running.fun temp i → emitted.IsIn s p.running.fun temp j → i ≡ j
+  one_home : (i j : ℕ) → emitted.IsIn (selecting s p.running.fun) temp i →
+      emitted.IsIn (selecting s p.running.fun) temp j → i ≡ j
   one_home i j a b =
       let e : Register i ≡ Register j = same_Some (Register i) (Register j) (sym a.home ∙ b.home) in
       number_of_register e
@@ -110,13 +113,14 @@ module _ (s : Setting) (code : List Instr) (x : IsText s code) (stack : StackIsT
       number_of_register e = ap number_in e
 
   -- registers but the temp's own home are as they were
-  others : (home : ℕ) → emitted.IsIn s p.running.fun temp home → MayChange s p.running.fun temp changed
+  others : (home : ℕ) → emitted.IsIn (selecting s p.running.fun) temp home → MayChange s p.running.fun temp changed
       → (q : ℕ) → q < 28 → (q ≡ home → ⊥) → register h.to q ≡ register m q
   others home i (inl scratch) q l d = h.others q l (λ e. absurd (omega (arith, e, l, scratch)))
   others home i (inr j) q l d = h.others q l (λ e. d (e ∙ one_home changed home j i))
 
   -- it was computed in its home
-  stays : emitted.IsIn s p.running.fun temp r → MayChange s p.running.fun temp changed → Home_is count (count + 0)
+  stays : emitted.IsIn (selecting s p.running.fun) temp r → MayChange s p.running.fun temp changed →
+      Home_is count (count + 0)
       (mid + 0)
   stays i may =
       let e : mid ≡ mid + 0 = omega arith in
@@ -135,7 +139,7 @@ module _ (s : Setting) (code : List Instr) (x : IsText s code) (stack : StackIsT
       }
 
   -- it is moved there
-  moves : (home : ℕ) → emitted.IsIn s p.running.fun temp home → MayChange s p.running.fun temp changed
+  moves : (home : ℕ) → emitted.IsIn (selecting s p.running.fun) temp home → MayChange s p.running.fun temp changed
       → HasAt code mid (CapGet Cmove home r ∷ []) → Home_is count (count + 1) (mid + 1)
   unfolding row cap_get_row
   moves home i may has =
@@ -165,7 +169,7 @@ module _ (s : Setting) (code : List Instr) (x : IsText s code) (stack : StackIsT
 
   -- ---- it is stored in its slot
 
-  module _ (scratch : 28 ≤ changed) (offset : ℕ) (spilled : IsSpilled s p.running.fun temp offset) where
+  module _ (scratch : 28 ≤ changed) (offset : ℕ) (spilled : IsSpilled (selecting s p.running.fun) temp offset) where
     -- the machine that was reached still stands for the old state
     fits_still : (n : Machine) → length n.regs ≡ 32 → n.mem ≡ m.mem → ((q : ℕ) → q < 28 → register n q ≡ register m q)
         → Fits s (Some p) t n
@@ -260,18 +264,20 @@ module _ (s : Setting) (code : List Instr) (x : IsText s code) (stack : StackIsT
   none_words words e k = subst (λ u. Home_is count (count + length u) (mid + length u)) (sym e) k
 
   -- a temp that stands in a slot has no register of its own
-  no_register : (offset home : ℕ) → IsSpilled s p.running.fun temp offset → emitted.IsIn s p.running.fun temp home → ⊥
+  no_register : (offset home : ℕ) → IsSpilled (selecting s p.running.fun) temp offset →
+      emitted.IsIn (selecting s p.running.fun) temp home → ⊥
   no_register offset home i j = slot_or_register (same_Some (Slot i.slot) (Register home) (sym i.home ∙ j.home))
     where
       slot_or_register : Slot i.slot ≡ Register home → ⊥
       slot_or_register e = absurd cc
 
-  scratch_is : (offset : ℕ) → IsSpilled s p.running.fun temp offset → MayChange s p.running.fun temp changed
+  scratch_is : (offset : ℕ) → IsSpilled (selecting s p.running.fun) temp offset → MayChange s p.running.fun temp changed
       → 28 ≤ changed
   scratch_is offset i (inl l) = l
   scratch_is offset i (inr j) = absurd (no_register offset changed i j)
 
-  pub goes_home : MayChange s p.running.fun temp changed → (words : List Instr) → Keep s p.running.fun temp r words
+  pub goes_home : MayChange s p.running.fun temp changed → (words : List Instr) →
+      Keep (selecting s p.running.fun) temp r words
       → HasAt code mid words → Home_is count (count + length words) (mid + length words)
   goes_home may words (emitted.Needless n is e) has = absurd (none-some n (sym take.stands ∙ is))
   goes_home may words (emitted.Stays i e) has = none_words words e (stays i may)
@@ -287,7 +293,8 @@ results_go_home_law s code x stack p at t m point rest temp take reads_less v kn
     keep has
 
 -- the register in which a temp is computed
-pub target_may : (s : Setting) (code : List Instr) → IsText s code → (fun temp r : ℕ) → emitted.Target s fun temp r
+pub target_may : (s : Setting) (code : List Instr) → IsText s code → (fun temp r : ℕ) →
+    emitted.Target (selecting s fun) temp r
     → MayChange s fun temp r × (r ≢ 31)
 target_may s code x fun temp r (emitted.Own i) =
     let l : r < 28 = x.usable fun temp r i.home in (inr i, λ e. absurd (omega (arith, e, l)))

@@ -1,6 +1,6 @@
 -- Returns: the machine goes to the link, and the caller goes on with the result.
-use Rattle.std.proofs.Common.{◌≡◌, ℕ, zero, ◌+◌, ◌%◌, ◌<◌, ◌≤◌, pos, true, List, [], ◌∷◌, ◌++◌, length}
-use Rattle.std.proofs.Common.{refl, sym, ap, ◌∙◌, subst, arith, Option, Some, None, inl, inr}
+use Rattle.std.proofs.Common.{◌≡◌, ℕ, zero, ◌+◌, ◌%◌, ◌<◌, ◌≤◌, pos, true, List, [], ◌∷◌, ◌++◌, length, refl, sym, ap}
+use Rattle.std.proofs.Common.{◌∙◌, subst, arith, Option, Some, None, inl, inr}
 use Rattle.std.specs.Prelude.{slice_get}
 use Rattle.std.proofs.lemmas.List.{length-append}
 use Rattle.std.proofs.lemmas.Option.{same_Some, none-some, slice_get_within}
@@ -44,12 +44,13 @@ use Rattle.place_inject.specs.Spills.{StackIsThere}
 use Rattle.place_inject.proofs.Leaving.{value_stays, leaves_fit_law}
 use Rattle.place_inject.proofs.ReadBack.{newest, under_top}
 use Rattle.place_inject.proofs.Results.{moves_on_law}
-use Rattle.select_runs.specs.Acts.{Ground, HasAt, IsThere, Leads, place, counter_at}
+use Rattle.select_words.specs.Standing.{HasAt}
+use Rattle.select_words.specs.Returning.{ReturnWords}
+use Rattle.select_words.specs.Services.{Argument, KeepSome, taking}
+use Rattle.select_runs.specs.Acts.{Ground, IsThere, Leads, place, counter_at}
 use Rattle.select_runs.specs.Operands.{ground_of, IsText, IsAtPoint}
 use Rattle.select_runs.specs.Results.{Computed, MayTake, Arrives, before, behind, kinds_in}
-use Rattle.select_runs.specs.Returning.{ReturnWords, ResumesAt, Gives, value_of, ending, resumed, ReturnsRun, StubAt}
-use Rattle.select_runs.specs.Returning.{LastReturnsRun}
-use Rattle.select_runs.specs.Services.{Argument, KeepSome, taking}
+use Rattle.select_runs.specs.Returning.{ResumesAt, Gives, value_of, ending, resumed, ReturnsRun, StubAt, LastReturnsRun}
 use Rattle.select_runs.proofs.Acts.{has_front, has_back, join, still, fetched_here}
 use Rattle.select_runs.proofs.Bringing.{brought}
 use Rattle.select_runs.proofs.Epilogue.{Ended, ends}
@@ -59,6 +60,7 @@ use Rattle.select_runs.proofs.Results.{reads_no_more, reads_as_before, results_g
 use Rattle.select_runs.proofs.Services.{makes_service, call_is, low_byte_is}
 use Rattle.select_runs.proofs.Simple.{bring_few, keep_few}
 use Rattle.select_runs.proofs.Stretches.{Gone, gone, gone_as, gone_nowhere, gone_on, stays_there}
+use Rattle.select_runs.specs.Selecting.{selecting}
 
 -- ---- c10
 
@@ -97,7 +99,7 @@ module _ (s : Setting) (code : List Instr) (x : IsText s code) (stack : StackIsT
   -- where there is a temp for it, c10 has it
   pub result_kept : (o : Option ℕ) → to ≡ o → ((temp : ℕ) → o ≡ Some temp → register m 10 ≡ result)
       → ((temp : ℕ) → o ≡ Some temp → MayTake s (behind running rest) temp) → (keep : List Instr)
-      → KeepSome s running.fun o keep → HasAt code at keep
+      → KeepSome (selecting s running.fun) o keep → HasAt code at keep
       → Arrives s code (behind running rest) 0 3 (at + length keep) (record t { vars = with_result t.vars o v }) m
   result_kept None none holds free keep kept has =
       let e : at ≡ at + length keep =
@@ -142,7 +144,7 @@ module _ (s : Setting) (code : List Instr) (x : IsText s code) (stack : StackIsT
 module _ (s : Setting) (code : List Instr) (x : IsText s code) (stack : StackIsThere s) (running : Running)
     (v : Option ℕ) (rest : List TacInstr) (at : ℕ) (t : State Store) (m : Machine)
     (point : IsAtPoint s code (ending running v rest) at t m) (words : List Instr)
-    (form : ReturnWords s running.fun v words) (has : HasAt code at words) where
+    (form : ReturnWords (selecting s running.fun) v words) (has : HasAt code at words) where
   abbrev g : Ground
   g = ground_of s code
 
@@ -166,7 +168,7 @@ module _ (s : Setting) (code : List Instr) (x : IsText s code) (stack : StackIsT
   starts : IsThere g m at
   starts = there s code x (ending running v rest) at t m point
 
-  found : (o : Option ℕ) → Argument s running.fun (in_option o) form.finds
+  found : (o : Option ℕ) → Argument (selecting s running.fun) (in_option o) form.finds
       → ((a : ℕ) → o ≡ Some a → IsLive s (ending running v rest) a)
       → Gone g m (length form.finds) (at + length form.finds)
       (λ n. Carries o n × ((q : ℕ) → (q ≡ 10 → ⊥) → register n q ≡ register m q))
@@ -180,7 +182,7 @@ module _ (s : Setting) (code : List Instr) (x : IsText s code) (stack : StackIsT
       (brought s code x (ending running v rest) t m at point a 10 (live a refl) (omega arith) (omega arith) form.finds b
       (has_front code at form.finds epilogue all_words))
 
-  found_few : (o : Option ℕ) → Argument s running.fun (in_option o) form.finds → length form.finds ≤ 3
+  found_few : (o : Option ℕ) → Argument (selecting s running.fun) (in_option o) form.finds → length form.finds ≤ 3
   found_few None none = subst (λ y. length y ≤ 3) (sym none) (omega arith)
   found_few (Some a) b = bring_few s running.fun a 10 form.finds b
 
@@ -259,7 +261,8 @@ module _ (s : Setting) (code : List Instr) (x : IsText s code) (stack : StackIsT
     (c : Caller) (cs : List Caller) (rest : List TacInstr) (at : ℕ) (t : State Store) (m : Machine)
     (point : IsAtPoint s code (ending (record { fun = fun; callers = c ∷ cs }) v rest) at t m)
     (keeps : CallersKeep s (c ∷ cs)) (older : OthersAreOlder s t.first (c ∷ cs)) (gives : Gives v c.to)
-    (words : List Instr) (form : ReturnWords s fun v words) (has : HasAt code at words) (to : ℕ) (keep : List Instr)
+    (words : List Instr) (form : ReturnWords (selecting s fun) v words) (has : HasAt code at words) (to : ℕ)
+    (keep : List Instr)
     (resumes : ResumesAt s code c cs to keep) (lengths : List ℕ)
     (long : length lengths ≡ length (locals_by (slice_get s.needs.functions fun))) where
   abbrev callee : Running
@@ -352,7 +355,8 @@ module _ (s : Setting) (code : List Instr) (x : IsText s code) (stack : StackIsT
     (rest : List TacInstr) (at : ℕ) (t : State Store) (m : Machine)
     (point : IsAtPoint s code (ending (record { fun = fun; callers = [] }) (Some v) rest) at t m)
     (whole_number : value_of t (Some v) ≡ Int (number_of (value_of t (Some v)))) (words : List Instr)
-    (form : ReturnWords s fun (Some v) words) (has : HasAt code at words) (to : ℕ) (stub : StubAt s code to) where
+    (form : ReturnWords (selecting s fun) (Some v) words) (has : HasAt code at words) (to : ℕ)
+    (stub : StubAt s code to) where
   abbrev first : Running
   first = record { fun = fun; callers = [] }
 

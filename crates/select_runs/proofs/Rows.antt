@@ -9,8 +9,8 @@ use Rattle.rv_instr.specs.declared.ops.CapGetOp.TheVariants.{Cmove}
 use Rattle.rv_instr.specs.declared.ops.CapRegOp.TheVariants.{Cincoffset}
 use Rattle.purecap_abi.specs.Words.{load_code, store_code}
 use Rattle.purecap_abi.specs.Numbers.{number_after}
-use Rattle.select_runs.specs.Entries.{moved_from, stack_place}
-use Rattle.select_runs.specs.Numbers.{MakesNumber}
+use Rattle.select_words.specs.Entries.{moved_from, stack_place}
+use Rattle.select_words.specs.Numbers.{MakesNumber}
 
 -- 5 takes one word, and 4101 two
 five : MakesNumber 28 5 (Imm Addi 28 0 (pos 5) ∷ [])

@@ -23,12 +23,12 @@ use Rattle.place_inject.specs.Parts.{kept_at}
 use Rattle.place_inject.specs.Frames.{Setting, stack_top, stack_pointer}
 use Rattle.place_inject.specs.Spills.{StackIsThere}
 use Rattle.place_inject.proofs.Reaching.{stack_reaches_law}
-use Rattle.select_runs.specs.Acts.{Ground, HasAt, IsThere}
+use Rattle.select_words.specs.Standing.{HasAt}
+use Rattle.select_runs.specs.Acts.{Ground, IsThere}
 use Rattle.select_runs.specs.Operands.{ground_of, IsText}
 use Rattle.select_runs.proofs.Acts.{has_front, has_back}
 use Rattle.select_runs.proofs.Epilogue.{Rising}
-use Rattle.select_runs.proofs.Far.{far, far_low, near_low, moves}
-use Rattle.select_runs.proofs.Far.{near as far_near}
+use Rattle.select_runs.proofs.Far.{far, far_low, near_low, moves, near as far_near}
 use Rattle.select_runs.proofs.Keeping.{Keeps, one_store, same_here, same_twice, same_wider, kept_still}
 use Rattle.select_runs.proofs.Points.{laid}
 use Rattle.select_runs.proofs.Stretches.{Reached, Sets, gone, reached, reached_as, reached_both, reached_nowhere}

@@ -1,8 +1,6 @@
 -- Calls of the library that speak with the outside.
-use Rattle.std.proofs.Common.{◌≡◌, ℕ, zero, ◌+◌, ◌-◌, ◌%◌, ◌^◌, ◌<◌, ◌≤◌, pos, true, List, []}
-use Rattle.std.proofs.Common.{◌∷◌}
-use Rattle.std.proofs.Common.{◌++◌, length, Option, Some, None, refl, sym, ap, ◌∙◌, subst, arith, inl, inr}
-use Rattle.std.proofs.Common.{if◌then◌else◌}
+use Rattle.std.proofs.Common.{◌≡◌, ℕ, zero, ◌+◌, ◌-◌, ◌%◌, ◌^◌, ◌<◌, ◌≤◌, pos, true, List, [], ◌∷◌, ◌++◌, length}
+use Rattle.std.proofs.Common.{Option, Some, None, refl, sym, ap, ◌∙◌, subst, arith, inl, inr, if◌then◌else◌}
 use Rattle.std.specs.Prelude.{slice_set, ◌==◌}
 use Rattle.std.proofs.lemmas.Bool.{and_parts}
 use Rattle.std.proofs.lemmas.List.{length-append, length-set}
@@ -41,17 +39,16 @@ use Rattle.place_inject.specs.Fits.{Fits}
 use Rattle.place_inject.specs.Spills.{StackIsThere}
 use Rattle.place_inject.proofs.Registers.{registers_keep, done_keeps_fits_law}
 use Rattle.place_inject.proofs.Results.{moves_on_law}
-use Rattle.select_runs.specs.Acts.{Ground, HasAt, Holds, IsThere, Leads, counter_at}
+use Rattle.select_words.specs.Standing.{HasAt}
+use Rattle.select_words.specs.Numbers.{MakesNumber}
+use Rattle.select_words.specs.Services.{ask, KeepSome, Argument, Asks, IsAside, putting, taking, leaving}
+use Rattle.select_runs.specs.Acts.{Ground, Holds, IsThere, Leads, counter_at}
 use Rattle.select_runs.specs.Kinds.{AreOfKinds}
-use Rattle.select_runs.specs.Numbers.{MakesNumber}
 use Rattle.select_runs.specs.Operands.{ground_of, IsText, IsAtPoint}
 use Rattle.select_runs.specs.Results.{Computed, Arrives, IsConstant, IsSelectable, before, behind, kinds_in, code_in}
-use Rattle.select_runs.specs.Services.{ask, KeepSome, Argument, Asks, IsAside, StandsAside, served}
-use Rattle.select_runs.specs.Services.{IsByteOrEnd}
-use Rattle.select_runs.specs.Services.{putting, PutsRun, taking, TakesRun, leaving, ExitsRun}
+use Rattle.select_runs.specs.Services.{StandsAside, served, IsByteOrEnd, PutsRun, TakesRun, ExitsRun}
 use Rattle.select_runs.proofs.Acts.{has_front, has_back, join, still, with_is, set_same, set_other, fetched_here}
-use Rattle.select_runs.proofs.Acts.{next_is}
-use Rattle.select_runs.proofs.Acts.{begins}
+use Rattle.select_runs.proofs.Acts.{next_is, begins}
 use Rattle.select_runs.proofs.Bringing.{brought}
 use Rattle.select_runs.proofs.Kinded.{kinded_set, has_kind, kind_passes, same_turned}
 use Rattle.select_runs.proofs.Numbers.{number_at, null_address, numbers_are_made_law, signed_small, wrapped_word}
@@ -59,6 +56,7 @@ use Rattle.select_runs.proofs.Points.{laid, there}
 use Rattle.select_runs.proofs.Results.{reads_no_more, reads_as_before, results_go_home_law}
 use Rattle.select_runs.proofs.Simple.{bring_few, keep_few, may_take}
 use Rattle.select_runs.proofs.Working.{integer_bits, integer_of}
+use Rattle.select_runs.specs.Selecting.{selecting}
 
 -- ---- the number of the service
 
@@ -104,7 +102,7 @@ module _ (s : Setting) (code : List Instr) (x : IsText s code) (stack : StackIsT
     (wrote : writes i ≡ in_option to) (reads_all : reads i ≡ args) (no_constant : (n : ℕ) → IsConstant i n → ⊥)
     (rest : List TacInstr) (sel : IsSelectable s p running i rest) (aside : StandsAside s running to rest)
     (at : ℕ) (t : State Store) (m : Machine) (point : IsAtPoint s code (before running i rest) at t m)
-    (words : List Instr) (form : Asks s running.fun args k to words) (has_words : HasAt code at words) where
+    (words : List Instr) (form : Asks (selecting s running.fun) args k to words) (has_words : HasAt code at words) where
   abbrev g : Ground
   g = ground_of s code
 
@@ -140,7 +138,7 @@ module _ (s : Setting) (code : List Instr) (x : IsText s code) (stack : StackIsT
   argument [] n = register n 10
   argument (a ∷ more) n = bits (temp_in t a)
 
-  found : (xs : List ℕ) → Argument s running.fun xs form.finds → ((a : ℕ) → IsAmong a xs → IsLive s here a)
+  found : (xs : List ℕ) → Argument (selecting s running.fun) xs form.finds → ((a : ℕ) → IsAmong a xs → IsLive s here a)
       → (c : Cap) × Holds g m (length form.finds) mid 10 10 c × (c ≡ argument xs m) × (length form.finds ≤ 3)
   found [] none live =
       let e : at ≡ at + length form.finds =
@@ -225,13 +223,15 @@ module _ (s : Setting) (code : List Instr) (x : IsText s code) (stack : StackIsT
       let c = at_call in
       let long = c.stands.registers in
       let fits = registers_keep s IsAside (inl (omega arith)) (inl (omega arith)) waiting t m waiting_fits
-      (λ k r live e. aside.own k r (waits k live) e) aside.callers (answer_of n) (length-set c.asks.regs 10 (null_at n) ∙ long) c.memory
+      (λ k r live e. aside.own k r (waits k live) e) aside.callers (answer_of n)
+      (length-set c.asks.regs 10 (null_at n) ∙ long) c.memory
       (λ q l. set_other c.asks (counter_at g (mid + 1 + 1)) c.asks.mem 10 q (null_at n)
       (aside_of q 10 l (omega arith) (omega arith)) ∙ c.others q l) in
       record { fits = done_keeps_fits_law s (Some waiting) t (answer_of n) fits done t.left; counter = refl }
 
   -- the answer is kept
-  goes_on : (n : ℕ) (done : Done) → n < 2 ^ 64 → (o : Option ℕ) → to ≡ o → KeepSome s running.fun o form.keep
+  goes_on : (n : ℕ) (done : Done) → n < 2 ^ 64 → (o : Option ℕ) → to ≡ o →
+      KeepSome (selecting s running.fun) o form.keep
       → Arrives s code (behind running rest) 0 3 (at + length words) (served t o done (Int n)) (answer_of n)
   goes_on n done small None none kept =
       let p' = answer_fits n done in

@@ -37,15 +37,16 @@ use Rattle.place_inject.specs.Values.{IsKnown}
 use Rattle.place_inject.specs.Frames.{Setting, Point, IsLive, functions_of}
 use Rattle.place_inject.specs.Spills.{StackIsThere}
 use Rattle.place_inject.proofs.Results.{numbers_fit_law, moves_on_law, numbers_read_back_law, registers_read_back_law}
-use Rattle.select_runs.specs.Acts.{HasAt, Holds, counter_at}
-use Rattle.select_runs.specs.Emitted as emitted
-use Rattle.select_runs.specs.Emitted.{IsSpilled, Operand, Target, Keep}
+use Rattle.select_words.specs.Standing.{HasAt}
+use Rattle.select_words.specs.Emitted as emitted
+use Rattle.select_words.specs.Emitted.{IsSpilled, Operand, Target, Keep}
+use Rattle.select_words.specs.Words.{Constant, Bring, Copied}
+use Rattle.select_words.specs.Words as words
+use Rattle.select_runs.specs.Acts.{Holds, counter_at}
 use Rattle.select_runs.specs.Kinds.{IsOfKind, AreOfKinds}
 use Rattle.select_runs.specs.Operands.{ground_of, IsText, IsAtPoint}
 use Rattle.select_runs.specs.Results.{MayChange, MayTake, Arrives, before, behind, kinds_in, code_in, IsConstant}
 use Rattle.select_runs.specs.Results.{IsSelectable}
-use Rattle.select_runs.specs.Words.{Constant, Bring, Copied}
-use Rattle.select_runs.specs.Words as words
 use Rattle.select_runs.specs.Instructions.{ConstantsRun, CopiesRun, LabelsRun}
 use Rattle.select_runs.proofs.Acts.{has_front, has_back, one_set, begins}
 use Rattle.select_runs.proofs.Numbers.{numbers_are_made_law}
@@ -53,6 +54,7 @@ use Rattle.select_runs.proofs.Points.{laid, there}
 use Rattle.select_runs.proofs.Operands.{load_slot, holds_by}
 use Rattle.select_runs.proofs.Results.{reads_no_more, reads_as_before, results_go_home_law, target_may}
 use Rattle.select_runs.proofs.Kinded.{kind_passes, kinded_set, raw_null, set_to_itself, has_kind}
+use Rattle.select_runs.specs.Selecting.{selecting}
 
 -- ---- few words
 
@@ -60,7 +62,7 @@ near_or_far : (b : Bool) (i : Instr) (x y z : Instr) → length (if b then i ∷
 near_or_far true i x y z = omega arith
 near_or_far false i x y z = omega arith
 
-pub keep_few : (s : Setting) (fun t from : ℕ) (ws : List Instr) → Keep s fun t from ws → length ws ≤ 3
+pub keep_few : (s : Setting) (fun t from : ℕ) (ws : List Instr) → Keep (selecting s fun) t from ws → length ws ≤ 3
 keep_few s fun t from ws (emitted.Needless n is e) = subst (λ u. length u ≤ 3) (sym e) (omega arith)
 keep_few s fun t from ws (emitted.Stays i e) = subst (λ u. length u ≤ 3) (sym e) (omega arith)
 keep_few s fun t from ws (emitted.Moved r i d e) = subst (λ u. length u ≤ 3) (sym e) (omega arith)
@@ -76,7 +78,7 @@ load_few to offset scratch =
     (CapReg Cincoffset scratch 2 scratch)
     (Clc to scratch (low offset))
 
-pub operand_few : (s : Setting) (fun t scratch : ℕ) (ws : List Instr) (r : ℕ) → Operand s fun t scratch ws r
+pub operand_few : (s : Setting) (fun t scratch : ℕ) (ws : List Instr) (r : ℕ) → Operand (selecting s fun) t scratch ws r
     → length ws ≤ 3
 operand_few s fun t scratch ws r (emitted.Nothing n e q) = subst (λ u. length u ≤ 3) (sym e) (omega arith)
 operand_few s fun t scratch ws r (emitted.Made v n makes few e) = omega arith
@@ -84,7 +86,7 @@ operand_few s fun t scratch ws r (emitted.AtHome i e) = subst (λ u. length u �
 operand_few s fun t scratch ws r (emitted.Loaded offset i e q) = subst (λ u. length u ≤ 3) (sym e)
     (load_few scratch offset scratch)
 
-pub bring_few : (s : Setting) (fun t r : ℕ) (ws : List Instr) → Bring s fun t r ws → length ws ≤ 3
+pub bring_few : (s : Setting) (fun t r : ℕ) (ws : List Instr) → Bring (selecting s fun) t r ws → length ws ≤ 3
 bring_few s fun t r ws (words.Made v n makes few) = omega arith
 bring_few s fun t r ws (words.There i e) = subst (λ u. length u ≤ 3) (sym e) (omega arith)
 bring_few s fun t r ws (words.Moved q i d e) = subst (λ u. length u ≤ 3) (sym e) (omega arith)
@@ -194,7 +196,7 @@ module _ (s : Setting) (code : List Instr) (x : IsText s code) (stack : StackIsT
       (kind_passes (kind_at (kinds_in s running) to) (kind_of k) (constant_value k v) parts.1
       (constant_kind k v parts.2))
 
-  by_words : (ws : List Instr) → Constant s running.fun to v ws → HasAt code at ws → Behind (length ws)
+  by_words : (ws : List Instr) → Constant (selecting s running.fun) to v ws → HasAt code at ws → Behind (length ws)
   by_words ws (words.Needless n none) has =
       let e : at ≡ at + 0 = omega arith in
       let l = parts.0 in let long = kinded.one_each in
@@ -244,7 +246,7 @@ module _ (s : Setting) (code : List Instr) (x : IsText s code) (stack : StackIsT
         point = record { fits = a.point.fits; counter = a.point.counter ∙ ap (counter_at (ground_of s code)) size };
       })
     where
-      target_range : {r : ℕ} → Target s running.fun to r → (0 < r) × (r < 32)
+      target_range : {r : ℕ} → Target (selecting s running.fun) to r → (0 < r) × (r < 32)
       target_range {r} (emitted.Own i) =
           let take = sel.free to (among_one to) i.stands in
           let u = (take.register r i.home).usable in
@@ -264,7 +266,7 @@ constants_run_law s code x stack w p running i rest is sel at t m point kinded w
 -- ---- copies
 
 operand_unway : (s : Setting) (code : List Instr) → IsText s code → (fun t : ℕ) (ws : List Instr) (a : ℕ)
-    → Operand s fun t 28 ws a → a ≢ 31
+    → Operand (selecting s fun) t 28 ws a → a ≢ 31
 operand_unway s code x fun t ws a (emitted.Nothing n e q) = λ z. absurd (omega (arith, q, z))
 operand_unway s code x fun t ws a (emitted.Made v n makes few e) = λ z. absurd (omega (arith, e, z))
 operand_unway s code x fun t ws a (emitted.AtHome i e) = let l : a < 28 = x.usable fun t a i.home in λ z. absurd
@@ -304,7 +306,7 @@ module _ (s : Setting) (code : List Instr) (x : IsText s code) (stack : StackIsT
   finish : (count changed r : ℕ) (finds keep ws : List Instr) → length finds ≤ 3 → MayChange s running.fun to changed
       → r ≢ 31
       → count ≡ length finds → Holds (ground_of s code) m count (at + length finds) changed r bits
-      → Keep s running.fun to r keep → ws ≡ finds ++ keep → HasAt code at ws → Copy_behind (length ws)
+      → Keep (selecting s running.fun) to r keep → ws ≡ finds ++ keep → HasAt code at ws → Copy_behind (length ws)
   finish count changed r finds keep ws few may unway counted h kept e has =
       let q = subst (HasAt code at) e has in
       let a = results_go_home_law s code x stack here at t m point rest to take
@@ -344,7 +346,8 @@ module _ (s : Setting) (code : List Instr) (x : IsText s code) (stack : StackIsT
       (subst (Holds (ground_of s code) m 0 at 28 r) is (begins (ground_of s code) (laid s code x) m at 28 r
       (there s code x here at t m point)))
 
-  brought : (r : ℕ) → emitted.IsIn s running.fun to r → (ws : List Instr) → Bring s running.fun from r ws
+  brought : (r : ℕ) → emitted.IsIn (selecting s running.fun) to r → (ws : List Instr) →
+      Bring (selecting s running.fun) from r ws
       → HasAt code at ws
       → Copy_behind (length ws)
   unfolding row cap_get_row
@@ -368,7 +371,7 @@ module _ (s : Setting) (code : List Instr) (x : IsText s code) (stack : StackIsT
       end changed may h few = finish (length ws) changed r ws [] ws few may unway refl h (emitted.Stays home refl)
           (no_keep ws) has
 
-      by : Bring s running.fun from r ws → Copy_behind (length ws)
+      by : Bring (selecting s running.fun) from r ws → Copy_behind (length ws)
       by (words.Made value n makes few) =
           end r (inr home)
           (subst (Holds (ground_of s code) m (length ws) (at + length ws) r r)
@@ -398,7 +401,8 @@ module _ (s : Setting) (code : List Instr) (x : IsText s code) (stack : StackIsT
           (there s code x here at t m point) refl refl ws e has))
           (bring_few s running.fun from r ws (words.Loaded offset j e))
 
-  pub copies : (ws : List Instr) → Copied s running.fun to from ws → HasAt code at ws → Copy_behind (length ws)
+  pub copies : (ws : List Instr) → Copied (selecting s running.fun) to from ws → HasAt code at ws →
+      Copy_behind (length ws)
   copies ws (words.Itself same none) has =
       let e : at ≡ at + 0 = omega arith in
       let again : slice_set t.vars to (Some v) ≡ t.vars =

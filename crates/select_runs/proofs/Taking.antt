@@ -30,7 +30,8 @@ use Rattle.purecap_abi.specs.Saving.{IsFor, keeps_stack}
 use Rattle.purecap_abi.specs.Words.{wide_code}
 use Rattle.place_inject.specs.Frames.{Setting, stack_top, stack_pointer}
 use Rattle.place_inject.proofs.ReadBack.{address_of}
-use Rattle.select_runs.specs.Acts.{Ground, HasAt, IsThere}
+use Rattle.select_words.specs.Standing.{HasAt}
+use Rattle.select_runs.specs.Acts.{Ground, IsThere}
 use Rattle.select_runs.specs.Operands.{ground_of, IsText}
 use Rattle.select_runs.proofs.Acts.{has_front, has_back, one_set}
 use Rattle.select_runs.proofs.Epilogue.{makes_wide}

@@ -1,6 +1,6 @@
 -- Calls through values.
-use Rattle.std.proofs.Common.{◌≡◌, ℕ, zero, suc, ◌+◌, Bool, true, false, pos, List, [], ◌∷◌, ◌++◌, length}
-use Rattle.std.proofs.Common.{refl, sym, ap, ◌∙◌, subst, arith, Option, Some}
+use Rattle.std.proofs.Common.{◌≡◌, ℕ, zero, suc, ◌+◌, Bool, true, false, pos, List, [], ◌∷◌, ◌++◌, length, refl, sym}
+use Rattle.std.proofs.Common.{ap, ◌∙◌, subst, arith, Option, Some}
 use Rattle.std.specs.Prelude.{slice_get, slice_set, slice_index_or}
 use Rattle.std.proofs.lemmas.List.{length-append}
 use Rattle.std.proofs.lemmas.Option.{slice_get_within}
@@ -36,15 +36,16 @@ use Rattle.place_inject.specs.Calling.{code_at, CallAnswers}
 use Rattle.place_inject.specs.Frames.{Setting, Point, IsLive, functions_of, homes_of, return_sentry}
 use Rattle.place_inject.specs.Spills.{StackIsThere}
 use Rattle.place_inject.proofs.Calling.{FirstLies, callees_answer}
+use Rattle.select_words.specs.Standing.{HasAt}
+use Rattle.select_words.specs.Services.{taking}
+use Rattle.select_words.specs.Through.{ThroughWords, through}
 use Rattle.select_runs.specs.Accesses.{TrapsWithin}
-use Rattle.select_runs.specs.Acts.{Ground, HasAt, IsThere, counter_at, place}
+use Rattle.select_runs.specs.Acts.{Ground, IsThere, counter_at, place}
 use Rattle.select_runs.specs.Calling.{begin_words, HasWords, MayCall, values}
 use Rattle.select_runs.specs.Operands.{ground_of, IsText, IsAtPoint}
 use Rattle.select_runs.specs.Passing.{GoesOnAside, PassesArguments}
 use Rattle.select_runs.specs.Results.{before, kinds_in}
-use Rattle.select_runs.specs.Services.{taking}
-use Rattle.select_runs.specs.Through.{ThroughWords, IsCallee, IsCalled, through, CallsThrough, Enters, Stops, Leaves}
-use Rattle.select_runs.specs.Through.{CallsThroughValuesRun}
+use Rattle.select_runs.specs.Through.{IsCallee, IsCalled, CallsThrough, Enters, Stops, Leaves, CallsThroughValuesRun}
 use Rattle.select_runs.proofs.Acts.{has_front, has_back, join, act_on_row, fetched_here, counter_moved}
 use Rattle.select_runs.proofs.Bringing.{brings}
 use Rattle.select_runs.proofs.Calling.{sealed_is, jumped, awaiting, goes_aside, whole}
@@ -53,6 +54,7 @@ use Rattle.select_runs.proofs.Simple.{bring_few}
 use Rattle.select_runs.proofs.Passing.{numbers, arguments_pass_law}
 use Rattle.select_runs.proofs.Points.{laid, there, traps_at}
 use Rattle.select_runs.proofs.Working.{Got}
+use Rattle.select_runs.specs.Selecting.{selecting}
 
 abbrev function_of : Value → ℕ
 function_of (Fun f) = f
@@ -63,7 +65,7 @@ module _ (s : Setting) (code : List Instr) (x : IsText s code) (stack : StackIsT
     (v of : ℕ) (args : List ℕ) (source : Pos) (rest : List TacInstr) (at : ℕ) (t : State Store) (m : Machine)
     (point : IsAtPoint s code (before running (through to v of args source) rest) at t m) (words64 : HasWords m)
     (callees : (f : ℕ) → IsCalled s w p v of t f → IsCallee s code running to args rest t f)
-    (words : List Instr) (form : ThroughWords s running.fun v args words) (has : HasAt code at words)
+    (words : List Instr) (form : ThroughWords (selecting s running.fun) v args words) (has : HasAt code at words)
     (may : MayCall s code running to args rest (at + length words) t) where
   abbrev ground : Ground
   ground = ground_of s code

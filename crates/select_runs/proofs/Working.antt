@@ -29,11 +29,12 @@ use Rattle.tac_ir.specs.declared.code.TacInstr.{TacInstr}
 use Rattle.place_inject.specs.Values.{IsKnown}
 use Rattle.place_inject.specs.Frames.{Setting, Point, IsLive, functions_of}
 use Rattle.place_inject.specs.Spills.{StackIsThere}
-use Rattle.select_runs.specs.Acts.{Ground, HasAt, HasText, IsThere, Holds, Leads, counter_at}
-use Rattle.select_runs.specs.Numbers.{MakesNumber}
-use Rattle.select_runs.specs.Emitted as emitted
-use Rattle.select_runs.specs.Emitted.{Operand, Target, Keep}
-use Rattle.select_runs.specs.Forms.{Makes, OfOne, OfTwo, Other, Amounts, Temps, Numbers}
+use Rattle.select_words.specs.Standing.{HasAt}
+use Rattle.select_words.specs.Numbers.{MakesNumber}
+use Rattle.select_words.specs.Emitted as emitted
+use Rattle.select_words.specs.Emitted.{Operand, Target, Keep}
+use Rattle.select_words.specs.Forms.{Makes, OfOne, OfTwo, Other, Amounts, Temps, Numbers}
+use Rattle.select_runs.specs.Acts.{Ground, HasText, IsThere, Holds, Leads, counter_at}
 use Rattle.select_runs.specs.Kinds.{IsOfKind, AreOfKinds}
 use Rattle.select_runs.specs.Operands.{ground_of, IsText, IsAtPoint}
 use Rattle.select_runs.specs.Results.{Computed, MayTake, Arrives, before, behind, kinds_in, code_in, IsConstant}
@@ -44,6 +45,7 @@ use Rattle.select_runs.proofs.Points.{laid, there, text_there, scratched}
 use Rattle.select_runs.proofs.Operands.{holds_by}
 use Rattle.select_runs.proofs.Results.{reads_no_more, results_go_home_law, target_may}
 use Rattle.select_runs.proofs.Simple.{keep_few, operand_few, among_one, may_take}
+use Rattle.select_runs.specs.Selecting.{selecting}
 
 -- ---- values by their kinds
 
@@ -104,7 +106,7 @@ module _ (s : Setting) (code : List Instr) (x : IsText s code) (p : Point) (t : 
 
   pub operand_got : (m n : Machine) (count at : ℕ) → Leads count m n → IsAtPoint s code p at t n → (temp scratch r : ℕ)
       → IsLive s p temp → 28 ≤ scratch → scratch < 32 → (words : List Instr)
-      → Operand s p.running.fun temp scratch words r
+      → Operand (selecting s p.running.fun) temp scratch words r
       → HasAt code at words
       → Got s code p t m n (count + length words) (at + length words) scratch r (bits (temp_in t temp))
   operand_got m n count at leads point temp scratch r live above below words o has =
@@ -240,8 +242,8 @@ within s code p least most more at t m le a = let al = a.le in record {
   point = a.point;
 }
 
-pub target_range : (s : Setting) (fun to r : ℕ) → ((q : ℕ) → emitted.IsIn s fun to q → (5 ≤ q) × (q ≤ 27))
-    → Target s fun to r
+pub target_range : (s : Setting) (fun to r : ℕ) → ((q : ℕ) → emitted.IsIn (selecting s fun) to q → (5 ≤ q) × (q ≤ 27))
+    → Target (selecting s fun) to r
     → (4 < r) × (r < 29)
 target_range s fun to r usable (emitted.Own i) =
     let u = usable r i in let low_is = u.0 in let high_is = u.1 in (omega arith, omega arith)
@@ -250,7 +252,7 @@ target_range s fun to r usable (emitted.Spilled offset i e) = (omega (arith, e),
 
 -- the register of an operand is not the second scratch register
 pub unsecond : (s : Setting) (code : List Instr) → IsText s code → (fun t : ℕ) (words : List Instr) (a : ℕ)
-    → Operand s fun t 28 words a → a ≢ 29
+    → Operand (selecting s fun) t 28 words a → a ≢ 29
 unsecond s code x fun t words a (emitted.Nothing n e q) = λ z. absurd (omega (arith, q, z))
 unsecond s code x fun t words a (emitted.Made v n makes few e) = λ z. absurd (omega (arith, e, z))
 unsecond s code x fun t words a (emitted.AtHome i e) = let l : a < 28 = x.usable fun t a i.home in λ z. absurd (omega
@@ -284,7 +286,7 @@ module _ (s : Setting) (code : List Instr) (x : IsText s code) (stack : StackIsT
       → (v : Value) → IsKnown t.mem.memory.shapes (functions_of s) v → (Work : ℕ → List Instr → Type 0)
       → Does n mid v Work
       → (few : ℕ) → ((r : ℕ) (words : List Instr) → Work r words → length words ≤ few)
-      → (words : List Instr) → Makes s running.fun to Work words → HasAt code mid words
+      → (words : List Instr) → Makes (selecting s running.fun) to Work words → HasAt code mid words
       → After (count + few + 3) (mid + length words) v
   makes_home n count mid leads point v known Work does few short words o has =
       let q = subst (HasAt code mid) o.are has in
@@ -314,7 +316,7 @@ module _ (s : Setting) (code : List Instr) (x : IsText s code) (stack : StackIsT
   module _ (at : ℕ) (point : IsAtPoint s code here at t m) where
     pub of_none : (v : Value) → IsKnown t.mem.memory.shapes (functions_of s) v → (Work : ℕ → List Instr → Type 0)
         → Does m at v Work → (few : ℕ) → ((r : ℕ) (words : List Instr) → Work r words → length words ≤ few)
-        → (words : List Instr) → Makes s running.fun to Work words → HasAt code at words → After (few + 3)
+        → (words : List Instr) → Makes (selecting s running.fun) to Work words → HasAt code at words → After (few + 3)
         (at + length words) v
     of_none v known Work does few short words o has =
         let e : 0 + few + 3 ≡ few + 3 = omega arith in
@@ -323,7 +325,7 @@ module _ (s : Setting) (code : List Instr) (x : IsText s code) (stack : StackIsT
 
     -- the first operand
     module _ (from : ℕ) (read : IsAmong from (reads i)) where
-      first : (words : List Instr) (a : ℕ) → Operand s running.fun from 28 words a → HasAt code at words
+      first : (words : List Instr) (a : ℕ) → Operand (selecting s running.fun) from 28 words a → HasAt code at words
           → Got s code here t m m (length words) (at + length words) 28 a (bits s code x here t (temp_in t from))
       first words a found has =
           let e : 0 + length words ≡ length words = omega arith in
@@ -337,7 +339,7 @@ module _ (s : Setting) (code : List Instr) (x : IsText s code) (stack : StackIsT
           (temp_in t from)
           → Does n mid v (λ r. Work r a))
           → (few : ℕ) → ((r a : ℕ) (words : List Instr) → Work r a words → length words ≤ few)
-          → (words : List Instr) → OfOne s running.fun to from Work words → HasAt code at words
+          → (words : List Instr) → OfOne (selecting s running.fun) to from Work words → HasAt code at words
           → After (few + 6) (at + length words) v
       of_one v known Work does few short words o has =
           let q = subst (HasAt code at) o.are has in
@@ -372,7 +374,7 @@ module _ (s : Setting) (code : List Instr) (x : IsText s code) (stack : StackIsT
           (temp_in t from)
           → register n b ≡ d → Does n mid v (λ r. Work r a b))
           → (few : ℕ) → ((r a b : ℕ) (words : List Instr) → Work r a b words → length words ≤ few)
-          → (words : List Instr) → OfTwo s running.fun to from Second Work words → HasAt code at words
+          → (words : List Instr) → OfTwo (selecting s running.fun) to from Second Work words → HasAt code at words
           → After (most + few + 6) (at + length words) v
       of_two v known Second d most brings Work does few short words o has =
           let q = subst (HasAt code at) o.are has in
@@ -402,7 +404,8 @@ module _ (s : Setting) (code : List Instr) (x : IsText s code) (stack : StackIsT
           })
 
       -- a second operand, and an amount
-      pub other_comes : (temp : ℕ) → IsAmong temp (reads i) → Brings (Other s running.fun temp) (bits s code x here t
+      pub other_comes : (temp : ℕ) → IsAmong temp (reads i) →
+          Brings (Other (selecting s running.fun) temp) (bits s code x here t
           (temp_in t temp)) 3
       other_comes temp also n count mid leads here_now words b o has = (
         operand_got s code x here t m n count mid leads here_now temp 29 b (now also) (omega arith)
@@ -413,7 +416,7 @@ module _ (s : Setting) (code : List Instr) (x : IsText s code) (stack : StackIsT
       pub amount_comes : AreOfKinds (kinds_in s running) t.vars → (by : Amount)
           → amount_fits p sel.d (kinds_in s running) (code_in s running) by ≡ true
           → ((k : ℕ) → by ≡ amount.Temp k → IsAmong k (reads i))
-          → Brings (Amounts s running.fun by) (null_at (amount_in t by)) (amount_words by)
+          → Brings (Amounts (selecting s running.fun) by) (null_at (amount_in t by)) (amount_words by)
       amount_comes kinded by fits read_too n count mid leads here_now words b (Temps k e o) has =
           let f : has_int p sel.d (kinds_in s running) (code_in s running) k ≡ true =
           subst (λ y. amount_fits p sel.d (kinds_in s running) (code_in s running) y ≡ true) e fits in

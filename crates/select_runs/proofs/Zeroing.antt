@@ -42,12 +42,14 @@ use Rattle.place_inject.proofs.Granules.{granules_are_zeroed_law, zeroed_none, z
 use Rattle.place_inject.proofs.Reaching.{stack_reaches_law}
 use Rattle.place_inject.proofs.Results.{moves_on_law}
 use Rattle.place_inject.proofs.Zeroing.{zero_keeps_fits_law}
-use Rattle.select_runs.specs.Acts.{Ground, HasAt, HasText, IsThere, Leads, counter_at, place}
+use Rattle.select_words.specs.Standing.{HasAt}
+use Rattle.select_words.specs.Numbers.{MakesNumber}
+use Rattle.select_words.specs.Zeroing.{stores_at, zero_loop, Zeroes, Each, Round, granules, ZeroWords}
+use Rattle.select_runs.specs.Acts.{Ground, HasText, IsThere, Leads, counter_at, place}
 use Rattle.select_runs.specs.Instructions.{IsAskedBy}
-use Rattle.select_runs.specs.Numbers.{MakesNumber}
 use Rattle.select_runs.specs.Operands.{ground_of, IsText, IsAtPoint}
 use Rattle.select_runs.specs.Results.{Arrives, IsSelectable, before, behind}
-use Rattle.select_runs.specs.Zeroing.{stores_at, zero_loop, Zeroes, Each, Round, granules, ZeroWords, ZeroesRun}
+use Rattle.select_runs.specs.Zeroing.{ZeroesRun}
 use Rattle.select_runs.proofs.Acts.{fetched_here, act_on_row, next_is, has_front, has_back, join, still}
 use Rattle.select_runs.proofs.Far.{moves, near_low, pointer_moved}
 use Rattle.select_runs.proofs.Jumps.{landed}
@@ -57,6 +59,7 @@ use Rattle.select_runs.proofs.Numbers.{numbers_are_made_law}
 use Rattle.select_runs.proofs.Pointers.{moved_few}
 use Rattle.select_runs.proofs.Points.{laid, there, text_there}
 use Rattle.select_runs.proofs.Results.{reads_as_before}
+use Rattle.select_runs.specs.Selecting.{selecting}
 
 minus_twelve : extended (negsuc 11) ≡ 18446744073709551604
 unfolding kept_of
@@ -276,7 +279,7 @@ module _ (s : Setting) (code : List Instr) (x : IsText s code) (stack : StackIsT
     (asked : IsAskedBy s p) (running : Running) (var : ℕ) (rest : List TacInstr)
     (sel : IsSelectable s p running (instr.Zero var) rest) (at : ℕ) (t : State modes.Store) (m : Machine)
     (point : IsAtPoint s code (before running (instr.Zero var) rest) at t m) (words : List Instr)
-    (form : ZeroWords s running.fun var words) (has_words : HasAt code at words) where
+    (form : ZeroWords (selecting s running.fun) var words) (has_words : HasAt code at words) where
   abbrev zero_i : TacInstr
   zero_i = instr.Zero var
 

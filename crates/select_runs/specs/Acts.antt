@@ -1,5 +1,5 @@
 -- Acts of the machine in code that stands in its text.
-use Rattle.std.specs.Prelude.{◌≡◌, ℕ, zero, suc, ◌+◌, ◌*◌, ◌%◌, ◌^◌, ◌≤◌, List, [], ◌∷◌, length, Some, slice_get}
+use Rattle.std.specs.Prelude.{◌≡◌, ℕ, zero, suc, ◌+◌, ◌*◌, ◌%◌, ◌^◌, ◌≤◌, List, length, Some, slice_get}
 use Rattle.ck_base.specs.Runs.{Goes}
 use Rattle.cap_concentrate.specs.Rounding.{Encodable}
 use Rattle.cap_ops.specs.declared.capability.Cap.{Cap}
@@ -42,11 +42,6 @@ counter_at g at = bounded g.text g.text_end code_permissions UNSEALED (place g a
 abbrev pub HasText : Ground → List Area → Type 0
 HasText g m = (k : ℕ) (i : Instr) → slice_get g.code k ≡ Some i
     → number_at m (place g k) 4 ≡ Some (word_of (fields_of i))
-
--- these words stand in the code from a word on
-abbrev pub HasAt : List Instr → (at : ℕ) → List Instr → Type 0
-HasAt code at [] = Unit {0}
-HasAt code at (i ∷ is) = (slice_get code at ≡ Some i) × HasAt code (at + 1) is
 
 -- ---- acts
 

@@ -28,12 +28,15 @@ use Rattle.place_inject.specs.Fits.{Fits}
 use Rattle.place_inject.specs.Entering.{IsFrameOf, caller_of, entry_of, first_of, entered}
 use Rattle.place_inject.specs.Homes.{CallersKeep}
 use Rattle.place_inject.specs.Spills.{StackIsThere}
-use Rattle.select_runs.specs.Acts.{HasAt, Leads, counter_at, place}
-use Rattle.select_runs.specs.Entries.{stack_place, AreParameters, ParameterWords}
+use Rattle.select_words.specs.Standing.{HasAt}
+use Rattle.select_words.specs.Entries.{stack_place, ParameterWords}
+use Rattle.select_words.specs.Calling.{CallWords}
+use Rattle.select_runs.specs.Acts.{Leads, counter_at, place}
+use Rattle.select_runs.specs.Entries.{AreParameters}
 use Rattle.select_runs.specs.Jumps.{LeadsTo}
 use Rattle.select_runs.specs.Operands.{ground_of, IsText, IsAtPoint}
-use Rattle.select_runs.specs.Passing.{ArgumentWords}
 use Rattle.select_runs.specs.Results.{Arrives, before, kinds_in}
+use Rattle.select_runs.specs.Selecting.{selecting}
 
 -- ---- the function that is entered
 
@@ -51,7 +54,7 @@ pub record Begins (s : Setting) (code : List Instr) (fun count : ℕ) (body : Li
   pub enough : count ≤ length kinds
   pub entry : ℕ
   pub words : List Instr
-  pub parameter_words : ParameterWords s fun count words
+  pub parameter_words : ParameterWords (selecting s fun) count words
   pub has : HasAt code entry (prologue_code (homes_of s fun) frame ++ words)
 
 abbrev pub begin_words : (s : Setting) (fun : ℕ) → Frame → List Instr → List Instr
@@ -79,13 +82,6 @@ EntersWithin s code most entry end frame p at m (Some place) = Arrives s code p 
 EntersWithin s code most entry end frame p at m None = SinksWithin s code most entry frame m
 
 -- ---- a call
-
--- the arguments come to their places, and the jump links to the word behind it
-pub record CallWords (s : Setting) (fun : ℕ) (args : List ℕ) (z : ℤ) (words : List Instr) :
-    Type 0 where
-  pub passes : List Instr
-  pub passed : ArgumentWords s fun args passes
-  pub are : words ≡ passes ++ Cjal 1 z ∷ []
 
 -- what is asked of the caller: its frame has places for the arguments, what callers need waits where functions keep it,
 -- and the word behind the call is the one to which the function returns
@@ -118,7 +114,7 @@ CallsRun = (s : Setting) (code : List Instr) → IsText s code → StackIsThere 
     (m : Machine) → IsAtPoint s code (before running (instr.Call to fun args) rest) at t m → HasWords m
     → (b : Begins s code fun (length args) body
     (IsLive s (entry_of fun (caller_of running rest to t) running.callers body)))
-    → (z : ℤ) (words : List Instr) (form : CallWords s running.fun args z words)
+    → (z : ℤ) (words : List Instr) (form : CallWords (selecting s running.fun) args z words)
     → HasAt code at words → LeadsTo s code (at + length form.passes) b.entry z
     → MayCall s code running to args rest (at + length words) t
     → CallsInto s code w p running (instr.Call to fun args) to fun args rest body

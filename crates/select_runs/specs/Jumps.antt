@@ -1,10 +1,8 @@
 -- Jumps and branches to a label of the function.
-use Rattle.std.specs.Prelude.{◌≡◌, ℕ, ◌+◌, ◌%◌, ◌^◌, ◌<◌, ◌≤◌, ℤ, pos, Bool, true, false, List, [], ◌∷◌, ◌++◌, length}
+use Rattle.std.specs.Prelude.{◌≡◌, ℕ, ◌+◌, ◌%◌, ◌^◌, ◌<◌, ◌≤◌, ℤ, Bool, List, [], ◌∷◌, length}
 use Rattle.ck_base.specs.World.{World}
 use Rattle.rv_instr.specs.declared.instr.Instr.{Instr}
-use Rattle.rv_instr.specs.declared.instr.Instr.TheVariants.{Branch, Cjal}
-use Rattle.rv_instr.specs.declared.ops.BranchOp.{BranchOp}
-use Rattle.rv_instr.specs.declared.ops.BranchOp.TheVariants.{Beq, Bne}
+use Rattle.rv_instr.specs.declared.instr.Instr.TheVariants.{Cjal}
 use Rattle.cap_machine.specs.Integers.{extended}
 use Rattle.cap_machine.specs.declared.machine.Machine.{Machine}
 use Rattle.c_tree.specs.declared.typed.Typed.{Typed}
@@ -17,11 +15,13 @@ use Rattle.tac_ir.specs.Temps as temps
 use Rattle.tac_ir.specs.declared.code.TacInstr.{TacInstr}
 use Rattle.tac_ir.specs.declared.code.TacInstr.TheVariants as instr
 use Rattle.place_inject.specs.Frames.{Setting}
-use Rattle.select_runs.specs.Acts.{HasAt, place}
-use Rattle.select_runs.specs.Emitted.{Operand}
+use Rattle.select_words.specs.Standing.{HasAt}
+use Rattle.select_words.specs.Jumps.{BranchWords}
+use Rattle.select_runs.specs.Acts.{place}
 use Rattle.select_runs.specs.Kinds.{AreOfKinds}
 use Rattle.select_runs.specs.Operands.{ground_of, IsText, IsAtPoint}
 use Rattle.select_runs.specs.Results.{Arrives, before, behind, kinds_in, code_in}
+use Rattle.select_runs.specs.Selecting.{selecting}
 
 -- so many bytes from a word on there is another, or the end of the code
 pub record LeadsTo (s : Setting) (code : List Instr) (at to : ℕ) (z : ℤ) : Type 0 where
@@ -54,17 +54,6 @@ JumpsRun = (s : Setting) (code : List Instr) → IsText s code → (w : World) (
 
 -- ---- branches
 
--- the branch that is taken where the truth of a register isn't `when`
-abbrev pub inverted : Bool → BranchOp
-inverted true = Beq
-inverted false = Bne
-
--- The operand, and a branch over the jump to the label
-pub record BranchWords (s : Setting) (fun on : ℕ) (when : Bool) (z : ℤ) (finds words : List Instr) : Type 0 where
-  pub a : ℕ
-  pub found : Operand s fun on 28 finds a
-  pub are : words ≡ finds ++ (Branch (inverted when) a 0 (pos 8) ∷ Cjal 0 z ∷ [])
-
 -- The function goes to the label, or on to what stands behind the branch
 pub data Branches (s : Setting) (code : List Instr) (w : World) (p : Typed) (running : Running) (i : TacInstr)
     (label : ℕ)
@@ -88,7 +77,7 @@ abbrev pub BranchesRun : Type 0
 BranchesRun = (s : Setting) (code : List Instr) → IsText s code → (w : World) (p : Typed) (running : Running) (on : ℕ)
     (when : Bool)
     (l : ℕ) (rest : List TacInstr) → on < length (kinds_in s running) → (at to : ℕ) (z : ℤ) (finds words : List Instr)
-    → BranchWords s running.fun on when z finds words → HasAt code at words → LeadsTo s code
+    → BranchWords (selecting s running.fun) on when z finds words → HasAt code at words → LeadsTo s code
     (at + length finds + 1) to z
     → (t : State Store) (m : Machine) → AreOfKinds (kinds_in s running) t.vars
     → BranchesTo s code w p running on when l rest at to (at + length words) t m

@@ -1,13 +1,9 @@
 pub mod Acts
+pub mod Selecting
 pub mod Numbers
-pub mod Emitted
 pub mod Operands
 pub mod Kinds
 pub mod Results
-pub mod Words
-pub mod Forms
-pub mod Capabilities
-pub mod Operations
 pub mod Instructions
 pub mod Jumps
 pub mod Accesses

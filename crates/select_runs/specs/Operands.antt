@@ -17,8 +17,10 @@ use Rattle.tac_ir.specs.Effects.{temp_in}
 use Rattle.place_inject.specs.Values.{IsKnown}
 use Rattle.place_inject.specs.Frames.{Setting, Point, IsLive, functions_of}
 use Rattle.place_inject.specs.Fits.{Fits, HomesAreUsable}
-use Rattle.select_runs.specs.Acts.{Ground, HasAt, Holds, counter_at}
-use Rattle.select_runs.specs.Emitted.{Operand}
+use Rattle.select_words.specs.Standing.{HasAt}
+use Rattle.select_words.specs.Emitted.{Operand}
+use Rattle.select_runs.specs.Acts.{Ground, Holds, counter_at}
+use Rattle.select_runs.specs.Selecting.{selecting}
 
 -- ---- code as the text of a run
 
@@ -56,5 +58,5 @@ abbrev pub OperandsCome : Type 0
 OperandsCome = (s : Setting) (code : List Instr) → IsText s code
     → (p : Point) (at : ℕ) (t : State Store) (m : Machine) → IsAtPoint s code p at t m
     → (temp scratch r : ℕ) → IsLive s p temp → 28 ≤ scratch → scratch < 32
-    → (words : List Instr) → Operand s p.running.fun temp scratch words r → HasAt code at words
+    → (words : List Instr) → Operand (selecting s p.running.fun) temp scratch words r → HasAt code at words
     → Comes s code t m temp words at scratch r

@@ -15,7 +15,8 @@ use Rattle.purecap_abi.specs.Saving.{IsFor}
 use Rattle.place_inject.specs.Frames.{Setting, homes_of, stack_top, stack_pointer, return_sentry}
 use Rattle.place_inject.specs.Entering.{HasEntered}
 use Rattle.place_inject.specs.Spills.{StackIsThere}
-use Rattle.select_runs.specs.Acts.{HasAt, IsThere, Leads, place}
+use Rattle.select_words.specs.Standing.{HasAt}
+use Rattle.select_runs.specs.Acts.{IsThere, Leads, place}
 use Rattle.select_runs.specs.Operands.{ground_of, IsText}
 
 -- The machine is at a function's first word, by a call that links to an address, with the stack at another

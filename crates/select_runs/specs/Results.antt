@@ -26,10 +26,13 @@ use Rattle.place_inject.specs.Values.{IsKnown}
 use Rattle.place_inject.specs.Frames.{Setting, Point, homes_of, functions_of}
 use Rattle.place_inject.specs.Homes.{HomeIsFree, onward, ReadsNoMore}
 use Rattle.place_inject.specs.Spills.{SlotIsFree, StackIsThere}
-use Rattle.select_runs.specs.Acts.{HasAt, Leads, counter_at}
-use Rattle.select_runs.specs.Emitted.{IsIn, Keep}
+use Rattle.select_words.specs.Selecting.{Selecting}
+use Rattle.select_words.specs.Standing.{HasAt}
+use Rattle.select_words.specs.Emitted.{IsIn, Keep}
+use Rattle.select_runs.specs.Acts.{Leads, counter_at}
 use Rattle.select_runs.specs.Kinds.{AreOfKinds}
 use Rattle.select_runs.specs.Operands.{ground_of, IsText, IsAtPoint}
+use Rattle.select_runs.specs.Selecting.{selecting}
 
 -- ---- results
 
@@ -47,7 +50,7 @@ pub record Computed (s : Setting) (code : List Instr) (m : Machine) (count at ch
 
 -- a register that the value of a temp may be computed in: one that is no home, or the temp's own
 abbrev pub MayChange : Setting → (fun temp changed : ℕ) → Type 0
-MayChange s fun temp changed = (28 ≤ changed) ⊎ IsIn s fun temp changed
+MayChange s fun temp changed = (28 ≤ changed) ⊎ IsIn (selecting s fun) temp changed
 
 -- A temp that is no number has a home, and no other temp that is to be read from a point on stands in it
 pub record MayTake (s : Setting) (p : Point) (temp : ℕ) : Type 0 where
@@ -73,7 +76,7 @@ ResultsGoHome = (s : Setting) (code : List Instr) → IsText s code → StackIsT
     → (v : Value) → IsKnown t.mem.memory.shapes (functions_of s) v
     → (count mid changed r : ℕ) → MayChange s p.running.fun temp changed → r ≢ 31
     → Computed s code m count mid changed r (capability_of (addresses_of s.map) (base_in t.mem.memory.shapes) v)
-    → (words : List Instr) → Keep s p.running.fun temp r words → HasAt code mid words
+    → (words : List Instr) → Keep (selecting s p.running.fun) temp r words → HasAt code mid words
     → Arrives s code (onward p rest) count (count + length words) (mid + length words)
     (record t { vars = slice_set t.vars temp (Some v) }) m
 
@@ -127,16 +130,16 @@ GoesOn s code w p running i rest words at t m = GoesOnWithin (cost i) s code w p
 -- For each point at which the function goes on with such an instruction, and each machine that stands for a state
 -- there and has the
 -- words next
-abbrev pub GoOn : Setting → List Instr → World → Typed → (TacInstr → Type 0) → (Setting → ℕ → TacInstr → List Instr
-    → Type 0) → Type 0
+abbrev pub GoOn : Setting → List Instr → World → Typed → (TacInstr → Type 0)
+    → (Selecting → TacInstr → List Instr → Type 0) → Type 0
 GoOn s code w p Is Words =
     (running : Running) (i : TacInstr) (rest : List TacInstr) → Is i → IsSelectable s p running i rest
     → (at : ℕ) (t : State Store) (m : Machine) → IsAtPoint s code (before running i rest) at t m
     → AreOfKinds (kinds_in s running) t.vars
-    → (words : List Instr) → Words s running.fun i words → HasAt code at words
+    → (words : List Instr) → Words (selecting s running.fun) i words → HasAt code at words
     → GoesOn s code w p running i rest words at t m
 
-abbrev pub EachGoesOn : (TacInstr → Type 0) → (Setting → ℕ → TacInstr → List Instr → Type 0) → Type 0
+abbrev pub EachGoesOn : (TacInstr → Type 0) → (Selecting → TacInstr → List Instr → Type 0) → Type 0
 EachGoesOn Is Words =
     (s : Setting) (code : List Instr) → IsText s code → StackIsThere s → (w : World) (p : Typed)
     → GoOn s code w p Is Words

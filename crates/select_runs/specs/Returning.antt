@@ -1,6 +1,5 @@
 -- Returns: to the caller, which goes on with the result, and from the first function to the end of the run.
-use Rattle.std.specs.Prelude.{◌≡◌, ℕ, ◌+◌, ◌%◌, ◌<◌, ◌≤◌, List, [], ◌∷◌, ◌++◌, length, Option, Some, None}
-use Rattle.std.specs.Prelude.{slice_get}
+use Rattle.std.specs.Prelude.{◌≡◌, ℕ, ◌+◌, ◌%◌, ◌<◌, ◌≤◌, List, [], ◌∷◌, length, Option, Some, None, slice_get}
 use Rattle.ck_base.specs.Runs.{Ends}
 use Rattle.ck_base.specs.World.{World}
 use Rattle.rv_instr.specs.declared.instr.Instr.{Instr}
@@ -8,37 +7,26 @@ use Rattle.cap_machine.specs.declared.end.End.TheVariants as end
 use Rattle.cap_machine.specs.declared.machine.Machine.{Machine}
 use Rattle.cap_machine.specs.Step.{act}
 use Rattle.c_tree.specs.declared.typed.Typed.{Typed}
-use Rattle.cheri_c_sem.specs.Kinds.{number_of}
+use Rattle.cheri_c_sem.specs.Kinds.{number_of, nothing}
 use Rattle.cheri_c_sem.specs.Modes.{Store, operations, placed_plan}
 use Rattle.cheri_c_sem.specs.Steps.{State, Fate}
-use Rattle.obj_mem.specs.declared.map.Frame.{Frame}
 use Rattle.obj_mem.specs.Values.{Value, Int}
-use Rattle.purecap_abi.specs.Ends.{epilogue_code}
 use Rattle.tac_ir.specs.Costs.{cost}
 use Rattle.tac_ir.specs.Effects.{Next, Back, effect, held}
-use Rattle.cheri_c_sem.specs.Kinds.{nothing}
 use Rattle.tac_ir.specs.Meaning.{Caller, Running, with_result}
-use Rattle.tac_ir.specs.Temps.{in_option}
 use Rattle.tac_ir.specs.declared.code.TacInstr.{TacInstr}
 use Rattle.tac_ir.specs.declared.code.TacInstr.TheVariants as instr
-use Rattle.place_inject.specs.Frames.{Setting, Point, homes_of, locals_by}
+use Rattle.place_inject.specs.Frames.{Setting, Point, locals_by}
 use Rattle.place_inject.specs.Homes.{CallersKeep}
 use Rattle.place_inject.specs.Leaving.{OthersAreOlder, caller_at, returned}
 use Rattle.place_inject.specs.Spills.{StackIsThere}
-use Rattle.select_runs.specs.Acts.{HasAt, Leads, place}
+use Rattle.select_words.specs.Standing.{HasAt}
+use Rattle.select_words.specs.Services.{KeepSome, ask}
+use Rattle.select_words.specs.Returning.{ReturnWords}
+use Rattle.select_runs.specs.Acts.{Leads, place}
 use Rattle.select_runs.specs.Operands.{ground_of, IsText, IsAtPoint}
 use Rattle.select_runs.specs.Results.{MayTake, Arrives, before, kinds_in}
-use Rattle.select_runs.specs.Services.{Argument, KeepSome, ask}
-
--- ---- the words
-
--- the value comes to c10, where there is one, and the function ends
-pub record ReturnWords (s : Setting) (fun : ℕ) (v : Option ℕ) (words : List Instr) : Type 0 where
-  pub finds : List Instr
-  pub found : Argument s fun (in_option v) finds
-  pub frame : Frame
-  pub is : slice_get s.map.frames fun ≡ Some frame
-  pub are : words ≡ finds ++ epilogue_code (homes_of s fun) frame
+use Rattle.select_runs.specs.Selecting.{selecting}
 
 -- ---- where the caller goes on
 
@@ -48,7 +36,7 @@ pub record ResumesAt (s : Setting) (code : List Instr) (c : Caller) (cs : List C
     (keep : List Instr) : Type 0 where
   pub is : s.back c.fun c.rest ≡ place (ground_of s code) at
   pub inside : at < length code
-  pub kept : KeepSome s c.fun c.to keep
+  pub kept : KeepSome (selecting s c.fun) c.to keep
   pub words : HasAt code at keep
   pub free : (temp : ℕ) → c.to ≡ Some temp → MayTake s (caller_at c cs c.rest) temp
 
@@ -85,7 +73,7 @@ ReturnsRun = (s : Setting) (code : List Instr) → IsText s code → StackIsTher
     (v : Option ℕ) (c : Caller) (cs : List Caller) (rest : List TacInstr) (at : ℕ) (t : State Store) (m : Machine)
     → IsAtPoint s code (ending (record { fun = fun; callers = c ∷ cs }) v rest) at t m
     → CallersKeep s (c ∷ cs) → OthersAreOlder s t.first (c ∷ cs) → Gives v c.to
-    → (words : List Instr) → ReturnWords s fun v words → HasAt code at words
+    → (words : List Instr) → ReturnWords (selecting s fun) v words → HasAt code at words
     → (to : ℕ) (keep : List Instr) → ResumesAt s code c cs to keep
     → ReturnsTo s code w p (record { fun = fun; callers = c ∷ cs }) v c cs (to + length keep) t m
 
@@ -113,6 +101,6 @@ LastReturnsRun = (s : Setting) (code : List Instr) → IsText s code → StackIs
     (fun v : ℕ) (rest : List TacInstr) (at : ℕ) (t : State Store) (m : Machine)
     → IsAtPoint s code (ending (record { fun = fun; callers = [] }) (Some v) rest) at t m
     → value_of t (Some v) ≡ Int (number_of (value_of t (Some v)))
-    → (words : List Instr) → ReturnWords s fun (Some v) words → HasAt code at words
+    → (words : List Instr) → ReturnWords (selecting s fun) (Some v) words → HasAt code at words
     → (to : ℕ) → StubAt s code to
     → EndsRun s w p (record { fun = fun; callers = [] }) v t m

@@ -1,10 +1,8 @@
 -- Calls of the library that speak with the outside: `putchar`, `getchar` and `exit`.
-use Rattle.std.specs.Prelude.{◌≡◌, ◌⊎◌, ℕ, ◌+◌, ◌<◌, ◌≤◌, pos, List, [], ◌∷◌, ◌++◌, length, Option, Some, None}
+use Rattle.std.specs.Prelude.{◌≡◌, ℕ, ◌+◌, ◌<◌, ◌≤◌, List, [], ◌∷◌, length, Option, Some, None}
 use Rattle.ck_base.specs.Runs.{Puts, Reads, Ends}
 use Rattle.ck_base.specs.World.{World, Done}
 use Rattle.rv_instr.specs.declared.instr.Instr.{Instr}
-use Rattle.rv_instr.specs.declared.instr.Instr.TheVariants.{Imm, Ecall}
-use Rattle.rv_instr.specs.declared.ops.ImmOp.TheVariants.{Addi}
 use Rattle.cap_machine.specs.declared.end.End.TheVariants as end
 use Rattle.cap_machine.specs.declared.machine.Machine.{Machine}
 use Rattle.cap_machine.specs.Step.{act}
@@ -17,50 +15,22 @@ use Rattle.tac_ir.specs.Costs.{cost}
 use Rattle.tac_ir.specs.Effects.{Next, effect, set_optional}
 use Rattle.tac_ir.specs.Meaning.{Running, with_result}
 use Rattle.tac_ir.specs.Temps.{IsIn as IsAmong, in_option}
-use Rattle.tac_ir.specs.declared.code.LibOp.TheVariants as lib
 use Rattle.tac_ir.specs.declared.code.TacInstr.{TacInstr}
-use Rattle.tac_ir.specs.declared.code.TacInstr.TheVariants as instr
 use Rattle.place_inject.specs.Frames.{Setting, IsLive, homes_of}
 use Rattle.place_inject.specs.Registers.{UsesOnly, CallersUseOnly}
 use Rattle.place_inject.specs.Spills.{StackIsThere}
-use Rattle.select_runs.specs.Acts.{HasAt, Leads}
-use Rattle.select_runs.specs.Emitted.{Keep}
+use Rattle.select_words.specs.Standing.{HasAt}
+use Rattle.select_words.specs.Services.{Asks, IsAside, putting, taking, leaving}
+use Rattle.select_runs.specs.Acts.{Leads}
 use Rattle.select_runs.specs.Kinds.{AreOfKinds}
 use Rattle.select_runs.specs.Operands.{IsText, IsAtPoint}
 use Rattle.select_runs.specs.Results.{Arrives, IsSelectable, before, behind, kinds_in}
-use Rattle.select_runs.specs.Words.{Bring}
-
--- ---- the words
-
--- the environment is asked for the service of a number
-abbrev pub ask : ℕ → List Instr
-ask k = Imm Addi 17 0 (pos k) ∷ Ecall ∷ []
-
--- c10 is kept as a temp, where there is one
-abbrev pub KeepSome : Setting → (fun : ℕ) → Option ℕ → List Instr → Type 0
-KeepSome s fun None words = words ≡ []
-KeepSome s fun (Some t) words = Keep s fun t 10 words
-
--- the argument comes to c10, where there is one
-abbrev pub Argument : Setting → (fun : ℕ) → List ℕ → List Instr → Type 0
-Argument s fun [] words = words ≡ []
-Argument s fun (a ∷ more) words = Bring s fun a 10 words
-
-pub record Asks (s : Setting) (fun : ℕ) (args : List ℕ) (k : ℕ) (to : Option ℕ) (words : List Instr) : Type 0 where
-  pub finds : List Instr
-  pub keep : List Instr
-  pub found : Argument s fun args finds
-  pub kept : KeepSome s fun to keep
-  pub are : words ≡ finds ++ (ask k ++ keep)
+use Rattle.select_runs.specs.Selecting.{selecting}
 
 -- ---- what is asked of homes
 
--- the registers but c10 to c17, in which arguments are passed
-abbrev pub IsAside : ℕ → Type 0
-IsAside r = (r < 10) ⊎ (17 < r)
-
--- the temps that are to be read behind the call, but for that of the result, stand in no register of an argument, nor do
--- those of the callers
+-- the temps that are to be read behind the call, but for that of the result, stand in no register of an argument, nor
+-- do those of the callers
 pub record StandsAside (s : Setting) (running : Running) (to : Option ℕ) (rest : List TacInstr) : Type 0 where
   pub own : UsesOnly IsAside (homes_of s running.fun)
       (λ k. (IsAmong k (in_option to) → ⊥) × IsLive s (behind running rest) k)
@@ -131,25 +101,16 @@ Serves args k i to Does =
     (rest : List TacInstr) → IsSelectable s p running i rest → StandsAside s running to rest
     → (at : ℕ) (t : State Store) (m : Machine) → IsAtPoint s code (before running i rest) at t m
     → AreOfKinds (kinds_in s running) t.vars
-    → (words : List Instr) → Asks s running.fun args k to words → HasAt code at words
+    → (words : List Instr) → Asks (selecting s running.fun) args k to words → HasAt code at words
     → Does s code w p running rest words at t m
-
-abbrev pub putting : Option ℕ → ℕ → TacInstr
-putting to a = instr.Lib lib.PutChar to (a ∷ [])
 
 abbrev pub PutsRun : Type 0
 PutsRun = (to : Option ℕ) (a : ℕ) → Serves (a ∷ []) 1 (putting to a) to
     (λ s code w p running rest words at t m. PutsByte s code w p running (putting to a) to rest words at t m)
 
-abbrev pub taking : Option ℕ → TacInstr
-taking to = instr.Lib lib.GetChar to []
-
 abbrev pub TakesRun : Type 0
 TakesRun = (to : Option ℕ) → Serves [] 2 (taking to) to
     (λ s code w p running rest words at t m. TakesByte s code w p running (taking to) to rest words at t m)
-
-abbrev pub leaving : ℕ → TacInstr
-leaving a = instr.Lib lib.Exit None (a ∷ [])
 
 abbrev pub ExitsRun : Type 0
 ExitsRun = (a : ℕ) → Serves (a ∷ []) 3 (leaving a) None

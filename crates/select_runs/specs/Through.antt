@@ -1,10 +1,8 @@
 -- Calls through values: of a function, or of what is none.
-use Rattle.std.specs.Prelude.{◌≡◌, ℕ, ◌+◌, true, false, pos, List, [], ◌∷◌, ◌++◌, length, Some}
-use Rattle.std.specs.Prelude.{slice_index_or, Option}
+use Rattle.std.specs.Prelude.{◌≡◌, ℕ, ◌+◌, true, false, List, length, Some, slice_index_or, Option}
 use Rattle.ck_base.specs.World.{World}
 use Rattle.ck_base.specs.declared.positions.Pos.{Pos}
 use Rattle.rv_instr.specs.declared.instr.Instr.{Instr}
-use Rattle.rv_instr.specs.declared.instr.Instr.TheVariants.{Cjalr}
 use Rattle.cap_machine.specs.declared.machine.Machine.{Machine}
 use Rattle.c_tree.specs.declared.typed.Typed.{Typed}
 use Rattle.cheri_c_sem.specs.Modes.{Store, operations, placed_plan, frame_within}
@@ -16,27 +14,17 @@ use Rattle.tac_ir.specs.Costs.{cost, prologue_cost}
 use Rattle.tac_ir.specs.Effects.{Next, Into, effect, fits, temp_in}
 use Rattle.tac_ir.specs.Meaning.{Running, entry_temps}
 use Rattle.tac_ir.specs.declared.code.TacInstr.{TacInstr}
-use Rattle.tac_ir.specs.declared.code.TacInstr.TheVariants as instr
 use Rattle.place_inject.specs.Frames.{Setting, IsLive}
 use Rattle.place_inject.specs.Entering.{caller_of, entry_of, entered}
 use Rattle.place_inject.specs.Spills.{StackIsThere}
+use Rattle.select_words.specs.Standing.{HasAt}
+use Rattle.select_words.specs.Through.{ThroughWords, through}
 use Rattle.select_runs.specs.Accesses.{TrapsWithin}
-use Rattle.select_runs.specs.Acts.{HasAt, place}
+use Rattle.select_runs.specs.Acts.{place}
 use Rattle.select_runs.specs.Calling.{Begins, begin_words, HasWords, EntersWithin, MayCall, values}
 use Rattle.select_runs.specs.Operands.{ground_of, IsText, IsAtPoint}
-use Rattle.select_runs.specs.Passing.{ArgumentWords}
 use Rattle.select_runs.specs.Results.{before, kinds_in}
-use Rattle.select_runs.specs.Words.{Bring}
-
--- ---- the words
-
--- the value comes to c31, the arguments to their places, and the jump to c31 links to the word behind it
-pub record ThroughWords (s : Setting) (fun v : ℕ) (args : List ℕ) (words : List Instr) : Type 0 where
-  pub finds : List Instr
-  pub found : Bring s fun v 31 finds
-  pub passes : List Instr
-  pub passed : ArgumentWords s fun args passes
-  pub are : words ≡ finds ++ (passes ++ Cjalr 1 31 (pos 0) ∷ [])
+use Rattle.select_runs.specs.Selecting.{selecting}
 
 -- ---- what is called
 
@@ -52,9 +40,6 @@ pub record IsCallee (s : Setting) (code : List Instr) (running : Running) (to : 
 abbrev pub IsCalled : Setting → World → Typed → (v of : ℕ) → State Store → (f : ℕ) → Type 0
 IsCalled s w p v of t f =
     (temp_in t v ≡ Fun f) × (slice_index_or (fits (operations (placed_plan s.map)) w p of) f false ≡ true)
-
-abbrev pub through : Option ℕ → (v of : ℕ) → List ℕ → Pos → TacInstr
-through to v of args source = instr.CallValue to v of args source
 
 -- ---- what a call does
 
@@ -87,7 +72,7 @@ CallsThroughValuesRun = (s : Setting) (code : List Instr) → IsText s code → 
     (v of : ℕ) (args : List ℕ) (source : Pos) (rest : List TacInstr) (at : ℕ) (t : State Store) (m : Machine)
     → IsAtPoint s code (before running (through to v of args source) rest) at t m → HasWords m
     → (callees : (f : ℕ) → IsCalled s w p v of t f → IsCallee s code running to args rest t f)
-    → (words : List Instr) (form : ThroughWords s running.fun v args words) → HasAt code at words
+    → (words : List Instr) (form : ThroughWords (selecting s running.fun) v args words) → HasAt code at words
     → MayCall s code running to args rest (at + length words) t
     → CallsThrough s code w p running (through to v of args source) to args rest source
     (at + length form.finds + length form.passes) t m (IsCalled s w p v of t) callees

@@ -3,9 +3,9 @@
 //! Promise: laws: where the words that selection appends for an instruction stand in the text, a machine that stands
 //! for a state of three-address code goes on to one that stands for the state behind the instruction, or traps as the
 //! meaning does; so far of all instructions but `malloc`.
-//! Definitions (`specs/`): `Acts`, `Numbers`, `Emitted`, `Operands`, `Kinds`, `Results`, `Words`, `Forms`,
-//! `Capabilities`, `Operations`, `Instructions`, `Jumps`, `Accesses`, `Zeroing`, `Copying`, `Services`, `Returning`,
-//! `Prologue`, `Entries`, `Passing`, `Calling`, `Through`.
+//! Definitions (`specs/`), beside the words themselves (`select_words`): `Acts`, `Selecting`, `Numbers`, `Operands`,
+//! `Kinds`, `Results`, `Instructions`, `Jumps`, `Accesses`, `Zeroing`, `Copying`, `Services`, `Returning`, `Prologue`,
+//! `Entries`, `Passing`, `Calling`, `Through`.
 //! Main lemmas (`proofs/`): `Acts`, `Operands`, `Results`, `Far`, `Working`, `Arithmetic`, `Loops`, `Bringing`,
 //! `Stretches`, `Keeping`, `Saving`, `Moves`, `Costs`.
 #![tactic(auto)]

@@ -1,6 +1,6 @@
 -- Where selection chose words as the laws ask for, each instruction runs.
-use Rattle.std.proofs.Common.{pos, refl, ℕ, ◌+◌, ◌<◌, ◌≤◌, Bool, true, false, List, [], ◌∷◌, length, Option, ap}
-use Rattle.std.proofs.Common.{subst, arith, ◌≡◌, ◌∙◌, sym, Some, None}
+use Rattle.std.proofs.Common.{pos, refl, ℕ, ◌+◌, ◌<◌, ◌≤◌, Bool, true, false, List, [], ◌∷◌, length, Option, ap, subst}
+use Rattle.std.proofs.Common.{arith, ◌≡◌, ◌∙◌, sym, Some, None}
 use Rattle.std.specs.Prelude.{slice_get}
 use Rattle.std.proofs.lemmas.List.{length-append}
 use Rattle.std.proofs.lemmas.Bool.{and_parts}
@@ -31,25 +31,28 @@ use Rattle.place_inject.specs.Frames.{Setting}
 use Rattle.place_inject.specs.Homes.{CallersKeep}
 use Rattle.place_inject.specs.Leaving.{OthersAreOlder, caller_at}
 use Rattle.place_inject.proofs.Older.{others_are_older_at_entries_law}
-use Rattle.select_runs.specs.Accesses.{IsAccess, place_of}
+use Rattle.select_words.specs.Selecting.{Selecting}
+use Rattle.select_words.specs.Accesses.{IsAccess, place_of}
+use Rattle.select_words.specs.Capabilities.{IsNarrow, NarrowWords, IsOffset, OffsetWords, IsIntrinsic, CapWords}
+use Rattle.select_words.specs.Capabilities.{IsPointing}
+use Rattle.select_words.specs.Jumps.{inverted}
+use Rattle.select_words.specs.Operations.{OperationWords, IsComparison, CompareWords, IsConversion, ConversionWords}
+use Rattle.select_words.specs.Services.{putting, taking, leaving}
+use Rattle.select_runs.specs.Through as through
+use Rattle.select_words.specs.Through.{through}
+use Rattle.select_words.specs.Words as words
+use Rattle.select_words.specs.Words.{IsConst, ConstantWords, IsCopy, IsPassed, NoWords}
+use Rattle.select_words.specs.Heap.{allocating}
 use Rattle.select_runs.specs.Acts.{place}
 use Rattle.select_runs.specs.Calling.{begin_words, values, EntersWithin}
 use Rattle.select_runs.specs.Operands.{ground_of, IsAtPoint}
 use Rattle.select_runs.specs.Returning.{value_of}
-use Rattle.select_runs.specs.Capabilities.{IsNarrow, NarrowWords, IsOffset, OffsetWords, IsIntrinsic, CapWords}
-use Rattle.select_runs.specs.Capabilities.{IsPointing}
-use Rattle.select_runs.specs.Jumps.{Branches, inverted}
-use Rattle.select_runs.specs.Operations.{OperationWords, IsOperation, IsComparison, CompareWords, IsConversion}
-use Rattle.select_runs.specs.Operations.{ConversionWords}
+use Rattle.select_runs.specs.Jumps.{Branches}
+use Rattle.select_runs.specs.Instructions.{IsOperation}
 use Rattle.select_runs.specs.Results.{before, EachGoesOn, GoesOnWithin}
-use Rattle.select_runs.specs.Services.{putting, taking, leaving}
 use Rattle.select_runs.specs.Kinds.{AreOfKinds}
-use Rattle.select_runs.specs.Through as through
-use Rattle.select_runs.specs.Through.{IsCalled, IsCallee, CallsThrough, Enters, Stops, through}
+use Rattle.select_runs.specs.Through.{IsCalled, IsCallee, CallsThrough, Enters, Stops}
 use Rattle.select_runs.proofs.Through.{calls_through_values_run_law}
-use Rattle.select_runs.specs.Words as words
-use Rattle.select_runs.specs.Words.{IsConst, ConstantWords, IsCopy, IsPassed, NoWords}
-use Rattle.select_heap.specs.Heap.{allocating}
 use Rattle.select_runs.proofs.Simple.{constants_run_law, copies_run_law, labels_run_law}
 use Rattle.select_runs.proofs.Integers.{operations_run_law}
 use Rattle.select_runs.proofs.Comparisons.{comparisons_run_law}
@@ -68,9 +71,9 @@ use Rattle.select_heap.proofs.Heap.{allocations_run_law}
 use Rattle.select_whole.specs.Visited.{Whole, ops_of, tac_at, kinds_at, locals_of, in_frame_of, called_by, back_in}
 use Rattle.select_whole.specs.Visited.{Means, gives_by, gives_at}
 use Rattle.select_whole.specs.Runs.{Here, here, Each, searched, IsAllocation, IsInteger, IsZero, IsStructCopy, Goes}
-use Rattle.select_whole.specs.Runs.{Accessed, Copied, IsCall, Called, Entered, Returned, Left, Takes}
-use Rattle.select_whole.specs.Runs.{IsValueCall, ValueCalled, Calls, Traps, Leaves}
-use Rattle.select_whole.specs.Runs.{Jumped, Branched, Put, Taken, Exited, InstructionsRun}
+use Rattle.select_whole.specs.Runs.{Accessed, Copied, IsCall, Called, Entered, Returned, Left, Takes, IsValueCall}
+use Rattle.select_whole.specs.Runs.{ValueCalled, Calls, Traps, Leaves, Jumped, Branched, Put, Taken, Exited}
+use Rattle.select_whole.specs.Runs.{InstructionsRun}
 use Rattle.select_whole.specs.Chosen.{CalleeStands, ValueCallStands, EachStands, BranchStands, Chosen, ChosenCodeRuns}
 use Rattle.select_whole.specs.Chosen.{ChosenCodeMatches}
 use Rattle.select_whole.proofs.Kinded.{call_kinded, int_given, return_kinded}
@@ -96,8 +99,8 @@ within_more most more s code w p r i rest ws at t m less d =
     }
 
 module _ (g : Whole) (w : World) (c : Chosen g w) where
-  plain : (Is : TacInstr → Type 0) (Form : Setting → ℕ → TacInstr → List Instr → Type 0) → EachGoesOn Is Form
-      → EachStands g w Is (Form g.setting) → Each g w Is (Goes g w)
+  plain : (Is : TacInstr → Type 0) (Form : Selecting → TacInstr → List Instr → Type 0) → EachGoesOn Is Form
+      → EachStands g w Is Form → Each g w Is (Goes g w)
   plain Is Form law stands r i rest t m is h =
       let x = stands r i rest t m is h in
       record {

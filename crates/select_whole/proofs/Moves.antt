@@ -1,7 +1,6 @@
 -- What each instruction does at a place: one of few moves, in the meaning and on the machine.
 use Rattle.std.proofs.Common.{◌≡◌, ℕ, zero, suc, ◌+◌, ◌*◌, ◌%◌, ◌<◌, ◌≤◌, Bool, true, false, List, [], ◌∷◌, length}
-use Rattle.std.proofs.Common.{Option, Some, None}
-use Rattle.std.proofs.Common.{refl, sym, ap, ◌∙◌, subst, arith, if◌then◌else◌}
+use Rattle.std.proofs.Common.{Option, Some, None, refl, sym, ap, ◌∙◌, subst, arith, if◌then◌else◌}
 use Rattle.std.specs.Prelude.{slice_get}
 use Rattle.ck_base.specs.Runs.{with_put, with_read}
 use Rattle.ck_base.specs.World.{World, Done, fails_after}
@@ -30,23 +29,24 @@ use Rattle.tac_ir.specs.WellFormed.{has_label, is_turn, ends_there, turn_fits}
 use Rattle.tac_ir.specs.declared.code.LibOp.TheVariants as lib
 use Rattle.tac_ir.specs.declared.code.TacInstr.{TacInstr}
 use Rattle.tac_ir.specs.declared.code.TacInstr.TheVariants as instr
-use Rattle.select_runs.specs.Acts.{Leads, place, counter_at}
+use Rattle.int_select.specs.Selected.{IsReport}
+use Rattle.int_select.specs.Tracking.{Moment, Stepped, Next as Steps_to, Ended, moment, stepped, step, Reaches}
+use Rattle.int_select.specs.Tracking.{Finished}
+use Rattle.int_select.proofs.Follow.{join}
+use Rattle.int_select.proofs.Meets.{course_by}
 use Rattle.select_runs.specs.Accesses as access
-use Rattle.select_runs.specs.Accesses.{Accesses, TrapsWithin}
 use Rattle.select_runs.specs.Copying as copying
+use Rattle.select_words.specs.Services.{putting, taking, leaving}
+use Rattle.select_runs.specs.Acts.{Leads, place, counter_at}
+use Rattle.select_runs.specs.Accesses.{Accesses, TrapsWithin}
 use Rattle.select_runs.specs.Copying.{StructCopied, copy_cost}
 use Rattle.select_runs.specs.Jumps.{Branches, Taken, Passed}
 use Rattle.select_runs.specs.Kinds.{AreOfKinds}
 use Rattle.select_runs.specs.Operands.{ground_of, IsAtPoint}
 use Rattle.select_runs.specs.Results.{Arrives, GoesOnWithin}
 use Rattle.select_runs.specs.Results as at_place
-use Rattle.select_runs.specs.Services.{IsByteOrEnd, putting, taking, leaving, served}
+use Rattle.select_runs.specs.Services.{IsByteOrEnd, served}
 use Rattle.select_runs.proofs.Acts.{counter_place}
-use Rattle.int_select.specs.Selected.{IsReport}
-use Rattle.int_select.specs.Tracking.{Moment, Stepped, Next as Steps_to, Ended, moment, stepped, step, Reaches}
-use Rattle.int_select.specs.Tracking.{Finished}
-use Rattle.int_select.proofs.Follow.{join}
-use Rattle.int_select.proofs.Meets.{course_by}
 use Rattle.select_whole.specs.Visited.{Whole, Means, ops_of, kinds_at, back_in}
 use Rattle.select_whole.specs.Runs.{here, Here, Accessed, Copied, Called, Calls, ValueCalled, StopsBy, InstructionsRun}
 use Rattle.select_whole.specs.Runs.{Put, Exited, searched, Reports_at}

@@ -1,7 +1,7 @@
 -- What selection chose: at each place to which a run comes the words of the instruction stand, in the form that the
 -- laws of selected code ask for.
-use Rattle.std.specs.Prelude.{◌≡◌, ℕ, ◌+◌, ◌*◌, ◌/◌, ◌<◌, ◌≤◌, ℤ, Bool, true, false, List, [], ◌∷◌, length}
-use Rattle.std.specs.Prelude.{Option, Some, None, slice_get, slice_index_or}
+use Rattle.std.specs.Prelude.{◌≡◌, ℕ, ◌+◌, ◌*◌, ◌/◌, ◌<◌, ◌≤◌, ℤ, Bool, true, false, List, [], ◌∷◌, length, Option}
+use Rattle.std.specs.Prelude.{Some, None, slice_get, slice_index_or}
 use Rattle.ck_base.specs.World.{World}
 use Rattle.ck_base.specs.declared.positions.Pos.{Pos}
 use Rattle.rv_instr.specs.declared.instr.Instr.{Instr}
@@ -18,57 +18,65 @@ use Rattle.purecap_abi.specs.Ends.{before_store}
 use Rattle.tac_ir.specs.Effects.{fits}
 use Rattle.tac_ir.specs.Meaning.{Caller, Running, name_of}
 use Rattle.tac_ir.specs.Temps.{behind}
-use Rattle.tac_ir.specs.WellFormed.{Signature, begins_with, has_label, int_result, signature_of}
-use Rattle.tac_ir.specs.WellFormed.{signature_of_function}
+use Rattle.tac_ir.specs.WellFormed.{Signature, begins_with, has_label, int_result, signature_of, signature_of_function}
 use Rattle.tac_ir.specs.declared.code.TacInstr.{TacInstr}
 use Rattle.tac_ir.specs.declared.code.TacInstr.TheVariants as instr
 use Rattle.place_inject.specs.Entering.{caller_of, entry_of}
 use Rattle.place_inject.specs.Frames.{IsLive, locals_by}
 use Rattle.place_inject.specs.Spills.{StackIsThere}
 use Rattle.place_inject.specs.Tables.{TableIsThere}
-use Rattle.select_runs.specs.Accesses.{AccessWords, IsAccess, place_of}
-use Rattle.select_runs.specs.Acts.{HasAt, place}
-use Rattle.select_runs.specs.Calling.{Begins, begin_words, HasWords, CallWords, MayCall}
-use Rattle.select_runs.specs.Capabilities.{IsNarrow, NarrowWords, IsOffset, OffsetWords, IsIntrinsic, CapWords}
-use Rattle.select_runs.specs.Capabilities.{IsPointing, PointingWords}
-use Rattle.select_runs.specs.Copying.{CopyWords, copy_cost}
-use Rattle.select_runs.specs.Instructions.{IsAskedBy}
-use Rattle.select_runs.specs.Jumps.{LeadsTo, BranchWords}
-use Rattle.select_runs.specs.Operands.{IsText, ground_of}
-use Rattle.select_runs.specs.Returning.{ReturnWords, ResumesAt, StubAt}
-use Rattle.select_runs.specs.Operations.{IsOperation, OperationWords, IsComparison, CompareWords, IsConversion}
-use Rattle.select_runs.specs.Operations.{ConversionWords}
-use Rattle.select_runs.specs.Results.{IsSelectable}
-use Rattle.select_runs.specs.Services.{Asks, StandsAside, putting, taking, leaving}
-use Rattle.select_runs.specs.Through.{IsCalled, ThroughWords, through}
-use Rattle.select_runs.specs.Words as words
-use Rattle.select_runs.specs.Words.{IsConst, ConstantWords, IsCopy, IsPassed, NoWords}
-use Rattle.select_runs.specs.Zeroing.{ZeroWords, granules}
-use Rattle.select_heap.specs.Heap.{Mallocs, StandsBeside, allocating}
 use Rattle.int_select.specs.Selected.{IsReport}
+use Rattle.select_words.specs.Accesses.{AccessWords, IsAccess, place_of}
+use Rattle.select_words.specs.Selecting.{Selecting}
+use Rattle.select_words.specs.Standing.{HasAt}
+use Rattle.select_words.specs.Calling.{CallWords}
+use Rattle.select_words.specs.Capabilities.{IsNarrow, NarrowWords, IsOffset, OffsetWords, IsIntrinsic, CapWords}
+use Rattle.select_words.specs.Capabilities.{IsPointing, PointingWords}
+use Rattle.select_words.specs.Copying.{CopyWords}
+use Rattle.select_words.specs.Jumps.{BranchWords}
+use Rattle.select_words.specs.Returning.{ReturnWords}
+use Rattle.select_words.specs.Operations.{OperationWords, IsComparison, CompareWords, IsConversion, ConversionWords}
+use Rattle.select_words.specs.Services.{Asks, putting, taking, leaving}
+use Rattle.select_words.specs.Through.{ThroughWords, through}
+use Rattle.select_words.specs.Words as words
+use Rattle.select_words.specs.Words.{IsConst, ConstantWords, IsCopy, IsPassed, NoWords}
+use Rattle.select_words.specs.Zeroing.{ZeroWords, granules}
+use Rattle.select_words.specs.Heap.{Mallocs, allocating}
+use Rattle.select_runs.specs.Acts.{place}
+use Rattle.select_runs.specs.Calling.{Begins, begin_words, HasWords, MayCall}
+use Rattle.select_runs.specs.Copying.{copy_cost}
+use Rattle.select_runs.specs.Instructions.{IsAskedBy, IsOperation}
+use Rattle.select_runs.specs.Jumps.{LeadsTo}
+use Rattle.select_runs.specs.Operands.{IsText, ground_of}
+use Rattle.select_runs.specs.Returning.{ResumesAt, StubAt}
+use Rattle.select_runs.specs.Results.{IsSelectable}
+use Rattle.select_runs.specs.Services.{StandsAside}
+use Rattle.select_runs.specs.Through.{IsCalled}
+use Rattle.select_heap.specs.Heap.{StandsBeside}
 use Rattle.select_whole.specs.Matching.{AreFine, IsOfBytes, Starts, MatchesIn}
 use Rattle.select_whole.specs.Visited.{Whole, ops_of, kinds_at, tac_at, locals_of, gives_at, main_of}
 use Rattle.select_whole.specs.Runs.{Here, here, Leads_on, Each, Reports_at, searched, IsInteger, IsStrange}
 use Rattle.select_whole.specs.Runs.{InstructionsRun}
+use Rattle.select_runs.specs.Selecting.{selecting}
 
 -- ---- what stands at the places
 
 module _ (g : Whole) (w : World) where
   -- the words of an instruction stand there in their form, and it takes no more acts than are counted
-  pub record Stand (Form : ℕ → TacInstr → List Instr → Type 0) (r : Running) (i : TacInstr)
+  pub record Stand (Form : Selecting → TacInstr → List Instr → Type 0) (r : Running) (i : TacInstr)
       (rest : List TacInstr) : Type 0 where
     pub words : List Instr
-    pub form : Form r.fun i words
+    pub form : Form (selecting g.setting r.fun) i words
     pub has : HasAt g.code (here g w r (i ∷ rest)) words
     pub then_on : Leads_on g w r i rest words
     pub cheap : cost i ≤ g.dear r.fun i
 
-  abbrev pub EachStands : (TacInstr → Type 0) → (ℕ → TacInstr → List Instr → Type 0) → Type 0
+  abbrev pub EachStands : (TacInstr → Type 0) → (Selecting → TacInstr → List Instr → Type 0) → Type 0
   EachStands Is Form = Each g w Is (λ r i rest t m. Stand Form r i rest)
 
   pub record ZeroStands (var : ℕ) (r : Running) (rest : List TacInstr) : Type 0 where
     pub words : List Instr
-    pub form : ZeroWords g.setting r.fun var words
+    pub form : ZeroWords (selecting g.setting r.fun) var words
     pub has : HasAt g.code (here g w r (instr.Zero var ∷ rest)) words
     pub then_on : Leads_on g w r (instr.Zero var) rest words
     pub cheap : cost (instr.Zero var) + 8 * granules form.slot ≤ g.dear r.fun (instr.Zero var)
@@ -76,7 +84,7 @@ module _ (g : Whole) (w : World) where
   pub record AccessStands (r : Running) (i : TacInstr) (rest : List TacInstr) : Type 0 where
     pub skip : ℕ
     pub words : List Instr
-    pub form : AccessWords g.setting r.fun i skip words
+    pub form : AccessWords (selecting g.setting r.fun) i skip words
     pub has : HasAt g.code (here g w r (i ∷ rest)) words
     pub then_on : Leads_on g w r i rest words
     pub cheap : cost i ≤ g.dear r.fun i
@@ -86,7 +94,7 @@ module _ (g : Whole) (w : World) where
       (rest : List TacInstr) : Type 0 where
     pub skip : ℕ
     pub words : List Instr
-    pub form : CopyWords g.setting r.fun from to (bytes / unit) unit skip words
+    pub form : CopyWords (selecting g.setting r.fun) from to (bytes / unit) unit skip words
     pub has : HasAt g.code (here g w r (i ∷ rest)) words
     pub then_on : Leads_on g w r i rest words
     pub cheap : copy_cost i ≤ g.dear r.fun i
@@ -110,7 +118,7 @@ module _ (g : Whole) (w : World) where
     pub offset : ℤ
     pub finds : List Instr
     pub words : List Instr
-    pub form : BranchWords g.setting r.fun on when offset finds words
+    pub form : BranchWords (selecting g.setting r.fun) on when offset finds words
     pub has : HasAt g.code (here g w r (instr.Branch on when l ∷ rest)) words
     pub leads : LeadsTo g.setting g.code (here g w r (instr.Branch on when l ∷ rest) + length finds + 1)
         (here g w r (behind l (searched g w r.fun b rest))) offset
@@ -121,7 +129,7 @@ module _ (g : Whole) (w : World) where
   pub record ServiceStands (args : List ℕ) (service : ℕ) (to : Option ℕ) (r : Running) (i : TacInstr)
       (rest : List TacInstr) : Type 0 where
     pub words : List Instr
-    pub form : Asks g.setting r.fun args service to words
+    pub form : Asks (selecting g.setting r.fun) args service to words
     pub aside : StandsAside g.setting r to rest
     pub has : HasAt g.code (here g w r (i ∷ rest)) words
     pub then_on : Leads_on g w r i rest words
@@ -129,7 +137,7 @@ module _ (g : Whole) (w : World) where
 
   pub record MallocStands (to : Option ℕ) (a : ℕ) (r : Running) (rest : List TacInstr) : Type 0 where
     pub words : List Instr
-    pub form : Mallocs g.setting r.fun a to words
+    pub form : Mallocs (selecting g.setting r.fun) a to words
     pub beside : StandsBeside g.setting r to rest
     pub has : HasAt g.code (here g w r (allocating to a ∷ rest)) words
     pub then_on : Leads_on g w r (allocating to a) rest words
@@ -156,7 +164,7 @@ module _ (g : Whole) (w : World) where
     pub callee : CalleeStands to fun args r rest t
     pub offset : ℤ
     pub words : List Instr
-    pub form : CallWords g.setting r.fun args offset words
+    pub form : CallWords (selecting g.setting r.fun) args offset words
     pub has : HasAt g.code (here g w r (instr.Call to fun args ∷ rest)) words
     pub leads : LeadsTo g.setting g.code (here g w r (instr.Call to fun args ∷ rest) + length form.passes)
         callee.begins.entry offset
@@ -171,7 +179,7 @@ module _ (g : Whole) (w : World) where
     pub leads : (f : ℕ) (is : IsCalled g.setting w g.program v of t f)
         → (addresses_of g.setting.map).entry f ≡ place (ground_of g.setting g.code) (callees f is).begins.entry
     pub words : List Instr
-    pub form : ThroughWords g.setting r.fun v args words
+    pub form : ThroughWords (selecting g.setting r.fun) v args words
     pub has : HasAt g.code (here g w r (through to v of args source ∷ rest)) words
     pub may : MayCall g.setting g.code r to args rest
         (here g w r (through to v of args source ∷ rest) + length words) t
@@ -184,7 +192,7 @@ module _ (g : Whole) (w : World) where
   pub record ReturnStands (fun : ℕ) (c : Caller) (cs : List Caller) (v : Option ℕ) (rest : List TacInstr)
       (t : State Store) : Type 0 where
     pub words : List Instr
-    pub form : ReturnWords g.setting fun v words
+    pub form : ReturnWords (selecting g.setting fun) v words
     pub has : HasAt g.code (g.word fun (instr.Return v ∷ rest)) words
     pub to : ℕ
     pub keep : List Instr
@@ -195,7 +203,7 @@ module _ (g : Whole) (w : World) where
 
   pub record LastStands (fun : ℕ) (v : Option ℕ) (rest : List TacInstr) : Type 0 where
     pub words : List Instr
-    pub form : ReturnWords g.setting fun v words
+    pub form : ReturnWords (selecting g.setting fun) v words
     pub has : HasAt g.code (g.word fun (instr.Return v ∷ rest)) words
     pub to : ℕ
     pub stub : StubAt g.setting g.code to
@@ -216,17 +224,17 @@ module _ (g : Whole) (w : World) where
     pub main_gives : gives_at g (main_of g) ≡ Some int_result
     pub alike : (fun of : ℕ) → slice_index_or (fits (ops_of g) w g.program of) fun false ≡ true
         → signature_of_function g.program fun ≡ signature_of g.program of
-    pub constants : EachStands IsConst (ConstantWords g.setting)
-    pub copies : EachStands IsCopy (words.CopyWords g.setting)
-    pub labels : EachStands IsPassed (NoWords g.setting)
+    pub constants : EachStands IsConst ConstantWords
+    pub copies : EachStands IsCopy words.CopyWords
+    pub labels : EachStands IsPassed NoWords
     pub promoted : Each g w IsInteger (λ r i rest t m. IsOperation i)
-    pub operations : EachStands IsOperation (OperationWords g.setting)
-    pub comparisons : EachStands IsComparison (CompareWords g.setting)
-    pub conversions : EachStands IsConversion (ConversionWords g.setting)
-    pub intrinsics : EachStands IsIntrinsic (CapWords g.setting)
-    pub offsets : EachStands IsOffset (OffsetWords g.setting)
-    pub narrows : EachStands IsNarrow (NarrowWords g.setting)
-    pub pointers : EachStands IsPointing (PointingWords g.setting)
+    pub operations : EachStands IsOperation OperationWords
+    pub comparisons : EachStands IsComparison CompareWords
+    pub conversions : EachStands IsConversion ConversionWords
+    pub intrinsics : EachStands IsIntrinsic CapWords
+    pub offsets : EachStands IsOffset OffsetWords
+    pub narrows : EachStands IsNarrow NarrowWords
+    pub pointers : EachStands IsPointing PointingWords
     pub zeroes : (var : ℕ) (r : Running) (rest : List TacInstr) (t : State Store) (m : Machine)
         → Here g w r false (instr.Zero var ∷ rest) t m → ZeroStands var r rest
     pub accesses : Each g w IsAccess (λ r i rest t m. AccessStands r i rest)

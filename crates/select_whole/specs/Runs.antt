@@ -26,22 +26,22 @@ use Rattle.tac_ir.specs.declared.code.TacInstr.TheVariants as instr
 use Rattle.tac_ir.specs.declared.code.TacKind.{TacKind}
 use Rattle.place_inject.specs.Homes.{CallersKeep}
 use Rattle.place_inject.specs.Leaving.{OthersAreOlder}
-use Rattle.select_runs.specs.Accesses.{Accesses, IsAccess}
+use Rattle.select_words.specs.Accesses.{IsAccess}
+use Rattle.select_words.specs.Capabilities.{IsNarrow, IsOffset, IsIntrinsic, IsPointing}
+use Rattle.select_words.specs.Operations.{IsComparison, IsConversion}
+use Rattle.select_words.specs.Services.{putting, taking, leaving}
+use Rattle.select_words.specs.Words.{IsConst, IsCopy, IsPassed}
+use Rattle.select_runs.specs.Accesses.{Accesses}
 use Rattle.select_runs.specs.Acts.{Leads, place}
-use Rattle.select_runs.specs.Capabilities.{IsNarrow, IsOffset, IsIntrinsic, IsPointing}
 use Rattle.select_runs.specs.Copying.{StructCopied, copy_cost}
 use Rattle.select_runs.specs.Jumps.{GoesTo, Branches}
 use Rattle.select_runs.specs.Kinds.{AreOfKinds}
 use Rattle.select_runs.specs.Operands.{ground_of, IsAtPoint}
-use Rattle.select_runs.specs.Operations.{IsComparison, IsConversion}
 use Rattle.select_runs.specs.Results.{Arrives, GoesOnWithin}
 use Rattle.select_runs.specs.Results as at_place
-use Rattle.select_runs.specs.Services.{PutsByte, TakesByte, ExitsBy, putting, taking, leaving}
-use Rattle.select_runs.specs.Words.{IsConst, IsCopy, IsPassed}
+use Rattle.select_runs.specs.Services.{PutsByte, TakesByte, ExitsBy}
 use Rattle.select_whole.specs.Visited.{Whole, Means, Visited, ops_of, tac_at, main_of, caller_from, called_by}
-use Rattle.select_whole.specs.Visited.{in_frame_of}
-use Rattle.select_whole.specs.Visited.{back_in}
-use Rattle.select_whole.specs.Visited.{kinds_at, gives_at, looked_at}
+use Rattle.select_whole.specs.Visited.{in_frame_of, back_in, kinds_at, gives_at, looked_at}
 
 -- ---- kinds of instructions
 

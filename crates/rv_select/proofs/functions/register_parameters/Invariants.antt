@@ -6,5 +6,5 @@ abbrev pub invariant-loop-k : goal.invariant-loop-k
 invariant-loop-k l = record {
   kept : l.fn.code.words ≤ l.code.words;
   few : l.code.words + 2 * vec_len l.moves ≤ l.fn.code.words + 3 * min l.k l.params;
-  entries : l.code.entries ≡ l.fn.code.entries;
+  links : l.code.links ≡ l.fn.code.links;
 }

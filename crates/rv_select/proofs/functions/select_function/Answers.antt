@@ -1,4 +1,4 @@
-use Rattle.std.proofs.Common.{◌≡◌, ◌<◌, length, ap, arith}
+use Rattle.std.proofs.Common.{◌≡◌, ◌<◌, length, ap, ◌∙◌, arith}
 use Rattle.std.specs.List.{sum_by}
 use Rattle.tac_ir.specs.Costs.{cost}
 use Rattle.rv_select.proofs.TakeSums.{sum_step, sum_room}
@@ -22,4 +22,4 @@ loop-i-preserved c =
     let r = sum_step cost c.as_slice-all.result.now c.loop-i.i-index c.i-item.result lt c.i-item.is in
     let a = c.loop-i.invariant.grown in
     let e = c.in_ok-instruction.ensures in
-    record { grown = (omega (arith, a.0, e.0), omega (arith, r, a.1, e.1), omega (arith, a.2, e.2)) }
+    record { grown = (omega (arith, a.0, e.0), omega (arith, r, a.1, e.1), e.2 ∙ a.2) }

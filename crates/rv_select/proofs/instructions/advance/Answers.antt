@@ -7,6 +7,6 @@ use Rattle.rv_select.proofs.instructions.advance.Goals as goal
 pub returns : goal.returns
 unfolding InRange
 returns c = rw (to_z-of_z w32 c.args.bytes c.ranges.bytes) (record {
-  in_range = (c.known.ensures, c.known-2.ensures, c.requires);
-  anywhere = refl;
+  plain = record { in_range = (c.known.ensures, c.known-2.ensures, c.requires); anywhere = refl };
+  is = refl;
 })

@@ -9,4 +9,5 @@ unfolding InRange
 returns c = rw (to_z-of_z w32 c.args.bytes c.ranges.bytes) (record {
   in_range = (c.known.ensures, c.requires.range, c.requires.even);
   leads = refl;
+  is = refl;
 })

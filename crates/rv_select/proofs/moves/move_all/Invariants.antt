@@ -6,7 +6,7 @@ abbrev pub invariant-loop-scratch : goal.invariant-loop-scratch
 invariant-loop-scratch l = record {
   kept : l.initial.code.words ≤ l.code.words;
   few : l.code.words + 2 * vec_len l.moves ≤ l.initial.code.words + 2 * vec_len l.initial.moves;
-  entries : l.code.entries ≡ l.initial.code.entries;
+  links : l.code.links ≡ l.initial.code.links;
 }
 
 abbrev pub decreases-loop-scratch : goal.decreases-loop-scratch

@@ -1,5 +1,6 @@
 use Rattle.std.proofs.Common.{arith}
 use Rattle.purecap_abi.specs.Words.{most_words}
+use Rattle.rv_select.proofs.MadeNumbers.{number_made}
 use Rattle.rv_select.proofs.Texts.{part_few, most_words-le, low_words, high_words}
 use Rattle.rv_select.proofs.parts.number_part.Goals as goal
 
@@ -20,3 +21,7 @@ returns-clause-high c = λ h.
     let a = part_few (most_words c.args.value) _ _ c.new-part.ensures.items c.in_ok-number.ensures.words in
     let b = high_words c.args.value h in
     omega (arith, a, b)
+
+pub returns-clause-makes : goal.returns-clause-makes
+returns-clause-makes c = λ lt.
+    number_made c.args.to c.args.value _ _ c.new-part.ensures.items lt c.in_ok-number.ensures.value

@@ -18,17 +18,16 @@ use Rattle.rv_instr.specs.declared.ops.RegOp.{RegOp}
 use Rattle.rv_instr.specs.declared.ops.RegOp.TheVariants.{Xor, Sltu, Remu}
 use Rattle.cap_machine.specs.Integers.{extended}
 use Rattle.cheri_c_sem.specs.Types.{is_shift}
-use Rattle.int_select.specs.Code.{reg_op, less}
-use Rattle.int_select.specs.Form.{IsPromoted}
 use Rattle.tac_ir.specs.Costs.{is_wide}
 use Rattle.tac_ir.specs.declared.code.TacInstr.{TacInstr}
 use Rattle.tac_ir.specs.declared.code.TacInstr.TheVariants as instr
 use Rattle.tac_ir.specs.declared.code.TacKind.{TacKind}
 use Rattle.tac_ir.specs.declared.code.TacKind.TheVariants as kind
-use Rattle.place_inject.specs.Frames.{Setting}
-use Rattle.select_runs.specs.Emitted.{IsNumber}
-use Rattle.select_runs.specs.Forms.{OfOne, OfTwo, Other}
-use Rattle.select_runs.specs.Words.{Copied}
+use Rattle.select_words.specs.Integers.{reg_op, less}
+use Rattle.select_words.specs.Emitted.{IsNumber}
+use Rattle.select_words.specs.Forms.{OfOne, OfTwo, Other}
+use Rattle.select_words.specs.Words.{Copied}
+use Rattle.select_words.specs.Selecting.{Selecting}
 
 -- ---- a register becomes another, reduced to a kind
 
@@ -99,35 +98,30 @@ TwoThen word ends r x y words = words ≡ word r x y ∷ ends r
 
 -- Two registers; a register and a number of 12 bits, or the negative of one that is subtracted; or a shift by a
 -- number, which a product with a power of two is at 64 bits
-pub data IntegerWords (s : Setting) (fun : ℕ) (o : IntOp) (k : IntKind) (to a b : ℕ) (words : List Instr) : Type 0 where
-  Registers : OfTwo s fun to a (Other s fun b) (TwoThen (Op (selected_op k o)) (finish_code k o false)) words
-      → IntegerWords s fun o k to a b words
-  WithNumber : (i : ImmOp) (n : ℕ) (z : ℤ) → immediate_by k o ≡ Some i → IsNumber s fun b n → extended z ≡ n
-      → OfOne s fun to a (OneThen (λ r x. Imm i r x z) (finish_code k o false)) words
-      → IntegerWords s fun o k to a b words
-  NumberWith : (i : ImmOp) (n : ℕ) (z : ℤ) → immediate_by k o ≡ Some i → IsNumber s fun a n → extended z ≡ n
-      → OfOne s fun to b (OneThen (λ r x. Imm i r x z) (finish_code k o false)) words
-      → IntegerWords s fun o k to a b words
-  LessNumber : (n : ℕ) (z : ℤ) → o ≡ op.Sub → IsNumber s fun b n → (extended z + n) % 2 ^ 64 ≡ 0
-      → OfOne s fun to a (OneThen (λ r x. Imm (add_op k) r x z) (finish_code k o false)) words
-      → IntegerWords s fun o k to a b words
-  Shifted : (n : ℕ) → is_shift o ≡ true → IsNumber s fun b n
-      → OfOne s fun to a (OneThen (λ r x. Shift (shift_by k o) r x (n % width_of (form_of k)))
+pub data IntegerWords (s : Selecting) (o : IntOp) (k : IntKind) (to a b : ℕ) (words : List Instr) : Type 0 where
+  Registers : OfTwo s to a (Other s b) (TwoThen (Op (selected_op k o)) (finish_code k o false)) words
+      → IntegerWords s o k to a b words
+  WithNumber : (i : ImmOp) (n : ℕ) (z : ℤ) → immediate_by k o ≡ Some i → IsNumber s b n → extended z ≡ n
+      → OfOne s to a (OneThen (λ r x. Imm i r x z) (finish_code k o false)) words
+      → IntegerWords s o k to a b words
+  NumberWith : (i : ImmOp) (n : ℕ) (z : ℤ) → immediate_by k o ≡ Some i → IsNumber s a n → extended z ≡ n
+      → OfOne s to b (OneThen (λ r x. Imm i r x z) (finish_code k o false)) words
+      → IntegerWords s o k to a b words
+  LessNumber : (n : ℕ) (z : ℤ) → o ≡ op.Sub → IsNumber s b n → (extended z + n) % 2 ^ 64 ≡ 0
+      → OfOne s to a (OneThen (λ r x. Imm (add_op k) r x z) (finish_code k o false)) words
+      → IntegerWords s o k to a b words
+  Shifted : (n : ℕ) → is_shift o ≡ true → IsNumber s b n
+      → OfOne s to a (OneThen (λ r x. Shift (shift_by k o) r x (n % width_of (form_of k)))
       (finish_code k o true)) words
-      → IntegerWords s fun o k to a b words
-  Times : (q : ℕ) → o ≡ op.Mul → is_wide k ≡ true → q < 31 → IsNumber s fun b (2 ^ q)
-      → OfOne s fun to a (OneThen (λ r x. Shift Slli r x q) (λ r. [])) words → IntegerWords s fun o k to a b words
-  TimesFirst : (q : ℕ) → o ≡ op.Mul → is_wide k ≡ true → q < 31 → IsNumber s fun a (2 ^ q)
-      → OfOne s fun to b (OneThen (λ r x. Shift Slli r x q) (λ r. [])) words → IntegerWords s fun o k to a b words
+      → IntegerWords s o k to a b words
+  Times : (q : ℕ) → o ≡ op.Mul → is_wide k ≡ true → q < 31 → IsNumber s b (2 ^ q)
+      → OfOne s to a (OneThen (λ r x. Shift Slli r x q) (λ r. [])) words → IntegerWords s o k to a b words
+  TimesFirst : (q : ℕ) → o ≡ op.Mul → is_wide k ≡ true → q < 31 → IsNumber s a (2 ^ q)
+      → OfOne s to b (OneThen (λ r x. Shift Slli r x q) (λ r. [])) words → IntegerWords s o k to a b words
 
--- an operation at a kind that the integer promotions leave as it is
-abbrev pub IsOperation : TacInstr → Type 0
-IsOperation (instr.Int o k to a b) = IsPromoted k
-IsOperation i = ⊥
-
-abbrev pub OperationWords : Setting → ℕ → TacInstr → List Instr → Type 0
-OperationWords s fun (instr.Int o k to a b) words = IntegerWords s fun o k to a b words
-OperationWords s fun i words = ⊥
+abbrev pub OperationWords : Selecting → TacInstr → List Instr → Type 0
+OperationWords s (instr.Int o k to a b) words = IntegerWords s o k to a b words
+OperationWords s i words = ⊥
 
 -- ---- comparisons: 1 where it holds, and else 0
 
@@ -170,23 +164,23 @@ compare_zero test.Eq r x = Some (is_zero r x ∷ [])
 compare_zero test.Ne r x = Some (is_some r x ∷ [])
 compare_zero o r x = None
 
-pub data ComparisonWords (s : Setting) (fun : ℕ) (o : CmpOp) (k : TacKind) (to a b : ℕ)
+pub data ComparisonWords (s : Selecting) (o : CmpOp) (k : TacKind) (to a b : ℕ)
     (words : List Instr) : Type 0 where
-  Both : OfTwo s fun to a (Other s fun b) (λ r x y ws. ws ≡ compare_code o (compares_signed k) r x y) words
-      → ComparisonWords s fun o k to a b words
-  Number : (n : ℕ) (z : ℤ) → IsNumber s fun b n → extended z ≡ n
-      → OfOne s fun to a (λ r x ws. Some ws ≡ compare_number o (compares_signed k) z r x) words
-      → ComparisonWords s fun o k to a b words
-  Zero : IsNumber s fun b 0 → OfOne s fun to a (λ r x ws. Some ws ≡ compare_zero o r x) words
-      → ComparisonWords s fun o k to a b words
+  Both : OfTwo s to a (Other s b) (λ r x y ws. ws ≡ compare_code o (compares_signed k) r x y) words
+      → ComparisonWords s o k to a b words
+  Number : (n : ℕ) (z : ℤ) → IsNumber s b n → extended z ≡ n
+      → OfOne s to a (λ r x ws. Some ws ≡ compare_number o (compares_signed k) z r x) words
+      → ComparisonWords s o k to a b words
+  Zero : IsNumber s b 0 → OfOne s to a (λ r x ws. Some ws ≡ compare_zero o r x) words
+      → ComparisonWords s o k to a b words
 
 abbrev pub IsComparison : TacInstr → Type 0
 IsComparison (instr.Cmp o k to a b) = Unit {0}
 IsComparison i = ⊥
 
-abbrev pub CompareWords : Setting → ℕ → TacInstr → List Instr → Type 0
-CompareWords s fun (instr.Cmp o k to a b) words = ComparisonWords s fun o k to a b words
-CompareWords s fun i words = ⊥
+abbrev pub CompareWords : Selecting → TacInstr → List Instr → Type 0
+CompareWords s (instr.Cmp o k to a b) words = ComparisonWords s o k to a b words
+CompareWords s i words = ⊥
 
 -- ---- conversions
 
@@ -213,19 +207,19 @@ kept_code k r x = reduce_code k r x
 abbrev pub Reduces : IntKind → (r x : ℕ) → List Instr → Type 0
 Reduces k r x words = words ≡ kept_code k r x
 
-abbrev pub CopiedOr : Setting → (fun to from : ℕ) → IntKind → Bool → List Instr → Type 0
-CopiedOr s fun to from k true words = Copied s fun to from words
-CopiedOr s fun to from k false words = OfOne s fun to from (Reduces k) words
+abbrev pub CopiedOr : Selecting → (to from : ℕ) → IntKind → Bool → List Instr → Type 0
+CopiedOr s to from k true words = Copied s to from words
+CopiedOr s to from k false words = OfOne s to from (Reduces k) words
 
-abbrev pub ConversionBy : Setting → (fun to from : ℕ) → TacKind → TacKind → List Instr → Type 0
-ConversionBy s fun to from old (kind.Cap signed) words = Copied s fun to from words
-ConversionBy s fun to from (kind.Cap signed) (kind.Int k) words = OfOne s fun to from (Reduces k) words
-ConversionBy s fun to from (kind.Int j) (kind.Int k) words = CopiedOr s fun to from k (is_widening j k) words
+abbrev pub ConversionBy : Selecting → (to from : ℕ) → TacKind → TacKind → List Instr → Type 0
+ConversionBy s to from old (kind.Cap signed) words = Copied s to from words
+ConversionBy s to from (kind.Cap signed) (kind.Int k) words = OfOne s to from (Reduces k) words
+ConversionBy s to from (kind.Int j) (kind.Int k) words = CopiedOr s to from k (is_widening j k) words
 
 abbrev pub IsConversion : TacInstr → Type 0
 IsConversion (instr.Convert to from old new) = Unit {0}
 IsConversion i = ⊥
 
-abbrev pub ConversionWords : Setting → ℕ → TacInstr → List Instr → Type 0
-ConversionWords s fun (instr.Convert to from old new) words = ConversionBy s fun to from old new words
-ConversionWords s fun i words = ⊥
+abbrev pub ConversionWords : Selecting → TacInstr → List Instr → Type 0
+ConversionWords s (instr.Convert to from old new) words = ConversionBy s to from old new words
+ConversionWords s i words = ⊥

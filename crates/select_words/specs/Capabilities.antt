@@ -1,6 +1,6 @@
 -- The words of instructions that make capabilities.
 use Rattle.std.specs.Prelude.{◌≡◌, ℕ, ◌-◌, ◌*◌, ◌^◌, ◌<◌, ◌≤◌, ℤ, Bool, true, false, List, [], ◌∷◌, ◌++◌, length}
-use Rattle.std.specs.Prelude.{Option, Some, None, slice_get, if◌then◌else◌}
+use Rattle.std.specs.Prelude.{Option, Some, None, if◌then◌else◌, ◌+◌}
 use Rattle.purecap_abi.specs.Words.{load_code, moved_code}
 use Rattle.rv_instr.specs.declared.instr.Instr.{Instr}
 use Rattle.rv_instr.specs.declared.instr.Instr.TheVariants.{CapImm, CapReg, CapGet}
@@ -15,17 +15,16 @@ use Rattle.cap_machine.specs.Integers.{extended}
 use Rattle.obj_mem.specs.declared.map.Frame.{Frame}
 use Rattle.obj_mem.specs.declared.map.Slot.{Slot}
 use Rattle.obj_mem.specs.Legal.{slot_of}
-use Rattle.obj_mem.specs.Table.{literal_entry, function_entry}
 use Rattle.tac_ir.specs.declared.code.Amount.{Amount}
 use Rattle.tac_ir.specs.declared.code.Amount.TheVariants as amount
 use Rattle.tac_ir.specs.declared.code.CapWork.{CapWork}
 use Rattle.tac_ir.specs.declared.code.CapWork.TheVariants as cap
 use Rattle.tac_ir.specs.declared.code.TacInstr.{TacInstr}
 use Rattle.tac_ir.specs.declared.code.TacInstr.TheVariants as instr
-use Rattle.place_inject.specs.Frames.{Setting}
-use Rattle.select_runs.specs.Numbers.{MakesNumber}
-use Rattle.select_runs.specs.Emitted.{IsNumber}
-use Rattle.select_runs.specs.Forms.{Makes, OfOne, OfTwo, Other, Amounts}
+use Rattle.select_words.specs.Numbers.{MakesNumber}
+use Rattle.select_words.specs.Emitted.{IsNumber}
+use Rattle.select_words.specs.Forms.{Makes, OfOne, OfTwo, Other, Amounts}
+use Rattle.select_words.specs.Selecting.{Selecting}
 
 -- ---- narrowing
 
@@ -41,10 +40,10 @@ abbrev pub IsNarrow : TacInstr → Type 0
 IsNarrow (instr.Narrow to base length exact) = Unit {0}
 IsNarrow i = ⊥
 
-abbrev pub NarrowWords : Setting → ℕ → TacInstr → List Instr → Type 0
-NarrowWords s fun (instr.Narrow to base length exact) words =
-    OfTwo s fun to base (Amounts s fun length) (OneOfTwo (exact_op exact)) words
-NarrowWords s fun i words = ⊥
+abbrev pub NarrowWords : Selecting → TacInstr → List Instr → Type 0
+NarrowWords s (instr.Narrow to base length exact) words =
+    OfTwo s to base (Amounts s length) (OneOfTwo (exact_op exact)) words
+NarrowWords s i words = ⊥
 
 -- ---- moves
 
@@ -52,19 +51,19 @@ NarrowWords s fun i words = ⊥
 abbrev pub Advance : (n : ℕ) → (r a : ℕ) → List Instr → Type 0
 Advance n r a words = (z : ℤ) × (extended z ≡ n) × (words ≡ CapImm Cincoffsetimm r a z ∷ [])
 
-pub data Offsets (s : Setting) (fun to base : ℕ) (by : Amount) (words : List Instr) : Type 0 where
-  Far : OfTwo s fun to base (Amounts s fun by) (OneOfTwo Cincoffset) words → Offsets s fun to base by words
-  Near : (n : ℕ) → by ≡ amount.Number n → OfOne s fun to base (Advance n) words → Offsets s fun to base by words
-  NearTemp : (t n : ℕ) → by ≡ amount.Temp t → IsNumber s fun t n → OfOne s fun to base (Advance n) words
-      → Offsets s fun to base by words
+pub data Offsets (s : Selecting) (to base : ℕ) (by : Amount) (words : List Instr) : Type 0 where
+  Far : OfTwo s to base (Amounts s by) (OneOfTwo Cincoffset) words → Offsets s to base by words
+  Near : (n : ℕ) → by ≡ amount.Number n → OfOne s to base (Advance n) words → Offsets s to base by words
+  NearTemp : (t n : ℕ) → by ≡ amount.Temp t → IsNumber s t n → OfOne s to base (Advance n) words
+      → Offsets s to base by words
 
 abbrev pub IsOffset : TacInstr → Type 0
 IsOffset (instr.Offset to base by) = Unit {0}
 IsOffset i = ⊥
 
-abbrev pub OffsetWords : Setting → ℕ → TacInstr → List Instr → Type 0
-OffsetWords s fun (instr.Offset to base by) words = Offsets s fun to base by words
-OffsetWords s fun i words = ⊥
+abbrev pub OffsetWords : Selecting → TacInstr → List Instr → Type 0
+OffsetWords s (instr.Offset to base by) words = Offsets s to base by words
+OffsetWords s i words = ⊥
 
 -- ---- intrinsics
 
@@ -90,21 +89,21 @@ abbrev pub OneOfOne : CapGetOp → (r a : ℕ) → List Instr → Type 0
 OneOfOne op r a words = words ≡ CapGet op r a ∷ []
 
 -- where there is no second operand, x0 stands for it
-abbrev pub Seconds : Setting → ℕ → Option ℕ → List Instr → ℕ → Type 0
-Seconds s fun None words b = (words ≡ []) × (b ≡ 0)
-Seconds s fun (Some t) words b = Other s fun t words b
+abbrev pub Seconds : Selecting → Option ℕ → List Instr → ℕ → Type 0
+Seconds s None words b = (words ≡ []) × (b ≡ 0)
+Seconds s (Some t) words b = Other s t words b
 
-abbrev pub IntrinsicWords : Setting → (fun to a : ℕ) → Option ℕ → Intrinsic → List Instr → Type 0
-IntrinsicWords s fun to a b (One op) words = OfOne s fun to a (OneOfOne op) words
-IntrinsicWords s fun to a b (Two op) words = OfTwo s fun to a (Seconds s fun b) (OneOfTwo op) words
+abbrev pub IntrinsicWords : Selecting → (to a : ℕ) → Option ℕ → Intrinsic → List Instr → Type 0
+IntrinsicWords s to a b (One op) words = OfOne s to a (OneOfOne op) words
+IntrinsicWords s to a b (Two op) words = OfTwo s to a (Seconds s b) (OneOfTwo op) words
 
 abbrev pub IsIntrinsic : TacInstr → Type 0
 IsIntrinsic (instr.Cap op to a b) = Unit {0}
 IsIntrinsic i = ⊥
 
-abbrev pub CapWords : Setting → ℕ → TacInstr → List Instr → Type 0
-CapWords s fun (instr.Cap op to a b) words = IntrinsicWords s fun to a b (intrinsic_of op) words
-CapWords s fun i words = ⊥
+abbrev pub CapWords : Selecting → TacInstr → List Instr → Type 0
+CapWords s (instr.Cap op to a b) words = IntrinsicWords s to a b (intrinsic_of op) words
+CapWords s i words = ⊥
 
 -- ---- pointers to objects
 
@@ -117,19 +116,19 @@ pub record Local (at long : ℕ) (r : ℕ) (words : List Instr) : Type 0 where
   pub are : words ≡ moved_code r 2 at ++ (number ++ (CapReg Csetboundsexact r r 29 ∷ []))
 
 -- a local has its slot in the frame
-pub record LocalWords (s : Setting) (fun to var : ℕ) (words : List Instr) : Type 0 where
+pub record LocalWords (s : Selecting) (to var : ℕ) (words : List Instr) : Type 0 where
   pub frame : Frame
-  pub is : slice_get s.map.frames fun ≡ Some frame
+  pub is : s.frame ≡ Some frame
   pub slot : Slot
   pub has : slot_of frame var ≡ Some slot
-  pub makes : Makes s fun to (Local slot.at slot.length) words
+  pub makes : Makes s to (Local slot.at slot.length) words
 
 -- an entry of the table, which two instructions reach
 abbrev pub Entry : (offset r : ℕ) → List Instr → Type 0
 Entry offset r words = words ≡ load_code r 3 offset r
 
-abbrev pub EntryWords : Setting → (fun to entry : ℕ) → List Instr → Type 0
-EntryWords s fun to entry words = (16 * entry < 2 ^ 31 - 2048) × Makes s fun to (Entry (16 * entry)) words
+abbrev pub EntryWords : Selecting → (to entry : ℕ) → List Instr → Type 0
+EntryWords s to entry words = (16 * entry < 2 ^ 31 - 2048) × Makes s to (Entry (16 * entry)) words
 
 abbrev pub IsPointing : TacInstr → Type 0
 IsPointing (instr.Local to var) = Unit {0}
@@ -137,9 +136,9 @@ IsPointing (instr.Global to number literal) = Unit {0}
 IsPointing (instr.Function to f) = Unit {0}
 IsPointing i = ⊥
 
-abbrev pub PointingWords : Setting → ℕ → TacInstr → List Instr → Type 0
-PointingWords s fun (instr.Local to var) words = LocalWords s fun to var words
-PointingWords s fun (instr.Global to number literal) words =
-    EntryWords s fun to (if literal then literal_entry s.needs number else number) words
-PointingWords s fun (instr.Function to f) words = EntryWords s fun to (function_entry s.needs f) words
-PointingWords s fun i words = ⊥
+abbrev pub PointingWords : Selecting → TacInstr → List Instr → Type 0
+PointingWords s (instr.Local to var) words = LocalWords s to var words
+PointingWords s (instr.Global to number literal) words =
+    EntryWords s to (if literal then s.literals + number else number) words
+PointingWords s (instr.Function to f) words = EntryWords s to (s.functions + f) words
+PointingWords s i words = ⊥
