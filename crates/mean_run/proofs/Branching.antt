@@ -36,15 +36,8 @@ use Rattle.mean_run.specs.Sources.{IsStatement}
 use Rattle.mean_run.specs.Views.{item_of, loop_of, vars_at, moment_of, now_of, funs_of}
 use Rattle.mean_run.proofs.Chooses.{branched}
 use Rattle.mean_run.proofs.Doing.{on, over}
-use Rattle.mean_run.proofs.Nodes.{no_statement}
+use Rattle.mean_run.proofs.Nodes.{no_statement, of_either}
 use Rattle.mean_run.proofs.Tops.{map_behind}
-
--- what holds of each of three trees
-of_either : {A : Type 0} (g : St → A) (x : A) (c d : Bool) (a b e : St) → g a ≡ x → g b ≡ x → g e ≡ x →
-    g (if c then a else if d then b else e) ≡ x
-of_either g x true d a b e p q r = p
-of_either g x false true a b e p q r = q
-of_either g x false false a b e p q r = r
 
 map_other : (p : Typed) (f : ℕ) (b : Option ℕ) →
     item_of p (other_branch f b) ≡ Execute (statement_or_empty (stmt_tree p (vars_at p f)) b)

@@ -4,7 +4,7 @@ use Rattle.std.specs.Prelude.{option_map, not, ◌&&◌}
 use Rattle.c_tree.specs.declared.typed.CType.{CType}
 use Rattle.c_tree.specs.declared.typed.CType.TheVariants as types
 use Rattle.cheri_c_sem.specs.Kinds as meaning
-use Rattle.cheri_c_sem.specs.Types.{scalar_of, is_plain, is_pointer}
+use Rattle.cheri_c_sem.specs.Types.{scalar_of, is_plain, is_pointer, is_signed_capability}
 use Rattle.mean_types.specs.Views.{kind_of}
 use Rattle.mean_types.specs.declared.kinds.Kind.{Kind}
 use Rattle.mean_types.specs.declared.kinds.Kind.TheVariants as kind
@@ -79,3 +79,39 @@ pub capability_by : (k : Option Kind) (o : Option CType) (b : Bool) → option_m
 capability_by k o b h e =
     ap (λ c. not c && is_kept_capability k) e
     ∙ ap (λ c. not (is_pointer o) && c) (kept_capability k ∙ ap capability_kind h) ∙ capability_type o
+
+abbrev pub is_kept_signed : Option Kind → Bool
+is_kept_signed (Some (kind.Capability signed)) = signed
+is_kept_signed (Some (kind.Plain k)) = false
+is_kept_signed None = false
+
+signed_kind : Option meaning.Kind → Bool
+signed_kind (Some (meaning.Capability signed)) = signed
+signed_kind (Some (meaning.Plain k)) = false
+signed_kind None = false
+
+kept_signed : (k : Option Kind) → is_kept_signed k ≡ signed_kind (option_map kind_of k)
+unfolding signed_kind
+kept_signed (Some (kind.Plain k)) = refl
+kept_signed (Some (kind.Capability signed)) = refl
+kept_signed None = refl
+
+signed_type : (o : Option CType) → (not (is_pointer o) && signed_kind (scalar_of o)) ≡ is_signed_capability o
+unfolding signed_kind
+signed_type None = refl
+signed_type (Some types.Void) = refl
+signed_type (Some (types.Int k n)) = refl
+signed_type (Some (types.Cap signed)) = refl
+signed_type (Some (types.Pointer t)) = refl
+signed_type (Some (types.Array t n)) = refl
+signed_type (Some (types.Struct tag ms)) = refl
+signed_type (Some (types.Union tag ms)) = refl
+signed_type (Some (types.Function t ps)) = refl
+signed_type (Some (types.Const t)) = refl
+signed_type (Some (types.Incomplete tag)) = refl
+
+pub signed_by : (k : Option Kind) (o : Option CType) (b : Bool) → option_map kind_of k ≡ scalar_of o →
+    b ≡ is_pointer o → (not b && is_kept_signed k) ≡ is_signed_capability o
+signed_by k o b h e =
+    ap (λ c. not c && is_kept_signed k) e
+    ∙ ap (λ c. not (is_pointer o) && c) (kept_signed k ∙ ap signed_kind h) ∙ signed_type o

@@ -11,3 +11,9 @@ pub mod Chooses
 pub mod Branching
 pub mod Counts
 pub mod Designates
+pub mod Scopes
+pub mod Jumping
+pub mod Copying
+pub mod Finishing
+pub mod Finishes
+pub mod Computed

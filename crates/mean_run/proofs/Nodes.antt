@@ -1,6 +1,6 @@
 -- Nodes by their numbers.
-use Rattle.std.proofs.Common.{◌≡◌, ℕ, length, ltb, List, Some, None, true, false, sym, ap, ◌∙◌}
-use Rattle.std.specs.Prelude.{slice_get, get_or}
+use Rattle.std.proofs.Common.{Bool, ◌≡◌, ℕ, length, ltb, List, Some, None, true, false, sym, ap, ◌∙◌}
+use Rattle.std.specs.Prelude.{slice_get, get_or, if◌then◌else◌}
 use Rattle.std.proofs.lemmas.Bool.{ltb-true, ltb-false}
 use Rattle.std.proofs.lemmas.Option.{slice_get-get_or, slice_get_past}
 use Rattle.c_tree.specs.declared.typed.Expr.{Expr}
@@ -10,7 +10,7 @@ use Rattle.c_tree.specs.declared.typed.VarDef.{VarDef}
 use Rattle.cheri_c_sem.specs.Expressions.{expr_tree, levels, node_tree}
 use Rattle.cheri_c_sem.specs.Order.{Ordered}
 use Rattle.cheri_c_sem.specs.Programs.{stmt_tree, stmt_levels, stmt_node_tree}
-use Rattle.cheri_c_sem.specs.Tree.{Number, Empty}
+use Rattle.cheri_c_sem.specs.Tree.{Number, St, Empty}
 use Rattle.cheri_c_sem.proofs.Unfold.{expression_node, statement_node}
 use Rattle.mean_run.specs.Sources.{IsNode, IsStatement}
 
@@ -37,3 +37,10 @@ statement_at p k a o at = λ vars. statement_node p vars o k a at
 pub no_statement : (p : Typed) (vars : List VarDef) (k : ℕ) → slice_get p.stmts k ≡ None → stmt_tree p vars k ≡ Empty
 unfolding stmt_tree
 no_statement p vars k at = ap (stmt_node_tree p vars (expr_tree p vars) (stmt_levels p vars k)) at
+
+-- what holds of each of three trees
+pub of_either : {A : Type 0} (g : St → A) (x : A) (c d : Bool) (a b e : St) → g a ≡ x → g b ≡ x → g e ≡ x →
+    g (if c then a else if d then b else e) ≡ x
+of_either g x true d a b e p q r = p
+of_either g x false true a b e p q r = q
+of_either g x false false a b e p q r = r

@@ -119,3 +119,10 @@ parts_in s = []
 abbrev pub next_one : (f k n : ℕ) → Option ℕ → List Work → List Work
 next_one f k n None ws = ws
 next_one f k n (Some a) ws = work.Statement f a ∷ work.Rest f k (n + 1) ∷ ws
+
+-- the variables whose scope is a block, a `for` or a `switch`
+abbrev pub declared_in : StmtKind → List ℕ
+declared_in (stmts.Block xs ks) = xs
+declared_in (stmts.For xs first test step a) = xs
+declared_in (stmts.Switch q xs labels ks) = xs
+declared_in s = []

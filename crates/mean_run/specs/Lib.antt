@@ -11,3 +11,5 @@ pub mod Variables
 pub mod Begun
 pub mod Branches
 pub mod Placed
+pub mod Changes
+pub mod Finished

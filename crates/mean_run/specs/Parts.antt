@@ -4,11 +4,11 @@ use Rattle.ck_base.specs.Runs.{Act, Goes, Ends}
 use Rattle.c_tree.specs.declared.typed.Typed.{Typed}
 use Rattle.ck_base.specs.declared.positions.Pos.{Pos}
 use Rattle.obj_mem.specs.declared.ending.Ending.{Ending}
-use Rattle.obj_mem.specs.declared.ending.Fault.{Fault}
 use Rattle.obj_mem.specs.declared.ending.UnitFault.{UnitFault}
-use Rattle.cheri_c_sem.specs.Steps.{fault_end, unit_end}
+use Rattle.obj_mem.specs.Values.{Value}
+use Rattle.cheri_c_sem.specs.Steps.{unit_end}
 use Rattle.cheri_c_sem.specs.Modes.{Store}
-use Rattle.mean_steps.specs.Machine.{Moment}
+use Rattle.mean_steps.specs.Machine.{Moment, done_in, with_value}
 use Rattle.mean_steps.specs.Parts.{Now, Came, On, Over, Part}
 use Rattle.mean_run.specs.declared.state.State.{State}
 use Rattle.mean_run.specs.declared.work.Stop.{Stop}
@@ -34,22 +34,27 @@ Did c view p old new held left (Ok x) =
 Did c view p old new held left (Err (stop.Ended e)) = c (now_of old held) ≡ Over e
 Did c view p old new held left (Err stop.NoMemory) = Unit {0}
 
+-- the same, of a part that gives nothing and did not end the run
+abbrev pub DidAll : Part Store (Unit {0}) → Typed → State → State → Store → Store → Type 0
+DidAll c p old new held left =
+    (c (now_of old held) ≡ On tt (now_of new left)) ×
+    (moment_of p new left ≡ record (moment_of p old held) { now = now_of new left })
+
 -- A step was done: the run goes on from there, or ends so
 abbrev pub Does : Act (Moment Store) Ending → Moment Store → Result (Unit {0}) Stop → Type 0
 Does a m (Ok u) = a ≡ Goes m
 Does a m (Err (stop.Ended e)) = a ≡ Ends e
 Does a m (Err stop.NoMemory) = Unit {0}
 
+-- what a part came to goes on the values, or the run ends so
+abbrev pub given_in : Came Store Value → Moment Store → Act (Moment Store) Ending
+given_in c m = done_in m (λ v t. Goes (with_value v t)) c
+
 -- X, unless memory was wanting
 abbrev pub Unless_wanting : Result (Unit {0}) Stop → Type 0 → Type 0
 Unless_wanting (Ok u) X = X
 Unless_wanting (Err stop.NoMemory) X = Unit {0}
 Unless_wanting (Err (stop.Ended e)) X = ⊥
-
--- the answer of an operation at a position, or how the run ends there
-abbrev pub answered : {A : Type 0} → Pos → Result A Fault → Result A Stop
-answered pos (Ok x) = Ok x
-answered pos (Err f) = Err (stop.Ended (fault_end f pos))
 
 -- a part that changes memory alone was done, and leaves it so; or the run ends so
 abbrev pub LeavesIt : Came Store (Unit {0}) → Now Store → Result (Unit {0}) Stop → Type 0

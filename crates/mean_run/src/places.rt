@@ -1,6 +1,6 @@
 //! Places that expressions designate (C11 6.3.2.1, 6.5.3.2), and what is read and written there.
 
-ghost use Rattle.std.specs.Prelude.{◌≡◌, ◌+◌, ◌<◌, ◌≤◌, ◌^◌, List, length, map, OnOk, option_map, slice_get};
+ghost use Rattle.std.specs.Prelude.{◌≡◌, ◌+◌, ◌/◌, ◌<◌, ◌≤◌, ◌^◌, List, length, map, OnOk, option_map, slice_get};
 ghost use Rattle.cap_ops.specs.Permissions.{const_permissions};
 ghost use Rattle.c_tree.specs.Layout.{bare};
 ghost use Rattle.c_tree.specs.declared.typed.Typed.{Typed};
@@ -8,7 +8,7 @@ ghost use Rattle.c_tree.specs.declared.typed.VarDef.{VarDef};
 ghost use Rattle.ck_base.specs.Runs.{Goes};
 ghost use Rattle.obj_mem.specs.Values.{value_of};
 ghost use Rattle.cheri_c_sem.specs.Expressions.{type_of, permissions_of, expr_tree, variable};
-ghost use Rattle.cheri_c_sem.specs.Meaning.{further};
+ghost use Rattle.cheri_c_sem.specs.Meaning.{capability_of, further, position_of};
 ghost use Rattle.cheri_c_sem.specs.Modes.{Store};
 ghost use Rattle.cheri_c_sem.specs.Operations.{Operations};
 ghost use Rattle.cheri_c_sem.specs.Tree.{Deref, Member, Object, Ex};
@@ -16,9 +16,9 @@ ghost use Rattle.cheri_c_sem.specs.Types.{is_record, unit_of};
 ghost use Rattle.mean_types.specs.Facts.{AreTypesOf};
 ghost use Rattle.mean_types.specs.Views.{kind_of};
 ghost use Rattle.mean_steps.specs.Machine.{finish_place};
-ghost use Rattle.mean_steps.specs.Parts.{Now, load, store, copy, part_of_local};
+ghost use Rattle.mean_steps.specs.Parts.{Now, load, store, copy, copy_units, part_of_local};
 ghost use Rattle.mean_operations.specs.Answers.{seen, IsAccess};
-ghost use Rattle.mean_run.specs.Parts.{Gives, Did, Does, LeavesIt};
+ghost use Rattle.mean_run.specs.Parts.{Gives, Did, Does, LeavesIt, UnitCopied};
 ghost use Rattle.mean_run.specs.Placed.{Designates, Placed, taken_from, assigned_to};
 ghost use Rattle.mean_run.specs.Sources.{IsFit, IsSource};
 ghost use Rattle.mean_run.specs.Variables.{variable_at};
@@ -393,7 +393,9 @@ pub fn copy<B: Operations>(
     to: Place,
 ) -> Result<(), Stop>
     requires { IsAccess unit }
-    ensures { B.meaning m.new ≡ B.meaning m.old }
+    ensures same { B.meaning m.new ≡ B.meaning m.old }
+    ensures did { (n : Now Store) → n.mem ≡ B.held m.old → LeavesIt (copy (B.meaning m.old) pos bytes unit
+        (place_of from) (place_of to) n) (record n { mem = B.held m.new }) result }
 {
     match m.overlap(from.capability(), to.capability(), bytes) {
         Err(f) => Err(Stop::Ended(fault_end(f, pos))),
@@ -402,7 +404,9 @@ pub fn copy<B: Operations>(
 }
 
 /// How many units so many bytes are.
-fn count_of(bytes: u64, unit: u64) -> u64 {
+fn count_of(bytes: u64, unit: u64) -> u64
+    ensures { 0 < unit → result ≡ bytes / unit }
+{
     if unit == 0 {
         return 0;
     }
@@ -418,12 +422,16 @@ fn copy_units<B: Operations>(
     to: Place,
 ) -> Result<(), Stop>
     requires { IsAccess unit }
-    ensures { B.meaning m.new ≡ B.meaning m.old }
+    ensures same { B.meaning m.new ≡ B.meaning m.old }
+    ensures did { (n : Now Store) → n.mem ≡ B.held m.old → LeavesIt (copy_units (B.meaning m.old) units unit 0
+        (place_of from) (place_of to) n) (record n { mem = B.held m.new }) result }
 {
     let mut at: u64 = 0;
     'units: for _ in 0..units {
-        copy_unit(m, at, unit, from, to)?;
-        at = at.wrapping_add(unit);
+        match copy_unit(m, at, unit, from, to) {
+            Err(stop) => return Err(stop),
+            Ok(()) => at = at.wrapping_add(unit),
+        }
     }
     Ok(())
 }
@@ -436,7 +444,10 @@ fn copy_unit<B: Operations>(
     to: Place,
 ) -> Result<(), Stop>
     requires { IsAccess unit }
-    ensures { B.meaning m.new ≡ B.meaning m.old }
+    ensures same { B.meaning m.new ≡ B.meaning m.old }
+    ensures did { UnitCopied ((B.meaning m.old).copy_unit (B.held m.old) (further (capability_of (place_of from)) at)
+        (further (capability_of (place_of to)) at) unit) (position_of (place_of from)) (position_of (place_of to))
+        (B.held m.new) result }
 {
     let read = further(from.capability(), at);
     let written = further(to.capability(), at);

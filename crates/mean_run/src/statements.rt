@@ -15,12 +15,12 @@ ghost use Rattle.cheri_c_sem.specs.Tree.{Ex};
 ghost use Rattle.cheri_c_sem.specs.Types.{is_record, is_simple};
 ghost use Rattle.mean_types.specs.Views.{kind_of};
 ghost use Rattle.mean_steps.specs.Machine.{again, behind, branch, tested, turned_to, execs_behind, Behind};
-ghost use Rattle.mean_steps.specs.Parts.{test};
-ghost use Rattle.mean_run.specs.Begun.{Executed, assigned, next_one, parts_in, tests};
+ghost use Rattle.mean_steps.specs.Parts.{leave, test, On};
+ghost use Rattle.mean_run.specs.Begun.{Executed, assigned, declared_in, next_one, parts_in, tests};
 ghost use Rattle.mean_run.specs.Branches.{AgainBy, Branched, BranchedBy, ForAgain, ForTested, TestAgain, TestedBy};
 ghost use Rattle.mean_run.specs.Branches.{other_branch};
 ghost use Rattle.mean_run.specs.Parts.{Does, Unless_wanting};
-ghost use Rattle.mean_run.specs.Views.{now_of, moment_of, funs_of, item_of, vars_at, loop_of, parts_of};
+ghost use Rattle.mean_run.specs.Views.{declared_of, now_of, moment_of, funs_of, item_of, vars_at, loop_of, parts_of};
 ghost use Rattle.mean_run.specs.Steps.{Proceeds, ComesToTest};
 ghost use Rattle.mean_run.specs.Sources.{IsSource};
 
@@ -83,6 +83,26 @@ fn other_branch(f: u32, no: Option<u32>) -> Work
     match no {
         None => Work::Nothing,
         Some(b) => Work::Statement(f, b),
+    }
+}
+
+/// The variables whose scope is a block, a `for` or a `switch`.
+fn declared_in(a: &Stmt) -> &[u32]
+    ensures { result.now ≡ declared_in a.now.kind }
+{
+    match &a.kind {
+        StmtKind::Block { vars, .. } => vars.as_slice(),
+        StmtKind::For { vars, .. } => vars.as_slice(),
+        StmtKind::Switch { vars, .. } => vars.as_slice(),
+        StmtKind::Expr(_)
+        | StmtKind::Init { .. }
+        | StmtKind::If(_, _, _)
+        | StmtKind::While(_, _)
+        | StmtKind::Do(_, _)
+        | StmtKind::Break
+        | StmtKind::Continue
+        | StmtKind::Return(_)
+        | StmtKind::Empty => &[],
     }
 }
 
@@ -632,17 +652,14 @@ impl State {
     /// A block, a `for` or a `switch` is left.
     pub fn leave<B: Operations>(&self, m: &mut B, s: &Source<'_>, f: u32, k: u32)
         requires { IsSource s.now }
-        ensures { B.meaning m.new ≡ B.meaning m.old }
+        ensures same { B.meaning m.new ≡ B.meaning m.old }
+        ensures did { Ordered s.now.p.now → leave (B.meaning m.old)
+            (declared_of (stmt_tree s.now.p.now (vars_at s.now.p.now f) k)) (now_of self.now (B.held m.old))
+            ≡ On tt (now_of self.now (B.held m.new)) }
     {
-        if let Some(a) = statement_at(s.p, k) {
-            match &a.kind {
-                StmtKind::Block { vars, .. }
-                | StmtKind::For { vars, .. }
-                | StmtKind::Switch { vars, .. } => {
-                    leave_block(self, m, s, f, vars.as_slice());
-                }
-                _ => {}
-            }
+        match statement_at(s.p, k) {
+            None => {}
+            Some(a) => leave_block(self, m, s, f, declared_in(a)),
         }
     }
 }
