@@ -1,6 +1,7 @@
 -- Expressions as typing makes them (C11 6.5).
-use Rattle.std.proofs.Common.{true, Result, Ok, Err, ◌≡◌, ℕ, Bool, false, List, [], ◌∷◌, Option, Some, None, refl}
-use Rattle.std.proofs.lemmas.Bool.{false≢true}
+use Rattle.std.proofs.Common.{true, Result, Ok, Err, ◌≡◌, ℕ, Bool, false, List, [], ◌∷◌, Option, Some, None, refl, sym}
+use Rattle.std.proofs.Common.{◌∙◌, ⊎_elim, if◌then◌else◌}
+use Rattle.std.proofs.lemmas.Bool.{false≢true, and_parts, or_cases}
 use Rattle.std.specs.Prelude.{not, nat_le, length, ◌&&◌, ◌||◌}
 use Rattle.ck_base.specs.Tokens.{Lexeme}
 use Rattle.ck_base.specs.declared.positions.Pos.{Pos}
@@ -15,7 +16,7 @@ use Rattle.c_tree.specs.Expressions.{compared, condition, infix_join, conditiona
 use Rattle.c_tree.specs.Expressions.{taken, address, pointed, dereference, index, members_in, member, member_behind}
 use Rattle.c_tree.specs.Expressions.{cast, sized, unevaluated, arguments, call_of, call, asked, all_asked, library_call}
 use Rattle.c_tree.specs.Expressions.{is_shift, moves, differ, both_agree, is_void_pointer, is_counted, arms_type}
-use Rattle.c_tree.specs.Expressions.{is_additive, is_modifiable, compounds, points_to_function}
+use Rattle.c_tree.specs.Expressions.{is_additive, is_modifiable, compounds, computed_in, points_to_function}
 use Rattle.c_tree.specs.Layout.{size_limit}
 use Rattle.c_tree.specs.Libraries.{Asked, Any_capability, A, Service}
 use Rattle.c_tree.specs.Scopes.{Fault, continued, change, give, ◌>>◌, Entity, Local, Static, Routine, Alias, Enumerator}
@@ -25,16 +26,18 @@ use Rattle.c_tree.specs.Syntax.{Syns}
 use Rattle.c_tree.specs.Terms as tree
 use Rattle.c_tree.specs.Terms.{Shape, Term, Terms, term, terms, no_terms, with_term, type_of, pos_of, step, join}
 use Rattle.c_tree.specs.Types.{Ty, Cap, Pointer, Tagged, Function, Tys, no_types, also, bare, promoted, is_integer}
-use Rattle.c_tree.specs.Types.{is_pointer, is_scalar, is_function}
+use Rattle.c_tree.specs.Types.{is_pointer, is_scalar, is_function, common}
 use Rattle.c_tree.specs.declared.syntax.InfixOperator.{InfixOperator}
 use Rattle.c_tree.specs.declared.syntax.InfixOperator.TheVariants as infixes
 use Rattle.c_tree.specs.declared.syntax.StepOperator.{StepOperator}
 use Rattle.c_tree.specs.declared.typed.UnaryOp.{UnaryOp}
 use Rattle.c_tree.specs.declared.typed.UnaryOp.TheVariants as unary
+use Rattle.c_facts.proofs.Scalars.{promoted_self, common_is_promoted}
+use Rattle.c_values.specs.Valued.{IsComputed}
 use Rattle.c_values.proofs.Made.{TermMade, TermsMade, TermWorth, if_worth, value_made, converted_made}
 use Rattle.c_values.proofs.Stepping.{LocalsKept, Runs, run_refuse, changed_locals, still, BodiesMade, Keeps, Any, going}
 use Rattle.c_values.proofs.Stepping.{run_give, run_kept, run_need, run_then, run_next, less, give_keeps, refuse_goes}
-use Rattle.c_values.proofs.Stepping.{goes_then, goes_next, need_keeps, some_keeps, if_goes, bodies_changed}
+use Rattle.c_values.proofs.Stepping.{goes_then, goes_next, need_keeps, need_true, some_keeps, if_goes, bodies_changed}
 
 abbrev pub Made : Operand → Type 0
 Made a = TermMade a.is
@@ -211,15 +214,34 @@ right_made : (o : IntOp) (s : Ty) (x : Term) → TermWorth x → TermWorth (righ
 right_made o (Pointer s) x h = promoted_made x h
 right_made o s x h = if_worth (is_shift o) _ _ (promoted_made x h) (converted_made _ x h)
 
+integers_of : (o : IntOp) (t u : Ty) → moves t u ≡ false → compounds o t u ≡ true →
+    (is_integer t ≡ true) × (is_integer u ≡ true)
+integers_of o t u m c = ⊎_elim (λ e. absurd (false≢true (sym m ∙ (and_parts (is_additive o) (moves t u) e).1)))
+    (λ e. and_parts (is_integer t) (is_integer u) e)
+    (or_cases (is_additive o && moves t u) (is_integer t && is_integer u) c)
+
+promoted_by : (b : Bool) (t u : Ty) → (is_integer t ≡ true) × (is_integer u ≡ true) →
+    promoted (if b then promoted t else common t u) ≡ (if b then promoted t else common t u)
+promoted_by true t u h = promoted_self t
+promoted_by false t u h = common_is_promoted t u h.0 h.1
+
+-- the type in which it is computed
+computed : (o : IntOp) (t u : Ty) → compounds o t u ≡ true → IsComputed (computed_in o t u)
+computed o (Pointer t) u c e = absurd (false≢true e)
+computed o t u c e = promoted_by (is_shift o) t u (integers_of o t u refl c)
+
 pub compound_keeps : (o : IntOp) (a b : Operand) (p : Pos) → Made a → Worth b →
     Keeps Made (compound o a b p)
 compound_keeps o a b p h g =
     let t = bare (type_of a.is) in
     let u = type_of b.is in
-    going λ s at. run_next (run_next
+    going λ s at. run_then (run_next
     (run_need _ (not (is_additive o && is_pointer t && is_integer u) || is_counted s t) 132 a.first at) λ q at.
-    run_need _ (is_modifiable a.is && compounds o t u) 133 a.first at) λ q at.
-    run_give still at (two_made h (right_made o t b.is g))
+    (need_true (is_modifiable a.is && compounds o t u) 133 a.first).run q at) λ v q at c.
+    run_give still at (
+      computed o t u (and_parts (is_modifiable a.is) (compounds o t u) c).1,
+      (h, (right_made o t b.is g, tt)),
+    )
 
 pub stepped_keeps : (o : StepOperator) (in_front : Bool) (a : Operand) (p first : Pos) → Made a →
     Keeps Made (stepped o in_front a p first)

@@ -7,7 +7,7 @@ use Rattle.c_tree.specs.Terms as tree
 use Rattle.c_tree.specs.Terms.{Shape, Term, Terms, term, no_terms, with_term, type_of, pos_of, step, Action, Actions}
 use Rattle.c_tree.specs.Terms.{Form, action, actions, no_actions, with_action}
 use Rattle.c_tree.specs.Types.{Ty, Array, Function, bare, same, is_function}
-use Rattle.c_values.specs.Valued.{asks_place, AreOnce, Begins, FirstBegin}
+use Rattle.c_values.specs.Valued.{asks_place, AreOnce, Begins, FirstBegin, IsComputed}
 
 -- no place, and no function
 abbrev pub is_read : Term → Bool
@@ -21,6 +21,7 @@ first_free x = asks_place x
 
 abbrev pub ShapeMade : Shape → Type 0
 ShapeMade (tree.Capability o from_right) = from_right ≡ true → is_shift o ≡ false
+ShapeMade (tree.Compound o of) = IsComputed of
 ShapeMade x = Unit {0}
 
 abbrev mutual

@@ -12,14 +12,14 @@ use Rattle.c_tree.specs.Passed.{for_arguments, for_call, hidden_in, hidden_for, 
 use Rattle.c_tree.specs.Passed.{first_hidden_of, Passing, by_address, call_with, by_result, passed_term, passed_terms}
 use Rattle.c_tree.specs.Passed.{passed_arguments, one_term, given_back, passed_action, passed_actions, result_pointer}
 use Rattle.c_tree.specs.Passed.{written_params, copied_params, named_variables, variable_number, passing, param_copy}
-use Rattle.c_tree.specs.Passed.{param_copies, opened}
+use Rattle.c_tree.specs.Passed.{all_passed, param_copies, opened}
 use Rattle.c_tree.specs.Programs.{variable_of}
 use Rattle.c_tree.specs.Scopes.{LocalState, TagState, RoutineState, Body, State}
 use Rattle.c_tree.specs.Terms as tree
 use Rattle.c_tree.specs.Terms.{Term, Terms, term, no_terms, with_term, type_of, Form, Action, Actions, action}
 use Rattle.c_tree.specs.Terms.{no_actions, with_action, Variable, Routine, numbers_from}
 use Rattle.c_tree.specs.Types.{count, Ty, Tys, no_types, also, Void, Int, Cap, Pointer, Array, Tagged, Function, Const}
-use Rattle.c_tree.specs.Types.{bare, is_scalar, is_tagged, is_void}
+use Rattle.c_tree.specs.Types.{bare, is_integer, is_scalar, is_tagged, is_void}
 use Rattle.c_tree.specs.WellTyped.{Inside, inside_of, in_loop, in_switch, outside, count_of, ArgumentsFit}
 use Rattle.c_facts.proofs.PassedStates.{as_local, written, passed_whole}
 use Rattle.c_facts.proofs.PassingTypes.{function_cases, tagged_passed, void_passed, scalar_passed}
@@ -28,7 +28,7 @@ use Rattle.c_facts.proofs.Wholes.{ParamsFit, mapped_from, with_locals, BodyOk}
 use Rattle.c_facts.proofs.Facts.{Inv, IsValue as IsTyped, scalar, nothing, tagged, TermOk, TermsOk, Complete, AllTaken}
 use Rattle.c_facts.proofs.Acts.{FormOk, ActionOk, ActionsOk}
 use Rattle.c_values.specs.Valued.{AreScalars, is_plain, IsValue, IsPlace, AreAsked, ActionValued, Begins, FirstBegin}
-use Rattle.c_values.specs.Valued.{ActionsValued}
+use Rattle.c_values.specs.Valued.{ActionsValued, IsComputed}
 use Rattle.c_values.proofs.Stepping.{AreAdjusted}
 use Rattle.c_values.proofs.Made.{is_read, TermMade, TermsMade, TermWorth, ActionMade, ActionsMade}
 use Rattle.c_values.proofs.Sorts.{AreFunctions, library_plain, or_second, member_read, function_read, unstored}
@@ -70,6 +70,18 @@ argument_valued m y t p h = by (by_pointer t)
     by : (b : Bool) → IsValue (if b then by_address m y (bare t) p else y)
     by true = (tt, ((tt, (tt, (h, tt))), ((tt, (tt, tt)), tt)))
     by false = h
+
+-- a type of integers stays as it is
+computed_passed : (t : Ty) → IsComputed t → IsComputed (passed t)
+computed_passed (Int k n) h e = h e
+computed_passed (Cap s) h e = h e
+computed_passed (Function r ps) h e = absurd (by (by_pointer r) e)
+  where
+    by : (b : Bool) → is_integer (if b then Function Void (also (Pointer (bare r)) (all_passed ps))
+        else Function (passed r) (all_passed ps)) ≡ true → ⊥
+    by true e = false≢true e
+    by false e = false≢true e
+computed_passed t h e = absurd (false≢true e)
 
 -- ---- no structs and unions
 
@@ -158,7 +170,8 @@ module _ (names : Names) (number : ℕ → ℕ) (s : State) (functions : AreFunc
     value_passed n (term tree.Assign (with_term a no_terms) t p) h o = absurd o.1
     value_passed n (term tree.Assign (with_term a (with_term b (with_term c xs))) t p) h o = absurd o.1
     value_passed n (term (tree.Compound op of) (with_term a (with_term b no_terms)) t p) h o =
-        (tt, (place_passed n a h.0.1.0 o.0.0 (modifiable_site a o.1.0), (value_passed _ b h.0.1.1.0 o.0.1.0, tt)))
+        (computed_passed of h.0.0, (place_passed n a h.0.1.0 o.0.0 (modifiable_site a o.1.0), (value_passed _ b h.0.1.1.0 o.0.1.0, tt)))
+    value_passed n (term (tree.Compound op of) no_terms t p) h o = absurd o.1
     value_passed n (term (tree.Compound op of) (with_term a no_terms) t p) h o = absurd o.1
     value_passed n (term (tree.Compound op of) (with_term a (with_term b (with_term c xs))) t p) h o = absurd o.1
     value_passed n (term (tree.Capability op r) xs t p) h o = (h.0.0, values_passed n xs h.0.1 o.0)

@@ -4,7 +4,7 @@ use Rattle.std.specs.Prelude.{slice_get}
 use Rattle.c_tree.specs.declared.typed.FunDef.{FunDef}
 use Rattle.c_tree.specs.declared.typed.Typed.{Typed}
 use Rattle.c_tree.specs.Layout.{size_limit}
-use Rattle.c_tree.specs.Types.{Ty, Array, adjusted, char, is_scalar, is_tagged, is_void}
+use Rattle.c_tree.specs.Types.{Ty, Array, adjusted, char, is_integer, is_scalar, is_tagged, is_void, promoted}
 use Rattle.c_tree.specs.Terms as tree
 use Rattle.c_tree.specs.Terms.{Shape, Term, Terms, term, no_terms, with_term, type_of, Label, Form, Action, Actions}
 use Rattle.c_tree.specs.Terms.{action, no_actions, with_action}
@@ -37,9 +37,13 @@ AreScalars (with_term x xs) = (is_scalar (type_of x) ≡ true) × AreScalars xs
 abbrev pub is_plain : Ty → Bool
 is_plain t = is_void t || is_scalar t
 
+-- a type in which integers are computed is one that the promotions leave as it is (6.3.1.1p2)
+abbrev pub IsComputed : Ty → Type 0
+IsComputed t = is_integer t ≡ true → promoted t ≡ t
+
 -- Which nodes give values. A struct or union stands for the object that it is taken from, and a call takes scalars and
 -- gives one or nothing (6.5.2.2). What an operation on capability integers gives derives from its right operand in no
--- shift (6.5.7)
+-- shift (6.5.7). A compound assignment to an integer is computed in a promoted type (6.5.16.2)
 abbrev pub GivesValue : Shape → Terms → Ty → Type 0
 GivesValue (tree.Literal k) xs t = ⊥
 GivesValue (tree.Var k) xs t = is_tagged t ≡ true
@@ -50,6 +54,7 @@ GivesValue (tree.Member k) xs t = ⊥
 GivesValue tree.Call xs t = (is_plain t ≡ true) × AreScalars xs
 GivesValue (tree.Library k) xs t = is_plain t ≡ true
 GivesValue (tree.Capability o from_right) xs t = from_right ≡ true → is_shift o ≡ false
+GivesValue (tree.Compound o of) xs t = IsComputed of
 GivesValue x xs t = Unit {0}
 
 -- a literal is no larger than an object may be

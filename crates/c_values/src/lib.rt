@@ -1,8 +1,9 @@
 //! Where the values and the places of a typed program stand.
 //!
 //! Promise: in every typed program a value stands where a value is asked for, and a place where a place is asked for
-//! (`values_stand_where_asked`); as it is run, calls take scalars and give one or nothing, and the labels of a
-//! `switch` differ. A parameter's type is adjusted (`parameters_are_adjusted`).
+//! (`values_stand_where_asked`); as it is run, calls take scalars and give one or nothing, a compound assignment
+//! to an integer is computed in a promoted type, and the labels of a `switch` differ. A parameter's type is adjusted
+//! (`parameters_are_adjusted`).
 //! Definitions (`specs/`): `Valued`.
 //! Main lemmas (`proofs/`): `Made`, what typing sees to while it makes expressions; `Stepping`, `Expressions`,
 //! `Declared`, `Stated` and `Files` along typing; `Sorts`, what follows with the types; `Passing`, of the program as it

@@ -16,7 +16,7 @@ use Rattle.lower_runs.specs.States.{Scene}
 use Rattle.lower_runs.specs.Operating.{Code, stride, changed_temps, stepped_temps}
 use Rattle.lower_runs.specs.Operating as operating
 use Rattle.lower_runs.specs.Expressions as code
-use Rattle.lower_runs.specs.Expressions.{Mark, Signature, Target, Reaches, more, labelled, int_kind, pointer_kind}
+use Rattle.lower_runs.specs.Expressions.{Mark, Signature, Target, Reaches, more, int_kind, pointer_kind}
 use Rattle.lower_runs.specs.Expressions.{IsOperand, IsOperandIn, IsPair, IsValue, IsEffect, IsPlaceEffect, IsCondition}
 use Rattle.lower_runs.specs.Expressions.{IsPointer, IsPlace, IsAssignment, IsStructAssignment, IsCopy, IsArguments}
 use Rattle.lower_runs.specs.Expressions.{IsCall, IsInPlace, IsBase, IsOwn, target_mark, target_temp}

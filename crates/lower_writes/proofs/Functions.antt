@@ -11,7 +11,7 @@ use Rattle.c_tree.specs.declared.typed.Typed.{Typed}
 use Rattle.cheri_c_sem.specs.Programs.{function_tree, parameter_of}
 use Rattle.cheri_c_sem.specs.Tree.{Declared, Simple, Objects, Parameter, Fun}
 use Rattle.tac_ir.specs.Meaning.{is_label, kinds_of}
-use Rattle.tac_ir.specs.Temps.{IsIn, Awaits, reads, writes, behind, falls, goes_to, WritesFirst}
+use Rattle.tac_ir.specs.Temps.{Awaits, reads, writes, behind}
 use Rattle.tac_ir.specs.Temps as awaits
 use Rattle.tac_ir.specs.declared.code.TacFun.{TacFun}
 use Rattle.tac_ir.specs.declared.code.TacInstr.{TacInstr}

@@ -27,7 +27,7 @@ use Rattle.cheri_c_sem.specs.Expressions.{constant, kind_tree, expr_tree, variab
 use Rattle.cheri_c_sem.specs.Kinds.{Kind, Plain, Capability}
 use Rattle.cheri_c_sem.specs.Programs.{declared, parameter_of, stmt_tree, statements, initialisation, stmt_kind_tree}
 use Rattle.cheri_c_sem.specs.Tree as cheri
-use Rattle.cheri_c_sem.specs.Tree.{Ex, Exs, Load, Aggregate, Discard, Copy, Assign, Declared, Simple, Objects, St, Give}
+use Rattle.cheri_c_sem.specs.Tree.{Ex, Load, Aggregate, Discard, Copy, Assign, Declared, Simple, Objects, St, Give}
 use Rattle.cheri_c_sem.specs.Tree.{Init, Fill, Parameter, In_variable, In_object}
 use Rattle.cheri_c_sem.specs.Types.{is_simple, is_record, is_void, is_pointer, objects_before, size_in, align_in}
 use Rattle.cheri_c_sem.specs.Types.{unit_of}

@@ -6,7 +6,7 @@ use Rattle.std.proofs.lemmas.Bool.Decides.{nat_tests}
 use Rattle.std.proofs.lemmas.Option.{slice_get_within}
 use Rattle.c_tree.specs.Terms.{type_of}
 use Rattle.c_tree.specs.Types as ty
-use Rattle.c_tree.specs.Types.{Ty, Tys, Function}
+use Rattle.c_tree.specs.Types.{Ty}
 use Rattle.c_tree.specs.WellTyped.{FunctionFits, InitFits, type_in}
 use Rattle.c_tree.specs.declared.typed.FunDef.{FunDef}
 use Rattle.c_tree.specs.declared.typed.Typed.{Typed}

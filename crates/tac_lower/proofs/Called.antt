@@ -14,7 +14,7 @@ use Rattle.cheri_c_sem.specs.Programs.{lengths_of}
 use Rattle.tac_ir.specs.Effects.{kind_of}
 use Rattle.tac_ir.specs.WellFormed as wf
 use Rattle.tac_ir.specs.WellFormed.{all_have, has, has_capability, result_fits, call_fits, service_fits, return_by}
-use Rattle.tac_ir.specs.WellFormed.{return_fits, signature_of, signature_of_function, instruction_fits}
+use Rattle.tac_ir.specs.WellFormed.{return_fits, signature_of, signature_of_function}
 use Rattle.tac_ir.specs.declared.code.LibOp.{LibOp}
 use Rattle.tac_ir.specs.declared.code.LibOp.TheVariants as lib
 use Rattle.tac_ir.specs.declared.code.TacInstr.{TacInstr}

@@ -6,7 +6,7 @@ use Rattle.std.specs.List.{sum_by}
 use Rattle.std.proofs.lemmas.Bool.{cases_lt}
 use Rattle.std.proofs.lemmas.Bool.Decides.{nat_tests}
 use Rattle.std.proofs.lemmas.List.Sums.{sum_by-cons, sum_by_more, sum_by-take-le}
-use Rattle.c_tree.specs.Terms.{Terms, Form, Action, Actions, action}
+use Rattle.c_tree.specs.Terms.{Form, Action, action}
 use Rattle.c_tree.specs.Terms as tree
 use Rattle.c_tree.specs.TreeWeight.{form_weight, terms_weight, actions_weight, action_weight}
 use Rattle.c_tree.specs.Views.{times_in, actions_of, action_at}

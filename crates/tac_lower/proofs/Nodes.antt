@@ -26,7 +26,7 @@ use Rattle.c_tree.specs.Terms.{Term, Terms, Shape, type_of, with_term, no_terms,
 use Rattle.c_tree.specs.TreeWeight.{shape_weight, term_weight, terms_weight}
 use Rattle.c_tree.specs.Types as ty
 use Rattle.c_tree.specs.Types.{Ty}
-use Rattle.c_tree.specs.Views.{types_of, kind_term, expr_from, no_term, terms_of, term_at, operands, IsOrdered}
+use Rattle.c_tree.specs.Views.{types_of, kind_term, expr_from, no_term, operands, IsOrdered}
 use Rattle.c_tree.specs.WellTyped.{Frame, type_in, TermFits, TermsFit, ShapeFits, OperandsFit, ConstantFits, UnaryFits}
 use Rattle.c_tree.specs.WellTyped.{Decays, PointsToComplete, IsComplete, CompoundFits, holds}
 use Rattle.c_tree.proofs.Forest.{forest_reads}

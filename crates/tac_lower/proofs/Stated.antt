@@ -7,7 +7,7 @@ use Rattle.std.proofs.Common.{inl}
 use Rattle.c_tree.specs.Views.{IsOrdered}
 use Rattle.c_tree.specs.Terms as terms
 use Rattle.c_tree.specs.Types as ty
-use Rattle.c_tree.specs.Types.{Ty, is_integer, is_scalar}
+use Rattle.c_tree.specs.Types.{Ty, is_integer}
 use Rattle.c_tree.specs.WellTyped.{Inside, Frame}
 use Rattle.c_tree.specs.WellTyped as typed
 use Rattle.c_tree.specs.declared.typed.StmtKind.{StmtKind}

@@ -1,6 +1,6 @@
 -- Code for the parts of a function, added one after another.
 use Rattle.std.proofs.Common.{◌≡◌, ℕ, ◌+◌, ◌≤◌, List, [], ◌∷◌, Result, Ok, Err, IfOk, subst, arith}
-use Rattle.c_tree.specs.Terms.{Term, term, Terms, no_terms, with_term, Shape}
+use Rattle.c_tree.specs.Terms.{Term, term, Shape}
 use Rattle.c_tree.specs.TreeWeight.{shape_weight, term_weight, terms_weight}
 use Rattle.c_tree.specs.Terms as tree
 use Rattle.c_tree.specs.declared.typed.FunDef.{FunDef}

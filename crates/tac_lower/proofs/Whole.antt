@@ -11,7 +11,7 @@ use Rattle.std.proofs.lemmas.Option.{slice_get_within}
 use Rattle.ck_int.specs.declared.kinds.IntKind.TheVariants as int
 use Rattle.c_tree.specs.Layout.{bare}
 use Rattle.c_tree.specs.Types as ty
-use Rattle.c_tree.specs.Types.{Ty, Tys, Function, no_types, also, in_signature}
+use Rattle.c_tree.specs.Types.{Ty, Function}
 use Rattle.c_tree.specs.Views.{IsOrdered}
 use Rattle.c_tree.specs.WellTyped.{type_in, outside, FunctionFits}
 use Rattle.c_tree.specs.declared.typed.CType.{CType}

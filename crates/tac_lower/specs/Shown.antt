@@ -6,7 +6,7 @@ use Rattle.std.specs.Prelude.{if◌then◌else◌}
 use Rattle.ck_int.specs.declared.kinds.IntOp.{IntOp}
 use Rattle.ck_int.specs.declared.kinds.IntOp.TheVariants.{Add, Sub}
 use Rattle.cheri_c_sem.specs.Tree as tree
-use Rattle.cheri_c_sem.specs.Tree.{Operation, Whole, Derived, Moved, Apart}
+use Rattle.cheri_c_sem.specs.Tree.{Operation, Whole, Derived, Moved}
 use Rattle.cheri_c_sem.specs.Types.{takes_away}
 use Rattle.tac_ir.specs.declared.code.TacInstr.{TacInstr}
 use Rattle.tac_ir.specs.declared.code.TacInstr.TheVariants as instr

@@ -7,7 +7,7 @@ use Rattle.std.proofs.lemmas.Option.{same_Some, slice_get_within}
 use Rattle.ck_base.specs.declared.positions.Pos.{Pos}
 use Rattle.c_tree.specs.Layout.{extent, bare}
 use Rattle.c_tree.specs.Terms as tree
-use Rattle.c_tree.specs.Terms.{Term, Terms, Program, term, terms, no_terms, with_term, type_of, action, no_actions}
+use Rattle.c_tree.specs.Terms.{Term, Program, term, terms, no_terms, with_term, type_of, action, no_actions}
 use Rattle.c_tree.specs.Types as ty
 use Rattle.c_tree.specs.Types.{Ty, Tagged, Const, is_scalar, is_tagged, is_void, compatible}
 use Rattle.c_tree.specs.Typing.{Sound}

@@ -10,7 +10,7 @@ use Rattle.c_tree.specs.Layout.{Extent, extent, bare, bare_of, bare_within, memb
 use Rattle.c_tree.specs.Terms.{Term, Program, Tag, type_of}
 use Rattle.c_tree.specs.TreeLayout.{tree_extent}
 use Rattle.c_tree.specs.Types as ty
-use Rattle.c_tree.specs.Types.{Ty, Tagged, Const, Function, compatible, is_tagged}
+use Rattle.c_tree.specs.Types.{Ty, Tagged, Const, Function, compatible}
 use Rattle.c_tree.specs.Typing.{Sound}
 use Rattle.c_tree.specs.Views.{type_from, types_of, terms_of, term_at, kind_term, operands, member_of, expr_from}
 use Rattle.c_tree.specs.Views.{no_term, Shows, IsOrdered}

@@ -10,7 +10,7 @@ use Rattle.c_tree.specs.Libraries.{Asked, Any_capability, A, Service, services}
 use Rattle.c_tree.specs.Terms as tree
 use Rattle.c_tree.specs.Terms.{Shape, Term, Terms, Program, term, terms, no_terms, with_term, type_of}
 use Rattle.c_tree.specs.Types as ty
-use Rattle.c_tree.specs.Types.{Ty, Int, Cap, Pointer, Tagged, is_integer, is_pointer, is_scalar, is_tagged}
+use Rattle.c_tree.specs.Types.{Ty, Int, Cap, Tagged, is_pointer, is_scalar, is_tagged}
 use Rattle.c_tree.specs.Typing.{Sound}
 use Rattle.c_tree.specs.Views.{types_of, terms_of, term_at, kind_term, operands, Shows, IsOrdered}
 use Rattle.c_tree.specs.WellTyped.{Frame, TermFits, TermsFit, ShapeFits, AllAskedFit, type_in, IsComplete}
@@ -26,10 +26,10 @@ use Rattle.c_values.specs.Valued.{AreScalars, IsValue, IsPlace, AreAsked}
 use Rattle.cheri_c_sem.specs.Expressions.{constant, kind_tree, expr_tree, variable, arguments, bare_type, kind_at}
 use Rattle.cheri_c_sem.specs.Expressions as meant
 use Rattle.cheri_c_sem.specs.Kinds.{Kind, Plain, Capability}
-use Rattle.cheri_c_sem.specs.Tree.{Ex, Exs, Nil, Cons, Aggregate, Load, Discard, Copy, Assign}
+use Rattle.cheri_c_sem.specs.Tree.{Ex, Aggregate, Load, Discard, Copy, Assign}
 use Rattle.cheri_c_sem.specs.Tree as cheri
 use Rattle.cheri_c_sem.specs.Types as cheri_types
-use Rattle.cheri_c_sem.specs.Types.{kind_of, is_signed_capability, objects_before, is_record, is_void, scalar_of}
+use Rattle.cheri_c_sem.specs.Types.{kind_of, is_signed_capability, objects_before, is_record, scalar_of}
 use Rattle.cheri_c_sem.specs.Types.{is_simple}
 use Rattle.cheri_c_sem.proofs.Unfold.{expression_node}
 use Rattle.placement.proofs.Ordering.{ordered_of}

@@ -9,13 +9,13 @@ use Rattle.ck_base.specs.declared.positions.Pos.{Pos}
 use Rattle.c_tree.specs.Layout.{bare}
 use Rattle.c_tree.specs.Statements.{same_value, has_label}
 use Rattle.c_tree.specs.Terms as tree
-use Rattle.c_tree.specs.Terms.{Term, Terms, term, terms, no_terms, with_term, type_of, Label, Form, Action, Actions}
+use Rattle.c_tree.specs.Terms.{Term, Terms, no_terms, with_term, type_of, Label, Form, Action, Actions}
 use Rattle.c_tree.specs.Terms.{action, actions, no_actions, with_action, Program}
 use Rattle.c_tree.specs.Types as ty
-use Rattle.c_tree.specs.Types.{Ty, is_scalar, is_tagged, is_integer}
+use Rattle.c_tree.specs.Types.{Ty, is_scalar, is_tagged}
 use Rattle.c_tree.specs.Typing.{Sound}
 use Rattle.c_tree.specs.Views as views
-use Rattle.c_tree.specs.Views.{types_of, terms_of, term_at, actions_of, action_at, values, parts, kind_action, times_in}
+use Rattle.c_tree.specs.Views.{terms_of, term_at, actions_of, action_at, values, parts, kind_action}
 use Rattle.c_tree.specs.Views.{Shows}
 use Rattle.c_tree.specs.WellTyped.{Frame, Inside, TermFits, TermsFit, FormFits, InitFits, ActionFits, ActionsFit}
 use Rattle.c_tree.specs.WellTyped.{inside_of, in_loop, in_switch, count_of, AreVars, LabelsFit, form_vars, declared}

@@ -6,7 +6,7 @@ use Rattle.ck_base.specs.declared.positions.Pos.{Pos}
 use Rattle.c_tree.specs.Terms as tree
 use Rattle.c_tree.specs.Terms.{Shape, Term, Terms, term, no_terms, with_term, type_of}
 use Rattle.c_tree.specs.Types as ty
-use Rattle.c_tree.specs.Types.{Ty, Int, Cap, Pointer, Tagged, Const, is_integer, is_pointer, is_scalar, is_tagged}
+use Rattle.c_tree.specs.Types.{Ty, Int, Cap, Tagged, Const, is_integer, is_pointer, is_scalar, is_tagged}
 use Rattle.c_tree.specs.Types.{is_void, compatible}
 use Rattle.c_tree.specs.WellTyped.{Frame, TermFits, TermsFit, ShapeFits, UnaryFits, IsComplete, type_in}
 use Rattle.c_tree.specs.declared.typed.VarDef.{VarDef}
