@@ -11,16 +11,15 @@ use Rattle.ck_int.specs.declared.kinds.IntKind.{IntKind}
 use Rattle.ck_int.specs.declared.kinds.IntKind.TheVariants as int
 use Rattle.ck_int.specs.declared.kinds.CmpOp.{CmpOp}
 use Rattle.ck_int.specs.declared.kinds.CmpOp.TheVariants as test
-use Rattle.ck_int.specs.Kinds.{twos_complement, form_of, is_signed}
+use Rattle.ck_int.specs.Kinds.{kept_of, twos_complement, form_of, is_signed}
 use Rattle.rv_instr.specs.declared.instr.Instr.{Instr}
 use Rattle.rv_instr.specs.declared.instr.Instr.TheVariants.{Upper, Cjal, Branch, Load, Store, Imm, Shift, Op, Ecall}
 use Rattle.rv_instr.specs.declared.instr.Instr.TheVariants.{CapImm}
 use Rattle.rv_instr.specs.declared.ops.BranchOp.{BranchOp}
 use Rattle.rv_instr.specs.declared.ops.ImmOp.TheVariants.{Addi, Addiw}
 use Rattle.rv_instr.specs.declared.ops.UpperOp.TheVariants.{Lui}
-use Rattle.cap_machine.specs.ContainedText.{is_allowed}
-use Rattle.rv_select.specs.ContainedCode.{offset_of, IsTarget, Leads, FollowsService, IsEntry, IsContainedCode}
-use Rattle.rv_select.proofs.Contained.{sets_one}
+use Rattle.cap_machine.specs.ContainedText.{is_allowed, sets_service}
+use Rattle.select_words.specs.ContainedCode.{offset_of, IsTarget, Leads, FollowsService, IsEntry, IsContainedCode}
 use Rattle.tac_ir.specs.Meaning.{is_label}
 use Rattle.tac_ir.specs.declared.code.LibOp.{LibOp}
 use Rattle.tac_ir.specs.declared.code.LibOp.TheVariants as lib
@@ -35,6 +34,14 @@ use Rattle.int_select.specs.Code.{function_code}
 use Rattle.int_select.proofs.Places.{HasAt, has_front, has_back, has_all, code_words}
 
 -- ---- words
+
+sets_one : (n : ℕ) → 1 ≤ n → n ≤ 3 → sets_service (Imm Addi 17 0 (pos n)) ≡ true
+unfolding kept_of
+sets_one zero h j = absurd (omega arith)
+sets_one (suc zero) h j = refl
+sets_one (suc (suc zero)) h j = refl
+sets_one (suc (suc (suc zero))) h j = refl
+sets_one (suc (suc (suc (suc n)))) h j = absurd (omega arith)
 
 -- it leads nowhere by an offset and asks nothing of the environment
 abbrev is_quiet : Instr → Bool

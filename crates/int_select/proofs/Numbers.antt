@@ -223,7 +223,7 @@ reduced_again j k x h some =
     let same : kept_of (reduced j (pos x)) ≡ x = kept_is j x h in
     ap (λ y. wrapped k (pos y)) (sym same) ∙ wrapped-kept_of k (reduced j (pos x)) some
 
-narrow : (o : IntOp) (j k : IntKind) (a b : ℕ) → IsModular o → 1 < width_of (form_of k) →
+pub narrow : (o : IntOp) (j k : IntKind) (a b : ℕ) → IsModular o → 1 < width_of (form_of k) →
     width_of (form_of k) ≤ width_of (form_of j)
     → arithmetic.result_of o (promoted_width_of j) (pos a) (pos b)
     ≡ arithmetic.result_of o (promoted_width_of k) (pos a) (pos b)

@@ -2,7 +2,7 @@
 //!
 //! Promise: the machine's runs of what is selected are those of the code, in both directions, within its count; and
 //! the text is contained.
-//! Definitions (`specs/`): `Selected`, `Tracking`; `ContainedCode` of `rv_select`.
+//! Definitions (`specs/`): `Selected`, `Tracking`; `ContainedCode` of `select_words`.
 //! Main lemmas (`proofs/`): `Whole`, `Instrs`, `Contained`.
 #![tactic(auto)]
 

@@ -5,7 +5,7 @@ ghost use Rattle.rv_instr.specs.declared.instr.Instr.TheVariants.{Cjal};
 ghost use Rattle.int_select.specs.Code.{prologue, list_code, label_place, function_code};
 ghost use Rattle.int_select.specs.Form.{AreNamed, IsIntegerFun, IsIntegerCode};
 ghost use Rattle.int_select.specs.Selected.{Selects};
-ghost use Rattle.rv_select.specs.ContainedCode.{IsContainedCode};
+ghost use Rattle.select_words.specs.ContainedCode.{IsContainedCode};
 
 use crate::emit::{emit, prologue, put};
 use crate::labels::label_places;

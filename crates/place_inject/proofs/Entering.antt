@@ -127,14 +127,14 @@ module _ (s : Setting) (legal : IsLegal s.needs s.map) (before : Option Point) (
     is : base n ≡ at + local_at frame n
     past : frame.saved ≤ local_at frame n
     within_it : local_at frame n + owned l ≤ frame.size
-    some : 0 < owned l
+    inside : local_at frame n < frame.size
 
   placed_at : (n l : ℕ) → slice_get lengths n ≡ Some l → Placed_at n l
   placed_at n l q = record {
     is = base_is n;
     past = fo.past_saved n (slice_get_within lengths n l q);
     within_it = (fo.holds.locals n l q).within;
-    some = fo.some n l q;
+    inside = fo.inside n (slice_get_within lengths n l q);
   }
 
   in_stack : (n l : ℕ) → slice_get lengths n ≡ Some l
@@ -252,15 +252,15 @@ module _ (s : Setting) (legal : IsLegal s.needs s.map) (before : Option Point) (
   record Lies_new (h : Shape) : Type 0 where
     past : at + frame.saved ≤ h.base
     under : h.base + h.owned ≤ t.frame
-    has : 0 < h.owned
+    below : h.base < t.frame
 
   new_lies : (i : ℕ) (h : Shape) → IsNew i h → Lies_new h
   new_lies i h k =
       let p = placed_at k.number k.long k.one in
       let is = p.is in let b = k.base_here in let o = k.owned_here in
-      let past_it = p.past in let w = p.within_it in let q = p.some in
+      let past_it = p.past in let w = p.within_it in let q = p.inside in
       let r = room in let hi = r.high in
-      record { past = omega arith; under = omega arith; has = omega arith }
+      record { past = omega arith; under = omega arith; below = omega arith }
 
   off_new : (from n : ℕ) → Apart from n s.map.stack.0 s.map.stack.1 → (i : ℕ) (h : Shape) → IsNew i h
       → Apart h.base h.owned from n
@@ -376,9 +376,9 @@ module _ (s : Setting) (legal : IsLegal s.needs s.map) (before : Option Point) (
     where
       never : (i : ℕ) (h : Shape) → Lies_new h → Apart h.base h.owned s.map.stack.0 (at' - s.map.stack.0) → ⊥
       never i h l (inl before) =
-          let p = l.past in let q = l.has in let r = room in let lo = r.low in absurd (omega arith)
+          let p = l.past in let r = room in let lo = r.low in let z = fo.for_homes.saved in absurd (omega arith)
       never i h l (inr behind) =
-          let u = l.under in let q = l.has in let r = room in let lo = r.low in let hi = r.high in absurd (omega arith)
+          let q = l.below in let r = room in let lo = r.low in let hi = r.high in absurd (omega arith)
 
   frames_more : (registers : Registers) (fun' first at' : ℕ) (cs : List Caller) → t.frame ≤ at'
       → FramesFit s shapes after.mem registers fun' first at' cs

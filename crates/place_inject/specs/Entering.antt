@@ -25,14 +25,14 @@ use Rattle.place_inject.specs.Frames.{slots_from, behind_return, return_sentry, 
 use Rattle.place_inject.specs.Fits.{Fits, registers_in}
 use Rattle.place_inject.specs.Homes.{CallersKeep}
 
--- The frame of a function holds locals of these lengths, which have a byte each, past what it saves
+-- The frame of a function holds locals of these lengths, which begin in it, past what it saves
 pub record IsFrameOf (s : Setting) (fun : ℕ) (lengths : List ℕ) (frame : Frame) : Type 0 where
   pub is : slice_get s.map.frames fun ≡ Some frame
   pub for_homes : IsFor (homes_of s fun) frame
   pub holds : placement.FrameFits lengths frame
   pub aligned : (n : ℕ) → n < length lengths → local_at frame n % 16 ≡ 0
   pub past_saved : (n : ℕ) → n < length lengths → frame.saved ≤ local_at frame n
-  pub some : (n long : ℕ) → slice_get lengths n ≡ Some long → 0 < owned long
+  pub inside : (n : ℕ) → n < length lengths → local_at frame n < frame.size
   pub needed : lengths ≡ map (λ (n : ObjectNeed). n.length) (locals_by (slice_get s.needs.functions fun))
 
 -- What the prologue made, of which only the saved part of the frame changed memory: c2 is the frame, in which the link

@@ -209,6 +209,9 @@ has_frame os homes outgoing starts f l h few m = record {
   least = let s = m.saved in let p = m.past in omega arith;
   most = size_most os homes outgoing starts f h m;
   in_order = λ k s e. ap (λ z. var_of z) (slot_is os homes outgoing starts f m k s e).1;
+  inside = λ k s e.
+      let is = slot_is os homes outgoing starts f m k s e in
+      subst (λ (z : Slot). z.at < f.size) (sym is.1) (m.placed.lies k is.0 tt).inside;
 }
   where
     var_of : Slot → ℕ

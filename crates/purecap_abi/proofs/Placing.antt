@@ -18,9 +18,9 @@ use Rattle.purecap_abi.proofs.Powers.{next_power, half_step}
 
 -- ---- sums
 
--- the bytes that an object takes: its length up to a multiple of its alignment
+-- the bytes that an object takes: its length, or one, up to a multiple of its alignment
 abbrev pub taken : Owned → ℕ
-taken o = rounded_up o.length o.align
+taken o = rounded_up (max o.length 1) o.align
 
 -- the same for the objects of one alignment, or of lesser ones; the others take nothing
 abbrev pub taken_at : ℕ → Owned → ℕ
@@ -35,12 +35,16 @@ local_at os k all h = all k (record { length = 0; align = 0 }) h
 rest_all : (o : Owned) (os : List Owned) → All IsLocal (o ∷ os) → All IsLocal os
 rest_all o os all k d h = all (suc k) d (omega arith)
 
--- what an object takes is its length, or less than 16 bytes more
-taken_plain : (o : Owned) → o.align ≡ 16 → taken o < o.length + 16
-taken_plain o e = let r : taken o < o.length + o.align = rounded_up_near o.length o.align (omega arith) in omega arith
+-- what an object takes is its length, or at most 16 bytes more
+taken_plain : (o : Owned) → o.align ≡ 16 → taken o ≤ o.length + 16
+taken_plain o e =
+    let r : taken o < max o.length 1 + o.align = rounded_up_near (max o.length 1) o.align (omega arith) in omega arith
 
 taken_aligned : (o : Owned) → IsLocal o → 16 < o.align → taken o ≡ o.length
-taken_aligned o l h = rounded_up_multiple o.length o.align (omega arith) (l.multiple h)
+taken_aligned o l h =
+    let some = l.some h in
+    let e : max o.length 1 ≡ o.length = omega arith in
+    ap (λ n. rounded_up n o.align) e ∙ rounded_up_multiple o.length o.align (omega arith) (l.multiple h)
 
 one_taken : (o : Owned) (sums rooms greatest : ℕ) → IsLocal o → 16 ≤ greatest → sums + greatest ≤ rooms + 16 →
     (taken o + sums) + max o.align greatest ≤ (room o + rooms) + 16
@@ -146,7 +150,7 @@ pub fewer : (P Q : ℕ → Type 0) (os : List Owned) (starts : List ℕ) (from t
     ((k : ℕ) → k < length os → Q k → P k) → to ≤ end → ArePlaced P os starts from to → ArePlaced Q os starts from end
 fewer P Q os starts from to end f h p = record {
   lies = λ k j q. let l = p.lies k j (f k j q) in let w = l.within in
-      record { aligned = l.aligned; past = l.past; within = omega arith };
+      let b = l.inside in record { aligned = l.aligned; past = l.past; inside = omega arith; within = omega arith };
   apart = λ j k hj hk q r n. p.apart j k hj hk (f j hj q) (f k hk r) n;
 }
 
@@ -173,7 +177,7 @@ taken_here : (os : List Owned) (align i : ℕ) → (object os i).align ≡ align
 taken_here os align i e = grind (arith, nat_tests)
 
 pub turn_take : (os : List Owned) (starts : List ℕ) (from next align i start size : ℕ) → i < length os → 0 < align →
-    (object os i).align ≡ align → size ≡ rounded_up (object os i).length align → size % align ≡ 0
+    (object os i).align ≡ align → size ≡ rounded_up (max (object os i).length 1) align → size % align ≡ 0
     → (next + size) % align ≡ 0 → Turn os starts from next align i start →
     Turn os (set starts i next) from (next + size) align (i + 1) start
 turn_take os starts from next align i start size h positive same is whole multiple t = record {
@@ -182,7 +186,7 @@ turn_take os starts from next align i start size h positive same is whole multip
   multiple = multiple;
   most =
       let m = t.most in
-      let e : taken (object os i) ≡ size = ap (λ a. rounded_up (object os i).length a) same ∙ sym is in
+      let e : taken (object os i) ≡ size = ap (λ a. rounded_up (max (object os i).length 1) a) same ∙ sym is in
       omega (arith, sum_by_more (taken_at align) os i (record { length = 0; align = 0 }) h, taken_here os align i same);
   past = let p = t.past in omega arith;
 }
@@ -201,8 +205,11 @@ turn_take os starts from next align i start size h positive same is whole multip
       | inr more ↦ inl (let l = s.1 in omega arith)
     ]
 
-    holds : (object os i).length ≤ size
-    holds = let g : (object os i).length ≤ rounded_up (object os i).length align = rounded_up_ge (object os i).length align positive in omega arith
+    holds : max (object os i).length 1 ≤ size
+    holds =
+        let g : max (object os i).length 1 ≤ rounded_up (max (object os i).length 1) align =
+        rounded_up_ge (max (object os i).length 1) align positive in
+        omega arith
 
     here : get_or (set starts i next) i 0 ≡ next
     here = get_or-set_same starts i next 0 count
@@ -216,15 +223,15 @@ turn_take os starts from next align i start size h positive same is whole multip
         (record {
           aligned = subst (λ a. next % a ≡ 0) (sym same) t.multiple;
           past = t.past;
-          within = let w = holds in
-              omega arith;
+          inside = let w = holds in omega arith;
+          within = let w = holds in omega arith;
         }))
 
     lies_old : (k : ℕ) → k < length os → k ≢ i → Before align i os k →
         Lies (object os k) (get_or (set starts i next) k 0) from (next + size)
-    lies_old k j n b = let l = t.placed.lies k j b in let w = l.within in
+    lies_old k j n b = let l = t.placed.lies k j b in let w = l.within in let i = l.inside in
         subst (λ v. Lies (object os k) v from (next + size)) (sym (there k n))
-        (record { aligned = l.aligned; past = l.past; within = omega arith })
+        (record { aligned = l.aligned; past = l.past; inside = omega arith; within = omega arith })
 
     lies : (k : ℕ) → k < length os → Before align (i + 1) os k →
         Lies (object os k) (get_or (set starts i next) k 0) from (next + size)

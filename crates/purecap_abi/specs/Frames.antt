@@ -12,11 +12,12 @@ use Rattle.purecap_abi.specs.Placing.{greatest_of}
 -- ---- what is given
 
 -- the owned length and the alignment of a local: a power of two, at least 16, which divides the length where it is
--- above 16
+-- above 16, and then the local has bytes
 pub record IsLocal (o : Owned) : Type 0 where
   pub power : (k : ℕ) × (o.align ≡ 2 ^ k)
   pub least : 16 ≤ o.align
   pub multiple : 16 < o.align → o.length % o.align ≡ 0
+  pub some : 16 < o.align → 0 < o.length
 
 abbrev pub room : Owned → ℕ
 room o = o.length + o.align
@@ -46,3 +47,5 @@ pub record HasFrame (locals : List Owned) (homes : List Home) (outgoing : ℕ) (
   pub most : f.size ≤ sum_by room locals + 16 * length homes + 16 * outgoing + 512
   -- slots stand in the order of their locals
   pub in_order : (var : ℕ) (s : Slot) → slice_get f.slots var ≡ Some s → s.var ≡ var
+  -- and each begins in the frame
+  pub inside : (var : ℕ) (s : Slot) → slice_get f.slots var ≡ Some s → s.at < f.size

@@ -14,10 +14,11 @@ greatest_of (o ∷ os) = max o.align (greatest_of os)
 abbrev pub object : List Owned → ℕ → Owned
 object os k = slice_index_or os k (record { length = 0; align = 0 })
 
--- an object that lies in the bytes from one offset up to another, at a multiple of its alignment
+-- an object that begins and lies in the bytes from one offset up to another, at a multiple of its alignment
 pub record Lies (o : Owned) (at from to : ℕ) : Type 0 where
   pub aligned : at % o.align ≡ 0
   pub past : from ≤ at
+  pub inside : at < to
   pub within : at + o.length ≤ to
 
 -- The objects of those numbers are placed: each lies in those bytes, and no two have a byte in common

@@ -37,8 +37,8 @@ fn greatest(locals: &[Owned]) -> u64
     greatest
 }
 
-// Places all objects from an offset on, those of a lesser alignment first. The answer is the end, a multiple of the
-// greatest.
+// Places all objects from an offset on, those of a lesser alignment first; each takes a byte at least, so that it
+// begins before the end. The answer is the end, a multiple of the greatest.
 fn place(starts: &mut Vec<u64>, locals: &[Owned], from: u64) -> u64
     requires starts { length starts.old.items ≡ length locals.now }
     requires locals { AreLocals locals.now }
@@ -59,7 +59,7 @@ fn place(starts: &mut Vec<u64>, locals: &[Owned], from: u64) -> u64
         for (k, o) in locals.iter().enumerate() {
             if o.align == align {
                 starts[k] = next;
-                next += rounded(o.length, align);
+                next += rounded(o.length.max(1), align);
             }
         }
         half = align;

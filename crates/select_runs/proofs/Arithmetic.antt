@@ -13,7 +13,7 @@ use Rattle.ck_int.specs.declared.kinds.IntKind.TheVariants as int
 use Rattle.ck_int.specs.declared.kinds.IntOp.{IntOp}
 use Rattle.ck_int.specs.declared.kinds.IntOp.TheVariants as op
 use Rattle.ck_int.specs.Arithmetic.{binary_of, promoted_width_of}
-use Rattle.ck_int.specs.Kinds.{form_of, width_of, unsigned, IsKept, reduced, kept_of, wrapped, converted}
+use Rattle.ck_int.specs.Kinds.{form_of, width_of, unsigned, IsKept, reduced, kept_of, wrapped, converted, value_of}
 use Rattle.ck_int.specs.Words.{word_of, word_result_of}
 use Rattle.ck_int.proofs.Laws.{IsKept-below, IsKept-unsigned, IsKept-unsigned_below, wrapped-below}
 use Rattle.ck_int.proofs.OperationLaws.{binary_of-narrower, binary_of-Add, binary_of-Sub, binary_of-Mul, binary_of-Shl}
@@ -28,10 +28,10 @@ use Rattle.cap_machine.specs.Integers.{result_of, immediate_op, shift_op, extend
 use Rattle.cheri_c_sem.specs.Types.{is_shift}
 use Rattle.tac_ir.specs.Costs.{is_wide}
 use Rattle.int_select.specs.Form.{IsPromoted}
-use Rattle.int_select.proofs.Numbers.{op_is, kept_low, result_below, small_extended}
+use Rattle.int_select.proofs.Numbers.{op_is, narrow, kept_low, result_below, small_extended}
 use Rattle.purecap_abi.specs.Numbers.{signed_word}
 use Rattle.select_words.specs.Integers.{reg_op}
-use Rattle.select_words.specs.Operations.{is_exact, selected_op, add_op, immediate_by, shift_by}
+use Rattle.select_words.specs.Operations.{AtKind, is_exact, selected_op, add_op, immediate_by, shift_by}
 use Rattle.select_runs.proofs.Numbers.{wrapped_word, signed_small, signed_great}
 
 -- ---- 32 bits with their sign, in 64
@@ -188,80 +188,128 @@ long_is o a b = sym (wide_kept (result_of (reg_op int.U64 o) a b) (result_below 
     wide_kept : (v : ℕ) → v < 2 ^ 64 → wrapped int.U64 (pos v) ≡ v
     wide_kept v h = (IsKept-64 int.U64 v refl h).kept
 
-registers_exact : (o : IntOp) (k : IntKind) (a b : ℕ) → IsPromoted k → IsKept k a → (is_shift o ≡ false → IsKept k b)
+registers_exact : (o : IntOp) (k : IntKind) (a b : ℕ) → IsKept k a → (is_shift o ≡ false → IsKept k b)
     → is_exact k o false ≡ true
     → result_of (selected_op k o) a b ≡ binary_of o k a b
 unfolding result_of
-registers_exact op.And int.I32 a b p x y e = let z = y refl in and_exact int.I32 a b x z (word_and a b x z)
-registers_exact op.Or int.I32 a b p x y e = let z = y refl in or_exact int.I32 a b x z (word_or a b x z)
-registers_exact op.Xor int.I32 a b p x y e = let z = y refl in xor_exact int.I32 a b x z (word_xor a b x z)
-registers_exact op.Add int.I32 a b p x y e = refl
-registers_exact op.Sub int.I32 a b p x y e = refl
-registers_exact op.Mul int.I32 a b p x y e = refl
-registers_exact op.Div int.I32 a b p x y e = refl
-registers_exact op.Rem int.I32 a b p x y e = refl
-registers_exact op.Shl int.I32 a b p x y e = refl
-registers_exact op.Shr int.I32 a b p x y e = refl
-registers_exact op.And int.U32 a b p x y e =
+registers_exact op.And int.I32 a b x y e = let z = y refl in and_exact int.I32 a b x z (word_and a b x z)
+registers_exact op.Or int.I32 a b x y e = let z = y refl in or_exact int.I32 a b x z (word_or a b x z)
+registers_exact op.Xor int.I32 a b x y e = let z = y refl in xor_exact int.I32 a b x z (word_xor a b x z)
+registers_exact op.Add int.I32 a b x y e = refl
+registers_exact op.Sub int.I32 a b x y e = refl
+registers_exact op.Mul int.I32 a b x y e = refl
+registers_exact op.Div int.I32 a b x y e = refl
+registers_exact op.Rem int.I32 a b x y e = refl
+registers_exact op.Shl int.I32 a b x y e = refl
+registers_exact op.Shr int.I32 a b x y e = refl
+registers_exact op.And int.U32 a b x y e =
     let z = y refl in let h = half_below a x in let l = and_le_l a b in
     and_exact int.U32 a b x z (half (bit_and a b) (omega (arith, h, l)))
-registers_exact op.Or int.U32 a b p x y e =
+registers_exact op.Or int.U32 a b x y e =
     let z = y refl in or_exact int.U32 a b x z (half (bit_or a b) (or_lt 32 a b (half_below a x) (half_below b z)))
-registers_exact op.Xor int.U32 a b p x y e =
+registers_exact op.Xor int.U32 a b x y e =
     let z = y refl in xor_exact int.U32 a b x z (half (bit_xor a b) (xor_lt 32 a b (half_below a x) (half_below b z)))
-registers_exact op.Rem int.U32 a b p x y e = remainder_alike a b x (y refl)
-registers_exact op.Add int.U32 a b p x y e = cc
-registers_exact op.Sub int.U32 a b p x y e = cc
-registers_exact op.Mul int.U32 a b p x y e = cc
-registers_exact op.Div int.U32 a b p x y e = cc
-registers_exact op.Shl int.U32 a b p x y e = cc
-registers_exact op.Shr int.U32 a b p x y e = cc
-registers_exact op.Add int.I64 a b p x y e = refl
-registers_exact op.Sub int.I64 a b p x y e = refl
-registers_exact op.Mul int.I64 a b p x y e = refl
-registers_exact op.Div int.I64 a b p x y e = refl
-registers_exact op.Rem int.I64 a b p x y e = refl
-registers_exact op.And int.I64 a b p x y e = refl
-registers_exact op.Or int.I64 a b p x y e = refl
-registers_exact op.Xor int.I64 a b p x y e = refl
-registers_exact op.Shl int.I64 a b p x y e = refl
-registers_exact op.Shr int.I64 a b p x y e = refl
-registers_exact o int.U64 a b p x y e = long_is o a b
-registers_exact o k a b p x y e = absurd (omega arith)
+registers_exact op.Rem int.U32 a b x y e = remainder_alike a b x (y refl)
+registers_exact op.Add int.U32 a b x y e = cc
+registers_exact op.Sub int.U32 a b x y e = cc
+registers_exact op.Mul int.U32 a b x y e = cc
+registers_exact op.Div int.U32 a b x y e = cc
+registers_exact op.Shl int.U32 a b x y e = cc
+registers_exact op.Shr int.U32 a b x y e = cc
+registers_exact op.Add int.I64 a b x y e = refl
+registers_exact op.Sub int.I64 a b x y e = refl
+registers_exact op.Mul int.I64 a b x y e = refl
+registers_exact op.Div int.I64 a b x y e = refl
+registers_exact op.Rem int.I64 a b x y e = refl
+registers_exact op.And int.I64 a b x y e = refl
+registers_exact op.Or int.I64 a b x y e = refl
+registers_exact op.Xor int.I64 a b x y e = refl
+registers_exact op.Shl int.I64 a b x y e = refl
+registers_exact op.Shr int.I64 a b x y e = refl
+registers_exact o int.U64 a b x y e = long_is o a b
+registers_exact o int.Bool a b x y e = cc
+registers_exact o int.I8 a b x y e = cc
+registers_exact o int.U8 a b x y e = cc
+registers_exact o int.I16 a b x y e = cc
+registers_exact o int.U16 a b x y e = cc
 
-registers_reduced : (o : IntOp) (k : IntKind) (a b : ℕ) → IsPromoted k → is_exact k o false ≡ false
+-- a truth value is 0 or 1, and so are sums and differences of two
+truth : (v : ℕ) → IsKept int.Bool v → (v ≡ 0) ⊎ (v ≡ 1)
+truth v k =
+    ⊎_elim (λ e. inl e) (λ ne. inr (omega (arith, ne, IsKept-unsigned_below int.Bool v refl k))) (cases_eq v 0)
+
+truths : (Is : ℕ → ℕ → Type 0) → Is 0 0 → Is 0 1 → Is 1 0 → Is 1 1 → (a b : ℕ) → IsKept int.Bool a → IsKept int.Bool b
+    → Is a b
+truths Is p q r z a b x y = by (truth a x) (truth b y)
+  where
+    by : (a ≡ 0) ⊎ (a ≡ 1) → (b ≡ 0) ⊎ (b ≡ 1) → Is a b
+    by (inl e) (inl f) = subst (λ n. Is n b) (sym e) (subst (Is 0) (sym f) p)
+    by (inl e) (inr f) = subst (λ n. Is n b) (sym e) (subst (Is 0) (sym f) q)
+    by (inr e) (inl f) = subst (λ n. Is n b) (sym e) (subst (Is 1) (sym f) r)
+    by (inr e) (inr f) = subst (λ n. Is n b) (sym e) (subst (Is 1) (sym f) z)
+
+truth_sums : (a b : ℕ) → IsKept int.Bool a → IsKept int.Bool b
+    → wrapped int.Bool (pos (binary_of op.Add int.I32 a b)) ≡ binary_of op.Add int.Bool a b
+unfolding wrapped reduced kept_of binary_of value_of
+truth_sums =
+    truths (λ a b. wrapped int.Bool (pos (binary_of op.Add int.I32 a b)) ≡ binary_of op.Add int.Bool a b) refl refl refl
+    refl
+
+truth_differences : (a b : ℕ) → IsKept int.Bool a → IsKept int.Bool b
+    → wrapped int.Bool (pos (binary_of op.Sub int.I32 a b)) ≡ binary_of op.Sub int.Bool a b
+unfolding wrapped reduced kept_of binary_of value_of
+truth_differences =
+    truths (λ a b. wrapped int.Bool (pos (binary_of op.Sub int.I32 a b)) ≡ binary_of op.Sub int.Bool a b) refl refl refl
+    refl
+
+registers_reduced : (o : IntOp) (k : IntKind) (a b : ℕ) → AtKind k o → IsKept k a → (is_shift o ≡ false → IsKept k b)
+    → is_exact k o false ≡ false
     → wrapped k (pos (result_of (selected_op k o) a b)) ≡ binary_of o k a b
-registers_reduced op.Add int.U32 a b p e = op_is op.Add int.U32 a b p
-registers_reduced op.Sub int.U32 a b p e = op_is op.Sub int.U32 a b p
-registers_reduced op.Mul int.U32 a b p e = op_is op.Mul int.U32 a b p
-registers_reduced op.Div int.U32 a b p e = op_is op.Div int.U32 a b p
-registers_reduced op.Shl int.U32 a b p e = op_is op.Shl int.U32 a b p
-registers_reduced op.Shr int.U32 a b p e = op_is op.Shr int.U32 a b p
-registers_reduced op.Rem int.U32 a b p e = cc
-registers_reduced op.And int.U32 a b p e = cc
-registers_reduced op.Or int.U32 a b p e = cc
-registers_reduced op.Xor int.U32 a b p e = cc
-registers_reduced o int.Bool a b p e = cc
-registers_reduced o int.I8 a b p e = cc
-registers_reduced o int.U8 a b p e = cc
-registers_reduced o int.I16 a b p e = cc
-registers_reduced o int.U16 a b p e = cc
-registers_reduced o int.I32 a b p e = cc
-registers_reduced o int.I64 a b p e = cc
-registers_reduced o int.U64 a b p e = cc
+unfolding result_of
+registers_reduced op.Add int.U32 a b p x y e = op_is op.Add int.U32 a b (omega arith)
+registers_reduced op.Sub int.U32 a b p x y e = op_is op.Sub int.U32 a b (omega arith)
+registers_reduced op.Mul int.U32 a b p x y e = op_is op.Mul int.U32 a b p
+registers_reduced op.Div int.U32 a b p x y e = op_is op.Div int.U32 a b p
+registers_reduced op.Shl int.U32 a b p x y e = op_is op.Shl int.U32 a b p
+registers_reduced op.Shr int.U32 a b p x y e = op_is op.Shr int.U32 a b p
+registers_reduced op.Add int.Bool a b p x y e = truth_sums a b x (y refl)
+registers_reduced op.Sub int.Bool a b p x y e = truth_differences a b x (y refl)
+registers_reduced op.Add int.I8 a b p x y e = narrow op.Add int.I32 int.I8 a b tt (omega arith) (omega arith) refl
+registers_reduced op.Sub int.I8 a b p x y e = narrow op.Sub int.I32 int.I8 a b tt (omega arith) (omega arith) refl
+registers_reduced op.Add int.U8 a b p x y e = narrow op.Add int.I32 int.U8 a b tt (omega arith) (omega arith) refl
+registers_reduced op.Sub int.U8 a b p x y e = narrow op.Sub int.I32 int.U8 a b tt (omega arith) (omega arith) refl
+registers_reduced op.Add int.I16 a b p x y e = narrow op.Add int.I32 int.I16 a b tt (omega arith) (omega arith) refl
+registers_reduced op.Sub int.I16 a b p x y e = narrow op.Sub int.I32 int.I16 a b tt (omega arith) (omega arith) refl
+registers_reduced op.Add int.U16 a b p x y e = narrow op.Add int.I32 int.U16 a b tt (omega arith) (omega arith) refl
+registers_reduced op.Sub int.U16 a b p x y e = narrow op.Sub int.I32 int.U16 a b tt (omega arith) (omega arith) refl
+registers_reduced op.Rem int.U32 a b p x y e = cc
+registers_reduced op.And int.U32 a b p x y e = cc
+registers_reduced op.Or int.U32 a b p x y e = cc
+registers_reduced op.Xor int.U32 a b p x y e = cc
+registers_reduced o int.I32 a b p x y e = cc
+registers_reduced o int.I64 a b p x y e = cc
+registers_reduced o int.U64 a b p x y e = cc
+registers_reduced op.Mul k a b p x y e = absurd (omega arith)
+registers_reduced op.Div k a b p x y e = absurd (omega arith)
+registers_reduced op.Rem k a b p x y e = absurd (omega arith)
+registers_reduced op.And k a b p x y e = absurd (omega arith)
+registers_reduced op.Or k a b p x y e = absurd (omega arith)
+registers_reduced op.Xor k a b p x y e = absurd (omega arith)
+registers_reduced op.Shl k a b p x y e = absurd (omega arith)
+registers_reduced op.Shr k a b p x y e = absurd (omega arith)
 
-pub registers_give : (o : IntOp) (k : IntKind) (a b : ℕ) → IsPromoted k → IsKept k a → (is_shift o ≡ false → IsKept k b)
+pub registers_give : (o : IntOp) (k : IntKind) (a b : ℕ) → AtKind k o → IsKept k a → (is_shift o ≡ false → IsKept k b)
     → Gives k o false (result_of (selected_op k o) a b) (binary_of o k a b)
 registers_give o k a b p x y = record {
   below = result_below (selected_op k o) a b;
-  exact = λ e. registers_exact o k a b p x y e;
-  else_reduced = λ e. registers_reduced o k a b p e;
+  exact = λ e. registers_exact o k a b x y e;
+  else_reduced = λ e. registers_reduced o k a b p x y e;
 }
 
 -- ---- with a number
 
 -- the word is that of two registers
-pub immediate_is : (o : IntOp) (k : IntKind) (i : ImmOp) → IsPromoted k → immediate_by k o ≡ Some i
+pub immediate_is : (o : IntOp) (k : IntKind) (i : ImmOp) → AtKind k o → immediate_by k o ≡ Some i
     → immediate_op i ≡ selected_op k o
 immediate_is o k i p e = by o k p i e
   where
@@ -269,12 +317,17 @@ immediate_is o k i p e = by o k p i e
     op_in None = regs.Add
     op_in (Some j) = immediate_op j
 
-    by : (o : IntOp) (k : IntKind) → IsPromoted k → (i : ImmOp) → immediate_by k o ≡ Some i
+    by : (o : IntOp) (k : IntKind) → AtKind k o → (i : ImmOp) → immediate_by k o ≡ Some i
         → immediate_op i ≡ selected_op k o
     by op.Add int.I32 p i e = sym (ap op_in e)
     by op.Add int.U32 p i e = sym (ap op_in e)
     by op.Add int.I64 p i e = sym (ap op_in e)
     by op.Add int.U64 p i e = sym (ap op_in e)
+    by op.Add int.Bool p i e = sym (ap op_in e)
+    by op.Add int.I8 p i e = sym (ap op_in e)
+    by op.Add int.U8 p i e = sym (ap op_in e)
+    by op.Add int.I16 p i e = sym (ap op_in e)
+    by op.Add int.U16 p i e = sym (ap op_in e)
     by op.And int.I32 p i e = sym (ap op_in e)
     by op.And int.U32 p i e = sym (ap op_in e)
     by op.And int.I64 p i e = sym (ap op_in e)
@@ -348,14 +401,18 @@ less_word a n m h j l e =
     ∙ ap (converted int.I64 int.I32) (less_wide a n m h j l e)
     ∙ binary_of-narrower op.Sub int.I64 int.I32 a n tt (omega arith) (omega arith) refl
 
-pub less_is : (k : IntKind) (a n m : ℕ) → IsPromoted k → a < 2 ^ 64 → n < 2 ^ 64 → m < 2 ^ 64 → (m + n) % 2 ^ 64 ≡ 0
+pub less_is : (k : IntKind) (a n m : ℕ) → a < 2 ^ 64 → n < 2 ^ 64 → m < 2 ^ 64 → (m + n) % 2 ^ 64 ≡ 0
     → result_of (immediate_op (add_op k)) a m ≡ result_of (selected_op k op.Sub) a n
 unfolding result_of
-less_is int.I32 a n m p h j l e = less_word a n m h j l e
-less_is int.U32 a n m p h j l e = less_word a n m h j l e
-less_is int.I64 a n m p h j l e = less_wide a n m h j l e
-less_is int.U64 a n m p h j l e = less_wide a n m h j l e
-less_is k a n m p h j l e = absurd (omega arith)
+less_is int.I32 a n m h j l e = less_word a n m h j l e
+less_is int.U32 a n m h j l e = less_word a n m h j l e
+less_is int.I64 a n m h j l e = less_wide a n m h j l e
+less_is int.U64 a n m h j l e = less_wide a n m h j l e
+less_is int.Bool a n m h j l e = less_word a n m h j l e
+less_is int.I8 a n m h j l e = less_word a n m h j l e
+less_is int.U8 a n m h j l e = less_word a n m h j l e
+less_is int.I16 a n m h j l e = less_word a n m h j l e
+less_is int.U16 a n m h j l e = less_word a n m h j l e
 
 -- ---- shifts by a number
 
@@ -465,8 +522,14 @@ counted_reduced : (o : IntOp) (k : IntKind) (a c : ℕ) → is_shift o ≡ true 
     → wrapped k (pos (result_of (shift_op (shift_by k o)) a c)) ≡ binary_of o k a c
 counted_reduced op.Shl int.U32 a c s p e = op_is op.Shl int.U32 a c p
 counted_reduced op.Shr int.U32 a c s p e = cc
-counted_reduced op.Shl k a c s p e = cc
-counted_reduced op.Shr k a c s p e = cc
+counted_reduced op.Shl int.I32 a c s p e = cc
+counted_reduced op.Shl int.I64 a c s p e = cc
+counted_reduced op.Shl int.U64 a c s p e = cc
+counted_reduced op.Shr int.I32 a c s p e = cc
+counted_reduced op.Shr int.I64 a c s p e = cc
+counted_reduced op.Shr int.U64 a c s p e = cc
+counted_reduced op.Shl k a c s p e = absurd (omega arith)
+counted_reduced op.Shr k a c s p e = absurd (omega arith)
 counted_reduced o k a c s p e = cc
 
 pub shift_gives : (o : IntOp) (k : IntKind) (a n : ℕ) → is_shift o ≡ true → IsPromoted k → IsKept k a → n < 2 ^ 64

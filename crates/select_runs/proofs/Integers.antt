@@ -1,6 +1,6 @@
 -- Operations on integers: what they mean, the machine computes.
 use Rattle.std.proofs.Common.{◌≡◌, ℕ, zero, suc, ◌+◌, ◌%◌, ◌^◌, ◌<◌, ◌≤◌, Bool, true, false, ◌&&◌, List, [], ◌∷◌}
-use Rattle.std.proofs.Common.{length, Some, refl, sym, ap, ◌∙◌, subst, arith, if◌then◌else◌}
+use Rattle.std.proofs.Common.{length, Some, refl, sym, ap, ◌∙◌, subst, arith, pos, if◌then◌else◌}
 use Rattle.std.specs.Prelude.{slice_set, Ok}
 use Rattle.std.proofs.lemmas.Bool.{and_parts, ltb-true}
 use Rattle.ck_base.specs.World.{World}
@@ -9,13 +9,15 @@ use Rattle.ck_int.specs.declared.kinds.IntKind.TheVariants as int
 use Rattle.ck_int.specs.declared.kinds.IntOp.{IntOp}
 use Rattle.ck_int.specs.declared.kinds.IntOp.TheVariants as op
 use Rattle.ck_int.specs.Arithmetic.{binary_of}
-use Rattle.ck_int.specs.Kinds.{form_of, width_of, IsKept}
+use Rattle.ck_int.specs.Kinds.{form_of, width_of, IsKept, wrapped}
 use Rattle.ck_int.proofs.Laws.{IsKept-below, IsKept-binary_of, kept_of-below}
 use Rattle.cap_ops.specs.declared.capability.Cap.{Cap}
 use Rattle.cap_ops.specs.Capability.{null_at}
 use Rattle.rv_instr.specs.declared.instr.Instr.{Instr}
 use Rattle.rv_instr.specs.declared.instr.Instr.TheVariants.{Imm, Shift, Op}
-use Rattle.rv_instr.specs.declared.ops.ShiftOp.TheVariants.{Slli, Srli}
+use Rattle.rv_instr.specs.declared.ops.ShiftOp.TheVariants.{Slli, Srli, Srai}
+use Rattle.rv_instr.specs.declared.ops.ShiftOp.{ShiftOp}
+use Rattle.rv_instr.specs.declared.ops.ImmOp.TheVariants.{Andi}
 use Rattle.rv_instr.specs.declared.ops.RegOp.TheVariants as regs
 use Rattle.cap_machine.specs.declared.machine.Machine.{Machine}
 use Rattle.cap_machine.specs.Integers.{extended, result_of, immediate_op, shift_op}
@@ -33,7 +35,7 @@ use Rattle.cheri_c_sem.specs.Operations.{on_ok, number_by}
 use Rattle.cheri_c_sem.specs.Steps.{State, answer}
 use Rattle.cheri_c_sem.specs.Types.{is_shift}
 use Rattle.int_select.specs.Form.{IsPromoted}
-use Rattle.int_select.proofs.Numbers.{result_below, reduce_unsigned}
+use Rattle.int_select.proofs.Numbers.{result_below, reduce_unsigned, reduce_8, reduce_16, reduce_truth, small_extended}
 use Rattle.tac_ir.specs.Costs.{operation_cost, is_wide}
 use Rattle.tac_ir.specs.Effects.{kind_at, temp_in, no_position, set as set_temp}
 use Rattle.tac_ir.specs.Meaning.{Running}
@@ -48,7 +50,7 @@ use Rattle.place_inject.proofs.Results.{numbers_read_back_law}
 use Rattle.select_words.specs.Standing.{HasAt}
 use Rattle.select_words.specs.Emitted.{IsNumber}
 use Rattle.select_words.specs.Forms.{OfOne, Other}
-use Rattle.select_words.specs.Operations.{is_exact, finish_code, selected_op, add_op, shift_by, OneThen, TwoThen}
+use Rattle.select_words.specs.Operations.{AtKind, reduce_code, is_exact, finish_code, selected_op, add_op, shift_by, OneThen, TwoThen}
 use Rattle.select_words.specs.Operations.{IntegerWords, Registers, WithNumber, NumberWith, LessNumber, Shifted, Times}
 use Rattle.select_words.specs.Operations.{TimesFirst}
 use Rattle.select_runs.specs.Instructions.{OperationsRun}
@@ -56,7 +58,7 @@ use Rattle.select_runs.specs.Kinds.{IsOfKind, AreOfKinds}
 use Rattle.select_runs.specs.Operands.{IsText, IsAtPoint}
 use Rattle.select_runs.specs.Results.{Computed, Arrives, before, behind, kinds_in, code_in, IsSelectable}
 use Rattle.select_runs.proofs.Arithmetic.{Gives, registers_give, immediate_is, no_shift, commutes, less_is, shift_gives}
-use Rattle.select_runs.proofs.Arithmetic.{times_is, product_turns}
+use Rattle.select_runs.proofs.Arithmetic.{times_is, product_turns, mask_is}
 use Rattle.select_runs.proofs.Kinded.{kind_passes, same_turned, kinded_set, has_kind}
 use Rattle.select_runs.proofs.Numbers.{number_at, null_address}
 use Rattle.select_runs.proofs.Intrinsics.{same_int}
@@ -80,11 +82,11 @@ true_false e = absurd cc
 wide_ends : (o : IntOp) (k : IntKind) → is_wide k ≡ true → (r : ℕ) → [] ≡ finish_code k o false r
 wide_ends o int.I64 e r = refl
 wide_ends o int.U64 e r = refl
-wide_ends o int.Bool e r = refl
-wide_ends o int.I8 e r = refl
-wide_ends o int.U8 e r = refl
-wide_ends o int.I16 e r = refl
-wide_ends o int.U16 e r = refl
+wide_ends o int.Bool e r = cc
+wide_ends o int.I8 e r = cc
+wide_ends o int.U8 e r = cc
+wide_ends o int.I16 e r = cc
+wide_ends o int.U16 e r = cc
 wide_ends o int.I32 e r = refl
 wide_ends o int.U32 e r = cc
 
@@ -95,12 +97,25 @@ whole o k e made v small same = record { below = small; exact = λ f. same; else
     by int.U32 e f = true_false (sym e)
     by int.I64 e f = true_false f
     by int.U64 e f = true_false f
-    by int.Bool e f = true_false f
-    by int.I8 e f = true_false f
-    by int.U8 e f = true_false f
-    by int.I16 e f = true_false f
-    by int.U16 e f = true_false f
+    by int.Bool e f = true_false (sym e)
+    by int.I8 e f = true_false (sym e)
+    by int.U8 e f = true_false (sym e)
+    by int.I16 e f = true_false (sym e)
+    by int.U16 e f = true_false (sym e)
     by int.I32 e f = true_false f
+
+-- shifts are at promoted kinds
+shifts_promoted : (o : IntOp) (k : IntKind) → is_shift o ≡ true → AtKind k o → IsPromoted k
+shifts_promoted op.Shl k e p = p
+shifts_promoted op.Shr k e p = p
+shifts_promoted op.Add k e p = cc
+shifts_promoted op.Sub k e p = cc
+shifts_promoted op.Mul k e p = cc
+shifts_promoted op.Div k e p = cc
+shifts_promoted op.Rem k e p = cc
+shifts_promoted op.And k e p = cc
+shifts_promoted op.Or k e p = cc
+shifts_promoted op.Xor k e p = cc
 
 -- the count of a shift has any integer kind
 number_by_int : (s : Setting) (t : State modes.Store) (k : Kind) (v : Value) → is_int k ≡ true
@@ -122,8 +137,10 @@ module _ (s : Setting) (code : List Instr) (x : IsText s code) (p : Point) (t : 
   -- ---- a result is reduced to its kind
 
   finish_more : (k : IntKind) → ℕ
-  finish_more int.U32 = 2
-  finish_more k = 0
+  finish_more int.I32 = 0
+  finish_more int.I64 = 0
+  finish_more int.U64 = 0
+  finish_more k = 2
 
   half_exact : (o : IntOp) (by_number : Bool) (r v : ℕ) → Gives int.U32 o by_number r v → (n : Machine)
       (mid count at : ℕ)
@@ -167,36 +184,108 @@ module _ (s : Setting) (code : List Instr) (x : IsText s code) (p : Point) (t : 
       (subst (λ y. Computed s code n count y q q (null_at v)) two
       (subst (λ y. Computed s code n count mid q q (null_at y)) e h))
 
+  -- the kinds of fewer than 32 bits: what 32 gave is reduced
+  module _ (n : Machine) (mid count at : ℕ) (point : IsAtPoint s code p at t n) (q r : ℕ) (range : (4 < q) × (q < 29))
+      (h : Computed s code n count mid q q (null_at r)) where
+    by_shifts : (back : ShiftOp) (c v : ℕ) → is_call (Shift back q q c) ≡ false
+        → result_of (shift_op back) (result_of regs.Sll r c) c ≡ v
+        → HasAt code mid (Shift Slli q q c ∷ Shift back q q c ∷ [])
+        → Computed s code n (count + 2) (mid + 2) q q (null_at v)
+    unfolding row shift_row
+    by_shifts back c v plain is w =
+        let up = result_of regs.Sll r c in
+        let a = next_word s code x p t n at count mid q (null_at r) (null_at up) point h
+        (Shift Slli q q c) w.0 refl range
+        (λ u holds. ap (λ y. set_integer u q (result_of regs.Sll y c)) (number_at u q r holds)) in
+        let b = next_word s code x p t n at (count + 1) (mid + 1) q (null_at up) (null_at v) point a
+        (Shift back q q c) w.1.0 plain range
+        (λ u holds. ap (λ y. set_integer u q (result_of (shift_op back) y c)) (number_at u q up holds) ∙ ap
+        (set_integer u q) is) in
+        let one : count + 1 + 1 ≡ count + 2 = omega arith in
+        let two : mid + 1 + 1 ≡ mid + 2 = omega arith in
+        subst (λ y. Computed s code n y (mid + 2) q q (null_at v)) one
+        (subst (λ y. Computed s code n (count + 1 + 1) y q q (null_at v)) two b)
+
+    by_word : (i : Instr) (v : ℕ) → is_call i ≡ false
+        → ((u : Machine) → register u q ≡ null_at r → row u i ≡ set_integer u q v) → HasAt code mid (i ∷ [])
+        → Computed s code n (count + 1) (mid + 1) q q (null_at v)
+    by_word i v plain does w = next_word s code x p t n at count mid q (null_at r) (null_at v) point h i w.0 plain range does
+
+    abbrev Reduced : List Instr → ℕ → Type 0
+    Reduced ws v = Computed s code n (count + length ws) (mid + length ws) q q (null_at v)
+
+    is_reduced : (k : IntKind) → width_of (form_of k) < 32 → r < 2 ^ 64 → HasAt code mid (reduce_code k q q)
+        → Reduced (reduce_code k q q) (wrapped k (pos r))
+    unfolding row op_row imm_row
+    is_reduced int.Bool lt small w =
+        by_word (Op regs.Sltu q 0 q) (wrapped int.Bool (pos r)) refl
+        (λ u holds. ap (λ y. set_integer u q (result_of regs.Sltu y (integer u q))) (null_address 0)
+        ∙ ap (λ y. set_integer u q (result_of regs.Sltu 0 y)) (number_at u q r holds) ∙ ap (set_integer u q)
+        (reduce_truth r small)) w
+    is_reduced int.I8 lt small w = by_shifts Srai 56 (wrapped int.I8 (pos r)) refl (reduce_8 r small) w
+    is_reduced int.U8 lt small w =
+        by_word (Imm Andi q q (pos 255)) (wrapped int.U8 (pos r)) refl
+        (λ u holds. ap (λ y. set_integer u q (result_of regs.And y (extended (pos 255)))) (number_at u q r holds)
+        ∙ ap (λ y. set_integer u q (result_of regs.And r y)) (small_extended 255 (omega arith)) ∙ ap (set_integer u q)
+        (mask_is r small)) w
+    is_reduced int.I16 lt small w = by_shifts Srai 48 (wrapped int.I16 (pos r)) refl (reduce_16 r small) w
+    is_reduced int.U16 lt small w = by_shifts Srli 48 (wrapped int.U16 (pos r)) refl (reduce_unsigned r small).1 w
+    is_reduced int.I32 lt small w = absurd (omega (arith, lt))
+    is_reduced int.U32 lt small w = absurd (omega (arith, lt))
+    is_reduced int.I64 lt small w = absurd (omega (arith, lt))
+    is_reduced int.U64 lt small w = absurd (omega (arith, lt))
+
+  narrow_finished : (k : IntKind) → width_of (form_of k) < 32 → (r v : ℕ) → r < 2 ^ 64 → wrapped k (pos r) ≡ v
+      → (n : Machine) (mid count at : ℕ) → IsAtPoint s code p at t n → (q : ℕ) → (4 < q) × (q < 29)
+      → Computed s code n count mid q q (null_at r) → HasAt code mid (reduce_code k q q)
+      → Computed s code n (count + length (reduce_code k q q)) (mid + length (reduce_code k q q)) q q (null_at v)
+  narrow_finished k lt r v small is n mid count at point q range h has =
+      subst (λ y. Computed s code n (count + length (reduce_code k q q)) (mid + length (reduce_code k q q)) q q
+      (null_at y)) is (is_reduced n mid count at point q r range h k lt small has)
+
   -- what one word gave is finished
-  pub finished : (k : IntKind) → IsPromoted k → (o : IntOp) (by_number : Bool) (r v : ℕ) → Gives k o by_number r v
+  pub finished : (k : IntKind) (o : IntOp) (by_number : Bool) (r v : ℕ) → Gives k o by_number r v
       → (n : Machine) (mid count at : ℕ) → IsAtPoint s code p at t n → (q : ℕ) → (4 < q) × (q < 29)
       → Computed s code n count mid q q (null_at r) → HasAt code mid (finish_code k o by_number q)
       → Computed s code n (count + length (finish_code k o by_number q)) (mid + length
       (finish_code k o by_number q)) q q (null_at v)
-  finished int.U32 promoted o by_number r v gives n mid count at point q range h has =
+  finished int.U32 o by_number r v gives n mid count at point q range h has =
       half_exact o by_number r v gives n mid count at point q range h (is_exact int.U32 o by_number) refl
       (finish_code int.U32 o by_number q)
       refl has
-  finished int.I32 promoted o by_number r v gives n mid count at point q range h has = none_more r v
+  finished int.I32 o by_number r v gives n mid count at point q range h has = none_more r v
       (gives.exact refl) n mid count q h
-  finished int.I64 promoted o by_number r v gives n mid count at point q range h has = none_more r v
+  finished int.I64 o by_number r v gives n mid count at point q range h has = none_more r v
       (gives.exact refl) n mid count q h
-  finished int.U64 promoted o by_number r v gives n mid count at point q range h has = none_more r v
+  finished int.U64 o by_number r v gives n mid count at point q range h has = none_more r v
       (gives.exact refl) n mid count q h
-  finished k promoted o by_number r v gives n mid count at point q range h has = absurd (omega arith)
+  finished int.Bool o by_number r v gives n mid count at point q range h has =
+      narrow_finished int.Bool (omega arith) r v gives.below (gives.else_reduced refl) n mid count at point q range h has
+  finished int.I8 o by_number r v gives n mid count at point q range h has =
+      narrow_finished int.I8 (omega arith) r v gives.below (gives.else_reduced refl) n mid count at point q range h has
+  finished int.U8 o by_number r v gives n mid count at point q range h has =
+      narrow_finished int.U8 (omega arith) r v gives.below (gives.else_reduced refl) n mid count at point q range h has
+  finished int.I16 o by_number r v gives n mid count at point q range h has =
+      narrow_finished int.I16 (omega arith) r v gives.below (gives.else_reduced refl) n mid count at point q range h has
+  finished int.U16 o by_number r v gives n mid count at point q range h has =
+      narrow_finished int.U16 (omega arith) r v gives.below (gives.else_reduced refl) n mid count at point q range h has
 
-  finish_few : (k : IntKind) → IsPromoted k → (o : IntOp) (by_number : Bool) (q : ℕ) → length
+  finish_few : (k : IntKind) (o : IntOp) (by_number : Bool) (q : ℕ) → length
       (finish_code k o by_number q) ≤ finish_more k
   unfolding finish_more
-  finish_few int.U32 promoted o by_number q = by (is_exact int.U32 o by_number)
+  finish_few int.U32 o by_number q = by (is_exact int.U32 o by_number)
     where
       by : (b : Bool) → length (if b then [] else Shift Slli q q 32 ∷ Shift Srli q q 32 ∷ []) ≤ 2
       by true = omega arith
       by false = omega arith
-  finish_few int.I32 promoted o by_number q = omega arith
-  finish_few int.I64 promoted o by_number q = omega arith
-  finish_few int.U64 promoted o by_number q = omega arith
-  finish_few k promoted o by_number q = absurd (omega arith)
+  finish_few int.I32 o by_number q = omega arith
+  finish_few int.I64 o by_number q = omega arith
+  finish_few int.U64 o by_number q = omega arith
+  finish_few int.Bool o by_number q = omega arith
+  finish_few int.I8 o by_number q = omega arith
+  finish_few int.U8 o by_number q = omega arith
+  finish_few int.I16 o by_number q = omega arith
+  finish_few int.U16 o by_number q = omega arith
 
   finish_costs : (k : IntKind) → 3 + (1 + finish_more k) + 6 ≤ operation_cost k
   unfolding finish_more
@@ -211,15 +300,15 @@ module _ (s : Setting) (code : List Instr) (x : IsText s code) (p : Point) (t : 
   finish_costs int.U64 = omega arith
 
   -- one word and what finishes it
-  pub word_then : (k : IntKind) → IsPromoted k → (o : IntOp) (by_number : Bool) (r v : ℕ) → Gives k o by_number r v
+  pub word_then : (k : IntKind) (o : IntOp) (by_number : Bool) (r v : ℕ) → Gives k o by_number r v
       → (n : Machine) (mid : ℕ) → IsAtPoint s code p mid t n → (q : ℕ) → (4 < q) × (q < 29) → (i : Instr)
       (ws : List Instr)
       → ws ≡ i ∷ finish_code k o by_number q → HasAt code mid ws → is_call i ≡ false → row n i ≡ set_integer n q r
       → Computed s code n (length ws) (mid + length ws) q q (null_at v)
-  word_then k promoted o by_number r v gives n mid point q range i ws is has plain does =
+  word_then k o by_number r v gives n mid point q range i ws is has plain does =
       let w = subst (HasAt code mid) is has in
       let f = first_word s code x p t n mid point i q (null_at r) w.0 plain range does in
-      let e = finished k promoted o by_number r v gives n (mid + 1) 1 mid point q range f w.1 in
+      let e = finished k o by_number r v gives n (mid + 1) 1 mid point q range f w.1 in
       let count : 1 + length (finish_code k o by_number q) ≡ suc (length (finish_code k o by_number q)) = omega arith in
       let place : mid + 1 + length (finish_code k o by_number q) ≡ mid + suc (length
       (finish_code k o by_number q)) = omega arith in
@@ -229,7 +318,7 @@ module _ (s : Setting) (code : List Instr) (x : IsText s code) (p : Point) (t : 
 
 module _ (s : Setting) (code : List Instr) (x : IsText s code) (stack : StackIsThere s) (w : World) (p : Typed)
     (running : Running)
-    (o : IntOp) (k : IntKind) (promoted : IsPromoted k) (to a b : ℕ) (rest : List TacInstr)
+    (o : IntOp) (k : IntKind) (at_kind : AtKind k o) (to a b : ℕ) (rest : List TacInstr)
     (sel : IsSelectable s p running (instr.Int o k to a b) rest) (at : ℕ) (t : State modes.Store) (m : Machine)
     (point : IsAtPoint s code (before running (instr.Int o k to a b) rest) at t m)
     (kinded : AreOfKinds (kinds_in s running) t.vars) where
@@ -336,11 +425,11 @@ module _ (s : Setting) (code : List Instr) (x : IsText s code) (stack : StackIsT
       (Int result) result_known (OneThen word ends)
       (λ u mid y now_here e r us is range hs.
       subst (Computed s code u (length us) (mid + length us) r r) (sym result_bits)
-      (word_then s code x here t k promoted o by_number made result gives u mid now_here r range (word r y) us
+      (word_then s code x here t k o by_number made result gives u mid now_here r range (word r y) us
       (is ∙ ap (λ f. word r y ∷ f) (same r)) hs (plain r y) (does u r y e)))
       few (λ r y us is. subst (λ z. length z ≤ few) (sym (is ∙ ap (λ f. word r y ∷ f) (same r)))
       (one_more (length (finish_code k o by_number r)) (finish_more s code x here t k)
-      (finish_few s code x here t k promoted o by_number r)))
+      (finish_few s code x here t k o by_number r)))
       ws form has)
     where
       one_more : (n m : ℕ) → n ≤ m → suc n ≤ 1 + m
@@ -361,14 +450,14 @@ module _ (s : Setting) (code : List Instr) (x : IsText s code) (stack : StackIsT
       (TwoThen (Op (selected_op k o)) (finish_code k o false))
       (λ u mid y z now_here e f r us is range hs.
       subst (Computed s code u (length us) (mid + length us) r r) (sym result_bits)
-      (word_then s code x here t k promoted o false made result
-      (registers_give o k left right promoted left_is.1 right_is.kept) u mid now_here
+      (word_then s code x here t k o false made result
+      (registers_give o k left right at_kind left_is.1 right_is.kept) u mid now_here
       r range (Op (selected_op k o) r y z) us is hs refl
       (ap (λ n. set_integer u r (result_of (selected_op k o) n (integer u z))) (left_there u y e)
       ∙ ap (λ n. set_integer u r (result_of (selected_op k o) left n)) (right_there u z f))))
       few (λ r y z us is. subst (λ q. length q ≤ few) (sym is)
       (one_more (length (finish_code k o false r)) (finish_more s code x here t k)
-      (finish_few s code x here t k promoted o false r)))
+      (finish_few s code x here t k o false r)))
       ws form has)
     where
       one_more : (n m : ℕ) → n ≤ m → suc n ≤ 1 + m
@@ -377,30 +466,30 @@ module _ (s : Setting) (code : List Instr) (x : IsText s code) (stack : StackIsT
       let same : right ≡ n = number_is s code x here t at m point b n right (now (suc zero, refl)) is right_is.is in
       let kept = right_is.kept (no_shift o k j by) in
       by_one a (zero, refl) false (λ r y. Imm j r y z) (finish_code k o false) (λ r. refl) (λ r y. refl)
-      (result_of (selected_op k o) left right) (registers_give o k left right promoted left_is.1 right_is.kept)
+      (result_of (selected_op k o) left right) (registers_give o k left right at_kind left_is.1 right_is.kept)
       (λ u r y f. ap (λ q. set_integer u r (result_of (immediate_op j) q (extended z))) (left_there u y f)
       ∙ ap (λ q. set_integer u r (result_of (immediate_op j) left q)) (e ∙ sym same)
-      ∙ ap (λ g. set_integer u r (result_of g left right)) (immediate_is o k j promoted by)) ws form has
+      ∙ ap (λ g. set_integer u r (result_of g left right)) (immediate_is o k j at_kind by)) ws form has
   integers ws (NumberWith j n z by is e form) has =
       let same : left ≡ n = number_is s code x here t at m point a n left (now (zero, refl)) is left_is.0 in
       let kept = right_is.kept (no_shift o k j by) in
-      let turned = registers_give o k right left promoted kept (λ f. left_is.1) in
+      let turned = registers_give o k right left at_kind kept (λ f. left_is.1) in
       by_one b (suc zero, refl) false (λ r y. Imm j r y z) (finish_code k o false) (λ r. refl) (λ r y. refl)
       (result_of (selected_op k o) right left) (subst (Gives k o false (result_of (selected_op k o) right left)) (sym
       (commutes o k j left right by left_is.1 kept)) turned)
       (λ u r y f. ap (λ q. set_integer u r (result_of (immediate_op j) q (extended z))) (right_there u y f)
       ∙ ap (λ q. set_integer u r (result_of (immediate_op j) right q)) (e ∙ sym same)
-      ∙ ap (λ g. set_integer u r (result_of g right left)) (immediate_is o k j promoted by)) ws form has
+      ∙ ap (λ g. set_integer u r (result_of g right left)) (immediate_is o k j at_kind by)) ws form has
   integers ws (LessNumber n z subtracts is e form) has =
       let same : right ≡ n = number_is s code x here t at m point b n right (now (suc zero, refl)) is right_is.is in
       let made = result_of (immediate_op (add_op k)) left (extended z) in
       let l = IsKept-below k left left_is.1 in
-      let word = less_is k left right (extended z) promoted l right_below (kept_of-below z)
+      let word = less_is k left right (extended z) l right_below (kept_of-below z)
       (ap (λ q. (extended z + q) % 2 ^ 64) same ∙ e) in
       let gives : Gives k o false made result =
       subst (λ q. Gives k o false q result) (sym (word ∙ ap (λ g. result_of (selected_op k g) left right)
       (sym subtracts)))
-      (registers_give o k left right promoted left_is.1 right_is.kept) in
+      (registers_give o k left right at_kind left_is.1 right_is.kept) in
       by_one a (zero, refl) false (λ r y. Imm (add_op k) r y z) (finish_code k o false) (λ r. refl)
       (λ r y. refl) made gives
       (λ u r y f. ap (λ q. set_integer u r (result_of (immediate_op (add_op k)) q (extended z)))
@@ -410,7 +499,7 @@ module _ (s : Setting) (code : List Instr) (x : IsText s code) (stack : StackIsT
       let made = result_of (shift_op (shift_by k o)) left (right % width_of (form_of k)) in
       by_one a (zero, refl) true (λ r y. Shift (shift_by k o) r y (n % width_of (form_of k))) (finish_code k o true)
       (λ r. refl) (λ r y. refl)
-      made (shift_gives o k left right shift promoted left_is.1 right_below)
+      made (shift_gives o k left right shift (shifts_promoted o k shift at_kind) left_is.1 right_below)
       (λ u r y f. ap (λ q. set_integer u r (result_of (shift_op (shift_by k o)) q (n % width_of (form_of k))))
       (left_there u y f)
       ∙ ap (λ q. set_integer u r (result_of (shift_op (shift_by k o)) left (q % width_of (form_of k))))

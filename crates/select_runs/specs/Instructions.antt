@@ -3,7 +3,6 @@ use Rattle.std.specs.Prelude.{◌≡◌, ℕ, List}
 use Rattle.ck_base.specs.World.{World}
 use Rattle.rv_instr.specs.declared.instr.Instr.{Instr}
 use Rattle.c_tree.specs.declared.typed.Typed.{Typed}
-use Rattle.int_select.specs.Form.{IsPromoted}
 use Rattle.obj_mem.specs.Needs.{needs_of}
 use Rattle.tac_ir.specs.declared.code.TacInstr.{TacInstr}
 use Rattle.tac_ir.specs.declared.code.TacInstr.TheVariants as instr
@@ -12,7 +11,7 @@ use Rattle.place_inject.specs.Spills.{StackIsThere}
 use Rattle.place_inject.specs.Tables.{TableIsThere}
 use Rattle.select_words.specs.Capabilities.{IsNarrow, NarrowWords, IsOffset, OffsetWords, IsIntrinsic, CapWords}
 use Rattle.select_words.specs.Capabilities.{IsPointing, PointingWords}
-use Rattle.select_words.specs.Operations.{OperationWords, IsComparison, CompareWords, IsConversion, ConversionWords}
+use Rattle.select_words.specs.Operations.{AtKind, OperationWords, IsComparison, CompareWords, IsConversion, ConversionWords}
 use Rattle.select_words.specs.Words.{IsConst, ConstantWords, IsCopy, CopyWords, IsPassed, NoWords}
 use Rattle.select_runs.specs.Operands.{IsText}
 use Rattle.select_runs.specs.Results.{GoOn, EachGoesOn}
@@ -46,9 +45,9 @@ PointersRun = (s : Setting) (code : List Instr) → IsText s code → StackIsThe
     (p : Typed)
     → IsAskedBy s p → GoOn s code w p IsPointing PointingWords
 
--- an operation at a kind that the integer promotions leave as it is
+-- an operation at a kind at which there is one
 abbrev pub IsOperation : TacInstr → Type 0
-IsOperation (instr.Int o k to a b) = IsPromoted k
+IsOperation (instr.Int o k to a b) = AtKind k o
 IsOperation i = ⊥
 
 abbrev pub OperationsRun : Type 0

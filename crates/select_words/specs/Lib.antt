@@ -18,3 +18,4 @@ pub mod Passing
 pub mod Calling
 pub mod Through
 pub mod Heap
+pub mod ContainedCode

@@ -1,5 +1,5 @@
 -- The words of operations on integers, of comparisons and of conversions.
-use Rattle.std.specs.Prelude.{◌≡◌, ℕ, ◌+◌, ◌%◌, ◌^◌, ◌<◌, ℤ, pos, Bool, true, false, ◌&&◌, List, [], ◌∷◌, Option, Some}
+use Rattle.std.specs.Prelude.{◌≡◌, ℕ, ◌+◌, ◌%◌, ◌^◌, ◌<◌, ◌≤◌, ℤ, pos, Bool, true, false, ◌&&◌, List, [], ◌∷◌, Option, Some}
 use Rattle.std.specs.Prelude.{None, if◌then◌else◌}
 use Rattle.ck_int.specs.declared.kinds.IntKind.{IntKind}
 use Rattle.ck_int.specs.declared.kinds.IntKind.TheVariants as int
@@ -23,7 +23,7 @@ use Rattle.tac_ir.specs.declared.code.TacInstr.{TacInstr}
 use Rattle.tac_ir.specs.declared.code.TacInstr.TheVariants as instr
 use Rattle.tac_ir.specs.declared.code.TacKind.{TacKind}
 use Rattle.tac_ir.specs.declared.code.TacKind.TheVariants as kind
-use Rattle.select_words.specs.Integers.{reg_op, less}
+use Rattle.select_words.specs.Integers.{reg_op, short_op, less}
 use Rattle.select_words.specs.Emitted.{IsNumber}
 use Rattle.select_words.specs.Forms.{OfOne, OfTwo, Other}
 use Rattle.select_words.specs.Words.{Copied}
@@ -45,7 +45,14 @@ reduce_code int.U32 r from = shifts Srli r from 32
 reduce_code int.I64 r from = []
 reduce_code int.U64 r from = []
 
--- ---- operations, at promoted kinds
+-- ---- operations, at the kinds that the integer promotions leave as they are, and sums and differences at all kinds
+
+-- Sums and differences are there at each kind: a step of a narrow variable is one at its kind. At the kinds of fewer
+-- than 32 bits they are made in 32 and then reduced
+abbrev pub AtKind : IntKind → IntOp → Type 0
+AtKind k op.Add = Unit {0}
+AtKind k op.Sub = Unit {0}
+AtKind k o = 32 ≤ width_of (form_of k)
 
 -- whether the result has its kind without being reduced; a shift by a number has it
 abbrev pub is_exact_word : IntOp → (by_number : Bool) → Bool
@@ -58,6 +65,11 @@ is_exact_word o by_number = false
 
 abbrev pub is_exact : IntKind → IntOp → (by_number : Bool) → Bool
 is_exact int.U32 o by_number = is_exact_word o by_number
+is_exact int.Bool o by_number = false
+is_exact int.I8 o by_number = false
+is_exact int.U8 o by_number = false
+is_exact int.I16 o by_number = false
+is_exact int.U16 o by_number = false
 is_exact k o by_number = true
 
 abbrev pub finish_code : IntKind → IntOp → (by_number : Bool) → (r : ℕ) → List Instr
@@ -66,12 +78,17 @@ finish_code k o by_number r = if is_exact k o by_number then [] else reduce_code
 -- The operation of two registers. The remainder of two numbers of 32 bits without a sign is the same in 64
 abbrev pub selected_op : IntKind → IntOp → RegOp
 selected_op int.U32 op.Rem = Remu
+selected_op int.Bool o = short_op o
+selected_op int.I8 o = short_op o
+selected_op int.U8 o = short_op o
+selected_op int.I16 o = short_op o
+selected_op int.U16 o = short_op o
 selected_op k o = reg_op k o
 
 abbrev pub add_op : IntKind → ImmOp
-add_op int.I32 = Addiw
-add_op int.U32 = Addiw
-add_op k = Addi
+add_op int.I64 = Addi
+add_op int.U64 = Addi
+add_op k = Addiw
 
 -- that of a register and a number, where their order does not matter
 abbrev pub immediate_by : IntKind → IntOp → Option ImmOp

@@ -3,7 +3,7 @@ use Rattle.int_select.specs.Code.{function_code}
 use Rattle.int_select.specs.Selected.{Selects}
 use Rattle.int_select.proofs.Contained.{contained}
 use Rattle.int_select.proofs.Whole.{selects}
-use Rattle.rv_select.specs.ContainedCode.{IsContainedCode}
+use Rattle.select_words.specs.ContainedCode.{IsContainedCode}
 use Rattle.int_select.proofs.selection.select.Goals as goal
 
 pub returns-clause-selects : goal.returns-clause-selects

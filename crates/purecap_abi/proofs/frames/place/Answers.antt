@@ -1,5 +1,6 @@
-use Rattle.std.proofs.Common.{◌+◌, ◌*◌, ◌<◌, ◌≤◌, ap, arith, set}
+use Rattle.std.proofs.Common.{◌+◌, ◌*◌, ◌<◌, ◌≤◌, ◌∙◌, ap, arith, set}
 use Rattle.std.proofs.lemmas.List.Sums.{get_or-le-sum_by}
+use Rattle.cap_concentrate.specs.Rounding.{rounded_up}
 use Rattle.purecap_abi.specs.Frames.{room}
 use Rattle.purecap_abi.specs.Placing.{greatest_of}
 use Rattle.purecap_abi.proofs.Placing.{first_round, turn_at, turn_skip, turn_take, next_round, done, round_fits}
@@ -48,7 +49,8 @@ loop-k-preserved c =
           (c.loop-k.next + size) c.if-o-align.next align (k + 1) c.rounded-next.result
           (ap (λ v. v.items) w.starts-is) w.next-is
           (turn_take os c.loop-k.starts.items c.args.from c.loop-k.next align k c.rounded-next.result size
-          c.loop-k-test.true positive w.if-o-align.true r.is r.multiple
+          c.loop-k-test.true positive w.if-o-align.true
+          (r.is ∙ ap (λ n. rounded_up n align) (omega (arith, w.max.ensures))) r.multiple
           (sum_multiple c.loop-k.next size align c.loop-k.invariant.multiple r.multiple) c.loop-k.invariant)
       | else-o-align w ↦
           turn_at os c.loop-k.starts.items c.if-o-align.starts.items c.args.from c.loop-k.next c.if-o-align.next align
