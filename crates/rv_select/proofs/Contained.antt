@@ -15,7 +15,7 @@ use Rattle.rv_instr.specs.declared.ops.ImmOp.TheVariants.{Addi}
 use Rattle.rv_instr.specs.declared.ops.CapGetOp.TheVariants.{Csealentry}
 use Rattle.cap_machine.specs.ContainedText.{is_allowed, sets_service}
 use Rattle.purecap_abi.specs.Words.{stands_anywhere, IsPlainWord}
-use Rattle.rv_select.specs.ContainedCode.{offset_of, IsTarget, Leads, FollowsService, AreContained}
+use Rattle.select_words.specs.ContainedCode.{offset_of, IsTarget, Leads, FollowsService, AreContained}
 use Rattle.rv_select.specs.Leading.{IsLed}
 
 -- ---- lists

@@ -1,11 +1,9 @@
 -- What is appended for most instructions has their form.
-use Rattle.std.proofs.Common.{◌≡◌, ℕ, ◌*◌, ◌^◌, ◌<◌, List, [], ◌∷◌, ◌++◌, refl, ap, ◌∙◌, subst, sym, arith, pos}
+use Rattle.std.proofs.Common.{◌≡◌, ℕ, ℤ, ◌*◌, ◌^◌, ◌<◌, List, [], ◌∷◌, ◌++◌, refl, ap, ◌∙◌, subst, sym, arith}
 use Rattle.std.specs.Prelude.{Result, Ok, Err, IfOk, Option, Some, slice_get}
 use Rattle.rv_instr.specs.declared.instr.Instr.{Instr}
-use Rattle.rv_instr.specs.declared.instr.Instr.TheVariants.{Store}
 use Rattle.rv_instr.specs.declared.ops.CapGetOp.{CapGetOp}
 use Rattle.rv_instr.specs.declared.ops.CapRegOp.{CapRegOp}
-use Rattle.tac_ir.specs.declared.code.TacKind.{TacKind}
 use Rattle.select_words.specs.Selecting.{Selecting}
 use Rattle.select_words.specs.Emitted.{Operand, Target, Keep}
 use Rattle.purecap_abi.specs.Words.{load_code}
@@ -13,13 +11,14 @@ use Rattle.tac_ir.specs.Temps.{in_option}
 use Rattle.tac_ir.specs.declared.code.Amount.{Amount}
 use Rattle.tac_ir.specs.declared.code.Amount.TheVariants as amount
 use Rattle.select_words.specs.Forms.{Makes, OfOne, OfTwo, Amounts, Temps, Numbers}
-use Rattle.select_words.specs.Accesses.{store_op, StoreWords}
 use Rattle.select_words.specs.Words.{Bring}
 use Rattle.select_words.specs.Services.{Argument, KeepSome}
 use Rattle.select_words.specs.Capabilities as capabilities
 use Rattle.select_words.specs.Capabilities.{OneOfOne, OneOfTwo, Seconds, IntrinsicWords, Entry, EntryWords}
+use Rattle.select_words.specs.Capabilities.{Advance, Offsets, Near, NearTemp}
+use Rattle.cap_machine.specs.Integers.{extended}
 use Rattle.rv_select.specs.declared.memory.Intrinsic.TheVariants as intrinsic
-use Rattle.rv_select.specs.Work.{IsOfForm}
+use Rattle.rv_select.specs.Work.{IsOfForm, IsAmount}
 use Rattle.rv_select.specs.declared.function.Function.{Function}
 use Rattle.rv_select.specs.Choosing.{chosen, Chooses, ChoosesFirst}
 use Rattle.rv_select.specs.Growing.{Size, Puts, IsLongNumber, reach}
@@ -121,30 +120,6 @@ second_some s b old new t x r e is p =
     subst (λ o. Puts (λ ws. Seconds s o ws r) old new) (sym e)
     (subst (λ y. Puts (λ ws. Operand s t y ws r) old new) is p)
 
--- ---- stores
-
-pub store_of : (s : Selecting) (to value : ℕ) (k : TacKind) (old found second new : Size) (a b left right : ℕ)
-    → left ≡ 28 → right ≡ 29 → Puts (λ ws. Operand s to left ws a) old found
-    → Puts (λ ws. Operand s value right ws b) found second
-    → Puts (λ ws. ws ≡ Store (store_op k) b a (pos 0) ∷ []) second new → Puts (StoreWords s to value k) old new
-store_of s to value k old found second new a b left right e d o p w =
-    puts_then (λ ws. Operand s to left ws a) Then (StoreWords s to value k) old found new o
-    (puts_then (λ ws. Operand s value right ws b)
-    (λ ws. ws ≡ Store (store_op k) b a (pos 0) ∷ []) Then found second new p w
-    (λ os ws f are. (os, f, ap (λ y. os ++ y) are)))
-    (λ fs ts f then. record {
-      a = a;
-      b = b;
-      finds = fs;
-      others = then.0;
-      found = subst (λ y. Operand s to y fs a) e f;
-      other = subst (λ y. Operand s value y then.0 b) d then.1;
-      are = ap (λ y. fs ++ y) then.2;
-    })
-  where
-    Then : List Instr → Type 0
-    Then ws = (os : List Instr) × Operand s value right os b × (ws ≡ os ++ Store (store_op k) b a (pos 0) ∷ [])
-
 -- ---- entries of the table
 
 pub entry_of : (s : Selecting) (to number at : ℕ) (old mid new : Size) (r : ℕ) → 16 * number < reach
@@ -179,3 +154,14 @@ argument_of f (x ∷ xs) t old new e p h =
 pub result_of : (s : Selecting) (o : Option ℕ) (t : ℕ) (old new : Size) → o ≡ Some t → Puts (Bring s t 10) old new
     → Puts (Argument s (in_option o)) old new
 result_of s o t old new e p = subst (λ x. Puts (Argument s (in_option x)) old new) (sym e) p
+
+-- ---- moves
+
+pub offset_of : (s : Selecting) (to base : ℕ) (by : Amount) (z : ℤ) (old new : Size) → IsAmount s by z
+    → Puts (OfOne s to base (Advance (extended z))) old new → Puts (Offsets s to base by) old new
+offset_of s to base (amount.Temp t) z old new is p =
+    puts_map (OfOne s to base (Advance (extended z))) (Offsets s to base (amount.Temp t)) old new
+    (λ ws o. NearTemp t (extended z) refl is o) p
+offset_of s to base (amount.Number n) z old new is p =
+    puts_map (OfOne s to base (Advance (extended z))) (Offsets s to base (amount.Number n)) old new
+    (λ ws o. Near (extended z) (ap amount.Number (sym is)) o) p

@@ -18,7 +18,7 @@ use Rattle.elf_file.specs.declared.image.Line.{Line}
 use Rattle.elf_file.specs.Image.{lines_ok}
 use Rattle.purecap_abi.specs.Words.{IsPlainWord}
 use Rattle.rv_select.specs.declared.jumps.Mark.{Mark}
-use Rattle.rv_select.specs.ContainedCode.{offset_of, IsTarget, IsEntry, AreContained, IsContainedCode}
+use Rattle.select_words.specs.ContainedCode.{offset_of, IsTarget, IsEntry, AreContained, IsContainedCode}
 use Rattle.rv_select.specs.Growing.{IsText, AreEntries}
 use Rattle.rv_select.specs.Leading.{AreSound, IsSoFar, AreMarks, AreEntered, AreTargets, IsGrowing, IsStill, IsLed}
 use Rattle.rv_select.specs.Leading.{IsMarked, AreLed}

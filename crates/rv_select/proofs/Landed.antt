@@ -1,70 +1,97 @@
--- The text behind a jump that was led.
-use Rattle.std.proofs.Common.{◌≡◌, ℕ, zero, suc, ◌+◌, ◌*◌, ◌<◌, ◌≤◌, ⊎_elim, ℤ, pos, List, [], ◌∷◌, ◌++◌, length, Some}
-use Rattle.std.proofs.Common.{refl, sym, ap, ◌∙◌, subst, append_assoc, arith}
-use Rattle.std.specs.Prelude.{slice_get}
-use Rattle.std.proofs.lemmas.Int.{ints}
+-- What is appended where jumps land.
+use Rattle.std.proofs.Common.{◌≡◌, ℕ, zero, suc, ◌+◌, ◌*◌, ◌<◌, ◌≤◌, ⊎_elim, ℤ, pos, Bool, List, [], ◌∷◌, ◌++◌, length}
+use Rattle.std.proofs.Common.{Some, None, refl, sym, ap, ◌∙◌, subst, arith, append_assoc}
+use Rattle.std.specs.Prelude.{slice_get, ◌+ℤ◌}
 use Rattle.std.proofs.lemmas.Bool.{cases_eq}
+use Rattle.std.proofs.lemmas.Int.{ints}
 use Rattle.std.proofs.lemmas.List.{length-append}
-use Rattle.std.proofs.lemmas.Option.{same_Some}
 use Rattle.rv_instr.specs.declared.instr.Instr.{Instr}
-use Rattle.rv_select.specs.Leading.{leading, span, Spans, IsHop, IsLedTo}
+use Rattle.rv_instr.specs.declared.instr.Instr.TheVariants.{Branch, Cjal}
+use Rattle.rv_instr.specs.declared.ops.BranchOp.{BranchOp}
+use Rattle.select_words.specs.Selecting.{Selecting}
+use Rattle.select_words.specs.Emitted.{Operand}
+use Rattle.select_words.specs.Jumps.{inverted}
+use Rattle.tac_ir.specs.declared.code.TacInstr.TheVariants as instr
+use Rattle.rv_select.specs.Growing.{Size, Links, Puts, jumping}
+use Rattle.rv_select.specs.Leading.{leading, Spans, IsHop, IsLedTo}
+use Rattle.rv_select.specs.Noting.{Selects}
 
--- words behind words behind a text
-pub more : {A : Type 0} (a b c x y : List A) → x ≡ a ++ b → y ≡ x ++ c → y ≡ a ++ (b ++ c)
-more a b c x y e f = f ∙ ap (λ z. z ++ c) e ∙ append_assoc a b c
+-- lists with the same items are the same
+pub same_items : {A : Type 0} (xs ys : List A) → ((k : ℕ) → slice_get xs k ≡ slice_get ys k) → xs ≡ ys
+same_items [] [] h = refl
+same_items [] (y ∷ ys) h = let e = h 0 in absurd cc
+same_items (x ∷ xs) [] h = let e = h 0 in absurd cc
+same_items (x ∷ xs) (y ∷ ys) h =
+    let e = h 0 in
+    let first : x ≡ y = cc in
+    let rest = same_items xs ys (λ k. h (suc k)) in
+    cc
 
--- three words behind a text
-pub three_more : {A : Type 0} (a x y z : List A) (i j k u v w : A) → x ≡ a ++ i ∷ [] → y ≡ x ++ j ∷ [] → z ≡ y ++ k ∷ []
-    → i ≡ u → j ≡ v → k ≡ w → z ≡ a ++ (u ∷ v ∷ w ∷ [])
-three_more a x y z i j k u v w e f g p q r =
-    more a (i ∷ j ∷ []) (k ∷ []) y z (more a (i ∷ []) (j ∷ []) x y e f) g
-    ∙ ap (λ n. a ++ (n ∷ j ∷ k ∷ [])) p ∙ ap (λ n. a ++ (u ∷ n ∷ k ∷ [])) q ∙ ap (λ n. a ++ (u ∷ v ∷ n ∷ [])) r
+pub at_seam : {A : Type 0} (pre post : List A) (x : A) → slice_get (pre ++ x ∷ post) (length pre) ≡ Some x
+at_seam [] post x = refl
+at_seam (y ∷ pre) post x = at_seam pre post x
 
--- lists whose elements are the same are the same
-same_lists : {A : Type 0} (xs ys : List A) → ((k : ℕ) → slice_get xs k ≡ slice_get ys k) → xs ≡ ys
-same_lists [] [] h = refl
-same_lists [] (y ∷ ys) h = let e = h 0 in absurd cc
-same_lists (x ∷ xs) [] h = let e = h 0 in absurd cc
-same_lists (x ∷ xs) (y ∷ ys) h =
-    ap (λ z. z ∷ xs) (same_Some x y (h 0)) ∙ ap (λ zs. y ∷ zs) (same_lists xs ys (λ k. h (suc k)))
+pub off_seam : {A : Type 0} (pre post : List A) (x y : A) (k : ℕ) → (k ≡ length pre → ⊥)
+    → slice_get (pre ++ x ∷ post) k ≡ slice_get (pre ++ y ∷ post) k
+off_seam [] post x y zero n = absurd (n refl)
+off_seam [] post x y (suc k) n = refl
+off_seam (z ∷ pre) post x y zero n = refl
+off_seam (z ∷ pre) post x y (suc k) n = off_seam pre post x y k (λ e. n (ap suc e))
 
-at_split : (a b : List Instr) (i : Instr) → slice_get (a ++ i ∷ b) (length a) ≡ Some i
-at_split [] b i = refl
-at_split (x ∷ a) b i = at_split a b i
+-- a word that was led, and what stands around it
+pub landed : (pre post a b : List Instr) (i : Instr) (at to : ℕ) (z : ℤ) → a ≡ pre ++ i ∷ post → at ≡ length pre
+    → IsLedTo a b at to → Spans i at to → IsHop at to z → b ≡ pre ++ leading i z ∷ post
+landed pre post a b i at to z e f l s h =
+    let was = ap (slice_get a) f ∙ ap (λ (x : List Instr). slice_get x (length pre)) e ∙ at_seam pre post i in
+    let now = l.led i z was s h in
+    same_items b (pre ++ leading i z ∷ post) (λ k. ⊎_elim
+    (λ (q : k ≡ at). ap (slice_get b) q ∙ now ∙ sym (ap (slice_get (pre ++ leading i z ∷ post)) (q ∙ f)
+    ∙ at_seam pre post (leading i z)))
+    (λ (n : k ≡ at → ⊥). l.others k n ∙ ap (λ (x : List Instr). slice_get x k) e
+    ∙ off_seam pre post i (leading i z) k (λ q. n (q ∙ sym f)))
+    (cases_eq k at))
 
-off_split : (a b : List Instr) (i j : Instr) (k : ℕ) → (k ≡ length a → ⊥)
-    → slice_get (a ++ i ∷ b) k ≡ slice_get (a ++ j ∷ b) k
-off_split [] b i j zero n = absurd (n refl)
-off_split [] b i j (suc k) n = refl
-off_split (x ∷ a) b i j zero n = refl
-off_split (x ∷ a) b i j (suc k) n = off_split a b i j k (λ e. n (ap suc e))
+-- ---- branches to labels
 
--- one word is another, and the others stay
-pub led_split : (a b new : List Instr) (i : Instr) (at to : ℕ) (z : ℤ) → at ≡ length a → IsLedTo (a ++ i ∷ b) new at to
-    → Spans i at to → IsHop at to z → new ≡ a ++ leading i z ∷ b
-led_split a b new i at to z e l s h = same_lists new (a ++ leading i z ∷ b) (λ k. ⊎_elim
-    (λ (q : k ≡ at). ap (slice_get new) q ∙ l.led i z (ap (slice_get (a ++ i ∷ b)) e ∙ at_split a b i) s h
-    ∙ sym (ap (slice_get (a ++ leading i z ∷ b)) (q ∙ e) ∙ at_split a b (leading i z)))
-    (λ (q : k ≡ at → ⊥). l.others k q ∙ off_split a b i (leading i z) k (λ d. q (d ∙ sym e))) (cases_eq k at))
-
--- it leads behind the last word
-pub landed : (old a b new : List Instr) (i : Instr) (at : ℕ) → old ≡ a ++ i ∷ b → at ≡ length a
-    → IsLedTo old new at (length old) → length b + 1 < span i → new ≡ a ++ leading i (pos (4 * (length b + 1))) ∷ b
-landed old a b new i at is e l lt =
-    let led = subst (λ x. IsLedTo x new at (length x)) is l in
-    let size = length-append a (i ∷ b) in
-    led_split a b new i at (length (a ++ i ∷ b)) (pos (4 * (length b + 1))) e led
-    (record { ahead = omega (arith, size, e, lt); back = omega (arith, size, e) }) (omega (arith, ints, size, e))
-
--- a branch back over some words
-pub closed : (a b text new : List Instr) (i : Instr) (top : ℕ) (z : ℤ) → text ≡ a ++ b → top ≡ length a
-    → IsLedTo (text ++ i ∷ []) new (length text) top → length b < span i → IsHop (length a + length b) (length a) z
-    → new ≡ a ++ (b ++ leading i z ∷ [])
-closed a b text new i top z is e l lt h =
-    let size = ap length is ∙ length-append a b in
-    let ahead : top < length text + span i = omega (arith, size, e, lt) in
-    let back : length text ≤ top + span i = omega (arith, size, e, lt) in
-    let hop : IsHop (length text) top z = subst (λ x. IsHop x top z) (sym size)
-    (subst (λ x. IsHop (length a + length b) x z) (sym e) h) in
-    led_split text [] new i (length text) top z refl l (record { ahead = ahead; back = back }) hop ∙ ap (λ x. x ++ leading i z ∷ []) is
-    ∙ append_assoc a b (leading i z ∷ [])
+module _ (s : Selecting) (on : ℕ) (when : Bool) (l : ℕ) (old found branched jumped new : Size) where
+  pub branch_selected : (op : BranchOp) (r over left : ℕ) → left ≡ 28
+      → Puts (λ ws. Operand s on left ws r) old found → found.links ≡ old.links → op ≡ inverted when
+      → over ≡ length found.text → branched.text ≡ found.text ++ Branch op r 0 (pos 0) ∷ []
+      → branched.links ≡ found.links → jumped.text ≡ branched.text ++ Cjal 0 (pos 0) ∷ []
+      → jumped.links ≡ jumping branched.links (length branched.text) l
+      → IsLedTo jumped.text new.text over (length jumped.text) → new.links ≡ jumped.links
+      → Selects s (instr.Branch on when l) old new
+  branch_selected op r over left e p k is at b m j n led q =
+      let whole : jumped.text ≡ found.text ++ (Branch op r 0 (pos 0) ∷ Cjal 0 (pos 0) ∷ []) =
+      j ∙ ap (λ x. x ++ Cjal 0 (pos 0) ∷ []) b
+      ∙ append_assoc found.text (Branch op r 0 (pos 0) ∷ []) (Cjal 0 (pos 0) ∷ []) in
+      let long : length jumped.text ≡ length found.text + 2 = ap length whole
+      ∙ length-append found.text (Branch op r 0 (pos 0) ∷ Cjal 0 (pos 0) ∷ []) in
+      let there = landed found.text (Cjal 0 (pos 0) ∷ []) jumped.text new.text (Branch op r 0 (pos 0)) over
+      (length jumped.text) (pos 8) whole at led
+      (record { ahead = omega (arith, at, long); back = omega (arith, at, long) }) (omega (arith, ints, at, long)) in
+      let place : length branched.text ≡ length old.text + (length p.added + 1) =
+      ap length (b ∙ ap (λ x. x ++ Branch op r 0 (pos 0) ∷ []) p.is) ∙ sized p.added in
+      record {
+        added = p.added ++ (Branch (inverted when) r 0 (pos 8) ∷ Cjal 0 (pos 0) ∷ []);
+        is = there ∙ ap (λ x. x ++ (Branch op r 0 (pos 8) ∷ Cjal 0 (pos 0) ∷ [])) p.is
+            ∙ append_assoc old.text p.added (Branch op r 0 (pos 8) ∷ Cjal 0 (pos 0) ∷ [])
+            ∙ ap (λ (o : BranchOp). old.text ++ (p.added ++ (Branch o r 0 (pos 8) ∷ Cjal 0 (pos 0) ∷ []))) is;
+        are = record {
+          offset = pos 0;
+          finds = p.added;
+          branches = record { a = r; found = subst (λ y. Operand s on y p.added r) e p.are; are = refl };
+          leads = (
+            refl,
+            q ∙ n ∙ ap (λ (x : Links). jumping x (length branched.text) l) (m ∙ k)
+                ∙ ap (λ x. jumping old.links x l) place,
+          );
+        };
+      }
+    where
+      sized : (fs : List Instr)
+          → length ((old.text ++ fs) ++ Branch op r 0 (pos 0) ∷ []) ≡ length old.text + (length fs + 1)
+      sized fs =
+          let a = length-append (old.text ++ fs) (Branch op r 0 (pos 0) ∷ []) in
+          let b = length-append old.text fs in
+          omega (arith, a, b)

@@ -95,7 +95,8 @@ too_many i at to (negsuc z) s h f =
 
 pub led_narrow : (a : List Instr) (at to : ℕ) (i : Instr) (z : ℤ) → FitsBits 21 z → slice_get a at ≡ Some i
     → IsHop at to z
-    → (neg_ℤ (pos (4 * span i)) ≤ℤ to_z w32 (of_z w32 z) → pos (4 * span i) ≤ℤ to_z w32 (of_z w32 z)) → IsLedTo a a at to
+    → (neg_ℤ (pos (4 * span i)) ≤ℤ to_z w32 (of_z w32 z) → pos (4 * span i) ≤ℤ to_z w32 (of_z w32 z))
+    → IsLedTo a a at to
 led_narrow a at to i z fits e h f = led_not a at to (λ j y d s g.
     let same : j ≡ i = same_Some j i (sym d ∙ e) in
     let far = subst (λ (x : ℤ). neg_ℤ (pos (4 * span i)) ≤ℤ x → pos (4 * span i) ≤ℤ x) (word_again z fits) f in
@@ -126,7 +127,8 @@ led_by a at to i j z fits lt e h is =
             let same : m ≡ i = same_Some m i (sym d ∙ ap (slice_get a) q ∙ e) in (
               z,
               ap (slice_get (set a at j)) q ∙ set_same a at j lt
-                  ∙ ap Some (is ∙ ap (λ (x : ℤ). leading i x) (word_again z fits) ∙ ap (λ (x : Instr). leading x z) (sym same)),
+                  ∙ ap Some (is ∙ ap (λ (x : ℤ). leading i x) (word_again z fits)
+                  ∙ ap (λ (x : Instr). leading x z) (sym same)),
             )
 
 -- ---- where labels stand
@@ -137,7 +139,8 @@ marked_one ms label k place d lt e h = sym (h.only k d lt (ranked (get_or ms k d
 
 pub marked_none : (ms : List Mark) (label i place : ℕ) → AreOrdered ms
     → (IsNonDecreasingBy (λ (m : Mark). ordering_index (nat_cmp m.label label)) ms
-    → IsPartitionPoint (λ (m : Mark). nat_cmp m.label label ≡ Less) (λ (m : Mark). nat_cmp m.label label ≡ Greater) ms i)
+    → IsPartitionPoint (λ (m : Mark). nat_cmp m.label label ≡ Less)
+    (λ (m : Mark). nat_cmp m.label label ≡ Greater) ms i)
     → StandsAt ms label place → ⊥
 marked_none ms label i place o p h =
     let sides = p (searchable_from_sorted nat_cmp_total (λ (m : Mark). m.label) ms label o) in
@@ -200,7 +203,8 @@ module _ (Place : (to place : ℕ) → Type 0) where
         (Contains-push_cases done j (record { at = at; to = to }) some))
         (cases_eq at j.at);
     others = λ k n.
-        let apart : k ≡ j.at → ⊥ = λ q. All-contains (λ (x : Jump). x.at ≡ k → ⊥) (done ++ j ∷ []) j n (Contains-push done j) (sym q) in
+        let apart : k ≡ j.at → ⊥ = λ q. All-contains (λ (x : Jump). x.at ≡ k → ⊥) (done ++ j ∷ []) j n
+        (Contains-push done j) (sym q) in
         m.others k apart ∙ l.others k (all_first (λ (x : Jump). x.at ≡ k → ⊥) done (j ∷ []) n);
     kinds = λ k i e.
         let y = l.kinds k i e in
@@ -240,6 +244,7 @@ module _ (Place : (to place : ℕ) → Type 0) where
         len = m.len;
         led = λ at to place i z j p e s h. m.led at to place i z j.some j.only p e s h;
         others = m.others;
+        kinds = m.kinds;
       }
 
 -- ---- labels that were sorted
@@ -259,6 +264,7 @@ led_sorted ms sorted ns jumps js a b p e f l =
       led = λ at to place i z j s. m.led at to place i z j
           (subst (λ ks. StandsAt ks to place) (sym e) (stands_moved ms sorted p to place s));
       others = m.others;
+      kinds = m.kinds;
     }
 
 pub completed : (old : Size) (text front code : List Instr) (calls cs : List Jump) (entries es : List ℕ)

@@ -17,7 +17,7 @@ use Rattle.rv_select.specs.Choosing.{chosen, ChoosesFirst, ChoosesSome, ReachesH
 use Rattle.rv_select.specs.Growing.{Size, Puts, reach}
 use Rattle.rv_select.specs.Leading.{IsLedTo}
 use Rattle.rv_select.proofs.Choices.{puts_then}
-use Rattle.rv_select.proofs.Landed.{more, landed}
+use Rattle.rv_select.proofs.Skips.{more, over_words}
 
 either_few : (c : Bool) (xs ys : List Instr) → length xs ≤ 3 → length ys ≤ 3 → length (if c then xs else ys) ≤ 3
 either_few true xs ys p q = p
@@ -81,7 +81,7 @@ module _ (heap : ℕ) (t0 t1 t2 t3 t4 t5 t6 t7 t8 t9 t10 t11 t12 t13 : List Inst
       tail = length-append back (no_jump ∷ [])
 
       one : t10 ≡ t2 ++ (first n1 ∷ (middle ++ (second 0 ∷ later)))
-      one = landed t9 t2 (middle ++ (second 0 ∷ later)) t10 (first 0) longer to_jump at1 l1
+      one = over_words t9 t2 (middle ++ (second 0 ∷ later)) t10 (first 0) longer to_jump at1 l1
           (let f = back_few in omega (arith, tail, f))
 
       abbrev front : List Instr
@@ -92,8 +92,9 @@ module _ (heap : ℕ) (t0 t1 t2 t3 t4 t5 t6 t7 t8 t9 t10 t11 t12 t13 : List Inst
           ∙ sym (length-append t2 (first n1 ∷ middle))
 
       two : t11 ≡ front ++ (second n2 ∷ later)
-      two = landed t10 front later t11 (second 0) full
-          (one ∙ sym (append_assoc t2 (first n1 ∷ middle) (second 0 ∷ later))) front_long l2 (let f = back_few in omega (arith, tail, f))
+      two = over_words t10 front later t11 (second 0) full
+          (one ∙ sym (append_assoc t2 (first n1 ∷ middle) (second 0 ∷ later))) front_long l2
+          (let f = back_few in omega (arith, tail, f))
 
       abbrev behind : List Instr
       behind = front ++ (second n2 ∷ (takes ++ back))
@@ -107,7 +108,7 @@ module _ (heap : ℕ) (t0 t1 t2 t3 t4 t5 t6 t7 t8 t9 t10 t11 t12 t13 : List Inst
           omega (arith, at3, a, b, c, d)
 
       three : t13 ≡ behind ++ gives_null
-      three = landed t12 behind (Imm Addi 10 0 (pos 0) ∷ []) t13 no_jump done
+      three = over_words t12 behind (Imm Addi 10 0 (pos 0) ∷ []) t13 no_jump done
           (more behind (no_jump ∷ []) (Imm Addi 10 0 (pos 0) ∷ []) t11 t12
           (two ∙ sym (append_assoc front (second n2 ∷ (takes ++ back)) (no_jump ∷ []))) e12) behind_long l3
           (omega arith)

@@ -1,20 +1,25 @@
 -- What is appended for copies of structs has its form.
-use Rattle.std.proofs.Common.{◌≡◌, ℕ, ◌+◌, ◌^◌, ◌<◌, ℤ, pos, negsuc, List, [], ◌∷◌, ◌++◌, length}
-use Rattle.std.proofs.Common.{to_z, of_z, w32, refl, ap, ◌∙◌, subst, arith}
+use Rattle.std.proofs.Common.{◌≡◌, ℕ, zero, suc, ◌+◌, ◌/◌, ◌^◌, ◌<◌, ℤ, pos, negsuc, List, [], ◌∷◌, ◌++◌, length}
+use Rattle.std.proofs.Common.{to_z, of_z, w32, refl, sym, ap, ◌∙◌, subst, arith}
 use Rattle.std.proofs.lemmas.Int.{ints}
+use Rattle.std.proofs.lemmas.List.{append-nil, length-append}
+use Rattle.ck_base.specs.declared.positions.Pos.{Pos}
 use Rattle.rv_instr.specs.declared.instr.Instr.{Instr}
 use Rattle.rv_instr.specs.declared.instr.Instr.TheVariants.{Branch, CapImm, Imm}
 use Rattle.rv_instr.specs.declared.ops.BranchOp.TheVariants.{Bne}
 use Rattle.rv_instr.specs.declared.ops.CapImmOp.TheVariants.{Cincoffsetimm}
 use Rattle.rv_instr.specs.declared.ops.ImmOp.TheVariants.{Addi}
+use Rattle.tac_ir.specs.declared.code.TacInstr.TheVariants as instr
 use Rattle.select_words.specs.Selecting.{Selecting}
 use Rattle.select_words.specs.Words.{Bring}
 use Rattle.select_words.specs.Copying.{unit_words, copy_loop, Brings, Nothing, One, Round}
-use Rattle.rv_select.specs.Growing.{Size, Puts, IsWordNumber}
+use Rattle.rv_select.specs.Growing.{Size, Links, Puts, IsWordNumber, both_trapping}
 use Rattle.rv_select.specs.Leading.{IsHop, IsLedTo}
-use Rattle.rv_select.specs.Objects.{CopiesUnits, RoundWords}
-use Rattle.rv_select.proofs.Choices.{puts_none, puts_then}
-use Rattle.rv_select.proofs.Landed.{more, three_more, closed}
+use Rattle.rv_select.specs.Noting.{Twice, noting, Selects}
+use Rattle.rv_select.specs.Objects.{RoundWords}
+use Rattle.rv_select.specs.Selected.{Ways, noted_copy}
+use Rattle.rv_select.proofs.Choices.{puts_then}
+use Rattle.rv_select.proofs.Skips.{more, three_more, back_over}
 
 -- the words of the loop, but for the branch
 abbrev pub copy_body : ℕ → List Instr
@@ -38,45 +43,95 @@ pub body_put : (unit : ℕ) (t0 t1 t2 t3 t4 : List Instr) (i j k : Instr) → t1
 body_put unit t0 t1 t2 t3 t4 i j k e f g h p q r =
     more t0 (unit_words unit) _ t1 t4 e (three_more t1 t2 t3 t4 i j k _ _ _ f g h p q r)
 
-pub round_copied : (units unit : ℕ) (old numbered new : Size) (body : List Instr) (top count : ℕ) → count ≡ 30
-    → Puts (IsWordNumber 30 units) old numbered → top ≡ length numbered.text → body ≡ numbered.text ++ copy_body unit
+-- two words behind others trap
+pub both_at : (old mid now : Links) (m n : ℕ) (first second : Pos) → now ≡ both_trapping mid m first second → mid ≡ old
+    → m ≡ n → now ≡ both_trapping old n first second
+both_at old mid now m n first second t e same =
+    t ∙ ap (λ (x : Links). both_trapping x m first second) e ∙ ap (λ k. both_trapping old k first second) same
+
+-- ---- what is noted of a copy
+
+noted_none : (y : Ways) (units skip : ℕ) (first second : Pos) → units ≡ 0 → y.Passes
+    → noted_copy y units skip first second
+noted_none y units skip first second e p = subst (λ n. noted_copy y n skip first second) (sym e) p
+
+noted_some : (y : Ways) (units skip : ℕ) (first second : Pos) → 0 < units → y.TrapsTwice skip first second
+    → noted_copy y units skip first second
+noted_some y zero skip first second some t = absurd (omega arith)
+noted_some y (suc n) skip first second some t = t
+
+-- ---- whole
+
+pub round_copied : (units unit : ℕ) (first second : Pos) (old numbered new : Size) (body : List Instr)
+    (top count : ℕ) → count ≡ 30 → Puts (IsWordNumber 30 units) old numbered → numbered.links ≡ old.links
+    → top ≡ length numbered.text → body ≡ numbered.text ++ copy_body unit
     → IsLedTo (body ++ Branch Bne count 0 (pos 0) ∷ []) new.text (length body) top
-    → Puts (RoundWords units unit) old new
-round_copied units unit old numbered new body top count same n e b l =
+    → new.links ≡ both_trapping numbered.links (length numbered.text) first second
+    → Puts (RoundWords (Twice old new first second) units unit) old new
+round_copied units unit first second old numbered new body top count same n links e b l twice =
     let led = subst (λ r. IsLedTo (body ++ Branch Bne r 0 (pos 0) ∷ []) new.text (length body) top) same l in
     let long : IsHop (length numbered.text + 5) (length numbered.text) (negsuc 19) = omega (arith, ints) in
-    let whole = closed numbered.text (copy_body unit) body new.text (Branch Bne 30 0 (pos 0)) top (negsuc 19) b e led
+    let whole = back_over numbered.text (copy_body unit) body new.text (Branch Bne 30 0 (pos 0)) top (negsuc 19) b e led
     (omega arith) long in
     record {
       added = n.added ++ copy_loop unit;
       is = more old.text n.added (copy_loop unit) numbered.text new.text n.is whole;
-      are = record { number = n.added; makes = n.are; are = refl };
+      are = record {
+        number = n.added;
+        makes = n.are;
+        reports = both_at old.links numbered.links new.links (length numbered.text) (length old.text + length n.added)
+            first second twice links (ap length n.is ∙ length-append old.text n.added);
+        are = refl;
+      };
     }
 
-module _ (s : Selecting) (from to units unit : ℕ) where
-  pub copied_nothing : (old : Size) → units ≡ 0 → Puts (CopiesUnits s from to units unit) old old
-  copied_nothing old e = puts_none (CopiesUnits s from to units unit) old (0, Nothing e refl)
+pub copied_nothing : (s : Selecting) (from to bytes unit : ℕ) (first second : Pos) (old : Size) → bytes / unit ≡ 0
+    → Selects s (instr.CopyUnits from to bytes unit first second) old old
+copied_nothing s from to bytes unit first second old none = record {
+  added = [];
+  is = sym (append-nil old.text);
+  are = (0, Nothing none refl, noted_none (noting old old) (bytes / unit) 0 first second none refl);
+}
 
-  module _ (old found both new : Size) (left right : ℕ) (is : left ≡ 28) (same : right ≡ 29)
-      (p : 0 < left → Puts (Bring s from left) old found) (q : 0 < right → Puts (Bring s to right) found both) where
-    front : Puts (Brings s from to) old both
-    front = puts_then (Bring s from 28) (Bring s to 29) (Brings s from to) old found both
-        (subst (λ r. Puts (Bring s from r) old found) is (p (omega (arith, is))))
-        (subst (λ r. Puts (Bring s to r) found both) same (q (omega (arith, same))))
-        (λ fs os f o. record { finds = fs; others = os; first = f; second = o; are = refl })
+module _ (s : Selecting) (from to bytes unit left right : ℕ) (first second : Pos) (old found both new : Size)
+    (is : left ≡ 28) (same : right ≡ 29) (p : 0 < left → Puts (Bring s from left) old found)
+    (q : 0 < right → Puts (Bring s to right) found both) (links : both.links ≡ old.links) where
+  brings : Puts (Brings s from to) old both
+  brings = puts_then (Bring s from 28) (Bring s to 29) (Brings s from to) old found both
+      (subst (λ r. Puts (Bring s from r) old found) is (p (omega (arith, is))))
+      (subst (λ r. Puts (Bring s to r) found both) same (q (omega (arith, same))))
+      (λ fs os f o. record { finds = fs; others = os; first = f; second = o; are = refl })
 
-    pub copied_one : units ≡ 1 → new.text ≡ both.text ++ unit_words unit
-        → Puts (CopiesUnits s from to units unit) old new
-    copied_one one e = puts_then (Brings s from to) (λ ws. ws ≡ unit_words unit) (CopiesUnits s from to units unit)
-        old both new front (record { added = unit_words unit; is = e; are = refl })
-        (λ fs ws f w. (length fs, One one fs f refl (ap (λ x. fs ++ x) w)))
+  pub copied_one : bytes / unit ≡ 1 → new.text ≡ both.text ++ unit_words unit
+      → new.links ≡ both_trapping both.links (length both.text) first second
+      → Selects s (instr.CopyUnits from to bytes unit first second) old new
+  copied_one one e twice = record {
+    added = brings.added ++ unit_words unit;
+    is = more old.text brings.added (unit_words unit) both.text new.text brings.is e;
+    are = (
+      length brings.added,
+      One one brings.added brings.are refl refl,
+      noted_some (noting old new) (bytes / unit) (length brings.added) first second (omega (arith, one))
+          (both_at old.links both.links new.links (length both.text) (length old.text + length brings.added) first
+          second twice links (ap length brings.is ∙ length-append old.text brings.added)),
+    );
+  }
 
-    pub copied_round : 0 < units → units < 2 ^ 31 → Puts (RoundWords units unit) both new
-        → Puts (CopiesUnits s from to units unit) old new
-    copied_round some few r = puts_then (Brings s from to) (RoundWords units unit) (CopiesUnits s from to units unit)
-        old both new front r
-        (λ fs ws f w. (
-          length fs + length w.number,
-          Round some few fs w.number f w.makes.makes w.makes.few refl
-              (ap (λ x. fs ++ x) w.are),
-        ))
+  pub copied_round : 0 < bytes / unit → bytes / unit < 2 ^ 31
+      → Puts (RoundWords (Twice both new first second) (bytes / unit) unit) both new
+      → Selects s (instr.CopyUnits from to bytes unit first second) old new
+  copied_round some few r =
+      let size = ap length brings.is ∙ length-append old.text brings.added in
+      record {
+        added = brings.added ++ r.added;
+        is = more old.text brings.added r.added both.text new.text brings.is r.is;
+        are = (
+          length brings.added + length r.are.number,
+          Round some few brings.added r.are.number brings.are r.are.makes.makes r.are.makes.few refl
+              (ap (λ x. brings.added ++ x) r.are.are),
+          noted_some (noting old new) (bytes / unit) (length brings.added + length r.are.number) first second some
+              (both_at old.links both.links new.links (length both.text + length r.are.number)
+              (length old.text + (length brings.added + length r.are.number)) first second r.are.reports links
+              (omega (arith, size))),
+        );
+      }

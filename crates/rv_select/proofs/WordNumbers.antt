@@ -1,11 +1,11 @@
 -- A number of 32 bits, as a register's 64 bits.
 use mir.Val.{SFits}
-use Rattle.std.proofs.Common.{◌≡◌, ◌-◌, ◌%◌, ◌^◌, ◌<◌, ◌≤◌, ℤ, pos, negsuc, Bool, true, false, refl, ap, ◌∙◌}
+use Rattle.std.proofs.Common.{◌≡◌, ◌-◌, ◌%◌, ◌^◌, ◌<◌, ◌≤◌, ℕ, ℤ, pos, negsuc, Bool, true, false, refl, ap, sym, ◌∙◌}
 use Rattle.std.proofs.Common.{arith}
 use Rattle.std.proofs.Common.{w32, w64, to_z, of_z, nat_lt}
 use Rattle.std.specs.Prelude.{nat_le, ◌||◌}
 use Rattle.std.proofs.lemmas.Bool.Decides.{nat_tests}
-use Rattle.std.proofs.lemmas.Int.{ints, to_z-of_z}
+use Rattle.std.proofs.lemmas.Int.{ints, to_z-of_z, of_z-to_z}
 use Rattle.ck_int.specs.Kinds.{kept_of}
 use Rattle.cap_machine.specs.Integers.{extended}
 use Rattle.purecap_abi.specs.Words.{is_word}
@@ -14,6 +14,13 @@ unsigned_bits : (z : ℤ) → SFits w32 z → of_z w64 z ≡ extended z
 unfolding kept_of
 unsigned_bits (pos n) h = let f = h.sfits in omega (arith, ints, f)
 unsigned_bits (negsuc n) h = let f = h.sfits in omega (arith, ints, f)
+
+-- one of 64 bits that fits in 32
+pub number_bits : (z r : ℤ) (n : ℕ) → SFits w32 z → n < 2 ^ 64 → z ≡ to_z w64 (of_z w64 r) → r ≡ to_z w64 n
+    → extended z ≡ n
+number_bits z r n h lt e d =
+    let same = ap (of_z w64) d ∙ of_z-to_z w64 n lt in
+    sym (unsigned_bits z h) ∙ ap (of_z w64) (e ∙ ap (to_z w64) same) ∙ of_z-to_z w64 n lt
 
 wide_fits : (z : ℤ) → SFits w32 z → SFits w64 z
 wide_fits (pos n) h = let f = h.sfits in record { sfits = omega (arith, ints, f) }

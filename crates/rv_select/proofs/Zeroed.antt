@@ -25,7 +25,7 @@ use Rattle.rv_select.specs.Leading.{IsHop, IsLedTo}
 use Rattle.rv_select.specs.Objects.{HasObject}
 use Rattle.rv_select.proofs.Choices.{puts_then, puts_map}
 use Rattle.rv_select.proofs.Formed.{makes_of}
-use Rattle.rv_select.proofs.Landed.{closed}
+use Rattle.rv_select.proofs.Skips.{back_over}
 
 -- ---- numbers
 
@@ -62,9 +62,6 @@ module _ (f : Function) (var : ℕ) (found : Slot) (is : IfSome (slice_get f.fra
 
   short : found.length < 2 ^ 31
   short = subst (λ (x : Slot). x.length < 2 ^ 31) (sym (slot_is f var found is h)) h.short
-
-  some : 0 < found.length
-  some = subst (λ (x : Slot). 0 < x.length) (sym (slot_is f var found is h)) h.some
 
 -- ---- pointers
 
@@ -136,7 +133,7 @@ round_put at parts old moved numbered new body top left right is same m n e b l 
     let branch = Branch Bne 29 0 (pos 0) in
     let led = subst (λ r. IsLedTo (body ++ Branch Bne r 0 (pos 0) ∷ []) new.text (length body) top) same l in
     let long : IsHop (length numbered.text + 3) (length numbered.text) (negsuc 11) = omega (arith, ints) in
-    let whole = closed numbered.text zero_body body new.text branch top (negsuc 11) b e led (omega arith) long in
+    let whole = back_over numbered.text zero_body body new.text branch top (negsuc 11) b e led (omega arith) long in
     let there = m ∙ ap (λ r. old.text ++ moved_code r 2 at) is in
     record {
       added = front ++ (n.added ++ zero_loop);
@@ -147,11 +144,10 @@ round_put at parts old moved numbered new body top left right is same m n e b l 
 
 pub zero_of : (f : Function) (var parts : ℕ) (found : Slot) (old new : Size)
     → IfSome (slice_get f.frame.now.slots var) (λ s. found ≡ s) → HasObject f.frame.now var → parts ≡ granules found
-    → (found.at < reach → 0 < parts → parts < 2 ^ 31 → Puts (Zeroes found.at parts) old new)
+    → 0 < parts → (found.at < reach → 0 < parts → parts < 2 ^ 31 → Puts (Zeroes found.at parts) old new)
     → Puts (ZeroWords (chosen f) var) old new
-zero_of f var parts found old new is h e p =
+zero_of f var parts found old new is h e b p =
     let a = short f var found is h in
-    let b = some f var found is h in
     puts_map (Zeroes found.at parts) (ZeroWords (chosen f) var) old new
     (λ ws z. record {
       frame = f.frame.now;
@@ -160,4 +156,4 @@ zero_of f var parts found old new is h e p =
       has = subst (λ (x : Slot). slot_of f.frame.now var ≡ Some x) (sym (slot_is f var found is h)) h.named;
       zeroes = subst (λ k. Zeroes found.at k ws) e z;
     })
-    (p (near f var found is h) (omega (arith, e, b)) (omega (arith, e, a)))
+    (p (near f var found is h) b (omega (arith, e, a)))

@@ -1,5 +1,5 @@
 -- For which function words are chosen, and where its temps are.
-use Rattle.std.specs.Prelude.{◌≡◌, ℕ, ◌+◌, ◌*◌, ◌^◌, ◌<◌, List, [], ◌∷◌, Option, Some, None, slice_get, length}
+use Rattle.std.specs.Prelude.{◌≡◌, ℕ, ◌+◌, ◌*◌, ◌<◌, List, [], ◌∷◌, Option, Some, None, slice_get, length}
 use Rattle.cap_machine.specs.Integers.{extended}
 use Rattle.obj_mem.specs.declared.map.Frame.{Frame}
 use Rattle.reg_alloc.specs.declared.places.Home as places
@@ -79,7 +79,7 @@ ChoosesFirst f (t ∷ ts) = Chooses f t
 
 abbrev pub ChoosesAmount : Function → Amount → Type 0
 ChoosesAmount f (amount.Temp t) = Chooses f t
-ChoosesAmount f (amount.Number n) = n < 2 ^ 64
+ChoosesAmount f (amount.Number n) = Unit {0}
 
 -- a temp that is no number, and one that is no other than this
 abbrev pub Stands : Selecting → ℕ → Type 0

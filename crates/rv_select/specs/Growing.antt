@@ -2,6 +2,7 @@
 use Rattle.std.specs.Prelude.{◌≡◌, ℕ, ◌+◌, ◌-◌, ◌*◌, ◌%◌, ◌^◌, ◌<◌, ◌≤◌, true, List, [], ◌∷◌, ◌++◌, length, Some}
 use Rattle.std.specs.Prelude.{slice_get, slice_index}
 use Rattle.std.specs.List.{All}
+use Rattle.ck_base.specs.declared.positions.Pos.{Pos}
 use Rattle.ck_int.specs.declared.kinds.IntKind.{IntKind}
 use Rattle.ck_int.specs.declared.kinds.IntKind.TheVariants as int
 use Rattle.rv_instr.specs.Range.{InRange}
@@ -29,13 +30,14 @@ pub record AreEntries (words : ℕ) (entries : List ℕ) : Type 0 where
 
 -- ---- what is seen of it
 
--- What leads elsewhere: the labels of the function at hand, the jumps to them, the calls, and where functions are
--- entered, in bytes
+-- What is noted of words: the labels of the function at hand, the jumps to them, the calls, where functions are
+-- entered, in bytes, and the places in the source of the words that may trap
 pub record Links : Type 0 where
   pub marks : List Mark
   pub jumps : List Jump
   pub calls : List Jump
   pub entered : List ℕ
+  pub lines : List Line
 
 -- the number of its words, the words, what leads elsewhere, and the word with which the loop at hand begins
 pub record Size : Type 0 where
@@ -44,16 +46,28 @@ pub record Size : Type 0 where
   pub links : Links
   pub top : ℕ
 
--- a label stands before the next word
-abbrev pub marking : Size → (label : ℕ) → Links
-marking c l = record (c.links) { marks = c.links.marks ++ (record { label = l; at = length c.text }) ∷ [] }
+-- a label stands before a word
+abbrev pub marking : Links → (at label : ℕ) → Links
+marking c at l = record c { marks = c.marks ++ (record { label = l; at = at }) ∷ [] }
 
--- the next word jumps to a label, or calls a function
-abbrev pub jumping : Size → (label : ℕ) → Links
-jumping c l = record (c.links) { jumps = c.links.jumps ++ (record { at = length c.text; to = l }) ∷ [] }
+-- a word jumps to a label, or calls a function
+abbrev pub jumping : Links → (at label : ℕ) → Links
+jumping c at l = record c { jumps = c.jumps ++ (record { at = at; to = l }) ∷ [] }
 
-abbrev pub calling : Size → (fun : ℕ) → Links
-calling c f = record (c.links) { calls = c.links.calls ++ (record { at = length c.text; to = f }) ∷ [] }
+abbrev pub calling : Links → (at fun : ℕ) → Links
+calling c at f = record c { calls = c.calls ++ (record { at = at; to = f }) ∷ [] }
+
+-- a word may trap, which is reported at a place in the source: of kind 0 for an access or a call, and 1 for the first
+-- store of a prologue
+abbrev pub line_at : (at : ℕ) → Pos → (kind : ℕ) → Line
+line_at at pos kind = record { at = 4 * at; line = pos.line; col = pos.col; kind = kind }
+
+abbrev pub trapping : Links → (at : ℕ) → Pos → (kind : ℕ) → Links
+trapping c at pos kind = record c { lines = c.lines ++ line_at at pos kind ∷ [] }
+
+-- two words may, one behind the other
+abbrev pub both_trapping : Links → (at : ℕ) → (first second : Pos) → Links
+both_trapping c at first second = trapping (trapping c at first 0) (at + 1) second 0
 
 -- a function is entered at the next word
 abbrev pub entering : Size → Links

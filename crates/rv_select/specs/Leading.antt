@@ -9,7 +9,7 @@ use Rattle.rv_instr.specs.declared.instr.Instr.{Instr}
 use Rattle.rv_instr.specs.declared.instr.Instr.TheVariants.{Branch, Cjal}
 use Rattle.elf_file.specs.declared.image.Line.{Line}
 use Rattle.elf_file.specs.Image.{lines_ok}
-use Rattle.rv_select.specs.ContainedCode.{offset_of, AreContained, IsTarget, IsEntry}
+use Rattle.select_words.specs.ContainedCode.{offset_of, AreContained, IsTarget, IsEntry}
 use Rattle.rv_select.specs.Growing.{AreEntries, Size}
 use Rattle.rv_select.specs.declared.jumps.Jump.{Jump}
 use Rattle.rv_select.specs.declared.jumps.Mark.{Mark}
@@ -147,6 +147,7 @@ pub record AreLedTo (Place : (to place : ℕ) → Type 0) (jumps : List Jump) (o
   pub led : (at to place : ℕ) (i : Instr) (z : ℤ) → JumpsTo jumps at to → Place to place → slice_get old at ≡ Some i
       → Spans i at place → IsHop at place z → slice_get new at ≡ Some (leading i z)
   pub others : (k : ℕ) → NoJump jumps k → slice_get new k ≡ slice_get old k
+  pub kinds : (k : ℕ) (i : Instr) → slice_get old k ≡ Some i → (z : ℤ) × (slice_get new k ≡ Some (leading i z))
 
 -- The calls of a code lead to where functions are entered, and a jump to itself stands behind all other words
 pub record IsCompleted (old : Size) (code : List Instr) : Type 0 where

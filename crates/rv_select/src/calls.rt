@@ -1,10 +1,17 @@
 // Calls and returns.
-ghost use Rattle.std.specs.Prelude.{◌≡◌, ◌+◌, ◌-◌, ◌*◌, ◌≤◌, ◌<◌, min, OnOk, IfOk, length, vec_len};
+ghost use Rattle.std.specs.Prelude.{◌≡◌, true, [], ◌∷◌, ◌++◌, ◌+◌, ◌-◌, ◌*◌, ◌≤◌, ◌<◌, min, length};
+ghost use Rattle.std.specs.Prelude.{OnOk, IfOk, vec_len};
 ghost use Rattle.purecap_abi.specs.Saving.{IsFor};
 ghost use Rattle.tac_ir.specs.Temps.{in_option};
 ghost use Rattle.select_words.specs.Returning.{ReturnWords};
 ghost use Rattle.select_words.specs.Services.{Argument};
-ghost use Rattle.rv_select.specs.Choosing.{chosen, ChoosesSome};
+ghost use Rattle.tac_ir.specs.declared.code.TacInstr.TheVariants.{Call};
+ghost use Rattle.rv_select.specs.Choosing.{chosen, Chooses, ChoosesSome};
+ghost use Rattle.rv_select.specs.Noting.{noting, Selects};
+ghost use Rattle.rv_select.specs.Selected.{AreAside, CallsThrough};
+ghost use Rattle.select_words.specs.Entries.{ForEach, stack_place};
+ghost use Rattle.select_words.specs.Passing.{ArgumentWords, StackedWords, IsPassing};
+ghost use Rattle.rv_select.specs.Passed.{StandsAside, ChoosesArguments, AreChosen, ArePlaced};
 ghost use Rattle.rv_select.specs.Growing.{Grows, Extends, Puts, room};
 ghost use Rattle.tac_ir.specs.Costs.{places_cost};
 
@@ -19,7 +26,9 @@ use rv_instr::Reg;
 use std::alloc::Global;
 
 /// Whether a register is one of c10 to c17, in which arguments stand.
-fn is_argument(number: u8) -> bool {
+fn is_argument(number: u8) -> bool
+    ensures { result ≡ true → IsPassing number }
+{
     number >= 10 && number < 18
 }
 
@@ -39,8 +48,13 @@ struct Placed {
 
 /// How one of the first eight arguments comes to its register.
 fn place_argument(f: &Function<'_>, all: &mut Placed, to: Reg, temp: u32) -> Result<(), NoMemory>
-    ensures { OnOk result (vec_len all.new.moves + vec_len all.new.others
+    ensures count { OnOk result (vec_len all.new.moves + vec_len all.new.others
         ≡ vec_len all.old.moves + vec_len all.old.others + 1) }
+    ensures moves { OnOk result (StandsAside f.now temp → all.new.moves.items ≡ all.old.moves.items) }
+    ensures others { OnOk result (StandsAside f.now temp →
+        all.new.others.items ≡ all.old.others.items ++ record { to = to; temp = temp } ∷ []) }
+    ensures chosen { OnOk result (0 < to → Chooses f.now temp →
+        AreChosen f.now all.old.others.items → AreChosen f.now all.new.others.items) }
 {
     match f.place(temp) {
         Place::Register(from) if is_argument(from) => all.moves.push(Move {
@@ -54,7 +68,10 @@ fn place_argument(f: &Function<'_>, all: &mut Placed, to: Reg, temp: u32) -> Res
 
 /// How the first eight arguments come to their registers.
 fn arguments_of(alloc: Global, f: &Function<'_>, args: &[u32]) -> Result<Placed, NoMemory>
-    ensures { IfOk result (λ all. vec_len all.moves + vec_len all.others ≤ min (length args.now) 8) }
+    ensures few { IfOk result (λ all. vec_len all.moves + vec_len all.others ≤ min (length args.now) 8) }
+    ensures chosen { IfOk result (λ all. ChoosesArguments f.now args.now → AreChosen f.now all.others.items) }
+    ensures placed { IfOk result (λ all. ChoosesArguments f.now args.now → AreAside (chosen f.now) args.now →
+        ArePlaced args.now (min (length args.now) 8) all) }
 {
     let mut all = Placed {
         moves: Vec::new(alloc),
@@ -70,7 +87,9 @@ fn arguments_of(alloc: Global, f: &Function<'_>, args: &[u32]) -> Result<Placed,
 
 /// Stores the arguments past eight, in at most six words each.
 fn stack_arguments(code: &mut Code, f: &Function<'_>, args: &[u32]) -> Result<(), NoMemory>
-    ensures { OnOk result (Grows (6 * (length args.now - 8)) code.old code.new) }
+    ensures size { OnOk result (Grows (6 * (length args.now - 8)) code.old code.new) }
+    ensures words { OnOk result (ChoosesArguments f.now args.now →
+        Puts (ForEach (StackedWords (chosen f.now) args.now) 8 (length args.now - 8)) code.old code.new) }
 {
     for k in 8..args.len() {
         let r = operand(code, f, args[k], left())?;
@@ -80,7 +99,9 @@ fn stack_arguments(code: &mut Code, f: &Function<'_>, args: &[u32]) -> Result<()
 }
 
 /// Where an argument past eight stands, in bytes from the caller's stack address.
-pub fn stack_place(k: usize) -> u64 {
+pub fn stack_place(k: usize) -> u64
+    ensures { 8 ≤ k → k ≤ 4194304 → result ≡ stack_place k }
+{
     if k >= 8 && k <= 4194304 {
         purecap_abi::stack_argument(k as u64)
     } else {
@@ -90,7 +111,9 @@ pub fn stack_place(k: usize) -> u64 {
 
 /// Brings the arguments to where they stand: at most three words for each of the first eight, and six for the others.
 fn arguments(alloc: Global, code: &mut Code, f: &Function<'_>, args: &[u32]) -> Result<(), NoMemory>
-    ensures { OnOk result (Grows (places_cost (length args.now)) code.old code.new) }
+    ensures size { OnOk result (Grows (places_cost (length args.now)) code.old code.new) }
+    ensures words { OnOk result (ChoosesArguments f.now args.now →
+        Puts (λ ws. AreAside (chosen f.now) args.now → ArgumentWords (chosen f.now) args.now ws) code.old code.new) }
 {
     stack_arguments(code, f, args)?;
     let Placed { moves, others } = arguments_of(alloc, f, args)?;
@@ -110,7 +133,9 @@ pub fn call(
     fun: u32,
     args: &[u32],
 ) -> Result<(), NoMemory>
-    ensures { OnOk result (Extends (4 + places_cost (length args.now)) code.old code.new) }
+    ensures size { OnOk result (Extends (4 + places_cost (length args.now)) code.old code.new) }
+    ensures words { OnOk result (ChoosesArguments f.now args.now → ChoosesSome f.now to →
+        Selects (chosen f.now) (Call to fun args.now) code.old code.new) }
 {
     arguments(alloc, code, f, args)?;
     code.call(fun)?;
@@ -134,7 +159,10 @@ pub fn call_value(
     args: &[u32],
 ) -> Result<(), NoMemory>
     requires { code.old.words + (7 + places_cost (length args.now)) ≤ room }
-    ensures { OnOk result (Grows (7 + places_cost (length args.now)) code.old code.new) }
+    ensures size { OnOk result (Extends (7 + places_cost (length args.now)) code.old code.new) }
+    ensures words { let traps = (noting code.old code.new).Traps in
+        OnOk result (Chooses f.now callee.value → ChoosesArguments f.now args.now → ChoosesSome f.now to →
+        Puts (CallsThrough (λ n. traps n callee.pos) (chosen f.now) to callee.value args.now) code.old code.new) }
 {
     bring(code, f, way(), callee.value)?;
     arguments(alloc, code, f, args)?;

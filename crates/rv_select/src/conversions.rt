@@ -1,8 +1,8 @@
 // Conversions between kinds.
-ghost use Rattle.std.specs.Prelude.{◌≡◌, ◌+◌, ◌≤◌, ◌++◌, OnOk, if◌then◌else◌};
+ghost use Rattle.std.specs.Prelude.{◌≡◌, ◌+◌, ◌≤◌, ◌++◌, ◌&&◌, OnOk, if◌then◌else◌};
 ghost use Rattle.select_words.specs.Forms.{OfOne};
-ghost use Rattle.select_words.specs.Operations.{Reduces, kept_code};
-ghost use Rattle.rv_select.specs.Choosing.{chosen, Chooses};
+ghost use Rattle.select_words.specs.Operations.{is_narrower, is_widening, Reduces, kept_code, CopiedOr, ConversionBy};
+ghost use Rattle.rv_select.specs.Choosing.{chosen, Chooses, Stands};
 ghost use Rattle.rv_select.specs.Growing.{Grows, Puts};
 ghost use Rattle.tac_ir.specs.Costs.{conversion_cost, is_wide};
 
@@ -10,24 +10,33 @@ use crate::emit::Code;
 use crate::function::Function;
 use crate::homes::{keep, operand};
 use crate::instructions as instr;
-use crate::operations::{bits_of, copy, is_signed, is_wide, reduce};
+use crate::operations::{bits_of, copy, is_signed, reduce};
 use crate::registers::left;
 use ck_base::NoMemory;
 use ck_int::IntKind;
 use rv_instr::{ImmOp, Reg};
 use tac_ir::TacKind;
 
+/// Whether each number of so many bits, with a sign or without, is one of others, in the same 64 bits.
+fn is_narrower(from: u8, to: u8, from_signed: bool, to_signed: bool) -> bool
+    ensures { result ≡ is_narrower from to from_signed to_signed }
+{
+    if from < to {
+        !from_signed || to_signed
+    } else {
+        from == to && from_signed == to_signed
+    }
+}
+
 /// Whether each value of one integer kind is one of the other, in the same 64 bits.
-fn is_widening(old: IntKind, new: IntKind) -> bool {
+fn is_widening(old: IntKind, new: IntKind) -> bool
+    ensures { result ≡ is_widening old new }
+{
     match (old, new) {
         (_, IntKind::I64 | IntKind::U64) => true,
         (IntKind::Bool, _) => true,
         (_, IntKind::Bool) => false,
-        _ => {
-            let (from, to) = (bits_of(old), bits_of(new));
-            (from < to && (!is_signed(old) || is_signed(new)))
-                || (from == to && is_signed(old) == is_signed(new))
-        }
+        _ => is_narrower(bits_of(old), bits_of(new), is_signed(old), is_signed(new)),
     }
 }
 
@@ -60,6 +69,26 @@ fn reduced(
     keep(code, f, to, r)
 }
 
+/// A temp is converted from one integer kind to another.
+fn between(
+    code: &mut Code,
+    f: &Function<'_>,
+    to: u32,
+    from: u32,
+    old: IntKind,
+    new: IntKind,
+) -> Result<(), NoMemory>
+    ensures size { OnOk result (Grows (if is_wide old && is_wide new then 6 else 8) code.old code.new) }
+    ensures words { OnOk result (Chooses f.now to → Stands (chosen f.now) to → Chooses f.now from →
+        Puts (CopiedOr (chosen f.now) to from new (is_widening old new)) code.old code.new) }
+{
+    if is_widening(old, new) {
+        copy(code, f, to, from)
+    } else {
+        reduced(code, f, to, from, new)
+    }
+}
+
 /// A temp is converted from one kind to another. What becomes a capability keeps its bits and its tag.
 pub fn conversion(
     code: &mut Code,
@@ -69,17 +98,13 @@ pub fn conversion(
     old: TacKind,
     new: TacKind,
 ) -> Result<(), NoMemory>
-    ensures { OnOk result (Grows (conversion_cost old new) code.old code.new) }
+    ensures size { OnOk result (Grows (conversion_cost old new) code.old code.new) }
+    ensures words { OnOk result (Chooses f.now to → Stands (chosen f.now) to → Chooses f.now from →
+        Puts (ConversionBy (chosen f.now) to from old new) code.old code.new) }
 {
     match (old, new) {
         (_, TacKind::Cap(_)) => copy(code, f, to, from),
         (TacKind::Cap(_), TacKind::Int(kind)) => reduced(code, f, to, from, kind),
-        (TacKind::Int(j), TacKind::Int(k)) => {
-            if is_wide(k) || is_widening(j, k) {
-                copy(code, f, to, from)
-            } else {
-                reduced(code, f, to, from, k)
-            }
-        }
+        (TacKind::Int(j), TacKind::Int(k)) => between(code, f, to, from, j, k),
     }
 }

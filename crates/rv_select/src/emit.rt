@@ -7,10 +7,10 @@ ghost use Rattle.rv_instr.specs.declared.instr.Instr.TheVariants.{Branch, Cjal};
 ghost use Rattle.purecap_abi.specs.Words.{IsPlainWord, load_code, store_code, moved_code};
 ghost use Rattle.select_words.specs.Services.{ask};
 ghost use Rattle.tac_ir.specs.Costs.{number_cost};
-ghost use Rattle.rv_select.specs.ContainedCode.{IsContainedCode};
+ghost use Rattle.select_words.specs.ContainedCode.{IsContainedCode};
 ghost use Rattle.rv_select.specs.Leading.{IsStill, IsLedTo, StandsAt, AreLedTo, IsCompleted};
 ghost use Rattle.rv_select.specs.Growing.{IsText, AreEntries, Grows, Adds, Puts, reach, room};
-ghost use Rattle.rv_select.specs.Growing.{marking, jumping, calling, entering, ended};
+ghost use Rattle.rv_select.specs.Growing.{marking, jumping, calling, trapping, entering, ended};
 ghost use Rattle.rv_select.specs.Growing.{IsWordNumber, IsLongNumber};
 
 use crate::instructions::{branch, jump};
@@ -56,6 +56,7 @@ impl Model for Code {
         jumps = c.jumps.items;
         calls = c.calls.items;
         entered = c.entries.items;
+        lines = c.lines.items;
       };
       top = c.top;
     } };
@@ -77,7 +78,7 @@ impl Code {
         ensures { result ≡ record {
           words = 0;
           text = [];
-          links = record { marks = []; jumps = []; calls = []; entered = [] };
+          links = record { marks = []; jumps = []; calls = []; entered = []; lines = [] };
           top = 0;
         } }
     {
@@ -128,8 +129,9 @@ impl Code {
         requires plain { IsPlainWord i }
         requires room { self.old.words < room }
         requires kind { kind < 2 }
-        ensures size { OnOk result (Adds 1 self.old self.new) }
+        ensures size { OnOk result (self.new.words ≡ self.old.words + 1) }
         ensures text { OnOk result (self.new.text ≡ self.old.text ++ i ∷ []) }
+        ensures links { OnOk result (self.new.links ≡ trapping self.old.links (length self.old.text) pos kind) }
         ensures top { OnOk result (self.new.top ≡ self.old.top) }
     {
         let at = 4 * (self.words.as_slice().len() as u32);
@@ -296,7 +298,7 @@ impl Code {
         ensures size { self.new.words ≡ self.old.words }
         ensures entered { self.new.links.entered ≡ self.old.links.entered }
         ensures text { self.new.text ≡ self.old.text }
-        ensures links { OnOk result (self.new.links ≡ marking self.old label) }
+        ensures links { OnOk result (self.new.links ≡ marking self.old.links (length self.old.text) label) }
     {
         let at = self.words.len();
         self.marks.push(Mark { label, at })?;
@@ -307,7 +309,7 @@ impl Code {
     pub fn jump(&mut self, label: u32) -> Result<(), NoMemory>
         ensures size { OnOk result (self.new.words ≡ self.old.words + 1) }
         ensures text { OnOk result (self.new.text ≡ self.old.text ++ Cjal 0 (pos 0) ∷ []) }
-        ensures links { OnOk result (self.new.links ≡ jumping self.old label) }
+        ensures links { OnOk result (self.new.links ≡ jumping self.old.links (length self.old.text) label) }
     {
         let at = self.words.len();
         self.jumps.push(Jump { at, to: label })?;
@@ -318,7 +320,7 @@ impl Code {
     pub fn call(&mut self, fun: u32) -> Result<(), NoMemory>
         ensures size { OnOk result (self.new.words ≡ self.old.words + 1) }
         ensures text { OnOk result (self.new.text ≡ self.old.text ++ Cjal 1 (pos 0) ∷ []) }
-        ensures links { OnOk result (self.new.links ≡ calling self.old fun) }
+        ensures links { OnOk result (self.new.links ≡ calling self.old.links (length self.old.text) fun) }
     {
         let at = self.words.len();
         self.calls.push(Jump { at, to: fun })?;
@@ -329,7 +331,8 @@ impl Code {
     pub fn lead_to_labels(&mut self) -> Result<(), NoMemory>
         ensures size { OnOk result (self.new.words ≡ self.old.words) }
         ensures links { OnOk result (self.new.links ≡ ended self.old) }
-        ensures led { OnOk result (AreLedTo (StandsAt self.old.links.marks) self.old.links.jumps self.old.text self.new.text) }
+        ensures led { OnOk result (AreLedTo (StandsAt self.old.links.marks) self.old.links.jumps
+            self.old.text self.new.text) }
     {
         self.marks.sort_by_key(|m| m.label)?;
         lead_to_marks(
@@ -347,6 +350,7 @@ impl Code {
     pub fn complete(self) -> Result<Complete, NoMemory>
         ensures len { IfOk result (λ c. vec_len c.words ≡ self.words + 1) }
         ensures each { IfOk result (λ c. c.entries.items ≡ self.links.entered) }
+        ensures lines { IfOk result (λ c. c.lines.items ≡ self.links.lines) }
         ensures text { IfOk result (λ c. IsText c.words.items c.lines.items) }
         ensures entries { IfOk result (λ c. AreEntries (vec_len c.words) c.entries.items) }
         ensures contained { IfOk result (λ c. IsContainedCode c.words.items c.entries.items 0) }

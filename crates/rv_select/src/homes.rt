@@ -3,7 +3,7 @@ ghost use Rattle.std.specs.Prelude.{◌≡◌, ◌+◌, ◌^◌, ◌<◌, ◌≤
 ghost use Rattle.std.specs.Option.{option_map};
 ghost use Rattle.cap_machine.specs.Integers.{extended};
 ghost use Rattle.rv_instr.specs.Range.{FitsBits};
-ghost use Rattle.select_words.specs.Emitted.{Operand, Target, Keep};
+ghost use Rattle.select_words.specs.Emitted.{IsNumber, Operand, Target, Keep};
 ghost use Rattle.select_words.specs.Words.{Bring};
 ghost use Rattle.select_words.specs.Services.{KeepSome};
 ghost use Rattle.rv_select.specs.Choosing.{chosen, number_in, AreReached, HasHome, IsFound, Chooses, ChoosesSome};
@@ -53,7 +53,8 @@ impl Function<'_> {
 
     /// The number that a temp is, where 12 bits hold it.
     pub fn short(&self, t: u32) -> Option<i32>
-        ensures { IfSome result (FitsBits 12) }
+        ensures fits { IfSome result (FitsBits 12) }
+        ensures is { IfSome result (λ v. IsNumber (chosen self.now) t (extended v)) }
     {
         match self.number(t) {
             Some(v) if v >= -2048 && v < 2048 => Some(v),

@@ -9,7 +9,7 @@ ghost use Rattle.rv_instr.specs.declared.instr.Instr.TheVariants.{Op, CapImm, Ca
 ghost use Rattle.rv_instr.specs.declared.ops.CapImmOp.TheVariants.{Cincoffsetimm};
 ghost use Rattle.rv_instr.specs.declared.ops.CapGetOp.TheVariants.{Cmove};
 ghost use Rattle.purecap_abi.specs.Words.{IsPlainWord};
-ghost use Rattle.rv_select.specs.ContainedCode.{offset_of};
+ghost use Rattle.select_words.specs.ContainedCode.{offset_of};
 ghost use Rattle.rv_select.specs.Work.{seals};
 
 use rv_instr::{

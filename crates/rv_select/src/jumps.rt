@@ -2,7 +2,8 @@
 ghost use Rattle.std.specs.Prelude.{◌≡◌, ℕ, ◌+◌, ◌*◌, ◌<◌, ◌≤◌, ◌≤ℤ◌, ◌<ℤ◌, pos, neg_ℤ, IfSome, IfNone};
 ghost use Rattle.rv_instr.specs.Range.{InRange, FitsBits, IsEven};
 ghost use Rattle.rv_select.specs.Leading.{AreSound, IsSoFar, AreMarks, AreEntered, IsLed, IsMarked, AreLed};
-ghost use Rattle.rv_select.specs.Leading.{leading, span, IsHop, IsLedTo, AreOrdered, StandsAt, IsEnteredAt, IsJumpLed, AreLedTo};
+ghost use Rattle.rv_select.specs.Leading.{leading, span, IsHop, IsLedTo, AreOrdered, StandsAt, IsEnteredAt};
+ghost use Rattle.rv_select.specs.Leading.{IsJumpLed, AreLedTo};
 
 use crate::instructions::{branch, jump};
 use rv_instr::Instr;

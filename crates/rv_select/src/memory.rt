@@ -1,18 +1,22 @@
 // Capabilities, objects, and what is loaded, stored and copied.
-ghost use Rattle.std.specs.Prelude.{◌≡◌, ◌+◌, ◌-◌, ◌*◌, ◌^◌, ◌/◌, ◌≤◌, ◌<◌, [], ◌∷◌, ◌++◌, pos};
+ghost use Rattle.std.specs.Prelude.{◌≡◌, ◌+◌, ◌-◌, ◌*◌, ◌^◌, ◌/◌, ◌≤◌, ◌<◌, [], ◌∷◌, ◌++◌, length, pos};
 ghost use Rattle.std.specs.Prelude.{OnOk, IfOk, IfSome, if◌then◌else◌};
+ghost use Rattle.cap_machine.specs.Integers.{extended};
 ghost use Rattle.rv_instr.specs.Range.{FitsBits};
+ghost use Rattle.rv_instr.specs.declared.ops.CapRegOp.TheVariants.{Cincoffset};
 ghost use Rattle.select_words.specs.Forms.{OfOne, OfTwo, Amounts};
-ghost use Rattle.select_words.specs.Accesses.{load_op, store_op, load_words, Loads, StoreWords};
+ghost use Rattle.select_words.specs.Accesses.{load_op, store_op, load_words};
 ghost use Rattle.select_words.specs.Capabilities.{exact_op, OneOfTwo, Seconds, IntrinsicWords, intrinsic_of};
-ghost use Rattle.select_words.specs.Capabilities.{EntryWords, LocalWords};
+ghost use Rattle.select_words.specs.Capabilities.{Advance, Offsets, EntryWords, LocalWords};
 ghost use Rattle.select_words.specs.Zeroing.{stores_at, Zeroes, ZeroWords};
 ghost use Rattle.select_words.specs.Copying.{unit_load, unit_store, unit_words};
 ghost use Rattle.rv_select.specs.Choosing.{chosen, Chooses, ChoosesSome, ChoosesAmount};
-ghost use Rattle.rv_select.specs.Growing.{Grows, Puts, reach, room};
-ghost use Rattle.rv_select.specs.Objects.{HasObject, CopiesUnits, RoundWords};
-ghost use Rattle.rv_select.specs.Work.{NeverSeals, IsOfForm};
+ghost use Rattle.rv_select.specs.Growing.{Grows, Extends, Puts, trapping, both_trapping, reach, room};
+ghost use Rattle.rv_select.specs.Noting.{Twice, Selects};
+ghost use Rattle.rv_select.specs.Objects.{HasObject, RoundWords};
+ghost use Rattle.rv_select.specs.Work.{NeverSeals, IsOfForm, IsAmount};
 ghost use Rattle.tac_ir.specs.Costs.{amount_cost, load_cost};
+ghost use Rattle.tac_ir.specs.declared.code.TacInstr.TheVariants.{Load, Store, CopyUnits};
 
 use crate::emit::Code;
 use crate::function::Function;
@@ -104,7 +108,8 @@ fn amount(code: &mut Code, f: &Function<'_>, by: Amount) -> Result<Reg, NoMemory
 
 /// The number that an amount is, where 12 bits of two's complement hold it.
 fn short_amount(f: &Function<'_>, by: Amount) -> Option<i32>
-    ensures { IfSome result (FitsBits 12) }
+    ensures fits { IfSome result (FitsBits 12) }
+    ensures is { IfSome result (IsAmount (chosen f.now) by) }
 {
     match by {
         Amount::Temp(t) => f.short(t),
@@ -115,6 +120,44 @@ fn short_amount(f: &Function<'_>, by: Amount) -> Option<i32>
     }
 }
 
+/// A capability moved by a number of bytes that 12 bits hold.
+fn offset_near(
+    code: &mut Code,
+    f: &Function<'_>,
+    to: u32,
+    base: u32,
+    bytes: i32,
+) -> Result<(), NoMemory>
+    requires { FitsBits 12 bytes }
+    ensures size { OnOk result (Grows 7 code.old code.new) }
+    ensures words { OnOk result (Chooses f.now to → Chooses f.now base →
+        Puts (OfOne (chosen f.now) to base (Advance (extended bytes))) code.old code.new) }
+{
+    let a = operand(code, f, base, left())?;
+    let r = f.target(to);
+    code.put(instr::advance(r, a, bytes))?;
+    keep(code, f, to, r)
+}
+
+/// A capability moved by what a register holds.
+fn offset_far(
+    code: &mut Code,
+    f: &Function<'_>,
+    to: u32,
+    base: u32,
+    by: Amount,
+) -> Result<(), NoMemory>
+    ensures size { OnOk result (Grows (6 + amount_cost by) code.old code.new) }
+    ensures words { OnOk result (Chooses f.now to → Chooses f.now base → ChoosesAmount f.now by →
+        Puts (OfTwo (chosen f.now) to base (Amounts (chosen f.now) by) (OneOfTwo Cincoffset)) code.old code.new) }
+{
+    let a = operand(code, f, base, left())?;
+    let b = amount(code, f, by)?;
+    let r = f.target(to);
+    code.put(instr::of_two(CapRegOp::Cincoffset, r, a, b))?;
+    keep(code, f, to, r)
+}
+
 /// A capability moved by bytes.
 pub fn offset(
     code: &mut Code,
@@ -123,18 +166,14 @@ pub fn offset(
     base: u32,
     by: Amount,
 ) -> Result<(), NoMemory>
-    ensures { OnOk result (Grows (6 + amount_cost by) code.old code.new) }
+    ensures size { OnOk result (Grows (6 + amount_cost by) code.old code.new) }
+    ensures words { OnOk result (Chooses f.now to → Chooses f.now base → ChoosesAmount f.now by →
+        Puts (Offsets (chosen f.now) to base by) code.old code.new) }
 {
-    let a = operand(code, f, base, left())?;
-    let r = f.target(to);
     match short_amount(f, by) {
-        Some(bytes) => code.put(instr::advance(r, a, bytes))?,
-        None => {
-            let b = amount(code, f, by)?;
-            code.put(instr::of_two(CapRegOp::Cincoffset, r, a, b))?;
-        }
+        Some(bytes) => offset_near(code, f, to, base, bytes),
+        None => offset_far(code, f, to, base, by),
     }
-    keep(code, f, to, r)
 }
 
 /// How bounds are set.
@@ -200,8 +239,9 @@ fn store_op(kind: TacKind) -> StoreOp
 /// A register becomes what is loaded from where another points. A truth value is 1 for any byte but zero.
 fn load_words(code: &mut Code, kind: TacKind, r: Reg, a: Reg, pos: Pos) -> Result<(), NoMemory>
     requires { code.old.words + 1 ≤ room }
-    ensures size { OnOk result (Grows (load_cost kind - 6) code.old code.new) }
+    ensures size { OnOk result (Extends (load_cost kind - 6) code.old code.new) }
     ensures text { OnOk result (code.new.text ≡ code.old.text ++ load_words kind r a) }
+    ensures links { OnOk result (code.new.links ≡ trapping code.old.links (length code.old.text) pos 0) }
 {
     match kind {
         TacKind::Cap(_) => code.put_at(instr::load_capability(r, a), pos, 0),
@@ -223,9 +263,9 @@ pub fn load(
     pos: Pos,
 ) -> Result<(), NoMemory>
     requires { code.old.words + 7 ≤ room }
-    ensures size { OnOk result (Grows (load_cost kind) code.old code.new) }
+    ensures size { OnOk result (Extends (load_cost kind) code.old code.new) }
     ensures words { OnOk result (Chooses f.now to → Chooses f.now from →
-        Puts (OfOne (chosen f.now) to from (Loads kind)) code.old code.new) }
+        Selects (chosen f.now) (Load to from kind pos) code.old code.new) }
 {
     let a = operand(code, f, from, left())?;
     let r = f.target(to);
@@ -243,9 +283,9 @@ pub fn store(
     pos: Pos,
 ) -> Result<(), NoMemory>
     requires { code.old.words + 7 ≤ room }
-    ensures size { OnOk result (Grows 7 code.old code.new) }
+    ensures size { OnOk result (Extends 7 code.old code.new) }
     ensures words { OnOk result (Chooses f.now at → Chooses f.now value →
-        Puts (StoreWords (chosen f.now) at value kind) code.old code.new) }
+        Selects (chosen f.now) (Store at value kind pos) code.old code.new) }
 {
     let a = operand(code, f, at, left())?;
     let b = operand(code, f, value, right())?;
@@ -351,6 +391,9 @@ pub fn zero(code: &mut Code, f: &Function<'_>, var: u32) -> Result<(), NoMemory>
 {
     let object = f.object(var);
     let parts = object.length / 16 + u64::from(object.length % 16 != 0);
+    if parts == 0 {
+        return Ok(());
+    }
     if parts > 4 || object.at > 1984 {
         zero_loop(code, object.at, parts)
     } else {
@@ -361,8 +404,9 @@ pub fn zero(code: &mut Code, f: &Function<'_>, var: u32) -> Result<(), NoMemory>
 /// Loads a unit of so many bytes to c31 from where c28 points.
 fn load_unit(code: &mut Code, unit: u8, pos: Pos) -> Result<(), NoMemory>
     requires { code.old.words + 1 ≤ room }
-    ensures size { OnOk result (Grows 1 code.old code.new) }
+    ensures size { OnOk result (code.new.words ≡ code.old.words + 1) }
     ensures text { OnOk result (code.new.text ≡ code.old.text ++ unit_load unit ∷ []) }
+    ensures links { OnOk result (code.new.links ≡ trapping code.old.links (length code.old.text) pos 0) }
     ensures top { OnOk result (code.new.top ≡ code.old.top) }
 {
     match unit {
@@ -377,8 +421,9 @@ fn load_unit(code: &mut Code, unit: u8, pos: Pos) -> Result<(), NoMemory>
 /// Stores a unit of so many bytes from c31 where c29 points.
 fn store_unit(code: &mut Code, unit: u8, pos: Pos) -> Result<(), NoMemory>
     requires { code.old.words + 1 ≤ room }
-    ensures size { OnOk result (Grows 1 code.old code.new) }
+    ensures size { OnOk result (code.new.words ≡ code.old.words + 1) }
     ensures text { OnOk result (code.new.text ≡ code.old.text ++ unit_store unit ∷ []) }
+    ensures links { OnOk result (code.new.links ≡ trapping code.old.links (length code.old.text) pos 0) }
     ensures top { OnOk result (code.new.top ≡ code.old.top) }
 {
     match unit {
@@ -393,8 +438,9 @@ fn store_unit(code: &mut Code, unit: u8, pos: Pos) -> Result<(), NoMemory>
 /// Copies one unit.
 fn copy_unit(code: &mut Code, unit: u8, from: Pos, to: Pos) -> Result<(), NoMemory>
     requires { code.old.words + 2 ≤ room }
-    ensures size { OnOk result (Grows 2 code.old code.new) }
+    ensures size { OnOk result (code.new.words ≡ code.old.words + 2) }
     ensures text { OnOk result (code.new.text ≡ code.old.text ++ unit_words unit) }
+    ensures links { OnOk result (code.new.links ≡ both_trapping code.old.links (length code.old.text) from to) }
     ensures top { OnOk result (code.new.top ≡ code.old.top) }
 {
     load_unit(code, unit, from)?;
@@ -413,8 +459,9 @@ pub struct Ends {
 /// Copies so many units, one or more, from where c28 points to where c29 does.
 fn copy_loop(code: &mut Code, units: u64, unit: u8, from: Pos, to: Pos) -> Result<(), NoMemory>
     requires { code.old.words + 8 ≤ room }
-    ensures size { OnOk result (Grows 8 code.old code.new) }
-    ensures words { OnOk result (units < 2 ^ 31 → Puts (RoundWords units unit) code.old code.new) }
+    ensures size { OnOk result (Extends 8 code.old code.new) }
+    ensures words { OnOk result (units < 2 ^ 31 →
+        Puts (RoundWords (Twice code.old code.new from to) units unit) code.old code.new) }
 {
     code.number(count(), number_of(units))?;
     code.open_loop();
@@ -445,10 +492,11 @@ pub fn copy_units(
     unit: u8,
 ) -> Result<(), NoMemory>
     requires { code.old.words + 14 ≤ room }
-    ensures size { OnOk result (Grows 14 code.old code.new) }
+    ensures size { OnOk result (Extends 14 code.old code.new) }
     ensures words { let units = bytes / unit in
+        let copying = CopyUnits ends.from ends.to bytes unit ends.from_pos ends.to_pos in
         OnOk result (Chooses f.now ends.from → Chooses f.now ends.to → 0 < unit → units < 2 ^ 31 →
-        Puts (CopiesUnits (chosen f.now) ends.from ends.to units unit) code.old code.new) }
+        Selects (chosen f.now) copying code.old code.new) }
 {
     let units = units_of(bytes, unit);
     if units == 0 {

@@ -1,6 +1,8 @@
 // Moves between registers that all happen at once.
-ghost use Rattle.std.specs.Prelude.{◌≡◌, ◌+◌, ◌*◌, ◌<◌, ◌≤◌, OnOk, length, vec_len};
-ghost use Rattle.rv_select.specs.Growing.{Grows};
+ghost use Rattle.std.specs.Prelude.{◌≡◌, [], ◌+◌, ◌++◌, ◌*◌, ◌<◌, ◌==◌, OnOk, length, map, vec_len};
+ghost use Rattle.std.specs.List.{list_any};
+ghost use Rattle.rv_select.specs.Growing.{Grows, Puts};
+ghost use Rattle.rv_select.specs.Parameters.{AreFree, moving};
 
 use crate::emit::Code;
 use crate::instructions as instr;
@@ -15,14 +17,17 @@ pub struct Move {
 }
 
 /// Whether a move reads the register.
-fn is_read(moves: &[Move], register: Reg) -> bool {
+fn is_read(moves: &[Move], register: Reg) -> bool
+    ensures { result ≡ list_any (λ m. m.from == register) moves.now }
+{
     moves.iter().any(|m| m.from.number() == register.number())
 }
 
 /// The place of the first move whose target no other move reads, else of the first move.
 fn next(moves: &[Move]) -> usize
     requires { 0 < length moves.now }
-    ensures { result < length moves.now }
+    ensures inside { result < length moves.now }
+    ensures free { AreFree moves.now → result ≡ 0 }
 {
     for (k, m) in moves.iter().enumerate() {
         if m.from.number() == m.to.number() || !is_read(moves, m.to) {
@@ -46,7 +51,10 @@ fn redirect(moves: &mut Vec<Move>, from: Reg, to: Reg)
 /// Carries out moves as if all were done at once, with two words for each at most. Their targets differ, and none
 /// reads or writes the scratch register.
 pub fn move_all(code: &mut Code, moves: Vec<Move>, scratch: Reg) -> Result<(), NoMemory>
-    ensures { OnOk result (Grows (2 * vec_len moves) code.old code.new) }
+    ensures size { OnOk result (Grows (2 * vec_len moves) code.old code.new) }
+    ensures none { OnOk result (moves.items ≡ [] → code.new.text ≡ code.old.text) }
+    ensures grows { OnOk result (Puts (λ ws. Unit {0}) code.old code.new) }
+    ensures free { OnOk result (AreFree moves.items → code.new.text ≡ code.old.text ++ map moving moves.items) }
 {
     let mut moves = moves;
     while !moves.is_empty() {

@@ -1,4 +1,9 @@
 // Temps that need no home, since one constant is all that they ever hold.
+ghost use Rattle.std.specs.Prelude.{◌≡◌, ℕ, List, [], ◌∷◌, ◌++◌, IfOk, IfSome, vec_len};
+ghost use Rattle.cap_machine.specs.Integers.{extended};
+ghost use Rattle.tac_ir.specs.Temps.{in_option, writes};
+ghost use Rattle.tac_ir.specs.declared.code.TacInstr.{TacInstr};
+ghost use Rattle.rv_select.specs.Written.{AreWritten, AllWrite, IsConstant, Joins};
 
 use ck_base::NoMemory;
 use std::alloc::Global;
@@ -14,7 +19,9 @@ pub enum Written {
 }
 
 /// The temp that an instruction writes.
-fn temp_written(i: &TacInstr) -> Option<u32> {
+fn temp_written(i: &TacInstr) -> Option<u32>
+    ensures { in_option result ≡ writes i.now }
+{
     match i {
         TacInstr::Const { to, .. }
         | TacInstr::Copy { to, .. }
@@ -35,7 +42,9 @@ fn temp_written(i: &TacInstr) -> Option<u32> {
 }
 
 /// The constant that an instruction writes, where 32 bits of two's complement hold it.
-fn constant(i: &TacInstr) -> Option<i32> {
+fn constant(i: &TacInstr) -> Option<i32>
+    ensures { IfSome result (λ v. IsConstant (extended v) i.now) }
+{
     match i {
         TacInstr::Const { value, .. } => i32::try_from(value.cast_signed()).ok(),
         _ => None,
@@ -43,15 +52,33 @@ fn constant(i: &TacInstr) -> Option<i32> {
 }
 
 /// What is written to a temp after one more instruction.
-fn joined(before: Written, constant: Option<i32>) -> Written {
+fn joined(before: Written, constant: Option<i32>) -> Written
+    ensures { Joins before constant result }
+{
     match (before, constant) {
         (Written::Nothing, Some(v)) => Written::Number(v),
         _ => Written::Values,
     }
 }
 
+/// Notes what one more instruction writes.
+fn note(temps: &mut Vec<Written>, i: &TacInstr)
+    ensures len { vec_len temps.new ≡ vec_len temps.old }
+    ensures each { (params : ℕ) (code : List TacInstr) → AllWrite params code temps.old.items →
+        AllWrite params (code ++ i.now ∷ []) temps.new.items }
+{
+    let Some(t) = temp_written(i) else {
+        return;
+    };
+    if (t as usize) < temps.len() {
+        temps[t as usize] = joined(temps[t as usize], constant(i));
+    }
+}
+
 /// What the function writes to each temp. A parameter holds a value from the start.
-pub fn all_written(alloc: Global, f: &TacFun) -> Result<Vec<Written>, NoMemory> {
+pub fn all_written(alloc: Global, f: &TacFun) -> Result<Vec<Written>, NoMemory>
+    ensures { IfOk result (λ written. AreWritten f.now written.items) }
+{
     let mut temps = vec![in alloc; Written::Nothing; f.temps as usize]?;
     for t in 0..f.params as usize {
         if t < temps.len() {
@@ -59,11 +86,7 @@ pub fn all_written(alloc: Global, f: &TacFun) -> Result<Vec<Written>, NoMemory> 
         }
     }
     for i in f.code.as_slice() {
-        if let Some(t) = temp_written(i)
-            && (t as usize) < temps.len()
-        {
-            temps[t as usize] = joined(temps[t as usize], constant(i));
-        }
+        note(&mut temps, i);
     }
     Ok(temps)
 }

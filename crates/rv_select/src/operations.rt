@@ -1,8 +1,15 @@
 // Constants, copies and operations on integers.
-ghost use Rattle.std.specs.Prelude.{◌≡◌, ◌+◌, ◌%◌, ◌^◌, [], ◌∷◌, ◌++◌, OnOk, IfSome};
-ghost use Rattle.ck_int.specs.Kinds.{form_of, is_signed};
+ghost use Rattle.std.specs.Prelude.{◌≡◌, ◌+◌, ◌%◌, ◌^◌, ◌<◌, ◌≤◌, [], ◌∷◌, ◌++◌, pos, true, OnOk, IfSome, max};
+ghost use Rattle.ck_int.specs.Kinds.{form_of, width_of, is_signed};
 ghost use Rattle.select_words.specs.Words.{Constant, Copied};
-ghost use Rattle.select_words.specs.Operations.{reduce_code};
+ghost use Rattle.select_words.specs.Integers.{long_op, short_op};
+ghost use Rattle.select_words.specs.Operations.{reduce_code, finish_code, is_exact_word, is_exact, selected_op};
+ghost use Rattle.select_words.specs.Operations.{add_op, shift_by, AtKind, IntegerWords};
+ghost use Rattle.cap_machine.specs.Integers.{extended};
+ghost use Rattle.ck_int.specs.declared.kinds.IntOp.TheVariants.{Sub, Mul};
+ghost use Rattle.rv_select.specs.declared.operations.Work.TheVariants.{Registers};
+ghost use Rattle.rv_select.specs.Planning.{without_sign, exact_below, by_number, IsTimes, IsWithNumber, IsPlan};
+ghost use Rattle.rv_select.specs.Planning.{IsShift, ChoosesWork, WorkWord};
 ghost use Rattle.rv_instr.specs.declared.instr.Instr.TheVariants.{Shift};
 ghost use Rattle.rv_instr.specs.declared.ops.ShiftOp.TheVariants.{Slli};
 ghost use Rattle.rv_instr.specs.Range.{count_bits};
@@ -72,7 +79,9 @@ pub fn is_wide(kind: IntKind) -> bool
 }
 
 /// The bits of a kind. A truth value is kept in 8.
-pub fn bits_of(kind: IntKind) -> u8 {
+pub fn bits_of(kind: IntKind) -> u8
+    ensures { result ≡ max 8 (width_of (form_of kind)) }
+{
     match kind {
         IntKind::Bool | IntKind::I8 | IntKind::U8 => 8,
         IntKind::I16 | IntKind::U16 => 16,
@@ -115,7 +124,9 @@ enum Work {
     Shift(ShiftOp, u32, u8),
 }
 
-fn long_op(op: IntOp) -> RegOp {
+fn long_op(op: IntOp) -> RegOp
+    ensures { result ≡ long_op op }
+{
     match op {
         IntOp::Add => RegOp::Add,
         IntOp::Sub => RegOp::Sub,
@@ -130,7 +141,9 @@ fn long_op(op: IntOp) -> RegOp {
     }
 }
 
-fn word_op(op: IntOp) -> RegOp {
+fn word_op(op: IntOp) -> RegOp
+    ensures { result ≡ short_op op }
+{
     match op {
         IntOp::Add => RegOp::Addw,
         IntOp::Sub => RegOp::Subw,
@@ -146,7 +159,9 @@ fn word_op(op: IntOp) -> RegOp {
 }
 
 // The operation without a sign. The remainder of two numbers of 32 bits is the same in 64.
-fn unsigned_op(op: RegOp) -> RegOp {
+fn unsigned_op(op: RegOp) -> RegOp
+    ensures { result ≡ without_sign op }
+{
     match op {
         RegOp::Div => RegOp::Divu,
         RegOp::Rem | RegOp::Remw => RegOp::Remu,
@@ -158,7 +173,9 @@ fn unsigned_op(op: RegOp) -> RegOp {
 }
 
 /// The operation of two registers. A kind of fewer than 32 bits is promoted to 32, also for the count of a shift.
-fn reg_op(kind: IntKind, op: IntOp) -> RegOp {
+fn reg_op(kind: IntKind, op: IntOp) -> RegOp
+    ensures { AtKind kind op → result ≡ selected_op kind op }
+{
     let signed = if is_wide(kind) {
         long_op(op)
     } else {
@@ -172,7 +189,9 @@ fn reg_op(kind: IntKind, op: IntOp) -> RegOp {
 }
 
 /// The addition of a number.
-fn add_op(kind: IntKind) -> ImmOp {
+fn add_op(kind: IntKind) -> ImmOp
+    ensures { result ≡ add_op kind }
+{
     if is_wide(kind) {
         ImmOp::Addi
     } else {
@@ -182,7 +201,8 @@ fn add_op(kind: IntKind) -> ImmOp {
 
 /// The operation with a number on either side, where the order doesn't matter.
 fn with_number(f: &Function<'_>, op: ImmOp, a: u32, b: u32) -> Option<Work>
-    ensures { IfSome result WorkFits }
+    ensures fits { IfSome result WorkFits }
+    ensures is { IfSome result (IsWithNumber (chosen f.now) op a b) }
 {
     match (f.short(a), f.short(b)) {
         (_, Some(v)) => Some(Work::Immediate(op, a, v)),
@@ -193,7 +213,8 @@ fn with_number(f: &Function<'_>, op: ImmOp, a: u32, b: u32) -> Option<Work>
 
 /// A difference from a number is a sum.
 fn difference(f: &Function<'_>, kind: IntKind, a: u32, b: u32) -> Option<Work>
-    ensures { IfSome result WorkFits }
+    ensures fits { IfSome result WorkFits }
+    ensures is { IfSome result (IsPlan (chosen f.now) Sub kind a b) }
 {
     match f.short(b) {
         Some(v) if v > -2048 => Some(Work::Immediate(add_op(kind), a, -v)),
@@ -202,7 +223,9 @@ fn difference(f: &Function<'_>, kind: IntKind, a: u32, b: u32) -> Option<Work>
 }
 
 /// The power of two that a positive number is.
-fn power_of(number: i32) -> Option<u8> {
+fn power_of(number: i32) -> Option<u8>
+    ensures { IfSome result (λ k. (k < 31) × (number ≡ pos (2 ^ k))) }
+{
     let mut power = 1u32;
     for k in 0u8..31 {
         if i64::from(number) == i64::from(power) {
@@ -215,7 +238,8 @@ fn power_of(number: i32) -> Option<u8> {
 
 /// The shift that multiplies by a temp.
 fn shift_by(f: &Function<'_>, a: u32, b: u32) -> Option<Work>
-    ensures { IfSome result WorkFits }
+    ensures fits { IfSome result WorkFits }
+    ensures is { IfSome result (IsTimes (chosen f.now) a b) }
 {
     let power = power_of(f.number(b)?)?;
     Some(Work::Shift(ShiftOp::Slli, a, power))
@@ -223,7 +247,8 @@ fn shift_by(f: &Function<'_>, a: u32, b: u32) -> Option<Work>
 
 /// A product with a power of two, in 64 bits, is a shift.
 fn product(f: &Function<'_>, kind: IntKind, a: u32, b: u32) -> Option<Work>
-    ensures { IfSome result WorkFits }
+    ensures fits { IfSome result WorkFits }
+    ensures is { IfSome result (IsPlan (chosen f.now) Mul kind a b) }
 {
     if !is_wide(kind) {
         return None;
@@ -235,7 +260,9 @@ fn product(f: &Function<'_>, kind: IntKind, a: u32, b: u32) -> Option<Work>
 }
 
 /// The shift of a kind by a count.
-fn shift_op(kind: IntKind, op: IntOp) -> ShiftOp {
+fn shift_op(kind: IntKind, op: IntOp) -> ShiftOp
+    ensures { 32 ≤ width_of (form_of kind) → result ≡ shift_by kind op }
+{
     match (op, kind) {
         (IntOp::Shl, IntKind::I64 | IntKind::U64) => ShiftOp::Slli,
         (IntOp::Shl, _) => ShiftOp::Slliw,
@@ -246,7 +273,9 @@ fn shift_op(kind: IntKind, op: IntOp) -> ShiftOp {
 }
 
 /// A number as the count of a shift of a kind, which is promoted to 32 bits where it has fewer.
-fn count_of(kind: IntKind, number: i32) -> u8 {
+fn count_of(kind: IntKind, number: i32) -> u8
+    ensures { 32 ≤ width_of (form_of kind) → result ≡ extended number % width_of (form_of kind) }
+{
     match kind {
         IntKind::Bool => u8::from(number != 0),
         IntKind::I64 | IntKind::U64 => (number.cast_unsigned() % 64) as u8,
@@ -256,7 +285,9 @@ fn count_of(kind: IntKind, number: i32) -> u8 {
 
 /// A shift by a number.
 fn shift(f: &Function<'_>, op: IntOp, kind: IntKind, a: u32, b: u32) -> Option<Work>
-    ensures { IfSome result WorkFits }
+    requires { IsShift op }
+    ensures fits { IfSome result WorkFits }
+    ensures is { IfSome result (λ w. 32 ≤ width_of (form_of kind) → IsPlan (chosen f.now) op kind a b w) }
 {
     let number = f.number(b)?;
     Some(Work::Shift(shift_op(kind, op), a, count_of(kind, number)))
@@ -264,7 +295,8 @@ fn shift(f: &Function<'_>, op: IntOp, kind: IntKind, a: u32, b: u32) -> Option<W
 
 /// An operation on two registers. Shifted right by a truth value, a truth value is whether it exceeds the count.
 fn of_registers(op: IntOp, kind: IntKind, a: u32, b: u32) -> Work
-    ensures { WorkFits result }
+    ensures fits { WorkFits result }
+    ensures is { AtKind kind op → result ≡ Registers (selected_op kind op) a b }
 {
     match (op, kind) {
         (IntOp::Shr, IntKind::Bool) => Work::Registers(RegOp::Sltu, b, a),
@@ -272,11 +304,12 @@ fn of_registers(op: IntOp, kind: IntKind, a: u32, b: u32) -> Work
     }
 }
 
-/// How an operation is computed.
-fn plan(f: &Function<'_>, op: IntOp, kind: IntKind, a: u32, b: u32) -> Work
-    ensures { WorkFits result }
+/// How an operation is computed with a number.
+fn short_plan(f: &Function<'_>, op: IntOp, kind: IntKind, a: u32, b: u32) -> Option<Work>
+    ensures fits { IfSome result WorkFits }
+    ensures is { IfSome result (λ w. AtKind kind op → IsPlan (chosen f.now) op kind a b w) }
 {
-    let short = match op {
+    match op {
         IntOp::Add => with_number(f, add_op(kind), a, b),
         IntOp::Sub => difference(f, kind, a, b),
         IntOp::Mul => product(f, kind, a, b),
@@ -285,28 +318,81 @@ fn plan(f: &Function<'_>, op: IntOp, kind: IntKind, a: u32, b: u32) -> Work
         IntOp::And => with_number(f, ImmOp::Andi, a, b),
         IntOp::Or => with_number(f, ImmOp::Ori, a, b),
         IntOp::Xor => with_number(f, ImmOp::Xori, a, b),
-    };
-    match short {
+    }
+}
+
+/// How an operation is computed.
+fn plan(f: &Function<'_>, op: IntOp, kind: IntKind, a: u32, b: u32) -> Work
+    ensures fits { WorkFits result }
+    ensures is { AtKind kind op → IsPlan (chosen f.now) op kind a b result }
+{
+    match short_plan(f, op, kind, a, b) {
         Some(work) => work,
         None => of_registers(op, kind, a, b),
     }
 }
 
-/// Whether the result has its kind without being reduced.
-fn is_exact(op: IntOp, kind: IntKind, work: Work) -> bool {
-    match (op, kind) {
-        (_, IntKind::I32 | IntKind::I64 | IntKind::U64) => true,
-        (IntOp::And | IntOp::Or | IntOp::Xor, _) => true,
-        (IntOp::Rem, IntKind::U32) => true,
-        (IntOp::Shr, IntKind::U32) => matches!(work, Work::Shift(_, _, _)),
-        (IntOp::Shr, _) => true,
+/// Whether a shift by a number computes it.
+fn by_number(work: Work) -> bool
+    ensures { result ≡ by_number work }
+{
+    matches!(work, Work::Shift(_, _, _))
+}
+
+/// Whether the result has 32 bits without a sign, without being reduced.
+fn is_exact_word(op: IntOp, by_number: bool) -> bool
+    ensures { result ≡ is_exact_word op by_number }
+{
+    match op {
+        IntOp::And | IntOp::Or | IntOp::Xor | IntOp::Rem => true,
+        IntOp::Shr => by_number,
         _ => false,
     }
 }
 
+/// Whether the result has a kind of fewer than 32 bits, without being reduced.
+fn is_exact_below(op: IntOp) -> bool
+    ensures { result ≡ exact_below op }
+{
+    matches!(op, IntOp::And | IntOp::Or | IntOp::Xor | IntOp::Shr)
+}
+
+/// Whether the result has its kind without being reduced.
+fn is_exact(op: IntOp, kind: IntKind, by_number: bool) -> bool
+    ensures { AtKind kind op → result ≡ is_exact kind op by_number }
+{
+    match kind {
+        IntKind::I32 | IntKind::I64 | IntKind::U64 => true,
+        IntKind::U32 => is_exact_word(op, by_number),
+        _ => is_exact_below(op),
+    }
+}
+
+/// Reduces a result to its kind, where it has to be.
+fn finish(
+    code: &mut Code,
+    op: IntOp,
+    kind: IntKind,
+    by_number: bool,
+    r: Reg,
+) -> Result<(), NoMemory>
+    ensures size { OnOk result (Grows (reduce_words kind) code.old code.new) }
+    ensures text { OnOk result (AtKind kind op →
+        code.new.text ≡ code.old.text ++ finish_code kind op by_number r) }
+{
+    if is_exact(op, kind, by_number) {
+        Ok(())
+    } else {
+        reduce(code, kind, r, r)
+    }
+}
+
+/// Computes in a register.
 fn compute(code: &mut Code, f: &Function<'_>, work: Work, r: Reg) -> Result<(), NoMemory>
     requires { WorkFits work }
-    ensures { OnOk result (Grows 7 code.old code.new) }
+    ensures size { OnOk result (Grows 7 code.old code.new) }
+    ensures words { OnOk result (ChoosesWork f.now work →
+        Puts (WorkWord (chosen f.now) work r) code.old code.new) }
 {
     match work {
         Work::Registers(op, a, b) => {
@@ -335,13 +421,13 @@ pub fn integer(
     a: u32,
     b: u32,
 ) -> Result<(), NoMemory>
-    ensures { OnOk result (Grows (operation_cost kind) code.old code.new) }
+    ensures size { OnOk result (Grows (operation_cost kind) code.old code.new) }
+    ensures words { OnOk result (Chooses f.now to → Chooses f.now a → Chooses f.now b → AtKind kind op →
+        Puts (IntegerWords (chosen f.now) op kind to a b) code.old code.new) }
 {
     let work = plan(f, op, kind, a, b);
     let r = f.target(to);
     compute(code, f, work, r)?;
-    if !is_exact(op, kind, work) {
-        reduce(code, kind, r, r)?;
-    }
+    finish(code, op, kind, by_number(work), r)?;
     keep(code, f, to, r)
 }

@@ -1,10 +1,15 @@
 //! Selection: the text of a program's code.
-ghost use Rattle.std.specs.Prelude.{◌≡◌, ◌+◌, ◌*◌, ◌≤◌, ◌<◌, length, OnOk, IfOk, vec_len};
+ghost use Rattle.std.specs.Prelude.{◌≡◌, ◌+◌, ◌*◌, ◌^◌, ◌≤◌, ◌<◌, pos, [], ◌∷◌, ◌++◌, length, OnOk, IfOk, vec_len};
 ghost use Rattle.std.specs.List.{sum_by};
 ghost use Rattle.purecap_abi.specs.Saving.{IsFor};
 ghost use Rattle.tac_ir.specs.Costs.{function_cost};
-ghost use Rattle.rv_select.specs.ContainedCode.{IsContainedCode};
-ghost use Rattle.rv_select.specs.Growing.{Extends, Enters, room, IsText, AreFramed, AreEntries};
+ghost use Rattle.select_words.specs.ContainedCode.{IsContainedCode};
+ghost use Rattle.rv_instr.specs.declared.instr.Instr.TheVariants.{Cjal};
+ghost use Rattle.select_words.specs.Services.{ask};
+ghost use Rattle.rv_select.specs.Following.{IsBetween, IsPut, ArePut};
+ghost use Rattle.rv_select.specs.Growing.{Extends, Enters, calling, room, IsText, AreFramed, AreEntries};
+ghost use Rattle.rv_select.specs.Selectable.{IsSelectable, AreAll, AreSelectable, before, table_of};
+ghost use Rattle.rv_select.specs.Selected.{IsSelected};
 
 use crate::emit::{Code, Complete};
 use crate::function::{Entries, Function};
@@ -32,7 +37,9 @@ pub struct Items {
 }
 
 /// The order of the table: the globals, the literals, the functions, and the heap.
-fn entries_of(p: &Typed) -> Entries {
+fn entries_of(p: &Typed) -> Entries
+    ensures { (before p.now).heap < 2 ^ 64 → table_of result ≡ before p.now }
+{
     let literals = p.globals.as_slice().len() as u64;
     let functions = literals.saturating_add(p.literals.as_slice().len() as u64);
     let heap = functions.saturating_add(p.funs.as_slice().len() as u64);
@@ -45,7 +52,9 @@ fn entries_of(p: &Typed) -> Entries {
 
 /// Calls `main`, and exits with its result.
 fn begin(code: &mut Code, main: u32) -> Result<(), NoMemory>
-    ensures { OnOk result (Extends 3 code.old code.new) }
+    ensures size { OnOk result (Extends 3 code.old code.new) }
+    ensures text { OnOk result (code.new.text ≡ code.old.text ++ Cjal 1 (pos 0) ∷ ask 3) }
+    ensures links { OnOk result (code.new.links ≡ calling code.old.links (length code.old.text) main) }
 {
     code.call(main)?;
     code.ask(3)
@@ -62,7 +71,10 @@ fn one_function(
 ) -> Result<(), NoMemory>
     requires framed { IsFor places.now.homes frame.now }
     requires room { code.old.words + function_cost t.now ≤ room }
-    ensures { OnOk result (Enters (function_cost t.now) code.old code.new) }
+    ensures size { OnOk result (Enters (function_cost t.now) code.old code.new) }
+    ensures put { OnOk result (IsBetween code.old
+        → IsSelectable (table_of entries) t.now places.now.homes frame.now
+        → IsPut (table_of entries) t.now places.now.homes frame.now code.old code.new) }
 {
     let written = all_written(alloc, t)?;
     let f = Function {
@@ -90,6 +102,8 @@ fn all_functions(
     requires room { code.old.words + sum_by function_cost funs.now ≤ room }
     ensures few { OnOk result (code.new.words ≤ code.old.words + sum_by function_cost funs.now) }
     ensures each { OnOk result (length code.new.links.entered ≡ length code.old.links.entered + length funs.now) }
+    ensures put { OnOk result (IsBetween code.old → AreAll (table_of table) funs.now places.now frames.now
+        → ArePut (table_of table) funs.now places.now frames.now code.old code.new) }
 {
     for k in 0..funs.len() {
         one_function(alloc, code, &funs[k], &places[k], &frames[k], table)?;
@@ -116,6 +130,10 @@ pub fn select(
     ensures each { IfOk result (λ items. vec_len items.entries ≡ length t.now.funs) }
     ensures entries { IfOk result (λ items. AreEntries (vec_len items.code) items.entries.items) }
     ensures contained { IfOk result (λ items. IsContainedCode items.code.items items.entries.items items.start) }
+    ensures selected { IfOk result (λ items. (before p.now).heap < 2 ^ 64
+        → AreSelectable p.now t.now.funs places.now.items frames.now.items
+        → IsSelected t.now.funs places.now.items frames.now.items (before p.now) p.now.main items.code.items
+        items.lines.items items.entries.items) }
 {
     let table = entries_of(p);
     let mut code = Code::new(alloc);

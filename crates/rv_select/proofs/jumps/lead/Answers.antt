@@ -39,6 +39,7 @@ returns-else-at-len-clause-there c =
           let inside : a.at < length a.words.now.items =
           omega (arith, w.if-at-len.true, c.len.ensures, a.words.now.ok) in
           led_narrow a.words.now.items a.at a.to w.index.result.now w.in-Some.bytes w.in-Some.ensures.range
-          (slice_get_read a.words.now.items (length a.words.now.items) a.at w.index.result.now refl inside w.index.ensures)
+          (slice_get_read a.words.now.items (length a.words.now.items) a.at w.index.result.now refl inside
+          w.index.ensures)
           w.in-Some.ensures.there (search rules)
     ]

@@ -12,6 +12,7 @@ lead-requires-clause-target c =
 
 pub returns-in_default-clause-there : goal.returns-in_default-clause-there
 returns-in_default-clause-there c = jump_not (IsEnteredAt c.args.entries.now) c.args.call _ (λ place e.
-    let lt : c.args.call.to < length c.args.entries.now = slice_get_within c.args.entries.now c.args.call.to (4 * place) e in
+    let lt : c.args.call.to < length c.args.entries.now = slice_get_within c.args.entries.now c.args.call.to
+    (4 * place) e in
     let past = c.in_default.ensures.lookup in
     omega (arith, lt, past))

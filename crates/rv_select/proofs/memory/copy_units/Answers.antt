@@ -2,33 +2,43 @@ use Rattle.std.proofs.Common.{◌≡◌, ◌∙◌, ◌/◌, ◌<◌, ◌^◌, s
 use Rattle.purecap_abi.proofs.Ranges.{on_ok}
 use Rattle.rv_select.specs.Choosing.{chosen}
 use Rattle.rv_select.specs.Growing.{Puts}
-use Rattle.rv_select.specs.Objects.{CopiesUnits}
-use Rattle.rv_select.proofs.Units.{copied_one, copied_round}
+use Rattle.rv_select.specs.Noting.{Twice}
+use Rattle.rv_select.specs.Objects.{RoundWords}
+use Rattle.rv_select.proofs.Called.{on_both}
+use Rattle.rv_select.proofs.Units.{copied_nothing, copied_one, copied_round}
 use Rattle.rv_select.proofs.memory.copy_units.Goals as goal
+
+pub returns-then-units-eq0-clause-words : goal.returns-then-units-eq0-clause-words
+returns-then-units-eq0-clause-words c =
+    let a = c.args in
+    let e = a.ends in
+    λ f g unit few. copied_nothing (chosen a.f.now) e.from e.to a.bytes a.unit e.from_pos e.to_pos a.code.now
+    (sym (c.units_of-units.ensures unit) ∙ c.if-units-eq0.true)
 
 pub returns-then-units-eq1-clause-words : goal.returns-then-units-eq1-clause-words
 returns-then-units-eq1-clause-words c =
     let a = c.args in
     let e = a.ends in
-    on_ok c.copy_unit.result _ _ c.copy_unit.ensures.text
-    (λ t f g some few.
-    let is = c.units_of-units.ensures some in
-    let one : a.bytes / a.unit ≡ 1 = sym is ∙ c.if-units-eq1.true in
-    copied_one (chosen a.f.now) e.from e.to (a.bytes / a.unit) a.unit a.code.now c.bring.new.code c.bring-2.new.code
-    c.copy_unit.new.code c.left.result c.right.result c.left.ensures c.right.ensures
-    (λ lt. c.in_ok-bring.ensures.words lt f) (λ lt. c.in_ok-bring-2.ensures.words lt g) one t)
+    on_both c.copy_unit.result _ _ _ c.copy_unit.ensures.text c.copy_unit.ensures.links
+    (λ t l f g unit few.
+    let one : a.bytes / a.unit ≡ 1 = sym (c.units_of-units.ensures unit) ∙ c.if-units-eq1.true in
+    copied_one (chosen a.f.now) e.from e.to a.bytes a.unit c.left.result c.right.result e.from_pos e.to_pos a.code.now
+    c.bring.new.code c.bring-2.new.code c.copy_unit.new.code c.left.ensures c.right.ensures
+    (λ lt. c.in_ok-bring.ensures.words lt f) (λ lt. c.in_ok-bring-2.ensures.words lt g)
+    (c.in_ok-bring-2.ensures.size.2 ∙ c.in_ok-bring.ensures.size.2) one t l)
 
 pub returns-clause-words : goal.returns-clause-words
 returns-clause-words c =
     let a = c.args in
     let e = a.ends in
     on_ok c.copy_loop.result _ _ c.copy_loop.ensures.words
-    (λ r f g some few.
-    let is = c.units_of-units.ensures some in
-    let no = c.if-units-eq0.false in
-    let above : 0 < c.units_of-units.result = omega (arith, no) in
+    (λ r f g unit few.
+    let is = c.units_of-units.ensures unit in
     let low : c.units_of-units.result < 2 ^ 31 = omega (arith, is, few) in
-    subst (λ n. Puts (CopiesUnits (chosen a.f.now) e.from e.to n a.unit) a.code.now c.copy_loop.new.code) is
-    (copied_round (chosen a.f.now) e.from e.to c.units_of-units.result a.unit a.code.now c.bring.new.code
-    c.bring-2.new.code c.copy_loop.new.code c.left.result c.right.result c.left.ensures c.right.ensures
-    (λ lt. c.in_ok-bring.ensures.words lt f) (λ lt. c.in_ok-bring-2.ensures.words lt g) above low (r low)))
+    let some : 0 < a.bytes / a.unit = omega (arith, is, c.if-units-eq0.false) in
+    copied_round (chosen a.f.now) e.from e.to a.bytes a.unit c.left.result c.right.result e.from_pos e.to_pos a.code.now
+    c.bring.new.code c.bring-2.new.code c.copy_loop.new.code c.left.ensures c.right.ensures
+    (λ lt. c.in_ok-bring.ensures.words lt f) (λ lt. c.in_ok-bring-2.ensures.words lt g)
+    (c.in_ok-bring-2.ensures.size.2 ∙ c.in_ok-bring.ensures.size.2) some few
+    (subst (λ n. Puts (RoundWords (Twice c.bring-2.new.code c.copy_loop.new.code e.from_pos e.to_pos) n a.unit)
+    c.bring-2.new.code c.copy_loop.new.code) is (r low)))

@@ -19,6 +19,6 @@ returns-clause-words c =
     on_ok c.keep.result _ _ c.keep.ensures.words
     (λ k t h. local_of a.f.now a.to a.var a.code.now c.moved.new.self c.number.new.self c.put.new.self c.keep.new.code r
     found c.object-object.ensures (c.target-r.ensures t) c.in_ok-moved.ensures.text
-    (λ lt. number_put 29 c.right.result found.length v _ c.moved.new.self c.number.new.self c.right.ensures (omega arith)
-    lt (to_z-of_z w32 v fits) c.number_of.ensures c.in_ok-number.ensures.text)
+    (λ lt. number_put 29 c.right.result found.length v _ c.moved.new.self c.number.new.self c.right.ensures
+    (omega arith) lt (to_z-of_z w32 v fits) c.number_of.ensures c.in_ok-number.ensures.text)
     (c.in_ok-put.ensures.text ∙ ap (λ (i : Instr). c.number.new.self.text ++ i ∷ []) bounds) (k t) h)

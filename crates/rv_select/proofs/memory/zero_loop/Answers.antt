@@ -7,7 +7,7 @@ use Rattle.rv_instr.specs.declared.ops.ImmOp.TheVariants.{Addi}
 use Rattle.rv_instr.specs.declared.ops.StoreOp.TheVariants.{Csc}
 use Rattle.purecap_abi.proofs.Ranges.{on_ok}
 use Rattle.rv_select.specs.Growing.{Size}
-use Rattle.rv_select.proofs.Landed.{three_more}
+use Rattle.rv_select.proofs.Skips.{three_more}
 use Rattle.rv_select.proofs.Zeroed.{number_put, round_put}
 use Rattle.rv_select.proofs.memory.zero_loop.Goals as goal
 

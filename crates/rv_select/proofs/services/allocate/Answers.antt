@@ -17,7 +17,8 @@ returns-clause-text c = λ low.
     ∙ ap (CapGet Cgetlen 29) c.left-3.ensures in
     allocated h c.args.code.now.text c.load_far.new.self.text c.put.new.self.text c.branch-code.new.self.text
     c.round.new.code.text c.find.new.code.text c.measure.new.code.text c.branch-code-2.new.self.text
-    c.take.new.code.text c.skip.new.self.text c.land.new.self.text c.land-2.new.self.text c.put-2.new.self.text c.land-3.new.self.text
+    c.take.new.code.text c.skip.new.self.text c.land.new.self.text c.land-2.new.self.text c.put-2.new.self.text
+    c.land-3.new.self.text
     c.in_ok-longer.longer c.in_ok-full.full c.in_ok-done.done
     loads
     (c.in_ok-put.ensures.text ∙ ap (λ (i : Instr). c.load_far.new.self.text ++ i ∷ []) asks)
