@@ -1,6 +1,6 @@
 -- Where selection chose words as the laws ask for, each instruction runs.
-use Rattle.std.proofs.Common.{pos, refl, ℕ, ◌+◌, ◌<◌, ◌≤◌, Bool, true, false, List, [], ◌∷◌, length, Option, ap, subst}
-use Rattle.std.proofs.Common.{arith, ◌≡◌, ◌∙◌, sym, Some, None}
+use Rattle.std.proofs.Common.{pos, refl, ℕ, zero, suc, ◌+◌, ◌/◌, ◌<◌, ◌≤◌, Bool, true, false, List, [], ◌∷◌, length}
+use Rattle.std.proofs.Common.{Option, ap, subst, arith, ◌≡◌, ◌∙◌, sym, Some, None}
 use Rattle.std.specs.Prelude.{slice_get}
 use Rattle.std.proofs.lemmas.List.{length-append}
 use Rattle.std.proofs.lemmas.Bool.{and_parts}
@@ -12,14 +12,16 @@ use Rattle.cap_machine.specs.declared.machine.Machine.{Machine}
 use Rattle.cap_machine.specs.declared.end.End.TheVariants as end
 use Rattle.cheri_c_sem.specs.Kinds.{number_of}
 use Rattle.cheri_c_sem.specs.Modes.{Store, operations, frame_within}
-use Rattle.cheri_c_sem.specs.Steps.{State}
+use Rattle.cheri_c_sem.specs.Meaning.{At, copy_units}
+use Rattle.cheri_c_sem.specs.Steps.{State, Fate, ◌>>=◌, give, over}
+use Rattle.obj_mem.specs.declared.ending.Ending.TheVariants as ending
 use Rattle.tac_ir.specs.Costs.{cost, prologue_cost}
 use Rattle.obj_mem.specs.declared.map.Frame.{Frame}
 use Rattle.obj_mem.specs.Values.{Value, Int}
 use Rattle.purecap_abi.specs.Ends.{before_store}
 use Rattle.tac_ir.specs.Meaning.{Caller, Running, entry_temps}
 use Rattle.tac_ir.specs.Temps.{behind}
-use Rattle.tac_ir.specs.Effects.{Into}
+use Rattle.tac_ir.specs.Effects.{Into, Next, On, temp_in}
 use Rattle.tac_ir.specs.WellFormed.{call_fits, has_capability, int_result, signature_of, signature_of_def}
 use Rattle.tac_ir.specs.WellFormed.{signature_of_function}
 use Rattle.tac_ir.specs.declared.code.LibOp.TheVariants as lib
@@ -38,6 +40,7 @@ use Rattle.select_words.specs.Capabilities.{IsPointing}
 use Rattle.select_words.specs.Jumps.{inverted}
 use Rattle.select_words.specs.Operations.{OperationWords, IsComparison, CompareWords, IsConversion, ConversionWords}
 use Rattle.select_words.specs.Services.{putting, taking, leaving}
+use Rattle.select_runs.specs.Accesses.{TrapsWithin}
 use Rattle.select_runs.specs.Through as through
 use Rattle.select_words.specs.Through.{through}
 use Rattle.select_words.specs.Words as words
@@ -78,6 +81,7 @@ use Rattle.select_whole.specs.Chosen.{CalleeStands, ValueCallStands, EachStands,
 use Rattle.select_whole.specs.Chosen.{ChosenCodeMatches}
 use Rattle.select_whole.proofs.Kinded.{call_kinded, int_given, return_kinded}
 use Rattle.select_whole.proofs.Matching.{whole_runs_match_law}
+use Rattle.select_whole.proofs.Moves.{has_words}
 
 within_more : (most more : ℕ) (s : Setting) (code : List Instr) (w : World) (p : _) (r : Running) (i : TacInstr)
     (rest : List TacInstr) (ws : List Instr) (at : ℕ) (t : State Store) (m : Machine) → most ≤ more
@@ -157,6 +161,30 @@ module _ (g : Whole) (w : World) (c : Chosen g w) where
         dear = x.cheap;
       }
 
+  -- a copy of no units doesn't trap
+  module _ (from to bytes unit : ℕ) (from_pos to_pos : Pos) (r : Running) (t : State Store) where
+    abbrev copy : TacInstr
+    copy = instr.CopyUnits from to bytes unit from_pos to_pos
+
+    nothing_copied : bytes / unit ≡ 0 → Means g w r.fun copy t On t
+    nothing_copied e k =
+        ap (λ n. (copy_units (ops_of g) w n unit 0 (At from_pos (temp_in t from)) (At to_pos (temp_in t to))
+        >>= λ _. give On) t k) e
+
+    abbrev turning : Next → State Store → Fate
+    turning n u = over ending.Turns u
+
+    some_units : (most word : ℕ) (source : Pos) (m : Machine)
+        → TrapsWithin most g.setting g.code w g.program r copy source word t m → 0 < bytes / unit
+    some_units most word source m z = by (bytes / unit) refl
+      where
+        by : (n : ℕ) → bytes / unit ≡ n → 0 < bytes / unit
+        by zero e =
+            let same : ending.Trap z.cause source ≡ ending.Turns =
+            ap (λ (f : Fate). f.ending) (sym (z.means turning) ∙ nothing_copied e turning) in
+            cc
+        by (suc n) e = omega (arith, e)
+
   struct_copies : Each g w IsStructCopy (Copied g w)
   struct_copies r (instr.CopyUnits from to bytes unit from_pos to_pos) rest t m is h =
       let i = instr.CopyUnits from to bytes unit from_pos to_pos in
@@ -170,8 +198,8 @@ module _ (g : Whole) (w : World) (c : Chosen g w) where
         does = struct_copies_run_law g.setting g.code c.text w g.program r from to bytes unit from_pos to_pos rest
             (c.selectable r false i rest t m h) (here g w r (i ∷ rest)) t m h.point h.kinded x.skip x.words x.form
             x.has;
-        reports_reading = x.reports_reading;
-        reports_writing = x.reports_writing;
+        reports_reading = λ z. x.reports_reading (some_units from to bytes unit from_pos to_pos r t _ _ _ m z);
+        reports_writing = λ z. x.reports_writing (some_units from to bytes unit from_pos to_pos r t _ _ _ m z);
         dear = x.cheap;
       }
   struct_copies r i rest t m is h = absurd is
@@ -340,7 +368,7 @@ module _ (g : Whole) (w : World) (c : Chosen g w) where
         )
 
     -- a call of it, at an instruction whose arguments are of their kinds
-    called_so : (i : TacInstr) (m : Machine) → most < g.dear r.fun i → Here g w r false (i ∷ rest) t m
+    called_so : (i : TacInstr) (m : Machine) → most < g.dear r.fun i + g.setup fun → Here g w r false (i ∷ rest) t m
         → Means g w r.fun i t (Into fun (values t args) to) t
         → (AreOfKinds (kinds_at g fun) (entry_temps (kinds_at g fun) (values t args))
         × Takes (kinds_at g r.fun) to (gives_at g fun))
@@ -357,9 +385,9 @@ module _ (g : Whole) (w : World) (c : Chosen g w) where
       older = subst (λ n. OthersAreOlder g.setting n (caller_of r rest to t ∷ r.callers)) (count_is t)
           (others_are_older_at_entries_law g.setting c.text.legal (before r i rest) t m h.point.fits rest to);
       keeps = keeps;
-      does = subst (λ o. Entered g w (g.dear r.fun i) fun (called_by fun r rest to t) o (values t args) t m)
-          (sym (enter_is fun t.frame x.begins.frame x.begins.is_frame.is))
-          (entered_by m (g.dear r.fun i) less
+      does = subst (λ o. Entered g w (g.dear r.fun i + g.setup fun) fun (called_by fun r rest to t) o (values t args) t
+          m) (sym (enter_is fun t.frame x.begins.frame x.begins.is_frame.is))
+          (entered_by m (g.dear r.fun i + g.setup fun) less
           (frame_within g.setting.map.stack.0 t.frame (Some x.begins.frame)) does);
     }
 
@@ -369,8 +397,11 @@ module _ (g : Whole) (w : World) (c : Chosen g w) where
       let x = c.calls to fun args r rest t m h in
       let own = c.selectable r false i rest t m h in
       let d = calls_run_law g.setting g.code c.text c.stack w g.program r to fun args rest (tac_at g fun)
-      (here g w r (i ∷ rest)) t m h.point x.addresses x.callee.begins x.offset x.words x.form x.has x.leads x.may in
-      called_so (cost i + prologue_cost (length args)) to fun args r rest t x.callee i m x.cheap h d.means
+      (here g w r (i ∷ rest)) t m h.point (has_words w m t.done h.addresses) x.callee.begins x.offset x.words x.form
+      x.has x.leads x.may in
+      let own_cheap = x.cheap in
+      let cheap = x.callee.cheap in
+      called_so (cost i + prologue_cost (length args)) to fun args r rest t x.callee i m (omega arith) h d.means
       (call_kinded g.program own.d (kinds_at g r.fun) (tac_at g r.fun) t h.kinded (kinds_at g fun)
       (signature_of_function g.program fun) to args own.fits (c.parameters fun)) x.may.keeps d.does
   calls r i rest t m is h = absurd is
@@ -380,7 +411,7 @@ module _ (g : Whole) (w : World) (c : Chosen g w) where
     abbrev i : TacInstr
     i = through to v of args source
 
-    abbrev stands : ValueCallStands g w to v of args source r rest t m
+    abbrev stands : ValueCallStands g w to v of args source r rest t
     stands = c.value_calls to v of args source r rest t m h
 
     abbrev callees : (f : ℕ) → IsCalled g.setting w g.program v of t f → IsCallee g.setting g.code r to args rest t f
@@ -401,8 +432,10 @@ module _ (g : Whole) (w : World) (c : Chosen g w) where
         let fit = (and_parts (has_capability g.program own.d (kinds_at g r.fun) (tac_at g r.fun) v)
         (call_fits g.program own.d (kinds_at g r.fun) (tac_at g r.fun) (signature_of g.program of) to args)
         own.fits).1 in
+        let own_cheap = stands.cheap in
+        let cheap = (stands.callees f is).cheap in
         Calls (called_so (cost i + prologue_cost (length args)) to f args r rest t (stands.callees f is) i m
-        stands.cheap h means
+        (omega arith) h means
         (call_kinded g.program own.d (kinds_at g r.fun) (tac_at g r.fun) t h.kinded (kinds_at g f)
         (signature_of_function g.program f) to args
         (subst (λ o. call_fits g.program own.d (kinds_at g r.fun) (tac_at g r.fun) o to args ≡ true) (sym alike) fit)
@@ -420,7 +453,7 @@ module _ (g : Whole) (w : World) (c : Chosen g w) where
       let x = stands to v of args source r rest t m h in
       value_called to v of args source r rest t m h
       (calls_through_values_run_law g.setting g.code c.text c.stack w g.program r to v of args source rest
-      (here g w r (through to v of args source ∷ rest)) t m h.point x.addresses
+      (here g w r (through to v of args source ∷ rest)) t m h.point (has_words w m t.done h.addresses)
       (callees to v of args source r rest t m h) x.words x.form x.has x.may)
   value_calls r i rest t m is h = absurd is
 

@@ -23,12 +23,12 @@ use Rattle.int_select.proofs.Follow.{Final, end_or, final, run_is, after, Agrees
 use Rattle.int_select.proofs.Meets.{course_by, course_of, Reports}
 use Rattle.select_whole.specs.Visited as visit
 use Rattle.select_whole.specs.Visited.{Whole, ops_of, tac_at, locals_of, main_of, entry_of, first_running}
-use Rattle.select_whole.specs.Runs.{InstructionsRun}
+use Rattle.select_whole.specs.Runs.{InstructionsRun, last_acts}
 use Rattle.select_whole.specs.Matching.{AreFine, IsOfBytes, Starts, Started, MatchesIn, WholeRunsMatch, done_in}
 use Rattle.select_whole.specs.Matching.{meant_in}
 use Rattle.select_whole.specs.Matching.{dear_of}
 use Rattle.select_whole.proofs.Kinded.{zeros_kinded}
-use Rattle.select_whole.proofs.Moves.{leads_reach, stops_by}
+use Rattle.select_whole.proofs.Moves.{leads_reach, stops_by, words_on}
 use Rattle.select_whole.proofs.Passes.{turns_ok}
 
 -- ---- what an ending says of both
@@ -99,7 +99,7 @@ module _ (report : End → Option Ending) (no_steps : report ends.Steps ≡ None
 -- ---- from the start
 
 module _ (g : Whole) (reports : IsReport g.report) (fine : AreFine g) (w : World) (bytes : IsOfBytes w)
-    (run : InstructionsRun g w) (first count : ℕ) (enough : first + g.most ≤ count) (m : Machine)
+    (run : InstructionsRun g w) (first count : ℕ) (enough : first + last_acts + g.most ≤ count) (m : Machine)
     (starts : Starts g w first m) where
   abbrev start : Moment Machine
   start = moment m nothing_done
@@ -113,36 +113,48 @@ module _ (g : Whole) (reports : IsReport g.report) (fine : AreFine g) (w : World
   abbrev state : ℕ → State Store
   state n = first_state (ops_of g) w g.setting.code g.program (locals_of g) (program_tree g.program) n
 
-  room : (n b : ℕ) → b ≤ g.most → first + (b + n * g.most) ≤ (n + 1) * count
+  room : (n b : ℕ) → b ≤ g.most → first + (last_acts + b + n * g.most) ≤ (n + 1) * count
   room n b le =
       let less : g.most ≤ count = omega arith in
       let each : n * g.most ≤ n * count = mul-le-mul_left n less in
       omega arith
 
-  entered : (n : ℕ) (o : Option ℕ) → (ops_of g).enter (main_of g) (ops_of g).stack_top ≡ o → Started g w first n o m
+  abbrev setup : ℕ
+  setup = g.setup (main_of g)
+
+  entered : (n : ℕ) (o : Option ℕ) → (ops_of g).enter (main_of g) (ops_of g).stack_top ≡ o
+      → Started g w (first + setup) n o m
       → Follows n (first_entry (ops_of g) w g.setting.code g.program (locals_of g) n o (main_of g) (state n))
   entered n (Some address) e a =
       let known = fine (main_of g) starts.main in
       let le = a.le in
       let cheap = known.cheap in
-      let all = room n (dear_of g (main_of g) (tac_at g (main_of g))) cheap in
+      let all = room n (setup + dear_of g (main_of g) (tac_at g (main_of g))) cheap in
+      let steps = leads_reach w a.count m a.to nothing_done a.leads in
       after limits act w (Reports g.report reports.steps) n n
-      (dear_of g (main_of g) (tac_at g (main_of g)) + n * g.most) ((n + 1) * count) a.count
+      (last_acts + dear_of g (main_of g) (tac_at g (main_of g)) + n * g.most) ((n + 1) * count) a.count
       (course_of (first_entry (ops_of g) w g.setting.code g.program (locals_of g) n (Some address) (main_of g)
       (state n))) start (moment a.to nothing_done) (omega arith) (omega arith)
-      (leads_reach g reports w bytes run a.count m a.to nothing_done a.leads)
+      steps
       (turns_ok g reports fine w bytes run n (first_running g) (tac_at g (main_of g)) (entry_of g w address n) a.to
       (record {
-        at = record { visited = visit.begun address n e; point = a.point; kinded = zeros_kinded _; callers = refl };
+        at = record {
+          visited = visit.begun address n e;
+          point = a.point;
+          kinded = zeros_kinded _;
+          callers = refl;
+          addresses = words_on w a.count start (moment a.to nothing_done) steps starts.addresses;
+        };
         is_function = starts.main;
         fine_code = known;
         callers = tt;
       }))
   entered n None e a =
-      let s = stops_by g reports w bytes run first m nothing_done
+      let cheap = (fine (main_of g) starts.main).cheap in
+      let s = stops_by g reports w bytes run (first + setup) m nothing_done
       (meant.Stack (name_of (slice_get g.setting.code.funs (main_of g)))) a.0 a.2 a.1 in
       let lt = s.lt in
-      let all = room n 0 (omega arith) in
+      let all = room n setup (omega arith) in
       (s.count, omega arith, s.to, s.end, s.steps, s.ended, s.reports_it, s.done_is)
 
   tracks : (n : ℕ) → Follows n (fate_of n)

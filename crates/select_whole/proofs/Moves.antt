@@ -39,6 +39,7 @@ use Rattle.select_runs.specs.Copying as copying
 use Rattle.select_words.specs.Services.{putting, taking, leaving}
 use Rattle.select_runs.specs.Acts.{Leads, place, counter_at}
 use Rattle.select_runs.specs.Accesses.{Accesses, TrapsWithin}
+use Rattle.select_runs.specs.Calling.{HasWords}
 use Rattle.select_runs.specs.Copying.{StructCopied, copy_cost}
 use Rattle.select_runs.specs.Jumps.{Branches, Taken, Passed}
 use Rattle.select_runs.specs.Kinds.{AreOfKinds}
@@ -49,7 +50,7 @@ use Rattle.select_runs.specs.Services.{IsByteOrEnd, served}
 use Rattle.select_runs.proofs.Acts.{counter_place}
 use Rattle.select_whole.specs.Visited.{Whole, Means, ops_of, kinds_at, back_in}
 use Rattle.select_whole.specs.Runs.{here, Here, Accessed, Copied, Called, Calls, ValueCalled, StopsBy, InstructionsRun}
-use Rattle.select_whole.specs.Runs.{Put, Exited, searched, Reports_at}
+use Rattle.select_whole.specs.Runs.{AreWords, Put, Exited, searched, Reports_at, last_acts}
 use Rattle.select_whole.specs.Runs as runs
 use Rattle.select_whole.specs.Matching.{IsOfBytes}
 
@@ -57,9 +58,9 @@ use Rattle.select_whole.specs.Matching.{IsOfBytes}
 place_apart : (start a b : ℕ) → start + 4 * a ≡ start + 4 * b → a ≡ b
 place_apart start a b e = omega (arith, e)
 
-module _ (g : Whole) (reports : IsReport g.report) (w : World) (bytes : IsOfBytes w) (run : InstructionsRun g w) where
-  -- ---- steps in the world
+-- ---- steps in a world
 
+module _ (w : World) where
   pub leads_reach : (j : ℕ) (m n : Machine) (d : Done) → Leads j m n
       → Reaches limits act w j (moment m d) (moment n d)
   leads_reach zero m n d e = ap (λ x. moment x d) e
@@ -69,6 +70,14 @@ module _ (g : Whole) (reports : IsReport g.report) (w : World) (bytes : IsOfByte
     leads_reach j u n d q,
   )
 
+  -- addresses have 64 bits further on
+  pub words_on : (j : ℕ) (s t : Moment Machine) → Reaches limits act w j s t → AreWords w s → AreWords w t
+  words_on j s t steps words k n more = words (j + k) n (join limits act w j k s t n steps more)
+
+  pub has_words : (m : Machine) (d : Done) → AreWords w (moment m d) → HasWords m
+  has_words m d words k n leads = words k (moment n d) (leads_reach k m n d leads)
+
+module _ (g : Whole) (reports : IsReport g.report) (w : World) (bytes : IsOfBytes w) (run : InstructionsRun g w) where
   -- so many acts lead to a machine that stands for a state at a place
   pub record Comes (lo hi : ℕ) (m : Machine) (d : Done) (r : Running) (is : List TacInstr) (u : State Store) :
       Type 0 where
@@ -101,7 +110,7 @@ module _ (g : Whole) (reports : IsReport g.report) (w : World) (bytes : IsOfByte
         ge = a.ge;
         le = omega arith;
         steps = subst (λ x. Reaches limits act w a.count (moment m d) (moment a.to x)) (sym same)
-            (leads_reach a.count m a.to d a.leads);
+            (leads_reach w a.count m a.to d a.leads);
         point = subst (λ k. IsAtPoint g.setting g.code (at_place.behind r is) k u a.to) there a.point;
       }
 
@@ -112,7 +121,7 @@ module _ (g : Whole) (reports : IsReport g.report) (w : World) (bytes : IsOfByte
     to = moment s.to d;
     end = x;
     lt = s.lt;
-    steps = leads_reach s.count m s.to d s.leads;
+    steps = leads_reach w s.count m s.to d s.leads;
     ended = ap (stepped limits w d) s.ends;
     reports_it = is;
     done_is = refl;
@@ -152,10 +161,11 @@ module _ (g : Whole) (reports : IsReport g.report) (w : World) (bytes : IsOfByte
     Enters : b ≡ false → Called g w r i rest t m → ends_there i ≡ false → is_turn i ≡ false → Did r b i rest t m
     Returns : b ≡ false → (c : Caller) (cs : List Caller) → r.callers ≡ c ∷ cs → (v : Value)
         → Means g w r.fun i t (Back v) t → AreOfKinds (kinds_at g c.fun) (with_result c.vars c.to v)
-        → Comes 1 (g.dear r.fun i) m t.done (record { fun = c.fun; callers = cs }) c.rest (back_in g r.fun c v t)
+        → Comes 1 (g.dear r.fun i + g.setup c.fun) m t.done (record { fun = c.fun; callers = cs }) c.rest
+        (back_in g r.fun c v t)
         → Did r b i rest t m
     Leaves : b ≡ false → r.callers ≡ [] → (v : Value) → Means g w r.fun i t (Back v) t
-        → Stops (g.dear r.fun i) m t.done (ending.Exit (number_of v % 256)) t.done
+        → Stops (last_acts + g.dear r.fun i) m t.done (ending.Exit (number_of v % 256)) t.done
         → Did r b i rest t m
     Over : (e : Ending) (d : Done) → course_by d e ≡ Finished d e
         → ((k : Next → State Store → Fate) → effect (ops_of g) w g.program (kinds_at g r.fun) i t k
@@ -197,7 +207,7 @@ module _ (g : Whole) (reports : IsReport g.report) (w : World) (bytes : IsOfByte
         to = moment x.to t.done;
         end = end.Trap x.cause (place (ground_of g.setting g.code) word);
         lt = omega arith;
-        steps = leads_reach x.count m x.to t.done x.leads;
+        steps = leads_reach w x.count m x.to t.done x.leads;
         ended = ap (stepped limits w t.done) x.ends;
         reports_it = says x.cause;
         done_is = refl;
@@ -225,9 +235,9 @@ module _ (g : Whole) (reports : IsReport g.report) (w : World) (bytes : IsOfByte
       by (copying.Goes d) =
           goes_within r i rest t m (copy_cost i) x.dear inside falls plain x.words x.then_on.next d
       by (copying.StopsReading z) =
-          from_trap r i rest t m (copy_cost i) x.from_pos x.word x.dear x.reports_reading z
+          from_trap r i rest t m (copy_cost i) x.from_pos x.word x.dear (x.reports_reading z) z
       by (copying.StopsWriting z) =
-          from_trap r i rest t m (copy_cost i) x.to_pos (x.word + 1) x.dear x.reports_writing z
+          from_trap r i rest t m (copy_cost i) x.to_pos (x.word + 1) x.dear (x.reports_writing z) z
       by (copying.Leaves source means) = Outside source means
 
   -- ---- jumps and branches
@@ -279,7 +289,7 @@ module _ (g : Whole) (reports : IsReport g.report) (w : World) (bytes : IsOfByte
                 (some_acts a.count m a.to (here g w r (instr.Branch on when l ∷ rest)) (here g w r rest) x.further
                 h.point.counter a.point.counter a.leads);
             le = omega arith;
-            steps = leads_reach a.count m a.to t.done a.leads;
+            steps = leads_reach w a.count m a.to t.done a.leads;
             point = a.point;
           }) (λ e. refl) refl refl
 
@@ -300,7 +310,7 @@ module _ (g : Whole) (reports : IsReport g.report) (w : World) (bytes : IsOfByte
   comes_behind r rest m asks after d d' count most hi u same few leads goes at there a =
       let le = a.le in
       let last : Reaches limits act w (suc a.count) (moment asks d) (moment a.to d') =
-      (moment after d', goes, leads_reach a.count after a.to d' a.leads) in
+      (moment after d', goes, leads_reach w a.count after a.to d' a.leads) in
       record {
         count = count + suc a.count;
         to = a.to;
@@ -308,7 +318,7 @@ module _ (g : Whole) (reports : IsReport g.report) (w : World) (bytes : IsOfByte
         le = omega arith;
         steps = subst (λ x. Reaches limits act w (count + suc a.count) (moment m d) (moment a.to x)) (sym same)
             (join limits act w count (suc a.count) (moment m d) (moment asks d) (moment a.to d')
-            (leads_reach count m asks d leads) last);
+            (leads_reach w count m asks d leads) last);
         point = subst (λ k. IsAtPoint g.setting g.code (at_place.behind r rest) k u a.to) there a.point;
       }
 
@@ -335,7 +345,7 @@ module _ (g : Whole) (reports : IsReport g.report) (w : World) (bytes : IsOfByte
             to = moment x.does.asks t.done;
             end = end.WriteFault;
             lt = omega arith;
-            steps = leads_reach x.does.count m x.does.asks t.done x.does.leads;
+            steps = leads_reach w x.does.count m x.does.asks t.done x.does.leads;
             ended = ap (stepped limits w t.done) x.does.puts ∙ ap steps_by e;
             reports_it = reports.write_fault;
             done_is = refl;
@@ -382,7 +392,7 @@ module _ (g : Whole) (reports : IsReport g.report) (w : World) (bytes : IsOfByte
             to = moment x.does.asks t.done;
             end = end.ReadFault;
             lt = omega arith;
-            steps = leads_reach x.does.count m x.does.asks t.done x.does.leads;
+            steps = leads_reach w x.does.count m x.does.asks t.done x.does.leads;
             ended = ap (stepped limits w t.done) x.does.reads ∙ ap steps_by e;
             reports_it = reports.read_fault;
             done_is = refl;
@@ -414,7 +424,7 @@ module _ (g : Whole) (reports : IsReport g.report) (w : World) (bytes : IsOfByte
         to = moment d.asks t.done;
         end = end.Exit d.byte;
         lt = omega arith;
-        steps = leads_reach d.count m d.asks t.done d.leads;
+        steps = leads_reach w d.count m d.asks t.done d.leads;
         ended = ap (stepped limits w t.done) d.ends;
         reports_it = reports.exit d.byte;
         done_is = refl;
@@ -438,14 +448,15 @@ module _ (g : Whole) (reports : IsReport g.report) (w : World) (bytes : IsOfByte
           let x = run.last_returns r.fun v rest t m
           (subst (λ y. Here g w (record { fun = r.fun; callers = y }) false (instr.Return v ∷ rest) t m) e h) in
           Leaves refl e x.value x.means
-          (stops_by (g.dear r.fun (instr.Return v)) m t.done (ending.Exit (number_of x.value % 256))
+          (stops_by (last_acts + g.dear r.fun (instr.Return v)) m t.done (ending.Exit (number_of x.value % 256))
           (end.Exit (number_of x.value % 256)) (reports.exit (number_of x.value % 256)) x.does)
       by (c ∷ cs) e =
           let x = run.returns r.fun c cs v rest t m
           (subst (λ y. Here g w (record { fun = r.fun; callers = y }) false (instr.Return v ∷ rest) t m) e h) in
           Returns refl c cs e x.value x.means x.kinded
-          (comes_by 1 (g.dear r.fun (instr.Return v)) (g.dear r.fun (instr.Return v)) (g.word c.fun c.rest) m t.done
-          (record { fun = c.fun; callers = cs }) c.rest (back_in g r.fun c x.value t) refl (omega arith) refl x.does)
+          (comes_by 1 (g.dear r.fun (instr.Return v) + g.setup c.fun) (g.dear r.fun (instr.Return v) + g.setup c.fun)
+          (g.word c.fun c.rest) m t.done (record { fun = c.fun; callers = cs }) c.rest (back_in g r.fun c x.value t)
+          refl (omega arith) refl x.does)
 
   -- ---- all of them
 

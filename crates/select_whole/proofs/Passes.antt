@@ -30,10 +30,10 @@ use Rattle.int_select.proofs.Meets.{course_of, course_by, Reports}
 use Rattle.select_whole.specs.Visited as visit
 use Rattle.select_whole.specs.Visited.{Whole, Means, Visited, ops_of, kinds_at, tac_at, locals_of, called_by}
 use Rattle.select_whole.specs.Visited.{in_frame_of, back_in, looked_at}
-use Rattle.select_whole.specs.Runs.{CallersKept, here, Here, Called, Entered, InstructionsRun}
+use Rattle.select_whole.specs.Runs.{AreWords, CallersKept, here, Here, Called, Entered, InstructionsRun, last_acts}
 use Rattle.select_whole.specs.Matching.{dear_of, IsFine, AreFine, IsOfBytes}
 use Rattle.select_whole.proofs.Moves.{Comes, Stops, Did, Onward, Jumps, Pauses, Enters, Returns, Leaves, Over, Outside}
-use Rattle.select_whole.proofs.Moves.{leads_reach, stops_by, does}
+use Rattle.select_whole.proofs.Moves.{does, leads_reach, stops_by, words_on}
 use Rattle.select_whole.proofs.Steady.{first_stays}
 
 abbrev mode_of : Bool → Going
@@ -127,6 +127,7 @@ module _ (g : Whole) (reports : IsReport g.report) (fine : AreFine g) (w : World
       visited = visit.turn left s.at.visited;
       kinded = s.at.kinded;
       callers = s.at.callers;
+      addresses = s.at.addresses;
       point = record {
         fits = done_keeps_fits_law g.setting (Some (at_place.behind r (looked_at b is))) t m s.at.point.fits t.done
             left;
@@ -157,30 +158,35 @@ module _ (g : Whole) (reports : IsReport g.report) (fine : AreFine g) (w : World
   record AgainOk (m : ℕ) (again : Again) : Type 0 where
     runs : (r : Running) (is : List TacInstr) (t : State Store) (s u : Machine) (j e : ℕ) → 1 ≤ j
         → Reaches limits act w j (moment s t.done) (moment u t.done) → Stands r false is t u
-        → ((n : ℕ) → m ≡ suc n → j + (dear_of g r.fun is + n * most) ≤ e)
+        → ((n : ℕ) → m ≡ suc n → j + (last_acts + dear_of g r.fun is + n * most) ≤ e)
         → Follows m e (again is Runs r t) (moment s t.done)
     seeks : (r : Running) (l : ℕ) (t : State Store) (s u : Machine) (j e : ℕ) → 1 ≤ j
         → Reaches limits act w j (moment s t.done) (moment u t.done)
         → Stands r false (behind l (tac_at g r.fun)) t u → has_label (tac_at g r.fun) l ≡ true
-        → ((n : ℕ) → m ≡ suc n → j + (most + n * most) ≤ e)
+        → ((n : ℕ) → m ≡ suc n → j + (last_acts + most + n * most) ≤ e)
         → Follows m e (again (tac_at g r.fun) (Seeks l) r t) (moment s t.done)
     sinks : (r : Running) (f : ℕ) (t : State Store) (s : Machine) (hi e : ℕ)
         → Stops g reports w bytes run hi s t.done (ending.Stack (name_of (slice_get g.setting.code.funs f))) t.done
-        → hi ≤ e → Follows m e (again [] (Sinks f) r t) (moment s t.done)
+        → ((n : ℕ) → m ≡ suc n → hi ≤ e) → Follows m e (again [] (Sinks f) r t) (moment s t.done)
 
   -- what is shown of a list of instructions
   record PassOk (m : ℕ) (again : Again) (r : Running) (is : List TacInstr) : Type 0 where
     runs : (b : Bool) (t : State Store) (s : Machine) → Stands r b is t s
-        → Follows m (dear_of g r.fun is + m * most) (pass_of again is (mode_of b) r t) (moment s t.done)
+        → Follows m (last_acts + dear_of g r.fun is + m * most) (pass_of again is (mode_of b) r t) (moment s t.done)
     seeks : (l : ℕ) (t : State Store) (s : Machine) → Stands r false (behind l is) t s → has_label is l ≡ true
-        → Follows m (dear_of g r.fun is + m * most) (pass_of again is (Seeks l) r t) (moment s t.done)
+        → Follows m (last_acts + dear_of g r.fun is + m * most) (pass_of again is (Seeks l) r t) (moment s t.done)
 
-  most_turn : (n m j a b rest : ℕ) → m ≡ suc n → j ≤ a → b ≤ most → j + (b + n * most) ≤ a + rest + m * most
-  most_turn n m j a b rest e lo hi = let q : m * most ≡ suc n * most = ap (λ k. k * most) e in omega arith
+  -- acts beside those of a turn's instructions are counted in the next one
+  most_turn : (n m j a more b rest : ℕ) → m ≡ suc n → j ≤ a + more → more + b ≤ most
+      → j + (last_acts + b + n * most) ≤ last_acts + (a + rest) + m * most
+  most_turn n m j a more b rest e lo hi = let q : m * most ≡ suc n * most = ap (λ k. k * most) e in omega arith
+
+  sinks_turn : (n m a more rest : ℕ) → m ≡ suc n → more ≤ most → a + more ≤ last_acts + (a + rest) + m * most
+  sinks_turn n m a more rest e hi = let q : m * most ≡ suc n * most = ap (λ k. k * most) e in omega arith
 
   module _ (m : ℕ) (again : Again) (ok : AgainOk m again) (r : Running) (i : TacInstr) (is : List TacInstr) where
     abbrev all : ℕ
-    all = dear_of g r.fun (i ∷ is) + m * most
+    all = last_acts + dear_of g r.fun (i ∷ is) + m * most
 
     abbrev Means_so : State Store → Next → State Store → Type 0
     Means_so t next u = Means g w r.fun i t next u
@@ -202,14 +208,15 @@ module _ (g : Whole) (reports : IsReport g.report) (fine : AreFine g) (w : World
         (by ((ops_of g).enter c.fun t.frame) refl c.does)
       where
         by : (o : Option ℕ) → (ops_of g).enter c.fun t.frame ≡ o
-            → Entered g w (g.dear r.fun i) c.fun (called_by c.fun r is c.to t) o c.vs t s
+            → Entered g w (g.dear r.fun i + g.setup c.fun) c.fun (called_by c.fun r is c.to t) o c.vs t s
             → Follows m all (enters (ops_of g) w g.setting.code g.program (locals_of g) again o c.fun c.vs
             (called_by c.fun r is c.to t) t) (moment s t.done)
         by (Some address) e a =
             let u = in_frame_of g w address c.fun c.vs t in
             let known = fine c.fun c.is in
+            let steps = leads_reach w a.count s a.to t.done a.leads in
             ok.runs (called_by c.fun r is c.to t) (tac_at g c.fun) u s a.to a.count all a.ge
-            (leads_reach g reports w bytes run a.count s a.to t.done a.leads)
+            steps
             (record {
               at = record {
                 visited = visit.called c.fun c.vs c.to address h.at.visited c.means e;
@@ -219,26 +226,28 @@ module _ (g : Whole) (reports : IsReport g.report) (fine : AreFine g) (w : World
                   record { kinded = h.at.kinded; takes = c.takes; older = c.older; keeps = c.keeps },
                   h.at.callers,
                 );
+                addresses = words_on w a.count (moment s t.done) (moment a.to t.done) steps h.at.addresses;
               };
               is_function = c.is;
               fine_code = known;
               callers = (h.is_function, fine_rest g r.fun false i is h.fine_code falls plain, h.callers);
             })
-            (λ n q. most_turn n m a.count (g.dear r.fun i) (dear_of g c.fun (tac_at g c.fun))
-            (dear_of g r.fun is) q a.le
-            known.cheap)
+            (λ n q. most_turn n m a.count (g.dear r.fun i) (g.setup c.fun) (dear_of g c.fun (tac_at g c.fun))
+            (dear_of g r.fun is) q a.le known.cheap)
         by None e a =
-            ok.sinks (called_by c.fun r is c.to t) c.fun t s (g.dear r.fun i) all
-            (stops_by g reports w bytes run (g.dear r.fun i) s t.done
-            (ending.Stack (name_of (slice_get g.setting.code.funs c.fun))) a.0 a.2 a.1) (omega arith)
+            let cheap = (fine c.fun c.is).cheap in
+            ok.sinks (called_by c.fun r is c.to t) c.fun t s (g.dear r.fun i + g.setup c.fun) all
+            (stops_by g reports w bytes run (g.dear r.fun i + g.setup c.fun) s t.done
+            (ending.Stack (name_of (slice_get g.setting.code.funs c.fun))) a.0 a.2 a.1)
+            (λ n q. sinks_turn n m (g.dear r.fun i) (g.setup c.fun) (dear_of g r.fun is) q (omega arith))
 
     -- ---- returns
 
     returns : (t : State Store) (s : Machine) → Stands r false (i ∷ is) t s → (c : Caller) (cs : List Caller)
         → r.callers ≡ c ∷ cs → (v : Value) → Means_so t (Back v) t
         → AreOfKinds (kinds_at g c.fun) (with_result c.vars c.to v)
-        → Comes g reports w bytes run 1 (g.dear r.fun i) s t.done (record { fun = c.fun; callers = cs }) c.rest
-        (back_in g r.fun c v t)
+        → Comes g reports w bytes run 1 (g.dear r.fun i + g.setup c.fun) s t.done
+        (record { fun = c.fun; callers = cs }) c.rest (back_in g r.fun c v t)
         → Follows m all (effect (ops_of g) w g.program (kinds_at g r.fun) i t (follow_of again is r))
         (moment s t.done)
     returns t s h c cs e v means kinded a =
@@ -256,23 +265,25 @@ module _ (g : Whole) (reports : IsReport g.report) (fine : AreFine g) (w : World
             point = a.point;
             kinded = kinded;
             callers = (subst (CallersKept g w r.fun t.first) e h.at.callers).1;
+            addresses = words_on w a.count (moment s t.done) (moment a.to t.done) a.steps h.at.addresses;
           };
           is_function = callers.0;
           fine_code = callers.1;
           callers = callers.2;
         })
-        (λ n q. most_turn n m a.count (g.dear r.fun i) (dear_of g c.fun c.rest) (dear_of g r.fun is) q a.le
-        callers.1.cheap)))
+        (λ n q. most_turn n m a.count (g.dear r.fun i) (g.setup c.fun) (dear_of g c.fun c.rest) (dear_of g r.fun is) q
+        a.le callers.1.cheap)))
 
     ends_run : (t : State Store) (s : Machine) → r.callers ≡ [] → (v : Value) → Means_so t (Back v) t
-        → Stops g reports w bytes run (g.dear r.fun i) s t.done (ending.Exit (number_of v % 256)) t.done
+        → Stops g reports w bytes run (last_acts + g.dear r.fun i) s t.done (ending.Exit (number_of v % 256)) t.done
         → Follows m all (effect (ops_of g) w g.program (kinds_at g r.fun) i t (follow_of again is r))
         (moment s t.done)
     ends_run t s e v means a =
         by_means t t (Back v) (follow_of again is r) s means
         (subst (λ y. Follows m all (back (ops_of g) w g.setting.code g.program (locals_of g) again v r.fun y t)
         (moment s t.done)) (sym e)
-        (finished m all (g.dear r.fun i) (ending.Exit (number_of v % 256)) t.done s t.done a refl (omega arith)))
+        (finished m all (last_acts + g.dear r.fun i) (ending.Exit (number_of v % 256)) t.done s t.done a refl
+        (omega arith)))
 
     -- ---- endings
 
@@ -299,14 +310,15 @@ module _ (g : Whole) (reports : IsReport g.report) (fine : AreFine g) (w : World
     on_stands : (b : Bool) (t u : State Store) (s to : Machine) → Stands r b (i ∷ is) t s → Means_so t On u
         → AreOfKinds (kinds_at g r.fun) u.vars
         → IsAtPoint g.setting g.code (at_place.behind r is) (g.word r.fun is) u to → ends_there i ≡ false
-        → is_turn i ≡ false → Stands r false is u to
-    on_stands b t u s to h means kinded there falls plain = record {
+        → is_turn i ≡ false → AreWords w (moment to u.done) → Stands r false is u to
+    on_stands b t u s to h means kinded there falls plain addresses = record {
       at = record {
         visited = visit.on h.at.visited means;
         point = there;
         kinded = kinded;
         callers = subst (λ k. CallersKept g w r.fun k r.callers) (sym (first_stays g w r.fun i t u On means))
             h.at.callers;
+        addresses = addresses;
       };
       is_function = h.is_function;
       fine_code = fine_rest g r.fun b i is h.fine_code falls plain;
@@ -320,13 +332,15 @@ module _ (g : Whole) (reports : IsReport g.report) (fine : AreFine g) (w : World
     run_plain rest t s h (Onward u means kinded c quiet falls plain) =
         let le = c.le in
         by_means t u On (follow_of again is r) s means
-        (stretch m m (dear_of g r.fun is + m * most) all c.count (pass_of again is Runs r u) (moment s t.done)
-        (moment c.to u.done) (omega arith) (omega arith) c.steps
-        (rest.runs false u c.to (on_stands false t u s c.to h means kinded c.point falls plain)))
+        (stretch m m (last_acts + dear_of g r.fun is + m * most) all c.count (pass_of again is Runs r u)
+        (moment s t.done) (moment c.to u.done) (omega arith) (omega arith) c.steps
+        (rest.runs false u c.to (on_stands false t u s c.to h means kinded c.point falls plain
+        (words_on w c.count (moment s t.done) (moment c.to u.done) c.steps h.at.addresses))))
     run_plain rest t s h (Jumps l means has c) =
         let le = c.le in
         by_means t t (To l) (follow_of again is r) s means
-        (stretch m m (dear_of g r.fun is + m * most) all c.count (pass_of again is (Seeks l) r t) (moment s t.done)
+        (stretch m m (last_acts + dear_of g r.fun is + m * most) all c.count (pass_of again is (Seeks l) r t)
+        (moment s t.done)
         (moment c.to t.done) (omega arith) (omega arith) c.steps
         (rest.seeks l t c.to (record {
           at = record {
@@ -334,6 +348,7 @@ module _ (g : Whole) (reports : IsReport g.report) (fine : AreFine g) (w : World
             point = c.point;
             kinded = h.at.kinded;
             callers = h.at.callers;
+            addresses = words_on w c.count (moment s t.done) (moment c.to t.done) c.steps h.at.addresses;
           };
           is_function = h.is_function;
           fine_code = fine_there g r.fun l (is_turn i) is
@@ -345,20 +360,22 @@ module _ (g : Whole) (reports : IsReport g.report) (fine : AreFine g) (w : World
       where
         paused : (j : TacInstr) → j ≡ instr.Turn → Stands r false (j ∷ is) t s
             → here g w r (j ∷ is) ≡ here g w r is
-            → Follows m (dear_of g r.fun (j ∷ is) + m * most)
+            → Follows m (last_acts + dear_of g r.fun (j ∷ is) + m * most)
             (effect (ops_of g) w g.program (kinds_at g r.fun) j t (follow_of again is r)) (moment s t.done)
         paused j e h' there' =
             let h'' = subst (λ v. Stands r false (v ∷ is) t s) e h' in
             let there'' = subst (λ v. here g w r (v ∷ is) ≡ here g w r is) e there' in
-            subst (λ v. Follows m (dear_of g r.fun (v ∷ is) + m * most)
+            subst (λ v. Follows m (last_acts + dear_of g r.fun (v ∷ is) + m * most)
             (effect (ops_of g) w g.program (kinds_at g r.fun) v t (follow_of again is r)) (moment s t.done)) (sym e)
-            (stretch m m (dear_of g r.fun is + m * most) (dear_of g r.fun (instr.Turn ∷ is) + m * most) 0
+            (stretch m m (last_acts + dear_of g r.fun is + m * most)
+            (last_acts + dear_of g r.fun (instr.Turn ∷ is) + m * most) 0
             (pass_of again is Turned r t) (moment s t.done) (moment s t.done) (omega arith) (omega arith) refl
             (rest.runs true t s (record {
               at = record {
                 visited = visit.paused h''.at.visited (λ k. refl);
                 kinded = h''.at.kinded;
                 callers = h''.at.callers;
+                addresses = h''.at.addresses;
                 point = record {
                   fits = h''.at.point.fits;
                   counter = h''.at.point.counter
@@ -389,13 +406,15 @@ module _ (g : Whole) (reports : IsReport g.report) (fine : AreFine g) (w : World
         (moment s t.done)
     run_turned t s h (Onward u means kinded c quiet falls plain) =
         let same = quiet refl in
-        let there = on_stands true t u s c.to h means kinded c.point falls plain in
+        let there = on_stands true t u s c.to h means kinded c.point falls plain
+        (words_on w c.count (moment s t.done) (moment c.to u.done) c.steps h.at.addresses) in
         by_means t u On (turned_of again is r) s means
         (same_start u t (again is Runs r u) s same
         (ok.runs r is u s c.to c.count all c.ge
         (subst (λ d. Reaches limits act w c.count (moment s d) (moment c.to u.done)) (sym same) c.steps) there
-        (λ n q. most_turn n m c.count (g.dear r.fun i) (dear_of g r.fun is) (dear_of g r.fun is) q c.le
-        there.fine_code.cheap)))
+        (λ n q. let cheap = there.fine_code.cheap in let le = c.le in
+        most_turn n m c.count (g.dear r.fun i) 0 (dear_of g r.fun is) (dear_of g r.fun is) q (omega arith)
+        (omega arith))))
     run_turned t s h (Jumps l means has c) =
         let known = fine r.fun h.is_function in
         by_means t t (To l) (turned_of again is r) s means
@@ -406,12 +425,14 @@ module _ (g : Whole) (reports : IsReport g.report) (fine : AreFine g) (w : World
             point = c.point;
             kinded = h.at.kinded;
             callers = h.at.callers;
+            addresses = words_on w c.count (moment s t.done) (moment c.to t.done) c.steps h.at.addresses;
           };
           is_function = h.is_function;
           fine_code = fine_there g r.fun l false (tac_at g r.fun) known has;
           callers = h.callers;
         }) has
-        (λ n q. most_turn n m c.count (g.dear r.fun i) most (dear_of g r.fun is) q c.le (omega arith)))
+        (λ n q. let le = c.le in
+        most_turn n m c.count (g.dear r.fun i) 0 most (dear_of g r.fun is) q (omega arith) (omega arith)))
     run_turned t s h (Pauses turn plain there) = absurd (let e : true ≡ false = plain in cc)
     run_turned t s h (Enters b c falls plain) = absurd (let e : true ≡ false = b in cc)
     run_turned t s h (Returns b c cs e v means kinded a) = absurd (let e : true ≡ false = b in cc)
@@ -435,10 +456,10 @@ module _ (g : Whole) (reports : IsReport g.report) (fine : AreFine g) (w : World
         → Stands r false (if found then is else behind l is) t s → (found || has_label is l) ≡ true
         → Follows m all (pass_of again is (seek found l) r t) (moment s t.done)
     seek_by rest l t s true e h has =
-        stretch m m (dear_of g r.fun is + m * most) all 0 (pass_of again is Runs r t) (moment s t.done)
+        stretch m m (last_acts + dear_of g r.fun is + m * most) all 0 (pass_of again is Runs r t) (moment s t.done)
         (moment s t.done) (omega arith) (omega arith) refl (rest.runs false t s h)
     seek_by rest l t s false e h has =
-        stretch m m (dear_of g r.fun is + m * most) all 0 (pass_of again is (Seeks l) r t) (moment s t.done)
+        stretch m m (last_acts + dear_of g r.fun is + m * most) all 0 (pass_of again is (Seeks l) r t) (moment s t.done)
         (moment s t.done) (omega arith) (omega arith) refl (rest.seeks l t s h has)
 
   module _ (m : ℕ) (again : Again) (ok : AgainOk m again) (r : Running) where
@@ -468,20 +489,21 @@ module _ (g : Whole) (reports : IsReport g.report) (fine : AreFine g) (w : World
   again_more : (m : ℕ) → AgainOk m (turn_of m) → AgainOk (suc m) (turn_of (suc m))
   again_more m ok = record {
     runs = λ r is t s u j e one steps h b.
-        stretch m (suc m) (dear_of g r.fun is + m * most) e j
+        stretch m (suc m) (last_acts + dear_of g r.fun is + m * most) e j
         (pass_of (turn_of m) is Runs r (record t { left = m })) (moment s t.done) (moment u t.done) (omega arith)
         (b m refl) steps
         ((pass_ok m (turn_of m) ok r is).runs false (record t { left = m }) u (with_left r false is t u m h));
     seeks = λ r l t s u j e one steps h has b.
         let z = b m refl in
         let cheap = (fine r.fun h.is_function).cheap in
-        stretch m (suc m) (dear_of g r.fun (tac_at g r.fun) + m * most) e j
+        stretch m (suc m) (last_acts + dear_of g r.fun (tac_at g r.fun) + m * most) e j
         (pass_of (turn_of m) (tac_at g r.fun) (Seeks l) r (record t { left = m })) (moment s t.done)
         (moment u t.done) (omega arith) (omega arith) steps
         ((pass_ok m (turn_of m) ok r (tac_at g r.fun)).seeks l (record t { left = m }) u
         (with_left r false (behind l (tac_at g r.fun)) t u m h) has);
     sinks = λ r f t s hi e a le.
-        finished (suc m) e hi (ending.Stack (name_of (slice_get g.setting.code.funs f))) t.done s t.done a refl le;
+        finished (suc m) e hi (ending.Stack (name_of (slice_get g.setting.code.funs f))) t.done s t.done a refl
+        (le m refl);
   }
 
   again_ok : (m : ℕ) → AgainOk m (turn_of m)
@@ -489,6 +511,6 @@ module _ (g : Whole) (reports : IsReport g.report) (fine : AreFine g) (w : World
   again_ok (suc m) = again_more m (again_ok m)
 
   pub turns_ok : (m : ℕ) (r : Running) (is : List TacInstr) (t : State Store) (s : Machine) → Stands r false is t s
-      → Follows m (dear_of g r.fun is + m * most)
+      → Follows m (last_acts + dear_of g r.fun is + m * most)
       (turns (ops_of g) w g.setting.code g.program (locals_of g) m is Runs r t) (moment s t.done)
   turns_ok m r is t s h = (pass_ok m (turn_of m) (again_ok m) r is).runs false t s h

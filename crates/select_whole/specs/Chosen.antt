@@ -43,7 +43,7 @@ use Rattle.select_words.specs.Words.{IsConst, ConstantWords, IsCopy, IsPassed, N
 use Rattle.select_words.specs.Zeroing.{ZeroWords, granules}
 use Rattle.select_words.specs.Heap.{Mallocs, allocating}
 use Rattle.select_runs.specs.Acts.{place}
-use Rattle.select_runs.specs.Calling.{Begins, begin_words, HasWords, MayCall}
+use Rattle.select_runs.specs.Calling.{Begins, begin_words, MayCall}
 use Rattle.select_runs.specs.Copying.{copy_cost}
 use Rattle.select_runs.specs.Instructions.{IsAskedBy, IsOperation}
 use Rattle.select_runs.specs.Jumps.{LeadsTo}
@@ -56,7 +56,7 @@ use Rattle.select_heap.specs.Heap.{StandsBeside}
 use Rattle.select_whole.specs.Matching.{AreFine, IsOfBytes, Starts, MatchesIn}
 use Rattle.select_whole.specs.Visited.{Whole, ops_of, kinds_at, tac_at, locals_of, gives_at, main_of}
 use Rattle.select_whole.specs.Runs.{Here, here, Leads_on, Each, Reports_at, searched, IsInteger, IsStrange}
-use Rattle.select_whole.specs.Runs.{InstructionsRun}
+use Rattle.select_whole.specs.Runs.{InstructionsRun, last_acts}
 use Rattle.select_runs.specs.Selecting.{selecting}
 
 -- ---- what stands at the places
@@ -98,8 +98,9 @@ module _ (g : Whole) (w : World) where
     pub has : HasAt g.code (here g w r (i ∷ rest)) words
     pub then_on : Leads_on g w r i rest words
     pub cheap : copy_cost i ≤ g.dear r.fun i
-    pub reports_reading : Reports_at g w (here g w r (i ∷ rest) + skip) from_pos
-    pub reports_writing : Reports_at g w (here g w r (i ∷ rest) + skip + 1) to_pos
+    -- where there are units to copy
+    pub reports_reading : 0 < bytes / unit → Reports_at g w (here g w r (i ∷ rest) + skip) from_pos
+    pub reports_writing : 0 < bytes / unit → Reports_at g w (here g w r (i ∷ rest) + skip + 1) to_pos
 
   abbrev pub copying : (from to bytes unit : ℕ) → Pos → Pos → TacInstr
   copying from to bytes unit from_pos to_pos = instr.CopyUnits from to bytes unit from_pos to_pos
@@ -157,10 +158,11 @@ module _ (g : Whole) (w : World) where
     pub reports : (c : Cause)
         → g.report (end.Trap c (place (ground_of g.setting g.code) (begins.entry + length (before_store begins.frame))))
         ≡ Some (ending.Stack (name_of (slice_get g.setting.code.funs fun)))
+    pub cheap : prologue_cost (length args) < g.setup fun
 
   -- the callee's code stands where the call leads, and the caller may call
   pub record CallStands (to : Option ℕ) (fun : ℕ) (args : List ℕ) (r : Running) (rest : List TacInstr)
-      (t : State Store) (m : Machine) : Type 0 where
+      (t : State Store) : Type 0 where
     pub callee : CalleeStands to fun args r rest t
     pub offset : ℤ
     pub words : List Instr
@@ -169,12 +171,11 @@ module _ (g : Whole) (w : World) where
     pub leads : LeadsTo g.setting g.code (here g w r (instr.Call to fun args ∷ rest) + length form.passes)
         callee.begins.entry offset
     pub may : MayCall g.setting g.code r to args rest (here g w r (instr.Call to fun args ∷ rest) + length words) t
-    pub addresses : HasWords m
-    pub cheap : cost (instr.Call to fun args) + prologue_cost (length args) < g.dear r.fun (instr.Call to fun args)
+    pub cheap : cost (instr.Call to fun args) ≤ g.dear r.fun (instr.Call to fun args)
 
   -- the code of each function that may be called so stands where its sentry leads
   pub record ValueCallStands (to : Option ℕ) (v of : ℕ) (args : List ℕ) (source : Pos) (r : Running)
-      (rest : List TacInstr) (t : State Store) (m : Machine) : Type 0 where
+      (rest : List TacInstr) (t : State Store) : Type 0 where
     pub callees : (f : ℕ) → IsCalled g.setting w g.program v of t f → CalleeStands to f args r rest t
     pub leads : (f : ℕ) (is : IsCalled g.setting w g.program v of t f)
         → (addresses_of g.setting.map).entry f ≡ place (ground_of g.setting g.code) (callees f is).begins.entry
@@ -183,9 +184,7 @@ module _ (g : Whole) (w : World) where
     pub has : HasAt g.code (here g w r (through to v of args source ∷ rest)) words
     pub may : MayCall g.setting g.code r to args rest
         (here g w r (through to v of args source ∷ rest) + length words) t
-    pub addresses : HasWords m
-    pub cheap : cost (through to v of args source) + prologue_cost (length args)
-        < g.dear r.fun (through to v of args source)
+    pub cheap : cost (through to v of args source) ≤ g.dear r.fun (through to v of args source)
     pub reports : Reports_at g w
         (here g w r (through to v of args source ∷ rest) + length form.finds + length form.passes) source
 
@@ -199,7 +198,7 @@ module _ (g : Whole) (w : World) where
     pub resumes : ResumesAt g.setting g.code c cs to keep
     pub there : to + length keep ≡ g.word c.fun c.rest
     pub locals : length (locals_of g fun) ≡ length (locals_by (slice_get g.setting.needs.functions fun))
-    pub cheap : cost (instr.Return v) + 3 ≤ g.dear fun (instr.Return v)
+    pub cheap : cost (instr.Return v) + 3 ≤ g.dear fun (instr.Return v) + g.setup c.fun
 
   pub record LastStands (fun : ℕ) (v : Option ℕ) (rest : List TacInstr) : Type 0 where
     pub words : List Instr
@@ -207,7 +206,7 @@ module _ (g : Whole) (w : World) where
     pub has : HasAt g.code (g.word fun (instr.Return v ∷ rest)) words
     pub to : ℕ
     pub stub : StubAt g.setting g.code to
-    pub cheap : cost (instr.Return v) + 1 < g.dear fun (instr.Return v)
+    pub cheap : cost (instr.Return v) ≤ g.dear fun (instr.Return v)
 
   -- The code is loaded as the text of a legal map, with its stack and its table, for the program; and the words of each
   -- instruction stand at its place. A function's first temps are of the kinds of its parameters, the first function
@@ -257,10 +256,10 @@ module _ (g : Whole) (w : World) where
     pub allocations : (to : Option ℕ) (a : ℕ) (r : Running) (rest : List TacInstr) (t : State Store) (m : Machine)
         → Here g w r false (allocating to a ∷ rest) t m → MallocStands to a r rest
     pub calls : (to : Option ℕ) (fun : ℕ) (args : List ℕ) (r : Running) (rest : List TacInstr) (t : State Store)
-        (m : Machine) → Here g w r false (instr.Call to fun args ∷ rest) t m → CallStands to fun args r rest t m
+        (m : Machine) → Here g w r false (instr.Call to fun args ∷ rest) t m → CallStands to fun args r rest t
     pub value_calls : (to : Option ℕ) (v of : ℕ) (args : List ℕ) (source : Pos) (r : Running) (rest : List TacInstr)
         (t : State Store) (m : Machine) → Here g w r false (through to v of args source ∷ rest) t m
-        → ValueCallStands to v of args source r rest t m
+        → ValueCallStands to v of args source r rest t
     pub returns : (fun : ℕ) (c : Caller) (cs : List Caller) (v : Option ℕ) (rest : List TacInstr) (t : State Store)
         (m : Machine) → Here g w (record { fun = fun; callers = c ∷ cs }) false (instr.Return v ∷ rest) t m
         → ReturnStands fun c cs v rest t
@@ -274,4 +273,5 @@ ChosenCodeRuns = (g : Whole) (w : World) → Chosen g w → InstructionsRun g w
 -- Whole runs match there
 abbrev pub ChosenCodeMatches : Type 0
 ChosenCodeMatches = (g : Whole) → IsReport g.report → AreFine g → (w : World) → IsOfBytes w → Chosen g w
-    → (first count : ℕ) → first + g.most ≤ count → (m : Machine) → Starts g w first m → MatchesIn g w count m
+    → (first count : ℕ) → first + last_acts + g.most ≤ count → (m : Machine) → Starts g w first m
+    → MatchesIn g w count m

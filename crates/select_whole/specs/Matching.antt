@@ -4,7 +4,7 @@ use Rattle.std.specs.Prelude.{Some, None, slice_get}
 use Rattle.ck_base.specs.Agreement.{SameEnd, GoesOn}
 use Rattle.ck_base.specs.Calls.{BeginsWith}
 use Rattle.ck_base.specs.Runs.{outcome, ending_alone}
-use Rattle.ck_base.specs.World.{World, Outcome}
+use Rattle.ck_base.specs.World.{World, Outcome, nothing_done}
 use Rattle.cap_machine.specs.declared.end.End.{End}
 use Rattle.cap_machine.specs.declared.end.End.TheVariants as end
 use Rattle.cap_machine.specs.declared.machine.Machine.{Machine}
@@ -18,8 +18,9 @@ use Rattle.tac_ir.specs.declared.code.TacInstr.{TacInstr}
 use Rattle.select_runs.specs.Results.{Arrives}
 use Rattle.select_runs.specs.Results as at_place
 use Rattle.int_select.specs.Selected.{IsReport}
+use Rattle.int_select.specs.Tracking.{moment}
 use Rattle.select_whole.specs.Visited.{Whole, ops_of, tac_at, main_of, entry_of, first_running}
-use Rattle.select_whole.specs.Runs.{InstructionsRun, StopsBy}
+use Rattle.select_whole.specs.Runs.{AreWords, InstructionsRun, StopsBy, last_acts}
 
 -- ---- what is asked of the code
 
@@ -28,11 +29,12 @@ abbrev pub dear_of : Whole → (fun : ℕ) → List TacInstr → ℕ
 dear_of g fun [] = 0
 dear_of g fun (i ∷ is) = g.dear fun i + dear_of g fun is
 
--- the end of a function's code: Turns stand before jumps and branches alone, and its last instruction ends it
+-- the end of a function's code: Turns stand before jumps and branches alone, its last instruction ends it, and it takes
+-- few acts, also where the function is entered first
 pub record IsFine (g : Whole) (fun : ℕ) (b : Bool) (is : List TacInstr) : Type 0 where
   pub ends : ends_well is ≡ true
   pub turned : turns_fit b is ≡ true
-  pub cheap : dear_of g fun is ≤ g.most
+  pub cheap : g.setup fun + dear_of g fun is ≤ g.most
 
 abbrev pub AreFine : Whole → Type 0
 AreFine g = (fun : ℕ) → fun < length g.setting.code.funs → IsFine g fun false (tac_at g fun)
@@ -47,10 +49,12 @@ Started g w most turns None m =
     (e : End) × StopsBy g w most m e
     × (g.report e ≡ Some (ending.Stack (name_of (slice_get g.setting.code.funs (main_of g)))))
 
--- The machine's first state leads to the first function, in at most so many acts
+-- The machine's first state leads to the first function, in at most so many acts beside those by which that is entered
 pub record Starts (g : Whole) (w : World) (most : ℕ) (m : Machine) : Type 0 where
   pub main : main_of g < length g.setting.code.funs
-  pub each : (turns : ℕ) → Started g w most turns ((ops_of g).enter (main_of g) (ops_of g).stack_top) m
+  pub each : (turns : ℕ) → Started g w (most + g.setup (main_of g)) turns
+      ((ops_of g).enter (main_of g) (ops_of g).stack_top) m
+  pub addresses : AreWords w (moment m nothing_done)
 
 -- ---- what is then known
 
@@ -84,4 +88,5 @@ IsOfBytes w = (k b : ℕ) → slice_get w.bytes k ≡ Some b → b < 256
 -- Where each instruction runs, whole runs match
 abbrev pub WholeRunsMatch : Type 0
 WholeRunsMatch = (g : Whole) → IsReport g.report → AreFine g → (w : World) → IsOfBytes w → InstructionsRun g w
-    → (first count : ℕ) → first + g.most ≤ count → (m : Machine) → Starts g w first m → MatchesIn g w count m
+    → (first count : ℕ) → first + last_acts + g.most ≤ count → (m : Machine) → Starts g w first m
+    → MatchesIn g w count m

@@ -1,5 +1,6 @@
 -- What is known of each instruction at the places to which runs come: the machine does it.
-use Rattle.std.specs.Prelude.{◌≡◌, ℕ, ◌+◌, ◌%◌, ◌<◌, ◌≤◌, Bool, true, false, List, [], ◌∷◌, length, Option, Some, None}
+use Rattle.std.specs.Prelude.{◌≡◌, ℕ, ◌+◌, ◌%◌, ◌^◌, ◌<◌, ◌≤◌, Bool, true, false, List, [], ◌∷◌, length, Option, Some}
+use Rattle.std.specs.Prelude.{None}
 use Rattle.std.specs.Prelude.{slice_get}
 use Rattle.ck_base.specs.Runs.{Ends}
 use Rattle.ck_base.specs.World.{World}
@@ -9,7 +10,8 @@ use Rattle.cap_ops.specs.declared.access.Cause.{Cause}
 use Rattle.cap_machine.specs.declared.end.End.{End}
 use Rattle.cap_machine.specs.declared.end.End.TheVariants as end
 use Rattle.cap_machine.specs.declared.machine.Machine.{Machine}
-use Rattle.cap_machine.specs.Step.{act}
+use Rattle.cap_machine.specs.State.{register}
+use Rattle.cap_machine.specs.Step.{act, limits}
 use Rattle.obj_mem.specs.Values.{Value}
 use Rattle.obj_mem.specs.declared.ending.Ending.TheVariants as ending
 use Rattle.cheri_c_sem.specs.Kinds.{Kind, number_of}
@@ -24,6 +26,7 @@ use Rattle.tac_ir.specs.declared.code.LibOp.TheVariants as lib
 use Rattle.tac_ir.specs.declared.code.TacInstr.{TacInstr}
 use Rattle.tac_ir.specs.declared.code.TacInstr.TheVariants as instr
 use Rattle.tac_ir.specs.declared.code.TacKind.{TacKind}
+use Rattle.int_select.specs.Tracking.{Moment, moment, Reaches}
 use Rattle.place_inject.specs.Homes.{CallersKeep}
 use Rattle.place_inject.specs.Leaving.{OthersAreOlder}
 use Rattle.select_words.specs.Accesses.{IsAccess}
@@ -31,7 +34,7 @@ use Rattle.select_words.specs.Capabilities.{IsNarrow, IsOffset, IsIntrinsic, IsP
 use Rattle.select_words.specs.Operations.{IsComparison, IsConversion}
 use Rattle.select_words.specs.Services.{putting, taking, leaving}
 use Rattle.select_words.specs.Words.{IsConst, IsCopy, IsPassed}
-use Rattle.select_runs.specs.Accesses.{Accesses}
+use Rattle.select_runs.specs.Accesses.{Accesses, TrapsWithin}
 use Rattle.select_runs.specs.Acts.{Leads, place}
 use Rattle.select_runs.specs.Copying.{StructCopied, copy_cost}
 use Rattle.select_runs.specs.Jumps.{GoesTo, Branches}
@@ -89,6 +92,15 @@ Takes kinds (Some t) (Some k) = (t < length kinds) × (same_kind (kind_at kinds 
 
 -- ---- places
 
+-- addresses have 64 bits in all that the machine comes to in a world
+abbrev pub AreWords : World → Moment Machine → Type 0
+AreWords w s = (k : ℕ) (n : Moment Machine) → Reaches limits act w k s n
+    → (r : ℕ) → (register n.state r).fields.address < 2 ^ 64
+
+-- the acts behind the words of the last return: the number of a service is set, and the run ends
+abbrev pub last_acts : ℕ
+last_acts = 2
+
 module _ (g : Whole) (w : World) where
   abbrev pub here : Running → List TacInstr → ℕ
   here r is = g.word r.fun is
@@ -112,6 +124,7 @@ module _ (g : Whole) (w : World) where
     pub point : IsAtPoint g.setting g.code (at_place.behind r (looked_at b is)) (here r is) t m
     pub kinded : AreOfKinds (kinds_at g r.fun) t.vars
     pub callers : CallersKept r.fun t.first r.callers
+    pub addresses : AreWords w (moment m t.done)
 
   -- the words of an instruction lead to those of the rest
   pub record Leads_on (r : Running) (i : TacInstr) (rest : List TacInstr) (words : List Instr) : Type 0 where
@@ -155,8 +168,10 @@ module _ (g : Whole) (w : World) where
     pub to_pos : Pos
     pub word : ℕ
     pub does : StructCopied g.setting g.code w g.program r i rest words from_pos to_pos word (here r (i ∷ rest)) t m
-    pub reports_reading : Reports_at word from_pos
-    pub reports_writing : Reports_at (word + 1) to_pos
+    pub reports_reading : TrapsWithin (copy_cost i) g.setting g.code w g.program r i from_pos word t m
+        → Reports_at word from_pos
+    pub reports_writing : TrapsWithin (copy_cost i) g.setting g.code w g.program r i to_pos (word + 1) t m
+        → Reports_at (word + 1) to_pos
     pub dear : copy_cost i ≤ g.dear r.fun i
 
   -- ---- jumps and branches
@@ -234,7 +249,8 @@ module _ (g : Whole) (w : World) where
     pub takes : Takes (kinds_at g r.fun) to (gives_at g fun)
     pub older : OthersAreOlder g.setting ((ops_of g).count t.mem) (caller_from r rest to t ∷ r.callers)
     pub keeps : CallersKeep g.setting (caller_from r rest to t ∷ r.callers)
-    pub does : Entered (g.dear r.fun i) fun (called_by fun r rest to t) ((ops_of g).enter fun t.frame) vs t m
+    pub does : Entered (g.dear r.fun i + g.setup fun) fun (called_by fun r rest to t) ((ops_of g).enter fun t.frame) vs
+        t m
 
   -- a call through a value may trap, or leave what the meaning speaks of
   pub data ValueCalled (r : Running) (i : TacInstr) (rest : List TacInstr) (t : State Store) (m : Machine) :
@@ -258,13 +274,13 @@ module _ (g : Whole) (w : World) where
     pub means : Means g w fun (instr.Return v) t (Back value) t
     pub kinded : AreOfKinds (kinds_at g c.fun) (with_result c.vars c.to value)
     pub does : Arrives g.setting g.code (at_place.behind (record { fun = c.fun; callers = cs }) c.rest) 1
-        (g.dear fun (instr.Return v)) (g.word c.fun c.rest) (back_in g fun c value t) m
+        (g.dear fun (instr.Return v) + g.setup c.fun) (g.word c.fun c.rest) (back_in g fun c value t) m
 
   -- the last return
   pub record Left (fun : ℕ) (v : Option ℕ) (t : State Store) (m : Machine) : Type 0 where
     pub value : Value
     pub means : Means g w fun (instr.Return v) t (Back value) t
-    pub does : StopsBy (g.dear fun (instr.Return v)) m (end.Exit (number_of value % 256))
+    pub does : StopsBy (last_acts + g.dear fun (instr.Return v)) m (end.Exit (number_of value % 256))
 
   -- ---- all instructions
 

@@ -25,14 +25,15 @@ use Rattle.place_inject.specs.Frames.{Setting}
 -- ---- what is the same in all runs
 
 -- The program, the words of its code, the setting with its three-address code, the word at which the machine goes on
--- with the rest of a function, the acts that an instruction of a function takes at most, those of all instructions of
--- one, and what an ending of the machine reports
+-- with the rest of a function, the acts that an instruction of a function takes at most, those with which a function is
+-- entered, those of a whole function, and what an ending of the machine reports
 pub record Whole : Type 0 where
   pub program : Typed
   pub code : List Instr
   pub setting : Setting
   pub word : (fun : ℕ) → (rest : List TacInstr) → ℕ
   pub dear : (fun : ℕ) → TacInstr → ℕ
+  pub setup : (fun : ℕ) → ℕ
   pub most : ℕ
   pub report : End → Option Ending
 

@@ -1,0 +1,15 @@
+pub mod Leading
+pub mod Placed
+pub mod Formed
+pub mod Labels
+pub mod Standing
+pub mod Meant
+pub mod Lines
+pub mod Kept
+pub mod Turned
+pub mod Made
+pub mod Sums
+pub mod Counts
+pub mod Starting
+pub mod Running
+pub mod Lowered

@@ -1,0 +1,15 @@
+pub mod Regions
+pub mod Relocated
+pub mod Memory
+pub mod Coded
+pub mod Loaded
+pub mod Tables
+pub mod Filled
+pub mod Maps
+pub mod Begun
+pub mod Links
+pub mod Linked
+pub mod Standing
+pub mod Started
+pub mod Texts
+pub mod Words
