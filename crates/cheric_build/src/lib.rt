@@ -1,5 +1,5 @@
-//! From a C file to machine code: the front end as a whole, and `build`: the image of every accepted file, and the runs
-//! of those over integers.
+//! From a C file to machine code: the front end as a whole, and `build`: the image of every accepted file, whose runs
+//! are what the file means.
 //!
 //! Promise: a file is built as the typed program that it is accepted as, or refused by the first rule that it breaks.
 //! Definitions (`specs/`): `FromFile`; `File` of `c_tree`, `Built` of `typed_build`.

@@ -14,7 +14,6 @@ use Rattle.elf_file.specs.declared.image.Reloc.{Reloc}
 use Rattle.image_load.specs.Contained.{Contained, executes, text_in}
 use Rattle.image_load.specs.Judging.{address_of}
 use Rattle.image_load.specs.Loading.{Loaded}
-use Rattle.int_lower.specs.Form.{is_integer_form}
 use Rattle.obj_mem.specs.Counted.{count_of}
 use Rattle.obj_mem.specs.declared.map.Map.{Map}
 use Rattle.typed_build.specs.Built.{EntersFunction, IsBuilt, RunsAsMeant}
@@ -67,7 +66,7 @@ module _ (p : Typed) (s : Selected) (given : Selects p s) (code : HasContainedCo
   enters : (r : Reloc) → IsPointer m r → Entered r
   enters r h = elim h.kind as (λ _. Entered r) [ inl i ↦ by_sentry r i | inr d ↦ by_data r d ]
 
-  contained : Contained image
+  pub contained : Contained image
   contained =
       let l = legal p s given sizes chosen m w.placing in
       let high = l.in_range.1 in
@@ -81,11 +80,7 @@ module _ (p : Typed) (s : Selected) (given : Selects p s) (code : HasContainedCo
         relocs = relocs_contained p s given sizes m file w;
       }
 
-  -- of a program over integers its runs are what it means
-  abbrev RunAsMeant : ℕ → Type 0
-  RunAsMeant count = is_integer_form p ≡ true → RunsAsMeant p m (loaded_of image) count
-
-  pub is_built : (count : ℕ) → count ≡ count_of p → RunAsMeant count → IsBuilt p file m count
+  pub is_built : (count : ℕ) → count ≡ count_of p → RunsAsMeant p m (loaded_of image) count → IsBuilt p file m count
   is_built count counted runs =
       let i = is_image p s given sizes chosen m file w in
       record {
@@ -95,5 +90,5 @@ module _ (p : Typed) (s : Selected) (given : Selects p s) (code : HasContainedCo
         contained = subst (λ (l : Loaded). Contained l.image) (sym i.1) contained;
         entered = subst (λ (l : Loaded). All (EntersFunction m) l.image.relocs) (sym i.1)
             (relocs_enter m w.relocs w.begins.pointers);
-        runs = λ form. subst (λ l. RunsAsMeant p m l count) (sym i.1) (runs form);
+        runs = subst (λ l. RunsAsMeant p m l count) (sym i.1) runs;
       }

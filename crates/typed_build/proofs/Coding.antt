@@ -17,7 +17,7 @@ use Rattle.rv_instr.specs.declared.instr.Instr.{Instr}
 use Rattle.rv_select.specs.Growing.{IsText, AreEntries}
 use Rattle.typed_build.specs.Coded.{IsCoded}
 
-all_get : {A : Type 0} (P : A → Type 0) (xs : List A) → All P xs → (k : ℕ) (x : A) → slice_get xs k ≡ Some x → P x
+pub all_get : {A : Type 0} (P : A → Type 0) (xs : List A) → All P xs → (k : ℕ) (x : A) → slice_get xs k ≡ Some x → P x
 all_get P [] h k x e = absurd cc
 all_get P (y ∷ ys) h zero x e = let s : y ≡ x = cc in subst P s (All-head P y ys h)
 all_get P (y ∷ ys) h (suc k) x e = all_get P ys (All-tail P y ys h) k x e

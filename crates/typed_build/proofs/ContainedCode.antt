@@ -19,7 +19,8 @@ use Rattle.elf_file.specs.declared.image.Image.{Image}
 use Rattle.elf_file.specs.declared.image.Reloc.{Reloc}
 use Rattle.image_load.specs.Contained.{executes, entries_of}
 use Rattle.image_load.specs.Judging.{address_of}
-use Rattle.rv_select.specs.ContainedCode.{offset_of, AreContained, IsTarget, IsEntry, EndsInPlainJump, IsContainedCode}
+use Rattle.select_words.specs.ContainedCode.{offset_of, AreContained, IsTarget, IsEntry, EndsInPlainJump}
+use Rattle.select_words.specs.ContainedCode.{IsContainedCode}
 use Rattle.rv_select.proofs.Contained.{get_right, contained_still, contained_append, no_first, target_left}
 use Rattle.typed_build.specs.Built.{word_in}
 use Rattle.typed_build.specs.Text.{code_bytes, filler, missing, text_of}

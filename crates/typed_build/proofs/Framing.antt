@@ -2,7 +2,6 @@
 use Rattle.std.proofs.Common.{◌≡◌, ℕ, zero, suc, ◌+◌, ◌<◌, ◌≤◌, List, [], ◌∷◌, length, map, Some, refl, sym, ap, ◌∙◌}
 use Rattle.std.proofs.Common.{subst, arith}
 use Rattle.std.specs.Prelude.{slice_get}
-use Rattle.std.specs.List.{All}
 use Rattle.std.proofs.lemmas.Option.{slice_get_within}
 use Rattle.std.proofs.lemmas.List.Elements.{All-weaker}
 use Rattle.c_tree.specs.TreeWeight.{function_weight}
@@ -11,7 +10,6 @@ use Rattle.c_tree.specs.declared.typed.Typed.{Typed}
 use Rattle.obj_mem.specs.Legal.{AreFrames, IsFrame}
 use Rattle.obj_mem.specs.Needs.{local_needs, function_needs, weight_by, weight_in}
 use Rattle.obj_mem.specs.declared.map.Frame.{Frame}
-use Rattle.reg_alloc.specs.Placed as alloc
 use Rattle.reg_alloc.specs.declared.places.Home.{Home}
 use Rattle.reg_alloc.specs.declared.places.Home.TheVariants.{Register, Slot}
 use Rattle.reg_alloc.specs.declared.places.Places.{Places}
@@ -28,19 +26,6 @@ there (x ∷ xs) zero lt = (x, refl)
 there (x ∷ xs) (suc k) lt = there xs k (omega arith)
 
 -- ---- homes
-
-slot_below : (n m : ℕ) → n ≡ m → (h : Home) → alloc.IsSlotBelow n h → IsSlotBelow m h
-slot_below n m e (Register r) b = tt
-slot_below n m e (Slot s) b = omega (arith, b, e)
-
-pub has_homes : (f : TacFun) (n : ℕ) (homes : List Home) → n ≡ f.temps → length homes ≡ n
-    → All (alloc.IsSlotBelow n) homes → HasHomes f homes
-has_homes f n homes e long slots =
-    record {
-      len = long ∙ e;
-      slots = All-weaker (alloc.IsSlotBelow n) (IsSlotBelow f.temps)
-          (slot_below n f.temps e) homes slots;
-    }
 
 slot_same : (n m : ℕ) → n ≡ m → (h : Home) → IsSlotBelow n h → IsSlotBelow m h
 slot_same n m e (Register r) b = tt
@@ -59,11 +44,14 @@ are_homes f homes w h c light = record {
 pub frame_fits : (p : Typed) (d : FunDef) (f : TacFun) (l : Places) (g : Frame) → HasHomes f l.homes
     → FunctionCosts (function_weight p d) f
     → HasFrame (map Rattle.bounds_place.specs.Rows.owned_need (local_needs p.types d)) l.homes (outgoing f.code) g
-    → IsFor l.homes g → FrameFits p d l g
+    → IsFor l.homes g → FrameFits p d f l g
 frame_fits p d f l g h c has own = record {
   legal = has.legal (record { locals = local_needs p.types d; weight = function_weight p d }) refl
       (omega (arith, h.len, c.temps));
   framed = own;
+  in_order = has.in_order;
+  inside = has.inside;
+  room = omega (arith, has.saved);
 }
 
 -- ---- all of them
@@ -85,20 +73,23 @@ frames_from p k (d ∷ ds) (g ∷ gs) n h =
           (ap (weight_in p) (let z : suc k + j ≡ k + suc j = omega arith in z) ∙ next.0, next.1)),
     )
 
-pub are_frames : (p : Typed) (places : List Places) (frames : List Frame) → length places ≡ length p.funs
-    → length frames ≡ length p.funs → FramesFit p places frames
-    → AreFrames (function_needs p.types (weight_in p) 0 p.funs) frames
-are_frames p places frames m n h =
-    frames_from p 0 p.funs frames n (λ j d g a b.
-    let lt = slice_get_within p.funs j d a in
-    let l = there places j (omega (arith, lt, m)) in
-    let own : weight_in p (0 + j) ≡ function_weight p d = ap (weight_in p) (let z : 0 + j ≡ j = omega arith in z) ∙ ap (weight_by p) a in
-    (own, (h j d l.0 g a l.1 b).legal))
+module _ (p : Typed) (funs : List TacFun) (places : List Places) (frames : List Frame)
+    (as_many : length funs ≡ length p.funs) (m : length places ≡ length p.funs) (h : FramesFit p funs places frames)
+  where
+    pub are_frames : length frames ≡ length p.funs → AreFrames (function_needs p.types (weight_in p) 0 p.funs) frames
+    are_frames n =
+        frames_from p 0 p.funs frames n (λ j d g a b.
+        let lt = slice_get_within p.funs j d a in
+        let f = there funs j (omega (arith, lt, as_many)) in
+        let l = there places j (omega (arith, lt, m)) in
+        let z : 0 + j ≡ j = omega arith in
+        let own : weight_in p (0 + j) ≡ function_weight p d = ap (weight_in p) z ∙ ap (weight_by p) a in
+        (own, (h j d f.0 l.0 g a f.1 l.1 b).legal))
 
-pub framed : (p : Typed) (places : List Places) (frames : List Frame) → length places ≡ length p.funs
-    → FramesFit p places frames → (k : ℕ) (l : Places) (g : Frame) → slice_get places k ≡ Some l
-    → slice_get frames k ≡ Some g → IsFor l.homes g
-framed p places frames m h k l g a b =
-    let lt = slice_get_within places k l a in
-    let d = there p.funs k (omega (arith, lt, m)) in
-    (h k d.0 l g d.1 a b).framed
+    pub framed : (k : ℕ) (l : Places) (g : Frame) → slice_get places k ≡ Some l → slice_get frames k ≡ Some g
+        → IsFor l.homes g
+    framed k l g a b =
+        let lt = slice_get_within places k l a in
+        let d = there p.funs k (omega (arith, lt, m)) in
+        let f = there funs k (omega (arith, lt, m, as_many)) in
+        (h k d.0 f.0 l g d.1 f.1 a b).framed

@@ -24,18 +24,20 @@ grown P xs ys x y h at p k a b e f =
     elim (get_appended ys y k b f) as (λ _. P a b)
     [ inl l ↦ h k a b e l | inr r ↦ subst (P a) r.1 (subst (λ z. P z y) (same xs k (length ys) a x r.0 e at) p) ]
 
-pub grown_beside : {A B C : Type 0} (P : A → B → C → Type 0) (xs : List A) (ys : List B) (zs : List C) (x : A) (y : B)
-    (z : C)
-    → ((k : ℕ) (a : A) (b : B) (c : C) → slice_get xs k ≡ Some a → slice_get ys k ≡ Some b → slice_get zs k ≡ Some c →
-    P a b c)
-    → slice_get xs (length zs) ≡ Some x → slice_get ys (length zs) ≡ Some y → P x y z
-    → (k : ℕ) (a : A) (b : B) (c : C) → slice_get xs k ≡ Some a → slice_get ys k ≡ Some b
-    → slice_get (zs ++ z ∷ []) k ≡ Some c → P a b c
-grown_beside P xs ys zs x y z h at by p k a b c e f g =
-    elim (get_appended zs z k c g) as (λ _. P a b c) [
-      | inl l ↦ h k a b c e f l
-      | inr r ↦ subst (P a b) r.1 (subst (λ v. P a v z) (same ys k (length zs) b y r.0 f by)
-          (subst (λ v. P v y z) (same xs k (length zs) a x r.0 e at) p))
+pub grown_beside : {A B C D : Type 0} (P : A → B → C → D → Type 0) (ws : List A) (xs : List B) (ys : List C)
+    (zs : List D) (w : A) (x : B) (y : C) (z : D)
+    → ((k : ℕ) (a : A) (b : B) (c : C) (d : D) → slice_get ws k ≡ Some a → slice_get xs k ≡ Some b
+    → slice_get ys k ≡ Some c → slice_get zs k ≡ Some d → P a b c d)
+    → slice_get ws (length zs) ≡ Some w → slice_get xs (length zs) ≡ Some x → slice_get ys (length zs) ≡ Some y
+    → P w x y z
+    → (k : ℕ) (a : A) (b : B) (c : C) (d : D) → slice_get ws k ≡ Some a → slice_get xs k ≡ Some b
+    → slice_get ys k ≡ Some c → slice_get (zs ++ z ∷ []) k ≡ Some d → P a b c d
+grown_beside P ws xs ys zs w x y z h at by on p k a b c d e f g i =
+    elim (get_appended zs z k d i) as (λ _. P a b c d) [
+      | inl l ↦ h k a b c d e f g l
+      | inr r ↦ subst (P a b c) r.1 (subst (λ v. P a b v z) (same ys k (length zs) c y r.0 g on)
+          (subst (λ v. P a v y z) (same xs k (length zs) b x r.0 f by)
+          (subst (λ v. P v x y z) (same ws k (length zs) a w r.0 e at) p)))
     ]
 
 -- ---- an element that a loop reads

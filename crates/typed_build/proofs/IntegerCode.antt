@@ -108,6 +108,5 @@ pub is_built : (p : Typed) (t : Tac) (s : Selected) → IsLowered p t → Select
     → (count : ℕ) → count ≡ count_of p → IsBuilt p file m count
 is_built p t s low given sizes chosen m file w count counted =
     built p s given.selects given.contained sizes chosen m file w count counted
-    (λ form.
-    subst (RunsAsMeant p m (loaded_of (image_in p s sizes m file w))) (sym counted)
+    (subst (RunsAsMeant p m (loaded_of (image_in p s sizes m file w))) (sym counted)
     (runs p t s low given sizes chosen m file w))

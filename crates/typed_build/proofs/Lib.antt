@@ -1,5 +1,6 @@
 pub mod Texts
 pub mod Filling
+pub mod Empty
 pub mod Extents
 pub mod Standing
 pub mod Program
@@ -17,3 +18,7 @@ pub mod ContainedCode
 pub mod Counting
 pub mod Growing
 pub mod SameBuilt
+pub mod Slots
+pub mod Framed
+pub mod Selecting
+pub mod Meaning

@@ -1,9 +1,9 @@
 -- The locals of a function that are within the limit are locals for which there is a frame.
-use Rattle.std.proofs.Common.{◌≡◌, ℕ, zero, suc, ◌+◌, ◌*◌, ◌/◌, ◌%◌, ◌≤◌, max, Bool, true, false, List, [], ◌∷◌, length}
-use Rattle.std.proofs.Common.{map, Option, Some, None, refl, sym, ap, ◌∙◌, subst, arith, inl, inr}
+use Rattle.std.proofs.Common.{◌≡◌, ℕ, zero, suc, ◌+◌, ◌*◌, ◌/◌, ◌%◌, ◌<◌, ◌≤◌, ◌⊎◌, max, Bool, true, false, List, []}
+use Rattle.std.proofs.Common.{◌∷◌, length, map, Option, Some, None, refl, sym, ap, ◌∙◌, subst, arith, inl, inr}
 use Rattle.std.specs.Prelude.{slice_get, nat_le, nat_lt, sum_by, ◌||◌, if◌then◌else◌}
 use Rattle.std.specs.List.{All, list_any}
-use Rattle.std.proofs.lemmas.Bool.{cases_lt}
+use Rattle.std.proofs.lemmas.Bool.{cases_lt, cases_eq}
 use Rattle.std.proofs.lemmas.Bool.Decides.{nat_tests}
 use Rattle.std.proofs.lemmas.List.{length-map}
 use Rattle.std.proofs.lemmas.List.Elements.{All-nil, All-cons}
@@ -13,7 +13,8 @@ use Rattle.std.proofs.lemmas.Option.{none-some}
 use Rattle.std.proofs.Math.Nat.{mul-mod_left}
 use Rattle.cap_concentrate.specs.Rounding.{alignment, owned}
 use Rattle.cap_concentrate.proofs.Least.{rounded_up_multiple}
-use Rattle.cap_concentrate.proofs.Owned.{alignment_pos, owned_multiple, multiple_of_alignment}
+use Rattle.cap_concentrate.proofs.Owned.{alignment_pos, alignment_short, owned_ge, owned_multiple}
+use Rattle.cap_concentrate.proofs.Owned.{multiple_of_alignment}
 use Rattle.ck_int.specs.declared.kinds.IntKind.{IntKind}
 use Rattle.ck_int.specs.declared.kinds.IntKind.TheVariants as kind
 use Rattle.cap_ops.specs.Permissions.{data_permissions}
@@ -31,6 +32,7 @@ use Rattle.obj_mem.specs.Needs.{nothing_of, need_by, need_of, local_need, local_
 use Rattle.bounds_place.specs.Placing.{data_room, locals_exceed, exceeds}
 use Rattle.bounds_place.specs.Rows.{owned_need}
 use Rattle.purecap_abi.specs.Frames.{IsLocal, AreLocals, room}
+use Rattle.typed_build.proofs.Empty.{extent_fills}
 
 -- ---- the size of a type is a multiple of its alignment
 
@@ -111,10 +113,11 @@ owned_aligned n a p h =
           ap (λ v. owned n % v) m ∙ ap (λ v. v % a) (owned_whole n d) ∙ h
     ]
 
--- an object whose type's alignment is a power of two that divides its length
+-- an object whose type's alignment is a power of two that divides its length, and at most 16 for no bytes
 pub record IsRegular (n : ObjectNeed) : Type 0 where
   pub power : IsPower n.align
   pub whole : n.length % n.align ≡ 0
+  pub small : n.length ≡ 0 → n.align ≤ 16
 
 regular_local : (n : ObjectNeed) → IsRegular n → IsLocal (owned_need n)
 regular_local n r = record {
@@ -125,14 +128,22 @@ regular_local n r = record {
   multiple = λ more.
       let m : alignment_of n ≡ max n.align (alignment n.length) = omega arith in
       ap (λ v. owned_of n % v) m ∙ owned_aligned n.length n.align r.power r.whole;
+  some = λ more. by more (cases_eq n.length 0);
 }
+  where
+    by : 16 < alignment_of n → (n.length ≡ 0) ⊎ (n.length ≡ 0 → ⊥) → 0 < owned_of n
+    by more (inl none) =
+        let a = r.small none in
+        let s = alignment_short n.length (omega (arith, none)) in
+        absurd (omega (arith, a, s, more))
+    by more (inr some) = let g = owned_ge n.length in omega (arith, g, some)
 
 either_regular : (b : Bool) (x y : ObjectNeed) → IsRegular x → IsRegular y → IsRegular (if b then x else y)
 either_regular true x y p q = p
 either_regular false x y p q = q
 
 nothing_regular : (permissions : ℕ) → IsRegular (nothing_of permissions)
-nothing_regular permissions = record { power = (0, refl); whole = refl }
+nothing_regular permissions = record { power = (0, refl); whole = refl; small = λ e. omega arith }
 
 need_regular : (types : List CType) (t : ℕ) (o : Option Extent) (permissions : ℕ) → extent types t ≡ o
     → IsRegular (need_by o permissions)
@@ -140,10 +151,14 @@ need_regular types t None permissions e = nothing_regular permissions
 need_regular types t (Some x) permissions e =
     either_regular (nat_le x.size size_limit) (record { length = x.size; align = x.align; permissions = permissions })
     (nothing_of permissions)
-    (record { power = extent_aligned (length types) types t x e; whole = extent_whole (length types) types t x e })
+    (record {
+      power = extent_aligned (length types) types t x e;
+      whole = extent_whole (length types) types t x e;
+      small = (extent_fills (length types) types t x e).small;
+    })
     (nothing_regular permissions)
 
-each_local : (types : List CType) (vs : List VarDef) → All IsLocal (map owned_need (map (local_need types) vs))
+pub each_local : (types : List CType) (vs : List VarDef) → All IsLocal (map owned_need (map (local_need types) vs))
 each_local types [] = All-nil IsLocal
 each_local types (v ∷ vs) =
     All-cons IsLocal (owned_need (local_need types v)) (map owned_need (map (local_need types) vs))

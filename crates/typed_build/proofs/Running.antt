@@ -4,7 +4,7 @@ use Rattle.std.proofs.Common.{subst, arith, inl, inr}
 use Rattle.std.specs.Prelude.{All, slice_get, slice_index}
 use Rattle.std.proofs.lemmas.Option.{slice_get_within}
 use Rattle.ck_base.specs.World.{World, Outcome}
-use Rattle.ck_base.specs.Agreement.{GoesOn, SameEnd, DoesWhatIsMeant, KeepsToOutside, DoesAllThatIsMeant}
+use Rattle.ck_base.specs.Agreement.{Sides, GoesOn, SameEnd, DoesWhatIsMeant, KeepsToOutside, DoesAllThatIsMeant}
 use Rattle.ck_base.specs.Calls.{BeginsWith}
 use Rattle.cap_ops.specs.declared.capability.TheConstants.{UNSEALED}
 use Rattle.cap_ops.specs.Bounded.{bounded}
@@ -21,6 +21,7 @@ use Rattle.rv_code.specs.Formats.{word_of}
 use Rattle.rv_code.specs.Encoding.{fields_of}
 use Rattle.tag_mem.specs.Areas.{is_inside}
 use Rattle.tag_mem.specs.Memory.{number_at}
+use Rattle.cap_machine.specs.declared.end.End.{End}
 use Rattle.cap_machine.specs.declared.machine.Machine.{Machine}
 use Rattle.elf_file.specs.declared.image.Image.{Image}
 use Rattle.image_load.specs.Judging.{text_of as text_extent, initial_of}
@@ -30,7 +31,7 @@ use Rattle.tac_ir.specs.Meaning.{tac}
 use Rattle.tac_ir.specs.declared.code.Tac.{Tac}
 use Rattle.int_select.specs.Selected.{First, IsReport, Matches}
 use Rattle.int_lower.proofs.Alone.{IsAlone, alone}
-use Rattle.typed_build.specs.Built.{report, sides_of, RunsAsMeant}
+use Rattle.typed_build.specs.Built.{report, sides_in, RunsAsMeant}
 use Rattle.typed_build.specs.Integers.{IsLowered, SelectsIntegers}
 use Rattle.typed_build.specs.Text.{text_of}
 use Rattle.typed_build.specs.Written.{IsWritten, image_in}
@@ -146,40 +147,39 @@ module _ (p : Typed) (t : Tac) (s : Selected) (low : IsLowered p t) (given : Sel
   means : (world : World) (n : ℕ) → tac t p m world n ≡ placed p m world n
   means world n = low.same m world n allowed
 
-  does_what : DoesWhatIsMeant (sides_of p m loaded)
-  does_what = record {
-    each = λ world n.
-        let sides = sides_of p m loaded in
-        subst (λ (o : Outcome Ending). is_outside o.ending ≡ false →
-        GoesOn sides.steps (sides.machine world n) o ⊎ SameEnd sides.report (sides.machine world n) o)
-        (means world n) (matched.does_what.each world n);
-  }
+  module _ (world : World) where
+    abbrev sides : Sides End Ending
+    sides = sides_in p m loaded world
 
-  keeps : KeepsToOutside (sides_of p m loaded)
-  keeps = record {
-    going = λ world n.
-        let sides = sides_of p m loaded in
-        subst (λ (o : Outcome Ending). is_outside o.ending ≡ true → (sides.machine world n).ending ≡ sides.steps →
-        BeginsWith o.output (sides.machine world n).output ⊎ BeginsWith (sides.machine world n).output o.output)
-        (means world n) (matched.keeps.going world n);
-    ended = λ world n.
-        let sides = sides_of p m loaded in
-        subst (λ (o : Outcome Ending). is_outside o.ending ≡ true → ((sides.machine world n).ending ≡ sides.steps → ⊥) →
-        BeginsWith (sides.machine world n).output o.output) (means world n) (matched.keeps.ended world n);
-  }
+    does_what : DoesWhatIsMeant sides
+    does_what = record {
+      each = λ same n.
+          subst (λ (o : Outcome Ending). is_outside o.ending ≡ false →
+          GoesOn sides.steps (sides.machine same n) o ⊎ SameEnd sides.report (sides.machine same n) o)
+          (means world n) (matched.does_what.each world n);
+    }
 
-  does_all : DoesAllThatIsMeant (sides_of p m loaded) (count_of p)
-  does_all = record {
-    output = λ world n.
-        let sides = sides_of p m loaded in
-        subst (λ (o : Outcome Ending). BeginsWith (sides.machine world ((n + 1) * count_of p)).output o.output)
-        (means world n) (matched.does_all.output world n);
-    ends = λ world n.
-        let sides = sides_of p m loaded in
-        subst (λ (o : Outcome Ending). is_turns o.ending ≡ false → is_outside o.ending ≡ false →
-        (sides.machine world ((n + 1) * count_of p)).ending ≡ sides.steps → ⊥) (means world n)
-        (matched.does_all.ends world n);
-  }
+    keeps : KeepsToOutside sides
+    keeps = record {
+      going = λ same n.
+          subst (λ (o : Outcome Ending). is_outside o.ending ≡ true → (sides.machine same n).ending ≡ sides.steps →
+          BeginsWith o.output (sides.machine same n).output ⊎ BeginsWith (sides.machine same n).output o.output)
+          (means world n) (matched.keeps.going world n);
+      ended = λ same n.
+          subst (λ (o : Outcome Ending). is_outside o.ending ≡ true → ((sides.machine same n).ending ≡ sides.steps → ⊥)
+          → BeginsWith (sides.machine same n).output o.output) (means world n) (matched.keeps.ended world n);
+    }
+
+    does_all : DoesAllThatIsMeant sides (count_of p)
+    does_all = record {
+      output = λ same n.
+          subst (λ (o : Outcome Ending). BeginsWith (sides.machine same ((n + 1) * count_of p)).output o.output)
+          (means world n) (matched.does_all.output world n);
+      ends = λ same n.
+          subst (λ (o : Outcome Ending). is_turns o.ending ≡ false → is_outside o.ending ≡ false →
+          (sides.machine same ((n + 1) * count_of p)).ending ≡ sides.steps → ⊥) (means world n)
+          (matched.does_all.ends world n);
+    }
 
   pub runs : RunsAsMeant p m loaded (count_of p)
-  runs = record { does_what = does_what; keeps = keeps; does_all = does_all }
+  runs = λ world bytes. record { does_what = does_what world; keeps = keeps world; does_all = does_all world }

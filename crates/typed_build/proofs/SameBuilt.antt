@@ -3,6 +3,7 @@ use Rattle.std.proofs.Common.{◌≡◌, ℕ, true, List, [], ◌∷◌, map, sy
 use Rattle.std.specs.Prelude.{slice_get}
 use Rattle.ck_base.specs.Agreement.{Sides, DoesWhatIsMeant, KeepsToOutside, DoesAllThatIsMeant}
 use Rattle.ck_base.specs.Runs.{outcome, ending_alone}
+use Rattle.ck_base.specs.World.{World}
 use Rattle.c_tree.specs.declared.typed.FunDef.{FunDef}
 use Rattle.c_tree.specs.declared.typed.GlobalDef.{GlobalDef}
 use Rattle.c_tree.specs.declared.typed.Literal.{Literal}
@@ -41,7 +42,8 @@ module _ (p : Typed) (form : is_integer_form p ≡ true) (q : Program) (s : Show
   weight_is : (r : Routine) → q.routines ≡ r ∷ [] → weight_in p 0 ≡ routine_weight r
   weight_is r e =
       let a = alone p form in
-      let head : routine a.d ≡ r = (let z : routine a.d ∷ [] ≡ r ∷ [] = sym (ap (map routine) a.only) ∙ s.routines ∙ e in cc) in
+      let z : routine a.d ∷ [] ≡ r ∷ [] = sym (ap (map routine) a.only) ∙ s.routines ∙ e in
+      let head : routine a.d ≡ r = cc in
       let here = ap (λ (fs : List FunDef). weight_by p (slice_get fs 0)) a.only in
       let own : function_weight p a.d ≡ routine_weight (routine a.d) =
       omega (arith, mapped_length (variable_of (types_of p.types)) a.d.vars) in
@@ -70,10 +72,10 @@ module _ (p : Typed) (form : is_integer_form p ≡ true) (q : Program) (s : Show
   only_routine : (r : Routine) × (q.routines ≡ r ∷ [])
   only_routine = let a = alone p form in (routine a.d, sym s.routines ∙ ap (map routine) a.only)
 
-abbrev sides : meant.Program → Map → Loaded → Sides End Ending
-sides t map loaded = record {
-  machine = λ w n. outcome limits act ending_alone loaded.machine n w;
-  meaning = λ w n. placed_run t map w n;
+abbrev sides : meant.Program → Map → Loaded → World → Sides End Ending
+sides t map loaded w = record {
+  machine = λ same n. outcome limits act ending_alone loaded.machine n w;
+  meaning = λ same n. placed_run t map w n;
   steps = Steps;
   is_turns = is_turns;
   is_outside = is_outside;
@@ -104,7 +106,6 @@ built_same p r q o u f g s t file m count h =
     let a = alone p f in
     let b = alone r g in
     let i = h.image in
-    let runs = h.runs f in
     let tables = ap (λ (n : Needs). table_length n) needs in
     record {
       image = record {
@@ -129,9 +130,11 @@ built_same p r q o u f g s t file m count h =
       says = h.says;
       contained = h.contained;
       entered = h.entered;
-      runs = λ form. record {
-        does_what = subst (λ x. DoesWhatIsMeant (sides x m i.loaded)) tree runs.does_what;
-        keeps = subst (λ x. KeepsToOutside (sides x m i.loaded)) tree runs.keeps;
-        does_all = subst (λ x. DoesAllThatIsMeant (sides x m i.loaded) count) tree runs.does_all;
-      };
+      runs = λ w bytes.
+          let runs = h.runs w bytes in
+          record {
+            does_what = subst (λ x. DoesWhatIsMeant (sides x m i.loaded w)) tree runs.does_what;
+            keeps = subst (λ x. KeepsToOutside (sides x m i.loaded w)) tree runs.keeps;
+            does_all = subst (λ x. DoesAllThatIsMeant (sides x m i.loaded w) count) tree runs.does_all;
+          };
     }

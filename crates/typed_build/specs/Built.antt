@@ -3,6 +3,7 @@ use Rattle.std.specs.Prelude.{◌≡◌, ℕ, zero, suc, ◌+◌, ◌*◌, ◌<�
 use Rattle.std.specs.Prelude.{slice_get, Option, Some, None, Ok, ⊤}
 use Rattle.std.specs.List.{All}
 use Rattle.ck_base.specs.Runs.{outcome, ending_alone}
+use Rattle.ck_base.specs.World.{World}
 use Rattle.ck_base.specs.Agreement.{Sides, DoesWhatIsMeant, KeepsToOutside, DoesAllThatIsMeant}
 use Rattle.ck_base.specs.declared.positions.Pos.{Pos}
 use Rattle.ck_base.specs.declared.refusal.Refusal.{Refusal}
@@ -37,7 +38,6 @@ use Rattle.obj_mem.specs.Counted.{count_of}
 use Rattle.obj_mem.specs.Endings.{is_turns, is_outside}
 use Rattle.c_tree.specs.File.{weight_limit}
 use Rattle.c_tree.specs.Weight.{weight}
-use Rattle.int_lower.specs.Form.{is_integer_form}
 use Rattle.typed_build.specs.Text.{IsFilled}
 
 -- ---- what an ending of the machine reports of the program
@@ -65,11 +65,15 @@ report image Steps = None
 
 -- ---- built
 
--- the machine's runs, and the program's meaning under the map
-abbrev pub sides_of : Typed → Map → Loaded → Sides End Ending
-sides_of p map loaded = record {
-  machine = λ w n. outcome limits act ending_alone loaded.machine n w;
-  meaning = λ w n. placed p map w n;
+-- the input is bytes
+abbrev pub IsOfBytes : World → Type 0
+IsOfBytes w = (k b : ℕ) → slice_get w.bytes k ≡ Some b → b < 256
+
+-- in one world, the machine's runs, and the program's meaning under the map
+abbrev pub sides_in : Typed → Map → Loaded → World → Sides End Ending
+sides_in p map loaded w = record {
+  machine = λ same n. outcome limits act ending_alone loaded.machine n w;
+  meaning = λ same n. placed p map w n;
   steps = Steps;
   is_turns = is_turns;
   is_outside = is_outside;
@@ -112,18 +116,21 @@ pub record IsImage (p : Typed) (file : List ℕ) (map : Map) : Type 0 where
   -- and its other bytes begin as the program's objects do
   pub begins : AreInitial p map loaded.image.initial_base loaded.image.initial
 
--- The machine does what the program means, in both directions, and all of it within the count for each turn
-pub record RunsAsMeant (p : Typed) (map : Map) (loaded : Loaded) (count : ℕ) : Type 0 where
-  pub does_what : DoesWhatIsMeant (sides_of p map loaded)
-  pub keeps : KeepsToOutside (sides_of p map loaded)
-  pub does_all : DoesAllThatIsMeant (sides_of p map loaded) count
+-- In a world the machine does what the program means, in both directions, and all of it within the count for each turn
+pub record RunsAsMeantIn (p : Typed) (map : Map) (loaded : Loaded) (count : ℕ) (w : World) : Type 0 where
+  pub does_what : DoesWhatIsMeant (sides_in p map loaded w)
+  pub keeps : KeepsToOutside (sides_in p map loaded w)
+  pub does_all : DoesAllThatIsMeant (sides_in p map loaded w) count
+
+-- in each world that gives bytes
+abbrev pub RunsAsMeant : Typed → Map → Loaded → (count : ℕ) → Type 0
+RunsAsMeant p map loaded count = (w : World) → IsOfBytes w → RunsAsMeantIn p map loaded count w
 
 -- a relocation with Execute is the sentry of a function's entry
 abbrev pub EntersFunction : Map → Reloc → Type 0
 EntersFunction map r = executes r ≡ true → (function : ℕ) × (slice_get map.entries function ≡ Some (address_of r))
 
--- What is built of a program: its image, which is contained, and its count; and of a program over integers that its
--- runs are what it means
+-- What is built of a program: its image, which is contained, its count, and that its runs are what it means
 pub record IsBuilt (p : Typed) (file : List ℕ) (map : Map) (count : ℕ) : Type 0 where
   pub image : IsImage p file map
   pub counted : count ≡ count_of p
@@ -133,8 +140,8 @@ pub record IsBuilt (p : Typed) (file : List ℕ) (map : Map) (count : ℕ) : Typ
   pub contained : Contained image.loaded.image
   -- nor is it entered but at the image's entry and at those of functions
   pub entered : All (EntersFunction map) image.loaded.image.relocs
-  -- of a program over integers
-  pub runs : is_integer_form p ≡ true → RunsAsMeant p map image.loaded count
+  -- the machine's runs are what the program means
+  pub runs : RunsAsMeant p map image.loaded count
 
 -- ---- refused
 

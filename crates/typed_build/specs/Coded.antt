@@ -9,18 +9,20 @@ use Rattle.obj_mem.specs.Legal.{AreFrames}
 use Rattle.obj_mem.specs.Needs.{weight_in, function_needs}
 use Rattle.rv_instr.specs.Range.{InRange}
 use Rattle.rv_instr.specs.declared.instr.Instr.{Instr}
-use Rattle.rv_select.specs.ContainedCode.{IsContainedCode}
+use Rattle.select_words.specs.ContainedCode.{IsContainedCode}
 use Rattle.rv_select.specs.Growing.{AreEntries}
 use Rattle.tac_ir.specs.WellFormed.{is_well_formed}
-use Rattle.tac_ir.specs.Within.{WithinCosts}
+use Rattle.tac_ir.specs.Within.{Within}
 use Rattle.tac_ir.specs.declared.code.Tac.{Tac}
 use Rattle.tac_ir.specs.declared.code.TacFun.{TacFun}
+use Rattle.lower_runs.specs.Programs.{IsProgram}
 use Rattle.typed_build.specs.declared.written.Selected.{Selected}
 
--- three-address code for a program, as selection asks for it
+-- three-address code for a program, as selection asks for it, which stands for the program
 pub record IsCode (p : Typed) (t : Tac) : Type 0 where
   pub formed : is_well_formed t p ≡ true
-  pub within : WithinCosts t p
+  pub within : Within t p
+  pub is : IsProgram p t
   pub short : (k : ℕ) (f : TacFun) → slice_get t.funs k ≡ Some f → length f.code < 2 ^ 32
 
 -- machine code that has words, no larger than the program allows, with its place of entry and the places of its

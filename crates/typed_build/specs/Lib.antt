@@ -5,3 +5,4 @@ pub mod Integers
 pub mod Built
 pub mod Frames
 pub mod Coded
+pub mod Programs

@@ -1,5 +1,5 @@
 -- What is written of a program's machine code: a file that loads, under a legal map.
-use Rattle.std.specs.Prelude.{◌≡◌, ℕ, List, length, Ok}
+use Rattle.std.specs.Prelude.{◌≡◌, ℕ, ◌<◌, List, length, Ok}
 use Rattle.std.specs.List.{All}
 use Rattle.c_tree.specs.declared.typed.Typed.{Typed}
 use Rattle.obj_mem.specs.Agreement.{Paired}
@@ -25,6 +25,7 @@ pub record Begins (p : Typed) (m : Map) (base : ℕ) (bytes : List ℕ) (relocs 
   pub inside : All (IsInside base (length bytes)) relocs
   pub pointers : All (IsPointer m) relocs
   pub initial : AreInitial p m base bytes
+  pub small : All (λ b. b < 256) bytes
 
 abbrev pub image_with : Typed → Selected → Map → ℕ → List ℕ → List Reloc → Image
 image_with p s m base bytes relocs =

@@ -54,8 +54,8 @@ fn limit(alloc: Global, layouts: &Layouts, p: &Typed) -> Result<(), Refusal>
 }
 
 /// Builds a typed program; the heap and the stack have the lengths of `sizes`. It is refused, at the start of its file,
-/// by 141 where its objects exceed their limit, and then by 142 where its weight does. No run of what is built leaves
-/// its text or makes code of data; of a program over integers the runs are what the program means.
+/// by 141 where its objects exceed their limit, and then by 142 where its weight does. The runs of what is built are
+/// what the program means, and none leaves its text or makes code of data.
 pub fn build_typed(alloc: Global, p: &Typed, sizes: Sizes) -> Result<Built, Refusal>
     requires sound { Sound p.now }
     requires sizes { in_range sizes ≡ true }

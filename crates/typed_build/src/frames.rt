@@ -34,7 +34,7 @@ fn frame_of(
     requires costs { FunctionCosts (function_weight p.now d.now) f.now }
     requires light { function_weight p.now d.now ≤ 7780 }
     requires within { locals_exceed p.now.types d.now ≡ false }
-    ensures { IfOk result (FrameFits p.now d.now homes.now) }
+    ensures { IfOk result (FrameFits p.now d.now f.now homes.now) }
 {
     let locals = local_needs(alloc, layouts, p, d)?;
     let outgoing = outgoing(f.code.as_slice());
@@ -66,7 +66,7 @@ pub fn frames_of(
         slice_get p.now.funs k ≡ Some d →
         FunctionCosts (function_weight p.now d) f × (function_weight p.now d ≤ 7780) }
     ensures len { IfOk result (λ frames. vec_len frames ≡ length p.now.funs) }
-    ensures fit { IfOk result (λ frames. FramesFit p.now places.now.items frames.items) }
+    ensures fit { IfOk result (λ frames. FramesFit p.now t.now.funs places.now.items frames.items) }
 {
     let mut frames = Vec::new(alloc);
     let homes = places.as_slice();

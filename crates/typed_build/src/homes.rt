@@ -8,7 +8,8 @@ use std::alloc::Global;
 use tac_ir::{Tac, TacFun};
 use tac_live::{calls, intervals};
 
-/// The homes of a function's temps: by linear scan over their live intervals.
+/// The homes of a function's temps: by linear scan over their live intervals. They keep the temps of code that writes
+/// each before it reads it.
 fn homes_of(alloc: Global, f: &TacFun, temps: u32) -> Result<Places, NoMemory>
     requires countable { IsCountable f.now }
     requires temps { temps ≡ f.now.temps }

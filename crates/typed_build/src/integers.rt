@@ -1,4 +1,4 @@
-//! Building of programs over integers: the path whose runs are proved to be what the program means.
+//! Building of programs over integers: each temp has a slot of its own.
 ghost use Rattle.std.specs.Prelude.{◌≡◌, ◌≤◌, true, map, IfOk, IfErr};
 ghost use Rattle.bounds_place.specs.Sizes.{in_range, HasSizes};
 ghost use Rattle.c_tree.specs.File.{weight_limit};

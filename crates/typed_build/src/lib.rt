@@ -1,8 +1,9 @@
 //! From a typed program to the ELF file of machine code.
 //!
-//! Promise: `build_typed` gives the program's image (`IsBuilt`), or the first of 141 and 142 that applies.
-//! Definitions (`specs/`): `Built`, `Written`, `Text`, `Coded`, `Frames`.
-//! Main lemmas (`proofs/`): `Writes`, `Builds`, `SameBuilt`.
+//! Promise: `build_typed` gives the program's image, whose runs are what the program means (`IsBuilt`), or the first of
+//! 141 and 142 that applies.
+//! Definitions (`specs/`): `Built`, `Written`, `Text`, `Coded`, `Frames`, `Programs`.
+//! Main lemmas (`proofs/`): `Writes`, `Builds`, `Framed`, `Selecting`, `Meaning`, `SameBuilt`.
 #![tactic(auto)]
 
 mod building;

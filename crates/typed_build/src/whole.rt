@@ -1,15 +1,15 @@
 //! Building of any program: three-address code, homes, frames, machine code and the image.
-ghost use Rattle.std.specs.Prelude.{◌≡◌, ◌+◌, ◌*◌, ◌≤◌, true, false, length, vec_len, IfOk, IfErr, OnOk};
+ghost use Rattle.std.specs.Prelude.{◌≡◌, ◌≤◌, true, false, length, vec_len, IfOk, IfErr};
 ghost use Rattle.c_tree.specs.File.{weight_limit};
 ghost use Rattle.c_tree.specs.Typing.{Sound};
 ghost use Rattle.c_tree.specs.Weight.{weight};
 ghost use Rattle.cap_layout.specs.Kept.{AreLayoutsOf};
 ghost use Rattle.bounds_place.specs.Placing.{exceeds};
 ghost use Rattle.bounds_place.specs.Sizes.{in_range, HasSizes};
-ghost use Rattle.int_lower.specs.Form.{is_integer_form};
 ghost use Rattle.typed_build.specs.Built.{IsBuilt, IsRefusal};
 ghost use Rattle.typed_build.specs.Coded.{IsCode, Selects, HasContainedCode};
 ghost use Rattle.typed_build.specs.Frames.{HaveHomes};
+ghost use Rattle.typed_build.specs.Programs.{HasProgram};
 
 use crate::building::Built;
 use crate::counts::count_of;
@@ -20,13 +20,14 @@ use bounds_place::Sizes;
 use c_tree::Typed;
 use cap_layout::Layouts;
 use ck_base::{NoMemory, Refusal};
+use image_starts::images_fit;
 use reg_alloc::Places;
 use rv_select::{Items, select};
 use std::alloc::Global;
 use tac_ir::Tac;
 use tac_lower::lower;
 
-/// The three-address code of a program. Its instructions are counted in 32 bits.
+/// The three-address code of a program, which stands for it. Its instructions are counted in 32 bits.
 fn code_of(alloc: Global, p: &Typed) -> Result<Tac, NoMemory>
     requires sound { Sound p.now }
     requires light { weight p.now ≤ 7780 }
@@ -52,6 +53,7 @@ fn select_all(
     requires homes { HaveHomes code.now.funs places.now.items }
     ensures selects { IfOk result (Selects p.now) }
     ensures contained { IfOk result HasContainedCode }
+    ensures program { IfOk result (HasProgram p.now) }
 {
     let frames = frames_of(alloc, layouts, p, code, places)?;
     let Items {
@@ -69,7 +71,7 @@ fn select_all(
     })
 }
 
-/// Any program, of which it is not yet proved that its runs are what it means.
+/// Any program. The machine to which an image loads stands for the program's first state, by the law `images_fit`.
 pub fn build_whole(
     alloc: Global,
     layouts: &Layouts,
@@ -80,12 +82,12 @@ pub fn build_whole(
     requires sound { Sound p.now }
     requires within { exceeds p.now ≡ false }
     requires light { weight p.now ≤ weight_limit }
-    requires other { is_integer_form p.now ≡ false }
     requires sizes { in_range sizes ≡ true }
     ensures built { IfOk result (λ b. IsBuilt p.now b.elf.items b.map b.count) }
     ensures sized { IfOk result (λ b. HasSizes sizes b.map) }
     ensures refused { IfErr result (IsRefusal p.now) }
 {
+    images_fit();
     let code = code_of(alloc, p)?;
     let places = places_of(alloc, &code)?;
     let selected = select_all(alloc, layouts, p, &code, &places)?;

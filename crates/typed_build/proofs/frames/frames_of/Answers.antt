@@ -5,6 +5,27 @@ use Rattle.typed_build.proofs.Growing.{grown_beside, read_in}
 use Rattle.typed_build.proofs.Locals.{locals_within}
 use Rattle.typed_build.proofs.frames.frames_of.Goals as goal
 
+pub frame_of-requires-clause-homes : goal.frame_of-requires-clause-homes
+frame_of-requires-clause-homes c =
+    let k = c.loop-k.k in
+    let funs = c.as_slice-funs in
+    let homes = c.as_slice-homes in
+    let places = c.args.places.now in
+    let fun_lt : k < length funs.result.now =
+    omega (arith, c.loop-k-test.true, c.requires.funs, ap length c.as_slice-defs.ensures, ap length funs.ensures) in
+    let home_lt : k < length homes.result.now =
+    omega (
+      arith,
+      c.loop-k-test.true,
+      c.requires.places,
+      places.ok,
+      ap length homes.ensures.value,
+      ap length c.as_slice-defs.ensures,
+    ) in
+    c.requires.homes k c.index-funs-k.result c.index-homes-k.result
+    (read_in funs.result.now c.args.t.now.funs k c.index-funs-k.result funs.ensures fun_lt c.index-funs-k.is)
+    (read_in homes.result.now places.items k c.index-homes-k.result homes.ensures.value home_lt c.index-homes-k.is)
+
 pub frame_of-requires-clause-costs : goal.frame_of-requires-clause-costs
 frame_of-requires-clause-costs c =
     let k = c.loop-k.k in
@@ -41,11 +62,15 @@ pub loop-k-preserved : goal.loop-k-preserved
 loop-k-preserved c =
     let k = c.loop-k.k in
     let p = c.args.p.now in
+    let all = c.args.t.now.funs in
     let defs = c.as_slice-defs in
+    let funs = c.as_slice-funs in
     let homes = c.as_slice-homes in
     let frames = c.loop-k.frames.items in
     let places = c.args.places.now.items in
     let lt : k < length defs.result.now = omega (arith, c.loop-k-test.true) in
+    let fun_lt : k < length funs.result.now =
+    omega (arith, c.loop-k-test.true, c.requires.funs, ap length defs.ensures, ap length funs.ensures) in
     let home_lt : k < length homes.result.now =
     omega (
       arith,
@@ -56,6 +81,7 @@ loop-k-preserved c =
       ap length defs.ensures,
     ) in
     let d = read_in defs.result.now p.funs k c.index-defs-k.result defs.ensures lt c.index-defs-k.is in
+    let f = read_in funs.result.now all k c.index-funs-k.result funs.ensures fun_lt c.index-funs-k.is in
     let l = read_in homes.result.now places k c.index-homes-k.result homes.ensures.value home_lt c.index-homes-k.is in
     let last : k ≡ length frames = sym c.loop-k.invariant.len in
     record {
@@ -66,8 +92,9 @@ loop-k-preserved c =
             ap length c.in_ok-add.ensures,
             length-append frames (c.in_ok-g.g ∷ []),
           );
-      fit = λ j d' l' g e f h.
-          grown_beside (FrameFits p) p.funs places frames c.index-defs-k.result c.index-homes-k.result c.in_ok-g.g
-          c.loop-k.invariant.fit (ap (slice_get p.funs) (sym last) ∙ d) (ap (slice_get places) (sym last) ∙ l)
-          c.in_ok-g.ensures j d' l' g e f (ap (λ xs. slice_get xs j) (sym c.in_ok-add.ensures) ∙ h);
+      fit = λ j d' f' l' g a b e h.
+          grown_beside (FrameFits p) p.funs all places frames c.index-defs-k.result c.index-funs-k.result
+          c.index-homes-k.result c.in_ok-g.g c.loop-k.invariant.fit (ap (slice_get p.funs) (sym last) ∙ d)
+          (ap (slice_get all) (sym last) ∙ f) (ap (slice_get places) (sym last) ∙ l)
+          c.in_ok-g.ensures j d' f' l' g a b e (ap (λ xs. slice_get xs j) (sym c.in_ok-add.ensures) ∙ h);
     }

@@ -5,5 +5,5 @@ use Rattle.typed_build.proofs.frames.frames_of.Given as goal
 abbrev pub invariant-loop-k : goal.invariant-loop-k
 invariant-loop-k l = record {
   len : length l.frames.items ≡ l.k;
-  fit : FramesFit l.p l.places.items l.frames.items;
+  fit : FramesFit l.p l.t.funs l.places.items l.frames.items;
 }

@@ -1,7 +1,5 @@
-use Rattle.std.proofs.Common.{sym, ◌∙◌}
-use Rattle.std.proofs.lemmas.Bool.{false≢true}
 use Rattle.tac_live.proofs.Numbered.{numbered}
-use Rattle.typed_build.proofs.Builds.{is_built}
+use Rattle.typed_build.proofs.Meaning.{is_built}
 use Rattle.typed_build.proofs.whole.build_whole.Goals as goal
 
 pub places_of-requires : goal.places_of-requires
@@ -14,10 +12,9 @@ pub returns-clause-built : goal.returns-clause-built
 returns-clause-built c =
     let w = c.in_ok-elf.field-0 in
     let given = c.in_ok-selected.ensures in
-    is_built c.args.p.now c.in_ok-selected.selected given.selects given.contained c.args.sizes c.requires.sizes w.map
-    w.elf.items
-    c.in_ok-elf.ensures.written c.count_of-count.result c.count_of-count.ensures
-    (λ form. absurd (false≢true (sym c.requires.other ∙ form)))
+    is_built c.images_fit.ensures c.args.p.now c.requires.sound c.in_ok-selected.selected given.selects given.contained
+    given.program c.args.sizes c.requires.sizes w.map w.elf.items c.in_ok-elf.ensures.written c.count_of-count.result
+    c.count_of-count.ensures
 
 pub returns-clause-sized : goal.returns-clause-sized
 returns-clause-sized c =

@@ -3,7 +3,9 @@ use Rattle.c_facts.proofs.Sound.{well_typed}
 use Rattle.c_tree.specs.Weight.{weight}
 use Rattle.rv_select.specs.Growing.{AreEntries}
 use Rattle.typed_build.proofs.Coding.{coded_of, some_word}
+use Rattle.lower_forms.proofs.Running.{code_has_form}
 use Rattle.typed_build.proofs.Framing.{are_frames, framed}
+use Rattle.typed_build.proofs.Selecting.{are_kept, are_selectable, heap_small}
 use Rattle.typed_build.proofs.Weighing.{same_count, one_within, few_functions, total}
 use Rattle.typed_build.proofs.whole.select_all.Goals as goal
 
@@ -18,7 +20,7 @@ pub frames_of-requires-clause-costs : goal.frames_of-requires-clause-costs
 frames_of-requires-clause-costs c =
     let code = c.requires.code in
     one_within c.args.p.now (well_typed c.args.p.now c.requires.sound).ordered c.requires.light c.args.code.now
-    code.within code.formed
+    code.within.costs code.formed
 
 pub frames_of-requires-clause-places : goal.frames_of-requires-clause-places
 frames_of-requires-clause-places c =
@@ -33,15 +35,16 @@ select-requires-clause-costs c =
     let p = c.args.p.now in
     let code = c.requires.code in
     let ordered = (well_typed p c.requires.sound).ordered in
-    omega (arith, c.requires.light, total p ordered c.requires.light c.args.code.now code.within code.formed)
+    omega (arith, c.requires.light, total p ordered c.requires.light c.args.code.now code.within.costs code.formed)
 
 pub select-requires-clause-framed : goal.select-requires-clause-framed
 select-requires-clause-framed c =
     let p = c.args.p.now in
+    let t = c.args.code.now in
     let places = c.args.places.now in
-    let count : length places.items ≡ length p.funs =
-    omega (arith, c.requires.places, places.ok, same_count c.args.code.now p c.requires.code.formed) in
-    framed p places.items c.in_ok-frames.frames.items count c.in_ok-frames.ensures.fit
+    let count = same_count t p c.requires.code.formed in
+    let each : length places.items ≡ length p.funs = omega (arith, c.requires.places, places.ok, count) in
+    framed p t.funs places.items c.in_ok-frames.frames.items count each c.in_ok-frames.ensures.fit
 
 pub returns-clause-selects : goal.returns-clause-selects
 returns-clause-selects c =
@@ -59,15 +62,43 @@ returns-clause-selects c =
     let words : code.len ≡ length code.items = omega (arith, code.ok) in
     let there = subst (λ n. AreEntries n entries.items) words given.entries in
     let some = some_word p typed (length code.items) entries.items each there in
-    let cost = total p typed.ordered c.requires.light c.args.code.now given_code.within given_code.formed in
+    let cost = total p typed.ordered c.requires.light c.args.code.now given_code.within.costs given_code.formed in
     let size : 4 * length code.items ≤ 128 * weight p + 4096 = omega (arith, words, given.size, cost) in
     record {
       coded =
           coded_of p code.items items.start items.lines.items c.requires.light size given.text given.start
           some;
       frames =
-          are_frames p places.items frames.items (omega (arith, c.requires.places, places.ok, count))
-          (omega (arith, c.in_ok-frames.ensures.len, frames.ok, count)) c.in_ok-frames.ensures.fit;
+          are_frames p c.args.code.now.funs places.items frames.items count
+          (omega (arith, c.requires.places, places.ok, count)) c.in_ok-frames.ensures.fit
+          (omega (arith, c.in_ok-frames.ensures.len, frames.ok, count));
       each = each;
       entries = there;
+    }
+
+pub returns-clause-program : goal.returns-clause-program
+returns-clause-program c =
+    let p = c.args.p.now in
+    let t = c.args.code.now in
+    let code = c.requires.code in
+    let places = c.args.places.now in
+    let frames = c.in_ok-frames.frames.items in
+    let sound = c.requires.sound in
+    let light = c.requires.light in
+    let within = c.requires.within in
+    let given = c.in_ok-code.ensures in
+    let fit = c.in_ok-frames.ensures.fit in
+    let count = same_count t p code.formed in
+    let form = code_has_form p sound light t code.is code.formed code.within in
+    let keeps = are_kept p t places.items form count code.within c.requires.homes in
+    record {
+      code = t;
+      places = places.items;
+      each = omega (arith, c.requires.places, places.ok);
+      start = given.start;
+      is_code = code;
+      keeps = keeps;
+      frames = fit;
+      selected = given.selected (heap_small p sound within light)
+          (are_selectable p sound within light t places.items frames form count keeps fit);
     }

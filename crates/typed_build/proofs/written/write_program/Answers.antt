@@ -85,9 +85,10 @@ returns-clause-written c =
       inside = given_data.places;
       pointers = given_data.pointers;
       initial = given_data.bytes;
+      small = c.image_of-image.ensures.small;
     } in
     let image : c.image_of-image.result ≡ image_with p s m base bytes relocs =
-    c.image_of-image.ensures
+    c.image_of-image.ensures.value
     ∙ ap (λ x. image_of m s.start x base bytes relocs s.lines.items c.args.count)
     (c.in_ok-text.ensures ∙ ap text_of c.deref.ensures.value)
     ∙ ap (λ n. image_of m s.start (text_of s.code.items) base bytes relocs s.lines.items n) c.requires.count in
