@@ -1,8 +1,7 @@
 -- A struct or union is copied as the machine copies it.
-use Rattle.std.proofs.Common.{◌≡◌, ℕ, zero, suc, ◌+◌, ◌-◌, ◌*◌, ◌/◌, ◌%◌, ◌^◌, ◌<◌, ◌≤◌, Result, Ok, Err, refl, sym, ap}
-use Rattle.std.proofs.Common.{subst, ◌∙◌, ◌⊎◌, inl, inr, arith}
+use Rattle.std.proofs.Common.{◌≡◌, ℕ, suc, ◌+◌, ◌-◌, ◌/◌, ◌%◌, ◌^◌, ◌<◌, ◌≤◌, Result, Ok, Err, refl, sym, ap}
+use Rattle.std.proofs.Common.{subst, ◌∙◌, arith}
 use Rattle.ck_base.specs.declared.positions.Pos.{Pos}
-use Rattle.obj_mem.specs.declared.ending.Ending.{Ending}
 use Rattle.obj_mem.specs.declared.ending.Fault.{Fault}
 use Rattle.obj_mem.specs.declared.ending.UnitFault.{UnitFault}
 use Rattle.obj_mem.specs.Values.{Value}

@@ -42,7 +42,7 @@ before_past [] x h = refl
 before_past (v ∷ vs) zero h = absurd (omega arith)
 before_past (v ∷ vs) (suc x) h = ap (λ n. own_count v + n) (before_past vs x (omega arith))
 
-get_push : {A : Type 0} (xs : List A) (x : A) (k : ℕ) (y : A) → slice_get (xs ++ x ∷ []) k ≡ Some y →
+pub get_push : {A : Type 0} (xs : List A) (x : A) (k : ℕ) (y : A) → slice_get (xs ++ x ∷ []) k ≡ Some y →
     (slice_get xs k ≡ Some y) ⊎ ((k ≡ length xs) × (y ≡ x))
 get_push [] x zero y e = inr (refl, sym (same_Some x y e))
 get_push [] x (suc k) y e = inl e
@@ -112,7 +112,7 @@ listed_all funs all i l e = record { count = l.count ∙ e; each = l.each }
 
 -- ---- looked up
 
-missing : {A : Type 0} (xs : List A) (k : ℕ) → slice_get xs k ≡ None → length xs ≤ k
+pub missing : {A : Type 0} (xs : List A) (k : ℕ) → slice_get xs k ≡ None → length xs ≤ k
 missing [] k e = omega arith
 missing (x ∷ xs) zero e = absurd (let g : Some x ≡ None = e in cc)
 missing (x ∷ xs) (suc k) e = let h = missing xs k e in omega arith

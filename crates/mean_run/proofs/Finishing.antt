@@ -13,21 +13,18 @@ use Rattle.c_tree.specs.declared.typed.VarDef.{VarDef}
 use Rattle.obj_mem.specs.declared.ending.Ending.{Ending}
 use Rattle.obj_mem.specs.declared.ending.Fault.{Fault}
 use Rattle.obj_mem.specs.declared.value.Value as public
-use Rattle.obj_mem.specs.declared.value.Value.TheVariants as code_value
 use Rattle.obj_mem.specs.Values.{Value, value_of}
 use Rattle.cheri_c_sem.specs.Expressions.{conversion, conversion_by, sign_of}
 use Rattle.cheri_c_sem.specs.Kinds.{Kind, nothing, truth}
 use Rattle.cheri_c_sem.specs.Meaning.{Place, first_of, second_of, operate_by}
 use Rattle.cheri_c_sem.specs.Modes.{Store}
 use Rattle.cheri_c_sem.specs.Operations.{Operations, compare_by, convert_by, is_true, on_ok}
-use Rattle.cheri_c_sem.specs.Steps.{fault_end}
 use Rattle.cheri_c_sem.specs.Tree.{Ex, Operation, Aggregate, Assign, Binary, Compare, Copy, Compound, Discard, Load}
 use Rattle.cheri_c_sem.specs.Tree.{Fun, Narrowing, Pointer_to}
 use Rattle.cheri_c_sem.specs.Types.{is_void, kind_or_int, scalar_of}
-use Rattle.mean_operations.specs.Answers.{seen}
 use Rattle.mean_operations.specs.Views.{unary_by}
 use Rattle.mean_steps.specs.Machine.{Moment, behind, first_place, less_value, less_place, with_value, finish_item}
-use Rattle.mean_steps.specs.Machine.{done_in, no_world}
+use Rattle.mean_steps.specs.Machine.{no_world}
 use Rattle.mean_steps.specs.Parts.{Now, Came, On, Over, answer, copy, give, load, next_of, point_to, store}
 use Rattle.mean_run.specs.Changes.{changed_by, changes}
 use Rattle.mean_run.specs.Parts.{Did, Does, Gives, LeavesIt, Unless_wanting, given_in}

@@ -10,7 +10,7 @@ use Rattle.cheri_c_sem.specs.Operations.{Operations}
 use Rattle.cheri_c_sem.specs.Programs.{stmt_tree}
 use Rattle.cheri_c_sem.specs.Statements as flow
 use Rattle.cheri_c_sem.specs.Tree.{Declared, Fun}
-use Rattle.mean_steps.specs.Machine.{Loop, Item, Again, Switch_end, Leave, Leave_function, Moment, jumped, done_in}
+use Rattle.mean_steps.specs.Machine.{Loop, Item, Again, Switch_end, Leave, Leave_function, Moment, closed, jumped, done_in}
 use Rattle.mean_steps.specs.Parts.{Now, On, leave}
 use Rattle.mean_run.specs.declared.blocks.Met.{Met}
 use Rattle.mean_run.specs.declared.blocks.Met.TheVariants as met
@@ -18,7 +18,7 @@ use Rattle.mean_run.specs.declared.state.State.{State}
 use Rattle.mean_run.specs.declared.work.Work.{Work}
 use Rattle.mean_run.specs.declared.work.Work.TheVariants as work
 use Rattle.mean_run.specs.Jumps.{met_of}
-use Rattle.mean_run.specs.Views.{vars_at, item_of, declared_of, fun_of, funs_of, moment_of, now_of}
+use Rattle.mean_run.specs.Views.{vars_at, caller_of, item_of, declared_of, fun_of, funs_of, moment_of, now_of}
 
 -- an item over which each jump goes
 abbrev IsPassed : Item → Type 0
@@ -133,6 +133,24 @@ module _ (ops : Operations Store) (p : Typed) (ws : List Work) where
     pub function_goes_on : (g : ℕ) (first : Bool) → met.Function g first ≡ met_of w →
         jumps flow.Continues s held ≡ Goes (moment_of p (record t { work = w ∷ t.work }) held)
     function_goes_on g first h = top flow.Continues ∙ rw (met_by p w (met.Function g first) h) refl
+
+    pub loop_returned : (v : Value) → met.Loop ≡ met_of w →
+        jumps (flow.Returns v) s held ≡ jumps (flow.Returns v) t held
+    loop_returned v h = let (l, e) = met_by p w met.Loop h in top (flow.Returns v) ∙ rw e refl
+
+    pub switch_returned : (v : Value) → met.Switch ≡ met_of w →
+        jumps (flow.Returns v) s held ≡ jumps (flow.Returns v) t held
+    switch_returned v h = top (flow.Returns v) ∙ rw (met_by p w met.Switch h) refl
+
+    pub function_returned : (v : Value) (g : ℕ) (first : Bool) → met.Function g first ≡ met_of w →
+        jumps (flow.Returns v) s held
+        ≡ closed ops (funs_of p) first (fun_of p g (slice_get p.funs g)) v (map caller_of t.callers)
+        (moment_of p t held)
+    function_returned v g first h = top (flow.Returns v) ∙ rw (met_by p w (met.Function g first) h) refl
+
+  pub all_returned : (v : Value) (s t : State) (held : Store) → s.work ≡ [] → t ≡ record s { work = [] } →
+      jumps (flow.Returns v) s held ≡ Goes (moment_of p t held)
+  all_returned v s t held e h = rw (e, h) refl
 
   -- no work is left
   pub all_broken : (s t : State) (held : Store) → s.work ≡ [] → t ≡ record s { work = [] } →

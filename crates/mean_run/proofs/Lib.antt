@@ -17,3 +17,11 @@ pub mod Copying
 pub mod Finishing
 pub mod Finishes
 pub mod Computed
+pub mod Agreement
+pub mod Calling
+pub mod Stating
+pub mod Serving
+pub mod Members
+pub mod Placing
+pub mod Stepping
+pub mod Going

@@ -1,6 +1,5 @@
 -- The operation that an expression is, by its types.
 use Rattle.std.specs.Prelude.{◌≡◌, ℕ, not, Bool, true, false, List, Option, Some, None, if◌then◌else◌}
-use Rattle.c_tree.specs.Layout.{bare}
 use Rattle.c_tree.specs.declared.typed.CType.{CType}
 use Rattle.c_tree.specs.declared.typed.CType.TheVariants as types
 use Rattle.c_tree.specs.declared.typed.Expr.{Expr}

@@ -13,3 +13,9 @@ pub mod Branches
 pub mod Placed
 pub mod Changes
 pub mod Finished
+pub mod Calls
+pub mod Labels
+pub mod Done
+pub mod Acts
+pub mod Services
+pub mod Offsets

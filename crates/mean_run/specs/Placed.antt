@@ -1,5 +1,5 @@
 -- What a node of a program whose place is wanted asks for first.
-use Rattle.std.specs.Prelude.{◌≡◌, ℕ, ◌+◌, ◌^◌, ◌<◌, Bool, true, false, ◌∷◌, length, slice_get}
+use Rattle.std.specs.Prelude.{◌≡◌, ℕ, ◌+◌, ◌^◌, ◌<◌, Bool, true, false, ◌∷◌, Result, length, slice_get}
 use Rattle.ck_base.specs.Runs.{Goes}
 use Rattle.ck_base.specs.declared.positions.Pos.{Pos}
 use Rattle.cap_ops.specs.Permissions.{const_permissions}
@@ -8,12 +8,16 @@ use Rattle.c_tree.specs.declared.typed.ExprKind.{ExprKind}
 use Rattle.c_tree.specs.declared.typed.ExprKind.TheVariants as exprs
 use Rattle.c_tree.specs.declared.typed.Typed.{Typed}
 use Rattle.obj_mem.specs.declared.value.Value.TheVariants as value
-use Rattle.cheri_c_sem.specs.Expressions.{permissions_of, variable}
+use Rattle.cheri_c_sem.specs.Expressions.{assignment, permissions_of, type_of, variable}
 use Rattle.cheri_c_sem.specs.Modes.{Store}
 use Rattle.cheri_c_sem.specs.Operations.{Operations}
 use Rattle.cheri_c_sem.specs.Tree.{Ex, Object}
-use Rattle.cheri_c_sem.specs.Types.{is_record}
-use Rattle.mean_steps.specs.Machine.{designate}
+use Rattle.cheri_c_sem.specs.Tree as tree
+use Rattle.cheri_c_sem.specs.Types.{is_record, offset_in}
+use Rattle.mean_steps.specs.Machine.{designate, finish_place}
+use Rattle.mean_run.specs.Offsets.{HasMember}
+use Rattle.mean_run.specs.Parts.{Does, Unless_wanting}
+use Rattle.mean_run.specs.declared.work.Stop.{Stop}
 use Rattle.mean_run.specs.declared.state.State.{State}
 use Rattle.mean_run.specs.declared.work.Place.TheVariants as place
 use Rattle.mean_run.specs.declared.work.Work.TheVariants as work
@@ -56,3 +60,17 @@ Placed ops held p f k of pos (exprs.Comma a b) old new =
 Placed ops held p f k of pos (exprs.Load a) old new = new ≡ taken_from f a (is_record (bare p.types of)) old
 Placed ops held p f k of pos (exprs.Assign a b) old new = new ≡ assigned_to f k a b (is_record (bare p.types of)) old
 Placed ops held p f k of pos e old new = new ≡ nowhere old
+
+-- what the operation of a node does that gives a place: of a type, at a position and of a kind
+module _ (ops : Operations Store) (p : Typed) (f : ℕ) (held left : Store) (old new : State)
+    (r : Result (Unit {0}) Stop) where
+  abbrev PlaceFinishes : Ex → Type 0
+  PlaceFinishes e = Does (finish_place ops (funs_of p) e (moment_of p old held)) (moment_of p new left) r
+
+  abbrev pub PlaceFinishedBy : ℕ → Pos → ExprKind → Type 0
+  PlaceFinishedBy of pos (exprs.Deref a) = (x : Ex) → PlaceFinishes (tree.Deref pos x)
+  PlaceFinishedBy of pos (exprs.Member a n) =
+      HasMember p.types (type_of (slice_get p.exprs a)) n → (x : Ex) →
+      PlaceFinishes (tree.Member pos (offset_in p.types (type_of (slice_get p.exprs a)) n) x)
+  PlaceFinishedBy of pos (exprs.Assign a b) = (x y : Ex) → PlaceFinishes (assignment p (vars_at p f) pos of a x y)
+  PlaceFinishedBy of pos e = Unless_wanting r ((new ≡ nowhere old) × (left ≡ held))

@@ -165,7 +165,10 @@ impl State {
     /// The work up to the end of the current call goes, which gives a value.
     pub fn give_back<B: Storage>(&mut self, m: &mut B, s: &Source<'_>, v: Value) -> Result<(), Stop>
         requires { IsSource s.now }
-        ensures { B.meaning m.new ≡ B.meaning m.old }
+        ensures same { B.meaning m.new ≡ B.meaning m.old }
+        ensures does { Ordered s.now.p.now → Does (jumped (B.meaning m.old) (funs_of s.now.p.now) (Returns (value_of v))
+            (map (item_of s.now.p.now) self.old.work) (moment_of s.now.p.now self.old (B.held m.old)))
+            (moment_of s.now.p.now self.new (B.held m.new)) result }
     {
         'jump: while let Some(work) = self.work.pop() {
             match met_at(work) {

@@ -76,13 +76,13 @@ fn truth_of(answer: Result<bool, Fault>) -> Result<Value, Fault>
 }
 
 impl State {
-    fn give_nothing(&mut self) -> Result<(), Stop>
+    pub fn give_nothing(&mut self) -> Result<(), Stop>
         ensures { Unless_wanting result (self.new ≡ record self.old { values = NOTHING ∷ self.old.values }) }
     {
         self.give_value(NOTHING)
     }
 
-    fn give_value(&mut self, v: Value) -> Result<(), Stop>
+    pub fn give_value(&mut self, v: Value) -> Result<(), Stop>
         ensures { Unless_wanting result (self.new ≡ record self.old { values = v ∷ self.old.values }) }
     {
         Ok(self.give(v)?)

@@ -1,14 +1,13 @@
 //! Runs of the meaning of programs, by a machine with a small step over the numbers of a typed program's nodes.
 //!
-//! Promise: every part is safe and ends, whatever the program is; the state's lists, turns and variables change as
-//! the machine of `mean_steps` says of its view. For a program that typing gives (`IsFit`) these steps are that
-//! machine's acts: what an expression whose value or place is wanted, a loop at its test and statements one after
-//! another ask for first, and what comes behind the first operand of `&&`, `||` and `?:`, behind the second of `&&`
-//! and `||`, behind the condition of an `if`, and behind the test, the body and the step of a loop. That the other
-//! steps are acts is tested, and not proved. `run` answers `Turns` after 2^64 - 1 acts. Definitions (`specs/`):
-//! `Views` (what the state is in that machine's words), `Begun` and `Placed` (what a node asks for first), `Branches`
-//! (what comes behind a test), `Parts` (what a part came to); `Jumps` and `Choices` are the words for what a step is
-//! yet to promise. Main lemmas (`proofs/`): `Begins`, `Designates`, `Executes`, `Chooses`, `Branching`, `Counts`.
+//! Promise: every part is safe and ends, whatever the program is. For a program that typing gives (`IsFit`) each step
+//! is one act of the machine of `mean_steps`, and meets the outside as that act does: values, places, operations,
+//! choices, statements, jumps, calls, returns, library functions and intrinsics. So a whole run from the first moment
+//! is the one that is meant, where at most 2^64 - 2 acts are left; `run` answers `Turns` after 2^64 - 1 acts.
+//! Definitions (`specs/`): `Views` (what the state is in that machine's words), `Acts` (a step against an act),
+//! `Begun`, `Placed` and `Finished` (what a node asks for first, and what its operation does), `Branches`, `Done`,
+//! `Jumps` and `Labels` (statements), `Calls`, `Offsets`, `Parts` (what a part came to). Main lemmas (`proofs/`):
+//! `Going`, `Stepping`, `Finishing`, `Stating`, `Calling`, `Serving`, `Placing`, `Chooses`, `Branching`.
 #![tactic(auto)]
 
 mod blocks;
@@ -16,6 +15,7 @@ mod branches;
 mod call;
 mod calls;
 mod choices;
+mod compatibility;
 mod finish;
 mod locals;
 mod offsets;

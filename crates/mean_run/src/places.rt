@@ -1,25 +1,25 @@
 //! Places that expressions designate (C11 6.3.2.1, 6.5.3.2), and what is read and written there.
 
-ghost use Rattle.std.specs.Prelude.{◌≡◌, ◌+◌, ◌/◌, ◌<◌, ◌≤◌, ◌^◌, List, length, map, OnOk, option_map, slice_get};
+ghost use Rattle.std.specs.Prelude.{◌≡◌, ◌∷◌, ◌+◌, ◌/◌, ◌<◌, ◌≤◌, ◌^◌, List, length, map, OnOk, option_map, slice_get};
 ghost use Rattle.cap_ops.specs.Permissions.{const_permissions};
 ghost use Rattle.c_tree.specs.Layout.{bare};
 ghost use Rattle.c_tree.specs.declared.typed.Typed.{Typed};
 ghost use Rattle.c_tree.specs.declared.typed.VarDef.{VarDef};
 ghost use Rattle.ck_base.specs.Runs.{Goes};
 ghost use Rattle.obj_mem.specs.Values.{value_of};
-ghost use Rattle.cheri_c_sem.specs.Expressions.{type_of, permissions_of, expr_tree, variable};
+ghost use Rattle.cheri_c_sem.specs.Expressions.{assignment, type_of, permissions_of, expr_tree, variable};
 ghost use Rattle.cheri_c_sem.specs.Meaning.{capability_of, further, position_of};
 ghost use Rattle.cheri_c_sem.specs.Modes.{Store};
 ghost use Rattle.cheri_c_sem.specs.Operations.{Operations};
-ghost use Rattle.cheri_c_sem.specs.Tree.{Deref, Member, Object, Ex};
+ghost use Rattle.cheri_c_sem.specs.Tree.{Copy, Deref, Member, Object, Ex};
 ghost use Rattle.cheri_c_sem.specs.Types.{is_record, unit_of};
 ghost use Rattle.mean_types.specs.Facts.{AreTypesOf};
 ghost use Rattle.mean_types.specs.Views.{kind_of};
 ghost use Rattle.mean_steps.specs.Machine.{finish_place};
 ghost use Rattle.mean_steps.specs.Parts.{Now, load, store, copy, copy_units, part_of_local};
 ghost use Rattle.mean_operations.specs.Answers.{seen, IsAccess};
-ghost use Rattle.mean_run.specs.Parts.{Gives, Did, Does, LeavesIt, UnitCopied};
-ghost use Rattle.mean_run.specs.Placed.{Designates, Placed, taken_from, assigned_to};
+ghost use Rattle.mean_run.specs.Parts.{Gives, Did, Does, LeavesIt, UnitCopied, Unless_wanting};
+ghost use Rattle.mean_run.specs.Placed.{Designates, Placed, PlaceFinishedBy, nowhere, taken_from, assigned_to};
 ghost use Rattle.mean_run.specs.Sources.{IsFit, IsSource};
 ghost use Rattle.mean_run.specs.Variables.{variable_at};
 ghost use Rattle.mean_run.specs.Views.{place_of, now_of, moment_of, vars_at, funs_of};
@@ -289,43 +289,77 @@ impl State {
         &mut self,
         m: &mut B,
         s: &Source<'_>,
+        f: u32,
         k: u32,
     ) -> Result<(), Stop>
         requires { IsSource s.now }
-        ensures { B.meaning m.new ≡ B.meaning m.old }
+        ensures same { B.meaning m.new ≡ B.meaning m.old }
+        ensures does { IsFit s.now.p.now → Does (finish_place (B.meaning m.old) (funs_of s.now.p.now)
+            (expr_tree s.now.p.now (vars_at s.now.p.now f) k) (moment_of s.now.p.now self.old (B.held m.old)))
+            (moment_of s.now.p.now self.new (B.held m.new)) result }
     {
         match s.p.exprs.as_slice().get(k as usize) {
-            None => Ok(self.designate(NOWHERE)?),
-            Some(e) => self.finish_place_of(m, s, e),
+            None => self.nowhere(),
+            Some(e) => self.finish_place_of(m, s, f, e),
         }
     }
 
-    fn deref_place(&mut self, pos: Pos) -> Result<(), NoMemory>
-        ensures { OnOk result ((p : Typed) (ops : Operations Store) (held : Store) (x : Ex) →
-            finish_place ops (funs_of p) (Deref pos x) (moment_of p self.old held) ≡ Goes (moment_of p self.new held)) }
+    fn nowhere(&mut self) -> Result<(), Stop>
+        ensures { Unless_wanting result (self.new ≡ nowhere self.old) }
     {
-        let v = self.take();
-        self.designate(Place::At(pos, v))
+        Ok(self.designate(NOWHERE)?)
     }
 
     fn finish_place_of<B: Operations>(
         &mut self,
         m: &mut B,
         s: &Source<'_>,
+        f: u32,
         e: &Expr,
     ) -> Result<(), Stop>
         requires { IsSource s.now }
-        ensures { B.meaning m.new ≡ B.meaning m.old }
+        ensures same { B.meaning m.new ≡ B.meaning m.old }
+        ensures does { IsFit s.now.p.now → PlaceFinishedBy (B.meaning m.old) s.now.p.now f (B.held m.old) (B.held m.new)
+            self.old self.new result e.now.of e.now.pos e.now.kind }
     {
         match &e.kind {
-            ExprKind::Deref(_) => Ok(self.deref_place(e.pos)?),
+            ExprKind::Deref(_) => self.deref_place(e.pos),
             ExprKind::Member(a, member) => {
-                let offset = s.offsets.offset(s.p, type_of(s.p, *a), *member);
-                self.member_place(m, e.pos, offset)
+                self.member_place(m, e.pos, s.offsets.offset(type_of(s.p, *a), *member))
             }
-            ExprKind::Assign(_, _) if s.types.facts(s.p, e.of).record => self.copy_place(m, s, e),
-            _ => Ok(self.designate(NOWHERE)?),
+            ExprKind::Assign(a, _) => self.assigned_place(m, s, *a, e),
+            ExprKind::Constant(_)
+            | ExprKind::Literal(_)
+            | ExprKind::Var(_)
+            | ExprKind::Global(_)
+            | ExprKind::Fun(_)
+            | ExprKind::Load(_)
+            | ExprKind::Decay(_)
+            | ExprKind::Address(_)
+            | ExprKind::Convert(_)
+            | ExprKind::Unary(_, _)
+            | ExprKind::Int(_, _, _)
+            | ExprKind::Capability(_, _, _, _)
+            | ExprKind::Plus(_, _, _)
+            | ExprKind::Difference(_, _)
+            | ExprKind::Compare(_, _, _)
+            | ExprKind::And(_, _)
+            | ExprKind::Or(_, _)
+            | ExprKind::Conditional(_, _, _)
+            | ExprKind::Comma(_, _)
+            | ExprKind::Compound(_, _, _, _)
+            | ExprKind::Step(_, _, _)
+            | ExprKind::Call(_, _)
+            | ExprKind::Library(_, _) => self.nowhere(),
         }
+    }
+
+    fn deref_place(&mut self, pos: Pos) -> Result<(), Stop>
+        ensures { (p : Typed) (ops : Operations Store) (held : Store) (x : Ex) → Does (finish_place ops (funs_of p)
+            (Deref pos x) (moment_of p self.old held)) (moment_of p self.new held) result }
+    {
+        let v = self.take();
+        Ok(self.designate(Place::At(pos, v))?)
     }
 
     fn member_place<B: Operations>(&mut self, m: &B, pos: Pos, offset: u64) -> Result<(), Stop>
@@ -339,14 +373,51 @@ impl State {
         }
     }
 
-    fn copy_place<B: Operations>(&mut self, m: &mut B, s: &Source<'_>, e: &Expr) -> Result<(), Stop>
+    fn assigned_place<B: Operations>(
+        &mut self,
+        m: &mut B,
+        s: &Source<'_>,
+        a: u32,
+        e: &Expr,
+    ) -> Result<(), Stop>
         requires { IsSource s.now }
-        ensures { B.meaning m.new ≡ B.meaning m.old }
+        ensures same { B.meaning m.new ≡ B.meaning m.old }
+        ensures does { IsFit s.now.p.now → (vars : List VarDef) (x y : Ex) → Does (finish_place (B.meaning m.old)
+            (funs_of s.now.p.now) (assignment s.now.p.now vars e.now.pos e.now.of a x y)
+            (moment_of s.now.p.now self.old (B.held m.old))) (moment_of s.now.p.now self.new (B.held m.new)) result }
+    {
+        let facts = s.types.facts(s.p, e.of);
+        if facts.record {
+            self.copy_place(m, e.pos, facts.size, unit(&facts))
+        } else {
+            self.nowhere()
+        }
+    }
+
+    fn copy_place<B: Operations>(
+        &mut self,
+        m: &mut B,
+        pos: Pos,
+        bytes: u64,
+        unit: u64,
+    ) -> Result<(), Stop>
+        requires { IsAccess unit }
+        ensures same { B.meaning m.new ≡ B.meaning m.old }
+        ensures does { (p : Typed) (x y : Ex) → Does (finish_place (B.meaning m.old) (funs_of p)
+            (Copy pos bytes unit x y)
+            (moment_of p self.old (B.held m.old))) (moment_of p self.new (B.held m.new)) result }
     {
         let from = self.take_place();
         let to = self.take_place();
-        let facts = s.types.facts(s.p, e.of);
-        copy(m, e.pos, facts.size, unit(&facts), from, to)?;
+        match copy(m, pos, bytes, unit, from, to) {
+            Err(stop) => Err(stop),
+            Ok(()) => self.designate_now(to),
+        }
+    }
+
+    fn designate_now(&mut self, to: Place) -> Result<(), Stop>
+        ensures { Unless_wanting result (self.new ≡ record self.old { places = to ∷ self.old.places }) }
+    {
         Ok(self.designate(to)?)
     }
 }

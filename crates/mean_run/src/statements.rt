@@ -1,4 +1,5 @@
 //! Statements (C11 6.8).
+ghost use Rattle.std.specs.Prelude.{◌<◌, ◌^◌};
 ghost use Rattle.std.specs.Prelude.{◌≡◌, ◌∷◌, ◌&&◌, not, map, OnOk, option_map, slice_get, if◌then◌else◌};
 ghost use Rattle.ck_base.specs.Runs.{Goes};
 ghost use Rattle.c_tree.specs.Layout.{bare};
@@ -10,19 +11,25 @@ ghost use Rattle.cheri_c_sem.specs.Meaning.{first_of};
 ghost use Rattle.cheri_c_sem.specs.Modes.{Store};
 ghost use Rattle.cheri_c_sem.specs.Operations.{Operations};
 ghost use Rattle.cheri_c_sem.specs.Order.{Ordered};
-ghost use Rattle.cheri_c_sem.specs.Programs.{stmt_tree};
+ghost use Rattle.cheri_c_sem.specs.Programs.{initialisation, stmt_tree};
+ghost use Rattle.cheri_c_sem.specs.Statements.{Breaks, Continues, default_of};
+ghost use Rattle.cheri_c_sem.specs.Tree as tree;
 ghost use Rattle.cheri_c_sem.specs.Tree.{Ex};
 ghost use Rattle.cheri_c_sem.specs.Types.{is_record, is_simple};
 ghost use Rattle.mean_types.specs.Views.{kind_of};
+ghost use Rattle.mean_steps.specs.Machine.{choose_label, execute, initialize, jumped};
 ghost use Rattle.mean_steps.specs.Machine.{again, behind, branch, tested, turned_to, execs_behind, Behind};
-ghost use Rattle.mean_steps.specs.Parts.{leave, test, On};
+ghost use Rattle.mean_steps.specs.Parts.{Now, find_label, leave, test, On};
+ghost use Rattle.mean_operations.specs.Answers.{IsAccess};
+ghost use Rattle.mean_run.specs.Labels.{IsAt, labels_of, at_label, object_filled};
+ghost use Rattle.mean_run.specs.Done.{DoneBy, InitializedBy, SwitchedBy};
 ghost use Rattle.mean_run.specs.Begun.{Executed, assigned, declared_in, next_one, parts_in, tests};
 ghost use Rattle.mean_run.specs.Branches.{AgainBy, Branched, BranchedBy, ForAgain, ForTested, TestAgain, TestedBy};
 ghost use Rattle.mean_run.specs.Branches.{other_branch};
-ghost use Rattle.mean_run.specs.Parts.{Does, Unless_wanting};
+ghost use Rattle.mean_run.specs.Parts.{Does, Gives, Unless_wanting};
 ghost use Rattle.mean_run.specs.Views.{declared_of, now_of, moment_of, funs_of, item_of, vars_at, loop_of, parts_of};
 ghost use Rattle.mean_run.specs.Steps.{Proceeds, ComesToTest};
-ghost use Rattle.mean_run.specs.Sources.{IsSource};
+ghost use Rattle.mean_run.specs.Sources.{IsFit, IsSource, IsStatement};
 
 use crate::blocks::{enter_block, leave_block};
 use crate::branches::Next;
@@ -53,22 +60,44 @@ fn find_label<B: Operations>(
     kind: Kind,
     v: Value,
     labels: &[SwitchLabel],
-) -> Result<Option<u32>, Stop> {
-    for l in labels {
-        if let Some(c) = l.value {
-            match compared(m, CmpOp::Eq, kind, v, constant_of(kind, c)) {
-                Err(f) => return Err(Stop::Ended(fault_end(f, pos))),
-                Ok(true) => return Ok(Some(l.before)),
-                Ok(false) => {}
-            }
+) -> Result<Option<u32>, Stop>
+    ensures { (n : Now Store) → n.mem ≡ B.held m.now → Gives (find_label (B.meaning m.now) pos (kind_of kind)
+        (value_of v) (labels_of labels.now) (default_of (labels_of labels.now)) n) (λ o. o) n result }
+{
+    'labels: for l in labels {
+        match is_at(m, pos, kind, v, l) {
+            Err(stop) => return Err(stop),
+            Ok(true) => return Ok(Some(l.before)),
+            Ok(false) => {}
         }
     }
     Ok(default_of(labels))
 }
 
+/// Whether a label has the value.
+fn is_at<B: Operations>(
+    m: &B,
+    pos: Pos,
+    kind: Kind,
+    v: Value,
+    l: &SwitchLabel,
+) -> Result<bool, Stop>
+    ensures { IsAt (B.meaning m.now) pos (kind_of kind) (value_of v) (B.held m.now) l.now.value result }
+{
+    match l.value {
+        None => Ok(false),
+        Some(c) => match compared(m, CmpOp::Eq, kind, v, constant_of(kind, c)) {
+            Err(f) => Err(Stop::Ended(fault_end(f, pos))),
+            Ok(holds) => Ok(holds),
+        },
+    }
+}
+
 /// Where the `default` label stands, if there is one.
-fn default_of(labels: &[SwitchLabel]) -> Option<u32> {
-    for l in labels {
+fn default_of(labels: &[SwitchLabel]) -> Option<u32>
+    ensures { result ≡ default_of (labels_of labels.now) }
+{
+    'labels: for l in labels {
         if l.value.is_none() {
             return Some(l.before);
         }
@@ -138,26 +167,101 @@ impl State {
         k: u32,
     ) -> Result<(), Stop>
         requires { IsSource s.now }
-        ensures { B.meaning m.new ≡ B.meaning m.old }
+        ensures same { B.meaning m.new ≡ B.meaning m.old }
+        ensures does { Ordered s.now.p.now → Does (execute (B.meaning m.old) (funs_of s.now.p.now)
+            (stmt_tree s.now.p.now (vars_at s.now.p.now f) k) (moment_of s.now.p.now self.old (B.held m.old)))
+            (moment_of s.now.p.now self.new (B.held m.new)) result }
     {
-        let a = match statement_at(s.p, k) {
-            None => return Ok(()),
-            Some(a) => a,
-        };
+        match statement_at(s.p, k) {
+            None => Ok(()),
+            Some(a) => self.statement_of(m, s, f, k, a),
+        }
+    }
+
+    fn statement_of<B: Storage>(
+        &mut self,
+        m: &mut B,
+        s: &Source<'_>,
+        f: u32,
+        k: u32,
+        a: &Stmt,
+    ) -> Result<(), Stop>
+        requires { IsSource s.now }
+        ensures same { B.meaning m.new ≡ B.meaning m.old }
+        ensures does { Ordered s.now.p.now → DoneBy (B.meaning m.old) s.now.p.now f k a.now.pos (B.held m.old)
+            (B.held m.new) self.old self.new result a.now.kind }
+    {
         match &a.kind {
             StmtKind::Block { vars, .. } => {
                 enter_block(self, m, s, f, vars.as_slice());
-                Ok(self.then(Work::Rest(f, k, 0), Work::Leave(f, k))?)
+                self.block_entered(f, k)
             }
             StmtKind::For { vars, .. } => {
                 enter_block(self, m, s, f, vars.as_slice());
-                Ok(self.both(Work::Rest(f, k, 0), Work::Test(f, k), Work::Leave(f, k))?)
+                self.for_entered(f, k)
             }
-            StmtKind::Break => Ok(self.break_out(m, s)?),
-            StmtKind::Continue => Ok(self.go_on(m, s)?),
-            StmtKind::Return(None) => self.give_back(m, s, NOTHING),
-            _ => Ok(self.plain_statement(s, f, k, a)?),
+            StmtKind::Break => self.broken(m, s),
+            StmtKind::Continue => self.continued(m, s),
+            StmtKind::Return(value) => match value {
+                None => self.give_back(m, s, NOTHING),
+                Some(e) => self.returned(f, *e),
+            },
+            StmtKind::Expr(_)
+            | StmtKind::Init { .. }
+            | StmtKind::If(_, _, _)
+            | StmtKind::While(_, _)
+            | StmtKind::Do(_, _)
+            | StmtKind::Switch { .. }
+            | StmtKind::Empty => self.plain(s, f, k, a),
         }
+    }
+
+    fn block_entered(&mut self, f: u32, k: u32) -> Result<(), Stop>
+        ensures { Unless_wanting result (self.new
+            ≡ record self.old { work = Work.Rest f k 0 ∷ Work.Leave f k ∷ self.old.work }) }
+    {
+        Ok(self.then(Work::Rest(f, k, 0), Work::Leave(f, k))?)
+    }
+
+    fn for_entered(&mut self, f: u32, k: u32) -> Result<(), Stop>
+        ensures { Unless_wanting result (self.new
+            ≡ record self.old { work = Work.Rest f k 0 ∷ Work.Test f k ∷ Work.Leave f k ∷ self.old.work }) }
+    {
+        Ok(self.both(Work::Rest(f, k, 0), Work::Test(f, k), Work::Leave(f, k))?)
+    }
+
+    fn broken<B: Operations>(&mut self, m: &mut B, s: &Source<'_>) -> Result<(), Stop>
+        requires { IsSource s.now }
+        ensures same { B.meaning m.new ≡ B.meaning m.old }
+        ensures does { Ordered s.now.p.now → Does (jumped (B.meaning m.old) (funs_of s.now.p.now) Breaks
+            (map (item_of s.now.p.now) self.old.work) (moment_of s.now.p.now self.old (B.held m.old)))
+            (moment_of s.now.p.now self.new (B.held m.new)) result }
+    {
+        Ok(self.break_out(m, s)?)
+    }
+
+    fn continued<B: Operations>(&mut self, m: &mut B, s: &Source<'_>) -> Result<(), Stop>
+        requires { IsSource s.now }
+        ensures same { B.meaning m.new ≡ B.meaning m.old }
+        ensures does { Ordered s.now.p.now → Does (jumped (B.meaning m.old) (funs_of s.now.p.now) Continues
+            (map (item_of s.now.p.now) self.old.work) (moment_of s.now.p.now self.old (B.held m.old)))
+            (moment_of s.now.p.now self.new (B.held m.new)) result }
+    {
+        Ok(self.go_on(m, s)?)
+    }
+
+    fn returned(&mut self, f: u32, e: u32) -> Result<(), Stop>
+        ensures { Unless_wanting result (self.new
+            ≡ record self.old { work = Work.Value f e ∷ Work.Give ∷ self.old.work }) }
+    {
+        Ok(self.then(Work::Value(f, e), Work::Give)?)
+    }
+
+    fn plain(&mut self, s: &Source<'_>, f: u32, k: u32, a: &Stmt) -> Result<(), Stop>
+        requires { IsSource s.now }
+        ensures { Unless_wanting result (Executed s.now.p.now f k a.now.kind self.old self.new) }
+    {
+        Ok(self.plain_statement(s, f, k, a)?)
     }
 
     /// The statements of a block or `switch`, or those before the first test of a `for`, from number n on.
@@ -254,30 +358,78 @@ impl State {
         k: u32,
     ) -> Result<(), Stop>
         requires { IsSource s.now }
-        ensures { B.meaning m.new ≡ B.meaning m.old }
+        ensures same { B.meaning m.new ≡ B.meaning m.old }
+        ensures does { IsFit s.now.p.now → Does (initialize (B.meaning m.old) (funs_of s.now.p.now)
+            (stmt_tree s.now.p.now (vars_at s.now.p.now f) k) (moment_of s.now.p.now self.old (B.held m.old)))
+            (moment_of s.now.p.now self.new (B.held m.new)) result }
     {
         match statement_at(s.p, k) {
             None => Ok(()),
-            Some(a) => match &a.kind {
-                StmtKind::Init { var, offset, value } => {
-                    if is_object(s.p, f, *var) {
-                        self.initialize_object(
-                            m,
-                            s,
-                            a.pos,
-                            s.locals.before(f, *var),
-                            *offset,
-                            *value,
-                        )
-                    } else {
-                        let v = self.take();
-                        self.set_variable(*var, Some(v));
-                        Ok(())
-                    }
-                }
-                _ => Ok(()),
-            },
+            Some(a) => self.initialize_of(m, s, f, a),
         }
+    }
+
+    fn initialize_of<B: Operations>(
+        &mut self,
+        m: &mut B,
+        s: &Source<'_>,
+        f: u32,
+        a: &Stmt,
+    ) -> Result<(), Stop>
+        requires { IsSource s.now }
+        ensures same { B.meaning m.new ≡ B.meaning m.old }
+        ensures does { IsFit s.now.p.now → InitializedBy (B.meaning m.old) s.now.p.now f a.now.pos (B.held m.old)
+            (B.held m.new) self.old self.new result a.now.kind }
+    {
+        match &a.kind {
+            StmtKind::Init { var, offset, value } => self.initialized(
+                m, s, f, a.pos, *var, *offset, *value,
+            ),
+            StmtKind::Expr(_)
+            | StmtKind::Block { .. }
+            | StmtKind::If(_, _, _)
+            | StmtKind::While(_, _)
+            | StmtKind::Do(_, _)
+            | StmtKind::For { .. }
+            | StmtKind::Switch { .. }
+            | StmtKind::Break
+            | StmtKind::Continue
+            | StmtKind::Return(_)
+            | StmtKind::Empty => Ok(()),
+        }
+    }
+
+    fn initialized<B: Operations>(
+        &mut self,
+        m: &mut B,
+        s: &Source<'_>,
+        f: u32,
+        pos: Pos,
+        x: u32,
+        offset: u64,
+        value: u32,
+    ) -> Result<(), Stop>
+        requires { IsSource s.now }
+        ensures same { B.meaning m.new ≡ B.meaning m.old }
+        ensures does { IsFit s.now.p.now → (e : Ex) → Does (initialize (B.meaning m.old) (funs_of s.now.p.now)
+            (initialisation s.now.p.now (vars_at s.now.p.now f) pos x offset
+            (type_of (slice_get s.now.p.now.exprs value)) e) (moment_of s.now.p.now self.old (B.held m.old)))
+            (moment_of s.now.p.now self.new (B.held m.new)) result }
+    {
+        if is_object(s.p, f, x) {
+            self.initialize_object(m, s, pos, s.locals.before(f, x), offset, value)
+        } else {
+            self.initialize_variable(x)
+        }
+    }
+
+    fn initialize_variable(&mut self, x: u32) -> Result<(), Stop>
+        ensures { (p : Typed) (ops : Operations Store) (held : Store) (e : Ex) → Does (initialize ops (funs_of p)
+            (tree.Give x e) (moment_of p self.old held)) (moment_of p self.new held) result }
+    {
+        let v = self.take();
+        self.set_variable(x, Some(v));
+        Ok(())
     }
 
     fn initialize_object<B: Operations>(
@@ -290,17 +442,62 @@ impl State {
         value: u32,
     ) -> Result<(), Stop>
         requires { IsSource s.now }
-        ensures { B.meaning m.new ≡ B.meaning m.old }
+        ensures same { B.meaning m.new ≡ B.meaning m.old }
+        ensures does { IsFit s.now.p.now → n < 2 ^ 63 → (e : Ex) → Does (initialize (B.meaning m.old)
+            (funs_of s.now.p.now)
+            (object_filled s.now.p.now pos n offset (type_of (slice_get s.now.p.now.exprs value)) e)
+            (moment_of s.now.p.now self.old (B.held m.old))) (moment_of s.now.p.now self.new (B.held m.new)) result }
     {
         let facts = s.types.facts(s.p, type_of(s.p, value));
         if facts.record {
-            let from = self.take_place();
-            let to = self.part_of_local(m, pos, n, offset)?;
-            return copy(m, pos, facts.size, unit(&facts), from, to);
+            self.fill_part(m, pos, n, offset, facts.size, unit(&facts))
+        } else {
+            self.set_part(m, pos, n, offset, facts.kind_or_int())
         }
+    }
+
+    /// A part of an object gets a struct or union.
+    fn fill_part<B: Operations>(
+        &mut self,
+        m: &mut B,
+        pos: Pos,
+        n: u64,
+        offset: u64,
+        bytes: u64,
+        unit: u64,
+    ) -> Result<(), Stop>
+        requires { IsAccess unit }
+        ensures same { B.meaning m.new ≡ B.meaning m.old }
+        ensures does { n < 2 ^ 63 → (p : Typed) (e : Ex) → Does (initialize (B.meaning m.old) (funs_of p)
+            (tree.Fill pos n offset bytes unit e) (moment_of p self.old (B.held m.old)))
+            (moment_of p self.new (B.held m.new)) result }
+    {
+        let from = self.take_place();
+        match self.part_of_local(m, pos, n, offset) {
+            Err(stop) => Err(stop),
+            Ok(to) => copy(m, pos, bytes, unit, from, to),
+        }
+    }
+
+    /// A part of an object gets a scalar.
+    fn set_part<B: Operations>(
+        &mut self,
+        m: &mut B,
+        pos: Pos,
+        n: u64,
+        offset: u64,
+        kind: Kind,
+    ) -> Result<(), Stop>
+        ensures same { B.meaning m.new ≡ B.meaning m.old }
+        ensures does { n < 2 ^ 63 → (p : Typed) (k : sem.Kind) (e : Ex) → kind_of kind ≡ k → Does (initialize
+            (B.meaning m.old) (funs_of p) (tree.Init pos n offset k e) (moment_of p self.old (B.held m.old)))
+            (moment_of p self.new (B.held m.new)) result }
+    {
         let v = self.take();
-        let to = self.part_of_local(m, pos, n, offset)?;
-        self.store(m, facts.kind_or_int(), to, v)
+        match self.part_of_local(m, pos, n, offset) {
+            Err(stop) => Err(stop),
+            Ok(to) => self.store(m, kind, to, v),
+        }
     }
 
     // ---- choices and loops (C11 6.8.4, 6.8.5)
@@ -615,15 +812,30 @@ impl State {
         k: u32,
     ) -> Result<(), Stop>
         requires { IsSource s.now }
-        ensures { B.meaning m.new ≡ B.meaning m.old }
+        ensures same { B.meaning m.new ≡ B.meaning m.old }
+        ensures does { Ordered s.now.p.now → Does (choose_label (B.meaning m.old) (funs_of s.now.p.now)
+            (stmt_tree s.now.p.now (vars_at s.now.p.now f) k) (moment_of s.now.p.now self.old (B.held m.old)))
+            (moment_of s.now.p.now self.new (B.held m.new)) result }
     {
-        let a = match statement_at(s.p, k) {
-            None => {
-                self.take();
-                return Ok(());
-            }
-            Some(a) => a,
-        };
+        match statement_at(s.p, k) {
+            None => self.lose(),
+            Some(a) => self.switch_of(m, s, f, k, a),
+        }
+    }
+
+    fn switch_of<B: Operations>(
+        &mut self,
+        m: &mut B,
+        s: &Source<'_>,
+        f: u32,
+        k: u32,
+        a: &Stmt,
+    ) -> Result<(), Stop>
+        requires { IsSource s.now }
+        ensures same { B.meaning m.new ≡ B.meaning m.old }
+        ensures does { SwitchedBy (B.meaning m.old) s.now.p.now f k a.now.pos (B.held m.old) (B.held m.new) self.old
+            self.new result a.now.kind }
+    {
         match &a.kind {
             StmtKind::Switch {
                 on,
@@ -633,19 +845,36 @@ impl State {
             } => {
                 let v = self.take();
                 enter_block(self, m, s, f, vars.as_slice());
-                match find_label(m, a.pos, kind_at(s, *on), v, labels.as_slice())? {
-                    None => Ok(self.push(Work::Leave(f, k))?),
-                    Some(n) => Ok(self.both(
-                        Work::Rest(f, k, n as usize),
-                        Work::SwitchEnd,
-                        Work::Leave(f, k),
-                    )?),
+                match find_label(m, a.pos, kind_at(s, *on), v, labels.as_slice()) {
+                    Err(stop) => Err(stop),
+                    Ok(to) => self.goes_to(f, k, to),
                 }
             }
-            _ => {
-                self.take();
-                Ok(())
-            }
+            StmtKind::Expr(_)
+            | StmtKind::Init { .. }
+            | StmtKind::Block { .. }
+            | StmtKind::If(_, _, _)
+            | StmtKind::While(_, _)
+            | StmtKind::Do(_, _)
+            | StmtKind::For { .. }
+            | StmtKind::Break
+            | StmtKind::Continue
+            | StmtKind::Return(_)
+            | StmtKind::Empty => self.lose(),
+        }
+    }
+
+    /// A `switch` goes on at a statement, or is left.
+    fn goes_to(&mut self, f: u32, k: u32, to: Option<u32>) -> Result<(), Stop>
+        ensures { Unless_wanting result (self.new ≡ record self.old { work = at_label f k to self.old.work }) }
+    {
+        match to {
+            None => Ok(self.push(Work::Leave(f, k))?),
+            Some(n) => Ok(self.both(
+                Work::Rest(f, k, n as usize),
+                Work::SwitchEnd,
+                Work::Leave(f, k),
+            )?),
         }
     }
 

@@ -1,9 +1,9 @@
 //! Memory that makes room for objects, and knows of frames.
 ghost use Rattle.std.specs.Prelude.{◌≡◌, ℕ, ◌<◌, ◌≤◌, ◌^◌, Some, OnOk};
 ghost use Rattle.obj_mem.specs.Values.{value_of};
-ghost use Rattle.cheri_c_sem.specs.Kinds.{nothing};
+ghost use Rattle.obj_mem.specs.Values as values;
 ghost use Rattle.cheri_c_sem.specs.Operations as sem;
-ghost use Rattle.mean_operations.specs.Answers.{IsWord, number_seen};
+ghost use Rattle.mean_operations.specs.Answers.{number_seen};
 ghost use Rattle.mean_run.specs.Allocated.{Allocated};
 
 use ck_base::NoMemory;
@@ -26,10 +26,10 @@ pub trait Storage: Operations {
             ≡ (Self.meaning self.old).note_member (Self.held self.old) (value_of p) own) }
         ensures same { Self.meaning self.new ≡ Self.meaning self.old };
 
-    /// The base of the bounds of a capability, where it is a number of 64 bits.
+    /// The base of the bounds of a capability.
     fn base_of(&self, v: Value) -> Result<u64, Fault>
-        ensures { IsWord ((Self.meaning self.now).work (Self.held self.now) sem.Base (value_of v) nothing) →
-            number_seen result ≡ (Self.meaning self.now).work (Self.held self.now) sem.Base (value_of v) nothing };
+        ensures { (x : values.Value) → number_seen result
+            ≡ (Self.meaning self.now).work (Self.held self.now) sem.Base (value_of v) x };
 
     /// The next object: global or literal k, of a length.
     fn add_global(&mut self, k: u64, length: u64) -> Result<(), NoMemory>

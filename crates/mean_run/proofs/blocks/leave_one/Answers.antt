@@ -1,4 +1,4 @@
-use Rattle.std.proofs.Common.{◌≡◌, ◌+◌, ◌≤◌, sym, ap, ◌∙◌, arith}
+use Rattle.std.proofs.Common.{◌+◌, sym, ap, ◌∙◌, arith}
 use Rattle.cheri_c_sem.specs.Types.{objects_before}
 use Rattle.mean_run.specs.Views.{vars_at}
 use Rattle.mean_run.proofs.Scopes.{object_leaves, variable_leaves}

@@ -1,4 +1,4 @@
-use Rattle.std.proofs.Common.{sym, ap, ◌∙◌}
+use Rattle.std.proofs.Common.{ap, ◌∙◌}
 use Rattle.c_tree.specs.Layout.{bare}
 use Rattle.cheri_c_sem.specs.Expressions.{expr_tree}
 use Rattle.cheri_c_sem.specs.Kinds.{int_kind}

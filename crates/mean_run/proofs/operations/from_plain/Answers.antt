@@ -1,4 +1,4 @@
-use Rattle.std.proofs.Common.{◌+◌, ◌≤◌, ◌<◌, [], sym, ◌∙◌, arith}
+use Rattle.std.proofs.Common.{[], sym, ◌∙◌, arith}
 use Rattle.mean_run.proofs.Computed.{not_converted, no_capability, of_other, of_plain, operand_before, through}
 use Rattle.mean_run.proofs.operations.from_plain.Goals as goal
 

@@ -1,4 +1,4 @@
-use Rattle.std.proofs.Common.{◌≡◌, ℕ, ◌-◌, ◌%◌, ◌^◌, ◌≤◌}
+use Rattle.std.proofs.Common.{◌≡◌, ℕ, ◌-◌, ◌%◌, ◌^◌}
 use Rattle.cheri_c_sem.specs.Modes.{Store}
 use Rattle.mean_steps.specs.Parts.{Now, copy_units}
 use Rattle.mean_run.specs.Views.{place_of}

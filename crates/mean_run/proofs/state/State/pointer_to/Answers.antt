@@ -1,4 +1,4 @@
-use Rattle.std.proofs.Common.{Some, sym, ap, ◌∙◌, ◌≡◌}
+use Rattle.std.proofs.Common.{Some, sym, ap, ◌∙◌}
 use Rattle.std.specs.Prelude.{map}
 use Rattle.cheri_c_sem.specs.Types.{narrowing_to, size_in}
 use Rattle.mean_steps.specs.Machine.{first_place}

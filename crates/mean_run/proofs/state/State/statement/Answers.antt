@@ -1,0 +1,18 @@
+use Rattle.std.proofs.Common.{refl, sym}
+use Rattle.mean_run.specs.Views.{vars_at}
+use Rattle.mean_run.proofs.Nodes.{no_statement, statement_at}
+use Rattle.mean_run.proofs.Stating.{executes_by}
+use Rattle.mean_run.proofs.state.State.statement.Goals as goal
+
+pub returns-in-None-clause-does : goal.returns-in-None-clause-does
+returns-in-None-clause-does g c = λ order.
+    let p = c.args.s.now.p.now in
+    rw (no_statement p (vars_at p c.args.f) c.args.k (sym c.in-None.ensures)) refl
+
+pub returns-in-Some-clause-does : goal.returns-in-Some-clause-does
+returns-in-Some-clause-does g c = λ order.
+    let p = c.args.s.now.p.now in
+    let a = c.in-Some.a.now in
+    executes_by (g.B.Operations.meaning c.args.m.now) p c.args.f c.args.k a.pos (g.B.Operations.held c.args.m.now)
+    (g.B.Operations.held c.statement_of.new.m) c.args.self.now c.statement_of.new.self c.statement_of.result a.kind
+    (statement_at p c.args.k a order (sym c.in-Some.ensures) (vars_at p c.args.f)) (c.statement_of.ensures.does order)
