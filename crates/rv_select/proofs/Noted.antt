@@ -318,6 +318,12 @@ module _ (s : Selecting) where
   place_later i is old new h n le = if_other n (suc (length is)) (length old.text) (place is h.0 new h.2 n)
       (λ e. omega (arith, e, le))
 
+  -- none of them begin where all end
+  pub place_last : (is : List TacInstr) (old new : Size) (h : SelectsAll s is old new)
+      → place is old new h 0 ≡ length new.text
+  place_last [] old new h = refl
+  place_last (i ∷ is) old new h = place_later i is old new h 0 (omega arith) ∙ place_last is h.0 new h.2
+
   pub place_most : (is : List TacInstr) (old new : Size) (h : SelectsAll s is old new) (n : ℕ)
       → place is old new h n ≤ length new.text
   place_most [] old new h n = omega arith

@@ -34,7 +34,7 @@ use Rattle.rv_select.proofs.Amid.{IsAmid, ComesTo, Labels, stands_as, has_kept}
 use Rattle.rv_select.proofs.Contained.{get_left}
 use Rattle.rv_select.proofs.Noted.{continues_then, continues_more, continues_keeps, appends_then, appends_below}
 use Rattle.rv_select.proofs.Noted.{appends_none, Notes, all_marks, noted_all, place, place_first, place_most, splits}
-use Rattle.rv_select.proofs.Noted.{label_at}
+use Rattle.rv_select.proofs.Noted.{label_at, place_last}
 use Rattle.rv_select.proofs.Skips.{more}
 
 -- the bytes from one word to another
@@ -243,6 +243,7 @@ module _ (s : Selecting) (frame : Frame) (t : TacFun) (old ready whole new : Siz
         };
         entered = ap (λ (x : Links). x.entered) ends ∙ notes.entered ∙ ap (λ (x : Links). x.entered) b.links;
         word = word;
+        ends = place_last s t.code ready whole h ∙ sym len;
         stands = λ code lines entries becomes. function_stands code lines entries becomes;
       }
 

@@ -2,9 +2,9 @@
 use Rattle.std.proofs.Common.{◌≡◌, ℕ, zero, suc, ◌+◌, ◌*◌, ◌<◌, ◌≤◌, ⊎_elim, ℤ, pos, Bool, true, false, List, [], ◌∷◌}
 use Rattle.std.proofs.Common.{◌++◌, length, Option, Some, None, refl, sym, ap, ◌∙◌, subst, arith, get_or, take}
 use Rattle.std.proofs.Common.{eq-eqb, if◌then◌else◌}
-use Rattle.std.specs.Prelude.{slice_get, ◌==◌}
+use Rattle.std.specs.Prelude.{slice_get, ◌-◌, ◌==◌}
 use Rattle.std.specs.List.{All, Contains}
-use Rattle.std.proofs.lemmas.Bool.{cases_eq, ne_eqb}
+use Rattle.std.proofs.lemmas.Bool.{cases_eq, cases_lt, ne_eqb}
 use Rattle.std.proofs.lemmas.List.{length-append, length-take-le, take_more}
 use Rattle.std.proofs.lemmas.List.Elements.{All-append, All-nil, All-push, All-weaker, Contains-append_left}
 use Rattle.std.proofs.lemmas.List.Elements.{Contains-push}
@@ -21,8 +21,8 @@ use Rattle.select_words.specs.ContainedCode.{offset_of}
 use Rattle.rv_select.specs.Following.{Continues, Follows, LeadsTo, Becomes, IsBetween, FunctionIsPut, IsPut, ArePut}
 use Rattle.rv_select.specs.Growing.{Size, Links, AreEntries, calling}
 use Rattle.rv_select.specs.Leading.{IsHop, JumpsTo, NoJump, IsEnteredAt, IsCompleted}
-use Rattle.rv_select.specs.Selected.{AreNumbers, Before, FunctionStands, IsSelected, in_function, is_entered, is_said}
-use Rattle.rv_select.specs.Selected.{is_sunk}
+use Rattle.rv_select.specs.Selected.{AreNumbers, Before, EndsAt, FunctionStands, IsSelected, in_function, is_entered}
+use Rattle.rv_select.specs.Selected.{is_said, is_sunk}
 use Rattle.rv_select.specs.declared.jumps.Jump.{Jump}
 use Rattle.rv_select.specs.declared.function.Function.{Function}
 use Rattle.rv_select.specs.Choosing.{chosen, number_in}
@@ -104,6 +104,7 @@ put_none table places frames old b = record {
   numbers = λ fun temp. None;
   numbered = λ fun t e. absurd cc;
   word = λ fun is. 0;
+  ends = λ fun lt. absurd (omega (arith, lt));
   stand = λ fun at t l frame e. absurd cc;
 }
 
@@ -192,6 +193,60 @@ module _ (table : Before) (funs : List TacFun) (places : List Places) (frames : 
           (earlier_stands n))
           (cases_eq fun (length funs))
 
+  -- ---- where its words end
+
+  long : length new.links.entered ≡ length mid.links.entered + 1
+  long = ap length p.put.entered ∙ length-append mid.links.entered (4 * length mid.text ∷ [])
+
+  module _ (fun : ℕ) (lt : fun < length (funs ++ t ∷ [])) where
+    abbrev EndsThere : Bool → Type 0
+    EndsThere v = EndsAt new.links.entered (length new.text) (length old.links.entered + fun) (word_of v fun [])
+
+    -- behind its own no function is entered
+    own_ends : fun ≡ length funs → EndsThere true
+    own_ends q = record {
+      next = λ at e.
+          let w = slice_get_within new.links.entered (suc (length old.links.entered + fun)) (4 * at) e in
+          absurd (omega (arith, w, long, many, q));
+      last = λ e. p.put.ends;
+    }
+
+    less : (fun ≡ length funs → ⊥) → fun < length funs
+    less n = ⊎_elim (λ (h : fun < length funs). h)
+        (λ (h : length funs ≤ fun).
+        let size = length-append funs (t ∷ []) in absurd (n (omega (arith, h, lt, size))))
+        (cases_lt fun (length funs))
+
+    -- where one of the first is entered
+    was_entered : (k at : ℕ) → k < length mid.links.entered → IsEnteredAt new.links.entered k at
+        → IsEnteredAt mid.links.entered k at
+    was_entered k at below e =
+        sym (get_left mid.links.entered (4 * length mid.text ∷ []) k below)
+        ∙ ap (λ xs. slice_get xs k) (sym p.put.entered) ∙ e
+
+    earlier_ends : fun < length funs → EndsThere false
+    earlier_ends below = record {
+      next = λ at e. ⊎_elim
+          (λ (h : suc fun < length funs).
+          (a.ends fun below).next at (was_entered (suc (length old.links.entered + fun)) at (omega (arith, h, many)) e))
+          (λ (h : length funs ≤ suc fun).
+          let here : suc (length old.links.entered + fun) ≡ length mid.links.entered = omega (arith, h, below, many) in
+          let there : 4 * length mid.text ≡ 4 * at = same_Some (4 * length mid.text) (4 * at)
+          (sym (the_last mid.links.entered (4 * length mid.text))
+          ∙ ap (λ xs. slice_get xs (length mid.links.entered)) (sym p.put.entered)
+          ∙ ap (slice_get new.links.entered) (sym here) ∙ e) in
+          (a.ends fun below).last here ∙ omega (arith, there))
+          (cases_lt (suc fun) (length funs));
+      last = λ e. absurd (omega (arith, e, long, many, below));
+    }
+
+    ends_there : EndsThere (is_last fun)
+    ends_there = ⊎_elim
+        (λ (q : fun ≡ length funs). subst EndsThere (sym (eq-eqb fun (length funs) q)) (own_ends q))
+        (λ (n : fun ≡ length funs → ⊥).
+        subst EndsThere (sym (ne_eqb fun (length funs) n)) (earlier_ends (less n)))
+        (cases_eq fun (length funs))
+
   pub put_more : ArePut table (funs ++ t ∷ []) places frames old new
   put_more = record {
     follows = follows_then old mid new a.follows p.put.follows;
@@ -199,6 +254,7 @@ module _ (table : Before) (funs : List TacFun) (places : List Places) (frames : 
     numbers = λ fun. numbers_of (is_last fun) fun;
     numbered = λ fun u e. are_numbers fun u e;
     word = λ fun. word_of (is_last fun) fun;
+    ends = λ fun lt. ends_there fun lt;
     stand = λ fun at u m g e placed with_frame entered code lines entries b.
         stands_there fun u e at m g placed with_frame entered code lines entries b;
   }
@@ -301,6 +357,18 @@ module _ (table : Before) (funs : List TacFun) (places : List Places) (frames : 
             (All-nil (λ (j : Jump). j.at ≡ 0 → j.to ≡ main)) (λ e. refl);
       }))
 
+  -- the words of a function end where those of the next one begin, and those of the last before one word
+  all_end : (fun : ℕ) → fun < length funs → EndsAt entries (length code - 1) fun (a.word fun [])
+  all_end fun lt =
+      let size = ap length none in
+      let here : length begun.links.entered + fun ≡ fun = omega (arith, size) in
+      let whole = ap length completed.are ∙ length-append completed.front (Cjal 0 (pos 0) ∷ []) in
+      let led = completed.led.len in
+      let words : length final.text ≡ length code - 1 = omega (arith, whole, led) in
+      subst (λ es. EndsAt es (length code - 1) fun (a.word fun [])) (sym are_entries)
+      (subst (λ n. EndsAt final.links.entered n fun (a.word fun [])) words
+      (subst (λ n. EndsAt final.links.entered (length final.text) n (a.word fun [])) here (a.ends fun lt)))
+
   pub is_selected : IsSelected funs places frames table main code lines entries
   is_selected = record {
     offset = first_call.by;
@@ -321,6 +389,7 @@ module _ (table : Before) (funs : List TacFun) (places : List Places) (frames : 
         a.stand fun at t l frame e p f
         (subst (λ n. IsEnteredAt final.links.entered n at) here (subst (λ es. IsEnteredAt es fun at) are_entries q))
         code lines entries becomes;
+    ends = all_end;
   }
 
 -- one of its functions, whose numbers were found

@@ -12,7 +12,8 @@ use Rattle.tac_ir.specs.declared.code.TacFun.{TacFun}
 use Rattle.tac_ir.specs.declared.code.TacInstr.{TacInstr}
 use Rattle.rv_select.specs.Growing.{Size, room}
 use Rattle.rv_select.specs.Leading.{IsHop, JumpsTo, NoJump, IsEnteredAt}
-use Rattle.rv_select.specs.Selected.{AreNumbers, Before, FunctionStands, in_function, is_entered, is_said, is_sunk}
+use Rattle.rv_select.specs.Selected.{AreNumbers, Before, EndsAt, FunctionStands, in_function, is_entered, is_said}
+use Rattle.rv_select.specs.Selected.{is_sunk}
 use Rattle.rv_select.specs.declared.jumps.Jump.{Jump}
 
 -- ---- what is appended
@@ -59,12 +60,14 @@ pub record IsBetween (c : Size) : Type 0 where
   pub jumps : c.links.jumps ≡ []
   pub calls : All (λ j. j.at < length c.text) c.links.calls
 
--- A function was appended, which is entered at its first word. Whatever whole code the code becomes, it stands there
+-- A function was appended, which is entered at its first word, and its words are all that was. Whatever whole code the
+-- code becomes, it stands there
 pub record FunctionIsPut (s : Selecting) (frame : Frame) (t : TacFun) (old new : Size) : Type 0 where
   pub follows : Follows old new
   pub between : IsBetween new
   pub entered : new.links.entered ≡ old.links.entered ++ 4 * length old.text ∷ []
   pub word : List TacInstr → ℕ
+  pub ends : word [] ≡ length new.text
   pub stands : (code : List Instr) (lines : List Line) (entries : List ℕ) → Becomes new code lines entries
       → FunctionStands code (is_said lines) (is_sunk lines) (is_entered entries) s frame t word (length old.text)
 
@@ -82,6 +85,8 @@ pub record ArePut (table : Before) (funs : List TacFun) (places : List Places) (
   pub numbers : (fun temp : ℕ) → Option ℕ
   pub numbered : (fun : ℕ) (t : TacFun) → slice_get funs fun ≡ Some t → AreNumbers t (numbers fun)
   pub word : (fun : ℕ) → List TacInstr → ℕ
+  pub ends : (fun : ℕ) → fun < length funs
+      → EndsAt new.links.entered (length new.text) (length old.links.entered + fun) (word fun [])
   pub stand : (fun at : ℕ) (t : TacFun) (l : Places) (frame : Frame) → slice_get funs fun ≡ Some t
       → slice_get places fun ≡ Some l → slice_get frames fun ≡ Some frame
       → IsEnteredAt new.links.entered (length old.links.entered + fun) at

@@ -1,6 +1,6 @@
 -- Selected code, whole: for each function what it begins with, and then the words of each of its instructions in order,
 -- at ascending places, with jumps and calls that lead to the places of labels and functions.
-use Rattle.std.specs.Prelude.{◌≡◌, ℕ, ◌+◌, ◌*◌, ◌/◌, ◌<◌, ℤ, Bool, true, List, [], ◌∷◌, ◌++◌, length, zero, suc}
+use Rattle.std.specs.Prelude.{◌≡◌, ℕ, ◌+◌, ◌-◌, ◌*◌, ◌/◌, ◌<◌, ℤ, Bool, true, List, [], ◌∷◌, ◌++◌, length, zero, suc}
 use Rattle.std.specs.Prelude.{pos, Option, Some, None, slice_get}
 use Rattle.std.specs.List.{Contains}
 use Rattle.ck_base.specs.declared.positions.Pos.{Pos}
@@ -214,8 +214,14 @@ pub record AreNumbers (t : TacFun) (numbers : (temp : ℕ) → Option ℕ) : Typ
   pub constants : (i : TacInstr) → Contains t.code i → (temp n : ℕ) → IsIn temp (writes i) → numbers temp ≡ Some n
       → (k : TacKind) × (i ≡ instr.Const temp k n)
 
+-- the words of function `fun` end where those of the next one begin, and those of the last where so many words do
+pub record EndsAt (entries : List ℕ) (words fun end : ℕ) : Type 0 where
+  pub next : (at : ℕ) → is_entered entries (suc fun) at → end ≡ at
+  pub last : suc fun ≡ length entries → end ≡ words
+
 -- The words of a program: the first calls the first function, and behind it the run ends; each function stands where it
--- is entered, in the order of its instructions
+-- is entered, in the order of its instructions, and nothing stands between two functions, nor behind the last one but
+-- one word
 pub record IsSelected (funs : List TacFun) (places : List Places) (frames : List Frame) (table : Before) (main : ℕ)
     (code : List Instr) (lines : List Line) (entries : List ℕ) : Type 0 where
   pub offset : ℤ
@@ -228,3 +234,4 @@ pub record IsSelected (funs : List TacFun) (places : List Places) (frames : List
       → slice_get places fun ≡ Some l → slice_get frames fun ≡ Some frame → is_entered entries fun at
       → FunctionStands code (is_said lines) (is_sunk lines) (is_entered entries)
       (in_function table l.homes frame (numbers fun)) frame t (word fun) at
+  pub ends : (fun : ℕ) → fun < length funs → EndsAt entries (length code - 1) fun (word fun [])
