@@ -1,0 +1,13 @@
+pub mod Nodes
+pub mod Types
+pub mod Offsets
+pub mod Agreeing
+pub mod Needs
+pub mod Totals
+pub mod Counts
+pub mod Order
+pub mod Expressions
+pub mod Statements
+pub mod Programs
+pub mod Points
+pub mod Gathered
