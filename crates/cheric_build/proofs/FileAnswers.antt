@@ -1,5 +1,5 @@
 -- What is built of a file's program is built of the file, and why its program is refused is why the file is.
-use Rattle.std.proofs.Common.{◌≡◌, ℕ, ◌<◌, ◌≤◌, true, false, List, Result, Ok, Err, subst, sym, ◌∙◌, inl, inr}
+use Rattle.std.proofs.Common.{◌≡◌, ℕ, ◌<◌, ◌≤◌, true, false, List, Result, Ok, Err, subst, sym, inl, inr}
 use Rattle.std.specs.Prelude.{IfOk, IfErr, OnOk}
 use Rattle.ck_base.specs.declared.positions.Pos.{Pos}
 use Rattle.ck_base.specs.declared.refusal.Refusal.{Refusal}
@@ -11,12 +11,12 @@ use Rattle.c_tree.specs.Typing.{Sound}
 use Rattle.c_tree.specs.Weight.{weight}
 use Rattle.obj_mem.specs.declared.map.Map.{Map}
 use Rattle.bounds_place.specs.Placing.{exceeds}
-use Rattle.int_lower.specs.Form.{is_integer_form}
-use Rattle.int_lower.proofs.SameForm.{same_form}
+use Rattle.c_facts.proofs.Sound.{well_typed}
 use Rattle.cheric_build.specs.Front.{IsTyped, IsBroken}
 use Rattle.typed_build.specs.Built.{start, IsBuilt, IsRefusal, ExceedsBy}
 use Rattle.typed_build.specs.declared.building.Built.{Built}
-use Rattle.cheric_build.specs.FromFile.{IsBuiltFrom, IsFileRefusal}
+use Rattle.typed_build.specs.Registers.{UsesRegisters}
+use Rattle.cheric_build.specs.FromFile.{IsBuiltFrom, IsFileRefusal, IsMadeOf}
 use Rattle.cheric_build.proofs.Rooms.{has_room, has_no_room}
 use Rattle.typed_build.proofs.SameBuilt.{built_same}
 
@@ -46,11 +46,10 @@ module _ (file : List ℕ) (once : OneFile file) (p : Typed) (t : IsTyped file p
   heavy w h = files.too_heavy t.tokens t.syntax p t.reads t.types (has_room p t.syntax t.types s w) h
 
   each : (elf : List ℕ) (m : Map) (count : ℕ) → IsBuilt p elf m count → Accepts file p → (q : Typed) → Accepts file q →
-      is_integer_form q ≡ true → IsBuilt q elf m count
-  each elf m count h a q b g =
+      IsBuilt q elf m count
+  each elf m count h a q b =
       let both = once.accepted p q a b in
-      let same = same_form p q both.program t.types.ordered b.types.ordered both.first both.second in
-      built_same p q both.program t.types.ordered b.types.ordered (same ∙ g) g both.first both.second elf m count h
+      built_same p q both.program (well_typed p s) b.types.ordered both.first both.second elf m count h
 
   pub built_of : (r : Result Built Refusal) → IfOk r (λ b. IsBuilt p b.elf.items b.map b.count) →
       OnOk r (exceeds p ≡ false) → OnOk r (weight p ≤ weight_limit) →
@@ -59,6 +58,12 @@ module _ (file : List ℕ) (once : OneFile file) (p : Typed) (t : IsTyped file p
       let a = accepted w light in
       record { program = p; accepted = a; built = h; each = each b.elf.items b.map b.count h a }
   built_of (Err e) h w light = tt
+
+  pub made_of : (r : Result Built Refusal) → IfOk r (λ b. UsesRegisters p b.code b.places.items b.elf.items b.map) →
+      OnOk r (exceeds p ≡ false) → OnOk r (weight p ≤ weight_limit) →
+      IfOk r (λ b. IsMadeOf file b.code b.places.items b.elf.items b.map)
+  made_of (Ok b) h w light = record { program = p; accepted = accepted w light; used = h }
+  made_of (Err e) h w light = tt
 
   at : (code : ℕ) (place : Pos) → place ≡ start → Refused file code start → Refused file code place
   at code place e rule = subst (λ (q : Pos). Refused file code q) (sym e) rule

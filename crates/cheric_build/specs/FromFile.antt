@@ -1,22 +1,29 @@
 -- What it means that an image was built from a C file, and why none is.
-use Rattle.std.specs.Prelude.{◌≡◌, ℕ, ◌≤◌, true, List, length}
+use Rattle.std.specs.Prelude.{ℕ, ◌≤◌, List, length}
 use Rattle.ck_base.specs.declared.refusal.Refusal.{Refusal}
 use Rattle.ck_base.specs.declared.refusal.Refusal.TheVariants.{Code, NoMemory}
 use Rattle.c_tree.specs.File.{file_limit, Accepts, Refused}
 use Rattle.c_tree.specs.declared.typed.Typed.{Typed}
 use Rattle.obj_mem.specs.declared.map.Map.{Map}
-use Rattle.int_lower.specs.Form.{is_integer_form}
+use Rattle.reg_alloc.specs.declared.places.Places.{Places}
+use Rattle.tac_ir.specs.declared.code.Tac.{Tac}
 use Rattle.typed_build.specs.Built.{IsBuilt}
+use Rattle.typed_build.specs.Registers.{UsesRegisters}
 
 -- ---- built
 
--- What is built of a file: it is accepted as a program of which it is built; and where a program as which it is
--- accepted is over integers, it is built of each such one
+-- What is built of a file: it is accepted as a program, and is built of each program as which it is accepted
 pub record IsBuiltFrom (source : List ℕ) (file : List ℕ) (map : Map) (count : ℕ) : Type 0 where
   pub program : Typed
   pub accepted : Accepts source program
   pub built : IsBuilt program file map count
-  pub each : (p : Typed) → Accepts source p → is_integer_form p ≡ true → IsBuilt p file map count
+  pub each : (p : Typed) → Accepts source p → IsBuilt p file map count
+
+-- The three-address code and the homes of which the text is made are those of a program as which the file is accepted
+pub record IsMadeOf (source : List ℕ) (code : Tac) (places : List Places) (file : List ℕ) (map : Map) : Type 0 where
+  pub program : Typed
+  pub accepted : Accepts source program
+  pub used : UsesRegisters program code places file map
 
 -- ---- refused files
 

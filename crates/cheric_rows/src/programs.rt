@@ -1,7 +1,6 @@
 //! Programs that the front end gives of files, and the calls that take such.
-ghost use Rattle.std.specs.Prelude.{◌≡◌, true, [], ◌∷◌, IfOk};
+ghost use Rattle.std.specs.Prelude.{◌≡◌, [], ◌∷◌, IfOk};
 ghost use Rattle.c_tree.specs.Typing.{Sound};
-ghost use Rattle.int_lower.specs.Form.{is_integer_form};
 ghost use Rattle.cheric_rows.specs.OneFunction.{frame};
 
 use bounds_place::{USUAL, place};
@@ -9,23 +8,11 @@ use c_tree::{Typed, weight};
 use cap_reloc::{Table, table};
 use cheric_build::{build, build_typed, front};
 use ck_base::{NoMemory, Pos, Refusal, Sequence};
-use int_lower::{is_integer_form, lower};
 use obj_mem::{Frame, Map};
 use std::alloc::Global;
 use std::test::Fail;
-use tac_ir::well_formed;
 
 const COUNTS: &str = "int main(void){int a=3;while(a)a=a-1;return 0;}";
-
-/// Whether the code of a program of the form is well formed, and how many temps its first function has.
-fn lowered(alloc: Global, p: &Typed) -> Result<(bool, u32), NoMemory>
-    requires sound { Sound p.now }
-    requires form { is_integer_form p.now ≡ true }
-{
-    let t = lower(alloc, p)?;
-    let temps = t.funs.as_slice().first().map_or(0, |f| f.temps);
-    Ok((well_formed(&t, p), temps))
-}
 
 /// Whether the file and its program are built to the same bytes, and how many steps the file is given for each turn.
 fn built(alloc: Global, file: &str, p: &Typed) -> Result<(bool, u64), Refusal>
@@ -36,28 +23,17 @@ fn built(alloc: Global, file: &str, p: &Typed) -> Result<(bool, u64), Refusal>
     Ok((typed.elf.as_slice() == built.elf.as_slice(), built.count))
 }
 
-/// Of a program of the form, whether its code is well formed, and what is built of its file.
-fn of_the_form(alloc: Global, file: &str) -> Result<Option<(bool, (bool, u64))>, Refusal> {
-    let p = front(alloc, file.as_bytes())?;
-    if !is_integer_form(&p) {
-        return Ok(None);
-    }
-    let (is_well_formed, _) = lowered(alloc, &p)?;
-    Ok(Some((is_well_formed, built(alloc, file, &p)?)))
-}
-
 #[test]
-fn a_file_over_integers_is_lowered_and_built(rt: HostRuntime) -> Result<(), Fail> {
+fn a_file_is_built_as_its_program(rt: HostRuntime) -> Result<(), Fail> {
     let alloc = rt.alloc();
-    assert_eq!(rt; weight(&front(alloc, COUNTS.as_bytes())?), 24);
-    let got = of_the_form(alloc, COUNTS)?;
-    assert_eq!(rt; got, Some((true, (true, 32 * 24 + 4096))));
+    let p = front(alloc, COUNTS.as_bytes())?;
+    assert_eq!(rt; weight(&p), 24);
+    assert_eq!(rt; built(alloc, COUNTS, &p)?, (true, 32 * 24 + 4096));
     Ok(())
 }
 
-/// Files that are typed to programs that are not over integers alone, and the code at their start by which they are not
-/// built (0: none).
-const OTHERS: [(&str, u16); 5] = [
+/// Files, and the code at their start by which they are not built (0: none).
+const FILES: [(&str, u16); 5] = [
     ("int g;int main(void){return 0;}", 0),
     ("int main(void){int *p=0;return !p;}", 0),
     ("int f(void){return 0;}int main(void){return f();}", 0),
@@ -68,20 +44,19 @@ const OTHERS: [(&str, u16); 5] = [
     ("int main(void){char a[67108800];return 0;}", 141),
 ];
 
-/// Whether the program of a file is of the form, and the refusal by which it is not built.
-fn refused(alloc: Global, file: &str) -> Result<(bool, Option<Refusal>), Refusal> {
+/// The refusal by which the program of a file is not built.
+fn refused(alloc: Global, file: &str) -> Result<Option<Refusal>, Refusal> {
     let p = front(alloc, file.as_bytes())?;
-    Ok((is_integer_form(&p), build_typed(alloc, &p, USUAL).err()))
+    Ok(build_typed(alloc, &p, USUAL).err())
 }
 
 #[test]
-fn other_programs_are_built_or_refused_at_their_start(rt: HostRuntime) -> Result<(), Fail> {
+fn programs_are_built_or_refused_at_their_start(rt: HostRuntime) -> Result<(), Fail> {
     let alloc = rt.alloc();
-    for &(file, code) in &OTHERS {
-        let (has_form, refusal) = refused(alloc, file)?;
+    for &(file, code) in &FILES {
+        let refusal = refused(alloc, file)?;
         let at_start = Refusal::Code(code, Pos { line: 1, col: 1 });
         let want = (code != 0).then_some(at_start);
-        assert!(rt; !has_form, "{file}");
         assert_eq!(rt; refusal, want, "{file}");
     }
     Ok(())

@@ -8,7 +8,8 @@ use Rattle.cap_machine.specs.declared.machine.Machine.{Machine}
 use Rattle.obj_mem.specs.Endings.{is_turns, is_outside}
 use Rattle.obj_mem.specs.declared.ending.Ending.{Ending}
 use Rattle.cheri_c_sem.specs.Runs.{placed}
-use Rattle.select_whole.specs.Matching.{MatchesIn, done_in, meant_in}
+use Rattle.tracked_runs.specs.Matching.{done_in}
+use Rattle.select_whole.specs.Matching.{MatchesIn, meant_in}
 use Rattle.select_whole.specs.Visited.{Whole}
 use Rattle.select_whole.proofs.Chosen.{chosen_code_matches_law}
 use Rattle.image_runs.specs.Asked.{AskedCodeRuns, RunsAsMeantIn}

@@ -33,7 +33,7 @@ use Rattle.place_inject.specs.Entering.{IsFrameOf}
 use Rattle.place_inject.specs.Frames.{homes_of}
 use Rattle.place_inject.specs.Spills.{StackIsThere}
 use Rattle.place_inject.specs.Tables.{TableIsThere}
-use Rattle.int_select.specs.Selected.{IsReport}
+use Rattle.tracked_runs.specs.Matching.{IsReport}
 use Rattle.select_words.specs.Services.{KeepSome}
 use Rattle.select_words.specs.Entries.{stack_place}
 use Rattle.select_words.specs.Zeroing.{ZeroWords, granules}

@@ -5,7 +5,7 @@ use Rattle.obj_mem.specs.Counted.{count_of}
 use Rattle.reg_alloc.specs.declared.places.Places.{Places}
 use Rattle.tac_ir.specs.Within.{Within}
 use Rattle.tac_ir.specs.declared.code.TacFun.{TacFun}
-use Rattle.int_select.specs.Selected.{IsReport}
+use Rattle.tracked_runs.specs.Matching.{IsReport}
 use Rattle.select_whole.specs.Matching.{IsOfBytes}
 use Rattle.temp_homes.specs.Keeping.{KeepsTemps}
 use Rattle.image_runs.specs.Asked.{IsCode, IsLoaded, RunsAsMeantIn}

@@ -6,7 +6,7 @@ use Rattle.cap_machine.specs.declared.machine.Machine.{Machine}
 use Rattle.cheri_c_sem.specs.Programs.{program_tree}
 use Rattle.tac_ir.specs.Meaning.{first_state}
 use Rattle.place_inject.specs.Fits.{Fits}
-use Rattle.int_select.specs.Tracking.{moment}
+use Rattle.tracked_runs.specs.Tracking.{moment}
 use Rattle.select_runs.specs.Acts.{counter_at, place}
 use Rattle.select_runs.specs.Operands.{ground_of}
 use Rattle.select_whole.specs.Matching.{IsOfBytes, Starts}

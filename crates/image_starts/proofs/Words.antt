@@ -12,7 +12,7 @@ use Rattle.cap_machine.proofs.Containment.{act_kept}
 use Rattle.image_load.specs.Contained.{text_in}
 use Rattle.image_load.specs.State.{machine_of}
 use Rattle.image_load.proofs.First.{first_contained}
-use Rattle.int_select.specs.Tracking.{Moment, Next, Ended, Reaches, moment, stepped}
+use Rattle.tracked_runs.specs.Tracking.{Moment, Next, Ended, Reaches, moment, stepped}
 use Rattle.image_starts.specs.Running.{ImagesHaveWords}
 
 module _ (t : Text) (well : LiesWell t) (text : IsContainedText t) (w : World)

@@ -12,7 +12,7 @@ use Rattle.image_load.specs.State.{machine_of}
 use Rattle.c_tree.specs.declared.typed.Typed.{Typed}
 use Rattle.place_inject.specs.Fits.{HomesAreUsable}
 use Rattle.place_inject.specs.Frames.{Setting}
-use Rattle.int_select.specs.Tracking.{Moment, Reaches, moment}
+use Rattle.tracked_runs.specs.Tracking.{Moment, Reaches, moment}
 use Rattle.select_runs.specs.Acts.{counter_at}
 use Rattle.select_runs.specs.Operands.{IsText, ground_of}
 use Rattle.image_starts.specs.Images.{IsImageOf, IsOfBytes}

@@ -40,7 +40,7 @@ use Rattle.cheri_c_sem.specs.Kinds.{bytes_of, int_bytes, number_of, read_as}
 use Rattle.cheri_c_sem.specs.Modes as modes
 use Rattle.cheri_c_sem.specs.Modes.{operations, placed_plan, with_memory}
 use Rattle.cheri_c_sem.specs.Steps.{State, Fate, answer}
-use Rattle.int_select.proofs.Numbers.{reduce_truth}
+use Rattle.select_runs.proofs.Reduced.{reduce_truth}
 use Rattle.tac_ir.specs.Costs.{load_cost}
 use Rattle.tac_ir.specs.Effects.{Next as Way, On, kind_of, kind_at, temp_in, effect, set as set_temp}
 use Rattle.tac_ir.specs.Meaning.{Running}

@@ -27,8 +27,7 @@ use Rattle.rv_instr.specs.declared.ops.ImmOp.{ImmOp}
 use Rattle.cap_machine.specs.Integers.{result_of, immediate_op, shift_op, extended}
 use Rattle.cheri_c_sem.specs.Types.{is_shift}
 use Rattle.tac_ir.specs.Costs.{is_wide}
-use Rattle.int_select.specs.Form.{IsPromoted}
-use Rattle.int_select.proofs.Numbers.{op_is, narrow, kept_low, result_below, small_extended}
+use Rattle.select_runs.proofs.Reduced.{IsPromoted, op_is, narrow, kept_low, result_below, small_extended}
 use Rattle.purecap_abi.specs.Numbers.{signed_word}
 use Rattle.select_words.specs.Integers.{reg_op}
 use Rattle.select_words.specs.Operations.{AtKind, is_exact, selected_op, add_op, immediate_by, shift_by}

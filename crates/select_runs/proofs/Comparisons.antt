@@ -38,7 +38,7 @@ use Rattle.cheri_c_sem.specs.Modes as modes
 use Rattle.cheri_c_sem.specs.Modes.{operations, placed_plan}
 use Rattle.cheri_c_sem.specs.Operations.{compare_by}
 use Rattle.cheri_c_sem.specs.Steps.{State, answer}
-use Rattle.int_select.proofs.Numbers.{is_some, is_none, turned_round, one_extended}
+use Rattle.select_runs.proofs.Reduced.{is_some, is_none, turned_round, one_extended}
 use Rattle.tac_ir.specs.Effects.{kind_of, kind_at, temp_in, no_position, set as set_temp}
 use Rattle.tac_ir.specs.Meaning.{Running}
 use Rattle.tac_ir.specs.Temps.{now}

@@ -31,8 +31,8 @@ use Rattle.cheri_c_sem.specs.Modes as modes
 use Rattle.cheri_c_sem.specs.Modes.{operations, placed_plan}
 use Rattle.cheri_c_sem.specs.Operations.{convert_by}
 use Rattle.cheri_c_sem.specs.Steps.{State, answer}
-use Rattle.int_select.proofs.Numbers.{is_some, small_extended, word_reduced, reduce_8, reduce_16, reduce_unsigned}
-use Rattle.int_select.proofs.Numbers.{reduce_truth}
+use Rattle.select_runs.proofs.Reduced.{is_some, small_extended, word_reduced, reduce_8, reduce_16, reduce_unsigned}
+use Rattle.select_runs.proofs.Reduced.{reduce_truth}
 use Rattle.tac_ir.specs.Costs.{conversion_cost, is_wide}
 use Rattle.tac_ir.specs.Effects.{kind_of, kind_at, temp_in, no_position, set as set_temp}
 use Rattle.tac_ir.specs.Meaning.{Running}

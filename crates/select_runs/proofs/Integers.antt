@@ -34,8 +34,8 @@ use Rattle.cheri_c_sem.specs.Modes.{operations, placed_plan}
 use Rattle.cheri_c_sem.specs.Operations.{on_ok, number_by}
 use Rattle.cheri_c_sem.specs.Steps.{State, answer}
 use Rattle.cheri_c_sem.specs.Types.{is_shift}
-use Rattle.int_select.specs.Form.{IsPromoted}
-use Rattle.int_select.proofs.Numbers.{result_below, reduce_unsigned, reduce_8, reduce_16, reduce_truth, small_extended}
+use Rattle.select_runs.proofs.Reduced.{IsPromoted, result_below, reduce_unsigned, reduce_8, reduce_16, reduce_truth}
+use Rattle.select_runs.proofs.Reduced.{small_extended}
 use Rattle.tac_ir.specs.Costs.{operation_cost, is_wide}
 use Rattle.tac_ir.specs.Effects.{kind_at, temp_in, no_position, set as set_temp}
 use Rattle.tac_ir.specs.Meaning.{Running}

@@ -1,5 +1,6 @@
 pub mod Acts
 pub mod Numbers
+pub mod Reduced
 pub mod Points
 pub mod Far
 pub mod Operands

@@ -29,11 +29,10 @@ use Rattle.tac_ir.specs.WellFormed.{has_label, is_turn, ends_there, turn_fits}
 use Rattle.tac_ir.specs.declared.code.LibOp.TheVariants as lib
 use Rattle.tac_ir.specs.declared.code.TacInstr.{TacInstr}
 use Rattle.tac_ir.specs.declared.code.TacInstr.TheVariants as instr
-use Rattle.int_select.specs.Selected.{IsReport}
-use Rattle.int_select.specs.Tracking.{Moment, Stepped, Next as Steps_to, Ended, moment, stepped, step, Reaches}
-use Rattle.int_select.specs.Tracking.{Finished}
-use Rattle.int_select.proofs.Follow.{join}
-use Rattle.int_select.proofs.Meets.{course_by}
+use Rattle.tracked_runs.specs.Matching.{IsReport, course_by}
+use Rattle.tracked_runs.specs.Tracking.{Moment, Stepped, Next as Steps_to, Ended, moment, stepped, step, Reaches}
+use Rattle.tracked_runs.specs.Tracking.{Finished}
+use Rattle.tracked_runs.proofs.Follow.{join}
 use Rattle.select_runs.specs.Accesses as access
 use Rattle.select_runs.specs.Copying as copying
 use Rattle.select_words.specs.Services.{putting, taking, leaving}

@@ -23,10 +23,9 @@ use Rattle.place_inject.proofs.Registers.{done_keeps_fits_law}
 use Rattle.select_runs.specs.Kinds.{AreOfKinds}
 use Rattle.select_runs.specs.Operands.{IsAtPoint}
 use Rattle.select_runs.specs.Results as at_place
-use Rattle.int_select.specs.Selected.{IsReport}
-use Rattle.int_select.specs.Tracking.{Moment, moment, Reaches, Tracks, Finished}
-use Rattle.int_select.proofs.Follow.{after}
-use Rattle.int_select.proofs.Meets.{course_of, course_by, Reports}
+use Rattle.tracked_runs.specs.Matching.{IsReport, Reports, course_of, course_by}
+use Rattle.tracked_runs.specs.Tracking.{Moment, moment, Reaches, Tracks, Finished}
+use Rattle.tracked_runs.proofs.Follow.{after}
 use Rattle.select_whole.specs.Visited as visit
 use Rattle.select_whole.specs.Visited.{Whole, Means, Visited, ops_of, kinds_at, tac_at, locals_of, called_by}
 use Rattle.select_whole.specs.Visited.{in_frame_of, back_in, looked_at}
@@ -103,7 +102,7 @@ module _ (g : Whole) (reports : IsReport g.report) (fine : AreFine g) (w : World
   turned_of again is r = turned (ops_of g) w g.setting.code g.program (locals_of g) again is r
 
   abbrev Follows : ℕ → ℕ → Fate → Moment Machine → Type 0
-  Follows m b x s = Tracks limits act w (Reports g.report reports.steps) m b (course_of x) s
+  Follows m b x s = Tracks limits act w (Reports g.report) m b (course_of x) s
 
   abbrev most : ℕ
   most = g.most
@@ -144,13 +143,13 @@ module _ (g : Whole) (reports : IsReport g.report) (fine : AreFine g) (w : World
   stretch : (m n b e j : ℕ) (x : Fate) (s u : Moment Machine) → n ≤ j + m → j + b ≤ e
       → Reaches limits act w j s u → Follows m b x u → Follows n e x s
   stretch m n b e j x s u ge le steps h =
-      after limits act w (Reports g.report reports.steps) m n b e j (course_of x) s u ge le steps h
+      after limits act w (Reports g.report) m n b e j (course_of x) s u ge le steps h
 
   finished : (m b hi : ℕ) (e : Ending) (d : Done) (s : Machine) (d0 : Done) → Stops g reports w bytes run hi s d0 e d
       → course_by d e ≡ Finished d e → hi ≤ b → Follows m b (record { done = d; ending = e }) (moment s d0)
   finished m b hi e d s d0 a is le =
       let q = a.lt in
-      subst (λ c. Tracks limits act w (Reports g.report reports.steps) m b c (moment s d0)) (sym is)
+      subst (λ c. Tracks limits act w (Reports g.report) m b c (moment s d0)) (sym is)
       (a.count, omega arith, a.to, a.end, a.steps, a.ended, a.reports_it, a.done_is)
 
   -- ---- what is asked of the run with one turn less

@@ -25,7 +25,7 @@ use Rattle.place_inject.specs.Entering.{caller_of, entry_of}
 use Rattle.place_inject.specs.Frames.{IsLive, locals_by}
 use Rattle.place_inject.specs.Spills.{StackIsThere}
 use Rattle.place_inject.specs.Tables.{TableIsThere}
-use Rattle.int_select.specs.Selected.{IsReport}
+use Rattle.tracked_runs.specs.Matching.{IsReport}
 use Rattle.select_words.specs.Accesses.{AccessWords, IsAccess, place_of}
 use Rattle.select_words.specs.Selecting.{Selecting}
 use Rattle.select_words.specs.Standing.{HasAt}

@@ -1,15 +1,10 @@
 -- Whole runs: the machine's run of selected code and the run of three-address code match, in both directions.
-use Rattle.std.specs.Prelude.{◌≡◌, ◌≢◌, ◌⊎◌, ℕ, ◌+◌, ◌*◌, ◌<◌, ◌≤◌, Bool, true, false, List, [], ◌∷◌, length, Option}
+use Rattle.std.specs.Prelude.{◌≡◌, ℕ, ◌+◌, ◌<◌, ◌≤◌, Bool, true, false, List, [], ◌∷◌, length, Option}
 use Rattle.std.specs.Prelude.{Some, None, slice_get}
-use Rattle.ck_base.specs.Agreement.{SameEnd, GoesOn}
-use Rattle.ck_base.specs.Calls.{BeginsWith}
-use Rattle.ck_base.specs.Runs.{outcome, ending_alone}
 use Rattle.ck_base.specs.World.{World, Outcome, nothing_done}
 use Rattle.cap_machine.specs.declared.end.End.{End}
 use Rattle.cap_machine.specs.declared.end.End.TheVariants as end
 use Rattle.cap_machine.specs.declared.machine.Machine.{Machine}
-use Rattle.cap_machine.specs.Step.{act, limits}
-use Rattle.obj_mem.specs.Endings.{is_turns, is_outside}
 use Rattle.obj_mem.specs.declared.ending.Ending.{Ending}
 use Rattle.obj_mem.specs.declared.ending.Ending.TheVariants as ending
 use Rattle.tac_ir.specs.Meaning.{tac, name_of}
@@ -17,8 +12,8 @@ use Rattle.tac_ir.specs.WellFormed.{ends_well, turns_fit}
 use Rattle.tac_ir.specs.declared.code.TacInstr.{TacInstr}
 use Rattle.select_runs.specs.Results.{Arrives}
 use Rattle.select_runs.specs.Results as at_place
-use Rattle.int_select.specs.Selected.{IsReport}
-use Rattle.int_select.specs.Tracking.{moment}
+use Rattle.tracked_runs.specs.Matching.{IsReport, RunsMatch}
+use Rattle.tracked_runs.specs.Tracking.{moment}
 use Rattle.select_whole.specs.Visited.{Whole, ops_of, tac_at, main_of, entry_of, first_running}
 use Rattle.select_whole.specs.Runs.{AreWords, InstructionsRun, StopsBy, last_acts}
 
@@ -58,28 +53,11 @@ pub record Starts (g : Whole) (w : World) (most : ℕ) (m : Machine) : Type 0 wh
 
 -- ---- what is then known
 
-abbrev pub done_in : World → Machine → (acts : ℕ) → Outcome End
-done_in w m n = outcome limits act ending_alone m n w
-
 abbrev pub meant_in : Whole → World → (turns : ℕ) → Outcome Ending
 meant_in g w n = tac g.setting.code g.program g.setting.map w n
 
--- In a world, for each number: unless the meaning ends outside, a machine of as many acts as the meaning has turns goes
--- on, and has put a front of what is meant, or it has done what is meant and ended so. Where the meaning ends outside
--- one of the outputs is a front of the other, and a machine that has ended has put all of it first. With so many acts
--- for each turn, and as many again, the machine puts all that is meant, and it has ended unless the meaning needs one
--- more turn or ends outside
-pub record MatchesIn (g : Whole) (w : World) (count : ℕ) (m : Machine) : Type 0 where
-  pub same_run : (n : ℕ) → is_outside (meant_in g w n).ending ≡ false
-      → GoesOn end.Steps (done_in w m n) (meant_in g w n) ⊎ SameEnd g.report (done_in w m n) (meant_in g w n)
-  pub going : (n : ℕ) → is_outside (meant_in g w n).ending ≡ true
-      → BeginsWith (meant_in g w n).output (done_in w m n).output
-      ⊎ BeginsWith (done_in w m n).output (meant_in g w n).output
-  pub ended : (n : ℕ) → is_outside (meant_in g w n).ending ≡ true → (done_in w m n).ending ≢ end.Steps
-      → BeginsWith (done_in w m n).output (meant_in g w n).output
-  pub enough : (n : ℕ) → BeginsWith (done_in w m ((n + 1) * count)).output (meant_in g w n).output
-  pub ends : (n : ℕ) → is_turns (meant_in g w n).ending ≡ false → is_outside (meant_in g w n).ending ≡ false
-      → (done_in w m ((n + 1) * count)).ending ≢ end.Steps
+abbrev pub MatchesIn : Whole → World → (count : ℕ) → Machine → Type 0
+MatchesIn g w count m = RunsMatch g.report w (meant_in g w) count m
 
 -- the input is bytes
 abbrev pub IsOfBytes : World → Type 0

@@ -26,7 +26,7 @@ use Rattle.tac_ir.specs.declared.code.LibOp.TheVariants as lib
 use Rattle.tac_ir.specs.declared.code.TacInstr.{TacInstr}
 use Rattle.tac_ir.specs.declared.code.TacInstr.TheVariants as instr
 use Rattle.tac_ir.specs.declared.code.TacKind.{TacKind}
-use Rattle.int_select.specs.Tracking.{Moment, moment, Reaches}
+use Rattle.tracked_runs.specs.Tracking.{Moment, moment, Reaches}
 use Rattle.place_inject.specs.Homes.{CallersKeep}
 use Rattle.place_inject.specs.Leaving.{OthersAreOlder}
 use Rattle.select_words.specs.Accesses.{IsAccess}

@@ -1,2 +1,1 @@
 mod Framed
-mod Tried

@@ -3,15 +3,13 @@
 //! Promise: none: a test that fails stops the gate. They stand apart, so that a crate is proved once, whatever its
 //! tests say.
 //! Definitions (`specs/`): none.
-//! Main lemmas (`proofs/`): `Tried`.
+//! Main lemmas (`proofs/`): `Framed`.
 #![tactic(auto)]
 
 #[cfg(test)]
 mod costs;
 #[cfg(test)]
 mod homes;
-#[cfg(test)]
-mod selection;
 #[cfg(test)]
 mod shifts;
 #[cfg(test)]

@@ -1,12 +1,9 @@
 -- Lists that are made item by item.
-use Rattle.std.proofs.Common.{◌≡◌, ℕ, suc, ◌+◌, ◌-◌, ◌<◌, List, [], ◌∷◌, ◌++◌, length, map, get_or, drop, pos, sym, ap}
+use Rattle.std.proofs.Common.{◌≡◌, ℕ, suc, ◌+◌, ◌-◌, ◌<◌, List, ◌∷◌, ◌++◌, length, get_or, drop, pos, sym, ap}
 use Rattle.std.proofs.Common.{◌∙◌, append_assoc, arith}
 use Rattle.std.proofs.Math.Seq.{drop-cons}
 use Rattle.rv_instr.specs.declared.instr.Instr.{Instr}
 use Rattle.rv_instr.specs.declared.instr.Instr.TheVariants.{Cjal}
-use Rattle.tac_ir.specs.declared.code.TacFun.{TacFun}
-use Rattle.obj_mem.specs.declared.map.Frame.{Frame}
-use Rattle.int_select.specs.Selected.{frame_of}
 use Rattle.typed_build.specs.Text.{instr_bytes, code_bytes, filler}
 
 front : {A : Type 0} (xs : List A) (k : ℕ) (d : A) → k < length xs → drop k xs ≡ get_or xs k d ∷ drop (k + 1) xs
@@ -31,15 +28,4 @@ filled-more o o1 start count k within e h =
     ap (λ t. t ++ code_bytes (filler (count - (k + 1)))) e
     ∙ append_assoc o (instr_bytes (Cjal 0 (pos 0))) (code_bytes (filler (count - (k + 1))))
     ∙ ap (λ n. o ++ code_bytes (filler n)) (sym step)
-    ∙ h
-
--- one frame more
-pub framed-more : (o o1 all : List Frame) (fs : List TacFun) (f : TacFun) (k : ℕ) → k < length fs
-    → f ≡ get_or fs k f → o1 ≡ o ++ frame_of f ∷ [] → o ++ map frame_of (drop k fs) ≡ all
-    → o1 ++ map frame_of (drop (k + 1) fs) ≡ all
-framed-more o o1 all fs f k lt is e h =
-    ap (λ t. t ++ map frame_of (drop (k + 1) fs)) e
-    ∙ append_assoc o (frame_of f ∷ []) (map frame_of (drop (k + 1) fs))
-    ∙ ap (λ g. o ++ (frame_of g ∷ map frame_of (drop (k + 1) fs))) is
-    ∙ ap (λ gs. o ++ map frame_of gs) (sym (front fs k f lt))
     ∙ h

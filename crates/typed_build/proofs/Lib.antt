@@ -2,10 +2,6 @@ pub mod Texts
 pub mod Filling
 pub mod Empty
 pub mod Extents
-pub mod Standing
-pub mod Program
-pub mod IntegerCode
-pub mod Running
 pub mod Writes
 pub mod Builds
 pub mod Weighing
@@ -17,8 +13,10 @@ pub mod Contained
 pub mod ContainedCode
 pub mod Counting
 pub mod Growing
+pub mod Checked
 pub mod SameBuilt
 pub mod Slots
 pub mod Framed
 pub mod Selecting
 pub mod Meaning
+pub mod Used

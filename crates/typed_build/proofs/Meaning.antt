@@ -25,6 +25,7 @@ use Rattle.reg_alloc.specs.declared.places.Home.TheVariants.{Register}
 use Rattle.reg_alloc.specs.declared.places.Places.{Places}
 use Rattle.place_inject.specs.Fits.{HomesAreUsable}
 use Rattle.place_inject.specs.Frames.{Setting, homes_of}
+use Rattle.tac_ir.specs.declared.code.Tac.{Tac}
 use Rattle.tac_ir.specs.declared.code.TacFun.{TacFun}
 use Rattle.rv_select.specs.Selectable.{before}
 use Rattle.rv_select.specs.Selected.{IsSelected}
@@ -87,17 +88,17 @@ none_there (h ∷ homes) t e = absurd cc
 
 -- ---- all of it
 
-module _ (images_fit : ImagesFit) (p : Typed) (sound : Sound p) (s : Selected) (given : Selects p s)
-    (code : HasContainedCode s) (has : HasProgram p s) (sizes : Sizes) (chosen : in_range sizes ≡ true) (m : Map)
-    (file : List ℕ) (w : IsWritten p s sizes m file) where
+module _ (images_fit : ImagesFit) (p : Typed) (sound : Sound p) (t : Tac) (homes : List Places) (s : Selected)
+    (given : Selects p s) (code : HasContainedCode s) (has : HasProgram p t homes s) (sizes : Sizes)
+    (chosen : in_range sizes ≡ true) (m : Map) (file : List ℕ) (w : IsWritten p s sizes m file) where
   abbrev image : Image
   image = image_in p s sizes m file w
 
   abbrev made : Made
   made = record {
     program = p;
-    code = has.code;
-    places = has.places;
+    code = t;
+    places = homes;
     map = m;
     words = s.code.items;
     lines = s.lines.items;
@@ -121,31 +122,31 @@ module _ (images_fit : ImagesFit) (p : Typed) (sound : Sound p) (s : Selected) (
 
   selected : AreSelected made
   selected =
-      subst (λ t. IsSelected has.code.funs has.places m.frames t p.main s.code.items s.lines.items s.entries.items)
+      subst (λ b. IsSelected t.funs homes m.frames b p.main s.code.items s.lines.items s.entries.items)
       (sym same_table)
-      (subst (λ fs. IsSelected has.code.funs has.places fs (before p) p.main s.code.items s.lines.items s.entries.items)
+      (subst (λ fs. IsSelected t.funs homes fs (before p) p.main s.code.items s.lines.items s.entries.items)
       (sym w.placing.frames_are) has.selected)
 
   abbrev setting : Setting
   setting = setting_of made selected
 
-  count : length has.code.funs ≡ length p.funs
-  count = same_count has.code p has.is_code.formed
+  count : length t.funs ≡ length p.funs
+  count = same_count t p has.is_code.formed
 
   -- the parts of a function
   record Function (fun : ℕ) : Type 0 where
     def : FunDef
     is : slice_get p.funs fun ≡ Some def
     places : Places
-    has_places : slice_get has.places fun ≡ Some places
+    has_places : slice_get homes fun ≡ Some places
     frame : Frame
     has_frame : slice_get s.frames.items fun ≡ Some frame
 
-  function : (fun : ℕ) (f : TacFun) → slice_get has.code.funs fun ≡ Some f → Function fun
+  function : (fun : ℕ) (f : TacFun) → slice_get t.funs fun ≡ Some f → Function fun
   function fun f e =
-      let lt = slice_get_within has.code.funs fun f e in
+      let lt = slice_get_within t.funs fun f e in
       let d = there p.funs fun (omega (arith, lt, count)) in
-      let l = there has.places fun (omega (arith, lt, has.each)) in
+      let l = there homes fun (omega (arith, lt, has.each)) in
       let g = there s.frames.items fun
       (omega (arith, lt, count, frames_count _ s.frames.items given.frames, needs_count p (weight_in p) 0 p.funs)) in
       record { def = d.0; is = d.1; places = l.0; has_places = l.1; frame = g.0; has_frame = g.1 }
@@ -182,7 +183,7 @@ module _ (images_fit : ImagesFit) (p : Typed) (sound : Sound p) (s : Selected) (
           x.frame,
           is_frame_of p sound fun x.def x.is setting m refl refl allowed f x.places x.frame
               (has.frames fun x.def f x.places x.frame x.is e x.has_places x.has_frame)
-              (homes_in has.places fun x.places x.has_places) (framed fun x.frame x.has_frame),
+              (homes_in homes fun x.places x.has_places) (framed fun x.frame x.has_frame),
         );
     room = λ fun f l frame e a b.
         let x = function fun f e in
@@ -217,15 +218,15 @@ module _ (images_fit : ImagesFit) (p : Typed) (sound : Sound p) (s : Selected) (
   }
 
   usable : HomesAreUsable setting
-  usable fun t r e = elim (cases_lt fun (length has.places)) as (λ _. r < 28) [
+  usable fun n r e = elim (cases_lt fun (length homes)) as (λ _. r < 28) [
     | inl here ↦
-        let l = there has.places fun here in
-        let f = there has.code.funs fun (omega (arith, here, has.each)) in
-        let u = (has.keeps fun f.0 l.0 f.1 l.1).usable t r
-        (ap (λ hs. slice_get hs t) (sym (homes_in has.places fun l.0 l.1)) ∙ e) in
+        let l = there homes fun here in
+        let f = there t.funs fun (omega (arith, here, has.each)) in
+        let u = (has.keeps fun f.0 l.0 f.1 l.1).usable n r
+        (ap (λ hs. slice_get hs n) (sym (homes_in homes fun l.0 l.1)) ∙ e) in
         omega (arith, u.1)
     | inr past ↦
-        let none = none_there (homes_of setting fun) t (homes_past has.places fun past) in
+        let none = none_there (homes_of setting fun) n (homes_past homes fun past) in
         absurd (none-some (Register r) (sym none ∙ e))
   ]
 

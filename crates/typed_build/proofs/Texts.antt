@@ -1,11 +1,11 @@
 -- The bytes of a text and the words in them.
 use Rattle.std.proofs.Common.{◌≡◌, ℕ, zero, suc, ◌+◌, ◌-◌, ◌*◌, ◌/◌, ◌%◌, ◌^◌, ◌<◌, ◌≤◌, List, [], ◌∷◌, ◌++◌, length}
-use Rattle.std.proofs.Common.{take, drop, get_or, pos, Some, refl, lit≤, sym, ap, ◌∙◌, subst, arith, inl, inr}
+use Rattle.std.proofs.Common.{take, drop, pos, Some, refl, lit≤, sym, ap, ◌∙◌, subst, arith, inl, inr}
 use Rattle.std.proofs.Common.{length-append}
 use Rattle.std.specs.Prelude.{All, slice_get}
 use Rattle.std.proofs.lemmas.Bool.{cases_lt}
 use Rattle.std.proofs.lemmas.Grind.{flat_map-append}
-use Rattle.std.proofs.lemmas.List.{length-replicate, get_or-drop, get_or-take, take_at}
+use Rattle.std.proofs.lemmas.List.{length-replicate, take_at}
 use Rattle.std.proofs.lemmas.List.Elements.{All-append, All-nil}
 use Rattle.std.proofs.lemmas.Nat.{pow-add, div-add-mod'}
 use Rattle.std.proofs.lemmas.Int.{ints}
@@ -109,13 +109,6 @@ bytes_at (j ∷ is) (suc k) i e =
     let n : 4 * suc k ≡ length bs + 4 * k = omega (arith, length-little_bytes 4 (word_of (fields_of j))) in
     ap (λ x. take 4 (drop x (bs ++ code_bytes is))) n ∙ ap (take 4) (drop-append-add bs (code_bytes is) (4 * k))
     ∙ bytes_at is k i e
-
--- each of them
-pub byte_in : (code : List Instr) (k j : ℕ) (i : Instr) → slice_get code k ≡ Some i → j < 4
-    → get_or (code_bytes code) (4 * k + j) 0 ≡ word_of (fields_of i) / 256 ^ j % 256
-byte_in code k j i e lt =
-    sym (get_or-drop (4 * k) (code_bytes code) j 0) ∙ sym (get_or-take 4 (drop (4 * k) (code_bytes code)) j 0 lt)
-    ∙ ap (λ bs. get_or bs j 0) (bytes_at code k i e) ∙ get_or-little_bytes 4 (word_of (fields_of i)) j lt
 
 little_again : (v : ℕ) → v < 2 ^ 32 → little_number (little_bytes 4 v) ≡ v
 little_again v h =

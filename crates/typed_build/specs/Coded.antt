@@ -16,13 +16,15 @@ use Rattle.tac_ir.specs.Within.{Within}
 use Rattle.tac_ir.specs.declared.code.Tac.{Tac}
 use Rattle.tac_ir.specs.declared.code.TacFun.{TacFun}
 use Rattle.lower_runs.specs.Programs.{IsProgram}
+use Rattle.tac_lower.specs.Runs.{RunsAs}
 use Rattle.typed_build.specs.declared.written.Selected.{Selected}
 
--- three-address code for a program, as selection asks for it, which stands for the program
+-- three-address code for a program, as selection asks for it, which stands for the program and means the same
 pub record IsCode (p : Typed) (t : Tac) : Type 0 where
   pub formed : is_well_formed t p ≡ true
   pub within : Within t p
   pub is : IsProgram p t
+  pub same : RunsAs p t
   pub short : (k : ℕ) (f : TacFun) → slice_get t.funs k ≡ Some f → length f.code < 2 ^ 32
 
 -- machine code that has words, no larger than the program allows, with its place of entry and the places of its

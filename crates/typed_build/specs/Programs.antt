@@ -1,4 +1,4 @@
--- The machine code of a program, with the three-address code, the homes and the frames from which it was selected.
+-- The machine code of a program, as it was selected from three-address code, homes and frames.
 use Rattle.std.specs.Prelude.{◌≡◌, ℕ, List, length, slice_get, Some}
 use Rattle.c_tree.specs.declared.typed.Typed.{Typed}
 use Rattle.reg_alloc.specs.declared.places.Places.{Places}
@@ -16,11 +16,9 @@ abbrev pub AreKept : List TacFun → List Places → Type 0
 AreKept funs places =
     (k : ℕ) (f : TacFun) (l : Places) → slice_get funs k ≡ Some f → slice_get places k ≡ Some l → KeepsTemps f l.homes
 
--- Code that stands for the program, homes that keep its temps, and frames for its locals, of which these are the words;
+-- The code stands for the program, the homes keep its temps, the frames are for its locals, and of these are the words;
 -- they are entered at the first
-pub record HasProgram (p : Typed) (s : Selected) : Type 0 where
-  pub code : Tac
-  pub places : List Places
+pub record HasProgram (p : Typed) (code : Tac) (places : List Places) (s : Selected) : Type 0 where
   pub is_code : IsCode p code
   pub each : length places ≡ length code.funs
   pub start : s.start ≡ 0

@@ -7,14 +7,13 @@ ghost use Rattle.cap_layout.specs.Kept.{AreLayoutsOf};
 ghost use Rattle.bounds_place.specs.Placing.{exceeds, IsRefusal as ExceedsLimit};
 ghost use Rattle.bounds_place.specs.Sizes.{in_range, HasSizes};
 ghost use Rattle.typed_build.specs.Built.{IsBuilt, IsRefusal};
+ghost use Rattle.typed_build.specs.Registers.{UsesRegisters};
 
-use crate::integers::build_integers;
 use crate::whole::build_whole;
 use bounds_place::{Sizes, exceeds_limit};
 use c_tree::{Typed, weight};
 use cap_layout::Layouts;
 use ck_base::{NoMemory, Pos, Refusal};
-use int_lower::is_integer_form;
 use obj_mem::Map;
 use reg_alloc::Places;
 use std::alloc::Global;
@@ -55,11 +54,13 @@ fn limit(alloc: Global, layouts: &Layouts, p: &Typed) -> Result<(), Refusal>
 
 /// Builds a typed program; the heap and the stack have the lengths of `sizes`. It is refused, at the start of its file,
 /// by 141 where its objects exceed their limit, and then by 142 where its weight does. The runs of what is built are
-/// what the program means, and none leaves its text or makes code of data.
+/// what the program means, and none leaves its text or makes code of data. `code` means the same, `places` has a home
+/// for each of its temps, and the text is their words.
 pub fn build_typed(alloc: Global, p: &Typed, sizes: Sizes) -> Result<Built, Refusal>
     requires sound { Sound p.now }
     requires sizes { in_range sizes ≡ true }
     ensures built { IfOk result (λ b. IsBuilt p.now b.elf.items b.map b.count) }
+    ensures registers { IfOk result (λ b. UsesRegisters p.now b.code b.places.items b.elf.items b.map) }
     ensures sized { IfOk result (λ b. HasSizes sizes b.map) }
     ensures within { OnOk result (exceeds p.now ≡ false) }
     ensures light { OnOk result (weight p.now ≤ weight_limit) }
@@ -69,9 +70,6 @@ pub fn build_typed(alloc: Global, p: &Typed, sizes: Sizes) -> Result<Built, Refu
     limit(alloc, &layouts, p)?;
     if weight(p) > MOST_WEIGHT {
         return Err(Refusal::Code(142, START));
-    }
-    if is_integer_form(p) {
-        return build_integers(alloc, &layouts, p, sizes);
     }
     build_whole(alloc, &layouts, p, sizes)
 }

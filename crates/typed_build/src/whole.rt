@@ -1,4 +1,4 @@
-//! Building of any program: three-address code, homes, frames, machine code and the image.
+//! Building of a program within its limits: three-address code, homes, frames, machine code and the image.
 ghost use Rattle.std.specs.Prelude.{◌≡◌, ◌≤◌, true, false, length, vec_len, IfOk, IfErr};
 ghost use Rattle.c_tree.specs.File.{weight_limit};
 ghost use Rattle.c_tree.specs.Typing.{Sound};
@@ -10,6 +10,7 @@ ghost use Rattle.typed_build.specs.Built.{IsBuilt, IsRefusal};
 ghost use Rattle.typed_build.specs.Coded.{IsCode, Selects, HasContainedCode};
 ghost use Rattle.typed_build.specs.Frames.{HaveHomes};
 ghost use Rattle.typed_build.specs.Programs.{HasProgram};
+ghost use Rattle.typed_build.specs.Registers.{HavePlaces, UsesRegisters};
 
 use crate::building::Built;
 use crate::counts::count_of;
@@ -53,7 +54,7 @@ fn select_all(
     requires homes { HaveHomes code.now.funs places.now.items }
     ensures selects { IfOk result (Selects p.now) }
     ensures contained { IfOk result HasContainedCode }
-    ensures program { IfOk result (HasProgram p.now) }
+    ensures program { IfOk result (HasProgram p.now code.now places.now.items) }
 {
     let frames = frames_of(alloc, layouts, p, code, places)?;
     let Items {
@@ -71,7 +72,7 @@ fn select_all(
     })
 }
 
-/// Any program. The machine to which an image loads stands for the program's first state, by the law `images_fit`.
+/// A program within its limits. The machine to which an image loads stands for the program's first state, by the law `images_fit`.
 pub fn build_whole(
     alloc: Global,
     layouts: &Layouts,
@@ -84,6 +85,7 @@ pub fn build_whole(
     requires light { weight p.now ≤ weight_limit }
     requires sizes { in_range sizes ≡ true }
     ensures built { IfOk result (λ b. IsBuilt p.now b.elf.items b.map b.count) }
+    ensures registers { IfOk result (λ b. UsesRegisters p.now b.code b.places.items b.elf.items b.map) }
     ensures sized { IfOk result (λ b. HasSizes sizes b.map) }
     ensures refused { IfErr result (IsRefusal p.now) }
 {

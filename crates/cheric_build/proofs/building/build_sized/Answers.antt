@@ -1,5 +1,5 @@
 use Rattle.std.proofs.Common.{rules}
-use Rattle.cheric_build.proofs.FileAnswers.{broken_file, built_of, refused_of}
+use Rattle.cheric_build.proofs.FileAnswers.{broken_file, built_of, made_of, refused_of}
 use Rattle.cheric_build.proofs.Once.{once}
 use Rattle.cheric_build.proofs.building.build_sized.Goals as goal
 
@@ -14,6 +14,14 @@ returns-clause-built c =
     let front = c.in_ok-p.ensures in
     let built = c.build_typed.ensures in
     built_of file (once file) c.in_ok-p.p front.typed front.sound c.build_typed.result built.built built.within
+    built.light
+
+pub returns-clause-made : goal.returns-clause-made
+returns-clause-made c =
+    let file = c.args.file.now in
+    let front = c.in_ok-p.ensures in
+    let built = c.build_typed.ensures in
+    made_of file (once file) c.in_ok-p.p front.typed front.sound c.build_typed.result built.registers built.within
     built.light
 
 pub returns-clause-refused : goal.returns-clause-refused

@@ -14,6 +14,7 @@ use Rattle.tac_live.specs.Calls.{AreCalls}
 use Rattle.tac_live.specs.Live.{AreLive, is_numbered}
 use Rattle.temp_homes.proofs.Kept.{keeps}
 use Rattle.typed_build.specs.Frames.{HasHomes}
+use Rattle.typed_build.proofs.Checked.{checked}
 use Rattle.typed_build.proofs.homes.homes_of.Goals as goal
 
 slot_below : (n m : ℕ) → n ≡ m → (h : Home) → alloc.IsSlotBelow n h → IsSlotBelow m h
@@ -35,7 +36,12 @@ placed_homes f live calls l c numbered (Err e) placed slots clear = tt
 pub allocate-requires : goal.allocate-requires
 allocate-requires c = omega (arith, c.in_ok-live.ensures.len, c.requires.temps, c.ranges.temps.fits)
 
-pub returns : goal.returns
-returns c = placed_homes c.args.f.now c.in_ok-live.live.items c.in_ok-calls.calls.items c.in_ok-live.ensures
+pub returns-clause-homes : goal.returns-clause-homes
+returns-clause-homes c = placed_homes c.args.f.now c.in_ok-live.live.items c.in_ok-calls.calls.items c.in_ok-live.ensures
     c.in_ok-calls.ensures c.requires.countable.numbered c.allocate.result c.allocate.ensures.placed
     c.allocate.ensures.slots c.allocate.ensures.arguments
+
+pub returns-clause-checked : goal.returns-clause-checked
+returns-clause-checked c = checked c.args.f.now c.in_ok-live.live.items c.in_ok-calls.calls.items c.in_ok-live.ensures
+    c.in_ok-calls.ensures c.allocate.result c.allocate.ensures.placed c.allocate.ensures.slots
+    c.allocate.ensures.registers

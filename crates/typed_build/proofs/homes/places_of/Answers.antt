@@ -2,6 +2,7 @@ use Rattle.std.proofs.Common.{◌≡◌, ◌<◌, [], ◌∷◌, length, length-
 use Rattle.std.specs.Prelude.{slice_get}
 use Rattle.std.proofs.lemmas.Option.{slice_get_read}
 use Rattle.typed_build.specs.Frames.{HasHomes}
+use Rattle.typed_build.specs.Registers.{ArePlacesOf}
 use Rattle.typed_build.proofs.Growing.{grown}
 use Rattle.typed_build.proofs.homes.places_of.Goals as goal
 
@@ -28,10 +29,17 @@ loop-f-preserved c =
         length-append c.loop-f.places.items (c.in_ok-homes_of.field-0 ∷ []),
       );
       homes = λ k f l e g. grown (λ f l. HasHomes f l.homes) funs c.loop-f.places.items c.f-item.result
-          c.in_ok-homes_of.field-0 c.loop-f.invariant.homes at c.in_ok-homes_of.ensures k f l e
+          c.in_ok-homes_of.field-0 c.loop-f.invariant.homes at c.in_ok-homes_of.ensures.homes k f l e
+          (ap (λ xs. slice_get xs k) (sym c.in_ok-push.ensures.items) ∙ g);
+      checked = λ k f l e g. grown (λ f l. ArePlacesOf f l.homes) funs c.loop-f.places.items c.f-item.result
+          c.in_ok-homes_of.field-0 c.loop-f.invariant.checked at c.in_ok-homes_of.ensures.checked k f l e
           (ap (λ xs. slice_get xs k) (sym c.in_ok-push.ensures.items) ∙ g);
     }
 
 pub returns-clause-homes : goal.returns-clause-homes
 returns-clause-homes c k f l e g =
     c.loop-f.invariant.homes k f l (ap (λ xs. slice_get xs k) c.as_slice-funs.ensures ∙ e) g
+
+pub returns-clause-checked : goal.returns-clause-checked
+returns-clause-checked c k f l e g =
+    c.loop-f.invariant.checked k f l (ap (λ xs. slice_get xs k) c.as_slice-funs.ensures ∙ e) g

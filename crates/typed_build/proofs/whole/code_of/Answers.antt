@@ -8,6 +8,7 @@ use Rattle.tac_ir.specs.Within.{Within}
 use Rattle.tac_ir.specs.declared.code.Tac.{Tac}
 use Rattle.tac_ir.specs.declared.code.TacFun.{TacFun}
 use Rattle.tac_lower.specs.Programs.{Standing}
+use Rattle.tac_lower.specs.Runs.{RunsAs}
 use Rattle.tac_lower.proofs.Sound.{functions_typed, listed, ordered, stands}
 use Rattle.typed_build.specs.Coded.{IsCode}
 use Rattle.typed_build.proofs.whole.code_of.Goals as goal
@@ -24,17 +25,18 @@ lower-requires c =
     }
 
 lowered : {E : Type 0} (p : Typed) → Sound p → (r : Result Tac E) → IfOk r (λ t. is_well_formed t p ≡ true)
-    → IfOk r (λ t. Standing p → IsProgram p t) → IfOk r (λ t. Sound p → Within t p)
+    → IfOk r (λ t. Standing p → IsProgram p t) → IfOk r (λ t. Sound p → Within t p) → IfOk r (λ t. Sound p → RunsAs p t)
     → IfOk r (λ t. (k : ℕ) (f : TacFun) → slice_get t.funs k ≡ Some f → length f.code < 2 ^ 32) → IfOk r (IsCode p)
-lowered p sound (Ok t) formed is within short = record {
+lowered p sound (Ok t) formed is within same short = record {
   formed = formed;
   within = within sound;
   is = is (stands p sound);
+  same = same sound;
   short = short;
 }
-lowered p sound (Err e) formed is within short = tt
+lowered p sound (Err e) formed is within same short = tt
 
 pub returns : goal.returns
 returns c =
     let given = c.lower.ensures in
-    lowered c.args.p.now c.requires.sound c.lower.result given.formed given.is given.within given.short
+    lowered c.args.p.now c.requires.sound c.lower.result given.formed given.is given.within given.same given.short

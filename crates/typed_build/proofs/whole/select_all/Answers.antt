@@ -92,8 +92,6 @@ returns-clause-program c =
     let form = code_has_form p sound light t code.is code.formed code.within in
     let keeps = are_kept p t places.items form count code.within c.requires.homes in
     record {
-      code = t;
-      places = places.items;
       each = omega (arith, c.requires.places, places.ok);
       start = given.start;
       is_code = code;

@@ -1,4 +1,0 @@
-pub mod Tracking
-pub mod Form
-pub mod Code
-pub mod Selected
