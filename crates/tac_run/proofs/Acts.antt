@@ -233,7 +233,8 @@ module _ (t : Tac) (p : Typed) (m : Map) (formed : is_well_formed t p ≡ true) 
         let small = sound.now.frame in
         let lower = below.frame in
         let mem = add_locals ops x.now.mem address f 0 (objects_by p f) in
-        let more = locals_last address f (length (objects_by p f)) (λ k l. let lower = below.locals k l in omega arith) (objects_by p f) x.now.mem 0 (omega arith) sound.memory in
+        let more = locals_last address f (length (objects_by p f))
+        (λ k l. let lower = below.locals k l in omega arith) (objects_by p f) x.now.mem 0 (omega arith) sound.memory in
         let grows = more.lasts.grows in
         let longer = grows.longer in
         let before = sound.program in

@@ -15,9 +15,11 @@ use Rattle.tac_steps.proofs.Fewer.{fewer}
 use Rattle.tac_steps.proofs.Runs.{Lasts, begins, goes_on, comes_to_end}
 use Rattle.tac_run.specs.Moments.{IsSound, Leads}
 use Rattle.tac_run.specs.Ready.{IsRoomy, objects_by}
+use Rattle.tac_run.specs.Stopping.{StoppedShort}
 use Rattle.tac_run.specs.Views.{moment_of, ops_in}
 use Rattle.tac_run.specs.declared.run.Run.{Run}
 use Rattle.tac_run.proofs.Acts.{acts_stay_sound_law}
+use Rattle.tac_run.proofs.Shortened.{stopped_short}
 
 leads_to : (P : Moment Store → Type 0) (a : Act (Moment Store) Ending) (before after : Seen) (old new : Moment Store) →
     Leads P a → Acted limits a before after old new None → P new
@@ -72,6 +74,14 @@ module _ (t : Tac) (p : Typed) (first : Run) (before : Seen) where
     pub fewer_left : (new : Run) → Acts (moment_of new) None →
         acts_left t (moment_of new) < acts_left t (moment_of now)
     fewer_left new h = fewer (ops_in now) t p (objects_by p) seen next (moment_of now) (moment_of new) h
+
+    pub short : next ≡ seen →
+        StoppedShort (outcome limits (act (ops_in first) t (objects_by p) p) ending_alone (moment_of first)
+        (acts_left t (moment_of first) + 1)) before next
+    short e =
+        subst (λ z. StoppedShort (outcome limits (act (ops_in first) t (objects_by p) p) ending_alone (moment_of first)
+        (acts_left t (moment_of first) + 1)) before z) (sym e)
+        (stopped_short limits (act (ops_in first) t (objects_by p) p) ending_alone _ _ _ _ _ _ so_far.lasts.2)
 
     pub over : (e : Ending) → before.source_faults < 2 ^ 64 - 1 → before.sink_faults < 2 ^ 64 - 1 →
         Acts (moment_of now) (Some e) →

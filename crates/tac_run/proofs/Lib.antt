@@ -8,6 +8,7 @@ mod Keeps
 mod Temps
 mod Sounding
 mod Acts
+mod Shortened
 mod Going
 mod Starts
 mod Calling

@@ -1,4 +1,5 @@
 -- A run is what its code means.
+use mathlib.Core.Path.{fun_ext}
 use Rattle.std.proofs.Common.{◌≡◌, ℕ, ◌+◌, ◌-◌, ◌^◌, ◌<◌, false, List, [], Option, Some, None, refl, sym, ap, ◌∙◌}
 use Rattle.std.proofs.Common.{arith}
 use Rattle.std.specs.Prelude.{slice_get}
@@ -73,15 +74,12 @@ module _ (t : Tac) (p : Typed) (m : Map) (turns : ℕ) where
   abbrev first : ℕ → Moment Store
   first address = first_moment ops t (objects_by p) address (program_tree p) turns
 
-  pub ran : (address : ℕ) (before after : Seen) (e : Ending) → ops.enter p.main ops.stack_top ≡ Some address →
-      IsRun (outcome limits (act ops t (objects_by p) p) ending_alone (first address)
-      (acts_left t (first address) + 1)) before after e →
-      IsRun (λ w. tac t p m w turns) before after e
-  ran address before after e room r =
-      same_run (outcome limits (act ops t (objects_by p) p) ending_alone (first address)
-      (acts_left t (first address) + 1)) (λ w. tac t p m w turns) before after e
-      (λ w. runs_are_meant_law ops t p (objects_by p) (program_tree p) address w turns
-      (acts_left t (first address) + 1) (main_enters address room) (omega arith)) r
+  pub means : (address : ℕ) → ops.enter p.main ops.stack_top ≡ Some address →
+      outcome limits (act ops t (objects_by p) p) ending_alone (first address) (acts_left t (first address) + 1)
+      ≡ (λ w. tac t p m w turns)
+  means address room =
+      fun_ext (λ w. runs_are_meant_law ops t p (objects_by p) (program_tree p) address w turns
+      (acts_left t (first address) + 1) (main_enters address room) (omega arith))
 
   -- the moment with which it begins, from its parts
   abbrev begun : List Caller → List (Option Value) → ℕ → Store → ℕ → Moment Store

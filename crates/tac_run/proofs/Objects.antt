@@ -73,7 +73,10 @@ module _ (d : Mode) (m : Memory) (based : AreBased m) where
   pub add_based : (n base : ℕ) → base < 2 ^ 64 → Follows m (add d m n base)
   add_based n base small =
       let s : Shape = record { length = n; owned = owned n; life = object.Active; base = base } in
-      let grows : Grows m.shapes (m.shapes ++ s ∷ []) = record { longer = omega (arith, one_longer m.shapes s); same = base_kept m.shapes s } in (
+      let grows : Grows m.shapes (m.shapes ++ s ∷ []) = record {
+        longer = omega (arith, one_longer m.shapes s);
+        same = base_kept m.shapes s;
+      } in (
         record {
           bases = λ k. base_added m.shapes s k based.bases small;
           values = λ k g c v e f.

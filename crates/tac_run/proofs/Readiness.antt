@@ -1,10 +1,12 @@
--- Typing and a legal map give what a run asks of a program, but for the lengths of its literals.
+-- Typing, room and a legal map give what a run asks of a program.
 use Rattle.std.proofs.Common.{◌≡◌, ℕ, zero, suc, ◌+◌, ◌^◌, ◌<◌, ◌≤◌, List, [], ◌∷◌, length, map, Option, Some, None}
 use Rattle.std.proofs.Common.{refl, ap, subst, arith}
-use Rattle.std.specs.Prelude.{slice_get, slice_index_or}
-use Rattle.std.proofs.lemmas.Option.{none-some}
+use Rattle.std.specs.Prelude.{slice_get, slice_index_or, sum_by}
+use Rattle.std.proofs.lemmas.List.Sums.{sum_by-cons}
+use Rattle.std.proofs.lemmas.Option.{none-some, same_Some}
 use Rattle.cap_concentrate.specs.Rounding.{owned}
-use Rattle.cap_concentrate.proofs.Owned.{owned_small}
+use Rattle.cap_concentrate.proofs.Owned.{owned_ge, owned_small}
+use Rattle.c_tree.specs.File.{HasRoom, literal_room}
 use Rattle.c_tree.specs.Layout.{Extent, size_limit}
 use Rattle.c_tree.specs.Terms.{Program}
 use Rattle.c_tree.specs.Typing.{Sound}
@@ -56,7 +58,15 @@ literal_owned (y ∷ ls) (b ∷ bs) x zero l e =
     subst (λ z. owned (length z.bytes) ≤ 2 ^ 40) same (omega (arith, to))
 literal_owned (y ∷ ls) (b ∷ bs) x (suc k) l e = literal_owned ls bs x.1 k l e
 
-module _ (p : Typed) (q : Program) (o : IsOrdered p) (s : Shows p q) (w : WellTyped p) (m : Map)
+-- one of a sum
+one_of : {A : Type 0} (f : A → ℕ) (xs : List A) (k : ℕ) (x : A) → slice_get xs k ≡ Some x → f x ≤ sum_by f xs
+one_of f [] k x e = absurd (none-some x e)
+one_of f (y ∷ ys) zero x e =
+    let same : f y ≡ f x = ap f (same_Some y x e) in
+    omega (arith, same, sum_by-cons f y ys)
+one_of f (y ∷ ys) (suc k) x e = omega (arith, sum_by-cons f y ys, one_of f ys k x e)
+
+module _ (p : Typed) (q : Program) (o : IsOrdered p) (s : Shows p q) (w : WellTyped p) (room : HasRoom p) (m : Map)
     (legal : Legal p m) where
   exact : AreExact (needs_of (weight_in p) p).globals m.globals ×
       AreExact (needs_of (weight_in p) p).literals m.literals
@@ -128,8 +138,13 @@ module _ (p : Typed) (q : Program) (o : IsOrdered p) (s : Shows p q) (w : WellTy
   unfolding program_tree
   frames_room f k g r l = frame_room f k g (slice_get (function_trees p 0 p.funs) f) refl r l
 
-  ready : AreShort p.literals → IsReady p m
-  ready short =
+  literals_short : AreShort p.literals
+  literals_short k l e =
+      let statics = room.statics in
+      omega (arith, statics, one_of literal_room p.literals k l e, owned_ge (length l.bytes))
+
+  ready : IsReady p m
+  ready =
       let range = legal.in_range in
       let heap = range.2.2.1 in
       let stack = range.2.2.2.1 in
@@ -137,12 +152,12 @@ module _ (p : Typed) (q : Program) (o : IsOrdered p) (s : Shows p q) (w : WellTy
         roomy = record { heap = omega arith; stack = omega arith; frames = frames_room };
         locals = λ f. locals_small f (slice_get p.funs f) refl;
         globals = global_ready;
-        literals = short;
+        literals = literals_short;
         global_bases = λ k. let base = base_small _ _ exact.0 k in omega arith;
         literal_bases = λ k. let base = base_small _ _ exact.1 k in omega arith;
       }
 
-pub sound_is_ready : (p : Typed) (m : Map) → Sound p → Legal p m → AreShort p.literals → IsReady p m
-sound_is_ready p m sound legal short =
+pub sound_is_ready : (p : Typed) (m : Map) → Sound p → HasRoom p → Legal p m → IsReady p m
+sound_is_ready p m sound room legal =
     let t = sound.types.types in
-    ready p t.program t.ordered t.shows (well_typed p sound) m legal short
+    ready p t.program t.ordered t.shows (well_typed p sound) room m legal

@@ -60,16 +60,16 @@ pub led_stepped : {U : Type 0} (a : Act (Moment Store) Ending) (seen : Seen) (ol
     Led a old r new → Stepped a seen seen old r new
 led_stepped (Goes m) seen old new (Ok u) h = ((refl, h.0, refl), h.1)
 led_stepped (Goes m) seen old new (Err (stop.Ended e)) h = absurd h
-led_stepped (Goes m) seen old new (Err stop.NoMemory) h = tt
+led_stepped (Goes m) seen old new (Err stop.NoMemory) h = refl
 led_stepped (Puts b m) seen old new (Ok u) h = absurd h
 led_stepped (Puts b m) seen old new (Err (stop.Ended e)) h = absurd h
-led_stepped (Puts b m) seen old new (Err stop.NoMemory) h = tt
+led_stepped (Puts b m) seen old new (Err stop.NoMemory) h = refl
 led_stepped (Reads to) seen old new (Ok u) h = absurd h
 led_stepped (Reads to) seen old new (Err (stop.Ended e)) h = absurd h
-led_stepped (Reads to) seen old new (Err stop.NoMemory) h = tt
+led_stepped (Reads to) seen old new (Err stop.NoMemory) h = refl
 led_stepped (Ends e) seen old new (Ok u) h = absurd h
 led_stepped (Ends e) seen old new (Err (stop.Ended e')) h = (ap Some h, refl, refl)
-led_stepped (Ends e) seen old new (Err stop.NoMemory) h = tt
+led_stepped (Ends e) seen old new (Err stop.NoMemory) h = refl
 
 -- ---- what it asks
 

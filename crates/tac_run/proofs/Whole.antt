@@ -1,8 +1,9 @@
 -- A run from the moment with which code begins, under the map of its memory.
-use Rattle.std.proofs.Common.{◌≡◌, ℕ, ◌+◌, ◌-◌, ◌^◌, ◌<◌, true, Some, None, sym, subst}
+use Rattle.std.proofs.Common.{◌≡◌, ℕ, ◌+◌, ◌-◌, ◌^◌, ◌<◌, true, Some, None, sym, ap, ◌∙◌, subst}
 use Rattle.std.specs.Prelude.{slice_get}
 use Rattle.ck_base.specs.Calls.{Seen, IsRun}
 use Rattle.ck_base.specs.Runs.{outcome, ending_alone}
+use Rattle.ck_base.specs.World.{World, Outcome}
 use Rattle.ck_base.specs.declared.positions.Pos.{Pos}
 use Rattle.c_tree.specs.declared.typed.Typed.{Typed}
 use Rattle.obj_mem.specs.declared.ending.Ending.{Ending}
@@ -18,7 +19,8 @@ use Rattle.tac_steps.specs.Machine.{Moment, act, first_moment, limits}
 use Rattle.tac_steps.specs.Weights.{acts_left}
 use Rattle.tac_run.specs.Moments.{IsSound}
 use Rattle.tac_run.specs.Ready.{IsReady, objects_by}
-use Rattle.tac_run.proofs.Meant.{ran, sunk}
+use Rattle.tac_run.specs.Stopping.{StoppedShort}
+use Rattle.tac_run.proofs.Meant.{means, sunk}
 use Rattle.tac_run.proofs.Starts.{first_sound}
 
 module _ (t : Tac) (p : Typed) (turns address : ℕ) (m : Map) (x : Moment Store) where
@@ -30,15 +32,27 @@ module _ (t : Tac) (p : Typed) (turns address : ℕ) (m : Map) (x : Moment Store
     pub begins_sound : IsReady p m → is_well_formed t p ≡ true → IsSound p x
     begins_sound ready formed = subst (IsSound p) (sym first) (first_sound p m ready t formed address turns enters)
 
-    pub runs : (k n : Map) (before after : Seen) (e : Ending) → k ≡ m → m ≡ n →
-        IsRun (outcome limits (act (operations (placed_plan k)) t (objects_by p) p) ending_alone x (acts_left t x + 1))
-        before after e → IsRun (λ w. tac t p n w turns) before after e
-    runs k n before after e held same r =
-        subst (λ z. IsRun (λ w. tac t p z w turns) before after e) same
-        (ran t p m turns address before after e enters
-        (subst (λ y. IsRun (outcome limits (act ops t (objects_by p) p) ending_alone y (acts_left t y + 1)) before after
-        e) first (subst (λ z. IsRun (outcome limits (act (operations (placed_plan z)) t (objects_by p) p) ending_alone x
-        (acts_left t x + 1)) before after e) held r)))
+    abbrev run_under : Map → World → Outcome Ending
+    run_under k =
+        outcome limits (act (operations (placed_plan k)) t (objects_by p) p) ending_alone x (acts_left t x + 1)
+
+    abbrev run_from : Moment Store → World → Outcome Ending
+    run_from y = outcome limits (act ops t (objects_by p) p) ending_alone y (acts_left t y + 1)
+
+    abbrev meant_under : Map → World → Outcome Ending
+    meant_under n = λ w. tac t p n w turns
+
+    means_under : (k n : Map) → k ≡ m → m ≡ n → run_under k ≡ meant_under n
+    means_under k n held same =
+        ap run_under held ∙ (ap run_from first ∙ (means t p m turns address enters ∙ ap meant_under same))
+
+    pub runs : (k n : Map) (before after : Seen) (e : Ending) → k ≡ m → m ≡ n → IsRun (run_under k) before after e →
+        IsRun (λ w. tac t p n w turns) before after e
+    runs k n before after e held same = subst (λ o. IsRun o before after e) (means_under k n held same)
+
+    pub shortened : (k n : Map) (before after : Seen) → k ≡ m → m ≡ n → StoppedShort (run_under k) before after →
+        StoppedShort (λ w. tac t p n w turns) before after
+    shortened k n before after held same = subst (λ o. StoppedShort o before after) (means_under k n held same)
 
 -- there is no room for the frame of `main`
 pub sinks : (t : Tac) (p : Typed) (turns : ℕ) (m n : Map) (before : Seen) (name : Pos) → m ≡ n →

@@ -4,3 +4,4 @@ pub mod Ready
 pub mod Moments
 pub mod Holdings
 pub mod Views
+pub mod Stopping

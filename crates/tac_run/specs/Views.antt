@@ -167,10 +167,11 @@ Led (Ends e) old (Err (stop.Ended e')) new = e' ≡ e
 Led a old (Err stop.NoMemory) new = Unit {0}
 Led a old r new = ⊥
 
--- What an act leaves of a run under a map, against what it is; where it ends the run, what is left is not looked at
+-- What an act leaves of a run under a map, against what it is; where it ends the run, what is left is not looked at.
+-- Where there is no room for what is kept of the run, nothing was read or put
 abbrev pub Stepped : {U : Type 0} → Act (Moment Store) Ending → Seen → Seen → Run → Result U Stop → Run → Type 0
 Stepped a before after old (Ok u) new =
     Acted limits a before after (moment_of old) (moment_of new) None × (new.now.memory.map ≡ old.now.memory.map)
 Stepped a before after old (Err (stop.Ended e)) new =
     Acted limits a before after (moment_of old) (moment_of old) (Some e)
-Stepped a before after old (Err stop.NoMemory) new = Unit {0}
+Stepped a before after old (Err stop.NoMemory) new = after ≡ before

@@ -136,7 +136,8 @@ impl<'a> Held<'a> {
     /// A value in the 1, 2, 4, 8 or 16 bytes at a pointer.
     pub fn store(&mut self, p: Value, n: u8, v: Value) -> Result<(), Fault>
         requires { IsSize n }
-        ensures { Changes ((ops_of self.old).store self.old.store (value_of p) n (value_of v)) self.old result self.new }
+        ensures { Changes ((ops_of self.old).store self.old.store (value_of p) n (value_of v)) self.old result
+            self.new }
     {
         self.memory.store(p, n, v)
     }

@@ -1,9 +1,9 @@
 //! Three-address code as it runs, over separate objects under a map.
 //!
 //! Promise: of a sound program and a legal map, a run of well-formed code is what the code means, in the world of the
-//! call.
-//! Definitions (`specs/`): `Ready`, `Moments`, `Bases`, `Holdings`, `Views`.
-//! Main lemmas (`proofs/`): `Acts`, `Starts`, `Meant`, `Readiness`.
+//! call; one that memory stops is the beginning of it.
+//! Definitions (`specs/`): `Ready`, `Moments`, `Bases`, `Holdings`, `Views`, `Stopping`.
+//! Main lemmas (`proofs/`): `Acts`, `Starts`, `Meant`, `Readiness`, `Shortened`.
 #![tactic(auto)]
 
 mod calls;

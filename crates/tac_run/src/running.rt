@@ -1,7 +1,8 @@
 //! Runs of three-address code.
-ghost use Rattle.std.specs.Prelude.{◌≡◌, ◌+◌, ◌-◌, ◌^◌, ◌<◌, true, IfOk, Some};
+ghost use Rattle.std.specs.Prelude.{◌≡◌, ◌+◌, ◌-◌, ◌^◌, ◌<◌, true, IfOk, OnErr, Some};
 ghost use Rattle.ck_base.specs.Calls.{seen, IsRun, Counted};
 ghost use Rattle.ck_base.specs.Runs.{outcome, ending_alone};
+ghost use Rattle.c_tree.specs.File.{HasRoom};
 ghost use Rattle.c_tree.specs.Typing.{Sound};
 ghost use Rattle.obj_mem.specs.Needs.{Legal};
 ghost use Rattle.cheri_c_sem.specs.Calls.{start};
@@ -12,8 +13,9 @@ ghost use Rattle.tac_ir.specs.WellFormed.{is_well_formed};
 ghost use Rattle.tac_steps.specs.Machine.{act, first_moment, limits};
 ghost use Rattle.tac_steps.specs.Weights.{acts_left};
 ghost use Rattle.tac_run.specs.Moments.{IsSound};
-ghost use Rattle.tac_run.specs.Ready.{AreShort, IsReady, objects_by};
+ghost use Rattle.tac_run.specs.Ready.{IsReady, objects_by};
 ghost use Rattle.tac_run.specs.Holdings.{ops_of};
+ghost use Rattle.tac_run.specs.Stopping.{StoppedShort};
 ghost use Rattle.tac_run.specs.Views.{moment_of, ops_in};
 
 use crate::calls::{add_locals, with_zeros};
@@ -31,7 +33,7 @@ use std::alloc::Global;
 use tac_ir::Tac;
 
 impl<'a> Run<'a> {
-    /// Runs to the end.
+    /// Runs to the end, or to want of memory.
     fn run<I: Source, O: Sink>(
         mut self,
         program: Program<'_>,
@@ -52,6 +54,11 @@ impl<'a> Run<'a> {
         ensures counted { IfOk result (λ e. Counted limits
             (seen (I.left input.old) (I.faults input.old) (O.held out.old) (O.faults out.old))
             (seen (I.left input.new) (I.faults input.new) (O.held out.new) (O.faults out.new)) e) }
+        ensures short { OnErr result (StoppedShort (outcome limits
+            (act (ops_in self.entry) program.entry.t.now (objects_by program.entry.p.now) program.entry.p.now)
+            ending_alone (moment_of self.entry) (acts_left program.entry.t.now (moment_of self.entry) + 1))
+            (seen (I.left input.old) (I.faults input.old) (O.held out.old) (O.faults out.old))
+            (seen (I.left input.new) (I.faults input.new) (O.held out.new) (O.faults out.new))) }
     {
         'acts: loop {
             match self.step(program, input, out) {
@@ -98,8 +105,10 @@ fn first<'a>(
     })
 }
 
-/// Runs code, as its meaning says, under a map, with so many turns, in the world of the call. No literal is longer than
-/// an object may be.
+/// Runs code, as its meaning says, under a map, with so many turns, in the world of the call. The program's objects
+/// have room, as those of each accepted program do. Where memory is wanting, what was read and put is the beginning of
+/// the run.
+#[tactic(auto, using(crate::proofs::Shortened::not_begun))]
 pub fn run_tac<I: Source, O: Sink>(
     alloc: Global,
     t: &Tac,
@@ -111,8 +120,8 @@ pub fn run_tac<I: Source, O: Sink>(
 ) -> Result<Ending, NoMemory>
     requires formed { is_well_formed t.now p.now ≡ true }
     requires sound { Sound p.now }
+    requires room { HasRoom p.now }
     requires legal { Legal p.now m.now }
-    requires literals { AreShort p.now.literals }
     requires source_room { I.faults input.old < 2 ^ 64 - 1 }
     requires sink_room { O.faults out.old < 2 ^ 64 - 1 }
     ensures run { IfOk result (λ e. IsRun (λ w. tac t.now p.now m.now w turns)
@@ -121,6 +130,9 @@ pub fn run_tac<I: Source, O: Sink>(
     ensures counted { IfOk result (λ e. Counted limits
         (seen (I.left input.old) (I.faults input.old) (O.held out.old) (O.faults out.old))
         (seen (I.left input.new) (I.faults input.new) (O.held out.new) (O.faults out.new)) e) }
+    ensures short { OnErr result (StoppedShort (λ w. tac t.now p.now m.now w turns)
+        (seen (I.left input.old) (I.faults input.old) (O.held out.old) (O.faults out.old))
+        (seen (I.left input.new) (I.faults input.new) (O.held out.new) (O.faults out.new))) }
 {
     let types = Types::new(alloc, p)?;
     let program = Program {

@@ -1,6 +1,6 @@
 use Rattle.std.proofs.Common.{sym, subst}
 use Rattle.tac_run.specs.Ready.{IsRoomy, IsReady}
-use Rattle.tac_run.proofs.Going.{begun, further, fewer_left, over}
+use Rattle.tac_run.proofs.Going.{begun, further, fewer_left, short, over}
 use Rattle.tac_run.proofs.run.Run.run.Goals as goal
 
 pub acts-init : goal.acts-init
@@ -26,4 +26,9 @@ pub returns-in-Err-Ended : goal.returns-in-Err-Ended
 returns-in-Err-Ended g c =
     let ended = rw c.in-Err-Ended.field-0-is at c.in-Err-Ended.ensures in
     let both = over _ _ _ _ _ _ _ c.acts.invariant _ c.requires.source_room c.requires.sink_room ended in
-    record { run = both.0; counted = both.1 }
+    record { run = both.0; counted = both.1; short = tt }
+
+pub returns-in-Err-NoMemory : goal.returns-in-Err-NoMemory
+returns-in-Err-NoMemory g c =
+    let same = rw c.in-Err-NoMemory.field-0-is at c.in-Err-NoMemory.ensures in
+    record { run = tt; counted = tt; short = short _ _ _ _ _ _ _ c.acts.invariant same }
