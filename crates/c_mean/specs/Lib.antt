@@ -1,1 +1,2 @@
 pub mod HeldMemory
+pub mod Starting

@@ -1,6 +1,6 @@
 //! Memory with no addresses, as the operations that the strict meaning of programs stands on.
 
-ghost use Rattle.std.specs.Prelude.{◌≡◌, Ok};
+ghost use Rattle.std.specs.Prelude.{◌≡◌, IfOk, Ok};
 ghost use Rattle.obj_mem.specs.Access.{onward};
 ghost use Rattle.obj_mem.specs.Objects.{Strict};
 ghost use Rattle.obj_mem.specs.Values as value;
@@ -32,7 +32,11 @@ pub struct Held<'a> {
 }
 
 impl Held<'_> {
-    pub fn new(alloc: Global) -> Result<Self, NoMemory> {
+    /// Memory with no objects.
+    #[tactic(auto, unfolding(cheri_c_sem::specs::Modes::operations))]
+    pub fn new(alloc: Global) -> Result<Self, NoMemory>
+        ensures { IfOk result (λ h. store_of h.memory ≡ (operations strict_plan).empty) }
+    {
         Ok(Held {
             memory: Memory::new(alloc, Mode::Strict)?,
         })

@@ -1,5 +1,13 @@
 //! Runs of a program's meaning.
 
+ghost use Rattle.std.specs.Prelude.{◌-◌, ◌<◌, ◌≤◌, ◌^◌, IfOk};
+ghost use Rattle.ck_base.specs.Calls.{seen, IsRun, Counted};
+ghost use Rattle.c_tree.specs.File.{HasRoom, weight_limit};
+ghost use Rattle.c_tree.specs.Typing.{Sound};
+ghost use Rattle.c_tree.specs.Weight.{weight};
+ghost use Rattle.cheri_c_sem.specs.Runs.{strict};
+ghost use Rattle.mean_steps.specs.Machine.{limits};
+
 use crate::held::Held;
 use crate::start::start;
 use c_tree::Typed;
@@ -17,7 +25,18 @@ pub fn mean<I: Input, O: Sink>(
     input: &mut I,
     out: &mut O,
     turns: u64,
-) -> Result<Ending, NoMemory> {
+) -> Result<Ending, NoMemory>
+    requires sound { Sound p.now }
+    requires room { HasRoom p.now }
+    requires light { weight p.now ≤ weight_limit }
+    requires source_room { I.faults input.old < 2 ^ 64 - 1 }
+    requires sink_room { O.faults out.old < 2 ^ 64 - 1 }
+    ensures { turns < 2 ^ 47 → IfOk result (λ e. IsRun (λ w. strict p.now w turns)
+        (seen (I.left input.old) (I.faults input.old) (O.held out.old) (O.faults out.old))
+        (seen (I.left input.new) (I.faults input.new) (O.held out.new) (O.faults out.new)) e × Counted limits
+        (seen (I.left input.old) (I.faults input.old) (O.held out.old) (O.faults out.old))
+        (seen (I.left input.new) (I.faults input.new) (O.held out.new) (O.faults out.new)) e) }
+{
     let types = Types::new(alloc, p)?;
     let offsets = Offsets::new(alloc, p)?;
     let locals = Locals::new(alloc, p)?;

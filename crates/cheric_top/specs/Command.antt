@@ -1,5 +1,5 @@
 -- The command: what each answer says of the words, the files, the input and the output.
-use Rattle.std.specs.Prelude.{◌≡◌, ◌⊎◌, ℕ, ◌<◌, ◌≤◌, List, [], length, Option, Some, None, Ok, Err, ⊤}
+use Rattle.std.specs.Prelude.{◌≡◌, ◌⊎◌, ℕ, ◌<◌, ◌^◌, ◌≤◌, List, [], length, Option, Some, None, Ok, Err, ⊤}
 use Rattle.ck_base.specs.Files.{FileMap, HasFile, SameOthers}
 use Rattle.ck_base.specs.Calls.{Seen, seen, IsRun, Counted}
 use Rattle.ck_base.specs.Runs.{outcome, ending_alone}
@@ -8,6 +8,8 @@ use Rattle.c_tree.specs.File.{Accepts}
 use Rattle.c_tree.specs.declared.typed.Typed.{Typed}
 use Rattle.obj_mem.specs.declared.ending.Ending.{Ending}
 use Rattle.obj_mem.specs.declared.map.Map.{Map}
+use Rattle.cheri_c_sem.specs.Runs.{strict}
+use Rattle.mean_steps.specs.Machine.{limits as meant_limits}
 use Rattle.cap_machine.specs.declared.end.End.{End}
 use Rattle.cap_machine.specs.Containment.{IsProper}
 use Rattle.cap_machine.specs.Step.{act, limits}
@@ -134,12 +136,14 @@ ExecSays before after file steps answer =
 
 -- ---- mode `mean`
 
--- the file is accepted, and an ending is answered of a run of its strict meaning: which one that is, and what the run
--- puts and takes, is not said here
-pub record RanStrict (file : List ℕ) (answer : Answer) : Type 0 where
+-- the file is accepted as a program, of whose strict meaning so many turns were run, where these are fewer than 2^47;
+-- and the ending is answered
+pub record RanStrict (before after : Seen) (file : List ℕ) (turns : ℕ) (answer : Answer) : Type 0 where
   pub program : Typed
   pub accepted : Accepts file program
   pub ending : Ending
+  pub ran : turns < 2 ^ 47 →
+      IsRun (λ w. strict program w turns) before after ending × Counted meant_limits before after ending
   pub answered : answer ≡ meant ending
 
 -- the file was refused, or there was no memory
@@ -148,8 +152,9 @@ MeanStopped before after file (Refused code pos) = (after ≡ before) × IsFileR
 MeanStopped before after file Memory = ⊤
 MeanStopped before after file answer = ⊥
 
-abbrev pub MeanSays : Seen → Seen → List ℕ → Answer → Type 0
-MeanSays before after file answer = MeanStopped before after file answer ⊎ RanStrict file answer
+abbrev pub MeanSays : Seen → Seen → List ℕ → ℕ → Answer → Type 0
+MeanSays before after file turns answer =
+    MeanStopped before after file answer ⊎ RanStrict before after file turns answer
 
 -- ---- mode `build`
 
@@ -222,7 +227,7 @@ ModeSays a file (Run steps sizes) answer = FilesKept a × RunSays a.before a.aft
 ModeSays a file (Exec steps) answer = FilesKept a × ExecSays a.before a.after file steps answer
 ModeSays a file (Build elf sizes) answer = Untouched a × BuildSays a.files_before a.files_after file elf sizes answer
 ModeSays a file Audit answer = FilesKept a × Untouched a × AuditSays file answer
-ModeSays a file (Mean turns) answer = FilesKept a × MeanSays a.before a.after file answer
+ModeSays a file (Mean turns) answer = FilesKept a × MeanSays a.before a.after file turns answer
 ModeSays a file (ShowMap sizes) answer = FilesKept a × MapSays a.before a.after file sizes answer
 ModeSays a file (ShowListing sizes) answer = FilesKept a × ListingSays a.before a.after file sizes answer
 

@@ -39,7 +39,7 @@ pub fn mean_file<I: Source, O: Sink>(
     requires source_room { I.faults input.old < 2 ^ 64 - 1 }
     requires sink_room { O.faults out.old < 2 ^ 64 - 1 }
     ensures { MeanSays (seen (I.left input.old) (I.faults input.old) (O.held out.old) (O.faults out.old))
-        (seen (I.left input.new) (I.faults input.new) (O.held out.new) (O.faults out.new)) file.now result }
+        (seen (I.left input.new) (I.faults input.new) (O.held out.new) (O.faults out.new)) file.now turns result }
 {
     let program = match accepted(alloc, file) {
         Ok(program) => program,

@@ -23,6 +23,7 @@ use Rattle.mean_run.specs.declared.work.Stop.TheVariants as stop
 use Rattle.mean_run.specs.Finished.{FinishedBy, Finishes}
 use Rattle.mean_run.specs.Parts.{Does, Unless_wanting}
 use Rattle.mean_run.specs.Sources.{IsNode}
+use Rattle.mean_run.specs.Sizes.{IsSizedBy}
 use Rattle.mean_run.specs.Steps.{IsPeeled, is_call, is_kept}
 use Rattle.mean_run.specs.Views.{vars_at, moment_of, funs_of}
 use Rattle.mean_run.proofs.Nodes.{no_node}
@@ -58,46 +59,46 @@ module _ (ops : Operations Store) (p : Typed) (f k : ℕ) (held left : Store) (o
 
   finishes_by : (of : ℕ) (pos : Pos) (kind : ExprKind) → node k ≡ kind_tree p vars node of pos kind →
       ((a : ℕ) → kind ≡ exprs.Convert a → is_kept (bare_type p vars a) (bare p.types of) ≡ true) →
-      is_call kind ≡ false → FinishedBy ops p f held left old new r of pos kind → Finished (node k)
-  finishes_by of pos (exprs.Load a) e peeled call b = rw e (b (node a))
-  finishes_by of pos (exprs.Decay a) e peeled call b = rw e (b (node a))
-  finishes_by of pos (exprs.Address a) e peeled call b = rw e (b (node a))
-  finishes_by of pos (exprs.Deref a) e peeled call b = rw e (b (node a))
-  finishes_by of pos (exprs.Member a n) e peeled call b = rw e (b (offset_in p.types (type_of (slice_get p.exprs a)) n) (node a))
-  finishes_by of pos (exprs.Convert a) e peeled call b = rw e (b (node a) (peeled a refl))
-  finishes_by of pos (exprs.Unary op a) e peeled call b = rw e (b (node a))
-  finishes_by of pos (exprs.Compare op x y) e peeled call b = rw e (b (node x) (node y))
-  finishes_by of pos (exprs.Assign x y) e peeled call b = rw e (b (node x) (node y))
-  finishes_by of pos (exprs.Compound op x y computed) e peeled call b = rw e (b (node x) (node y))
-  finishes_by of pos (exprs.Step a adds front) e peeled call b = rw e (b (node a) (Number 1))
-  finishes_by of pos (exprs.Int op x y) e peeled call b = rw e b
-  finishes_by of pos (exprs.Capability op x y right) e peeled call b = rw e b
-  finishes_by of pos (exprs.Plus x y minus) e peeled call b = rw e b
-  finishes_by of pos (exprs.Difference x y) e peeled call b = rw e b
-  finishes_by of pos (exprs.Call g args) e peeled call b = absurd (let h : true ≡ false = call in cc)
-  finishes_by of pos (exprs.Library n args) e peeled call b = absurd (let h : true ≡ false = call in cc)
-  finishes_by of pos (exprs.Constant n) e peeled call b =
+      IsSizedBy p of kind → is_call kind ≡ false → FinishedBy ops p f held left old new r of pos kind → Finished (node k)
+  finishes_by of pos (exprs.Load a) e peeled sized call b = rw e (b (node a))
+  finishes_by of pos (exprs.Decay a) e peeled sized call b = rw e (b sized (node a))
+  finishes_by of pos (exprs.Address a) e peeled sized call b = rw e (b sized (node a))
+  finishes_by of pos (exprs.Deref a) e peeled sized call b = rw e (b (node a))
+  finishes_by of pos (exprs.Member a n) e peeled sized call b = rw e (b (offset_in p.types (type_of (slice_get p.exprs a)) n) (node a))
+  finishes_by of pos (exprs.Convert a) e peeled sized call b = rw e (b (node a) (peeled a refl))
+  finishes_by of pos (exprs.Unary op a) e peeled sized call b = rw e (b (node a))
+  finishes_by of pos (exprs.Compare op x y) e peeled sized call b = rw e (b (node x) (node y))
+  finishes_by of pos (exprs.Assign x y) e peeled sized call b = rw e (b sized (node x) (node y))
+  finishes_by of pos (exprs.Compound op x y computed) e peeled sized call b = rw e (b sized (node x) (node y))
+  finishes_by of pos (exprs.Step a adds front) e peeled sized call b = rw e (b sized (node a) (Number 1))
+  finishes_by of pos (exprs.Int op x y) e peeled sized call b = rw e b
+  finishes_by of pos (exprs.Capability op x y right) e peeled sized call b = rw e b
+  finishes_by of pos (exprs.Plus x y minus) e peeled sized call b = rw e (b sized)
+  finishes_by of pos (exprs.Difference x y) e peeled sized call b = rw e (b sized)
+  finishes_by of pos (exprs.Call g args) e peeled sized call b = absurd (let h : true ≡ false = call in cc)
+  finishes_by of pos (exprs.Library n args) e peeled sized call b = absurd (let h : true ≡ false = call in cc)
+  finishes_by of pos (exprs.Constant n) e peeled sized call b =
       rw e (idle r _ (constant_idle ops (funs_of p) (moment_of p old held) n (kind_of (bare p.types of))) b)
-  finishes_by of pos (exprs.Literal n) e peeled call b =
+  finishes_by of pos (exprs.Literal n) e peeled sized call b =
       rw e (idle r (kind_tree p vars node of pos (exprs.Literal n)) refl b)
-  finishes_by of pos (exprs.Var x) e peeled call b =
+  finishes_by of pos (exprs.Var x) e peeled sized call b =
       rw e (idle r _ (variable_idle ops (funs_of p) (moment_of p old held) (is_simple (slice_get vars x)) pos x _) b)
-  finishes_by of pos (exprs.Global g) e peeled call b =
+  finishes_by of pos (exprs.Global g) e peeled sized call b =
       rw e (idle r (kind_tree p vars node of pos (exprs.Global g)) refl b)
-  finishes_by of pos (exprs.Fun g) e peeled call b =
+  finishes_by of pos (exprs.Fun g) e peeled sized call b =
       rw e (idle r (kind_tree p vars node of pos (exprs.Fun g)) refl b)
-  finishes_by of pos (exprs.And x y) e peeled call b =
+  finishes_by of pos (exprs.And x y) e peeled sized call b =
       rw e (idle r (kind_tree p vars node of pos (exprs.And x y)) refl b)
-  finishes_by of pos (exprs.Or x y) e peeled call b =
+  finishes_by of pos (exprs.Or x y) e peeled sized call b =
       rw e (idle r (kind_tree p vars node of pos (exprs.Or x y)) refl b)
-  finishes_by of pos (exprs.Conditional c x y) e peeled call b =
+  finishes_by of pos (exprs.Conditional c x y) e peeled sized call b =
       rw e (idle r (kind_tree p vars node of pos (exprs.Conditional c x y)) refl b)
-  finishes_by of pos (exprs.Comma x y) e peeled call b =
+  finishes_by of pos (exprs.Comma x y) e peeled sized call b =
       rw e (idle r (kind_tree p vars node of pos (exprs.Comma x y)) refl b)
 
-  pub finishes : (e : Expr) → IsNode p k e → IsPeeled p vars e → is_call e.kind ≡ false →
+  pub finishes : (e : Expr) → IsNode p k e → IsPeeled p vars e → IsSizedBy p e.of e.kind → is_call e.kind ≡ false →
       FinishedBy ops p f held left old new r e.of e.pos e.kind → Finished (node k)
-  finishes e at peeled call b = finishes_by e.of e.pos e.kind (at vars) peeled call b
+  finishes e at peeled sized call b = finishes_by e.of e.pos e.kind (at vars) peeled sized call b
 
   -- an expression that is not there
   pub finishes_none : false ≡ ltb k (length p.exprs) →

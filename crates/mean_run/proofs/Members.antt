@@ -168,7 +168,7 @@ module _ (types : List CType) where
       AreOffsetsOf types t row
   in_type t o row e s =
       let h = subst (λ o. AreStartsIn (extent types) o row) (sym e) s in
-      record { count = λ few. h.count; each = λ w. h.each (within_by (length types) t w.0 w.1 w.2) }
+      record { count = h.count; each = λ w. h.each (within_by (length types) t w.0 w.1 w.2) }
 
 pub in_none : (go : ℕ → Option Extent) → AreStartsIn go None []
 in_none go = record { count = refl; each = λ w k n e. absurd (let g : None ≡ Some n = e in cc) }
@@ -223,7 +223,7 @@ module _ (types : List CType) (all : List (List ℕ)) (known : AreOffsets types 
 
   pub not_past : (row : List ℕ) → slice_get all t ≡ Some row → slice_get row member ≡ None → ⊥
   not_past row e g =
-      let count = (known.each t row lt e).count has.few in
+      let count = (known.each t row lt e).count in
       let there = has.there in
       let past = missing row member g in
       omega arith

@@ -32,6 +32,7 @@ use Rattle.mean_run.specs.Offsets.{HasMember}
 use Rattle.mean_run.specs.Parts.{Does, LeavesIt, Unless_wanting}
 use Rattle.mean_run.specs.Placed.{PlaceFinishedBy, nowhere}
 use Rattle.mean_run.specs.Sources.{IsNode}
+use Rattle.mean_run.specs.Sizes.{IsSizedBy}
 use Rattle.mean_run.specs.Steps.{IsPeeled, is_kept}
 use Rattle.mean_run.specs.Views.{funs_of, moment_of, now_of, place_of, vars_at}
 use Rattle.mean_run.proofs.Nodes.{no_node}
@@ -97,62 +98,62 @@ module _ (ops : Operations Store) (p : Typed) (f k : ℕ) (held left : Store) (o
   finishes_by : (of : ℕ) (pos : Pos) (kind : ExprKind) → node k ≡ kind_tree p vars node of pos kind →
       ((a : ℕ) → kind ≡ exprs.Convert a → is_kept (bare_type p vars a) (bare p.types of) ≡ true) →
       ((a n : ℕ) → kind ≡ exprs.Member a n → HasMember p.types (type_of (slice_get p.exprs a)) n) →
-      PlaceFinishedBy ops p f held left old new r of pos kind → Done (node k)
-  finishes_by of pos (exprs.Deref a) e peeled has b = rw e (b (node a))
-  finishes_by of pos (exprs.Member a n) e peeled has b = rw e (b (has a n refl) (node a))
-  finishes_by of pos (exprs.Assign x y) e peeled has b = rw e (b (node x) (node y))
-  finishes_by of pos (exprs.Constant n) e peeled has b =
+      IsSizedBy p of kind → PlaceFinishedBy ops p f held left old new r of pos kind → Done (node k)
+  finishes_by of pos (exprs.Deref a) e peeled has sized b = rw e (b (node a))
+  finishes_by of pos (exprs.Member a n) e peeled has sized b = rw e (b (has a n refl) (node a))
+  finishes_by of pos (exprs.Assign x y) e peeled has sized b = rw e (b sized (node x) (node y))
+  finishes_by of pos (exprs.Constant n) e peeled has sized b =
       rw e (idle r (kind_tree p vars node of pos (exprs.Constant n)) (constant_idle ops (funs_of p) m n (kind_of (bare p.types of))) b)
-  finishes_by of pos (exprs.Literal n) e peeled has b =
+  finishes_by of pos (exprs.Literal n) e peeled has sized b =
       rw e (idle r (kind_tree p vars node of pos (exprs.Literal n)) refl b)
-  finishes_by of pos (exprs.Var x) e peeled has b =
+  finishes_by of pos (exprs.Var x) e peeled has sized b =
       rw e (idle r (kind_tree p vars node of pos (exprs.Var x)) (variable_idle ops (funs_of p) m (is_simple (slice_get vars x)) pos x _) b)
-  finishes_by of pos (exprs.Global g) e peeled has b =
+  finishes_by of pos (exprs.Global g) e peeled has sized b =
       rw e (idle r (kind_tree p vars node of pos (exprs.Global g)) refl b)
-  finishes_by of pos (exprs.Fun g) e peeled has b =
+  finishes_by of pos (exprs.Fun g) e peeled has sized b =
       rw e (idle r (kind_tree p vars node of pos (exprs.Fun g)) refl b)
-  finishes_by of pos (exprs.Load a) e peeled has b =
+  finishes_by of pos (exprs.Load a) e peeled has sized b =
       rw e (idle r (kind_tree p vars node of pos (exprs.Load a)) (load_idle ops (funs_of p) m (is_record (bare p.types of)) _ (node a)) b)
-  finishes_by of pos (exprs.Decay a) e peeled has b =
+  finishes_by of pos (exprs.Decay a) e peeled has sized b =
       rw e (idle r (kind_tree p vars node of pos (exprs.Decay a)) refl b)
-  finishes_by of pos (exprs.Address a) e peeled has b =
+  finishes_by of pos (exprs.Address a) e peeled has sized b =
       rw e (idle r (kind_tree p vars node of pos (exprs.Address a)) refl b)
-  finishes_by of pos (exprs.Convert a) e peeled has b =
+  finishes_by of pos (exprs.Convert a) e peeled has sized b =
       rw e (idle r (kind_tree p vars node of pos (exprs.Convert a)) (convert_idle ops (funs_of p) m p vars (is_void (bare p.types of)) pos (scalar_of (bare_type p vars a)) (scalar_of (bare p.types of)) _
       (node a) (peeled a refl)) b)
-  finishes_by of pos (exprs.Unary op a) e peeled has b =
+  finishes_by of pos (exprs.Unary op a) e peeled has sized b =
       rw e (idle r (kind_tree p vars node of pos (exprs.Unary op a)) (sign_idle ops (funs_of p) m pos _ (node a) op) b)
-  finishes_by of pos (exprs.Int op x y) e peeled has b =
+  finishes_by of pos (exprs.Int op x y) e peeled has sized b =
       rw e (idle r (kind_tree p vars node of pos (exprs.Int op x y)) refl b)
-  finishes_by of pos (exprs.Capability op x y right) e peeled has b =
+  finishes_by of pos (exprs.Capability op x y right) e peeled has sized b =
       rw e (idle r (kind_tree p vars node of pos (exprs.Capability op x y right)) refl b)
-  finishes_by of pos (exprs.Plus x y minus) e peeled has b =
+  finishes_by of pos (exprs.Plus x y minus) e peeled has sized b =
       rw e (idle r (kind_tree p vars node of pos (exprs.Plus x y minus)) (sum_idle ops (funs_of p) m (is_pointer (bare_type p vars x)) pos _ _ (node x) (node y)) b)
-  finishes_by of pos (exprs.Difference x y) e peeled has b =
+  finishes_by of pos (exprs.Difference x y) e peeled has sized b =
       rw e (idle r (kind_tree p vars node of pos (exprs.Difference x y)) refl b)
-  finishes_by of pos (exprs.Compare op x y) e peeled has b =
+  finishes_by of pos (exprs.Compare op x y) e peeled has sized b =
       rw e (idle r (kind_tree p vars node of pos (exprs.Compare op x y)) refl b)
-  finishes_by of pos (exprs.And x y) e peeled has b =
+  finishes_by of pos (exprs.And x y) e peeled has sized b =
       rw e (idle r (kind_tree p vars node of pos (exprs.And x y)) refl b)
-  finishes_by of pos (exprs.Or x y) e peeled has b =
+  finishes_by of pos (exprs.Or x y) e peeled has sized b =
       rw e (idle r (kind_tree p vars node of pos (exprs.Or x y)) refl b)
-  finishes_by of pos (exprs.Conditional c x y) e peeled has b =
+  finishes_by of pos (exprs.Conditional c x y) e peeled has sized b =
       rw e (idle r (kind_tree p vars node of pos (exprs.Conditional c x y)) refl b)
-  finishes_by of pos (exprs.Comma x y) e peeled has b =
+  finishes_by of pos (exprs.Comma x y) e peeled has sized b =
       rw e (idle r (kind_tree p vars node of pos (exprs.Comma x y)) refl b)
-  finishes_by of pos (exprs.Compound op x y computed) e peeled has b =
+  finishes_by of pos (exprs.Compound op x y computed) e peeled has sized b =
       rw e (idle r (kind_tree p vars node of pos (exprs.Compound op x y computed)) refl b)
-  finishes_by of pos (exprs.Step a adds front) e peeled has b =
+  finishes_by of pos (exprs.Step a adds front) e peeled has sized b =
       rw e (idle r (kind_tree p vars node of pos (exprs.Step a adds front)) refl b)
-  finishes_by of pos (exprs.Call g args) e peeled has b =
+  finishes_by of pos (exprs.Call g args) e peeled has sized b =
       rw e (idle r (kind_tree p vars node of pos (exprs.Call g args)) refl b)
-  finishes_by of pos (exprs.Library n args) e peeled has b =
+  finishes_by of pos (exprs.Library n args) e peeled has sized b =
       rw e (idle r (kind_tree p vars node of pos (exprs.Library n args)) refl b)
 
   pub place_finishes : (e : Expr) → IsNode p k e → IsPeeled p vars e →
       ((a n : ℕ) → e.kind ≡ exprs.Member a n → HasMember p.types (type_of (slice_get p.exprs a)) n) →
-      PlaceFinishedBy ops p f held left old new r e.of e.pos e.kind → Done (node k)
-  place_finishes e at peeled has b = finishes_by e.of e.pos e.kind (at vars) peeled has b
+      IsSizedBy p e.of e.kind → PlaceFinishedBy ops p f held left old new r e.of e.pos e.kind → Done (node k)
+  place_finishes e at peeled has sized b = finishes_by e.of e.pos e.kind (at vars) peeled has sized b
 
   pub place_none : false ≡ ltb k (length p.exprs) → Unless_wanting r ((new ≡ nowhere old) × (left ≡ held)) →
       Done (node k)

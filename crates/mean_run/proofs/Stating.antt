@@ -36,6 +36,7 @@ use Rattle.mean_run.specs.Begun.{assigned}
 use Rattle.mean_run.specs.Done.{DoneBy, Executes, Here, InitializedBy, SwitchedBy}
 use Rattle.mean_run.specs.Labels.{IsAt, at_label, labels_of}
 use Rattle.mean_run.specs.Parts.{Becomes, Did, DidAll, Does, Gives, LeavesIt, Unless_wanting}
+use Rattle.mean_run.specs.Sizes.{IsSizedStatement}
 use Rattle.mean_run.specs.Views.{funs_of, item_of, moment_of, now_of, place_of, vars_at}
 use Rattle.mean_run.proofs.Tops.{map_behind}
 
@@ -321,21 +322,21 @@ module _ (ops : Operations Store) (p : Typed) (f k : ℕ) (pos : Pos) (held left
   idle (Err (stop.Ended x)) a e q = absurd q
 
   pub initializes_by : (r : Result (Unit {0}) Stop) (kind : StmtKind) → Here ops p f k pos kind →
-      InitializedBy ops p f pos held left old new r kind →
+      IsSizedStatement p kind → InitializedBy ops p f pos held left old new r kind →
       Does (initialize ops (funs_of p) (stmt_tree p (vars_at p f) k) m') (moment_of p new left) r
-  initializes_by r (stmts.Init x offset e) node d = rw node (d (expr_tree p (vars_at p f) e))
-  initializes_by r (stmts.Block xs ks) node d = idle r _ (rw node refl) d
-  initializes_by r (stmts.For xs first test step a) node d = idle r _ (rw node refl) d
-  initializes_by r stmts.Break node d = idle r _ (rw node refl) d
-  initializes_by r stmts.Continue node d = idle r _ (rw node refl) d
-  initializes_by r (stmts.Return None) node d = idle r _ (rw node refl) d
-  initializes_by r (stmts.Return (Some e)) node d = idle r _ (rw node refl) d
-  initializes_by r (stmts.Expr e) node d = idle r _ (rw node refl) d
-  initializes_by r (stmts.If c a b) node d = idle r _ (rw node refl) d
-  initializes_by r (stmts.While c a) node d = idle r _ (rw node refl) d
-  initializes_by r (stmts.Do a c) node d = idle r _ (rw node refl) d
-  initializes_by r (stmts.Switch on xs labels ks) node d = idle r _ (rw node refl) d
-  initializes_by r stmts.Empty node d = idle r _ (rw node refl) d
+  initializes_by r (stmts.Init x offset e) node sized d = rw node (d sized (expr_tree p (vars_at p f) e))
+  initializes_by r (stmts.Block xs ks) node sized d = idle r _ (rw node refl) d
+  initializes_by r (stmts.For xs first test step a) node sized d = idle r _ (rw node refl) d
+  initializes_by r stmts.Break node sized d = idle r _ (rw node refl) d
+  initializes_by r stmts.Continue node sized d = idle r _ (rw node refl) d
+  initializes_by r (stmts.Return None) node sized d = idle r _ (rw node refl) d
+  initializes_by r (stmts.Return (Some e)) node sized d = idle r _ (rw node refl) d
+  initializes_by r (stmts.Expr e) node sized d = idle r _ (rw node refl) d
+  initializes_by r (stmts.If c a b) node sized d = idle r _ (rw node refl) d
+  initializes_by r (stmts.While c a) node sized d = idle r _ (rw node refl) d
+  initializes_by r (stmts.Do a c) node sized d = idle r _ (rw node refl) d
+  initializes_by r (stmts.Switch on xs labels ks) node sized d = idle r _ (rw node refl) d
+  initializes_by r stmts.Empty node sized d = idle r _ (rw node refl) d
 
   pub lost : (r : Result (Unit {0}) Stop) (a : St) → choose_label ops (funs_of p) a m' ≡ Goes (less_value m') →
       Unless_wanting r ((new ≡ record old { values = behind old.values }) × (left ≡ held)) →

@@ -14,6 +14,7 @@ use Rattle.mean_run.specs.declared.state.State.{State}
 use Rattle.mean_run.specs.declared.work.Stop.{Stop}
 use Rattle.mean_run.specs.Begun.{Executed}
 use Rattle.mean_run.specs.Parts.{Does, Unless_wanting}
+use Rattle.mean_run.specs.Sizes.{IsSmall}
 use Rattle.mean_run.specs.Views.{funs_of, moment_of, vars_at}
 
 module _ (ops : Operations Store) (p : Typed) (f : ℕ) where
@@ -44,6 +45,6 @@ module _ (ops : Operations Store) (p : Typed) (f : ℕ) where
   module _ (pos : Pos) (held left : Store) (old new : State) (r : Result (Unit {0}) Stop) where
     abbrev pub InitializedBy : StmtKind → Type 0
     InitializedBy (stmts.Init x offset e) =
-        (v : Ex) → Does (initialize ops (funs_of p) (initialisation p (vars_at p f) pos x offset
+        IsSmall p (type_of (slice_get p.exprs e)) → (v : Ex) → Does (initialize ops (funs_of p) (initialisation p (vars_at p f) pos x offset
         (type_of (slice_get p.exprs e)) v) (moment_of p old held)) (moment_of p new left) r
     InitializedBy s = Unless_wanting r ((new ≡ old) × (left ≡ held))

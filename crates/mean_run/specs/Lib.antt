@@ -1,6 +1,7 @@
 pub mod Stacks
 pub mod Views
 pub mod Steps
+pub mod Sizes
 pub mod Sources
 pub mod Parts
 pub mod Allocated

@@ -39,7 +39,7 @@ IsWhole types t = (x : Extent) × (extent types t ≡ Some x) × (x.size ≤ siz
 
 -- the offsets of the members of one type, and of all types of a list
 pub record AreOffsetsOf (types : List CType) (t : ℕ) (row : List ℕ) : Type 0 where
-  pub count : length (members_of (bare types t)) < 2 ^ 32 → length row ≡ length (members_of (bare types t))
+  pub count : length row ≡ length (members_of (bare types t))
   pub each : IsWhole types t → (k n : ℕ) → slice_get row k ≡ Some n → Some n ≡ member_at types t k
 
 pub record AreOffsets (types : List CType) (all : List (List ℕ)) : Type 0 where
@@ -49,5 +49,4 @@ pub record AreOffsets (types : List CType) (all : List (List ℕ)) : Type 0 wher
 -- a struct or union of a size has a member of this number
 pub record HasMember (types : List CType) (t member : ℕ) : Type 0 where
   pub whole : IsWhole types t
-  pub few : length (members_of (bare types t)) < 2 ^ 32
   pub there : member < length (members_of (bare types t))

@@ -22,6 +22,7 @@ use Rattle.mean_run.specs.declared.state.State.{State}
 use Rattle.mean_run.specs.declared.work.Place.TheVariants as place
 use Rattle.mean_run.specs.declared.work.Work.TheVariants as work
 use Rattle.mean_run.specs.declared.work.TheConstants.{NOWHERE}
+use Rattle.mean_run.specs.Sizes.{IsSmall}
 use Rattle.mean_run.specs.Views.{vars_at, moment_of, funs_of}
 
 -- the place that a tree designates at once
@@ -72,5 +73,6 @@ module _ (ops : Operations Store) (p : Typed) (f : ℕ) (held left : Store) (old
   PlaceFinishedBy of pos (exprs.Member a n) =
       HasMember p.types (type_of (slice_get p.exprs a)) n → (x : Ex) →
       PlaceFinishes (tree.Member pos (offset_in p.types (type_of (slice_get p.exprs a)) n) x)
-  PlaceFinishedBy of pos (exprs.Assign a b) = (x y : Ex) → PlaceFinishes (assignment p (vars_at p f) pos of a x y)
+  PlaceFinishedBy of pos (exprs.Assign a b) =
+      IsSmall p of → (x y : Ex) → PlaceFinishes (assignment p (vars_at p f) pos of a x y)
   PlaceFinishedBy of pos e = Unless_wanting r ((new ≡ nowhere old) × (left ≡ held))

@@ -17,6 +17,7 @@ ghost use Rattle.mean_steps.specs.Parts.{Now, at_end, called, pass, pass_one};
 ghost use Rattle.mean_run.specs.Calls.{Ended, Enters, given_behind};
 ghost use Rattle.mean_run.specs.Views.{moment_of, caller_of, fun_of, funs_of, now_of};
 ghost use Rattle.mean_run.specs.Parts.{Did, Does, Gives, Unless_wanting};
+ghost use Rattle.mean_run.specs.Sizes.{AreSizedVariables, IsSmall};
 ghost use Rattle.mean_run.specs.Sources.{IsFit, IsSource};
 
 use crate::call::Call;
@@ -90,7 +91,7 @@ fn add_objects<B: Storage>(
 ) -> Result<(), NoMemory>
     requires { IsSource s.now }
     ensures same { B.meaning m.new ≡ B.meaning m.old }
-    ensures did { IsFit s.now.p.now → OnOk result (B.held m.new
+    ensures did { AreSizedVariables s.now.p.now vars.now → OnOk result (B.held m.new
         ≡ add_locals (B.meaning m.old) (B.held m.old) frame g 0 (lengths_of s.now.p.now vars.now)) }
 {
     let mut n: u64 = 0;
@@ -115,7 +116,7 @@ fn add_object<B: Storage>(
     requires { IsSource s.now }
     ensures same { B.meaning m.new ≡ B.meaning m.old }
     ensures next { n + 1 < 2 ^ 64 → IfOk result (λ k. k ≡ n + (if v.now.simple then 0 else 1)) }
-    ensures did { IsFit s.now.p.now → OnOk result (B.held m.new ≡ (if v.now.simple then B.held m.old
+    ensures did { IsSmall s.now.p.now v.now.of → OnOk result (B.held m.new ≡ (if v.now.simple then B.held m.old
         else (B.meaning m.old).add_local (B.held m.old) frame g n (size_in s.now.p.now.types v.now.of))) }
 {
     if v.simple {
@@ -243,7 +244,8 @@ impl State {
     ) -> Result<(), Stop>
         requires { IsSource s.now }
         ensures same { B.meaning m.new ≡ B.meaning m.old }
-        ensures did { IsFit s.now.p.now → Enters (B.meaning m.old) s.now.p.now g d.now self.old self.new (B.held m.old)
+        ensures did { AreSizedVariables s.now.p.now d.now.vars →
+            Enters (B.meaning m.old) s.now.p.now g d.now self.old self.new (B.held m.old)
             (B.held m.new) ((B.meaning m.old).enter g self.old.call.frame) result }
     {
         match m.enter(g, self.call.frame) {
@@ -262,7 +264,8 @@ impl State {
     ) -> Result<(), Stop>
         requires { IsSource s.now }
         ensures same { B.meaning m.new ≡ B.meaning m.old }
-        ensures did { IsFit s.now.p.now → Enters (B.meaning m.old) s.now.p.now g d.now self.old self.new (B.held m.old)
+        ensures did { AreSizedVariables s.now.p.now d.now.vars →
+            Enters (B.meaning m.old) s.now.p.now g d.now self.old self.new (B.held m.old)
             (B.held m.new) (Some address) result }
     {
         let vars = d.vars.as_slice();

@@ -28,6 +28,7 @@ ghost use Rattle.mean_run.specs.Changes.{changed_by, changes};
 ghost use Rattle.mean_run.specs.Choices.{is_binary};
 ghost use Rattle.mean_run.specs.Finished.{FinishedBy};
 ghost use Rattle.mean_run.specs.Parts.{Does, Gives, Unless_wanting, given_in};
+ghost use Rattle.mean_run.specs.Sizes.{IsSizedBy, IsSmall, PointsToSmall};
 ghost use Rattle.mean_run.specs.Sources.{IsFit, IsSource, IsNode};
 ghost use Rattle.mean_run.specs.Steps.{IsPeeled, is_kept, is_call};
 ghost use Rattle.mean_run.specs.Views.{moment_of, now_of, place_of, vars_at, funs_of};
@@ -125,7 +126,8 @@ impl State {
         requires no_call { is_call e.now.kind ≡ false }
         ensures same { B.meaning m.new ≡ B.meaning m.old }
         ensures does { IsFit s.now.p.now → IsNode s.now.p.now k e.now →
-            IsPeeled s.now.p.now (vars_at s.now.p.now f) e.now → Does (finish_item (B.meaning m.old)
+            IsPeeled s.now.p.now (vars_at s.now.p.now f) e.now → IsSizedBy s.now.p.now e.now.of e.now.kind →
+            Does (finish_item (B.meaning m.old)
             (funs_of s.now.p.now) (expr_tree s.now.p.now (vars_at s.now.p.now f) k)
             (moment_of s.now.p.now self.old (B.held m.old)))
             (moment_of s.now.p.now self.new (B.held m.new)) result }
@@ -199,7 +201,8 @@ impl State {
     /// A binary operation.
     fn binary<B: Operations>(&mut self, m: &B, s: &Source<'_>, e: &Expr) -> Result<(), Stop>
         requires { IsSource s.now }
-        ensures { IsFit s.now.p.now → (vars : List VarDef) → is_binary e.now.kind ≡ true →
+        ensures { IsFit s.now.p.now → (vars : List VarDef) → IsSizedBy s.now.p.now e.now.of e.now.kind →
+            is_binary e.now.kind ≡ true →
             Does (finish_item (B.meaning m.now) (funs_of s.now.p.now)
             (kind_tree s.now.p.now vars (expr_tree s.now.p.now vars) e.now.of e.now.pos e.now.kind)
             (moment_of s.now.p.now self.old (B.held m.now)))
@@ -224,7 +227,8 @@ impl State {
     ) -> Result<(), Stop>
         requires { IsSource s.now }
         ensures same { B.meaning m.new ≡ B.meaning m.old }
-        ensures does { IsFit s.now.p.now → (vars : List VarDef) (x y : Ex) → Does (finish_item (B.meaning m.old)
+        ensures does { IsFit s.now.p.now → (vars : List VarDef) →
+            PointsToSmall s.now.p.now (bare s.now.p.now.types computed) → (x y : Ex) → Does (finish_item (B.meaning m.old)
             (funs_of s.now.p.now) (Compound pos (compound_by s.now.p.now vars op (bare s.now.p.now.types computed) a b
             (expr_tree s.now.p.now vars b)) (kind_at s.now.p.now vars a)
             (kind_of_type (bare s.now.p.now.types computed)) false x y)
@@ -246,7 +250,8 @@ impl State {
     ) -> Result<(), Stop>
         requires { IsSource s.now }
         ensures same { B.meaning m.new ≡ B.meaning m.old }
-        ensures does { IsFit s.now.p.now → (vars : List VarDef) (x y : Ex) → Does (finish_item (B.meaning m.old)
+        ensures does { (vars : List VarDef) → PointsToSmall s.now.p.now (bare_type s.now.p.now vars a) →
+            (x y : Ex) → Does (finish_item (B.meaning m.old)
             (funs_of s.now.p.now) (Compound pos (step_operation s.now.p.now vars adds (bare_type s.now.p.now vars a))
             (kind_at s.now.p.now vars a) (step_kind s.now.p.now vars (kind_at s.now.p.now vars a)) (not front) x y)
             (moment_of s.now.p.now self.old (B.held m.old)))
@@ -302,7 +307,8 @@ impl State {
     ) -> Result<(), Stop>
         requires { IsSource s.now }
         ensures same { B.meaning m.new ≡ B.meaning m.old }
-        ensures does { IsFit s.now.p.now → (vars : List VarDef) (x : Ex) → Does (finish_item (B.meaning m.old)
+        ensures does { (vars : List VarDef) → IsSmall s.now.p.now (type_of (slice_get s.now.p.now.exprs a)) →
+            (x : Ex) → Does (finish_item (B.meaning m.old)
             (funs_of s.now.p.now) (Pointer_to pos (narrowing_of s.now.p.now vars (slice_get s.now.p.now.exprs a)) x)
             (moment_of s.now.p.now self.old (B.held m.old)))
             (moment_of s.now.p.now self.new (B.held m.new)) result }
@@ -383,8 +389,8 @@ impl State {
     ) -> Result<(), Stop>
         requires { IsSource s.now }
         ensures same { B.meaning m.new ≡ B.meaning m.old }
-        ensures does { IsFit s.now.p.now → (vars : List VarDef) (x y : Ex) → Does (finish_item (B.meaning m.old)
-            (funs_of s.now.p.now) (assignment s.now.p.now vars e.now.pos e.now.of a x y)
+        ensures does { IsFit s.now.p.now → (vars : List VarDef) → IsSmall s.now.p.now e.now.of → (x y : Ex) →
+            Does (finish_item (B.meaning m.old) (funs_of s.now.p.now) (assignment s.now.p.now vars e.now.pos e.now.of a x y)
             (moment_of s.now.p.now self.old (B.held m.old)))
             (moment_of s.now.p.now self.new (B.held m.new)) result }
     {

@@ -5,7 +5,7 @@ ghost use Rattle.c_tree.specs.Layout.{bare};
 ghost use Rattle.c_tree.specs.declared.typed.Typed.{Typed};
 ghost use Rattle.c_tree.specs.declared.typed.VarDef.{VarDef};
 ghost use Rattle.cheri_c_sem.specs.Types.{is_shift, adds_or_takes, is_plain, is_pointer, kind_of as kind_of_type};
-ghost use Rattle.cheri_c_sem.specs.Types.{derived, derives_right, is_signed_capability, takes_away};
+ghost use Rattle.cheri_c_sem.specs.Types.{derived, derives_right, is_signed_capability, pointee_of, takes_away};
 ghost use Rattle.c_tree.specs.declared.typed.CType.{CType};
 ghost use Rattle.cheri_c_sem.specs.Tree as tree;
 ghost use Rattle.cheri_c_sem.specs.Expressions.{type_of, bare_type, element_size, from_plain, expr_tree, compound_by};
@@ -14,6 +14,7 @@ ghost use Rattle.mean_types.specs.Facts.{AreFactsOf, AreOwn};
 ghost use Rattle.mean_types.specs.Views.{kind_of};
 ghost use Rattle.mean_operations.specs.Views.{operation_of};
 ghost use Rattle.mean_run.specs.Choices.{is_capability_integer, operand_of, IsBinaryBy};
+ghost use Rattle.mean_run.specs.Sizes.{IsSizedBy, IsSmall, PointsToSmall};
 ghost use Rattle.mean_run.specs.Sources.{IsFit, IsSource};
 
 use crate::choices::kind_at;
@@ -59,7 +60,8 @@ fn facts_at(s: &Source<'_>, k: u32) -> TypeFacts
 /// The size of what a pointer points to.
 fn element_size(s: &Source<'_>, k: u32) -> u64
     requires { IsSource s.now }
-    ensures { IsFit s.now.p.now → (vars : List VarDef) → result ≡ element_size s.now.p.now vars k }
+    ensures { (vars : List VarDef) → IsSmall s.now.p.now (pointee_of (bare_type s.now.p.now vars k)) →
+        result ≡ element_size s.now.p.now vars k }
 {
     s.types.facts(s.p, facts_at(s, k).target).size
 }
@@ -163,8 +165,9 @@ fn takes_away(op: IntOp) -> bool
 /// The operation of a compound assignment, computed in a type.
 fn compound(s: &Source<'_>, op: IntOp, a: u32, b: u32, computed: u32) -> Operation
     requires { IsSource s.now }
-    ensures { IsFit s.now.p.now → (vars : List VarDef) → operation_of result ≡ compound_by s.now.p.now vars op
-        (bare s.now.p.now.types computed) a b (expr_tree s.now.p.now vars b) }
+    ensures { IsFit s.now.p.now → (vars : List VarDef) → PointsToSmall s.now.p.now (bare s.now.p.now.types computed) →
+        operation_of result ≡ compound_by s.now.p.now vars op (bare s.now.p.now.types computed) a b
+        (expr_tree s.now.p.now vars b) }
 {
     let facts = s.types.facts(s.p, computed);
     if facts.pointer {
@@ -186,7 +189,7 @@ fn compound(s: &Source<'_>, op: IntOp, a: u32, b: u32, computed: u32) -> Operati
 /// A place moved by one is computed in its promoted type (C11 6.5.2.4, 6.5.3.1).
 fn step_operation(s: &Source<'_>, a: u32, adds: bool) -> Operation
     requires { IsSource s.now }
-    ensures { IsFit s.now.p.now → (vars : List VarDef) → operation_of result
+    ensures { (vars : List VarDef) → PointsToSmall s.now.p.now (bare_type s.now.p.now vars a) → operation_of result
         ≡ step_operation s.now.p.now vars adds (bare_type s.now.p.now vars a) }
 {
     let facts = facts_at(s, a);
@@ -223,7 +226,8 @@ fn step_kind(kind: Kind) -> Kind
 /// The sum of a pointer and an integer.
 fn sum(s: &Source<'_>, a: u32, b: u32, minus: bool) -> Operation
     requires { IsSource s.now }
-    ensures { IsFit s.now.p.now → (vars : List VarDef) → operation_of result
+    ensures { (vars : List VarDef) → IsSmall s.now.p.now (pointee_of (if is_pointer (bare_type s.now.p.now vars a)
+        then bare_type s.now.p.now vars a else bare_type s.now.p.now vars b)) → operation_of result
         ≡ (if is_pointer (bare_type s.now.p.now vars a)
         then tree.Moved (element_size s.now.p.now vars a) minus false (kind_at s.now.p.now vars b)
         else tree.Moved (element_size s.now.p.now vars b) minus true (kind_at s.now.p.now vars a)) }
@@ -262,7 +266,8 @@ fn other_operand(right: bool, a: u32, b: u32) -> u32
 /// The binary operation that an expression is.
 pub fn binary_operation(s: &Source<'_>, e: &Expr) -> Option<Operation>
     requires { IsSource s.now }
-    ensures { IsFit s.now.p.now → (vars : List VarDef) → IsBinaryBy s.now.p.now vars e.now result }
+    ensures { IsFit s.now.p.now → (vars : List VarDef) → IsSizedBy s.now.p.now e.now.of e.now.kind →
+        IsBinaryBy s.now.p.now vars e.now result }
 {
     match &e.kind {
         ExprKind::Int(op, _, b) => {
@@ -288,7 +293,8 @@ pub fn binary_operation(s: &Source<'_>, e: &Expr) -> Option<Operation>
 /// What a compound assignment computes.
 pub fn compound_change(s: &Source<'_>, op: IntOp, a: u32, b: u32, computed: u32) -> Change
     requires { IsSource s.now }
-    ensures operation { IsFit s.now.p.now → (vars : List VarDef) → operation_of result.operation
+    ensures operation { IsFit s.now.p.now → (vars : List VarDef) →
+        PointsToSmall s.now.p.now (bare s.now.p.now.types computed) → operation_of result.operation
         ≡ compound_by s.now.p.now vars op (bare s.now.p.now.types computed) a b (expr_tree s.now.p.now vars b) }
     ensures place { (vars : List VarDef) → kind_of result.place ≡ kind_at s.now.p.now vars a }
     ensures computed { kind_of result.computed ≡ kind_of_type (bare s.now.p.now.types computed) }
@@ -305,7 +311,8 @@ pub fn compound_change(s: &Source<'_>, op: IntOp, a: u32, b: u32, computed: u32)
 /// What a step computes.
 pub fn step_change(s: &Source<'_>, a: u32, adds: bool, front: bool) -> Change
     requires { IsSource s.now }
-    ensures operation { IsFit s.now.p.now → (vars : List VarDef) → operation_of result.operation
+    ensures operation { (vars : List VarDef) → PointsToSmall s.now.p.now (bare_type s.now.p.now vars a) →
+        operation_of result.operation
         ≡ step_operation s.now.p.now vars adds (bare_type s.now.p.now vars a) }
     ensures place { (vars : List VarDef) → kind_of result.place ≡ kind_at s.now.p.now vars a }
     ensures computed { (vars : List VarDef) → kind_of result.computed

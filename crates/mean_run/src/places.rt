@@ -20,6 +20,7 @@ ghost use Rattle.mean_steps.specs.Parts.{Now, load, store, copy, copy_units, par
 ghost use Rattle.mean_operations.specs.Answers.{seen, IsAccess};
 ghost use Rattle.mean_run.specs.Parts.{Gives, Did, Does, LeavesIt, UnitCopied, Unless_wanting};
 ghost use Rattle.mean_run.specs.Placed.{Designates, Placed, PlaceFinishedBy, nowhere, taken_from, assigned_to};
+ghost use Rattle.mean_run.specs.Sizes.{IsSmall};
 ghost use Rattle.mean_run.specs.Sources.{IsFit, IsSource};
 ghost use Rattle.mean_run.specs.Variables.{variable_at};
 ghost use Rattle.mean_run.specs.Views.{place_of, now_of, moment_of, vars_at, funs_of};
@@ -382,8 +383,8 @@ impl State {
     ) -> Result<(), Stop>
         requires { IsSource s.now }
         ensures same { B.meaning m.new ≡ B.meaning m.old }
-        ensures does { IsFit s.now.p.now → (vars : List VarDef) (x y : Ex) → Does (finish_place (B.meaning m.old)
-            (funs_of s.now.p.now) (assignment s.now.p.now vars e.now.pos e.now.of a x y)
+        ensures does { IsFit s.now.p.now → (vars : List VarDef) → IsSmall s.now.p.now e.now.of → (x y : Ex) →
+            Does (finish_place (B.meaning m.old) (funs_of s.now.p.now) (assignment s.now.p.now vars e.now.pos e.now.of a x y)
             (moment_of s.now.p.now self.old (B.held m.old))) (moment_of s.now.p.now self.new (B.held m.new)) result }
     {
         let facts = s.types.facts(s.p, e.of);

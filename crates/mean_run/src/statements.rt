@@ -29,6 +29,7 @@ ghost use Rattle.mean_run.specs.Branches.{other_branch};
 ghost use Rattle.mean_run.specs.Parts.{Does, Gives, Unless_wanting};
 ghost use Rattle.mean_run.specs.Views.{declared_of, now_of, moment_of, funs_of, item_of, vars_at, loop_of, parts_of};
 ghost use Rattle.mean_run.specs.Steps.{Proceeds, ComesToTest};
+ghost use Rattle.mean_run.specs.Sizes.{IsSmall};
 ghost use Rattle.mean_run.specs.Sources.{IsFit, IsSource, IsStatement};
 
 use crate::blocks::{enter_block, leave_block};
@@ -411,7 +412,8 @@ impl State {
     ) -> Result<(), Stop>
         requires { IsSource s.now }
         ensures same { B.meaning m.new ≡ B.meaning m.old }
-        ensures does { IsFit s.now.p.now → (e : Ex) → Does (initialize (B.meaning m.old) (funs_of s.now.p.now)
+        ensures does { IsFit s.now.p.now → IsSmall s.now.p.now (type_of (slice_get s.now.p.now.exprs value)) →
+            (e : Ex) → Does (initialize (B.meaning m.old) (funs_of s.now.p.now)
             (initialisation s.now.p.now (vars_at s.now.p.now f) pos x offset
             (type_of (slice_get s.now.p.now.exprs value)) e) (moment_of s.now.p.now self.old (B.held m.old)))
             (moment_of s.now.p.now self.new (B.held m.new)) result }
@@ -443,8 +445,8 @@ impl State {
     ) -> Result<(), Stop>
         requires { IsSource s.now }
         ensures same { B.meaning m.new ≡ B.meaning m.old }
-        ensures does { IsFit s.now.p.now → n < 2 ^ 63 → (e : Ex) → Does (initialize (B.meaning m.old)
-            (funs_of s.now.p.now)
+        ensures does { IsFit s.now.p.now → IsSmall s.now.p.now (type_of (slice_get s.now.p.now.exprs value)) →
+            n < 2 ^ 63 → (e : Ex) → Does (initialize (B.meaning m.old) (funs_of s.now.p.now)
             (object_filled s.now.p.now pos n offset (type_of (slice_get s.now.p.now.exprs value)) e)
             (moment_of s.now.p.now self.old (B.held m.old))) (moment_of s.now.p.now self.new (B.held m.new)) result }
     {

@@ -16,6 +16,7 @@ ghost use Rattle.mean_steps.specs.Weights.{acts_left};
 ghost use Rattle.mean_run.specs.Acts.{Stepped};
 ghost use Rattle.mean_run.specs.Views.{funs_of, item_of, loop_of, moment_of, parts_of, vars_at};
 ghost use Rattle.mean_run.specs.Parts.{Does, Unless_wanting};
+ghost use Rattle.mean_run.specs.Sizes.{IsSizedBy};
 ghost use Rattle.mean_run.specs.Sources.{IsFit, IsNode, IsSource};
 ghost use Rattle.mean_run.specs.Steps.{IsPeeled};
 
@@ -67,7 +68,8 @@ impl State {
         requires { IsSource s.now }
         ensures same { B.meaning m.new ≡ B.meaning m.old }
         ensures does { IsFit s.now.p.now → IsNode s.now.p.now k e.now →
-            IsPeeled s.now.p.now (vars_at s.now.p.now f) e.now → (before : Moment Store) → Stepped (finish_item
+            IsPeeled s.now.p.now (vars_at s.now.p.now f) e.now → IsSizedBy s.now.p.now e.now.of e.now.kind →
+            (before : Moment Store) → Stepped (finish_item
             (B.meaning m.old) (funs_of s.now.p.now) (expr_tree s.now.p.now (vars_at s.now.p.now f) k)
             (moment_of s.now.p.now self.old (B.held m.old)))
             (seen (I.left input.old) (I.faults input.old) (O.held out.old) (O.faults out.old))

@@ -1,4 +1,4 @@
-use Rattle.std.proofs.Common.{inl, sym, subst}
+use Rattle.std.proofs.Common.{inl, inr, sym, subst}
 use Rattle.ck_base.specs.Calls.{seen}
 use Rattle.cheric_top.specs.Command.{MeanStopped}
 use Rattle.cheric_top.specs.declared.answer.Answer.{Answer}
@@ -12,3 +12,13 @@ returns-in-Err g c =
     (g.O.Sink.held c.args.out.now) (g.O.Sink.faults c.args.out.now) in
     inl (subst (λ (answer : Answer). MeanStopped now now file answer) (sym c.not_built.ensures)
     (mean_stopped now file c.in-Err.refusal c.in-Err.ensures.refused))
+
+pub returns-in-Ok-mean : goal.returns-in-Ok-mean
+returns-in-Ok-mean g c =
+    inr (record {
+      program = c.in-Ok.program;
+      accepted = c.in-Ok.ensures.accepted;
+      ending = c.in-Ok-mean.ending;
+      ran = c.in-Ok-mean.ensures;
+      answered = c.meant.ensures;
+    })

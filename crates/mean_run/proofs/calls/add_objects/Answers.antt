@@ -6,7 +6,7 @@ use Rattle.mean_run.proofs.Counts.{before_more, before_none, few, own_count}
 use Rattle.mean_run.proofs.calls.add_objects.Goals as goal
 
 pub vars-init : goal.vars-init
-vars-init g c = record { same = refl; count = sym (before_none c.args.vars.now); left = λ fit. refl }
+vars-init g c = record { same = refl; count = sym (before_none c.args.vars.now); left = λ sized. refl }
 
 pub vars-preserved : goal.vars-preserved
 vars-preserved g c =
@@ -26,7 +26,7 @@ vars-preserved g c =
     record {
       same = c.add_object.ensures.same ∙ c.vars.invariant.same;
       count = next ∙ (ap (λ n. n + own_count v) count ∙ sym (before_more vars i v (slice_get-get_or vars i none within)));
-      left = λ fit. c.vars.invariant.left fit
+      left = λ sized. c.vars.invariant.left sized
           ∙ one_added (g.B.Operations.meaning c.args.m.now) c.args.s.now.p.now c.args.frame c.args.g vars i v none within refl _ _
-          c.vars.n _ next (rw c.vars.invariant.same at c.in-Ok.ensures.did fit);
+          c.vars.n _ next (rw c.vars.invariant.same at c.in-Ok.ensures.did (sized i v (slice_get-get_or vars i none within)));
     }

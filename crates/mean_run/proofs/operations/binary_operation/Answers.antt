@@ -1,13 +1,14 @@
-use Rattle.std.proofs.Common.{ap, ◌∙◌}
+use Rattle.std.proofs.Common.{ap, subst, ◌∙◌}
 use Rattle.c_tree.specs.Layout.{bare}
 use Rattle.cheri_c_sem.specs.Expressions.{expr_tree}
 use Rattle.cheri_c_sem.specs.Kinds.{int_kind}
 use Rattle.cheri_c_sem.specs.Types.{kind_or_int}
+use Rattle.mean_run.specs.Sizes.{IsSizedBy}
 use Rattle.mean_run.proofs.Computed.{capability_is, difference_is, int_is, plus_is}
 use Rattle.mean_run.proofs.operations.binary_operation.Goals as goal
 
 pub returns-in-Int : goal.returns-in-Int
-returns-in-Int c = λ fit vars.
+returns-in-Int c = λ fit vars sized.
     let p = c.args.s.now.p.now in
     let e = c.args.e.now in
     let own = c.facts.ensures.own in (
@@ -18,7 +19,7 @@ returns-in-Int c = λ fit vars.
     )
 
 pub returns-in-Capability : goal.returns-in-Capability
-returns-in-Capability c = λ fit vars.
+returns-in-Capability c = λ fit vars sized.
     let p = c.args.s.now.p.now in
     let e = c.args.e.now in
     let i = c.in-Capability in (
@@ -30,21 +31,21 @@ returns-in-Capability c = λ fit vars.
     )
 
 pub returns-in-Plus : goal.returns-in-Plus
-returns-in-Plus c = λ fit vars.
+returns-in-Plus c = λ fit vars sized.
     let p = c.args.s.now.p.now in
     let e = c.args.e.now in
     let i = c.in-Plus in (
       expr_tree p vars i.a,
       expr_tree p vars i.b,
-      plus_is p vars e.of e.pos e.kind i.a i.b i.minus _ i.is (c.sum.ensures fit vars),
+      plus_is p vars e.of e.pos e.kind i.a i.b i.minus _ i.is (c.sum.ensures vars (subst (IsSizedBy p e.of) i.is sized)),
     )
 
 pub returns-in-Difference : goal.returns-in-Difference
-returns-in-Difference c = λ fit vars.
+returns-in-Difference c = λ fit vars sized.
     let p = c.args.s.now.p.now in
     let e = c.args.e.now in
     let i = c.in-Difference in (
       expr_tree p vars i.a,
       expr_tree p vars i.field-1,
-      difference_is p vars e.of e.pos e.kind i.a i.field-1 _ i.is (c.element_size.ensures fit vars),
+      difference_is p vars e.of e.pos e.kind i.a i.field-1 _ i.is (c.element_size.ensures vars (subst (IsSizedBy p e.of) i.is sized)),
     )

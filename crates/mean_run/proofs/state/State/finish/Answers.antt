@@ -19,5 +19,6 @@ returns-in-Some-clause-does g c = λ fit before.
     let p = c.args.s.now.p.now in
     let e = c.in-Some.e.now in
     let l = rw c.as_slice.ensures at c.in-Some.ensures.lookup in
-    c.finish_at.ensures.does fit (node_at p c.args.k e fit.order l.0 l.1)
-    (fit.peeled (vars_at p c.args.f) c.args.k e (there p.exprs c.args.k e l.0 l.1)) before
+    let at = there p.exprs c.args.k e l.0 l.1 in
+    c.finish_at.ensures.does fit (node_at p c.args.k e fit.order l.0 l.1) (fit.peeled (vars_at p c.args.f) c.args.k e at)
+    (fit.sizes c.args.k e at) before

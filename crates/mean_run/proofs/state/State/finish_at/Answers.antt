@@ -5,7 +5,7 @@ use Rattle.mean_run.proofs.Stepping.{call_is, service_is}
 use Rattle.mean_run.proofs.state.State.finish_at.Goals as goal
 
 pub returns-in-Call-clause-does : goal.returns-in-Call-clause-does
-returns-in-Call-clause-does g c = λ fit node peeled before.
+returns-in-Call-clause-does g c = λ fit node peeled sized before.
     let ops = g.B.Operations.meaning c.args.m.now in
     let held = g.B.Operations.held c.args.m.now in
     let p = c.args.s.now.p.now in
@@ -14,7 +14,7 @@ returns-in-Call-clause-does g c = λ fit node peeled before.
     (call_is ops p c.args.f c.args.k c.args.e.now node (moment_of p c.args.self.now held) _ _ c.in-Call.is) d)
 
 pub returns-in-Library-clause-does : goal.returns-in-Library-clause-does
-returns-in-Library-clause-does g c = λ fit node peeled before.
+returns-in-Library-clause-does g c = λ fit node peeled sized before.
     let ops = g.B.Operations.meaning c.args.m.now in
     let held = g.B.Operations.held c.args.m.now in
     let p = c.args.s.now.p.now in
@@ -23,5 +23,5 @@ returns-in-Library-clause-does g c = λ fit node peeled before.
     (service_is ops p c.args.f c.args.k c.args.e.now node (moment_of p c.args.self.now held) _ _ c.in-Library.is) d
 
 pub returns-in_default-clause-does : goal.returns-in_default-clause-does
-returns-in_default-clause-does g c = λ fit node peeled before.
-    does_stepped _ _ before _ c.finish_of.result (c.finish_of.ensures.does fit node peeled)
+returns-in_default-clause-does g c = λ fit node peeled sized before.
+    does_stepped _ _ before _ c.finish_of.result (c.finish_of.ensures.does fit node peeled sized)

@@ -7,14 +7,14 @@ returns-in-Decay-clause-does g c = λ fit.
     let p = c.args.s.now.p.now in
     let vars = vars_at p c.args.f in
     let held = g.B.Operations.held c.args.m.now in
-    rw c.in-Decay.is (c.pointer_to.ensures.does fit vars)
+    rw c.in-Decay.is (c.pointer_to.ensures.does vars)
 
 pub returns-in-Address-clause-does : goal.returns-in-Address-clause-does
 returns-in-Address-clause-does g c = λ fit.
     let p = c.args.s.now.p.now in
     let vars = vars_at p c.args.f in
     let held = g.B.Operations.held c.args.m.now in
-    rw c.in-Address.is (c.pointer_to-in-Address.ensures.does fit vars)
+    rw c.in-Address.is (c.pointer_to-in-Address.ensures.does vars)
 
 pub returns-in-Load-clause-does : goal.returns-in-Load-clause-does
 returns-in-Load-clause-does g c = λ fit.
@@ -77,24 +77,24 @@ returns-in-Step-clause-does g c = λ fit.
     let p = c.args.s.now.p.now in
     let vars = vars_at p c.args.f in
     let held = g.B.Operations.held c.args.m.now in
-    rw c.in-Step.is (c.step_by.ensures.does fit vars)
+    rw c.in-Step.is (c.step_by.ensures.does vars)
 
 pub returns-in-Int-clause-does : goal.returns-in-Int-clause-does
 returns-in-Int-clause-does g c = λ fit.
     let d = rw c.in-Int.is at c.binary.ensures fit (vars_at c.args.s.now.p.now c.args.f) in
-    rw c.in-Int.is (d refl)
+    rw c.in-Int.is (d tt refl)
 
 pub returns-in-Capability-clause-does : goal.returns-in-Capability-clause-does
 returns-in-Capability-clause-does g c = λ fit.
     let d = rw c.in-Capability.is at c.binary-in-Capability.ensures fit (vars_at c.args.s.now.p.now c.args.f) in
-    rw c.in-Capability.is (d refl)
+    rw c.in-Capability.is (d tt refl)
 
 pub returns-in-Plus-clause-does : goal.returns-in-Plus-clause-does
 returns-in-Plus-clause-does g c = λ fit.
     let d = rw c.in-Plus.is at c.binary-in-Plus.ensures fit (vars_at c.args.s.now.p.now c.args.f) in
-    rw c.in-Plus.is (d refl)
+    rw c.in-Plus.is (λ sized. d sized refl)
 
 pub returns-in-Difference-clause-does : goal.returns-in-Difference-clause-does
 returns-in-Difference-clause-does g c = λ fit.
     let d = rw c.in-Difference.is at c.binary-in-Difference.ensures fit (vars_at c.args.s.now.p.now c.args.f) in
-    rw c.in-Difference.is (d refl)
+    rw c.in-Difference.is (λ sized. d sized refl)

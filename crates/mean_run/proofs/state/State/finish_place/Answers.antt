@@ -23,4 +23,4 @@ returns-in-Some-clause-does g c = λ fit.
     let at = there p.exprs c.args.k e l.0 l.1 in
     place_finishes ops p c.args.f c.args.k held left c.args.self.now c.finish_place_of.new.self c.finish_place_of.result e
     (node_at p c.args.k e fit.order l.0 l.1) (fit.peeled (vars_at p c.args.f) c.args.k e at)
-    (λ a n h. fit.members c.args.k a n e at h) (c.finish_place_of.ensures.does fit)
+    (λ a n h. fit.members c.args.k a n e at h) (fit.sizes c.args.k e at) (c.finish_place_of.ensures.does fit)
