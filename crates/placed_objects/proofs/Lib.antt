@@ -1,0 +1,4 @@
+pub mod Members
+pub mod Moments
+pub mod Places
+pub mod Stays
