@@ -1,0 +1,6 @@
+pub mod Expressions
+pub mod Lists
+pub mod Statements
+pub mod Types
+pub mod Whole
+pub mod Written
