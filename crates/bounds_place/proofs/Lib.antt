@@ -1,5 +1,6 @@
 pub mod Lengths
 pub mod Behind
+pub mod Entries
 pub mod Legal
 pub mod Locals
 pub mod Ranges

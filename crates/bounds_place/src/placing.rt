@@ -28,9 +28,6 @@ const TEXT: u64 = 1_073_741_824;
 
 const TABLE: u64 = 4_294_967_296;
 
-/// A text of 2^30 bytes has room for no more functions: their entries are distinct multiples of 4 in it.
-const MOST_FUNCTIONS: usize = 268_435_456;
-
 const START: Pos = Pos { line: 1, col: 1 };
 
 /// The table's length, and the places of the globals and the literals behind it.
@@ -195,9 +192,6 @@ pub fn place(
         return Err(Refusal::Code(141, START));
     }
     let functions = p.funs.as_slice().len();
-    if functions > MOST_FUNCTIONS {
-        return Err(Refusal::NoMemory);
-    }
     let made = data_of(alloc, &globals, &literals, functions)?;
     Ok(map_of(alloc, made, frames, entries, text, sizes)?)
 }
