@@ -19,7 +19,7 @@ use Rattle.lower_runs.specs.Expressions.{IsAssignment, IsStructAssignment, IsCop
 use Rattle.lower_runs.specs.Expressions.{choice_code, guarded_code, first_kind, same}
 use Rattle.lower_forms.specs.Forms.{IsMade}
 use Rattle.lower_forms.proofs.Trees.{Works, AllWork}
-use Rattle.lower_forms.proofs.Operations.{Makes, transfers, gives, negates, signs, computes, derives, moves, differs}
+use Rattle.lower_forms.proofs.Operations.{none, more, joined, Makes, transfers, gives, negates, signs, computes, derives, moves, differs}
 use Rattle.lower_forms.proofs.Operations.{changes, steps, reaches, serving, jumps}
 
 -- ---- pieces of code
@@ -31,25 +31,21 @@ pub fine : {c : Code} → Makes c → IsFine c
 fine h = record { makes = h }
 
 pub nothing : IsFine (λ r. r)
-nothing = record { makes = λ r m. m }
+nothing = record { makes = λ r. none }
 
 pub one : (i : TacInstr) → IsMade i → IsFine (λ r. i ∷ r)
-one i h = record { makes = λ r m. (h, m) }
+one i h = record { makes = λ r. more h none }
 
 pub both : {c d : Code} → IsFine c → IsFine d → IsFine (λ r. c (d r))
-both {c = c} {d = d} h i = record { makes = λ r m. h.makes (d r) (i.makes r m) }
+both {d = d} h i = record { makes = λ r. joined (h.makes (d r)) (i.makes r) }
 
 pub choice : {c d f : Code} (l : ℕ) → IsFine c → IsFine d → IsFine f → IsFine (choice_code l c d f)
-choice {d = d} {f = f} l h i j = record {
-  makes = λ r m.
-      let last = instr.Label (l + 1) ∷ r in
-      let next = instr.Jump (l + 1) ∷ instr.Label l ∷ f last in
-      h.makes (d next) (i.makes next (tt, (tt, j.makes last (tt, m))));
-}
+choice l h i j =
+    both h (both i (both (one (instr.Jump (l + 1)) tt) (both (one (instr.Label l) tt)
+    (both j (one (instr.Label (l + 1)) tt)))))
 
 pub guarded : {c d : Code} (l : ℕ) → IsFine c → IsFine d → IsFine (guarded_code l c d)
-guarded {d = d} l h i =
-    record { makes = λ r m. h.makes (d (instr.Label l ∷ r)) (i.makes (instr.Label l ∷ r) (tt, m)) }
+guarded l h i = both h (both i (one (instr.Label l) tt))
 
 -- ---- expressions
 
@@ -104,7 +100,7 @@ module _ (p : Typed) (signs_of : ℕ → Signature) (kinds : List TacKind) (g : 
     value (code.value_compare {op = op} {k = k} {x = x} {y = y} {to = to} h) w =
         both (pair h w.0 w.1) (one (instr.Cmp op k to x y) tt)
     value (code.value_truth {to = to} {m = m} is h) w =
-        both (condition h w) (record { makes = λ r k. (tt, (tt, (tt, (tt, (tt, k))))) })
+        both (condition h w) (fine (λ r. more tt (more tt (more tt (more tt (more tt none))))))
     value (code.value_choice {l = l} h i j) w = choice l.labels (condition h w.0) (value i w.1) (value j w.2)
     value (code.value_comma h i) w = both (effect h w.0) (value i w.1)
     value (code.value_assignment h) w = assignment h w

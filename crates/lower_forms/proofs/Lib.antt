@@ -8,3 +8,5 @@ pub mod Scalars
 pub mod Parameters
 pub mod Working
 pub mod Running
+mod Zeroed
+pub mod Declaring

@@ -95,7 +95,7 @@ module _ (p : Typed) (h : Sound p) (vars : List VarDef) where
   levels_run zero k = tt
   levels_run (suc n) k = node_runs (stmt_levels p vars n) (levels_run n) k (slice_get p.stmts k) refl
 
-  body_runs : (k : ℕ) → Runs (stmt_tree p vars k)
+  pub body_runs : (k : ℕ) → Runs (stmt_tree p vars k)
   unfolding stmt_tree
   body_runs k = levels_run (suc k) k
 

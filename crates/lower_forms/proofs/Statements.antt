@@ -29,13 +29,13 @@ use Rattle.lower_runs.specs.Shortened as short
 use Rattle.lower_runs.specs.Sound.{Each}
 use Rattle.lower_forms.specs.Forms.{IsMade, EachInstruction}
 use Rattle.lower_forms.proofs.Trees.{WorksIfAny, WorksTested, Runs, AllRun}
-use Rattle.lower_forms.proofs.Operations.{Makes, reaches_within}
+use Rattle.lower_forms.proofs.Operations.{Front, none, more, Makes, reaches_within}
 use Rattle.lower_forms.proofs.Expressions.{IsFine, fine, nothing, one, both, choice, guarded, operand, value, effect}
 use Rattle.lower_forms.proofs.Expressions.{condition, copy}
 
 -- ---- blocks, loops and switches
 
-entered : {g h : Scene} {ds : List Declared} {c : Code} → IsEntered g ds h c → IsFine c
+pub entered : {g h : Scene} {ds : List Declared} {c : Code} → IsEntered g ds h c → IsFine c
 entered code.nothing = nothing
 entered (code.simple {t = t} {k = k} e h) = both (one (instr.Const t k 0) tt) (entered h)
 entered (code.whole {n = n} {t = t} s e h) =
@@ -44,31 +44,31 @@ entered (code.whole {n = n} {t = t} s e h) =
 loop : {c d f : Code} (l : ℕ) → IsFine c → IsFine d → IsFine f → IsFine (loop_code l c d f)
 loop {c = c} {d = d} {f = f} l h i j =
     both (one (instr.Label l) tt) (both h (both i (both (one (instr.Label (l + 1)) tt) (both j
-    (record { makes = λ r m. (tt, (tt, (tt, m))) })))))
+    (fine (λ r. more tt (more tt (more tt none))))))))
 
 repeat : {c d : Code} (l : ℕ) → IsFine d → IsFine c → IsFine (repeat_code l d c)
 repeat l i h =
     both (one (instr.Label l) tt) (both i (both (one (instr.Label (l + 1)) tt) (both h
-    (record { makes = λ r m. (tt, (tt, (tt, m))) }))))
+    (fine (λ r. more tt (more tt (more tt none)))))))
 
-compared : (k : TacKind) (at v l : ℕ) (ls : List Label) → Makes (cases_code k at v l ls)
-compared k at v l [] r m = m
-compared k at v l (Case n before ∷ ls) r m = (tt, (tt, (tt, compared k at v (l + 1) ls r m)))
-compared k at v l (Default before ∷ ls) r m = compared k at v (l + 1) ls r m
+pub compared : (k : TacKind) (at v l : ℕ) (ls : List Label) → Makes (cases_code k at v l ls)
+compared k at v l [] r = none
+compared k at v l (Case n before ∷ ls) r = more tt (more tt (more tt (compared k at v (l + 1) ls r)))
+compared k at v l (Default before ∷ ls) r = compared k at v (l + 1) ls r
 
-stand : (l n : ℕ) (ls : List Label) → Makes (stand_code l n ls)
-stand l n [] r m = m
-stand l n (s ∷ ls) r m = by (stands_before s == n) (stand (l + 1) n ls r m)
+pub stand : (l n : ℕ) (ls : List Label) → Makes (stand_code l n ls)
+stand l n [] r = none
+stand l n (s ∷ ls) r = by (stands_before s == n) (stand (l + 1) n ls r)
   where
-    by : (b : Bool) → Each IsMade (stand_code (l + 1) n ls r) →
-        Each IsMade (if b then instr.Label l ∷ stand_code (l + 1) n ls r else stand_code (l + 1) n ls r)
-    by true h = (tt, h)
+    by : (b : Bool) → Front r (stand_code (l + 1) n ls r) →
+        Front r (if b then instr.Label l ∷ stand_code (l + 1) n ls r else stand_code (l + 1) n ls r)
+    by true h = more tt h
     by false h = h
 
 -- ---- statements
 
 module _ (p : Typed) (signs : ℕ → Signature) (kinds : List TacKind) (result : Option TacKind) where
-  test : {g : Scene} {t : Option (Pos × Kind × Ex)} {label : ℕ} {m n : Mark} {c : Code} →
+  pub test : {g : Scene} {t : Option (Pos × Kind × Ex)} {label : ℕ} {m n : Mark} {c : Code} →
       IsTest p signs kinds result g t label m n c → WorksTested t → IsFine c
   test code.untested w = nothing
   test {g = g} (code.tested h) w = condition p signs kinds g h w
@@ -110,7 +110,7 @@ module _ (p : Typed) (signs : ℕ → Signature) (kinds : List TacKind) (result 
         both (operand p signs kinds g h w) (one (instr.Return (Some v)) tt)
     statement code.empty w = nothing
 
-    statements : {g : Scene} {x : Exits} {ss : Sts} {m n : Mark} {c : Code} →
+    pub statements : {g : Scene} {x : Exits} {ss : Sts} {m n : Mark} {c : Code} →
         IsStatements p signs kinds result g x ss m n c → AllRun ss → IsFine c
     statements code.end w = nothing
     statements (code.seq a b) w = both (statement a w.0) (statements b w.1)
@@ -123,12 +123,16 @@ module _ (p : Typed) (signs : ℕ → Signature) (kinds : List TacKind) (result 
 
 -- ---- functions
 
-taken : {q : Pos} {g h : Scene} {i : ℕ} {ps : List Parameter} {ks : List TacKind} {c : Code} →
+pub taken : {q : Pos} {g h : Scene} {i : ℕ} {ps : List Parameter} {ks : List TacKind} {c : Code} →
     AreTaken q g i ps ks h c → IsFine c
 taken function.none = nothing
 taken (function.variable s h) = taken h
 taken {q = q} {i = i} (function.object {n = n} {at = at} {k = k} s le h) =
     both (one (instr.Zero n) tt) (both (one (instr.Local at n) tt) (both (one (instr.Store at i k q) tt) (taken h)))
+
+front_made : {r is : List TacInstr} → Front r is → Each IsMade r → Each IsMade is
+front_made none m = m
+front_made (more h f) m = (h, front_made f m)
 
 ended : (k : Option TacKind) (at : ℕ) → Each IsMade (end_code k at)
 ended None at = (tt, tt)
@@ -139,8 +143,7 @@ whole_made : (p : Typed) (signs : ℕ → Signature) (it : TacFun) (n : ℕ) (f 
 whole_made p signs it n f h w =
     let b = statement p signs (kinds_of (Some it)) (signs n).gives h.statement w in
     let e = end_code (signs n).gives h.at in
-    subst (Each IsMade) (sym h.code)
-    ((taken h.taken).makes (h.body e) (b.makes e (ended (signs n).gives h.at)))
+    subst (Each IsMade) (sym h.code) (front_made ((both (taken h.taken) b).makes e) (ended (signs n).gives h.at))
 
 -- and so is code that lacks what stands behind a return
 ends_at : (is : List TacInstr) (i : TacInstr) (js : List TacInstr) → Each IsMade (is ++ i ∷ js) →

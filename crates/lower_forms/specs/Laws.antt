@@ -1,14 +1,16 @@
 -- Which premises each of these facts has.
-use Rattle.std.specs.Prelude.{◌≡◌, ◌≤◌, true}
+use Rattle.std.specs.Prelude.{◌≡◌, ℕ, ◌<◌, ◌≤◌, true, length}
 use Rattle.c_tree.specs.Typing.{Sound}
 use Rattle.c_tree.specs.Views.{IsOrdered}
 use Rattle.c_tree.specs.Weight.{weight}
 use Rattle.c_tree.specs.declared.typed.Typed.{Typed}
+use Rattle.cheri_c_sem.specs.Programs.{lengths_of}
 use Rattle.tac_ir.specs.WellFormed.{is_well_formed}
 use Rattle.tac_ir.specs.Within.{Within, WithinCosts}
 use Rattle.tac_ir.specs.declared.code.Tac.{Tac}
+use Rattle.tac_ir.specs.declared.code.TacInstr.TheVariants as instr
 use Rattle.lower_runs.specs.Programs.{IsProgram}
-use Rattle.lower_forms.specs.Forms.{EachFunction, EachInstruction, IsNamed, TakesParameters, MainGives, IsMade}
+use Rattle.lower_forms.specs.Forms.{Has, EachFunction, EachInstruction, IsNamed, TakesParameters, MainGives, IsMade}
 use Rattle.lower_forms.specs.Forms.{IsCounted, IsShortCall, HasForm}
 
 abbrev pub IsWellFormed : Tac → Typed → Type 0
@@ -32,6 +34,11 @@ CopiesAreCounted = (p : Typed) → Sound p → (t : Tac) → IsProgram p t → I
 abbrev pub CallsAreShort : Type 0
 CallsAreShort =
     (p : Typed) → IsOrdered p → weight p ≤ 7780 → (t : Tac) → WithinCosts t p → EachInstruction t IsShortCall
+
+-- each object of a function becomes zero in its code
+abbrev pub ObjectsBecomeZero : Type 0
+ObjectsBecomeZero = (p : Typed) → Sound p → (t : Tac) → IsProgram p t →
+    EachFunction p t (λ d f. (var : ℕ) → var < length (lengths_of p d.vars) → Has f (instr.Zero var))
 
 -- all of them, of the code of a program of a weight
 abbrev pub CodeHasForm : Type 0

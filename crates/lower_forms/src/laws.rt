@@ -1,7 +1,7 @@
 //! What holds of the form of lowered code.
 
 ghost use Rattle.lower_forms.specs.Laws.{CallsAreShort, CodeHasForm, CodeIsMade, CodeIsNamed, CopiesAreCounted};
-ghost use Rattle.lower_forms.specs.Laws.{MainGivesInt, ParametersAreTaken};
+ghost use Rattle.lower_forms.specs.Laws.{MainGivesInt, ObjectsBecomeZero, ParametersAreTaken};
 
 /// Well formed code names temps, locals, globals, literals and functions that are there.
 pub fn code_is_named()
@@ -32,6 +32,11 @@ pub fn copies_are_counted()
 /// Code within its program calls with few arguments.
 pub fn calls_are_short()
     ensures short { CallsAreShort }
+{}
+
+/// In the code of a function of a sound program each of its objects becomes zero, wherever it is declared.
+pub fn objects_become_zero()
+    ensures zero { ObjectsBecomeZero }
 {}
 
 /// Lowered code has all of this.

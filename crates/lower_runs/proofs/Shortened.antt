@@ -20,21 +20,21 @@ use Rattle.tac_ir.specs.declared.code.Tac.{Tac}
 use Rattle.tac_ir.specs.declared.code.TacFun.{TacFun}
 use Rattle.tac_ir.specs.declared.code.TacInstr.{TacInstr}
 use Rattle.tac_ir.specs.declared.code.TacInstr.TheVariants as instr
-use Rattle.lower_runs.specs.Shortened.{AreUnlabelled, IsShort, IsShortFun, AreShort, ShortCodeRuns}
+use Rattle.lower_runs.specs.Shortened.{AreNeedless, IsShort, IsShortFun, AreShort, ShortCodeRuns}
 use Rattle.lower_runs.specs.Shortened as short
 
 -- ---- lists, from any place on
 
 data IsCut : List TacInstr → List TacInstr → Type 0 where
   end : IsCut [] []
-  left : {v : Option ℕ} {is : List TacInstr} → AreUnlabelled is → IsCut (instr.Return v ∷ []) (instr.Return v ∷ is)
+  left : {v : Option ℕ} {is : List TacInstr} → AreNeedless is → IsCut (instr.Return v ∷ []) (instr.Return v ∷ is)
   next : {i : TacInstr} {is js : List TacInstr} → IsCut is js → IsCut (i ∷ is) (i ∷ js)
 
 cut_same : (is : List TacInstr) → IsCut is is
 cut_same [] = end
 cut_same (i ∷ is) = next (cut_same is)
 
-cut_left : (front is : List TacInstr) (v : Option ℕ) → AreUnlabelled is →
+cut_left : (front is : List TacInstr) (v : Option ℕ) → AreNeedless is →
     IsCut (front ++ instr.Return v ∷ []) (front ++ instr.Return v ∷ is)
 cut_left [] is v h = left h
 cut_left (i ∷ front) is v h = next (cut_left front is v h)
@@ -85,10 +85,11 @@ module _ (ops : Operations Store) (w : World) (p : Typed) (objects : ℕ → Lis
 
   module _ (a : Again ops w t p objects) (b : Again ops w u p objects) (alike : GoAlike a b) where
     -- a label is not found in what was left out
-    not_found : (is : List TacInstr) → AreUnlabelled is → (l : ℕ) (r : Running) (s : State Store) →
+    not_found : (is : List TacInstr) → AreNeedless is → (l : ℕ) (r : Running) (s : State Store) →
         over ending.Turns s ≡ pass ops w u p objects b is (Seeks l) r s
     not_found [] e l r s = refl
     not_found (instr.Label k ∷ is) e l r s = absurd e
+    not_found (instr.Zero v ∷ is) e l r s = absurd e
     not_found (i ∷ is) e l r s = not_found is e l r s
 
     backs_alike : (v : Value) (f : ℕ) (cs ds : List Caller) → AreAlike cs ds → (s : State Store) →

@@ -9,15 +9,17 @@ use Rattle.tac_ir.specs.declared.code.TacFun.{TacFun}
 use Rattle.tac_ir.specs.declared.code.TacInstr.{TacInstr}
 use Rattle.tac_ir.specs.declared.code.TacInstr.TheVariants as instr
 
-abbrev pub AreUnlabelled : List TacInstr → Type 0
-AreUnlabelled [] = Unit {0}
-AreUnlabelled (instr.Label l ∷ is) = ⊥
-AreUnlabelled (i ∷ is) = AreUnlabelled is
+-- no label stands among them, and no `Zero` of an object
+abbrev pub AreNeedless : List TacInstr → Type 0
+AreNeedless [] = Unit {0}
+AreNeedless (instr.Label l ∷ is) = ⊥
+AreNeedless (instr.Zero v ∷ is) = ⊥
+AreNeedless (i ∷ is) = AreNeedless is
 
--- The lists are one, or the first ends with a return, and the second goes on behind that without a label
+-- The lists are one, or the first ends with a return, and the second goes on behind that
 pub data IsShort : List TacInstr → List TacInstr → Type 0 where
   same : {is : List TacInstr} → IsShort is is
-  left : (front is : List TacInstr) (v : Option ℕ) → AreUnlabelled is →
+  left : (front is : List TacInstr) (v : Option ℕ) → AreNeedless is →
       IsShort (front ++ instr.Return v ∷ []) (front ++ instr.Return v ∷ is)
 
 pub record IsShortFun (short whole : TacFun) : Type 0 where

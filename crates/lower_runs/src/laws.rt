@@ -120,7 +120,7 @@ pub fn calls_are_run()
     ensures { CallsAreRun }
 {}
 
-/// Code that lacks what stands behind a return, where no label stands among that, runs alike.
+/// Code that lacks what stands behind a return, with no label and no `Zero` among that, runs alike.
 #[tactic(auto, using(crate::proofs::Shortened::short_code_runs))]
 pub fn short_code_runs()
     ensures { ShortCodeRuns }

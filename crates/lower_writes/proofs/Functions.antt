@@ -24,7 +24,7 @@ use Rattle.lower_runs.specs.Expressions.{Signature}
 use Rattle.lower_runs.specs.Functions.{AreTaken, IsFunction, end_code, with_home}
 use Rattle.lower_runs.specs.Functions as code
 use Rattle.lower_runs.specs.Programs.{IsCodeOf, AreCodeOf}
-use Rattle.lower_runs.specs.Shortened.{AreUnlabelled, IsShort}
+use Rattle.lower_runs.specs.Shortened.{AreNeedless, IsShort}
 use Rattle.lower_runs.specs.Shortened as short
 use Rattle.lower_runs.proofs.Agreement.{and_left, and_right}
 use Rattle.lower_writes.specs.Laws.{NamedCodeWrites}
@@ -39,14 +39,14 @@ use Rattle.lower_writes.proofs.Statements.{statement}
 
 data IsCut : List TacInstr → List TacInstr → Type 0 where
   end : IsCut [] []
-  left : {v : Option ℕ} {is : List TacInstr} → AreUnlabelled is → IsCut (instr.Return v ∷ []) (instr.Return v ∷ is)
+  left : {v : Option ℕ} {is : List TacInstr} → AreNeedless is → IsCut (instr.Return v ∷ []) (instr.Return v ∷ is)
   next : {i : TacInstr} {is js : List TacInstr} → IsCut is js → IsCut (i ∷ is) (i ∷ js)
 
 cut_same : (is : List TacInstr) → IsCut is is
 cut_same [] = end
 cut_same (i ∷ is) = next (cut_same is)
 
-cut_left : (front is : List TacInstr) (v : Option ℕ) → AreUnlabelled is →
+cut_left : (front is : List TacInstr) (v : Option ℕ) → AreNeedless is →
     IsCut (front ++ instr.Return v ∷ []) (front ++ instr.Return v ∷ is)
 cut_left [] is v h = left h
 cut_left (i ∷ front) is v h = next (cut_left front is v h)
@@ -55,9 +55,10 @@ cut_of : (is js : List TacInstr) → IsShort is js → IsCut is js
 cut_of is js short.same = cut_same is
 cut_of is js (short.left front ks v h) = cut_left front ks v h
 
-no_label : (l : ℕ) (is : List TacInstr) → AreUnlabelled is → behind l is ≡ []
+no_label : (l : ℕ) (is : List TacInstr) → AreNeedless is → behind l is ≡ []
 no_label l [] h = refl
 no_label l (instr.Label k ∷ is) h = absurd h
+no_label l (instr.Zero v ∷ is) h = absurd h
 no_label l (i ∷ is) h = no_label l is h
 
 cut_behind : (l : ℕ) (is js : List TacInstr) → IsCut is js → IsCut (behind l is) (behind l js)

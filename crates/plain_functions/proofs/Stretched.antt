@@ -32,7 +32,7 @@ use Rattle.tac_ir.specs.declared.code.TacInstr.{TacInstr}
 use Rattle.tac_ir.specs.declared.code.TacInstr.TheVariants as instr
 use Rattle.plain_functions.specs.Stretches.{is_load, loads_in, next_entry, stores_in, stretch}
 use Rattle.plain_functions.specs.Plain.{IsPlain, is_plain, is_return, returns}
-use Rattle.plain_functions.specs.Keeping.{IsAlignedLow, KeepsToRegisters, PlainFunctionsKeepToRegisters}
+use Rattle.plain_functions.specs.Keeping.{KeepsToRegisters, PlainFunctionsKeepToRegisters}
 use Rattle.plain_functions.proofs.Ends.{parameters_touch, prologue_touches, returned}
 use Rattle.plain_functions.proofs.Quiet.{Touches, branched, comparison, constant, conversion, copied, integer}
 use Rattle.plain_functions.proofs.Quiet.{is_quiet, quiet, quiet_touches, touch_both, touch_none, touch_parts}
@@ -298,7 +298,7 @@ module _ (funs : List TacFun) (places : List Places) (frames : List Frame) (tabl
 
   module _ (fun : ℕ) (f : TacFun) (l : Places) (frame : Frame) (is_fun : slice_get funs fun ≡ Some f)
       (is_place : slice_get places fun ≡ Some l) (is_frame : slice_get frames fun ≡ Some frame)
-      (entered : fun < length entries) (plain : IsPlain f l.homes) (low : IsAlignedLow frame) where
+      (entered : fun < length entries) (plain : IsPlain f l.homes) (low : frame.align ≤ 16) where
     -- the word at which it is entered
     abbrev entry : ℕ
     entry = slice_index entries fun / 4
@@ -388,8 +388,9 @@ module _ (funs : List TacFun) (places : List Places) (frames : List Frame) (tabl
         (λ (h : length entries ≤ suc fun). at_last (omega (arith, h, entered))) (cases_lt (suc fun) (length entries)))
 
 pub plain_functions_keep : PlainFunctionsKeepToRegisters
-plain_functions_keep funs places frames table main code lines entries sel each are jump base more fun entry f l frame
-    is_fun is_place is_frame enters plain low =
+plain_functions_keep funs places frames table main code lines entries sel each are jump low base more fun entry f l is_fun
+    is_place enters plain =
+    let own = low fun f l is_fun is_place plain in
     let moved = map (λ at. base + at) entries in
     let text = code ++ replicate more (Cjal 0 (pos 0)) in
     let lt : fun < length entries = let i = slice_get_within funs fun f is_fun in omega (arith, i, each) in
@@ -398,5 +399,5 @@ plain_functions_keep funs places frames table main code lines entries sel each a
     let at = get_or-map (λ at. base + at) entries fun 0 0 lt in
     let there : base + 4 * (slice_index entries fun / 4) ≡ entry = omega (arith, w, here, at) in
     subst (λ n. KeepsToRegisters f (stretch base text moved n)) there
-    (keeps funs places frames table main code lines entries sel each are jump base more fun f l frame is_fun is_place
-    is_frame lt plain low)
+    (keeps funs places frames table main code lines entries sel each are jump base more fun f l own.frame is_fun is_place
+    own.there lt plain own.low)

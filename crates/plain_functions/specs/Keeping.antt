@@ -18,24 +18,30 @@ pub record KeepsToRegisters (f : TacFun) (words : List Instr) : Type 0 where
   pub stores : stores_in words ≤ 13
   pub loads : loads_in words ≤ 13 * (returns f + 1) + f.params
 
--- a frame with no greater alignment than that of a capability: one with a greater keeps the caller's stack beside them
-abbrev pub IsAlignedLow : Frame → Type 0
-IsAlignedLow frame = frame.align ≤ 16
-
--- So does the stretch of each plain function with such a frame, in a text with this base whose functions are entered at
--- these places
+-- So does the stretch of each plain function, in a text with this base whose functions are entered at these places
 abbrev pub PlainFunctionsKeep : (base : ℕ) → (text : List Instr) → (entries : List ℕ) → List TacFun → List Places →
-    List Frame → Type 0
-PlainFunctionsKeep base text entries funs places frames =
-    (fun entry : ℕ) (f : TacFun) (l : Places) (frame : Frame) → slice_get funs fun ≡ Some f
-    → slice_get places fun ≡ Some l → slice_get frames fun ≡ Some frame → slice_get entries fun ≡ Some entry
-    → IsPlain f l.homes → IsAlignedLow frame → KeepsToRegisters f (stretch base text entries entry)
+    Type 0
+PlainFunctionsKeep base text entries funs places =
+    (fun entry : ℕ) (f : TacFun) (l : Places) → slice_get funs fun ≡ Some f → slice_get places fun ≡ Some l
+    → slice_get entries fun ≡ Some entry → IsPlain f l.homes → KeepsToRegisters f (stretch base text entries entry)
+
+-- a frame with no greater alignment than that of a capability: one with a greater keeps the caller's stack besides
+pub record HasLowFrame (frames : List Frame) (fun : ℕ) : Type 0 where
+  pub frame : Frame
+  pub there : slice_get frames fun ≡ Some frame
+  pub low : frame.align ≤ 16
+
+-- each plain function has such a frame
+abbrev pub PlainFramesAreLow : List TacFun → List Places → List Frame → Type 0
+PlainFramesAreLow funs places frames =
+    (fun : ℕ) (f : TacFun) (l : Places) → slice_get funs fun ≡ Some f → slice_get places fun ≡ Some l
+    → IsPlain f l.homes → HasLowFrame frames fun
 
 -- In selected words, with jumps to themselves behind them, and wherever the text has its base
 abbrev pub PlainFunctionsKeepToRegisters : Type 0
 PlainFunctionsKeepToRegisters =
     (funs : List TacFun) (places : List Places) (frames : List Frame) (table : Before) (main : ℕ) (code : List Instr)
     (lines : List Line) (entries : List ℕ) → IsSelected funs places frames table main code lines entries
-    → length entries ≡ length funs → AreEntries (length code) entries → EndsInPlainJump code → (base more : ℕ)
+    → length entries ≡ length funs → AreEntries (length code) entries → EndsInPlainJump code
+    → PlainFramesAreLow funs places frames → (base more : ℕ)
     → PlainFunctionsKeep base (code ++ replicate more (Cjal 0 (pos 0))) (map (λ at. base + at) entries) funs places
-    frames

@@ -1,5 +1,5 @@
 -- Frames of a program's functions are those that a legal map may have.
-use Rattle.std.proofs.Common.{◌≡◌, ℕ, zero, suc, ◌+◌, ◌<◌, ◌≤◌, List, [], ◌∷◌, length, map, Some, refl, sym, ap, ◌∙◌}
+use Rattle.std.proofs.Common.{◌≡◌, ℕ, suc, ◌+◌, ◌≤◌, List, [], ◌∷◌, length, map, Some, refl, sym, ap, ◌∙◌}
 use Rattle.std.proofs.Common.{subst, arith}
 use Rattle.std.specs.Prelude.{slice_get}
 use Rattle.std.proofs.lemmas.Option.{slice_get_within}
@@ -19,11 +19,7 @@ use Rattle.tac_ir.specs.Costs.{outgoing}
 use Rattle.tac_ir.specs.Within.{FunctionCosts}
 use Rattle.tac_ir.specs.declared.code.TacFun.{TacFun}
 use Rattle.typed_build.specs.Frames.{HasHomes, FrameFits, FramesFit}
-
-there : {A : Type 0} (xs : List A) (k : ℕ) → k < length xs → (x : A) × (slice_get xs k ≡ Some x)
-there [] k lt = absurd (omega arith)
-there (x ∷ xs) zero lt = (x, refl)
-there (x ∷ xs) (suc k) lt = there xs k (omega arith)
+use Rattle.typed_build.proofs.Texts.{there}
 
 -- ---- homes
 
@@ -49,6 +45,7 @@ frame_fits p d f l g h c has own = record {
   legal = has.legal (record { locals = local_needs p.types d; weight = function_weight p d }) refl
       (omega (arith, h.len, c.temps));
   framed = own;
+  align = has.align;
   in_order = has.in_order;
   inside = has.inside;
   room = omega (arith, has.saved);

@@ -19,4 +19,5 @@ pub mod Slots
 pub mod Framed
 pub mod Selecting
 pub mod Meaning
+pub mod LowFrames
 pub mod Used

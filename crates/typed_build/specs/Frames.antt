@@ -1,5 +1,5 @@
 -- Homes and frames of a program's functions.
-use Rattle.std.specs.Prelude.{◌≡◌, ℕ, ◌+◌, ◌*◌, ◌^◌, ◌<◌, ◌≤◌, true, List, length, slice_get, Some}
+use Rattle.std.specs.Prelude.{◌≡◌, ℕ, ◌+◌, ◌*◌, ◌^◌, ◌<◌, ◌≤◌, true, List, length, map, slice_get, Some}
 use Rattle.std.specs.List.{All}
 use Rattle.c_tree.specs.TreeWeight.{function_weight}
 use Rattle.c_tree.specs.declared.typed.FunDef.{FunDef}
@@ -10,6 +10,8 @@ use Rattle.obj_mem.specs.declared.map.Frame.{Frame}
 use Rattle.obj_mem.specs.declared.map.Slot.{Slot}
 use Rattle.reg_alloc.specs.declared.places.Home.{Home}
 use Rattle.reg_alloc.specs.declared.places.Places.{Places}
+use Rattle.purecap_abi.specs.Frames.{asked}
+use Rattle.purecap_abi.specs.Placing.{greatest_of}
 use Rattle.purecap_abi.specs.Saving.{IsSlotBelow, IsFor, registers_at}
 use Rattle.tac_ir.specs.Costs.{outgoing}
 use Rattle.tac_ir.specs.Temps.{WritesFirst}
@@ -41,11 +43,12 @@ HaveHomes funs places = (k : ℕ) (f : TacFun) (l : Places) → slice_get funs k
 
 -- ---- frames
 
--- A frame for these homes that a legal map may have for the function: its slots stand in the order of the locals, each
--- begins inside it, and it has places for the arguments of the function's calls
+-- A frame for these homes that a legal map may have for the function: it is aligned for the locals and no further, its
+-- slots stand in their order, each begins inside it, and it has places for the arguments of the function's calls
 pub record FrameFits (p : Typed) (d : FunDef) (f : TacFun) (l : Places) (g : Frame) : Type 0 where
   pub legal : IsFrame (record { locals = local_needs p.types d; weight = function_weight p d }) g
   pub framed : IsFor l.homes g
+  pub align : g.align ≡ greatest_of (map asked (local_needs p.types d))
   pub in_order : (var : ℕ) (s : Slot) → slice_get g.slots var ≡ Some s → s.var ≡ var
   pub inside : (var : ℕ) (s : Slot) → slice_get g.slots var ≡ Some s → s.at < g.size
   pub room : 16 + 16 * outgoing f.code ≤ registers_at l.homes g

@@ -57,8 +57,8 @@ pub record IsTextOf (p : Typed) (t : Tac) (places : List Places) (file : List �
   pub text : loaded.image.text ≡ text_of words
   -- and the map has the places of entry, from the text's base on
   pub entered : m.entries ≡ map (λ at. m.text.0 + at) entries
-  -- The stretch of each plain function keeps to registers
-  pub plain : PlainFunctionsKeep m.text.0 (words ++ filler (missing (length words))) m.entries t.funs places m.frames
+  -- the stretch of each plain function keeps to registers
+  pub plain : PlainFunctionsKeep m.text.0 (words ++ filler (missing (length words))) m.entries t.funs places
 
 -- ---- the code, the homes and the text
 
